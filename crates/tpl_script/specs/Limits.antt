@@ -1,0 +1,29 @@
+-- How many statements a body has, and how deep they nest.
+use Rattle.std.specs.Prelude.{ℕ, ◌+◌, ◌≤◌, max}
+use Rattle.tpl_script.specs.Statements.{Statement, Statements, If, When, Nothing, ◌⨾◌}
+
+-- the statements of a list, nested ones too
+abbrev mutual
+  pub statement_count : Statements → ℕ
+  statement_count Nothing = 0
+  statement_count (s ⨾ rest) = count_one s + statement_count rest
+
+  pub count_one : Statement → ℕ
+  count_one (If i first second) = 1 + statement_count first + statement_count second
+  count_one (When f first second) = 1 + statement_count first + statement_count second
+  count_one s = 1
+
+-- the levels of a list: one without branches has 1
+abbrev mutual
+  pub level_count : Statements → ℕ
+  level_count Nothing = 1
+  level_count (s ⨾ rest) = max (levels_in s) (level_count rest)
+
+  pub levels_in : Statement → ℕ
+  levels_in (If i first second) = 1 + max (level_count first) (level_count second)
+  levels_in (When f first second) = 1 + max (level_count first) (level_count second)
+  levels_in s = 1
+
+-- at most 64 statements, nested ones too, and at most 8 levels
+abbrev pub IsWithinLimits : Statements → Type 0
+IsWithinLimits b = (statement_count b ≤ 64) × (level_count b ≤ 8)

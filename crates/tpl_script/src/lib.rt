@@ -1,0 +1,25 @@
+//! Body scripts, and what their paths say.
+#![tactic(auto)]
+
+ghost use Rattle.tpl_script.specs.Recursion.{MayIsRight, MayStartIsRight, MustObserveIsRight};
+
+mod body;
+mod outcome;
+
+pub use body::{Body, Stmt};
+pub use outcome::Outcome;
+
+/// The recursion over a body finds an outcome just where a path ends with it.
+pub fn may_is_right()
+    ensures { MayIsRight }
+{}
+
+/// The recursion over a body finds a start statement just where a path passes it.
+pub fn may_start_is_right()
+    ensures { MayStartIsRight }
+{}
+
+/// The recursion over a body tells whether each path that ends with an outcome passes an `observe`.
+pub fn must_observe_is_right()
+    ensures { MustObserveIsRight }
+{}
