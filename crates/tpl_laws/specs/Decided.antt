@@ -1,0 +1,67 @@
+-- The tests mean what the rules say.
+use Rattle.std.specs.Prelude.{◌≡◌, ℕ, ◌↔◌, Bool, true, Some, None, Ok, List, length}
+use Rattle.tpl_words.specs.declared.finals.Final.{Final}
+use Rattle.tpl_words.specs.Finals.{has}
+use Rattle.tpl_words.specs.Members.{mem}
+use Rattle.tpl_model.specs.Graph.{TaskGraph, kind, IsParent}
+use Rattle.tpl_model.specs.declared.event.Event.{Event}
+use Rattle.tpl_model.specs.Rules.{Run}
+use Rattle.tpl_model.specs.Valid.{IsGraph}
+use Rattle.tpl_model.specs.declared.claim.Property.{Property}
+use Rattle.tpl_model.specs.Claims.{Claim, Holds}
+use Rattle.tpl_model.specs.Certificate.{Row, row, Tree, Assumed, RunsRule, MayEndAs, BeforeRule, PastRule, IsBelow, ChainRule, IsClosed, Closed, Proves, Accepts}
+use Rattle.tpl_laws.specs.Soundness.{Each}
+use Rattle.tpl_laws.specs.RowTests.{parent_of, runs, ends, before, past, below_by, is_below, chain, proves}
+use Rattle.tpl_laws.specs.Verdict.{broken, first_broken, verdict}
+
+abbrev pub RunsIsRight : Type 0
+RunsIsRight = (g : TaskGraph) (l : Assumed) (rows : List Row) (t : ℕ) → IsGraph g → (runs g l rows t ≡ true) ↔ RunsRule g l rows t (kind g t)
+
+abbrev pub EndsIsRight : Type 0
+EndsIsRight =
+    (g : TaskGraph) (l : Assumed) (rows : List Row) (t : ℕ)
+    → (ends g l rows t ≡ true) ↔ ((f : Final) → l.cut t f ≡ true → MayEndAs g l rows t (kind g t) f → has (row rows t).ends f ≡ true)
+
+abbrev pub BeforeIsRight : Type 0
+BeforeIsRight =
+    (g : TaskGraph) (rows : List Row) (t : ℕ) → IsGraph g
+    → (before g rows t ≡ true) ↔ ((row rows t).runs ≡ true → (x : ℕ) → mem x (row rows t).before ≡ true → BeforeRule g rows t (kind g t) x)
+
+abbrev pub BelowIsRight : Type 0
+BelowIsRight = (g : TaskGraph) (t x : ℕ) → IsGraph g → (is_below g t x ≡ true) ↔ IsBelow g t x
+
+-- so a list of the tasks below t is made in one pass over all tasks, upwards in number
+abbrev pub BelowInOnePass : Type 0
+BelowInOnePass = (g : TaskGraph) (t x : ℕ) → IsGraph g → is_below g t x ≡ below_by g t x (parent_of g x) (is_below g t)
+
+abbrev pub ParentIsRight : Type 0
+ParentIsRight = (g : TaskGraph) (p t : ℕ) → IsGraph g → (parent_of g t ≡ Some p) ↔ IsParent g p t
+
+abbrev pub PastIsRight : Type 0
+PastIsRight =
+    (g : TaskGraph) (l : Assumed) (rows : List Row) (t : ℕ) → IsGraph g
+    → (past g l rows t ≡ true) ↔ ((x : ℕ) → mem x (row rows t).past ≡ true → PastRule g l rows t (kind g t) x)
+
+abbrev pub ChainIsRight : Type 0
+ChainIsRight = (g : TaskGraph) (l : Assumed) (rows : List Row) (t : ℕ) → (chain g l rows t ≡ true) ↔ ChainRule g l rows t (row rows t).chain
+
+-- the row of a task breaks no rule
+abbrev pub BrokenIsRight : Type 0
+BrokenIsRight = (g : TaskGraph) (l : Assumed) (rows : List Row) (t : ℕ) → IsGraph g → (broken g l rows t ≡ None) ↔ IsClosed g l rows t
+
+-- no row of a leaf does
+abbrev pub FirstBrokenIsRight : Type 0
+FirstBrokenIsRight = (g : TaskGraph) (l : Assumed) (rows : List Row) → IsGraph g → (first_broken g l rows 0 (length g.tasks) ≡ None) ↔ Closed g l rows
+
+abbrev pub ProvesIsRight : Type 0
+ProvesIsRight = (g : TaskGraph) (l : Assumed) (rows : List Row) (p : Property) → (proves g l rows p ≡ true) ↔ Proves g l rows p
+
+-- there is no fault just where the certificate is accepted
+abbrev pub VerdictIsRight : Type 0
+VerdictIsRight = (g : TaskGraph) (claims : List Claim) (trees : List Tree) → IsGraph g → (verdict g claims trees ≡ Ok tt) ↔ Accepts g claims trees
+
+-- and so, where there is none, each claim holds in every run
+abbrev pub VerdictIsSound : Type 0
+VerdictIsSound =
+    (g : TaskGraph) (claims : List Claim) (trees : List Tree) → IsGraph g → verdict g claims trees ≡ Ok tt
+    → (v : List Bool) (h : List Event) → Run g v h → Each (λ claim. Holds g claim v h) claims

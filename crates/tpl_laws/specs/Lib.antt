@@ -1,0 +1,6 @@
+pub mod Soundness
+pub mod Runs
+pub mod RowTests
+pub mod Verdict
+pub mod Decided
+pub mod Faults

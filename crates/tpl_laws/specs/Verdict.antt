@@ -1,0 +1,104 @@
+-- The first place at which a certificate fails.
+use Rattle.std.specs.Prelude.{ℕ, zero, suc, ◌+◌, ◌&&◌, Bool, true, false, Option, Some, None, Result, Ok, Err, List, [], ◌∷◌, length, nat_eq, nat_lt}
+use Rattle.tpl_words.specs.declared.finals.Final.TheVariants.{RanToCompletion, Canceled, Faulted}
+use Rattle.tpl_model.specs.Graph.{TaskGraph, TaskKind, WhenAll, WhenAny, kind}
+use Rattle.tpl_model.specs.declared.fault.Rule.{Rule}
+use Rattle.tpl_model.specs.declared.fault.Rule.TheVariants.{K1, K2, K3, K4, K5, K6}
+use Rattle.tpl_model.specs.declared.fault.CertFault.{CertFault}
+use Rattle.tpl_model.specs.declared.fault.CertFault.TheVariants.{Shape, NotClosed, ClaimNot}
+use Rattle.tpl_model.specs.declared.claim.Property.{Property}
+use Rattle.tpl_model.specs.Claims.{Claim}
+use Rattle.tpl_model.specs.Certificate.{Row, Tree, SplitInput, SplitEnd, Leaf, Assumed, assumed, with_input, with_end}
+use Rattle.tpl_laws.specs.RowTests.{all_in, runs, ends, before, past, chain, proves}
+
+-- the first fault of two
+abbrev pub or_else : {A : Type 0} → Option A → Option A → Option A
+or_else (Some x) later = Some x
+or_else None later = later
+
+-- a fault where the test fails, else a later one
+abbrev pub unless : {A : Type 0} → Bool → A → Option A → Option A
+unless true fault later = later
+unless false fault later = Some fault
+
+abbrev pub past_rule : TaskKind → Rule
+past_rule (WhenAll args) = K5
+past_rule (WhenAny args) = K5
+past_rule kind = K4
+
+-- the first rule that the row of t breaks
+abbrev pub broken : TaskGraph → Assumed → List Row → ℕ → Option Rule
+broken g l rows t =
+    unless (runs g l rows t) K1
+    (unless (ends g l rows t) K2 (unless (before g rows t) K3 (unless (past g l rows t) (past_rule (kind g t)) (unless (chain g l rows t) K6 None))))
+
+-- why a leaf fails
+pub data LeafFault : Type 0 where
+  Breaks : (task : ℕ) → (rule : Rule) → LeafFault
+  ProvesNot : LeafFault
+
+abbrev pub breaks : ℕ → Option Rule → Option LeafFault
+breaks t None = None
+breaks t (Some rule) = Some (Breaks t rule)
+
+-- the first task, of n from t on, whose row breaks a rule
+abbrev pub first_broken : TaskGraph → Assumed → List Row → ℕ → ℕ → Option LeafFault
+first_broken g l rows t zero = None
+first_broken g l rows t (suc n) = or_else (breaks t (broken g l rows t)) (first_broken g l rows (suc t) n)
+
+abbrev pub leaf_fault : TaskGraph → Property → Assumed → List Row → Option LeafFault
+leaf_fault g p l rows = or_else (first_broken g l rows 0 (length g.tasks)) (unless (proves g l rows p) ProvesNot None)
+
+abbrev pub leaves : Tree → ℕ
+leaves (SplitInput i on_true on_false) = leaves on_true + leaves on_false
+leaves (SplitEnd t ran canceled faulted) = leaves ran + leaves canceled + leaves faulted
+leaves (Leaf rows) = 1
+
+abbrev pub at_leaf : ℕ → ℕ → Option LeafFault → Option CertFault
+at_leaf claim leaf None = None
+at_leaf claim leaf (Some (Breaks t rule)) = Some (NotClosed claim leaf (record { 0 = t }) rule)
+at_leaf claim leaf (Some ProvesNot) = Some (ClaimNot claim leaf)
+
+-- the first leaf that fails; the tree's first leaf has this number
+abbrev pub tree_fault : TaskGraph → Property → ℕ → Assumed → ℕ → Tree → Option CertFault
+tree_fault g p claim l leaf (SplitInput i on_true on_false) =
+    or_else (tree_fault g p claim (with_input l i true) leaf on_true) (tree_fault g p claim (with_input l i false) (leaf + leaves on_true) on_false)
+tree_fault g p claim l leaf (SplitEnd t ran canceled faulted) =
+    or_else (tree_fault g p claim (with_end l t RanToCompletion) leaf ran)
+    (or_else (tree_fault g p claim (with_end l t Canceled) (leaf + leaves ran) canceled)
+    (tree_fault g p claim (with_end l t Faulted) (leaf + leaves ran + leaves canceled) faulted))
+tree_fault g p claim l leaf (Leaf rows) = at_leaf claim leaf (leaf_fault g p l rows)
+
+-- the first claim whose tree fails; the first claim of the list has this number
+abbrev pub claims_fault : TaskGraph → ℕ → List Claim → List Tree → Option CertFault
+claims_fault g n (claim ∷ claims) (tree ∷ trees) =
+    or_else (tree_fault g claim.body n (assumed g claim.given) 1 tree) (claims_fault g (suc n) claims trees)
+claims_fault g n claims trees = None
+
+-- the ids in a row are the graph's
+abbrev pub has_tasks : TaskGraph → List ℕ → Bool
+has_tasks g xs = all_in (λ x. nat_lt x (length g.tasks)) xs
+
+abbrev pub rows_fit : TaskGraph → List Row → Bool
+rows_fit g [] = true
+rows_fit g (r ∷ rows) = (has_tasks g r.before && (has_tasks g r.past && has_tasks g r.chain)) && rows_fit g rows
+
+-- each leaf of the tree has one row for each task, and each id in it is the graph's
+abbrev pub fits : TaskGraph → Tree → Bool
+fits g (SplitInput i on_true on_false) = nat_lt i g.inputs && (fits g on_true && fits g on_false)
+fits g (SplitEnd t ran canceled faulted) = nat_lt t (length g.tasks) && (fits g ran && (fits g canceled && fits g faulted))
+fits g (Leaf rows) = nat_eq (length rows) (length g.tasks) && rows_fit g rows
+
+-- the first claim without a tree that fits, or tree without a claim
+abbrev pub misfit : TaskGraph → ℕ → List Claim → List Tree → Option CertFault
+misfit g n [] [] = None
+misfit g n (claim ∷ claims) (tree ∷ trees) = unless (fits g tree) (Shape n) (misfit g (suc n) claims trees)
+misfit g n claims trees = Some (Shape n)
+
+abbrev pub no_fault : Option CertFault → Result (Unit {0}) CertFault
+no_fault None = Ok tt
+no_fault (Some fault) = Err fault
+
+-- what is said of a certificate: its first fault, if it has one. Shapes come first; then claim by claim and leaf by leaf, the first row that breaks a rule, before the claim
+abbrev pub verdict : TaskGraph → List Claim → List Tree → Result (Unit {0}) CertFault
+verdict g claims trees = no_fault (or_else (misfit g 1 claims trees) (claims_fault g 1 claims trees))

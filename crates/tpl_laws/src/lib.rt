@@ -1,0 +1,2 @@
+//! What follows from the definitions, for every graph, run and certificate.
+#![tactic(auto)]
