@@ -1,2 +1,20 @@
-//! What follows from the definitions, for every graph, run and certificate.
+//! What follows from the definitions, for every graph, run, claim and certificate. Each law is the
+//! contract of a function that does nothing.
 #![tactic(auto)]
+
+mod closed;
+mod links;
+mod runs;
+mod sound;
+
+pub use closed::{
+    before_is_right, below_in_one_pass, below_is_right, broken_is_right, chain_is_right,
+    ends_is_right, fault_is_first, first_broken_is_right, parent_is_right, past_is_right,
+    proves_is_right, runs_is_right, verdict_is_right, verdict_is_sound,
+};
+pub use links::{
+    quiet_by_a_link, quiet_with_sources, requested_by_a_source, requested_through_sources,
+    without_links,
+};
+pub use runs::{is_bounded, nothing_goes_back, prefix_is_run};
+pub use sound::{rows_are_true, some_leaf_agrees, soundness};

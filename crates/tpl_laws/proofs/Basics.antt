@@ -1,0 +1,152 @@
+-- Tests, choices and members.
+use Rattle.std.proofs.Common.{◌≡◌, ℕ, ◌++◌, ◌&&◌, ◌||◌, ◌⊎◌, inl, inr, not, Bool, true, false, if◌then◌else◌, Option, Some, None, List, [], ◌∷◌, refl, sym, ap, subst, nat_eq, is_some, eqb→eq, T}
+use Rattle.std.proofs.Math.Dec.{eqb_refl}
+use Rattle.tpl_words.specs.declared.finals.Final.{Final}
+use Rattle.tpl_words.specs.declared.finals.Final.TheVariants.{RanToCompletion, Canceled, Faulted}
+use Rattle.tpl_words.specs.Finals.{is_final}
+use Rattle.tpl_words.specs.Members.{mem, joined}
+
+pub true_false : {A : Type 0} → true ≡ false → A
+true_false e = absurd (cc)
+
+pub decide : (b : Bool) → (b ≡ true) ⊎ (b ≡ false)
+decide true = inl refl
+decide false = inr refl
+
+pub and_split : (a b : Bool) → a && b ≡ true → (a ≡ true) × (b ≡ true)
+and_split true b e = (refl, e)
+and_split false b e = true_false (sym e)
+
+pub and_join : (a b : Bool) → a ≡ true → b ≡ true → a && b ≡ true
+and_join true b e f = f
+and_join false b e f = true_false (sym e)
+
+pub or_split : (a b : Bool) → a || b ≡ true → (a ≡ true) ⊎ (b ≡ true)
+or_split true b e = inl refl
+or_split false b e = inr e
+
+pub or_left : (a b : Bool) → a ≡ true → a || b ≡ true
+or_left true b e = refl
+or_left false b e = true_false (sym e)
+
+pub or_right : (a b : Bool) → b ≡ true → a || b ≡ true
+or_right true b e = refl
+or_right false b e = e
+
+pub not_true : (b : Bool) → not b ≡ true → b ≡ false
+not_true true e = true_false (sym e)
+not_true false e = refl
+
+pub not_false : (b : Bool) → not b ≡ false → b ≡ true
+not_false true e = refl
+not_false false e = true_false e
+
+pub if_true : {A : Type 0} (b : Bool) (x y : A) → b ≡ true → (if b then x else y) ≡ x
+if_true true x y e = refl
+if_true false x y e = true_false (sym e)
+
+pub if_false : {A : Type 0} (b : Bool) (x y : A) → b ≡ false → (if b then x else y) ≡ y
+if_false true x y e = true_false e
+if_false false x y e = refl
+
+pub some_none : {A B : Type 0} (x : A) → Some x ≡ None → B
+some_none x e = absurd (cc)
+
+pub is_some_of : {A : Type 0} (o : Option A) (x : A) → o ≡ Some x → is_some o ≡ true
+is_some_of o x e = ap is_some e
+
+pub the_some : {A : Type 0} (o : Option A) → is_some o ≡ true → (x : A) × (o ≡ Some x)
+the_some (Some x) e = (x, refl)
+the_some None e = true_false (sym e)
+
+pub same_number : (x y : ℕ) → nat_eq x y ≡ true → x ≡ y
+same_number x y e = eqb→eq x y (subst T (sym e) tt)
+
+pub same_self : (x : ℕ) → nat_eq x x ≡ true
+same_self x = t_true (nat_eq x x) (eqb_refl x)
+  where
+    t_true : (b : Bool) → T b → b ≡ true
+    t_true true t = refl
+    t_true false t = absurd t
+
+pub final_same : (e f : Final) → is_final e f ≡ true → e ≡ f
+final_same RanToCompletion RanToCompletion h = refl
+final_same RanToCompletion Canceled h = true_false (sym h)
+final_same RanToCompletion Faulted h = true_false (sym h)
+final_same Canceled RanToCompletion h = true_false (sym h)
+final_same Canceled Canceled h = refl
+final_same Canceled Faulted h = true_false (sym h)
+final_same Faulted RanToCompletion h = true_false (sym h)
+final_same Faulted Canceled h = true_false (sym h)
+final_same Faulted Faulted h = refl
+
+pub final_self : (f : Final) → is_final f f ≡ true
+final_self RanToCompletion = refl
+final_self Canceled = refl
+final_self Faulted = refl
+
+pub mem_here : (x y : ℕ) (xs : List ℕ) → x ≡ y → mem x (y ∷ xs) ≡ true
+mem_here x y xs e = or_left (nat_eq x y) (mem x xs) (subst (λ z. nat_eq x z ≡ true) e (same_self x))
+
+pub mem_there : (x y : ℕ) (xs : List ℕ) → mem x xs ≡ true → mem x (y ∷ xs) ≡ true
+mem_there x y xs e = or_right (nat_eq x y) (mem x xs) e
+
+pub mem_split : (x y : ℕ) (xs : List ℕ) → mem x (y ∷ xs) ≡ true → (x ≡ y) ⊎ (mem x xs ≡ true)
+mem_split x y xs e = elim (or_split (nat_eq x y) (mem x xs) e) [ inl a ↦ inl (same_number x y a) | inr b ↦ inr b ]
+
+pub mem_append : (x : ℕ) (xs ys : List ℕ) → mem x (xs ++ ys) ≡ true → (mem x xs ≡ true) ⊎ (mem x ys ≡ true)
+mem_append x [] ys e = inr e
+mem_append x (y ∷ xs) ys e =
+    elim (or_split (nat_eq x y) (mem x (xs ++ ys)) e) [
+      | inl a ↦ inl (or_left (nat_eq x y) (mem x xs) a)
+      | inr b ↦ elim (mem_append x xs ys b) [ inl c ↦ inl (or_right (nat_eq x y) (mem x xs) c) | inr d ↦ inr d ]
+    ]
+
+pub mem_left : (x : ℕ) (xs ys : List ℕ) → mem x xs ≡ true → mem x (xs ++ ys) ≡ true
+mem_left x [] ys e = true_false (sym e)
+mem_left x (y ∷ xs) ys e =
+    elim (or_split (nat_eq x y) (mem x xs) e) [
+      | inl a ↦ or_left (nat_eq x y) (mem x (xs ++ ys)) a
+      | inr b ↦ or_right (nat_eq x y) (mem x (xs ++ ys)) (mem_left x xs ys b)
+    ]
+
+pub mem_right : (x : ℕ) (xs ys : List ℕ) → mem x ys ≡ true → mem x (xs ++ ys) ≡ true
+mem_right x [] ys e = e
+mem_right x (y ∷ xs) ys e = or_right (nat_eq x y) (mem x (xs ++ ys)) (mem_right x xs ys e)
+
+-- what stands in a joined list
+pub joined_keeps : (x : ℕ) (xs ys : List ℕ) → mem x xs ≡ true → mem x (joined xs ys) ≡ true
+joined_keeps x xs [] e = e
+joined_keeps x xs (y ∷ ys) e = joined_keeps x (if mem y xs then xs else (xs ++ y ∷ [])) ys (widen (mem y xs))
+  where
+    widen : (b : Bool) → mem x (if b then xs else (xs ++ y ∷ [])) ≡ true
+    widen true = e
+    widen false = mem_left x xs (y ∷ []) e
+
+pub joined_adds : (x : ℕ) (xs ys : List ℕ) → mem x ys ≡ true → mem x (joined xs ys) ≡ true
+joined_adds x xs [] e = true_false (sym e)
+joined_adds x xs (y ∷ ys) e =
+    elim (mem_split x y ys e) [
+      | inl a ↦ joined_keeps x (if mem y xs then xs else (xs ++ y ∷ [])) ys (here (mem y xs) refl a)
+      | inr b ↦ joined_adds x (if mem y xs then xs else (xs ++ y ∷ [])) ys b
+    ]
+  where
+    here : (b : Bool) → mem y xs ≡ b → x ≡ y → mem x (if b then xs else (xs ++ y ∷ [])) ≡ true
+    here true m a = subst (λ z. mem z xs ≡ true) (sym a) m
+    here false m a = mem_right x xs (y ∷ []) (mem_here x y [] a)
+
+pub joined_from : (x : ℕ) (xs ys : List ℕ) → mem x (joined xs ys) ≡ true → (mem x xs ≡ true) ⊎ (mem x ys ≡ true)
+joined_from x xs [] e = inl e
+joined_from x xs (y ∷ ys) e =
+    elim (joined_from x (if mem y xs then xs else (xs ++ y ∷ [])) ys e) [
+      | inl a ↦ back (mem y xs) a
+      | inr b ↦ inr (mem_there x y ys b)
+    ]
+  where
+    back : (b : Bool) → mem x (if b then xs else (xs ++ y ∷ [])) ≡ true → (mem x xs ≡ true) ⊎ (mem x (y ∷ ys) ≡ true)
+    back true a = inl a
+    back false a =
+        elim (mem_append x xs (y ∷ []) a) [
+          | inl c ↦ inl c
+          | inr d ↦ elim (mem_split x y [] d) [ inl p ↦ inr (mem_here x y ys p) | inr q ↦ true_false (sym q) ]
+        ]

@@ -1,0 +1,214 @@
+-- Each real execution of a body is one of its paths.
+use Rattle.std.proofs.Common.{◌≡◌, ℕ, ◌++◌, ◌&&◌, ◌⊎◌, inl, inr, Bool, true, false, if◌then◌else◌, Option, List, [], ◌∷◌, refl, sym, subst, nat_eq, is_some, slice_index_or}
+use Rattle.tpl_words.specs.declared.finals.Final.{Final}
+use Rattle.tpl_words.specs.Members.{mem}
+use Rattle.tpl_script.specs.Statements.{Statement, Return, Throw, Check, Cancel, Start, Observe, Work, If, When, Statements, Nothing, ◌⨾◌, followed_by, starts, starts_of, reads_nothing}
+use Rattle.tpl_model.specs.Graph.{TaskGraph, task, kind, body, IsParent}
+use Rattle.tpl_words.specs.declared.status.Actor.{Actor}
+use Rattle.tpl_words.specs.declared.status.Answer.{Answer}
+use Rattle.tpl_words.specs.declared.status.Answer.TheVariants.{Done, Failed}
+use Rattle.tpl_model.specs.declared.event.Act.{Act}
+use Rattle.tpl_model.specs.declared.event.Act.TheVariants.{Request, Release, Begin, Step, Worked, Leave, Close, Drop, Settle}
+use Rattle.tpl_model.specs.declared.event.Event.{Event}
+use Rattle.tpl_model.specs.Facts.{Rest, Ending, on, over, begun, starts_by, rest_after, step_of, stepped, worked, rest, requested, started, ending, is_start, subject_in, has_final}
+use Rattle.tpl_script.specs.Paths.{cancellation, is_start_of, passes_start}
+use Rattle.tpl_model.specs.Rules.{Allows, Run}
+use Rattle.tpl_script.specs.Statements.{reads_nothing_in}
+use Rattle.tpl_laws.proofs.Basics.{true_false, and_split, and_join, or_split, or_left, or_right, if_true, same_number, same_self, mem_append, mem_left, mem_right}
+use Rattle.tpl_laws.proofs.Kept.{after, running_facts, begun_kept}
+
+-- the statements that t has passed, the last one first
+abbrev pub pushed : Statements → List Statement → List Statement
+pushed Nothing passed = passed
+pushed (s ⨾ more) passed = s ∷ passed
+
+abbrev pub passed_after : ℕ → Act → Statements → List Statement → List Statement
+passed_after t (Step s) left passed = if nat_eq s.0 t then pushed left passed else passed
+passed_after t (Worked s answer) left passed = if nat_eq s.0 t then pushed left passed else passed
+passed_after t act left passed = passed
+
+abbrev pub passed : TaskGraph → List Bool → List Event → ℕ → List Statement
+passed g v [] t = []
+passed g v (e ∷ h) t = passed_after t e.act (rest g v h t).left (passed g v h t)
+
+-- what holds of a body and of every part that can be left of it
+pub record IsKept (Q : Statements → Type 0) : Type 0 where
+  pub empty : Q Nothing
+  pub tail : (s : Statement) (more : Statements) → Q (s ⨾ more) → Q more
+  pub first_if : (i : ℕ) (a b more : Statements) → Q (If i a b ⨾ more) → Q (followed_by a more)
+  pub second_if : (i : ℕ) (a b more : Statements) → Q (If i a b ⨾ more) → Q (followed_by b more)
+  pub first_when : (f : Final) (a b more : Statements) → Q (When f a b ⨾ more) → Q (followed_by a more)
+  pub second_when : (f : Final) (a b more : Statements) → Q (When f a b ⨾ more) → Q (followed_by b more)
+
+either_script : (Q : Statements → Type 0) (c : Bool) (a b more : Statements) → Q (followed_by a more) → Q (followed_by b more) → Q (followed_by (if c then a else b) more)
+either_script Q true a b more x y = x
+either_script Q false a b more x y = y
+
+either_rest : (Q : Statements → Type 0) (c : Bool) (x y : Rest) → Q x.left → Q y.left → Q (if c then x else y).left
+either_rest Q true x y p q = p
+either_rest Q false x y p q = q
+
+step_keeps : (Q : Statements → Type 0) → IsKept Q → (g : TaskGraph) (v : List Bool) (t : ℕ) (s : Statement) (more : Statements) (req : ℕ → Bool) (en : ℕ → Option Ending) → Q (s ⨾ more) → Q (step_of g v t s more req en).left
+step_keeps Q k g v t Return more req en q = k.empty
+step_keeps Q k g v t (Throw l) more req en q = k.empty
+step_keeps Q k g v t (Check j) more req en q = either_rest Q (req j) (over (cancellation (task g t).token j)) (on more) k.empty (k.tail (Check j) more q)
+step_keeps Q k g v t (Cancel j) more req en q = k.tail (Cancel j) more q
+step_keeps Q k g v t (Start c) more req en q = k.tail (Start c) more q
+step_keeps Q k g v t Observe more req en q = k.tail Observe more q
+step_keeps Q k g v t (Work s f) more req en q = q
+step_keeps Q k g v t (If i a b) more req en q = either_script Q (slice_index_or v i false) a b more (k.first_if i a b more q) (k.second_if i a b more q)
+step_keeps Q k g v t (When f a b) more req en q = either_script Q (has_final f en (subject_in g (kind g t) en)) a b more (k.first_when f a b more q) (k.second_when f a b more q)
+
+stepped_keeps : (Q : Statements → Type 0) → IsKept Q → (g : TaskGraph) (v : List Bool) (t : ℕ) (left : Statements) (req : ℕ → Bool) (en : ℕ → Option Ending) → Q left → Q (stepped g v t left req en).left
+stepped_keeps Q k g v t Nothing req en q = q
+stepped_keeps Q k g v t (s ⨾ more) req en q = step_keeps Q k g v t s more req en q
+
+worked_keeps : (Q : Statements → Type 0) → IsKept Q → (w : Answer) (left : Statements) → Q left → Q (worked w left).left
+worked_keeps Q k Done Nothing q = q
+worked_keeps Q k Done (s ⨾ more) q = k.tail s more q
+worked_keeps Q k Failed Nothing q = q
+worked_keeps Q k Failed (Return ⨾ more) q = q
+worked_keeps Q k Failed (Throw l ⨾ more) q = q
+worked_keeps Q k Failed (Check j ⨾ more) q = q
+worked_keeps Q k Failed (Cancel j ⨾ more) q = q
+worked_keeps Q k Failed (Start c ⨾ more) q = q
+worked_keeps Q k Failed (Observe ⨾ more) q = q
+worked_keeps Q k Failed (Work s f ⨾ more) q = k.empty
+worked_keeps Q k Failed (If i a b ⨾ more) q = q
+worked_keeps Q k Failed (When f a b ⨾ more) q = q
+
+after_keeps : (Q : Statements → Type 0) → IsKept Q → (g : TaskGraph) (v : List Bool) (t : ℕ) (x : Act) (now : Rest) (req : ℕ → Bool) (en : ℕ → Option Ending) → Q now.left → Q (rest_after g v t x now req en).left
+after_keeps Q k g v t (Step s) now req en q = either_rest Q (nat_eq s.0 t) (stepped g v t now.left req en) now (stepped_keeps Q k g v t now.left req en q) q
+after_keeps Q k g v t (Worked s w) now req en q = either_rest Q (nat_eq s.0 t) (worked w now.left) now (worked_keeps Q k w now.left q) q
+after_keeps Q k g v t (Request j) now req en q = q
+after_keeps Q k g v t (Release c) now req en q = q
+after_keeps Q k g v t (Begin s) now req en q = q
+after_keeps Q k g v t (Leave s) now req en q = q
+after_keeps Q k g v t (Close s) now req en q = q
+after_keeps Q k g v t (Drop s) now req en q = q
+after_keeps Q k g v t (Settle s) now req en q = q
+
+pub rest_keeps : (Q : Statements → Type 0) → IsKept Q → (g : TaskGraph) (v : List Bool) (h : List Event) (t : ℕ) → Q (body g t) → Q (rest g v h t).left
+rest_keeps Q k g v [] t q = q
+rest_keeps Q k g v (e ∷ h) t q = after_keeps Q k g v t e.act (rest g v h t) (requested g v h) (ending g v h) (rest_keeps Q k g v h t q)
+
+starts_ahead : (c : ℕ) (a more : Statements) → mem c (starts (followed_by a more)) ≡ true → (mem c (starts a) ≡ true) ⊎ (mem c (starts more) ≡ true)
+starts_ahead c Nothing more e = inr e
+starts_ahead c (s ⨾ a) more e =
+    elim (mem_append c (starts_of s) (starts (followed_by a more)) e) [
+      | inl x ↦ inl (mem_left c (starts_of s) (starts a) x)
+      | inr y ↦ elim (starts_ahead c a more y) [ inl z ↦ inl (mem_right c (starts_of s) (starts a) z) | inr z ↦ inr z ]
+    ]
+
+starts_kept : (c : ℕ) (whole : Statements) → IsKept (λ left. mem c (starts left) ≡ true → mem c (starts whole) ≡ true)
+starts_kept c whole = record {
+  empty = λ e. true_false (sym e);
+  tail = λ s more q e. q (mem_right c (starts_of s) (starts more) e);
+  first_if = λ i a b more q e. q (elim (starts_ahead c a more e) [ inl x ↦ mem_left c (starts a ++ starts b) (starts more) (mem_left c (starts a) (starts b) x) | inr y ↦ mem_right c (starts a ++ starts b) (starts more) y ]);
+  second_if = λ i a b more q e. q (elim (starts_ahead c b more e) [ inl x ↦ mem_left c (starts a ++ starts b) (starts more) (mem_right c (starts a) (starts b) x) | inr y ↦ mem_right c (starts a ++ starts b) (starts more) y ]);
+  first_when = λ i a b more q e. q (elim (starts_ahead c a more e) [ inl x ↦ mem_left c (starts a ++ starts b) (starts more) (mem_left c (starts a) (starts b) x) | inr y ↦ mem_right c (starts a ++ starts b) (starts more) y ]);
+  second_when = λ i a b more q e. q (elim (starts_ahead c b more e) [ inl x ↦ mem_left c (starts a ++ starts b) (starts more) (mem_right c (starts a) (starts b) x) | inr y ↦ mem_right c (starts a ++ starts b) (starts more) y ]);
+}
+
+nothing_ahead : (a more : Statements) → reads_nothing a ≡ true → reads_nothing more ≡ true → reads_nothing (followed_by a more) ≡ true
+nothing_ahead Nothing more p q = q
+nothing_ahead (s ⨾ a) more p q =
+    let both = and_split (reads_nothing_in s) (reads_nothing a) p in
+    and_join (reads_nothing_in s) (reads_nothing (followed_by a more)) both.0 (nothing_ahead a more both.1 q)
+
+nothing_kept : IsKept (λ left. reads_nothing left ≡ true)
+nothing_kept = record {
+  empty = refl;
+  tail = λ s more q. (and_split (reads_nothing_in s) (reads_nothing more) q).1;
+  first_if = λ i a b more q. let p = and_split (reads_nothing a && reads_nothing b) (reads_nothing more) q in nothing_ahead a more (and_split (reads_nothing a) (reads_nothing b) p.0).0 p.1;
+  second_if = λ i a b more q. let p = and_split (reads_nothing a && reads_nothing b) (reads_nothing more) q in nothing_ahead b more (and_split (reads_nothing a) (reads_nothing b) p.0).1 p.1;
+  first_when = λ f a b more q. true_false (sym q);
+  second_when = λ f a b more q. true_false (sym q);
+}
+
+-- a child that is the next to be started is a child of the task
+pub next_start : (g : TaskGraph) (v : List Bool) (h : List Event) (p c : ℕ) → is_start c (rest g v h p).left ≡ true → IsParent g p c
+next_start g v h p c e =
+    rest_keeps (λ left. mem c (starts left) ≡ true → mem c (starts (body g p)) ≡ true) (starts_kept c (body g p)) g v h p (λ m. m) (first (rest g v h p).left e)
+  where
+    first : (left : Statements) → is_start c left ≡ true → mem c (starts left) ≡ true
+    first Nothing x = true_false (sym x)
+    first (Return ⨾ more) x = true_false (sym x)
+    first (Throw l ⨾ more) x = true_false (sym x)
+    first (Check k ⨾ more) x = true_false (sym x)
+    first (Cancel k ⨾ more) x = true_false (sym x)
+    first (Start d ⨾ more) x = or_left (nat_eq c d) (mem c (starts more)) (subst (λ z. nat_eq c z ≡ true) (sym (same_number d c x)) (same_self c))
+    first (Observe ⨾ more) x = true_false (sym x)
+    first (Work s f ⨾ more) x = true_false (sym x)
+    first (If i a b ⨾ more) x = true_false (sym x)
+    first (When f a b ⨾ more) x = true_false (sym x)
+
+pub reads_left : (g : TaskGraph) (v : List Bool) (h : List Event) (t : ℕ) → reads_nothing (body g t) ≡ true → reads_nothing (rest g v h t).left ≡ true
+reads_left g v h t q = rest_keeps (λ left. reads_nothing left ≡ true) nothing_kept g v h t q
+
+passes_kept : (c : ℕ) (x : Act) (t : ℕ) (left : Statements) (ps : List Statement) → passes_start c ps ≡ true → passes_start c (passed_after t x left ps) ≡ true
+passes_kept c (Step s) t left ps e = choose (nat_eq s.0 t) (push left)
+  where
+    push : (l : Statements) → passes_start c (pushed l ps) ≡ true
+    push Nothing = e
+    push (s' ⨾ more) = or_right (is_start_of c s') (passes_start c ps) e
+
+    choose : (b : Bool) → passes_start c (pushed left ps) ≡ true → passes_start c (if b then pushed left ps else ps) ≡ true
+    choose true p = p
+    choose false p = e
+passes_kept c (Worked s w) t left ps e = choose (nat_eq s.0 t) (push left)
+  where
+    push : (l : Statements) → passes_start c (pushed l ps) ≡ true
+    push Nothing = e
+    push (s' ⨾ more) = or_right (is_start_of c s') (passes_start c ps) e
+
+    choose : (b : Bool) → passes_start c (pushed left ps) ≡ true → passes_start c (if b then pushed left ps else ps) ≡ true
+    choose true p = p
+    choose false p = e
+passes_kept c (Request k) t left ps e = e
+passes_kept c (Release d) t left ps e = e
+passes_kept c (Begin s) t left ps e = e
+passes_kept c (Leave s) t left ps e = e
+passes_kept c (Close s) t left ps e = e
+passes_kept c (Drop s) t left ps e = e
+passes_kept c (Settle s) t left ps e = e
+
+-- who started a child
+pub record StartedBy (g : TaskGraph) (v : List Bool) (h : List Event) (c p : ℕ) : Type 0 where
+  pub parent : IsParent g p c
+  pub begun : is_some (begun h p) ≡ true
+  pub passes : passes_start c (passed g v h p) ≡ true
+
+pub started_parent : (g : TaskGraph) (v : List Bool) (h : List Event) (c : ℕ) → Run g v h → started g v h c ≡ true → (p : ℕ) × StartedBy g v h c p
+started_parent g v [] c run e = true_false (sym e)
+started_parent g v (e ∷ h) c run s =
+    elim (or_split (starts_by c e.act (rest g v h)) (started g v h c) s) [
+      | inl now ↦ here e.actor e.act run.1 now
+      | inr old ↦ kept (started_parent g v h c run.0 old)
+    ]
+  where
+    kept : (p : ℕ) × StartedBy g v h c p → (p : ℕ) × StartedBy g v (e ∷ h) c p
+    kept q = (q.0, record { parent = q.1.parent; begun = begun_kept h e.actor e.act q.0 q.1.begun; passes = passes_kept c e.act q.0 (rest g v h q.0).left (passed g v h q.0) q.1.passes })
+
+    push : (p : ℕ) (left : Statements) → is_start c left ≡ true → passes_start c (if nat_eq p p then pushed left (passed g v h p) else passed g v h p) ≡ true
+    push p Nothing x = true_false (sym x)
+    push p (Return ⨾ more) x = true_false (sym x)
+    push p (Throw l ⨾ more) x = true_false (sym x)
+    push p (Check k ⨾ more) x = true_false (sym x)
+    push p (Cancel k ⨾ more) x = true_false (sym x)
+    push p (Start d ⨾ more) x = subst (λ z. passes_start c z ≡ true) (sym (if_true (nat_eq p p) (Start d ∷ passed g v h p) (passed g v h p) (same_self p))) (or_left (nat_eq d c) (passes_start c (passed g v h p)) x)
+    push p (Observe ⨾ more) x = true_false (sym x)
+    push p (Work s f ⨾ more) x = true_false (sym x)
+    push p (If i a b ⨾ more) x = true_false (sym x)
+    push p (When f a b ⨾ more) x = true_false (sym x)
+
+    here : (a : Actor) (x : Act) → Allows g v h a x → starts_by c x (rest g v h) ≡ true → (p : ℕ) × StartedBy g v (after a x h) c p
+    here a (Step p) al n = (p.0, record { parent = next_start g v h p.0 c n; begun = begun_kept h a (Step p) p.0 (running_facts g v h a p.0 al.0).2; passes = push p.0 (rest g v h p.0).left n })
+    here a (Request k) al n = true_false (sym n)
+    here a (Release d) al n = true_false (sym n)
+    here a (Begin d) al n = true_false (sym n)
+    here a (Worked d w) al n = true_false (sym n)
+    here a (Leave d) al n = true_false (sym n)
+    here a (Close d) al n = true_false (sym n)
+    here a (Drop d) al n = true_false (sym n)
+    here a (Settle d) al n = true_false (sym n)

@@ -1,0 +1,243 @@
+-- The exception of a task with a chain is observed in each complete run.
+use Rattle.std.proofs.Common.{◌≡◌, ℕ, ◌⊎◌, inl, inr, Bool, true, Option, Some, None, List, [], ◌∷◌, refl, sym, ap, ◌∙◌, subst, nat_eq, is_some, length}
+use Rattle.tpl_words.specs.declared.finals.Final.{Final}
+use Rattle.tpl_words.specs.declared.finals.Final.TheVariants.{Faulted}
+use Rattle.tpl_words.specs.Finals.{is_final}
+use Rattle.tpl_words.specs.Options.{allows}
+use Rattle.tpl_words.specs.declared.status.Label.{Label}
+use Rattle.tpl_script.specs.declared.outcome.Outcome.{Outcome}
+use Rattle.tpl_script.specs.declared.outcome.Outcome.TheVariants.{Returned, Threw, Acknowledged}
+use Rattle.tpl_words.specs.Members.{mem}
+use Rattle.tpl_script.specs.Statements.{Statement, Return, Throw, Check, Cancel, Start, Observe, Work, If, When, Statements, Nothing, ◌⨾◌, starts}
+use Rattle.tpl_model.specs.Graph.{TaskGraph, TaskKind, Root, Child, Continues, WhenAll, WhenAny, task, kind, body, options, is_task}
+use Rattle.tpl_words.specs.declared.status.Actor.{Actor}
+use Rattle.tpl_words.specs.declared.status.Answer.{Answer}
+use Rattle.tpl_words.specs.declared.status.Answer.TheVariants.{Done, Failed}
+use Rattle.tpl_model.specs.declared.event.Act.{Act}
+use Rattle.tpl_model.specs.declared.event.Act.TheVariants.{Request, Release, Begin, Step, Worked, Leave, Close, Drop, Settle}
+use Rattle.tpl_model.specs.declared.event.Event.{Event}
+use Rattle.tpl_model.specs.Facts.{Ending, begun, final_in, rest, started, ending, subject_in, subject_of, carried_in, outcome_in, is_observe}
+use Rattle.tpl_model.specs.Rules.{final, subject, MayStart, Allows, Run, works, seen, sees, carried_by, label, label_in, Complete, to_end}
+use Rattle.tpl_script.specs.Paths.{Known, passes_observe}
+use Rattle.tpl_laws.proofs.Basics.{true_false, decide, and_join, or_left, or_right, if_true, if_false, some_none, the_some, same_number}
+use Rattle.tpl_laws.proofs.Kept.{id, after, running_facts, ending_kept, begun_kept, final_of}
+use Rattle.tpl_model.specs.Certificate.{Row, row, Assumed, TakesOver, Reads, Links, ChainRule}
+use Rattle.tpl_laws.proofs.Execution.{passed, pushed}
+use Rattle.tpl_laws.proofs.Ready.{Ready, begun_ready}
+use Rattle.tpl_laws.proofs.Follows.{Fits, follows}
+use Rattle.tpl_laws.proofs.Settling.{no_task, has_subject_of, attached_child}
+use Rattle.tpl_laws.proofs.Carrying.{begun_task, carries_faulted}
+use Rattle.tpl_laws.proofs.RowsAreTrue.{Now, verdict_path, view_fits, requested_loud, some_eq}
+use Rattle.tpl_laws.proofs.Chains.{carries_own, threw_begun, begun_ends, taken_over, any_carries, ended_as}
+use Rattle.std.proofs.lemmas.Bool.{cases_lt}
+
+-- only a task that has begun has passed anything
+pub passed_begun : (g : TaskGraph) (v : List Bool) (h : List Event) (t : ℕ) → Run g v h → passes_observe (passed g v h t) ≡ true → is_some (begun h t) ≡ true
+passed_begun g v [] t run e = true_false (sym e)
+passed_begun g v (ev ∷ h) t run e = begun_kept h ev.actor ev.act t (here (λ o. passed_begun g v h t run.0 o) ev.actor ev.act run.1 e)
+  where
+    here : (passes_observe (passed g v h t) ≡ true → is_some (begun h t) ≡ true) → (a : Actor) (x : Act) → Allows g v h a x → passes_observe (passed g v (after a x h) t) ≡ true → is_some (begun h t) ≡ true
+    here old a (Step s) al q =
+        elim (decide (nat_eq s.0 t)) [
+          | inl same ↦ subst (λ z. is_some (begun h z) ≡ true) (same_number s.0 t same) (running_facts g v h a s.0 al.0).2
+          | inr other ↦ old (subst (λ z. passes_observe z ≡ true) (if_false (nat_eq s.0 t) (pushed (rest g v h t).left (passed g v h t)) (passed g v h t) other) q)
+        ]
+    here old a (Worked s w) al q =
+        elim (decide (nat_eq s.0 t)) [
+          | inl same ↦ subst (λ z. is_some (begun h z) ≡ true) (same_number s.0 t same) (running_facts g v h a s.0 al.0).2
+          | inr other ↦ old (subst (λ z. passes_observe z ≡ true) (if_false (nat_eq s.0 t) (pushed (rest g v h t).left (passed g v h t)) (passed g v h t) other) q)
+        ]
+    here old a (Request s) al q = old q
+    here old a (Release s) al q = old q
+    here old a (Begin s) al q = old q
+    here old a (Leave s) al q = old q
+    here old a (Close s) al q = old q
+    here old a (Drop s) al q = old q
+    here old a (Settle s) al q = old q
+
+pushed_observe : (left : Statements) (ps : List Statement) → passes_observe (pushed left ps) ≡ true → (is_observe left ≡ true) ⊎ (passes_observe ps ≡ true)
+pushed_observe Nothing ps e = inr e
+pushed_observe (Return ⨾ more) ps e = inr e
+pushed_observe (Throw l ⨾ more) ps e = inr e
+pushed_observe (Check k ⨾ more) ps e = inr e
+pushed_observe (Cancel k ⨾ more) ps e = inr e
+pushed_observe (Start c ⨾ more) ps e = inr e
+pushed_observe (Observe ⨾ more) ps e = inl refl
+pushed_observe (Work s f ⨾ more) ps e = inr e
+pushed_observe (If i a b ⨾ more) ps e = inr e
+pushed_observe (When f a b ⨾ more) ps e = inr e
+
+work_no_observe : (answer : Answer) (left : Statements) → works answer left ≡ true → is_observe left ≡ true → ⊥
+work_no_observe Done Nothing e q = true_false (sym q)
+work_no_observe Done (Return ⨾ more) e q = true_false (sym q)
+work_no_observe Done (Throw l ⨾ more) e q = true_false (sym q)
+work_no_observe Done (Check k ⨾ more) e q = true_false (sym q)
+work_no_observe Done (Cancel k ⨾ more) e q = true_false (sym q)
+work_no_observe Done (Start c ⨾ more) e q = true_false (sym q)
+work_no_observe Done (Observe ⨾ more) e q = true_false (sym e)
+work_no_observe Done (Work s f ⨾ more) e q = true_false (sym q)
+work_no_observe Done (If i a b ⨾ more) e q = true_false (sym q)
+work_no_observe Done (When f a b ⨾ more) e q = true_false (sym q)
+work_no_observe Failed Nothing e q = true_false (sym q)
+work_no_observe Failed (Return ⨾ more) e q = true_false (sym q)
+work_no_observe Failed (Throw l ⨾ more) e q = true_false (sym q)
+work_no_observe Failed (Check k ⨾ more) e q = true_false (sym q)
+work_no_observe Failed (Cancel k ⨾ more) e q = true_false (sym q)
+work_no_observe Failed (Start c ⨾ more) e q = true_false (sym q)
+work_no_observe Failed (Observe ⨾ more) e q = true_false (sym e)
+work_no_observe Failed (Work s f ⨾ more) e q = true_false (sym q)
+work_no_observe Failed (If i a b ⨾ more) e q = true_false (sym q)
+work_no_observe Failed (When f a b ⨾ more) e q = true_false (sym q)
+
+-- the subject of a continuation of a task that carries something is that task
+subject_is : (g : TaskGraph) (v : List Bool) (h : List Event) (r y a : ℕ) (q : Ending) → Run g v h → kind g r ≡ Continues y → ending g v h y ≡ Some q → mem a q.carried ≡ true → subject g v h r ≡ Some y
+subject_is g v h r y a q run k e m = ap (λ z. subject_in g z (ending g v h)) k ∙ by_kind (kind g y) refl
+  where
+    by_kind : (k2 : TaskKind) → kind g y ≡ k2 → subject_of k2 y (ending g v h y) ≡ Some y
+    by_kind (WhenAny args) k2 = true_false (sym (subst (λ z. mem a z ≡ true) (any_carries g v h y args q run k2 e) m))
+    by_kind Root k2 = refl
+    by_kind Child k2 = refl
+    by_kind (Continues c) k2 = refl
+    by_kind (WhenAll args) k2 = refl
+
+-- where a continuation of y has passed Observe, what y carries is seen
+pub observed_by : (g : TaskGraph) (v : List Bool) (h : List Event) (r y a : ℕ) (q : Ending) → Run g v h → kind g r ≡ Continues y → ending g v h y ≡ Some q → mem a q.carried ≡ true → passes_observe (passed g v h r) ≡ true → seen g v h a ≡ true
+observed_by g v [] r y a q run k e m p = true_false (sym p)
+observed_by g v (ev ∷ h) r y a q run k e m p = here (λ o. λ q' e' m'. observed_by g v h r y a q' run.0 k e' m' o) ev.actor ev.act run.1 e p
+  where
+    some_ending : (p q : Ending) → Some p ≡ Some q → p ≡ q
+    some_ending p q e = cc
+
+    -- the antecedent had ended before
+    antecedent : (x : Actor) (act : Act) → Allows g v h x act → ending g v (after x act h) y ≡ Some q → is_some (begun h r) ≡ true → (ending g v h y ≡ Some q)
+    antecedent x act al e2 b =
+        let ready : MayStart g v h r (Continues y) = subst (λ z. Ready g v h r z) k (begun_ready g v h r run.0 b) in
+        let w = final_of (ending g v h y) ready.0 ready.1 in
+        w.1 ∙ ap Some (some_ending w.0 q (sym (ending_kept g v h x act y w.0 al w.1) ∙ e2))
+
+    older : (passes_observe (passed g v h r) ≡ true → (q' : Ending) → ending g v h y ≡ Some q' → mem a q'.carried ≡ true → seen g v h a ≡ true) → (x : Actor) (act : Act) → Allows g v h x act → ending g v (after x act h) y ≡ Some q → passes_observe (passed g v h r) ≡ true → seen g v (after x act h) a ≡ true
+    older old x act al e2 o =
+        or_right (sees g v h act a) (seen g v h a) (old o q (antecedent x act al e2 (passed_begun g v h r run.0 o)) m)
+
+    here : (passes_observe (passed g v h r) ≡ true → (q' : Ending) → ending g v h y ≡ Some q' → mem a q'.carried ≡ true → seen g v h a ≡ true) → (x : Actor) (act : Act) → Allows g v h x act → ending g v (after x act h) y ≡ Some q → passes_observe (passed g v (after x act h) r) ≡ true → seen g v (after x act h) a ≡ true
+    here old x (Step s) al e2 o =
+        elim (decide (nat_eq s.0 r)) [
+          | inl same ↦
+              elim (pushed_observe (rest g v h r).left (passed g v h r) (subst (λ z. passes_observe z ≡ true) (if_true (nat_eq s.0 r) (pushed (rest g v h r).left (passed g v h r)) (passed g v h r) same) o)) [
+                | inl now ↦
+                    let s_is = same_number s.0 r same in
+                    let b = subst (λ z. is_some (begun h z) ≡ true) s_is (running_facts g v h x s.0 al.0).2 in
+                    let ended_before = antecedent x (Step s) al e2 b in
+                    let sub = subject_is g v h r y a q run.0 k ended_before m in
+                    or_left (sees g v h (Step s) a) (seen g v h a)
+                    (subst (λ z. sees g v h (Step (id z)) a ≡ true) (sym s_is)
+                    (and_join (is_observe (rest g v h r).left) (carried_by g v h (subject g v h r) a) now
+                    (subst (λ z. carried_by g v h z a ≡ true) (sym sub) (subst (λ z. mem a (carried_in z) ≡ true) (sym ended_before) m))))
+                | inr o2 ↦ older old x (Step s) al e2 o2
+              ]
+          | inr other ↦ older old x (Step s) al e2 (subst (λ z. passes_observe z ≡ true) (if_false (nat_eq s.0 r) (pushed (rest g v h r).left (passed g v h r)) (passed g v h r) other) o)
+        ]
+    here old x (Worked s w) al e2 o =
+        elim (decide (nat_eq s.0 r)) [
+          | inl same ↦
+              elim (pushed_observe (rest g v h r).left (passed g v h r) (subst (λ z. passes_observe z ≡ true) (if_true (nat_eq s.0 r) (pushed (rest g v h r).left (passed g v h r)) (passed g v h r) same) o)) [
+                | inl now ↦ absurd (work_no_observe w (rest g v h r).left (subst (λ z. works w (rest g v h z).left ≡ true) (same_number s.0 r same) al.2) now)
+                | inr o2 ↦ older old x (Worked s w) al e2 o2
+              ]
+          | inr other ↦ older old x (Worked s w) al e2 (subst (λ z. passes_observe z ≡ true) (if_false (nat_eq s.0 r) (pushed (rest g v h r).left (passed g v h r)) (passed g v h r) other) o)
+        ]
+    here old x (Request s) al e2 o = older old x (Request s) al e2 o
+    here old x (Release s) al e2 o = older old x (Release s) al e2 o
+    here old x (Begin s) al e2 o = older old x (Begin s) al e2 o
+    here old x (Leave s) al e2 o = older old x (Leave s) al e2 o
+    here old x (Close s) al e2 o = older old x (Close s) al e2 o
+    here old x (Drop s) al e2 o = older old x (Drop s) al e2 o
+    here old x (Settle s) al e2 o = older old x (Settle s) al e2 o
+
+-- what takes over, and what continues, is a task of the graph
+takes_task : (g : TaskGraph) (x y : ℕ) → TakesOver g x y → is_task g x
+takes_task g x y w =
+    elim (cases_lt x (length g.tasks)) [
+      | inl lt ↦ lt
+      | inr le ↦
+          let n = no_task g x le in
+          elim w [
+            | inl m ↦ true_false (sym (subst (λ z. mem y (starts z) ≡ true) n.1 (attached_child g x y m)))
+            | inr a ↦ absurd (no_root a.0 (sym n.0 ∙ a.1))
+          ]
+    ]
+  where
+    no_root : (args : List ℕ) → Root ≡ WhenAll args → ⊥
+    no_root args e = absurd (cc)
+
+continues_task : (g : TaskGraph) (r y : ℕ) → kind g r ≡ Continues y → is_task g r
+continues_task g r y k =
+    elim (cases_lt r (length g.tasks)) [
+      | inl lt ↦ lt
+      | inr le ↦ absurd (no_root (sym (no_task g r le).0 ∙ k))
+    ]
+  where
+    no_root : Root ≡ Continues y → ⊥
+    no_root e = absurd (cc)
+
+-- the last of a chain observes what is carried to it
+pub reader_observes : (g : TaskGraph) (l : Assumed) (rows : List Row) (v : List Bool) (h : List Event) (r y a : ℕ) (q : Ending) → Now g l rows v h → Complete g v h → Reads g l rows r y → ending g v h y ≡ Some q → mem a q.carried ≡ true → seen g v h a ≡ true
+reader_observes g l rows v h r y a q now complete reads e m =
+    let o = the_some (ending g v h r) (complete r (continues_task g r y reads.after) (subst (λ z. to_end z (started g v h r) ≡ true) (sym reads.after) refl)) in
+    elim (ended_as g v h r y o.0 now.run reads.after o.1) [
+      | inl b ↦ by_body b.0 b.1
+      | inr c ↦ elim c [
+        | inl p ↦ true_false (sym (requested_loud g l v h r now.agrees p) ∙ reads.not_loud)
+        | inr p ↦ true_false (sym reads.on_faulted ∙ ap (allows (options g r)) (sym (end_is p.0 p.1)) ∙ p.2)
+      ]
+    ]
+  where
+    faulted : q.final ≡ Faulted
+    faulted = carries_faulted g v h y a q now.run e m
+
+    some_final : (x z : Final) → Some x ≡ Some z → x ≡ z
+    some_final x z w = cc
+
+    end_is : (f : Final) → final g v h y ≡ Some f → f ≡ Faulted
+    end_is f p = some_final f Faulted (sym p ∙ ap final_in e ∙ ap Some faulted)
+
+    by_body : is_some (begun h r) ≡ true → is_some (outcome_in (rest g v h r)) ≡ true → seen g v h a ≡ true
+    by_body b d =
+        let vd = the_some (outcome_in (rest g v h r)) d in
+        let full = view_fits g v h l rows r now.run now.agrees now.true_rows.ends b in
+        let w : Known = record { possible = l.possible; quiet = l.quiet; own = (task g r).token; subject = λ f. is_final f Faulted } in
+        let fits : Fits g v h r w = record {
+          own = refl;
+          inputs = full.inputs;
+          quiet = full.quiet;
+          subject = λ s f p z. let same = some_eq y s (sym (subject_is g v h r y a q now.run reads.after e m) ∙ p) in subst (λ n. is_final n Faulted ≡ true) (sym (end_is f (subst (λ n. final g v h n ≡ Some f) (sym same) z))) refl;
+        } in
+        let path = verdict_path w (body g r) (rest g v h r).outcome (rest g v h r).left (passed g v h r) vd.0 vd.1 (follows g v h r w now.run fits (has_subject_of g r now.valid)) in
+        observed_by g v h r y a q now.run reads.after e m (reads.observes (passed g v h r) vd.0 path)
+
+-- a chain carries an exception to its reader
+pub chain_observes : (g : TaskGraph) (l : Assumed) (rows : List Row) (v : List Bool) (h : List Event) (chain : List ℕ) (y a : ℕ) (q : Ending) → Now g l rows v h → Complete g v h → Links g l rows y chain → ending g v h y ≡ Some q → mem a q.carried ≡ true → seen g v h a ≡ true
+chain_observes g l rows v h [] y a q now complete links e m = absurd links
+chain_observes g l rows v h (x ∷ []) y a q now complete links e m = reader_observes g l rows v h x y a q now complete links e m
+chain_observes g l rows v h (x ∷ z ∷ zs) y a q now complete links e m =
+    let w = taken_over g v h x y a q now.valid now.run complete (takes_task g x y links.0) links.0 e m in
+    chain_observes g l rows v h (z ∷ zs) x a w.0 now complete links.1 w.1 w.2
+
+-- what a body threw
+pub label_verdict : (o : Option Outcome) (lb : Label) → label_in o ≡ Some lb → o ≡ Some (Threw lb)
+label_verdict None lb e = some_none lb (sym e)
+label_verdict (Some Returned) lb e = some_none lb (sym e)
+label_verdict (Some Acknowledged) lb e = some_none lb (sym e)
+label_verdict (Some (Threw x)) lb e = let s : x ≡ lb = cc in ap (λ z. Some (Threw z)) s
+
+-- in a complete run the exception that the body of a task with a chain threw is seen
+pub chain_seen : (g : TaskGraph) (l : Assumed) (rows : List Row) (v : List Bool) (h : List Event) (t : ℕ) (lb : Label) → Now g l rows v h → Complete g v h → ((row rows t).chain ≡ [] → ⊥) → label g v h t ≡ Some lb → seen g v h t ≡ true
+chain_seen g l rows v h t lb now complete some_chain e =
+    let threw = label_verdict (outcome_in (rest g v h t)) lb e in
+    let b = threw_begun g v h t lb now.run threw in
+    let q = the_some (ending g v h t) (begun_ends g v h t now.run complete b) in
+    by_chain (row rows t).chain refl (now.closed t (begun_task g v h t now.run b)).chain q.0 q.1 (carries_own g v h t lb q.0 now.run threw q.1)
+  where
+    by_chain : (chain : List ℕ) → (row rows t).chain ≡ chain → ChainRule g l rows t chain → (q : Ending) → ending g v h t ≡ Some q → mem t q.carried ≡ true → seen g v h t ≡ true
+    by_chain [] c r q e m = absurd (some_chain c)
+    by_chain (x ∷ xs) c r q e m = chain_observes g l rows v h (x ∷ xs) t t q now complete r e m

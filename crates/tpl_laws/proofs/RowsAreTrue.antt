@@ -1,0 +1,199 @@
+-- The rows of a closed leaf are true of each run that agrees with it.
+use Rattle.std.proofs.Common.{◌≡◌, ℕ, ◌&&◌, inl, inr, not, Bool, true, false, Option, Some, None, List, [], ◌∷◌, refl, sym, ◌∙◌, subst, nat_eq, is_some}
+use Rattle.tpl_words.specs.declared.finals.Final.{Final}
+use Rattle.tpl_words.specs.Options.{allows}
+use Rattle.tpl_script.specs.declared.outcome.Outcome.{Outcome}
+use Rattle.tpl_script.specs.declared.outcome.Outcome.TheVariants.{Returned}
+use Rattle.tpl_words.specs.Members.{mem}
+use Rattle.tpl_script.specs.Statements.{Statement, Statements, Nothing, ◌⨾◌}
+use Rattle.tpl_model.specs.Graph.{TaskGraph, TaskKind, Root, Child, Continues, WhenAll, WhenAny, task, kind, body, options, is_task}
+use Rattle.tpl_words.specs.declared.status.Actor.{Actor}
+use Rattle.tpl_model.specs.declared.event.Act.{Act}
+use Rattle.tpl_model.specs.declared.event.Act.TheVariants.{Request, Release, Begin, Step, Worked, Leave, Close, Drop, Settle}
+use Rattle.tpl_model.specs.declared.event.Event.{Event}
+use Rattle.tpl_model.specs.Facts.{Ending, begun, left_body, stepped, worked, winner_of, rest, requested, ending, subject_in, subject_of, outcome_in, outcome_of}
+use Rattle.tpl_model.specs.Rules.{final, IsRunning, MayStart, Allows, Run, Settled, ended, token_requested, token_requested_by}
+use Rattle.tpl_script.specs.Paths.{Known, EndsPassing, Path, MayStartChild}
+use Rattle.tpl_laws.proofs.Basics.{true_false, decide, and_join, or_split, or_left, or_right, if_false, some_none, is_some_of, same_number, mem_split}
+use Rattle.tpl_laws.proofs.Kept.{after, running_facts, final_kept, requested_kept, final_of}
+use Rattle.tpl_words.specs.Finals.{has}
+use Rattle.tpl_model.specs.Valid.{IsGraph}
+use Rattle.tpl_model.specs.Certificate.{Row, row, Assumed, Agrees, is_loud, loud_token, one_ends, subject_ends, subject_set, view, RunsRule, BeforeRule, Closed}
+use Rattle.tpl_laws.proofs.Execution.{passed, StartedBy, started_parent}
+use Rattle.tpl_laws.proofs.Ready.{Ready, begun_ready, any_winner}
+use Rattle.tpl_laws.proofs.Follows.{Fits, FollowsBy, follows}
+use Rattle.tpl_laws.proofs.Settling.{has_subject_of}
+
+-- a task that isn't running keeps what is left of its body
+pub rest_idle : (g : TaskGraph) (v : List Bool) (h : List Event) (a : Actor) (x : Act) (t : ℕ) → Allows g v h a x → (IsRunning g v h a t → ⊥) → (rest g v (after a x h) t ≡ rest g v h t) × (passed g v (after a x h) t ≡ passed g v h t)
+rest_idle g v h a (Step s) t al idle =
+    elim (decide (nat_eq s.0 t)) [
+      | inl q ↦ absurd (idle (subst (λ z. IsRunning g v h a z) (same_number s.0 t q) al.0))
+      | inr q ↦ (if_false (nat_eq s.0 t) (stepped g v t (rest g v h t).left (requested g v h) (ending g v h)) (rest g v h t) q, if_false (nat_eq s.0 t) _ (passed g v h t) q)
+    ]
+rest_idle g v h a (Worked s w) t al idle =
+    elim (decide (nat_eq s.0 t)) [
+      | inl q ↦ absurd (idle (subst (λ z. IsRunning g v h a z) (same_number s.0 t q) al.0))
+      | inr q ↦ (if_false (nat_eq s.0 t) (worked w (rest g v h t).left) (rest g v h t) q, if_false (nat_eq s.0 t) _ (passed g v h t) q)
+    ]
+rest_idle g v h a (Request s) t al idle = (refl, refl)
+rest_idle g v h a (Release s) t al idle = (refl, refl)
+rest_idle g v h a (Begin s) t al idle = (refl, refl)
+rest_idle g v h a (Leave s) t al idle = (refl, refl)
+rest_idle g v h a (Close s) t al idle = (refl, refl)
+rest_idle g v h a (Drop s) t al idle = (refl, refl)
+rest_idle g v h a (Settle s) t al idle = (refl, refl)
+
+-- the body of a task that has left it is over
+pub left_verdict : (g : TaskGraph) (v : List Bool) (h : List Event) (t : ℕ) → Run g v h → left_body h t ≡ true → is_some (outcome_in (rest g v h t)) ≡ true
+left_verdict g v [] t run e = true_false (sym e)
+left_verdict g v (e ∷ h) t run l = here (λ o. left_verdict g v h t run.0 o) e.actor e.act run.1 l
+  where
+    was : (left_body h t ≡ true → is_some (outcome_in (rest g v h t)) ≡ true) → (a : Actor) (x : Act) → Allows g v h a x → left_body h t ≡ true → is_some (outcome_in (rest g v (after a x h) t)) ≡ true
+    was old a x al o = subst (λ z. is_some (outcome_in z) ≡ true) (sym (rest_idle g v h a x t al (λ r. true_false (sym o ∙ (running_facts g v h a t r).1))).0) (old o)
+
+    here : (left_body h t ≡ true → is_some (outcome_in (rest g v h t)) ≡ true) → (a : Actor) (x : Act) → Allows g v h a x → left_body (after a x h) t ≡ true → is_some (outcome_in (rest g v (after a x h) t)) ≡ true
+    here old a (Leave s) al n =
+        elim (or_split (nat_eq s.0 t) (left_body h t) n) [
+          | inl q ↦ subst (λ z. is_some (outcome_in (rest g v h z)) ≡ true) (same_number s.0 t q) al.1
+          | inr q ↦ old q
+        ]
+    here old a (Request s) al n = was old a (Request s) al n
+    here old a (Release s) al n = was old a (Release s) al n
+    here old a (Begin s) al n = was old a (Begin s) al n
+    here old a (Step s) al n = was old a (Step s) al n
+    here old a (Worked s w) al n = was old a (Worked s w) al n
+    here old a (Close s) al n = was old a (Close s) al n
+    here old a (Drop s) al n = was old a (Drop s) al n
+    here old a (Settle s) al n = was old a (Settle s) al n
+
+-- what follows a path is one, with its verdict where it has one
+pub path_by : (w : Known) (body : Statements) (verdict : Option Outcome) (left : Statements) (ps : List Statement) → FollowsBy w body verdict left ps → Path w body ps verdict
+path_by w body None left ps f = (left, f)
+path_by w body (Some verdict) left ps f = inr f.1
+
+pub verdict_path : (w : Known) (body : Statements) (verdict : Option Outcome) (left : Statements) (ps : List Statement) (end : Outcome) → outcome_of verdict left ≡ Some end → FollowsBy w body verdict left ps → Path w body ps (Some end)
+verdict_path w body (Some verdict) left ps end e f = let s : verdict ≡ end = cc in inr (subst (λ z. EndsPassing w body ps z) s f.1)
+verdict_path w body None Nothing ps end e f = let s : Returned ≡ end = cc in inl (f, sym s)
+verdict_path w body None (s ⨾ more) ps end e f = some_none end (sym e)
+
+one_ends_mem : (args : List ℕ) (rows : List Row) (s : ℕ) (f : Final) → mem s args ≡ true → has (row rows s).ends f ≡ true → one_ends args rows f ≡ true
+one_ends_mem [] rows s f m e = true_false (sym m)
+one_ends_mem (x ∷ args) rows s f m e =
+    elim (mem_split s x args m) [
+      | inl q ↦ or_left (has (row rows x).ends f) (one_ends args rows f) (subst (λ z. has (row rows z).ends f ≡ true) q e)
+      | inr q ↦ or_right (has (row rows x).ends f) (one_ends args rows f) (one_ends_mem args rows s f q e)
+    ]
+
+pub some_eq : {A : Type 0} (x y : A) → Some x ≡ Some y → x ≡ y
+some_eq x y e = cc
+
+-- the view of a task that has begun is true of the run
+pub view_fits : (g : TaskGraph) (v : List Bool) (h : List Event) (l : Assumed) (rows : List Row) (t : ℕ) → Run g v h → Agrees g l v h → ((s : ℕ) (f : Final) → final g v h s ≡ Some f → has (row rows s).ends f ≡ true) → is_some (begun h t) ≡ true → Fits g v h t (view g l rows t)
+view_fits g v h l rows t run agrees ends b = record {
+  own = refl;
+  inputs = agrees.inputs;
+  quiet = λ k r. elim (decide (l.quiet k)) [ inl q ↦ true_false (sym r ∙ agrees.quiet k q) | inr q ↦ q ];
+  subject = by_kind (kind g t) refl;
+}
+  where
+    plain : (a : ℕ) → MayStart g v h t (Continues a) → (s : ℕ) (f : Final) → Some a ≡ Some s → final g v h s ≡ Some f → has (row rows a).ends f && allows (options g t) f ≡ true
+    plain a m s f e p =
+        let same = some_eq a s e in
+        let p' = subst (λ z. final g v h z ≡ Some f) (sym same) p in
+        let f' = some_eq m.0 f (sym m.1 ∙ p') in
+        and_join (has (row rows a).ends f) (allows (options g t) f) (ends a f p') (subst (λ z. allows (options g t) z ≡ true) f' m.2)
+
+    of_kind : (a : ℕ) (k : TaskKind) → kind g a ≡ k → MayStart g v h t (Continues a) → (s : ℕ) (f : Final) → subject_of k a (ending g v h a) ≡ Some s → final g v h s ≡ Some f → subject_ends k (options g t) a rows f ≡ true
+    of_kind a (WhenAny args) k m s f e p =
+        let r = winner_some (ending g v h a) e in
+        let w = any_winner g v h a args r.0 run k r.1 in
+        let same = some_eq w.0 s (sym w.2 ∙ r.2) in
+        one_ends_mem args rows s f (subst (λ z. mem z args ≡ true) same w.3) (ends s f p)
+      where
+        winner_some : (o : Option Ending) → winner_of o ≡ Some s → (r : Ending) × (o ≡ Some r) × (r.winner ≡ Some s)
+        winner_some None e = some_none s (sym e)
+        winner_some (Some r) e = (r, refl, e)
+    of_kind a Root k m s f e p = plain a m s f e p
+    of_kind a Child k m s f e p = plain a m s f e p
+    of_kind a (Continues c) k m s f e p = plain a m s f e p
+    of_kind a (WhenAll args) k m s f e p = plain a m s f e p
+
+    by_kind : (k : TaskKind) → kind g t ≡ k → (s : ℕ) (f : Final) → subject_in g k (ending g v h) ≡ Some s → final g v h s ≡ Some f → subject_set g rows t k f ≡ true
+    by_kind (Continues a) k s f e p = of_kind a (kind g a) refl (subst (λ z. Ready g v h t z) k (begun_ready g v h t run b)) s f e p
+    by_kind Root k s f e p = some_none s (sym e)
+    by_kind Child k s f e p = some_none s (sym e)
+    by_kind (WhenAll args) k s f e p = some_none s (sym e)
+    by_kind (WhenAny args) k s f e p = some_none s (sym e)
+
+pub agrees_before : (g : TaskGraph) (v : List Bool) (h : List Event) (l : Assumed) (a : Actor) (x : Act) → Allows g v h a x → Agrees g l v (after a x h) → Agrees g l v h
+agrees_before g v h l a x al ag = record {
+  inputs = ag.inputs;
+  quiet = λ k q. elim (decide (requested g v h k)) [ inl r ↦ true_false (sym (requested_kept g v h a x k r) ∙ ag.quiet k q) | inr r ↦ r ];
+  ends = λ t f e. ag.ends t f (final_kept g v h a x t f al e);
+}
+
+-- what the rows say of a run
+pub record AreTrue (g : TaskGraph) (rows : List Row) (v : List Bool) (h : List Event) : Type 0 where
+  pub ends : (t : ℕ) (f : Final) → final g v h t ≡ Some f → has (row rows t).ends f ≡ true
+  pub runs : (t : ℕ) → is_some (begun h t) ≡ true → (row rows t).runs ≡ true
+  pub before : (t x : ℕ) → is_some (begun h t) ≡ true → mem x (row rows t).before ≡ true → Settled g v h x
+  pub past : (t x : ℕ) → is_some (ending g v h t) ≡ true → mem x (row rows t).past ≡ true → Settled g v h x
+
+-- what holds before an event
+pub record Now (g : TaskGraph) (l : Assumed) (rows : List Row) (v : List Bool) (h : List Event) : Type 0 where
+  pub valid : IsGraph g
+  pub closed : Closed g l rows
+  pub run : Run g v h
+  pub agrees : Agrees g l v h
+  pub true_rows : AreTrue g rows v h
+
+-- a child that is started is started on a path of its parent
+pub starts_on_path : (g : TaskGraph) (l : Assumed) (rows : List Row) (v : List Bool) (h : List Event) (p c : ℕ) → Now g l rows v h → StartedBy g v h c p → MayStartChild (view g l rows p) (body g p) c
+starts_on_path g l rows v h p c now s = (
+  passed g v h p,
+  (rest g v h p).outcome,
+  path_by (view g l rows p) (body g p) (rest g v h p).outcome (rest g v h p).left (passed g v h p)
+      (follows g v h p (view g l rows p) now.run (view_fits g v h l rows p now.run now.agrees now.true_rows.ends s.begun) (has_subject_of g p now.valid)),
+  s.passes,
+)
+
+-- a task that is ready has a row that runs
+pub ready_runs : (g : TaskGraph) (l : Assumed) (rows : List Row) (v : List Bool) (h : List Event) (t : ℕ) → Now g l rows v h → is_task g t → Ready g v h t (kind g t) → (row rows t).runs ≡ true
+ready_runs g l rows v h t now i r = by_kind (kind g t) r (now.closed t i).runs
+  where
+    by_kind : (k : TaskKind) → Ready g v h t k → RunsRule g l rows t k → (row rows t).runs ≡ true
+    by_kind Root r c = c
+    by_kind Child r c =
+        let s = started_parent g v h t now.run r in
+        c s.0 s.1.parent (now.true_rows.runs s.0 s.1.begun) (starts_on_path g l rows v h s.0 t now s.1)
+    by_kind (Continues a) r c = c r.0 (now.true_rows.ends a r.0 r.1) r.2
+    by_kind (WhenAll args) r c = absurd r
+    by_kind (WhenAny args) r c = absurd r
+
+-- what its row has before it is settled when a task is ready
+pub ready_before : (g : TaskGraph) (l : Assumed) (rows : List Row) (v : List Bool) (h : List Event) (t x : ℕ) → Now g l rows v h → is_task g t → Ready g v h t (kind g t) → mem x (row rows t).before ≡ true → Settled g v h x
+ready_before g l rows v h t x now i r m = by_kind (kind g t) r ((now.closed t i).before (ready_runs g l rows v h t now i r) x m)
+  where
+    by_kind : (k : TaskKind) → Ready g v h t k → BeforeRule g rows t k x → Settled g v h x
+    by_kind Root r c = absurd c
+    by_kind Child r c =
+        let s = started_parent g v h t now.run r in
+        now.true_rows.before s.0 x s.1.begun (c s.0 s.1.parent)
+    by_kind (Continues a) r c =
+        let e : is_some (ending g v h a) ≡ true = let w = final_of (ending g v h a) r.0 r.1 in is_some_of (ending g v h a) w.0 w.1 in
+        elim c [ inl q ↦ subst (λ z. Settled g v h z) (sym q) (ended e) | inr q ↦ now.true_rows.past a x e q ]
+    by_kind (WhenAll args) r c = absurd r
+    by_kind (WhenAny args) r c = absurd r
+
+-- a task whose token is requested is loud
+pub requested_loud : (g : TaskGraph) (l : Assumed) (v : List Bool) (h : List Event) (t : ℕ) → Agrees g l v h → token_requested g v h t ≡ true → is_loud g l t ≡ true
+requested_loud g l v h t ag e = by_token (task g t).token e
+  where
+    by_token : (o : Option ℕ) → token_requested_by o (requested g v h) ≡ true → loud_token l o ≡ true
+    by_token None e = true_false (sym e)
+    by_token (Some k) e = quiet_false (l.quiet k) (λ q. true_false (sym e ∙ ag.quiet k q))
+      where
+        quiet_false : (b : Bool) → (b ≡ true → ⊥) → not b ≡ true
+        quiet_false true n = absurd (n refl)
+        quiet_false false n = refl

@@ -1,0 +1,5 @@
+use Rattle.tpl_laws.proofs.RulesDecided.{chain_lem}
+use Rattle.tpl_laws.proofs.closed.chain_is_right.Goals as goal
+
+pub returns : goal.returns
+returns c g l rows t = let d = chain_lem g l rows t in (d.finds, d.found)

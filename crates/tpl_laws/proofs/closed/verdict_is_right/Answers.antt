@@ -1,0 +1,5 @@
+use Rattle.tpl_laws.proofs.FaultsDecided.{verdict_accepts, accepts_verdict}
+use Rattle.tpl_laws.proofs.closed.verdict_is_right.Goals as goal
+
+pub returns : goal.returns
+returns c g claims trees valid = (verdict_accepts g claims trees valid, accepts_verdict g claims trees valid)

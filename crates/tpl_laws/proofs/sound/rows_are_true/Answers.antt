@@ -1,0 +1,5 @@
+use Rattle.tpl_laws.proofs.MainTheorem.{rows_lem}
+use Rattle.tpl_laws.proofs.sound.rows_are_true.Goals as goal
+
+pub returns : goal.returns
+returns c = rows_lem

@@ -1,0 +1,76 @@
+//! When a certificate is accepted, by tests that compute, and the first place at which one fails.
+
+ghost use Rattle.tpl_laws.specs.Faults.{FaultIsFirst};
+ghost use Rattle.tpl_laws.specs.Decided.{RunsIsRight, EndsIsRight, BeforeIsRight, BelowIsRight, BelowInOnePass, ParentIsRight, PastIsRight, ChainIsRight, BrokenIsRight, FirstBrokenIsRight, ProvesIsRight, VerdictIsRight, VerdictIsSound};
+
+/// A task that may begin has a row that runs.
+pub fn runs_is_right()
+    ensures { RunsIsRight }
+{}
+
+/// A task's row has each way in which it may end.
+pub fn ends_is_right()
+    ensures { EndsIsRight }
+{}
+
+/// What is before a task is settled when it begins.
+pub fn before_is_right()
+    ensures { BeforeIsRight }
+{}
+
+/// The search upwards finds the attached children of a task, theirs, and so on.
+pub fn below_is_right()
+    ensures { BelowIsRight }
+{}
+
+/// The tasks below one are found in one pass.
+pub fn below_in_one_pass()
+    ensures { BelowInOnePass }
+{}
+
+/// A child's parent is found.
+pub fn parent_is_right()
+    ensures { ParentIsRight }
+{}
+
+/// What is past a task is settled when it has ended.
+pub fn past_is_right()
+    ensures { PastIsRight }
+{}
+
+/// A chain leads to a continuation that reads the task's exception.
+pub fn chain_is_right()
+    ensures { ChainIsRight }
+{}
+
+/// What a closed leaf proves.
+pub fn proves_is_right()
+    ensures { ProvesIsRight }
+{}
+
+/// The row of a task breaks no rule just where it keeps them all.
+pub fn broken_is_right()
+    ensures { BrokenIsRight }
+{}
+
+/// A leaf has no first broken row just where it is closed.
+pub fn first_broken_is_right()
+    ensures { FirstBrokenIsRight }
+{}
+
+/// The verdict finds no fault just where the certificate is accepted.
+pub fn verdict_is_right()
+    ensures { VerdictIsRight }
+{}
+
+/// Where the verdict finds no fault, each claim holds in every run.
+pub fn verdict_is_sound()
+    ensures { VerdictIsSound }
+{
+    crate::sound::soundness();
+}
+
+/// A fault that the verdict names is the first one.
+pub fn fault_is_first()
+    ensures { FaultIsFirst }
+{}

@@ -1,0 +1,18 @@
+//! What is true of every run.
+
+ghost use Rattle.tpl_laws.specs.Runs.{IsBounded, NothingGoesBack, PrefixIsRun};
+
+/// No run is longer than its graph's bound.
+pub fn is_bounded()
+    ensures { IsBounded }
+{}
+
+/// What comes before in a run is a run.
+pub fn prefix_is_run()
+    ensures { PrefixIsRun }
+{}
+
+/// What is requested, started, begun or ended stays so.
+pub fn nothing_goes_back()
+    ensures { NothingGoesBack }
+{}

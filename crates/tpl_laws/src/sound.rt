@@ -1,0 +1,18 @@
+//! What an accepted certificate promises.
+
+ghost use Rattle.tpl_laws.specs.Soundness.{RowsAreTrue, SomeLeafAgrees, Soundness};
+
+/// What the rows of a closed leaf say is true of each run that agrees with the leaf.
+pub fn rows_are_true()
+    ensures { RowsAreTrue }
+{}
+
+/// Where a claim's given is true of a run so far, some leaf of its tree agrees with the run.
+pub fn some_leaf_agrees()
+    ensures { SomeLeafAgrees }
+{}
+
+/// Where a certificate is accepted, each claim holds in each run.
+pub fn soundness()
+    ensures { Soundness }
+{}
