@@ -12,7 +12,6 @@ use Rattle.tpl_model.specs.declared.event.Act.{Act}
 use Rattle.tpl_model.specs.declared.event.Act.TheVariants.{Request, Release, Begin, Step, Worked, Leave, Close, Drop, Settle}
 use Rattle.tpl_model.specs.declared.event.Event.{Event}
 use Rattle.tpl_model.specs.Facts.{Rest, Ending, on, over, begun, begun_by, released, released_by, left_body, left_by, requests, starts_by, ends_by, ending_by, rest_after, step_of, stepped, worked, final_in, winner_of, all_over, rest, requested, started, ending, is_start, is_cancel, subject_in, subject_of, has_final, first_ended, earlier, place_in, ended_at_once, carried_in, gathered, own_atom, those_started, outcome_in, outcome_of, body_final, all_final, worse, settled_as, body_over, is_observe}
-use Rattle.tpl_script.specs.Paths.{cancellation}
 use Rattle.tpl_model.specs.Rules.{final, IsRunning, MayDrop, MayNotStart, MayCancel, Allows, Run, can_settle, all_ended, ended, token_requested, token_requested_by, Complete, to_end}
 use Rattle.tpl_laws.proofs.Basics.{true_false, decide, some_none, the_some, is_some_of, mem_here}
 use Rattle.tpl_laws.proofs.Kept.{after, not_some, running_facts, drop_facts, ending_new, ending_kept, final_kept, requested_kept, started_kept, begun_kept}

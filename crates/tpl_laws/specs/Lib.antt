@@ -1,5 +1,6 @@
 pub mod Soundness
 pub mod Runs
+pub mod PathLaws
 pub mod RowTests
 pub mod Verdict
 pub mod Decided

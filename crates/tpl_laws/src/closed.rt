@@ -1,22 +1,38 @@
 //! When a certificate is accepted, by tests that compute, and the first place at which one fails.
 
 ghost use Rattle.tpl_laws.specs.Faults.{FaultIsFirst};
+ghost use Rattle.tpl_laws.specs.PathLaws.{PathLaws};
 ghost use Rattle.tpl_laws.specs.Decided.{RunsIsRight, EndsIsRight, BeforeIsRight, BelowIsRight, BelowInOnePass, ParentIsRight, PastIsRight, ChainIsRight, BrokenIsRight, FirstBrokenIsRight, ProvesIsRight, VerdictIsRight, VerdictIsSound};
+
+/// The recursion over a body finds what its paths say.
+fn path_laws()
+    ensures { PathLaws }
+{
+    tpl_script::may_is_right();
+    tpl_script::may_start_is_right();
+    tpl_script::must_observe_is_right();
+}
 
 /// A task that may begin has a row that runs.
 pub fn runs_is_right()
     ensures { RunsIsRight }
-{}
+{
+    path_laws();
+}
 
 /// A task's row has each way in which it may end.
 pub fn ends_is_right()
     ensures { EndsIsRight }
-{}
+{
+    path_laws();
+}
 
 /// What is before a task is settled when it begins.
 pub fn before_is_right()
     ensures { BeforeIsRight }
-{}
+{
+    path_laws();
+}
 
 /// The search upwards finds the attached children of a task, theirs, and so on.
 pub fn below_is_right()
@@ -36,41 +52,56 @@ pub fn parent_is_right()
 /// What is past a task is settled when it has ended.
 pub fn past_is_right()
     ensures { PastIsRight }
-{}
+{
+    path_laws();
+}
 
 /// A chain leads to a continuation that reads the task's exception.
 pub fn chain_is_right()
     ensures { ChainIsRight }
-{}
+{
+    path_laws();
+}
 
 /// What a closed leaf proves.
 pub fn proves_is_right()
     ensures { ProvesIsRight }
-{}
+{
+    path_laws();
+}
 
 /// The row of a task breaks no rule just where it keeps them all.
 pub fn broken_is_right()
     ensures { BrokenIsRight }
-{}
+{
+    path_laws();
+}
 
 /// A leaf has no first broken row just where it is closed.
 pub fn first_broken_is_right()
     ensures { FirstBrokenIsRight }
-{}
+{
+    path_laws();
+}
 
 /// The verdict finds no fault just where the certificate is accepted.
 pub fn verdict_is_right()
     ensures { VerdictIsRight }
-{}
+{
+    path_laws();
+}
 
 /// Where the verdict finds no fault, each claim holds in every run.
 pub fn verdict_is_sound()
     ensures { VerdictIsSound }
 {
+    path_laws();
     crate::sound::soundness();
 }
 
 /// A fault that the verdict names is the first one.
 pub fn fault_is_first()
     ensures { FaultIsFirst }
-{}
+{
+    path_laws();
+}

@@ -1,0 +1,7 @@
+-- What the recursion over a body finds is what its paths say.
+use Rattle.tpl_script.specs.Recursion.{MayIsRight, MayStartIsRight, MustObserveIsRight}
+
+pub record PathLaws : Type 0 where
+  pub may : MayIsRight
+  pub may_start : MayStartIsRight
+  pub must_observe : MustObserveIsRight
