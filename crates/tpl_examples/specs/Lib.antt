@@ -1,0 +1,3 @@
+pub mod Small
+pub mod Certificates
+pub mod RowRules
