@@ -14,19 +14,23 @@ use Rattle.tpl_laws.specs.Soundness.{Each}
 use Rattle.tpl_laws.specs.RowTests.{parent_of, runs, ends, before, past, below_by, is_below, chain, proves}
 use Rattle.tpl_laws.specs.Verdict.{broken, first_broken, verdict}
 
+-- the test of the first rule
 abbrev pub RunsIsRight : Type 0
 RunsIsRight = (g : TaskGraph) (l : Assumed) (rows : List Row) (t : ℕ) → IsGraph g → (runs g l rows t ≡ true) ↔ RunsRule g l rows t (kind g t)
 
+-- the test of the second rule
 abbrev pub EndsIsRight : Type 0
 EndsIsRight =
     (g : TaskGraph) (l : Assumed) (rows : List Row) (t : ℕ)
     → (ends g l rows t ≡ true) ↔ ((f : Final) → l.cut t f ≡ true → MayEndAs g l rows t (kind g t) f → has (row rows t).ends f ≡ true)
 
+-- the test of the third rule
 abbrev pub BeforeIsRight : Type 0
 BeforeIsRight =
     (g : TaskGraph) (rows : List Row) (t : ℕ) → IsGraph g
     → (before g rows t ≡ true) ↔ ((row rows t).runs ≡ true → (x : ℕ) → mem x (row rows t).before ≡ true → BeforeRule g rows t (kind g t) x)
 
+-- the search upwards finds the attached children of a task, theirs, and so on
 abbrev pub BelowIsRight : Type 0
 BelowIsRight = (g : TaskGraph) (t x : ℕ) → IsGraph g → (is_below g t x ≡ true) ↔ IsBelow g t x
 
@@ -34,14 +38,17 @@ BelowIsRight = (g : TaskGraph) (t x : ℕ) → IsGraph g → (is_below g t x ≡
 abbrev pub BelowInOnePass : Type 0
 BelowInOnePass = (g : TaskGraph) (t x : ℕ) → IsGraph g → is_below g t x ≡ below_by g t x (parent_of g x) (is_below g t)
 
+-- the search for the parent of a child
 abbrev pub ParentIsRight : Type 0
 ParentIsRight = (g : TaskGraph) (p t : ℕ) → IsGraph g → (parent_of g t ≡ Some p) ↔ IsParent g p t
 
+-- the test of the fourth and the fifth rule
 abbrev pub PastIsRight : Type 0
 PastIsRight =
     (g : TaskGraph) (l : Assumed) (rows : List Row) (t : ℕ) → IsGraph g
     → (past g l rows t ≡ true) ↔ ((x : ℕ) → mem x (row rows t).past ≡ true → PastRule g l rows t (kind g t) x)
 
+-- the test of the sixth rule
 abbrev pub ChainIsRight : Type 0
 ChainIsRight = (g : TaskGraph) (l : Assumed) (rows : List Row) (t : ℕ) → (chain g l rows t ≡ true) ↔ ChainRule g l rows t (row rows t).chain
 
@@ -53,6 +60,7 @@ BrokenIsRight = (g : TaskGraph) (l : Assumed) (rows : List Row) (t : ℕ) → Is
 abbrev pub FirstBrokenIsRight : Type 0
 FirstBrokenIsRight = (g : TaskGraph) (l : Assumed) (rows : List Row) → IsGraph g → (first_broken g l rows 0 (length g.tasks) ≡ None) ↔ Closed g l rows
 
+-- the test of what a closed leaf proves
 abbrev pub ProvesIsRight : Type 0
 ProvesIsRight = (g : TaskGraph) (l : Assumed) (rows : List Row) (p : Property) → (proves g l rows p ≡ true) ↔ Proves g l rows p
 

@@ -19,15 +19,19 @@ use Rattle.tpl_laws.specs.Verdict.{past_rule, LeafFault, Breaks, ProvesNot, verd
 abbrev pub Runs : TaskGraph → Assumed → List Row → ℕ → Type 0
 Runs g l rows t = RunsRule g l rows t (kind g t)
 
+-- the second rule
 abbrev pub Ends : TaskGraph → Assumed → List Row → ℕ → Type 0
 Ends g l rows t = (f : Final) → l.cut t f ≡ true → MayEndAs g l rows t (kind g t) f → has (row rows t).ends f ≡ true
 
+-- the third rule
 abbrev pub Before : TaskGraph → Assumed → List Row → ℕ → Type 0
 Before g l rows t = (row rows t).runs ≡ true → (x : ℕ) → mem x (row rows t).before ≡ true → BeforeRule g rows t (kind g t) x
 
+-- the fourth and the fifth rule
 abbrev pub Past : TaskGraph → Assumed → List Row → ℕ → Type 0
 Past g l rows t = (x : ℕ) → mem x (row rows t).past ≡ true → PastRule g l rows t (kind g t) x
 
+-- the sixth rule
 abbrev pub Chain : TaskGraph → Assumed → List Row → ℕ → Type 0
 Chain g l rows t = ChainRule g l rows t (row rows t).chain
 
@@ -45,6 +49,7 @@ pub record Branch : Type 0 where
   pub assumes : Assumed
   pub rows : List Row
 
+-- the leaves of a tree under what is assumed above it, in order
 abbrev pub leaves_of : Assumed → Tree → List Branch
 leaves_of l (SplitInput i on_true on_false) = leaves_of (with_input l i true) on_true ++ leaves_of (with_input l i false) on_false
 leaves_of l (SplitEnd t ran canceled faulted) =
@@ -56,10 +61,12 @@ abbrev pub LeafFails : TaskGraph → Property → Branch → LeafFault → Type 
 LeafFails g p b (Breaks t rule) = is_task g t × ((x : ℕ) → x < t → IsClosed g b.assumes b.rows x) × BreaksRule g b.assumes b.rows t rule
 LeafFails g p b ProvesNot = Closed g b.assumes b.rows × (Proves g b.assumes b.rows p → ⊥)
 
+-- each of these leaves is closed and proves the claim
 abbrev pub EachProves : TaskGraph → Property → List Branch → Type 0
 EachProves g p [] = Unit {0}
 EachProves g p (b ∷ bs) = (Closed g b.assumes b.rows × Proves g b.assumes b.rows p) × EachProves g p bs
 
+-- the fault of a leaf, with the numbers of claim and leaf
 abbrev pub place : ℕ → ℕ → LeafFault → CertFault
 place claim leaf (Breaks t rule) = NotClosed claim leaf (record { 0 = t }) rule
 place claim leaf ProvesNot = ClaimNot claim leaf
@@ -122,5 +129,6 @@ pub record Misfits (g : TaskGraph) (n : ℕ) (claims : List Claim) (trees : List
 abbrev pub IsFirstFault : TaskGraph → List Claim → List Tree → CertFault → Type 0
 IsFirstFault g claims trees fault = Misfits g 1 claims trees fault ⊎ (HaveShape g claims trees × ClaimsFail g 1 claims trees fault)
 
+-- the fault that the verdict names is the first one
 abbrev pub FaultIsFirst : Type 0
 FaultIsFirst = (g : TaskGraph) (claims : List Claim) (trees : List Tree) (fault : CertFault) → IsGraph g → verdict g claims trees ≡ Err fault → IsFirstFault g claims trees fault

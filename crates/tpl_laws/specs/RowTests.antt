@@ -20,6 +20,7 @@ abbrev pub implies : Bool → Bool → Bool
 implies true b = b
 implies false b = true
 
+-- each of the list passes the test
 abbrev pub all_in : (ℕ → Bool) → List ℕ → Bool
 all_in test [] = true
 all_in test (x ∷ xs) = test x && all_in test xs
@@ -28,6 +29,7 @@ all_in test (x ∷ xs) = test x && all_in test xs
 abbrev pub each_end : (Final → Bool) → Bool
 each_end test = test RanToCompletion && (test Canceled && test Faulted)
 
+-- some way to end passes the test
 abbrev pub some_end : (Final → Bool) → Bool
 some_end test = test RanToCompletion || (test Canceled || test Faulted)
 
@@ -36,6 +38,7 @@ abbrev pub parent_from : TaskGraph → ℕ → ℕ → ℕ → Option ℕ
 parent_from g t p zero = None
 parent_from g t p (suc n) = if mem t (starts (body g p)) then Some p else parent_from g t (suc p) n
 
+-- the parent of t, if it has one
 abbrev pub parent_of : TaskGraph → ℕ → Option ℕ
 parent_of g t = parent_from g t 0 (length g.tasks)
 
@@ -49,6 +52,7 @@ abbrev pub below_by : TaskGraph → ℕ → ℕ → Option ℕ → (ℕ → Bool
 below_by g t x None above = false
 below_by g t x (Some p) above = mem x (attached g p) && (nat_eq p t || above p)
 
+-- x is below t, by n steps up at most
 abbrev pub below_within : TaskGraph → ℕ → ℕ → ℕ → Bool
 below_within g t zero x = false
 below_within g t (suc n) x = below_by g t x (parent_of g x) (below_within g t n)
@@ -65,13 +69,16 @@ runs_by g l rows t Child =
     by_parent (parent_of g t) (λ p. implies (row rows p).runs (implies (reaches t (view g l rows p) (body g p)) (row rows t).runs))
 runs_by g l rows t kind = true
 
+-- the first rule
 abbrev pub runs : TaskGraph → Assumed → List Row → ℕ → Bool
 runs g l rows t = runs_by g l rows t (kind g t)
 
+-- the body returned
 abbrev pub is_return : Outcome → Bool
 is_return Returned = true
 is_return verdict = false
 
+-- the body acknowledged a cancellation
 abbrev pub is_acknowledgement : Outcome → Bool
 is_acknowledgement Acknowledged = true
 is_acknowledgement verdict = false
@@ -80,6 +87,7 @@ is_acknowledgement verdict = false
 abbrev pub may_throw : TaskGraph → Assumed → List Row → ℕ → Bool
 may_throw g l rows t = may none is_throw (view g l rows t) (body g t)
 
+-- the body of t may end the task so
 abbrev pub body_may_end : TaskGraph → Assumed → List Row → ℕ → Final → Bool
 body_may_end g l rows t RanToCompletion = may none is_return (view g l rows t) (body g t)
 body_may_end g l rows t Canceled = may none is_acknowledgement (view g l rows t) (body g t)
@@ -107,6 +115,7 @@ may_end_as g l rows t (Continues a) f = ((row rows t).runs && body_may_end g l r
 may_end_as g l rows t (WhenAll args) f = all_may_end rows args f
 may_end_as g l rows t (WhenAny args) f = is_final f RanToCompletion && some_in (λ x. some_end (has (row rows x).ends)) args
 
+-- the second rule
 abbrev pub ends : TaskGraph → Assumed → List Row → ℕ → Bool
 ends g l rows t = each_end (λ f. implies (l.cut t f) (implies (may_end_as g l rows t (kind g t) f) (has (row rows t).ends f)))
 
@@ -117,6 +126,7 @@ before_by g rows t (Continues a) x = nat_eq x a || mem x (row rows a).past
 before_by g rows t Child x = by_parent (parent_of g t) (λ p. mem x (row rows p).before)
 before_by g rows t kind x = true
 
+-- the third rule
 abbrev pub before : TaskGraph → List Row → ℕ → Bool
 before g rows t = implies (row rows t).runs (all_in (before_by g rows t (kind g t)) (row rows t).before)
 
@@ -128,6 +138,7 @@ past_by g l rows t (Continues a) x = (not (may_end_early g l rows t) && (nat_eq 
 past_by g l rows t (WhenAll args) x = some_in (λ y. nat_eq x y || mem x (row rows y).past) args
 past_by g l rows t (WhenAny args) x = all_in (λ y. nat_eq x y || mem x (row rows y).past) args
 
+-- the fourth and the fifth rule
 abbrev pub past : TaskGraph → Assumed → List Row → ℕ → Bool
 past g l rows t = all_in (past_by g l rows t (kind g t)) (row rows t).past
 
@@ -136,9 +147,11 @@ abbrev pub is_argument : ℕ → TaskKind → Bool
 is_argument y (WhenAll args) = mem y args
 is_argument y kind = false
 
+-- x takes over what y carries
 abbrev pub takes_over : TaskGraph → ℕ → ℕ → Bool
 takes_over g x y = mem y (attached g x) || is_argument y (kind g x)
 
+-- a task of this kind continues y
 abbrev pub continues : ℕ → TaskKind → Bool
 continues y (Continues a) = nat_eq a y
 continues y kind = false
@@ -151,15 +164,18 @@ faulted_view g l r = record { possible = l.possible; quiet = l.quiet; own = (tas
 abbrev pub reads : TaskGraph → Assumed → ℕ → ℕ → Bool
 reads g l r y = continues y (kind g r) && (allows (options g r) Faulted && (not (is_loud g l r) && must_observe (faulted_view g l r) (body g r)))
 
+-- the tasks of a chain from y on take over one after another, and the last one reads
 abbrev pub links : TaskGraph → Assumed → ℕ → List ℕ → Bool
 links g l y [] = false
 links g l y (x ∷ []) = reads g l x y
 links g l y (x ∷ z ∷ zs) = takes_over g x y && links g l x (z ∷ zs)
 
+-- a chain is empty or leads from t to its reader
 abbrev pub chain_by : TaskGraph → Assumed → ℕ → List ℕ → Bool
 chain_by g l t [] = true
 chain_by g l t (x ∷ chain) = links g l t (x ∷ chain)
 
+-- the sixth rule
 abbrev pub chain : TaskGraph → Assumed → List Row → ℕ → Bool
 chain g l rows t = chain_by g l t (row rows t).chain
 
@@ -168,6 +184,7 @@ abbrev pub is_none : List ℕ → Bool
 is_none [] = true
 is_none (x ∷ xs) = false
 
+-- a closed leaf proves the claim
 abbrev pub proves : TaskGraph → Assumed → List Row → Property → Bool
 proves g l rows (EndsIn t ends) = each_end (λ f. implies (has (row rows t.0).ends f) (has ends f))
 proves g l rows (After a b) = not (row rows b.0).runs || mem a.0 (row rows b.0).before

@@ -26,6 +26,7 @@ pub record Stays (g : TaskGraph) (v : List Bool) (later h : List Event) : Type 0
   pub still_begun : (t : ℕ) (a : Actor) → begun h t ≡ Some a → begun (later ++ h) t ≡ Some a
   pub still_ended : (t : ℕ) (e : Ending) → ending g v h t ≡ Some e → ending g v (later ++ h) t ≡ Some e
 
+-- along a run nothing goes back
 abbrev pub NothingGoesBack : Type 0
 NothingGoesBack = (g : TaskGraph) (v : List Bool) (later h : List Event) → Run g v (later ++ h) → Stays g v later h
 
@@ -46,6 +47,7 @@ RequestedByASource =
     (g : TaskGraph) (v : List Bool) (h : List Event) (k : ℕ)
     → requested g v h k ≡ requested_itself g v h k || some_in (requested g v h) (sources g k)
 
+-- the token itself is given as quiet
 abbrev pub gives_quiet : List Given → ℕ → Bool
 gives_quiet [] k = false
 gives_quiet (Input i value ∷ given) k = gives_quiet given k

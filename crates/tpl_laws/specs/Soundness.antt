@@ -41,11 +41,13 @@ abbrev pub BeforeHolds : TaskGraph → List Row → List Bool → List Event →
 BeforeHolds g rows v [] = Unit {0}
 BeforeHolds g rows v (e ∷ h) = ((t x : ℕ) → begun_by e.act t ≡ true → mem x (row rows t).before ≡ true → Settled g v h x) × BeforeHolds g rows v h
 
+-- the rows of a closed leaf are true of each run that agrees with it
 abbrev pub RowsAreTrue : Type 0
 RowsAreTrue =
     (g : TaskGraph) (l : Assumed) (rows : List Row) (v : List Bool) (h : List Event)
     → IsGraph g → Closed g l rows → Run g v h → Agrees g l v h → RowsHold g rows v h × BeforeHolds g rows v h
 
+-- each claim has the property
 abbrev pub Each : (Claim → Type 0) → List Claim → Type 0
 Each P [] = Unit {0}
 Each P (claim ∷ claims) = P claim × Each P claims

@@ -21,6 +21,7 @@ abbrev pub unless : {A : Type 0} → Bool → A → Option A → Option A
 unless true fault later = later
 unless false fault later = Some fault
 
+-- the rule on what is past a task of this kind
 abbrev pub past_rule : TaskKind → Rule
 past_rule (WhenAll args) = K5
 past_rule (WhenAny args) = K5
@@ -37,6 +38,7 @@ pub data LeafFault : Type 0 where
   Breaks : (task : ℕ) → (rule : Rule) → LeafFault
   ProvesNot : LeafFault
 
+-- the fault of a row that breaks a rule
 abbrev pub breaks : ℕ → Option Rule → Option LeafFault
 breaks t None = None
 breaks t (Some rule) = Some (Breaks t rule)
@@ -46,14 +48,17 @@ abbrev pub first_broken : TaskGraph → Assumed → List Row → ℕ → ℕ →
 first_broken g l rows t zero = None
 first_broken g l rows t (suc n) = or_else (breaks t (broken g l rows t)) (first_broken g l rows (suc t) n)
 
+-- the first fault of a leaf
 abbrev pub leaf_fault : TaskGraph → Property → Assumed → List Row → Option LeafFault
 leaf_fault g p l rows = or_else (first_broken g l rows 0 (length g.tasks)) (unless (proves g l rows p) ProvesNot None)
 
+-- how many leaves a tree has
 abbrev pub leaves : Tree → ℕ
 leaves (SplitInput i on_true on_false) = leaves on_true + leaves on_false
 leaves (SplitEnd t ran canceled faulted) = leaves ran + leaves canceled + leaves faulted
 leaves (Leaf rows) = 1
 
+-- a fault with the numbers of claim and leaf
 abbrev pub at_leaf : ℕ → ℕ → Option LeafFault → Option CertFault
 at_leaf claim leaf None = None
 at_leaf claim leaf (Some (Breaks t rule)) = Some (NotClosed claim leaf (record { 0 = t }) rule)
@@ -79,6 +84,7 @@ claims_fault g n claims trees = None
 abbrev pub has_tasks : TaskGraph → List ℕ → Bool
 has_tasks g xs = all_in (λ x. nat_lt x (length g.tasks)) xs
 
+-- the ids in the rows are the graph's
 abbrev pub rows_fit : TaskGraph → List Row → Bool
 rows_fit g [] = true
 rows_fit g (r ∷ rows) = (has_tasks g r.before && (has_tasks g r.past && has_tasks g r.chain)) && rows_fit g rows
@@ -95,6 +101,7 @@ misfit g n [] [] = None
 misfit g n (claim ∷ claims) (tree ∷ trees) = unless (fits g tree) (Shape n) (misfit g (suc n) claims trees)
 misfit g n claims trees = Some (Shape n)
 
+-- Ok where there is no fault
 abbrev pub no_fault : Option CertFault → Result (Unit {0}) CertFault
 no_fault None = Ok tt
 no_fault (Some fault) = Err fault
