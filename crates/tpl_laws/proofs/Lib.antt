@@ -1,0 +1,2 @@
+mod AllowedDecided
+mod AllowedSettled

@@ -1,2 +1,4 @@
 //! What follows from the definitions, for every graph, run and certificate.
 #![tactic(auto)]
+
+pub mod allowed;
