@@ -24,7 +24,7 @@ use Rattle.tpl_laws.specs.Allowed.{is_child, some_parent, settled_within, is_set
 use Rattle.tpl_laws.proofs.AllowedDecided.{itself, denied, both_of, joined_from}
 
 -- past the last task there is an empty root
-beyond : (ts : List Task) (t : ℕ) (past : Task) → length ts ≤ t → slice_index_or ts t past ≡ past
+pub beyond : (ts : List Task) (t : ℕ) (past : Task) → length ts ≤ t → slice_index_or ts t past ≡ past
 beyond [] t past le = refl
 beyond (x ∷ xs) zero past le = absurd (omega arith)
 beyond (x ∷ xs) (suc t) past le = beyond xs t past (omega arith)
@@ -82,7 +82,7 @@ module _ (g : TaskGraph) (valid : IsGraph g) (t : ℕ) (k : kind g t ≡ Child) 
       let r = finds_from g t 0 (length g.tasks) p m (omega arith) (omega arith) in
       r.1 ∙ ap Some ((valid.each t here).one_parent r.0 p (found_from g t 0 (length g.tasks) r.0 r.1) m)
 
-of_child : (k : TaskKind) → is_child k ≡ true → k ≡ Child
+pub of_child : (k : TaskKind) → is_child k ≡ true → k ≡ Child
 of_child Root e = cc
 of_child Child e = refl
 of_child (Continues a) e = cc

@@ -1,2 +1,2 @@
-mod AllowedDecided
-mod AllowedSettled
+pub mod AllowedDecided
+pub mod AllowedSettled

@@ -1,0 +1,2 @@
+mod GraphTests
+mod Computed

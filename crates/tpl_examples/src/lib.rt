@@ -1,0 +1,4 @@
+//! Worked runs of small task graphs. Each function's contract is one of them.
+#![tactic(auto)]
+
+pub mod bodies;
