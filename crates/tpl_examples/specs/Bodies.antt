@@ -246,8 +246,8 @@ abbrev pub no_tasks : TaskGraph
 no_tasks = graph []
 
 -- nothing is to be done where there are no tasks
-abbrev pub NoTasksAreComplete : Type 0
-NoTasksAreComplete =
+abbrev pub GraphWithoutTasksIsComplete : Type 0
+GraphWithoutTasksIsComplete =
     IsGraph no_tasks
     × Run no_tasks [] nothing_happened
     × Complete no_tasks [] nothing_happened

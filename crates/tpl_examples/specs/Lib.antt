@@ -1,2 +1,4 @@
 pub mod Words
 pub mod Bodies
+pub mod Cancellation
+pub mod Children

@@ -1,6 +1,6 @@
 //! The statements of a body, and who passes them.
 
-ghost use Rattle.tpl_examples.specs.Bodies.{ReturnEndsTheBody, ThrowEndsTheBody, EmptyBody, RootOpensReady, TaskBeginsOnce, OnlyItsWorkerRunsABody, BodiesRunApart, JobIsAnswered, FailedJobThrows, StoppedBetweenJobs, OnlyJobsAreAnswered, TwoJobsAtOnce, InputChoosesTheBranch, ThreeWaysToEnd, NoTasksAreComplete};
+ghost use Rattle.tpl_examples.specs.Bodies.{ReturnEndsTheBody, ThrowEndsTheBody, EmptyBody, RootOpensReady, TaskBeginsOnce, OnlyItsWorkerRunsABody, BodiesRunApart, JobIsAnswered, FailedJobThrows, StoppedBetweenJobs, OnlyJobsAreAnswered, TwoJobsAtOnce, InputChoosesTheBranch, ThreeWaysToEnd, GraphWithoutTasksIsComplete};
 
 /// A return ends the body: the statement behind it isn't passed.
 pub fn return_ends_the_body()
@@ -73,6 +73,6 @@ pub fn three_ways_to_end()
 {}
 
 /// Nothing is to be done where there are no tasks.
-pub fn no_tasks_are_complete()
-    ensures { NoTasksAreComplete }
+pub fn graph_without_tasks_is_complete()
+    ensures { GraphWithoutTasksIsComplete }
 {}

@@ -2,3 +2,5 @@
 #![tactic(auto)]
 
 pub mod bodies;
+pub mod cancellation;
+pub mod children;
