@@ -2,3 +2,5 @@ pub mod Words
 pub mod Bodies
 pub mod Cancellation
 pub mod Children
+pub mod Continuations
+pub mod Combinators

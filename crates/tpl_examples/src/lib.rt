@@ -4,3 +4,5 @@
 pub mod bodies;
 pub mod cancellation;
 pub mod children;
+pub mod combinators;
+pub mod continuations;
