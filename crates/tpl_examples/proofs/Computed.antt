@@ -6,10 +6,11 @@ use Rattle.tpl_model.specs.declared.event.Act.{Act}
 use Rattle.tpl_model.specs.declared.event.Event.{Event}
 use Rattle.tpl_model.specs.Rules.{Allows, Run, Settled, Complete}
 use Rattle.tpl_model.specs.Valid.{IsGraph}
-use Rattle.tpl_model.specs.Claims.{Claim, Holds}
-use Rattle.tpl_laws.specs.Allowed.{can, is_run, is_settled, is_complete, holds}
+use Rattle.tpl_model.specs.declared.claim.Given.{Given}
+use Rattle.tpl_model.specs.Claims.{Claim, IsGiven, Holds}
+use Rattle.tpl_laws.specs.Allowed.{can, is_run, is_settled, is_complete, is_given, holds}
 use Rattle.tpl_laws.proofs.AllowedDecided.{can_lem, run_lem}
-use Rattle.tpl_laws.proofs.AllowedSettled.{settled_lem, complete_lem, holds_lem}
+use Rattle.tpl_laws.proofs.AllowedSettled.{settled_lem, complete_lem, given_lem, holds_lem}
 use Rattle.tpl_examples.proofs.GraphTests.{is_graph, graph_test}
 
 contradicts : {P : Type 0} (b : Bool) → (P → b ≡ true) → b ≡ false → P → ⊥
@@ -50,3 +51,9 @@ claims g claim v h is_valid e = (holds_lem g claim v h (valid g is_valid)).0 e
 
 pub fails : (g : TaskGraph) (claim : Claim) (v : List Bool) (h : List Event) → is_graph g ≡ true → holds g claim v h ≡ false → Holds g claim v h → ⊥
 fails g claim v h is_valid e = contradicts (holds g claim v h) (holds_lem g claim v h (valid g is_valid)).1 e
+
+pub given : (g : TaskGraph) (v : List Bool) (h : List Event) (givens : List Given) → is_given g v h givens ≡ true → IsGiven g v h givens
+given g v h givens e = (given_lem g v h givens).0 e
+
+pub given_not : (g : TaskGraph) (v : List Bool) (h : List Event) (givens : List Given) → is_given g v h givens ≡ false → IsGiven g v h givens → ⊥
+given_not g v h givens e = contradicts (is_given g v h givens) (given_lem g v h givens).1 e

@@ -1,15 +1,16 @@
 -- Continuations: when they start, on which worker, and what they read.
-use Rattle.std.specs.Prelude.{◌≡◌, ℕ, true, false, Some, None, List, [], ◌∷◌}
+use Rattle.std.specs.Prelude.{◌≡◌, ◌≤◌, ℕ, true, false, Some, None, List, [], ◌∷◌, bit_or, replicate}
 use Rattle.tpl_words.specs.declared.finals.Final.TheVariants.{RanToCompletion, Canceled, Faulted}
 use Rattle.tpl_words.specs.declared.status.Status.TheVariants.{Created, WaitingForActivation, WaitingToRun, Running, WaitingForChildrenToComplete, Completed}
 use Rattle.tpl_script.specs.Statements.{Return, Throw, Check, Cancel, Start, Observe, Work, If, When, Nothing, ◌⨾◌}
 use Rattle.tpl_model.specs.Graph.{TaskGraph, Continues, Plain, Linked}
 use Rattle.tpl_model.specs.declared.event.Event.{Event}
+use Rattle.tpl_model.specs.declared.claim.Given.{Given}
 use Rattle.tpl_model.specs.Facts.{ending, winner_of, rest, requested, started, released}
 use Rattle.tpl_model.specs.Rules.{status, carried, label, seen, subject, bound_worker, final, Run, Allows, Settled, Complete}
 use Rattle.tpl_model.specs.Valid.{IsGraph, bound}
 use Rattle.tpl_model.specs.Claims.{Holds}
-use Rattle.tpl_examples.specs.Words.{worker, outside, requesting, releasing, beginning, stepping, doing, failing, leaving, closing, dropping, settling, by, release, begin, step, done, failed, leave, close, drop, settle, request, played, thrown, operation_canceled, work_failed, returns, jobs, root, child, detached_child, continues, when_all, when_any, with_token, with_options, prefer_fairness, long_running, deny_child_attach, hide_scheduler, lazy_cancellation, run_continuations_asynchronously, not_on_ran_to_completion, not_on_faulted, not_on_canceled, only_on_canceled, only_on_faulted, only_on_ran_to_completion, execute_synchronously, graph, with_tokens, with_inputs, ran_only, canceled_only, faulted_only, ends_in, after, observed, never, excludes, given_input, given_quiet, claim, claim_given}
+use Rattle.tpl_examples.specs.Words.{worker, outside, requesting, releasing, beginning, stepping, doing, failing, leaving, closing, dropping, settling, by, release, begin, step, done, failed, leave, close, drop, settle, request, played, thrown, operation_canceled, work_failed, returns, jobs, root, child, detached_child, continues, when_all, when_any, with_token, with_options, prefer_fairness, long_running, attached_to_parent, deny_child_attach, hide_scheduler, lazy_cancellation, run_continuations_asynchronously, not_on_ran_to_completion, not_on_faulted, not_on_canceled, only_on_canceled, only_on_faulted, only_on_ran_to_completion, execute_synchronously, graph, with_tokens, with_inputs, ran_only, canceled_only, faulted_only, ends_in, after, observed, never, excludes, given_input, given_quiet, claim, claim_given}
 
 -- a root that throws and one that returns, each with a continuation that wants the other
 abbrev pub wrong_end_graph : TaskGraph
@@ -211,7 +212,7 @@ abbrev pub synchronous_graph : TaskGraph
 synchronous_graph = graph (root returns ∷ with_options execute_synchronously (continues 0 returns) ∷ [])
 
 abbrev pub lifted_graph : TaskGraph
-lifted_graph = graph (root returns ∷ with_options 0x80040 (continues 0 returns) ∷ [])
+lifted_graph = graph (root returns ∷ with_options (bit_or execute_synchronously run_continuations_asynchronously) (continues 0 returns) ∷ [])
 
 abbrev pub lifting_graph : TaskGraph
 lifting_graph = graph (with_options run_continuations_asynchronously (root returns) ∷ with_options execute_synchronously (continues 0 returns) ∷ [])
@@ -290,8 +291,11 @@ SynchronousAfterACloseOrNoEvent =
     × Allows closed_graph [] nothing_released (worker 2) (beginning 4)
 
 -- the words that change nothing, on a root and its continuation
+abbrev pub plain_words : ℕ
+plain_words = bit_or (bit_or prefer_fairness long_running) (bit_or hide_scheduler attached_to_parent)
+
 abbrev pub plain_words_graph : TaskGraph
-plain_words_graph = graph (with_options 23 (root returns) ∷ with_options 23 (continues 0 returns) ∷ [])
+plain_words_graph = graph (with_options plain_words (root returns) ∷ with_options plain_words (continues 0 returns) ∷ [])
 
 abbrev pub plain_run : List Event
 plain_run = played (begin 1 0 ∷ step 1 0 ∷ leave 1 0 ∷ release 1 1 ∷ begin 2 1 ∷ step 2 1 ∷ leave 2 1 ∷ [])

@@ -4,3 +4,5 @@ pub mod Cancellation
 pub mod Children
 pub mod Continuations
 pub mod Combinators
+pub mod Links
+pub mod ValidGraphs

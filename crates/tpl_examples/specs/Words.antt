@@ -114,37 +114,15 @@ abbrev pub jobs : ℕ → ℕ → Statements
 jobs site zero = Nothing
 jobs site (suc n) = Work site false ⨾ jobs (suc site) n
 
--- tasks, at first without token and options; a child is attached to its parent unless it is detached
-abbrev pub root : Statements → Task
-root body = record { kind = Root; body = body; token = None; options = 0 }
-
-abbrev pub child : Statements → Task
-child body = record { kind = Child; body = body; token = None; options = 4 }
-
-abbrev pub detached_child : Statements → Task
-detached_child body = record { kind = Child; body = body; token = None; options = 0 }
-
-abbrev pub continues : ℕ → Statements → Task
-continues antecedent body = record { kind = Continues antecedent; body = body; token = None; options = 0 }
-
-abbrev pub when_all : List ℕ → Task
-when_all args = record { kind = WhenAll args; body = Nothing; token = None; options = 0 }
-
-abbrev pub when_any : List ℕ → Task
-when_any args = record { kind = WhenAny args; body = Nothing; token = None; options = 0 }
-
-abbrev pub with_token : ℕ → Task → Task
-with_token k t = record { kind = t.kind; body = t.body; token = Some k; options = t.options }
-
-abbrev pub with_options : ℕ → Task → Task
-with_options word t = record { kind = t.kind; body = t.body; token = t.token; options = word }
-
 -- the option words
 abbrev pub prefer_fairness : ℕ
 prefer_fairness = 1
 
 abbrev pub long_running : ℕ
 long_running = 2
+
+abbrev pub attached_to_parent : ℕ
+attached_to_parent = 4
 
 abbrev pub deny_child_attach : ℕ
 deny_child_attach = 8
@@ -178,6 +156,31 @@ only_on_ran_to_completion = 0x60000
 
 abbrev pub execute_synchronously : ℕ
 execute_synchronously = 0x80000
+
+-- tasks, at first without token and options; a child is attached to its parent unless it is detached
+abbrev pub root : Statements → Task
+root body = record { kind = Root; body = body; token = None; options = 0 }
+
+abbrev pub child : Statements → Task
+child body = record { kind = Child; body = body; token = None; options = attached_to_parent }
+
+abbrev pub detached_child : Statements → Task
+detached_child body = record { kind = Child; body = body; token = None; options = 0 }
+
+abbrev pub continues : ℕ → Statements → Task
+continues antecedent body = record { kind = Continues antecedent; body = body; token = None; options = 0 }
+
+abbrev pub when_all : List ℕ → Task
+when_all args = record { kind = WhenAll args; body = Nothing; token = None; options = 0 }
+
+abbrev pub when_any : List ℕ → Task
+when_any args = record { kind = WhenAny args; body = Nothing; token = None; options = 0 }
+
+abbrev pub with_token : ℕ → Task → Task
+with_token k t = record { kind = t.kind; body = t.body; token = Some k; options = t.options }
+
+abbrev pub with_options : ℕ → Task → Task
+with_options word t = record { kind = t.kind; body = t.body; token = t.token; options = word }
 
 -- a graph of these tasks, at first without tokens and inputs
 abbrev pub graph : List Task → TaskGraph

@@ -6,3 +6,5 @@ pub mod cancellation;
 pub mod children;
 pub mod combinators;
 pub mod continuations;
+pub mod links;
+pub mod valid_graphs;

@@ -145,7 +145,7 @@ equal true b = (λ e. sym e, λ e. sym e)
 equal false true = (λ e. absurd (cc), λ e. absurd (cc))
 equal false false = (λ e. refl, λ e. refl)
 
-given_lem : (g : TaskGraph) (v : List Bool) (h : List Event) (given : List Given) → Decides (is_given g v h given) (IsGiven g v h given)
+pub given_lem : (g : TaskGraph) (v : List Bool) (h : List Event) (given : List Given) → Decides (is_given g v h given) (IsGiven g v h given)
 given_lem g v h [] = (λ e. tt, λ e. refl)
 given_lem g v h (Input i value ∷ given) = Decides-and (same (input v i.0) value) (is_given g v h given) (equal (input v i.0) value) (given_lem g v h given)
 given_lem g v h (Quiet k ∷ given) = Decides-and (not (requested g v h k.0)) (is_given g v h given) (denied (requested g v h k.0)) (given_lem g v h given)
