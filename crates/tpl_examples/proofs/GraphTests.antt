@@ -1,14 +1,14 @@
 -- Whether a list of tasks is a graph, as a test that computes.
-use Rattle.std.proofs.Common.{◌≡◌, ℕ, zero, suc, ◌+◌, ◌<◌, ◌≤◌, ◌⊎◌, inl, inr, ◌&&◌, ◌||◌, not, Bool, true, false, Option, Some, None, List, [], ◌∷◌, refl, sym, ap, ◌∙◌, subst, arith, length, nat_eq, nat_lt, cond}
-use Rattle.std.specs.Prelude.{Decides, slice_index_or, count_by}
+use Rattle.std.proofs.Common.{◌≡◌, ℕ, zero, suc, ◌+◌, ◌<◌, ◌≤◌, inl, inr, ◌&&◌, ◌||◌, not, Bool, true, false, Option, Some, None, List, [], ◌∷◌, refl, sym, ap, subst, arith, length, nat_eq, nat_lt, cond}
+use Rattle.std.specs.Prelude.{Decides, count_by}
 use Rattle.std.proofs.lemmas.Bool.{cases_lt, eqb-true, eq-eqb}
-use Rattle.std.proofs.lemmas.Bool.Decides.{Decides-and, Decides-or, Decides-ltb, Decides-eqb, Decides-below_and, Decides-below_or, Decides-like}
+use Rattle.std.proofs.lemmas.Bool.Decides.{Decides-and, Decides-ltb, Decides-eqb, Decides-below_and, Decides-below_or, Decides-like}
 use Rattle.std.proofs.lemmas.List.Recursion.{is_count_by}
 use Rattle.tpl_words.specs.Members.{mem}
 use Rattle.tpl_words.specs.Options.{has_bits, excludes_all, long_and_sync}
 use Rattle.tpl_script.specs.Statements.{Statement, Statements, Return, Throw, Check, Cancel, Start, Observe, Work, If, When, Nothing, ◌⨾◌, starts, reads_nothing}
-use Rattle.tpl_script.specs.Limits.{statement_count, level_count, IsWithinLimits}
-use Rattle.tpl_model.specs.Graph.{TaskGraph, Task, TaskKind, Root, Child, Continues, WhenAll, WhenAny, task, kind, body, options, is_task, Token, Plain, Linked, token, is_token, IsParent}
+use Rattle.tpl_script.specs.Limits.{statement_count, level_count}
+use Rattle.tpl_model.specs.Graph.{TaskGraph, Task, TaskKind, Root, Child, Continues, WhenAll, WhenAny, task, kind, body, options, Token, Plain, Linked, token, IsParent}
 use Rattle.tpl_model.specs.Valid.{IdsOf, IdsWithin, OwnToken, AreBefore, IsLinked, ArePlaced, IsPlaced, option_words, HasBody, HasSubject, IsTask, all_sites, IsGraph}
 use Rattle.tpl_laws.specs.RowTests.{implies, all_in}
 use Rattle.tpl_laws.specs.Allowed.{has_task, has_token, is_child, all_below}
@@ -174,13 +174,13 @@ linked : (k : ℕ) (t : Token) → Decides (is_linked k t) (IsLinked k t)
 linked k Plain = always
 linked k (Linked sources) =
     both3 (AreBefore k sources) (0 < length sources) (length sources ≤ 32) (are_before k sources) (nat_lt 0 (length sources)) (at_most (length sources) 32)
-        (before k sources) (Decides-ltb 0 (length sources)) (most (length sources) 32)
+    (before k sources) (Decides-ltb 0 (length sources)) (most (length sources) 32)
 
 placed : (g : TaskGraph) (t : ℕ) (xs : List ℕ) → Decides (are_placed g t xs) (ArePlaced g t xs)
 placed g t [] = always
 placed g t (x ∷ xs) =
     both3 (x < t) (kind g x ≡ Child → ⊥) (ArePlaced g t xs) (nat_lt x t) (not (is_child (kind g x))) (are_placed g t xs)
-        (Decides-ltb x t) (no_child (kind g x)) (placed g t xs)
+    (Decides-ltb x t) (no_child (kind g x)) (placed g t xs)
 
 at_place : (g : TaskGraph) (t : ℕ) (k : TaskKind) → Decides (is_placed g t k) (IsPlaced g t k)
 at_place g t Root = always
@@ -189,7 +189,7 @@ at_place g t (Continues a) = placed g t (a ∷ [])
 at_place g t (WhenAll args) = Decides-and (are_placed g t args) (at_most (length args) 256) (placed g t args) (most (length args) 256)
 at_place g t (WhenAny args) =
     both3 (ArePlaced g t args) (length args ≤ 256) (0 < length args) (are_placed g t args) (at_most (length args) 256) (nat_lt 0 (length args))
-        (placed g t args) (most (length args) 256) (Decides-ltb 0 (length args))
+    (placed g t args) (most (length args) 256) (Decides-ltb 0 (length args))
 
 bodied : (k : TaskKind) (t : Task) → Decides (has_body k t) (HasBody k t)
 bodied Root t = always
@@ -223,19 +223,19 @@ module _ (g : TaskGraph) (t : ℕ) where
   before_it =
       let found = Decides-below_or (λ p. is_parent g p t) (λ p. IsParent g p t) (some_below (λ p. is_parent g p t)) (λ p. itself (is_parent g p t)) refl (λ _. refl) t in
       implied (kind g t ≡ Child) ((p : ℕ) × IsParent g p t × (p < t)) (is_child (kind g t)) (some_below (λ p. is_parent g p t) t) (childhood (kind g t))
-          (λ e. let x = found.0 e in (x.0, x.2, x.1), λ x. found.1 (x.0, x.2, x.1))
+      (λ e. let x = found.0 e in (x.0, x.2, x.1), λ x. found.1 (x.0, x.2, x.1))
 
   once : Decides (started_once g t) ((p : ℕ) → count_by (nat_eq t) (starts (body g p)) ≤ 1)
   once =
       at_each g (λ p. count_by (nat_eq t) (starts (body g p)) ≤ 1) (λ p. at_most (count_by (nat_eq t) (starts (body g p))) 1) (λ p. most (count_by (nat_eq t) (starts (body g p))) 1)
-          (λ p le. subst (λ (z : List ℕ). count_by (nat_eq t) z ≤ 1) (sym (starts_nothing g p le)) (omega arith))
+      (λ p le. subst (λ (z : List ℕ). count_by (nat_eq t) z ≤ 1) (sym (starts_nothing g p le)) (omega arith))
 
   others : (p : ℕ) → Decides (same_parent g t p) (IsParent g p t → (q : ℕ) → IsParent g q t → p ≡ q)
   others p =
       implied (IsParent g p t) ((q : ℕ) → IsParent g q t → p ≡ q) (is_parent g p t) (all_below (λ q. implies (is_parent g q t) (nat_eq p q)) (length g.tasks)) (itself (is_parent g p t))
-          (at_each g (λ q. IsParent g q t → p ≡ q) (λ q. implies (is_parent g q t) (nat_eq p q))
-              (λ q. implied (IsParent g q t) (p ≡ q) (is_parent g q t) (nat_eq p q) (itself (is_parent g q t)) (Decides-eqb p q))
-              (λ q le m. absurd (no_parent g q t le m)))
+      (at_each g (λ q. IsParent g q t → p ≡ q) (λ q. implies (is_parent g q t) (nat_eq p q))
+      (λ q. implied (IsParent g q t) (p ≡ q) (is_parent g q t) (nat_eq p q) (itself (is_parent g q t)) (Decides-eqb p q))
+      (λ q le m. absurd (no_parent g q t le m)))
 
   one : Decides (one_parent g t) ((p q : ℕ) → IsParent g p t → IsParent g q t → p ≡ q)
   one =
@@ -245,41 +245,40 @@ module _ (g : TaskGraph) (t : ℕ) where
   child_only : Decides (starts_child g t) ((p : ℕ) → IsParent g p t → kind g t ≡ Child)
   child_only =
       at_each g (λ p. IsParent g p t → kind g t ≡ Child) (λ p. implies (is_parent g p t) (is_child (kind g t)))
-          (λ p. implied (IsParent g p t) (kind g t ≡ Child) (is_parent g p t) (is_child (kind g t)) (itself (is_parent g p t)) (childhood (kind g t)))
-          (λ p le m. absurd (no_parent g p t le m))
+      (λ p. implied (IsParent g p t) (kind g t ≡ Child) (is_parent g p t) (is_child (kind g t)) (itself (is_parent g p t)) (childhood (kind g t)))
+      (λ p le m. absurd (no_parent g p t le m))
 
   right : Decides (is_right g t) (IsTask g t)
   right =
       let short = Decides-and (at_most (statement_count (body g t)) 64) (at_most (level_count (body g t)) 8) (most (statement_count (body g t)) 64) (most (level_count (body g t)) 8) in
       let inner = both3 (IdsOf g (body g t)) (OwnToken g (task g t).token) (HasSubject (kind g t) (body g t)) (has_ids g (body g t)) (has_own g (task g t).token) (has_subject (kind g t) (body g t))
-              (ids g (body g t)) (own g (task g t).token) (subjected (kind g t) (body g t)) in
+      (ids g (body g t)) (own g (task g t).token) (subjected (kind g t) (body g t)) in
       let bodies = Decides-and (at_most (statement_count (body g t)) 64 && at_most (level_count (body g t)) 8) (has_ids g (body g t) && (has_own g (task g t).token && has_subject (kind g t) (body g t))) short inner in
       let kinds = Decides-and (is_placed g t (kind g t)) (has_body (kind g t) (task g t)) (at_place g t (kind g t)) (bodied (kind g t) (task g t)) in
       let words = both3 (has_bits (option_words (kind g t)) (options g t) ≡ true) (excludes_all (options g t) ≡ false) (long_and_sync (options g t) ≡ false)
-              (has_bits (option_words (kind g t)) (options g t)) (not (excludes_all (options g t))) (not (long_and_sync (options g t)))
-              (itself (has_bits (option_words (kind g t)) (options g t))) (denied (excludes_all (options g t))) (denied (long_and_sync (options g t))) in
+      (has_bits (option_words (kind g t)) (options g t)) (not (excludes_all (options g t))) (not (long_and_sync (options g t)))
+      (itself (has_bits (option_words (kind g t)) (options g t))) (denied (excludes_all (options g t))) (denied (long_and_sync (options g t))) in
       let children = Decides-and (parent_before g t) (started_once g t && (one_parent g t && starts_child g t)) before_it
-              (both3 ((p : ℕ) → count_by (nat_eq t) (starts (body g p)) ≤ 1) ((p q : ℕ) → IsParent g p t → IsParent g q t → p ≡ q) ((p : ℕ) → IsParent g p t → kind g t ≡ Child)
-                  (started_once g t) (one_parent g t) (starts_child g t) once one child_only) in
+      (both3 ((p : ℕ) → count_by (nat_eq t) (starts (body g p)) ≤ 1) ((p q : ℕ) → IsParent g p t → IsParent g q t → p ≡ q) ((p : ℕ) → IsParent g p t → kind g t ≡ Child)
+      (started_once g t) (one_parent g t) (starts_child g t) once one child_only) in
       let all = Decides-and (fits_body g t && fits_kind g t) (fits_options g t && fits_children g t)
-              (Decides-and (fits_body g t) (fits_kind g t) bodies kinds) (Decides-and (fits_options g t) (fits_children g t) words children) in
-      (
+      (Decides-and (fits_body g t) (fits_kind g t) bodies kinds) (Decides-and (fits_options g t) (fits_children g t) words children) in (
         λ e. let x = all.0 e in
-          record {
-            short = x.0.0.0;
-            ids = x.0.0.1.0;
-            own_token = x.0.0.1.1;
-            placed = x.0.1.0;
-            bodiless = x.0.1.1;
-            words = x.1.0.0;
-            may_run = x.1.0.1;
-            not_long_and_synchronous = x.1.0.2;
-            subject = x.0.0.1.2;
-            parent = x.1.1.0;
-            started_once = x.1.1.1.0;
-            one_parent = x.1.1.1.1;
-            child = x.1.1.1.2;
-          },
+            record {
+              short = x.0.0.0;
+              ids = x.0.0.1.0;
+              own_token = x.0.0.1.1;
+              placed = x.0.1.0;
+              bodiless = x.0.1.1;
+              words = x.1.0.0;
+              may_run = x.1.0.1;
+              not_long_and_synchronous = x.1.0.2;
+              subject = x.0.0.1.2;
+              parent = x.1.1.0;
+              started_once = x.1.1.1.0;
+              one_parent = x.1.1.1.1;
+              child = x.1.1.1.2;
+            },
         λ r. all.1 (((r.short, (r.ids, r.own_token, r.subject)), (r.placed, r.bodiless)), ((r.words, r.may_run, r.not_long_and_synchronous), (r.parent, (r.started_once, r.one_parent, r.child)))),
       )
 
@@ -305,9 +304,11 @@ in_all P test each (y ∷ ys) =
     by_test : (x : ℕ) → P y × ((z : ℕ) → mem z ys ≡ true → P z) → (b : Bool) → nat_eq x y ≡ b → (b || mem x ys) ≡ true → P x
     by_test x p true e m = subst P (sym (eqb-true x y e)) p.0
     by_test x p false e m = p.1 x m
+
     here : (b : Bool) → b ≡ true → (b || mem y ys) ≡ true
     here true e = refl
     here false e = cc
+
     there : (b m : Bool) → m ≡ true → (b || m) ≡ true
     there true m e = refl
     there false m e = e
@@ -327,23 +328,22 @@ sites_apart sites =
 pub graph_test : (g : TaskGraph) → Decides (is_graph g) (IsGraph g)
 graph_test g =
     let limits = Decides-and (at_most (length g.tasks) 1024 && at_most (length g.tokens) 32) (at_most g.inputs 16 && at_most (length (all_sites g)) 256)
-            (Decides-and (at_most (length g.tasks) 1024) (at_most (length g.tokens) 32) (most (length g.tasks) 1024) (most (length g.tokens) 32))
-            (Decides-and (at_most g.inputs 16) (at_most (length (all_sites g)) 256) (most g.inputs 16) (most (length (all_sites g)) 256)) in
+    (Decides-and (at_most (length g.tasks) 1024) (at_most (length g.tokens) 32) (most (length g.tasks) 1024) (most (length g.tokens) 32))
+    (Decides-and (at_most g.inputs 16) (at_most (length (all_sites g)) 256) (most g.inputs 16) (most (length (all_sites g)) 256)) in
     let links = Decides-below_and (λ k. is_linked k (token g k)) (λ k. IsLinked k (token g k)) (all_below (λ k. is_linked k (token g k))) (λ k. linked k (token g k)) refl (λ _. refl) (length g.tokens) in
     let each = Decides-below_and (is_right g) (IsTask g) (all_below (is_right g)) (right g) refl (λ _. refl) (length g.tasks) in
     let inner = both3 ((k : ℕ) → k < length g.tokens → IsLinked k (token g k)) ((site : ℕ) → count_by (nat_eq site) (all_sites g) ≤ 1) ((t : ℕ) → t < length g.tasks → IsTask g t)
-            (all_below (λ k. is_linked k (token g k)) (length g.tokens)) (once_each (all_sites g)) (all_below (is_right g) (length g.tasks)) links (sites_apart (all_sites g)) each in
-    let all = Decides-and (within_limits g) (all_below (λ k. is_linked k (token g k)) (length g.tokens) && (once_each (all_sites g) && all_below (is_right g) (length g.tasks))) limits inner in
-    (
+    (all_below (λ k. is_linked k (token g k)) (length g.tokens)) (once_each (all_sites g)) (all_below (is_right g) (length g.tasks)) links (sites_apart (all_sites g)) each in
+    let all = Decides-and (within_limits g) (all_below (λ k. is_linked k (token g k)) (length g.tokens) && (once_each (all_sites g) && all_below (is_right g) (length g.tasks))) limits inner in (
       λ e. let x = all.0 e in
-        record {
-          tasks = x.0.0.0;
-          tokens = x.0.0.1;
-          links = x.1.0;
-          inputs = x.0.1.0;
-          sites = x.0.1.1;
-          sites_once = x.1.1;
-          each = x.1.2;
-        },
+          record {
+            tasks = x.0.0.0;
+            tokens = x.0.0.1;
+            links = x.1.0;
+            inputs = x.0.1.0;
+            sites = x.0.1.1;
+            sites_once = x.1.1;
+            each = x.1.2;
+          },
       λ r. all.1 (((r.tasks, r.tokens), (r.inputs, r.sites)), (r.links, r.sites_once, r.each)),
     )

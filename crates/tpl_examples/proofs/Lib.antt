@@ -1,2 +1,3 @@
 mod GraphTests
 mod Computed
+mod Roots

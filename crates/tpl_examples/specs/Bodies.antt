@@ -1,15 +1,14 @@
 -- The statements of a body, and who passes them.
-use Rattle.std.specs.Prelude.{◌≡◌, ℕ, true, false, Some, None, List, [], ◌∷◌}
+use Rattle.std.specs.Prelude.{◌≡◌, true, false, Some, None, List, [], ◌∷◌}
 use Rattle.tpl_words.specs.declared.finals.Final.TheVariants.{RanToCompletion, Canceled, Faulted}
-use Rattle.tpl_words.specs.declared.status.Status.TheVariants.{Created, WaitingForActivation, WaitingToRun, Running, WaitingForChildrenToComplete, Completed}
-use Rattle.tpl_script.specs.Statements.{Return, Throw, Check, Cancel, Start, Observe, Work, If, When, Nothing, ◌⨾◌}
-use Rattle.tpl_model.specs.Graph.{TaskGraph, Plain, Linked}
+use Rattle.tpl_words.specs.declared.status.Status.TheVariants.{WaitingToRun, Running, Completed}
+use Rattle.tpl_script.specs.Statements.{Return, Throw, Check, Work, If, Nothing, ◌⨾◌}
+use Rattle.tpl_model.specs.Graph.{TaskGraph, Plain}
 use Rattle.tpl_model.specs.declared.event.Event.{Event}
-use Rattle.tpl_model.specs.Facts.{ending, winner_of, rest, requested, started, released}
-use Rattle.tpl_model.specs.Rules.{status, carried, label, seen, subject, bound_worker, final, Run, Allows, Settled, Complete}
+use Rattle.tpl_model.specs.Facts.{ending, rest}
+use Rattle.tpl_model.specs.Rules.{status, carried, label, seen, final, Run, Allows, Complete}
 use Rattle.tpl_model.specs.Valid.{IsGraph, bound}
-use Rattle.tpl_model.specs.Claims.{Holds}
-use Rattle.tpl_examples.specs.Words.{worker, outside, requesting, releasing, beginning, stepping, doing, failing, leaving, closing, dropping, settling, by, release, begin, step, done, failed, leave, close, drop, settle, request, played, thrown, operation_canceled, work_failed, returns, jobs, root, child, detached_child, continues, when_all, when_any, with_token, with_options, prefer_fairness, long_running, deny_child_attach, hide_scheduler, lazy_cancellation, run_continuations_asynchronously, not_on_ran_to_completion, not_on_faulted, not_on_canceled, only_on_canceled, only_on_faulted, only_on_ran_to_completion, execute_synchronously, graph, with_tokens, with_inputs, ran_only, canceled_only, faulted_only, ends_in, after, observed, never, excludes, given_input, given_quiet, claim, claim_given}
+use Rattle.tpl_examples.specs.Words.{worker, outside, beginning, stepping, doing, failing, leaving, begin, step, done, failed, leave, request, played, thrown, work_failed, root, with_token, graph, with_tokens, with_inputs}
 
 -- a body that returns, with a statement behind
 abbrev pub return_graph : TaskGraph

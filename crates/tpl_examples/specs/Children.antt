@@ -1,15 +1,14 @@
 -- Children: which are waited for, and what their parents take over.
-use Rattle.std.specs.Prelude.{◌≡◌, ℕ, true, false, Some, None, List, [], ◌∷◌}
+use Rattle.std.specs.Prelude.{◌≡◌, true, false, Some, None, List, [], ◌∷◌}
 use Rattle.tpl_words.specs.declared.finals.Final.TheVariants.{RanToCompletion, Canceled, Faulted}
-use Rattle.tpl_words.specs.declared.status.Status.TheVariants.{Created, WaitingForActivation, WaitingToRun, Running, WaitingForChildrenToComplete, Completed}
-use Rattle.tpl_script.specs.Statements.{Return, Throw, Check, Cancel, Start, Observe, Work, If, When, Nothing, ◌⨾◌}
-use Rattle.tpl_model.specs.Graph.{TaskGraph, Plain, Linked}
+use Rattle.tpl_words.specs.declared.status.Status.TheVariants.{Created, WaitingToRun, WaitingForChildrenToComplete, Completed}
+use Rattle.tpl_script.specs.Statements.{Return, Throw, Check, Start, If, Nothing, ◌⨾◌}
+use Rattle.tpl_model.specs.Graph.{TaskGraph, Plain}
 use Rattle.tpl_model.specs.declared.event.Event.{Event}
-use Rattle.tpl_model.specs.Facts.{ending, winner_of, rest, requested, started, released}
-use Rattle.tpl_model.specs.Rules.{status, carried, label, seen, subject, bound_worker, final, Run, Allows, Settled, Complete}
-use Rattle.tpl_model.specs.Valid.{IsGraph, bound}
-use Rattle.tpl_model.specs.Claims.{Holds}
-use Rattle.tpl_examples.specs.Words.{worker, outside, requesting, releasing, beginning, stepping, doing, failing, leaving, closing, dropping, settling, by, release, begin, step, done, failed, leave, close, drop, settle, request, played, thrown, operation_canceled, work_failed, returns, jobs, root, child, detached_child, continues, when_all, when_any, with_token, with_options, prefer_fairness, long_running, deny_child_attach, hide_scheduler, lazy_cancellation, run_continuations_asynchronously, not_on_ran_to_completion, not_on_faulted, not_on_canceled, only_on_canceled, only_on_faulted, only_on_ran_to_completion, execute_synchronously, graph, with_tokens, with_inputs, ran_only, canceled_only, faulted_only, ends_in, after, observed, never, excludes, given_input, given_quiet, claim, claim_given}
+use Rattle.tpl_model.specs.Facts.{ending, started}
+use Rattle.tpl_model.specs.Rules.{status, carried, label, seen, Run, Allows, Settled, Complete}
+use Rattle.tpl_model.specs.Valid.{IsGraph}
+use Rattle.tpl_examples.specs.Words.{worker, outside, releasing, beginning, leaving, closing, dropping, settling, begin, step, leave, close, drop, request, played, thrown, returns, root, child, detached_child, with_token, with_options, deny_child_attach, graph, with_tokens, with_inputs}
 
 -- a parent whose attached child throws
 abbrev pub parent_graph : TaskGraph
@@ -229,12 +228,12 @@ ExceptionsInTheOrderOfTheText =
 abbrev pub either_graph : TaskGraph
 either_graph =
     with_inputs 1
-        (graph
-            (root (If 0 (Start 1 ⨾ Nothing) (Start 2 ⨾ Nothing) ⨾ Start 3 ⨾ Nothing)
-            ∷ child (Throw 1 ⨾ Nothing)
-            ∷ child (Throw 2 ⨾ Nothing)
-            ∷ child (Throw 3 ⨾ Nothing)
-            ∷ []))
+    (graph
+    (root (If 0 (Start 1 ⨾ Nothing) (Start 2 ⨾ Nothing) ⨾ Start 3 ⨾ Nothing)
+    ∷ child (Throw 1 ⨾ Nothing)
+    ∷ child (Throw 2 ⨾ Nothing)
+    ∷ child (Throw 3 ⨾ Nothing)
+    ∷ []))
 
 abbrev pub second_and_third : List Event
 second_and_third = played (begin 1 0 ∷ step 1 0 ∷ step 1 0 ∷ step 1 0 ∷ leave 1 0 ∷ begin 1 3 ∷ step 1 3 ∷ leave 1 3 ∷ begin 1 2 ∷ step 1 2 ∷ leave 1 2 ∷ close 1 0 ∷ [])

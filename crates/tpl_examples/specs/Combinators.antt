@@ -1,15 +1,15 @@
 -- WhenAll and WhenAny tasks.
-use Rattle.std.specs.Prelude.{◌≡◌, ℕ, true, false, Some, None, List, [], ◌∷◌}
+use Rattle.std.specs.Prelude.{◌≡◌, true, false, Some, None, List, [], ◌∷◌}
 use Rattle.tpl_words.specs.declared.finals.Final.TheVariants.{RanToCompletion, Canceled, Faulted}
-use Rattle.tpl_words.specs.declared.status.Status.TheVariants.{Created, WaitingForActivation, WaitingToRun, Running, WaitingForChildrenToComplete, Completed}
-use Rattle.tpl_script.specs.Statements.{Return, Throw, Check, Cancel, Start, Observe, Work, If, When, Nothing, ◌⨾◌}
-use Rattle.tpl_model.specs.Graph.{TaskGraph, Continues, Plain, Linked}
+use Rattle.tpl_words.specs.declared.status.Status.TheVariants.{WaitingForActivation, Completed}
+use Rattle.tpl_script.specs.Statements.{Throw, Observe, When, Nothing, ◌⨾◌}
+use Rattle.tpl_model.specs.Graph.{TaskGraph, Plain}
 use Rattle.tpl_model.specs.declared.event.Event.{Event}
-use Rattle.tpl_model.specs.Facts.{ending, winner_of, rest, requested, started, released}
-use Rattle.tpl_model.specs.Rules.{status, carried, label, seen, subject, bound_worker, final, Run, Allows, Settled, Complete}
-use Rattle.tpl_model.specs.Valid.{IsGraph, bound}
+use Rattle.tpl_model.specs.Facts.{ending, winner_of}
+use Rattle.tpl_model.specs.Rules.{status, carried, label, seen, subject, Run, Allows, Complete}
+use Rattle.tpl_model.specs.Valid.{IsGraph}
 use Rattle.tpl_model.specs.Claims.{Holds}
-use Rattle.tpl_examples.specs.Words.{worker, outside, requesting, releasing, beginning, stepping, doing, failing, leaving, closing, dropping, settling, by, release, begin, step, done, failed, leave, close, drop, settle, request, played, thrown, operation_canceled, work_failed, returns, jobs, root, child, detached_child, continues, when_all, when_any, with_token, with_options, prefer_fairness, long_running, deny_child_attach, hide_scheduler, lazy_cancellation, run_continuations_asynchronously, not_on_ran_to_completion, not_on_faulted, not_on_canceled, only_on_canceled, only_on_faulted, only_on_ran_to_completion, execute_synchronously, graph, with_tokens, with_inputs, ran_only, canceled_only, faulted_only, ends_in, after, observed, never, excludes, given_input, given_quiet, claim, claim_given}
+use Rattle.tpl_examples.specs.Words.{worker, outside, releasing, beginning, closing, dropping, settling, by, release, begin, step, leave, drop, settle, request, played, thrown, returns, root, continues, when_all, when_any, with_token, with_options, only_on_faulted, only_on_ran_to_completion, execute_synchronously, graph, with_tokens, observed, claim}
 
 -- a root that throws, one with a token, and WhenAll of both
 abbrev pub all_graph : TaskGraph
@@ -64,8 +64,8 @@ milder_graph = with_tokens (Plain ∷ []) (graph (root returns ∷ with_token 0 
 abbrev pub milder_run : List Event
 milder_run =
     played
-        (begin 1 0 ∷ step 1 0 ∷ leave 1 0 ∷ request 1 0 ∷ drop 1 1 ∷ begin 1 2 ∷ step 1 2 ∷ leave 1 2
-        ∷ settle 1 3 ∷ settle 1 4 ∷ settle 1 5 ∷ [])
+    (begin 1 0 ∷ step 1 0 ∷ leave 1 0 ∷ request 1 0 ∷ drop 1 1 ∷ begin 1 2 ∷ step 1 2 ∷ leave 1 2
+    ∷ settle 1 3 ∷ settle 1 4 ∷ settle 1 5 ∷ [])
 
 -- WhenAll of a canceled task and others that ran is canceled, in whatever order; of tasks that ran, also of one named twice, it ran
 abbrev pub WhenAllWithoutAnException : Type 0
@@ -105,19 +105,19 @@ WhenAllOfNothing =
 abbrev pub nested_graph : TaskGraph
 nested_graph =
     graph
-        (root (Throw 0 ⨾ Nothing)
-        ∷ root (Throw 1 ⨾ Nothing)
-        ∷ root (Throw 2 ⨾ Nothing)
-        ∷ when_all (1 ∷ 0 ∷ [])
-        ∷ when_all (2 ∷ 0 ∷ 3 ∷ 2 ∷ [])
-        ∷ continues 4 (Observe ⨾ Nothing)
-        ∷ [])
+    (root (Throw 0 ⨾ Nothing)
+    ∷ root (Throw 1 ⨾ Nothing)
+    ∷ root (Throw 2 ⨾ Nothing)
+    ∷ when_all (1 ∷ 0 ∷ [])
+    ∷ when_all (2 ∷ 0 ∷ 3 ∷ 2 ∷ [])
+    ∷ continues 4 (Observe ⨾ Nothing)
+    ∷ [])
 
 abbrev pub nested_settled : List Event
 nested_settled =
     played
-        (begin 1 0 ∷ step 1 0 ∷ leave 1 0 ∷ begin 1 1 ∷ step 1 1 ∷ leave 1 1 ∷ settle 1 3 ∷ begin 1 2 ∷ step 1 2 ∷ leave 1 2 ∷ settle 1 4
-        ∷ release 1 5 ∷ begin 1 5 ∷ step 1 5 ∷ leave 1 5 ∷ [])
+    (begin 1 0 ∷ step 1 0 ∷ leave 1 0 ∷ begin 1 1 ∷ step 1 1 ∷ leave 1 1 ∷ settle 1 3 ∷ begin 1 2 ∷ step 1 2 ∷ leave 1 2 ∷ settle 1 4
+    ∷ release 1 5 ∷ begin 1 5 ∷ step 1 5 ∷ leave 1 5 ∷ [])
 
 -- WhenAll takes over its arguments' exceptions in the order of its list, each once, and they are observed through it
 abbrev pub WhenAllGathersEachOnce : Type 0
@@ -138,13 +138,13 @@ any_graph = graph (root returns ∷ root (Throw 0 ⨾ Nothing) ∷ when_any (0 �
 abbrev pub thrower_first : List Event
 thrower_first =
     played
-        (begin 1 1 ∷ step 1 1 ∷ leave 1 1 ∷ settle 1 2 ∷ release 1 3 ∷ begin 1 3 ∷ step 1 3 ∷ leave 1 3
-        ∷ begin 1 0 ∷ step 1 0 ∷ leave 1 0 ∷ [])
+    (begin 1 1 ∷ step 1 1 ∷ leave 1 1 ∷ settle 1 2 ∷ release 1 3 ∷ begin 1 3 ∷ step 1 3 ∷ leave 1 3
+    ∷ begin 1 0 ∷ step 1 0 ∷ leave 1 0 ∷ [])
 
 abbrev pub thrower_second : List Event
 thrower_second =
     played
-        (begin 1 0 ∷ step 1 0 ∷ leave 1 0 ∷ begin 1 1 ∷ step 1 1 ∷ leave 1 1 ∷ settle 1 2 ∷ release 1 3 ∷ begin 1 3 ∷ step 1 3 ∷ leave 1 3 ∷ [])
+    (begin 1 0 ∷ step 1 0 ∷ leave 1 0 ∷ begin 1 1 ∷ step 1 1 ∷ leave 1 1 ∷ settle 1 2 ∷ release 1 3 ∷ begin 1 3 ∷ step 1 3 ∷ leave 1 3 ∷ [])
 
 abbrev pub settled_late : List Event
 settled_late = played (begin 1 1 ∷ step 1 1 ∷ leave 1 1 ∷ begin 1 0 ∷ step 1 0 ∷ leave 1 0 ∷ settle 1 2 ∷ [])
@@ -219,11 +219,11 @@ WinnerBeforeTheFirstEvent =
 abbrev pub winner_options_graph : TaskGraph
 winner_options_graph =
     graph
-        (root (Throw 0 ⨾ Nothing)
-        ∷ when_any (0 ∷ [])
-        ∷ with_options only_on_ran_to_completion (continues 1 (When Faulted (Throw 1 ⨾ Nothing) (Throw 2 ⨾ Nothing) ⨾ Nothing))
-        ∷ with_options only_on_faulted (continues 1 returns)
-        ∷ [])
+    (root (Throw 0 ⨾ Nothing)
+    ∷ when_any (0 ∷ [])
+    ∷ with_options only_on_ran_to_completion (continues 1 (When Faulted (Throw 1 ⨾ Nothing) (Throw 2 ⨾ Nothing) ⨾ Nothing))
+    ∷ with_options only_on_faulted (continues 1 returns)
+    ∷ [])
 
 abbrev pub winner_read : List Event
 winner_read = played (begin 1 0 ∷ step 1 0 ∷ leave 1 0 ∷ settle 1 1 ∷ release 1 2 ∷ drop 1 3 ∷ begin 1 2 ∷ step 1 2 ∷ step 1 2 ∷ leave 1 2 ∷ [])

@@ -1,16 +1,15 @@
 -- Continuations: when they start, on which worker, and what they read.
-use Rattle.std.specs.Prelude.{◌≡◌, ◌≤◌, ℕ, true, false, Some, None, List, [], ◌∷◌, bit_or, replicate}
+use Rattle.std.specs.Prelude.{◌≡◌, ℕ, true, false, Some, None, List, [], ◌∷◌, bit_or}
 use Rattle.tpl_words.specs.declared.finals.Final.TheVariants.{RanToCompletion, Canceled, Faulted}
-use Rattle.tpl_words.specs.declared.status.Status.TheVariants.{Created, WaitingForActivation, WaitingToRun, Running, WaitingForChildrenToComplete, Completed}
-use Rattle.tpl_script.specs.Statements.{Return, Throw, Check, Cancel, Start, Observe, Work, If, When, Nothing, ◌⨾◌}
-use Rattle.tpl_model.specs.Graph.{TaskGraph, Continues, Plain, Linked}
+use Rattle.tpl_words.specs.declared.status.Status.TheVariants.{WaitingForActivation, WaitingToRun, Running, Completed}
+use Rattle.tpl_script.specs.Statements.{Throw, Check, Start, Observe, Work, When, Nothing, ◌⨾◌}
+use Rattle.tpl_model.specs.Graph.{TaskGraph, Continues, Plain}
 use Rattle.tpl_model.specs.declared.event.Event.{Event}
-use Rattle.tpl_model.specs.declared.claim.Given.{Given}
-use Rattle.tpl_model.specs.Facts.{ending, winner_of, rest, requested, started, released}
-use Rattle.tpl_model.specs.Rules.{status, carried, label, seen, subject, bound_worker, final, Run, Allows, Settled, Complete}
-use Rattle.tpl_model.specs.Valid.{IsGraph, bound}
+use Rattle.tpl_model.specs.Facts.{ending}
+use Rattle.tpl_model.specs.Rules.{status, carried, label, seen, subject, bound_worker, Run, Allows, Complete}
+use Rattle.tpl_model.specs.Valid.{IsGraph}
 use Rattle.tpl_model.specs.Claims.{Holds}
-use Rattle.tpl_examples.specs.Words.{worker, outside, requesting, releasing, beginning, stepping, doing, failing, leaving, closing, dropping, settling, by, release, begin, step, done, failed, leave, close, drop, settle, request, played, thrown, operation_canceled, work_failed, returns, jobs, root, child, detached_child, continues, when_all, when_any, with_token, with_options, prefer_fairness, long_running, attached_to_parent, deny_child_attach, hide_scheduler, lazy_cancellation, run_continuations_asynchronously, not_on_ran_to_completion, not_on_faulted, not_on_canceled, only_on_canceled, only_on_faulted, only_on_ran_to_completion, execute_synchronously, graph, with_tokens, with_inputs, ran_only, canceled_only, faulted_only, ends_in, after, observed, never, excludes, given_input, given_quiet, claim, claim_given}
+use Rattle.tpl_examples.specs.Words.{worker, outside, requesting, releasing, beginning, dropping, by, release, begin, step, done, failed, leave, close, drop, request, played, thrown, work_failed, returns, root, child, detached_child, continues, when_all, with_token, with_options, prefer_fairness, long_running, attached_to_parent, hide_scheduler, lazy_cancellation, run_continuations_asynchronously, not_on_ran_to_completion, not_on_faulted, not_on_canceled, only_on_canceled, only_on_faulted, only_on_ran_to_completion, execute_synchronously, graph, with_tokens, after, excludes, claim}
 
 -- a root that throws and one that returns, each with a continuation that wants the other
 abbrev pub wrong_end_graph : TaskGraph
@@ -72,15 +71,15 @@ AllowedContinuationIsReleased =
 abbrev pub words_graph : TaskGraph
 words_graph =
     with_tokens (Plain ∷ [])
-        (graph
-            (with_token 0 (root (Check 0 ⨾ Work 0 true ⨾ Nothing))
-            ∷ with_options not_on_ran_to_completion (continues 0 returns)
-            ∷ with_options not_on_canceled (continues 0 returns)
-            ∷ with_options not_on_faulted (continues 0 returns)
-            ∷ with_options only_on_ran_to_completion (continues 0 returns)
-            ∷ with_options only_on_canceled (continues 0 returns)
-            ∷ with_options only_on_faulted (continues 0 returns)
-            ∷ []))
+    (graph
+    (with_token 0 (root (Check 0 ⨾ Work 0 true ⨾ Nothing))
+    ∷ with_options not_on_ran_to_completion (continues 0 returns)
+    ∷ with_options not_on_canceled (continues 0 returns)
+    ∷ with_options not_on_faulted (continues 0 returns)
+    ∷ with_options only_on_ran_to_completion (continues 0 returns)
+    ∷ with_options only_on_canceled (continues 0 returns)
+    ∷ with_options only_on_faulted (continues 0 returns)
+    ∷ []))
 
 abbrev pub it_ran : List Event
 it_ran = played (begin 1 0 ∷ step 1 0 ∷ done 1 0 ∷ leave 1 0 ∷ drop 1 1 ∷ release 1 2 ∷ release 1 3 ∷ release 1 4 ∷ drop 1 5 ∷ drop 1 6 ∷ [])
@@ -103,10 +102,10 @@ EachWordAfterEachEnd =
 abbrev pub handler_graph : TaskGraph
 handler_graph =
     graph
-        (root (Work 0 true ⨾ Nothing)
-        ∷ with_options only_on_faulted (continues 0 returns)
-        ∷ with_options only_on_ran_to_completion (continues 0 returns)
-        ∷ [])
+    (root (Work 0 true ⨾ Nothing)
+    ∷ with_options only_on_faulted (continues 0 returns)
+    ∷ with_options only_on_ran_to_completion (continues 0 returns)
+    ∷ [])
 
 abbrev pub failure_handled : List Event
 failure_handled = played (begin 1 0 ∷ failed 1 0 ∷ leave 1 0 ∷ release 1 1 ∷ drop 1 2 ∷ begin 1 1 ∷ step 1 1 ∷ leave 1 1 ∷ [])
@@ -325,8 +324,8 @@ about_to_observe = played (begin 1 0 ∷ step 1 0 ∷ step 1 0 ∷ leave 1 0 ∷
 abbrev pub family_observed : List Event
 family_observed =
     played
-        (begin 1 0 ∷ step 1 0 ∷ step 1 0 ∷ leave 1 0 ∷ begin 1 1 ∷ step 1 1 ∷ leave 1 1 ∷ close 1 0
-        ∷ release 1 3 ∷ begin 1 3 ∷ step 1 3 ∷ leave 1 3 ∷ begin 1 2 ∷ step 1 2 ∷ leave 1 2 ∷ [])
+    (begin 1 0 ∷ step 1 0 ∷ step 1 0 ∷ leave 1 0 ∷ begin 1 1 ∷ step 1 1 ∷ leave 1 1 ∷ close 1 0
+    ∷ release 1 3 ∷ begin 1 3 ∷ step 1 3 ∷ leave 1 3 ∷ begin 1 2 ∷ step 1 2 ∷ leave 1 2 ∷ [])
 
 -- a continuation waits for its antecedent's attached children, and not for detached ones
 abbrev pub ContinuationWaitsForAttachedChildren : Type 0
@@ -351,10 +350,10 @@ ObserveReadsWhatTheAntecedentCarries =
 abbrev pub when_graph : TaskGraph
 when_graph =
     with_tokens (Plain ∷ [])
-        (graph
-            (with_token 0 (root (Check 0 ⨾ Work 0 true ⨾ Nothing))
-            ∷ continues 0 (When Faulted (Throw 1 ⨾ Nothing) (When Canceled (Throw 2 ⨾ Nothing) (Throw 3 ⨾ Nothing) ⨾ Nothing) ⨾ Throw 4 ⨾ Nothing)
-            ∷ []))
+    (graph
+    (with_token 0 (root (Check 0 ⨾ Work 0 true ⨾ Nothing))
+    ∷ continues 0 (When Faulted (Throw 1 ⨾ Nothing) (When Canceled (Throw 2 ⨾ Nothing) (Throw 3 ⨾ Nothing) ⨾ Nothing) ⨾ Throw 4 ⨾ Nothing)
+    ∷ []))
 
 abbrev pub when_faulted : List Event
 when_faulted = played (begin 1 0 ∷ step 1 0 ∷ failed 1 0 ∷ leave 1 0 ∷ release 1 1 ∷ begin 1 1 ∷ step 1 1 ∷ step 1 1 ∷ leave 1 1 ∷ [])

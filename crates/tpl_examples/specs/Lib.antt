@@ -6,3 +6,6 @@ pub mod Continuations
 pub mod Combinators
 pub mod Links
 pub mod ValidGraphs
+pub mod Claims
+pub mod ManyTasks
+pub mod Journals

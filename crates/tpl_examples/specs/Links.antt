@@ -1,18 +1,18 @@
 -- Tokens that are linked to others.
-use Rattle.std.specs.Prelude.{◌≡◌, ◌≤◌, ℕ, true, false, Some, None, List, [], ◌∷◌, bit_or, replicate}
-use Rattle.tpl_words.specs.declared.finals.Final.TheVariants.{RanToCompletion, Canceled, Faulted}
-use Rattle.tpl_words.specs.declared.status.Status.TheVariants.{Created, WaitingForActivation, WaitingToRun, Running, WaitingForChildrenToComplete, Completed}
-use Rattle.tpl_script.specs.Statements.{Return, Throw, Check, Cancel, Start, Observe, Work, If, When, Nothing, ◌⨾◌}
-use Rattle.tpl_model.specs.Graph.{TaskGraph, Continues, Plain, Linked}
+use Rattle.std.specs.Prelude.{◌≡◌, true, false, Some, List, [], ◌∷◌}
+use Rattle.tpl_words.specs.declared.finals.Final.TheVariants.{Canceled, Faulted}
+use Rattle.tpl_words.specs.declared.status.Status.TheVariants.{Completed}
+use Rattle.tpl_script.specs.Statements.{Check, Cancel, Nothing, ◌⨾◌}
+use Rattle.tpl_model.specs.Graph.{TaskGraph, Plain, Linked}
 use Rattle.tpl_model.specs.declared.event.Event.{Event}
 use Rattle.tpl_model.specs.declared.claim.Given.{Given}
-use Rattle.tpl_model.specs.Facts.{ending, winner_of, rest, requested, started, released}
-use Rattle.tpl_model.specs.Rules.{status, carried, label, seen, subject, bound_worker, final, Run, Allows, Settled, Complete}
-use Rattle.tpl_model.specs.Valid.{IsGraph, bound}
+use Rattle.tpl_model.specs.Facts.{requested}
+use Rattle.tpl_model.specs.Rules.{status, label, Run, Allows, Complete}
+use Rattle.tpl_model.specs.Valid.{IsGraph}
 use Rattle.tpl_model.specs.Claims.{Holds}
 use Rattle.tpl_model.specs.Graph.{Token}
 use Rattle.tpl_model.specs.Claims.{IsGiven}
-use Rattle.tpl_examples.specs.Words.{worker, outside, requesting, releasing, beginning, stepping, doing, failing, leaving, closing, dropping, settling, by, release, begin, step, done, failed, leave, close, drop, settle, request, played, thrown, operation_canceled, work_failed, returns, jobs, root, child, detached_child, continues, when_all, when_any, with_token, with_options, prefer_fairness, long_running, attached_to_parent, deny_child_attach, hide_scheduler, lazy_cancellation, run_continuations_asynchronously, not_on_ran_to_completion, not_on_faulted, not_on_canceled, only_on_canceled, only_on_faulted, only_on_ran_to_completion, execute_synchronously, graph, with_tokens, with_inputs, ran_only, canceled_only, faulted_only, ends_in, after, observed, never, excludes, given_input, given_quiet, claim, claim_given}
+use Rattle.tpl_examples.specs.Words.{worker, outside, requesting, beginning, dropping, by, begin, step, leave, drop, request, played, operation_canceled, returns, root, with_token, graph, with_tokens, canceled_only, ends_in, given_quiet, claim}
 
 -- the tokens 0 and 1, and 2 linked to both
 abbrev pub link_tokens : List Token

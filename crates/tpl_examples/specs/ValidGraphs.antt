@@ -1,41 +1,35 @@
 -- Which lists of tasks are graphs.
-use Rattle.std.specs.Prelude.{◌≡◌, ◌≤◌, ℕ, true, false, Some, None, List, [], ◌∷◌, bit_or, replicate}
-use Rattle.tpl_words.specs.declared.finals.Final.TheVariants.{RanToCompletion, Canceled, Faulted}
-use Rattle.tpl_words.specs.declared.status.Status.TheVariants.{Created, WaitingForActivation, WaitingToRun, Running, WaitingForChildrenToComplete, Completed}
+use Rattle.std.specs.Prelude.{◌≡◌, ℕ, true, false, None, [], ◌∷◌, bit_or, replicate}
+use Rattle.tpl_words.specs.declared.finals.Final.TheVariants.{Canceled, Faulted}
 use Rattle.tpl_script.specs.Statements.{Return, Throw, Check, Cancel, Start, Observe, Work, If, When, Nothing, ◌⨾◌}
-use Rattle.tpl_model.specs.Graph.{TaskGraph, Continues, Plain, Linked}
-use Rattle.tpl_model.specs.declared.event.Event.{Event}
-use Rattle.tpl_model.specs.declared.claim.Given.{Given}
-use Rattle.tpl_model.specs.Facts.{ending, winner_of, rest, requested, started, released}
-use Rattle.tpl_model.specs.Rules.{status, carried, label, seen, subject, bound_worker, final, Run, Allows, Settled, Complete}
+use Rattle.tpl_model.specs.Graph.{TaskGraph, Plain, Linked}
 use Rattle.tpl_model.specs.Valid.{IsGraph, bound}
-use Rattle.tpl_model.specs.Claims.{Holds}
 use Rattle.std.specs.Prelude.{zero, suc}
 use Rattle.tpl_script.specs.Statements.{Statements}
 use Rattle.tpl_model.specs.Graph.{Task, WhenAll, WhenAny}
-use Rattle.tpl_examples.specs.Words.{worker, outside, requesting, releasing, beginning, stepping, doing, failing, leaving, closing, dropping, settling, by, release, begin, step, done, failed, leave, close, drop, settle, request, played, thrown, operation_canceled, work_failed, returns, jobs, root, child, detached_child, continues, when_all, when_any, with_token, with_options, prefer_fairness, long_running, attached_to_parent, deny_child_attach, hide_scheduler, lazy_cancellation, run_continuations_asynchronously, not_on_ran_to_completion, not_on_faulted, not_on_canceled, only_on_canceled, only_on_faulted, only_on_ran_to_completion, execute_synchronously, graph, with_tokens, with_inputs, ran_only, canceled_only, faulted_only, ends_in, after, observed, never, excludes, given_input, given_quiet, claim, claim_given}
+use Rattle.tpl_examples.specs.Words.{returns, jobs, root, child, detached_child, continues, when_all, when_any, with_token, with_options, prefer_fairness, long_running, lazy_cancellation, not_on_ran_to_completion, not_on_faulted, not_on_canceled, only_on_faulted, execute_synchronously, graph, with_tokens, with_inputs}
 
 -- tasks of every kind, with tokens, inputs, options and every statement
 abbrev pub every_kind_graph : TaskGraph
 every_kind_graph =
     with_tokens (Plain ∷ Linked (0 ∷ []) ∷ [])
-        (with_inputs 1
-            (graph
-                (with_options 0x5F (with_token 0 (root (Start 1 ⨾ Check 0 ⨾ If 0 (Cancel 1 ⨾ Nothing) (Start 2 ⨾ Nothing) ⨾ Work 0 true ⨾ Return ⨾ Nothing)))
-                ∷ with_options 0x5F (child (Start 3 ⨾ Throw 0 ⨾ Nothing))
-                ∷ detached_child (Work 1 false ⨾ Nothing)
-                ∷ child Nothing
-                ∷ with_options 0x8007D (with_token 1 (continues 0 (Observe ⨾ When Faulted (Throw 0 ⨾ Nothing) (When Canceled (Check 1 ⨾ Nothing) Nothing ⨾ Nothing) ⨾ Start 9 ⨾ Nothing)))
-                ∷ when_all (0 ∷ 4 ∷ 0 ∷ [])
-                ∷ when_any (5 ∷ 0 ∷ [])
-                ∷ with_options 0x3007F (continues 6 (Observe ⨾ Nothing))
-                ∷ when_all []
-                ∷ child returns
-                ∷ [])))
+    (with_inputs 1
+    (graph
+    (with_options 0x5F (with_token 0 (root (Start 1 ⨾ Check 0 ⨾ If 0 (Cancel 1 ⨾ Nothing) (Start 2 ⨾ Nothing) ⨾ Work 0 true ⨾ Return ⨾ Nothing)))
+    ∷ with_options 0x5F (child (Start 3 ⨾ Throw 0 ⨾ Nothing))
+    ∷ detached_child (Work 1 false ⨾ Nothing)
+    ∷ child Nothing
+    ∷ with_options 0x8007D (with_token 1 (continues 0 (Observe ⨾ When Faulted (Throw 0 ⨾ Nothing) (When Canceled (Check 1 ⨾ Nothing) Nothing ⨾ Nothing) ⨾ Start 9 ⨾ Nothing)))
+    ∷ when_all (0 ∷ 4 ∷ 0 ∷ [])
+    ∷ when_any (5 ∷ 0 ∷ [])
+    ∷ with_options 0x3007F (continues 6 (Observe ⨾ Nothing))
+    ∷ when_all []
+    ∷ child returns
+    ∷ [])))
 
--- tasks of every kind are a graph; no run of it is longer than 2 tokens, 4 events a task, and its 23 statements
+-- tasks of every kind are a graph; no run of it is longer than its 2 tokens, 4 for each of its 10 tasks, and its 18 statements
 abbrev pub GraphOfEveryKind : Type 0
-GraphOfEveryKind = IsGraph every_kind_graph × (bound every_kind_graph ≡ 65)
+GraphOfEveryKind = IsGraph every_kind_graph × (bound every_kind_graph ≡ 60)
 
 -- the same statement n times
 abbrev pub times : ℕ → Statements

@@ -1,6 +1,5 @@
 -- Short words, in which the worked runs are written.
-use Rattle.std.specs.Prelude.{ℕ, zero, suc, Some, None, Bool, true, false, List, [], ◌∷◌, reverse}
-use Rattle.tpl_words.specs.declared.ids.Worker.{Worker as WorkerId}
+use Rattle.std.specs.Prelude.{ℕ, zero, suc, Some, None, Bool, true, false, List, [], reverse}
 use Rattle.tpl_words.specs.declared.finals.Finals.{Finals}
 use Rattle.tpl_words.specs.declared.status.Actor.{Actor}
 use Rattle.tpl_words.specs.declared.status.Actor.TheVariants.{Worker, Outside}

@@ -4,7 +4,10 @@
 pub mod bodies;
 pub mod cancellation;
 pub mod children;
+pub mod claims;
 pub mod combinators;
 pub mod continuations;
+pub mod journals;
 pub mod links;
+pub mod many_tasks;
 pub mod valid_graphs;

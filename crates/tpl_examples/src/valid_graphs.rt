@@ -2,7 +2,7 @@
 
 ghost use Rattle.tpl_examples.specs.ValidGraphs.{GraphOfEveryKind, LengthOfBodies, LevelsOfBodies, TokensAndInputs, NumberOfJobs, JobStandsOnce, NumberOfArguments, SourcesOfLinks, IdsAreTheGraphs, AntecedentsAndArguments, CombinatorsAreBare, WordsOfEachKind, WordsThatExcludeEachOther, OnlyContinuationsRead, PlaceOfChildren, BoundOfAGraph};
 
-/// Tasks of every kind are a graph; no run of it is longer than 2 tokens, 4 events a task, and its 23 statements.
+/// Tasks of every kind are a graph; no run of it is longer than its 2 tokens, 4 for each of its 10 tasks, and its 18 statements.
 pub fn graph_of_every_kind()
     ensures { GraphOfEveryKind }
 {}
