@@ -76,7 +76,7 @@ EmptyBody =
 abbrev pub nothing_happened : List Event
 nothing_happened = []
 
--- a root waits to run; a worker begins it, one that the graph hasn't is begun by none, and the outside begins nothing
+-- a root waits to run, and any worker begins it; the outside begins nothing, and nobody begins a task that the graph hasn't
 abbrev pub RootOpensReady : Type 0
 RootOpensReady =
     (status empty_graph [] nothing_happened 0 ≡ WaitingToRun)
@@ -199,6 +199,36 @@ TwoJobsAtOnce =
     × Complete meeting_graph [] both_met
     × (status meeting_graph [] both_met 0 ≡ Completed RanToCompletion)
     × (status meeting_graph [] both_met 1 ≡ Completed RanToCompletion)
+
+-- eight roots whose jobs wait for each other
+abbrev pub eight_graph : TaskGraph
+eight_graph =
+    graph
+    (root (Work 0 true ⨾ Nothing)
+    ∷ root (Work 1 true ⨾ Nothing)
+    ∷ root (Work 2 true ⨾ Nothing)
+    ∷ root (Work 3 true ⨾ Nothing)
+    ∷ root (Work 4 true ⨾ Nothing)
+    ∷ root (Work 5 true ⨾ Nothing)
+    ∷ root (Work 6 true ⨾ Nothing)
+    ∷ root (Work 7 true ⨾ Nothing)
+    ∷ [])
+
+abbrev pub eight_met : List Event
+eight_met =
+    played
+    (begin 1 0 ∷ begin 2 1 ∷ begin 3 2 ∷ begin 4 3 ∷ begin 5 4 ∷ begin 6 5 ∷ begin 7 6 ∷ begin 8 7
+    ∷ done 8 7 ∷ done 1 0 ∷ done 2 1 ∷ leave 8 7 ∷ done 3 2 ∷ done 4 3 ∷ done 5 4 ∷ done 6 5 ∷ done 7 6
+    ∷ leave 1 0 ∷ leave 2 1 ∷ leave 3 2 ∷ leave 4 3 ∷ leave 5 4 ∷ leave 6 5 ∷ leave 7 6 ∷ [])
+
+-- eight jobs run at the same time, each on a worker of its own
+abbrev pub EightJobsAtOnce : Type 0
+EightJobsAtOnce =
+    IsGraph eight_graph
+    × Run eight_graph [] eight_met
+    × Complete eight_graph [] eight_met
+    × (status eight_graph [] eight_met 0 ≡ Completed RanToCompletion)
+    × (status eight_graph [] eight_met 7 ≡ Completed RanToCompletion)
 
 -- a body that branches on an input, and goes on behind the branch
 abbrev pub if_graph : TaskGraph

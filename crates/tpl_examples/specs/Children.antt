@@ -189,7 +189,7 @@ ChildThatIsNotStarted =
 abbrev pub started_and_left : List Event
 started_and_left = played (begin 1 0 ∷ step 1 0 ∷ step 1 0 ∷ leave 1 0 ∷ [])
 
--- where it is started, the parent isn't settled before it
+-- a child that is started and hasn't ended isn't settled, nor is its parent, which waits for it
 abbrev pub ChildThatIsStartedIsToEnd : Type 0
 ChildThatIsStartedIsToEnd =
     Run maybe_graph (true ∷ []) started_and_left
@@ -279,7 +279,7 @@ ExceptionsComeUp =
     × (carried grandchild_graph [] family_run 0 ≡ 1 ∷ 2 ∷ [])
     × (status grandchild_graph [] family_run 0 ≡ Completed Faulted)
 
--- and not through a detached one
+-- exceptions don't come up through a detached child
 abbrev pub ExceptionsStopAtADetachedChild : Type 0
 ExceptionsStopAtADetachedChild =
     IsGraph detached_family_graph

@@ -30,7 +30,7 @@ ClaimFailsAtTheEnd =
 abbrev pub blind_graph : TaskGraph
 blind_graph = with_tokens (Plain ∷ []) (graph (with_token 0 (root returns) ∷ []))
 
--- a body that never checks keeps the claim
+-- a body that never checks runs to its end, and there the claim holds
 abbrev pub ClaimHoldsWithoutACheck : Type 0
 ClaimHoldsWithoutACheck =
     Run blind_graph [] acknowledged
@@ -66,7 +66,7 @@ ClaimFailsAtTheBegin =
     × Holds chain_graph (claim (after 0 2)) [] in_order
     × (Holds chain_graph (claim (after 2 0)) [] in_order → ⊥)
 
--- where the token is given as quiet, the claim doesn't speak of that run
+-- a claim that takes a token as quiet doesn't speak of a run in which it is requested
 abbrev pub ClaimOfQuietRuns : Type 0
 ClaimOfQuietRuns =
     Holds chain_graph (claim_given (given_quiet 0 ∷ []) (after 0 2)) [] as_it_begins
@@ -125,7 +125,7 @@ ExceptionIsObserved =
     × Holds observing_graph (claim (observed 0)) [] unread_yet
     × Holds observing_graph (claim (observed 1)) [] observing_run
 
--- it fails where the continuation's body ends before its observe, or the continuation never runs
+-- a claim that an exception is observed fails where the continuation's body ends before its observe, or the continuation never runs
 abbrev pub ExceptionIsNotObserved : Type 0
 ExceptionIsNotObserved =
     IsGraph checking_observer_graph

@@ -164,7 +164,7 @@ WinnerIsTheFirstToEnd =
     × Complete any_graph [] thrower_first
     × Holds any_graph (claim (observed 1)) [] thrower_first
 
--- where the other one ends first the exception stays unobserved
+-- where the argument that returns ends first, the other one's exception stays unobserved
 abbrev pub LoserStaysUnobserved : Type 0
 LoserStaysUnobserved =
     Run any_graph [] thrower_second
@@ -173,7 +173,7 @@ LoserStaysUnobserved =
     × Complete any_graph [] thrower_second
     × (Holds any_graph (claim (observed 1)) [] thrower_second → ⊥)
 
--- the endings count, and not when WhenAny is settled; it carries no exception
+-- the order of the endings decides, and not when WhenAny is settled; WhenAny carries no exception
 abbrev pub WinnerOfALateSettle : Type 0
 WinnerOfALateSettle =
     Run any_graph [] settled_late
@@ -259,7 +259,7 @@ synchronous_all_graph = graph (root returns ∷ when_all (0 ∷ []) ∷ with_opt
 abbrev pub settled_elsewhere : List Event
 settled_elsewhere = played (begin 1 0 ∷ step 1 0 ∷ leave 1 0 ∷ settle 2 1 ∷ release 1 2 ∷ [])
 
--- it begins on the worker that settled it
+-- a synchronous continuation of a WhenAll task begins on the worker that settled this task
 abbrev pub SynchronousAfterASettle : Type 0
 SynchronousAfterASettle =
     IsGraph synchronous_all_graph

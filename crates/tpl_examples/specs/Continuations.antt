@@ -47,7 +47,7 @@ before_all = []
 abbrev pub released_only : List Event
 released_only = played (begin 1 0 ∷ step 1 0 ∷ leave 1 0 ∷ release 1 1 ∷ [])
 
--- one whose options allow it is released once, by anyone, and is not canceled
+-- a continuation whose options allow how its antecedent ended is released once, by anyone, and is not canceled
 abbrev pub AllowedContinuationIsReleased : Type 0
 AllowedContinuationIsReleased =
     IsGraph right_end_graph
@@ -153,7 +153,7 @@ EagerCancellation =
 abbrev pub overtaken : List Event
 overtaken = played (request 1 0 ∷ by (outside 1) (dropping 1) ∷ release 1 2 ∷ begin 1 2 ∷ [])
 
--- so the next continuation may run before the first task has begun
+-- behind a continuation that was canceled early the next one may run before the first task has begun
 abbrev pub EagerCancellationOvertakes : Type 0
 EagerCancellationOvertakes =
     Run stop_graph [] overtaken
@@ -185,7 +185,7 @@ LazyCancellationWaits =
     × Complete lazy_graph [] lazy_followed
     × Holds lazy_graph (claim (after 0 2)) [] lazy_followed
 
--- one that isn't lazy isn't released either where its token is requested
+-- a continuation whose token is requested isn't released, though its antecedent has ended, and is canceled
 abbrev pub RequestedContinuationIsNotReleased : Type 0
 RequestedContinuationIsNotReleased =
     Run stop_graph [] lazy_antecedent_left
@@ -236,7 +236,7 @@ SynchronousContinuation =
     × Run synchronous_graph [] synchronous_begun
     × (status synchronous_graph [] synchronous_begun 1 ≡ Running)
 
--- RunContinuationsAsynchronously lifts this, on the continuation and on its antecedent
+-- RunContinuationsAsynchronously on the continuation or on its antecedent lifts the synchronous rule
 abbrev pub AsynchronousOnEitherSide : Type 0
 AsynchronousOnEitherSide =
     IsGraph lifted_graph
@@ -256,7 +256,7 @@ dropped_outside = played (request 1 0 ∷ by (outside 1) (dropping 0) ∷ releas
 abbrev pub dropped_by_worker : List Event
 dropped_by_worker = played (request 1 0 ∷ drop 2 0 ∷ release 1 1 ∷ [])
 
--- where the outside ended the antecedent any worker begins it; where a worker canceled it, that one does
+-- a synchronous continuation begins on any worker where the outside ended its antecedent, and where a worker canceled that, on this one
 abbrev pub SynchronousAfterACancellation : Type 0
 SynchronousAfterACancellation =
     IsGraph dropped_graph
@@ -277,7 +277,7 @@ closed_elsewhere = played (begin 1 0 ∷ step 1 0 ∷ leave 1 0 ∷ begin 2 1 �
 abbrev pub nothing_released : List Event
 nothing_released = played (release 1 4 ∷ [])
 
--- the worker is that of the close, and any where no event ended the antecedent
+-- a synchronous continuation of a parent begins on the worker that closed it, and one of a task that no event ended on any
 abbrev pub SynchronousAfterACloseOrNoEvent : Type 0
 SynchronousAfterACloseOrNoEvent =
     IsGraph closed_graph
@@ -352,7 +352,7 @@ when_graph =
     with_tokens (Plain ∷ [])
     (graph
     (with_token 0 (root (Check 0 ⨾ Work 0 true ⨾ Nothing))
-    ∷ continues 0 (When Faulted (Throw 1 ⨾ Nothing) (When Canceled (Throw 2 ⨾ Nothing) (Throw 3 ⨾ Nothing) ⨾ Nothing) ⨾ Throw 4 ⨾ Nothing)
+    ∷ continues 0 (When Faulted (Throw 1 ⨾ Nothing) (When Canceled (Throw 2 ⨾ Nothing) Nothing ⨾ Nothing) ⨾ Throw 3 ⨾ Nothing)
     ∷ []))
 
 abbrev pub when_faulted : List Event
@@ -364,7 +364,7 @@ when_canceled = played (request 1 0 ∷ drop 1 0 ∷ release 1 1 ∷ begin 1 1 �
 abbrev pub when_ran : List Event
 when_ran = played (begin 1 0 ∷ step 1 0 ∷ done 1 0 ∷ leave 1 0 ∷ release 1 1 ∷ begin 1 1 ∷ step 1 1 ∷ step 1 1 ∷ step 1 1 ∷ leave 1 1 ∷ [])
 
--- how the antecedent ended chooses the branch
+-- how the antecedent ended chooses the branch, and what stands behind it comes after
 abbrev pub EndChoosesTheBranch : Type 0
 EndChoosesTheBranch =
     IsGraph when_graph

@@ -2,7 +2,7 @@
 use Rattle.std.specs.Prelude.{◌≡◌, true, false, Some, List, [], ◌∷◌}
 use Rattle.tpl_words.specs.declared.finals.Final.TheVariants.{Canceled, Faulted}
 use Rattle.tpl_words.specs.declared.status.Status.TheVariants.{Completed}
-use Rattle.tpl_script.specs.Statements.{Check, Cancel, Nothing, ◌⨾◌}
+use Rattle.tpl_script.specs.Statements.{Throw, Check, Cancel, Nothing, ◌⨾◌}
 use Rattle.tpl_model.specs.Graph.{TaskGraph, Plain, Linked}
 use Rattle.tpl_model.specs.declared.event.Event.{Event}
 use Rattle.tpl_model.specs.declared.claim.Given.{Given}
@@ -12,7 +12,7 @@ use Rattle.tpl_model.specs.Valid.{IsGraph}
 use Rattle.tpl_model.specs.Claims.{Holds}
 use Rattle.tpl_model.specs.Graph.{Token}
 use Rattle.tpl_model.specs.Claims.{IsGiven}
-use Rattle.tpl_examples.specs.Words.{worker, outside, requesting, beginning, dropping, by, begin, step, leave, drop, request, played, operation_canceled, returns, root, with_token, graph, with_tokens, canceled_only, ends_in, given_quiet, claim}
+use Rattle.tpl_examples.specs.Words.{worker, outside, requesting, beginning, dropping, by, begin, step, leave, drop, request, played, operation_canceled, returns, root, with_token, graph, with_tokens, ran_only, canceled_only, ends_in, given_quiet, claim, claim_given}
 
 -- the tokens 0 and 1, and 2 linked to both
 abbrev pub link_tokens : List Token
@@ -118,3 +118,24 @@ LinkInTheMiddle =
     Run chain_graph [] middle_requested
     × (requested chain_graph [] middle_requested 2 ≡ true)
     × (requested chain_graph [] middle_requested 0 ≡ false)
+
+-- a root that cancels a source, then throws
+abbrev pub canceling_graph : TaskGraph
+canceling_graph = with_tokens link_tokens (graph (root (Cancel 0 ⨾ Throw 0 ⨾ Nothing) ∷ []))
+
+abbrev pub about_to_cancel : List Event
+about_to_cancel = played (begin 1 0 ∷ [])
+
+abbrev pub canceled_and_threw : List Event
+canceled_and_threw = played (begin 1 0 ∷ step 1 0 ∷ step 1 0 ∷ leave 1 0 ∷ [])
+
+-- a body that cancels a source ends the runs in which the link is quiet, so a claim about these says nothing of what it does then
+abbrev pub CancelOfASourceOfAQuietLink : Type 0
+CancelOfASourceOfAQuietLink =
+    IsGraph canceling_graph
+    × Run canceling_graph [] canceled_and_threw
+    × (status canceling_graph [] canceled_and_threw 0 ≡ Completed Faulted)
+    × IsGiven canceling_graph [] about_to_cancel link_quiet
+    × (IsGiven canceling_graph [] canceled_and_threw link_quiet → ⊥)
+    × Holds canceling_graph (claim_given link_quiet (ends_in 0 ran_only)) [] canceled_and_threw
+    × (Holds canceling_graph (claim (ends_in 0 ran_only)) [] canceled_and_threw → ⊥)

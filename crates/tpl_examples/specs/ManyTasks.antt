@@ -54,7 +54,7 @@ two_workers =
     ∷ step 2 4 ∷ begin 1 5 ∷ step 2 4 ∷ done 1 5 ∷ leave 2 4 ∷ begin 2 3 ∷ leave 1 5 ∷ close 1 4 ∷ step 2 3 ∷ release 1 6
     ∷ begin 1 6 ∷ step 2 3 ∷ step 1 6 ∷ leave 1 6 ∷ leave 2 3 ∷ [])
 
--- two workers do the same
+-- two workers run the same tasks to their ends side by side
 abbrev pub SevenTasksByTwoWorkers : Type 0
 SevenTasksByTwoWorkers =
     Run seven_graph [] two_workers
@@ -87,10 +87,14 @@ stopped_on_the_way =
     ∷ step 2 4 ∷ begin 1 5 ∷ step 2 4 ∷ done 1 5 ∷ leave 2 4 ∷ leave 1 5 ∷ close 1 4 ∷ release 1 6
     ∷ begin 1 6 ∷ request 2 1 ∷ step 1 6 ∷ leave 1 6 ∷ [])
 
+abbrev pub before_all : List Event
+before_all = []
+
 -- a request that comes before a continuation begins cancels it, one that comes later doesn't, and the other tasks run
 abbrev pub RequestsOnTheWay : Type 0
 RequestsOnTheWay =
     IsGraph stoppable_graph
+    × (Complete stoppable_graph [] before_all → ⊥)
     × Run stoppable_graph [] stopped_on_the_way
     × Complete stoppable_graph [] stopped_on_the_way
     × (status stoppable_graph [] stopped_on_the_way 0 ≡ Completed RanToCompletion)

@@ -1,6 +1,6 @@
 //! The statements of a body, and who passes them.
 
-ghost use Rattle.tpl_examples.specs.Bodies.{ReturnEndsTheBody, ThrowEndsTheBody, EmptyBody, RootOpensReady, TaskBeginsOnce, OnlyItsWorkerRunsABody, BodiesRunApart, JobIsAnswered, FailedJobThrows, StoppedBetweenJobs, OnlyJobsAreAnswered, TwoJobsAtOnce, InputChoosesTheBranch, ThreeWaysToEnd, GraphWithoutTasksIsComplete};
+ghost use Rattle.tpl_examples.specs.Bodies.{ReturnEndsTheBody, ThrowEndsTheBody, EmptyBody, RootOpensReady, TaskBeginsOnce, OnlyItsWorkerRunsABody, BodiesRunApart, JobIsAnswered, FailedJobThrows, StoppedBetweenJobs, OnlyJobsAreAnswered, TwoJobsAtOnce, EightJobsAtOnce, InputChoosesTheBranch, ThreeWaysToEnd, GraphWithoutTasksIsComplete};
 
 /// A return ends the body: the statement behind it isn't passed.
 pub fn return_ends_the_body()
@@ -17,7 +17,7 @@ pub fn empty_body()
     ensures { EmptyBody }
 {}
 
-/// A root waits to run; a worker begins it, one that the graph hasn't is begun by none, and the outside begins nothing.
+/// A root waits to run, and any worker begins it; the outside begins nothing, and nobody begins a task that the graph hasn't.
 pub fn root_opens_ready()
     ensures { RootOpensReady }
 {}
@@ -60,6 +60,11 @@ pub fn only_jobs_are_answered()
 /// Two jobs run at the same time.
 pub fn two_jobs_at_once()
     ensures { TwoJobsAtOnce }
+{}
+
+/// Eight jobs run at the same time, each on a worker of its own.
+pub fn eight_jobs_at_once()
+    ensures { EightJobsAtOnce }
 {}
 
 /// An input chooses the branch, and what stands behind it comes after; an input without value is false.

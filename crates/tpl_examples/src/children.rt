@@ -47,7 +47,7 @@ pub fn child_that_is_not_started()
     ensures { ChildThatIsNotStarted }
 {}
 
-/// Where it is started, the parent isn't settled before it.
+/// A child that is started and hasn't ended isn't settled, nor is its parent, which waits for it.
 pub fn child_that_is_started_is_to_end()
     ensures { ChildThatIsStartedIsToEnd }
 {}
@@ -72,7 +72,7 @@ pub fn exceptions_come_up()
     ensures { ExceptionsComeUp }
 {}
 
-/// And not through a detached one.
+/// Exceptions don't come up through a detached child.
 pub fn exceptions_stop_at_a_detached_child()
     ensures { ExceptionsStopAtADetachedChild }
 {}

@@ -7,7 +7,7 @@ pub fn claim_fails_at_the_end()
     ensures { ClaimFailsAtTheEnd }
 {}
 
-/// A body that never checks keeps the claim.
+/// A body that never checks runs to its end, and there the claim holds.
 pub fn claim_holds_without_a_check()
     ensures { ClaimHoldsWithoutACheck }
 {}
@@ -17,7 +17,7 @@ pub fn claim_fails_at_the_begin()
     ensures { ClaimFailsAtTheBegin }
 {}
 
-/// Where the token is given as quiet, the claim doesn't speak of that run.
+/// A claim that takes a token as quiet doesn't speak of a run in which it is requested.
 pub fn claim_of_quiet_runs()
     ensures { ClaimOfQuietRuns }
 {}
@@ -32,7 +32,7 @@ pub fn exception_is_observed()
     ensures { ExceptionIsObserved }
 {}
 
-/// It fails where the continuation's body ends before its observe, or the continuation never runs.
+/// A claim that an exception is observed fails where the continuation's body ends before its observe, or the continuation never runs.
 pub fn exception_is_not_observed()
     ensures { ExceptionIsNotObserved }
 {}

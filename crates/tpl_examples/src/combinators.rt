@@ -32,12 +32,12 @@ pub fn winner_is_the_first_to_end()
     ensures { WinnerIsTheFirstToEnd }
 {}
 
-/// Where the other one ends first the exception stays unobserved.
+/// Where the argument that returns ends first, the other one's exception stays unobserved.
 pub fn loser_stays_unobserved()
     ensures { LoserStaysUnobserved }
 {}
 
-/// The endings count, and not when WhenAny is settled; it carries no exception.
+/// The order of the endings decides, and not when WhenAny is settled; WhenAny carries no exception.
 pub fn winner_of_a_late_settle()
     ensures { WinnerOfALateSettle }
 {}
@@ -62,7 +62,7 @@ pub fn subject_is_one_level_below()
     ensures { SubjectIsOneLevelBelow }
 {}
 
-/// It begins on the worker that settled it.
+/// A synchronous continuation of a WhenAll task begins on the worker that settled this task.
 pub fn synchronous_after_a_settle()
     ensures { SynchronousAfterASettle }
 {}

@@ -7,7 +7,7 @@ pub fn excluded_continuation_is_canceled()
     ensures { ExcludedContinuationIsCanceled }
 {}
 
-/// One whose options allow it is released once, by anyone, and is not canceled.
+/// A continuation whose options allow how its antecedent ended is released once, by anyone, and is not canceled.
 pub fn allowed_continuation_is_released()
     ensures { AllowedContinuationIsReleased }
 {}
@@ -27,7 +27,7 @@ pub fn eager_cancellation()
     ensures { EagerCancellation }
 {}
 
-/// So the next continuation may run before the first task has begun.
+/// Behind a continuation that was canceled early the next one may run before the first task has begun.
 pub fn eager_cancellation_overtakes()
     ensures { EagerCancellationOvertakes }
 {}
@@ -37,7 +37,7 @@ pub fn lazy_cancellation_waits()
     ensures { LazyCancellationWaits }
 {}
 
-/// One that isn't lazy isn't released either where its token is requested.
+/// A continuation whose token is requested isn't released, though its antecedent has ended, and is canceled.
 pub fn requested_continuation_is_not_released()
     ensures { RequestedContinuationIsNotReleased }
 {}
@@ -52,17 +52,17 @@ pub fn synchronous_continuation()
     ensures { SynchronousContinuation }
 {}
 
-/// RunContinuationsAsynchronously lifts this, on the continuation and on its antecedent.
+/// RunContinuationsAsynchronously on the continuation or on its antecedent lifts the synchronous rule.
 pub fn asynchronous_on_either_side()
     ensures { AsynchronousOnEitherSide }
 {}
 
-/// Where the outside ended the antecedent any worker begins it; where a worker canceled it, that one does.
+/// A synchronous continuation begins on any worker where the outside ended its antecedent, and where a worker canceled that, on this one.
 pub fn synchronous_after_a_cancellation()
     ensures { SynchronousAfterACancellation }
 {}
 
-/// The worker is that of the close, and any where no event ended the antecedent.
+/// A synchronous continuation of a parent begins on the worker that closed it, and one of a task that no event ended on any.
 pub fn synchronous_after_a_close_or_no_event()
     ensures { SynchronousAfterACloseOrNoEvent }
 {}
@@ -82,7 +82,7 @@ pub fn observe_reads_what_the_antecedent_carries()
     ensures { ObserveReadsWhatTheAntecedentCarries }
 {}
 
-/// How the antecedent ended chooses the branch.
+/// How the antecedent ended chooses the branch, and what stands behind it comes after.
 pub fn end_chooses_the_branch()
     ensures { EndChoosesTheBranch }
 {}

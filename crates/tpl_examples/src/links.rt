@@ -1,6 +1,6 @@
 //! Tokens that are linked to others.
 
-ghost use Rattle.tpl_examples.specs.Links.{LinkIsRequestedThroughASource, LinkIsNotRequestedAgain, LinkLeavesItsSourcesAlone, SourceCancelsTheTask, QuietLinkHasQuietSources, LinkOfALink, LinkInTheMiddle};
+ghost use Rattle.tpl_examples.specs.Links.{LinkIsRequestedThroughASource, LinkIsNotRequestedAgain, LinkLeavesItsSourcesAlone, SourceCancelsTheTask, QuietLinkHasQuietSources, LinkOfALink, LinkInTheMiddle, CancelOfASourceOfAQuietLink};
 
 /// A check of a link whose source is requested acknowledges the cancellation.
 pub fn link_is_requested_through_a_source()
@@ -35,4 +35,9 @@ pub fn link_of_a_link()
 /// A link in the middle requests those linked to it, and not its source.
 pub fn link_in_the_middle()
     ensures { LinkInTheMiddle }
+{}
+
+/// A body that cancels a source ends the runs in which the link is quiet, so a claim about these says nothing of what it does then.
+pub fn cancel_of_a_source_of_a_quiet_link()
+    ensures { CancelOfASourceOfAQuietLink }
 {}

@@ -7,7 +7,7 @@ pub fn seven_tasks_by_one_worker()
     ensures { SevenTasksByOneWorker }
 {}
 
-/// Two workers do the same.
+/// Two workers run the same tasks to their ends side by side.
 pub fn seven_tasks_by_two_workers()
     ensures { SevenTasksByTwoWorkers }
 {}
