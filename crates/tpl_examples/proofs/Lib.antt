@@ -1,0 +1,3 @@
+mod GraphTests
+mod Computed
+mod Roots

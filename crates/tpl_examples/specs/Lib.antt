@@ -1,3 +1,14 @@
 pub mod Small
 pub mod Certificates
 pub mod RowRules
+pub mod Words
+pub mod Bodies
+pub mod Cancellation
+pub mod Children
+pub mod Continuations
+pub mod Combinators
+pub mod Links
+pub mod ValidGraphs
+pub mod Claims
+pub mod ManyTasks
+pub mod Journals

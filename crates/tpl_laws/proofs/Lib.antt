@@ -21,3 +21,5 @@ pub mod RulesDecided
 pub mod FaultsDecided
 pub mod FirstFault
 pub mod ForCode
+pub mod AllowedDecided
+pub mod AllowedSettled

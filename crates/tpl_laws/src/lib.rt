@@ -2,6 +2,7 @@
 //! contract of a function that does nothing.
 #![tactic(auto)]
 
+pub mod allowed;
 mod closed;
 mod links;
 mod runs;

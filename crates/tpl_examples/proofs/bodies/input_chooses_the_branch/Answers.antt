@@ -1,0 +1,15 @@
+use Rattle.std.specs.Prelude.{refl, [], ◌∷◌, true, false}
+use Rattle.tpl_examples.proofs.Computed.{runs, valid}
+use Rattle.tpl_examples.specs.Bodies.{branched, if_graph}
+use Rattle.tpl_examples.proofs.bodies.input_chooses_the_branch.Goals as goal
+
+pub returns : goal.returns
+returns c = (
+  valid if_graph refl,
+  runs if_graph (false ∷ true ∷ []) branched refl,
+  runs if_graph (true ∷ false ∷ []) branched refl,
+  runs if_graph [] branched refl,
+  refl,
+  refl,
+  refl,
+)

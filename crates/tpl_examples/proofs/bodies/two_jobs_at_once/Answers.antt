@@ -1,0 +1,13 @@
+use Rattle.std.specs.Prelude.{refl, []}
+use Rattle.tpl_examples.proofs.Computed.{completes, runs, valid}
+use Rattle.tpl_examples.specs.Bodies.{both_met, meeting_graph}
+use Rattle.tpl_examples.proofs.bodies.two_jobs_at_once.Goals as goal
+
+pub returns : goal.returns
+returns c = (
+  valid meeting_graph refl,
+  runs meeting_graph [] both_met refl,
+  completes meeting_graph [] both_met refl,
+  refl,
+  refl,
+)

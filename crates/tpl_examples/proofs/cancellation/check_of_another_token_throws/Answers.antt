@@ -1,0 +1,13 @@
+use Rattle.std.specs.Prelude.{refl, []}
+use Rattle.tpl_examples.proofs.Computed.{runs, valid}
+use Rattle.tpl_examples.specs.Cancellation.{other_checked, other_graph}
+use Rattle.tpl_examples.proofs.cancellation.check_of_another_token_throws.Goals as goal
+
+pub returns : goal.returns
+returns c = (
+  valid other_graph refl,
+  runs other_graph [] other_checked refl,
+  refl,
+  refl,
+  refl,
+)

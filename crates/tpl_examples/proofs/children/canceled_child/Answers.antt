@@ -1,0 +1,14 @@
+use Rattle.std.specs.Prelude.{refl, []}
+use Rattle.tpl_examples.proofs.Computed.{completes, runs, valid}
+use Rattle.tpl_examples.specs.Children.{child_token_graph, parent_of_canceled}
+use Rattle.tpl_examples.proofs.children.canceled_child.Goals as goal
+
+pub returns : goal.returns
+returns c = (
+  valid child_token_graph refl,
+  runs child_token_graph [] parent_of_canceled refl,
+  refl,
+  refl,
+  refl,
+  completes child_token_graph [] parent_of_canceled refl,
+)

@@ -1,0 +1,22 @@
+use Rattle.std.specs.Prelude.{refl, [], ◌∷◌, false}
+use Rattle.tpl_examples.proofs.Computed.{completes, refused, runs, settles, settles_not, valid}
+use Rattle.tpl_examples.specs.Words.{beginning, dropping, worker}
+use Rattle.tpl_examples.specs.Children.{maybe_begun, maybe_graph, not_started}
+use Rattle.tpl_examples.proofs.children.child_that_is_not_started.Goals as goal
+
+pub returns : goal.returns
+returns c = (
+  valid maybe_graph refl,
+  runs maybe_graph (false ∷ []) not_started refl,
+  refl,
+  refl,
+  refl,
+  settles_not maybe_graph (false ∷ []) maybe_begun 1 refl refl,
+  settles_not maybe_graph (false ∷ []) maybe_begun 2 refl refl,
+  settles maybe_graph (false ∷ []) not_started 0 refl refl,
+  settles maybe_graph (false ∷ []) not_started 1 refl refl,
+  settles maybe_graph (false ∷ []) not_started 2 refl refl,
+  refused maybe_graph (false ∷ []) not_started (worker 1) (beginning 1) refl,
+  refused maybe_graph (false ∷ []) not_started (worker 1) (dropping 1) refl,
+  completes maybe_graph (false ∷ []) not_started refl,
+)

@@ -1,0 +1,15 @@
+use Rattle.std.specs.Prelude.{refl, [], ◌∷◌, true, false}
+use Rattle.tpl_examples.proofs.Computed.{runs, valid}
+use Rattle.tpl_examples.specs.Children.{acknowledging_graph, child_returns, child_throws}
+use Rattle.tpl_examples.proofs.children.exception_outweighs_cancellation.Goals as goal
+
+pub returns : goal.returns
+returns c = (
+  valid acknowledging_graph refl,
+  runs acknowledging_graph (false ∷ []) child_returns refl,
+  refl,
+  runs acknowledging_graph (true ∷ []) child_throws refl,
+  refl,
+  refl,
+  refl,
+)

@@ -1,0 +1,24 @@
+use Rattle.std.specs.Prelude.{refl, []}
+use Rattle.tpl_examples.proofs.Computed.{allowed, completes_not, refused, runs}
+use Rattle.tpl_examples.specs.Children.{child_left, parent_closed, parent_graph, parent_left}
+use Rattle.tpl_examples.specs.Words.{closing, leaving, outside, worker}
+use Rattle.tpl_examples.proofs.children.parent_waits_for_its_child.Goals as goal
+
+pub returns : goal.returns
+returns c = (
+  runs parent_graph [] child_left refl,
+  refl,
+  refl,
+  refused parent_graph [] parent_left (worker 1) (closing 0) refl,
+  completes_not parent_graph [] parent_left refl,
+  completes_not parent_graph [] child_left refl,
+  refl,
+  allowed parent_graph [] child_left (worker 1) (closing 0) refl,
+  allowed parent_graph [] child_left (worker 2) (closing 0) refl,
+  allowed parent_graph [] child_left (outside 1) (closing 0) refl,
+  refused parent_graph [] child_left (outside 1) (closing 1) refl,
+  refused parent_graph [] child_left (outside 1) (closing 2) refl,
+  refused parent_graph [] parent_closed (worker 1) (closing 0) refl,
+  refused parent_graph [] child_left (worker 1) (leaving 0) refl,
+  refl,
+)

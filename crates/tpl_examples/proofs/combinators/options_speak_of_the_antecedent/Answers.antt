@@ -1,0 +1,12 @@
+use Rattle.std.specs.Prelude.{refl, []}
+use Rattle.tpl_examples.proofs.Computed.{runs, valid}
+use Rattle.tpl_examples.specs.Combinators.{winner_options_graph, winner_read}
+use Rattle.tpl_examples.proofs.combinators.options_speak_of_the_antecedent.Goals as goal
+
+pub returns : goal.returns
+returns c = (
+  valid winner_options_graph refl,
+  runs winner_options_graph [] winner_read refl,
+  refl,
+  refl,
+)

@@ -1,0 +1,15 @@
+use Rattle.std.specs.Prelude.{refl, []}
+use Rattle.tpl_examples.proofs.Computed.{completes, runs, valid}
+use Rattle.tpl_examples.specs.Combinators.{milder_graph, milder_run}
+use Rattle.tpl_examples.proofs.combinators.when_all_without_an_exception.Goals as goal
+
+pub returns : goal.returns
+returns c = (
+  valid milder_graph refl,
+  runs milder_graph [] milder_run refl,
+  refl,
+  refl,
+  refl,
+  refl,
+  completes milder_graph [] milder_run refl,
+)

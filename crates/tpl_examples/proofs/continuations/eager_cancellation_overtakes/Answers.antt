@@ -1,0 +1,13 @@
+use Rattle.std.specs.Prelude.{refl, []}
+use Rattle.tpl_examples.proofs.Computed.{fails, runs}
+use Rattle.tpl_examples.specs.Words.{after, claim}
+use Rattle.tpl_examples.specs.Continuations.{overtaken, stop_graph}
+use Rattle.tpl_examples.proofs.continuations.eager_cancellation_overtakes.Goals as goal
+
+pub returns : goal.returns
+returns c = (
+  runs stop_graph [] overtaken refl,
+  refl,
+  refl,
+  fails stop_graph (claim (after 0 2)) [] overtaken refl refl,
+)

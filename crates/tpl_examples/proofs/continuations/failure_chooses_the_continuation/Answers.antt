@@ -1,0 +1,18 @@
+use Rattle.std.specs.Prelude.{refl, []}
+use Rattle.tpl_examples.proofs.Computed.{claims, completes, runs, valid}
+use Rattle.tpl_examples.specs.Words.{claim, excludes}
+use Rattle.tpl_examples.specs.Continuations.{failure_handled, handler_graph}
+use Rattle.tpl_examples.proofs.continuations.failure_chooses_the_continuation.Goals as goal
+
+pub returns : goal.returns
+returns c = (
+  valid handler_graph refl,
+  runs handler_graph [] failure_handled refl,
+  refl,
+  refl,
+  refl,
+  refl,
+  refl,
+  completes handler_graph [] failure_handled refl,
+  claims handler_graph (claim (excludes 1 2)) [] failure_handled refl refl,
+)

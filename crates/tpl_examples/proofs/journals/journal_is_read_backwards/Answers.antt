@@ -1,0 +1,12 @@
+use Rattle.std.specs.Prelude.{refl, []}
+use Rattle.tpl_examples.proofs.Computed.{runs, runs_not, valid}
+use Rattle.tpl_examples.specs.Words.{played}
+use Rattle.tpl_examples.specs.Journals.{shared_graph, shared_journal}
+use Rattle.tpl_examples.proofs.journals.journal_is_read_backwards.Goals as goal
+
+pub returns : goal.returns
+returns c = (
+  valid shared_graph refl,
+  runs shared_graph [] (played shared_journal) refl,
+  runs_not shared_graph [] shared_journal refl,
+)

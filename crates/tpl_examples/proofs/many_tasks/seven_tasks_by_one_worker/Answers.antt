@@ -1,0 +1,19 @@
+use Rattle.std.specs.Prelude.{refl, []}
+use Rattle.tpl_examples.proofs.Computed.{completes, runs, valid}
+use Rattle.tpl_examples.specs.ManyTasks.{one_worker, seven_graph}
+use Rattle.tpl_examples.proofs.many_tasks.seven_tasks_by_one_worker.Goals as goal
+
+pub returns : goal.returns
+returns c = (
+  valid seven_graph refl,
+  runs seven_graph [] one_worker refl,
+  refl,
+  refl,
+  refl,
+  refl,
+  refl,
+  refl,
+  refl,
+  refl,
+  completes seven_graph [] one_worker refl,
+)

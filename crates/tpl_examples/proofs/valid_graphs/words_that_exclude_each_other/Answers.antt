@@ -1,0 +1,10 @@
+use Rattle.std.specs.Prelude.{refl}
+use Rattle.tpl_examples.proofs.Computed.{invalid}
+use Rattle.tpl_examples.specs.ValidGraphs.{long_and_synchronous_graph, never_graph}
+use Rattle.tpl_examples.proofs.valid_graphs.words_that_exclude_each_other.Goals as goal
+
+pub returns : goal.returns
+returns c = (
+  invalid never_graph refl,
+  invalid long_and_synchronous_graph refl,
+)
