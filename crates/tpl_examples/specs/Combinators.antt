@@ -104,7 +104,7 @@ WhenAllOfNothing =
     × Complete single_nothing_graph [] before_all
     × (IsGraph any_of_nothing_graph → ⊥)
 
--- two roots that throw, WhenAll of the second and the first, WhenAll of that and the first, and an observing continuation
+-- three roots that throw, WhenAll of two of them, WhenAll of all three with one of them named twice, and an observing continuation
 abbrev pub nested_graph : TaskGraph
 nested_graph =
     graph
