@@ -122,7 +122,7 @@ TokenIsRequestedOnce =
 
 -- a root that cancels a token, checks it and throws; the token is not its own, or is
 abbrev pub canceling_graph : TaskGraph
-canceling_graph = with_tokens (Plain ∷ []) (graph (root (Cancel 0 ⨾ Check 0 ⨾ Throw 0 ⨾ Nothing) ∷ []))
+canceling_graph = with_tokens (Plain ∷ Plain ∷ []) (graph (root (Cancel 0 ⨾ Check 0 ⨾ Throw 0 ⨾ Nothing) ∷ []))
 
 abbrev pub self_canceling_graph : TaskGraph
 self_canceling_graph = with_tokens (Plain ∷ []) (graph (with_token 0 (root (Cancel 0 ⨾ Check 0 ⨾ Throw 0 ⨾ Nothing)) ∷ []))
@@ -143,6 +143,7 @@ CancelStatementRequests =
     × Run canceling_graph [] canceled_and_checked
     × (requested canceling_graph [] about_to_cancel 0 ≡ false)
     × (requested canceling_graph [] canceled_by_statement 0 ≡ true)
+    × (requested canceling_graph [] canceled_by_statement 1 ≡ false)
     × (Allows canceling_graph [] canceled_by_statement (outside 1) (requesting 0) → ⊥)
     × (status canceling_graph [] canceled_by_statement 0 ≡ Running)
     × (status canceling_graph [] canceled_and_checked 0 ≡ Completed Faulted)

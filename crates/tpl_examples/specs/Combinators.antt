@@ -11,12 +11,12 @@ use Rattle.tpl_model.specs.Valid.{IsGraph}
 use Rattle.tpl_model.specs.Claims.{Holds}
 use Rattle.tpl_examples.specs.Words.{worker, outside, releasing, beginning, closing, dropping, settling, by, release, begin, step, leave, drop, settle, request, played, thrown, returns, root, continues, when_all, when_any, with_token, with_options, only_on_faulted, only_on_ran_to_completion, execute_synchronously, graph, with_tokens, observed, claim}
 
--- a root that throws, one with a token, and WhenAll of both
+-- a root that throws, one with a token, and WhenAll of both in both orders
 abbrev pub all_graph : TaskGraph
-all_graph = with_tokens (Plain ∷ []) (graph (root (Throw 0 ⨾ Nothing) ∷ with_token 0 (root returns) ∷ when_all (0 ∷ 1 ∷ []) ∷ []))
+all_graph = with_tokens (Plain ∷ []) (graph (root (Throw 0 ⨾ Nothing) ∷ with_token 0 (root returns) ∷ when_all (0 ∷ 1 ∷ []) ∷ when_all (1 ∷ 0 ∷ []) ∷ []))
 
 abbrev pub faulted_and_canceled : List Event
-faulted_and_canceled = played (request 1 0 ∷ by (outside 1) (dropping 1) ∷ begin 1 0 ∷ step 1 0 ∷ leave 1 0 ∷ settle 1 2 ∷ [])
+faulted_and_canceled = played (request 1 0 ∷ by (outside 1) (dropping 1) ∷ begin 1 0 ∷ step 1 0 ∷ leave 1 0 ∷ settle 1 2 ∷ settle 1 3 ∷ [])
 
 abbrev pub faulted_and_canceled_before : List Event
 faulted_and_canceled_before = played (request 1 0 ∷ by (outside 1) (dropping 1) ∷ begin 1 0 ∷ step 1 0 ∷ leave 1 0 ∷ [])
@@ -24,7 +24,7 @@ faulted_and_canceled_before = played (request 1 0 ∷ by (outside 1) (dropping 1
 abbrev pub one_canceled : List Event
 one_canceled = played (request 1 0 ∷ by (outside 1) (dropping 1) ∷ [])
 
--- WhenAll of a faulted and a canceled task is faulted with the exception of the one
+-- WhenAll of a faulted and a canceled task, in either order, is faulted with the exception of the one
 abbrev pub WhenAllOfFaultedAndCanceled : Type 0
 WhenAllOfFaultedAndCanceled =
     IsGraph all_graph
@@ -33,6 +33,8 @@ WhenAllOfFaultedAndCanceled =
     × (status all_graph [] faulted_and_canceled 1 ≡ Completed Canceled)
     × (status all_graph [] faulted_and_canceled 2 ≡ Completed Faulted)
     × (carried all_graph [] faulted_and_canceled 2 ≡ 0 ∷ [])
+    × (status all_graph [] faulted_and_canceled 3 ≡ Completed Faulted)
+    × (carried all_graph [] faulted_and_canceled 3 ≡ 0 ∷ [])
     × (label all_graph [] faulted_and_canceled 2 ≡ None)
     × Complete all_graph [] faulted_and_canceled
 
@@ -45,11 +47,12 @@ WhenAllWaitsForAll =
     (status all_graph [] before_all 2 ≡ WaitingForActivation)
     × (Allows all_graph [] before_all (worker 1) (settling 2) → ⊥)
     × (Allows all_graph [] one_canceled (worker 1) (settling 2) → ⊥)
+    × (Allows all_graph [] one_canceled (worker 1) (settling 3) → ⊥)
     × Allows all_graph [] faulted_and_canceled_before (worker 1) (settling 2)
     × Allows all_graph [] faulted_and_canceled_before (outside 1) (settling 2)
     × (Allows all_graph [] faulted_and_canceled_before (worker 1) (settling 0) → ⊥)
     × (Allows all_graph [] before_all (worker 1) (settling 0) → ⊥)
-    × (Allows all_graph [] before_all (worker 1) (settling 3) → ⊥)
+    × (Allows all_graph [] before_all (worker 1) (settling 4) → ⊥)
     × (Allows all_graph [] faulted_and_canceled_before (worker 1) (beginning 2) → ⊥)
     × (Allows all_graph [] faulted_and_canceled_before (worker 1) (releasing 2) → ⊥)
     × (Allows all_graph [] faulted_and_canceled_before (worker 1) (closing 2) → ⊥)
@@ -101,7 +104,7 @@ WhenAllOfNothing =
     × Complete single_nothing_graph [] before_all
     × (IsGraph any_of_nothing_graph → ⊥)
 
--- two roots that throw, WhenAll of the second and the first, WhenAll of that and the first, and an observing continuation
+-- three roots that throw, WhenAll of two of them, WhenAll of all three with one of them named twice, and an observing continuation
 abbrev pub nested_graph : TaskGraph
 nested_graph =
     graph

@@ -36,6 +36,7 @@ ExcludedContinuationIsCanceled =
     × (Allows wrong_end_graph [] antecedent_left (worker 1) (beginning 1) → ⊥)
     × Allows wrong_end_graph [] antecedent_left (outside 1) (dropping 1)
     × (status wrong_end_graph [] continuation_dropped 1 ≡ Completed Canceled)
+    × (Allows wrong_end_graph [] continuation_dropped (outside 1) (dropping 1) → ⊥)
     × IsGraph only_canceled_graph
     × Run only_canceled_graph [] continuation_dropped
     × (Allows only_canceled_graph [] antecedent_left (worker 1) (releasing 1) → ⊥)

@@ -16,12 +16,16 @@ shared_graph = with_tokens (Plain ∷ Plain ∷ []) (graph (root (Cancel 0 ⨾ N
 abbrev pub shared_journal : List Event
 shared_journal = begin 1 0 ∷ request 1 1 ∷ begin 2 1 ∷ step 1 0 ∷ step 2 1 ∷ leave 1 0 ∷ leave 2 1 ∷ []
 
--- a run is the list of its journal's events with the newest first, and not the journal itself
+abbrev pub stepped_too_early : List Event
+stepped_too_early = step 1 0 ∷ begin 1 0 ∷ []
+
+-- a run is the list of its journal's events with the newest first, and not the journal itself; each event must be allowed after those before it
 abbrev pub JournalIsReadBackwards : Type 0
 JournalIsReadBackwards =
     IsGraph shared_graph
     × Run shared_graph [] (played shared_journal)
     × (Run shared_graph [] shared_journal → ⊥)
+    × (Run shared_graph [] (played stepped_too_early) → ⊥)
 
 -- each actor's own events, with their places in the journal; a worker and an outside seat of the same number are two
 abbrev pub OwnEventsOfEachActor : Type 0

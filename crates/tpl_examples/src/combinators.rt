@@ -2,7 +2,7 @@
 
 ghost use Rattle.tpl_examples.specs.Combinators.{WhenAllOfFaultedAndCanceled, WhenAllWaitsForAll, WhenAllWithoutAnException, WhenAllOfNothing, WhenAllGathersEachOnce, WinnerIsTheFirstToEnd, LoserStaysUnobserved, WinnerOfALateSettle, WhenAnyWaitsForOne, WinnerBeforeTheFirstEvent, OptionsSpeakOfTheAntecedent, SubjectIsOneLevelBelow, SynchronousAfterASettle};
 
-/// WhenAll of a faulted and a canceled task is faulted with the exception of the one.
+/// WhenAll of a faulted and a canceled task, in either order, is faulted with the exception of the one.
 pub fn when_all_of_faulted_and_canceled()
     ensures { WhenAllOfFaultedAndCanceled }
 {}

@@ -2,7 +2,7 @@
 
 ghost use Rattle.tpl_examples.specs.Journals.{JournalIsReadBackwards, OwnEventsOfEachActor};
 
-/// A run is the list of its journal's events with the newest first, and not the journal itself.
+/// A run is the list of its journal's events with the newest first, and not the journal itself; each event must be allowed after those before it.
 pub fn journal_is_read_backwards()
     ensures { JournalIsReadBackwards }
 {}

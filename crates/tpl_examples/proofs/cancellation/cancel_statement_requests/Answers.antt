@@ -10,6 +10,7 @@ returns c = (
   runs canceling_graph [] canceled_and_checked refl,
   refl,
   refl,
+  refl,
   refused canceling_graph [] canceled_by_statement (outside 1) (requesting 0) refl,
   refl,
   refl,

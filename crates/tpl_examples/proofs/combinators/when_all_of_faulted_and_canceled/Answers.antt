@@ -12,5 +12,7 @@ returns c = (
   refl,
   refl,
   refl,
+  refl,
+  refl,
   completes all_graph [] faulted_and_canceled refl,
 )

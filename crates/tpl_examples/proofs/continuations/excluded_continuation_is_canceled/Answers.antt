@@ -12,6 +12,7 @@ returns c = (
   refused wrong_end_graph [] antecedent_left (worker 1) (beginning 1) refl,
   allowed wrong_end_graph [] antecedent_left (outside 1) (dropping 1) refl,
   refl,
+  refused wrong_end_graph [] continuation_dropped (outside 1) (dropping 1) refl,
   valid only_canceled_graph refl,
   runs only_canceled_graph [] continuation_dropped refl,
   refused only_canceled_graph [] antecedent_left (worker 1) (releasing 1) refl,
