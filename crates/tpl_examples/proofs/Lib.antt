@@ -1,3 +1,2 @@
-mod GraphTests
 mod Computed
 mod Roots

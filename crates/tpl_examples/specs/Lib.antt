@@ -1,6 +1,3 @@
-pub mod Small
-pub mod Certificates
-pub mod RowRules
 pub mod Words
 pub mod Bodies
 pub mod Cancellation

@@ -1,10 +1,9 @@
-//! Worked runs and certificates of small task graphs. Each function's contract is one of them, proved by computing what
+//! Worked runs of small task graphs. Each function's contract is one of them, proved by computing what
 //! the definitions say.
 #![tactic(auto)]
 
 pub mod bodies;
 pub mod cancellation;
-pub mod certificates;
 pub mod children;
 pub mod claims;
 pub mod combinators;
@@ -12,5 +11,4 @@ pub mod continuations;
 pub mod journals;
 pub mod links;
 pub mod many_tasks;
-pub mod row_rules;
 pub mod valid_graphs;

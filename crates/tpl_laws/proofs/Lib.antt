@@ -23,3 +23,4 @@ pub mod FirstFault
 pub mod ForCode
 pub mod AllowedDecided
 pub mod AllowedSettled
+pub mod GraphDecided

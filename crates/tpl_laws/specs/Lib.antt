@@ -3,6 +3,8 @@ pub mod Runs
 pub mod PathLaws
 pub mod RowTests
 pub mod Allowed
+pub mod GraphTests
+pub mod Tests
 pub mod Verdict
 pub mod Decided
 pub mod Faults

@@ -1,6 +1,8 @@
 //! The tests of events and of whole runs say what the rules do.
 
 ghost use Rattle.tpl_laws.specs.Allowed.{CanIsRight, HoldsIsRight, HoldsOfIsRight, IsCompleteIsRight, IsRunIsRight, IsSettledIsRight};
+ghost use Rattle.tpl_laws.specs.GraphTests.{GraphIsRight};
+ghost use Rattle.tpl_laws.specs.Tests.{GivenIsRight, TestLaws};
 
 /// An act passes its test just where the rules allow it next.
 pub fn can_is_right()
@@ -31,3 +33,26 @@ pub fn holds_of_is_right()
 pub fn holds_is_right()
     ensures { HoldsIsRight }
 {}
+
+/// What is given passes its test just where it is true of the run.
+pub fn given_is_right()
+    ensures { GivenIsRight }
+{}
+
+/// A list of tasks passes its test just where it is a graph.
+pub fn graph_is_right()
+    ensures { GraphIsRight }
+{}
+
+/// All of the tests say what the definitions do.
+pub fn tests_are_right()
+    ensures { TestLaws }
+{
+    graph_is_right();
+    can_is_right();
+    is_run_is_right();
+    is_settled_is_right();
+    is_complete_is_right();
+    given_is_right();
+    holds_is_right();
+}

@@ -5,11 +5,11 @@ use Rattle.tpl_examples.proofs.bodies.bodies_run_apart.Goals as goal
 
 pub returns : goal.returns
 returns c = (
-  valid two_graph refl,
-  runs two_graph [] two_left refl,
+  valid c.tests_are_right.ensures two_graph refl,
+  runs c.tests_are_right.ensures two_graph [] two_left refl,
   refl,
   refl,
   refl,
   refl,
-  completes two_graph [] two_left refl,
+  completes c.tests_are_right.ensures two_graph [] two_left refl,
 )

@@ -5,9 +5,9 @@ use Rattle.tpl_examples.proofs.bodies.eight_jobs_at_once.Goals as goal
 
 pub returns : goal.returns
 returns c = (
-  valid eight_graph refl,
-  runs eight_graph [] eight_met refl,
-  completes eight_graph [] eight_met refl,
+  valid c.tests_are_right.ensures eight_graph refl,
+  runs c.tests_are_right.ensures eight_graph [] eight_met refl,
+  completes c.tests_are_right.ensures eight_graph [] eight_met refl,
   refl,
   refl,
 )

@@ -6,9 +6,9 @@ use Rattle.tpl_examples.proofs.bodies.empty_body.Goals as goal
 
 pub returns : goal.returns
 returns c = (
-  valid empty_graph refl,
-  runs empty_graph [] empty_left refl,
-  refused empty_graph [] empty_begun (worker 1) (stepping 0) refl,
+  valid c.tests_are_right.ensures empty_graph refl,
+  runs c.tests_are_right.ensures empty_graph [] empty_left refl,
+  refused c.tests_are_right.ensures empty_graph [] empty_begun (worker 1) (stepping 0) refl,
   refl,
   refl,
 )

@@ -5,7 +5,7 @@ use Rattle.tpl_examples.proofs.bodies.failed_job_throws.Goals as goal
 
 pub returns : goal.returns
 returns c = (
-  runs jobs_graph [] second_job_failed refl,
+  runs c.tests_are_right.ensures jobs_graph [] second_job_failed refl,
   refl,
   refl,
   refl,

@@ -5,8 +5,8 @@ use Rattle.tpl_examples.proofs.bodies.graph_without_tasks_is_complete.Goals as g
 
 pub returns : goal.returns
 returns c = (
-  valid no_tasks refl,
-  runs no_tasks [] nothing_happened refl,
-  completes no_tasks [] nothing_happened refl,
+  valid c.tests_are_right.ensures no_tasks refl,
+  runs c.tests_are_right.ensures no_tasks [] nothing_happened refl,
+  completes c.tests_are_right.ensures no_tasks [] nothing_happened refl,
   refl,
 )

@@ -5,10 +5,10 @@ use Rattle.tpl_examples.proofs.bodies.input_chooses_the_branch.Goals as goal
 
 pub returns : goal.returns
 returns c = (
-  valid if_graph refl,
-  runs if_graph (false ∷ true ∷ []) branched refl,
-  runs if_graph (true ∷ false ∷ []) branched refl,
-  runs if_graph [] branched refl,
+  valid c.tests_are_right.ensures if_graph refl,
+  runs c.tests_are_right.ensures if_graph (false ∷ true ∷ []) branched refl,
+  runs c.tests_are_right.ensures if_graph (true ∷ false ∷ []) branched refl,
+  runs c.tests_are_right.ensures if_graph [] branched refl,
   refl,
   refl,
   refl,

@@ -6,12 +6,12 @@ use Rattle.tpl_examples.proofs.bodies.only_its_worker_runs_a_body.Goals as goal
 
 pub returns : goal.returns
 returns c = (
-  runs two_graph [] two_begun refl,
-  allowed two_graph [] two_begun (worker 1) (stepping 0) refl,
-  refused two_graph [] two_begun (worker 2) (stepping 0) refl,
-  refused two_graph [] two_begun (worker 3) (stepping 0) refl,
-  refused two_graph [] two_begun (outside 1) (stepping 0) refl,
-  allowed two_graph [] one_stepped (worker 2) (leaving 1) refl,
-  refused two_graph [] one_stepped (worker 1) (leaving 1) refl,
-  refused two_graph [] one_stepped (outside 2) (leaving 1) refl,
+  runs c.tests_are_right.ensures two_graph [] two_begun refl,
+  allowed c.tests_are_right.ensures two_graph [] two_begun (worker 1) (stepping 0) refl,
+  refused c.tests_are_right.ensures two_graph [] two_begun (worker 2) (stepping 0) refl,
+  refused c.tests_are_right.ensures two_graph [] two_begun (worker 3) (stepping 0) refl,
+  refused c.tests_are_right.ensures two_graph [] two_begun (outside 1) (stepping 0) refl,
+  allowed c.tests_are_right.ensures two_graph [] one_stepped (worker 2) (leaving 1) refl,
+  refused c.tests_are_right.ensures two_graph [] one_stepped (worker 1) (leaving 1) refl,
+  refused c.tests_are_right.ensures two_graph [] one_stepped (outside 2) (leaving 1) refl,
 )

@@ -6,6 +6,6 @@ use Rattle.tpl_examples.proofs.bodies.only_jobs_are_answered.Goals as goal
 
 pub returns : goal.returns
 returns c = (
-  refused no_job_graph [] jobs_begun (worker 1) (doing 0) refl,
-  refused no_job_graph [] jobs_begun (worker 1) (failing 0) refl,
+  refused c.tests_are_right.ensures no_job_graph [] jobs_begun (worker 1) (doing 0) refl,
+  refused c.tests_are_right.ensures no_job_graph [] jobs_begun (worker 1) (failing 0) refl,
 )

@@ -6,11 +6,11 @@ use Rattle.tpl_examples.proofs.bodies.return_ends_the_body.Goals as goal
 
 pub returns : goal.returns
 returns c = (
-  valid return_graph refl,
-  runs return_graph [] return_left refl,
-  refused return_graph [] returned (worker 1) (stepping 0) refl,
-  allowed return_graph [] returned (worker 1) (leaving 0) refl,
+  valid c.tests_are_right.ensures return_graph refl,
+  runs c.tests_are_right.ensures return_graph [] return_left refl,
+  refused c.tests_are_right.ensures return_graph [] returned (worker 1) (stepping 0) refl,
+  allowed c.tests_are_right.ensures return_graph [] returned (worker 1) (leaving 0) refl,
   refl,
   refl,
-  completes return_graph [] return_left refl,
+  completes c.tests_are_right.ensures return_graph [] return_left refl,
 )

@@ -5,7 +5,7 @@ use Rattle.tpl_examples.proofs.bodies.stopped_between_jobs.Goals as goal
 
 pub returns : goal.returns
 returns c = (
-  runs jobs_graph [] first_job_done refl,
+  runs c.tests_are_right.ensures jobs_graph [] first_job_done refl,
   refl,
-  completes_not jobs_graph [] first_job_done refl,
+  completes_not c.tests_are_right.ensures jobs_graph [] first_job_done refl,
 )

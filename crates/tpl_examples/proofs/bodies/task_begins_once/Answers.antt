@@ -6,8 +6,8 @@ use Rattle.tpl_examples.proofs.bodies.task_begins_once.Goals as goal
 
 pub returns : goal.returns
 returns c = (
-  refused empty_graph [] empty_begun (worker 1) (beginning 0) refl,
-  refused empty_graph [] empty_begun (worker 2) (beginning 0) refl,
-  refused empty_graph [] empty_left (worker 1) (beginning 0) refl,
-  refused empty_graph [] empty_left (worker 1) (leaving 0) refl,
+  refused c.tests_are_right.ensures empty_graph [] empty_begun (worker 1) (beginning 0) refl,
+  refused c.tests_are_right.ensures empty_graph [] empty_begun (worker 2) (beginning 0) refl,
+  refused c.tests_are_right.ensures empty_graph [] empty_left (worker 1) (beginning 0) refl,
+  refused c.tests_are_right.ensures empty_graph [] empty_left (worker 1) (leaving 0) refl,
 )

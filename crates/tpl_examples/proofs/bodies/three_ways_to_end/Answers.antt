@@ -5,11 +5,11 @@ use Rattle.tpl_examples.proofs.bodies.three_ways_to_end.Goals as goal
 
 pub returns : goal.returns
 returns c = (
-  valid way_graph refl,
-  runs way_graph [] ran_way refl,
+  valid c.tests_are_right.ensures way_graph refl,
+  runs c.tests_are_right.ensures way_graph [] ran_way refl,
   refl,
-  runs way_graph [] canceled_way refl,
+  runs c.tests_are_right.ensures way_graph [] canceled_way refl,
   refl,
-  runs way_graph [] faulted_way refl,
+  runs c.tests_are_right.ensures way_graph [] faulted_way refl,
   refl,
 )

@@ -6,9 +6,9 @@ use Rattle.tpl_examples.proofs.bodies.throw_ends_the_body.Goals as goal
 
 pub returns : goal.returns
 returns c = (
-  valid throw_graph refl,
-  runs throw_graph [] throw_left refl,
-  refused throw_graph [] threw (worker 1) (stepping 0) refl,
+  valid c.tests_are_right.ensures throw_graph refl,
+  runs c.tests_are_right.ensures throw_graph [] throw_left refl,
+  refused c.tests_are_right.ensures throw_graph [] threw (worker 1) (stepping 0) refl,
   refl,
   refl,
   refl,

@@ -5,9 +5,9 @@ use Rattle.tpl_examples.proofs.bodies.two_jobs_at_once.Goals as goal
 
 pub returns : goal.returns
 returns c = (
-  valid meeting_graph refl,
-  runs meeting_graph [] both_met refl,
-  completes meeting_graph [] both_met refl,
+  valid c.tests_are_right.ensures meeting_graph refl,
+  runs c.tests_are_right.ensures meeting_graph [] both_met refl,
+  completes c.tests_are_right.ensures meeting_graph [] both_met refl,
   refl,
   refl,
 )

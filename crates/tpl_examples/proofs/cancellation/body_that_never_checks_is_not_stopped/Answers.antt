@@ -6,9 +6,9 @@ use Rattle.tpl_examples.proofs.cancellation.body_that_never_checks_is_not_stoppe
 
 pub returns : goal.returns
 returns c = (
-  valid blind_graph refl,
-  runs blind_graph [] blind_run refl,
-  refused blind_graph [] blind_begun (outside 1) (dropping 0) refl,
-  refused blind_graph [] blind_begun (worker 1) (dropping 0) refl,
+  valid c.tests_are_right.ensures blind_graph refl,
+  runs c.tests_are_right.ensures blind_graph [] blind_run refl,
+  refused c.tests_are_right.ensures blind_graph [] blind_begun (outside 1) (dropping 0) refl,
+  refused c.tests_are_right.ensures blind_graph [] blind_begun (worker 1) (dropping 0) refl,
   refl,
 )

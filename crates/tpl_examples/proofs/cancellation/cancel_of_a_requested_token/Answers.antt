@@ -5,8 +5,8 @@ use Rattle.tpl_examples.proofs.cancellation.cancel_of_a_requested_token.Goals as
 
 pub returns : goal.returns
 returns c = (
-  valid double_graph refl,
-  runs double_graph [] canceled_again refl,
+  valid c.tests_are_right.ensures double_graph refl,
+  runs c.tests_are_right.ensures double_graph [] canceled_again refl,
   refl,
   refl,
 )

@@ -5,8 +5,8 @@ use Rattle.tpl_examples.proofs.cancellation.cancel_of_the_own_token.Goals as goa
 
 pub returns : goal.returns
 returns c = (
-  valid self_canceling_graph refl,
-  runs self_canceling_graph [] canceled_and_checked refl,
+  valid c.tests_are_right.ensures self_canceling_graph refl,
+  runs c.tests_are_right.ensures self_canceling_graph [] canceled_and_checked refl,
   refl,
   refl,
 )

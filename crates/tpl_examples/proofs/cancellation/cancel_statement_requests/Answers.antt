@@ -6,12 +6,12 @@ use Rattle.tpl_examples.proofs.cancellation.cancel_statement_requests.Goals as g
 
 pub returns : goal.returns
 returns c = (
-  valid canceling_graph refl,
-  runs canceling_graph [] canceled_and_checked refl,
+  valid c.tests_are_right.ensures canceling_graph refl,
+  runs c.tests_are_right.ensures canceling_graph [] canceled_and_checked refl,
   refl,
   refl,
   refl,
-  refused canceling_graph [] canceled_by_statement (outside 1) (requesting 0) refl,
+  refused c.tests_are_right.ensures canceling_graph [] canceled_by_statement (outside 1) (requesting 0) refl,
   refl,
   refl,
   refl,

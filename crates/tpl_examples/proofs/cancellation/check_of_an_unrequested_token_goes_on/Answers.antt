@@ -5,8 +5,8 @@ use Rattle.tpl_examples.proofs.cancellation.check_of_an_unrequested_token_goes_o
 
 pub returns : goal.returns
 returns c = (
-  runs own_graph [] unrequested refl,
+  runs c.tests_are_right.ensures own_graph [] unrequested refl,
   refl,
-  runs other_graph [] unrequested refl,
+  runs c.tests_are_right.ensures other_graph [] unrequested refl,
   refl,
 )

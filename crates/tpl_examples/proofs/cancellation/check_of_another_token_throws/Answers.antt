@@ -5,8 +5,8 @@ use Rattle.tpl_examples.proofs.cancellation.check_of_another_token_throws.Goals 
 
 pub returns : goal.returns
 returns c = (
-  valid other_graph refl,
-  runs other_graph [] other_checked refl,
+  valid c.tests_are_right.ensures other_graph refl,
+  runs c.tests_are_right.ensures other_graph [] other_checked refl,
   refl,
   refl,
   refl,

@@ -5,8 +5,8 @@ use Rattle.tpl_examples.proofs.cancellation.check_of_the_own_token_cancels.Goals
 
 pub returns : goal.returns
 returns c = (
-  valid own_graph refl,
-  runs own_graph [] own_checked refl,
+  valid c.tests_are_right.ensures own_graph refl,
+  runs c.tests_are_right.ensures own_graph [] own_checked refl,
   refl,
   refl,
   refl,

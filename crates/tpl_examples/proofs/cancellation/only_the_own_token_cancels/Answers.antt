@@ -6,8 +6,8 @@ use Rattle.tpl_examples.proofs.cancellation.only_the_own_token_cancels.Goals as 
 
 pub returns : goal.returns
 returns c = (
-  refused blind_graph [] before_all (outside 1) (dropping 0) refl,
-  refused other_graph [] second_requested (outside 1) (dropping 0) refl,
-  allowed other_graph [] second_requested (worker 1) (beginning 0) refl,
-  refused blind_graph [] asked (outside 1) (dropping 1) refl,
+  refused c.tests_are_right.ensures blind_graph [] before_all (outside 1) (dropping 0) refl,
+  refused c.tests_are_right.ensures other_graph [] second_requested (outside 1) (dropping 0) refl,
+  allowed c.tests_are_right.ensures other_graph [] second_requested (worker 1) (beginning 0) refl,
+  refused c.tests_are_right.ensures blind_graph [] asked (outside 1) (dropping 1) refl,
 )

@@ -6,13 +6,13 @@ use Rattle.tpl_examples.proofs.cancellation.requested_before_it_begins.Goals as 
 
 pub returns : goal.returns
 returns c = (
-  runs blind_graph [] asked_and_dropped refl,
+  runs c.tests_are_right.ensures blind_graph [] asked_and_dropped refl,
   refl,
-  refused blind_graph [] asked (worker 1) (beginning 0) refl,
-  allowed blind_graph [] asked (worker 1) (dropping 0) refl,
-  allowed blind_graph [] asked (outside 2) (dropping 0) refl,
+  refused c.tests_are_right.ensures blind_graph [] asked (worker 1) (beginning 0) refl,
+  allowed c.tests_are_right.ensures blind_graph [] asked (worker 1) (dropping 0) refl,
+  allowed c.tests_are_right.ensures blind_graph [] asked (outside 2) (dropping 0) refl,
   refl,
-  refused blind_graph [] asked_and_dropped (outside 2) (dropping 0) refl,
-  refused blind_graph [] asked_and_dropped (worker 1) (beginning 0) refl,
-  completes blind_graph [] asked_and_dropped refl,
+  refused c.tests_are_right.ensures blind_graph [] asked_and_dropped (outside 2) (dropping 0) refl,
+  refused c.tests_are_right.ensures blind_graph [] asked_and_dropped (worker 1) (beginning 0) refl,
+  completes c.tests_are_right.ensures blind_graph [] asked_and_dropped refl,
 )

@@ -6,14 +6,14 @@ use Rattle.tpl_examples.proofs.cancellation.token_is_requested_once.Goals as goa
 
 pub returns : goal.returns
 returns c = (
-  allowed other_graph [] before_all (outside 1) (requesting 0) refl,
-  allowed other_graph [] before_all (outside 1) (requesting 1) refl,
-  refused other_graph [] before_all (outside 1) (requesting 2) refl,
-  refused other_graph [] before_all (worker 1) (requesting 0) refl,
+  allowed c.tests_are_right.ensures other_graph [] before_all (outside 1) (requesting 0) refl,
+  allowed c.tests_are_right.ensures other_graph [] before_all (outside 1) (requesting 1) refl,
+  refused c.tests_are_right.ensures other_graph [] before_all (outside 1) (requesting 2) refl,
+  refused c.tests_are_right.ensures other_graph [] before_all (worker 1) (requesting 0) refl,
   refl,
   refl,
   refl,
-  refused other_graph [] other_requested (outside 1) (requesting 0) refl,
-  refused other_graph [] other_requested (outside 2) (requesting 0) refl,
-  allowed other_graph [] other_requested (outside 2) (requesting 1) refl,
+  refused c.tests_are_right.ensures other_graph [] other_requested (outside 1) (requesting 0) refl,
+  refused c.tests_are_right.ensures other_graph [] other_requested (outside 2) (requesting 0) refl,
+  allowed c.tests_are_right.ensures other_graph [] other_requested (outside 2) (requesting 1) refl,
 )

@@ -5,10 +5,10 @@ use Rattle.tpl_examples.proofs.children.canceled_child.Goals as goal
 
 pub returns : goal.returns
 returns c = (
-  valid child_token_graph refl,
-  runs child_token_graph [] parent_of_canceled refl,
+  valid c.tests_are_right.ensures child_token_graph refl,
+  runs c.tests_are_right.ensures child_token_graph [] parent_of_canceled refl,
   refl,
   refl,
   refl,
-  completes child_token_graph [] parent_of_canceled refl,
+  completes c.tests_are_right.ensures child_token_graph [] parent_of_canceled refl,
 )

@@ -6,10 +6,10 @@ use Rattle.tpl_examples.proofs.children.child_ends_before_its_parent.Goals as go
 
 pub returns : goal.returns
 returns c = (
-  runs parent_graph [] child_first refl,
+  runs c.tests_are_right.ensures parent_graph [] child_first refl,
   refl,
   refl,
-  refused parent_graph [] child_first (worker 1) (closing 0) refl,
+  refused c.tests_are_right.ensures parent_graph [] child_first (worker 1) (closing 0) refl,
   refl,
-  completes parent_graph [] child_first refl,
+  completes c.tests_are_right.ensures parent_graph [] child_first refl,
 )

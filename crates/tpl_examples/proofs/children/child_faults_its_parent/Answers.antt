@@ -5,8 +5,8 @@ use Rattle.tpl_examples.proofs.children.child_faults_its_parent.Goals as goal
 
 pub returns : goal.returns
 returns c = (
-  valid parent_graph refl,
-  runs parent_graph [] parent_closed refl,
+  valid c.tests_are_right.ensures parent_graph refl,
+  runs c.tests_are_right.ensures parent_graph [] parent_closed refl,
   refl,
   refl,
   refl,
@@ -14,5 +14,5 @@ returns c = (
   refl,
   refl,
   refl,
-  completes parent_graph [] parent_closed refl,
+  completes c.tests_are_right.ensures parent_graph [] parent_closed refl,
 )

@@ -6,12 +6,12 @@ use Rattle.tpl_examples.proofs.children.child_is_canceled_once_started.Goals as 
 
 pub returns : goal.returns
 returns c = (
-  refused child_token_graph [] token_requested (worker 1) (dropping 1) refl,
-  refused child_token_graph [] token_requested (worker 1) (dropping 0) refl,
-  allowed child_token_graph [] child_asked (worker 1) (dropping 1) refl,
-  refused child_token_graph [] child_asked (worker 1) (beginning 1) refl,
-  refused child_token_graph [] child_asked (worker 1) (dropping 0) refl,
-  refused child_token_graph [] child_dropped (worker 1) (dropping 1) refl,
-  refused child_token_graph [] child_dropped (worker 1) (dropping 0) refl,
-  refused child_token_graph [] child_dropped (worker 1) (closing 0) refl,
+  refused c.tests_are_right.ensures child_token_graph [] token_requested (worker 1) (dropping 1) refl,
+  refused c.tests_are_right.ensures child_token_graph [] token_requested (worker 1) (dropping 0) refl,
+  allowed c.tests_are_right.ensures child_token_graph [] child_asked (worker 1) (dropping 1) refl,
+  refused c.tests_are_right.ensures child_token_graph [] child_asked (worker 1) (beginning 1) refl,
+  refused c.tests_are_right.ensures child_token_graph [] child_asked (worker 1) (dropping 0) refl,
+  refused c.tests_are_right.ensures child_token_graph [] child_dropped (worker 1) (dropping 1) refl,
+  refused c.tests_are_right.ensures child_token_graph [] child_dropped (worker 1) (dropping 0) refl,
+  refused c.tests_are_right.ensures child_token_graph [] child_dropped (worker 1) (closing 0) refl,
 )

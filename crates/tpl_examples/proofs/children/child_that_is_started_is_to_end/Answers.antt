@@ -5,12 +5,12 @@ use Rattle.tpl_examples.proofs.children.child_that_is_started_is_to_end.Goals as
 
 pub returns : goal.returns
 returns c = (
-  runs maybe_graph (true ∷ []) started_and_left refl,
+  runs c.tests_are_right.ensures maybe_graph (true ∷ []) started_and_left refl,
   refl,
   refl,
   refl,
-  settles_not maybe_graph (true ∷ []) started_and_left 0 refl refl,
-  settles_not maybe_graph (true ∷ []) started_and_left 1 refl refl,
-  settles_not maybe_graph (true ∷ []) started_and_left 2 refl refl,
-  completes_not maybe_graph (true ∷ []) started_and_left refl,
+  settles_not c.tests_are_right.ensures maybe_graph (true ∷ []) started_and_left 0 refl refl,
+  settles_not c.tests_are_right.ensures maybe_graph (true ∷ []) started_and_left 1 refl refl,
+  settles_not c.tests_are_right.ensures maybe_graph (true ∷ []) started_and_left 2 refl refl,
+  completes_not c.tests_are_right.ensures maybe_graph (true ∷ []) started_and_left refl,
 )

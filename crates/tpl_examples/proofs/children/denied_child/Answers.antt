@@ -6,13 +6,13 @@ use Rattle.tpl_examples.proofs.children.denied_child.Goals as goal
 
 pub returns : goal.returns
 returns c = (
-  valid denying_graph refl,
-  runs denying_graph [] child_left refl,
+  valid c.tests_are_right.ensures denying_graph refl,
+  runs c.tests_are_right.ensures denying_graph [] child_left refl,
   refl,
   refl,
   refl,
   refl,
-  refused denying_graph [] child_left (worker 1) (closing 0) refl,
-  completes_not denying_graph [] parent_left refl,
-  completes denying_graph [] child_left refl,
+  refused c.tests_are_right.ensures denying_graph [] child_left (worker 1) (closing 0) refl,
+  completes_not c.tests_are_right.ensures denying_graph [] parent_left refl,
+  completes c.tests_are_right.ensures denying_graph [] child_left refl,
 )

@@ -5,8 +5,8 @@ use Rattle.tpl_examples.proofs.children.detached_child.Goals as goal
 
 pub returns : goal.returns
 returns c = (
-  valid detached_graph refl,
-  runs detached_graph [] child_left refl,
+  valid c.tests_are_right.ensures detached_graph refl,
+  runs c.tests_are_right.ensures detached_graph [] child_left refl,
   refl,
   refl,
   refl,

@@ -5,7 +5,7 @@ use Rattle.tpl_examples.proofs.children.detached_child_is_not_settled_with_its_p
 
 pub returns : goal.returns
 returns c = (
-  settles detached_graph [] parent_left 0 refl refl,
-  settles_not detached_graph [] parent_left 1 refl refl,
-  completes_not detached_graph [] parent_left refl,
+  settles c.tests_are_right.ensures detached_graph [] parent_left 0 refl refl,
+  settles_not c.tests_are_right.ensures detached_graph [] parent_left 1 refl refl,
+  completes_not c.tests_are_right.ensures detached_graph [] parent_left refl,
 )

@@ -5,10 +5,10 @@ use Rattle.tpl_examples.proofs.children.exception_outweighs_cancellation.Goals a
 
 pub returns : goal.returns
 returns c = (
-  valid acknowledging_graph refl,
-  runs acknowledging_graph (false ∷ []) child_returns refl,
+  valid c.tests_are_right.ensures acknowledging_graph refl,
+  runs c.tests_are_right.ensures acknowledging_graph (false ∷ []) child_returns refl,
   refl,
-  runs acknowledging_graph (true ∷ []) child_throws refl,
+  runs c.tests_are_right.ensures acknowledging_graph (true ∷ []) child_throws refl,
   refl,
   refl,
   refl,

@@ -6,10 +6,10 @@ use Rattle.tpl_examples.proofs.children.exceptions_come_up.Goals as goal
 
 pub returns : goal.returns
 returns c = (
-  valid grandchild_graph refl,
-  runs grandchild_graph [] family_run refl,
-  refused grandchild_graph [] grandchild_ended (worker 1) (closing 0) refl,
-  allowed grandchild_graph [] grandchild_ended (worker 1) (closing 1) refl,
+  valid c.tests_are_right.ensures grandchild_graph refl,
+  runs c.tests_are_right.ensures grandchild_graph [] family_run refl,
+  refused c.tests_are_right.ensures grandchild_graph [] grandchild_ended (worker 1) (closing 0) refl,
+  allowed c.tests_are_right.ensures grandchild_graph [] grandchild_ended (worker 1) (closing 1) refl,
   refl,
   refl,
   refl,

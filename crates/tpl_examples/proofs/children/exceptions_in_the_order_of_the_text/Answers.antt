@@ -5,9 +5,9 @@ use Rattle.tpl_examples.proofs.children.exceptions_in_the_order_of_the_text.Goal
 
 pub returns : goal.returns
 returns c = (
-  valid order_graph refl,
-  runs order_graph [] in_any_order refl,
+  valid c.tests_are_right.ensures order_graph refl,
+  runs c.tests_are_right.ensures order_graph [] in_any_order refl,
   refl,
   refl,
-  completes order_graph [] in_any_order refl,
+  completes c.tests_are_right.ensures order_graph [] in_any_order refl,
 )

@@ -5,8 +5,8 @@ use Rattle.tpl_examples.proofs.children.exceptions_stop_at_a_detached_child.Goal
 
 pub returns : goal.returns
 returns c = (
-  valid detached_family_graph refl,
-  runs detached_family_graph [] detached_family_run refl,
+  valid c.tests_are_right.ensures detached_family_graph refl,
+  runs c.tests_are_right.ensures detached_family_graph [] detached_family_run refl,
   refl,
   refl,
   refl,

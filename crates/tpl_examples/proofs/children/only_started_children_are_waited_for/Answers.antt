@@ -6,10 +6,10 @@ use Rattle.tpl_examples.proofs.children.only_started_children_are_waited_for.Goa
 
 pub returns : goal.returns
 returns c = (
-  valid either_graph refl,
-  runs either_graph (false ∷ []) second_and_third refl,
-  refused either_graph (false ∷ []) third_only (worker 1) (closing 0) refl,
+  valid c.tests_are_right.ensures either_graph refl,
+  runs c.tests_are_right.ensures either_graph (false ∷ []) second_and_third refl,
+  refused c.tests_are_right.ensures either_graph (false ∷ []) third_only (worker 1) (closing 0) refl,
   refl,
   refl,
-  completes either_graph (false ∷ []) second_and_third refl,
+  completes c.tests_are_right.ensures either_graph (false ∷ []) second_and_third refl,
 )

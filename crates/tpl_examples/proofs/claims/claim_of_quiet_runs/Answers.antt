@@ -6,7 +6,7 @@ use Rattle.tpl_examples.proofs.claims.claim_of_quiet_runs.Goals as goal
 
 pub returns : goal.returns
 returns c = (
-  claims chain_graph (claim_given (given_quiet 0 ∷ []) (after 0 2)) [] as_it_begins refl refl,
-  claims chain_graph (claim_given (given_quiet 0 ∷ []) (after 0 2)) [] in_order refl refl,
-  fails chain_graph (claim_given (given_quiet 0 ∷ []) (after 2 0)) [] in_order refl refl,
+  claims c.tests_are_right.ensures chain_graph (claim_given (given_quiet 0 ∷ []) (after 0 2)) [] as_it_begins refl refl,
+  claims c.tests_are_right.ensures chain_graph (claim_given (given_quiet 0 ∷ []) (after 0 2)) [] in_order refl refl,
+  fails c.tests_are_right.ensures chain_graph (claim_given (given_quiet 0 ∷ []) (after 2 0)) [] in_order refl refl,
 )

@@ -6,11 +6,11 @@ use Rattle.tpl_examples.proofs.claims.exception_is_observed.Goals as goal
 
 pub returns : goal.returns
 returns c = (
-  valid observing_graph refl,
-  runs observing_graph [] observing_run refl,
-  completes observing_graph [] observing_run refl,
-  claims observing_graph (claim (observed 0)) [] observing_run refl refl,
+  valid c.tests_are_right.ensures observing_graph refl,
+  runs c.tests_are_right.ensures observing_graph [] observing_run refl,
+  completes c.tests_are_right.ensures observing_graph [] observing_run refl,
+  claims c.tests_are_right.ensures observing_graph (claim (observed 0)) [] observing_run refl refl,
   refl,
-  claims observing_graph (claim (observed 0)) [] unread_yet refl refl,
-  claims observing_graph (claim (observed 1)) [] observing_run refl refl,
+  claims c.tests_are_right.ensures observing_graph (claim (observed 0)) [] unread_yet refl refl,
+  claims c.tests_are_right.ensures observing_graph (claim (observed 1)) [] observing_run refl refl,
 )

@@ -6,14 +6,14 @@ use Rattle.tpl_examples.proofs.claims.never_and_excludes.Goals as goal
 
 pub returns : goal.returns
 returns c = (
-  valid handler_graph refl,
-  runs handler_graph [] failure refl,
-  claims handler_graph (claim (never 2)) [] failure refl refl,
-  fails handler_graph (claim (never 1)) [] failure refl refl,
-  claims handler_graph (claim (excludes 1 2)) [] failure refl refl,
-  fails handler_graph (claim (excludes 0 1)) [] failure refl refl,
-  runs handler_graph [] success refl,
-  claims handler_graph (claim (never 1)) [] success refl refl,
-  fails handler_graph (claim (never 2)) [] success refl refl,
-  claims handler_graph (claim (excludes 1 2)) [] success refl refl,
+  valid c.tests_are_right.ensures handler_graph refl,
+  runs c.tests_are_right.ensures handler_graph [] failure refl,
+  claims c.tests_are_right.ensures handler_graph (claim (never 2)) [] failure refl refl,
+  fails c.tests_are_right.ensures handler_graph (claim (never 1)) [] failure refl refl,
+  claims c.tests_are_right.ensures handler_graph (claim (excludes 1 2)) [] failure refl refl,
+  fails c.tests_are_right.ensures handler_graph (claim (excludes 0 1)) [] failure refl refl,
+  runs c.tests_are_right.ensures handler_graph [] success refl,
+  claims c.tests_are_right.ensures handler_graph (claim (never 1)) [] success refl refl,
+  fails c.tests_are_right.ensures handler_graph (claim (never 2)) [] success refl refl,
+  claims c.tests_are_right.ensures handler_graph (claim (excludes 1 2)) [] success refl refl,
 )

@@ -6,9 +6,9 @@ use Rattle.tpl_examples.proofs.claims.unstarted_child_is_settled_before.Goals as
 
 pub returns : goal.returns
 returns c = (
-  valid maybe_graph refl,
-  runs maybe_graph (false ∷ []) without_child refl,
-  claims maybe_graph (claim (after 1 2)) (false ∷ []) without_child refl refl,
-  runs maybe_graph (true ∷ []) with_child refl,
-  fails maybe_graph (claim (after 1 2)) (true ∷ []) with_child refl refl,
+  valid c.tests_are_right.ensures maybe_graph refl,
+  runs c.tests_are_right.ensures maybe_graph (false ∷ []) without_child refl,
+  claims c.tests_are_right.ensures maybe_graph (claim (after 1 2)) (false ∷ []) without_child refl refl,
+  runs c.tests_are_right.ensures maybe_graph (true ∷ []) with_child refl,
+  fails c.tests_are_right.ensures maybe_graph (claim (after 1 2)) (true ∷ []) with_child refl refl,
 )

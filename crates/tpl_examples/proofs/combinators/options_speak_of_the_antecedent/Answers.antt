@@ -5,8 +5,8 @@ use Rattle.tpl_examples.proofs.combinators.options_speak_of_the_antecedent.Goals
 
 pub returns : goal.returns
 returns c = (
-  valid winner_options_graph refl,
-  runs winner_options_graph [] winner_read refl,
+  valid c.tests_are_right.ensures winner_options_graph refl,
+  runs c.tests_are_right.ensures winner_options_graph [] winner_read refl,
   refl,
   refl,
 )

@@ -5,8 +5,8 @@ use Rattle.tpl_examples.proofs.combinators.subject_is_one_level_below.Goals as g
 
 pub returns : goal.returns
 returns c = (
-  valid two_levels_graph refl,
-  runs two_levels_graph [] two_levels_observed refl,
+  valid c.tests_are_right.ensures two_levels_graph refl,
+  runs c.tests_are_right.ensures two_levels_graph [] two_levels_observed refl,
   refl,
   refl,
   refl,

@@ -6,8 +6,8 @@ use Rattle.tpl_examples.proofs.combinators.synchronous_after_a_settle.Goals as g
 
 pub returns : goal.returns
 returns c = (
-  valid synchronous_all_graph refl,
-  runs synchronous_all_graph [] settled_elsewhere refl,
-  refused synchronous_all_graph [] settled_elsewhere (worker 1) (beginning 2) refl,
-  allowed synchronous_all_graph [] settled_elsewhere (worker 2) (beginning 2) refl,
+  valid c.tests_are_right.ensures synchronous_all_graph refl,
+  runs c.tests_are_right.ensures synchronous_all_graph [] settled_elsewhere refl,
+  refused c.tests_are_right.ensures synchronous_all_graph [] settled_elsewhere (worker 1) (beginning 2) refl,
+  allowed c.tests_are_right.ensures synchronous_all_graph [] settled_elsewhere (worker 2) (beginning 2) refl,
 )

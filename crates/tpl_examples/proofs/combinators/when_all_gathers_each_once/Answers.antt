@@ -5,8 +5,8 @@ use Rattle.tpl_examples.proofs.combinators.when_all_gathers_each_once.Goals as g
 
 pub returns : goal.returns
 returns c = (
-  valid nested_graph refl,
-  runs nested_graph [] nested_settled refl,
+  valid c.tests_are_right.ensures nested_graph refl,
+  runs c.tests_are_right.ensures nested_graph [] nested_settled refl,
   refl,
   refl,
   refl,

@@ -5,8 +5,8 @@ use Rattle.tpl_examples.proofs.combinators.when_all_of_faulted_and_canceled.Goal
 
 pub returns : goal.returns
 returns c = (
-  valid all_graph refl,
-  runs all_graph [] faulted_and_canceled refl,
+  valid c.tests_are_right.ensures all_graph refl,
+  runs c.tests_are_right.ensures all_graph [] faulted_and_canceled refl,
   refl,
   refl,
   refl,
@@ -14,5 +14,5 @@ returns c = (
   refl,
   refl,
   refl,
-  completes all_graph [] faulted_and_canceled refl,
+  completes c.tests_are_right.ensures all_graph [] faulted_and_canceled refl,
 )

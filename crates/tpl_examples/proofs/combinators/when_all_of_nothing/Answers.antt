@@ -6,13 +6,13 @@ use Rattle.tpl_examples.proofs.combinators.when_all_of_nothing.Goals as goal
 
 pub returns : goal.returns
 returns c = (
-  valid nothing_graph refl,
+  valid c.tests_are_right.ensures nothing_graph refl,
   refl,
   refl,
-  refused nothing_graph [] before_all (worker 1) (settling 0) refl,
-  allowed nothing_graph [] before_all (worker 1) (releasing 1) refl,
-  valid single_nothing_graph refl,
-  runs single_nothing_graph [] before_all refl,
-  completes single_nothing_graph [] before_all refl,
-  invalid any_of_nothing_graph refl,
+  refused c.tests_are_right.ensures nothing_graph [] before_all (worker 1) (settling 0) refl,
+  allowed c.tests_are_right.ensures nothing_graph [] before_all (worker 1) (releasing 1) refl,
+  valid c.tests_are_right.ensures single_nothing_graph refl,
+  runs c.tests_are_right.ensures single_nothing_graph [] before_all refl,
+  completes c.tests_are_right.ensures single_nothing_graph [] before_all refl,
+  invalid c.tests_are_right.ensures any_of_nothing_graph refl,
 )

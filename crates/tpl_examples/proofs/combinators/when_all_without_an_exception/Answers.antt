@@ -5,11 +5,11 @@ use Rattle.tpl_examples.proofs.combinators.when_all_without_an_exception.Goals a
 
 pub returns : goal.returns
 returns c = (
-  valid milder_graph refl,
-  runs milder_graph [] milder_run refl,
+  valid c.tests_are_right.ensures milder_graph refl,
+  runs c.tests_are_right.ensures milder_graph [] milder_run refl,
   refl,
   refl,
   refl,
   refl,
-  completes milder_graph [] milder_run refl,
+  completes c.tests_are_right.ensures milder_graph [] milder_run refl,
 )

@@ -7,12 +7,12 @@ use Rattle.tpl_examples.proofs.combinators.when_any_waits_for_one.Goals as goal
 pub returns : goal.returns
 returns c = (
   refl,
-  refused any_graph [] before_all (worker 1) (settling 2) refl,
-  refused any_graph [] before_all (worker 1) (releasing 3) refl,
-  allowed any_graph [] one_left (worker 1) (settling 2) refl,
-  allowed any_graph [] one_left (outside 1) (settling 2) refl,
-  refused any_graph [] one_left (worker 1) (releasing 3) refl,
-  refused any_graph [] any_settled (worker 1) (settling 2) refl,
-  allowed any_graph [] any_settled (worker 1) (releasing 3) refl,
+  refused c.tests_are_right.ensures any_graph [] before_all (worker 1) (settling 2) refl,
+  refused c.tests_are_right.ensures any_graph [] before_all (worker 1) (releasing 3) refl,
+  allowed c.tests_are_right.ensures any_graph [] one_left (worker 1) (settling 2) refl,
+  allowed c.tests_are_right.ensures any_graph [] one_left (outside 1) (settling 2) refl,
+  refused c.tests_are_right.ensures any_graph [] one_left (worker 1) (releasing 3) refl,
+  refused c.tests_are_right.ensures any_graph [] any_settled (worker 1) (settling 2) refl,
+  allowed c.tests_are_right.ensures any_graph [] any_settled (worker 1) (releasing 3) refl,
   refl,
 )

@@ -6,9 +6,9 @@ use Rattle.tpl_examples.proofs.combinators.winner_before_the_first_event.Goals a
 
 pub returns : goal.returns
 returns c = (
-  valid early_graph refl,
-  allowed early_graph [] before_all (worker 1) (settling 3) refl,
-  runs early_graph [] early_settled refl,
+  valid c.tests_are_right.ensures early_graph refl,
+  allowed c.tests_are_right.ensures early_graph [] before_all (worker 1) (settling 3) refl,
+  runs c.tests_are_right.ensures early_graph [] early_settled refl,
   refl,
   refl,
   refl,

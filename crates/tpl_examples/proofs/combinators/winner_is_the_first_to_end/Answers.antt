@@ -6,8 +6,8 @@ use Rattle.tpl_examples.proofs.combinators.winner_is_the_first_to_end.Goals as g
 
 pub returns : goal.returns
 returns c = (
-  valid any_graph refl,
-  runs any_graph [] thrower_first refl,
+  valid c.tests_are_right.ensures any_graph refl,
+  runs c.tests_are_right.ensures any_graph [] thrower_first refl,
   refl,
   refl,
   refl,
@@ -15,6 +15,6 @@ returns c = (
   refl,
   refl,
   refl,
-  completes any_graph [] thrower_first refl,
-  claims any_graph (claim (observed 1)) [] thrower_first refl refl,
+  completes c.tests_are_right.ensures any_graph [] thrower_first refl,
+  claims c.tests_are_right.ensures any_graph (claim (observed 1)) [] thrower_first refl refl,
 )

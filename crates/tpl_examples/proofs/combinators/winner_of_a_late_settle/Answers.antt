@@ -5,6 +5,6 @@ use Rattle.tpl_examples.proofs.combinators.winner_of_a_late_settle.Goals as goal
 
 pub returns : goal.returns
 returns c = (
-  runs any_graph [] settled_late refl,
+  runs c.tests_are_right.ensures any_graph [] settled_late refl,
   refl,
 )

@@ -6,10 +6,10 @@ use Rattle.tpl_examples.proofs.continuations.asynchronous_on_either_side.Goals a
 
 pub returns : goal.returns
 returns c = (
-  valid lifted_graph refl,
+  valid c.tests_are_right.ensures lifted_graph refl,
   refl,
-  allowed lifted_graph [] released_only (worker 2) (beginning 1) refl,
-  valid lifting_graph refl,
+  allowed c.tests_are_right.ensures lifted_graph [] released_only (worker 2) (beginning 1) refl,
+  valid c.tests_are_right.ensures lifting_graph refl,
   refl,
-  allowed lifting_graph [] released_only (worker 2) (beginning 1) refl,
+  allowed c.tests_are_right.ensures lifting_graph [] released_only (worker 2) (beginning 1) refl,
 )

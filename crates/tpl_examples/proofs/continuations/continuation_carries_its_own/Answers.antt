@@ -5,10 +5,10 @@ use Rattle.tpl_examples.proofs.continuations.continuation_carries_its_own.Goals 
 
 pub returns : goal.returns
 returns c = (
-  valid second_graph refl,
-  runs second_graph [] second_observed refl,
+  valid c.tests_are_right.ensures second_graph refl,
+  runs c.tests_are_right.ensures second_graph [] second_observed refl,
   refl,
   refl,
   refl,
-  completes second_graph [] second_observed refl,
+  completes c.tests_are_right.ensures second_graph [] second_observed refl,
 )

@@ -6,10 +6,10 @@ use Rattle.tpl_examples.proofs.continuations.continuation_waits_for_attached_chi
 
 pub returns : goal.returns
 returns c = (
-  valid family_graph refl,
-  runs family_graph [] family_observed refl,
-  refused family_graph [] family_left (worker 1) (releasing 3) refl,
-  allowed family_graph [] family_closed (worker 1) (releasing 3) refl,
+  valid c.tests_are_right.ensures family_graph refl,
+  runs c.tests_are_right.ensures family_graph [] family_observed refl,
+  refused c.tests_are_right.ensures family_graph [] family_left (worker 1) (releasing 3) refl,
+  allowed c.tests_are_right.ensures family_graph [] family_closed (worker 1) (releasing 3) refl,
   refl,
-  completes family_graph [] family_observed refl,
+  completes c.tests_are_right.ensures family_graph [] family_observed refl,
 )

@@ -5,8 +5,8 @@ use Rattle.tpl_examples.proofs.continuations.each_word_after_each_end.Goals as g
 
 pub returns : goal.returns
 returns c = (
-  valid words_graph refl,
-  runs words_graph [] it_ran refl,
-  runs words_graph [] it_was_canceled refl,
-  runs words_graph [] it_failed refl,
+  valid c.tests_are_right.ensures words_graph refl,
+  runs c.tests_are_right.ensures words_graph [] it_ran refl,
+  runs c.tests_are_right.ensures words_graph [] it_was_canceled refl,
+  runs c.tests_are_right.ensures words_graph [] it_failed refl,
 )

@@ -6,14 +6,14 @@ use Rattle.tpl_examples.proofs.continuations.eager_cancellation.Goals as goal
 
 pub returns : goal.returns
 returns c = (
-  valid stop_graph refl,
-  runs stop_graph [] stopped_early refl,
-  refused stop_graph [] before_all (outside 1) (dropping 1) refl,
-  allowed stop_graph [] stop_requested (worker 1) (dropping 1) refl,
+  valid c.tests_are_right.ensures stop_graph refl,
+  runs c.tests_are_right.ensures stop_graph [] stopped_early refl,
+  refused c.tests_are_right.ensures stop_graph [] before_all (outside 1) (dropping 1) refl,
+  allowed c.tests_are_right.ensures stop_graph [] stop_requested (worker 1) (dropping 1) refl,
   refl,
   refl,
   refl,
-  completes_not stop_graph [] stopped_early refl,
-  refused stop_graph [] stopped_early (outside 1) (requesting 0) refl,
-  refused stop_graph [] stopped_early (outside 1) (dropping 1) refl,
+  completes_not c.tests_are_right.ensures stop_graph [] stopped_early refl,
+  refused c.tests_are_right.ensures stop_graph [] stopped_early (outside 1) (requesting 0) refl,
+  refused c.tests_are_right.ensures stop_graph [] stopped_early (outside 1) (dropping 1) refl,
 )

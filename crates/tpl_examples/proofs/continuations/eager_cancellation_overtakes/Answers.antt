@@ -6,8 +6,8 @@ use Rattle.tpl_examples.proofs.continuations.eager_cancellation_overtakes.Goals 
 
 pub returns : goal.returns
 returns c = (
-  runs stop_graph [] overtaken refl,
+  runs c.tests_are_right.ensures stop_graph [] overtaken refl,
   refl,
   refl,
-  fails stop_graph (claim (after 0 2)) [] overtaken refl refl,
+  fails c.tests_are_right.ensures stop_graph (claim (after 0 2)) [] overtaken refl refl,
 )

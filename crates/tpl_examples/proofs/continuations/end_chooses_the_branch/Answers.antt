@@ -5,11 +5,11 @@ use Rattle.tpl_examples.proofs.continuations.end_chooses_the_branch.Goals as goa
 
 pub returns : goal.returns
 returns c = (
-  valid when_graph refl,
-  runs when_graph [] when_faulted refl,
+  valid c.tests_are_right.ensures when_graph refl,
+  runs c.tests_are_right.ensures when_graph [] when_faulted refl,
   refl,
-  runs when_graph [] when_canceled refl,
+  runs c.tests_are_right.ensures when_graph [] when_canceled refl,
   refl,
-  runs when_graph [] when_ran refl,
+  runs c.tests_are_right.ensures when_graph [] when_ran refl,
   refl,
 )

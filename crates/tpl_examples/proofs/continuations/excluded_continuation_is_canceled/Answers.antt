@@ -6,15 +6,15 @@ use Rattle.tpl_examples.proofs.continuations.excluded_continuation_is_canceled.G
 
 pub returns : goal.returns
 returns c = (
-  valid wrong_end_graph refl,
-  runs wrong_end_graph [] continuation_dropped refl,
-  refused wrong_end_graph [] antecedent_left (worker 1) (releasing 1) refl,
-  refused wrong_end_graph [] antecedent_left (worker 1) (beginning 1) refl,
-  allowed wrong_end_graph [] antecedent_left (outside 1) (dropping 1) refl,
+  valid c.tests_are_right.ensures wrong_end_graph refl,
+  runs c.tests_are_right.ensures wrong_end_graph [] continuation_dropped refl,
+  refused c.tests_are_right.ensures wrong_end_graph [] antecedent_left (worker 1) (releasing 1) refl,
+  refused c.tests_are_right.ensures wrong_end_graph [] antecedent_left (worker 1) (beginning 1) refl,
+  allowed c.tests_are_right.ensures wrong_end_graph [] antecedent_left (outside 1) (dropping 1) refl,
   refl,
-  refused wrong_end_graph [] continuation_dropped (outside 1) (dropping 1) refl,
-  valid only_canceled_graph refl,
-  runs only_canceled_graph [] continuation_dropped refl,
-  refused only_canceled_graph [] antecedent_left (worker 1) (releasing 1) refl,
-  completes only_canceled_graph [] continuation_dropped refl,
+  refused c.tests_are_right.ensures wrong_end_graph [] continuation_dropped (outside 1) (dropping 1) refl,
+  valid c.tests_are_right.ensures only_canceled_graph refl,
+  runs c.tests_are_right.ensures only_canceled_graph [] continuation_dropped refl,
+  refused c.tests_are_right.ensures only_canceled_graph [] antecedent_left (worker 1) (releasing 1) refl,
+  completes c.tests_are_right.ensures only_canceled_graph [] continuation_dropped refl,
 )

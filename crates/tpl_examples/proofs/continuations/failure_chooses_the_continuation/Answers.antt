@@ -6,13 +6,13 @@ use Rattle.tpl_examples.proofs.continuations.failure_chooses_the_continuation.Go
 
 pub returns : goal.returns
 returns c = (
-  valid handler_graph refl,
-  runs handler_graph [] failure_handled refl,
+  valid c.tests_are_right.ensures handler_graph refl,
+  runs c.tests_are_right.ensures handler_graph [] failure_handled refl,
   refl,
   refl,
   refl,
   refl,
   refl,
-  completes handler_graph [] failure_handled refl,
-  claims handler_graph (claim (excludes 1 2)) [] failure_handled refl refl,
+  completes c.tests_are_right.ensures handler_graph [] failure_handled refl,
+  claims c.tests_are_right.ensures handler_graph (claim (excludes 1 2)) [] failure_handled refl refl,
 )

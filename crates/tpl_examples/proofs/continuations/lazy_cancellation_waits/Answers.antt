@@ -6,15 +6,15 @@ use Rattle.tpl_examples.proofs.continuations.lazy_cancellation_waits.Goals as go
 
 pub returns : goal.returns
 returns c = (
-  valid lazy_graph refl,
-  runs lazy_graph [] lazy_dropped refl,
+  valid c.tests_are_right.ensures lazy_graph refl,
+  runs c.tests_are_right.ensures lazy_graph [] lazy_dropped refl,
   refl,
-  refused lazy_graph [] stop_requested (outside 1) (dropping 1) refl,
+  refused c.tests_are_right.ensures lazy_graph [] stop_requested (outside 1) (dropping 1) refl,
   refl,
-  refused lazy_graph [] lazy_antecedent_left (worker 1) (releasing 1) refl,
-  allowed lazy_graph [] lazy_antecedent_left (outside 1) (dropping 1) refl,
+  refused c.tests_are_right.ensures lazy_graph [] lazy_antecedent_left (worker 1) (releasing 1) refl,
+  allowed c.tests_are_right.ensures lazy_graph [] lazy_antecedent_left (outside 1) (dropping 1) refl,
   refl,
-  runs lazy_graph [] lazy_followed refl,
-  completes lazy_graph [] lazy_followed refl,
-  claims lazy_graph (claim (after 0 2)) [] lazy_followed refl refl,
+  runs c.tests_are_right.ensures lazy_graph [] lazy_followed refl,
+  completes c.tests_are_right.ensures lazy_graph [] lazy_followed refl,
+  claims c.tests_are_right.ensures lazy_graph (claim (after 0 2)) [] lazy_followed refl refl,
 )

@@ -6,8 +6,8 @@ use Rattle.tpl_examples.proofs.continuations.requested_after_its_release.Goals a
 
 pub returns : goal.returns
 returns c = (
-  runs stop_graph [] dropped_after_release refl,
+  runs c.tests_are_right.ensures stop_graph [] dropped_after_release refl,
   refl,
-  refused stop_graph [] requested_after_release (worker 1) (beginning 1) refl,
+  refused c.tests_are_right.ensures stop_graph [] requested_after_release (worker 1) (beginning 1) refl,
   refl,
 )

@@ -6,7 +6,7 @@ use Rattle.tpl_examples.proofs.continuations.requested_continuation_is_not_relea
 
 pub returns : goal.returns
 returns c = (
-  runs stop_graph [] lazy_antecedent_left refl,
-  refused stop_graph [] lazy_antecedent_left (worker 1) (releasing 1) refl,
-  allowed stop_graph [] lazy_antecedent_left (worker 1) (dropping 1) refl,
+  runs c.tests_are_right.ensures stop_graph [] lazy_antecedent_left refl,
+  refused c.tests_are_right.ensures stop_graph [] lazy_antecedent_left (worker 1) (releasing 1) refl,
+  allowed c.tests_are_right.ensures stop_graph [] lazy_antecedent_left (worker 1) (dropping 1) refl,
 )

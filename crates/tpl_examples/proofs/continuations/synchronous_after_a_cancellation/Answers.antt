@@ -6,11 +6,11 @@ use Rattle.tpl_examples.proofs.continuations.synchronous_after_a_cancellation.Go
 
 pub returns : goal.returns
 returns c = (
-  valid dropped_graph refl,
-  runs dropped_graph [] dropped_outside refl,
-  allowed dropped_graph [] dropped_outside (worker 1) (beginning 1) refl,
-  allowed dropped_graph [] dropped_outside (worker 2) (beginning 1) refl,
-  runs dropped_graph [] dropped_by_worker refl,
-  allowed dropped_graph [] dropped_by_worker (worker 2) (beginning 1) refl,
-  refused dropped_graph [] dropped_by_worker (worker 1) (beginning 1) refl,
+  valid c.tests_are_right.ensures dropped_graph refl,
+  runs c.tests_are_right.ensures dropped_graph [] dropped_outside refl,
+  allowed c.tests_are_right.ensures dropped_graph [] dropped_outside (worker 1) (beginning 1) refl,
+  allowed c.tests_are_right.ensures dropped_graph [] dropped_outside (worker 2) (beginning 1) refl,
+  runs c.tests_are_right.ensures dropped_graph [] dropped_by_worker refl,
+  allowed c.tests_are_right.ensures dropped_graph [] dropped_by_worker (worker 2) (beginning 1) refl,
+  refused c.tests_are_right.ensures dropped_graph [] dropped_by_worker (worker 1) (beginning 1) refl,
 )

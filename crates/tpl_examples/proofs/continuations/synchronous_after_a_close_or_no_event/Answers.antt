@@ -6,12 +6,12 @@ use Rattle.tpl_examples.proofs.continuations.synchronous_after_a_close_or_no_eve
 
 pub returns : goal.returns
 returns c = (
-  valid closed_graph refl,
-  runs closed_graph [] closed_elsewhere refl,
-  allowed closed_graph [] closed_elsewhere (worker 3) (beginning 2) refl,
-  refused closed_graph [] closed_elsewhere (worker 1) (beginning 2) refl,
-  refused closed_graph [] closed_elsewhere (worker 2) (beginning 2) refl,
-  runs closed_graph [] nothing_released refl,
-  allowed closed_graph [] nothing_released (worker 1) (beginning 4) refl,
-  allowed closed_graph [] nothing_released (worker 2) (beginning 4) refl,
+  valid c.tests_are_right.ensures closed_graph refl,
+  runs c.tests_are_right.ensures closed_graph [] closed_elsewhere refl,
+  allowed c.tests_are_right.ensures closed_graph [] closed_elsewhere (worker 3) (beginning 2) refl,
+  refused c.tests_are_right.ensures closed_graph [] closed_elsewhere (worker 1) (beginning 2) refl,
+  refused c.tests_are_right.ensures closed_graph [] closed_elsewhere (worker 2) (beginning 2) refl,
+  runs c.tests_are_right.ensures closed_graph [] nothing_released refl,
+  allowed c.tests_are_right.ensures closed_graph [] nothing_released (worker 1) (beginning 4) refl,
+  allowed c.tests_are_right.ensures closed_graph [] nothing_released (worker 2) (beginning 4) refl,
 )

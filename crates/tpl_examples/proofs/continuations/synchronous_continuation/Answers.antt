@@ -6,14 +6,14 @@ use Rattle.tpl_examples.proofs.continuations.synchronous_continuation.Goals as g
 
 pub returns : goal.returns
 returns c = (
-  valid synchronous_graph refl,
-  runs synchronous_graph [] released_only refl,
+  valid c.tests_are_right.ensures synchronous_graph refl,
+  runs c.tests_are_right.ensures synchronous_graph [] released_only refl,
   refl,
-  refused synchronous_graph [] released_only (worker 2) (beginning 1) refl,
-  refused synchronous_graph [] released_only (outside 1) (beginning 1) refl,
-  allowed synchronous_graph [] released_elsewhere (worker 1) (beginning 1) refl,
-  refused synchronous_graph [] released_elsewhere (worker 2) (beginning 1) refl,
-  completes_not synchronous_graph [] released_only refl,
-  runs synchronous_graph [] synchronous_begun refl,
+  refused c.tests_are_right.ensures synchronous_graph [] released_only (worker 2) (beginning 1) refl,
+  refused c.tests_are_right.ensures synchronous_graph [] released_only (outside 1) (beginning 1) refl,
+  allowed c.tests_are_right.ensures synchronous_graph [] released_elsewhere (worker 1) (beginning 1) refl,
+  refused c.tests_are_right.ensures synchronous_graph [] released_elsewhere (worker 2) (beginning 1) refl,
+  completes_not c.tests_are_right.ensures synchronous_graph [] released_only refl,
+  runs c.tests_are_right.ensures synchronous_graph [] synchronous_begun refl,
   refl,
 )

@@ -5,9 +5,9 @@ use Rattle.tpl_examples.proofs.continuations.words_that_change_nothing.Goals as 
 
 pub returns : goal.returns
 returns c = (
-  valid plain_words_graph refl,
-  runs plain_words_graph [] plain_run refl,
+  valid c.tests_are_right.ensures plain_words_graph refl,
+  runs c.tests_are_right.ensures plain_words_graph [] plain_run refl,
   refl,
   refl,
-  completes plain_words_graph [] plain_run refl,
+  completes c.tests_are_right.ensures plain_words_graph [] plain_run refl,
 )

@@ -6,8 +6,8 @@ use Rattle.tpl_examples.proofs.journals.journal_is_read_backwards.Goals as goal
 
 pub returns : goal.returns
 returns c = (
-  valid shared_graph refl,
-  runs shared_graph [] (played shared_journal) refl,
-  runs_not shared_graph [] shared_journal refl,
-  runs_not shared_graph [] (played stepped_too_early) refl,
+  valid c.tests_are_right.ensures shared_graph refl,
+  runs c.tests_are_right.ensures shared_graph [] (played shared_journal) refl,
+  runs_not c.tests_are_right.ensures shared_graph [] shared_journal refl,
+  runs_not c.tests_are_right.ensures shared_graph [] (played stepped_too_early) refl,
 )

@@ -5,7 +5,7 @@ use Rattle.tpl_examples.proofs.links.link_in_the_middle.Goals as goal
 
 pub returns : goal.returns
 returns c = (
-  runs chain_graph [] middle_requested refl,
+  runs c.tests_are_right.ensures chain_graph [] middle_requested refl,
   refl,
   refl,
 )

@@ -6,9 +6,9 @@ use Rattle.tpl_examples.proofs.links.link_is_not_requested_again.Goals as goal
 
 pub returns : goal.returns
 returns c = (
-  runs link_graph [] first_source refl,
+  runs c.tests_are_right.ensures link_graph [] first_source refl,
   refl,
   refl,
-  refused link_graph [] first_source (outside 1) (requesting 2) refl,
-  allowed link_graph [] first_source (outside 1) (requesting 1) refl,
+  refused c.tests_are_right.ensures link_graph [] first_source (outside 1) (requesting 2) refl,
+  allowed c.tests_are_right.ensures link_graph [] first_source (outside 1) (requesting 1) refl,
 )

@@ -6,9 +6,9 @@ use Rattle.tpl_examples.proofs.links.link_is_requested_through_a_source.Goals as
 
 pub returns : goal.returns
 returns c = (
-  valid link_graph refl,
-  runs link_graph [] source_requested refl,
+  valid c.tests_are_right.ensures link_graph refl,
+  runs c.tests_are_right.ensures link_graph [] source_requested refl,
   refl,
-  completes link_graph [] source_requested refl,
-  claims link_graph (claim (ends_in 0 canceled_only)) [] source_requested refl refl,
+  completes c.tests_are_right.ensures link_graph [] source_requested refl,
+  claims c.tests_are_right.ensures link_graph (claim (ends_in 0 canceled_only)) [] source_requested refl refl,
 )

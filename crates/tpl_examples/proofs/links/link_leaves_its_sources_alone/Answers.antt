@@ -6,10 +6,10 @@ use Rattle.tpl_examples.proofs.links.link_leaves_its_sources_alone.Goals as goal
 
 pub returns : goal.returns
 returns c = (
-  runs link_graph [] link_requested refl,
+  runs c.tests_are_right.ensures link_graph [] link_requested refl,
   refl,
   refl,
   refl,
   refl,
-  allowed link_graph [] link_requested (outside 1) (requesting 0) refl,
+  allowed c.tests_are_right.ensures link_graph [] link_requested (outside 1) (requesting 0) refl,
 )

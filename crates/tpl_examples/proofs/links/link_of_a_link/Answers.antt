@@ -6,13 +6,13 @@ use Rattle.tpl_examples.proofs.links.link_of_a_link.Goals as goal
 
 pub returns : goal.returns
 returns c = (
-  valid chain_graph refl,
-  runs chain_graph [] chain_run refl,
+  valid c.tests_are_right.ensures chain_graph refl,
+  runs c.tests_are_right.ensures chain_graph [] chain_run refl,
   refl,
   refl,
   refl,
-  refused chain_graph [] source_canceled (outside 1) (requesting 2) refl,
-  refused chain_graph [] source_canceled (worker 2) (beginning 1) refl,
+  refused c.tests_are_right.ensures chain_graph [] source_canceled (outside 1) (requesting 2) refl,
+  refused c.tests_are_right.ensures chain_graph [] source_canceled (worker 2) (beginning 1) refl,
   refl,
   refl,
   refl,

@@ -5,7 +5,7 @@ use Rattle.tpl_examples.proofs.links.quiet_link_has_quiet_sources.Goals as goal
 
 pub returns : goal.returns
 returns c = (
-  given_not link_graph [] second_source link_quiet refl,
-  given_not link_graph [] second_source second_quiet refl,
-  given link_graph [] second_source first_quiet refl,
+  given_not c.tests_are_right.ensures link_graph [] second_source link_quiet refl,
+  given_not c.tests_are_right.ensures link_graph [] second_source second_quiet refl,
+  given c.tests_are_right.ensures link_graph [] second_source first_quiet refl,
 )

@@ -6,7 +6,7 @@ use Rattle.tpl_examples.proofs.links.source_cancels_the_task.Goals as goal
 
 pub returns : goal.returns
 returns c = (
-  runs link_graph [] second_source refl,
-  refused link_graph [] second_source (worker 1) (beginning 0) refl,
-  allowed link_graph [] second_source (outside 1) (dropping 0) refl,
+  runs c.tests_are_right.ensures link_graph [] second_source refl,
+  refused c.tests_are_right.ensures link_graph [] second_source (worker 1) (beginning 0) refl,
+  allowed c.tests_are_right.ensures link_graph [] second_source (outside 1) (dropping 0) refl,
 )

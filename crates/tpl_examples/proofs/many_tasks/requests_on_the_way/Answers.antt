@@ -5,10 +5,10 @@ use Rattle.tpl_examples.proofs.many_tasks.requests_on_the_way.Goals as goal
 
 pub returns : goal.returns
 returns c = (
-  valid stoppable_graph refl,
-  completes_not stoppable_graph [] before_all refl,
-  runs stoppable_graph [] stopped_on_the_way refl,
-  completes stoppable_graph [] stopped_on_the_way refl,
+  valid c.tests_are_right.ensures stoppable_graph refl,
+  completes_not c.tests_are_right.ensures stoppable_graph [] before_all refl,
+  runs c.tests_are_right.ensures stoppable_graph [] stopped_on_the_way refl,
+  completes c.tests_are_right.ensures stoppable_graph [] stopped_on_the_way refl,
   refl,
   refl,
   refl,

@@ -5,8 +5,8 @@ use Rattle.tpl_examples.proofs.many_tasks.seven_tasks_by_one_worker.Goals as goa
 
 pub returns : goal.returns
 returns c = (
-  valid seven_graph refl,
-  runs seven_graph [] one_worker refl,
+  valid c.tests_are_right.ensures seven_graph refl,
+  runs c.tests_are_right.ensures seven_graph [] one_worker refl,
   refl,
   refl,
   refl,
@@ -15,5 +15,5 @@ returns c = (
   refl,
   refl,
   refl,
-  completes seven_graph [] one_worker refl,
+  completes c.tests_are_right.ensures seven_graph [] one_worker refl,
 )

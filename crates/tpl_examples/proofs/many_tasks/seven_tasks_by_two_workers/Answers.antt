@@ -5,12 +5,12 @@ use Rattle.tpl_examples.proofs.many_tasks.seven_tasks_by_two_workers.Goals as go
 
 pub returns : goal.returns
 returns c = (
-  runs seven_graph [] two_workers refl,
+  runs c.tests_are_right.ensures seven_graph [] two_workers refl,
   refl,
   refl,
   refl,
   refl,
   refl,
   refl,
-  completes seven_graph [] two_workers refl,
+  completes c.tests_are_right.ensures seven_graph [] two_workers refl,
 )

@@ -5,11 +5,11 @@ use Rattle.tpl_examples.proofs.valid_graphs.antecedents_and_arguments.Goals as g
 
 pub returns : goal.returns
 returns c = (
-  invalid self_antecedent_graph refl,
-  invalid late_antecedent_graph refl,
-  invalid child_antecedent_graph refl,
-  invalid late_all_graph refl,
-  invalid late_any_graph refl,
-  invalid child_all_graph refl,
-  invalid child_any_graph refl,
+  invalid c.tests_are_right.ensures self_antecedent_graph refl,
+  invalid c.tests_are_right.ensures late_antecedent_graph refl,
+  invalid c.tests_are_right.ensures child_antecedent_graph refl,
+  invalid c.tests_are_right.ensures late_all_graph refl,
+  invalid c.tests_are_right.ensures late_any_graph refl,
+  invalid c.tests_are_right.ensures child_all_graph refl,
+  invalid c.tests_are_right.ensures child_any_graph refl,
 )

@@ -5,6 +5,6 @@ use Rattle.tpl_examples.proofs.valid_graphs.bound_of_a_graph.Goals as goal
 
 pub returns : goal.returns
 returns c = (
-  valid bounded_graph refl,
+  valid c.tests_are_right.ensures bounded_graph refl,
   refl,
 )

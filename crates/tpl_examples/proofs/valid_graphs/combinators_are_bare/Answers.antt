@@ -5,10 +5,10 @@ use Rattle.tpl_examples.proofs.valid_graphs.combinators_are_bare.Goals as goal
 
 pub returns : goal.returns
 returns c = (
-  invalid bodied_all_graph refl,
-  invalid bodied_any_graph refl,
-  invalid all_with_token_graph refl,
-  invalid any_with_token_graph refl,
-  invalid all_with_options_graph refl,
-  invalid any_with_options_graph refl,
+  invalid c.tests_are_right.ensures bodied_all_graph refl,
+  invalid c.tests_are_right.ensures bodied_any_graph refl,
+  invalid c.tests_are_right.ensures all_with_token_graph refl,
+  invalid c.tests_are_right.ensures any_with_token_graph refl,
+  invalid c.tests_are_right.ensures all_with_options_graph refl,
+  invalid c.tests_are_right.ensures any_with_options_graph refl,
 )

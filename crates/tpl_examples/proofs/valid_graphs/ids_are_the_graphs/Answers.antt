@@ -5,14 +5,14 @@ use Rattle.tpl_examples.proofs.valid_graphs.ids_are_the_graphs.Goals as goal
 
 pub returns : goal.returns
 returns c = (
-  invalid strange_check_graph refl,
-  invalid strange_cancel_graph refl,
-  invalid strange_start_graph refl,
-  invalid strange_input_graph refl,
-  invalid strange_then_graph refl,
-  invalid strange_else_graph refl,
-  invalid strange_when_graph refl,
-  invalid strange_otherwise_graph refl,
-  invalid strange_rest_graph refl,
-  invalid strange_own_graph refl,
+  invalid c.tests_are_right.ensures strange_check_graph refl,
+  invalid c.tests_are_right.ensures strange_cancel_graph refl,
+  invalid c.tests_are_right.ensures strange_start_graph refl,
+  invalid c.tests_are_right.ensures strange_input_graph refl,
+  invalid c.tests_are_right.ensures strange_then_graph refl,
+  invalid c.tests_are_right.ensures strange_else_graph refl,
+  invalid c.tests_are_right.ensures strange_when_graph refl,
+  invalid c.tests_are_right.ensures strange_otherwise_graph refl,
+  invalid c.tests_are_right.ensures strange_rest_graph refl,
+  invalid c.tests_are_right.ensures strange_own_graph refl,
 )

@@ -5,8 +5,8 @@ use Rattle.tpl_examples.proofs.valid_graphs.only_continuations_read.Goals as goa
 
 pub returns : goal.returns
 returns c = (
-  invalid observing_root_graph refl,
-  invalid branching_root_graph refl,
-  invalid observing_child_graph refl,
-  invalid observing_branch_graph refl,
+  invalid c.tests_are_right.ensures observing_root_graph refl,
+  invalid c.tests_are_right.ensures branching_root_graph refl,
+  invalid c.tests_are_right.ensures observing_child_graph refl,
+  invalid c.tests_are_right.ensures observing_branch_graph refl,
 )

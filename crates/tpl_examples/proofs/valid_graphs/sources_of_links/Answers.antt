@@ -5,9 +5,9 @@ use Rattle.tpl_examples.proofs.valid_graphs.sources_of_links.Goals as goal
 
 pub returns : goal.returns
 returns c = (
-  invalid late_link_graph refl,
-  invalid self_link_graph refl,
-  invalid empty_link_graph refl,
-  valid widest_link_graph refl,
-  invalid wide_link_graph refl,
+  invalid c.tests_are_right.ensures late_link_graph refl,
+  invalid c.tests_are_right.ensures self_link_graph refl,
+  invalid c.tests_are_right.ensures empty_link_graph refl,
+  valid c.tests_are_right.ensures widest_link_graph refl,
+  invalid c.tests_are_right.ensures wide_link_graph refl,
 )

@@ -5,10 +5,10 @@ use Rattle.tpl_examples.proofs.valid_graphs.words_of_each_kind.Goals as goal
 
 pub returns : goal.returns
 returns c = (
-  invalid lazy_root_graph refl,
-  invalid synchronous_root_graph refl,
-  invalid excluding_root_graph refl,
-  invalid lazy_child_graph refl,
-  invalid excluding_child_graph refl,
-  invalid unknown_word_graph refl,
+  invalid c.tests_are_right.ensures lazy_root_graph refl,
+  invalid c.tests_are_right.ensures synchronous_root_graph refl,
+  invalid c.tests_are_right.ensures excluding_root_graph refl,
+  invalid c.tests_are_right.ensures lazy_child_graph refl,
+  invalid c.tests_are_right.ensures excluding_child_graph refl,
+  invalid c.tests_are_right.ensures unknown_word_graph refl,
 )

@@ -5,6 +5,6 @@ use Rattle.tpl_examples.proofs.valid_graphs.words_that_exclude_each_other.Goals 
 
 pub returns : goal.returns
 returns c = (
-  invalid never_graph refl,
-  invalid long_and_synchronous_graph refl,
+  invalid c.tests_are_right.ensures never_graph refl,
+  invalid c.tests_are_right.ensures long_and_synchronous_graph refl,
 )

@@ -9,7 +9,7 @@ use Rattle.tpl_model.specs.declared.claim.Given.{Given}
 use Rattle.tpl_model.specs.Claims.{Claim}
 use Rattle.tpl_model.specs.Certificate.{Row, Tree, SplitInput, SplitEnd, Leaf}
 use Rattle.tpl_laws.specs.Verdict.{verdict}
-use Rattle.tpl_examples.specs.Small.{root, child, after, when_all, when_any, with_token, with_options, graph, nothing, ran, canceled, faulted, ran_or_canceled, ran_or_faulted, any_end, runs, ends, not_run, claim, given_that, ends_in, begins_after, is_observed, exclude, input_is, is_quiet, not_closed, leaf, ret, throws, observes}
+use Rattle.tpl_certificates.specs.Small.{root, child, after, when_all, when_any, with_token, with_options, graph, nothing, ran, canceled, faulted, ran_or_canceled, ran_or_faulted, any_end, runs, ends, not_run, claim, given_that, ends_in, begins_after, is_observed, exclude, input_is, is_quiet, not_closed, leaf, ret, throws, observes}
 
 -- a root that returns; no claims about no tasks; a claim without a tree
 abbrev pub one_root : Statements → TaskGraph

@@ -1,5 +1,5 @@
--- Whether a list of tasks is a graph, as a test that computes.
-use Rattle.std.proofs.Common.{◌≡◌, ℕ, zero, suc, ◌+◌, ◌<◌, ◌≤◌, inl, inr, ◌&&◌, ◌||◌, not, Bool, true, false, Option, Some, None, List, [], ◌∷◌, refl, sym, ap, subst, arith, length, nat_eq, nat_lt, cond}
+-- The test of a graph says what the rules do.
+use Rattle.std.proofs.Common.{◌≡◌, ℕ, suc, ◌+◌, ◌<◌, ◌≤◌, inl, inr, ◌&&◌, ◌||◌, not, Bool, true, false, Option, Some, None, List, [], ◌∷◌, refl, sym, ap, subst, arith, length, nat_eq, nat_lt, cond}
 use Rattle.std.specs.Prelude.{Decides, count_by}
 use Rattle.std.proofs.lemmas.Bool.{cases_lt, eqb-true, eq-eqb}
 use Rattle.std.proofs.lemmas.Bool.Decides.{Decides-and, Decides-ltb, Decides-eqb, Decides-below_and, Decides-below_or, Decides-like}
@@ -11,112 +11,10 @@ use Rattle.tpl_script.specs.Limits.{statement_count, level_count}
 use Rattle.tpl_model.specs.Graph.{TaskGraph, Task, TaskKind, Root, Child, Continues, WhenAll, WhenAny, task, kind, body, options, Token, Plain, Linked, token, IsParent}
 use Rattle.tpl_model.specs.Valid.{IdsOf, IdsWithin, OwnToken, AreBefore, IsLinked, ArePlaced, IsPlaced, option_words, HasBody, HasSubject, IsTask, all_sites, IsGraph}
 use Rattle.tpl_laws.specs.RowTests.{implies, all_in}
-use Rattle.tpl_laws.specs.Allowed.{has_task, has_token, is_child, all_below}
+use Rattle.tpl_laws.specs.Allowed.{is_child, all_below}
 use Rattle.tpl_laws.proofs.AllowedDecided.{itself, denied, both3}
 use Rattle.tpl_laws.proofs.AllowedSettled.{beyond, of_child, implied}
-
-abbrev at_most : ℕ → ℕ → Bool
-at_most a b = nat_lt a (suc b)
-
-abbrev some_below : (ℕ → Bool) → ℕ → Bool
-some_below test zero = false
-some_below test (suc n) = test n || some_below test n
-
-abbrev mutual
-  has_ids : TaskGraph → Statements → Bool
-  has_ids g Nothing = true
-  has_ids g (s ⨾ rest) = has_ids_within g s && has_ids g rest
-
-  has_ids_within : TaskGraph → Statement → Bool
-  has_ids_within g (Check k) = has_token g k
-  has_ids_within g (Cancel k) = has_token g k
-  has_ids_within g (Start c) = has_task g c
-  has_ids_within g (If i first second) = nat_lt i g.inputs && (has_ids g first && has_ids g second)
-  has_ids_within g (When f first second) = has_ids g first && has_ids g second
-  has_ids_within g s = true
-
-abbrev has_own : TaskGraph → Option ℕ → Bool
-has_own g None = true
-has_own g (Some k) = has_token g k
-
-abbrev are_before : ℕ → List ℕ → Bool
-are_before k [] = true
-are_before k (s ∷ more) = nat_lt s k && are_before k more
-
-abbrev is_linked : ℕ → Token → Bool
-is_linked k Plain = true
-is_linked k (Linked sources) = are_before k sources && (nat_lt 0 (length sources) && at_most (length sources) 32)
-
-abbrev are_placed : TaskGraph → ℕ → List ℕ → Bool
-are_placed g t [] = true
-are_placed g t (x ∷ xs) = nat_lt x t && (not (is_child (kind g x)) && are_placed g t xs)
-
-abbrev is_placed : TaskGraph → ℕ → TaskKind → Bool
-is_placed g t (Continues a) = are_placed g t (a ∷ [])
-is_placed g t (WhenAll args) = are_placed g t args && at_most (length args) 256
-is_placed g t (WhenAny args) = are_placed g t args && (at_most (length args) 256 && nat_lt 0 (length args))
-is_placed g t kind = true
-
-abbrev is_nothing : Statements → Bool
-is_nothing Nothing = true
-is_nothing (s ⨾ more) = false
-
-abbrev is_none : Option ℕ → Bool
-is_none None = true
-is_none (Some k) = false
-
-abbrev has_body : TaskKind → Task → Bool
-has_body (WhenAll args) t = is_nothing t.body && is_none t.token
-has_body (WhenAny args) t = is_nothing t.body && is_none t.token
-has_body kind t = true
-
-abbrev has_subject : TaskKind → Statements → Bool
-has_subject (Continues a) script = true
-has_subject kind script = reads_nothing script
-
-abbrev is_parent : TaskGraph → ℕ → ℕ → Bool
-is_parent g p c = mem c (starts (body g p))
-
-abbrev parent_before : TaskGraph → ℕ → Bool
-parent_before g t = implies (is_child (kind g t)) (some_below (λ p. is_parent g p t) t)
-
-abbrev started_once : TaskGraph → ℕ → Bool
-started_once g t = all_below (λ p. at_most (count_by (nat_eq t) (starts (body g p))) 1) (length g.tasks)
-
-abbrev same_parent : TaskGraph → ℕ → ℕ → Bool
-same_parent g t p = implies (is_parent g p t) (all_below (λ q. implies (is_parent g q t) (nat_eq p q)) (length g.tasks))
-
-abbrev one_parent : TaskGraph → ℕ → Bool
-one_parent g t = all_below (same_parent g t) (length g.tasks)
-
-abbrev starts_child : TaskGraph → ℕ → Bool
-starts_child g t = all_below (λ p. implies (is_parent g p t) (is_child (kind g t))) (length g.tasks)
-
-abbrev fits_body : TaskGraph → ℕ → Bool
-fits_body g t = (at_most (statement_count (body g t)) 64 && at_most (level_count (body g t)) 8) && (has_ids g (body g t) && (has_own g (task g t).token && has_subject (kind g t) (body g t)))
-
-abbrev fits_kind : TaskGraph → ℕ → Bool
-fits_kind g t = is_placed g t (kind g t) && has_body (kind g t) (task g t)
-
-abbrev fits_options : TaskGraph → ℕ → Bool
-fits_options g t = has_bits (option_words (kind g t)) (options g t) && (not (excludes_all (options g t)) && not (long_and_sync (options g t)))
-
-abbrev fits_children : TaskGraph → ℕ → Bool
-fits_children g t = parent_before g t && (started_once g t && (one_parent g t && starts_child g t))
-
-abbrev is_right : TaskGraph → ℕ → Bool
-is_right g t = (fits_body g t && fits_kind g t) && (fits_options g t && fits_children g t)
-
-abbrev once_each : List ℕ → Bool
-once_each sites = all_in (λ s. at_most (count_by (nat_eq s) sites) 1) sites
-
-abbrev within_limits : TaskGraph → Bool
-within_limits g = (at_most (length g.tasks) 1024 && at_most (length g.tokens) 32) && (at_most g.inputs 16 && at_most (length (all_sites g)) 256)
-
-abbrev pub is_graph : TaskGraph → Bool
-is_graph g =
-    within_limits g
-    && (all_below (λ k. is_linked k (token g k)) (length g.tokens) && (once_each (all_sites g) && all_below (is_right g) (length g.tasks)))
+use Rattle.tpl_laws.specs.GraphTests.{at_most, some_below, has_ids, has_ids_within, has_own, are_before, is_linked, are_placed, is_placed, is_nothing, is_none, has_body, has_subject, is_parent, parent_before, started_once, same_parent, one_parent, starts_child, fits_body, fits_kind, fits_options, fits_children, is_right, once_each, within_limits, is_graph}
 
 -- the tests mean what the rules say
 always : Decides true (Unit {0})

@@ -11,7 +11,7 @@ use Rattle.tpl_model.specs.declared.claim.Given.{Given}
 use Rattle.tpl_model.specs.Claims.{Claim}
 use Rattle.tpl_model.specs.Certificate.{Row, Tree, SplitInput, SplitEnd, Leaf}
 use Rattle.tpl_laws.specs.Verdict.{verdict}
-use Rattle.tpl_examples.specs.Small.{root, child, after, when_all, when_any, with_token, graph, nothing, ran, canceled, faulted, ran_or_canceled, ran_or_faulted, any_end, runs, ends, not_run, claim, given_that, ends_in, begins_after, is_observed, never_begins, exclude, input_is, is_quiet, not_closed, leaf, ret, throws, observes}
+use Rattle.tpl_certificates.specs.Small.{root, child, after, when_all, when_any, with_token, graph, nothing, ran, canceled, faulted, ran_or_canceled, ran_or_faulted, any_end, runs, ends, not_run, claim, given_that, ends_in, begins_after, is_observed, never_begins, exclude, input_is, is_quiet, not_closed, leaf, ret, throws, observes}
 
 -- a claim that each leaf proves, for certificates about the rules alone
 abbrev pub true_claim : List Claim

@@ -1,0 +1,3 @@
+pub mod Small
+pub mod Worked
+pub mod RowRules
