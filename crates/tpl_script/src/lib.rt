@@ -4,10 +4,15 @@
 ghost use Rattle.tpl_script.specs.Recursion.{MayIsRight, MayStartIsRight, MustObserveIsRight};
 
 mod body;
+mod limits;
 mod outcome;
+mod same;
+mod script;
 
 pub use body::{Body, Stmt};
 pub use outcome::Outcome;
+pub use same::same_body;
+pub use script::Script;
 
 /// The recursion over a body finds an outcome just where a path ends with it.
 pub fn may_is_right()
