@@ -1,3 +1,4 @@
 pub mod Finals
 pub mod Members
 pub mod Options
+pub mod TaskSet
