@@ -5,3 +5,6 @@ pub mod Seen
 pub mod Falls
 pub mod Paths
 pub mod Recursion
+pub mod View
+pub mod Verdicts
+pub mod Ends

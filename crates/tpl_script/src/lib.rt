@@ -4,15 +4,21 @@
 ghost use Rattle.tpl_script.specs.Recursion.{MayIsRight, MayStartIsRight, MustObserveIsRight};
 
 mod body;
+mod ends;
 mod limits;
 mod outcome;
 mod same;
 mod script;
+mod verdict;
+mod view;
 
 pub use body::{Body, Stmt};
+pub use ends::{may, must_observe};
 pub use outcome::Outcome;
 pub use same::same_body;
 pub use script::Script;
+pub use verdict::{Verdict, Verdicts};
+pub use view::{Possible, View};
 
 /// The recursion over a body finds an outcome just where a path ends with it.
 pub fn may_is_right()
