@@ -8,3 +8,5 @@ pub mod Recursion
 pub mod View
 pub mod Verdicts
 pub mod Ends
+pub mod Starts
+pub mod Cursor

@@ -4,19 +4,23 @@
 ghost use Rattle.tpl_script.specs.Recursion.{MayIsRight, MayStartIsRight, MustObserveIsRight};
 
 mod body;
+mod cursor;
 mod ends;
 mod limits;
 mod outcome;
 mod same;
 mod script;
+mod starts;
 mod verdict;
 mod view;
 
 pub use body::{Body, Stmt};
+pub use cursor::Cursor;
 pub use ends::{may, must_observe};
 pub use outcome::Outcome;
 pub use same::same_body;
 pub use script::Script;
+pub use starts::{may_start, may_start_all};
 pub use verdict::{Verdict, Verdicts};
 pub use view::{Possible, View};
 
