@@ -5,7 +5,7 @@ ghost use Rattle.tpl_script.specs.Paths.{is_own};
 ghost use Rattle.tpl_script.specs.Recursion.{another};
 ghost use Rattle.tpl_script.specs.View.{known};
 
-use tpl_words::{Final, Finals, InputId, TokenId};
+use tpl_words::{Final, Finals, InputId, MOST_INPUTS, MOST_TOKENS, TokenId};
 
 /// The values that an input may have.
 #[derive(Clone, Copy, PartialEq, Eq, Debug)]
@@ -19,8 +19,8 @@ pub struct Possible {
 /// rules of reading are this program's own).
 #[derive(Clone, Copy, PartialEq, Eq, Debug)]
 pub struct View {
-    pub inputs: [Possible; 16],
-    pub quiet: [bool; 32],
+    pub inputs: [Possible; MOST_INPUTS],
+    pub quiet: [bool; MOST_TOKENS],
     pub own: Option<TokenId>,
     pub subject: Finals,
 }
@@ -31,7 +31,7 @@ impl View {
         ensures { result ≡ (known self.now).possible input.0 value }
     {
         let at = input.0 as usize;
-        if at >= 16 {
+        if at >= MOST_INPUTS {
             return true;
         }
         let possible = self.inputs[at];
@@ -47,7 +47,7 @@ impl View {
         ensures { result ≡ (known self.now).quiet token.0 }
     {
         let at = token.0 as usize;
-        at < 32 && self.quiet[at]
+        at < MOST_TOKENS && self.quiet[at]
     }
 
     /// The token is the task's own.
