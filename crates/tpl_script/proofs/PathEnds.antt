@@ -10,7 +10,7 @@ use Rattle.tpl_script.specs.Recursion.{gets_through, stops, may, is_throw, any, 
 use Rattle.tpl_script.specs.declared.ends.Ends.{Ends}
 use Rattle.tpl_script.specs.declared.verdict.Verdicts.{Verdicts}
 use Rattle.tpl_script.specs.Ends.{is_return, is_acknowledgement, avoided, ends_in}
-use Rattle.tpl_script.proofs.Tests.{true_false, and_split, and_join, or_split, or_left, or_right, not_of, of_not, decide}
+use Rattle.tpl_script.proofs.Truths.{true_false, and_split, and_join, or_split, or_left, or_right, not_of, of_not, decide}
 use Rattle.tpl_script.proofs.Through.{may_lem}
 
 -- where observations may be passed, nothing is avoided

@@ -10,7 +10,7 @@ use Rattle.tpl_script.specs.declared.outcome.Outcome.TheVariants.{Returned, Thre
 use Rattle.tpl_script.specs.Statements.{Statement, Return, Throw, Check, Cancel, Start, Observe, Work, If, When, Statements, Nothing, ◌⨾◌, followed_by}
 use Rattle.tpl_script.specs.Paths.{cancellation, Known, GoesOn, EndsAt, Passes, Path, MayStartChild, MustObserve, is_start_of, passes_start, is_observation, passes_observe}
 use Rattle.tpl_script.specs.Recursion.{another, gets_through, passes_by, stops, stops_at, may, none, any, must_observe, clean, MayIsRight, MustObserveIsRight, reaches, reaches_in, MayStartIsRight}
-use Rattle.tpl_script.proofs.Tests.{true_false, and_split, and_join, or_split, or_left, or_right, not_of, of_not, decide}
+use Rattle.tpl_script.proofs.Truths.{true_false, and_split, and_join, or_split, or_left, or_right, not_of, of_not, decide}
 use Rattle.tpl_script.proofs.Fronts.{Walks, walks_of, passes_of, walks_within, walks_join, walks_split}
 
 clean_join : (avoid : Statement → Bool) (ps qs : List Statement) → clean avoid ps ≡ true → clean avoid qs ≡ true → clean avoid (ps ++ qs) ≡ true
