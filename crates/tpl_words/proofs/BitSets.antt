@@ -1,15 +1,14 @@
 -- Words of 64 bits as sets of numbers.
-use Rattle.std.proofs.Common.{◌≡◌, ◌≢◌, ◌⊎◌, ℕ, zero, suc, ◌+◌, ◌*◌, ◌/◌, ◌%◌, ◌^◌, ◌<◌, ◌≤◌, Bool, true, false, ◌&&◌, ◌||◌, List, [], ◌∷◌, length, get_or, nat_eq, nat_lt, refl, sym, ap, ◌∙◌, inl, inr, ⊎_elim, arith, eq-eqb, bit_or, bit_and}
+use Rattle.std.proofs.Common.{◌≡◌, ◌≢◌, ℕ, zero, suc, ◌+◌, ◌*◌, ◌/◌, ◌%◌, ◌^◌, ◌<◌, ◌≤◌, Bool, true, false, ◌&&◌, ◌||◌, List, [], ◌∷◌, length, get_or, nat_eq, nat_lt, refl, sym, ap, ◌∙◌, ⊎_elim, arith, eq-eqb, bit_or, bit_and}
 use Rattle.std.specs.Prelude.{◌==◌, max, min, slice_set}
 use Rattle.std.specs.Int.{bit_at, bit_not, trailing_zeros, w64}
 use Rattle.std.proofs.lemmas.Bool.{eqb-true, ltb-true, cases_lt, cases_eq}
 use Rattle.std.proofs.lemmas.List.{get_or_past, get_or-set_same, get_or-set_other, length-set}
 use Rattle.std.proofs.lemmas.Nat.{and_le_l}
 use Rattle.std.proofs.lemmas.Nat.Bits.{bit_at-zero, bit_at_or, bit_at_and, bit_at-lt, bit_at_set_same, bit_at_set_other, bit_at_clear_same, bit_at_clear_other, bit_at-trailing_zeros, same_from_bits_below}
-
 use Rattle.tpl_words.specs.Members.{mem}
-use Rattle.tpl_words.specs.TaskSet.{AscendsWithin, IsTaskSet, IsSubset, is_set, passing_from, members_of}
-use Rattle.tpl_words.proofs.SetLists.{same_tests, or_cases, mem_within, raised, same_members, mem-passing_from, passing_from-mem, passing_from-ascends}
+use Rattle.tpl_words.specs.TaskSet.{AscendsWithin, IsTaskSet, IsSubset, is_set, members_of}
+use Rattle.tpl_words.proofs.SetLists.{same_tests, raised, same_members, mem-passing_from, passing_from-mem, passing_from-ascends}
 
 within : (words : List ℕ) (x : ℕ) → is_set words x ≡ true → x < 64 * length words
 within words x h =

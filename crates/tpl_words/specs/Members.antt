@@ -1,5 +1,5 @@
 -- Lists of the numbers of ids, read as sets.
-use Rattle.std.specs.Prelude.{ℕ, ◌++◌, Bool, true, false, ◌||◌, if◌then◌else◌, List, [], ◌∷◌, nat_eq}
+use Rattle.std.specs.Prelude.{ℕ, ◌++◌, Bool, false, ◌||◌, if◌then◌else◌, List, [], ◌∷◌, nat_eq}
 
 -- x is in the list
 abbrev pub mem : ℕ → List ℕ → Bool

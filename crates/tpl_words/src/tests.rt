@@ -63,7 +63,11 @@ fn words_of_several_bits(rt: HostRuntime) -> Result<(), Fail> {
         ("OnlyOnFaulted", "NotOnRanToCompletion", "NotOnCanceled"),
         ("OnlyOnCanceled", "NotOnRanToCompletion", "NotOnFaulted"),
     ] {
-        assert_eq!(rt; option(only)?, option(one)?.union(option(other)?), "at {only}");
+        assert_eq!(rt;
+            option(only)?,
+            option(one)?.union(option(other)?),
+            "at {only}"
+        );
     }
     assert_eq!(rt; option("None")?, Options::empty());
     for word in ["", "none", "NotOn", "OnlyOnCanceled "] {
@@ -107,11 +111,20 @@ fn printed_words(rt: HostRuntime) -> Result<(), Fail> {
     ] {
         assert_eq!(rt; format!(in alloc; "{status}")?.as_str(), word);
     }
-    assert_eq!(rt; format!(in alloc; "{}", Final::Faulted)?.as_str(), "Faulted");
+    assert_eq!(rt;
+        format!(in alloc; "{}", Final::Faulted)?.as_str(),
+        "Faulted"
+    );
     assert_eq!(rt; Final::from_name("Canceled"), Some(Final::Canceled));
     assert_eq!(rt; Final::from_name("Created"), None);
-    assert_eq!(rt; format!(in alloc; "{}", OptionFault::ExcludesAll)?.as_str(), "ExcludesAll");
-    assert_eq!(rt; format!(in alloc; "{}", OptionFault::LongAndSync)?.as_str(), "LongAndSync");
+    assert_eq!(rt;
+        format!(in alloc; "{}", OptionFault::ExcludesAll)?.as_str(),
+        "ExcludesAll"
+    );
+    assert_eq!(rt;
+        format!(in alloc; "{}", OptionFault::LongAndSync)?.as_str(),
+        "LongAndSync"
+    );
     Ok(())
 }
 

@@ -35,12 +35,13 @@ pub returns : goal.returns
 returns c =
     let s = c.args.self.now in
     let t = c.args.other.now in
-    let u = c.union.result in
-    (λ e f h. part s t u c.union.ensures (sym c.eq.ensures ∙ e) f h,
-    λ part. c.eq.ensures ∙ of_three (beq u.ran t.ran) (beq u.canceled t.canceled) (beq u.faulted t.faulted)
-    (with s t u c.union.ensures RanToCompletion ∙ joins s.ran t.ran (part RanToCompletion))
-    (with s t u c.union.ensures Canceled ∙ joins s.canceled t.canceled (part Canceled))
-    (with s t u c.union.ensures Faulted ∙ joins s.faulted t.faulted (part Faulted)))
+    let u = c.union.result in (
+      λ e f h. part s t u c.union.ensures (sym c.eq.ensures ∙ e) f h,
+      λ part. c.eq.ensures ∙ of_three (beq u.ran t.ran) (beq u.canceled t.canceled) (beq u.faulted t.faulted)
+          (with s t u c.union.ensures RanToCompletion ∙ joins s.ran t.ran (part RanToCompletion))
+          (with s t u c.union.ensures Canceled ∙ joins s.canceled t.canceled (part Canceled))
+          (with s t u c.union.ensures Faulted ∙ joins s.faulted t.faulted (part Faulted)),
+    )
   where
     part : (s t u : Finals) → ((f : Final) → has u f ≡ (has s f || has t f)) → beq u.ran t.ran && (beq u.canceled t.canceled && beq u.faulted t.faulted) ≡ true → IsPart s t
     part s t u h e RanToCompletion = kept s.ran t.ran (sym (with s t u h RanToCompletion) ∙ (three (beq u.ran t.ran) (beq u.canceled t.canceled) (beq u.faulted t.faulted) e).0)

@@ -1,4 +1,4 @@
-use Rattle.std.proofs.Common.{◌/◌, ◌%◌, ◌||◌, ap, ◌∙◌, arith, nat_eq}
+use Rattle.std.proofs.Common.{◌/◌, ◌||◌, ap, ◌∙◌, arith, nat_eq}
 use Rattle.std.proofs.lemmas.List.{length-set}
 use Rattle.tpl_words.specs.Members.{mem}
 use Rattle.tpl_words.proofs.BitSets.{members_of-insert, members_of-set}

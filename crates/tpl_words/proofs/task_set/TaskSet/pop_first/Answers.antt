@@ -1,4 +1,4 @@
-use Rattle.std.proofs.Common.{◌≡◌, ◌^◌, ◌<◌, refl, sym, ap, ◌∙◌, subst, arith, rules}
+use Rattle.std.proofs.Common.{◌^◌, ◌<◌, refl, sym, ap, ◌∙◌, subst, arith, rules}
 use Rattle.std.specs.Prelude.{slice_index}
 use Rattle.tpl_words.specs.TaskSet.{IsTaskSet, members_of}
 use Rattle.tpl_words.proofs.BitSets.{members_of-set, members_of-empty, members_of-first}

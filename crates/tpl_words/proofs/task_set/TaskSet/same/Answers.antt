@@ -1,4 +1,4 @@
-use Rattle.std.proofs.Common.{ap, subst}
+use Rattle.std.proofs.Common.{subst}
 use Rattle.tpl_words.specs.TaskSet.{IsSubset}
 use Rattle.tpl_words.proofs.BitSets.{same_sets}
 use Rattle.tpl_words.proofs.task_set.TaskSet.same.Goals as goal
