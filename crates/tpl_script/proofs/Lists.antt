@@ -1,5 +1,5 @@
 -- Lists of statements in memory from an index on.
-use Rattle.std.proofs.Common.{◌≡◌, ℕ, zero, suc, ◌+◌, ◌<◌, ◌≤◌, List, [], ◌∷◌, length, drop, get_or, refl, sym, ap, arith, add-one, drop-cons}
+use Rattle.std.proofs.Common.{◌≡◌, ℕ, zero, suc, ◌+◌, ◌<◌, ◌≤◌, List, [], ◌∷◌, length, drop, get_or, sym, ap, arith, add-one, drop-cons}
 use Rattle.tpl_script.specs.declared.body.Stmt.{Stmt}
 use Rattle.tpl_script.specs.Statements.{Statements, ◌⨾◌}
 use Rattle.tpl_script.specs.Seen.{statement_of, statements_of}

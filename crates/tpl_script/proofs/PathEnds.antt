@@ -1,16 +1,16 @@
 -- The walk over a body finds how its paths end.
-use Rattle.std.proofs.Common.{◌≡◌, ◌⊎◌, inl, inr, ◌&&◌, ◌||◌, not, Bool, true, false, Some, List, [], ◌∷◌, refl, sym, ap, ◌∙◌, subst}
+use Rattle.std.proofs.Common.{◌≡◌, inl, inr, ◌&&◌, ◌||◌, not, Bool, true, false, Some, List, [], ◌∷◌, refl, sym, ◌∙◌, subst}
 use Rattle.std.specs.Prelude.{◌↔◌}
 use Rattle.tpl_words.specs.declared.status.Label.{Label}
 use Rattle.tpl_script.specs.declared.outcome.Outcome.{Outcome}
 use Rattle.tpl_script.specs.declared.outcome.Outcome.TheVariants.{Returned, Threw, Acknowledged}
 use Rattle.tpl_script.specs.Statements.{Statement, Statements}
 use Rattle.tpl_script.specs.Paths.{Known, Path, MayEnd, MayThrow, MustObserve, is_observation, passes_observe}
-use Rattle.tpl_script.specs.Recursion.{gets_through, stops, may, is_throw, any, clean, must_observe}
+use Rattle.tpl_script.specs.Recursion.{is_throw, clean}
 use Rattle.tpl_script.specs.declared.ends.Ends.{Ends}
 use Rattle.tpl_script.specs.declared.verdict.Verdicts.{Verdicts}
 use Rattle.tpl_script.specs.Ends.{is_return, is_acknowledgement, avoided, ends_in}
-use Rattle.tpl_script.proofs.Truths.{true_false, and_split, and_join, or_split, or_left, or_right, not_of, of_not, decide}
+use Rattle.tpl_script.proofs.Truths.{true_false, and_join, or_split, or_left, or_right, not_of, of_not, decide}
 use Rattle.tpl_script.proofs.Through.{may_lem}
 
 -- where observations may be passed, nothing is avoided

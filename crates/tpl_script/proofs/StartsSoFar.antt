@@ -1,14 +1,12 @@
 -- The loops over a list of statements that look for the start of children.
-use Rattle.std.proofs.Common.{◌≡◌, ℕ, ◌+◌, ◌<◌, ◌≤◌, Bool, true, false, not, ◌&&◌, ◌||◌, List, [], length, drop, get_or, nat_eq, nat_lt, refl, sym, ap, ◌∙◌, subst, arith}
+use Rattle.std.proofs.Common.{◌≡◌, ℕ, ◌+◌, ◌<◌, ◌≤◌, Bool, true, false, ◌&&◌, ◌||◌, List, [], length, drop, get_or, nat_lt, refl, sym, ap, ◌∙◌}
 use Rattle.std.proofs.lemmas.List.{drop_all}
-use Rattle.std.proofs.lemmas.Bool.{eqb-true}
-
 use Rattle.std.specs.Prelude.{◌↔◌}
 use Rattle.tpl_words.specs.Members.{mem}
 use Rattle.tpl_words.specs.TaskSet.{IsTaskSet}
 use Rattle.tpl_script.specs.declared.body.Stmt.{Stmt}
 use Rattle.tpl_script.specs.declared.starts.Starts.{Starts}
-use Rattle.tpl_script.specs.Statements.{Statement, Statements, Nothing, ◌⨾◌}
+use Rattle.tpl_script.specs.Statements.{Statements, ◌⨾◌}
 use Rattle.tpl_script.specs.Seen.{statement_of, statements_of}
 use Rattle.tpl_script.specs.Paths.{Known, MayStartChild}
 use Rattle.tpl_script.specs.Recursion.{gets_through, passes_by, none, reaches, reaches_in}

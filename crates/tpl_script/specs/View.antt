@@ -1,5 +1,5 @@
 -- A view in memory, read as what is known of the runs.
-use Rattle.std.specs.Prelude.{ℕ, Bool, true, false, Option, option_map, slice_index_or}
+use Rattle.std.specs.Prelude.{Bool, true, false, option_map, slice_index_or}
 use Rattle.tpl_words.specs.declared.ids.TokenId.{TokenId}
 use Rattle.tpl_words.specs.Finals.{has}
 use Rattle.tpl_script.specs.declared.view.Possible.{Possible}

@@ -128,8 +128,7 @@ fn ends_at(statement: &Stmt, view: &View, past_observe: bool) -> Ends
         }
         Stmt::When(status, first, second) => {
             let so = ends_of(first, view, past_observe).only_if(view.may_have_ended(*status));
-            let otherwise = ends_of(second, view, past_observe)
-                .only_if(view.may_have_ended_otherwise(*status));
+            let otherwise = ends_of(second, view, past_observe).only_if(view.may_differ(*status));
             so.or(otherwise)
         }
     }

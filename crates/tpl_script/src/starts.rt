@@ -99,8 +99,7 @@ fn start_at(statement: &Stmt, view: &View, child: TaskId) -> Starts
         }
         Stmt::When(status, first, second) => {
             let so = start_in(first, view, child).only_if(view.may_have_ended(*status));
-            let otherwise =
-                start_in(second, view, child).only_if(view.may_have_ended_otherwise(*status));
+            let otherwise = start_in(second, view, child).only_if(view.may_differ(*status));
             so.or(otherwise)
         }
     }
@@ -143,8 +142,7 @@ fn add_starts_at(statement: &Stmt, view: &View, found: &mut TaskSet) -> bool
         }
         Stmt::When(status, first, second) => {
             let so = add_starts_if(view.may_have_ended(*status), first, view, found);
-            let otherwise =
-                add_starts_if(view.may_have_ended_otherwise(*status), second, view, found);
+            let otherwise = add_starts_if(view.may_differ(*status), second, view, found);
             so || otherwise
         }
     }

@@ -4,6 +4,7 @@ use std::test::*;
 use tpl_words::{Final, Finals, InputId, LabelId, SiteId, TaskId, TokenId};
 
 const OWN: TokenId = TokenId(0);
+
 const OTHER: TokenId = TokenId(1);
 
 /// Nothing is known but the task's own token: no token is quiet, each input may have both values,
@@ -33,7 +34,11 @@ fn only(returned: bool, thrown: bool, acknowledged: bool) -> Verdicts {
 }
 
 fn script(list: Vec<Stmt>) -> Result<Script, Fail> {
-    Ok(Script::make(Body::new(list)).ok().ok_or("within the limits")?)
+    Ok(
+        Script::make(Body::new(list))
+            .ok()
+            .ok_or("within the limits")?,
+    )
 }
 
 #[test]
@@ -56,8 +61,11 @@ fn checks_and_jobs(rt: HostRuntime) -> Result<(), Fail> {
 #[test]
 fn a_cancel_of_a_quiet_token_stops_the_path(rt: HostRuntime) -> Result<(), Fail> {
     let alloc = rt.alloc();
-    let body =
-        script(vec![in alloc; Stmt::Cancel(OWN), Stmt::Check(OWN), Stmt::Throw(LabelId(0))]?)?;
+    let body = script(vec![in alloc;
+        Stmt::Cancel(OWN),
+        Stmt::Check(OWN),
+        Stmt::Throw(LabelId(0)),
+    ]?)?;
     let mut view = open_view(None);
     assert_eq!(rt; may(&body, &view), only(false, true, false));
     view.quiet[0] = true;

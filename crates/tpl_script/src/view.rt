@@ -68,7 +68,7 @@ impl View {
     }
 
     /// The subject may have ended in another way.
-    pub fn may_have_ended_otherwise(&self, status: Final) -> bool
+    pub fn may_differ(&self, status: Final) -> bool
         ensures { result ≡ another (known self.now) status }
     {
         match status {

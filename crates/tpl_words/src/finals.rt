@@ -1,6 +1,6 @@
 //! The final statuses, and sets of them.
 
-ghost use Rattle.std.specs.Prelude.{◌≡◌, ◌↔◌, ◌||◌, true, IsTrue, MatchOption};
+ghost use Rattle.std.specs.Prelude.{◌≡◌, ◌↔◌, ◌||◌, true, Some, IsTrue, MatchOption};
 ghost use Rattle.tpl_words.specs.Finals.{has, is_final, final_name, IsPart};
 
 use std::fmt;
@@ -45,6 +45,8 @@ impl Final {
 }
 
 impl fmt::Display for Final {
+    ghost output = { λ status. Some (final_name status) };
+
     fn fmt<W: fmt::Write>(&self, f: &mut fmt::Formatter<W>) -> fmt::Result {
         f.write_str(self.name())
     }

@@ -1,4 +1,4 @@
-use Rattle.std.proofs.Common.{◌≡◌, ◌||◌, true, ap, ◌∙◌}
+use Rattle.std.proofs.Common.{true, ap, ◌∙◌}
 use Rattle.tpl_script.specs.declared.verdict.Verdicts.{Verdicts}
 use Rattle.tpl_script.specs.View.{known}
 use Rattle.tpl_script.specs.Ends.{ends_in}

@@ -21,4 +21,4 @@ start_at-returns-in-If t c =
 
 pub start_at-returns-in-When : goal.start_at-returns-in-When
 start_at-returns-in-When t c =
-    rw (c.or-in-When.ensures, c.only_if-so.ensures, c.only_if-otherwise.ensures, c.start_in-in-When.ensures, c.start_in-in-When-2.ensures, c.may_have_ended.ensures, c.may_have_ended_otherwise.ensures, c.in-When.is) refl
+    rw (c.or-in-When.ensures, c.only_if-so.ensures, c.only_if-otherwise.ensures, c.start_in-in-When.ensures, c.start_in-in-When-2.ensures, c.may_have_ended.ensures, c.may_differ.ensures, c.in-When.is) refl

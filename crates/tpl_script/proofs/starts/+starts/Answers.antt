@@ -1,11 +1,6 @@
-use Rattle.std.proofs.Common.{sym, subst, arith}
-use Rattle.tpl_script.specs.Seen.{statement_of}
-use Rattle.tpl_script.specs.View.{known}
-use Rattle.tpl_script.specs.Statements.{Statement}
-use Rattle.tpl_script.specs.Recursion.{reaches_in}
-use Rattle.tpl_script.specs.Starts.{Adds}
+use Rattle.std.proofs.Common.{arith}
 use Rattle.tpl_script.proofs.Lists.{falls_in}
-use Rattle.tpl_script.proofs.StartsSoFar.{adds_both, adds_step, adds_stop, adds_finish}
+use Rattle.tpl_script.proofs.StartsSoFar.{adds_both}
 use Rattle.tpl_script.proofs.starts.+starts.Goals as goal
 
 pub add_starts_in-add_starts_at-requires : goal.add_starts_in-add_starts_at-requires
@@ -22,8 +17,8 @@ add_starts_at-returns-else-on_true-clause-found t c =
 
 pub add_starts_at-returns-then-so-clause-found : goal.add_starts_at-returns-then-so-clause-found
 add_starts_at-returns-then-so-clause-found t c =
-    rw (c.in-When.is, ← c.may_have_ended.ensures, ← c.may_have_ended_otherwise.ensures) (adds_both _ _ _ _ _ c.add_starts_if-so.ensures.found c.add_starts_if-otherwise.ensures.found)
+    rw (c.in-When.is, ← c.may_have_ended.ensures, ← c.may_differ.ensures) (adds_both _ _ _ _ _ c.add_starts_if-so.ensures.found c.add_starts_if-otherwise.ensures.found)
 
 pub add_starts_at-returns-else-so-clause-found : goal.add_starts_at-returns-else-so-clause-found
 add_starts_at-returns-else-so-clause-found t c =
-    rw (c.in-When.is, ← c.may_have_ended.ensures, ← c.may_have_ended_otherwise.ensures) (adds_both _ _ _ _ _ c.add_starts_if-so.ensures.found c.add_starts_if-otherwise.ensures.found)
+    rw (c.in-When.is, ← c.may_have_ended.ensures, ← c.may_differ.ensures) (adds_both _ _ _ _ _ c.add_starts_if-so.ensures.found c.add_starts_if-otherwise.ensures.found)

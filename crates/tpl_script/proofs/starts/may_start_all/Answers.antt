@@ -1,4 +1,4 @@
-use Rattle.std.proofs.Common.{◌≡◌, ◌<◌, ◌&&◌, ◌||◌, Bool, true, nat_lt, refl, ap, ◌∙◌}
+use Rattle.std.proofs.Common.{◌&&◌, ◌||◌, nat_lt, ap, ◌∙◌}
 use Rattle.std.proofs.lemmas.Bool.{lt-ltb}
 use Rattle.tpl_words.specs.Members.{mem}
 use Rattle.tpl_script.specs.View.{known}
