@@ -10,38 +10,8 @@ use Rattle.tpl_script.specs.declared.outcome.Outcome.TheVariants.{Returned, Thre
 use Rattle.tpl_script.specs.Statements.{Statement, Return, Throw, Check, Cancel, Start, Observe, Work, If, When, Statements, Nothing, ◌⨾◌, followed_by}
 use Rattle.tpl_script.specs.Paths.{cancellation, Known, GoesOn, EndsAt, Passes, Path, MayStartChild, MustObserve, is_start_of, passes_start, is_observation, passes_observe}
 use Rattle.tpl_script.specs.Recursion.{another, gets_through, passes_by, stops, stops_at, may, none, any, must_observe, clean, MayIsRight, MustObserveIsRight, reaches, reaches_in, MayStartIsRight}
+use Rattle.tpl_script.proofs.Truths.{true_false, and_split, and_join, or_split, or_left, or_right, not_of, of_not, decide}
 use Rattle.tpl_script.proofs.Fronts.{Walks, walks_of, passes_of, walks_within, walks_join, walks_split}
-
-true_false : {A : Type 0} → true ≡ false → A
-true_false e = absurd (cc)
-
-and_split : (a b : Bool) → a && b ≡ true → (a ≡ true) × (b ≡ true)
-and_split true b e = (refl, e)
-and_split false b e = true_false (sym e)
-
-and_join : (a b : Bool) → a ≡ true → b ≡ true → a && b ≡ true
-and_join true b e f = f
-and_join false b e f = true_false (sym e)
-
-or_split : (a b : Bool) → a || b ≡ true → (a ≡ true) ⊎ (b ≡ true)
-or_split true b e = inl refl
-or_split false b e = inr e
-
-or_left : (a b : Bool) → a ≡ true → a || b ≡ true
-or_left true b e = refl
-or_left false b e = true_false (sym e)
-
-or_right : (a b : Bool) → b ≡ true → a || b ≡ true
-or_right true b e = refl
-or_right false b e = e
-
-not_of : (b : Bool) → not b ≡ true → b ≡ false
-not_of true e = true_false (sym e)
-not_of false e = refl
-
-of_not : (b : Bool) → b ≡ false → not b ≡ true
-of_not true e = true_false e
-of_not false e = refl
 
 clean_join : (avoid : Statement → Bool) (ps qs : List Statement) → clean avoid ps ≡ true → clean avoid qs ≡ true → clean avoid (ps ++ qs) ≡ true
 clean_join avoid [] qs p q = q
@@ -430,10 +400,6 @@ clean_unseen (s ∷ ps) e f =
       | inl q ↦ true_false (sym q ∙ not_of (is_observation s) both.0)
       | inr q ↦ clean_unseen ps both.1 q
     ]
-
-decide : (b : Bool) → (b ≡ true) ⊎ (b ≡ false)
-decide true = inl refl
-decide false = inr refl
 
 pub must_lem : MustObserveIsRight
 must_lem w body = (must_found, must_complete)

@@ -5,3 +5,8 @@ pub mod Seen
 pub mod Falls
 pub mod Paths
 pub mod Recursion
+pub mod View
+pub mod Verdicts
+pub mod Ends
+pub mod Starts
+pub mod Cursor

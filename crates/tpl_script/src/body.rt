@@ -6,23 +6,32 @@ ghost use Rattle.tpl_script.specs.Seen.{statements_of};
 use std::marker::Model;
 use tpl_words::{Final, InputId, LabelId, SiteId, TaskId, TokenId};
 
-/// A statement of a body.
+/// A statement of a body: what a task's delegate does, as far as other tasks can tell (Task Parallel
+/// Library guide: task-based programming, child tasks, cancellation, exception handling).
 #[cycle(body)]
 #[derive(Drop)]
 pub enum Stmt {
+    /// The body is over.
     Return,
+    /// An exception with this label leaves the body.
     Throw(LabelId),
+    /// `ThrowIfCancellationRequested` of the token.
     Check(TokenId),
+    /// `Cancel` of the token's source.
     Cancel(TokenId),
+    /// Creates and starts the child.
     Start(TaskId),
+    /// Reads the exception of the task that this one continues.
     Observe,
-    /// A site, and whether its job may fail.
+    /// A job at the site, and whether it may fail.
     Work(SiteId, bool),
+    /// The first list where the input is true, else the second.
     If(InputId, Body, Body),
+    /// The first list where the task that this one continues ended so, else the second.
     When(Final, Body, Body),
 }
 
-/// A list of statements.
+/// A list of statements, which contracts see without where it lies in memory.
 #[cycle(body)]
 #[derive(Drop)]
 pub struct Body {
@@ -52,14 +61,13 @@ impl Model for Body {
 }
 
 impl Body {
+    /// The statements of a list, without limits and without taking memory.
     pub fn new(list: Vec<Stmt>) -> Self
         ensures { result ≡ statements_of list.items }
     {
         Body { list }
     }
-}
 
-impl Body {
     /// The statements of the list itself.
     pub fn list(&self) -> &[Stmt]
         ensures { self.now ≡ statements_of result.now }
@@ -67,7 +75,7 @@ impl Body {
         self.list.as_slice()
     }
 
-    /// Gives the list back.
+    /// Gives the list back, without taking memory.
     pub fn into_list(self) -> Vec<Stmt>
         ensures { self ≡ statements_of result.items }
     {

@@ -1,0 +1,2 @@
+pub mod SetLists
+pub mod BitSets

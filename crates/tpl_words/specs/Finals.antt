@@ -1,5 +1,5 @@
 -- How tasks end, and sets of ways to end.
-use Rattle.std.specs.Prelude.{Bool, true, false}
+use Rattle.std.specs.Prelude.{◌≡◌, ℕ, Bool, true, false, List, codes}
 use Rattle.tpl_words.specs.declared.finals.Final.{Final}
 use Rattle.tpl_words.specs.declared.finals.Final.TheVariants.{RanToCompletion, Canceled, Faulted}
 use Rattle.tpl_words.specs.declared.finals.Finals.{Finals}
@@ -14,3 +14,12 @@ is_final RanToCompletion RanToCompletion = true
 is_final Canceled Canceled = true
 is_final Faulted Faulted = true
 is_final a b = false
+
+-- each member of the first set is one of the second
+abbrev pub IsPart : Finals → Finals → Type 0
+IsPart s t = (f : Final) → has s f ≡ true → has t f ≡ true
+
+abbrev pub final_name : Final → List ℕ
+final_name RanToCompletion = codes "RanToCompletion"
+final_name Canceled = codes "Canceled"
+final_name Faulted = codes "Faulted"

@@ -1,0 +1,16 @@
+use Rattle.std.proofs.Common.{◌+◌, sym, ap, ◌∙◌, subst, arith}
+use Rattle.tpl_script.specs.View.{known}
+use Rattle.tpl_script.specs.Ends.{then_ends}
+use Rattle.tpl_script.proofs.Lists.{falls_in}
+use Rattle.tpl_script.proofs.EndsSoFar.{EndsSoFar, step}
+use Rattle.tpl_script.proofs.ends.+ends.Goals as goal
+
+pub ends_of-ends_at-requires : goal.ends_of-ends_at-requires
+ends_of-ends_at-requires t c =
+    (omega (arith, c.decreases, falls_in _ _ _ _ c.loop-statement.invariant.whole c.loop-statement-test.true c.statement-item.is), tt)
+
+pub ends_of-loop-statement-preserved : goal.ends_of-loop-statement-preserved
+ends_of-loop-statement-preserved t c =
+    subst (λ so_far. EndsSoFar c.args.past_observe (known c.args.view.now) c.args.body.now c.list-statement-items.result.now (c.loop-statement.statement-index + 1) so_far)
+    (sym (c.then-so_far.ensures ∙ ap (then_ends c.loop-statement.so_far) c.ends_at.ensures))
+    (step c.args.past_observe (known c.args.view.now) c.args.body.now c.list-statement-items.result.now c.loop-statement.statement-index c.loop-statement.so_far c.statement-item.result c.loop-statement-test.true c.statement-item.is c.loop-statement.invariant)

@@ -1,0 +1,44 @@
+-- What is left of a body after a statement.
+use Rattle.std.specs.Prelude.{◌≡◌, ℕ, zero, suc, ◌+◌, ◌≤◌, ◌<◌, Bool, List, Option, Some, None, length, slice_get, if◌then◌else◌}
+use Rattle.std.specs.Borrow.{Bor}
+use Rattle.tpl_script.specs.declared.body.Stmt.{Stmt}
+use Rattle.tpl_script.specs.Statements.{Statement, Statements, If, When, Nothing, ◌⨾◌, followed_by}
+use Rattle.tpl_script.specs.Seen.{statements_of}
+use Rattle.tpl_script.specs.Limits.{level_count}
+
+-- the list begins with the statement
+abbrev pub BeginsWith : Statements → Statement → Type 0
+BeginsWith b s = (rest : Statements) × (b ≡ s ⨾ rest)
+
+-- what follows the first statement
+abbrev pub behind : Statements → Statements
+behind Nothing = Nothing
+behind (s ⨾ rest) = rest
+
+-- what follows a choice, with the list that was chosen in front
+abbrev pub chosen : Statement → Bool → Statements
+chosen (If i a b) first = if first then a else b
+chosen (When f a b) first = if first then a else b
+chosen _ first = Nothing
+
+abbrev pub behind_choice : Statements → Bool → Statements
+behind_choice Nothing first = Nothing
+behind_choice (s ⨾ rest) first = followed_by (chosen s first) rest
+
+abbrev pub level_list : Option (Bor (List Stmt)) → Statements
+level_list None = Nothing
+level_list (Some l) = statements_of l.now
+
+-- the innermost list first
+abbrev pub left_at : List (Bor (List Stmt)) → ℕ → Statements
+left_at levels zero = Nothing
+left_at levels (suc d) = followed_by (level_list (slice_get levels d)) (left_at levels d)
+
+-- no list nests deeper than there are levels left
+abbrev pub FitsLevels : List (Bor (List Stmt)) → ℕ → Type 0
+FitsLevels levels depth = (depth ≤ 8) × ((d : ℕ) → d < depth → level_count (level_list (slice_get levels d)) + d ≤ 8)
+
+-- the innermost list isn't empty
+abbrev pub IsSettled : List (Bor (List Stmt)) → ℕ → Type 0
+IsSettled levels zero = Unit {0}
+IsSettled levels (suc d) = (l : Bor (List Stmt)) × (slice_get levels d ≡ Some l) × (0 < length l.now)

@@ -1,0 +1,29 @@
+-- Whether the paths through statements start a child.
+use Rattle.std.specs.Prelude.{◌≡◌, ℕ, ◌&&◌, ◌||◌, Bool, List, nat_lt}
+use Rattle.tpl_words.specs.Members.{mem}
+use Rattle.tpl_words.specs.TaskSet.{IsTaskSet}
+use Rattle.tpl_script.specs.declared.starts.Starts.{Starts}
+use Rattle.tpl_script.specs.Statements.{Statement, Statements}
+use Rattle.tpl_script.specs.Paths.{Known}
+use Rattle.tpl_script.specs.Recursion.{gets_through, passes_by, none, reaches, reaches_in}
+
+abbrev pub then_starts : Starts → Starts → Starts
+then_starts a b = record { goes_on = a.goes_on && b.goes_on; started = a.started || (a.goes_on && b.started) }
+
+abbrev pub either_start : Starts → Starts → Starts
+either_start a b = record { goes_on = a.goes_on || b.goes_on; started = a.started || b.started }
+
+abbrev pub start_if : Bool → Starts → Starts
+start_if possible a = record { goes_on = possible && a.goes_on; started = possible && a.started }
+
+abbrev pub start_in : ℕ → Known → Statements → Starts
+start_in c w b = record { goes_on = gets_through none w b; started = reaches c w b }
+
+-- the same of one statement
+abbrev pub start_at : ℕ → Known → Statement → Starts
+start_at c w s = record { goes_on = passes_by none w s; started = reaches_in c w s }
+
+-- of the 1,024 tasks that a set can hold, those that pass the test are added to it
+pub record Adds (old new : List ℕ) (test : ℕ → Bool) : Type 0 where
+  pub members : (x : ℕ) → mem x new ≡ (mem x old || (nat_lt x 1024 && test x))
+  pub set : IsTaskSet old → IsTaskSet new

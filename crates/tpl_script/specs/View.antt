@@ -1,0 +1,20 @@
+-- A view in memory, read as what is known of the runs.
+use Rattle.std.specs.Prelude.{Bool, true, false, option_map, slice_index_or}
+use Rattle.tpl_words.specs.declared.ids.TokenId.{TokenId}
+use Rattle.tpl_words.specs.Finals.{has}
+use Rattle.tpl_script.specs.declared.view.Possible.{Possible}
+use Rattle.tpl_script.specs.declared.view.View.{View}
+use Rattle.tpl_script.specs.Paths.{Known}
+
+abbrev pub may_have : Possible → Bool → Bool
+may_have p true = p.on_true
+may_have p false = p.on_false
+
+-- an input past the last entry may have both values, and a token there may be requested
+abbrev pub known : View → Known
+known v = record {
+  possible = λ i value. may_have (slice_index_or v.inputs i (record { on_true = true; on_false = true })) value;
+  quiet = λ k. slice_index_or v.quiet k false;
+  own = option_map (λ (k : TokenId). k.0) v.own;
+  subject = has v.subject;
+}
