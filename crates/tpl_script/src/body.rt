@@ -65,7 +65,7 @@ impl Body {
     pub fn new(list: Vec<Stmt>) -> Self
         ensures { result ≡ statements_of list.items }
     {
-        Body { list }
+        Self { list }
     }
 
     /// The statements of the list itself.
@@ -79,6 +79,7 @@ impl Body {
     pub fn into_list(self) -> Vec<Stmt>
         ensures { self ≡ statements_of result.items }
     {
-        self.list
+        let Body { list } = self;
+        list
     }
 }

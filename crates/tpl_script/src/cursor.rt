@@ -90,9 +90,9 @@ impl<'a> Cursor<'a> {
             return;
         }
         let list = levels[depth - 1];
-        let rest = &list[1..];
+        let left = &list[1..];
         let slots = &mut self.levels[..];
-        slots[depth - 1] = rest;
+        slots[depth - 1] = left;
         self.depth = depth;
     }
 

@@ -53,7 +53,8 @@ impl Inputs {
         ensures count { result ≡ length self.now }
         ensures limit { length self.now ≤ MOST_INPUTS }
     {
-        self.count
+        let Inputs { count, .. } = self;
+        *count
     }
 
     /// There are no inputs.
