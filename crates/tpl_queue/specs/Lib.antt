@@ -1,0 +1,4 @@
+pub mod Tally
+pub mod Balance
+pub mod Reserve
+pub mod Pass
