@@ -1,4 +1,4 @@
-pub mod Tally
 pub mod Balance
-pub mod Reserve
 pub mod Pass
+pub mod Reserve
+pub mod Tally

@@ -1,5 +1,5 @@
 -- What one pass of a queue knows.
-use Rattle.std.specs.Prelude.{◌≡◌, ℕ, ◌+◌, ◌*◌, ◌^◌, ◌==◌, if◌then◌else◌, List, [], ◌∷◌, ◌++◌}
+use Rattle.std.specs.Prelude.{◌≡◌, ℕ, ◌+◌, ◌*◌, ◌^◌, ◌==◌, if◌then◌else◌, List, [], ◌∷◌, ◌++◌, length}
 use Rattle.tpl_queue.specs.declared.rule.Tally.{Tally}
 
 -- the weights of the tasks, added up
@@ -13,6 +13,10 @@ times t ts = weigh (λ u. if u == t then 1 else 0) ts
 
 abbrev pub tally : ℕ → ℕ → List ℕ → List ℕ → Tally
 tally parts halvings put taken = record { parts = parts; halvings = halvings; put = put; taken = taken }
+
+-- the whole pass of a queue that is new
+abbrev pub new_tally : Tally
+new_tally = tally 1 0 [] []
 
 -- once a job of the task t was put
 abbrev pub after_put : Tally → ℕ → Tally
@@ -30,7 +34,7 @@ first_half v = tally v.parts (v.halvings + 1) v.put v.taken
 abbrev pub second_half : Tally → Tally
 second_half v = tally v.parts (v.halvings + 1) [] []
 
--- two shares together
+-- the shares of two passes are added, and their lists appended
 abbrev pub both : Tally → Tally → Tally
 both v w = tally (v.parts * 2 ^ w.halvings + w.parts * 2 ^ v.halvings) (v.halvings + w.halvings) (v.put ++ w.put) (v.taken ++ w.taken)
 
@@ -38,6 +42,19 @@ both v w = tally (v.parts * 2 ^ w.halvings + w.parts * 2 ^ v.halvings) (v.halvin
 abbrev pub IsWhole : Tally → Type 0
 IsWhole v = v.parts ≡ 2 ^ v.halvings
 
--- if it is the whole pass, each task was put as often as it was taken or is among these, however tasks are weighed
-abbrev pub Accounts : Tally → List ℕ → Type 0
-Accounts v tasks = IsWhole v → (h : ℕ → ℕ) → weigh h v.put ≡ weigh h v.taken + weigh h tasks
+-- it is the whole pass, and was never split
+abbrev pub IsUnsplit : Tally → Type 0
+IsUnsplit v = (v.parts ≡ 1) × (v.halvings ≡ 0)
+
+-- What a pass knows of the tasks that the queue holds, the oldest first. The whole pass put each task as often as it took it or as it is among these, however tasks are weighed; and as long as it was not split, it put those that it took and then these, in this order
+pub record Accounts (v : Tally) (tasks : List ℕ) : Type 0 where
+  pub counted : IsWhole v → (h : ℕ → ℕ) → weigh h v.put ≡ weigh h v.taken + weigh h tasks
+  pub ordered : IsUnsplit v → v.put ≡ v.taken ++ tasks
+
+-- at one moment of the call the queue held n tasks, for which the pass accounts
+abbrev pub HeldAtOnce : ℕ → Tally → Type 0
+HeldAtOnce n v = (tasks : List ℕ) × (length tasks ≡ n) × Accounts v tasks
+
+-- at one moment of the call the task t was the oldest in the queue, and the pass accounts for it and those behind it
+abbrev pub WasOldest : ℕ → Tally → Type 0
+WasOldest t v = (behind : List ℕ) × Accounts v (t ∷ behind)

@@ -25,8 +25,8 @@ pub type Reserve<T> = Table<Vec<T>, (), usize, HasRoom, Global>;
 pub(crate) fn reserved<T: Drop>(alloc: Global, places: usize) -> Result<Reserve<T>, AllocError>
     ensures { IfOk result (λ r. r.shared.key ≡ places) }
 {
-    let mut lists = Vec::with_capacity(alloc, 1)?;
-    lists.push(Vec::with_capacity(alloc, places)?)?;
+    let list = Vec::with_capacity(alloc, places)?;
+    let lists = Vec::from_array(alloc, [list])?;
     match Table::new(alloc, &[], lists, &places) {
         Ok((reserve, _seat)) => Ok(reserve),
         Err(_) => Err(AllocError),

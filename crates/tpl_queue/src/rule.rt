@@ -21,13 +21,13 @@ pub type Ring<I> = RuledArrayQueue<Job<I>, Tally, Balance>;
 pub struct Balance;
 
 impl<I> Protocol<Job<I>, Tally> for Balance {
-    ghost use Rattle.std.specs.Prelude.{[], map};
-    ghost use Rattle.tpl_queue.specs.Tally.{tally};
+    ghost use Rattle.std.specs.Prelude.{map};
+    ghost use Rattle.tpl_queue.specs.Tally.{new_tally};
     ghost use Rattle.tpl_queue.specs.Balance.{IsBalanced};
 
     ghost holds = { λ jobs tallies. IsBalanced (map (λ j. j.task.0) jobs) tallies };
 
-    ghost first = { tally 1 0 [] [] };
+    ghost first = { new_tally };
 }
 
 /// A job joins at the back.
@@ -45,9 +45,9 @@ pub struct Taken;
 
 impl<I> Outcome<Job<I>, Tally> for Taken {
     ghost use Rattle.std.specs.Prelude.{◌≡◌};
-    ghost use Rattle.tpl_queue.specs.Tally.{after_take};
+    ghost use Rattle.tpl_queue.specs.Tally.{after_take, WasOldest};
 
-    ghost then = { λ v job w. w ≡ after_take v job.task.0 };
+    ghost then = { λ v job w. (w ≡ after_take v job.task.0) × WasOldest job.task.0 v };
 }
 
 
