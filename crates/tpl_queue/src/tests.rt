@@ -1,1 +1,256 @@
+ghost use Rattle.std.specs.Prelude.{◌≡◌, All, IfOk};
+
 use super::*;
+use std::alloc::{AllocError, Global};
+use std::sync::Arc;
+use std::sync::Wait;
+use std::sync::atomic::{AtomicU64, Ordering};
+use std::test::*;
+use std::thread;
+use std::thread::Threads;
+use tpl_jobs::{Job, Work, WorkItem, WorkJob};
+use tpl_words::{Answer, SiteId, TaskId};
+
+/// A stamp that can be neither copied nor cloned.
+#[derive(Drop)]
+struct Stamp(u32);
+
+type Items = Vec<WorkItem<Stamp>>;
+
+/// A job with one box.
+fn job_of(alloc: Global, task: u16, stamp: u32, work: Work) -> Result<WorkJob<Stamp>, AllocError>
+    requires { Work.pre work record { 0 = 0 } }
+{
+    let mut items = Vec::with_capacity(alloc, 1)?;
+    items.push(WorkItem::new(Stamp(stamp), SiteId(0), true, work))?;
+    Ok(Job {
+        task: TaskId(task),
+        items,
+    })
+}
+
+#[test]
+fn one_place(rt: HostRuntime) -> Result<(), Fail> {
+    let (queue, mut pass): (JobQueue<Items>, QueuePass<Items>) = JobQueue::new(rt.alloc(), 1)?;
+    let work: Work = Box::new(rt.alloc(), |_site: SiteId| -> Answer { Answer::Done })?;
+    let j = job_of(rt.alloc(), 7, 70, work)?;
+    let work: Work = Box::new(rt.alloc(), |_site: SiteId| -> Answer { Answer::Failed })?;
+    let k = job_of(rt.alloc(), 8, 80, work)?;
+    assert!(&rt; queue.put(&rt, &mut pass, j).is_ok());
+    match queue.put(&rt, &mut pass, k) {
+        Ok(()) => assert!(&rt; false),
+        Err(mut k) => {
+            assert_eq!(rt; k.task, TaskId(8));
+            assert!(&rt; k.items.pop().map(|item| item.call().answer()) == Some(Answer::Failed));
+        }
+    }
+    match queue.take(&rt, &mut pass) {
+        Some(mut j) => {
+            assert_eq!(rt; j.task, TaskId(7));
+            assert!(&rt; j.items.pop().map(|item| item.call().answer()) == Some(Answer::Done));
+        }
+        None => assert!(&rt; false),
+    }
+    assert!(&rt; queue.take(&rt, &mut pass).is_none());
+    let (first, second) = queue.split(pass);
+    let pass = queue.join(first, second);
+    assert_eq!(rt; queue.drain(&rt, pass).len(), 0);
+    Ok(())
+}
+
+const JOBS: usize = 100_000;
+
+const PLACES: usize = 1_000;
+
+/// What one thread of the exchange works with. A producer has jobs to put, a consumer takes `most` jobs.
+#[derive(Drop)]
+struct Part {
+    pass: QueuePass<Items>,
+    jobs: Vec<WorkJob<Stamp>>,
+    most: usize,
+}
+
+/// Calls each box of a job.
+fn call_all(job: WorkJob<Stamp>) {
+    for item in job.items {
+        drop(item.call());
+    }
+}
+
+/// Puts jobs until none is left, or until the queue is full and no consumer is at work.
+fn produce<R: Wait>(rt: &R, queue: &JobQueue<Items>, consumers: &AtomicU64, part: Part) -> Part
+    requires { part.pass.queue ≡ queue.now.id }
+    ensures { result.pass.queue ≡ queue.now.id }
+{
+    let Part {
+        mut pass,
+        mut jobs,
+        most,
+    } = part;
+    for _ in rt.forever() {
+        let Some(job) = jobs.pop() else {
+            break;
+        };
+        if let Err(job) = queue.put(rt, &mut pass, job) {
+            let _room = jobs.push(job);
+            if consumers.load(Ordering::SeqCst) == 0 {
+                break;
+            }
+            thread::yield_now();
+        }
+    }
+    Part { pass, jobs, most }
+}
+
+/// Takes jobs, and calls their boxes.
+fn consume<R: Wait>(rt: &R, queue: &JobQueue<Items>, consumers: &AtomicU64, part: Part) -> Part
+    requires { part.pass.queue ≡ queue.now.id }
+    ensures { result.pass.queue ≡ queue.now.id }
+{
+    let Part {
+        mut pass,
+        jobs,
+        most,
+    } = part;
+    let mut taken = 0;
+    for _ in rt.forever() {
+        if taken >= most {
+            break;
+        }
+        match queue.take(rt, &mut pass) {
+            Some(job) => {
+                call_all(job);
+                taken += 1;
+            }
+            None => thread::yield_now(),
+        }
+    }
+    consumers.fetch_sub(1, Ordering::SeqCst);
+    Part { pass, jobs, most }
+}
+
+/// Does the parts in a thread each.
+fn exchange<R: Threads + Wait + Sync>(
+    rt: &R,
+    queue: &JobQueue<Items>,
+    consumers: &AtomicU64,
+    parts: Vec<Part>,
+) -> Result<Vec<Part>, AllocError>
+    requires { All (λ p. p.pass.queue ≡ queue.now.id) parts.items }
+    ensures { IfOk result (λ all. All (λ p. p.pass.queue ≡ queue.now.id) all.items) }
+{
+    thread::map_vec(rt, parts, &|part: Part| -> Part
+        requires { part.pass.queue ≡ queue.now.id }
+        ensures { result.pass.queue ≡ queue.entry.now.id }
+    {
+        if part.most == 0 {
+            produce(rt, queue, consumers, part)
+        } else {
+            consume(rt, queue, consumers, part)
+        }
+    })
+}
+
+/// Shares the exchange out among four producers and four consumers, and joins their passes again.
+fn exchange_by_eight<R: Threads + Wait + Sync>(
+    rt: &R,
+    alloc: Global,
+    queue: &JobQueue<Items>,
+    whole: QueuePass<Items>,
+    jobs: Vec<WorkJob<Stamp>>,
+    most: usize,
+) -> Result<(QueuePass<Items>, Vec<WorkJob<Stamp>>), AllocError>
+    requires { whole.queue ≡ queue.now.id }
+    ensures { IfOk result (λ r. r.0.queue ≡ queue.now.id) }
+{
+    let mut jobs = jobs;
+    let mut whole = whole;
+    let quarter = jobs.len() / 4;
+    let mut parts = Vec::with_capacity(alloc, 8)?;
+    for n in 0..8usize {
+        let (rest, pass) = queue.split(whole);
+        whole = rest;
+        let part = if n % 2 == 0 {
+            let at = jobs.len().saturating_sub(quarter);
+            Part {
+                pass,
+                jobs: jobs.split_off(at)?,
+                most: 0,
+            }
+        } else {
+            Part {
+                pass,
+                jobs: Vec::new(alloc),
+                most,
+            }
+        };
+        parts.push(part)?;
+    }
+    let consumers = AtomicU64::new(4);
+    let mut left = jobs;
+    for part in exchange(rt, queue, &consumers, parts)? {
+        let Part { pass, mut jobs, .. } = part;
+        whole = queue.join(whole, pass);
+        left.append(&mut jobs)?;
+    }
+    Ok((whole, left))
+}
+
+#[test]
+fn no_box_is_lost_or_called_twice(rt: HostRuntime) -> Result<(), Fail> {
+    let mut calls = Vec::with_capacity(rt.alloc(), JOBS)?;
+    for _ in 0..JOBS {
+        calls.push(AtomicU64::new(0))?;
+    }
+    let calls = Arc::new(rt.alloc(), calls)?;
+    let mut jobs = Vec::with_capacity(rt.alloc(), JOBS)?;
+    for stamp in 0..JOBS {
+        let mine = Arc::try_clone(&calls)?;
+        let work: Work = Box::new(rt.alloc(), move |_site: SiteId| -> Answer {
+            if let Some(count) = mine.get(stamp) {
+                count.fetch_add(1, Ordering::SeqCst);
+            }
+            Answer::Done
+        })?;
+        jobs.push(job_of(
+            rt.alloc(),
+            (stamp % 65536) as u16,
+            stamp as u32,
+            work,
+        )?)?;
+    }
+    let (queue, whole) = JobQueue::new(rt.alloc(), PLACES)?;
+    let (whole, left) = exchange_by_eight(&rt, rt.alloc(), &queue, whole, jobs, JOBS / 4 - 500)?;
+    let mut called = 0u64;
+    for count in calls.iter() {
+        called = called.saturating_add(count.load(Ordering::SeqCst));
+    }
+    let drained = queue.drain(&rt, whole);
+    assert_eq!(rt; called, 98_000);
+    assert_eq!(rt; left.len() + drained.len(), 2_000);
+    for job in left {
+        call_all(job);
+    }
+    for job in drained {
+        call_all(job);
+    }
+    for (stamp, count) in calls.iter().enumerate() {
+        assert_eq!(rt; count.load(Ordering::SeqCst), 1, "the box {stamp}");
+    }
+    Ok(())
+}
+
+#[test]
+fn no_memory_is_said(rt: HostRuntime) {
+    match JobQueue::new(rt.alloc(), 3) {
+        Ok((queue, mut pass)) => {
+            let job = Job {
+                task: TaskId(1),
+                items: 9u8,
+            };
+            assert!(&rt; queue.put(&rt, &mut pass, job).is_ok());
+            assert!(&rt; queue.take(&rt, &mut pass).is_some());
+        }
+        Err(AllocError) => {}
+    }
+}

@@ -29,15 +29,15 @@ learn_as-requires-clause-rule g c items views b at =
 pub returns-in-None-clause-accounts : goal.returns-in-None-clause-accounts
 returns-in-None-clause-accounts g c =
     let held = c.in-None.ensures.rule.1 in
+    let drained = map (λ j. j.task.0) c.loop-turn.list.items in
     let left = map (λ j. j.task.0) held.0 in
-    all_drained c.args.pass.tally (map (λ j. j.task.0) c.loop-turn.list.items) left (length-map held.0 (λ j. j.task.0) ∙ held.1) (subst (λ v. Accounts v left) c.loop-turn.invariant.drained held.2)
+    all_drained c.args.pass.tally drained left (length-map held.0 (λ j. j.task.0) ∙ held.1) (rw (← c.loop-turn.invariant.drained) held.2)
 
 pub returns-in-None-clause-each_once : goal.returns-in-None-clause-each_once
 returns-in-None-clause-each_once g c whole t = (returns-in-None-clause-accounts g c).counted whole (λ u. if u == t then 1 else 0)
 
 pub returns-clause-accounts : goal.returns-clause-accounts
 returns-clause-accounts g c =
-    let v = c.args.pass.tally in
     let first = c.len_as-count.ensures.rule.1 in
     let last = c.learn_as.ensures.rule in
     let before = map (λ j. j.task.0) first.0 in
@@ -45,7 +45,7 @@ returns-clause-accounts g c =
     let left = map (λ j. j.task.0) last.0 in
     let full : length c.loop-turn.list.items ≡ c.len_as-count.result = omega (arith, c.loop-turn.list.ok.0) in
     let as_many : length drained ≡ length before = length-map c.loop-turn.list.items (λ j. j.task.0) ∙ full ∙ sym first.1 ∙ sym (length-map first.0 (λ j. j.task.0)) in
-    as_many_drained v before drained left (rw (← c.pass.view_is) first.2) (subst (λ v. Accounts v left) c.loop-turn.invariant.drained last.1) as_many
+    as_many_drained c.args.pass.tally before drained left (rw (← c.pass.view_is) first.2) (rw (← c.loop-turn.invariant.drained) last.1) as_many
 
 pub returns-clause-each_once : goal.returns-clause-each_once
 returns-clause-each_once g c whole t = (returns-clause-accounts g c).counted whole (λ u. if u == t then 1 else 0)
