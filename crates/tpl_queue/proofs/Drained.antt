@@ -1,5 +1,5 @@
 -- What the pass that drains a queue knows in the end.
-use Rattle.std.proofs.Common.{◌≡◌, ℕ, ◌+◌, ◌^◌, List, [], ◌∷◌, ◌++◌, length, sym, subst, arith, refl, append_assoc, append-nil, ap, ◌∙◌}
+use Rattle.std.proofs.Common.{◌≡◌, ℕ, ◌+◌, ◌^◌, List, [], ◌∷◌, ◌++◌, length, sym, arith, refl, append-nil, ap, ◌∙◌}
 use Rattle.tpl_queue.specs.declared.rule.Tally.{Tally}
 use Rattle.tpl_queue.specs.Tally.{weigh, tally, IsWhole, IsUnsplit, Accounts}
 use Rattle.tpl_queue.proofs.Shares.{weigh-append}

@@ -1,8 +1,8 @@
 -- What lies in a table that nobody stepped on.
-use Rattle.std.proofs.Common.{◌≡◌, ℕ, ◌≤◌, List, [], ◌∷◌, ap, sym, ◌∙◌, subst}
+use Rattle.std.proofs.Common.{◌≡◌, ℕ, ◌≤◌, List, [], ap, sym, ◌∙◌, subst}
 use mathlib.Core.Option.{some, some-injective}
 use lib.ListN.{get_elem?}
-use Rattle.atomic_table.specs.Table.{State, Final}
+use Rattle.atomic_table.specs.Table.{Final}
 use Rattle.tpl_queue.specs.Reserve.{KeepsRoom}
 
 -- the value in the table's one place is the list that was kept there

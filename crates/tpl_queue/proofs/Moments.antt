@@ -1,5 +1,5 @@
 -- What the answers of a queue tell of one moment.
-use Rattle.std.proofs.Common.{◌≡◌, ℕ, List, map, length, ◌∙◌, Option, Some, None, Result, Ok, Err, OnErr, IfNone, MatchResult, MatchOption}
+use Rattle.std.proofs.Common.{ℕ, map, ◌∙◌, Option, Some, None, Result, Ok, Err, OnErr, IfNone, MatchResult, MatchOption}
 use Rattle.std.proofs.lemmas.List.{length-map}
 use Rattle.crossbeam_queue.specs.Fifo.{Held}
 use Rattle.tpl_queue.specs.declared.rule.Tally.{Tally}

@@ -1,11 +1,11 @@
 -- Each step on the queue keeps its rule.
-use Rattle.std.proofs.Common.{◌≡◌, ◌≢◌, ⊎_elim, ℕ, ◌+◌, ◌*◌, ◌^◌, ◌-◌, ◌≤◌, ◌<◌, ◌⊎◌, List, [], ◌∷◌, ◌++◌, set, refl, sym, ap, subst, ◌∙◌, arith, append_assoc, append-nil}
+use Rattle.std.proofs.Common.{◌≡◌, ◌≢◌, ⊎_elim, ℕ, ◌+◌, ◌*◌, ◌^◌, ◌-◌, ◌≤◌, ◌<◌, List, [], ◌∷◌, ◌++◌, set, refl, sym, ap, subst, ◌∙◌, arith, append_assoc, append-nil}
 use mathlib.Core.Option.{some, some-ne-none}
 use lib.ListN.{get_elem?}
 use Rattle.atomic_table.proofs.Lists.{at_set}
 use Rattle.tpl_queue.specs.declared.rule.Tally.{Tally}
-use Rattle.tpl_queue.specs.Tally.{weigh, tally, new_tally, after_put, after_take, first_half, second_half, both, IsWhole, IsUnsplit, Accounts}
-use Rattle.tpl_queue.specs.Balance.{total, Each, share, IsEmptyIfSpent, IsInOrder, IsBalanced}
+use Rattle.tpl_queue.specs.Tally.{weigh, tally, new_tally, after_put, after_take, first_half, second_half, both, IsUnsplit, Accounts}
+use Rattle.tpl_queue.specs.Balance.{Each, share, IsEmptyIfSpent, IsInOrder, IsBalanced}
 use Rattle.tpl_queue.proofs.Shares.{weigh-append, total-set, total-snoc, each_set, each_snoc, share-more, whole-more, share_pos, share-spent, two_shares, share-whole, whole_has_all, share-both, both_live}
 
 -- while a pass has a share, no other is the whole one
@@ -25,8 +25,8 @@ not_unsplit tasks views p q v u b at live there apart unsplit =
 in_order : (tasks tasks' : List ℕ) (views : List Tally) (p : ℕ) (v w : Tally) → IsBalanced tasks views → get_elem? views p ≡ some v → 0 < v.parts → IsInOrder tasks' w → Each (IsInOrder tasks') (set views p w)
 in_order tasks tasks' views p v w b at live here q u there =
     ⊎_elim (λ (t : (q ≡ p) × (w ≡ u)). subst (IsInOrder tasks') t.1 here)
-        (λ (t : (q ≢ p) × (get_elem? views q ≡ some u)) unsplit. absurd (not_unsplit tasks views p q v u b at live t.1 t.0 unsplit))
-        (at_set views p q w u there)
+    (λ (t : (q ≢ p) × (get_elem? views q ≡ some u)) unsplit. absurd (not_unsplit tasks views p q v u b at live t.1 t.0 unsplit))
+    (at_set views p q w u there)
 
 -- a queue that is new
 pub new_is_balanced : IsBalanced [] (new_tally ∷ [])
@@ -106,10 +106,10 @@ forks tasks views p v live b at =
       most = n + 1;
       halved = each_snoc (λ u. u.halvings ≤ n + 1) vs r (omega arith) (each_set (λ u. u.halvings ≤ n + 1) views p l (omega arith) (λ q u there. let le = b.halved q u there in omega arith));
       whole =
-        let s = total-set (share (n + 1)) views p v l at in
-        let s' = total-snoc (share (n + 1)) vs r in
-        let q = whole-more n 1 views b.halved b.whole in
-        omega arith;
+          let s = total-set (share (n + 1)) views p v l at in
+          let s' = total-snoc (share (n + 1)) vs r in
+          let q = whole-more n 1 views b.halved b.whole in
+          omega arith;
       spent = each_snoc IsEmptyIfSpent vs r (λ none. (refl, refl)) (each_set IsEmptyIfSpent views p l (λ none. absurd (omega arith)) b.spent);
       counted = λ h.
           let s = total-set (λ u. weigh h u.put) views p v l at in
@@ -146,12 +146,12 @@ merges tasks views p v other w live b at apart there =
       most = n + k;
       halved = each_set (λ u. u.halvings ≤ n + k) vs other spent (omega arith) (each_set (λ u. u.halvings ≤ n + k) views p sum (omega arith) (λ q u found. let le = b.halved q u found in omega arith));
       whole =
-        let s = total-set (share (n + k)) views p v sum at in
-        let t = total-set (share (n + k)) vs other w spent there in
-        let z = share-spent (n + k) in
-        let pb = share-both n v w upv upw in
-        let q = whole-more n k views b.halved b.whole in
-        omega arith;
+          let s = total-set (share (n + k)) views p v sum at in
+          let t = total-set (share (n + k)) vs other w spent there in
+          let z = share-spent (n + k) in
+          let pb = share-both n v w upv upw in
+          let q = whole-more n k views b.halved b.whole in
+          omega arith;
       spent = each_set IsEmptyIfSpent vs other spent (λ none. (refl, refl)) (each_set IsEmptyIfSpent views p sum (λ none. absurd (let l = both_live v w live in omega arith)) b.spent);
       counted = λ h.
           let s = total-set (λ u. weigh h u.put) views p v sum at in

@@ -36,10 +36,7 @@ impl<I> Model for JobQueue<I> {
 impl<I: Drop> JobQueue<I> {
     /// An empty queue with places for `capacity` jobs, and its whole pass. It takes all memory that the
     /// queue ever needs, and fails only where there is none.
-    pub fn new(
-        alloc: Global,
-        capacity: usize,
-    ) -> Result<(JobQueue<I>, QueuePass<I>), AllocError>
+    pub fn new(alloc: Global, capacity: usize) -> Result<(JobQueue<I>, QueuePass<I>), AllocError>
         requires { 0 < capacity }
         ensures capacity { IfOk result (λ made. made.0.capacity ≡ capacity) }
         ensures queue { IfOk result (λ made. made.1.queue ≡ made.0.id) }

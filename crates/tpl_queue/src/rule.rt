@@ -50,7 +50,6 @@ impl<I> Outcome<Job<I>, Tally> for Taken {
     ghost then = { λ v job w. (w ≡ after_take v job.task.0) × WasOldest job.task.0 v };
 }
 
-
 impl<I> Lesson<Job<I>, Tally> for Put {
     ghost use Rattle.std.specs.Prelude.{map};
     ghost use Rattle.tpl_queue.specs.Tally.{Accounts};

@@ -2,9 +2,8 @@ ghost use Rattle.std.specs.Prelude.{◌≡◌, All, IfOk};
 
 use super::*;
 use std::alloc::{AllocError, Global};
-use std::sync::Arc;
-use std::sync::Wait;
 use std::sync::atomic::{AtomicU64, Ordering};
+use std::sync::{Arc, Wait};
 use std::test::*;
 use std::thread;
 use std::thread::Threads;
@@ -139,16 +138,20 @@ fn exchange<R: Threads + Wait + Sync>(
     requires { All (λ p. p.pass.queue ≡ queue.now.id) parts.items }
     ensures { IfOk result (λ all. All (λ p. p.pass.queue ≡ queue.now.id) all.items) }
 {
-    thread::map_vec(rt, parts, &|part: Part| -> Part
-        requires { part.pass.queue ≡ queue.now.id }
-        ensures { result.pass.queue ≡ queue.entry.now.id }
-    {
-        if part.most == 0 {
-            produce(rt, queue, consumers, part)
-        } else {
-            consume(rt, queue, consumers, part)
-        }
-    })
+    thread::map_vec(
+        rt,
+        parts,
+        &|part: Part| -> Part
+            requires { part.pass.queue ≡ queue.now.id }
+            ensures { result.pass.queue ≡ queue.entry.now.id }
+        {
+            if part.most == 0 {
+                produce(rt, queue, consumers, part)
+            } else {
+                consume(rt, queue, consumers, part)
+            }
+        },
+    )
 }
 
 /// Shares the exchange out among four producers and four consumers, and joins their passes again.
@@ -212,12 +215,7 @@ fn no_box_is_lost_or_called_twice(rt: HostRuntime) -> Result<(), Fail> {
             }
             Answer::Done
         })?;
-        jobs.push(job_of(
-            rt.alloc(),
-            (stamp % 65536) as u16,
-            stamp as u32,
-            work,
-        )?)?;
+        jobs.push(job_of(rt.alloc(), (stamp % 65536) as u16, stamp as u32, work)?)?;
     }
     let (queue, whole) = JobQueue::new(rt.alloc(), PLACES)?;
     let (whole, left) = exchange_by_eight(&rt, rt.alloc(), &queue, whole, jobs, JOBS / 4 - 500)?;

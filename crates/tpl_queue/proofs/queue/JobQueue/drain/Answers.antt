@@ -1,7 +1,7 @@
-use Rattle.std.proofs.Common.{◌≡◌, ◌∷◌, map, refl, length, sym, ◌∙◌, subst, arith, if◌then◌else◌, ◌==◌}
+use Rattle.std.proofs.Common.{◌≡◌, ◌∷◌, map, refl, length, sym, ◌∙◌, arith, if◌then◌else◌, ◌==◌}
 use Rattle.std.proofs.lemmas.List.{length-map}
 use Rattle.crossbeam_queue.specs.Passes.{view}
-use Rattle.tpl_queue.specs.Tally.{after_take, Accounts}
+use Rattle.tpl_queue.specs.Tally.{after_take}
 use Rattle.tpl_queue.proofs.Steps.{takes, knows}
 use Rattle.tpl_queue.proofs.Drained.{all_drained, as_many_drained}
 use Rattle.tpl_queue.proofs.queue.JobQueue.drain.Goals as goal

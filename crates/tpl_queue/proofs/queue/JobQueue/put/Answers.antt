@@ -1,4 +1,4 @@
-use Rattle.std.proofs.Common.{◌++◌, ◌∷◌, [], map, refl, sym, subst, set}
+use Rattle.std.proofs.Common.{◌∷◌, [], map, refl, sym, subst, set}
 use Rattle.std.proofs.lemmas.List.{map-append}
 use Rattle.crossbeam_queue.specs.Passes.{view}
 use Rattle.tpl_queue.specs.Tally.{after_put}
