@@ -1,4 +1,5 @@
-ghost use Rattle.std.specs.Prelude.{◌≡◌, All, IfOk};
+ghost use Rattle.std.specs.Prelude.{◌≡◌, ℕ, [], ◌∷◌, map, All, IfOk, IfSome};
+ghost use Rattle.tpl_queue.specs.Tally.{times};
 
 use super::*;
 use std::alloc::{AllocError, Global};
@@ -235,6 +236,34 @@ fn no_box_is_lost_or_called_twice(rt: HostRuntime) -> Result<(), Fail> {
     for (stamp, count) in calls.iter().enumerate() {
         assert_eq!(rt; count.load(Ordering::SeqCst), 1, "the box {stamp}");
     }
+    Ok(())
+}
+
+/// Puts a job by one half of a pass, and drains by both: that job, and no other, is in the list.
+fn there_and_back<I: Drop, R: Wait>(
+    rt: &R,
+    alloc: Global,
+    job: Job<I>,
+) -> Result<Option<Vec<Job<I>>>, AllocError>
+    ensures { IfOk result (λ back. IfSome back (λ all. (t : ℕ) → times t (map (λ j. j.task.0) all.items) ≡ times t (job.task.0 ∷ []))) }
+{
+    let (queue, pass) = JobQueue::new(alloc, 4)?;
+    let (first, mut second) = queue.split(pass);
+    if queue.put(rt, &mut second, job).is_err() {
+        return Ok(None);
+    }
+    let pass = queue.join(first, second);
+    Ok(Some(queue.drain(rt, pass)))
+}
+
+#[test]
+fn a_half_and_a_half_are_the_whole(rt: HostRuntime) -> Result<(), Fail> {
+    let job = Job {
+        task: TaskId(6),
+        items: 1u8,
+    };
+    let all = there_and_back(&rt, rt.alloc(), job)?;
+    assert_eq!(rt; all.map(|all| all.len()), Some(1));
     Ok(())
 }
 
