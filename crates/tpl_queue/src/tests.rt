@@ -155,7 +155,40 @@ fn exchange<R: Threads + Wait + Sync>(
     )
 }
 
-/// Shares the exchange out among four producers and four consumers, and joins their passes again.
+/// Cuts a pass and the jobs up for four producers and four consumers.
+fn eight_parts(
+    alloc: Global,
+    queue: &JobQueue<Items>,
+    whole: QueuePass<Items>,
+    mut jobs: Vec<WorkJob<Stamp>>,
+    most: usize,
+) -> Result<(QueuePass<Items>, Vec<Part>), AllocError>
+    requires { whole.queue ≡ queue.now.id }
+    ensures whole { IfOk result (λ r. r.0.queue ≡ queue.now.id) }
+    ensures parts { IfOk result (λ r. All (λ p. p.pass.queue ≡ queue.now.id) r.1.items) }
+{
+    let mut whole = whole;
+    let mut parts = Vec::with_capacity(alloc, 8)?;
+    for pair in 0..4usize {
+        let (rest, puts) = queue.split(whole);
+        let (rest, takes) = queue.split(rest);
+        whole = rest;
+        let share = jobs.len() / (4 - pair);
+        parts.push(Part {
+            pass: puts,
+            jobs: jobs.split_off(jobs.len() - share)?,
+            most: 0,
+        })?;
+        parts.push(Part {
+            pass: takes,
+            jobs: Vec::new(alloc),
+            most,
+        })?;
+    }
+    Ok((whole, parts))
+}
+
+/// Does the exchange with eight threads. The whole pass comes back, with the jobs that no producer put.
 fn exchange_by_eight<R: Threads + Wait + Sync>(
     rt: &R,
     alloc: Global,
@@ -167,31 +200,9 @@ fn exchange_by_eight<R: Threads + Wait + Sync>(
     requires { whole.queue ≡ queue.now.id }
     ensures { IfOk result (λ r. r.0.queue ≡ queue.now.id) }
 {
-    let mut jobs = jobs;
-    let mut whole = whole;
-    let quarter = jobs.len() / 4;
-    let mut parts = Vec::with_capacity(alloc, 8)?;
-    for n in 0..8usize {
-        let (rest, pass) = queue.split(whole);
-        whole = rest;
-        let part = if n % 2 == 0 {
-            let at = jobs.len().saturating_sub(quarter);
-            Part {
-                pass,
-                jobs: jobs.split_off(at)?,
-                most: 0,
-            }
-        } else {
-            Part {
-                pass,
-                jobs: Vec::new(alloc),
-                most,
-            }
-        };
-        parts.push(part)?;
-    }
+    let (mut whole, parts) = eight_parts(alloc, queue, whole, jobs, most)?;
     let consumers = AtomicU64::new(4);
-    let mut left = jobs;
+    let mut left = Vec::new(alloc);
     for part in exchange(rt, queue, &consumers, parts)? {
         let Part { pass, mut jobs, .. } = part;
         whole = queue.join(whole, pass);
@@ -200,13 +211,26 @@ fn exchange_by_eight<R: Threads + Wait + Sync>(
     Ok((whole, left))
 }
 
-#[test]
-fn no_box_is_lost_or_called_twice(rt: HostRuntime) -> Result<(), Fail> {
-    let mut calls = Vec::with_capacity(rt.alloc(), JOBS)?;
+/// A counter for each box.
+fn counters(alloc: Global) -> Result<Arc<Vec<AtomicU64>, Global>, AllocError> {
+    let mut calls = Vec::with_capacity(alloc, JOBS)?;
     for _ in 0..JOBS {
         calls.push(AtomicU64::new(0))?;
     }
-    let calls = Arc::new(rt.alloc(), calls)?;
+    Ok(Arc::new(alloc, calls)?)
+}
+
+/// How many of the boxes were called once.
+fn called_once(calls: &[AtomicU64]) -> usize {
+    calls
+        .iter()
+        .filter(|count| count.load(Ordering::SeqCst) == 1)
+        .count()
+}
+
+#[test]
+fn no_box_is_lost_or_called_twice(rt: HostRuntime) -> Result<(), Fail> {
+    let calls = counters(rt.alloc())?;
     let mut jobs = Vec::with_capacity(rt.alloc(), JOBS)?;
     for stamp in 0..JOBS {
         let mine = Arc::try_clone(&calls)?;
@@ -216,26 +240,20 @@ fn no_box_is_lost_or_called_twice(rt: HostRuntime) -> Result<(), Fail> {
             }
             Answer::Done
         })?;
-        jobs.push(job_of(rt.alloc(), (stamp % 65536) as u16, stamp as u32, work)?)?;
+        let task = (stamp % 65536) as u16;
+        jobs.push(job_of(rt.alloc(), task, stamp as u32, work)?)?;
     }
     let (queue, whole) = JobQueue::new(rt.alloc(), PLACES)?;
-    let (whole, left) = exchange_by_eight(&rt, rt.alloc(), &queue, whole, jobs, JOBS / 4 - 500)?;
-    let mut called = 0u64;
-    for count in calls.iter() {
-        called = called.saturating_add(count.load(Ordering::SeqCst));
-    }
-    let drained = queue.drain(&rt, whole);
-    assert_eq!(rt; called, 98_000);
-    assert_eq!(rt; left.len() + drained.len(), 2_000);
+    let (whole, mut left) =
+        exchange_by_eight(&rt, rt.alloc(), &queue, whole, jobs, JOBS / 4 - 500)?;
+    // Each of four consumers called 24,500 boxes. All others come back, and once they are called too, each was called once.
+    assert_eq!(rt; called_once(&calls), 98_000);
+    left.append(&mut queue.drain(&rt, whole))?;
+    assert_eq!(rt; left.len(), 2_000);
     for job in left {
         call_all(job);
     }
-    for job in drained {
-        call_all(job);
-    }
-    for (stamp, count) in calls.iter().enumerate() {
-        assert_eq!(rt; count.load(Ordering::SeqCst), 1, "the box {stamp}");
-    }
+    assert_eq!(rt; called_once(&calls), JOBS);
     Ok(())
 }
 

@@ -1,8 +1,5 @@
-use Rattle.std.specs.Prelude.{◌≡◌, All}
+use Rattle.std.specs.Prelude.{◌≡◌}
 use Rattle.tpl_queue.proofs.tests.exchange_by_eight.Given as goal
-
-abbrev pub invariant-loop-n : goal.invariant-loop-n
-invariant-loop-n g l = (l.whole.queue ≡ l.queue.id) × All (λ p. p.pass.queue ≡ l.queue.id) l.parts.items
 
 abbrev pub invariant-loop-part : goal.invariant-loop-part
 invariant-loop-part g l =
