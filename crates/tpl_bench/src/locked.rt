@@ -65,13 +65,17 @@ pub fn exchange<R: Threads + Wait + Sync>(
         parts.push((each, 0u64))?;
         parts.push((0u64, each))?;
     }
-    let taken = thread::map_vec(rt, parts, &|part: (u64, u64)| -> u64 {
-        if part.0 > 0 {
-            produce(rt, list, part.0);
-            0
-        } else {
-            consume(rt, list, part.1)
-        }
-    })?;
+    let taken = thread::map_vec(
+        rt,
+        parts,
+        &|part: (u64, u64)| -> u64 {
+            if part.0 > 0 {
+                produce(rt, list, part.0);
+                0
+            } else {
+                consume(rt, list, part.1)
+            }
+        },
+    )?;
     Ok(taken.iter().fold(0u64, |sum, n| sum.saturating_add(*n)))
 }

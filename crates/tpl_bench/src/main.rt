@@ -8,9 +8,8 @@
 mod locked;
 mod shared;
 
-use std::env;
-use std::io;
 use std::time::{Duration, Instant};
+use std::{env, io};
 
 /// Each producer puts as many jobs as each consumer takes.
 const PAIRS: u64 = 4;

@@ -92,16 +92,20 @@ pub fn exchange<R: Threads + Wait + Sync>(
     let (queue, whole) = JobQueue::new(alloc, PLACES)?;
     let queue = &queue;
     let parts = parts(alloc, queue, whole, each)?;
-    let taken = thread::map_vec(rt, parts, &|part: Part| -> u64
-        requires { part.pass.queue ≡ queue.now.id }
-    {
-        let Part { pass, puts, takes } = part;
-        if puts > 0 {
-            produce(rt, queue, pass, puts);
-            0
-        } else {
-            consume(rt, queue, pass, takes)
-        }
-    })?;
+    let taken = thread::map_vec(
+        rt,
+        parts,
+        &|part: Part| -> u64
+            requires { part.pass.queue ≡ queue.now.id }
+        {
+            let Part { pass, puts, takes } = part;
+            if puts > 0 {
+                produce(rt, queue, pass, puts);
+                0
+            } else {
+                consume(rt, queue, pass, takes)
+            }
+        },
+    )?;
     Ok(taken.iter().fold(0u64, |sum, n| sum.saturating_add(*n)))
 }

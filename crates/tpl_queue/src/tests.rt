@@ -244,8 +244,14 @@ fn no_box_is_lost_or_called_twice(rt: HostRuntime) -> Result<(), Fail> {
         jobs.push(job_of(rt.alloc(), task, stamp as u32, work)?)?;
     }
     let (queue, whole) = JobQueue::new(rt.alloc(), PLACES)?;
-    let (whole, mut left) =
-        exchange_by_eight(&rt, rt.alloc(), &queue, whole, jobs, JOBS / 4 - 500)?;
+    let (whole, mut left) = exchange_by_eight(
+        &rt,
+        rt.alloc(),
+        &queue,
+        whole,
+        jobs,
+        JOBS / 4 - 500,
+    )?;
     // Each of four consumers called 24,500 boxes. All others come back, and once they are called too, each was called once.
     assert_eq!(rt; called_once(&calls), 98_000);
     left.append(&mut queue.drain(&rt, whole))?;
