@@ -1,0 +1,5 @@
+pub mod Drained
+pub mod Kept
+pub mod Moments
+pub mod Shares
+pub mod Steps

@@ -1,0 +1,4 @@
+pub mod Balance
+pub mod Pass
+pub mod Reserve
+pub mod Tally

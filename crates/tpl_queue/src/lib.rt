@@ -1,0 +1,17 @@
+//! A bounded queue of jobs that workers share with no lock, and the passes that they use it by.
+//!
+//! A pass has no bytes. It shows contracts the tasks of the jobs that it put and took, and which
+//! share of the queue's whole pass it is. The whole pass knows what the queue holds: each task as
+//! often as it was put and not taken.
+#![tactic(auto)]
+
+mod pass;
+mod queue;
+mod reserve;
+mod rule;
+
+pub use pass::QueuePass;
+pub use queue::JobQueue;
+
+#[cfg(test)]
+mod tests;
