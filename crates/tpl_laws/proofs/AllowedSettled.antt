@@ -21,66 +21,10 @@ use Rattle.tpl_model.specs.Certificate.{same}
 use Rattle.tpl_model.specs.Claims.{input, IsGiven, SettledAtBegin, HoldsOf}
 use Rattle.tpl_laws.specs.RowTests.{implies, parent_from, parent_of}
 use Rattle.tpl_laws.specs.Allowed.{is_child, some_parent, settled_within, is_settled, all_below, has_ended, is_complete, is_given, settled_at_begin, ends_within, holds_of, IsSettledIsRight, IsCompleteIsRight, HoldsOfIsRight, HoldsIsRight}
+use Rattle.tpl_laws.proofs.Basics.{or_split, or_left, or_right}
+use Rattle.tpl_laws.proofs.Settling.{beyond}
+use Rattle.tpl_laws.proofs.Parents.{parent_is, the_parent, parent_before}
 use Rattle.tpl_laws.proofs.AllowedDecided.{itself, denied, both_of, joined_from}
-
--- past the last task there is an empty root
-pub beyond : (ts : List Task) (t : ℕ) (past : Task) → length ts ≤ t → slice_index_or ts t past ≡ past
-beyond [] t past le = refl
-beyond (x ∷ xs) zero past le = absurd (omega arith)
-beyond (x ∷ xs) (suc t) past le = beyond xs t past (omega arith)
-
-abbrev empty_root : Task
-empty_root = record { kind = Root; body = Nothing; token = None; options = 0 }
-
-child_is_task : (g : TaskGraph) (t : ℕ) → kind g t ≡ Child → is_task g t
-child_is_task g t k = elim (cases_lt t (length g.tasks)) [
-  | inl lt ↦ lt
-  | inr le ↦ let r : Root ≡ Child = sym (ap (λ (z : Task). z.kind) (beyond g.tasks t empty_root le)) ∙ k in absurd (cc)
-]
-
--- the first of the tasks is taken, or a later one
-chosen : (b : Bool) (p : ℕ) (later : Option ℕ) (q : ℕ) → (if b then Some p else later) ≡ Some q → ((b ≡ true) × (p ≡ q)) ⊎ (later ≡ Some q)
-chosen true p later q e = inl (refl, cc)
-chosen false p later q e = inr e
-
--- what is found is a parent
-found_from : (g : TaskGraph) (t p n q : ℕ) → parent_from g t p n ≡ Some q → IsParent g q t
-found_from g t p zero q e = absurd (cc)
-found_from g t p (suc n) q e = elim (chosen (mem t (starts (body g p))) p (parent_from g t (suc p) n) q e) [
-  | inl x ↦ subst (λ (z : ℕ). IsParent g z t) x.1 x.0
-  | inr later ↦ found_from g t (suc p) n q later
-]
-
-first_or : (b : Bool) (p : ℕ) (later : Option ℕ) → (b ≡ false → (r : ℕ) × (later ≡ Some r)) → (r : ℕ) × ((if b then Some p else later) ≡ Some r)
-first_or true p later found = (p, refl)
-first_or false p later found = found refl
-
--- one among the n tasks is found
-finds_from : (g : TaskGraph) (t p n q : ℕ) → IsParent g q t → p ≤ q → q < p + n → (r : ℕ) × (parent_from g t p n ≡ Some r)
-finds_from g t p zero q m low high = absurd (omega arith)
-finds_from g t p (suc n) q m low high =
-    first_or (mem t (starts (body g p))) p (parent_from g t (suc p) n) (λ not_here. finds_from g t (suc p) n q m (after not_here) (omega arith))
-  where
-    after : mem t (starts (body g p)) ≡ false → suc p ≤ q
-    after not_here = elim (cases_lt p q) [
-      | inl lt ↦ omega arith
-      | inr ge ↦ let at : p ≡ q = omega arith in let here : IsParent g p t = subst (λ (z : ℕ). IsParent g z t) (sym at) m in absurd (cc)
-    ]
-
--- a started child has one parent, which is declared before it
-module _ (g : TaskGraph) (valid : IsGraph g) (t : ℕ) (k : kind g t ≡ Child) where
-  pub before_child : (p : ℕ) → IsParent g p t → p < t
-  before_child p m =
-      let rules = valid.each t (child_is_task g t k) in
-      let q = rules.parent k in
-      subst (λ (z : ℕ). z < t) (rules.one_parent q.0 p q.1 m) q.2
-
-  pub the_parent : (p : ℕ) → IsParent g p t → parent_of g t ≡ Some p
-  the_parent p m =
-      let here = child_is_task g t k in
-      let first : p < t = before_child p m in
-      let r = finds_from g t 0 (length g.tasks) p m (omega arith) (omega arith) in
-      r.1 ∙ ap Some ((valid.each t here).one_parent r.0 p (found_from g t 0 (length g.tasks) r.0 r.1) m)
 
 pub of_child : (k : TaskKind) → is_child k ≡ true → k ≡ Child
 of_child Root e = cc
@@ -89,22 +33,10 @@ of_child (Continues a) e = cc
 of_child (WhenAll args) e = cc
 of_child (WhenAny args) e = cc
 
-or_cases : (a b : Bool) → (a || b) ≡ true → (a ≡ true) ⊎ (b ≡ true)
-or_cases true b e = inl refl
-or_cases false b e = inr e
-
-or_first : (a b : Bool) → a ≡ true → (a || b) ≡ true
-or_first true b e = refl
-or_first false b e = cc
-
-or_second : (a b : Bool) → b ≡ true → (a || b) ≡ true
-or_second true b e = refl
-or_second false b e = e
-
 module _ (g : TaskGraph) (v : List Bool) (h : List Event) where
   settled_of : (n t : ℕ) → settled_within g v h n t ≡ true → Settled g v h t
   settled_of zero t e = ended e
-  settled_of (suc n) t e = elim (or_cases (is_some (ending g v h t)) (is_child (kind g t) && (not (started g v h t) && some_parent (parent_of g t) (settled_within g v h n))) e) [
+  settled_of (suc n) t e = elim (or_split (is_some (ending g v h t)) (is_child (kind g t) && (not (started g v h t) && some_parent (parent_of g t) (settled_within g v h n))) e) [
     | inl over ↦ ended over
     | inr child ↦
         let a = both_of (is_child (kind g t)) (not (started g v h t) && some_parent (parent_of g t) (settled_within g v h n)) child in
@@ -114,19 +46,19 @@ module _ (g : TaskGraph) (v : List Bool) (h : List Event) where
     where
       by_parent : kind g t ≡ Child → started g v h t ≡ false → ((p : ℕ) → settled_within g v h n p ≡ true → Settled g v h p) → (o : Option ℕ) → parent_of g t ≡ o → some_parent o (settled_within g v h n) ≡ true → Settled g v h t
       by_parent k s above None found e = absurd (cc)
-      by_parent k s above (Some p) found e = unstarted {p = p} k s (found_from g t 0 (length g.tasks) p found) (above p e)
+      by_parent k s above (Some p) found e = unstarted {p = p} k s (parent_is g t p found) (above p e)
 
   of_settled : IsGraph g → {t : ℕ} → Settled g v h t → (n : ℕ) → t ≤ n → settled_within g v h n t ≡ true
   of_settled valid (ended e) zero le = e
-  of_settled valid {t} (ended e) (suc n) le = or_first (is_some (ending g v h t)) (is_child (kind g t) && (not (started g v h t) && some_parent (parent_of g t) (settled_within g v h n))) e
-  of_settled valid {t} (unstarted {p = p} k s m above) zero le = let first : p < t = before_child g valid t k p m in absurd (omega arith)
+  of_settled valid {t} (ended e) (suc n) le = or_left (is_some (ending g v h t)) (is_child (kind g t) && (not (started g v h t) && some_parent (parent_of g t) (settled_within g v h n))) e
+  of_settled valid {t} (unstarted {p = p} k s m above) zero le = let first : p < t = parent_before g p t valid m in absurd (omega arith)
   of_settled valid {t} (unstarted {p = p} k s m above) (suc n) le =
-      let first : p < t = before_child g valid t k p m in
+      let first : p < t = parent_before g p t valid m in
       let up : settled_within g v h n p ≡ true = of_settled valid above n (omega arith) in
-      or_second (is_some (ending g v h t)) (is_child (kind g t) && (not (started g v h t) && some_parent (parent_of g t) (settled_within g v h n)))
+      or_right (is_some (ending g v h t)) (is_child (kind g t) && (not (started g v h t) && some_parent (parent_of g t) (settled_within g v h n)))
       (joined_from (is_child (kind g t)) (not (started g v h t) && some_parent (parent_of g t) (settled_within g v h n)) (ap is_child k)
       (joined_from (not (started g v h t)) (some_parent (parent_of g t) (settled_within g v h n)) ((denied (started g v h t)).1 s)
-      (ap (λ (o : Option ℕ). some_parent o (settled_within g v h n)) (the_parent g valid t k p m) ∙ up)))
+      (ap (λ (o : Option ℕ). some_parent o (settled_within g v h n)) (the_parent g p t valid m) ∙ up)))
 
 pub settled_lem : IsSettledIsRight
 settled_lem g v h t valid = (settled_of g v h t t, λ s. of_settled g v h valid s t (omega arith))

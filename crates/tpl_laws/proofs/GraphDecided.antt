@@ -13,7 +13,8 @@ use Rattle.tpl_model.specs.Valid.{IdsOf, IdsWithin, OwnToken, AreBefore, IsLinke
 use Rattle.tpl_laws.specs.RowTests.{implies, all_in}
 use Rattle.tpl_laws.specs.Allowed.{is_child, all_below}
 use Rattle.tpl_laws.proofs.AllowedDecided.{itself, denied, both3}
-use Rattle.tpl_laws.proofs.AllowedSettled.{beyond, of_child, implied}
+use Rattle.tpl_laws.proofs.Settling.{beyond}
+use Rattle.tpl_laws.proofs.AllowedSettled.{of_child, implied}
 use Rattle.tpl_laws.specs.GraphTests.{at_most, some_below, has_ids, has_ids_within, has_own, are_before, is_linked, are_placed, is_placed, is_nothing, is_none, has_body, has_subject, is_parent, parent_before, started_once, same_parent, one_parent, starts_child, fits_body, fits_kind, fits_options, fits_children, is_right, once_each, within_limits, is_graph}
 
 -- the tests mean what the rules say

@@ -19,7 +19,7 @@ use Rattle.tpl_laws.proofs.Ready.{Ready, begun_ready, IsBody, begun_body}
 use Rattle.std.proofs.Common.{◌≤◌, filter}
 use Rattle.std.proofs.lemmas.Bool.{cases_lt}
 
-beyond : (xs : List Task) (t : ℕ) (d : Task) → length xs ≤ t → slice_index_or xs t d ≡ d
+pub beyond : (xs : List Task) (t : ℕ) (d : Task) → length xs ≤ t → slice_index_or xs t d ≡ d
 beyond [] t d e = refl
 beyond (x ∷ xs) zero d e = absurd (omega arith)
 beyond (x ∷ xs) (suc t) d e = beyond xs t d (omega arith)

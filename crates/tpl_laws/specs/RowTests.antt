@@ -13,6 +13,7 @@ use Rattle.tpl_model.specs.declared.claim.Property.{Property}
 use Rattle.tpl_model.specs.declared.claim.Property.TheVariants.{Final as EndsIn, After, Observed, Never, Excludes}
 use Rattle.tpl_model.specs.Certificate.{Row, row, Assumed, is_loud, view, may_end_early}
 use Rattle.tpl_script.specs.Paths.{Known}
+pub use Rattle.tpl_script.specs.Ends.{is_return, is_acknowledgement}
 use Rattle.tpl_script.specs.Recursion.{may, none, is_throw, must_observe, reaches}
 
 -- where the first test holds, so does the second
@@ -72,16 +73,6 @@ runs_by g l rows t kind = true
 -- the first rule
 abbrev pub runs : TaskGraph → Assumed → List Row → ℕ → Bool
 runs g l rows t = runs_by g l rows t (kind g t)
-
--- the body returned
-abbrev pub is_return : Outcome → Bool
-is_return Returned = true
-is_return verdict = false
-
--- the body acknowledged a cancellation
-abbrev pub is_acknowledgement : Outcome → Bool
-is_acknowledgement Acknowledged = true
-is_acknowledgement verdict = false
 
 -- how a body may end its task
 abbrev pub may_throw : TaskGraph → Assumed → List Row → ℕ → Bool
