@@ -5,6 +5,7 @@ pub mod Execution
 pub mod Ready
 pub mod Follows
 pub mod Settling
+pub mod SettledBefore
 pub mod Carrying
 pub mod RowsAreTrue
 pub mod EachEvent

@@ -6,6 +6,7 @@ pub mod allowed;
 mod closed;
 mod links;
 mod runs;
+mod settled;
 mod sound;
 
 pub use closed::{
@@ -18,4 +19,5 @@ pub use links::{
     without_links,
 };
 pub use runs::{is_bounded, nothing_goes_back, prefix_is_run};
+pub use settled::{settled_before_its_begin, settled_without_begin};
 pub use sound::{rows_are_true, some_leaf_agrees, soundness};

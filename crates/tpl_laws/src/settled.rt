@@ -1,0 +1,13 @@
+//! What is true of tasks that are settled where another begins.
+
+ghost use Rattle.tpl_laws.specs.Settling.{SettledBeforeItsBegin, SettledWithoutBegin};
+
+/// Where a task hasn't begun, each task counts as settled at its begin.
+pub fn settled_without_begin()
+    ensures { SettledWithoutBegin }
+{}
+
+/// What was settled where a task began is told by the ends, and by what was never started, in the whole run.
+pub fn settled_before_its_begin()
+    ensures { SettledBeforeItsBegin }
+{}
