@@ -1,0 +1,13 @@
+use Rattle.std.proofs.Common.{◌≡◌, map, take}
+use Rattle.std.specs.Prelude.{string_bytes}
+use Rattle.tpl_graph.specs.Ids.{task_number}
+use Rattle.tpl_graph.specs.Names.{place}
+use Rattle.tpl_graph.specs.Numbered.{AreFew}
+use Rattle.tpl_graph.specs.Tables.{seen}
+use Rattle.tpl_graph.proofs.rows.task_ids.Given as goal
+
+abbrev pub invariant-loop-name : goal.invariant-loop-name
+invariant-loop-name l = record {
+  few : AreFew (seen l.tables);
+  made : map task_number l.ids.items ≡ map (λ n. place l.tables.tasks (string_bytes n)) (take l.name-index l.names);
+}

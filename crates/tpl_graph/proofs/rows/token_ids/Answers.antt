@@ -1,0 +1,7 @@
+use Rattle.std.specs.Prelude.{string_bytes}
+use Rattle.tpl_graph.specs.Names.{place}
+use Rattle.tpl_graph.proofs.NamesLemmas.{all_named}
+use Rattle.tpl_graph.proofs.rows.token_ids.Goals as goal
+
+pub returns : goal.returns
+returns c = all_named string_bytes (place c.args.names.now) _ _ _ c.loop-name-test.false c.loop-name.invariant.made

@@ -1,0 +1,32 @@
+-- What the tables of a checked draft are.
+use Rattle.std.specs.Prelude.{◌≡◌, false, length, map}
+use Rattle.tpl_graph.specs.declared.check.Checked.{Checked}
+use Rattle.tpl_graph.specs.declared.check.Found.{Found}
+use Rattle.tpl_graph.specs.Names.{some_twice}
+use Rattle.tpl_graph.specs.Numbered.{names_of, graph_in}
+use Rattle.tpl_graph.specs.Draft.{Draft}
+use Rattle.tpl_graph.specs.Refusals.{all_starts}
+use Rattle.tpl_graph.specs.Rows.{token_of}
+use Rattle.tpl_graph.specs.Starters.{numbers}
+use Rattle.tpl_graph.specs.Tables.{seen}
+use Rattle.tpl_graph.specs.Test.{AreDeclared, AreStarters}
+
+pub record IsFound (d : Draft) (f : Found) : Type 0 where
+  pub names : AreDeclared d f.declared
+  pub starts : map numbers f.starts.items ≡ all_starts (graph_in (names_of d) d)
+  pub starters : AreStarters d f.starters.items
+  pub long : length f.starters.items ≡ length d.tasks
+  pub inputs_once : some_twice (names_of d).inputs ≡ false
+  pub tokens_once : some_twice (names_of d).tokens ≡ false
+  pub tasks_once : some_twice (names_of d).tasks ≡ false
+
+pub record IsChecked (d : Draft) (c : Checked) : Type 0 where
+  pub names : seen c.names ≡ names_of d
+  pub tokens : map token_of c.tokens.items ≡ (graph_in (names_of d) d).tokens
+  pub starts : map numbers c.starts.items ≡ all_starts (graph_in (names_of d) d)
+  pub starters : AreStarters d c.starters.items
+  pub long : length c.starters.items ≡ length d.tasks
+  pub inputs_once : some_twice (names_of d).inputs ≡ false
+  pub tokens_once : some_twice (names_of d).tokens ≡ false
+  pub tasks_once : some_twice (names_of d).tasks ≡ false
+  pub sites_once : some_twice (names_of d).sites ≡ false

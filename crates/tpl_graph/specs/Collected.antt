@@ -1,0 +1,34 @@
+-- What the statements of a body name: labels, sites, and the tasks that they start.
+use Rattle.std.specs.Prelude.{ℕ, Bool, List, [], ◌∷◌, flat_map}
+use Rattle.tpl_graph.specs.declared.collect.Sort.{Sort}
+use Rattle.tpl_graph.specs.declared.row.Site.{Site}
+use Rattle.tpl_graph.specs.Names.{place}
+use Rattle.tpl_graph.specs.Numbered.{names_in}
+use Rattle.tpl_graph.specs.Draft.{Line, Lines, Start, Work, each_of}
+
+-- the names of a sort in a body, in the order of its text
+abbrev pub named : Sort → Lines → List (List ℕ)
+named sort body = flat_map (names_in sort) (each_of body)
+
+abbrev pub start_in : List (List ℕ) → Line → List ℕ
+start_in tasks (Start c) = place tasks c ∷ []
+start_in tasks s = []
+
+-- the tasks that a body starts, in the order of its text
+abbrev pub started : List (List ℕ) → Lines → List ℕ
+started tasks body = flat_map (start_in tasks) (each_of body)
+
+abbrev pub may_fail_in : Line → List Bool
+may_fail_in (Work s may_fail) = may_fail ∷ []
+may_fail_in s = []
+
+abbrev pub site_of : ℕ → Bool → Site
+site_of owner may_fail = record { owner = record { 0 = owner }; may_fail = may_fail }
+
+abbrev pub owned_in : ℕ → Line → List Site
+owned_in owner (Work s may_fail) = site_of owner may_fail ∷ []
+owned_in owner s = []
+
+-- the sites of a body with their owner, in the order of its text
+abbrev pub owned : ℕ → Lines → List Site
+owned owner body = flat_map (owned_in owner) (each_of body)

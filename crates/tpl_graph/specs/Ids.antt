@@ -1,0 +1,18 @@
+-- The numbers of ids.
+use Rattle.std.specs.Prelude.{ℕ}
+use Rattle.tpl_words.specs.declared.ids.TaskId.{TaskId}
+use Rattle.tpl_words.specs.declared.ids.TokenId.{TokenId}
+use Rattle.tpl_words.specs.declared.ids.InputId.{InputId}
+use Rattle.tpl_words.specs.declared.ids.SiteId.{SiteId}
+
+abbrev pub task_number : TaskId → ℕ
+task_number t = t.0
+
+abbrev pub token_number : TokenId → ℕ
+token_number k = k.0
+
+abbrev pub input_number : InputId → ℕ
+input_number i = i.0
+
+abbrev pub site_number : SiteId → ℕ
+site_number s = s.0

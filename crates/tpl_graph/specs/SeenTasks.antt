@@ -1,0 +1,29 @@
+-- What a draft in memory is seen as.
+use Rattle.std.specs.Prelude.{map, string_bytes}
+use Rattle.std.specs.Option.{option_map}
+use Rattle.tpl_graph.specs.declared.draft.DraftToken.{DraftToken}
+use Rattle.tpl_graph.specs.declared.draft.DraftWork.{DraftWork}
+use Rattle.tpl_graph.specs.declared.draft.DraftKind.{DraftKind}
+use Rattle.tpl_graph.specs.declared.draft.DraftKind.TheVariants as kind
+use Rattle.tpl_graph.specs.declared.draft.DraftTask.{DraftTask}
+use Rattle.tpl_graph.specs.declared.draft.Draft as declared
+use Rattle.tpl_graph.specs.Draft.{Worked, Kind, Root, Child, Continues, WhenAll, WhenAny, Task, Token, Draft}
+
+abbrev pub work_of : DraftWork → Worked
+work_of w = record { body = w.body; token = option_map string_bytes w.token; options = w.options }
+
+abbrev pub kind_of : DraftKind → Kind
+kind_of (kind.Root w) = Root (work_of w)
+kind_of (kind.Child w) = Child (work_of w)
+kind_of (kind.Then a w) = Continues (string_bytes a) (work_of w)
+kind_of (kind.All args) = WhenAll (map string_bytes args.items)
+kind_of (kind.Any args) = WhenAny (map string_bytes args.items)
+
+abbrev pub task_of : DraftTask → Task
+task_of t = record { name = string_bytes t.name; kind = kind_of t.kind }
+
+abbrev pub token_of : DraftToken → Token
+token_of k = record { name = string_bytes k.name; linked = option_map (λ l. map string_bytes l.items) k.linked }
+
+abbrev pub draft_of : declared.Draft → Draft
+draft_of d = record { inputs = map string_bytes d.inputs.items; tokens = map token_of d.tokens.items; tasks = map task_of d.tasks.items }

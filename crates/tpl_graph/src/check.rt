@@ -1,0 +1,244 @@
+//! The refusals in order.
+
+ghost use Rattle.std.specs.Prelude.{◌≡◌, false, length, map, suc, IfOk, OnOk, IfErr};
+ghost use Rattle.tpl_graph.specs.Names.{some_twice};
+ghost use Rattle.tpl_graph.specs.Numbered.{names_of, graph_in};
+ghost use Rattle.tpl_graph.specs.Refusals.{number, IsValid, NoneBelow, Refuses, all_starts};
+ghost use Rattle.tpl_graph.specs.Rows.{token_of};
+ghost use Rattle.tpl_graph.specs.SeenTasks.{draft_of};
+ghost use Rattle.tpl_graph.specs.Starters.{numbers};
+ghost use Rattle.tpl_graph.specs.Test.{why_of, IsTestOf, AreDeclared, AreStarters};
+ghost use Rattle.tpl_graph.specs.Checked.{IsFound, IsChecked};
+
+use crate::ask::Declared;
+use crate::declare::declare;
+use crate::draft::Draft;
+use crate::fault::{GraphFault, Why};
+use crate::names::{Names, NamesFault, Tables};
+use crate::refusals::{Test, first_where, why_of};
+use crate::row::{Origin, Starter};
+use crate::rows::origins;
+use crate::starters::{all_starts, starters};
+use crate::tables::{label_table, site_table};
+use crate::task_options::options_fault;
+use crate::too_many::first_too_many;
+use std::alloc::Global;
+use tpl_words::TaskId;
+
+/// The test's refusal applies nowhere.
+fn pass(draft: &Draft, test: &Test<'_>) -> Result<(), GraphFault>
+    requires test { IsTestOf (draft_of draft.now) test.now }
+    requires before { NoneBelow (draft_of draft.now) (number (why_of test.now)) }
+    ensures none { OnOk result (NoneBelow (draft_of draft.now) (suc (number (why_of test.now)))) }
+    ensures fault { IfErr result (Refuses (draft_of draft.now)) }
+{
+    match first_where(draft, test) {
+        Some(at) => Err(GraphFault {
+            why: why_of(test),
+            at,
+        }),
+        None => Ok(()),
+    }
+}
+
+/// No limit is exceeded.
+fn pass_limits(draft: &Draft) -> Result<(), GraphFault>
+    ensures none { OnOk result (NoneBelow (draft_of draft.now) 2) }
+    ensures fault { IfErr result (Refuses (draft_of draft.now)) }
+{
+    match first_too_many(draft) {
+        Some(at) => Err(GraphFault {
+            why: Why::TooMany,
+            at,
+        }),
+        None => Ok(()),
+    }
+}
+
+/// The declared names, where all names are spelled well and all references declared.
+fn pass_names(alloc: Global, draft: &Draft) -> Result<Declared, GraphFault>
+    ensures names { IfOk result (AreDeclared (draft_of draft.now)) }
+    ensures inputs { OnOk result (some_twice (names_of (draft_of draft.now)).inputs ≡ false) }
+    ensures tokens { OnOk result (some_twice (names_of (draft_of draft.now)).tokens ≡ false) }
+    ensures tasks { OnOk result (some_twice (names_of (draft_of draft.now)).tasks ≡ false) }
+    ensures none { OnOk result (NoneBelow (draft_of draft.now) 5) }
+    ensures fault { IfErr result (Refuses (draft_of draft.now)) }
+{
+    pass_limits(draft)?;
+    pass(draft, &Test::BadName)?;
+    let declared = declare(alloc, draft)?;
+    pass(draft, &Test::Unknown(&declared))?;
+    Ok(declared)
+}
+
+/// Antecedents and arguments are in their places.
+fn pass_places(draft: &Draft, declared: &Declared) -> Result<(), GraphFault>
+    requires names { AreDeclared (draft_of draft.now) declared.now }
+    requires before { NoneBelow (draft_of draft.now) 5 }
+    ensures none { OnOk result (NoneBelow (draft_of draft.now) 8) }
+    ensures fault { IfErr result (Refuses (draft_of draft.now)) }
+{
+    pass(draft, &Test::NotEarlier(declared))?;
+    pass(draft, &Test::OfChild(declared))?;
+    pass(draft, &Test::EmptyAny)
+}
+
+/// The sites, none of which stands twice.
+fn pass_sites(alloc: Global, draft: &Draft) -> Result<Names, GraphFault>
+    requires { NoneBelow (draft_of draft.now) 9 }
+    ensures names { IfOk result (λ n. n ≡ (names_of (draft_of draft.now)).sites) }
+    ensures once { OnOk result (some_twice (names_of (draft_of draft.now)).sites ≡ false) }
+    ensures none { OnOk result (NoneBelow (draft_of draft.now) 10) }
+    ensures fault { IfErr result (Refuses (draft_of draft.now)) }
+{
+    match site_table(alloc, draft) {
+        Ok(names) => Ok(names),
+        Err(NamesFault::Twice(t)) => Err(GraphFault {
+            why: Why::SiteTwice,
+            at: t + 1,
+        }),
+        Err(NamesFault::Memory) => Err(GraphFault {
+            why: Why::Memory,
+            at: 0,
+        }),
+    }
+}
+
+/// All options fit.
+fn pass_options(draft: &Draft) -> Result<(), GraphFault>
+    requires { NoneBelow (draft_of draft.now) 10 }
+    ensures none { OnOk result (NoneBelow (draft_of draft.now) 11) }
+    ensures fault { IfErr result (Refuses (draft_of draft.now)) }
+{
+    for (t, task) in draft.tasks.iter().enumerate() {
+        if let Some(fault) = options_fault(task) {
+            return Err(GraphFault {
+                why: Why::Option(fault),
+                at: t + 1,
+            });
+        }
+    }
+    Ok(())
+}
+
+/// The tables of a draft to which no refusal applies.
+#[derive(Drop)]
+pub(crate) struct Checked {
+    pub(crate) names: Tables,
+    pub(crate) tokens: Vec<Origin>,
+    pub(crate) starts: Vec<Vec<TaskId>>,
+    pub(crate) starters: Vec<Starter>,
+}
+
+/// Which tasks start which, where each start names a child and each child is started once.
+fn pass_children(
+    alloc: Global,
+    draft: &Draft,
+    declared: &Declared,
+) -> Result<(Vec<Vec<TaskId>>, Vec<Starter>), GraphFault>
+    requires names { AreDeclared (draft_of draft.now) declared.now }
+    requires before { NoneBelow (draft_of draft.now) 8 }
+    ensures starts { IfOk result (λ r. map numbers r.0.items ≡ all_starts (graph_in (names_of (draft_of draft.now)) (draft_of draft.now))) }
+    ensures starters { IfOk result (λ r. AreStarters (draft_of draft.now) r.1.items) }
+    ensures long { IfOk result (λ r. length r.1.items ≡ length (draft_of draft.now).tasks) }
+    ensures none { OnOk result (NoneBelow (draft_of draft.now) 9) }
+    ensures fault { IfErr result (Refuses (draft_of draft.now)) }
+{
+    let mut sites = Vec::new(alloc);
+    let starts = all_starts(alloc, &mut sites, &draft.tasks, &declared.tasks)?;
+    let table = starters(alloc, &starts)?;
+    pass(draft, &Test::ChildPlace(declared, &table))?;
+    Ok((starts, table))
+}
+
+/// Where the tokens come from, where each link is in its place.
+fn pass_links(alloc: Global, draft: &Draft, names: &Names) -> Result<Vec<Origin>, GraphFault>
+    requires names { names.now ≡ (names_of (draft_of draft.now)).tokens }
+    requires before { NoneBelow (draft_of draft.now) 12 }
+    ensures tokens { IfOk result (λ v. map token_of v.items ≡ (graph_in (names_of (draft_of draft.now)) (draft_of draft.now)).tokens) }
+    ensures valid { OnOk result (IsValid (draft_of draft.now)) }
+    ensures fault { IfErr result (Refuses (draft_of draft.now)) }
+{
+    let tokens = origins(alloc, names, &draft.tokens)?;
+    pass(draft, &Test::LinkPlace(&tokens))?;
+    Ok(tokens)
+}
+
+/// What the first tests of a draft find.
+#[derive(Drop)]
+struct Found {
+    declared: Declared,
+    starts: Vec<Vec<TaskId>>,
+    starters: Vec<Starter>,
+}
+
+/// The tests up to the places of children.
+fn pass_first(alloc: Global, draft: &Draft) -> Result<Found, GraphFault>
+    ensures found { IfOk result (IsFound (draft_of draft.now)) }
+    ensures none { OnOk result (NoneBelow (draft_of draft.now) 9) }
+    ensures fault { IfErr result (Refuses (draft_of draft.now)) }
+{
+    let declared = pass_names(alloc, draft)?;
+    pass_places(draft, &declared)?;
+    let (starts, starters) = pass_children(alloc, draft, &declared)?;
+    Ok(Found {
+        declared,
+        starts,
+        starters,
+    })
+}
+
+/// The labels, by their first `throw`.
+fn labels_of(alloc: Global, draft: &Draft) -> Result<Names, GraphFault>
+    ensures names { IfOk result (λ n. n ≡ (names_of (draft_of draft.now)).labels) }
+    ensures fault { IfErr result (Refuses (draft_of draft.now)) }
+{
+    let labels = label_table(alloc, &draft.tasks)?;
+    Ok(labels)
+}
+
+/// The tests behind those of children: the sites, where the tokens come from, and the labels.
+fn pass_rest(
+    alloc: Global,
+    draft: &Draft,
+    tokens: &Names,
+) -> Result<(Names, Vec<Origin>, Names), GraphFault>
+    requires names { tokens.now ≡ (names_of (draft_of draft.now)).tokens }
+    requires before { NoneBelow (draft_of draft.now) 9 }
+    ensures sites { IfOk result (λ r. r.0 ≡ (names_of (draft_of draft.now)).sites) }
+    ensures once { OnOk result (some_twice (names_of (draft_of draft.now)).sites ≡ false) }
+    ensures labels { IfOk result (λ r. r.2 ≡ (names_of (draft_of draft.now)).labels) }
+    ensures tokens { IfOk result (λ r. map token_of r.1.items ≡ (graph_in (names_of (draft_of draft.now)) (draft_of draft.now)).tokens) }
+    ensures valid { OnOk result (IsValid (draft_of draft.now)) }
+    ensures fault { IfErr result (Refuses (draft_of draft.now)) }
+{
+    let sites = pass_sites(alloc, draft)?;
+    pass_options(draft)?;
+    pass(draft, &Test::ObserveNothing)?;
+    let origins = pass_links(alloc, draft, tokens)?;
+    let labels = labels_of(alloc, draft)?;
+    Ok((sites, origins, labels))
+}
+
+/// The tables of the draft, where no refusal applies to it.
+pub(crate) fn check(alloc: Global, draft: &Draft) -> Result<Checked, GraphFault>
+    ensures checked { IfOk result (IsChecked (draft_of draft.now)) }
+    ensures valid { OnOk result (IsValid (draft_of draft.now)) }
+    ensures fault { IfErr result (Refuses (draft_of draft.now)) }
+{
+    let found = pass_first(alloc, draft)?;
+    let (sites, tokens, labels) = pass_rest(alloc, draft, &found.declared.tokens)?;
+    let names = Tables {
+        inputs: found.declared.inputs,
+        tokens: found.declared.tokens,
+        tasks: found.declared.tasks,
+        labels,
+        sites,
+    };
+    Ok(Checked {
+        names,
+        tokens,
+        starts: found.starts,
+        starters: found.starters,
+    })
+}

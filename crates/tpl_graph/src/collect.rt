@@ -1,0 +1,130 @@
+//! What the statements of a body name: labels, sites, and the tasks that they start.
+
+ghost use Rattle.std.specs.Prelude.{◌≡◌, ◌≤◌, ◌++◌, ◌∷◌, ◌||◌, length, map, flat_map, string_bytes, IfOk, OnOk};
+ghost use Rattle.tpl_graph.specs.Numbered.{names_in};
+ghost use Rattle.tpl_graph.specs.Collected.{named, start_in, started, owned_in, owned};
+ghost use Rattle.tpl_graph.specs.Draft.{each_within};
+ghost use Rattle.tpl_graph.specs.Ids.{task_number};
+ghost use Rattle.tpl_graph.specs.Names.{with_name, with_names, twice_after, has_name};
+ghost use Rattle.tpl_graph.specs.SeenDraft.{line_of};
+
+use crate::draft::{DraftBody, DraftStmt};
+use crate::names::Names;
+use crate::row::Site;
+use std::alloc::AllocError;
+use tpl_words::TaskId;
+
+/// Which names of statements.
+#[derive(Clone, Copy)]
+pub(crate) enum Sort {
+    Labels,
+    Sites,
+}
+
+fn either(first: bool, second: bool) -> bool
+    ensures { result ≡ (first || second) }
+{
+    first || second
+}
+
+/// Adds a name, and says whether it stood there before.
+fn add_name(names: &mut Names, name: &String) -> Result<bool, AllocError>
+    ensures names { OnOk result (names.new ≡ with_name names.old (string_bytes name.now)) }
+    ensures twice { IfOk result (λ twice. twice ≡ has_name names.old (string_bytes name.now)) }
+{
+    let added = names.add(name.clone()?)?;
+    Ok(!added)
+}
+
+/// Adds the names of a sort in a body, and says whether one of them stood there before.
+#[cycle(add)]
+pub(crate) fn add_names(names: &mut Names, body: &DraftBody, sort: Sort) -> Result<bool, AllocError>
+    ensures names { OnOk result (names.new ≡ with_names names.old (named sort body.now)) }
+    ensures twice { IfOk result (λ twice. twice ≡ twice_after names.old (named sort body.now)) }
+{
+    let mut twice = false;
+    for statement in body.list() {
+        let again = add_within(names, statement, sort)?;
+        twice = either(twice, again);
+    }
+    Ok(twice)
+}
+
+#[cycle(add)]
+fn add_within(names: &mut Names, statement: &DraftStmt, sort: Sort) -> Result<bool, AllocError>
+    ensures names { OnOk result (names.new ≡ with_names names.old (flat_map (names_in sort) (line_of statement.now ∷ each_within (line_of statement.now)))) }
+    ensures twice { IfOk result (λ twice. twice ≡ twice_after names.old (flat_map (names_in sort) (line_of statement.now ∷ each_within (line_of statement.now)))) }
+{
+    match statement {
+        DraftStmt::Throw(label) => match sort {
+            Sort::Labels => add_name(names, label),
+            Sort::Sites => Ok(false),
+        },
+        DraftStmt::Work(site, _) => match sort {
+            Sort::Labels => Ok(false),
+            Sort::Sites => add_name(names, site),
+        },
+        DraftStmt::If(_, yes, no) => {
+            let first = add_names(names, yes, sort)?;
+            let second = add_names(names, no, sort)?;
+            Ok(either(first, second))
+        }
+        DraftStmt::When(_, yes, no) => {
+            let first = add_names(names, yes, sort)?;
+            let second = add_names(names, no, sort)?;
+            Ok(either(first, second))
+        }
+        _ => Ok(false),
+    }
+}
+
+/// Adds the tasks that a body starts, and its sites with their owner.
+#[cycle(collect)]
+pub(crate) fn collect(
+    starts: &mut Vec<TaskId>,
+    sites: &mut Vec<Site>,
+    body: &DraftBody,
+    owner: TaskId,
+    tasks: &Names,
+) -> Result<(), AllocError>
+    requires { length tasks.now ≤ 1024 }
+    ensures starts { OnOk result (map task_number starts.new.items ≡ map task_number starts.old.items ++ started tasks.now body.now) }
+    ensures sites { OnOk result (sites.new.items ≡ sites.old.items ++ owned owner.0 body.now) }
+{
+    for statement in body.list() {
+        collect_within(starts, sites, statement, owner, tasks)?;
+    }
+    Ok(())
+}
+
+#[cycle(collect)]
+fn collect_within(
+    starts: &mut Vec<TaskId>,
+    sites: &mut Vec<Site>,
+    statement: &DraftStmt,
+    owner: TaskId,
+    tasks: &Names,
+) -> Result<(), AllocError>
+    requires { length tasks.now ≤ 1024 }
+    ensures starts { OnOk result (map task_number starts.new.items ≡ map task_number starts.old.items ++ flat_map (start_in tasks.now) (line_of statement.now ∷ each_within (line_of statement.now))) }
+    ensures sites { OnOk result (sites.new.items ≡ sites.old.items ++ flat_map (owned_in owner.0) (line_of statement.now ∷ each_within (line_of statement.now))) }
+{
+    match statement {
+        DraftStmt::Start(task) => {
+            starts.push(TaskId(tasks.place(task.as_str()) as u16))?;
+            Ok(())
+        }
+        DraftStmt::Work(_, may_fail) => {
+            sites.push(Site {
+                owner,
+                may_fail: *may_fail,
+            })?;
+            Ok(())
+        }
+        DraftStmt::If(_, yes, no) | DraftStmt::When(_, yes, no) => {
+            collect(starts, sites, yes, owner, tasks)?;
+            collect(starts, sites, no, owner, tasks)
+        }
+        _ => Ok(()),
+    }
+}

@@ -1,0 +1,319 @@
+//! A valid task graph and its readers.
+
+ghost use Rattle.std.specs.Prelude.{◌≡◌, ◌<◌, ◌≤◌, length, map, position, slice_get, Some, IfSome, IfNone, IfOk, IfErr, OnOk, ℕ};
+ghost use Rattle.std.specs.Option.{option_map};
+ghost use Rattle.std.specs.Str.{bytes_eq};
+ghost use Rattle.tpl_model.specs.Graph as spec;
+ghost use Rattle.tpl_model.specs.Graph.{is_task, is_token, IsParent};
+ghost use Rattle.tpl_model.specs.Valid as valid;
+ghost use Rattle.tpl_graph.specs.Ids.{task_number, token_number, input_number, site_number};
+ghost use Rattle.tpl_graph.specs.Named.{antecedent_of, args_of};
+ghost use Rattle.tpl_graph.specs.Rows.{kind_of};
+ghost use Rattle.tpl_graph.specs.Kept.{IsNamedGraph};
+ghost use Rattle.tpl_graph.specs.Checked.{IsChecked};
+ghost use Rattle.tpl_graph.specs.Numbered.{numbered};
+ghost use Rattle.tpl_graph.specs.Refusals.{IsValid, Refuses};
+ghost use Rattle.tpl_graph.specs.SeenTasks.{draft_of};
+
+use crate::check::{Checked, check};
+use crate::draft::Draft;
+use crate::fault::GraphFault;
+use crate::names::Tables;
+use crate::row::{Kind, Origin, Role, Row};
+use crate::rows::number_tasks;
+use crate::starters::{attached, bound, parents};
+use std::alloc::{AllocError, Global};
+use std::marker::Model;
+use tpl_script::Script;
+use tpl_words::{InputId, LabelId, Options, SiteId, TaskId, TokenId};
+
+/// A valid task graph with its names: at most 1,024 tasks, 32 tokens, 16 inputs and 256 sites. Ids count from 0 in
+/// declared order, sites in the order of the text, and labels by their first `throw`.
+#[derive(Drop)]
+pub struct Graph {
+    names: Tables,
+    tokens: Vec<Origin>,
+    tasks: Vec<Row>,
+    parents: Vec<Option<TaskId>>,
+    attached: Vec<Vec<TaskId>>,
+    bound: u32,
+}
+
+impl Model for Graph {
+    ghost use Rattle.std.specs.Prelude.{length};
+    ghost use Rattle.tpl_graph.specs.Named.{Named};
+    ghost use Rattle.tpl_graph.specs.Coding.{named_code};
+
+    ghost Value = { Named };
+
+    ghost coded = { named_code };
+
+    ghost use Rattle.tpl_graph.specs.Rows.{graph_of};
+    ghost use Rattle.tpl_graph.specs.Tables.{seen};
+    ghost use Rattle.tpl_graph.specs.Kept.{IsNamedGraph, AreKept};
+
+    ghost view = { λ g. record { graph = graph_of g.tokens.items (length g.names.inputs) g.tasks.items; names = seen g.names } };
+
+    ghost invariant = { λ g. let n : Named = record { graph = graph_of g.tokens.items (length g.names.inputs) g.tasks.items; names = seen g.names } in IsNamedGraph n × AreKept n g.parents.items g.attached.items g.bound };
+}
+
+/// The graph of a checked draft.
+fn make(alloc: Global, draft: &Draft, checked: Checked) -> Result<Graph, AllocError>
+    requires checked { IsChecked (draft_of draft.now) checked }
+    requires valid { IsValid (draft_of draft.now) }
+    ensures { IfOk result (λ g. g ≡ numbered (draft_of draft.now)) }
+{
+    let names = checked.names;
+    let tokens = checked.tokens;
+    let tasks = number_tasks(alloc, &names, &draft.tasks)?;
+    let attached = attached(alloc, &tasks, &checked.starts)?;
+    let parents = parents(alloc, &checked.starters)?;
+    let bound = bound(&tasks, tokens.len());
+    Ok(Graph {
+        names,
+        tokens,
+        tasks,
+        parents,
+        attached,
+        bound,
+    })
+}
+
+impl Graph {
+    /// The graph that a draft spells, where no refusal applies to it: names are numbered in declared order, sites in
+    /// the order of the text, labels by their first `throw`. Else the least refusal that applies anywhere, at the
+    /// earliest task; or `Memory`, where an allocation was refused before.
+    pub fn build(alloc: Global, draft: Draft) -> Result<Graph, GraphFault>
+        ensures valid { OnOk result (IsValid (draft_of draft)) }
+        ensures graph { IfOk result (λ g. g ≡ numbered (draft_of draft)) }
+        ensures fault { IfErr result (Refuses (draft_of draft)) }
+    {
+        let checked = check(alloc, &draft)?;
+        let graph = make(alloc, &draft, checked)?;
+        Ok(graph)
+    }
+
+    /// Each rule of a valid graph holds: a caller that needs one calls this, which does nothing.
+    pub fn valid(&self)
+        ensures { IsNamedGraph self.now }
+    {
+        let _ = &self.bound;
+    }
+
+    /// How many tasks there are: at most 1,024.
+    pub fn len(&self) -> usize
+        ensures count { result ≡ length self.now.graph.tasks }
+        ensures limit { result ≤ 1024 }
+    {
+        self.tasks.len()
+    }
+
+    /// How many tokens there are: at most 32.
+    pub fn token_count(&self) -> usize
+        ensures count { result ≡ length self.now.graph.tokens }
+        ensures limit { result ≤ 32 }
+    {
+        self.tokens.len()
+    }
+
+    /// How many inputs there are: at most 16.
+    pub fn input_count(&self) -> usize
+        ensures count { result ≡ self.now.graph.inputs }
+        ensures limit { result ≤ 16 }
+    {
+        self.names.inputs.len()
+    }
+
+    /// How many sites, that is work statements, there are: at most 256.
+    pub fn site_count(&self) -> usize
+        ensures count { result ≡ length self.now.names.sites }
+        ensures limit { result ≤ 256 }
+    {
+        self.names.sites.len()
+    }
+
+    /// How many labels there are.
+    pub fn label_count(&self) -> usize
+        ensures { result ≡ length self.now.names.labels }
+    {
+        self.names.labels.len()
+    }
+
+    /// The name of a task.
+    pub fn name(&self, task: TaskId) -> &str
+        requires { is_task self.now.graph task.0 }
+        ensures { slice_get self.now.names.tasks task.0 ≡ Some result.now }
+    {
+        self.names.tasks.name(task.0 as usize)
+    }
+
+    /// The name of a token.
+    pub fn token_name(&self, token: TokenId) -> &str
+        requires { is_token self.now.graph token.0 }
+        ensures { slice_get self.now.names.tokens token.0 ≡ Some result.now }
+    {
+        self.names.tokens.name(token.0 as usize)
+    }
+
+    /// The name of an input.
+    pub fn input_name(&self, input: InputId) -> &str
+        requires { input.0 < self.now.graph.inputs }
+        ensures { slice_get self.now.names.inputs input.0 ≡ Some result.now }
+    {
+        self.names.inputs.name(input.0 as usize)
+    }
+
+    /// The name of a site.
+    pub fn site_name(&self, site: SiteId) -> &str
+        requires { site.0 < length self.now.names.sites }
+        ensures { slice_get self.now.names.sites site.0 ≡ Some result.now }
+    {
+        self.names.sites.name(site.0 as usize)
+    }
+
+    /// The name of a label.
+    pub fn label_name(&self, label: LabelId) -> &str
+        requires { label.0 < length self.now.names.labels }
+        ensures { slice_get self.now.names.labels label.0 ≡ Some result.now }
+    {
+        self.names.labels.name(label.0 as usize)
+    }
+
+    /// The task of a name.
+    pub fn task(&self, name: &str) -> Option<TaskId>
+        ensures { option_map task_number result ≡ position (bytes_eq name.now) self.now.names.tasks }
+    {
+        match self.names.tasks.number(name) {
+            Some(number) => Some(TaskId(number as u16)),
+            None => None,
+        }
+    }
+
+    /// The token of a name.
+    pub fn token(&self, name: &str) -> Option<TokenId>
+        ensures { option_map token_number result ≡ position (bytes_eq name.now) self.now.names.tokens }
+    {
+        match self.names.tokens.number(name) {
+            Some(number) => Some(TokenId(number as u8)),
+            None => None,
+        }
+    }
+
+    /// The input of a name.
+    pub fn input(&self, name: &str) -> Option<InputId>
+        ensures { option_map input_number result ≡ position (bytes_eq name.now) self.now.names.inputs }
+    {
+        match self.names.inputs.number(name) {
+            Some(number) => Some(InputId(number as u8)),
+            None => None,
+        }
+    }
+
+    /// The site of a name.
+    pub fn site(&self, name: &str) -> Option<SiteId>
+        ensures { option_map site_number result ≡ position (bytes_eq name.now) self.now.names.sites }
+    {
+        match self.names.sites.number(name) {
+            Some(number) => Some(SiteId(number as u16)),
+            None => None,
+        }
+    }
+
+    /// What makes the task ready.
+    pub fn kind(&self, task: TaskId) -> Kind
+        requires { is_task self.now.graph task.0 }
+        ensures { result ≡ kind_of (spec.kind self.now.graph task.0) }
+    {
+        match &self.tasks[task.0 as usize].role {
+            Role::Root => Kind::Root,
+            Role::Child => Kind::Child,
+            Role::Then(_) => Kind::Then,
+            Role::All(_) => Kind::All,
+            Role::Any(_) => Kind::Any,
+        }
+    }
+
+    /// The task that a continuation continues; none of another kind.
+    pub fn antecedent(&self, task: TaskId) -> Option<TaskId>
+        requires { is_task self.now.graph task.0 }
+        ensures { option_map task_number result ≡ antecedent_of (spec.kind self.now.graph task.0) }
+    {
+        match &self.tasks[task.0 as usize].role {
+            Role::Then(antecedent) => Some(*antecedent),
+            _ => None,
+        }
+    }
+
+    /// The arguments of a WhenAll or WhenAny task; none of another kind.
+    pub fn args(&self, task: TaskId) -> &[TaskId]
+        requires { is_task self.now.graph task.0 }
+        ensures { map task_number result.now ≡ args_of (spec.kind self.now.graph task.0) }
+    {
+        match &self.tasks[task.0 as usize].role {
+            Role::All(args) => args.as_slice(),
+            Role::Any(args) => args.as_slice(),
+            _ => &[],
+        }
+    }
+
+    /// Its option words.
+    pub fn options(&self, task: TaskId) -> Options
+        requires { is_task self.now.graph task.0 }
+        ensures { result ≡ spec.options self.now.graph task.0 }
+    {
+        self.tasks[task.0 as usize].options
+    }
+
+    /// Its own token.
+    pub fn own_token(&self, task: TaskId) -> Option<TokenId>
+        requires { is_task self.now.graph task.0 }
+        ensures { option_map token_number result ≡ (spec.task self.now.graph task.0).token }
+    {
+        self.tasks[task.0 as usize].token
+    }
+
+    /// Its body; that of a WhenAll or WhenAny task is empty.
+    pub fn body(&self, task: TaskId) -> &Script
+        requires { is_task self.now.graph task.0 }
+        ensures { result.now ≡ spec.body self.now.graph task.0 }
+    {
+        &self.tasks[task.0 as usize].script
+    }
+
+    /// The tokens to which a token is linked (`CancellationTokenSource.CreateLinkedTokenSource`).
+    pub fn sources(&self, token: TokenId) -> &[TokenId]
+        requires { is_token self.now.graph token.0 }
+        ensures { map token_number result.now ≡ spec.sources self.now.graph token.0 }
+    {
+        match &self.tokens[token.0 as usize] {
+            Origin::Linked(sources) => sources.as_slice(),
+            Origin::Plain => &[],
+        }
+    }
+
+    /// The task whose body starts a child; none of another kind.
+    pub fn parent_of(&self, task: TaskId) -> Option<TaskId>
+        requires { is_task self.now.graph task.0 }
+        ensures parent { IfSome result (λ p. IsParent self.now.graph p.0 task.0) }
+        ensures none { IfNone result ((p : ℕ) → IsParent self.now.graph p task.0 → ⊥) }
+    {
+        self.parents[task.0 as usize]
+    }
+
+    /// The children that are attached to a task, in the order of its text (`TaskCreationOptions.AttachedToParent`,
+    /// `DenyChildAttach`).
+    pub fn attached(&self, task: TaskId) -> &[TaskId]
+        requires { is_task self.now.graph task.0 }
+        ensures { map task_number result.now ≡ spec.attached self.now.graph task.0 }
+    {
+        self.attached[task.0 as usize].as_slice()
+    }
+
+    /// The most events that a run has: at most 69,664.
+    pub fn bound(&self) -> u32
+        ensures bound { result ≡ valid.bound self.now.graph }
+        ensures limit { result ≤ 69664 }
+    {
+        self.bound
+    }
+}

@@ -1,0 +1,62 @@
+//! What a graph keeps of each task, token and site.
+
+use tpl_script::Script;
+use tpl_words::{Options, TaskId, TokenId};
+
+/// What makes a task ready (Task Parallel Library guide: tasks, child tasks, continuations, `Task.WhenAll` and
+/// `Task.WhenAny`).
+#[derive(Clone, Copy, PartialEq, Eq, Debug)]
+pub enum Kind {
+    /// It is ready from the first.
+    Root,
+    /// A statement of another task starts it.
+    Child,
+    /// It continues an antecedent.
+    Then,
+    /// It ends when all its arguments have ended.
+    All,
+    /// It ends when one of its arguments has ended.
+    Any,
+}
+
+/// A kind with the tasks that a task waits for.
+#[derive(Drop)]
+pub(crate) enum Role {
+    Root,
+    Child,
+    Then(TaskId),
+    All(Vec<TaskId>),
+    Any(Vec<TaskId>),
+}
+
+/// A task.
+#[derive(Drop)]
+pub(crate) struct Row {
+    pub(crate) role: Role,
+    pub(crate) script: Script,
+    pub(crate) token: Option<TokenId>,
+    pub(crate) options: Options,
+}
+
+/// A token, of a source of its own or of one that is linked to other tokens.
+#[derive(Drop)]
+pub(crate) enum Origin {
+    Plain,
+    Linked(Vec<TokenId>),
+}
+
+/// A site: the task whose body has it, and whether its job may fail.
+#[derive(Clone, Copy)]
+pub(crate) struct Site {
+    pub(crate) owner: TaskId,
+    pub(crate) may_fail: bool,
+}
+
+/// Which start statements name a task.
+#[derive(Clone, Copy)]
+pub(crate) enum Starter {
+    Nobody,
+    /// One, in the body of this task.
+    One(TaskId),
+    Several,
+}

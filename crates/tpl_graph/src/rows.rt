@@ -1,0 +1,179 @@
+//! The rows of a graph: its tasks and tokens with ids in place of names.
+
+ghost use Rattle.std.specs.Prelude.{◌≡◌, ◌≤◌, None, length, map, string_bytes, IfOk};
+ghost use Rattle.std.specs.Option.{option_map};
+ghost use Rattle.tpl_script.specs.Limits.{IsWithinLimits};
+ghost use Rattle.tpl_script.specs.Statements.{Nothing};
+ghost use Rattle.tpl_graph.specs.Draft as meaning;
+ghost use Rattle.tpl_graph.specs.Ids.{task_number, token_number};
+ghost use Rattle.tpl_graph.specs.Names.{place};
+ghost use Rattle.tpl_graph.specs.Numbered.{script_in, task_in, token_in, AreFew};
+ghost use Rattle.tpl_graph.specs.Rows as rows;
+ghost use Rattle.tpl_graph.specs.SeenTasks.{task_of, token_of};
+ghost use Rattle.tpl_graph.specs.Small.{IsSmall, AreSmall};
+ghost use Rattle.tpl_graph.specs.Tables.{seen};
+
+use crate::draft::{DraftBody, DraftKind, DraftTask, DraftToken, DraftWork};
+use crate::names::{Names, Tables};
+use crate::numbering::{number_body, task_id, token_id};
+use crate::row::{Origin, Role, Row};
+use std::alloc::{AllocError, Global};
+use tpl_script::{Body, Script};
+use tpl_words::{Options, TaskId, TokenId};
+
+/// The tasks of a list of names.
+fn task_ids(alloc: Global, tables: &Tables, names: &[String]) -> Result<Vec<TaskId>, AllocError>
+    requires { AreFew (seen tables.now) }
+    ensures { IfOk result (λ v. map task_number v.items ≡ map (place tables.now.tasks) (map string_bytes names.now)) }
+{
+    let mut ids = Vec::new(alloc);
+    for name in names {
+        ids.push(task_id(tables, name.as_str()))?;
+    }
+    Ok(ids)
+}
+
+fn own_token(tables: &Tables, name: &Option<String>) -> Option<TokenId>
+    requires { AreFew (seen tables.now) }
+    ensures { option_map token_number result ≡ option_map (place tables.now.tokens) (option_map string_bytes name.now) }
+{
+    match name {
+        Some(name) => Some(token_id(tables, name.as_str())),
+        None => None,
+    }
+}
+
+/// The script of a body within the limits.
+fn script_of(body: Body) -> Script
+    requires { IsWithinLimits body }
+    ensures { result ≡ body }
+{
+    match Script::make(body) {
+        Ok(script) => script,
+        Err(_) => unreachable!(),
+    }
+}
+
+fn number_script(alloc: Global, tables: &Tables, body: &DraftBody) -> Result<Script, AllocError>
+    requires few { AreFew (seen tables.now) }
+    requires small { IsSmall body.now }
+    ensures { IfOk result (λ s. s ≡ script_in (seen tables.now) body.now) }
+{
+    Ok(script_of(number_body(alloc, tables, body)?))
+}
+
+fn number_work(
+    alloc: Global,
+    tables: &Tables,
+    role: Role,
+    work: &DraftWork,
+) -> Result<Row, AllocError>
+    requires few { AreFew (seen tables.now) }
+    requires small { IsSmall work.now.body }
+    ensures role { IfOk result (λ r. r.role ≡ role) }
+    ensures script { IfOk result (λ r. r.script ≡ script_in (seen tables.now) work.now.body) }
+    ensures token { IfOk result (λ r. option_map token_number r.token ≡ option_map (place tables.now.tokens) (option_map string_bytes work.now.token)) }
+    ensures options { IfOk result (λ r. r.options ≡ work.now.options) }
+{
+    Ok(Row {
+        role,
+        script: number_script(alloc, tables, &work.body)?,
+        token: own_token(tables, &work.token),
+        options: work.options,
+    })
+}
+
+/// A task without body, token and options.
+fn number_bare(alloc: Global, role: Role) -> Row
+    ensures role { result.role ≡ role }
+    ensures script { result.script ≡ Nothing }
+    ensures token { result.token ≡ None }
+    ensures options { result.options ≡ 0 }
+{
+    Row {
+        role,
+        script: script_of(Body::new(Vec::new(alloc))),
+        token: None,
+        options: Options::empty(),
+    }
+}
+
+/// The row of a task.
+fn number_task(alloc: Global, tables: &Tables, task: &DraftTask) -> Result<Row, AllocError>
+    requires few { AreFew (seen tables.now) }
+    requires small { IsSmall (meaning.worked (task_of task.now).kind).body }
+    ensures { IfOk result (λ r. rows.task_of r ≡ task_in (seen tables.now) (task_of task.now)) }
+{
+    match &task.kind {
+        DraftKind::Root(work) => number_work(alloc, tables, Role::Root, work),
+        DraftKind::Child(work) => number_work(alloc, tables, Role::Child, work),
+        DraftKind::Then(after, work) => {
+            let role = Role::Then(task_id(tables, after.as_str()));
+            number_work(alloc, tables, role, work)
+        }
+        DraftKind::All(of) => {
+            let args = task_ids(alloc, tables, of.as_slice())?;
+            Ok(number_bare(alloc, Role::All(args)))
+        }
+        DraftKind::Any(of) => {
+            let args = task_ids(alloc, tables, of.as_slice())?;
+            Ok(number_bare(alloc, Role::Any(args)))
+        }
+    }
+}
+
+/// The rows of the tasks.
+pub(crate) fn number_tasks(
+    alloc: Global,
+    tables: &Tables,
+    tasks: &[DraftTask],
+) -> Result<Vec<Row>, AllocError>
+    requires few { AreFew (seen tables.now) }
+    requires small { AreSmall (map task_of tasks.now) }
+    ensures { IfOk result (λ v. map rows.task_of v.items ≡ map (task_in (seen tables.now)) (map task_of tasks.now)) }
+{
+    let mut made = Vec::new(alloc);
+    for task in tasks {
+        made.push(number_task(alloc, tables, task)?)?;
+    }
+    Ok(made)
+}
+
+/// The tokens of a list of names.
+fn token_ids(alloc: Global, names: &Names, list: &[String]) -> Result<Vec<TokenId>, AllocError>
+    requires { length names.now ≤ 32 }
+    ensures { IfOk result (λ v. map token_number v.items ≡ map (place names.now) (map string_bytes list.now)) }
+{
+    let mut ids = Vec::new(alloc);
+    for name in list {
+        ids.push(TokenId(names.place(name.as_str()) as u8))?;
+    }
+    Ok(ids)
+}
+
+/// Where a token comes from.
+fn origin(alloc: Global, names: &Names, token: &DraftToken) -> Result<Origin, AllocError>
+    requires { length names.now ≤ 32 }
+    ensures { IfOk result (λ o. rows.token_of o ≡ token_in names.now (token_of token.now).linked) }
+{
+    match &token.linked {
+        Some(sources) => Ok(Origin::Linked(token_ids(alloc, names, sources.as_slice())?)),
+        None => Ok(Origin::Plain),
+    }
+}
+
+/// Where the tokens come from.
+pub(crate) fn origins(
+    alloc: Global,
+    names: &Names,
+    tokens: &[DraftToken],
+) -> Result<Vec<Origin>, AllocError>
+    requires { length names.now ≤ 32 }
+    ensures { IfOk result (λ v. map rows.token_of v.items ≡ map (λ (k : meaning.Token). token_in names.now k.linked) (map token_of tokens.now)) }
+{
+    let mut made = Vec::new(alloc);
+    for token in tokens {
+        made.push(origin(alloc, names, token)?)?;
+    }
+    Ok(made)
+}

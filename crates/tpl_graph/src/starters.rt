@@ -1,0 +1,195 @@
+//! Who starts each task, and which children are attached.
+
+ghost use Rattle.std.specs.Prelude.{◌≡◌, ◌≤◌, ◌<◌, ◌&&◌, ℕ, filter, get_or, length, map, not, slice_get, sum_by, ◌+◌, List, Some, IfOk};
+ghost use Rattle.tpl_words.specs.Options.{attached_to_parent, deny_child_attach};
+ghost use Rattle.tpl_script.specs.Limits.{statement_count};
+ghost use Rattle.tpl_model.specs.Graph as spec;
+ghost use Rattle.tpl_graph.specs.declared.row.Starter.TheVariants.{Nobody};
+ghost use Rattle.tpl_graph.specs.Collected.{started};
+ghost use Rattle.tpl_graph.specs.Draft.{worked};
+ghost use Rattle.tpl_graph.specs.Ids.{task_number};
+ghost use Rattle.tpl_graph.specs.Kept.{EachAt};
+ghost use Rattle.tpl_graph.specs.Refusals.{starters_from};
+ghost use Rattle.tpl_graph.specs.SeenTasks.{task_of};
+ghost use Rattle.tpl_graph.specs.Starters.{numbers, noted, more as one_more, parent_in, rows_graph, attached_of};
+ghost use Rattle.tpl_graph.specs.Test.{starter_of};
+
+use crate::collect::collect;
+use crate::draft::{DraftKind, DraftTask};
+use crate::names::Names;
+use crate::row::{Row, Site, Starter};
+use std::alloc::{AllocError, Global};
+use tpl_words::TaskId;
+
+/// The tasks that a task starts.
+fn task_starts(
+    alloc: Global,
+    sites: &mut Vec<Site>,
+    task: &DraftTask,
+    owner: TaskId,
+    names: &Names,
+) -> Result<Vec<TaskId>, AllocError>
+    requires { length names.now ≤ 1024 }
+    ensures { IfOk result (λ v. numbers v ≡ started names.now (worked (task_of task.now).kind).body) }
+{
+    let mut starts = Vec::new(alloc);
+    match &task.kind {
+        DraftKind::Root(work) | DraftKind::Child(work) | DraftKind::Then(_, work) => {
+            collect(&mut starts, sites, &work.body, owner, names)?;
+        }
+        _ => {}
+    }
+    Ok(starts)
+}
+
+/// The tasks that each task starts, and the sites of all.
+pub(crate) fn all_starts(
+    alloc: Global,
+    sites: &mut Vec<Site>,
+    tasks: &[DraftTask],
+    names: &Names,
+) -> Result<Vec<Vec<TaskId>>, AllocError>
+    requires names { length names.now ≤ 1024 }
+    requires tasks { length tasks.now ≤ 1024 }
+    ensures { IfOk result (λ v. map numbers v.items ≡ map (λ x. started names.now (worked x.kind).body) (map task_of tasks.now)) }
+{
+    let mut starts = Vec::new(alloc);
+    for (t, task) in tasks.iter().enumerate() {
+        starts.push(task_starts(alloc, sites, task, TaskId(t as u16), names)?)?;
+    }
+    Ok(starts)
+}
+
+fn more(before: Starter, starter: TaskId) -> Starter
+    ensures { result ≡ one_more before starter.0 }
+{
+    match before {
+        Starter::Nobody => Starter::One(starter),
+        _ => Starter::Several,
+    }
+}
+
+/// Notes the start statements of a body in the table.
+fn note(table: &mut [Starter], starter: TaskId, starts: &[TaskId])
+    ensures { (t : ℕ) → t < length table.old → get_or table.new t Nobody ≡ noted t starter.0 (get_or table.old t Nobody) (map task_number starts.now) }
+{
+    for child in starts {
+        let c = child.0 as usize;
+        if c < table.len() {
+            table[c] = more(table[c], starter);
+        }
+    }
+}
+
+/// Nobody starts any task yet.
+fn nobody(alloc: Global, count: usize) -> Result<Vec<Starter>, AllocError>
+    ensures long { IfOk result (λ v. length v.items ≡ count) }
+    ensures each { IfOk result (λ v. (t : ℕ) → get_or v.items t Nobody ≡ Nobody) }
+{
+    let mut table = Vec::new(alloc);
+    for _ in 0..count {
+        table.push(Starter::Nobody)?;
+    }
+    Ok(table)
+}
+
+/// Who starts each task.
+pub(crate) fn starters(alloc: Global, starts: &[Vec<TaskId>]) -> Result<Vec<Starter>, AllocError>
+    requires { length starts.now ≤ 1024 }
+    ensures long { IfOk result (λ v. length v.items ≡ length starts.now) }
+    ensures each { IfOk result (λ v. (t : ℕ) → t < length starts.now → get_or v.items t Nobody ≡ starter_of (starters_from t 0 (map numbers starts.now))) }
+{
+    let mut table = nobody(alloc, starts.len())?;
+    for (p, started) in starts.iter().enumerate() {
+        note(&mut table, TaskId(p as u16), started.as_slice());
+    }
+    Ok(table)
+}
+
+fn parent_of(starter: Starter) -> Option<TaskId>
+    ensures { result ≡ parent_in starter }
+{
+    match starter {
+        Starter::One(parent) => Some(parent),
+        _ => None,
+    }
+}
+
+/// The parent of each task.
+pub(crate) fn parents(alloc: Global, table: &[Starter]) -> Result<Vec<Option<TaskId>>, AllocError>
+    ensures { IfOk result (λ v. v.items ≡ map parent_in table.now) }
+{
+    let mut parents = Vec::new(alloc);
+    for starter in table {
+        parents.push(parent_of(*starter))?;
+    }
+    Ok(parents)
+}
+
+/// The task has AttachedToParent.
+fn would_attach(rows: &[Row], task: TaskId) -> bool
+    ensures { result ≡ attached_to_parent (spec.options (rows_graph rows.now) task.0) }
+{
+    match rows.get(task.0 as usize) {
+        Some(row) => row.options.attached_to_parent(),
+        None => false,
+    }
+}
+
+/// The task has DenyChildAttach.
+fn denies(rows: &[Row], task: usize) -> bool
+    ensures { result ≡ deny_child_attach (spec.options (rows_graph rows.now) task) }
+{
+    match rows.get(task) {
+        Some(row) => row.options.deny_child_attach(),
+        None => false,
+    }
+}
+
+/// Of the children that a task starts, those that are attached to it.
+fn attached_children(
+    alloc: Global,
+    rows: &[Row],
+    parent: usize,
+    starts: &[TaskId],
+) -> Result<Vec<TaskId>, AllocError>
+    ensures { IfOk result (λ v. numbers v ≡ attached_of rows.now parent (map task_number starts.now)) }
+{
+    let denied = denies(rows, parent);
+    let mut children = Vec::new(alloc);
+    for child in starts {
+        if would_attach(rows, *child) && !denied {
+            children.push(*child)?;
+        }
+    }
+    Ok(children)
+}
+
+/// The children that are attached to each task.
+pub(crate) fn attached(
+    alloc: Global,
+    rows: &[Row],
+    starts: &[Vec<TaskId>],
+) -> Result<Vec<Vec<TaskId>>, AllocError>
+    ensures long { IfOk result (λ v. length v.items ≡ length starts.now) }
+    ensures each { IfOk result (λ v. EachAt (λ p children. (l : List ℕ) → slice_get (map numbers starts.now) p ≡ Some l → numbers children ≡ attached_of rows.now p l) v.items) }
+{
+    let mut made = Vec::new(alloc);
+    for (p, started) in starts.iter().enumerate() {
+        made.push(attached_children(alloc, rows, p, started.as_slice())?)?;
+    }
+    Ok(made)
+}
+
+/// The most events of a run.
+pub(crate) fn bound(rows: &[Row], tokens: usize) -> u32
+    requires rows { length rows.now ≤ 1024 }
+    requires tokens { tokens ≤ 32 }
+    ensures { result ≡ tokens + sum_by (λ row. 4 + statement_count row.script) rows.now }
+{
+    let mut total = tokens as u32;
+    for row in rows {
+        total += 4 + row.script.size() as u32;
+    }
+    total
+}
