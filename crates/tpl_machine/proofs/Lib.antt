@@ -1,0 +1,9 @@
+pub mod Basics
+pub mod AtomLemmas
+pub mod GatherLemmas
+pub mod OpenLemmas
+pub mod TokenLemmas
+pub mod IdLemmas
+pub mod StepLemmas
+pub mod RecordLemmas
+pub mod DueLemmas

@@ -1,0 +1,5 @@
+use Rattle.tpl_machine.proofs.AtomLemmas.{JoinedSoFar}
+use Rattle.tpl_machine.proofs.atoms.join.Given as goal
+
+abbrev pub invariant-loop-task : goal.invariant-loop-task
+invariant-loop-task l = JoinedSoFar l.initial.tasks l.tasks l.more l.task-index

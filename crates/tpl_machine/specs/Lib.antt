@@ -1,0 +1,10 @@
+pub mod EventCode
+pub mod Journal
+pub mod Reading
+pub mod Atoms
+pub mod Body
+pub mod Rows
+pub mod Kept
+pub mod Tests
+pub mod Tokens
+pub mod Settling

@@ -1,0 +1,74 @@
+//! The exceptions that a task takes over from others.
+
+ghost use Rattle.std.specs.Prelude.{◌≡◌, ℕ, ◌<◌, ◌||◌, true, length, map, slice_get, Some, vec_capacity, if◌then◌else◌};
+ghost use Rattle.tpl_words.specs.Members.{mem, joined};
+ghost use Rattle.tpl_model.specs.Facts.{carried_in, gathered, those_started};
+ghost use Rattle.tpl_graph.specs.Ids.{task_number};
+ghost use Rattle.tpl_machine.specs.Atoms.{AreAtoms};
+ghost use Rattle.tpl_machine.specs.Rows.{ending_in, HaveRoom};
+
+use crate::atoms::join;
+use crate::row::Row;
+use tpl_words::{MOST_TASKS, TaskId, TaskSet};
+
+/// Adds what one task carries.
+fn gather_one(list: &mut Vec<TaskId>, rows: &[Row], task: TaskId)
+    requires rooms { HaveRoom rows.now (vec_capacity list.old) }
+    requires atoms { AreAtoms (vec_capacity list.old) (map task_number list.old.items) }
+    ensures items { map task_number list.new.items ≡ joined (map task_number list.old.items) (carried_in (ending_in rows.now task.0)) }
+    ensures atoms { AreAtoms (vec_capacity list.old) (map task_number list.new.items) }
+    ensures capacity { vec_capacity list.new ≡ vec_capacity list.old }
+{
+    if let Some(row) = rows.get(task.0 as usize) {
+        join(list, row.carried());
+    }
+}
+
+/// Adds what each of the tasks carries, in their order.
+pub fn gather(list: &mut Vec<TaskId>, rows: &[Row], tasks: &[TaskId])
+    requires rooms { HaveRoom rows.now (vec_capacity list.old) }
+    requires atoms { AreAtoms (vec_capacity list.old) (map task_number list.old.items) }
+    ensures items { map task_number list.new.items ≡ gathered (map task_number list.old.items) (map task_number tasks.now) (ending_in rows.now) }
+    ensures atoms { AreAtoms (vec_capacity list.old) (map task_number list.new.items) }
+    ensures capacity { vec_capacity list.new ≡ vec_capacity list.old }
+{
+    for task in tasks {
+        gather_one(list, rows, *task);
+    }
+}
+
+/// Adds what one child carries, if it was started.
+fn gather_child(list: &mut Vec<TaskId>, rows: &[Row], started: &TaskSet, child: TaskId)
+    requires rooms { HaveRoom rows.now (vec_capacity list.old) }
+    requires atoms { AreAtoms (vec_capacity list.old) (map task_number list.old.items) }
+    ensures items { let xs = map task_number list.old.items in map task_number list.new.items ≡ (if mem child.0 started.now then joined xs (carried_in (ending_in rows.now child.0)) else xs) }
+    ensures atoms { AreAtoms (vec_capacity list.old) (map task_number list.new.items) }
+    ensures capacity { vec_capacity list.new ≡ vec_capacity list.old }
+{
+    if started.contains(child) {
+        gather_one(list, rows, child);
+    }
+}
+
+/// Adds what each of the children that were started carries, in their order.
+pub fn gather_started(list: &mut Vec<TaskId>, rows: &[Row], started: &TaskSet, children: &[TaskId])
+    requires rooms { HaveRoom rows.now (vec_capacity list.old) }
+    requires atoms { AreAtoms (vec_capacity list.old) (map task_number list.old.items) }
+    ensures items { map task_number list.new.items ≡ gathered (map task_number list.old.items) (those_started (map task_number children.now) (λ c. mem c started.now)) (ending_in rows.now) }
+    ensures atoms { AreAtoms (vec_capacity list.old) (map task_number list.new.items) }
+    ensures capacity { vec_capacity list.new ≡ vec_capacity list.old }
+{
+    for child in children {
+        gather_child(list, rows, started, *child);
+    }
+}
+
+/// Makes each of the tasks a member.
+pub fn add_all(set: &mut TaskSet, tasks: &[TaskId])
+    requires { (x : ℕ) → mem x (map task_number tasks.now) ≡ true → x < MOST_TASKS }
+    ensures { (x : ℕ) → mem x set.new ≡ (mem x (map task_number tasks.now) || mem x set.old) }
+{
+    for task in tasks {
+        set.insert(*task);
+    }
+}

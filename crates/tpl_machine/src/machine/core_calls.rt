@@ -1,0 +1,91 @@
+//! The calls of `Core`.
+
+use crate::machine::Machine;
+use crate::marks::began;
+use crate::run::{Core, Next, Refused};
+use tpl_graph::Graph;
+use tpl_laws::allowed::{can_is_right, is_complete_is_right};
+use tpl_model::{Act, Event};
+use tpl_words::{InputId, Label, Status, TaskId, TokenId};
+
+impl<'g> Core for Machine<'g> {
+    ghost journal = { λ m. m };
+
+    fn step(&mut self, event: Event) -> Result<(), Refused> {
+        can_is_right();
+        if !self.allows(event) {
+            return Err(Refused);
+        }
+        self.record(event);
+        Ok(())
+    }
+
+    fn events(&self) -> &[Event] {
+        self.events.as_slice()
+    }
+
+    fn graph(&self) -> &Graph {
+        self.graph
+    }
+
+    fn is_run(&self) {
+        self.graph.valid();
+    }
+
+    fn input(&self, input: InputId) -> bool {
+        self.inputs.get(input)
+    }
+
+    fn status(&self, task: TaskId) -> Status {
+        self.status_of(task)
+    }
+
+    fn requested(&self, token: TokenId) -> bool {
+        self.asked(token)
+    }
+
+    fn next(&self, task: TaskId) -> Next {
+        match self.status_of(task) {
+            Status::Running => self.row(task).next(),
+            _ => Next::NotRunning,
+        }
+    }
+
+    fn label(&self, task: TaskId) -> Option<Label> {
+        self.row(task).label()
+    }
+
+    fn carried(&self, task: TaskId) -> &[TaskId] {
+        self.row(task).carried()
+    }
+
+    fn seen(&self, task: TaskId) -> bool {
+        self.seen.contains(task)
+    }
+
+    fn winner(&self, task: TaskId) -> Option<TaskId> {
+        self.row(task).winner()
+    }
+
+    fn started(&self, task: TaskId) -> bool {
+        self.was_started(task)
+    }
+
+    fn began(&self, task: TaskId) -> Option<u32> {
+        self.is_short();
+        began(self.events(), task)
+    }
+
+    fn ended(&self, task: TaskId) -> Option<u32> {
+        self.row(task).place()
+    }
+
+    fn complete(&self) -> bool {
+        is_complete_is_right();
+        self.all_done()
+    }
+
+    fn due(&self) -> Option<Act> {
+        self.first_due()
+    }
+}

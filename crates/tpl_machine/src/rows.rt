@@ -1,0 +1,165 @@
+//! What an event changes of the rows and sets of a run.
+
+ghost use Rattle.std.specs.Prelude.{◌≡◌, ℕ, ◌<◌, ◌≤◌, ◌||◌, [], length, map, slice_get, slice_set, slice_index_or, Some, None, IfSome, false, true, vec_capacity, vec_len, if◌then◌else◌};
+ghost use Rattle.std.specs.Option.{option_map};
+ghost use Rattle.tpl_words.specs.Members.{mem};
+ghost use Rattle.tpl_model.specs.Facts.{worked, own_atom, body_final, body_over, gathered, those_started};
+ghost use Rattle.tpl_graph.specs.Ids.{task_number, token_number};
+ghost use Rattle.tpl_machine.specs.Atoms.{AreAtoms};
+ghost use Rattle.tpl_machine.specs.Body.{passed};
+ghost use Rattle.tpl_machine.specs.Tests.{is_all};
+ghost use Rattle.tpl_machine.specs.Rows.{TaskRow, with_rest, with_ending, ending_of, ending_in, is_it, carries, HaveRoom, CanEnd};
+
+use crate::gather::{add_all, gather, gather_started};
+use crate::machine::MOST_TOKENS;
+use crate::row::{Ended, Row};
+use tpl_graph::Kind;
+use tpl_script::Outcome;
+use tpl_words::{Actor, Answer, Final, MOST_TASKS, TaskId, TaskSet, TokenId};
+
+/// Marks a token as requested, if there is one.
+pub fn mark(requested: &mut [bool; MOST_TOKENS], token: Option<TokenId>)
+    requires { IfSome token (λ k. k.0 < MOST_TOKENS) }
+    ensures marks { (k : ℕ) → slice_index_or requested.new k false ≡ (is_it (option_map token_number token) k || slice_index_or requested.old k false) }
+    ensures count { length requested.new ≡ length requested.old }
+{
+    if let Some(token) = token {
+        requested[token.0 as usize] = true;
+    }
+}
+
+/// Makes a child a member of those that were started, if there is one.
+pub fn start(started: &mut TaskSet, child: Option<TaskId>)
+    requires { IfSome child (λ c. c.0 < MOST_TASKS) }
+    ensures { (t : ℕ) → mem t started.new ≡ (is_it (option_map task_number child) t || mem t started.old) }
+{
+    if let Some(child) = child {
+        started.insert(child);
+    }
+}
+
+/// The exceptions that a task carries, if there is one, are observed.
+pub fn observe(seen: &mut TaskSet, rows: &[Row], subject: Option<TaskId>)
+    requires { (t : ℕ) (x : TaskRow) → slice_get rows.now t ≡ Some x → x.room ≤ MOST_TASKS }
+    ensures { (t : ℕ) → mem t seen.new ≡ (carries rows.now (option_map task_number subject) t || mem t seen.old) }
+{
+    let Some(subject) = subject else {
+        return;
+    };
+    if let Some(row) = rows.get(subject.0 as usize) {
+        add_all(seen, row.carried());
+    }
+}
+
+/// A task passes its next statement. `holds` is what the statement tests.
+pub fn pass_row(rows: &mut Vec<Row>, task: TaskId, own: Option<TokenId>, holds: bool)
+    requires { task.0 < vec_len rows.old }
+    ensures { (x : TaskRow) → slice_get rows.old.items task.0 ≡ Some x
+        → rows.new.items ≡ slice_set rows.old.items task.0 (with_rest x (passed (option_map token_number own) holds x.rest.left)) }
+{
+    let row = &mut rows[task.0 as usize];
+    row.pass(own, holds);
+}
+
+/// A task passes a job that has answered.
+pub fn work_row(rows: &mut Vec<Row>, task: TaskId, answer: Answer)
+    requires { task.0 < vec_len rows.old }
+    ensures { (x : TaskRow) → slice_get rows.old.items task.0 ≡ Some x
+        → rows.new.items ≡ slice_set rows.old.items task.0 (with_rest x (worked answer x.rest.left)) }
+{
+    let row = &mut rows[task.0 as usize];
+    row.work(answer);
+}
+
+/// A task ends, and takes over the list of exceptions for its own.
+pub fn end_row(rows: &mut Vec<Row>, task: TaskId, ended: Ended, atoms: &mut Vec<TaskId>)
+    requires task { task.0 < vec_len rows.old }
+    requires row { CanEnd rows.old.items task.0 (vec_capacity atoms.old) }
+    requires atoms { AreAtoms (vec_capacity atoms.old) (map task_number atoms.old.items) }
+    ensures rows { (x : TaskRow) → slice_get rows.old.items task.0 ≡ Some x
+        → rows.new.items ≡ slice_set rows.old.items task.0 (with_ending x (ending_of (Some ended) atoms.old.items)) }
+    ensures list { atoms.new.items ≡ [] }
+    ensures capacity { vec_capacity atoms.new ≡ vec_capacity atoms.old }
+{
+    let row = &mut rows[task.0 as usize];
+    row.end(ended, atoms);
+}
+
+/// How a body ends its task: Faulted with an exception, else Canceled where the cancellation was acknowledged, else
+/// RanToCompletion (Task Parallel Library guide: exception handling, task cancellation).
+fn body_final(atoms: &[TaskId], outcome: Option<Outcome>) -> Final
+    ensures { result ≡ body_final (map task_number atoms.now) outcome }
+{
+    if !atoms.is_empty() {
+        return Final::Faulted;
+    }
+    match outcome {
+        Some(Outcome::Acknowledged) => Final::Canceled,
+        _ => Final::RanToCompletion,
+    }
+}
+
+/// Adds the task's own exception, if its body threw.
+fn add_own(atoms: &mut Vec<TaskId>, task: TaskId, outcome: Option<Outcome>)
+    requires none { atoms.old.items ≡ [] }
+    requires below { task.0 < vec_capacity atoms.old }
+    ensures items { map task_number atoms.new.items ≡ own_atom task.0 outcome }
+    ensures atoms { AreAtoms (vec_capacity atoms.old) (map task_number atoms.new.items) }
+    ensures capacity { vec_capacity atoms.new ≡ vec_capacity atoms.old }
+{
+    match outcome {
+        Some(Outcome::Threw(_)) => {
+            atoms.push_reserved(task);
+            return;
+        }
+        Some(Outcome::Returned) => {}
+        Some(Outcome::Acknowledged) => {}
+        None => {}
+    }
+}
+
+/// Gathers into the empty list what a task carries whose body is over: its own exception, then those of its attached
+/// children that were started (Task Parallel Library guide: child tasks).
+pub fn gather_body(
+    atoms: &mut Vec<TaskId>,
+    rows: &[Row],
+    started: &TaskSet,
+    children: &[TaskId],
+    task: TaskId,
+    outcome: Option<Outcome>,
+)
+    requires none { atoms.old.items ≡ [] }
+    requires below { task.0 < vec_capacity atoms.old }
+    requires rooms { HaveRoom rows.now (vec_capacity atoms.old) }
+    ensures items { map task_number atoms.new.items ≡ gathered (own_atom task.0 outcome) (those_started (map task_number children.now) (λ c. mem c started.now)) (ending_in rows.now) }
+    ensures atoms { AreAtoms (vec_capacity atoms.old) (map task_number atoms.new.items) }
+    ensures capacity { vec_capacity atoms.new ≡ vec_capacity atoms.old }
+{
+    add_own(atoms, task, outcome);
+    gather_started(atoms, rows, started, children);
+}
+
+/// How a body that is over ends its task, with these exceptions.
+pub fn end_of_body(atoms: &[TaskId], outcome: Option<Outcome>, place: u32, actor: Actor) -> Ended
+    ensures { ending_of (Some result) atoms.now ≡ body_over place actor (map task_number atoms.now) outcome }
+{
+    Ended {
+        place,
+        actor: Some(actor),
+        status: body_final(atoms, outcome),
+        winner: None,
+    }
+}
+
+/// Gathers into the empty list what the arguments of a WhenAll task carry (`Task.WhenAll`).
+pub fn gather_args(atoms: &mut Vec<TaskId>, rows: &[Row], kind: Kind, args: &[TaskId])
+    requires none { atoms.old.items ≡ [] }
+    requires rooms { HaveRoom rows.now (vec_capacity atoms.old) }
+    ensures items { map task_number atoms.new.items ≡ (if is_all kind then gathered [] (map task_number args.now) (ending_in rows.now) else []) }
+    ensures atoms { AreAtoms (vec_capacity atoms.old) (map task_number atoms.new.items) }
+    ensures capacity { vec_capacity atoms.new ≡ vec_capacity atoms.old }
+{
+    if kind == Kind::All {
+        gather(atoms, rows, args);
+    }
+}
