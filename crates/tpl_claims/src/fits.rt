@@ -1,0 +1,110 @@
+//! Which claims can be asked of a graph.
+
+ghost use Rattle.std.specs.Prelude.{◌≡◌, ◌↔◌, IsTrue};
+ghost use Rattle.std.specs.List.{list_any};
+ghost use Rattle.tpl_model.specs.Graph.{is_task, kind};
+ghost use Rattle.tpl_claims.specs.Fits.{IsGivenOf, AreGivenOf, is_of_one_thing, given_twice, TasksOf, has_body, have_bodies, Fits};
+
+use crate::claim::Claim;
+use tpl_graph::{Graph, Kind};
+use tpl_model::{Given, Property};
+use tpl_words::{InputId, TaskId, TokenId};
+
+fn is_task(graph: &Graph, task: TaskId) -> bool
+    ensures { IsTrue result ↔ is_task graph.now.graph task.0 }
+{
+    (task.0 as usize) < graph.len()
+}
+
+fn is_given_of(graph: &Graph, given: Given) -> bool
+    ensures { IsTrue result ↔ IsGivenOf graph.now.graph given }
+{
+    match given {
+        Given::Input(InputId(input), _) => (input as usize) < graph.input_count(),
+        Given::Quiet(TokenId(token)) => (token as usize) < graph.token_count(),
+    }
+}
+
+fn are_given_of(graph: &Graph, given: &[Given]) -> bool
+    ensures { IsTrue result ↔ AreGivenOf graph.now.graph given.now }
+{
+    given.iter().all(|one| is_given_of(graph, *one))
+}
+
+fn is_of_one_thing(one: Given, other: Given) -> bool
+    ensures { result ≡ is_of_one_thing one other }
+{
+    match (one, other) {
+        (Given::Input(i, _), Given::Input(j, _)) => i.0 == j.0,
+        (Given::Quiet(k), Given::Quiet(j)) => k.0 == j.0,
+        _ => false,
+    }
+}
+
+fn is_given_in(before: &[Given], one: Given) -> bool
+    ensures { result ≡ list_any (is_of_one_thing one) before.now }
+{
+    before.iter().any(|other| is_of_one_thing(one, *other))
+}
+
+/// Whether an input, with whatever values, or a token is given twice.
+pub fn given_twice(given: &[Given]) -> bool
+    ensures { result ≡ given_twice given.now }
+{
+    for (index, one) in given.iter().enumerate() {
+        if is_given_in(&given[..index], *one) {
+            return true;
+        }
+    }
+    false
+}
+
+fn tasks_of(graph: &Graph, body: Property) -> bool
+    ensures { IsTrue result ↔ TasksOf graph.now.graph body }
+{
+    match body {
+        Property::Final(task, _) => is_task(graph, task),
+        Property::After(a, b) => is_task(graph, a) && is_task(graph, b),
+        Property::Observed(task) => is_task(graph, task),
+        Property::Never(task) => is_task(graph, task),
+        Property::Excludes(a, b) => is_task(graph, a) && is_task(graph, b),
+    }
+}
+
+fn has_body(graph: &Graph, task: TaskId) -> bool
+    requires { is_task graph.now.graph task.0 }
+    ensures { result ≡ has_body (kind graph.now.graph task.0) }
+{
+    match graph.kind(task) {
+        Kind::All => false,
+        Kind::Any => false,
+        _ => true,
+    }
+}
+
+/// Whether each task that the property says to begin, or to throw, has a body: WhenAll and WhenAny tasks have none.
+pub fn have_bodies(graph: &Graph, body: Property) -> bool
+    requires { TasksOf graph.now.graph body }
+    ensures { result ≡ have_bodies graph.now.graph body }
+{
+    match body {
+        Property::Final(_, _) => true,
+        Property::After(_, b) => has_body(graph, b),
+        Property::Observed(task) => has_body(graph, task),
+        Property::Never(task) => has_body(graph, task),
+        Property::Excludes(a, b) => has_body(graph, a) && has_body(graph, b),
+    }
+}
+
+impl Claim {
+    /// Whether the claim can be asked of the graph: its ids are the graph's, what it says of bodies is said of tasks
+    /// with a body, and no input or token is given twice.
+    pub fn fits(&self, graph: &Graph) -> bool
+        ensures { IsTrue result ↔ Fits graph.now.graph self.now }
+    {
+        are_given_of(graph, self.given())
+            && tasks_of(graph, self.body())
+            && have_bodies(graph, self.body())
+            && !given_twice(self.given())
+    }
+}

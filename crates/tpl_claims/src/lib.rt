@@ -1,0 +1,11 @@
+//! Claims about the runs of a graph.
+#![tactic(auto)]
+
+mod claim;
+mod fits;
+mod run;
+
+pub use claim::Claim;
+pub use fits::{given_twice, have_bodies};
+pub use run::holds;
+pub use tpl_model::{Given, Property};
