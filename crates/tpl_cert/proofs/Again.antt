@@ -1,0 +1,165 @@
+-- What is written for a tree spells the tree.
+use Rattle.std.proofs.Common.{◌≡◌, ℕ, zero, suc, ◌+◌, ◌<◌, ◌≤◌, ◌&&◌, ◌||◌, List, [], ◌∷◌, ◌++◌, length, get_or, take, map, Bool, true, false, Option, Some, None, nat_eq, nat_lt, is_some, refl, sym, ap, subst, ◌∙◌, arith, true≢false}
+use Rattle.std.specs.Prelude.{slice_index_or}
+use Rattle.std.specs.List.{list_all, list_any, position}
+use Rattle.std.specs.Str.{bytes_eq}
+use Rattle.serde_json.specs.Data.{Data, string, array}
+use Rattle.serde_json.specs.View.{items_of}
+use Rattle.tpl_words.specs.declared.finals.Final.{Final}
+use Rattle.tpl_words.specs.declared.finals.Final.TheVariants.{RanToCompletion, Canceled, Faulted}
+use Rattle.tpl_words.specs.declared.finals.Finals.{Finals}
+use Rattle.tpl_words.specs.Finals.{has, is_final, final_name}
+use Rattle.tpl_words.specs.Members.{mem}
+use Rattle.tpl_words.specs.TaskSet.{IsTaskSet}
+use Rattle.tpl_model.specs.Certificate.{Row, Tree}
+use Rattle.tpl_model.specs.Certificate as tree
+use Rattle.tpl_graph.specs.Named.{Names}
+use Rattle.tpl_graph.specs.Names.{some_twice}
+use Rattle.tpl_cert.specs.Members.{has_only, elements, list_in}
+use Rattle.tpl_cert.specs.NamedTrees.{NamedRow, NamedTree, SplitInput, SplitEnd, Leaf}
+use Rattle.tpl_cert.specs.Grammar.{IsArray, IsTexts, HasTexts, HasMember, AreFinals, IsRow, AreRows, IsTree}
+use Rattle.tpl_cert.specs.Naming.{number_of, is_declared, are_declared, AreNumbers, is_number, does_name, IsSetOf, IsRowOf, AreRowsOf, IsTreeOf}
+use Rattle.tpl_cert.specs.Written.{texts_data, word_if, words_of, row_data, tree_data, name_at, is_id, named_row, named, has_row_ids, has_ids, AreTaskSets, HasTaskSets}
+use Rattle.tpl_cert.specs.Spelled.{SpellsTree}
+use Rattle.tpl_cert.proofs.Json.{some}
+use Rattle.tpl_cert.proofs.Unique.{number_of-name_at}
+
+-- ---- the grammar
+
+elements-items_of : (ds : List Data) → elements (items_of ds) ≡ ds
+elements-items_of [] = refl
+elements-items_of (d ∷ ds) = ap (λ (xs : List Data). d ∷ xs) (elements-items_of ds)
+
+texts_again : (texts : List (List ℕ)) → IsTexts texts (texts_data texts)
+texts_again texts = ap (λ (xs : List Data). some xs) (elements-items_of (map string texts))
+
+-- the statuses of a set, in order
+abbrev finals_in : Bool → Bool → Bool → List Final
+finals_in true true true = RanToCompletion ∷ Canceled ∷ Faulted ∷ []
+finals_in true true false = RanToCompletion ∷ Canceled ∷ []
+finals_in true false true = RanToCompletion ∷ Faulted ∷ []
+finals_in true false false = RanToCompletion ∷ []
+finals_in false true true = Canceled ∷ Faulted ∷ []
+finals_in false true false = Canceled ∷ []
+finals_in false false true = Faulted ∷ []
+finals_in false false false = []
+
+finals_data : (a b c : Bool) → map string (words_of (record { ran = a; canceled = b; faulted = c })) ≡ map (λ f. string (final_name f)) (finals_in a b c)
+finals_data true true true = refl
+finals_data true true false = refl
+finals_data true false true = refl
+finals_data true false false = refl
+finals_data false true true = refl
+finals_data false true false = refl
+finals_data false false true = refl
+finals_data false false false = refl
+
+finals_have : (a b c : Bool) (f : Final) → has (record { ran = a; canceled = b; faulted = c }) f ≡ list_any (is_final f) (finals_in a b c)
+finals_have true true true RanToCompletion = refl
+finals_have true true true Canceled = refl
+finals_have true true true Faulted = refl
+finals_have true true false RanToCompletion = refl
+finals_have true true false Canceled = refl
+finals_have true true false Faulted = refl
+finals_have true false true RanToCompletion = refl
+finals_have true false true Canceled = refl
+finals_have true false true Faulted = refl
+finals_have true false false RanToCompletion = refl
+finals_have true false false Canceled = refl
+finals_have true false false Faulted = refl
+finals_have false true true RanToCompletion = refl
+finals_have false true true Canceled = refl
+finals_have false true true Faulted = refl
+finals_have false true false RanToCompletion = refl
+finals_have false true false Canceled = refl
+finals_have false true false Faulted = refl
+finals_have false false true RanToCompletion = refl
+finals_have false false true Canceled = refl
+finals_have false false true Faulted = refl
+finals_have false false false RanToCompletion = refl
+finals_have false false false Canceled = refl
+finals_have false false false Faulted = refl
+
+finals_again : (a b c : Bool) → AreFinals (record { ran = a; canceled = b; faulted = c }) (map string (words_of (record { ran = a; canceled = b; faulted = c })))
+finals_again a b c = (finals_in a b c, finals_data a b c, finals_have a b c)
+
+array_again : (ds : List Data) (Are : List Data → Type 0) → Are ds → IsArray Are (array (items_of ds))
+array_again ds Are are = (ds, ap (λ (xs : List Data). some xs) (elements-items_of ds), are)
+
+row_again : (r : NamedRow) → IsRow r (row_data r)
+unfolding has_only
+row_again r = record {
+  only = refl;
+  ends = (texts_data (words_of r.ends), refl, array_again (map string (words_of r.ends)) (AreFinals r.ends) (finals_again r.ends.ran r.ends.canceled r.ends.faulted));
+  runs = refl;
+  before = texts_again r.before;
+  past = texts_again r.past;
+  chain = texts_again r.chain;
+}
+
+rows_again : (rs : List NamedRow) → AreRows rs (map row_data rs)
+rows_again [] = tt
+rows_again (r ∷ rs) = (row_again r, rows_again rs)
+
+pub tree_again : (s : NamedTree) → IsTree s (tree_data s)
+unfolding has_only
+tree_again (SplitInput name a b) = (refl, refl, (tree_data a, refl, tree_again a), (tree_data b, refl, tree_again b))
+tree_again (SplitEnd name a b c) = (refl, refl, (tree_data a, refl, tree_again a), (tree_data b, refl, tree_again b), (tree_data c, refl, tree_again c))
+tree_again (Leaf rows) = (refl, (array (items_of (map row_data rows)), refl, array_again (map row_data rows) (AreRows rows) (rows_again rows)))
+
+-- ---- the names
+
+and_first : (a b : Bool) → (a && b) ≡ true → a ≡ true
+and_first true b e = refl
+and_first false b e = absurd cc
+
+and_second : (a b : Bool) → (a && b) ≡ true → b ≡ true
+and_second true b e = e
+and_second false b e = absurd cc
+
+numbers_again : (names : List (List ℕ)) → some_twice names ≡ false → (ids : List ℕ) → list_all (is_id names) ids ≡ true → AreNumbers names (map (name_at names) ids) ids
+numbers_again names once [] h = refl
+numbers_again names once (i ∷ ids) h =
+    rw (number_of-name_at names once i (and_first (is_id names i) (list_all (is_id names) ids) h), numbers_again names once ids (and_second (is_id names i) (list_all (is_id names) ids) h)) refl
+
+declared_again : (names : List (List ℕ)) → some_twice names ≡ false → (ids : List ℕ) → list_all (is_id names) ids ≡ true → are_declared names (map (name_at names) ids) ≡ true
+declared_again names once [] h = refl
+declared_again names once (i ∷ ids) h =
+    rw (number_of-name_at names once i (and_first (is_id names i) (list_all (is_id names) ids) h), declared_again names once ids (and_second (is_id names i) (list_all (is_id names) ids) h)) refl
+
+members_again : (names : List (List ℕ)) → some_twice names ≡ false → (ids : List ℕ) → list_all (is_id names) ids ≡ true → (x : ℕ) → mem x ids ≡ list_any (does_name names x) (map (name_at names) ids)
+members_again names once [] h x = refl
+members_again names once (i ∷ ids) h x =
+    rw (number_of-name_at names once i (and_first (is_id names i) (list_all (is_id names) ids) h), members_again names once ids (and_second (is_id names i) (list_all (is_id names) ids) h) x) refl
+
+set_again : (names : List (List ℕ)) → some_twice names ≡ false → (ids : List ℕ) → IsTaskSet ids → list_all (is_id names) ids ≡ true → IsSetOf names (map (name_at names) ids) ids
+set_again names once ids set h = record { declared = declared_again names once ids h; ascends = set; members = members_again names once ids h }
+
+row_named : (n : Names) → some_twice n.tasks ≡ false → (r : Row) → has_row_ids n r ≡ true → IsTaskSet r.before → IsTaskSet r.past → IsRowOf n (named_row n r) r
+row_named n once r h b p =
+    let rest = and_second (list_all (is_id n.tasks) r.before) _ h in
+    record {
+      ends = refl;
+      runs = refl;
+      before = set_again n.tasks once r.before b (and_first (list_all (is_id n.tasks) r.before) _ h);
+      past = set_again n.tasks once r.past p (and_first (list_all (is_id n.tasks) r.past) _ rest);
+      chain = numbers_again n.tasks once r.chain (and_second (list_all (is_id n.tasks) r.past) _ rest);
+    }
+
+rows_named : (n : Names) → some_twice n.tasks ≡ false → (rows : List Row) → list_all (has_row_ids n) rows ≡ true → AreTaskSets rows → AreRowsOf n (map (named_row n) rows) rows
+rows_named n once [] h sets = tt
+rows_named n once (r ∷ rows) h sets =
+    (row_named n once r (and_first (has_row_ids n r) _ h) sets.0 sets.1, rows_named n once rows (and_second (has_row_ids n r) _ h) sets.2)
+
+tree_named : (n : Names) → some_twice n.inputs ≡ false → some_twice n.tasks ≡ false → (t : Tree) → has_ids n t ≡ true → HasTaskSets t → IsTreeOf n (named n t) t
+tree_named n inputs tasks (tree.SplitInput i a b) h sets =
+    let rest = and_second (is_id n.inputs i) _ h in
+    (number_of-name_at n.inputs inputs i (and_first (is_id n.inputs i) _ h), tree_named n inputs tasks a (and_first (has_ids n a) _ rest) sets.0, tree_named n inputs tasks b (and_second (has_ids n a) _ rest) sets.1)
+tree_named n inputs tasks (tree.SplitEnd t a b c) h sets =
+    let rest = and_second (is_id n.tasks t) _ h in
+    let more = and_second (has_ids n a) _ rest in
+    (number_of-name_at n.tasks tasks t (and_first (is_id n.tasks t) _ h), tree_named n inputs tasks a (and_first (has_ids n a) _ rest) sets.0, tree_named n inputs tasks b (and_first (has_ids n b) _ more) sets.1, tree_named n inputs tasks c (and_second (has_ids n b) _ more) sets.2)
+tree_named n inputs tasks (tree.Leaf rows) h sets = rows_named n tasks rows h sets
+
+pub reads_again : (n : Names) → some_twice n.inputs ≡ false → some_twice n.tasks ≡ false → (t : Tree) → has_ids n t ≡ true → HasTaskSets t → SpellsTree n (tree_data (named n t)) t
+reads_again n inputs tasks t h sets = (named n t, tree_again (named n t), tree_named n inputs tasks t h sets)

@@ -1,0 +1,35 @@
+-- Trees, one level at a time.
+use Rattle.std.proofs.Common.{◌≡◌, ℕ, zero, suc, ◌-◌, ◌<◌, List, [], ◌∷◌, Bool, true, Option, Some, None, codes, option_and_then, refl, arith}
+use Rattle.serde_json.specs.Data.{Data}
+use Rattle.serde_json.specs.Find.{get}
+use Rattle.tpl_cert.specs.declared.miss.Miss.{Miss}
+use Rattle.tpl_cert.specs.declared.miss.Miss.TheVariants as misses
+use Rattle.tpl_cert.specs.NamedTrees.{NamedTree, SplitInput}
+use Rattle.tpl_cert.specs.Members.{has_only, text_in, Misses}
+use Rattle.tpl_cert.specs.Reading.{node_at, tree_at, input_at}
+
+pub tree_at-zero : (n : ℕ) (d : Data) → n ≡ 0 → tree_at n d ≡ None
+unfolding tree_at
+tree_at-zero zero d e = refl
+tree_at-zero (suc n) d e = absurd (omega arith)
+
+pub tree_at-below : (n : ℕ) (d : Data) → 0 < n → tree_at n d ≡ node_at (tree_at (n - 1)) d
+unfolding tree_at
+tree_at-below zero d lt = absurd (omega arith)
+tree_at-below (suc n) d lt = let e : suc n - 1 ≡ n = omega arith in rw e refl
+
+pub ruleset levels = (tree_at-zero, tree_at-below)
+
+-- a split on an input, whose names are too long for the check's own search
+abbrev only_input : Data → Bool
+only_input d = has_only (codes "split_input" ∷ codes "yes" ∷ codes "no" ∷ []) d
+
+pub input_misses : (inner : Data → Option NamedTree) (d : Data) (m : Miss) → true ≡ only_input d → Misses m (text_in (codes "split_input") d) → Misses m (input_at inner d)
+unfolding input_at
+input_misses inner d misses.Memory h e = tt
+input_misses inner d misses.Shape h e = rw (← h, e) refl
+
+pub input_is : (inner : Data → Option NamedTree) (d : Data) (name : List ℕ) (first second : NamedTree) → true ≡ only_input d → text_in (codes "split_input") d ≡ Some name
+    → option_and_then inner (get (codes "yes") d) ≡ Some first → option_and_then inner (get (codes "no") d) ≡ Some second → input_at inner d ≡ Some (SplitInput name first second)
+unfolding input_at
+input_is inner d name first second h e a b = rw (← h, e, a, b) refl

@@ -1,0 +1,11 @@
+pub mod Arrays
+pub mod Levels
+pub mod Endings
+pub mod Names
+pub mod Json
+pub mod Rows
+pub mod Trees
+pub mod Whole
+pub mod Ids
+pub mod Unique
+pub mod Again

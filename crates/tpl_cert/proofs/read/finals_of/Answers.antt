@@ -1,0 +1,18 @@
+use Rattle.std.proofs.Common.{◌≡◌, map, sym, ◌∙◌}
+use Rattle.std.proofs.lemmas.Result.{err_from_is_err_and}
+use Rattle.serde_json.specs.View.{view}
+use Rattle.tpl_cert.specs.Reading.{finals_at, no_finals}
+use Rattle.tpl_cert.proofs.Endings.{finals_step, finals_stop, finals_done}
+use Rattle.tpl_cert.proofs.read.finals_of.Goals as goal
+
+pub returns-in_err-final_of : goal.returns-in_err-final_of
+returns-in_err-final_of c =
+    let p = err_from_is_err_and c.from_residual.result c.from_residual.ensures.1 in
+    rw (p.1, p.2, ← c.loop-value.invariant) (finals_stop c.loop-value.finals c.args.values.now c.loop-value.value-index c.value-item.result c.in_err-final_of.field-0.0 c.loop-value-test.true c.value-item.is c.in_err-final_of.ensures)
+
+pub loop-value-preserved : goal.loop-value-preserved
+loop-value-preserved c =
+    rw c.with_final-finals.ensures (sym (finals_step c.loop-value.finals c.args.values.now c.loop-value.value-index c.value-item.result c.in_ok-final_of.field-0 c.loop-value-test.true c.value-item.is c.in_ok-final_of.ensures) ∙ c.loop-value.invariant)
+
+pub returns : goal.returns
+returns c = sym c.loop-value.invariant ∙ finals_done c.loop-value.finals c.args.values.now c.loop-value.value-index c.loop-value-test.false

@@ -1,0 +1,12 @@
+pub mod Members
+pub mod NamedTrees
+pub mod Reading
+pub mod Seen
+pub mod Trees
+pub mod Heights
+pub mod Coding
+pub mod Falls
+pub mod Naming
+pub mod Grammar
+pub mod Spelled
+pub mod Written

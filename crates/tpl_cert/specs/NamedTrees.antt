@@ -1,0 +1,16 @@
+-- Certificate trees as they are spelled: names are texts, lists of bytes.
+use Rattle.std.specs.Prelude.{ℕ, List, Bool}
+use Rattle.tpl_words.specs.declared.finals.Finals.{Finals}
+
+-- what a leaf says of one task: how it may end, whether it may begin, what is settled when it begins and when it has ended, and who reads its exception
+pub record NamedRow : Type 0 where
+  pub ends : Finals
+  pub runs : Bool
+  pub before : List (List ℕ)
+  pub past : List (List ℕ)
+  pub chain : List (List ℕ)
+
+pub data NamedTree : Type 0 where
+  SplitInput : (input : List ℕ) → (on_true : NamedTree) → (on_false : NamedTree) → NamedTree
+  SplitEnd : (task : List ℕ) → (ran : NamedTree) → (canceled : NamedTree) → (faulted : NamedTree) → NamedTree
+  Leaf : (rows : List NamedRow) → NamedTree

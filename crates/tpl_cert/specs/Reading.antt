@@ -1,0 +1,75 @@
+-- Reading a certificate tree with names. `None` is a wrong shape.
+use Rattle.std.specs.Prelude.{◌≡◌, ℕ, zero, suc, List, [], ◌∷◌, Option, Some, None, Bool, true, false, codes, is_some, option_and_then, if◌then◌else◌}
+use Rattle.std.specs.Str.{bytes_eq}
+use Rattle.serde_json.specs.Data.{Data}
+use Rattle.serde_json.specs.Find.{get, as_bool, as_str}
+use Rattle.tpl_words.specs.declared.finals.Final.{Final}
+use Rattle.tpl_words.specs.declared.finals.Final.TheVariants.{RanToCompletion, Canceled, Faulted}
+use Rattle.tpl_words.specs.declared.finals.Finals.{Finals}
+use Rattle.tpl_cert.specs.Members.{◌>>=◌, only_if, has_only, text_in, list_in, list_or_none, each, texts_in}
+use Rattle.tpl_cert.specs.NamedTrees.{NamedRow, NamedTree, SplitInput, SplitEnd, Leaf}
+
+abbrev pub no_finals : Finals
+no_finals = record { ran = false; canceled = false; faulted = false }
+
+abbrev pub with_final : Final → Finals → Finals
+with_final RanToCompletion e = record e { ran = true }
+with_final Canceled e = record e { canceled = true }
+with_final Faulted e = record e { faulted = true }
+
+unfoldable pub final_word : List ℕ → Option Final
+final_word word = if bytes_eq word (codes "RanToCompletion") then Some RanToCompletion else (if bytes_eq word (codes "Canceled") then Some Canceled else (if bytes_eq word (codes "Faulted") then Some Faulted else None))
+
+unfoldable pub final_at : Data → Option Final
+final_at d = as_str d >>= final_word
+
+-- the finals of a list, beside those that are known
+unfoldable pub finals_at : Finals → List Data → Option Finals
+finals_at e [] = Some e
+finals_at e (d ∷ ds) = do
+  f ← final_at d
+  finals_at (with_final f e) ds
+
+unfoldable pub row_at : Data → Option NamedRow
+row_at d = do
+  only ← only_if (has_only (codes "ends" ∷ codes "runs" ∷ codes "before" ∷ codes "past" ∷ codes "chain" ∷ []) d)
+  list ← get (codes "ends") d >>= list_in
+  ends ← finals_at no_finals list
+  runs ← get (codes "runs") d >>= as_bool
+  before ← texts_in (codes "before") d
+  past ← texts_in (codes "past") d
+  chain ← texts_in (codes "chain") d
+  Some (record { ends = ends; runs = runs; before = before; past = past; chain = chain })
+
+unfoldable pub leaf_at : Data → Option NamedTree
+leaf_at d = do
+  only ← only_if (has_only (codes "rows" ∷ []) d)
+  list ← get (codes "rows") d >>= list_in
+  rows ← each row_at list
+  Some (Leaf rows)
+
+-- `inner` reads the trees inside
+unfoldable pub input_at : (Data → Option NamedTree) → Data → Option NamedTree
+input_at inner d = do
+  only ← only_if (has_only (codes "split_input" ∷ codes "yes" ∷ codes "no" ∷ []) d)
+  name ← text_in (codes "split_input") d
+  first ← get (codes "yes") d >>= inner
+  second ← get (codes "no") d >>= inner
+  Some (SplitInput name first second)
+
+unfoldable pub end_at : (Data → Option NamedTree) → Data → Option NamedTree
+end_at inner d = do
+  only ← only_if (has_only (codes "split_end" ∷ codes "ran" ∷ codes "canceled" ∷ codes "faulted" ∷ []) d)
+  name ← text_in (codes "split_end") d
+  ran ← get (codes "ran") d >>= inner
+  canceled ← get (codes "canceled") d >>= inner
+  faulted ← get (codes "faulted") d >>= inner
+  Some (SplitEnd name ran canceled faulted)
+
+unfoldable pub node_at : (Data → Option NamedTree) → Data → Option NamedTree
+node_at inner d = if is_some (get (codes "split_input") d) then input_at inner d else (if is_some (get (codes "split_end") d) then end_at inner d else leaf_at d)
+
+-- trees in trees to this depth
+unfoldable pub tree_at : ℕ → Data → Option NamedTree
+tree_at zero d = None
+tree_at (suc n) d = node_at (tree_at n) d

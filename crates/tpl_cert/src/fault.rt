@@ -1,0 +1,69 @@
+//! Why a tree isn't read or written.
+
+ghost use Rattle.std.specs.Prelude.{◌≡◌};
+ghost use Rattle.tpl_cert.specs.declared.fault.TreeFault.TheVariants as reading;
+ghost use Rattle.tpl_cert.specs.declared.fault.TreeToFault.TheVariants as writing;
+
+use std::alloc::{AllocError, AllocFailed};
+use thiserror::Error;
+
+/// Why a JSON value isn't read as a certificate tree. The least that applies anywhere in the tree is named, in this
+/// order; `Memory` can come before any of them.
+#[derive(Clone, Copy, Debug, PartialEq, Eq, Error)]
+pub enum TreeFault {
+    /// It hasn't the form of a tree.
+    #[error("Shape")]
+    Shape,
+    /// A name isn't the graph's.
+    #[error("Unknown")]
+    Unknown,
+    /// More than 6 splits on a path, or more than 16 tasks in a chain.
+    #[error("Limit")]
+    Limit,
+    /// An allocation was refused.
+    #[error("out of memory")]
+    Memory,
+}
+
+impl From<AllocError> for TreeFault {
+    ghost from_gives = { λ _ e. e ≡ reading.Memory };
+
+    fn from(_e: AllocError) -> TreeFault {
+        TreeFault::Memory
+    }
+}
+
+impl<T: Drop> From<AllocFailed<T>> for TreeFault {
+    ghost from_gives = { λ _ e. e ≡ reading.Memory };
+
+    fn from(_e: AllocFailed<T>) -> TreeFault {
+        TreeFault::Memory
+    }
+}
+
+/// Why a tree isn't written.
+#[derive(Clone, Copy, Debug, PartialEq, Eq, Error)]
+pub enum TreeToFault {
+    /// An id that the graph hasn't.
+    #[error("Unknown")]
+    Unknown,
+    /// An allocation was refused.
+    #[error("out of memory")]
+    Memory,
+}
+
+impl From<AllocError> for TreeToFault {
+    ghost from_gives = { λ _ e. e ≡ writing.Memory };
+
+    fn from(_e: AllocError) -> TreeToFault {
+        TreeToFault::Memory
+    }
+}
+
+impl<T: Drop> From<AllocFailed<T>> for TreeToFault {
+    ghost from_gives = { λ _ e. e ≡ writing.Memory };
+
+    fn from(_e: AllocFailed<T>) -> TreeToFault {
+        TreeToFault::Memory
+    }
+}

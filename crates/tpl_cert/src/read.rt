@@ -1,0 +1,186 @@
+//! Reading a certificate tree with names.
+
+ghost use Rattle.std.specs.Prelude.{◌≡◌, map, option_and_then};
+ghost use Rattle.serde_json.specs.Find.{get, as_str, as_bool};
+ghost use Rattle.serde_json.specs.View.{view};
+ghost use Rattle.tpl_cert.specs.Seen.{row_of, tree_of};
+ghost use Rattle.tpl_cert.specs.Members.{Gives, each};
+ghost use Rattle.tpl_cert.specs.Reading.{with_final, no_finals, final_word, final_at, finals_at, row_at, leaf_at, input_at, end_at, node_at, tree_at};
+
+use crate::members::{bool_in, has_only, list_of, member_in, text_in, text_of, texts_in};
+use crate::miss::Miss;
+use crate::named::{NamedRow, NamedTree};
+use serde_json::Value;
+use std::alloc::Global;
+use tpl_words::{Final, Finals};
+
+#[tactic(auto, unfolding(crate::specs::Reading::final_word))]
+fn final_word(word: &str) -> Result<Final, Miss>
+    ensures { Gives (λ f. f) result (final_word word.now) }
+{
+    match word {
+        "RanToCompletion" => Ok(Final::RanToCompletion),
+        "Canceled" => Ok(Final::Canceled),
+        "Faulted" => Ok(Final::Faulted),
+        _ => Err(Miss::Shape),
+    }
+}
+
+#[tactic(auto, unfolding(crate::specs::Reading::final_at))]
+/// A final status, by its name.
+pub fn final_of(value: &Value) -> Result<Final, Miss>
+    ensures { Gives (λ f. f) result (final_at (view value.now)) }
+{
+    let word = text_of(value)?;
+    final_word(word)
+}
+
+fn with_final(finals: Finals, ending: Final) -> Finals
+    ensures { result ≡ with_final ending finals }
+{
+    match ending {
+        Final::RanToCompletion => Finals {
+            ran: true,
+            ..finals
+        },
+        Final::Canceled => Finals {
+            canceled: true,
+            ..finals
+        },
+        Final::Faulted => Finals {
+            faulted: true,
+            ..finals
+        },
+    }
+}
+
+/// The set of the final statuses of an array.
+pub fn finals_of(values: &[Value]) -> Result<Finals, Miss>
+    ensures { Gives (λ f. f) result (finals_at no_finals (map view values.now)) }
+{
+    let mut finals = Finals {
+        ran: false,
+        canceled: false,
+        faulted: false,
+    };
+    for value in values {
+        finals = with_final(finals, final_of(value)?);
+    }
+    Ok(finals)
+}
+
+#[tactic(auto, unfolding(crate::specs::Reading::row_at))]
+fn row_of(alloc: Global, value: &Value) -> Result<NamedRow<'_>, Miss>
+    ensures { Gives row_of result (row_at (view value.now)) }
+{
+    if !has_only(value, &["ends", "runs", "before", "past", "chain"]) {
+        return Err(Miss::Shape);
+    }
+    let list = member_in(value, "ends")?;
+    let ends = finals_of(list_of(list)?)?;
+    let runs = bool_in(value, "runs")?;
+    let before = texts_in(alloc, value, "before")?;
+    let past = texts_in(alloc, value, "past")?;
+    let chain = texts_in(alloc, value, "chain")?;
+    Ok(NamedRow {
+        ends,
+        runs,
+        before,
+        past,
+        chain,
+    })
+}
+
+fn rows_of(alloc: Global, values: &[Value]) -> Result<Vec<NamedRow<'_>>, Miss>
+    ensures { Gives (λ v. map row_of v.items) result (each row_at (map view values.now)) }
+{
+    let mut rows = Vec::new(alloc);
+    for value in values {
+        let row = row_of(alloc, value)?;
+        rows.push(row)?;
+    }
+    Ok(rows)
+}
+
+#[tactic(auto, unfolding(crate::specs::Reading::leaf_at))]
+fn leaf_of(alloc: Global, value: &Value) -> Result<NamedTree<'_>, Miss>
+    ensures { Gives tree_of result (leaf_at (view value.now)) }
+{
+    if !has_only(value, &["rows"]) {
+        return Err(Miss::Shape);
+    }
+    let list = member_in(value, "rows")?;
+    let rows = rows_of(alloc, list_of(list)?)?;
+    Ok(NamedTree::Leaf(rows))
+}
+
+#[cycle(tree)]
+fn branch_of<'v>(
+    alloc: Global,
+    levels: u32,
+    value: &'v Value,
+    name: &str,
+) -> Result<Box<NamedTree<'v>>, Miss>
+    ensures { Gives (λ b. tree_of b.value) result
+        (option_and_then (tree_at levels) (get name.now (view value.now))) }
+{
+    let member = member_in(value, name)?;
+    let tree = named_tree(alloc, levels, member)?;
+    let boxed = Box::new(alloc, tree)?;
+    Ok(boxed)
+}
+
+#[cycle(tree)]
+#[tactic(auto, unfolding(crate::specs::Reading::input_at))]
+fn input_of(alloc: Global, levels: u32, value: &Value) -> Result<NamedTree<'_>, Miss>
+    ensures { Gives tree_of result (input_at (tree_at levels) (view value.now)) }
+{
+    if !has_only(value, &["split_input", "yes", "no"]) {
+        return Err(Miss::Shape);
+    }
+    let name = text_in(value, "split_input")?;
+    let first = branch_of(alloc, levels, value, "yes")?;
+    let second = branch_of(alloc, levels, value, "no")?;
+    Ok(NamedTree::SplitInput(name, first, second))
+}
+
+#[cycle(tree)]
+#[tactic(auto, unfolding(crate::specs::Reading::end_at))]
+fn end_of(alloc: Global, levels: u32, value: &Value) -> Result<NamedTree<'_>, Miss>
+    ensures { Gives tree_of result (end_at (tree_at levels) (view value.now)) }
+{
+    if !has_only(value, &["split_end", "ran", "canceled", "faulted"]) {
+        return Err(Miss::Shape);
+    }
+    let name = text_in(value, "split_end")?;
+    let ran = branch_of(alloc, levels, value, "ran")?;
+    let canceled = branch_of(alloc, levels, value, "canceled")?;
+    let faulted = branch_of(alloc, levels, value, "faulted")?;
+    Ok(NamedTree::SplitEnd(name, ran, canceled, faulted))
+}
+
+#[cycle(tree)]
+#[tactic(auto, unfolding(crate::specs::Reading::node_at))]
+fn node_of(alloc: Global, levels: u32, value: &Value) -> Result<NamedTree<'_>, Miss>
+    ensures { Gives tree_of result (node_at (tree_at levels) (view value.now)) }
+{
+    if value.get("split_input").is_some() {
+        return input_of(alloc, levels, value);
+    }
+    if value.get("split_end").is_some() {
+        return end_of(alloc, levels, value);
+    }
+    leaf_of(alloc, value)
+}
+
+#[cycle(tree)]
+#[tactic(auto, using(crate::proofs::Levels::levels))]
+/// A tree, with trees in trees to this depth.
+pub(crate) fn named_tree(alloc: Global, levels: u32, value: &Value) -> Result<NamedTree<'_>, Miss>
+    ensures { Gives tree_of result (tree_at levels (view value.now)) }
+{
+    if levels == 0 {
+        return Err(Miss::Shape);
+    }
+    node_of(alloc, levels - 1, value)
+}

@@ -1,0 +1,9 @@
+pub mod Bodies
+pub mod OptionWords
+pub mod Lookups
+pub mod Passes
+pub mod Asking
+pub mod Truths
+pub mod Shapes
+pub mod Begins
+pub mod Refusals

@@ -1,0 +1,8 @@
+use Rattle.std.proofs.Common.{map, take}
+use Rattle.tpl_reader.specs.SeenClaims.{claim_of}
+use Rattle.tpl_reader.specs.Asked.{IsAsked, IsWrongClaim}
+use Rattle.tpl_reader.specs.Passes.{AllRead}
+use Rattle.tpl_reader.proofs.asked.claims_in.Given as goal
+
+abbrev pub invariant-loop-index : goal.invariant-loop-index
+invariant-loop-index l = AllRead (IsAsked l.graph) (map claim_of (take l.index l.claims)) l.asked.items

@@ -1,0 +1,9 @@
+use Rattle.std.proofs.Common.{map, take}
+use Rattle.serde_json.specs.View.{view}
+use Rattle.tpl_reader.specs.SeenClaims.{claim_of}
+use Rattle.tpl_reader.specs.Top.{IsClaim, IsNoClaim}
+use Rattle.tpl_reader.specs.Passes.{AllRead}
+use Rattle.tpl_reader.proofs.top.claims_of.Given as goal
+
+abbrev pub invariant-loop-index : goal.invariant-loop-index
+invariant-loop-index l = AllRead IsClaim (map view (take l.index l.values)) (map claim_of l.claims.items)

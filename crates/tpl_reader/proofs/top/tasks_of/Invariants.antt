@@ -1,0 +1,9 @@
+use Rattle.std.proofs.Common.{map, take}
+use Rattle.serde_json.specs.View.{view}
+use Rattle.tpl_graph.specs.SeenTasks.{task_of}
+use Rattle.tpl_reader.specs.Top.{IsTask, IsNoTask}
+use Rattle.tpl_reader.specs.Passes.{AllRead}
+use Rattle.tpl_reader.proofs.top.tasks_of.Given as goal
+
+abbrev pub invariant-loop-index : goal.invariant-loop-index
+invariant-loop-index l = AllRead IsTask (map view (take l.index l.values)) (map task_of l.tasks.items)

@@ -1,0 +1,9 @@
+use Rattle.std.proofs.Common.{◌≡◌, map, take, Some}
+use Rattle.serde_json.specs.View.{view}
+use Rattle.tpl_cert.specs.Members.{each}
+use Rattle.tpl_graph.specs.SeenTasks.{token_of}
+use Rattle.tpl_reader.specs.Tasks.{token_at}
+use Rattle.tpl_reader.proofs.top.tokens_of.Given as goal
+
+abbrev pub invariant-loop-value : goal.invariant-loop-value
+invariant-loop-value l = each (token_at l.links) (map view (take l.value-index l.values)) ≡ Some (map token_of l.tokens.items)

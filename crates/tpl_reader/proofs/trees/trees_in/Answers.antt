@@ -1,0 +1,15 @@
+use Rattle.std.proofs.Common.{◌≡◌, ◌+◌, map, arith}
+use Rattle.std.proofs.lemmas.Result.{err_from_is_err_and}
+use Rattle.serde_json.specs.View.{view}
+use Rattle.tpl_cert.specs.Spelled.{ReadsAs, IsWrongTree}
+use Rattle.tpl_reader.proofs.Passes.{read_more, halts_here}
+use Rattle.tpl_reader.proofs.trees.trees_in.Goals as goal
+
+pub returns-in_err-one : goal.returns-in_err-one
+returns-in_err-one c =
+    let p = err_from_is_err_and c.from_residual.result c.from_residual.ensures.1 in
+    rw (p.1, p.2) (halts_here (ReadsAs c.args.graph.now.names) (IsWrongTree c.args.graph.now.names) view c.args.values.now c.loop-index.index c.index-values-index.result _ c.in_err-one.field-0.0 c.loop-index-test.true c.loop-index.invariant (rw (← c.index-values-index.is) c.in_err-one.ensures))
+
+pub loop-index-preserved : goal.loop-index-preserved
+loop-index-preserved c =
+    rw c.in_ok-push.ensures.items (read_more (ReadsAs c.args.graph.now.names) view c.args.values.now c.loop-index.index c.index-values-index.result c.loop-index.trees.items c.in_ok-one.one c.loop-index-test.true c.loop-index.invariant (rw (← c.index-values-index.is) c.in_ok-one.ensures))

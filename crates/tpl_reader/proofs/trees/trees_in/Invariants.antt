@@ -1,0 +1,8 @@
+use Rattle.std.proofs.Common.{map, take}
+use Rattle.serde_json.specs.View.{view}
+use Rattle.tpl_cert.specs.Spelled.{ReadsAs, IsWrongTree}
+use Rattle.tpl_reader.specs.Passes.{AllRead}
+use Rattle.tpl_reader.proofs.trees.trees_in.Given as goal
+
+abbrev pub invariant-loop-index : goal.invariant-loop-index
+invariant-loop-index l = AllRead (ReadsAs l.graph.names) (map view (take l.index l.values)) l.trees.items

@@ -1,0 +1,159 @@
+-- Which document bytes spell, and what is wrong with bytes that spell none.
+use Rattle.std.specs.Prelude.{◌≡◌, ◌≤◌, ◌<◌, ℕ, ◌⊎◌, Bool, List, Option, Some, None, length, IsUtf8}
+use Rattle.serde_json.specs.Data.{Data}
+use Rattle.serde_json.specs.Read.{read}
+use Rattle.tpl_model.specs.Claims.{Claim}
+use Rattle.tpl_model.specs.Certificate.{Tree}
+use Rattle.tpl_graph.specs.Draft.{Task, Draft}
+use Rattle.tpl_graph.specs.Named.{Named}
+use Rattle.tpl_graph.specs.Numbered.{numbered}
+use Rattle.tpl_graph.specs.Refusals.{IsValid, IsLeast}
+use Rattle.tpl_cert.specs.Spelled.{ReadsAs, IsWrongTree}
+use Rattle.tpl_reader.specs.NamedClaims.{NamedClaim}
+use Rattle.tpl_reader.specs.Start.{NamedStart, start_or_none}
+use Rattle.tpl_reader.specs.Begin.{StartValue, IsStartOf, IsWrongStart}
+use Rattle.tpl_reader.specs.Top.{Members, top_at, IsTask, IsNoTask, IsClaim, IsNoClaim}
+use Rattle.tpl_reader.specs.Asked.{IsAsked, IsWrongClaim}
+use Rattle.tpl_reader.specs.Passes.{AllRead, FirstWrong}
+use Rattle.tpl_reader.specs.declared.fault.Part.{Part}
+use Rattle.tpl_reader.specs.declared.fault.Part.TheVariants as part
+use Rattle.tpl_reader.specs.declared.fault.ClaimFault.{ClaimFault}
+use Rattle.tpl_reader.specs.declared.fault.ClaimFault.TheVariants.{TooMany}
+use Rattle.tpl_reader.specs.declared.fault.StartFault.{StartFault}
+use Rattle.tpl_reader.specs.declared.fault.ReadFault.{ReadFault}
+use Rattle.tpl_reader.specs.declared.fault.ReadFault.TheVariants as faults
+
+-- a document as it is spelled, with names
+pub record Spelled : Type 0 where
+  pub draft : Draft
+  pub claims : List NamedClaim
+  pub certificate : List Data
+  pub journal : List ℕ
+  pub start : Option NamedStart
+
+-- the value has the form of the document
+pub record IsSpelled (d : Data) (s : Spelled) : Type 0 where
+  pub members : Members
+  pub top : top_at d ≡ Some members
+  pub inputs : s.draft.inputs ≡ members.inputs
+  pub tokens : s.draft.tokens ≡ members.tokens
+  pub tasks : AllRead IsTask members.tasks s.draft.tasks
+  pub claims : AllRead IsClaim members.claims s.claims
+  pub certificate : s.certificate ≡ members.certificate
+  pub journal : s.journal ≡ members.journal
+  pub start : start_or_none members.start ≡ Some s.start
+
+abbrev pub WrongTop : Data → Part → Type 0
+WrongTop d part.Top = top_at d ≡ None
+WrongTop d p = ⊥
+
+abbrev pub WrongStart : Option Data → Part → Type 0
+WrongStart d part.Start = start_or_none d ≡ None
+WrongStart d p = ⊥
+
+abbrev pub WrongTask : List Data → Part → Type 0
+WrongTask ds (part.Task n) = FirstWrong IsTask IsNoTask ds n tt
+WrongTask ds p = ⊥
+
+abbrev pub WrongClaim : List Data → Part → Type 0
+WrongClaim ds (part.Claim n) = FirstWrong IsClaim IsNoClaim ds n tt
+WrongClaim ds p = ⊥
+
+-- the first part that hasn't its form
+abbrev pub IsMisshapen : Data → Part → Type 0
+IsMisshapen d part.Top = top_at d ≡ None
+IsMisshapen d (part.Task n) = (m : Members) × (top_at d ≡ Some m) × FirstWrong IsTask IsNoTask m.tasks n tt
+IsMisshapen d (part.Claim n) = (m : Members) × (top_at d ≡ Some m) × ((ts : List Task) × AllRead IsTask m.tasks ts) × FirstWrong IsClaim IsNoClaim m.claims n tt
+IsMisshapen d part.Start = (m : Members) × (top_at d ≡ Some m) × ((ts : List Task) × AllRead IsTask m.tasks ts) × ((cs : List NamedClaim) × AllRead IsClaim m.claims cs) × (start_or_none m.start ≡ None)
+
+-- ---- with ids in place of names
+
+pub record DocumentValue : Type 0 where
+  pub graph : Named
+  pub claims : List Claim
+  pub certificate : List Tree
+  pub journal : List ℕ
+  pub start : Option StartValue
+
+abbrev pub IsStarted : Named → Option NamedStart → Option StartValue → Type 0
+IsStarted g None None = Unit {0}
+IsStarted g None (Some t) = ⊥
+IsStarted g (Some s) None = ⊥
+IsStarted g (Some s) (Some t) = IsStartOf g s t
+
+-- at most 64 claims, each of which can be asked of the graph
+pub record AreAsked (g : Named) (spelled : List NamedClaim) (claims : List Claim) : Type 0 where
+  pub few : length spelled ≤ 64
+  pub each : AllRead (IsAsked g) spelled claims
+
+-- the document that is spelled
+pub record IsDocument (s : Spelled) (doc : DocumentValue) : Type 0 where
+  pub valid : IsValid s.draft
+  pub graph : doc.graph ≡ numbered s.draft
+  pub claims : AreAsked doc.graph s.claims doc.claims
+  pub certificate : AllRead (ReadsAs doc.graph.names) s.certificate doc.certificate
+  pub journal : doc.journal ≡ s.journal
+  pub start : IsStarted doc.graph s.start doc.start
+
+-- the 65th claim is one too many; else the n-th is the first that can't be asked
+abbrev pub IsRefusedClaim : Named → List NamedClaim → ℕ → ClaimFault → Type 0
+IsRefusedClaim g ss n f = ((64 < length ss) × (n ≡ 65) × (f ≡ TooMany)) ⊎ ((length ss ≤ 64) × FirstWrong (IsAsked g) (IsWrongClaim g) ss n f)
+
+abbrev pub GraphFaults : Draft → ReadFault → Type 0
+GraphFaults d (faults.Graph f) = IsLeast d f
+GraphFaults d faults.Memory = Unit {0}
+GraphFaults d e = ⊥
+
+abbrev pub ClaimFaults : Named → List NamedClaim → ReadFault → Type 0
+ClaimFaults g ss (faults.Claim n f) = IsRefusedClaim g ss n f
+ClaimFaults g ss faults.Memory = Unit {0}
+ClaimFaults g ss e = ⊥
+
+abbrev pub TreeFaults : Named → List Data → ReadFault → Type 0
+TreeFaults g ds (faults.Certificate n f) = FirstWrong (ReadsAs g.names) (IsWrongTree g.names) ds n f
+TreeFaults g ds faults.Memory = Unit {0}
+TreeFaults g ds e = ⊥
+
+abbrev pub IsWrongBegin : Named → Option NamedStart → StartFault → Type 0
+IsWrongBegin g None f = ⊥
+IsWrongBegin g (Some s) f = IsWrongStart g s f
+
+abbrev pub StartFaults : Named → Option NamedStart → ReadFault → Type 0
+StartFaults g s (faults.Start f) = IsWrongBegin g s f
+StartFaults g s faults.Memory = Unit {0}
+StartFaults g s e = ⊥
+
+abbrev pub Trees : Named → List Data → Type 0
+Trees g ds = (ts : List Tree) × AllRead (ReadsAs g.names) ds ts
+
+-- what is wrong with a document that has its form: the graph, then a claim, then a tree, then the start
+abbrev pub IsRefused : Spelled → ReadFault → Type 0
+IsRefused s (faults.Graph f) = IsLeast s.draft f
+IsRefused s (faults.Claim n f) = IsValid s.draft × IsRefusedClaim (numbered s.draft) s.claims n f
+IsRefused s (faults.Certificate n f) = IsValid s.draft × ((cs : List Claim) × AreAsked (numbered s.draft) s.claims cs) × TreeFaults (numbered s.draft) s.certificate (faults.Certificate n f)
+IsRefused s (faults.Start f) = IsValid s.draft × ((cs : List Claim) × AreAsked (numbered s.draft) s.claims cs) × Trees (numbered s.draft) s.certificate × StartFaults (numbered s.draft) s.start (faults.Start f)
+IsRefused s faults.Memory = Unit {0}
+IsRefused s faults.TooLong = ⊥
+IsRefused s faults.NotJson = ⊥
+IsRefused s (faults.Shape p) = ⊥
+
+-- ---- bytes
+
+abbrev pub longest : ℕ
+longest = 16777216
+
+-- what the bytes read as
+abbrev pub Reads : List ℕ → Data → Type 0
+Reads bytes d = IsUtf8 bytes × (read bytes ≡ Some d)
+
+-- the bytes spell the document
+abbrev pub Spells : List ℕ → DocumentValue → Type 0
+Spells bytes doc = (length bytes ≤ longest) × ((d : Data) × Reads bytes d × ((s : Spelled) × IsSpelled d s × IsDocument s doc))
+
+-- what is wrong with bytes that spell no document, memory aside
+abbrev pub IsFault : List ℕ → ReadFault → Type 0
+IsFault bytes faults.TooLong = longest < length bytes
+IsFault bytes faults.NotJson = (length bytes ≤ longest) × ((d : Data) → Reads bytes d → ⊥)
+IsFault bytes (faults.Shape p) = (length bytes ≤ longest) × ((d : Data) × Reads bytes d × IsMisshapen d p)
+IsFault bytes faults.Memory = Unit {0}
+IsFault bytes e = (length bytes ≤ longest) × ((d : Data) × Reads bytes d × ((s : Spelled) × IsSpelled d s × IsRefused s e))

@@ -1,0 +1,14 @@
+pub mod Statements
+pub mod Tasks
+pub mod NamedClaims
+pub mod SeenClaims
+pub mod Claims
+pub mod Passes
+pub mod Asked
+pub mod Start
+pub mod SeenStart
+pub mod Top
+pub mod SeenTop
+pub mod Begin
+pub mod Document
+pub mod SeenDocument

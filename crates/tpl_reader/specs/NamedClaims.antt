@@ -1,0 +1,18 @@
+-- Claims as they are spelled, with names.
+use Rattle.std.specs.Prelude.{ℕ, List, Bool}
+use Rattle.tpl_words.specs.declared.finals.Finals.{Finals}
+
+pub data NamedGiven : Type 0 where
+  GivenInput : (input : List ℕ) → (value : Bool) → NamedGiven
+  GivenQuiet : (token : List ℕ) → NamedGiven
+
+pub data NamedProperty : Type 0 where
+  EndsIn : (task : List ℕ) → (finals : Finals) → NamedProperty
+  After : (first : List ℕ) → (second : List ℕ) → NamedProperty
+  Observed : (task : List ℕ) → NamedProperty
+  Never : (task : List ℕ) → NamedProperty
+  Excludes : (first : List ℕ) → (second : List ℕ) → NamedProperty
+
+pub record NamedClaim : Type 0 where
+  pub given : List NamedGiven
+  pub body : NamedProperty

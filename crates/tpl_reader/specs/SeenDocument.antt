@@ -1,0 +1,22 @@
+-- What a document in memory is seen as.
+use Rattle.std.specs.Prelude.{Option, Some, None, map, string_bytes}
+use Rattle.std.specs.Option.{option_map}
+use Rattle.serde_json.specs.View.{view}
+use Rattle.tpl_graph.specs.Ids.{token_number, site_number}
+use Rattle.tpl_graph.specs.SeenTasks.{draft_of}
+use Rattle.tpl_reader.specs.SeenClaims.{claim_of}
+use Rattle.tpl_reader.specs.SeenStart.{start_of}
+use Rattle.tpl_reader.specs.declared.document.Start as start
+use Rattle.tpl_reader.specs.declared.document.Document as document
+use Rattle.tpl_reader.specs.declared.shape.Shaped.{Shaped}
+use Rattle.tpl_reader.specs.Begin.{StartValue}
+use Rattle.tpl_reader.specs.Document.{Spelled, DocumentValue}
+
+abbrev pub value_of : start.Start → StartValue
+value_of s = record { inputs = s.inputs; request = map token_number s.request.items; fail = map site_number s.fail.items }
+
+abbrev pub doc_of : document.Document → DocumentValue
+doc_of d = record { graph = d.graph; claims = d.claims.items; certificate = d.certificate; journal = string_bytes d.journal; start = option_map value_of d.start }
+
+abbrev pub spelled_of : Shaped → Spelled
+spelled_of s = record { draft = draft_of s.draft; claims = map claim_of s.claims.items; certificate = map view s.certificate.now; journal = s.journal.now; start = option_map start_of s.start }

@@ -1,0 +1,42 @@
+-- Reading where a run starts, with names. `None` is a wrong shape.
+use Rattle.std.specs.Prelude.{◌≡◌, ◌&&◌, ℕ, List, [], ◌∷◌, Option, Some, None, Bool, true, false, codes, is_some, if◌then◌else◌}
+use Rattle.serde_json.specs.Data.{Data, Members, no_members, member, string, array, object, null, boolean, number}
+use Rattle.serde_json.specs.Find.{get, as_bool}
+use Rattle.tpl_cert.specs.Members.{◌>>=◌, only_if, has_only, texts_in}
+
+-- where a run starts, as it is spelled: an object of truth values by the inputs' names, the tokens that are requested first, and the sites whose jobs fail
+pub record NamedStart : Type 0 where
+  pub inputs : Option Data
+  pub request : List (List ℕ)
+  pub fail : List (List ℕ)
+
+abbrev pub all_truths : Members → Bool
+all_truths no_members = true
+all_truths (member key d ms) = is_some (as_bool d) && all_truths ms
+
+-- an object whose members are all true or false
+unfoldable pub has_truths : Data → Bool
+has_truths null = false
+has_truths (boolean b) = false
+has_truths (number n) = false
+has_truths (string s) = false
+has_truths (array ds) = false
+has_truths (object ms) = all_truths ms
+
+unfoldable pub truths_or_none : Option Data → Option (Option Data)
+truths_or_none None = Some None
+truths_or_none (Some d) = if has_truths d then Some (Some d) else None
+
+unfoldable pub start_at : Data → Option NamedStart
+start_at d = do
+  only ← only_if (has_only (codes "inputs" ∷ codes "request" ∷ codes "fail" ∷ []) d)
+  inputs ← truths_or_none (get (codes "inputs") d)
+  request ← texts_in (codes "request") d
+  fail ← texts_in (codes "fail") d
+  Some (record { inputs = inputs; request = request; fail = fail })
+
+unfoldable pub start_or_none : Option Data → Option (Option NamedStart)
+start_or_none None = Some None
+start_or_none (Some d) = do
+  s ← start_at d
+  Some (Some s)

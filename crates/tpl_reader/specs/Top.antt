@@ -1,0 +1,59 @@
+-- Reading a document as far as its shape goes.
+use Rattle.std.specs.Prelude.{◌≡◌, ◌==◌, ℕ, List, [], ◌∷◌, Option, Some, None, Bool, true, false, codes, option_and_then, if◌then◌else◌}
+use Rattle.serde_json.specs.Data.{Data}
+use Rattle.serde_json.specs.Find.{get, as_str, as_number, as_u64}
+use Rattle.tpl_cert.specs.Members.{◌>>=◌, only_if, has_only, list_in, list_or_none, each}
+use Rattle.tpl_graph.specs.Draft.{Task, Token}
+use Rattle.tpl_reader.specs.NamedClaims.{NamedClaim}
+use Rattle.tpl_reader.specs.Tasks.{task_at, token_at}
+use Rattle.tpl_reader.specs.Claims.{claim_at}
+
+-- the members of a document
+pub record Members : Type 0 where
+  pub inputs : List (List ℕ)
+  pub tokens : List Token
+  pub tasks : List Data
+  pub claims : List Data
+  pub certificate : List Data
+  pub journal : List ℕ
+  pub start : Option Data
+
+-- version 1, or version 2, which has links
+unfoldable pub links_in : ℕ → Option Bool
+links_in version = if version == 1 then Some false else (if version == 2 then Some true else None)
+
+unfoldable pub text_or_empty : Option Data → Option (List ℕ)
+text_or_empty None = Some []
+text_or_empty (Some d) = as_str d
+
+unfoldable pub version_at : Data → Option Bool
+version_at d = do
+  version ← option_and_then as_u64 (option_and_then as_number (get (codes "version") d))
+  links_in version
+
+unfoldable pub top_at : Data → Option Members
+top_at d = do
+  only ← only_if (has_only (codes "version" ∷ codes "inputs" ∷ codes "tokens" ∷ codes "tasks" ∷ codes "claims" ∷ codes "certificate" ∷ codes "journal" ∷ codes "start" ∷ []) d)
+  links ← version_at d
+  names ← list_or_none (get (codes "inputs") d)
+  inputs ← each as_str names
+  list ← list_or_none (get (codes "tokens") d)
+  tokens ← each (token_at links) list
+  tasks ← get (codes "tasks") d >>= list_in
+  claims ← list_or_none (get (codes "claims") d)
+  certificate ← list_or_none (get (codes "certificate") d)
+  journal ← text_or_empty (get (codes "journal") d)
+  Some (record { inputs = inputs; tokens = tokens; tasks = tasks; claims = claims; certificate = certificate; journal = journal; start = get (codes "start") d })
+
+-- the value is the task, or none
+abbrev pub IsTask : Data → Task → Type 0
+IsTask d t = task_at d ≡ Some t
+
+abbrev pub IsNoTask : Data → Unit {0} → Type 0
+IsNoTask d u = task_at d ≡ None
+
+abbrev pub IsClaim : Data → NamedClaim → Type 0
+IsClaim d c = claim_at d ≡ Some c
+
+abbrev pub IsNoClaim : Data → Unit {0} → Type 0
+IsNoClaim d u = claim_at d ≡ None

@@ -1,0 +1,133 @@
+//! Where a run starts, with ids in place of names.
+
+ghost use Rattle.std.specs.Prelude.{◌≡◌, ◌&&◌, map, true, Some, is_some, string_bytes, MatchOption};
+ghost use Rattle.std.specs.Option.{option_map};
+ghost use Rattle.std.specs.List.{list_all};
+ghost use Rattle.std.specs.BTreeMap.{keys};
+ghost use Rattle.serde_json.specs.View.{view};
+ghost use Rattle.tpl_graph.specs.Ids.{token_number, site_number};
+ghost use Rattle.tpl_cert.specs.Naming.{number_of, is_declared, are_declared, AreNumbers};
+ghost use Rattle.tpl_reader.specs.SeenStart.{start_of};
+ghost use Rattle.tpl_reader.specs.SeenDocument.{value_of};
+ghost use Rattle.tpl_reader.specs.Asked.{Takes};
+ghost use Rattle.tpl_reader.specs.Begin.{knows_members, truth_at, HasTruths, LacksTruth, IsStartOf, IsWrongStart, IsUnknownName};
+
+use crate::document::Start;
+use crate::fault::{StartFault, Stop};
+use crate::named::NamedStart;
+use serde_json::{Map, Value};
+use std::alloc::Global;
+use tpl_graph::Graph;
+use tpl_words::{InputId, Inputs, SiteId, TokenId};
+
+fn declares(graph: &Graph, members: &Map<String, Value>) -> bool
+    ensures { result ≡ list_all (λ key. is_declared graph.now.names.inputs (string_bytes key)) (keys members.now) }
+{
+    members
+        .keys()
+        .all(|key| graph.input(key.as_str()).is_some())
+}
+
+/// Whether the names of the members are inputs.
+#[tactic(auto, using(crate::proofs::Truths::declares_of), unfolding(crate::specs::Begin::knows_members))]
+fn knows_members(graph: &Graph, inputs: Option<&Value>) -> bool
+    ensures { result ≡ knows_members graph.now.names.inputs (option_map (λ v. view v.now) inputs.entry) }
+{
+    match inputs {
+        None => true,
+        Some(value) => match value.as_object() {
+            None => true,
+            Some(members) => declares(graph, members),
+        },
+    }
+}
+
+#[tactic(auto, unfolding(crate::specs::Begin::truth_at))]
+fn truth_at(inputs: Option<&Value>, name: &str) -> Option<bool>
+    ensures { result ≡ truth_at (option_map (λ v. view v.now) inputs.entry) name.now }
+{
+    match inputs {
+        None => None,
+        Some(value) => value.get(name).and_then(Value::as_bool),
+    }
+}
+
+/// The values of the inputs, if each has one.
+fn values_in(graph: &Graph, inputs: Option<&Value>) -> Option<Inputs>
+    ensures { MatchOption result (LacksTruth graph.now.names.inputs (option_map (λ v. view v.now) inputs.entry)) (λ v. HasTruths graph.now.names.inputs (option_map (λ v. view v.now) inputs.entry) v) }
+{
+    graph.valid();
+    let mut values = Inputs::new(graph.input_count());
+    for index in 0..graph.input_count() {
+        let input = InputId(index as u8);
+        match truth_at(inputs, graph.input_name(input)) {
+            None => return None,
+            Some(truth) => values.set(input, truth),
+        }
+    }
+    Some(values)
+}
+
+fn token_in(graph: &Graph, name: &str) -> Result<TokenId, Stop<StartFault>>
+    ensures { Takes result (λ t. (is_declared graph.now.names.tokens name.now ≡ true) × (number_of graph.now.names.tokens name.now ≡ Some t.0)) (IsUnknownName (is_declared graph.now.names.tokens name.now)) }
+{
+    match graph.token(name) {
+        None => Err(Stop::Fault(StartFault::Unknown)),
+        Some(token) => Ok(token),
+    }
+}
+
+fn tokens_in(alloc: Global, graph: &Graph, names: &[&str]) -> Result<Vec<TokenId>, Stop<StartFault>>
+    ensures { Takes result (λ v. (are_declared graph.now.names.tokens (map (λ s. s.now) names.now) ≡ true) × AreNumbers graph.now.names.tokens (map (λ s. s.now) names.now) (map token_number v.items)) (IsUnknownName (are_declared graph.now.names.tokens (map (λ s. s.now) names.now))) }
+{
+    let mut tokens = Vec::new(alloc);
+    for name in names {
+        let token = token_in(graph, name)?;
+        tokens.push(token)?;
+    }
+    Ok(tokens)
+}
+
+fn site_in(graph: &Graph, name: &str) -> Result<SiteId, Stop<StartFault>>
+    ensures { Takes result (λ t. (is_declared graph.now.names.sites name.now ≡ true) × (number_of graph.now.names.sites name.now ≡ Some t.0)) (IsUnknownName (is_declared graph.now.names.sites name.now)) }
+{
+    match graph.site(name) {
+        None => Err(Stop::Fault(StartFault::Unknown)),
+        Some(site) => Ok(site),
+    }
+}
+
+fn sites_in(alloc: Global, graph: &Graph, names: &[&str]) -> Result<Vec<SiteId>, Stop<StartFault>>
+    ensures { Takes result (λ v. (are_declared graph.now.names.sites (map (λ s. s.now) names.now) ≡ true) × AreNumbers graph.now.names.sites (map (λ s. s.now) names.now) (map site_number v.items)) (IsUnknownName (are_declared graph.now.names.sites (map (λ s. s.now) names.now))) }
+{
+    let mut sites = Vec::new(alloc);
+    for name in names {
+        let site = site_in(graph, name)?;
+        sites.push(site)?;
+    }
+    Ok(sites)
+}
+
+/// The start with ids in place of names.
+pub(crate) fn start_in(
+    alloc: Global,
+    graph: &Graph,
+    start: &NamedStart,
+) -> Result<Start, Stop<StartFault>>
+    ensures { Takes result (λ s. IsStartOf graph.now (start_of start.now) (value_of s)) (IsWrongStart graph.now (start_of start.now)) }
+{
+    if !knows_members(graph, start.inputs) {
+        return Err(Stop::Fault(StartFault::Unknown));
+    }
+    let request = tokens_in(alloc, graph, &start.request)?;
+    let fail = sites_in(alloc, graph, &start.fail)?;
+    let inputs = match values_in(graph, start.inputs) {
+        None => return Err(Stop::Fault(StartFault::Missing)),
+        Some(inputs) => inputs,
+    };
+    Ok(Start {
+        inputs,
+        request,
+        fail,
+    })
+}

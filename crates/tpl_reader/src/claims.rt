@@ -1,0 +1,172 @@
+//! Reading claims with names.
+
+ghost use Rattle.std.specs.Prelude.{◌≡◌, map, codes};
+ghost use Rattle.serde_json.specs.Find.{get};
+ghost use Rattle.serde_json.specs.View.{view};
+ghost use Rattle.tpl_cert.specs.Members.{Gives, each};
+ghost use Rattle.tpl_reader.specs.SeenClaims.{given_of, property_of, claim_of};
+ghost use Rattle.tpl_reader.specs.Claims.{input_at, quiet_at, given_at, some_finals, final_claim, two_texts, after_claim, observed_claim, never_claim, excludes_claim, property_at, claim_at};
+
+use crate::named::{NamedClaim, NamedGiven, NamedProperty};
+use serde_json::Value;
+use std::alloc::Global;
+use tpl_cert::members::{bool_in, has_only, list_of, list_or_none, member_in, text_in, text_of};
+use tpl_cert::{Miss, finals_of};
+use tpl_words::Finals;
+
+#[tactic(auto, unfolding(crate::specs::Claims::input_at))]
+fn input_of(value: &Value) -> Result<NamedGiven<'_>, Miss>
+    ensures { Gives given_of result (input_at (view value.now)) }
+{
+    if !has_only(value, &["input", "is"]) {
+        return Err(Miss::Shape);
+    }
+    let name = text_in(value, "input")?;
+    let truth = bool_in(value, "is")?;
+    Ok(NamedGiven::Input(name, truth))
+}
+
+#[tactic(auto, unfolding(crate::specs::Claims::quiet_at))]
+fn quiet_of(value: &Value) -> Result<NamedGiven<'_>, Miss>
+    ensures { Gives given_of result (quiet_at (view value.now)) }
+{
+    if !has_only(value, &["quiet"]) {
+        return Err(Miss::Shape);
+    }
+    let name = text_in(value, "quiet")?;
+    Ok(NamedGiven::Quiet(name))
+}
+
+#[tactic(auto, unfolding(crate::specs::Claims::given_at))]
+fn given_of(value: &Value) -> Result<NamedGiven<'_>, Miss>
+    ensures { Gives given_of result (given_at (view value.now)) }
+{
+    if value.get("input").is_some() {
+        return input_of(value);
+    }
+    quiet_of(value)
+}
+
+fn givens_of(alloc: Global, values: &[Value]) -> Result<Vec<NamedGiven<'_>>, Miss>
+    ensures { Gives (λ v. map given_of v.items) result (each given_at (map view values.now)) }
+{
+    let mut given = Vec::new(alloc);
+    for value in values {
+        let one = given_of(value)?;
+        given.push(one)?;
+    }
+    Ok(given)
+}
+
+#[tactic(auto, unfolding(crate::specs::Claims::some_finals))]
+fn some_finals(values: &[Value]) -> Result<Finals, Miss>
+    ensures { Gives (λ f. f) result (some_finals (map view values.now)) }
+{
+    match values {
+        [] => Err(Miss::Shape),
+        [_, ..] => finals_of(values),
+    }
+}
+
+#[tactic(auto, unfolding(crate::specs::Claims::final_claim))]
+fn final_claim(value: &Value) -> Result<NamedProperty<'_>, Miss>
+    ensures { Gives property_of result (final_claim (view value.now)) }
+{
+    if !has_only(value, &["given", "final", "in"]) {
+        return Err(Miss::Shape);
+    }
+    let task = text_in(value, "final")?;
+    let list = member_in(value, "in")?;
+    let finals = some_finals(list_of(list)?)?;
+    Ok(NamedProperty::Final(task, finals))
+}
+
+#[tactic(auto, unfolding(crate::specs::Claims::two_texts))]
+fn two_texts(values: &[Value]) -> Result<(&str, &str), Miss>
+    ensures { Gives (λ p. (p.0.now, p.1.now)) result (two_texts (map view values.now)) }
+{
+    match values {
+        [first, second] => {
+            let first = text_of(first)?;
+            let second = text_of(second)?;
+            Ok((first, second))
+        }
+        _ => Err(Miss::Shape),
+    }
+}
+
+#[tactic(auto, unfolding(crate::specs::Claims::after_claim))]
+fn after_claim(value: &Value) -> Result<NamedProperty<'_>, Miss>
+    ensures { Gives property_of result (after_claim (view value.now)) }
+{
+    if !has_only(value, &["given", "after"]) {
+        return Err(Miss::Shape);
+    }
+    let list = member_in(value, "after")?;
+    let (first, second) = two_texts(list_of(list)?)?;
+    Ok(NamedProperty::After(first, second))
+}
+
+#[tactic(auto, unfolding(crate::specs::Claims::observed_claim))]
+fn observed_claim(value: &Value) -> Result<NamedProperty<'_>, Miss>
+    ensures { Gives property_of result (observed_claim (view value.now)) }
+{
+    if !has_only(value, &["given", "observed"]) {
+        return Err(Miss::Shape);
+    }
+    let task = text_in(value, "observed")?;
+    Ok(NamedProperty::Observed(task))
+}
+
+#[tactic(auto, unfolding(crate::specs::Claims::never_claim))]
+fn never_claim(value: &Value) -> Result<NamedProperty<'_>, Miss>
+    ensures { Gives property_of result (never_claim (view value.now)) }
+{
+    if !has_only(value, &["given", "never"]) {
+        return Err(Miss::Shape);
+    }
+    let task = text_in(value, "never")?;
+    Ok(NamedProperty::Never(task))
+}
+
+#[tactic(auto, unfolding(crate::specs::Claims::excludes_claim))]
+fn excludes_claim(value: &Value) -> Result<NamedProperty<'_>, Miss>
+    ensures { Gives property_of result (excludes_claim (view value.now)) }
+{
+    if !has_only(value, &["given", "excludes"]) {
+        return Err(Miss::Shape);
+    }
+    let list = member_in(value, "excludes")?;
+    let (first, second) = two_texts(list_of(list)?)?;
+    Ok(NamedProperty::Excludes(first, second))
+}
+
+#[tactic(auto, unfolding(crate::specs::Claims::property_at))]
+fn property_of(value: &Value) -> Result<NamedProperty<'_>, Miss>
+    ensures { Gives property_of result (property_at (view value.now)) }
+{
+    if value.get("final").is_some() {
+        return final_claim(value);
+    }
+    if value.get("after").is_some() {
+        return after_claim(value);
+    }
+    if value.get("observed").is_some() {
+        return observed_claim(value);
+    }
+    if value.get("never").is_some() {
+        return never_claim(value);
+    }
+    excludes_claim(value)
+}
+
+/// A claim with names.
+#[tactic(auto, unfolding(crate::specs::Claims::claim_at))]
+pub(crate) fn claim_of(alloc: Global, value: &Value) -> Result<NamedClaim<'_>, Miss>
+    ensures { Gives claim_of result (claim_at (view value.now)) }
+{
+    let body = property_of(value)?;
+    let list = list_or_none(value, "given")?;
+    let given = givens_of(alloc, list)?;
+    Ok(NamedClaim { given, body })
+}

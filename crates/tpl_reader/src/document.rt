@@ -1,0 +1,32 @@
+//! Documents.
+
+use tpl_cert::Certificate;
+use tpl_claims::Claim;
+use tpl_graph::Graph;
+use tpl_words::{Inputs, SiteId, TokenId};
+
+/// Where a run starts.
+#[derive(Drop)]
+pub struct Start {
+    /// A value for each input.
+    pub inputs: Inputs,
+    /// The tokens that are requested first.
+    pub request: Vec<TokenId>,
+    /// The sites whose jobs fail.
+    pub fail: Vec<SiteId>,
+}
+
+/// A document.
+#[derive(Drop)]
+pub struct Document {
+    /// The tasks, tokens and inputs.
+    pub graph: Graph,
+    /// The claims, each of which can be asked of the graph: at most 64.
+    pub claims: Vec<Claim>,
+    /// The trees of the certificate; how many there are is not tested.
+    pub certificate: Certificate,
+    /// A journal, which is not read yet; empty where there is none.
+    pub journal: String,
+    /// Where a run starts, if that is said.
+    pub start: Option<Start>,
+}

@@ -1,0 +1,140 @@
+//! Why a document isn't read.
+
+ghost use Rattle.std.specs.Prelude.{◌≡◌};
+ghost use Rattle.tpl_reader.specs.declared.fault.Halt.TheVariants.{Memory as OutOfMemory};
+ghost use Rattle.tpl_reader.specs.declared.fault.Stop.TheVariants.{Memory as StopMemory};
+ghost use Rattle.tpl_reader.specs.declared.fault.ReadFault.TheVariants.{Memory as ReadMemory};
+
+use std::alloc::{AllocError, AllocFailed};
+use thiserror::Error;
+use tpl_cert::TreeFault;
+use tpl_graph::GraphFault;
+
+/// A part of a document. Tasks and claims count from 1.
+#[derive(Clone, Copy, Debug, PartialEq, Eq)]
+pub enum Part {
+    /// The document itself, its version, inputs, tokens, and lists.
+    Top,
+    /// A task.
+    Task(usize),
+    /// A claim.
+    Claim(usize),
+    /// Where a run starts.
+    Start,
+}
+
+/// What is wrong with a claim. The least that applies is named, in this order.
+#[derive(Clone, Copy, Debug, PartialEq, Eq, Error)]
+pub enum ClaimFault {
+    /// More than 64 claims; at the 65th.
+    #[error("TooMany")]
+    TooMany,
+    /// A name isn't the graph's.
+    #[error("Unknown")]
+    Unknown,
+    /// What is said of a body is said of a WhenAll or WhenAny task, which has none.
+    #[error("NoBody")]
+    NoBody,
+    /// An input or a token is given twice.
+    #[error("GivenTwice")]
+    GivenTwice,
+}
+
+/// What is wrong with the start of a run. The least that applies is named, in this order.
+#[derive(Clone, Copy, Debug, PartialEq, Eq, Error)]
+pub enum StartFault {
+    /// A name isn't the graph's.
+    #[error("Unknown")]
+    Unknown,
+    /// An input has no value.
+    #[error("Missing")]
+    Missing,
+    /// A site that is to fail whose job may not fail.
+    #[error("FailNot")]
+    FailNot,
+}
+
+/// Why a document isn't read. The least that applies is named, in this order, each looked for in the whole document
+/// before the next; `Memory` can come before any of them.
+#[derive(Clone, Copy, Debug, PartialEq, Eq)]
+pub enum ReadFault {
+    /// More than 16,777,216 bytes.
+    TooLong,
+    /// The bytes are no JSON text that nests at most 127 deep.
+    NotJson,
+    /// A part hasn't its form; the first in the order of `Part`.
+    Shape(Part),
+    /// The tasks, tokens and inputs are no valid graph.
+    Graph(GraphFault),
+    /// A claim, counted from 1, can't be asked of the graph; the first.
+    Claim(usize, ClaimFault),
+    /// A tree of the certificate, counted from 1, isn't read; the first.
+    Certificate(usize, TreeFault),
+    /// The start doesn't fit the graph.
+    Start(StartFault),
+    /// An allocation was refused.
+    Memory,
+}
+
+/// Why a pass over a list stopped.
+#[derive(Clone, Copy, Debug, PartialEq, Eq)]
+pub(crate) enum Halt<F> {
+    /// The element of this number, counted from 1, isn't read.
+    At(usize, F),
+    Memory,
+}
+
+impl<F: Drop> From<AllocError> for Halt<F> {
+    ghost from_gives = { λ _ e. e ≡ OutOfMemory };
+
+    fn from(_e: AllocError) -> Halt<F> {
+        Halt::Memory
+    }
+}
+
+impl<F: Drop, T: Drop> From<AllocFailed<T>> for Halt<F> {
+    ghost from_gives = { λ _ e. e ≡ OutOfMemory };
+
+    fn from(_e: AllocFailed<T>) -> Halt<F> {
+        Halt::Memory
+    }
+}
+
+/// Why one element isn't taken over.
+#[derive(Clone, Copy, Debug, PartialEq, Eq)]
+pub(crate) enum Stop<F> {
+    Fault(F),
+    Memory,
+}
+
+impl<F: Drop> From<AllocError> for Stop<F> {
+    ghost from_gives = { λ _ e. e ≡ StopMemory };
+
+    fn from(_e: AllocError) -> Stop<F> {
+        Stop::Memory
+    }
+}
+
+impl<F: Drop, T: Drop> From<AllocFailed<T>> for Stop<F> {
+    ghost from_gives = { λ _ e. e ≡ StopMemory };
+
+    fn from(_e: AllocFailed<T>) -> Stop<F> {
+        Stop::Memory
+    }
+}
+
+impl From<AllocError> for ReadFault {
+    ghost from_gives = { λ _ e. e ≡ ReadMemory };
+
+    fn from(_e: AllocError) -> ReadFault {
+        ReadFault::Memory
+    }
+}
+
+impl<T: Drop> From<AllocFailed<T>> for ReadFault {
+    ghost from_gives = { λ _ e. e ≡ ReadMemory };
+
+    fn from(_e: AllocFailed<T>) -> ReadFault {
+        ReadFault::Memory
+    }
+}

@@ -1,0 +1,20 @@
+//! Documents of task graphs, claims and certificates, read from JSON.
+#![tactic(auto)]
+
+mod asked;
+mod begin;
+mod claims;
+mod document;
+mod fault;
+mod named;
+mod read;
+mod shape;
+mod start;
+mod statements;
+mod tasks;
+mod top;
+mod trees;
+
+pub use document::{Document, Start};
+pub use fault::{ClaimFault, Part, ReadFault, StartFault};
+pub use read::{LONGEST, MOST_CLAIMS, read_document};

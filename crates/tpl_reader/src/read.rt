@@ -1,0 +1,135 @@
+//! From bytes to a document.
+
+ghost use Rattle.std.specs.Prelude.{◌≡◌, map, IfOk, IfErr};
+ghost use Rattle.std.specs.Option.{option_map};
+ghost use Rattle.serde_json.specs.View.{view};
+ghost use Rattle.tpl_graph.specs.Numbered.{numbered};
+ghost use Rattle.tpl_graph.specs.Refusals.{IsValid};
+ghost use Rattle.tpl_graph.specs.SeenTasks.{draft_of};
+ghost use Rattle.tpl_cert.specs.Spelled.{ReadsAs};
+ghost use Rattle.tpl_reader.specs.SeenClaims.{claim_of};
+ghost use Rattle.tpl_reader.specs.SeenStart.{start_of};
+ghost use Rattle.tpl_reader.specs.SeenDocument.{value_of, doc_of, spelled_of};
+ghost use Rattle.tpl_reader.specs.Passes.{AllRead};
+ghost use Rattle.tpl_reader.specs.Document.{AreAsked, IsStarted, GraphFaults, ClaimFaults, TreeFaults, StartFaults, IsDocument, IsRefused, Spells, IsFault};
+
+use crate::asked::claims_in;
+use crate::begin::start_in;
+use crate::document::{Document, Start};
+use crate::fault::{ClaimFault, Halt, ReadFault, Stop};
+use crate::named::{NamedClaim, NamedStart};
+use crate::shape::{Shaped, shape_of};
+use crate::trees::trees_in;
+use serde_json::Value;
+use std::alloc::Global;
+use tpl_cert::{Certificate, Tree, TreeFault};
+use tpl_claims::Claim;
+use tpl_graph::{Draft, Graph, Why};
+
+/// The most bytes of a document (this program's own limit).
+pub const LONGEST: usize = 16_777_216;
+
+/// The most claims of a document (this program's own limit).
+pub const MOST_CLAIMS: usize = 64;
+
+fn graph_of(alloc: Global, draft: Draft) -> Result<Graph, ReadFault>
+    ensures ok { IfOk result (λ g. IsValid (draft_of draft) × (g ≡ numbered (draft_of draft))) }
+    ensures err { IfErr result (GraphFaults (draft_of draft)) }
+{
+    match Graph::build(alloc, draft) {
+        Ok(graph) => Ok(graph),
+        Err(fault) => {
+            if fault.why == Why::Memory {
+                Err(ReadFault::Memory)
+            } else {
+                Err(ReadFault::Graph(fault))
+            }
+        }
+    }
+}
+
+fn claims_for(alloc: Global, graph: &Graph, claims: &[NamedClaim]) -> Result<Vec<Claim>, ReadFault>
+    ensures ok { IfOk result (λ v. AreAsked graph.now (map claim_of claims.now) v.items) }
+    ensures err { IfErr result (ClaimFaults graph.now (map claim_of claims.now)) }
+{
+    if claims.len() > MOST_CLAIMS {
+        return Err(ReadFault::Claim(MOST_CLAIMS + 1, ClaimFault::TooMany));
+    }
+    match claims_in(alloc, graph, claims) {
+        Ok(claims) => Ok(claims),
+        Err(Halt::At(number, fault)) => Err(ReadFault::Claim(number, fault)),
+        Err(Halt::Memory) => Err(ReadFault::Memory),
+    }
+}
+
+fn trees_for(alloc: Global, graph: &Graph, values: &[Value]) -> Result<Vec<Tree>, ReadFault>
+    ensures ok { IfOk result (λ v. AllRead (ReadsAs graph.now.names) (map view values.now) v.items) }
+    ensures err { IfErr result (TreeFaults graph.now (map view values.now)) }
+{
+    match trees_in(alloc, graph, values) {
+        Ok(trees) => Ok(trees),
+        Err(Halt::At(_, TreeFault::Memory)) => Err(ReadFault::Memory),
+        Err(Halt::At(number, fault)) => Err(ReadFault::Certificate(number, fault)),
+        Err(Halt::Memory) => Err(ReadFault::Memory),
+    }
+}
+
+fn start_for(
+    alloc: Global,
+    graph: &Graph,
+    start: &Option<NamedStart>,
+) -> Result<Option<Start>, ReadFault>
+    ensures ok { IfOk result (λ o. IsStarted graph.now (option_map start_of start.now) (option_map value_of o)) }
+    ensures err { IfErr result (StartFaults graph.now (option_map start_of start.now)) }
+{
+    match start {
+        None => Ok(None),
+        Some(start) => match start_in(alloc, graph, start) {
+            Ok(start) => Ok(Some(start)),
+            Err(Stop::Fault(fault)) => Err(ReadFault::Start(fault)),
+            Err(Stop::Memory) => Err(ReadFault::Memory),
+        },
+    }
+}
+
+fn document_of(alloc: Global, shaped: Shaped) -> Result<Document, ReadFault>
+    ensures ok { IfOk result (λ d. IsDocument (spelled_of shaped.entry) (doc_of d)) }
+    ensures err { IfErr result (IsRefused (spelled_of shaped.entry)) }
+{
+    let graph = graph_of(alloc, shaped.draft)?;
+    let claims = claims_for(alloc, &graph, &shaped.claims)?;
+    let trees = trees_for(alloc, &graph, shaped.certificate)?;
+    let start = start_for(alloc, &graph, &shaped.start)?;
+    let journal = String::from_str(alloc, shaped.journal)?;
+    Ok(Document {
+        graph,
+        claims,
+        certificate: Certificate::new(trees),
+        journal,
+        start,
+    })
+}
+
+/// The document that the bytes spell.
+pub fn read_document(alloc: Global, bytes: &[u8]) -> Result<Document, ReadFault>
+    ensures ok { IfOk result (λ d. Spells bytes.now (doc_of d)) }
+    ensures err { IfErr result (IsFault bytes.now) }
+{
+    if bytes.len() > LONGEST {
+        return Err(ReadFault::TooLong);
+    }
+    let value = match Value::from_slice(alloc, bytes) {
+        Ok(value) => value,
+        Err(e) => {
+            if e.is_memory() {
+                return Err(ReadFault::Memory);
+            }
+            return Err(ReadFault::NotJson);
+        }
+    };
+    match shape_of(alloc, &value) {
+        Ok(shaped) => document_of(alloc, shaped),
+        Err(Stop::Fault(part)) => Err(ReadFault::Shape(part)),
+        Err(Stop::Memory) => Err(ReadFault::Memory),
+    }
+}

@@ -1,0 +1,116 @@
+//! A document as far as its shape goes, part by part.
+
+ghost use Rattle.std.specs.Prelude.{◌≡◌, Some, map};
+ghost use Rattle.std.specs.Option.{option_map};
+ghost use Rattle.serde_json.specs.View.{view};
+ghost use Rattle.tpl_graph.specs.SeenTasks.{task_of};
+ghost use Rattle.tpl_cert.specs.Members.{Gives};
+ghost use Rattle.tpl_reader.specs.SeenClaims.{claim_of};
+ghost use Rattle.tpl_reader.specs.SeenStart.{start_of};
+ghost use Rattle.tpl_reader.specs.SeenTop.{members_of};
+ghost use Rattle.tpl_reader.specs.SeenDocument.{spelled_of};
+ghost use Rattle.tpl_reader.specs.Start.{start_or_none};
+ghost use Rattle.tpl_reader.specs.Top.{top_at, IsTask, IsClaim};
+ghost use Rattle.tpl_reader.specs.Passes.{AllRead};
+ghost use Rattle.tpl_reader.specs.Asked.{Takes};
+ghost use Rattle.tpl_reader.specs.Document.{WrongTop, WrongTask, WrongClaim, WrongStart, IsSpelled, IsMisshapen};
+
+use crate::fault::{Halt, Part, Stop};
+use crate::named::{NamedClaim, NamedStart};
+use crate::start::start_of;
+use crate::top::{Members, claims_of, members_of, tasks_of};
+use serde_json::Value;
+use std::alloc::Global;
+use tpl_cert::Miss;
+use tpl_graph::{Draft, DraftTask};
+
+/// A document with names.
+#[derive(Drop)]
+pub(crate) struct Shaped<'v> {
+    pub(crate) draft: Draft,
+    pub(crate) claims: Vec<NamedClaim<'v>>,
+    pub(crate) certificate: &'v [Value],
+    pub(crate) journal: &'v str,
+    pub(crate) start: Option<NamedStart<'v>>,
+}
+
+fn top_part(alloc: Global, value: &Value) -> Result<Members<'_>, Stop<Part>>
+    ensures { Takes result (λ m. top_at (view value.now) ≡ Some (members_of m)) (WrongTop (view value.now)) }
+{
+    match members_of(alloc, value) {
+        Ok(members) => Ok(members),
+        Err(Miss::Shape) => Err(Stop::Fault(Part::Top)),
+        Err(Miss::Memory) => Err(Stop::Memory),
+    }
+}
+
+fn task_part(alloc: Global, values: &[Value]) -> Result<Vec<DraftTask>, Stop<Part>>
+    ensures { Takes result (λ v. AllRead IsTask (map view values.now) (map task_of v.items)) (WrongTask (map view values.now)) }
+{
+    match tasks_of(alloc, values) {
+        Ok(tasks) => Ok(tasks),
+        Err(Halt::At(number, _)) => Err(Stop::Fault(Part::Task(number))),
+        Err(Halt::Memory) => Err(Stop::Memory),
+    }
+}
+
+fn claim_part(alloc: Global, values: &[Value]) -> Result<Vec<NamedClaim<'_>>, Stop<Part>>
+    ensures { Takes result (λ v. AllRead IsClaim (map view values.now) (map claim_of v.items)) (WrongClaim (map view values.now)) }
+{
+    match claims_of(alloc, values) {
+        Ok(claims) => Ok(claims),
+        Err(Halt::At(number, _)) => Err(Stop::Fault(Part::Claim(number))),
+        Err(Halt::Memory) => Err(Stop::Memory),
+    }
+}
+
+#[tactic(auto, unfolding(crate::specs::Start::start_or_none))]
+fn start_or_none<'v>(
+    alloc: Global,
+    value: Option<&'v Value>,
+) -> Result<Option<NamedStart<'v>>, Miss>
+    ensures { Gives (λ o. option_map start_of o) result (start_or_none (option_map (λ v. view v.now) value.entry)) }
+{
+    match value {
+        None => Ok(None),
+        Some(value) => {
+            let start = start_of(alloc, value)?;
+            Ok(Some(start))
+        }
+    }
+}
+
+fn start_part<'v>(
+    alloc: Global,
+    value: Option<&'v Value>,
+) -> Result<Option<NamedStart<'v>>, Stop<Part>>
+    ensures { Takes result (λ o. start_or_none (option_map (λ v. view v.now) value.entry) ≡ Some (option_map start_of o)) (WrongStart (option_map (λ v. view v.now) value.entry)) }
+{
+    match start_or_none(alloc, value) {
+        Ok(start) => Ok(start),
+        Err(Miss::Shape) => Err(Stop::Fault(Part::Start)),
+        Err(Miss::Memory) => Err(Stop::Memory),
+    }
+}
+
+/// The document with names, or the first part that hasn't its form.
+pub(crate) fn shape_of(alloc: Global, value: &Value) -> Result<Shaped<'_>, Stop<Part>>
+    ensures { Takes result (λ s. IsSpelled (view value.now) (spelled_of s)) (IsMisshapen (view value.now)) }
+{
+    let members = top_part(alloc, value)?;
+    let tasks = task_part(alloc, members.tasks)?;
+    let claims = claim_part(alloc, members.claims)?;
+    let start = start_part(alloc, members.start)?;
+    let draft = Draft {
+        inputs: members.inputs,
+        tokens: members.tokens,
+        tasks,
+    };
+    Ok(Shaped {
+        draft,
+        claims,
+        certificate: members.certificate,
+        journal: members.journal,
+        start,
+    })
+}

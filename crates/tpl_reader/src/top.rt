@@ -1,0 +1,165 @@
+//! Reading a document as far as its shape goes.
+
+ghost use Rattle.std.specs.Prelude.{◌≡◌, map, codes, string_bytes, option_and_then};
+ghost use Rattle.std.specs.Option.{option_map};
+ghost use Rattle.serde_json.specs.Find.{get, as_number, as_u64};
+ghost use Rattle.serde_json.specs.View.{view};
+ghost use Rattle.tpl_cert.specs.Members.{Gives, each};
+ghost use Rattle.tpl_graph.specs.SeenTasks.{token_of, task_of};
+ghost use Rattle.tpl_reader.specs.SeenClaims.{claim_of};
+ghost use Rattle.tpl_reader.specs.SeenTop.{members_of};
+ghost use Rattle.tpl_reader.specs.Tasks.{token_at};
+ghost use Rattle.tpl_reader.specs.Top.{links_in, version_at, text_or_empty, top_at, IsTask, IsNoTask, IsClaim, IsNoClaim};
+ghost use Rattle.tpl_reader.specs.Passes.{Passes, Here};
+
+use crate::claims::claim_of;
+use crate::fault::Halt;
+use crate::named::NamedClaim;
+use crate::tasks::{owned_texts, task_of, token_of};
+use serde_json::Value;
+use std::alloc::Global;
+use tpl_cert::Miss;
+use tpl_cert::members::{has_only, list_of, list_or_none, member_in, text_of};
+use tpl_graph::{DraftTask, DraftToken};
+
+/// The members of a document: its lists, of which those of tasks, claims and trees aren't read yet.
+#[derive(Drop)]
+pub(crate) struct Members<'v> {
+    pub(crate) inputs: Vec<String>,
+    pub(crate) tokens: Vec<DraftToken>,
+    pub(crate) tasks: &'v [Value],
+    pub(crate) claims: &'v [Value],
+    pub(crate) certificate: &'v [Value],
+    pub(crate) journal: &'v str,
+    pub(crate) start: Option<&'v Value>,
+}
+
+#[tactic(auto, unfolding(crate::specs::Top::links_in))]
+fn links_in(version: u64) -> Result<bool, Miss>
+    ensures { Gives (λ b. b) result (links_in version) }
+{
+    if version == 1 {
+        return Ok(false);
+    }
+    if version == 2 {
+        return Ok(true);
+    }
+    Err(Miss::Shape)
+}
+
+/// The version: whether tokens may be linked.
+#[tactic(auto, unfolding(crate::specs::Top::version_at))]
+fn version_of(value: &Value) -> Result<bool, Miss>
+    ensures { Gives (λ b. b) result (version_at (view value.now)) }
+{
+    match value.get("version").and_then(Value::as_u64) {
+        None => Err(Miss::Shape),
+        Some(version) => links_in(version),
+    }
+}
+
+fn tokens_of(alloc: Global, links: bool, values: &[Value]) -> Result<Vec<DraftToken>, Miss>
+    ensures { Gives (λ v. map token_of v.items) result (each (token_at links) (map view values.now)) }
+{
+    let mut tokens = Vec::new(alloc);
+    for value in values {
+        let token = token_of(alloc, links, value)?;
+        tokens.push(token)?;
+    }
+    Ok(tokens)
+}
+
+#[tactic(auto, unfolding(crate::specs::Top::text_or_empty))]
+fn text_or_empty<'v>(value: &'v Value, name: &str) -> Result<&'v str, Miss>
+    ensures { Gives (λ s. s.now) result (text_or_empty (get name.now (view value.now))) }
+{
+    match value.get(name) {
+        None => Ok(""),
+        Some(member) => text_of(member),
+    }
+}
+
+/// The members of a document.
+#[tactic(auto, unfolding(crate::specs::Top::top_at))]
+pub(crate) fn members_of(alloc: Global, value: &Value) -> Result<Members<'_>, Miss>
+    ensures { Gives members_of result (top_at (view value.now)) }
+{
+    if !has_only(
+        value,
+        &[
+            "version",
+            "inputs",
+            "tokens",
+            "tasks",
+            "claims",
+            "certificate",
+            "journal",
+            "start",
+        ],
+    ) {
+        return Err(Miss::Shape);
+    }
+    let links = version_of(value)?;
+    let names = list_or_none(value, "inputs")?;
+    let inputs = owned_texts(alloc, names)?;
+    let list = list_or_none(value, "tokens")?;
+    let tokens = tokens_of(alloc, links, list)?;
+    let tasks = list_of(member_in(value, "tasks")?)?;
+    let claims = list_or_none(value, "claims")?;
+    let certificate = list_or_none(value, "certificate")?;
+    let journal = text_or_empty(value, "journal")?;
+    let start = value.get("start");
+    Ok(Members {
+        inputs,
+        tokens,
+        tasks,
+        claims,
+        certificate,
+        journal,
+        start,
+    })
+}
+
+fn numbered_task(alloc: Global, number: usize, value: &Value) -> Result<DraftTask, Halt<()>>
+    ensures { Here IsTask IsNoTask (view value.now) number task_of result }
+{
+    match task_of(alloc, value) {
+        Ok(task) => Ok(task),
+        Err(Miss::Shape) => Err(Halt::At(number, ())),
+        Err(Miss::Memory) => Err(Halt::Memory),
+    }
+}
+
+/// The tasks with names, as far as the first that hasn't the form of one.
+pub(crate) fn tasks_of(alloc: Global, values: &[Value]) -> Result<Vec<DraftTask>, Halt<()>>
+    ensures { Passes IsTask IsNoTask (map view values.now) (λ v. map task_of v.items) result }
+{
+    let mut tasks = Vec::new(alloc);
+    for (index, value) in values.iter().enumerate() {
+        let one = numbered_task(alloc, index + 1, value)?;
+        tasks.push(one)?;
+    }
+    Ok(tasks)
+}
+
+fn numbered_claim(alloc: Global, number: usize, value: &Value) -> Result<NamedClaim<'_>, Halt<()>>
+    ensures { Here IsClaim IsNoClaim (view value.now) number claim_of result }
+{
+    match claim_of(alloc, value) {
+        Ok(claim) => Ok(claim),
+        Err(Miss::Shape) => Err(Halt::At(number, ())),
+        Err(Miss::Memory) => Err(Halt::Memory),
+    }
+}
+
+/// The claims with names, as far as the first that hasn't the form of one.
+pub(crate) fn claims_of(alloc: Global, values: &[Value]) -> Result<Vec<NamedClaim<'_>>, Halt<()>>
+    ensures { Passes IsClaim IsNoClaim (map view values.now) (λ v. map claim_of v.items) result }
+{
+    let mut claims = Vec::new(alloc);
+    for (index, value) in values.iter().enumerate() {
+        let one = numbered_claim(alloc, index + 1, value)?;
+        claims.push(one)?;
+    }
+    Ok(claims)
+}

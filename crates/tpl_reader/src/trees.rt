@@ -1,0 +1,42 @@
+//! The trees of a certificate.
+
+ghost use Rattle.std.specs.Prelude.{map};
+ghost use Rattle.serde_json.specs.View.{view};
+ghost use Rattle.tpl_cert.specs.Spelled.{ReadsAs, IsWrongTree};
+ghost use Rattle.tpl_reader.specs.Passes.{Passes, Here};
+
+use crate::fault::Halt;
+use serde_json::Value;
+use std::alloc::Global;
+use tpl_cert::{Tree, TreeFault, tree_from};
+use tpl_graph::Graph;
+
+fn numbered_tree(
+    alloc: Global,
+    graph: &Graph,
+    number: usize,
+    value: &Value,
+) -> Result<Tree, Halt<TreeFault>>
+    ensures { Here (ReadsAs graph.now.names) (IsWrongTree graph.now.names) (view value.now) number (λ t. t) result }
+{
+    match tree_from(alloc, graph, value) {
+        Ok(tree) => Ok(tree),
+        Err(fault) => Err(Halt::At(number, fault)),
+    }
+}
+
+/// The trees that the values spell with the names of the graph, as far as the first that isn't read.
+pub(crate) fn trees_in(
+    alloc: Global,
+    graph: &Graph,
+    values: &[Value],
+) -> Result<Vec<Tree>, Halt<TreeFault>>
+    ensures { Passes (ReadsAs graph.now.names) (IsWrongTree graph.now.names) (map view values.now) (λ v. v.items) result }
+{
+    let mut trees = Vec::new(alloc);
+    for (index, value) in values.iter().enumerate() {
+        let one = numbered_tree(alloc, graph, index + 1, value)?;
+        trees.push(one)?;
+    }
+    Ok(trees)
+}
