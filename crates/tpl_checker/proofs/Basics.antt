@@ -1,0 +1,198 @@
+-- Tests, members and kinds.
+use Rattle.std.proofs.Common.{◌≡◌, ℕ, zero, suc, ◌≤◌, ◌++◌, ◌&&◌, ◌||◌, ◌⊎◌, inl, inr, Bool, true, false, Option, Some, None, List, [], ◌∷◌, refl, sym, ap, ◌∙◌, subst, nat_eq, length, drop, arith}
+use Rattle.std.specs.Option.{option_map}
+use Rattle.std.proofs.lemmas.Bool.{eqb-true}
+use Rattle.std.proofs.Common.{eq-eqb}
+use Rattle.tpl_words.specs.declared.finals.Final.{Final}
+use Rattle.tpl_words.specs.declared.finals.Final.TheVariants.{RanToCompletion, Canceled, Faulted}
+use Rattle.tpl_words.specs.declared.ids.TaskId.{TaskId}
+use Rattle.tpl_words.specs.Members.{mem}
+use Rattle.tpl_words.specs.TaskSet.{IsSubset}
+use Rattle.tpl_words.specs.Finals.{has, is_final}
+use Rattle.tpl_model.specs.Graph.{some_in}
+use Rattle.tpl_model.specs.Certificate.{Row, row, one_ends}
+use Rattle.tpl_graph.specs.Ids.{task_number}
+use Rattle.tpl_laws.specs.RowTests.{all_in, implies, each_end, some_end}
+
+pub true_false : {A : Type 0} → true ≡ false → A
+true_false e = absurd (cc)
+
+pub decide : (b : Bool) → (b ≡ true) ⊎ (b ≡ false)
+decide true = inl refl
+decide false = inr refl
+
+-- two tests that hold together are equal
+pub same_test : (a b : Bool) → (a ≡ true → b ≡ true) → (b ≡ true → a ≡ true) → a ≡ b
+same_test true b f h = sym (f refl)
+same_test false true f h = h refl
+same_test false false f h = refl
+
+pub and_join : (a b : Bool) → a ≡ true → b ≡ true → a && b ≡ true
+and_join true b e f = f
+and_join false b e f = true_false (sym e)
+
+pub same_self : (x : ℕ) → nat_eq x x ≡ true
+same_self x = eq-eqb x x refl
+
+pub mem_split : (x y : ℕ) (xs : List ℕ) → mem x (y ∷ xs) ≡ true → (x ≡ y) ⊎ (mem x xs ≡ true)
+mem_split x y xs e = go (nat_eq x y) refl
+  where
+    go : (b : Bool) → nat_eq x y ≡ b → (x ≡ y) ⊎ (mem x xs ≡ true)
+    go true q = inl (eqb-true x y q)
+    go false q = inr (subst (λ b. (b || mem x xs) ≡ true) q e)
+
+pub mem_here : (x : ℕ) (xs : List ℕ) → mem x (x ∷ xs) ≡ true
+mem_here x xs = subst (λ b. (b || mem x xs) ≡ true) (sym (same_self x)) refl
+
+pub mem_there : (x y : ℕ) (xs : List ℕ) → mem x xs ≡ true → mem x (y ∷ xs) ≡ true
+mem_there x y xs e = go (nat_eq x y)
+  where
+    go : (b : Bool) → (b || mem x xs) ≡ true
+    go true = refl
+    go false = e
+
+all_here : (test : ℕ → Bool) (xs : List ℕ) → ((x : ℕ) → mem x xs ≡ true → test x ≡ true) → all_in test xs ≡ true
+all_here test [] h = refl
+all_here test (y ∷ ys) h = and_join (test y) (all_in test ys) (h y (mem_here y ys)) (all_here test ys (λ x m. h x (mem_there x y ys m)))
+
+each_here : (test : ℕ → Bool) (xs : List ℕ) → all_in test xs ≡ true → (x : ℕ) → mem x xs ≡ true → test x ≡ true
+each_here test [] e x m = true_false (sym m)
+each_here test (y ∷ ys) e x m = elim (mem_split x y ys m) [
+  | inl q ↦ subst (λ z. test z ≡ true) (sym q) (first (test y) e)
+  | inr q ↦ each_here test ys (rest (test y) e) x q
+]
+  where
+    first : (b : Bool) → b && all_in test ys ≡ true → b ≡ true
+    first true f = refl
+    first false f = true_false (sym f)
+
+    rest : (b : Bool) → b && all_in test ys ≡ true → all_in test ys ≡ true
+    rest true f = f
+    rest false f = true_false (sym f)
+
+-- a set is part of another just where its members pass the other's test
+pub subset_test : (r : Bool) (set allowed : List ℕ) (test : ℕ → Bool) → (r ≡ true → IsSubset set allowed) → (IsSubset set allowed → r ≡ true) → ((x : ℕ) → mem x allowed ≡ test x) → r ≡ all_in test set
+subset_test r set allowed test to back same =
+    same_test r (all_in test set)
+    (λ e. all_here test set (λ x m. sym (same x) ∙ to e x m))
+    (λ e. back (λ x m. same x ∙ each_here test set e x m))
+
+-- a reader's answer that keeps the law of an option is the option
+pub option_is : (P : ℕ → Type 0) (found : Option TaskId) (o : Option ℕ) → ((p : ℕ) → o ≡ Some p → P p) → ((p : ℕ) → P p → o ≡ Some p) → ((t : TaskId) → found ≡ Some t → P t.0) → (found ≡ None → (p : ℕ) → P p → ⊥) → option_map task_number found ≡ o
+option_is P (Some t) o to back some none = sym (back t.0 (some t refl))
+option_is P None None to back some none = refl
+option_is P None (Some p) to back some none = absurd (none refl p (to p refl))
+
+pub mem_append : (x : ℕ) (xs ys : List ℕ) → mem x (xs ++ ys) ≡ true → (mem x xs ≡ true) ⊎ (mem x ys ≡ true)
+mem_append x [] ys e = inr e
+mem_append x (y ∷ xs) ys e = elim (mem_split x y (xs ++ ys) e) [
+  | inl q ↦ inl (subst (λ z. mem z (y ∷ xs) ≡ true) (sym q) (mem_here y xs))
+  | inr q ↦ elim (mem_append x xs ys q) [ inl p ↦ inl (mem_there x y xs p) | inr p ↦ inr p ]
+]
+
+pub mem_before : (x : ℕ) (xs ys : List ℕ) → mem x xs ≡ true → mem x (xs ++ ys) ≡ true
+mem_before x [] ys e = true_false (sym e)
+mem_before x (y ∷ xs) ys e = elim (mem_split x y xs e) [
+  | inl q ↦ subst (λ z. mem z (y ∷ (xs ++ ys)) ≡ true) (sym q) (mem_here y (xs ++ ys))
+  | inr q ↦ mem_there x y (xs ++ ys) (mem_before x xs ys q)
+]
+
+pub mem_behind : (x : ℕ) (xs ys : List ℕ) → mem x ys ≡ true → mem x (xs ++ ys) ≡ true
+mem_behind x [] ys e = e
+mem_behind x (y ∷ xs) ys e = mem_there x y (xs ++ ys) (mem_behind x xs ys e)
+
+pub or_split : (a b : Bool) → a || b ≡ true → (a ≡ true) ⊎ (b ≡ true)
+or_split true b e = inl refl
+or_split false b e = inr e
+
+pub or_left : (a b : Bool) → a ≡ true → a || b ≡ true
+or_left true b e = refl
+or_left false b e = true_false (sym e)
+
+pub or_right : (a b : Bool) → b ≡ true → a || b ≡ true
+or_right true b e = refl
+or_right false b e = e
+
+pub and_split : (a b : Bool) → a && b ≡ true → (a ≡ true) × (b ≡ true)
+and_split true b e = (refl, e)
+and_split false b e = true_false (sym e)
+
+-- tests that agree on the members of a list agree on the list
+pub some_in_same : (p q : ℕ → Bool) (xs : List ℕ) → ((x : ℕ) → mem x xs ≡ true → p x ≡ q x) → some_in p xs ≡ some_in q xs
+some_in_same p q [] e = refl
+some_in_same p q (x ∷ xs) e = ap (λ z. z || some_in p xs) (e x (mem_here x xs)) ∙ ap (λ z. q x || z) (some_in_same p q xs (λ y m. e y (mem_there y x xs m)))
+
+pub all_in_same : (p q : ℕ → Bool) (xs : List ℕ) → ((x : ℕ) → mem x xs ≡ true → p x ≡ q x) → all_in p xs ≡ all_in q xs
+all_in_same p q [] e = refl
+all_in_same p q (x ∷ xs) e = ap (λ z. z && all_in p xs) (e x (mem_here x xs)) ∙ ap (λ z. q x && z) (all_in_same p q xs (λ y m. e y (mem_there y x xs m)))
+
+pub all_true : (p : ℕ → Bool) (xs : List ℕ) → ((x : ℕ) → p x ≡ true) → all_in p xs ≡ true
+all_true p [] e = refl
+all_true p (x ∷ xs) e = ap (λ z. z && all_in p xs) (e x) ∙ all_true p xs e
+
+-- a test of three ways to end
+implies_or : (a b o : Bool) → implies (a || b) o ≡ (implies a o && implies b o)
+implies_or true true true = refl
+implies_or true true false = refl
+implies_or true false true = refl
+implies_or true false false = refl
+implies_or false b o = refl
+
+implies_and : (a b o : Bool) → implies (a && b) o ≡ implies a (implies b o)
+implies_and true b o = refl
+implies_and false b o = refl
+
+pub implies_each : (p q r : Final → Bool) (o : Bool) → ((f : Final) → r f ≡ (p f && q f)) → implies (some_end r) o ≡ each_end (λ f. implies (p f) (implies (q f) o))
+implies_each p q r o e =
+    implies_or (r RanToCompletion) (r Canceled || r Faulted) o
+    ∙ (ap (λ z. implies (r RanToCompletion) o && z) (implies_or (r Canceled) (r Faulted) o)
+    ∙ λ i. one RanToCompletion i && (one Canceled i && one Faulted i))
+  where
+    one : (f : Final) → implies (r f) o ≡ implies (p f) (implies (q f) o)
+    one f = ap (λ z. implies z o) (e f) ∙ implies_and (p f) (q f) o
+
+pub some_end_same : (p q : Final → Bool) → ((f : Final) → p f ≡ q f) → some_end p ≡ some_end q
+some_end_same p q e = λ i. e RanToCompletion i || (e Canceled i || e Faulted i)
+
+pub each_end_same : (p q : Final → Bool) → ((f : Final) → p f ≡ q f) → each_end p ≡ each_end q
+each_end_same p q e = λ i. e RanToCompletion i && (e Canceled i && e Faulted i)
+
+pub same_either_way : (x y : ℕ) → nat_eq x y ≡ nat_eq y x
+same_either_way x y = same_test (nat_eq x y) (nat_eq y x) (λ e. eq-eqb y x (sym (eqb-true x y e))) (λ e. eq-eqb x y (sym (eqb-true y x e)))
+
+pub drop_all : {A : Type 0} (xs : List A) (i : ℕ) → length xs ≤ i → drop i xs ≡ []
+drop_all [] zero le = refl
+drop_all [] (suc i) le = refl
+drop_all (x ∷ xs) zero le = absurd (omega arith)
+drop_all (x ∷ xs) (suc i) le = drop_all xs i (omega arith)
+
+-- the second of two tests, where the first doesn't hold
+pub or_else_if : (a b c r s : Bool) → r ≡ (a || b) → r ≡ false → s ≡ c → s ≡ (a || (b || c))
+or_else_if true b c r s e f h = true_false (sym e ∙ f)
+or_else_if false true c r s e f h = true_false (sym e ∙ f)
+or_else_if false false c r s e f h = h
+
+-- a WhenAny task may end where one of its arguments may
+joined_ends : (a b c d e f : Bool) → ((a || d) || ((b || e) || (c || f))) ≡ ((a || (b || c)) || (d || (e || f)))
+joined_ends true b c d e f = refl
+joined_ends false true c true e f = refl
+joined_ends false true c false e f = refl
+joined_ends false false true true e f = refl
+joined_ends false false true false true f = refl
+joined_ends false false true false false f = refl
+joined_ends false false false d e f = refl
+
+pub some_end_of_one : (rows : List Row) (xs : List ℕ) → some_end (one_ends xs rows) ≡ some_in (λ x. some_end (has (row rows x).ends)) xs
+some_end_of_one rows [] = refl
+some_end_of_one rows (x ∷ xs) =
+    joined_ends (row rows x).ends.ran (row rows x).ends.canceled (row rows x).ends.faulted (one_ends xs rows RanToCompletion) (one_ends xs rows Canceled) (one_ends xs rows Faulted)
+    ∙ ap (λ z. some_end (has (row rows x).ends) || z) (some_end_of_one rows xs)
+
+pub only_ran : (r q : Bool) → r ≡ q → (f : Final) → has (record { ran = r; canceled = false; faulted = false }) f ≡ (is_final f RanToCompletion && q)
+only_ran r q e RanToCompletion = e
+only_ran r q e Canceled = refl
+only_ran r q e Faulted = refl
+
+-- members of a set that pass a test, as a test of the set itself
+pub members_of_it : (test : ℕ → Bool) (xs : List ℕ) → all_in (λ x. mem x xs && test x) xs ≡ all_in test xs
+members_of_it test xs = all_in_same (λ x. mem x xs && test x) test xs (λ x m. ap (λ z. z && test x) m)

@@ -1,0 +1,11 @@
+pub mod Basics
+pub mod Assuming
+pub mod ReadyLemmas
+pub mod GivenLemmas
+pub mod BodyLemmas
+pub mod BelowLemmas
+pub mod ChainLemmas
+pub mod LeafLemmas
+pub mod ShapeLemmas
+pub mod SettledLemmas
+pub mod TreeLemmas

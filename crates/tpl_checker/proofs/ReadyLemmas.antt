@@ -1,0 +1,88 @@
+-- The tasks that one waits for, and the children that a body starts.
+use Rattle.std.proofs.Common.{◌≡◌, ℕ, ◌<◌, ◌≤◌, ◌&&◌, inl, inr, Bool, true, false, if◌then◌else◌, not, None, List, [], ◌∷◌, filter, length, map, sym, ap, subst, arith}
+use Rattle.std.proofs.lemmas.Bool.{cases_lt}
+use Rattle.std.proofs.lemmas.List.{get_or_past}
+use Rattle.tpl_words.specs.declared.ids.TaskId.{TaskId}
+use Rattle.tpl_words.specs.Members.{mem}
+use Rattle.tpl_words.specs.Options.{attached_to_parent, deny_child_attach}
+use Rattle.tpl_script.specs.Statements.{Statement, Statements, Return, Throw, Check, Cancel, Start, Observe, Work, If, When, Nothing, ◌⨾◌, starts, starts_of}
+use Rattle.tpl_model.specs.Graph.{TaskGraph, TaskKind, Root, Child, Continues, WhenAll, WhenAny, body, options, attached, is_task, IsParent}
+use Rattle.tpl_model.specs.Valid.{IsGraph, IdsOf, IdsWithin, ArePlaced, IsPlaced}
+use Rattle.tpl_graph.specs.Ids.{task_number}
+use Rattle.tpl_graph.specs.Named.{args_of}
+use Rattle.tpl_checker.specs.Tasks.{AreTasks}
+use Rattle.tpl_checker.proofs.Basics.{true_false, mem_split, mem_here, mem_there, mem_append}
+
+placed_within : (g : TaskGraph) (t n : ℕ) (ts : List TaskId) → t < n → ArePlaced g t (map task_number ts) → AreTasks n ts
+placed_within g t n [] lt p = tt
+placed_within g t n (x ∷ xs) lt p = (omega (arith, p.0), placed_within g t n xs lt p.2)
+
+none_within : (n : ℕ) (ts : List TaskId) → map task_number ts ≡ [] → AreTasks n ts
+none_within n [] e = tt
+none_within n (x ∷ xs) e = absurd (cc)
+
+-- the arguments of a task are tasks
+pub args_within : (g : TaskGraph) (t : ℕ) (k : TaskKind) (ts : List TaskId) → is_task g t → IsPlaced g t k → map task_number ts ≡ args_of k → AreTasks (length g.tasks) ts
+args_within g t Root ts lt p e = none_within (length g.tasks) ts e
+args_within g t Child ts lt p e = none_within (length g.tasks) ts e
+args_within g t (Continues a) ts lt p e = none_within (length g.tasks) ts e
+args_within g t (WhenAll args) ts lt p e = placed_within g t (length g.tasks) ts lt (subst (λ (xs : List ℕ). ArePlaced g t xs) (sym e) p.0)
+args_within g t (WhenAny args) ts lt p e = placed_within g t (length g.tasks) ts lt (subst (λ (xs : List ℕ). ArePlaced g t xs) (sym e) p.0)
+
+-- past the last task there is no body
+pub no_body : (g : TaskGraph) (t : ℕ) → length g.tasks ≤ t → body g t ≡ Nothing
+no_body g t le = ap (λ z. z.body) (get_or_past g.tasks t (record { kind = Root; body = Nothing; token = None; options = 0 }) le)
+
+mutual
+  starts_are_tasks : (g : TaskGraph) (b : Statements) (c : ℕ) → IdsOf g b → mem c (starts b) ≡ true → is_task g c
+  starts_are_tasks g Nothing c ids m = true_false (sym m)
+  starts_are_tasks g (s ⨾ rest) c ids m = elim (mem_append c (starts_of s) (starts rest) m) [
+    | inl p ↦ start_is_task g s c ids.0 p
+    | inr p ↦ starts_are_tasks g rest c ids.1 p
+  ]
+
+  start_is_task : (g : TaskGraph) (s : Statement) (c : ℕ) → IdsWithin g s → mem c (starts_of s) ≡ true → is_task g c
+  start_is_task g Return c ids m = true_false (sym m)
+  start_is_task g (Throw l) c ids m = true_false (sym m)
+  start_is_task g (Check k) c ids m = true_false (sym m)
+  start_is_task g (Cancel k) c ids m = true_false (sym m)
+  start_is_task g (Start d) c ids m = elim (mem_split c d [] m) [ inl q ↦ subst (λ z. is_task g z) (sym q) ids | inr q ↦ true_false (sym q) ]
+  start_is_task g Observe c ids m = true_false (sym m)
+  start_is_task g (Work site b) c ids m = true_false (sym m)
+  start_is_task g (If i first second) c ids m = elim (mem_append c (starts first) (starts second) m) [
+    | inl p ↦ starts_are_tasks g first c ids.1 p
+    | inr p ↦ starts_are_tasks g second c ids.2 p
+  ]
+  start_is_task g (When f first second) c ids m = elim (mem_append c (starts first) (starts second) m) [
+    | inl p ↦ starts_are_tasks g first c ids.0 p
+    | inr p ↦ starts_are_tasks g second c ids.1 p
+  ]
+
+-- a parent is a task, and so is its child
+pub parent_is_task : (g : TaskGraph) (p c : ℕ) → IsParent g p c → is_task g p
+parent_is_task g p c m = elim (cases_lt p (length g.tasks)) [
+  | inl lt ↦ lt
+  | inr le ↦ true_false (sym (subst (λ (b : Statements). mem c (starts b) ≡ true) (no_body g p le) m))
+]
+
+pub child_is_task : (g : TaskGraph) (p c : ℕ) → IsGraph g → IsParent g p c → is_task g c
+child_is_task g p c valid m = starts_are_tasks g (body g p) c (valid.each p (parent_is_task g p c m)).ids m
+
+filtered : (test : ℕ → Bool) (xs : List ℕ) (c : ℕ) → mem c (filter test xs) ≡ true → mem c xs ≡ true
+filtered test [] c m = m
+filtered test (x ∷ xs) c m = go (λ q. filtered test xs c q) (test x) m
+  where
+    go : (mem c (filter test xs) ≡ true → mem c xs ≡ true) → (b : Bool) → mem c (if b then (x ∷ filter test xs) else filter test xs) ≡ true → mem c (x ∷ xs) ≡ true
+    go later true e = elim (mem_split c x (filter test xs) e) [ inl q ↦ subst (λ z. mem z (x ∷ xs) ≡ true) (sym q) (mem_here x xs) | inr q ↦ mem_there c x xs (later q) ]
+    go later false e = mem_there c x xs (later e)
+
+-- an attached child is a child
+pub attached_is_child : (g : TaskGraph) (p c : ℕ) → mem c (attached g p) ≡ true → IsParent g p c
+attached_is_child g p c m = filtered (λ c. attached_to_parent (options g c) && not (deny_child_attach (options g p))) (starts (body g p)) c m
+
+pub tasks_within : (n : ℕ) (ts : List TaskId) → ((c : ℕ) → mem c (map task_number ts) ≡ true → c < n) → AreTasks n ts
+tasks_within n [] h = tt
+tasks_within n (t ∷ ts) h = (h t.0 (mem_here t.0 (map task_number ts)), tasks_within n ts (λ c m. h c (mem_there c t.0 (map task_number ts) m)))
+
+pub attached_within : (g : TaskGraph) (p : ℕ) (ts : List TaskId) → IsGraph g → map task_number ts ≡ attached g p → AreTasks (length g.tasks) ts
+attached_within g p ts valid e = tasks_within (length g.tasks) ts (λ c m. child_is_task g p c valid (attached_is_child g p c (subst (λ (xs : List ℕ). mem c xs ≡ true) e m)))

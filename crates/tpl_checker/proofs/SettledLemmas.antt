@@ -1,0 +1,50 @@
+-- What is settled after some of a list of tasks, or after each.
+use Rattle.std.proofs.Common.{◌≡◌, ℕ, ◌+◌, ◌<◌, ◌&&◌, ◌||◌, Bool, true, false, List, drop, length, map, refl, sym, ap, ◌∙◌, subst, nat_eq, slice_index_or}
+use Rattle.std.proofs.lemmas.List.{drop_more}
+use Rattle.tpl_words.specs.declared.ids.TaskId.{TaskId}
+use Rattle.tpl_words.specs.Members.{mem}
+use Rattle.tpl_model.specs.Graph.{some_in}
+use Rattle.tpl_model.specs.Certificate.{Row, row}
+use Rattle.tpl_graph.specs.Ids.{task_number}
+use Rattle.tpl_laws.specs.RowTests.{all_in}
+use Rattle.tpl_checker.specs.Tasks.{AreTasks}
+
+-- x is the task y or past it
+abbrev pub after : List Row → ℕ → ℕ → Bool
+after rows x y = nat_eq x y || mem x (row rows y).past
+
+-- after some of the first i tasks
+pub record AfterSome (rows : List Row) (tasks : List TaskId) (i : ℕ) (settled : List ℕ) : Type 0 where
+  pub left : AreTasks (length rows) (drop i tasks)
+  pub members : (x : ℕ) → (mem x settled || some_in (after rows x) (map task_number (drop i tasks))) ≡ some_in (after rows x) (map task_number tasks)
+
+-- of the set what is after each of them
+pub record AfterEach (rows : List Row) (tasks : List TaskId) (set : List ℕ) (i : ℕ) (settled : List ℕ) : Type 0 where
+  pub left : AreTasks (length rows) (drop i tasks)
+  pub members : (x : ℕ) → (mem x settled && all_in (after rows x) (map task_number (drop i tasks))) ≡ (mem x set && all_in (after rows x) (map task_number tasks))
+
+or_assoc : (a b c : Bool) → ((a || b) || c) ≡ (a || (b || c))
+or_assoc true b c = refl
+or_assoc false b c = refl
+
+and_assoc : (a b c : Bool) → ((a && b) && c) ≡ (a && (b && c))
+and_assoc true b c = refl
+and_assoc false b c = refl
+
+pub some_step : (rows : List Row) (tasks : List TaskId) (i : ℕ) (settled next : List ℕ) (d : TaskId) → i < length tasks → AfterSome rows tasks i settled → ((x : ℕ) → mem x next ≡ (mem x settled || after rows x (slice_index_or tasks i d).0)) → AfterSome rows tasks (i + 1) next
+some_step rows tasks i settled next d lt s h = record {
+  left = (subst (λ (ts : List TaskId). AreTasks (length rows) ts) (drop_more tasks i d lt) s.left).1;
+  members = λ x.
+      ap (λ z. z || some_in (after rows x) (map task_number (drop (i + 1) tasks))) (h x)
+      ∙ (or_assoc (mem x settled) (after rows x (slice_index_or tasks i d).0) (some_in (after rows x) (map task_number (drop (i + 1) tasks)))
+      ∙ (ap (λ (ts : List TaskId). mem x settled || some_in (after rows x) (map task_number ts)) (sym (drop_more tasks i d lt)) ∙ s.members x));
+}
+
+pub each_step : (rows : List Row) (tasks : List TaskId) (set : List ℕ) (i : ℕ) (settled next : List ℕ) (d : TaskId) → i < length tasks → AfterEach rows tasks set i settled → ((x : ℕ) → mem x next ≡ (mem x settled && after rows x (slice_index_or tasks i d).0)) → AfterEach rows tasks set (i + 1) next
+each_step rows tasks set i settled next d lt s h = record {
+  left = (subst (λ (ts : List TaskId). AreTasks (length rows) ts) (drop_more tasks i d lt) s.left).1;
+  members = λ x.
+      ap (λ z. z && all_in (after rows x) (map task_number (drop (i + 1) tasks))) (h x)
+      ∙ (and_assoc (mem x settled) (after rows x (slice_index_or tasks i d).0) (all_in (after rows x) (map task_number (drop (i + 1) tasks)))
+      ∙ (ap (λ (ts : List TaskId). mem x settled && all_in (after rows x) (map task_number ts)) (sym (drop_more tasks i d lt)) ∙ s.members x));
+}

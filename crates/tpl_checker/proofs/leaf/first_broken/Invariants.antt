@@ -1,0 +1,7 @@
+use Rattle.std.proofs.Common.{length}
+use Rattle.tpl_checker.specs.Assumptions.{assumed_of}
+use Rattle.tpl_checker.proofs.LeafLemmas.{NoneBroken}
+use Rattle.tpl_checker.proofs.leaf.first_broken.Given as goal
+
+abbrev pub invariant-loop-task : goal.invariant-loop-task
+invariant-loop-task l = NoneBroken l.graph.graph (assumed_of l.assumed) l.rows (length l.graph.graph.tasks) l.task

@@ -1,0 +1,6 @@
+pub mod Tasks
+pub mod Ready
+pub mod Assumptions
+pub mod Below
+pub mod Bodies
+pub mod Leaves

@@ -1,0 +1,50 @@
+//! What a row has before its task is settled when the task begins (the rule K3).
+
+ghost use Rattle.std.specs.Prelude.{◌≡◌, length};
+ghost use Rattle.tpl_model.specs.Graph.{is_task, kind, Child};
+ghost use Rattle.tpl_model.specs.Certificate.{row};
+ghost use Rattle.tpl_laws.specs.RowTests.{all_in, before, before_by};
+
+use crate::ready::{Ready, parent, ready_of};
+use crate::rows::{implies, row, settled_after, within};
+use tpl_cert::Row;
+use tpl_graph::Graph;
+use tpl_words::{TaskId, TaskSet};
+
+/// What stands before a task whose row runs may be taken as settled when it begins.
+pub(crate) fn before(graph: &Graph, rows: &[Row], task: TaskId) -> bool
+    requires task { is_task graph.now.graph task.0 }
+    requires rows { length rows.now ≡ length graph.now.graph.tasks }
+    ensures { result ≡ before graph.now.graph rows.now task.0 }
+{
+    implies(row(rows, task).runs(), is_settled(graph, rows, task))
+}
+
+/// Before a root there is nothing, before a continuation its antecedent and what is past it, and
+/// before a child what is before its parent.
+fn is_settled(graph: &Graph, rows: &[Row], task: TaskId) -> bool
+    requires task { is_task graph.now.graph task.0 }
+    requires rows { length rows.now ≡ length graph.now.graph.tasks }
+    ensures { result ≡ all_in (before_by graph.now.graph rows.now task.0 (kind graph.now.graph task.0)) (row rows.now task.0).before }
+{
+    graph.valid();
+    let before = row(rows, task).before();
+    match ready_of(graph, task) {
+        Ready::Root => within(before, &TaskSet::empty()),
+        Ready::Child => is_before_parent(graph, rows, task),
+        Ready::Then(antecedent) => within(before, &settled_after(rows, antecedent)),
+        Ready::All(_) => true,
+        Ready::Any(_) => true,
+    }
+}
+
+fn is_before_parent(graph: &Graph, rows: &[Row], task: TaskId) -> bool
+    requires task { is_task graph.now.graph task.0 }
+    requires rows { length rows.now ≡ length graph.now.graph.tasks }
+    ensures { result ≡ all_in (before_by graph.now.graph rows.now task.0 Child) (row rows.now task.0).before }
+{
+    match parent(graph, task) {
+        None => true,
+        Some(parent) => within(row(rows, task).before(), row(rows, parent).before()),
+    }
+}

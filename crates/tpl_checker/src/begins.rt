@@ -1,0 +1,55 @@
+//! A task that may begin has a row that runs (the rule K1).
+
+ghost use Rattle.std.specs.Prelude.{◌≡◌, ◌<◌, ◌≤◌, length};
+ghost use Rattle.tpl_model.specs.Graph.{is_task, options, Child, Continues};
+ghost use Rattle.tpl_model.specs.Certificate.{Assumed};
+ghost use Rattle.tpl_model.specs.Graph.{TaskGraph};
+ghost use Rattle.tpl_laws.specs.RowTests.{runs, runs_by};
+ghost use Rattle.tpl_checker.specs.Bodies.{AreBodies};
+
+use crate::bodies::Bodies;
+use crate::ready::{Ready, parent, ready_of};
+use crate::rows::{allowed, implies, row, some_end};
+use tpl_cert::Row;
+use tpl_graph::Graph;
+use tpl_words::TaskId;
+
+/// The row runs, if it is a root's, or its antecedent may end in a way that the options let the
+/// continuation run after, or its parent may start it.
+pub(crate) fn runs(graph: &Graph, rows: &[Row], bodies: &Bodies, task: TaskId) -> bool
+    requires task { is_task graph.now.graph task.0 }
+    requires rows { length rows.now ≡ length graph.now.graph.tasks }
+    ensures { (l : Assumed) → AreBodies graph.now.graph l rows.now bodies.now → result ≡ runs graph.now.graph l rows.now task.0 }
+{
+    match ready_of(graph, task) {
+        Ready::Root => row(rows, task).runs(),
+        Ready::Then(antecedent) => runs_after(graph, rows, task, antecedent),
+        Ready::Child => runs_if_started(graph, rows, bodies, task),
+        Ready::All(_) | Ready::Any(_) => true,
+    }
+}
+
+fn runs_after(graph: &Graph, rows: &[Row], task: TaskId, antecedent: TaskId) -> bool
+    requires task { is_task graph.now.graph task.0 }
+    requires antecedent { is_task graph.now.graph antecedent.0 }
+    requires rows { length rows.now ≡ length graph.now.graph.tasks }
+    ensures { (l : Assumed) → result ≡ runs_by graph.now.graph l rows.now task.0 (Continues antecedent.0) }
+{
+    let ends = allowed(row(rows, antecedent).ends(), graph.options(task));
+    implies(some_end(ends), row(rows, task).runs())
+}
+
+fn runs_if_started(graph: &Graph, rows: &[Row], bodies: &Bodies, task: TaskId) -> bool
+    requires task { is_task graph.now.graph task.0 }
+    requires rows { length rows.now ≡ length graph.now.graph.tasks }
+    ensures { (l : Assumed) → AreBodies graph.now.graph l rows.now bodies.now → result ≡ runs_by graph.now.graph l rows.now task.0 Child }
+{
+    match parent(graph, task) {
+        None => true,
+        Some(parent) => {
+            let starts = bodies.started.contains(task);
+            let runs = row(rows, task).runs();
+            implies(row(rows, parent).runs(), implies(starts, runs))
+        }
+    }
+}

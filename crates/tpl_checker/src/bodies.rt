@@ -1,0 +1,75 @@
+//! What the paths of all bodies come to in the runs of a leaf.
+
+ghost use Rattle.std.specs.Prelude.{◌≡◌, ◌<◌, ◌&&◌, ◌||◌, ℕ, ◌+◌, [], nat_eq, length};
+ghost use Rattle.tpl_words.specs.Members.{mem};
+ghost use Rattle.tpl_model.specs.Graph.{is_task};
+ghost use Rattle.tpl_checker.specs.Assumptions.{assumed_of};
+ghost use Rattle.tpl_checker.specs.Bodies.{AreBodies, AreFirstBodies};
+
+use crate::assumptions::Assumptions;
+use crate::rows::with_if;
+use crate::view::view;
+use tpl_cert::Row;
+use tpl_graph::Graph;
+use tpl_words::{TaskId, TaskSet};
+
+/// What the paths of all bodies come to in the runs of a leaf: the tasks of which one returns,
+/// throws or acknowledges a cancellation, and the children that one starts. A child has one parent,
+/// so one set holds the children of all.
+#[derive(Drop)]
+pub(crate) struct Bodies {
+    pub(crate) returned: TaskSet,
+    pub(crate) thrown: TaskSet,
+    pub(crate) acknowledged: TaskSet,
+    pub(crate) started: TaskSet,
+}
+
+impl Bodies {
+    /// Of no body.
+    fn none() -> Bodies
+        ensures returned { result.returned ≡ [] }
+        ensures thrown { result.thrown ≡ [] }
+        ensures acknowledged { result.acknowledged ≡ [] }
+        ensures started { result.started ≡ [] }
+    {
+        Bodies {
+            returned: TaskSet::empty(),
+            thrown: TaskSet::empty(),
+            acknowledged: TaskSet::empty(),
+            started: TaskSet::empty(),
+        }
+    }
+
+    /// Of each body of the graph, read once in the runs of a leaf.
+    pub(crate) fn of_leaf(graph: &Graph, assumed: &Assumptions, rows: &[Row]) -> Bodies
+        requires { length rows.now ≡ length graph.now.graph.tasks }
+        ensures { AreBodies graph.now.graph (assumed_of assumed.now) rows.now result }
+    {
+        let mut bodies = Bodies::none();
+        for task in 0..graph.len() {
+            bodies = bodies.with(graph, assumed, rows, TaskId(task as u16));
+        }
+        bodies
+    }
+
+    /// With the body of one more task.
+    fn with(self, graph: &Graph, assumed: &Assumptions, rows: &[Row], task: TaskId) -> Bodies
+        requires task { is_task graph.now.graph task.0 }
+        requires rows { length rows.now ≡ length graph.now.graph.tasks }
+        ensures { AreFirstBodies graph.now.graph (assumed_of assumed.now) rows.now task.0 self → AreFirstBodies graph.now.graph (assumed_of assumed.now) rows.now (task.0 + 1) result }
+    {
+        graph.valid();
+        tpl_script::may_is_right();
+        tpl_script::may_start_is_right();
+        let view = view(graph, assumed, rows, task);
+        let body = graph.body(task);
+        let verdicts = tpl_script::may(body, &view);
+        let started = tpl_script::may_start_all(body, &view);
+        Bodies {
+            returned: with_if(self.returned, task, verdicts.returned),
+            thrown: with_if(self.thrown, task, verdicts.thrown),
+            acknowledged: with_if(self.acknowledged, task, verdicts.acknowledged),
+            started: self.started.union(&started),
+        }
+    }
+}

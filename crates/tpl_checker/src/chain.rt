@@ -1,0 +1,99 @@
+//! The chain of a row leads to a continuation that reads its task's exception (the rule K6).
+
+ghost use Rattle.std.specs.Prelude.{◌≡◌, IsTrue, length, map};
+ghost use Rattle.tpl_script.specs.Recursion.{must_observe};
+ghost use Rattle.tpl_model.specs.Graph.{is_task, attached, body, kind};
+ghost use Rattle.tpl_model.specs.Certificate.{row};
+ghost use Rattle.tpl_graph.specs.Ids.{task_number};
+ghost use Rattle.tpl_laws.specs.RowTests.{chain, chain_by, continues, faulted_view, is_argument, reads, takes_over};
+ghost use Rattle.tpl_laws.specs.Verdict.{has_tasks};
+ghost use Rattle.tpl_checker.specs.Assumptions.{assumed_of};
+ghost use Rattle.tpl_checker.specs.Tasks.{AreTasks};
+
+use crate::assumptions::Assumptions;
+use crate::ready::{Ready, ready_of};
+use crate::rows::{is_member, row};
+use crate::view::faulted_view;
+use tpl_cert::Row;
+use tpl_graph::Graph;
+use tpl_words::{Final, TaskId};
+
+/// The chain of the row of the task, if it has one, leads to a reader.
+pub(crate) fn chain(graph: &Graph, assumed: &Assumptions, rows: &[Row], task: TaskId) -> bool
+    requires task { is_task graph.now.graph task.0 }
+    requires rows { length rows.now ≡ length graph.now.graph.tasks }
+    requires ids { IsTrue (has_tasks graph.now.graph (row rows.now task.0).chain) }
+    ensures { result ≡ chain graph.now.graph (assumed_of assumed.now) rows.now task.0 }
+{
+    leads_to_reader(graph, assumed, task, row(rows, task).chain())
+}
+
+/// Each task of the chain takes over what the one before it carries, and the last one reads it.
+fn leads_to_reader(graph: &Graph, assumed: &Assumptions, task: TaskId, chain: &[TaskId]) -> bool
+    requires task { is_task graph.now.graph task.0 }
+    requires tasks { AreTasks (length graph.now.graph.tasks) chain.now }
+    ensures { result ≡ chain_by graph.now.graph (assumed_of assumed.now) task.0 (map task_number chain.now) }
+{
+    let mut carrier = task;
+    for at in 0..chain.len() {
+        let next = chain[at];
+        if at + 1 == chain.len() {
+            return reads(graph, assumed, next, carrier);
+        }
+        if !takes_over(graph, next, carrier) {
+            return false;
+        }
+        carrier = next;
+    }
+    true
+}
+
+/// The reader continues the task after each way to end that is Faulted, isn't canceled before, and
+/// observes the exception on each path.
+fn reads(graph: &Graph, assumed: &Assumptions, reader: TaskId, task: TaskId) -> bool
+    requires { is_task graph.now.graph reader.0 }
+    ensures { result ≡ reads graph.now.graph (assumed_of assumed.now) reader.0 task.0 }
+{
+    continues(graph, reader, task)
+        && graph.options(reader).allows(Final::Faulted)
+        && !assumed.is_loud(graph, reader)
+        && observes(graph, assumed, reader)
+}
+
+fn continues(graph: &Graph, reader: TaskId, task: TaskId) -> bool
+    requires { is_task graph.now.graph reader.0 }
+    ensures { result ≡ continues task.0 (kind graph.now.graph reader.0) }
+{
+    match ready_of(graph, reader) {
+        Ready::Then(antecedent) => antecedent.0 == task.0,
+        _ => false,
+    }
+}
+
+/// Each path of the reader's body passes an `observe`, where its antecedent is faulted.
+fn observes(graph: &Graph, assumed: &Assumptions, reader: TaskId) -> bool
+    requires { is_task graph.now.graph reader.0 }
+    ensures { result ≡ must_observe (faulted_view graph.now.graph (assumed_of assumed.now) reader.0) (body graph.now.graph reader.0) }
+{
+    tpl_script::must_observe_is_right();
+    tpl_script::must_observe(graph.body(reader), &faulted_view(graph, assumed, reader))
+}
+
+/// The task takes over what the other carries: it is the parent of an attached child, or waits for
+/// an argument as WhenAll.
+fn takes_over(graph: &Graph, task: TaskId, other: TaskId) -> bool
+    requires { is_task graph.now.graph task.0 }
+    ensures { result ≡ takes_over graph.now.graph task.0 other.0 }
+{
+    is_member(other, graph.attached(task)) || is_argument(graph, task, other)
+}
+
+fn is_argument(graph: &Graph, task: TaskId, other: TaskId) -> bool
+    requires { is_task graph.now.graph task.0 }
+    ensures { result ≡ is_argument other.0 (kind graph.now.graph task.0) }
+{
+    match ready_of(graph, task) {
+        Ready::All(args) => is_member(other, args),
+        _ => false,
+    }
+}

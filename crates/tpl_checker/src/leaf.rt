@@ -1,0 +1,127 @@
+//! The first fault of a leaf.
+
+ghost use Rattle.std.specs.Prelude.{◌≡◌, IsTrue, length};
+ghost use Rattle.tpl_model.specs.Graph.{is_task, kind};
+ghost use Rattle.tpl_claims.specs.Fits.{TasksOf};
+ghost use Rattle.tpl_laws.specs.Verdict.{broken, first_broken, leaf_fault, past_rule, rows_fit};
+ghost use Rattle.tpl_checker.specs.Assumptions.{assumed_of};
+ghost use Rattle.tpl_checker.specs.Below.{AreBelow};
+ghost use Rattle.tpl_checker.specs.Bodies.{AreBodies};
+ghost use Rattle.tpl_checker.specs.Leaves.{fault_in};
+
+use crate::assumptions::Assumptions;
+use crate::before::before;
+use crate::begins::runs;
+use crate::below::Below;
+use crate::bodies::Bodies;
+use crate::chain::chain;
+use crate::ends::ends;
+use crate::past::past;
+use crate::property::proves;
+use crate::ready::{Ready, ready_of};
+use tpl_cert::Row;
+use tpl_graph::Graph;
+use tpl_model::{Property, Rule};
+use tpl_words::TaskId;
+
+/// Why a leaf fails.
+#[derive(Clone, Copy)]
+pub(crate) enum LeafFault {
+    /// The row of the task breaks the rule.
+    Breaks(TaskId, Rule),
+    /// The leaf is closed and doesn't prove the claim.
+    ProvesNot,
+}
+
+/// The first row that breaks a rule, or that the leaf doesn't prove the claim.
+pub(crate) fn leaf_fault(
+    graph: &Graph,
+    property: Property,
+    assumed: &Assumptions,
+    below: &Below,
+    rows: &[Row],
+) -> Option<LeafFault>
+    requires tasks { TasksOf graph.now.graph property }
+    requires below { AreBelow graph.now.graph below.now }
+    requires rows { length rows.now ≡ length graph.now.graph.tasks }
+    requires ids { IsTrue (rows_fit graph.now.graph rows.now) }
+    ensures { fault_in result ≡ leaf_fault graph.now.graph property (assumed_of assumed.now) rows.now }
+{
+    let bodies = Bodies::of_leaf(graph, assumed, rows);
+    if let Some(fault) = first_broken(graph, assumed, below, rows, &bodies) {
+        return Some(fault);
+    }
+    if !proves(graph, rows, &bodies, property) {
+        return Some(LeafFault::ProvesNot);
+    }
+    None
+}
+
+/// The first task whose row breaks a rule.
+fn first_broken(
+    graph: &Graph,
+    assumed: &Assumptions,
+    below: &Below,
+    rows: &[Row],
+    bodies: &Bodies,
+) -> Option<LeafFault>
+    requires below { AreBelow graph.now.graph below.now }
+    requires rows { length rows.now ≡ length graph.now.graph.tasks }
+    requires ids { IsTrue (rows_fit graph.now.graph rows.now) }
+    requires bodies { AreBodies graph.now.graph (assumed_of assumed.now) rows.now bodies.now }
+    ensures { fault_in result ≡ first_broken graph.now.graph (assumed_of assumed.now) rows.now 0 (length graph.now.graph.tasks) }
+{
+    for task in 0..graph.len() {
+        let task = TaskId(task as u16);
+        if let Some(rule) = broken(graph, assumed, below, rows, bodies, task) {
+            return Some(LeafFault::Breaks(task, rule));
+        }
+    }
+    None
+}
+
+/// The first rule that the row of the task breaks.
+fn broken(
+    graph: &Graph,
+    assumed: &Assumptions,
+    below: &Below,
+    rows: &[Row],
+    bodies: &Bodies,
+    task: TaskId,
+) -> Option<Rule>
+    requires task { is_task graph.now.graph task.0 }
+    requires below { AreBelow graph.now.graph below.now }
+    requires rows { length rows.now ≡ length graph.now.graph.tasks }
+    requires ids { IsTrue (rows_fit graph.now.graph rows.now) }
+    requires bodies { AreBodies graph.now.graph (assumed_of assumed.now) rows.now bodies.now }
+    ensures { result ≡ broken graph.now.graph (assumed_of assumed.now) rows.now task.0 }
+{
+    if !runs(graph, rows, bodies, task) {
+        return Some(Rule::K1);
+    }
+    if !ends(graph, assumed, rows, bodies, task) {
+        return Some(Rule::K2);
+    }
+    if !before(graph, rows, task) {
+        return Some(Rule::K3);
+    }
+    if !past(graph, assumed, below, rows, task) {
+        return Some(past_rule(graph, task));
+    }
+    if !chain(graph, assumed, rows, task) {
+        return Some(Rule::K6);
+    }
+    None
+}
+
+/// The rule that says what may be past the task.
+fn past_rule(graph: &Graph, task: TaskId) -> Rule
+    requires { is_task graph.now.graph task.0 }
+    ensures { result ≡ past_rule (kind graph.now.graph task.0) }
+{
+    match ready_of(graph, task) {
+        Ready::All(_) => Rule::K5,
+        Ready::Any(_) => Rule::K5,
+        _ => Rule::K4,
+    }
+}

@@ -1,0 +1,22 @@
+//! The check of a certificate against the rules for its leaves.
+#![tactic(auto)]
+
+mod assumptions;
+mod before;
+mod begins;
+mod below;
+mod bodies;
+mod chain;
+mod ends;
+mod given;
+mod leaf;
+mod past;
+mod property;
+mod ready;
+mod rows;
+mod shape;
+mod tree;
+mod verdict;
+mod view;
+
+pub use verdict::check;

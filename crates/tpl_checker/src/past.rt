@@ -1,0 +1,125 @@
+//! What a row has past its task is settled when the task has ended (the rules K4 and K5).
+
+ghost use Rattle.std.specs.Prelude.{◌≡◌, ◌&&◌, ◌||◌, ◌≤◌, ℕ, length, nat_eq, map};
+ghost use Rattle.tpl_words.specs.Members.{mem};
+ghost use Rattle.tpl_model.specs.Graph.{is_task, some_in, Child, Continues};
+ghost use Rattle.tpl_model.specs.Certificate.{Assumed, may_end_early, row};
+ghost use Rattle.tpl_graph.specs.Ids.{task_number};
+ghost use Rattle.tpl_laws.specs.RowTests.{all_in, past, past_by};
+ghost use Rattle.tpl_checker.specs.Assumptions.{assumed_of};
+ghost use Rattle.tpl_checker.specs.Below.{AreBelow};
+ghost use Rattle.tpl_checker.specs.Tasks.{AreTasks};
+
+use crate::assumptions::Assumptions;
+use crate::below::Below;
+use crate::ready::{Ready, parent, ready_of};
+use crate::rows::{row, settled_after, within};
+use tpl_cert::Row;
+use tpl_graph::Graph;
+use tpl_words::{TaskId, TaskSet};
+
+/// What stands past a task may be taken as settled when it has ended. For all kinds with a body
+/// that is what is below it, since a parent ends after its attached children.
+pub(crate) fn past(
+    graph: &Graph,
+    assumed: &Assumptions,
+    below: &Below,
+    rows: &[Row],
+    task: TaskId,
+) -> bool
+    requires task { is_task graph.now.graph task.0 }
+    requires rows { length rows.now ≡ length graph.now.graph.tasks }
+    requires below { AreBelow graph.now.graph below.now }
+    ensures { result ≡ past graph.now.graph (assumed_of assumed.now) rows.now task.0 }
+{
+    graph.valid();
+    let past = row(rows, task).past();
+    match ready_of(graph, task) {
+        Ready::Root => within(past, below.of(task)),
+        Ready::Child => is_past_child(graph, below, rows, task),
+        Ready::Then(antecedent) => {
+            is_past_continuation(graph, assumed, below, rows, task, antecedent)
+        }
+        Ready::All(args) => within(past, &settled_after_some(rows, args)),
+        Ready::Any(args) => within(past, &settled_after_each(rows, args, past)),
+    }
+}
+
+/// Past a child is also what is before its parent.
+fn is_past_child(graph: &Graph, below: &Below, rows: &[Row], task: TaskId) -> bool
+    requires task { is_task graph.now.graph task.0 }
+    requires rows { length rows.now ≡ length graph.now.graph.tasks }
+    requires below { AreBelow graph.now.graph below.now }
+    ensures { (l : Assumed) → result ≡ all_in (past_by graph.now.graph l rows.now task.0 Child) (row rows.now task.0).past }
+{
+    graph.valid();
+    match parent(graph, task) {
+        None => true,
+        Some(parent) => {
+            let before = row(rows, parent).before();
+            within(row(rows, task).past(), &before.union(below.of(task)))
+        }
+    }
+}
+
+/// Past a continuation is also its antecedent and what is past it, unless it may be canceled while
+/// its antecedent runs.
+fn is_past_continuation(
+    graph: &Graph,
+    assumed: &Assumptions,
+    below: &Below,
+    rows: &[Row],
+    task: TaskId,
+    antecedent: TaskId,
+) -> bool
+    requires task { is_task graph.now.graph task.0 }
+    requires antecedent { is_task graph.now.graph antecedent.0 }
+    requires rows { length rows.now ≡ length graph.now.graph.tasks }
+    requires below { AreBelow graph.now.graph below.now }
+    ensures { result ≡ all_in (past_by graph.now.graph (assumed_of assumed.now) rows.now task.0 (Continues antecedent.0)) (row rows.now task.0).past }
+{
+    graph.valid();
+    let past = row(rows, task).past();
+    if may_end_early(graph, assumed, rows, task) {
+        return within(past, below.of(task));
+    }
+    within(past, &settled_after(rows, antecedent).union(below.of(task)))
+}
+
+/// A continuation that may be canceled while its antecedent runs.
+fn may_end_early(graph: &Graph, assumed: &Assumptions, rows: &[Row], task: TaskId) -> bool
+    requires task { is_task graph.now.graph task.0 }
+    requires rows { length rows.now ≡ length graph.now.graph.tasks }
+    ensures { result ≡ may_end_early graph.now.graph (assumed_of assumed.now) rows.now task.0 }
+{
+    let loud = assumed.is_loud(graph, task);
+    let lazy = graph.options(task).lazy_cancellation();
+    let canceled = row(rows, task).ends().canceled;
+    loud && !lazy && canceled
+}
+
+/// The tasks, and what is past one of them: WhenAll ends after each.
+fn settled_after_some(rows: &[Row], tasks: &[TaskId]) -> TaskSet
+    requires tasks { AreTasks (length rows.now) tasks.now }
+    requires limit { length rows.now ≤ 1024 }
+    ensures { (x : ℕ) → mem x result ≡ some_in (λ y. nat_eq x y || mem x (row rows.now y).past) (map task_number tasks.now) }
+{
+    let mut settled = TaskSet::empty();
+    for task in tasks {
+        settled = settled.union(&settled_after(rows, *task));
+    }
+    settled
+}
+
+/// Of the set what is settled after each of the tasks, of which WhenAny ends after one only.
+fn settled_after_each(rows: &[Row], tasks: &[TaskId], set: &TaskSet) -> TaskSet
+    requires tasks { AreTasks (length rows.now) tasks.now }
+    requires limit { length rows.now ≤ 1024 }
+    ensures { (x : ℕ) → mem x result ≡ (mem x set.now && all_in (λ y. nat_eq x y || mem x (row rows.now y).past) (map task_number tasks.now)) }
+{
+    let mut settled = set.copy();
+    for task in tasks {
+        settled = settled.intersection(&settled_after(rows, *task));
+    }
+    settled
+}

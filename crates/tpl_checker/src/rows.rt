@@ -1,0 +1,98 @@
+//! The rows of a leaf, and the tasks that a graph relates to one.
+
+ghost use Rattle.std.specs.Prelude.{◌≡◌, ℕ, ◌<◌, ◌≤◌, ◌&&◌, ◌||◌, length, nat_eq, Bool, map, not};
+ghost use Rattle.tpl_words.specs.Finals.{has};
+ghost use Rattle.tpl_words.specs.Members.{mem};
+ghost use Rattle.tpl_words.specs.Options.{allows};
+ghost use Rattle.tpl_model.specs.Certificate.{row};
+ghost use Rattle.tpl_graph.specs.Ids.{task_number};
+ghost use Rattle.tpl_laws.specs.RowTests.{all_in, implies, some_end};
+
+use tpl_cert::Row;
+use tpl_words::{Final, Finals, Options, TaskId, TaskSet};
+
+/// The row of a task.
+pub(crate) fn row(rows: &[Row], task: TaskId) -> &Row
+    requires { task.0 < length rows.now }
+    ensures { result.now ≡ row rows.now task.0 }
+{
+    &rows[task.0 as usize]
+}
+
+/// There is a way to end among these.
+pub(crate) fn some_end(finals: Finals) -> bool
+    ensures { result ≡ some_end (has finals) }
+{
+    finals.ran || finals.canceled || finals.faulted
+}
+
+/// Those of the ways to end that a continuation with the options runs after.
+pub(crate) fn allowed(finals: Finals, options: Options) -> Finals
+    ensures { (f : Final) → has result f ≡ (has finals f && allows options f) }
+{
+    Finals {
+        ran: finals.ran && options.allows(Final::RanToCompletion),
+        canceled: finals.canceled && options.allows(Final::Canceled),
+        faulted: finals.faulted && options.allows(Final::Faulted),
+    }
+}
+
+/// Those of the ways to end that a continuation with the options doesn't run after.
+pub(crate) fn excluded(finals: Finals, options: Options) -> Finals
+    ensures { (f : Final) → has result f ≡ (has finals f && not (allows options f)) }
+{
+    Finals {
+        ran: finals.ran && !options.allows(Final::RanToCompletion),
+        canceled: finals.canceled && !options.allows(Final::Canceled),
+        faulted: finals.faulted && !options.allows(Final::Faulted),
+    }
+}
+
+/// Where the condition holds, so does the other.
+pub(crate) fn implies(condition: bool, other: bool) -> bool
+    ensures { result ≡ implies condition other }
+{
+    !condition || other
+}
+
+/// The task and what is past it.
+pub(crate) fn settled_after(rows: &[Row], task: TaskId) -> TaskSet
+    requires row { task.0 < length rows.now }
+    requires limit { length rows.now ≤ 1024 }
+    ensures { (x : ℕ) → mem x result ≡ (nat_eq x task.0 || mem x (row rows.now task.0).past) }
+{
+    let mut settled = row(rows, task).past().copy();
+    settled.insert(task);
+    settled
+}
+
+/// Each member of the set is one of those allowed.
+pub(crate) fn within(set: &TaskSet, allowed: &TaskSet) -> bool
+    ensures { (test : ℕ → Bool) → ((x : ℕ) → mem x allowed.now ≡ test x) → result ≡ all_in test set.now }
+{
+    set.is_subset(allowed)
+}
+
+/// The task is one of the list.
+pub(crate) fn is_member(task: TaskId, tasks: &[TaskId]) -> bool
+    ensures { result ≡ mem task.0 (map task_number tasks.now) }
+{
+    for other in tasks {
+        if task.0 == other.0 {
+            return true;
+        }
+    }
+    false
+}
+
+/// The set, with the task if it is to be a member.
+pub(crate) fn with_if(set: TaskSet, task: TaskId, member: bool) -> TaskSet
+    requires { task.0 < 1024 }
+    ensures { (x : ℕ) → mem x result ≡ (member && nat_eq x task.0 || mem x set) }
+{
+    let mut set = set;
+    if member {
+        set.insert(task);
+    }
+    set
+}

@@ -1,0 +1,85 @@
+//! What is known of the runs of a leaf in which a body is read.
+
+ghost use Rattle.std.specs.Prelude.{◌≡◌, ◌||◌, ℕ, Bool, length, map};
+ghost use Rattle.tpl_words.specs.Finals.{has, is_final};
+ghost use Rattle.tpl_model.specs.Graph.{is_task, kind};
+ghost use Rattle.tpl_model.specs.Certificate.{subject_set, one_ends, view};
+ghost use Rattle.tpl_script.specs.View.{known};
+ghost use Rattle.tpl_graph.specs.Ids.{task_number};
+ghost use Rattle.tpl_laws.specs.RowTests.{faulted_view};
+ghost use Rattle.tpl_checker.specs.Assumptions.{assumed_of};
+ghost use Rattle.tpl_checker.specs.Tasks.{AreTasks};
+
+use crate::assumptions::Assumptions;
+use crate::ready::{Ready, ready_of};
+use crate::rows::{allowed, row};
+use tpl_cert::Row;
+use tpl_graph::Graph;
+use tpl_script::View;
+use tpl_words::{Final, Finals, TaskId};
+
+/// How no task ends.
+pub(crate) const NO_END: Finals = Finals {
+    ran: false,
+    canceled: false,
+    faulted: false,
+};
+
+/// What a task's body sees in the runs of a leaf: how its subject ends is what the rows say of it.
+pub(crate) fn view(graph: &Graph, assumed: &Assumptions, rows: &[Row], task: TaskId) -> View
+    requires task { is_task graph.now.graph task.0 }
+    requires rows { length rows.now ≡ length graph.now.graph.tasks }
+    ensures { known result ≡ view graph.now.graph (assumed_of assumed.now) rows.now task.0 }
+{
+    View {
+        inputs: assumed.inputs,
+        quiet: assumed.quiet,
+        own: graph.own_token(task),
+        subject: subject(graph, rows, task),
+    }
+}
+
+/// What a continuation sees whose subject is faulted.
+pub(crate) fn faulted_view(graph: &Graph, assumed: &Assumptions, reader: TaskId) -> View
+    requires { is_task graph.now.graph reader.0 }
+    ensures { known result ≡ faulted_view graph.now.graph (assumed_of assumed.now) reader.0 }
+{
+    View {
+        inputs: assumed.inputs,
+        quiet: assumed.quiet,
+        own: graph.own_token(reader),
+        subject: Finals {
+            ran: false,
+            canceled: false,
+            faulted: true,
+        },
+    }
+}
+
+/// How the subject of a continuation ends: its antecedent in the ways in which the options let the
+/// continuation run, or one of the arguments of an antecedent that is a WhenAny task.
+fn subject(graph: &Graph, rows: &[Row], task: TaskId) -> Finals
+    requires task { is_task graph.now.graph task.0 }
+    requires rows { length rows.now ≡ length graph.now.graph.tasks }
+    ensures { (f : Final) → has result f ≡ subject_set graph.now.graph rows.now task.0 (kind graph.now.graph task.0) f }
+{
+    match ready_of(graph, task) {
+        Ready::Then(antecedent) => match ready_of(graph, antecedent) {
+            Ready::Any(args) => ends_of_one(rows, args),
+            _ => allowed(row(rows, antecedent).ends(), graph.options(task)),
+        },
+        _ => NO_END,
+    }
+}
+
+/// How one of the tasks ends.
+pub(crate) fn ends_of_one(rows: &[Row], tasks: &[TaskId]) -> Finals
+    requires { AreTasks (length rows.now) tasks.now }
+    ensures { (f : Final) → has result f ≡ one_ends (map task_number tasks.now) rows.now f }
+{
+    let mut finals = NO_END;
+    for task in tasks {
+        finals = finals.union(row(rows, *task).ends());
+    }
+    finals
+}
