@@ -1,0 +1,138 @@
+//! What the words of the command line say.
+
+ghost use Rattle.std.specs.Prelude.{◌≡◌, true, IfOk, MatchResult, map};
+ghost use Rattle.clap.specs.Words.{app_of, kind_of, takes};
+ghost use Rattle.tpl_cli.specs.Line.{taskgraph, Names};
+
+use clap::Command;
+use clap::error::ErrorKind;
+use std::alloc::{AllocError, Global};
+use thiserror::Error;
+
+/// What the program is to do.
+#[derive(Clone, Copy, Debug, Drop, PartialEq, Eq)]
+pub enum Line {
+    /// Check the certificate of a document.
+    Check,
+}
+
+/// Why there is nothing to do.
+#[derive(Debug, Drop, Error)]
+pub enum LineFault {
+    /// Help was asked for: its text, which belongs on the standard output.
+    #[error("{0}")]
+    Help(String),
+    /// The words name no command: what is wrong with them and how they are written, which belongs
+    /// on the standard error.
+    #[error("{0}")]
+    Usage(String),
+    /// The memory for reading the words was refused.
+    #[error("out of memory")]
+    Memory,
+}
+
+impl From<AllocError> for LineFault {
+    ghost use Rattle.std.specs.Prelude.{◌≡◌};
+    ghost use Rattle.tpl_cli.specs.declared.line.LineFault.TheVariants.{Memory};
+
+    ghost from_gives = { λ _ fault. fault ≡ Memory };
+
+    fn from(_error: AllocError) -> LineFault {
+        LineFault::Memory
+    }
+}
+
+/// The command line: one of the subcommands has to stand there.
+fn taskgraph<'a>(alloc: Global) -> Result<Command<'a>, AllocError>
+    ensures { IfOk result (λ command. app_of command ≡ taskgraph) }
+{
+    Command::new(alloc, "taskgraph")
+        .about("Checks certificates of .NET task graphs; the document comes on standard input.")
+        .subcommand_required(true)
+        .subcommand(Command::new(alloc, "check").about("Checks the document's certificate"))
+}
+
+/// The text goes where its kind belongs: help that was asked for isn't a fault of the words.
+fn fault_of(alloc: Global, error: clap::Error) -> LineFault
+    ensures { kind_of error ≡ ErrorKind.OutOfMemory → result ≡ LineFault.Memory }
+{
+    let kind = error.kind();
+    let text = match format!(in alloc; "{error}") {
+        Ok(text) => text,
+        Err(_) => return LineFault::Memory,
+    };
+    match kind {
+        ErrorKind::OutOfMemory => LineFault::Memory,
+        ErrorKind::DisplayHelp => LineFault::Help(text),
+        _ => LineFault::Usage(text),
+    }
+}
+
+/// What the words say, the first of which is the program's own name. They are read by `clap`.
+pub fn line_of<'a>(alloc: Global, words: &'a [&'a str]) -> Result<Line, LineFault>
+    ensures named { IfOk result (Names (map (λ word. word.now) words.entry.now)) }
+
+    // Words that the command line takes are refused for want of memory alone.
+    ensures taken { let texts = map (λ word. word.now) words.entry.now in
+        takes taskgraph texts ≡ true → (line : Line) → Names texts line
+        → MatchResult result (λ found. found ≡ line) (λ fault. fault ≡ LineFault.Memory) }
+{
+    let matches = match taskgraph(alloc)?.try_get_matches_from(words) {
+        Ok(matches) => matches,
+        Err(error) => return Err(fault_of(alloc, error)),
+    };
+    match matches.subcommand() {
+        Some(("check", _)) => Ok(Line::Check),
+        _ => Err(LineFault::Usage(String::from_str(alloc, "error: no command\n")?)),
+    }
+}
+
+#[cfg(test)]
+mod tests {
+    use super::*;
+    use std::test::*;
+
+    #[test]
+    fn reads_the_command(rt: HostRuntime) -> Result<(), Fail> {
+        let line = line_of(rt.alloc(), ["taskgraph", "check"].as_slice());
+        assert!(rt; matches!(line, Ok(Line::Check)));
+        Ok(())
+    }
+
+    #[test]
+    fn refuses_other_words(rt: HostRuntime) -> Result<(), Fail> {
+        let lines: [&[&str]; 5] = [
+            &["taskgraph"],
+            &["taskgraph", "verify"],
+            &["taskgraph", "check", "file.json"],
+            &["taskgraph", "--depth", "check"],
+            &[],
+        ];
+        for words in lines {
+            let line = line_of(rt.alloc(), words);
+            assert!(rt;
+                matches!(&line, Err(LineFault::Usage(text)) if !text.is_empty()),
+                "{words:?}"
+            );
+        }
+        Ok(())
+    }
+
+    #[test]
+    fn gives_help_where_it_is_asked_for(rt: HostRuntime) -> Result<(), Fail> {
+        let lines: [&[&str]; 4] = [
+            &["taskgraph", "--help"],
+            &["taskgraph", "-h"],
+            &["taskgraph", "help"],
+            &["taskgraph", "check", "--help"],
+        ];
+        for words in lines {
+            let line = line_of(rt.alloc(), words);
+            assert!(rt;
+                matches!(&line, Err(LineFault::Help(text)) if text.contains("Usage: taskgraph")),
+                "{words:?}"
+            );
+        }
+        Ok(())
+    }
+}

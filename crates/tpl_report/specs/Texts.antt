@@ -1,0 +1,36 @@
+-- The lines that the program writes.
+use Rattle.std.specs.Prelude.{ℕ, List, ◌++◌, codes, decimal}
+use Rattle.tpl_model.specs.declared.fault.Rule.{Rule}
+use Rattle.tpl_model.specs.declared.fault.Rule.TheVariants.{K1, K2, K3, K4, K5, K6}
+
+abbrev pub rule_name : Rule → List ℕ
+rule_name K1 = codes "K1"
+rule_name K2 = codes "K2"
+rule_name K3 = codes "K3"
+rule_name K4 = codes "K4"
+rule_name K5 = codes "K5"
+rule_name K6 = codes "K6"
+
+abbrev pub refused_shape : ℕ → List ℕ
+refused_shape claim = codes "refused: shape claim " ++ (decimal claim ++ codes "\n")
+
+abbrev pub refused_leaf : ℕ → ℕ → List ℕ → Rule → List ℕ
+refused_leaf claim leaf name rule = codes "refused: not closed claim " ++ (decimal claim ++ (codes " leaf " ++ (decimal leaf ++ (codes " task " ++ (name ++ (codes " rule " ++ (rule_name rule ++ codes "\n")))))))
+
+abbrev pub refused_claim : ℕ → ℕ → List ℕ
+refused_claim claim leaf = codes "refused: claim " ++ (decimal claim ++ (codes " leaf " ++ (decimal leaf ++ codes "\n")))
+
+abbrev pub unreadable : List ℕ → List ℕ
+unreadable what = codes "unreadable: " ++ (what ++ codes "\n")
+
+abbrev pub unreadable_part : List ℕ → ℕ → List ℕ → List ℕ
+unreadable_part part number why = codes "unreadable: " ++ (part ++ (codes " " ++ (decimal number ++ (codes " " ++ (why ++ codes "\n")))))
+
+abbrev pub unreadable_at : List ℕ → ℕ → List ℕ
+unreadable_at part number = codes "unreadable: " ++ (part ++ (codes " " ++ (decimal number ++ codes "\n")))
+
+abbrev pub unreadable_graph : List ℕ → ℕ → List ℕ
+unreadable_graph why task = codes "unreadable: graph " ++ (why ++ (codes " task " ++ (decimal task ++ codes "\n")))
+
+abbrev pub unreadable_start : List ℕ → List ℕ
+unreadable_start why = codes "unreadable: start " ++ (why ++ codes "\n")

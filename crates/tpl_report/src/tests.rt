@@ -1,0 +1,184 @@
+//! Commands over devices whose bytes no clause knows.
+ghost use Rattle.std.specs.Prelude.{◌≡◌, ◌++◌, codes, decimal, length};
+
+use crate::{Answer, Command, Exit, put_out_of_memory, respond};
+use std::alloc::{AllocError, Global};
+use std::io;
+use std::io::{ErrorKind, Read, Write};
+use std::test::*;
+use tpl_journal::Counting;
+
+/// Answers with the number of bytes.
+struct Count;
+
+impl Command for Count {
+    ghost use Rattle.std.specs.Prelude.{◌≡◌, ◌++◌, codes, decimal, length};
+
+    ghost answers = { λ _ bytes exit text. text ≡ decimal (length bytes) ++ codes " bytes\n" };
+
+    fn answer(&self, alloc: Global, bytes: &[u8]) -> Result<Answer, AllocError> {
+        let count = bytes.len();
+        Ok(Answer {
+            exit: Exit::Success,
+            text: format!(in alloc; "{count} bytes\n")?,
+        })
+    }
+}
+
+/// Finds no memory for any answer.
+struct Starved;
+
+impl Command for Starved {
+    ghost use Rattle.std.specs.Prelude.{⊤};
+
+    ghost answers = { λ _ _ _ _. ⊤ };
+
+    fn answer(&self, _alloc: Global, _bytes: &[u8]) -> Result<Answer, AllocError> {
+        Err(AllocError)
+    }
+}
+
+/// Gives one byte a read, and fails at the read of number `fails`, counted from 0.
+#[derive(Drop)]
+struct Slow<'a> {
+    bytes: &'a [u8],
+    reads: usize,
+    fails: usize,
+}
+
+impl Read for Slow<'_> {
+    fn read(&mut self, buf: &mut [u8]) -> io::Result<usize> {
+        let at = self.reads;
+        self.reads = self.reads.saturating_add(1);
+        if at == self.fails {
+            return Err(io::Error::from(ErrorKind::Other));
+        }
+        if at < self.bytes.len() && !buf.is_empty() {
+            buf[0] = self.bytes[at];
+            Ok(1)
+        } else {
+            Ok(0)
+        }
+    }
+}
+
+/// Gives spaces without end.
+#[derive(Drop)]
+struct Endless;
+
+impl Read for Endless {
+    fn read(&mut self, buf: &mut [u8]) -> io::Result<usize> {
+        buf.fill(b' ');
+        Ok(buf.len())
+    }
+}
+
+/// Takes one byte a write, and fails at the write of number `fails`, counted from 0.
+#[derive(Drop)]
+struct Narrow {
+    held: Vec<u8>,
+    writes: usize,
+    fails: usize,
+}
+
+impl Write for Narrow {
+    fn write(&mut self, buf: &[u8]) -> io::Result<usize> {
+        let at = self.writes;
+        self.writes = self.writes.saturating_add(1);
+        if at == self.fails || buf.is_empty() {
+            return Err(io::Error::from(ErrorKind::Other));
+        }
+        self.held.push(buf[0])?;
+        Ok(1)
+    }
+
+    fn flush(&mut self) -> io::Result<()> {
+        Ok(())
+    }
+}
+
+/// The exit and what was written.
+fn played<C: Command, R: Read + Drop>(
+    alloc: Global,
+    command: &C,
+    reader: R,
+    fails: usize,
+) -> (Exit, Vec<u8>) {
+    let mut from = Counting::new(reader);
+    let mut to = Counting::new(Narrow {
+        held: Vec::new(alloc),
+        writes: 0,
+        fails,
+    });
+    let exit = respond(command, alloc, &mut from, &mut to);
+    let Narrow { held, .. } = to.into_inner();
+    (exit, held)
+}
+
+fn text_of(bytes: &[u8], fails: usize) -> Slow<'_> {
+    Slow {
+        bytes,
+        reads: 0,
+        fails,
+    }
+}
+
+#[test]
+fn answers_what_was_read(rt: HostRuntime) -> Result<(), Fail> {
+    let never = usize::MAX;
+    let (exit, held) = played(rt.alloc(), &Count, text_of(b"abc", never), never);
+    assert_eq!(rt; exit, Exit::Success);
+    assert!(rt; held.as_slice() == b"3 bytes\n".as_slice());
+    Ok(())
+}
+
+#[test]
+fn memory_and_length(rt: HostRuntime) -> Result<(), Fail> {
+    let never = usize::MAX;
+    let (exit, held) = played(rt.alloc(), &Starved, text_of(b"abc", never), never);
+    assert_eq!(rt; exit, Exit::Memory);
+    assert!(rt; held.as_slice() == b"out of memory\n".as_slice());
+
+    let (exit, held) = played(rt.alloc(), &Count, Endless, never);
+    assert_eq!(rt; exit, Exit::Unreadable);
+    assert!(rt; held.as_slice() == b"unreadable: too long\n".as_slice());
+    Ok(())
+}
+
+#[test]
+fn each_failed_read_writes_nothing(rt: HostRuntime) -> Result<(), Fail> {
+    for n in 0..4usize {
+        let (exit, held) = played(rt.alloc(), &Count, text_of(b"abc", n), usize::MAX);
+        assert!(rt; exit == Exit::Device && held.is_empty(), "read {n}");
+    }
+    Ok(())
+}
+
+#[test]
+fn each_failed_write_leaves_a_front(rt: HostRuntime) -> Result<(), Fail> {
+    for n in 0..8usize {
+        let (exit, held) = played(rt.alloc(), &Count, text_of(b"abc", usize::MAX), n);
+        assert!(rt; exit == Exit::Device, "write {n}");
+        assert!(rt; held.as_slice() == &b"3 bytes\n"[..n], "write {n}");
+    }
+    Ok(())
+}
+
+#[test]
+fn codes_of_exits(rt: HostRuntime) -> Result<(), Fail> {
+    let mut to = Counting::new(Narrow {
+        held: Vec::new(rt.alloc()),
+        writes: 0,
+        fails: usize::MAX,
+    });
+    let codes = [
+        Exit::Success.code(),
+        Exit::Failure.code(),
+        Exit::Usage.code(),
+        Exit::Unreadable.code(),
+        put_out_of_memory(&mut to).code(),
+        Exit::Device.code(),
+    ];
+    assert_eq!(rt; codes, [0, 1, 2, 3, 4, 5]);
+    Ok(())
+}
