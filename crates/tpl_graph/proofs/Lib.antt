@@ -24,3 +24,7 @@ pub mod StarterTables
 pub mod KeptLaw
 pub mod ChildrenLemmas
 pub mod OptionLemmas
+pub mod OwnerLemmas
+pub mod SiteReaders
+pub mod SameLemmas
+pub mod WorkLemmas

@@ -2,6 +2,7 @@
 use Rattle.std.specs.Prelude.{◌≡◌, false, length, map}
 use Rattle.tpl_graph.specs.declared.check.Checked.{Checked}
 use Rattle.tpl_graph.specs.declared.check.Found.{Found}
+use Rattle.tpl_graph.specs.Collected.{all_owned}
 use Rattle.tpl_graph.specs.Names.{some_twice}
 use Rattle.tpl_graph.specs.Numbered.{names_of, graph_in}
 use Rattle.tpl_graph.specs.Draft.{Draft}
@@ -15,6 +16,7 @@ pub record IsFound (d : Draft) (f : Found) : Type 0 where
   pub names : AreDeclared d f.declared
   pub starts : map numbers f.starts.items ≡ all_starts (graph_in (names_of d) d)
   pub starters : AreStarters d f.starters.items
+  pub sites : f.sites.items ≡ all_owned 0 d.tasks
   pub long : length f.starters.items ≡ length d.tasks
   pub inputs_once : some_twice (names_of d).inputs ≡ false
   pub tokens_once : some_twice (names_of d).tokens ≡ false
@@ -25,6 +27,7 @@ pub record IsChecked (d : Draft) (c : Checked) : Type 0 where
   pub tokens : map token_of c.tokens.items ≡ (graph_in (names_of d) d).tokens
   pub starts : map numbers c.starts.items ≡ all_starts (graph_in (names_of d) d)
   pub starters : AreStarters d c.starters.items
+  pub sites : c.sites.items ≡ all_owned 0 d.tasks
   pub long : length c.starters.items ≡ length d.tasks
   pub inputs_once : some_twice (names_of d).inputs ≡ false
   pub tokens_once : some_twice (names_of d).tokens ≡ false

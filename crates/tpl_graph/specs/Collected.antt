@@ -1,10 +1,10 @@
 -- What the statements of a body name: labels, sites, and the tasks that they start.
-use Rattle.std.specs.Prelude.{ℕ, Bool, List, [], ◌∷◌, flat_map}
+use Rattle.std.specs.Prelude.{ℕ, suc, Bool, List, [], ◌∷◌, ◌++◌, flat_map}
 use Rattle.tpl_graph.specs.declared.collect.Sort.{Sort}
 use Rattle.tpl_graph.specs.declared.row.Site.{Site}
 use Rattle.tpl_graph.specs.Names.{place}
 use Rattle.tpl_graph.specs.Numbered.{names_in}
-use Rattle.tpl_graph.specs.Draft.{Line, Lines, Start, Work, each_of}
+use Rattle.tpl_graph.specs.Draft.{Line, Lines, Start, Work, each_of, Task, worked}
 
 -- the names of a sort in a body, in the order of its text
 abbrev pub named : Sort → Lines → List (List ℕ)
@@ -18,10 +18,6 @@ start_in tasks s = []
 abbrev pub started : List (List ℕ) → Lines → List ℕ
 started tasks body = flat_map (start_in tasks) (each_of body)
 
-abbrev pub may_fail_in : Line → List Bool
-may_fail_in (Work s may_fail) = may_fail ∷ []
-may_fail_in s = []
-
 abbrev pub site_of : ℕ → Bool → Site
 site_of owner may_fail = record { owner = record { 0 = owner }; may_fail = may_fail }
 
@@ -32,3 +28,8 @@ owned_in owner s = []
 -- the sites of a body with their owner, in the order of its text
 abbrev pub owned : ℕ → Lines → List Site
 owned owner body = flat_map (owned_in owner) (each_of body)
+
+-- the sites of tasks numbered from n on, in the order of the text
+abbrev pub all_owned : ℕ → List Task → List Site
+all_owned n [] = []
+all_owned n (x ∷ more) = owned n (worked x.kind).body ++ all_owned (suc n) more

@@ -6,6 +6,7 @@ pub mod Coding
 pub mod Tables
 pub mod Rows
 pub mod Kept
+pub mod Sites
 pub mod Draft
 pub mod LineCoding
 pub mod SeenDraft

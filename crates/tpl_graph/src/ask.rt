@@ -36,7 +36,7 @@ pub(crate) enum Ask<'a> {
 fn is_word(c: u8) -> bool
     ensures { result ≡ spec.is_word c }
 {
-    (c >= 65 && c <= 90) || (c >= 97 && c <= 122) || ((c >= 48 && c <= 57) || c == 95)
+    (c >= b'A' && c <= b'Z') || (c >= b'a' && c <= b'z') || ((c >= b'0' && c <= b'9') || c == b'_')
 }
 
 /// 1 to 32 letters, digits or `_`, not beginning with a digit.
@@ -52,7 +52,7 @@ pub(crate) fn is_name(name: &str) -> bool
             return false;
         }
     }
-    !(bytes[0] >= 48 && bytes[0] <= 57)
+    !(bytes[0] >= b'0' && bytes[0] <= b'9')
 }
 
 /// The task of a number is a child.

@@ -1,6 +1,7 @@
 //! The refusals in order.
 
 ghost use Rattle.std.specs.Prelude.{◌≡◌, false, length, map, suc, IfOk, OnOk, IfErr};
+ghost use Rattle.tpl_graph.specs.Collected.{all_owned};
 ghost use Rattle.tpl_graph.specs.Names.{some_twice};
 ghost use Rattle.tpl_graph.specs.Numbered.{names_of, graph_in};
 ghost use Rattle.tpl_graph.specs.Refusals.{number, IsValid, NoneBelow, Refuses, all_starts};
@@ -16,7 +17,7 @@ use crate::draft::Draft;
 use crate::fault::{GraphFault, Why};
 use crate::names::{Names, NamesFault, Tables};
 use crate::refusals::{Test, first_where, why_of};
-use crate::row::{Origin, Starter};
+use crate::row::{Origin, Site, Starter};
 use crate::rows::origins;
 use crate::starters::{all_starts, starters};
 use crate::tables::{label_table, site_table};
@@ -128,19 +129,21 @@ pub(crate) struct Checked {
     pub(crate) tokens: Vec<Origin>,
     pub(crate) starts: Vec<Vec<TaskId>>,
     pub(crate) starters: Vec<Starter>,
+    pub(crate) sites: Vec<Site>,
 }
 
-/// Which tasks start which, where each start names a child and each child is started once.
+/// Which tasks start which, where each start names a child and each child is started once; and the sites.
 fn pass_children(
     alloc: Global,
     draft: &Draft,
     declared: &Declared,
-) -> Result<(Vec<Vec<TaskId>>, Vec<Starter>), GraphFault>
+) -> Result<(Vec<Vec<TaskId>>, Vec<Starter>, Vec<Site>), GraphFault>
     requires names { AreDeclared (draft_of draft.now) declared.now }
     requires before { NoneBelow (draft_of draft.now) 8 }
     ensures starts { IfOk result (λ r. map numbers r.0.items ≡ all_starts (graph_in (names_of (draft_of draft.now)) (draft_of draft.now))) }
     ensures starters { IfOk result (λ r. AreStarters (draft_of draft.now) r.1.items) }
     ensures long { IfOk result (λ r. length r.1.items ≡ length (draft_of draft.now).tasks) }
+    ensures sites { IfOk result (λ r. r.2.items ≡ all_owned 0 (draft_of draft.now).tasks) }
     ensures none { OnOk result (NoneBelow (draft_of draft.now) 9) }
     ensures fault { IfErr result (Refuses (draft_of draft.now)) }
 {
@@ -148,7 +151,7 @@ fn pass_children(
     let starts = all_starts(alloc, &mut sites, &draft.tasks, &declared.tasks)?;
     let table = starters(alloc, &starts)?;
     pass(draft, &Test::ChildPlace(declared, &table))?;
-    Ok((starts, table))
+    Ok((starts, table, sites))
 }
 
 /// Where the tokens come from, where each link is in its place.
@@ -170,6 +173,7 @@ struct Found {
     declared: Declared,
     starts: Vec<Vec<TaskId>>,
     starters: Vec<Starter>,
+    sites: Vec<Site>,
 }
 
 /// The tests up to the places of children.
@@ -180,11 +184,12 @@ fn pass_first(alloc: Global, draft: &Draft) -> Result<Found, GraphFault>
 {
     let declared = pass_names(alloc, draft)?;
     pass_places(draft, &declared)?;
-    let (starts, starters) = pass_children(alloc, draft, &declared)?;
+    let (starts, starters, sites) = pass_children(alloc, draft, &declared)?;
     Ok(Found {
         declared,
         starts,
         starters,
+        sites,
     })
 }
 
@@ -240,5 +245,6 @@ pub(crate) fn check(alloc: Global, draft: &Draft) -> Result<Checked, GraphFault>
         tokens,
         starts: found.starts,
         starters: found.starters,
+        sites: found.sites,
     })
 }

@@ -1,15 +1,18 @@
 //! A valid task graph and its readers.
 
-ghost use Rattle.std.specs.Prelude.{◌≡◌, ◌<◌, ◌≤◌, length, map, position, slice_get, Some, IfSome, IfNone, IfOk, IfErr, OnOk, ℕ};
+ghost use Rattle.std.specs.Prelude.{◌≡◌, ◌<◌, ◌≤◌, length, map, position, slice_get, true, Bool, Some, IfSome, IfNone, IfOk, IfErr, IsTrue, OnOk, ◌↔◌, ℕ};
 ghost use Rattle.std.specs.Option.{option_map};
 ghost use Rattle.std.specs.Str.{bytes_eq};
+ghost use Rattle.tpl_words.specs.Members.{mem};
+ghost use Rattle.tpl_script.specs.Statements.{sites};
 ghost use Rattle.tpl_model.specs.Graph as spec;
 ghost use Rattle.tpl_model.specs.Graph.{is_task, is_token, IsParent};
 ghost use Rattle.tpl_model.specs.Valid as valid;
 ghost use Rattle.tpl_graph.specs.Ids.{task_number, token_number, input_number, site_number};
-ghost use Rattle.tpl_graph.specs.Named.{antecedent_of, args_of};
+ghost use Rattle.tpl_graph.specs.Named.{antecedent_of, args_of, all_may_fail};
 ghost use Rattle.tpl_graph.specs.Rows.{kind_of};
 ghost use Rattle.tpl_graph.specs.Kept.{IsNamedGraph};
+ghost use Rattle.tpl_graph.specs.Sites.{HasWork};
 ghost use Rattle.tpl_graph.specs.Checked.{IsChecked};
 ghost use Rattle.tpl_graph.specs.Numbered.{numbered};
 ghost use Rattle.tpl_graph.specs.Refusals.{IsValid, Refuses};
@@ -19,8 +22,9 @@ use crate::check::{Checked, check};
 use crate::draft::Draft;
 use crate::fault::GraphFault;
 use crate::names::Tables;
-use crate::row::{Kind, Origin, Role, Row};
+use crate::row::{Kind, Origin, Role, Row, Site};
 use crate::rows::number_tasks;
+use crate::same::{same_origins, same_rows, same_tables};
 use crate::starters::{attached, bound, parents};
 use std::alloc::{AllocError, Global};
 use std::marker::Model;
@@ -36,6 +40,7 @@ pub struct Graph {
     tasks: Vec<Row>,
     parents: Vec<Option<TaskId>>,
     attached: Vec<Vec<TaskId>>,
+    sites: Vec<Site>,
     bound: u32,
 }
 
@@ -51,10 +56,11 @@ impl Model for Graph {
     ghost use Rattle.tpl_graph.specs.Rows.{graph_of};
     ghost use Rattle.tpl_graph.specs.Tables.{seen};
     ghost use Rattle.tpl_graph.specs.Kept.{IsNamedGraph, AreKept};
+    ghost use Rattle.tpl_graph.specs.Sites.{AreSites};
 
     ghost view = { λ g. record { graph = graph_of g.tokens.items (length g.names.inputs) g.tasks.items; names = seen g.names } };
 
-    ghost invariant = { λ g. let n : Named = record { graph = graph_of g.tokens.items (length g.names.inputs) g.tasks.items; names = seen g.names } in IsNamedGraph n × AreKept n g.parents.items g.attached.items g.bound };
+    ghost invariant = { λ g. let n : Named = record { graph = graph_of g.tokens.items (length g.names.inputs) g.tasks.items; names = seen g.names } in IsNamedGraph n × AreKept n g.parents.items g.attached.items g.bound × AreSites n.graph g.sites.items };
 }
 
 /// The graph of a checked draft.
@@ -75,6 +81,7 @@ fn make(alloc: Global, draft: &Draft, checked: Checked) -> Result<Graph, AllocEr
         tasks,
         parents,
         attached,
+        sites: checked.sites,
         bound,
     })
 }
@@ -97,7 +104,7 @@ impl Graph {
     pub fn valid(&self)
         ensures { IsNamedGraph self.now }
     {
-        let _ = &self.bound;
+        let _ = &self.tasks;
     }
 
     /// How many tasks there are: at most 1,024.
@@ -291,6 +298,31 @@ impl Graph {
         }
     }
 
+    /// Whether the job of a site may fail.
+    pub fn site_may_fail(&self, site: SiteId) -> bool
+        requires { site.0 < length self.now.names.sites }
+        ensures { slice_get (all_may_fail self.now.graph) site.0 ≡ Some result }
+    {
+        self.sites[site.0 as usize].may_fail
+    }
+
+    /// Each work statement says of its site what `site_may_fail` says: a caller that needs this calls it, which does
+    /// nothing.
+    pub fn work_is_listed(&self)
+        ensures { (t site : ℕ) (may_fail : Bool) → HasWork site may_fail (spec.body self.now.graph t) → slice_get (all_may_fail self.now.graph) site ≡ Some may_fail }
+    {
+        let _ = &self.sites;
+    }
+
+    /// The task whose body has a site.
+    pub fn site_owner(&self, site: SiteId) -> TaskId
+        requires { site.0 < length self.now.names.sites }
+        ensures task { is_task self.now.graph result.0 }
+        ensures body { mem site.0 (sites (spec.body self.now.graph result.0)) ≡ true }
+    {
+        self.sites[site.0 as usize].owner
+    }
+
     /// The task whose body starts a child; none of another kind.
     pub fn parent_of(&self, task: TaskId) -> Option<TaskId>
         requires { is_task self.now.graph task.0 }
@@ -315,5 +347,14 @@ impl Graph {
         ensures limit { result ≤ 69664 }
     {
         self.bound
+    }
+
+    /// The two are equal: the same tasks, tokens and inputs in the same order, with the same names.
+    pub fn same(&self, other: &Graph) -> bool
+        ensures { IsTrue result ↔ (self.now ≡ other.now) }
+    {
+        same_tables(&self.names, &other.names)
+            && same_origins(&self.tokens, &other.tokens)
+            && same_rows(&self.tasks, &other.tasks)
     }
 }

@@ -14,6 +14,7 @@ mod numbering;
 mod refusals;
 mod row;
 mod rows;
+mod same;
 mod starters;
 mod tables;
 mod task_options;

@@ -1,11 +1,11 @@
 //! Who starts each task, and which children are attached.
 
-ghost use Rattle.std.specs.Prelude.{◌≡◌, ◌≤◌, ◌<◌, ◌&&◌, ℕ, filter, get_or, length, map, not, slice_get, sum_by, ◌+◌, List, Some, IfOk};
+ghost use Rattle.std.specs.Prelude.{◌≡◌, ◌≤◌, ◌<◌, ◌&&◌, ◌++◌, ℕ, filter, get_or, length, map, not, slice_get, sum_by, ◌+◌, List, Some, IfOk, OnOk};
 ghost use Rattle.tpl_words.specs.Options.{attached_to_parent, deny_child_attach};
 ghost use Rattle.tpl_script.specs.Limits.{statement_count};
 ghost use Rattle.tpl_model.specs.Graph as spec;
 ghost use Rattle.tpl_graph.specs.declared.row.Starter.TheVariants.{Nobody};
-ghost use Rattle.tpl_graph.specs.Collected.{started};
+ghost use Rattle.tpl_graph.specs.Collected.{started, owned, all_owned};
 ghost use Rattle.tpl_graph.specs.Draft.{worked};
 ghost use Rattle.tpl_graph.specs.Ids.{task_number};
 ghost use Rattle.tpl_graph.specs.Kept.{EachAt};
@@ -21,7 +21,7 @@ use crate::row::{Row, Site, Starter};
 use std::alloc::{AllocError, Global};
 use tpl_words::TaskId;
 
-/// The tasks that a task starts.
+/// The tasks that a task starts; its sites are added.
 fn task_starts(
     alloc: Global,
     sites: &mut Vec<Site>,
@@ -30,7 +30,8 @@ fn task_starts(
     names: &Names,
 ) -> Result<Vec<TaskId>, AllocError>
     requires { length names.now ≤ 1024 }
-    ensures { IfOk result (λ v. numbers v ≡ started names.now (worked (task_of task.now).kind).body) }
+    ensures starts { IfOk result (λ v. numbers v ≡ started names.now (worked (task_of task.now).kind).body) }
+    ensures sites { OnOk result (sites.new.items ≡ sites.old.items ++ owned owner.0 (worked (task_of task.now).kind).body) }
 {
     let mut starts = Vec::new(alloc);
     match &task.kind {
@@ -42,7 +43,7 @@ fn task_starts(
     Ok(starts)
 }
 
-/// The tasks that each task starts, and the sites of all.
+/// The tasks that each task starts; the sites of all are added.
 pub(crate) fn all_starts(
     alloc: Global,
     sites: &mut Vec<Site>,
@@ -51,7 +52,8 @@ pub(crate) fn all_starts(
 ) -> Result<Vec<Vec<TaskId>>, AllocError>
     requires names { length names.now ≤ 1024 }
     requires tasks { length tasks.now ≤ 1024 }
-    ensures { IfOk result (λ v. map numbers v.items ≡ map (λ x. started names.now (worked x.kind).body) (map task_of tasks.now)) }
+    ensures starts { IfOk result (λ v. map numbers v.items ≡ map (λ x. started names.now (worked x.kind).body) (map task_of tasks.now)) }
+    ensures sites { OnOk result (sites.new.items ≡ sites.old.items ++ all_owned 0 (map task_of tasks.now)) }
 {
     let mut starts = Vec::new(alloc);
     for (t, task) in tasks.iter().enumerate() {

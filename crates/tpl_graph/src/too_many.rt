@@ -11,6 +11,7 @@ ghost use Rattle.tpl_graph.specs.SeenTasks.{draft_of, task_of, token_of};
 use crate::draft::{Draft, DraftKind, DraftTask, DraftToken};
 use crate::limits::{Room, room_behind};
 use crate::refusals::{linked_to, waits_for};
+use tpl_words::{MOST_INPUTS, MOST_TOKENS};
 
 /// The most statements of a body, nested ones counted.
 const MOST_STATEMENTS: u8 = 64;
@@ -27,10 +28,13 @@ const MOST_TASKS: usize = 1024;
 /// The most arguments of a task.
 const MOST_ARGUMENTS: usize = 256;
 
+/// The most sources of a linked token.
+const MOST_SOURCES: usize = 32;
+
 fn linked_to_many(token: &DraftToken) -> bool
     ensures { result ≡ nat_lt 32 (length (meaning.linked_to (token_of token.now).linked)) }
 {
-    linked_to(token).len() > 32
+    linked_to(token).len() > MOST_SOURCES
 }
 
 /// Some token is linked to more than 32 tokens.
@@ -49,7 +53,7 @@ fn sources_exceed(draft: &Draft) -> bool
 fn counts_exceed(draft: &Draft) -> bool
     ensures { result ≡ (nat_lt 16 (length (draft_of draft.now).inputs) || nat_lt 32 (length (draft_of draft.now).tokens)) }
 {
-    draft.inputs.len() > 16 || draft.tokens.len() > 32
+    draft.inputs.len() > MOST_INPUTS || draft.tokens.len() > MOST_TOKENS
 }
 
 /// There are too many inputs, tokens, or sources of a token.

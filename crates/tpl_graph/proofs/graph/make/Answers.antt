@@ -7,9 +7,11 @@ use Rattle.tpl_graph.specs.Numbered.{names_of, task_in, token_in, AreFew}
 use Rattle.tpl_graph.specs.Kept.{IsNamedGraph, AreKept}
 use Rattle.tpl_graph.specs.Rows as rows
 use Rattle.tpl_graph.specs.SeenTasks.{draft_of, task_of}
+use Rattle.tpl_graph.specs.Sites.{AreSites}
 use Rattle.tpl_graph.specs.Tables.{seen}
 use Rattle.tpl_graph.proofs.GraphLaw.{are_small, few_tasks, few_tokens}
 use Rattle.tpl_graph.proofs.KeptLaw.{is_numbered, are_kept}
+use Rattle.tpl_graph.proofs.OwnerLemmas.{are_sites}
 use Rattle.tpl_graph.proofs.WholeLaw.{are_few, is_named_graph}
 use Rattle.tpl_graph.proofs.graph.make.Goals as goal
 
@@ -31,7 +33,7 @@ pub invariant_of-result : goal.invariant_of-result
 invariant_of-result c =
     let rows_are : map rows.task_of c.in_ok-tasks.tasks.items ≡ map (task_in (names_of (draft_of c.args.draft.now))) (draft_of c.args.draft.now).tasks = c.in_ok-tasks.ensures ∙ (ap (λ (n : Names). map (task_in n) (map task_of c.deref.result.now)) c.requires.checked.names ∙ ap (λ (l : List DraftTask). map (task_in (names_of (draft_of c.args.draft.now))) (map task_of l)) c.deref.ensures.value) in
     let is = is_numbered (draft_of c.args.draft.now) (seen c.args.checked.names) c.args.checked.tokens.items c.in_ok-tasks.tasks.items c.requires.checked.names c.requires.checked.tokens rows_are in
-    subst (λ (n : Named). IsNamedGraph n × AreKept n c.in_ok-parents.parents.items c.in_ok-attached.attached.items c.bound-bound.result) (sym is) (
+    subst (λ (n : Named). IsNamedGraph n × AreKept n c.in_ok-parents.parents.items c.in_ok-attached.attached.items c.bound-bound.result × AreSites n.graph c.args.checked.sites.items) (sym is) (
       is_named_graph (draft_of c.args.draft.now) c.requires.valid c.requires.checked.inputs_once c.requires.checked.tokens_once c.requires.checked.tasks_once c.requires.checked.sites_once,
       are_kept (draft_of c.args.draft.now) c.requires.valid c.in_ok-tasks.tasks.items c.args.checked.starts.items c.args.checked.starters.items c.in_ok-parents.parents.items c.in_ok-attached.attached.items c.len.result c.bound-bound.result
           rows_are c.requires.checked.starts c.requires.checked.long c.requires.checked.starters
@@ -40,4 +42,5 @@ invariant_of-result c =
           (rw c.deref-2.ensures.value at (rw c.deref-3.ensures.value at c.in_ok-attached.ensures.each))
           (c.len.ensures ∙ (c.args.checked.tokens.ok.0 ∙ (sym (length-map c.args.checked.tokens.items rows.token_of) ∙ ap length c.requires.checked.tokens)))
           (rw c.deref-5.ensures.value at c.bound-bound.ensures),
+      are_sites (draft_of c.args.draft.now) c.args.checked.sites.items c.requires.checked.sites,
     )
