@@ -7,3 +7,5 @@ pub mod IdLemmas
 pub mod StepLemmas
 pub mod RecordLemmas
 pub mod DueLemmas
+pub mod MarkLemmas
+pub mod OneDue

@@ -8,3 +8,5 @@ pub mod Kept
 pub mod Tests
 pub mod Tokens
 pub mod Settling
+pub mod Marks
+pub mod Due

@@ -3,13 +3,15 @@
 
 mod atoms;
 mod body;
-pub mod gather;
+mod gather;
+mod law;
 mod machine;
-pub mod marks;
+mod marks;
 pub mod row;
-pub mod rows;
+mod rows;
 mod run;
 pub mod status;
 
+pub use law::one_is_due;
 pub use machine::{MOST_TOKENS, Machine};
 pub use run::{Core, Next, Refused};

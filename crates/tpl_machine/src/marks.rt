@@ -1,55 +1,70 @@
 //! What a list of events says by itself, the first event first.
 
-ghost use Rattle.std.specs.Prelude.{◌≡◌, ◌≤◌, length, reverse};
-ghost use Rattle.tpl_model.specs.Facts.{begun, released, left_body};
+ghost use Rattle.std.specs.Prelude.{◌≡◌, ◌≤◌, Some, None, length, reverse, if◌then◌else◌};
+ghost use Rattle.tpl_model.specs.Facts.{begun, begun_by};
+ghost use Rattle.tpl_machine.specs.Marks.{mark_by, latest};
 ghost use Rattle.tpl_machine.specs.Reading.{began};
 
 use tpl_model::{Act, Event};
 use tpl_words::{Actor, TaskId};
 
-/// Who began the task.
+/// An event that tells where a task stands that hasn't ended.
+#[derive(Clone, Copy, PartialEq, Eq, Debug)]
+pub enum Mark {
+    /// It was released.
+    Released,
+    /// A worker has begun its body.
+    Begun,
+    /// The worker has left its body.
+    Left,
+}
+
+/// What an act says of the task.
+fn mark_by(act: Act, task: TaskId) -> Option<Mark>
+    ensures { result ≡ mark_by act task.0 }
+{
+    match act {
+        Act::Release(other) if other.0 == task.0 => Some(Mark::Released),
+        Act::Begin(other) if other.0 == task.0 => Some(Mark::Begun),
+        Act::Leave(other) if other.0 == task.0 => Some(Mark::Left),
+        _ => None,
+    }
+}
+
+/// The newest mark of the task. The search begins with the newest event and ends with the first that it finds.
+pub fn latest(events: &[Event], task: TaskId) -> Option<Mark>
+    ensures { result ≡ latest (reverse events.now) task.0 }
+{
+    for i in (0..events.len()).rev() {
+        let found = mark_by(events[i].act, task);
+        if found.is_some() {
+            return found;
+        }
+    }
+    None
+}
+
+/// Who did the act, if it begins the task.
+fn begins(event: &Event, task: TaskId) -> Option<Actor>
+    ensures { result ≡ (if begun_by event.now.act task.0 then Some event.now.actor else None) }
+{
+    match event.act {
+        Act::Begin(other) if other.0 == task.0 => Some(event.actor),
+        _ => None,
+    }
+}
+
+/// Who began the task, which happens once in a run: the search begins with the newest event.
 pub fn begun(events: &[Event], task: TaskId) -> Option<Actor>
     ensures { result ≡ begun (reverse events.now) task.0 }
 {
-    let mut by = None;
-    for event in events {
-        if let Act::Begin(other) = event.act
-            && other.0 == task.0
-        {
-            by = Some(event.actor);
+    for i in (0..events.len()).rev() {
+        let found = begins(&events[i], task);
+        if found.is_some() {
+            return found;
         }
     }
-    by
-}
-
-/// The continuation was released.
-pub fn released(events: &[Event], task: TaskId) -> bool
-    ensures { result ≡ released (reverse events.now) task.0 }
-{
-    let mut so_far = false;
-    for event in events {
-        if let Act::Release(other) = event.act
-            && other.0 == task.0
-        {
-            so_far = true;
-        }
-    }
-    so_far
-}
-
-/// The task's worker has left its body.
-pub fn left_body(events: &[Event], task: TaskId) -> bool
-    ensures { result ≡ left_body (reverse events.now) task.0 }
-{
-    let mut so_far = false;
-    for event in events {
-        if let Act::Leave(other) = event.act
-            && other.0 == task.0
-        {
-            so_far = true;
-        }
-    }
-    so_far
+    None
 }
 
 /// The place at which the task began, counted from 1. A run has at most 69,664 events.

@@ -57,7 +57,7 @@ impl<'g> Model for Row<'g> {
 
 impl<'g> Row<'g> {
     /// The row of a task that hasn't begun, with room for the exceptions of so many tasks.
-    pub fn new(
+    pub(crate) fn new(
         alloc: Global,
         script: &'g Script,
         ended: Option<Ended>,
@@ -75,7 +75,7 @@ impl<'g> Row<'g> {
     }
 
     /// The task passes its next statement. `holds` is what the statement tests.
-    pub fn pass(&mut self, own: Option<TokenId>, holds: bool)
+    pub(crate) fn pass(&mut self, own: Option<TokenId>, holds: bool)
         ensures { self.new ≡ with_rest self.old (passed (option_map token_number own) holds self.old.rest.left) }
     {
         let outcome = body::pass(&mut self.rest, own, holds);
@@ -83,7 +83,7 @@ impl<'g> Row<'g> {
     }
 
     /// The task passes a job that has answered.
-    pub fn work(&mut self, answer: Answer)
+    pub(crate) fn work(&mut self, answer: Answer)
         ensures { self.new ≡ with_rest self.old (worked answer self.old.rest.left) }
     {
         let outcome = body::pass_job(&mut self.rest, answer);
@@ -91,7 +91,7 @@ impl<'g> Row<'g> {
     }
 
     /// The task ends, and takes over the list of exceptions for its own, which was empty.
-    pub fn end(&mut self, ended: Ended, carried: &mut Vec<TaskId>)
+    pub(crate) fn end(&mut self, ended: Ended, carried: &mut Vec<TaskId>)
         requires open { self.old.ending ≡ None }
         requires room { vec_capacity carried.old ≡ self.old.room }
         requires atoms { AreAtoms (vec_capacity carried.old) (map task_number carried.old.items) }

@@ -1,8 +1,10 @@
 //! Where a task stands.
 
-ghost use Rattle.std.specs.Prelude.{◌≡◌};
+ghost use Rattle.std.specs.Prelude.{◌≡◌, None};
 ghost use Rattle.tpl_machine.specs.Tests.{opening_of, status_from};
+ghost use Rattle.tpl_machine.specs.Marks.{status_marked};
 
+use crate::marks::Mark;
 use tpl_graph::Kind;
 use tpl_words::{Actor, Final, Status};
 
@@ -42,5 +44,17 @@ pub fn status_from(ended: Option<Final>, left: bool, begun: Option<Actor>, befor
     match begun {
         Some(_) => Status::Running,
         None => before,
+    }
+}
+
+/// Where a task stands that hasn't ended, by its newest mark.
+pub(crate) fn status_open(mark: Option<Mark>, kind: Kind, started: bool) -> Status
+    ensures { result ≡ status_marked None mark kind started }
+{
+    match mark {
+        Some(Mark::Left) => Status::WaitingForChildrenToComplete,
+        Some(Mark::Begun) => Status::Running,
+        Some(Mark::Released) => Status::WaitingToRun,
+        None => opening(kind, started, false),
     }
 }

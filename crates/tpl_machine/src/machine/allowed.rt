@@ -10,8 +10,8 @@ ghost use Rattle.tpl_laws.specs.Allowed as laws;
 ghost use Rattle.tpl_machine.specs.Body.{decision};
 
 use crate::machine::Machine;
-use crate::marks::{begun, left_body, released};
-use crate::status::{opening, status_from};
+use crate::marks::{begun, latest};
+use crate::status::status_open;
 use tpl_graph::Kind;
 use tpl_model::{Act, Event};
 use tpl_script::Stmt;
@@ -58,18 +58,13 @@ impl<'g> Machine<'g> {
         requires { is_task self.now.graph task.0 }
         ensures { result ≡ status self.now.graph self.now.inputs self.now.events task.0 }
     {
-        let events = self.events.as_slice();
-        let before = opening(
-            self.graph.kind(task),
-            self.was_started(task),
-            released(events, task),
-        );
-        status_from(
-            self.final_of(task),
-            left_body(events, task),
-            begun(events, task),
-            before,
-        )
+        match self.final_of(task) {
+            Some(status) => Status::Completed(status),
+            None => {
+                let mark = latest(self.events.as_slice(), task);
+                status_open(mark, self.graph.kind(task), self.was_started(task))
+            }
+        }
     }
 
     fn is_inactive(&self, task: TaskId) -> bool

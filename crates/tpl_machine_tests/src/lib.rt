@@ -1,0 +1,5 @@
+//! Plays on the plain machine.
+#![tactic(auto)]
+
+#[cfg(test)]
+mod tests;
