@@ -1,0 +1,208 @@
+-- What an event leaves as it was.
+use Rattle.std.proofs.Common.{◌≡◌, ℕ, suc, ◌&&◌, ◌||◌, Bool, true, false, List, [], ◌∷◌, length, Option, Some, None, refl, sym, ap, ◌∙◌, not, nat_eq, is_some}
+use Rattle.std.specs.Prelude.{if◌then◌else◌}
+use Rattle.std.proofs.lemmas.Bool.{eqb-true}
+use Rattle.tpl_words.specs.Members.{mem}
+use Rattle.tpl_words.specs.declared.status.Actor.{Actor}
+use Rattle.tpl_words.specs.declared.status.Status.{Status}
+use Rattle.tpl_words.specs.declared.finals.Final.{Final}
+use Rattle.tpl_words.specs.Options.{lazy_cancellation}
+use Rattle.tpl_script.specs.Statements.{Statements, Return, Throw, Check, Cancel, Start, Observe, Work, If, When, Nothing, ◌⨾◌}
+use Rattle.tpl_model.specs.declared.event.Act.{Act}
+use Rattle.tpl_model.specs.declared.event.Act.TheVariants.{Request, Release, Begin, Step, Worked, Leave, Close, Drop, Settle}
+use Rattle.tpl_model.specs.declared.event.Event.{Event}
+use Rattle.tpl_model.specs.Graph.{TaskGraph, TaskKind, Root, Child, Continues, WhenAll, WhenAny, kind, task, options, attached}
+use Rattle.tpl_model.specs.Facts.{Rest, Ending, begun, released, left_body, ending, ends_by, ending_by, started, starts_by, is_start, rest, requested, all_over, final_in}
+use Rattle.tpl_model.specs.Rules.{status, status_by, opening, token_requested, token_requested_by, all_ended, some_ended, can_settle, to_end}
+use Rattle.tpl_laws.specs.Allowed.{has_task, is_inactive, is_ready, is_waiting, may_start, may_not_start, may_cancel, may_drop, allowed_end, excluded_end, can_release, can_drop, can_close, can_settle_now, has_ended}
+use Rattle.tpl_laws.specs.RowTests.{implies}
+use Rattle.tpl_machine.specs.Body.{start_of}
+use Rattle.tpl_machine.specs.Rows.{is_it}
+use Rattle.tpl_fast.specs.declared.marks.Mark.{Mark}
+use Rattle.tpl_fast.specs.Marks.{acting, mark_at, noted}
+use Rattle.tpl_fast.specs.Tokens.{starting}
+use Rattle.tpl_fast.specs.Due.{is_due, awaits, waits, ender}
+use Rattle.tpl_fast.proofs.Basics.{true_false, same_number, mem_here, mem_there, decide}
+use Rattle.tpl_fast.proofs.MarkLemmas.{mark_step}
+use Rattle.tpl_fast.proofs.StateLemmas.{ending_kept}
+
+start_is : (c : ℕ) (left : Statements) → is_start c left ≡ is_it (start_of left) c
+start_is c Nothing = refl
+start_is c (Return ⨾ more) = refl
+start_is c (Throw l ⨾ more) = refl
+start_is c (Check j ⨾ more) = refl
+start_is c (Cancel j ⨾ more) = refl
+start_is c (Start d ⨾ more) = refl
+start_is c (Observe ⨾ more) = refl
+start_is c (Work s f ⨾ more) = refl
+start_is c (If i a b ⨾ more) = refl
+start_is c (When f a b ⨾ more) = refl
+
+starts_is : (c : ℕ) (act : Act) (rest : ℕ → Rest) → starts_by c act rest ≡ is_it (starting act rest) c
+starts_is c (Request j) rest = refl
+starts_is c (Release t) rest = refl
+starts_is c (Begin t) rest = refl
+starts_is c (Step t) rest = start_is c (rest t.0).left
+starts_is c (Worked t x) rest = refl
+starts_is c (Leave t) rest = refl
+starts_is c (Close t) rest = refl
+starts_is c (Drop t) rest = refl
+starts_is c (Settle t) rest = refl
+
+not_it : (o : Option ℕ) (t : ℕ) → (o ≡ Some t → ⊥) → is_it o t ≡ false
+not_it None t other = refl
+not_it (Some s) t other = go (nat_eq s t) refl
+  where
+    go : (b : Bool) → nat_eq s t ≡ b → b ≡ false
+    go true q = absurd (other (ap Some (eqb-true s t q)))
+    go false q = refl
+
+-- only a Leave, Close, Drop or Settle ends a task
+ends_ender : (g : TaskGraph) (t : ℕ) (act : Act) (begun : ℕ → Bool) (ends : ℕ → Option Ending) → ends_by g t act begun ends ≡ true → ender act ≡ Some t
+ends_ender g t (Request k) begun ends e = true_false (sym e)
+ends_ender g t (Release s) begun ends e = true_false (sym e)
+ends_ender g t (Begin s) begun ends e = true_false (sym e)
+ends_ender g t (Step s) begun ends e = true_false (sym e)
+ends_ender g t (Worked s x) begun ends e = true_false (sym e)
+ends_ender g t (Leave s) begun ends e = go (nat_eq s.0 t) (all_over (attached g t) begun ends) refl e
+  where
+    go : (b c : Bool) → nat_eq s.0 t ≡ b → (b && c) ≡ true → Some s.0 ≡ Some t
+    go true c q r = ap Some (eqb-true s.0 t q)
+    go false c q r = true_false (sym r)
+ends_ender g t (Close s) begun ends e = ap Some (eqb-true s.0 t e)
+ends_ender g t (Drop s) begun ends e = ap Some (eqb-true s.0 t e)
+ends_ender g t (Settle s) begun ends e = ap Some (eqb-true s.0 t e)
+
+same_all : (xs : List ℕ) (e e' : ℕ → Option Ending) → ((x : ℕ) → mem x xs ≡ true → e' x ≡ e x) → all_ended xs e' ≡ all_ended xs e
+same_all [] e e' same = refl
+same_all (x ∷ xs) e e' same = ap (λ o. is_some o && all_ended xs e') (same x (mem_here x xs)) ∙ ap (λ b. is_some (e x) && b) (same_all xs e e' (λ y m. same y (mem_there y x xs m)))
+
+same_some : (xs : List ℕ) (e e' : ℕ → Option Ending) → ((x : ℕ) → mem x xs ≡ true → e' x ≡ e x) → some_ended xs e' ≡ some_ended xs e
+same_some [] e e' same = refl
+same_some (x ∷ xs) e e' same = ap (λ o. is_some o || some_ended xs e') (same x (mem_here x xs)) ∙ ap (λ b. is_some (e x) || b) (same_some xs e e' (λ y m. same y (mem_there y x xs m)))
+
+same_over : (xs : List ℕ) (s s' : ℕ → Bool) (e e' : ℕ → Option Ending) → ((x : ℕ) → mem x xs ≡ true → s' x ≡ s x) → ((x : ℕ) → mem x xs ≡ true → e' x ≡ e x) → all_over xs s' e' ≡ all_over xs s e
+same_over [] s s' e e' begun same = refl
+same_over (x ∷ xs) s s' e e' begun same =
+    ap (λ b. (not b || is_some (e' x)) && all_over xs s' e') (begun x (mem_here x xs))
+    ∙ (ap (λ o. (not (s x) || is_some o) && all_over xs s' e') (same x (mem_here x xs))
+    ∙ ap (λ b. (not (s x) || is_some (e x)) && b) (same_over xs s s' e e' (λ y m. begun y (mem_there y x xs m)) (λ y m. same y (mem_there y x xs m))))
+
+same_settle : (k : TaskKind) (e e' : ℕ → Option Ending) → ((x : ℕ) → awaits k x ≡ true → e' x ≡ e x) → can_settle k e' ≡ can_settle k e
+same_settle Root e e' same = refl
+same_settle Child e e' same = refl
+same_settle (Continues a) e e' same = refl
+same_settle (WhenAll args) e e' same = same_all args e e' same
+same_settle (WhenAny args) e e' same = same_some args e e' same
+
+same_token : (o : Option ℕ) (r r' : ℕ → Bool) → ((k : ℕ) → o ≡ Some k → r' k ≡ r k) → token_requested_by o r' ≡ token_requested_by o r
+same_token None r r' same = refl
+same_token (Some k) r r' same = same k refl
+
+module _ (g : TaskGraph) (v : List Bool) (h : List Event) (e : Event) where
+  pub ending_same : (x : ℕ) → (ender e.act ≡ Some x → ⊥) → ending g v (e ∷ h) x ≡ ending g v h x
+  ending_same x other = go (ends_by g x e.act (started g v h) (ending g v h)) refl
+    where
+      go : (b : Bool) → ends_by g x e.act (started g v h) (ending g v h) ≡ b → (if b then ending_by g x (suc (length h)) e.actor e.act (rest g v h) (started g v h) (ending g v h) else ending g v h x) ≡ ending g v h x
+      go true q = absurd (other (ends_ender g x e.act (started g v h) (ending g v h) q))
+      go false q = refl
+
+  pub started_same : (c : ℕ) → (starting e.act (rest g v h) ≡ Some c → ⊥) → started g v (e ∷ h) c ≡ started g v h c
+  started_same c other = ap (λ b. b || started g v h c) (starts_is c e.act (rest g v h) ∙ not_it (starting e.act (rest g v h)) c other)
+
+  mark_same : (t : ℕ) → (acting e.act ≡ Some t → ⊥) → mark_at (e ∷ h) t ≡ mark_at h t
+  mark_same t other = mark_step e.actor e.act h t ∙ ap (λ (b : Bool). if b then noted e.actor (suc (length h)) e.act (mark_at h t) else mark_at h t) (not_it (acting e.act) t other)
+
+  -- the event says nothing of t, of what it waits for, or of its token
+  pub record Untouched (t : ℕ) : Type 0 where
+    pub other : acting e.act ≡ Some t → ⊥
+    pub unstarted : starting e.act (rest g v h) ≡ Some t → ⊥
+    pub apart : (x : ℕ) → ender e.act ≡ Some x → waits g t x ≡ true → ⊥
+    pub childless : (x : ℕ) → starting e.act (rest g v h) ≡ Some x → waits g t x ≡ true → ⊥
+    pub token : (k : ℕ) → (task g t).token ≡ Some k → requested g v (e ∷ h) k ≡ requested g v h k
+
+  module _ (t : ℕ) (u : Untouched t) where
+    own_ending : ending g v (e ∷ h) t ≡ ending g v h t
+    own_ending = ending_kept g v h e t u.other
+
+    status_same : status g v (e ∷ h) t ≡ status g v h t
+    status_same =
+        ap (λ o. status_by o (left_body (e ∷ h) t) (begun (e ∷ h) t) (opening (kind g t) (started g v (e ∷ h) t) (released (e ∷ h) t))) own_ending
+        ∙ (ap (λ b. status_by (ending g v h t) (left_body (e ∷ h) t) (begun (e ∷ h) t) (opening (kind g t) b (released (e ∷ h) t))) (started_same t u.unstarted)
+        ∙ ap (λ (m : Mark). status_by (ending g v h t) m.left m.begun (opening (kind g t) (started g v h t) m.released)) (mark_same t u.other))
+
+    or_left : (b c : Bool) → b ≡ true → (b || c) ≡ true
+    or_left true c q = refl
+    or_left false c q = true_false (sym q)
+
+    or_right : (b c : Bool) → c ≡ true → (b || c) ≡ true
+    or_right true c q = refl
+    or_right false c q = q
+
+    waited : (x : ℕ) → waits g t x ≡ true → ending g v (e ∷ h) x ≡ ending g v h x
+    waited x w = ending_same x (λ is. u.apart x is w)
+
+    by_kind : (x : ℕ) → awaits (kind g t) x ≡ true → ending g v (e ∷ h) x ≡ ending g v h x
+    by_kind x w = waited x (or_left (awaits (kind g t) x) (mem x (attached g t)) w)
+
+    by_child : (x : ℕ) → mem x (attached g t) ≡ true → waits g t x ≡ true
+    by_child x m = or_right (awaits (kind g t) x) (mem x (attached g t)) m
+
+    start_same : (k : TaskKind) → ((x : ℕ) → awaits k x ≡ true → ending g v (e ∷ h) x ≡ ending g v h x) → may_start g v (e ∷ h) t k ≡ may_start g v h t k
+    start_same Root same = refl
+    start_same Child same = refl
+    start_same (Continues a) same = ap (λ o. allowed_end (options g t) (final_in o)) (same a (same_number a))
+    start_same (WhenAll args) same = refl
+    start_same (WhenAny args) same = refl
+
+    not_start_same : (k : TaskKind) → ((x : ℕ) → awaits k x ≡ true → ending g v (e ∷ h) x ≡ ending g v h x) → may_not_start g v (e ∷ h) t k ≡ may_not_start g v h t k
+    not_start_same Root same = refl
+    not_start_same Child same = refl
+    not_start_same (Continues a) same = ap (λ o. excluded_end (options g t) (final_in o)) (same a (same_number a))
+    not_start_same (WhenAll args) same = refl
+    not_start_same (WhenAny args) same = refl
+
+    cancel_same : (k : TaskKind) → ((x : ℕ) → awaits k x ≡ true → ending g v (e ∷ h) x ≡ ending g v h x) → may_cancel g v (e ∷ h) t k ≡ may_cancel g v h t k
+    cancel_same Root same = refl
+    cancel_same Child same = refl
+    cancel_same (Continues a) same = ap (λ o. not (lazy_cancellation (options g t)) || is_some (final_in o)) (same a (same_number a))
+    cancel_same (WhenAll args) same = refl
+    cancel_same (WhenAny args) same = refl
+
+    token_same : token_requested g v (e ∷ h) t ≡ token_requested g v h t
+    token_same = same_token (task g t).token (requested g v h) (requested g v (e ∷ h)) u.token
+
+    release_same : can_release g v (e ∷ h) t ≡ can_release g v h t
+    release_same =
+        ap (λ s. has_task g t && (is_inactive s && (may_start g v (e ∷ h) t (kind g t) && not (token_requested g v (e ∷ h) t)))) status_same
+        ∙ (ap (λ b. has_task g t && (is_inactive (status g v h t) && (b && not (token_requested g v (e ∷ h) t)))) (start_same (kind g t) by_kind)
+        ∙ ap (λ b. has_task g t && (is_inactive (status g v h t) && (may_start g v h t (kind g t) && not b))) token_same)
+
+    drop_same : can_drop g v (e ∷ h) t ≡ can_drop g v h t
+    drop_same =
+        ap (λ s. has_task g t && ((is_ready s && token_requested g v (e ∷ h) t) || ((is_inactive s && (token_requested g v (e ∷ h) t && may_cancel g v (e ∷ h) t (kind g t))) || (is_inactive s && may_not_start g v (e ∷ h) t (kind g t))))) status_same
+        ∙ (ap (λ b. has_task g t && ((is_ready (status g v h t) && b) || ((is_inactive (status g v h t) && (b && may_cancel g v (e ∷ h) t (kind g t))) || (is_inactive (status g v h t) && may_not_start g v (e ∷ h) t (kind g t))))) token_same
+        ∙ (ap (λ b. has_task g t && ((is_ready (status g v h t) && token_requested g v h t) || ((is_inactive (status g v h t) && (token_requested g v h t && b)) || (is_inactive (status g v h t) && may_not_start g v (e ∷ h) t (kind g t))))) (cancel_same (kind g t) by_kind)
+        ∙ ap (λ b. has_task g t && ((is_ready (status g v h t) && token_requested g v h t) || ((is_inactive (status g v h t) && (token_requested g v h t && may_cancel g v h t (kind g t))) || (is_inactive (status g v h t) && b)))) (not_start_same (kind g t) by_kind)))
+
+    close_same : can_close g v (e ∷ h) t ≡ can_close g v h t
+    close_same =
+        ap (λ s. has_task g t && (is_waiting s && all_over (attached g t) (started g v (e ∷ h)) (ending g v (e ∷ h)))) status_same
+        ∙ ap (λ b. has_task g t && (is_waiting (status g v h t) && b)) (same_over (attached g t) (started g v h) (started g v (e ∷ h)) (ending g v h) (ending g v (e ∷ h)) (λ x m. started_same x (λ is. u.childless x is (by_child x m))) (λ x m. waited x (by_child x m)))
+
+    settle_same : can_settle_now g v (e ∷ h) t ≡ can_settle_now g v h t
+    settle_same =
+        ap (λ o. has_task g t && (not (is_some o) && can_settle (kind g t) (ending g v (e ∷ h)))) own_ending
+        ∙ ap (λ b. has_task g t && (not (is_some (ending g v h t)) && b)) (same_settle (kind g t) (ending g v h) (ending g v (e ∷ h)) by_kind)
+
+    pub due_same : is_due g v (e ∷ h) t ≡ is_due g v h t
+    due_same =
+        ap (λ b. b || (can_drop g v (e ∷ h) t || (can_close g v (e ∷ h) t || can_settle_now g v (e ∷ h) t))) release_same
+        ∙ (ap (λ b. can_release g v h t || (b || (can_close g v (e ∷ h) t || can_settle_now g v (e ∷ h) t))) drop_same
+        ∙ (ap (λ b. can_release g v h t || (can_drop g v h t || (b || can_settle_now g v (e ∷ h) t))) close_same
+        ∙ ap (λ b. can_release g v h t || (can_drop g v h t || (can_close g v h t || b))) settle_same))
+
+  pub done_same : (t : ℕ) → (acting e.act ≡ Some t → ⊥) → (starting e.act (rest g v h) ≡ Some t → ⊥) → has_ended g v (e ∷ h) t ≡ has_ended g v h t
+  done_same t other unstarted =
+      ap (λ b. implies (to_end (kind g t) b) (is_some (ending g v (e ∷ h) t))) (started_same t unstarted)
+      ∙ ap (λ o. implies (to_end (kind g t) (started g v h t)) (is_some o)) (ending_kept g v h e t other)

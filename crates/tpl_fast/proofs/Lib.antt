@@ -1,0 +1,9 @@
+pub mod Basics
+pub mod BitLemmas
+pub mod MarkLemmas
+pub mod TokenLemmas
+pub mod StateLemmas
+pub mod FrameLemmas
+pub mod IndexLemmas
+pub mod LinkLemmas
+pub mod DueLemmas

@@ -1,0 +1,132 @@
+-- The tables of requested tokens.
+use Rattle.std.proofs.Common.{◌≡◌, ℕ, zero, suc, ◌+◌, ◌<◌, ◌≤◌, ◌||◌, Bool, false, List, [], ◌∷◌, length, set, Option, Some, None, refl, sym, ap, ◌∙◌, arith, subst, inl, inr, nat_eq}
+use Rattle.std.specs.Prelude.{slice_index_or, replicate}
+use Rattle.std.proofs.Math.Path.{fun_ext}
+use Rattle.std.proofs.lemmas.Bool.{cases_eq}
+use Rattle.std.proofs.lemmas.List.{get_or-set_same, get_or-set_other, length-set}
+use Rattle.tpl_script.specs.Statements.{Statements, Return, Throw, Check, Cancel, Start, Observe, Work, If, When, Nothing, ◌⨾◌}
+use Rattle.tpl_model.specs.declared.event.Act.{Act}
+use Rattle.tpl_model.specs.declared.event.Act.TheVariants.{Request, Release, Begin, Step, Worked, Leave, Close, Drop, Settle}
+use Rattle.tpl_model.specs.declared.event.Event.{Event}
+use Rattle.tpl_model.specs.Graph.{TaskGraph, Token, Plain, Linked, token, sources, sources_of, some_in, through, within, is_token}
+use Rattle.tpl_model.specs.Facts.{Rest, requested, requested_itself, requests, is_cancel, rest}
+use Rattle.tpl_model.specs.Valid.{IsGraph, IsLinked, AreBefore}
+use Rattle.tpl_laws.specs.Runs.{RequestedByASource}
+use Rattle.tpl_machine.specs.Body.{cancel_of}
+use Rattle.tpl_machine.specs.Rows.{is_it}
+use Rattle.tpl_graph.specs.Named.{Named}
+use Rattle.tpl_machine.specs.Journal.{Journal, opened, after}
+use Rattle.tpl_fast.specs.declared.marks.Mark.{Mark}
+use Rattle.tpl_fast.specs.Marks.{AreMarks}
+use Rattle.tpl_fast.specs.Tokens.{asks, AreAsked, IsTable}
+use Rattle.tpl_fast.specs.Kept.{IsKept}
+
+pub all_false : (n k : ℕ) → slice_index_or (replicate n false) k false ≡ false
+all_false zero k = refl
+all_false (suc n) zero = refl
+all_false (suc n) (suc k) = all_false n k
+
+same_in : (f f' : ℕ → Bool) (i : ℕ) (xs : List ℕ) → AreBefore i xs → ((k : ℕ) → k < i → f k ≡ f' k) → some_in f xs ≡ some_in f' xs
+same_in f f' i [] before same = refl
+same_in f f' i (x ∷ xs) before same = ap (λ b. b || some_in f xs) (same x before.0) ∙ ap (λ b. f' x || b) (same_in f f' i xs before.1 same)
+
+are_before : (i : ℕ) (k : Token) → IsLinked i k → AreBefore i (sources_of k)
+are_before i Plain linked = tt
+are_before i (Linked xs) linked = linked.0
+
+pub table_step : (g : TaskGraph) (v : List Bool) (h : List Event) (table : List Bool) (i : ℕ) (xs : List ℕ) (marked : Bool) → RequestedByASource → IsGraph g → i < length g.tokens → xs ≡ sources g i → marked ≡ (slice_index_or table i false || some_in (λ k. slice_index_or table k false) xs) → IsTable g v h table i → IsTable g v h (set table i marked) (i + 1)
+table_step g v h table i xs marked law valid lt xs_are is t =
+    let room : i < length table = let a = valid.tokens in let b = t.count in omega arith in
+    let here : marked ≡ requested g v h i =
+    is
+    ∙ (ap (λ b. b || some_in (λ k. slice_index_or table k false) xs) (t.above i (omega arith) lt)
+    ∙ (ap (λ ys. requested_itself g v h i || some_in (λ k. slice_index_or table k false) ys) xs_are
+    ∙ (ap (λ b. requested_itself g v h i || b) (same_in (λ k. slice_index_or table k false) (requested g v h) i (sources g i) (are_before i (token g i) (valid.links i lt)) t.below)
+    ∙ sym (law g v h i)))) in
+    record {
+      below = λ k below. elim (cases_eq k i) [
+        | inl same ↦ subst (λ j. slice_index_or (set table i marked) j false ≡ requested g v h j) (sym same) (get_or-set_same table i marked false room ∙ here)
+        | inr apart ↦ get_or-set_other table i k marked false apart ∙ t.below k (omega arith)
+      ];
+      above = λ k above within. get_or-set_other table i k marked false (λ (same : k ≡ i). omega arith) ∙ t.above k (omega arith) within;
+      count = length-set table i marked ∙ t.count;
+    }
+
+-- where no token was requested itself since, none is requested
+pub asked_still : (g : TaskGraph) (v : List Bool) (h later : List Event) (itself closed : List Bool) → AreAsked g v h itself closed → ((k : ℕ) → requested_itself g v later k ≡ requested_itself g v h k) → AreAsked g v later itself closed
+asked_still g v h later itself closed a same = record {
+  each_itself = λ k within. a.each_itself k within ∙ sym (same k);
+  each = λ k within. a.each k within ∙ ap (λ (f : ℕ → Bool). through g f k) (sym (fun_ext same));
+  itself_count = a.itself_count;
+  count = a.count;
+}
+
+pub asked_also : (g : TaskGraph) (v : List Bool) (h later : List Event) (itself itself' closed closed' : List Bool) (token : Option ℕ) → IsGraph g → AreAsked g v h itself closed → ((k : ℕ) → requested_itself g v later k ≡ (is_it token k || requested_itself g v h k)) → ((k : ℕ) → k < 32 → slice_index_or itself' k false ≡ (is_it token k || slice_index_or itself k false)) → length itself' ≡ length itself → (IsTable g v later itself' 0 → IsTable g v later closed' (length g.tokens)) → AreAsked g v later itself' closed'
+asked_also g v h later itself itself' closed closed' token valid a more marks count closes =
+    let each : (k : ℕ) → is_token g k → slice_index_or itself' k false ≡ requested_itself g v later k = λ k within. marks k (let few = valid.tokens in omega arith) ∙ (ap (λ b. is_it token k || b) (a.each_itself k within) ∙ sym (more k)) in
+    let long : length itself' ≡ 32 = count ∙ a.itself_count in
+    let table : IsTable g v later closed' (length g.tokens) = closes (record { below = λ k (lt : k < 0). absurd (omega arith); above = λ k le within. each k within; count = long }) in
+    record { each_itself = each; each = table.below; itself_count = long; count = table.count }
+
+cancel_is : (k : ℕ) (left : Statements) → is_cancel k left ≡ is_it (cancel_of left) k
+cancel_is k Nothing = refl
+cancel_is k (Return ⨾ more) = refl
+cancel_is k (Throw l ⨾ more) = refl
+cancel_is k (Check j ⨾ more) = refl
+cancel_is k (Cancel j ⨾ more) = refl
+cancel_is k (Start d ⨾ more) = refl
+cancel_is k (Observe ⨾ more) = refl
+cancel_is k (Work s f ⨾ more) = refl
+cancel_is k (If i a b ⨾ more) = refl
+cancel_is k (When f a b ⨾ more) = refl
+
+asks_is : (k : ℕ) (act : Act) (rest : ℕ → Rest) → requests k act rest ≡ is_it (asks act rest) k
+asks_is k (Request j) rest = refl
+asks_is k (Release t) rest = refl
+asks_is k (Begin t) rest = refl
+asks_is k (Step t) rest = cancel_is k (rest t.0).left
+asks_is k (Worked t x) rest = refl
+asks_is k (Leave t) rest = refl
+asks_is k (Close t) rest = refl
+asks_is k (Drop t) rest = refl
+asks_is k (Settle t) rest = refl
+
+-- one more event requests what it asks
+pub itself_after : (g : TaskGraph) (v : List Bool) (h : List Event) (e : Event) (token : Option ℕ) → token ≡ asks e.act (rest g v h) → (k : ℕ) → requested_itself g v (e ∷ h) k ≡ (is_it token k || requested_itself g v h k)
+itself_after g v h e token is k = ap (λ b. b || requested_itself g v h k) (asks_is k e.act (rest g v h) ∙ ap (λ o. is_it o k) (sym is))
+
+none_in : (f : ℕ → Bool) (xs : List ℕ) → ((k : ℕ) → f k ≡ false) → some_in f xs ≡ false
+none_in f [] quiet = refl
+none_in f (x ∷ xs) quiet = ap (λ b. b || some_in f xs) (quiet x) ∙ none_in f xs quiet
+
+none_within : (g : TaskGraph) (f : ℕ → Bool) (n k : ℕ) → ((j : ℕ) → f j ≡ false) → within g f n k ≡ false
+none_within g f zero k quiet = quiet k
+none_within g f (suc n) k quiet = ap (λ b. b || some_in (within g f n) (sources g k)) (quiet k) ∙ none_in (within g f n) (sources g k) (λ j. none_within g f n j quiet)
+
+-- before the first event
+asked_none : (g : TaskGraph) (v : List Bool) (itself closed : List Bool) → length itself ≡ 32 → length closed ≡ 32 → ((k : ℕ) → slice_index_or itself k false ≡ false) → ((k : ℕ) → slice_index_or closed k false ≡ false) → AreAsked g v [] itself closed
+asked_none g v itself closed many many' off off' = record {
+  each_itself = λ k within. off k;
+  each = λ k within. off' k ∙ sym (none_within g (requested_itself g v []) (length g.tokens) k (λ j. refl));
+  itself_count = many;
+  count = many';
+}
+
+pub kept_open : (j : Journal) (n : Named) (v : List Bool) (list : List Mark) (itself closed : List Bool) → j ≡ opened n v → AreMarks (length n.graph.tasks) [] list → length itself ≡ 32 → length closed ≡ 32 → ((k : ℕ) → slice_index_or itself k false ≡ false) → ((k : ℕ) → slice_index_or closed k false ≡ false) → IsKept j n list itself closed
+kept_open j n v list itself closed is marks many many' off off' =
+    subst (λ (x : Journal). IsKept x n list itself closed) (sym is)
+    (record { graph = refl; names = refl; marks = marks; tokens = asked_none n.graph v itself closed many many' off off' })
+
+tokens_after : (g g' : TaskGraph) (v : List Bool) (h : List Event) (e : Event) (token : Option ℕ) (itself itself' closed closed' : List Bool) → g' ≡ g → ((v : List Bool) (h later : List Event) → AreAsked g' v h itself closed → ((k : ℕ) → requested_itself g' v later k ≡ (is_it token k || requested_itself g' v h k)) → AreAsked g' v later itself' closed') → token ≡ asks e.act (rest g v h) → AreAsked g v h itself closed → AreAsked g v (e ∷ h) itself' closed'
+tokens_after g g' v h e token itself itself' closed closed' same ask =
+    subst (λ (x : TaskGraph). token ≡ asks e.act (rest x v h) → AreAsked x v h itself closed → AreAsked x v (e ∷ h) itself' closed') same
+    (λ is a. ask v h (e ∷ h) a (itself_after g' v h e token is))
+
+-- what is kept, one event later
+pub kept_after : (j : Journal) (n : Named) (list list' : List Mark) (itself itself' closed closed' : List Bool) (e : Event) (token : Option ℕ) (place : ℕ) → IsKept j n list itself closed → place ≡ suc (length j.events) → token ≡ asks e.act (rest j.graph j.inputs j.events) → ((m : ℕ) (h : List Event) → place ≡ suc (length h) → AreMarks m h list → AreMarks m (e ∷ h) list') → ((v : List Bool) (h later : List Event) → AreAsked n.graph v h itself closed → ((k : ℕ) → requested_itself n.graph v later k ≡ (is_it token k || requested_itself n.graph v h k)) → AreAsked n.graph v later itself' closed') → IsKept (after j e) n list' itself' closed'
+kept_after j n list list' itself itself' closed closed' e token place k place_is token_is notes ask = record {
+  graph = k.graph;
+  names = k.names;
+  marks = notes (length j.graph.tasks) j.events place_is k.marks;
+  tokens = tokens_after j.graph n.graph j.inputs j.events e token itself itself' closed closed' k.graph ask token_is k.tokens;
+}

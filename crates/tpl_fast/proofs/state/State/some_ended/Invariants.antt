@@ -1,0 +1,10 @@
+use Rattle.std.proofs.Common.{◌≡◌, drop, map}
+use Rattle.tpl_model.specs.Facts.{ending}
+use Rattle.tpl_model.specs.Rules.{some_ended}
+use Rattle.tpl_graph.specs.Ids.{task_number}
+use Rattle.tpl_fast.proofs.state.State.some_ended.Given as goal
+
+abbrev pub invariant-loop-task : goal.invariant-loop-task
+invariant-loop-task l =
+    some_ended (map task_number (drop l.task-index l.tasks)) (ending l.self.graph l.self.inputs l.self.events)
+    ≡ some_ended (map task_number l.tasks) (ending l.self.graph l.self.inputs l.self.events)

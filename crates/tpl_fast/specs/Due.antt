@@ -1,0 +1,78 @@
+-- What is due, what a task waits for, and who is told when that changes.
+use Rattle.std.specs.Prelude.{◌≡◌, ℕ, ◌<◌, ◌≤◌, ◌||◌, Bool, true, false, Option, Some, None, List, [], length, map, slice_get, nat_eq, not}
+use Rattle.std.specs.declared.vec.Vec.{Vec}
+use Rattle.std.specs.declared.alloc.Global.{Global}
+use Rattle.tpl_words.specs.declared.ids.TaskId.{TaskId}
+use Rattle.tpl_words.specs.Members.{mem}
+use Rattle.tpl_words.specs.TaskSet.{is_set}
+use Rattle.tpl_model.specs.declared.event.Act.{Act}
+use Rattle.tpl_model.specs.declared.event.Act.TheVariants.{Leave, Close, Drop, Settle}
+use Rattle.tpl_model.specs.declared.event.Event.{Event}
+use Rattle.tpl_model.specs.Graph.{TaskGraph, TaskKind, Continues, WhenAll, WhenAny, kind, task, attached, is_task}
+use Rattle.tpl_graph.specs.Ids.{task_number}
+use Rattle.tpl_laws.specs.Allowed.{can_release, can_drop, can_close, can_settle_now, has_ended}
+use Rattle.tpl_machine.specs.Journal.{Journal}
+
+-- the task's Release, Drop, Close or Settle is allowed
+abbrev pub is_due : TaskGraph → List Bool → List Event → ℕ → Bool
+is_due g v h t = can_release g v h t || (can_drop g v h t || (can_close g v h t || can_settle_now g v h t))
+
+-- a task of this kind waits for x
+abbrev pub awaits : TaskKind → ℕ → Bool
+awaits (Continues a) x = nat_eq a x
+awaits (WhenAll args) x = mem x args
+awaits (WhenAny args) x = mem x args
+awaits kind x = false
+
+-- t waits for x: it continues x, x is one of its arguments, or x is one of its attached children
+abbrev pub waits : TaskGraph → ℕ → ℕ → Bool
+waits g t x = awaits (kind g t) x || mem x (attached g t)
+
+-- the task that an act may end
+abbrev pub ender : Act → Option ℕ
+ender (Leave t) = Some t.0
+ender (Close t) = Some t.0
+ender (Drop t) = Some t.0
+ender (Settle t) = Some t.0
+ender act = None
+
+-- t is in the x-th of the lists
+abbrev pub in_some : Option (Vec TaskId Global) → ℕ → Bool
+in_some None t = false
+in_some (Some list) t = mem t (map task_number list.items)
+
+abbrev pub is_told : List (Vec TaskId Global) → ℕ → ℕ → Bool
+is_told lists x t = in_some (slice_get lists x) t
+
+-- whoever was told still is
+abbrev pub Keep : (before now : List (Vec TaskId Global)) → Type 0
+Keep before now = (x t : ℕ) → is_told before x t ≡ true → is_told now x t ≡ true
+
+-- each task is told of each task that it waits for, and of its own token
+pub record AreTold (g : TaskGraph) (waiters owners : List (Vec TaskId Global)) : Type 0 where
+  pub waiting : (t x : ℕ) → is_task g t → is_task g x → waits g t x ≡ true → is_told waiters x t ≡ true
+  pub owning : (t k : ℕ) → is_task g t → (task g t).token ≡ Some k → is_told owners k t ≡ true
+
+-- the set says rightly whether t has something due, and whether t must still end
+abbrev pub IsRight : Journal → List ℕ → ℕ → Type 0
+IsRight j due t = is_set due t ≡ is_due j.graph j.inputs j.events t
+
+abbrev pub IsOpenRight : Journal → List ℕ → ℕ → Type 0
+IsOpenRight j unended t = is_set unended t ≡ not (has_ended j.graph j.inputs j.events t)
+
+-- what the set says rightly it still does, and nothing past the last task changes
+pub record Keeps (j : Journal) (right : ℕ → List ℕ → Type 0) (before now : List ℕ) : Type 0 where
+  pub still : (t : ℕ) → right t before → right t now
+  pub outside : (t : ℕ) → length j.graph.tasks ≤ t → is_set now t ≡ is_set before t
+
+-- in the first set are the tasks that have something due, in the second those that must still end
+pub record AreSets (j : Journal) (due unended : List ℕ) : Type 0 where
+  pub each_due : (t : ℕ) → is_task j.graph t → IsRight j due t
+  pub none_due : (t : ℕ) → length j.graph.tasks ≤ t → is_set due t ≡ false
+  pub each_open : (t : ℕ) → is_task j.graph t → IsOpenRight j unended t
+  pub none_open : (t : ℕ) → length j.graph.tasks ≤ t → is_set unended t ≡ false
+
+-- what is kept beside the run
+pub record IsIndexed (j : Journal) (due unended : List ℕ) (waiters owners : List (Vec TaskId Global)) : Type 0 where
+  pub sets : AreSets j due unended
+  pub told : AreTold j.graph waiters owners

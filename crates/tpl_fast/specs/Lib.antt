@@ -1,0 +1,4 @@
+pub mod Marks
+pub mod Tokens
+pub mod Kept
+pub mod Due

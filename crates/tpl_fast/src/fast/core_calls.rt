@@ -1,0 +1,89 @@
+//! The calls of `Core`.
+
+use crate::fast::Fast;
+use tpl_graph::Graph;
+use tpl_laws::allowed::{can_is_right, is_complete_is_right};
+use tpl_machine::{Core, Next, Refused};
+use tpl_model::{Act, Event};
+use tpl_words::{InputId, Label, Status, TaskId, TokenId};
+
+impl<'g> Core for Fast<'g> {
+    ghost journal = { λ m. m };
+
+    fn step(&mut self, event: Event) -> Result<(), Refused> {
+        can_is_right();
+        if !self.state.allows(event) {
+            return Err(Refused);
+        }
+        self.record(event);
+        Ok(())
+    }
+
+    fn events(&self) -> &[Event] {
+        self.state.machine().events()
+    }
+
+    fn graph(&self) -> &Graph {
+        self.state.graph()
+    }
+
+    fn is_run(&self) {
+        self.state.is_run();
+    }
+
+    fn input(&self, input: InputId) -> bool {
+        self.state.machine().input(input)
+    }
+
+    fn status(&self, task: TaskId) -> Status {
+        self.state.status_of(task)
+    }
+
+    fn requested(&self, token: TokenId) -> bool {
+        self.state.asked(token)
+    }
+
+    fn next(&self, task: TaskId) -> Next {
+        match self.state.status_of(task) {
+            Status::Running => self.state.row(task).next(),
+            _ => Next::NotRunning,
+        }
+    }
+
+    fn label(&self, task: TaskId) -> Option<Label> {
+        self.state.row(task).label()
+    }
+
+    fn carried(&self, task: TaskId) -> &[TaskId] {
+        self.state.row(task).carried()
+    }
+
+    fn seen(&self, task: TaskId) -> bool {
+        self.state.machine().seen(task)
+    }
+
+    fn winner(&self, task: TaskId) -> Option<TaskId> {
+        self.state.row(task).winner()
+    }
+
+    fn started(&self, task: TaskId) -> bool {
+        self.state.was_started(task)
+    }
+
+    fn began(&self, task: TaskId) -> Option<u32> {
+        self.state.mark(task).began
+    }
+
+    fn ended(&self, task: TaskId) -> Option<u32> {
+        self.state.row(task).place()
+    }
+
+    fn complete(&self) -> bool {
+        is_complete_is_right();
+        self.all_done()
+    }
+
+    fn due(&self) -> Option<Act> {
+        self.first_due()
+    }
+}

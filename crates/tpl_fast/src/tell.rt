@@ -1,0 +1,140 @@
+//! Who is told of an event: each task of which it may change what is due.
+
+ghost use Rattle.std.specs.Prelude.{◌≡◌, ℕ, ◌≤◌, length, map, slice_index_or, true, false, Some};
+ghost use Rattle.std.specs.Option.{option_map};
+ghost use Rattle.tpl_words.specs.Members.{mem};
+ghost use Rattle.tpl_words.specs.TaskSet.{is_set};
+ghost use Rattle.tpl_model.specs.Graph as spec;
+ghost use Rattle.tpl_model.specs.Graph.{is_task, is_token};
+ghost use Rattle.tpl_model.specs.Facts.{requested};
+ghost use Rattle.tpl_graph.specs.Ids.{task_number};
+ghost use Rattle.tpl_fast.specs.Due.{IsRight, IsOpenRight, Keeps, AreTold, waits, ender};
+
+use crate::bits::Bits;
+use crate::links::Links;
+use crate::state::State;
+use tpl_machine::MOST_TOKENS;
+use tpl_model::Act;
+use tpl_words::{TaskId, TokenId};
+
+/// The task that an act may end.
+pub(crate) fn ender_of(act: Act) -> Option<TaskId>
+    ensures { option_map task_number result ≡ ender act }
+{
+    match act {
+        Act::Leave(task) => Some(task),
+        Act::Close(task) => Some(task),
+        Act::Drop(task) => Some(task),
+        Act::Settle(task) => Some(task),
+        _ => None,
+    }
+}
+
+/// Notes whether the task has something due.
+fn refresh(due: &mut Bits, state: &State, task: TaskId)
+    ensures told { is_task state.now.graph task.0 → IsRight state.now due.new task.0 }
+    ensures kept { Keeps state.now (λ t s. IsRight state.now s t) due.old due.new }
+{
+    state.is_run();
+    if state.has_task(task) {
+        let is_due = state.is_due(task);
+        due.put(task, is_due);
+    }
+}
+
+/// Notes whether each of the tasks has something due.
+fn refresh_each(due: &mut Bits, state: &State, tasks: &[TaskId])
+    ensures told { (t : ℕ) → mem t (map task_number tasks.now) ≡ true → is_task state.now.graph t → IsRight state.now due.new t }
+    ensures kept { Keeps state.now (λ t s. IsRight state.now s t) due.old due.new }
+{
+    for task in tasks {
+        refresh(due, state, *task);
+    }
+}
+
+/// Tells a task of itself, if there is one.
+pub(crate) fn tell(due: &mut Bits, state: &State, task: Option<TaskId>)
+    ensures told { (t : ℕ) → option_map task_number task ≡ Some t → is_task state.now.graph t → IsRight state.now due.new t }
+    ensures kept { Keeps state.now (λ t s. IsRight state.now s t) due.old due.new }
+{
+    if let Some(task) = task {
+        refresh(due, state, task);
+    }
+}
+
+/// Tells of a task those that wait for it.
+pub(crate) fn tell_waiters(due: &mut Bits, state: &State, links: &Links, task: Option<TaskId>)
+    requires { AreTold state.now.graph links.now.waiters.items links.now.owners.items }
+    ensures told { (t x : ℕ) → option_map task_number task ≡ Some x → waits state.now.graph t x ≡ true → is_task state.now.graph t → is_task state.now.graph x → IsRight state.now due.new t }
+    ensures kept { Keeps state.now (λ t s. IsRight state.now s t) due.old due.new }
+{
+    if let Some(task) = task {
+        refresh_each(due, state, links.waiters(task));
+    }
+}
+
+/// Tells of a token the tasks whose own it is, if it wasn't requested before.
+fn tell_owners(due: &mut Bits, state: &State, links: &Links, token: TokenId, before: bool)
+    requires token { is_token state.now.graph token.0 }
+    requires links { AreTold state.now.graph links.now.waiters.items links.now.owners.items }
+    ensures told { let j = state.now in (t : ℕ) → (spec.task j.graph t).token ≡ Some token.0 → is_task j.graph t → (requested j.graph j.inputs j.events token.0 ≡ before → ⊥) → IsRight j due.new t }
+    ensures kept { Keeps state.now (λ t s. IsRight state.now s t) due.old due.new }
+{
+    if state.asked(token) != before {
+        refresh_each(due, state, links.owners(token));
+    }
+}
+
+/// Tells of each token that wasn't requested before, and is now, the tasks whose own it is.
+pub(crate) fn tell_all_owners(
+    due: &mut Bits,
+    state: &State,
+    links: &Links,
+    before: &[bool; MOST_TOKENS],
+)
+    requires { AreTold state.now.graph links.now.waiters.items links.now.owners.items }
+    ensures told { let j = state.now in (t k : ℕ) → (spec.task j.graph t).token ≡ Some k → is_task j.graph t → is_token j.graph k → (requested j.graph j.inputs j.events k ≡ slice_index_or before.now k false → ⊥) → IsRight j due.new t }
+    ensures kept { Keeps state.now (λ t s. IsRight state.now s t) due.old due.new }
+{
+    for i in 0..state.graph().token_count() {
+        tell_owners(due, state, links, TokenId(i as u8), before[i]);
+    }
+}
+
+/// Notes whether a task must still end, if there is one.
+pub(crate) fn note_open(unended: &mut Bits, state: &State, task: Option<TaskId>)
+    ensures told { (t : ℕ) → option_map task_number task ≡ Some t → is_task state.now.graph t → IsOpenRight state.now unended.new t }
+    ensures kept { Keeps state.now (λ t s. IsOpenRight state.now s t) unended.old unended.new }
+{
+    state.is_run();
+    if let Some(task) = task
+        && state.has_task(task)
+    {
+        let is_done = state.is_done(task);
+        unended.put(task, !is_done);
+    }
+}
+
+/// The tasks that have something due.
+pub(crate) fn all_due(state: &State) -> Bits
+    ensures each { (t : ℕ) → is_task state.now.graph t → IsRight state.now result t }
+    ensures none { (t : ℕ) → length state.now.graph.tasks ≤ t → is_set result t ≡ false }
+{
+    let mut due = Bits::none();
+    for i in 0..state.graph().len() {
+        refresh(&mut due, state, TaskId(i as u16));
+    }
+    due
+}
+
+/// The tasks that must still end.
+pub(crate) fn all_open(state: &State) -> Bits
+    ensures each { (t : ℕ) → is_task state.now.graph t → IsOpenRight state.now result t }
+    ensures none { (t : ℕ) → length state.now.graph.tasks ≤ t → is_set result t ≡ false }
+{
+    let mut unended = Bits::none();
+    for i in 0..state.graph().len() {
+        note_open(&mut unended, state, Some(TaskId(i as u16)));
+    }
+    unended
+}

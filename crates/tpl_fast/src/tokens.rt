@@ -1,0 +1,120 @@
+//! Which tokens are requested.
+
+ghost use Rattle.std.specs.Prelude.{◌≡◌, ℕ, ◌<◌, ◌||◌, Bool, List, length, map, slice_index_or, false};
+ghost use Rattle.std.specs.Option.{option_map};
+ghost use Rattle.tpl_model.specs.declared.event.Event.{Event as SpecEvent};
+ghost use Rattle.tpl_model.specs.Graph.{some_in, is_token};
+ghost use Rattle.tpl_model.specs.Facts.{requested_itself};
+ghost use Rattle.tpl_graph.specs.Ids.{token_number};
+ghost use Rattle.tpl_machine.specs.Rows.{is_it};
+ghost use Rattle.tpl_fast.specs.Tokens.{AreAsked, IsTable};
+
+use tpl_graph::Graph;
+use tpl_laws::requested_by_a_source;
+use tpl_machine::MOST_TOKENS;
+use tpl_words::TokenId;
+
+/// The tokens that were requested themselves, and those that are requested, themselves or through their sources.
+#[derive(Clone, Copy)]
+pub(crate) struct Asked {
+    itself: [bool; MOST_TOKENS],
+    closed: [bool; MOST_TOKENS],
+}
+
+/// No token is requested.
+fn none() -> [bool; MOST_TOKENS]
+    ensures off { (k : ℕ) → slice_index_or result k false ≡ false }
+    ensures many { length result ≡ 32 }
+{
+    [false; MOST_TOKENS]
+}
+
+/// One of the tokens is marked in the table.
+fn some_in(table: &[bool; MOST_TOKENS], tokens: &[TokenId]) -> bool
+    ensures { result ≡ some_in (λ k. slice_index_or table.now k false) (map token_number tokens.now) }
+{
+    for token in tokens {
+        let at = token.0 as usize;
+        if at < MOST_TOKENS && table[at] {
+            return true;
+        }
+    }
+    false
+}
+
+/// A token or one of its sources is marked in the table.
+fn is_marked(table: &[bool; MOST_TOKENS], token: TokenId, sources: &[TokenId]) -> bool
+    requires { token.0 < MOST_TOKENS }
+    ensures { result ≡ (slice_index_or table.now token.0 false || some_in (λ k. slice_index_or table.now k false) (map token_number sources.now)) }
+{
+    table[token.0 as usize] || some_in(table, sources)
+}
+
+/// Which tokens are requested, by those that were requested themselves.
+fn close(itself: &[bool; MOST_TOKENS], graph: &Graph) -> [bool; MOST_TOKENS]
+    ensures { (v : List Bool) (h : List SpecEvent) → IsTable graph.now.graph v h itself.now 0 → IsTable graph.now.graph v h result (length graph.now.graph.tokens) }
+{
+    graph.valid();
+    requested_by_a_source();
+    let mut table = *itself;
+    for i in 0..graph.token_count() {
+        let token = TokenId(i as u8);
+        let marked = is_marked(&table, token, graph.sources(token));
+        table[i] = marked;
+    }
+    table
+}
+
+/// Marks the token.
+fn mark(table: &mut [bool; MOST_TOKENS], token: TokenId)
+    ensures marks { (k : ℕ) → k < MOST_TOKENS → slice_index_or table.new k false ≡ (is_it (option_map token_number (Some token)) k || slice_index_or table.old k false) }
+    ensures count { length table.new ≡ length table.old }
+{
+    let at = token.0 as usize;
+    if at < MOST_TOKENS {
+        table[at] = true;
+    }
+}
+
+impl Asked {
+    /// No token is requested.
+    pub fn none() -> Asked
+        ensures itself { (k : ℕ) → slice_index_or result.itself k false ≡ false }
+        ensures closed { (k : ℕ) → slice_index_or result.closed k false ≡ false }
+        ensures itself_count { length result.itself ≡ 32 }
+        ensures count { length result.closed ≡ 32 }
+    {
+        Asked {
+            itself: none(),
+            closed: none(),
+        }
+    }
+
+    /// The token is requested.
+    pub fn has(&self, token: TokenId) -> bool
+        ensures { result ≡ slice_index_or self.now.closed token.0 false }
+    {
+        let at = token.0 as usize;
+        at < MOST_TOKENS && self.closed[at]
+    }
+
+    /// Which tokens are requested.
+    pub fn all(&self) -> [bool; MOST_TOKENS]
+        ensures { result ≡ self.now.closed }
+    {
+        self.closed
+    }
+
+    /// One more token is requested, if there is one, and with it those that are linked to it.
+    pub fn request(&mut self, token: Option<TokenId>, graph: &Graph)
+        ensures { (v : List Bool) (h later : List SpecEvent) → AreAsked graph.now.graph v h self.old.itself self.old.closed
+            → ((k : ℕ) → requested_itself graph.now.graph v later k ≡ (is_it (option_map token_number token) k || requested_itself graph.now.graph v h k))
+            → AreAsked graph.now.graph v later self.new.itself self.new.closed }
+    {
+        graph.valid();
+        if let Some(token) = token {
+            mark(&mut self.itself, token);
+            self.closed = close(&self.itself, graph);
+        }
+    }
+}
