@@ -1,13 +1,10 @@
 -- What is written for a tree spells the tree.
-use Rattle.std.proofs.Common.{◌≡◌, ℕ, zero, suc, ◌+◌, ◌<◌, ◌≤◌, ◌&&◌, ◌||◌, List, [], ◌∷◌, ◌++◌, length, get_or, take, map, Bool, true, false, Option, Some, None, nat_eq, nat_lt, is_some, refl, sym, ap, subst, ◌∙◌, arith, true≢false}
-use Rattle.std.specs.Prelude.{slice_index_or}
-use Rattle.std.specs.List.{list_all, list_any, position}
-use Rattle.std.specs.Str.{bytes_eq}
+use Rattle.std.proofs.Common.{◌≡◌, ℕ, ◌&&◌, List, [], ◌∷◌, map, Bool, true, false, refl, ap}
+use Rattle.std.specs.List.{list_all, list_any}
 use Rattle.serde_json.specs.Data.{Data, string, array}
 use Rattle.serde_json.specs.View.{items_of}
 use Rattle.tpl_words.specs.declared.finals.Final.{Final}
 use Rattle.tpl_words.specs.declared.finals.Final.TheVariants.{RanToCompletion, Canceled, Faulted}
-use Rattle.tpl_words.specs.declared.finals.Finals.{Finals}
 use Rattle.tpl_words.specs.Finals.{has, is_final, final_name}
 use Rattle.tpl_words.specs.Members.{mem}
 use Rattle.tpl_words.specs.TaskSet.{IsTaskSet}
@@ -15,11 +12,11 @@ use Rattle.tpl_model.specs.Certificate.{Row, Tree}
 use Rattle.tpl_model.specs.Certificate as tree
 use Rattle.tpl_graph.specs.Named.{Names}
 use Rattle.tpl_graph.specs.Names.{some_twice}
-use Rattle.tpl_cert.specs.Members.{has_only, elements, list_in}
+use Rattle.tpl_cert.specs.Members.{has_only, elements}
 use Rattle.tpl_cert.specs.NamedTrees.{NamedRow, NamedTree, SplitInput, SplitEnd, Leaf}
-use Rattle.tpl_cert.specs.Grammar.{IsArray, IsTexts, HasTexts, HasMember, AreFinals, IsRow, AreRows, IsTree}
-use Rattle.tpl_cert.specs.Naming.{number_of, is_declared, are_declared, AreNumbers, is_number, does_name, IsSetOf, IsRowOf, AreRowsOf, IsTreeOf}
-use Rattle.tpl_cert.specs.Written.{texts_data, word_if, words_of, row_data, tree_data, name_at, is_id, named_row, named, has_row_ids, has_ids, AreTaskSets, HasTaskSets}
+use Rattle.tpl_cert.specs.Grammar.{IsArray, IsTexts, AreFinals, IsRow, AreRows, IsTree}
+use Rattle.tpl_cert.specs.Naming.{are_declared, AreNumbers, does_name, IsSetOf, IsRowOf, AreRowsOf, IsTreeOf}
+use Rattle.tpl_cert.specs.Written.{texts_data, words_of, row_data, tree_data, name_at, is_id, named_row, named, has_row_ids, has_ids, AreTaskSets, HasTaskSets}
 use Rattle.tpl_cert.specs.Spelled.{SpellsTree}
 use Rattle.tpl_cert.proofs.Json.{some}
 use Rattle.tpl_cert.proofs.Unique.{number_of-name_at}

@@ -1,15 +1,15 @@
 -- The ids of a tree, one after another.
-use Rattle.std.proofs.Common.{◌≡◌, ℕ, ◌+◌, ◌<◌, ◌≤◌, ◌&&◌, List, [], ◌∷◌, ◌++◌, length, get_or, take, map, Bool, true, false, refl, arith, ap, ◌∙◌}
+use Rattle.std.proofs.Common.{◌≡◌, ℕ, ◌+◌, ◌<◌, ◌≤◌, List, [], ◌∷◌, ◌++◌, length, get_or, take, map, Bool, true, refl, ap}
 use Rattle.std.specs.List.{list_all}
 use Rattle.std.proofs.lemmas.List.{take_more, map_push, take_all}
 use Rattle.std.proofs.lemmas.List.Folds.{list_all-append}
-use Rattle.serde_json.specs.Data.{Data, string}
+use Rattle.serde_json.specs.Data.{Data}
 use Rattle.tpl_words.specs.TaskSet.{IsTaskSet}
 use Rattle.tpl_model.specs.Certificate.{Row}
 use Rattle.tpl_graph.specs.Named.{Names}
 use Rattle.tpl_cert.specs.declared.fault.TreeToFault.{TreeToFault}
 use Rattle.tpl_cert.specs.declared.fault.TreeToFault.TheVariants as faults
-use Rattle.tpl_cert.specs.Written.{name_at, is_id, has_row_ids, named_row, row_data, AreTaskSets, Unwritten}
+use Rattle.tpl_cert.specs.Written.{has_row_ids, named_row, row_data, AreTaskSets, Unwritten}
 use Rattle.tpl_cert.proofs.Names.{list_all_stops}
 
 -- the exit of a loop at an element that isn't written

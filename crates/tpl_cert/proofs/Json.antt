@@ -1,14 +1,13 @@
 -- JSON values: what their members and elements are, and how deep they nest.
-use Rattle.std.proofs.Common.{◌≡◌, ℕ, zero, suc, ◌≤◌, ◌&&◌, max, List, [], ◌∷◌, map, Bool, true, false, cond, Option, Some, None, option_and_then, is_some, Ordering, Less, Equal, Greater, is_eq, nat_cmp, refl, sym, ap, subst, ◌∙◌, arith, true≢false}
+use Rattle.std.proofs.Common.{◌≡◌, ℕ, suc, ◌≤◌, ◌&&◌, List, [], ◌∷◌, map, Bool, true, false, Option, Some, None, Ordering, Less, Equal, Greater, is_eq, nat_cmp, refl, sym, ap, subst, ◌∙◌, arith, true≢false}
 use Rattle.std.specs.Cmp.Lexicographic.{slice_cmp}
 use Rattle.std.specs.Ordering.{match_ordering}
-use Rattle.std.specs.Str.{bytes_eq}
 use Rattle.std.proofs.lemmas.Map.Text.{is_eq-slice_cmp}
 use Rattle.std.proofs.lemmas.Slice.Eq.{bytes_eq-Decides}
 use Rattle.serde_json.specs.Data.{Data, Items, no_items, item, Members, no_members, member, null, boolean, number, string, array, object, depth, items_depth, members_depth}
 use Rattle.serde_json.specs.Find.{get, get_member, as_str, as_bool}
 use Rattle.tpl_cert.specs.Members.{◌>>=◌, only_if, has_only, is_one_of, members_within, text_in, elements, list_in, list_or_none, texts_in, each}
-use Rattle.tpl_cert.specs.Grammar.{HasOnly, HasMember, HasText, IfThere, IsArray, IsTexts, HasTexts}
+use Rattle.tpl_cert.specs.Grammar.{IfThere, IsTexts, HasTexts}
 use Rattle.tpl_cert.proofs.Arrays.{bind_some, some_is, each_cons, each_empty, each_nothing, each_parts}
 
 abbrev pub some : {A : Type 0} → A → Option A

@@ -9,3 +9,4 @@ pub mod Whole
 pub mod Ids
 pub mod Unique
 pub mod Again
+pub mod OneTree

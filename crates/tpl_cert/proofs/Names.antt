@@ -1,6 +1,6 @@
 -- The names of a tree, one after another.
-use Rattle.std.proofs.Common.{◌≡◌, ℕ, zero, suc, ◌+◌, ◌<◌, ◌≤◌, ◌&&◌, ◌||◌, List, [], ◌∷◌, ◌++◌, length, get_or, take, map, Bool, true, false, Option, Some, None, nat_eq, is_some, refl, sym, ap, ◌∙◌, arith}
-use Rattle.std.specs.List.{list_all, list_any, position}
+use Rattle.std.proofs.Common.{◌≡◌, ℕ, zero, suc, ◌+◌, ◌<◌, ◌&&◌, ◌||◌, List, [], ◌∷◌, ◌++◌, length, get_or, take, map, Bool, true, false, Option, Some, nat_eq, is_some, refl, ap, ◌∙◌, arith}
+use Rattle.std.specs.List.{list_all, list_any}
 use Rattle.std.proofs.lemmas.List.{map_more, map_push}
 use Rattle.std.proofs.lemmas.List.Folds.{list_all-append, list_any-append}
 use Rattle.std.proofs.lemmas.List.Quantifiers.{position-Some}
@@ -12,7 +12,7 @@ use Rattle.tpl_cert.specs.declared.fault.TreeFault.TheVariants as faults
 use Rattle.tpl_model.specs.Certificate.{Row}
 use Rattle.tpl_graph.specs.Named.{Names}
 use Rattle.tpl_cert.specs.NamedTrees.{NamedRow}
-use Rattle.tpl_cert.specs.Naming.{number_of, is_declared, are_declared, AreNumbers, is_number, does_name, IsSetOf, IsRowOf, AreRowsOf, Loses}
+use Rattle.tpl_cert.specs.Naming.{number_of, is_declared, are_declared, AreNumbers, does_name, IsSetOf, IsRowOf, AreRowsOf, Loses}
 
 pub list_all_stops : {X Y : Type 0} (p : Y → Bool) (g : X → Y) (xs : List X) (i : ℕ) (d : X) → i < length xs → p (g (get_or xs i d)) ≡ false → list_all p (map g xs) ≡ false
 list_all_stops p g [] i d lt h = absurd (omega arith)
@@ -36,9 +36,19 @@ loses_all p g xs i d faults.Limit lt h = absurd h
 abbrev found : ℕ → Option ℕ
 found n = Some n
 
+-- one name more
+pub declared_push : (names texts : List (List ℕ)) (text : List ℕ) → are_declared names (texts ++ text ∷ []) ≡ (are_declared names texts && is_declared names text)
+declared_push names texts text = list_all-append (is_declared names) texts (text ∷ []) ∙ ap (λ b. are_declared names texts && b) (and_true (is_declared names text))
+  where
+    and_true : (b : Bool) → (b && true) ≡ b
+    and_true true = refl
+    and_true false = refl
+
+pub numbers_push : (names texts : List (List ℕ)) (ns : List ℕ) (text : List ℕ) (n : ℕ) → AreNumbers names texts ns → number_of names text ≡ Some n → AreNumbers names (texts ++ text ∷ []) (ns ++ n ∷ [])
+numbers_push names texts ns text n e h = rw (map_push (number_of names) texts text, map_push found ns n, e, h) refl
+
 pub numbers_more : {X : Type 0} (names : List (List ℕ)) (g : X → List ℕ) (xs : List X) (i : ℕ) (d : X) (ns : List ℕ) (n : ℕ) → i < length xs → AreNumbers names (map g (take i xs)) ns → number_of names (g (get_or xs i d)) ≡ Some n → AreNumbers names (map g (take (i + 1) xs)) (ns ++ n ∷ [])
-numbers_more names g xs i d ns n lt e h =
-    rw (map_more g xs i d lt, map_push (number_of names) (map g (take i xs)) (g (get_or xs i d)), map_push found ns n, e, h) refl
+numbers_more names g xs i d ns n lt e h = rw (map_more g xs i d lt) (numbers_push names (map g (take i xs)) ns (g (get_or xs i d)) n e h)
 
 -- a set without members, and with one more
 pub no_members : (names : List (List ℕ)) → IsSetOf names [] []

@@ -1,9 +1,8 @@
 -- A row is read exactly where it is spelled.
-use Rattle.std.proofs.Common.{◌≡◌, ℕ, ◌||◌, List, [], ◌∷◌, map, Bool, true, false, cond, Option, Some, None, codes, refl, sym, ap, subst, ◌∙◌}
+use Rattle.std.proofs.Common.{◌≡◌, ℕ, ◌||◌, List, [], ◌∷◌, map, Bool, true, false, cond, Some, None, codes, refl, sym, ap, subst, ◌∙◌}
 use Rattle.std.specs.List.{list_any}
-use Rattle.std.specs.Str.{bytes_eq}
 use Rattle.std.proofs.lemmas.Slice.Eq.{bytes_eq-Decides}
-use Rattle.serde_json.specs.Data.{Data, string, boolean}
+use Rattle.serde_json.specs.Data.{Data, string}
 use Rattle.serde_json.specs.Find.{get, as_str, as_bool}
 use Rattle.tpl_words.specs.declared.finals.Final.{Final}
 use Rattle.tpl_words.specs.declared.finals.Final.TheVariants.{RanToCompletion, Canceled, Faulted}
@@ -12,7 +11,7 @@ use Rattle.tpl_words.specs.Finals.{has, is_final, final_name}
 use Rattle.tpl_cert.specs.Members.{◌>>=◌, only_if, has_only, list_in, texts_in, each}
 use Rattle.tpl_cert.specs.NamedTrees.{NamedRow}
 use Rattle.tpl_cert.specs.Reading.{no_finals, with_final, final_word, final_at, finals_at, row_at}
-use Rattle.tpl_cert.specs.Grammar.{HasOnly, HasMember, IsArray, AreFinals, IsRow, AreRows}
+use Rattle.tpl_cert.specs.Grammar.{AreFinals, IsRow, AreRows}
 use Rattle.tpl_cert.proofs.Arrays.{bind_some, some_is, each_cons, each_empty, each_nothing, each_parts}
 use Rattle.tpl_cert.proofs.Json.{some, cons_same, only_is, string_is, bool_is, texts_sound, texts_complete}
 

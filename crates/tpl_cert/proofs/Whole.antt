@@ -1,5 +1,5 @@
 -- From the parts of a reading to the whole.
-use Rattle.std.proofs.Common.{◌≡◌, ℕ, ◌≤◌, Bool, true, false, Option, Some, None, Result, Ok, Err}
+use Rattle.std.proofs.Common.{◌≡◌, ℕ, ◌≤◌, Some, None}
 use Rattle.serde_json.specs.Data.{Data, depth}
 use Rattle.tpl_model.specs.Certificate.{Tree}
 use Rattle.tpl_graph.specs.Named.{Names}
@@ -9,8 +9,7 @@ use Rattle.tpl_cert.specs.NamedTrees.{NamedTree}
 use Rattle.tpl_cert.specs.Reading.{tree_at}
 use Rattle.tpl_cert.specs.Grammar.{IsTree}
 use Rattle.tpl_cert.specs.Naming.{IsTreeOf, knows, Loses}
-use Rattle.tpl_cert.specs.Heights.{IsWithinLimits}
-use Rattle.tpl_cert.specs.Spelled.{SpellsTree, ReadsAs, IsWrongTree}
+use Rattle.tpl_cert.specs.Spelled.{SpellsTree, IsWrongTree}
 use Rattle.tpl_cert.proofs.Json.{some_none}
 use Rattle.tpl_cert.proofs.Trees.{tree_sound, tree_complete}
 

@@ -1,8 +1,8 @@
 -- A tree as a tree of numbers, from which it can be read again.
-use Rattle.std.specs.Prelude.{◌≡◌, ℕ, zero, suc, Bool, List, refl}
+use Rattle.std.specs.Prelude.{◌≡◌, ℕ, Bool, List, refl}
 use Rattle.std.proofs.Common.{ap, ◌≢◌, arith}
 use Rattle.std.specs.Coded.{Coded, code_by, coded×, coded_ℕ, coded_bool, coded_list}
-use base.Stored.{Gv, gnil, gnum, gcons}
+use base.Stored.{Gv, gnum, gcons}
 use Rattle.tpl_words.specs.declared.finals.Finals.{Finals}
 use Rattle.tpl_model.specs.Certificate.{Row, Tree, SplitInput, SplitEnd, Leaf}
 

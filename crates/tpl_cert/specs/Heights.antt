@@ -1,5 +1,5 @@
 -- How deep a tree splits, and how long its chains are.
-use Rattle.std.specs.Prelude.{ℕ, ◌≤◌, suc, max, List, [], ◌∷◌, length}
+use Rattle.std.specs.Prelude.{ℕ, ◌≤◌, suc, max, length}
 use Rattle.std.specs.List.{All}
 use Rattle.tpl_model.specs.Certificate.{Row, Tree, SplitInput, SplitEnd, Leaf}
 

@@ -7,6 +7,7 @@ pub mod Heights
 pub mod Coding
 pub mod Falls
 pub mod Naming
+pub mod Laws
 pub mod Grammar
 pub mod Spelled
 pub mod Written

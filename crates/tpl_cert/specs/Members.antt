@@ -1,8 +1,8 @@
 -- Reading JSON data part by part. `None` is a wrong shape.
-use Rattle.std.specs.Prelude.{◌≡◌, ℕ, zero, suc, List, [], ◌∷◌, Option, Some, None, Result, Ok, Err, Bool, true, false, ◌&&◌, ◌||◌, option_and_then, option_map, if◌then◌else◌}
+use Rattle.std.specs.Prelude.{◌≡◌, ℕ, List, [], ◌∷◌, Option, Some, None, Result, Ok, Err, Bool, true, false, ◌&&◌, ◌||◌, option_and_then, option_map, if◌then◌else◌}
 use Rattle.std.specs.Str.{bytes_eq}
-use Rattle.serde_json.specs.Data.{Data, Items, no_items, item, Members, no_members, member, string, array, object, null, boolean, number, Num}
-use Rattle.serde_json.specs.Find.{get, as_str, as_array, as_bool}
+use Rattle.serde_json.specs.Data.{Data, Items, no_items, item, Members, no_members, member, string, array, object, null, boolean, number}
+use Rattle.serde_json.specs.Find.{get, as_str, as_array}
 use Rattle.tpl_cert.specs.declared.miss.Miss.{Miss}
 use Rattle.tpl_cert.specs.declared.miss.Miss.TheVariants as misses
 

@@ -1,12 +1,12 @@
 -- Reading a certificate tree with names. `None` is a wrong shape.
-use Rattle.std.specs.Prelude.{◌≡◌, ℕ, zero, suc, List, [], ◌∷◌, Option, Some, None, Bool, true, false, codes, is_some, option_and_then, if◌then◌else◌}
+use Rattle.std.specs.Prelude.{ℕ, zero, suc, List, [], ◌∷◌, Option, Some, None, true, false, codes, is_some, if◌then◌else◌}
 use Rattle.std.specs.Str.{bytes_eq}
 use Rattle.serde_json.specs.Data.{Data}
 use Rattle.serde_json.specs.Find.{get, as_bool, as_str}
 use Rattle.tpl_words.specs.declared.finals.Final.{Final}
 use Rattle.tpl_words.specs.declared.finals.Final.TheVariants.{RanToCompletion, Canceled, Faulted}
 use Rattle.tpl_words.specs.declared.finals.Finals.{Finals}
-use Rattle.tpl_cert.specs.Members.{◌>>=◌, only_if, has_only, text_in, list_in, list_or_none, each, texts_in}
+use Rattle.tpl_cert.specs.Members.{◌>>=◌, only_if, has_only, text_in, list_in, each, texts_in}
 use Rattle.tpl_cert.specs.NamedTrees.{NamedRow, NamedTree, SplitInput, SplitEnd, Leaf}
 
 abbrev pub no_finals : Finals

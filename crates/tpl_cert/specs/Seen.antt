@@ -1,5 +1,5 @@
 -- What a tree with names in memory is seen as.
-use Rattle.std.specs.Prelude.{ℕ, List, map}
+use Rattle.std.specs.Prelude.{map}
 use Rattle.tpl_cert.specs.declared.named.NamedRow as declared
 use Rattle.tpl_cert.specs.declared.named.NamedTree as tree
 use Rattle.tpl_cert.specs.declared.named.NamedTree.TheOpen.{NamedTree-F}

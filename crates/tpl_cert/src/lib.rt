@@ -4,6 +4,7 @@
 mod certificate;
 mod fault;
 mod from;
+mod laws;
 mod limits;
 pub mod members;
 mod miss;
@@ -17,6 +18,7 @@ mod tree;
 pub use certificate::Certificate;
 pub use fault::{TreeFault, TreeToFault};
 pub use from::tree_from;
+pub use laws::names_one_by_one;
 pub use limits::is_within_limits;
 pub use miss::Miss;
 pub use read::{final_of, finals_of};

@@ -1,11 +1,10 @@
-use Rattle.std.proofs.Common.{◌≡◌, true, false, ◌∷◌, [], codes, refl, option_and_then, Some, rules, string_bytes}
+use Rattle.std.proofs.Common.{◌≡◌, false, ◌∷◌, [], codes, refl, Some, rules}
 use Rattle.std.proofs.lemmas.Result.{err_from_is_err_and}
-use Rattle.serde_json.specs.Find.{get}
 use Rattle.serde_json.specs.View.{view}
 use Rattle.tpl_cert.specs.Seen.{tree_of}
 use Rattle.tpl_cert.specs.NamedTrees.{SplitInput}
 use Rattle.tpl_cert.specs.declared.named.NamedTree.{the_lemmas}
-use Rattle.tpl_cert.specs.Members.{has_only, text_in, Misses}
+use Rattle.tpl_cert.specs.Members.{has_only}
 use Rattle.tpl_cert.specs.Reading.{input_at, tree_at}
 use Rattle.tpl_cert.proofs.Levels.{input_misses, input_is}
 use Rattle.tpl_cert.proofs.read.+tree.Goals as goal

@@ -1,7 +1,5 @@
-use Rattle.std.proofs.Common.{◌≡◌, map, sym, ◌∙◌}
+use Rattle.std.proofs.Common.{sym, ◌∙◌}
 use Rattle.std.proofs.lemmas.Result.{err_from_is_err_and}
-use Rattle.serde_json.specs.View.{view}
-use Rattle.tpl_cert.specs.Reading.{finals_at, no_finals}
 use Rattle.tpl_cert.proofs.Endings.{finals_step, finals_stop, finals_done}
 use Rattle.tpl_cert.proofs.read.finals_of.Goals as goal
 

@@ -1,9 +1,8 @@
-use Rattle.std.proofs.Common.{◌≡◌, ◌∙◌, ap, map, refl}
-use Rattle.std.proofs.lemmas.Result.{err_from_is_err_and}
+use Rattle.std.proofs.Common.{◌∙◌, ap, map}
 use Rattle.std.proofs.lemmas.List.{map_push}
 use Rattle.serde_json.specs.Data.{array}
 use Rattle.serde_json.specs.View.{view, items_of}
-use Rattle.tpl_cert.proofs.Ids.{unwritten_rows, rows_written, all_written}
+use Rattle.tpl_cert.proofs.Ids.{rows_written, all_written}
 use Rattle.tpl_cert.proofs.to.rows_to.Goals as goal
 
 pub loop-row-preserved : goal.loop-row-preserved
