@@ -5,9 +5,9 @@ use Rattle.std.proofs.lemmas.List.Elements.{All-cons}
 use Rattle.tpl_words.specs.declared.ids.TaskId.{TaskId}
 use Rattle.tpl_words.specs.declared.ids.TokenId.{TokenId}
 use Rattle.tpl_words.specs.declared.ids.InputId.{InputId}
-use Rattle.tpl_cert.proofs.Arrays.{some_is}
-use Rattle.tpl_cert.proofs.Json.{some}
-use Rattle.tpl_cert.proofs.Names.{number_below}
+use Rattle.tpl_reader.proofs.Arrays.{some_is, head_is, tail_is}
+use Rattle.tpl_reader.proofs.Json.{some}
+use Rattle.tpl_reader.proofs.Names.{number_below}
 use Rattle.tpl_cert.specs.Naming.{number_of}
 use Rattle.tpl_graph.specs.Kept.{IsNamedGraph}
 use Rattle.tpl_model.specs.declared.claim.Given.TheVariants as givens
@@ -90,18 +90,12 @@ given_is g is (GivenQuiet name) x e =
     let a = mapped givens.Quiet (token_in g.names name) x e in
     subst (λ (z : Given). IsGivenOf g.graph z) a.2 (let lt = token_below g.names name a.0 a.1 in omega (arith, is.tokens))
 
-head_same : {A : Type 0} (x y : A) (xs ys : List A) → x ∷ xs ≡ y ∷ ys → x ≡ y
-head_same x y xs ys e = cc
-
-tail_same : {A : Type 0} (x y : A) (xs ys : List A) → x ∷ xs ≡ y ∷ ys → xs ≡ ys
-tail_same x y xs ys e = cc
-
 givens_are : (g : Named) → IsNamedGraph g → (ss : List NamedGiven) (xs : List Given) → map (given_in g.names) ss ≡ map (λ x. Some x) xs → All (IsGivenOf g.graph) xs
 givens_are g is [] [] e = λ k d lt. absurd (omega arith)
 givens_are g is [] (x ∷ xs) e = absurd cc
 givens_are g is (s ∷ ss) [] e = absurd cc
 givens_are g is (s ∷ ss) (x ∷ xs) e =
-    All-cons (IsGivenOf g.graph) x xs (given_is g is s x (head_same (given_in g.names s) (Some x) (map (given_in g.names) ss) (map (λ x. Some x) xs) e)) (givens_are g is ss xs (tail_same (given_in g.names s) (Some x) (map (given_in g.names) ss) (map (λ x. Some x) xs) e))
+    All-cons (IsGivenOf g.graph) x xs (given_is g is s x (head_is (given_in g.names s) (Some x) (map (given_in g.names) ss) (map (λ x. Some x) xs) e)) (givens_are g is ss xs (tail_is (given_in g.names s) (Some x) (map (given_in g.names) ss) (map (λ x. Some x) xs) e))
 
 pub asked : (g : Named) (s : NamedClaim) (claim : Claim) (given : List Given) (body : Property) → IsNamedGraph g → map (given_in g.names) s.given ≡ map (λ x. Some x) given → property_in g.names s.body ≡ Some body → have_bodies g.graph body ≡ true → given_twice given ≡ false → claim.given ≡ given → claim.body ≡ body → IsAsked g s claim
 asked g s claim given body is e f bodies once eg eb = record {

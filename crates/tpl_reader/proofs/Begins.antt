@@ -4,9 +4,14 @@ use Rattle.std.specs.Prelude.{slice_set, slice_index_or}
 use Rattle.std.proofs.lemmas.List.{get_or-set_same, get_or-set_other}
 use Rattle.serde_json.specs.Data.{Data}
 use Rattle.tpl_cert.specs.Written.{name_at}
-use Rattle.tpl_cert.proofs.Json.{some}
-use Rattle.std.specs.List.{list_all}
-use Rattle.tpl_cert.proofs.Names.{list_all_stops}
+use Rattle.tpl_reader.proofs.Json.{some}
+use Rattle.std.specs.List.{All, list_all}
+use Rattle.std.proofs.lemmas.List.Elements.{All-cons}
+use Rattle.tpl_words.specs.declared.ids.SiteId.{SiteId}
+use Rattle.tpl_graph.specs.Ids.{site_number}
+use Rattle.tpl_cert.specs.Naming.{number_of, AreNumbers}
+use Rattle.tpl_reader.proofs.Arrays.{head_is, tail_is}
+use Rattle.tpl_reader.proofs.Names.{list_all_stops, number_below}
 use Rattle.tpl_reader.specs.declared.fault.Stop.{Stop}
 use Rattle.tpl_reader.specs.declared.fault.Stop.TheVariants as stop
 use Rattle.tpl_reader.specs.declared.fault.StartFault.{StartFault}
@@ -22,6 +27,16 @@ unknown_one p g xs i d faults.FailNot lt h = absurd h
 pub unknown_all : {X Y : Type 0} (p : Y → Bool) (g : X → Y) (xs : List X) (i : ℕ) (d : X) (e : Stop StartFault) → i < length xs → Refuses (IsUnknownName (p (g (get_or xs i d)))) e → Refuses (IsUnknownName (list_all p (map g xs))) e
 unknown_all p g xs i d (stop.Fault f) lt h = unknown_one p g xs i d f lt h
 unknown_all p g xs i d stop.Memory lt h = tt
+
+-- the numbers of names are below their count
+pub sites_below : (names texts : List (List ℕ)) (sites : List SiteId) → AreNumbers names texts (map site_number sites) → All (λ (s : SiteId). s.0 < length names) sites
+sites_below names [] [] e = λ k d lt. absurd (omega arith)
+sites_below names [] (s ∷ ss) e = absurd cc
+sites_below names (t ∷ ts) [] e = absurd cc
+sites_below names (t ∷ ts) (s ∷ ss) e =
+    let first = head_is (number_of names t) (Some s.0) (map (number_of names) ts) (map (λ n. Some n) (map site_number ss)) e in
+    let rest = tail_is (number_of names t) (Some s.0) (map (number_of names) ts) (map (λ n. Some n) (map site_number ss)) e in
+    All-cons (λ (x : SiteId). x.0 < length names) s ss (number_below names t s.0 first) (sites_below names ts ss rest)
 
 -- ---- the values of the inputs so far
 

@@ -1,3 +1,7 @@
+pub mod Arrays
+pub mod Json
+pub mod Names
+pub mod Finals
 pub mod Bodies
 pub mod OptionWords
 pub mod Lookups
@@ -7,3 +11,10 @@ pub mod Truths
 pub mod Shapes
 pub mod Begins
 pub mod Refusals
+pub mod BodyLaws
+pub mod TaskLaws
+pub mod ClaimLaws
+pub mod StartLaws
+pub mod TopLaws
+pub mod Shallow
+pub mod Checkable

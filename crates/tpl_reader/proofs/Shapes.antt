@@ -1,5 +1,5 @@
 -- From the parts of a document to the first that hasn't its form.
-use Rattle.std.proofs.Common.{◌≡◌, List, Option, Some, None}
+use Rattle.std.proofs.Common.{List}
 use Rattle.serde_json.specs.Data.{Data}
 use Rattle.tpl_graph.specs.Draft.{Task}
 use Rattle.tpl_reader.specs.NamedClaims.{NamedClaim}
@@ -7,8 +7,10 @@ use Rattle.tpl_reader.specs.declared.fault.Stop.{Stop}
 use Rattle.tpl_reader.specs.declared.fault.Stop.TheVariants as stop
 use Rattle.tpl_reader.specs.declared.fault.Part.{Part}
 use Rattle.tpl_reader.specs.declared.fault.Part.TheVariants as part
-use Rattle.tpl_reader.specs.Start.{start_or_none}
-use Rattle.tpl_reader.specs.Top.{Members, top_at, IsTask, IsClaim}
+use Rattle.tpl_reader.specs.Top.{Members}
+use Rattle.tpl_reader.specs.TaskGrammar.{IsTask}
+use Rattle.tpl_reader.specs.ClaimGrammar.{IsClaim}
+use Rattle.tpl_reader.specs.TopGrammar.{IsTop}
 use Rattle.tpl_reader.specs.Passes.{AllRead}
 use Rattle.tpl_reader.specs.Asked.{Refuses}
 use Rattle.tpl_reader.specs.Document.{WrongTop, WrongTask, WrongClaim, WrongStart, IsMisshapen}
@@ -19,19 +21,19 @@ top_wrong d (part.Task n) h = absurd h
 top_wrong d (part.Claim n) h = absurd h
 top_wrong d part.Start h = absurd h
 
-task_wrong : (d : Data) (m : Members) (p : Part) → top_at d ≡ Some m → WrongTask m.tasks p → IsMisshapen d p
+task_wrong : (d : Data) (m : Members) (p : Part) → IsTop d m → WrongTask m.tasks p → IsMisshapen d p
 task_wrong d m part.Top e h = absurd h
 task_wrong d m (part.Task n) e h = (m, e, h)
 task_wrong d m (part.Claim n) e h = absurd h
 task_wrong d m part.Start e h = absurd h
 
-claim_wrong : (d : Data) (m : Members) (ts : List Task) (p : Part) → top_at d ≡ Some m → AllRead IsTask m.tasks ts → WrongClaim m.claims p → IsMisshapen d p
+claim_wrong : (d : Data) (m : Members) (ts : List Task) (p : Part) → IsTop d m → AllRead IsTask m.tasks ts → WrongClaim m.claims p → IsMisshapen d p
 claim_wrong d m ts part.Top e t h = absurd h
 claim_wrong d m ts (part.Task n) e t h = absurd h
 claim_wrong d m ts (part.Claim n) e t h = (m, e, (ts, t), h)
 claim_wrong d m ts part.Start e t h = absurd h
 
-start_wrong : (d : Data) (m : Members) (ts : List Task) (cs : List NamedClaim) (p : Part) → top_at d ≡ Some m → AllRead IsTask m.tasks ts → AllRead IsClaim m.claims cs → WrongStart m.start p → IsMisshapen d p
+start_wrong : (d : Data) (m : Members) (ts : List Task) (cs : List NamedClaim) (p : Part) → IsTop d m → AllRead IsTask m.tasks ts → AllRead IsClaim m.claims cs → WrongStart m.start p → IsMisshapen d p
 start_wrong d m ts cs part.Top e t c h = absurd h
 start_wrong d m ts cs (part.Task n) e t c h = absurd h
 start_wrong d m ts cs (part.Claim n) e t c h = absurd h
@@ -41,14 +43,14 @@ pub top_refused : (d : Data) (e : Stop Part) → Refuses (WrongTop d) e → Refu
 top_refused d (stop.Fault p) h = top_wrong d p h
 top_refused d stop.Memory h = tt
 
-pub task_refused : (d : Data) (m : Members) (e : Stop Part) → top_at d ≡ Some m → Refuses (WrongTask m.tasks) e → Refuses (IsMisshapen d) e
+pub task_refused : (d : Data) (m : Members) (e : Stop Part) → IsTop d m → Refuses (WrongTask m.tasks) e → Refuses (IsMisshapen d) e
 task_refused d m (stop.Fault p) t h = task_wrong d m p t h
 task_refused d m stop.Memory t h = tt
 
-pub claim_refused : (d : Data) (m : Members) (ts : List Task) (e : Stop Part) → top_at d ≡ Some m → AllRead IsTask m.tasks ts → Refuses (WrongClaim m.claims) e → Refuses (IsMisshapen d) e
+pub claim_refused : (d : Data) (m : Members) (ts : List Task) (e : Stop Part) → IsTop d m → AllRead IsTask m.tasks ts → Refuses (WrongClaim m.claims) e → Refuses (IsMisshapen d) e
 claim_refused d m ts (stop.Fault p) t a h = claim_wrong d m ts p t a h
 claim_refused d m ts stop.Memory t a h = tt
 
-pub start_refused : (d : Data) (m : Members) (ts : List Task) (cs : List NamedClaim) (e : Stop Part) → top_at d ≡ Some m → AllRead IsTask m.tasks ts → AllRead IsClaim m.claims cs → Refuses (WrongStart m.start) e → Refuses (IsMisshapen d) e
+pub start_refused : (d : Data) (m : Members) (ts : List Task) (cs : List NamedClaim) (e : Stop Part) → IsTop d m → AllRead IsTask m.tasks ts → AllRead IsClaim m.claims cs → Refuses (WrongStart m.start) e → Refuses (IsMisshapen d) e
 start_refused d m ts cs (stop.Fault p) t a c h = start_wrong d m ts cs p t a c h
 start_refused d m ts cs stop.Memory t a c h = tt

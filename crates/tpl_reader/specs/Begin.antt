@@ -1,10 +1,11 @@
 -- Where a run starts, with ids in place of names, and what is wrong with a start.
-use Rattle.std.specs.Prelude.{◌≡◌, ℕ, ◌<◌, ◌&&◌, Bool, true, false, List, [], ◌∷◌, Option, Some, None, length, map, option_and_then, slice_index_or}
+use Rattle.std.specs.Prelude.{◌≡◌, ℕ, ◌<◌, ◌&&◌, Bool, true, false, List, Option, Some, None, length, option_and_then, slice_index_or}
 use Rattle.std.specs.List.{list_all}
 use Rattle.serde_json.specs.Data.{Data, Members, no_members, member, null, boolean, number, string, array, object}
 use Rattle.serde_json.specs.Find.{get, as_bool}
-use Rattle.tpl_graph.specs.Named.{Named}
-use Rattle.tpl_cert.specs.Naming.{number_of, is_declared, are_declared, AreNumbers}
+use Rattle.tpl_model.specs.Graph.{TaskGraph}
+use Rattle.tpl_graph.specs.Named.{Named, all_may_fail}
+use Rattle.tpl_cert.specs.Naming.{is_declared, are_declared, AreNumbers}
 use Rattle.tpl_cert.specs.Written.{name_at}
 use Rattle.tpl_reader.specs.Start.{NamedStart}
 use Rattle.tpl_reader.specs.declared.fault.StartFault.{StartFault}
@@ -43,17 +44,27 @@ pub record HasTruths (names : List (List ℕ)) (d : Option Data) (values : List 
   pub count : length values ≡ length names
   pub each : (i : ℕ) → i < length names → truth_at d (name_at names i) ≡ Some (slice_index_or values i false)
 
+-- the job of the site may fail
+abbrev pub may_fail : TaskGraph → ℕ → Bool
+may_fail g site = slice_index_or (all_may_fail g) site false
+
+abbrev pub may_all_fail : TaskGraph → List ℕ → Bool
+may_all_fail g sites = list_all (may_fail g) sites
+
 pub record IsStartOf (g : Named) (s : NamedStart) (start : StartValue) : Type 0 where
   pub known : knows_start g s ≡ true
   pub inputs : HasTruths g.names.inputs s.inputs start.inputs
   pub request : AreNumbers g.names.tokens s.request start.request
   pub sites : AreNumbers g.names.sites s.fail start.fail
+  pub may_fail : may_all_fail g.graph start.fail ≡ true
 
--- what is wrong with a start: a name that isn't the graph's, then an input without value
+-- what is wrong with a start: a name that isn't the graph's, then an input without value, then a site to fail whose job may not fail
 abbrev pub IsWrongStart : Named → NamedStart → StartFault → Type 0
 IsWrongStart g s faults.Unknown = knows_start g s ≡ false
 IsWrongStart g s faults.Missing = (knows_start g s ≡ true) × ((i : ℕ) × (i < length g.names.inputs) × (truth_at s.inputs (name_at g.names.inputs i) ≡ None))
-IsWrongStart g s faults.FailNot = ⊥
+IsWrongStart g s faults.FailNot =
+    (knows_start g s ≡ true) × ((values : List Bool) × HasTruths g.names.inputs s.inputs values)
+    × ((sites : List ℕ) × AreNumbers g.names.sites s.fail sites × (may_all_fail g.graph sites ≡ false))
 
 -- only a name can be wrong
 abbrev pub IsUnknownName : Bool → StartFault → Type 0

@@ -1,5 +1,5 @@
 -- Which document bytes spell, and what is wrong with bytes that spell none.
-use Rattle.std.specs.Prelude.{◌≡◌, ◌≤◌, ◌<◌, ℕ, ◌⊎◌, Bool, List, Option, Some, None, length, IsUtf8}
+use Rattle.std.specs.Prelude.{◌≡◌, ◌≤◌, ◌<◌, ℕ, ◌⊎◌, List, Option, Some, None, length, IsUtf8}
 use Rattle.serde_json.specs.Data.{Data}
 use Rattle.serde_json.specs.Read.{read}
 use Rattle.tpl_model.specs.Claims.{Claim}
@@ -10,9 +10,13 @@ use Rattle.tpl_graph.specs.Numbered.{numbered}
 use Rattle.tpl_graph.specs.Refusals.{IsValid, IsLeast}
 use Rattle.tpl_cert.specs.Spelled.{ReadsAs, IsWrongTree}
 use Rattle.tpl_reader.specs.NamedClaims.{NamedClaim}
-use Rattle.tpl_reader.specs.Start.{NamedStart, start_or_none}
+use Rattle.tpl_reader.specs.Start.{NamedStart}
 use Rattle.tpl_reader.specs.Begin.{StartValue, IsStartOf, IsWrongStart}
-use Rattle.tpl_reader.specs.Top.{Members, top_at, IsTask, IsNoTask, IsClaim, IsNoClaim}
+use Rattle.tpl_reader.specs.Top.{Members}
+use Rattle.tpl_reader.specs.TaskGrammar.{IsTask, IsNoTask}
+use Rattle.tpl_reader.specs.ClaimGrammar.{IsClaim, IsNoClaim}
+use Rattle.tpl_reader.specs.StartGrammar.{IsStartIfAny}
+use Rattle.tpl_reader.specs.TopGrammar.{IsTop}
 use Rattle.tpl_reader.specs.Asked.{IsAsked, IsWrongClaim}
 use Rattle.tpl_reader.specs.Passes.{AllRead, FirstWrong}
 use Rattle.tpl_reader.specs.declared.fault.Part.{Part}
@@ -34,21 +38,28 @@ pub record Spelled : Type 0 where
 -- the value has the form of the document
 pub record IsSpelled (d : Data) (s : Spelled) : Type 0 where
   pub members : Members
-  pub top : top_at d ≡ Some members
+  pub top : IsTop d members
   pub inputs : s.draft.inputs ≡ members.inputs
   pub tokens : s.draft.tokens ≡ members.tokens
   pub tasks : AllRead IsTask members.tasks s.draft.tasks
   pub claims : AllRead IsClaim members.claims s.claims
   pub certificate : s.certificate ≡ members.certificate
   pub journal : s.journal ≡ members.journal
-  pub start : start_or_none members.start ≡ Some s.start
+  pub start : IsStartIfAny members.start s.start
+
+-- no top, and no start, is such a value
+abbrev pub IsNoTop : Data → Type 0
+IsNoTop d = (m : Members) → IsTop d m → ⊥
+
+abbrev pub IsNoStart : Option Data → Type 0
+IsNoStart d = (s : Option NamedStart) → IsStartIfAny d s → ⊥
 
 abbrev pub WrongTop : Data → Part → Type 0
-WrongTop d part.Top = top_at d ≡ None
+WrongTop d part.Top = IsNoTop d
 WrongTop d p = ⊥
 
 abbrev pub WrongStart : Option Data → Part → Type 0
-WrongStart d part.Start = start_or_none d ≡ None
+WrongStart d part.Start = IsNoStart d
 WrongStart d p = ⊥
 
 abbrev pub WrongTask : List Data → Part → Type 0
@@ -61,10 +72,10 @@ WrongClaim ds p = ⊥
 
 -- the first part that hasn't its form
 abbrev pub IsMisshapen : Data → Part → Type 0
-IsMisshapen d part.Top = top_at d ≡ None
-IsMisshapen d (part.Task n) = (m : Members) × (top_at d ≡ Some m) × FirstWrong IsTask IsNoTask m.tasks n tt
-IsMisshapen d (part.Claim n) = (m : Members) × (top_at d ≡ Some m) × ((ts : List Task) × AllRead IsTask m.tasks ts) × FirstWrong IsClaim IsNoClaim m.claims n tt
-IsMisshapen d part.Start = (m : Members) × (top_at d ≡ Some m) × ((ts : List Task) × AllRead IsTask m.tasks ts) × ((cs : List NamedClaim) × AllRead IsClaim m.claims cs) × (start_or_none m.start ≡ None)
+IsMisshapen d part.Top = IsNoTop d
+IsMisshapen d (part.Task n) = (m : Members) × IsTop d m × FirstWrong IsTask IsNoTask m.tasks n tt
+IsMisshapen d (part.Claim n) = (m : Members) × IsTop d m × ((ts : List Task) × AllRead IsTask m.tasks ts) × FirstWrong IsClaim IsNoClaim m.claims n tt
+IsMisshapen d part.Start = (m : Members) × IsTop d m × ((ts : List Task) × AllRead IsTask m.tasks ts) × ((cs : List NamedClaim) × AllRead IsClaim m.claims cs) × IsNoStart m.start
 
 -- ---- with ids in place of names
 

@@ -7,7 +7,12 @@ pub mod Passes
 pub mod Asked
 pub mod Start
 pub mod SeenStart
+pub mod BodyGrammar
+pub mod TaskGrammar
+pub mod ClaimGrammar
+pub mod StartGrammar
 pub mod Top
+pub mod TopGrammar
 pub mod SeenTop
 pub mod Begin
 pub mod Document

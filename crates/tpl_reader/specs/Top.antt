@@ -1,12 +1,10 @@
 -- Reading a document as far as its shape goes.
-use Rattle.std.specs.Prelude.{◌≡◌, ◌==◌, ℕ, List, [], ◌∷◌, Option, Some, None, Bool, true, false, codes, option_and_then, if◌then◌else◌}
+use Rattle.std.specs.Prelude.{◌==◌, ℕ, List, [], ◌∷◌, Option, Some, None, Bool, true, false, codes, option_and_then, if◌then◌else◌}
 use Rattle.serde_json.specs.Data.{Data}
 use Rattle.serde_json.specs.Find.{get, as_str, as_number, as_u64}
 use Rattle.tpl_cert.specs.Members.{◌>>=◌, only_if, has_only, list_in, list_or_none, each}
-use Rattle.tpl_graph.specs.Draft.{Task, Token}
-use Rattle.tpl_reader.specs.NamedClaims.{NamedClaim}
-use Rattle.tpl_reader.specs.Tasks.{task_at, token_at}
-use Rattle.tpl_reader.specs.Claims.{claim_at}
+use Rattle.tpl_graph.specs.Draft.{Token}
+use Rattle.tpl_reader.specs.Tasks.{token_at}
 
 -- the members of a document
 pub record Members : Type 0 where
@@ -44,16 +42,3 @@ top_at d = do
   certificate ← list_or_none (get (codes "certificate") d)
   journal ← text_or_empty (get (codes "journal") d)
   Some (record { inputs = inputs; tokens = tokens; tasks = tasks; claims = claims; certificate = certificate; journal = journal; start = get (codes "start") d })
-
--- the value is the task, or none
-abbrev pub IsTask : Data → Task → Type 0
-IsTask d t = task_at d ≡ Some t
-
-abbrev pub IsNoTask : Data → Unit {0} → Type 0
-IsNoTask d u = task_at d ≡ None
-
-abbrev pub IsClaim : Data → NamedClaim → Type 0
-IsClaim d c = claim_at d ≡ Some c
-
-abbrev pub IsNoClaim : Data → Unit {0} → Type 0
-IsNoClaim d u = claim_at d ≡ None

@@ -1,8 +1,8 @@
 //! Where a run starts, with ids in place of names.
 
-ghost use Rattle.std.specs.Prelude.{◌≡◌, ◌&&◌, map, true, Some, is_some, string_bytes, MatchOption};
+ghost use Rattle.std.specs.Prelude.{◌≡◌, ◌&&◌, ◌<◌, length, map, true, Some, is_some, string_bytes, MatchOption};
 ghost use Rattle.std.specs.Option.{option_map};
-ghost use Rattle.std.specs.List.{list_all};
+ghost use Rattle.std.specs.List.{All, list_all};
 ghost use Rattle.std.specs.BTreeMap.{keys};
 ghost use Rattle.serde_json.specs.View.{view};
 ghost use Rattle.tpl_graph.specs.Ids.{token_number, site_number};
@@ -10,7 +10,7 @@ ghost use Rattle.tpl_cert.specs.Naming.{number_of, is_declared, are_declared, Ar
 ghost use Rattle.tpl_reader.specs.SeenStart.{start_of};
 ghost use Rattle.tpl_reader.specs.SeenDocument.{value_of};
 ghost use Rattle.tpl_reader.specs.Asked.{Takes};
-ghost use Rattle.tpl_reader.specs.Begin.{knows_members, truth_at, HasTruths, LacksTruth, IsStartOf, IsWrongStart, IsUnknownName};
+ghost use Rattle.tpl_reader.specs.Begin.{knows_members, truth_at, HasTruths, LacksTruth, may_fail, may_all_fail, IsStartOf, IsWrongStart, IsUnknownName};
 
 use crate::document::Start;
 use crate::fault::{StartFault, Stop};
@@ -108,6 +108,27 @@ fn sites_in(alloc: Global, graph: &Graph, names: &[&str]) -> Result<Vec<SiteId>,
     Ok(sites)
 }
 
+#[tactic(auto, using(crate::proofs::Truths::fails))]
+fn may_fail(graph: &Graph, site: SiteId) -> bool
+    requires { site.0 < length graph.now.names.sites }
+    ensures { result ≡ may_fail graph.now.graph site.0 }
+{
+    graph.site_may_fail(site)
+}
+
+/// Whether the job of each of the sites may fail.
+fn may_all_fail(graph: &Graph, sites: &[SiteId]) -> bool
+    requires { All (λ s. s.0 < length graph.now.names.sites) sites.now }
+    ensures { result ≡ may_all_fail graph.now.graph (map site_number sites.now) }
+{
+    for site in sites {
+        if !may_fail(graph, *site) {
+            return false;
+        }
+    }
+    true
+}
+
 /// The start with ids in place of names.
 pub(crate) fn start_in(
     alloc: Global,
@@ -125,6 +146,9 @@ pub(crate) fn start_in(
         None => return Err(Stop::Fault(StartFault::Missing)),
         Some(inputs) => inputs,
     };
+    if !may_all_fail(graph, &fail) {
+        return Err(Stop::Fault(StartFault::FailNot));
+    }
     Ok(Start {
         inputs,
         request,

@@ -11,15 +11,19 @@ use tpl_cert::TreeFault;
 use tpl_graph::GraphFault;
 
 /// A part of a document. Tasks and claims count from 1.
-#[derive(Clone, Copy, Debug, PartialEq, Eq)]
+#[derive(Clone, Copy, Debug, PartialEq, Eq, Error)]
 pub enum Part {
     /// The document itself, its version, inputs, tokens, and lists.
+    #[error("top")]
     Top,
     /// A task.
+    #[error("task {0}")]
     Task(usize),
     /// A claim.
+    #[error("claim {0}")]
     Claim(usize),
     /// Where a run starts.
+    #[error("start")]
     Start,
 }
 
@@ -56,23 +60,31 @@ pub enum StartFault {
 
 /// Why a document isn't read. The least that applies is named, in this order, each looked for in the whole document
 /// before the next; `Memory` can come before any of them.
-#[derive(Clone, Copy, Debug, PartialEq, Eq)]
+#[derive(Clone, Copy, Debug, PartialEq, Eq, Error)]
 pub enum ReadFault {
     /// More than 16,777,216 bytes.
+    #[error("too long")]
     TooLong,
     /// The bytes are no JSON text that nests at most 127 deep.
+    #[error("not JSON")]
     NotJson,
     /// A part hasn't its form; the first in the order of `Part`.
+    #[error("shape {0}")]
     Shape(Part),
     /// The tasks, tokens and inputs are no valid graph.
+    #[error("graph {0}")]
     Graph(GraphFault),
     /// A claim, counted from 1, can't be asked of the graph; the first.
+    #[error("claim {0} {1}")]
     Claim(usize, ClaimFault),
     /// A tree of the certificate, counted from 1, isn't read; the first.
+    #[error("certificate {0} {1}")]
     Certificate(usize, TreeFault),
     /// The start doesn't fit the graph.
+    #[error("start {0}")]
     Start(StartFault),
     /// An allocation was refused.
+    #[error("out of memory")]
     Memory,
 }
 

@@ -1,12 +1,15 @@
 //! From bytes to a document.
 
 ghost use Rattle.std.specs.Prelude.{◌≡◌, map, IfOk, IfErr};
+ghost use Rattle.std.specs.List.{All};
 ghost use Rattle.std.specs.Option.{option_map};
 ghost use Rattle.serde_json.specs.View.{view};
 ghost use Rattle.tpl_graph.specs.Numbered.{numbered};
 ghost use Rattle.tpl_graph.specs.Refusals.{IsValid};
 ghost use Rattle.tpl_graph.specs.SeenTasks.{draft_of};
+ghost use Rattle.tpl_cert.specs.Heights.{IsWithinLimits};
 ghost use Rattle.tpl_cert.specs.Spelled.{ReadsAs};
+ghost use Rattle.tpl_claims.specs.Fits.{Fits};
 ghost use Rattle.tpl_reader.specs.SeenClaims.{claim_of};
 ghost use Rattle.tpl_reader.specs.SeenStart.{start_of};
 ghost use Rattle.tpl_reader.specs.SeenDocument.{value_of, doc_of, spelled_of};
@@ -94,6 +97,8 @@ fn start_for(
 
 fn document_of(alloc: Global, shaped: Shaped) -> Result<Document, ReadFault>
     ensures ok { IfOk result (λ d. IsDocument (spelled_of shaped.entry) (doc_of d)) }
+    ensures claims { IfOk result (λ d. All (Fits d.graph.graph) d.claims.items) }
+    ensures trees { IfOk result (λ d. All IsWithinLimits d.certificate) }
     ensures err { IfErr result (IsRefused (spelled_of shaped.entry)) }
 {
     let graph = graph_of(alloc, shaped.draft)?;
@@ -110,9 +115,13 @@ fn document_of(alloc: Global, shaped: Shaped) -> Result<Document, ReadFault>
     })
 }
 
-/// The document that the bytes spell.
+/// The document that the bytes spell: a JSON text in UTF-8 as `serde_json` reads it, of at most 16,777,216 bytes and 127
+/// levels, whose version is 1 or 2. Each claim can be asked of its graph, and each tree is within the limits, so that the
+/// certificate can be checked. Else the least `ReadFault` that applies to the whole document, or `Memory`.
 pub fn read_document(alloc: Global, bytes: &[u8]) -> Result<Document, ReadFault>
     ensures ok { IfOk result (λ d. Spells bytes.now (doc_of d)) }
+    ensures claims { IfOk result (λ d. All (Fits d.graph.graph) d.claims.items) }
+    ensures trees { IfOk result (λ d. All IsWithinLimits d.certificate) }
     ensures err { IfErr result (IsFault bytes.now) }
 {
     if bytes.len() > LONGEST {

@@ -1,7 +1,8 @@
 //! A document as far as its shape goes, part by part.
 
-ghost use Rattle.std.specs.Prelude.{◌≡◌, Some, map};
+ghost use Rattle.std.specs.Prelude.{◌≡◌, ◌≤◌, Some, map};
 ghost use Rattle.std.specs.Option.{option_map};
+ghost use Rattle.serde_json.specs.Data.{depth};
 ghost use Rattle.serde_json.specs.View.{view};
 ghost use Rattle.tpl_graph.specs.SeenTasks.{task_of};
 ghost use Rattle.tpl_cert.specs.Members.{Gives};
@@ -10,7 +11,10 @@ ghost use Rattle.tpl_reader.specs.SeenStart.{start_of};
 ghost use Rattle.tpl_reader.specs.SeenTop.{members_of};
 ghost use Rattle.tpl_reader.specs.SeenDocument.{spelled_of};
 ghost use Rattle.tpl_reader.specs.Start.{start_or_none};
-ghost use Rattle.tpl_reader.specs.Top.{top_at, IsTask, IsClaim};
+ghost use Rattle.tpl_reader.specs.TaskGrammar.{IsTask, AreShallow};
+ghost use Rattle.tpl_reader.specs.ClaimGrammar.{IsClaim};
+ghost use Rattle.tpl_reader.specs.StartGrammar.{IsStartIfAny};
+ghost use Rattle.tpl_reader.specs.TopGrammar.{IsTop};
 ghost use Rattle.tpl_reader.specs.Passes.{AllRead};
 ghost use Rattle.tpl_reader.specs.Asked.{Takes};
 ghost use Rattle.tpl_reader.specs.Document.{WrongTop, WrongTask, WrongClaim, WrongStart, IsSpelled, IsMisshapen};
@@ -35,7 +39,7 @@ pub(crate) struct Shaped<'v> {
 }
 
 fn top_part(alloc: Global, value: &Value) -> Result<Members<'_>, Stop<Part>>
-    ensures { Takes result (λ m. top_at (view value.now) ≡ Some (members_of m)) (WrongTop (view value.now)) }
+    ensures { Takes result (λ m. IsTop (view value.now) (members_of m)) (WrongTop (view value.now)) }
 {
     match members_of(alloc, value) {
         Ok(members) => Ok(members),
@@ -45,6 +49,7 @@ fn top_part(alloc: Global, value: &Value) -> Result<Members<'_>, Stop<Part>>
 }
 
 fn task_part(alloc: Global, values: &[Value]) -> Result<Vec<DraftTask>, Stop<Part>>
+    requires { AreShallow (map view values.now) }
     ensures { Takes result (λ v. AllRead IsTask (map view values.now) (map task_of v.items)) (WrongTask (map view values.now)) }
 {
     match tasks_of(alloc, values) {
@@ -84,7 +89,7 @@ fn start_part<'v>(
     alloc: Global,
     value: Option<&'v Value>,
 ) -> Result<Option<NamedStart<'v>>, Stop<Part>>
-    ensures { Takes result (λ o. start_or_none (option_map (λ v. view v.now) value.entry) ≡ Some (option_map start_of o)) (WrongStart (option_map (λ v. view v.now) value.entry)) }
+    ensures { Takes result (λ o. IsStartIfAny (option_map (λ v. view v.now) value.entry) (option_map start_of o)) (WrongStart (option_map (λ v. view v.now) value.entry)) }
 {
     match start_or_none(alloc, value) {
         Ok(start) => Ok(start),
@@ -93,8 +98,9 @@ fn start_part<'v>(
     }
 }
 
-/// The document with names, or the first part that hasn't its form.
+/// The document with names, or the first part that hasn't its form. The value nests at most 127 deep, as that of a text.
 pub(crate) fn shape_of(alloc: Global, value: &Value) -> Result<Shaped<'_>, Stop<Part>>
+    requires { depth (view value.now) ≤ 127 }
     ensures { Takes result (λ s. IsSpelled (view value.now) (spelled_of s)) (IsMisshapen (view value.now)) }
 {
     let members = top_part(alloc, value)?;

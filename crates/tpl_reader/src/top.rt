@@ -1,7 +1,8 @@
 //! Reading a document as far as its shape goes.
 
-ghost use Rattle.std.specs.Prelude.{◌≡◌, map, codes, string_bytes, option_and_then};
+ghost use Rattle.std.specs.Prelude.{◌≡◌, ◌≤◌, map, codes, string_bytes, option_and_then};
 ghost use Rattle.std.specs.Option.{option_map};
+ghost use Rattle.serde_json.specs.Data.{depth};
 ghost use Rattle.serde_json.specs.Find.{get, as_number, as_u64};
 ghost use Rattle.serde_json.specs.View.{view};
 ghost use Rattle.tpl_cert.specs.Members.{Gives, each};
@@ -9,7 +10,9 @@ ghost use Rattle.tpl_graph.specs.SeenTasks.{token_of, task_of};
 ghost use Rattle.tpl_reader.specs.SeenClaims.{claim_of};
 ghost use Rattle.tpl_reader.specs.SeenTop.{members_of};
 ghost use Rattle.tpl_reader.specs.Tasks.{token_at};
-ghost use Rattle.tpl_reader.specs.Top.{links_in, version_at, text_or_empty, top_at, IsTask, IsNoTask, IsClaim, IsNoClaim};
+ghost use Rattle.tpl_reader.specs.Top.{links_in, version_at, text_or_empty, top_at};
+ghost use Rattle.tpl_reader.specs.TaskGrammar.{IsTask, IsNoTask, AreShallow};
+ghost use Rattle.tpl_reader.specs.ClaimGrammar.{IsClaim, IsNoClaim};
 ghost use Rattle.tpl_reader.specs.Passes.{Passes, Here};
 
 use crate::claims::claim_of;
@@ -121,6 +124,7 @@ pub(crate) fn members_of(alloc: Global, value: &Value) -> Result<Members<'_>, Mi
 }
 
 fn numbered_task(alloc: Global, number: usize, value: &Value) -> Result<DraftTask, Halt<()>>
+    requires { depth (view value.now) ≤ 127 }
     ensures { Here IsTask IsNoTask (view value.now) number task_of result }
 {
     match task_of(alloc, value) {
@@ -132,6 +136,7 @@ fn numbered_task(alloc: Global, number: usize, value: &Value) -> Result<DraftTas
 
 /// The tasks with names, as far as the first that hasn't the form of one.
 pub(crate) fn tasks_of(alloc: Global, values: &[Value]) -> Result<Vec<DraftTask>, Halt<()>>
+    requires { AreShallow (map view values.now) }
     ensures { Passes IsTask IsNoTask (map view values.now) (λ v. map task_of v.items) result }
 {
     let mut tasks = Vec::new(alloc);

@@ -1,5 +1,8 @@
+use Rattle.std.proofs.Common.{map}
 use Rattle.std.proofs.lemmas.Result.{err_from_is_err_and}
+use Rattle.serde_json.specs.View.{view}
 use Rattle.tpl_reader.specs.SeenDocument.{spelled_of}
+use Rattle.tpl_reader.proofs.Checkable.{all_fit, all_within}
 use Rattle.tpl_reader.proofs.Refusals.{claim_refused, tree_refused, start_refused}
 use Rattle.tpl_reader.proofs.read.document_of.Goals as goal
 
@@ -22,3 +25,11 @@ pub returns-in_err-journal-clause-err : goal.returns-in_err-journal-clause-err
 returns-in_err-journal-clause-err c =
     let p = err_from_is_err_and c.from_residual-in_err-journal.result c.from_residual-in_err-journal.ensures.1 in
     rw (p.1, p.2) tt
+
+pub returns-clause-claims : goal.returns-clause-claims
+returns-clause-claims c =
+    all_fit c.in_ok-graph.graph _ c.in_ok-claims.claims.items c.in_ok-claims.ensures.ok
+
+pub returns-clause-trees : goal.returns-clause-trees
+returns-clause-trees c =
+    rw c.new.ensures (all_within c.in_ok-graph.graph.names (map view c.args.shaped.certificate.now) c.in_ok-trees.trees.items c.in_ok-trees.ensures.ok)

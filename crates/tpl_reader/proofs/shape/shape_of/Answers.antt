@@ -4,8 +4,12 @@ use Rattle.serde_json.specs.View.{view}
 use Rattle.tpl_graph.specs.SeenTasks.{task_of}
 use Rattle.tpl_reader.specs.SeenClaims.{claim_of}
 use Rattle.tpl_reader.specs.SeenTop.{members_of}
+use Rattle.tpl_reader.proofs.Shallow.{tasks_shallow}
 use Rattle.tpl_reader.proofs.Shapes.{top_refused, task_refused, claim_refused, start_refused}
 use Rattle.tpl_reader.proofs.shape.shape_of.Goals as goal
+
+pub task_part-requires : goal.task_part-requires
+task_part-requires c = tasks_shallow (view c.args.value.now) (members_of c.in_ok-members.members) c.requires c.in_ok-members.ensures
 
 pub returns-in_err-members : goal.returns-in_err-members
 returns-in_err-members c =

@@ -4,7 +4,7 @@ use Rattle.std.proofs.lemmas.List.{map_push}
 use Rattle.serde_json.specs.Find.{as_str}
 use Rattle.serde_json.specs.View.{view}
 use Rattle.tpl_cert.specs.Members.{each}
-use Rattle.tpl_cert.proofs.Arrays.{each_more, misses_each}
+use Rattle.tpl_reader.proofs.Arrays.{each_more, misses_each}
 use Rattle.tpl_reader.proofs.tasks.owned_texts.Goals as goal
 
 pub loop-value-init : goal.loop-value-init

@@ -3,9 +3,13 @@ use Rattle.std.proofs.lemmas.Result.{err_from_is_err_and}
 use Rattle.std.proofs.lemmas.List.{map_push}
 use Rattle.serde_json.specs.View.{view}
 use Rattle.tpl_graph.specs.SeenTasks.{task_of}
-use Rattle.tpl_reader.specs.Top.{IsTask, IsNoTask}
+use Rattle.tpl_reader.specs.TaskGrammar.{IsTask, IsNoTask}
+use Rattle.tpl_reader.proofs.Shallow.{shallow_at}
 use Rattle.tpl_reader.proofs.Passes.{read_more, halts_here}
 use Rattle.tpl_reader.proofs.top.tasks_of.Goals as goal
+
+pub numbered_task-requires : goal.numbered_task-requires
+numbered_task-requires c = rw c.index-values-index.is (shallow_at c.args.values.now c.loop-index.index c.index-values-index.result c.loop-index-test.true c.requires)
 
 pub returns-in_err-one : goal.returns-in_err-one
 returns-in_err-one c =

@@ -1,0 +1,142 @@
+-- The top of a document is read exactly where it is spelled.
+use Rattle.std.proofs.Common.{◌≡◌, ◌==◌, ℕ, List, [], map, Bool, true, false, cond, Option, Some, None, option_and_then, codes, refl, sym, ap, subst, ◌∙◌}
+use Rattle.std.proofs.lemmas.Bool.{eqb-true}
+use Rattle.serde_json.specs.Data.{Data, null, boolean, number, string, array, object, Num, unsigned, negative, float}
+use Rattle.serde_json.specs.Find.{get, as_str, as_number, as_u64}
+use Rattle.tpl_cert.specs.Members.{◌>>=◌, only_if, has_only, list_in, list_or_none, each}
+use Rattle.tpl_cert.specs.Grammar.{IfThere, IsTexts}
+use Rattle.tpl_reader.proofs.Arrays.{bind_some, some_is, each_empty, each_nothing}
+use Rattle.tpl_reader.proofs.Json.{some, some_none, only_is, string_is, texts_are, texts_read}
+use Rattle.tpl_reader.specs.Tasks.{token_at}
+use Rattle.tpl_reader.specs.Top.{Members, links_in, version_at, text_or_empty, top_at}
+use Rattle.tpl_reader.specs.TaskGrammar.{IsToken}
+use Rattle.tpl_reader.specs.TopGrammar.{version_with, IsTop}
+use Rattle.tpl_reader.proofs.ClaimLaws.{list_sound, list_read}
+use Rattle.tpl_reader.proofs.TaskLaws.{token_sound, token_read}
+
+-- ---- the version
+
+unsigned_is : (x : Num) (n : ℕ) → as_u64 x ≡ Some n → x ≡ unsigned n
+unsigned_is (unsigned m) n e = ap unsigned (some_is m n e)
+unsigned_is (negative z) n e = absurd cc
+unsigned_is (float f) n e = absurd cc
+
+number_is : (d : Data) (x : Num) → as_number d ≡ Some x → d ≡ number x
+number_is null x e = absurd cc
+number_is (boolean b) x e = absurd cc
+number_is (number y) x e = ap number (some_is y x e)
+number_is (string s) x e = absurd cc
+number_is (array ds) x e = absurd cc
+number_is (object ms) x e = absurd cc
+
+version_choice : (a b : Bool) (n : ℕ) (links : Bool) → (a ≡ true → n ≡ 1) → (b ≡ true → n ≡ 2) → cond a (Some false) (cond b (Some true) None) ≡ Some links → n ≡ version_with links
+version_choice true b n links p q e = p refl ∙ ap version_with (some_is false links e)
+version_choice false true n links p q e = q refl ∙ ap version_with (some_is true links e)
+version_choice false false n links p q e = absurd cc
+
+version_sound : (d : Data) (links : Bool) → version_at d ≡ Some links → get (codes "version") d ≡ Some (number (unsigned (version_with links)))
+unfolding version_at links_in
+version_sound d links e =
+    let a = bind_some (option_and_then as_u64 (option_and_then as_number (get (codes "version") d))) links_in links e in
+    let b = bind_some (option_and_then as_number (get (codes "version") d)) as_u64 a.0 a.1 in
+    let c = bind_some (get (codes "version") d) as_number b.0 b.1 in
+    c.1 ∙ ap (λ (x : Data). some x) (number_is c.0 b.0 c.2) ∙ ap (λ (x : Num). some (number x)) (unsigned_is b.0 a.0 b.2)
+    ∙ ap (λ (x : ℕ). some (number (unsigned x))) (version_choice (a.0 == 1) (a.0 == 2) a.0 links (eqb-true a.0 1) (eqb-true a.0 2) a.2)
+
+links_read : (links : Bool) → links_in (version_with links) ≡ Some links
+unfolding links_in
+links_read false = refl
+links_read true = refl
+
+version_read : (d : Data) (links : Bool) → get (codes "version") d ≡ Some (number (unsigned (version_with links))) → version_at d ≡ Some links
+unfolding version_at
+version_read d links e = rw e (links_read links)
+
+-- ---- lists and texts that may be left out
+
+names_there : (o : Option Data) (ds : List Data) (ts : List (List ℕ)) → list_or_none o ≡ Some ds → each as_str ds ≡ Some ts → IfThere o (IsTexts ts) (ts ≡ [])
+unfolding list_or_none
+names_there None ds ts e f =
+    let nothing : [] ≡ ds = some_is [] ds e in
+    let none : each as_str [] ≡ Some ts = rw nothing f in
+    sym (each_nothing as_str ts none)
+names_there (Some d) ds ts e f = e ∙ ap (λ (xs : List Data). some xs) (texts_are ds ts f)
+
+names_back : (o : Option Data) (ts : List (List ℕ)) → IfThere o (IsTexts ts) (ts ≡ []) → (ds : List Data) × (list_or_none o ≡ Some ds) × (each as_str ds ≡ Some ts)
+unfolding list_or_none
+names_back None ts p = ([], refl, rw p (each_empty as_str))
+names_back (Some d) ts p = (map string ts, p, texts_read ts)
+
+elements_there : (o : Option Data) (ds : List Data) → list_or_none o ≡ Some ds → IfThere o (λ x. list_in x ≡ Some ds) (ds ≡ [])
+unfolding list_or_none
+elements_there None ds e = sym (some_is [] ds e)
+elements_there (Some d) ds e = e
+
+elements_back : (o : Option Data) (ds : List Data) → IfThere o (λ x. list_in x ≡ Some ds) (ds ≡ []) → list_or_none o ≡ Some ds
+unfolding list_or_none
+elements_back None ds p = rw p refl
+elements_back (Some d) ds p = p
+
+text_there : (o : Option Data) (t : List ℕ) → text_or_empty o ≡ Some t → IfThere o (λ x. x ≡ string t) (t ≡ [])
+unfolding text_or_empty
+text_there None t e = sym (some_is [] t e)
+text_there (Some d) t e = string_is d t e
+
+text_back : (o : Option Data) (t : List ℕ) → IfThere o (λ x. x ≡ string t) (t ≡ []) → text_or_empty o ≡ Some t
+unfolding text_or_empty
+text_back None t p = rw p refl
+text_back (Some d) t p = rw p refl
+
+-- ---- the top
+
+pub top_sound : (d : Data) (m : Members) → top_at d ≡ Some m → IsTop d m
+unfolding top_at
+top_sound d m e =
+    let a = bind_some (only_if (has_only _ d)) _ m e in
+    let b = bind_some (version_at d) _ m a.2 in
+    let c = bind_some (list_or_none (get (codes "inputs") d)) _ m b.2 in
+    let f = bind_some (each as_str c.0) _ m c.2 in
+    let g = bind_some (list_or_none (get (codes "tokens") d)) _ m f.2 in
+    let h = bind_some (each (token_at b.0) g.0) _ m g.2 in
+    let i = bind_some (get (codes "tasks") d >>= list_in) _ m h.2 in
+    let j = bind_some (list_or_none (get (codes "claims") d)) _ m i.2 in
+    let k = bind_some (list_or_none (get (codes "certificate") d)) _ m j.2 in
+    let l = bind_some (text_or_empty (get (codes "journal") d)) _ m k.2 in
+    let tasks = bind_some (get (codes "tasks") d) list_in i.0 i.1 in
+    subst (λ (x : Members). IsTop d x) (some_is (record { inputs = f.0; tokens = h.0; tasks = i.0; claims = j.0; certificate = k.0; journal = l.0; start = get (codes "start") d }) m l.2)
+    (record {
+      only = only_is _ _ a.1;
+      links = b.0;
+      version = version_sound d b.0 b.1;
+      inputs = names_there (get (codes "inputs") d) c.0 f.0 c.1 f.1;
+      tokens = list_sound (token_at b.0) (IsToken b.0) (token_sound b.0) (get (codes "tokens") d) g.0 h.0 g.1 h.1;
+      tasks = tasks;
+      claims = elements_there (get (codes "claims") d) j.0 j.1;
+      certificate = elements_there (get (codes "certificate") d) k.0 k.1;
+      journal = text_there (get (codes "journal") d) l.0 l.1;
+      start = refl;
+    })
+
+top_read : (d : Data) (m : Members) → IsTop d m → top_at d ≡ Some m
+unfolding top_at
+top_read d m is =
+    let inputs = names_back (get (codes "inputs") d) m.inputs is.inputs in
+    let tokens = list_read (token_at is.links) (IsToken is.links) (token_read is.links) (get (codes "tokens") d) m.tokens is.tokens in
+    rw (
+      is.only,
+      version_read d is.links is.version,
+      inputs.1,
+      inputs.2,
+      tokens.1,
+      tokens.2,
+      is.tasks.1,
+      is.tasks.2,
+      elements_back (get (codes "claims") d) m.claims is.claims,
+      elements_back (get (codes "certificate") d) m.certificate is.certificate,
+      text_back (get (codes "journal") d) m.journal is.journal,
+      ← is.start,
+    )
+    refl
+
+pub no_top : (d : Data) → top_at d ≡ None → (m : Members) → IsTop d m → ⊥
+no_top d e m is = some_none m (top_at d) (top_read d m is) e

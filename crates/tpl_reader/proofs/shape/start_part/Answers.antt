@@ -1,0 +1,11 @@
+use Rattle.std.specs.Option.{option_map}
+use Rattle.serde_json.specs.View.{view}
+use Rattle.tpl_reader.specs.SeenStart.{start_of}
+use Rattle.tpl_reader.proofs.StartLaws.{if_any_sound, no_start}
+use Rattle.tpl_reader.proofs.shape.start_part.Goals as goal
+
+pub returns-in-Ok : goal.returns-in-Ok
+returns-in-Ok c = if_any_sound (option_map (λ v. view v.now) c.args.value) (option_map start_of c.in-Ok.start) c.in-Ok.ensures
+
+pub returns-in-Err-Shape : goal.returns-in-Err-Shape
+returns-in-Err-Shape c = no_start (option_map (λ v. view v.now) c.args.value) (rw c.in-Err-Shape.field-0-is at c.in-Err-Shape.ensures)

@@ -1,0 +1,10 @@
+use Rattle.serde_json.specs.View.{view}
+use Rattle.tpl_reader.specs.SeenTop.{members_of}
+use Rattle.tpl_reader.proofs.TopLaws.{top_sound, no_top}
+use Rattle.tpl_reader.proofs.shape.top_part.Goals as goal
+
+pub returns-in-Ok : goal.returns-in-Ok
+returns-in-Ok c = top_sound (view c.args.value.now) (members_of c.in-Ok.members) c.in-Ok.ensures
+
+pub returns-in-Err-Shape : goal.returns-in-Err-Shape
+returns-in-Err-Shape c = no_top (view c.args.value.now) (rw c.in-Err-Shape.field-0-is at c.in-Err-Shape.ensures)

@@ -1,0 +1,11 @@
+use Rattle.std.proofs.Common.{refl}
+use Rattle.serde_json.specs.View.{view}
+use Rattle.tpl_reader.specs.SeenClaims.{claim_of}
+use Rattle.tpl_reader.proofs.ClaimLaws.{claim_sound, no_claim}
+use Rattle.tpl_reader.proofs.top.numbered_claim.Goals as goal
+
+pub returns-in-Ok : goal.returns-in-Ok
+returns-in-Ok c = claim_sound (view c.args.value.now) (claim_of c.in-Ok.claim) c.in-Ok.ensures
+
+pub returns-in-Err-Shape : goal.returns-in-Err-Shape
+returns-in-Err-Shape c = (refl, no_claim (view c.args.value.now) (rw c.in-Err-Shape.field-0-is at c.in-Err-Shape.ensures))
