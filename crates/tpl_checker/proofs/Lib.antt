@@ -9,3 +9,4 @@ pub mod LeafLemmas
 pub mod ShapeLemmas
 pub mod SettledLemmas
 pub mod TreeLemmas
+pub mod AcceptedLemmas

@@ -1,14 +1,17 @@
 //! What a leaf assumes.
 
 ghost use Rattle.std.specs.Prelude.{◌≡◌, ◌<◌, ℕ, ◌&&◌, Bool, true};
-ghost use Rattle.tpl_script.specs.View.{may_have};
+ghost use Rattle.std.specs.Option.{option_map};
+ghost use Rattle.tpl_words.specs.Finals.{has};
+ghost use Rattle.tpl_graph.specs.Ids.{token_number};
+ghost use Rattle.tpl_script.specs.View.{known, may_have};
 ghost use Rattle.tpl_model.specs.Certificate.{same, with_input, with_end, is_loud};
 ghost use Rattle.tpl_model.specs.Graph.{is_task};
 ghost use Rattle.tpl_checker.specs.Assumptions.{assumed_of, nothing_assumed, with_quiet};
 
 use tpl_graph::Graph;
-use tpl_script::Possible;
-use tpl_words::{Final, InputId, TaskId, TaskSet, TokenId};
+use tpl_script::{Possible, View};
+use tpl_words::{Final, Finals, InputId, TaskId, TaskSet, TokenId};
 
 /// Of these values this one.
 fn narrowed(possible: Possible, value: bool) -> Possible
@@ -21,9 +24,9 @@ fn narrowed(possible: Possible, value: bool) -> Possible
 }
 
 /// What a leaf assumes: the values that each input may have, the tokens that are never requested,
-/// and for each way to end the tasks that don't end so.
+/// and for each way to end the tasks that don't end so. It is 448 bytes long.
 #[derive(Drop)]
-pub(crate) struct Assumptions {
+pub struct Assumptions {
     pub(crate) inputs: [Possible; 16],
     pub(crate) quiet: [bool; 32],
     pub(crate) not_ran: TaskSet,
@@ -49,7 +52,7 @@ impl Assumptions {
     }
 
     /// The same again.
-    pub(crate) fn copy(&self) -> Assumptions
+    pub fn copy(&self) -> Assumptions
         ensures { result ≡ self.now }
     {
         Assumptions {
@@ -61,8 +64,8 @@ impl Assumptions {
         }
     }
 
-    /// On the branch of a split where the input has this value.
-    pub(crate) fn with_input(&self, input: InputId, value: bool) -> Assumptions
+    /// On the branch of a split where the input, one of the first 16, has this value.
+    pub fn with_input(&self, input: InputId, value: bool) -> Assumptions
         requires { input.0 < 16 }
         ensures { assumed_of result ≡ with_input (assumed_of self.now) input.0 value }
     {
@@ -81,8 +84,9 @@ impl Assumptions {
         assumed
     }
 
-    /// On the branch of a split where the task, if it ends, does so in this way.
-    pub(crate) fn with_end(&self, task: TaskId, status: Final) -> Assumptions
+    /// On the branch of a split where the task, one of the first 1,024, ends in this way if it
+    /// ends.
+    pub fn with_end(&self, task: TaskId, status: Final) -> Assumptions
         requires { task.0 < 1024 }
         ensures { assumed_of result ≡ with_end (assumed_of self.now) task.0 status }
     {
@@ -100,7 +104,7 @@ impl Assumptions {
     }
 
     /// The task may end in this way.
-    pub(crate) fn may_end(&self, task: TaskId, status: Final) -> bool
+    pub fn may_end(&self, task: TaskId, status: Final) -> bool
         ensures { result ≡ (assumed_of self.now).cut task.0 status }
     {
         match status {
@@ -119,13 +123,25 @@ impl Assumptions {
     }
 
     /// The task has a token that may be requested.
-    pub(crate) fn is_loud(&self, graph: &Graph, task: TaskId) -> bool
+    pub fn is_loud(&self, graph: &Graph, task: TaskId) -> bool
         requires { is_task graph.now.graph task.0 }
         ensures { result ≡ is_loud graph.now.graph (assumed_of self.now) task.0 }
     {
         match graph.own_token(task) {
             None => false,
             Some(token) => !self.is_quiet(token),
+        }
+    }
+
+    /// What the body of a task with this token sees, whose subject may have ended in these ways.
+    pub fn view(&self, own: Option<TokenId>, subject: Finals) -> View
+        ensures { known result ≡ record { possible = (assumed_of self.now).possible; quiet = (assumed_of self.now).quiet; own = option_map token_number own; subject = has subject } }
+    {
+        View {
+            inputs: self.inputs,
+            quiet: self.quiet,
+            own,
+            subject,
         }
     }
 }

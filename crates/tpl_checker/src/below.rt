@@ -15,13 +15,13 @@ use tpl_words::{TaskId, TaskSet};
 /// The tasks below each task of a graph: its attached children, theirs, and so on. It is 128
 /// kilobytes long, and made once for all leaves.
 #[derive(Drop)]
-pub(crate) struct Below {
+pub struct Below {
     sets: [TaskSet; 1024],
 }
 
 impl Below {
     /// Of each task of the graph.
-    pub(crate) fn of_graph(graph: &Graph) -> Below
+    pub fn of_graph(graph: &Graph) -> Below
         ensures { AreBelow graph.now.graph result }
     {
         graph.valid();
@@ -34,7 +34,7 @@ impl Below {
     }
 
     /// The tasks below one.
-    pub(crate) fn of(&self, task: TaskId) -> &TaskSet
+    pub fn of(&self, task: TaskId) -> &TaskSet
         requires { task.0 < 1024 }
         ensures { result.now ≡ slice_index_or self.now.sets task.0 [] }
     {

@@ -16,7 +16,7 @@ use tpl_words::TokenId;
 
 /// What is assumed where this is given: the values of its inputs, and that its tokens, their
 /// sources, and theirs, are never requested.
-pub(crate) fn assumed(graph: &Graph, given: &[Given]) -> Assumptions
+pub fn assumed(graph: &Graph, given: &[Given]) -> Assumptions
     requires { AreGivenOf graph.now.graph given.now }
     ensures { assumed_of result ≡ assumed graph.now.graph given.now }
 {

@@ -1,7 +1,8 @@
 //! The first fault of a leaf.
 
-ghost use Rattle.std.specs.Prelude.{◌≡◌, IsTrue, length};
+ghost use Rattle.std.specs.Prelude.{◌≡◌, ◌↔◌, IsTrue, length};
 ghost use Rattle.tpl_model.specs.Graph.{is_task, kind};
+ghost use Rattle.tpl_model.specs.Certificate.{AcceptsTree, Leaf};
 ghost use Rattle.tpl_claims.specs.Fits.{TasksOf};
 ghost use Rattle.tpl_laws.specs.Verdict.{broken, first_broken, leaf_fault, past_rule, rows_fit};
 ghost use Rattle.tpl_checker.specs.Assumptions.{assumed_of};
@@ -19,6 +20,7 @@ use crate::ends::ends;
 use crate::past::past;
 use crate::property::proves;
 use crate::ready::{Ready, ready_of};
+use crate::shape::rows_fit;
 use tpl_cert::Row;
 use tpl_graph::Graph;
 use tpl_model::{Property, Rule};
@@ -31,6 +33,35 @@ pub(crate) enum LeafFault {
     Breaks(TaskId, Rule),
     /// The leaf is closed and doesn't prove the claim.
     ProvesNot,
+}
+
+/// Whether a leaf with these rows is accepted: it has one row for each task, each id in it is the
+/// graph's, it is closed under what is assumed, and it proves the property. The tasks below are the
+/// graph's (`Below::of_graph`). No memory is taken.
+pub fn accepts_leaf(
+    graph: &Graph,
+    property: Property,
+    assumed: &Assumptions,
+    below: &Below,
+    rows: &[Row],
+) -> bool
+    requires tasks { TasksOf graph.now.graph property }
+    requires below { AreBelow graph.now.graph below.now }
+    ensures { IsTrue result ↔ AcceptsTree graph.now.graph property (assumed_of assumed.now) (Leaf rows.now) }
+{
+    graph.valid();
+    tpl_laws::first_broken_is_right();
+    tpl_laws::proves_is_right();
+    if rows.len() != graph.len() {
+        return false;
+    }
+    if !rows_fit(graph, rows) {
+        return false;
+    }
+    match leaf_fault(graph, property, assumed, below, rows) {
+        None => true,
+        Some(_) => false,
+    }
 }
 
 /// The first row that breaks a rule, or that the leaf doesn't prove the claim.

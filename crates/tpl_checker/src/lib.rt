@@ -19,4 +19,10 @@ mod tree;
 mod verdict;
 mod view;
 
+pub use assumptions::Assumptions;
+pub use below::Below;
+pub use given::assumed;
+pub use leaf::accepts_leaf;
+pub use ready::{Ready, parent, ready_of};
+pub use rows::{allowed, excluded, some_end};
 pub use verdict::check;

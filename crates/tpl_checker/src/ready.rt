@@ -12,7 +12,7 @@ use tpl_words::TaskId;
 
 /// What makes a task ready, with the tasks that it waits for.
 #[derive(Clone, Copy)]
-pub(crate) enum Ready<'g> {
+pub enum Ready<'g> {
     /// It is ready from the first.
     Root,
     /// Its parent starts it.
@@ -26,7 +26,7 @@ pub(crate) enum Ready<'g> {
 }
 
 /// What makes the task ready.
-pub(crate) fn ready_of(graph: &Graph, task: TaskId) -> Ready<'_>
+pub fn ready_of(graph: &Graph, task: TaskId) -> Ready<'_>
     requires { is_task graph.now.graph task.0 }
     ensures kind { kind_in result ≡ kind graph.now.graph task.0 }
     ensures within { AreWithin (length graph.now.graph.tasks) result }
@@ -44,7 +44,7 @@ pub(crate) fn ready_of(graph: &Graph, task: TaskId) -> Ready<'_>
 }
 
 /// The task whose body starts a child, if there is one.
-pub(crate) fn parent(graph: &Graph, task: TaskId) -> Option<TaskId>
+pub fn parent(graph: &Graph, task: TaskId) -> Option<TaskId>
     requires { is_task graph.now.graph task.0 }
     ensures parent { option_map task_number result ≡ parent_of graph.now.graph task.0 }
     ensures child { IfSome result (λ p. IsParent graph.now.graph p.0 task.0) }

@@ -20,14 +20,14 @@ pub(crate) fn row(rows: &[Row], task: TaskId) -> &Row
 }
 
 /// There is a way to end among these.
-pub(crate) fn some_end(finals: Finals) -> bool
+pub fn some_end(finals: Finals) -> bool
     ensures { result ≡ some_end (has finals) }
 {
     finals.ran || finals.canceled || finals.faulted
 }
 
 /// Those of the ways to end that a continuation with the options runs after.
-pub(crate) fn allowed(finals: Finals, options: Options) -> Finals
+pub fn allowed(finals: Finals, options: Options) -> Finals
     ensures { (f : Final) → has result f ≡ (has finals f && allows options f) }
 {
     Finals {
@@ -38,7 +38,7 @@ pub(crate) fn allowed(finals: Finals, options: Options) -> Finals
 }
 
 /// Those of the ways to end that a continuation with the options doesn't run after.
-pub(crate) fn excluded(finals: Finals, options: Options) -> Finals
+pub fn excluded(finals: Finals, options: Options) -> Finals
     ensures { (f : Final) → has result f ≡ (has finals f && not (allows options f)) }
 {
     Finals {

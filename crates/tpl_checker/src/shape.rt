@@ -32,7 +32,8 @@ pub(crate) fn fits(graph: &Graph, tree: &Tree) -> bool
     }
 }
 
-fn rows_fit(graph: &Graph, rows: &[Row]) -> bool
+/// Each id in the rows is the graph's.
+pub(crate) fn rows_fit(graph: &Graph, rows: &[Row]) -> bool
     ensures { result ≡ rows_fit graph.now.graph rows.now }
 {
     let all = all_tasks(graph);
