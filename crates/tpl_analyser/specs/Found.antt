@@ -1,0 +1,12 @@
+-- A tree that is found for a claim.
+use Rattle.std.specs.Prelude.{ℕ, ◌≤◌}
+use Rattle.tpl_model.specs.Graph.{TaskGraph}
+use Rattle.tpl_model.specs.declared.claim.Property.{Property}
+use Rattle.tpl_model.specs.Certificate.{Tree, Assumed, AcceptsTree}
+use Rattle.tpl_cert.specs.Heights.{height, HasShortChains}
+
+-- the tree is accepted for the property under what is assumed, has at most n splits on each path, and no chain past the limit
+pub record IsFound (g : TaskGraph) (p : Property) (l : Assumed) (n : ℕ) (tree : Tree) : Type 0 where
+  pub accepted : AcceptsTree g p l tree
+  pub splits : height tree ≤ n
+  pub chains : HasShortChains tree

@@ -1,0 +1,23 @@
+-- Which claim is named where no certificate is given.
+use Rattle.std.specs.Prelude.{◌≡◌, ℕ, ◌+◌, ◌≤◌, ◌++◌, ◌∷◌, List, length, All}
+use Rattle.tpl_model.specs.Graph.{TaskGraph}
+use Rattle.tpl_model.specs.Claims.{Claim}
+use Rattle.tpl_model.specs.Certificate.{Tree, Accepts}
+use Rattle.tpl_cert.specs.Heights.{height}
+use Rattle.tpl_analyser.specs.declared.gap.Gap.{Gap}
+use Rattle.tpl_analyser.specs.declared.gap.Gap.TheVariants.{NotFound, Memory}
+
+-- the claim of this number, where the first has the number 1: those before it have a certificate with at most so many splits on each path
+pub record IsFirstWithout (g : TaskGraph) (claims : List Claim) (depth number : ℕ) : Type 0 where
+  pub before : List Claim
+  pub claim : Claim
+  pub behind : List Claim
+  pub claims_are : claims ≡ before ++ claim ∷ behind
+  pub at : number ≡ length before + 1
+  pub trees : List Tree
+  pub accepted : Accepts g before trees
+  pub splits : All (λ tree. height tree ≤ depth) trees
+
+abbrev pub IsGap : TaskGraph → List Claim → ℕ → Gap → Type 0
+IsGap g claims depth (NotFound claim) = IsFirstWithout g claims depth claim
+IsGap g claims depth Memory = Unit {0}

@@ -1,0 +1,4 @@
+pub mod Stages
+pub mod Found
+pub mod Gaps
+pub mod Questions

@@ -1,0 +1,114 @@
+//! The search for a certificate.
+
+ghost use Rattle.std.specs.Prelude.{◌≡◌, ◌≤◌, IfOk, IfErr, IfSome};
+ghost use Rattle.std.specs.List.{All};
+ghost use Rattle.tpl_cert.specs.Heights.{height, IsWithinLimits};
+ghost use Rattle.tpl_claims.specs.Fits.{Fits};
+ghost use Rattle.tpl_model.specs.Certificate.{Accepts, assumed};
+ghost use Rattle.tpl_checker.specs.Assumptions.{assumed_of};
+ghost use Rattle.tpl_checker.specs.Below.{AreBelow};
+ghost use Rattle.tpl_analyser.specs.Found.{IsFound};
+ghost use Rattle.tpl_analyser.specs.Gaps.{IsGap};
+ghost use Rattle.tpl_analyser.specs.Questions.{IsReady};
+ghost use Rattle.tpl_analyser.specs.Stages.{IsStageOf};
+
+use crate::branch::Branch;
+use crate::cone::cone;
+use crate::gap::Gap;
+use crate::leaf::leaf;
+use crate::question::Question;
+use crate::search::{Reach, split};
+use crate::stages::{Stage, stages};
+use std::alloc::{AllocError, Global};
+use tpl_cert::{Certificate, Tree};
+use tpl_checker::Below;
+use tpl_claims::Claim;
+use tpl_graph::Graph;
+
+/// The most leaves that are tried for one claim (this program's own limit).
+const MOST_LEAVES: u32 = 100_000;
+
+/// Searches a certificate of the claims, each of which can be asked of the graph, with at most
+/// `depth` splits on each path, and at most 6. For each claim, trees with 0 splits on a path are
+/// tried first, then such with 1, and so on.
+///
+/// The certificate that it gives is accepted, so each claim holds in every run. `NotFound` names
+/// the first claim for which no tree is found within 100,000 leaves; it doesn't say that the claim
+/// is false. `Memory` says that an allocation was refused. Memory is taken for the tree that is
+/// found and for the leaf that is tried.
+pub fn analyse(
+    alloc: Global,
+    graph: &Graph,
+    claims: &[Claim],
+    depth: u8,
+) -> Result<Certificate, Gap>
+    requires claims { All (Fits graph.now.graph) claims.now }
+    requires depth { depth ≤ 6 }
+    ensures accepted { IfOk result (λ c. Accepts graph.now.graph claims.now c) }
+    ensures splits { IfOk result (All (λ tree. height tree ≤ depth)) }
+    ensures limits { IfOk result (All IsWithinLimits) }
+    ensures gap { IfErr result (IsGap graph.now.graph claims.now depth) }
+{
+    let below = Below::of_graph(graph);
+    let stages = stages(alloc, graph, &below)?;
+    let mut trees = Vec::new(alloc);
+    for at in 0..claims.len() {
+        match tree_for(alloc, graph, &below, &stages, &claims[at], depth)? {
+            Some(tree) => trees.push(tree)?,
+            None => return Err(Gap::NotFound { claim: at + 1 }),
+        }
+    }
+    Ok(Certificate::new(trees))
+}
+
+/// A tree for one claim.
+fn tree_for(
+    alloc: Global,
+    graph: &Graph,
+    below: &Below,
+    stages: &[Stage],
+    claim: &Claim,
+    depth: u8,
+) -> Result<Option<Tree>, AllocError>
+    requires claim { Fits graph.now.graph claim.now }
+    requires below { AreBelow graph.now.graph below.now }
+    requires stages { All (IsStageOf graph.now.graph) stages.now }
+    ensures { IfOk result (λ found. IfSome found (IsFound graph.now.graph claim.now.body (assumed graph.now.graph claim.now.given) depth)) }
+{
+    let cone = cone(graph, claim.body());
+    let question = Question {
+        graph,
+        below,
+        stages,
+        property: claim.body(),
+        cone: &cone,
+    };
+    let root = Branch::root(question, claim.given());
+    deepened(alloc, question, &root, depth)
+}
+
+/// A tree with as few splits on a path as one is found with.
+fn deepened(
+    alloc: Global,
+    question: Question<'_>,
+    root: &Branch,
+    depth: u8,
+) -> Result<Option<Tree>, AllocError>
+    requires { IsReady question }
+    ensures { IfOk result (λ found. IfSome found (IsFound question.entry.graph.now.graph question.entry.property (assumed_of root.now.assumed) depth)) }
+{
+    let mut left = MOST_LEAVES;
+    if let Some(tree) = leaf(alloc, question, root, &mut left)? {
+        return Ok(Some(tree));
+    }
+    for fewer in 0..depth {
+        let reach = Reach {
+            splits: fewer + 1,
+            failed: true,
+        };
+        if let Some(tree) = split(alloc, question, root, reach, &mut left)? {
+            return Ok(Some(tree));
+        }
+    }
+    Ok(None)
+}
