@@ -6,7 +6,7 @@ ghost use Rattle.tpl_report.specs.Exit.{exit_code};
 /// How the program ends.
 #[derive(Clone, Copy, Debug, Drop, PartialEq, Eq)]
 pub enum Exit {
-    /// The certificate is accepted, a certificate was found, or the run is complete.
+    /// The certificate is accepted, a certificate was found, the run is complete, or help was given.
     Success,
     /// It isn't.
     Failure,

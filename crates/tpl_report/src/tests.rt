@@ -1,12 +1,16 @@
 //! Commands over devices whose bytes no clause knows.
 ghost use Rattle.std.specs.Prelude.{◌≡◌, ◌++◌, codes, decimal, length};
 
-use crate::{Answer, Command, Exit, put_out_of_memory, respond};
+use crate::{Answer, Ask, Command, Exit, put_out_of_memory, respond, serve};
 use std::alloc::{AllocError, Global};
 use std::io;
 use std::io::{ErrorKind, Read, Write};
 use std::test::*;
 use tpl_journal::Counting;
+
+/// One task that returns, the claim that it ends RanToCompletion, and its certificate.
+const ONE_ROOT: &[u8] =
+    b"{\"version\":1,\"tasks\":[{\"name\":\"A\",\"kind\":\"root\",\"body\":[\"return\"]}],\"claims\":[{\"final\":\"A\",\"in\":[\"RanToCompletion\"]}],\"certificate\":[{\"rows\":[{\"ends\":[\"RanToCompletion\"],\"runs\":true}]}]}";
 
 /// Answers with the number of bytes.
 struct Count;
@@ -180,5 +184,50 @@ fn codes_of_exits(rt: HostRuntime) -> Result<(), Fail> {
         Exit::Device.code(),
     ];
     assert_eq!(rt; codes, [0, 1, 2, 3, 4, 5]);
+    Ok(())
+}
+
+/// What the check of what is read gave: the exit and what was written.
+fn served<R: Read + Drop>(alloc: Global, reader: R, fails: usize) -> (Exit, Vec<u8>) {
+    let mut from = Counting::new(reader);
+    let mut to = Counting::new(Narrow {
+        held: Vec::new(alloc),
+        writes: 0,
+        fails,
+    });
+    let exit = serve(alloc, Ask::Check, &mut from, &mut to);
+    let Narrow { held, .. } = to.into_inner();
+    (exit, held)
+}
+
+#[test]
+fn checks_a_document_byte_by_byte(rt: HostRuntime) -> Result<(), Fail> {
+    let never = usize::MAX;
+    let (exit, held) = served(rt.alloc(), text_of(ONE_ROOT, never), never);
+    assert_eq!(rt; exit, Exit::Success);
+    assert!(rt; held.as_slice() == b"accepted\n".as_slice());
+
+    let (exit, held) = served(rt.alloc(), Endless, never);
+    assert_eq!(rt; exit, Exit::Unreadable);
+    assert!(rt; held.as_slice() == b"unreadable: too long\n".as_slice());
+    Ok(())
+}
+
+#[test]
+fn a_check_ends_at_each_failed_read(rt: HostRuntime) -> Result<(), Fail> {
+    for n in 0..=ONE_ROOT.len() {
+        let (exit, held) = served(rt.alloc(), text_of(ONE_ROOT, n), usize::MAX);
+        assert!(rt; exit == Exit::Device && held.is_empty(), "read {n}");
+    }
+    Ok(())
+}
+
+#[test]
+fn a_check_ends_at_each_failed_write(rt: HostRuntime) -> Result<(), Fail> {
+    for n in 0..9usize {
+        let (exit, held) = served(rt.alloc(), text_of(ONE_ROOT, usize::MAX), n);
+        assert!(rt; exit == Exit::Device, "write {n}");
+        assert!(rt; held.as_slice() == &b"accepted\n"[..n], "write {n}");
+    }
     Ok(())
 }

@@ -20,13 +20,13 @@ fn rule_name(rule: Rule) -> &'static str
     }
 }
 
-fn refused_shape(alloc: Global, claim: usize) -> Result<String, AllocError>
+pub(crate) fn refused_shape(alloc: Global, claim: usize) -> Result<String, AllocError>
     ensures { IfOk result (λ text. string_bytes text ≡ refused_shape claim) }
 {
     format!(in alloc; "refused: shape claim {claim}\n")
 }
 
-fn refused_leaf(
+pub(crate) fn refused_leaf(
     alloc: Global,
     claim: usize,
     leaf: usize,
@@ -39,19 +39,19 @@ fn refused_leaf(
     format!(in alloc; "refused: not closed claim {claim} leaf {leaf} task {name} rule {rule}\n")
 }
 
-fn refused_claim(alloc: Global, claim: usize, leaf: usize) -> Result<String, AllocError>
+pub(crate) fn refused_claim(alloc: Global, claim: usize, leaf: usize) -> Result<String, AllocError>
     ensures { IfOk result (λ text. string_bytes text ≡ refused_claim claim leaf) }
 {
     format!(in alloc; "refused: claim {claim} leaf {leaf}\n")
 }
 
-fn unreadable(alloc: Global, what: &str) -> Result<String, AllocError>
+pub(crate) fn unreadable(alloc: Global, what: &str) -> Result<String, AllocError>
     ensures { IfOk result (λ text. string_bytes text ≡ unreadable what.now) }
 {
     format!(in alloc; "unreadable: {what}\n")
 }
 
-fn unreadable_part(
+pub(crate) fn unreadable_part(
     alloc: Global,
     part: &str,
     number: usize,
@@ -62,19 +62,19 @@ fn unreadable_part(
     format!(in alloc; "unreadable: {part} {number} {why}\n")
 }
 
-fn unreadable_at(alloc: Global, part: &str, number: usize) -> Result<String, AllocError>
+pub(crate) fn unreadable_at(alloc: Global, part: &str, number: usize) -> Result<String, AllocError>
     ensures { IfOk result (λ text. string_bytes text ≡ unreadable_at part.now number) }
 {
     format!(in alloc; "unreadable: {part} {number}\n")
 }
 
-fn unreadable_graph(alloc: Global, why: &str, task: usize) -> Result<String, AllocError>
+pub(crate) fn unreadable_graph(alloc: Global, why: &str, task: usize) -> Result<String, AllocError>
     ensures { IfOk result (λ text. string_bytes text ≡ unreadable_graph why.now task) }
 {
     format!(in alloc; "unreadable: graph {why} task {task}\n")
 }
 
-fn unreadable_start(alloc: Global, why: &str) -> Result<String, AllocError>
+pub(crate) fn unreadable_start(alloc: Global, why: &str) -> Result<String, AllocError>
     ensures { IfOk result (λ text. string_bytes text ≡ unreadable_start why.now) }
 {
     format!(in alloc; "unreadable: start {why}\n")

@@ -1,0 +1,72 @@
+#!/usr/bin/env python3
+"""Refuses each allocation of the program in turn, alone and with all after it, for the first case of each file: the answer
+is the same, or 'out of memory' with exit 4.
+
+usage: cases/memory.py [PROGRAM]    crates/tpl_cli/out/tpl_cli, if none is named
+
+The toolchain's own C compiler builds what refuses them. The last line is 'N passed, M failed'.
+"""
+import json
+import os
+import pathlib
+import subprocess
+import sys
+import tempfile
+
+from run import given
+
+HERE = pathlib.Path(__file__).resolve().parent
+
+
+def shared(folder):
+    """Builds refuse.c in the folder, by the compiler beside `rt`."""
+    guide = subprocess.run(["rt", "doc"], stdout=subprocess.PIPE, check=True, text=True)
+    tools = pathlib.Path(guide.stdout.strip()).parent / "toolchain/bin"
+    target = ["--target=x86_64-unknown-linux-gnu", "-O1", "-fPIC"]
+    made, library = f"{folder}/refuse.o", f"{folder}/refuse.so"
+    subprocess.run([tools / "clang", *target, "-c", HERE / "refuse.c", "-o", made], check=True)
+    subprocess.run([tools / "ld.lld", "-shared", made, "-o", library], check=True)
+    return library
+
+
+def answer(program, case, library, **refusing):
+    """What the program writes, how it ends, and what refuse.c says."""
+    ended = subprocess.run(
+        [program, case["command"], *case["args"]],
+        input=given(case),
+        stdout=subprocess.PIPE,
+        stderr=subprocess.PIPE,
+        env={**os.environ, "LD_PRELOAD": library, **refusing},
+        timeout=120,
+    )
+    return (ended.stdout, ended.returncode), ended.stderr
+
+
+def differs(program, case, library):
+    """Where an answer with a refused allocation is another one, or None."""
+    full, asked = answer(program, case, library)
+    for number in range(1, int(asked) + 1):
+        for rest in ({}, {"REFUSE_REST": "1"}):
+            got, _ = answer(program, case, library, REFUSED=str(number), **rest)
+            if got not in (full, (b"out of memory\n", 4)):
+                return f"allocation {number} of {int(asked)} refused: {got}, not {full}"
+    return None
+
+
+def main():
+    program = sys.argv[1] if len(sys.argv) > 1 else HERE.parent / "crates/tpl_cli/out/tpl_cli"
+    passed = failed = 0
+    with tempfile.TemporaryDirectory() as folder:
+        library = shared(folder)
+        for file in sorted(HERE.glob("*.json")):
+            case = json.loads(file.read_text(encoding="utf-8"))[0]
+            why = differs(program, case, library)
+            passed, failed = passed + (not why), failed + bool(why)
+            if why:
+                print(f"{file.name}: {case['name']}: {why}")
+    print(f"{passed} passed, {failed} failed")
+    return 1 if failed else 0
+
+
+if __name__ == "__main__":
+    sys.exit(main())

@@ -1,0 +1,43 @@
+//! The commands that read one document and write one text.
+
+ghost use Rattle.std.specs.Prelude.{◌≡◌, ◌+◌, ◌≤◌};
+ghost use Rattle.tpl_journal.specs.Counting.{calls_of};
+ghost use Rattle.tpl_report.specs.Responding.{longest, Responds};
+ghost use Rattle.tpl_report.specs.Serving.{answers_of, Accepted};
+
+use crate::checking::Check;
+use crate::exit::Exit;
+use crate::responding::respond;
+use std::alloc::Global;
+use std::io::{Read, Write};
+use tpl_journal::Counting;
+
+/// What is asked of a document.
+#[derive(Clone, Copy, Debug, PartialEq, Eq)]
+pub enum Ask {
+    /// Is its certificate accepted?
+    Check,
+}
+
+/// Reads a document to its end, at most 16,777,216 bytes, and writes the answer. The text is made
+/// whole before its first byte is written. A failed read ends the reading, and then nothing is
+/// written; after a failed write no more is.
+pub fn serve<R: Read, W: Write>(
+    alloc: Global,
+    ask: Ask,
+    from: &mut Counting<R>,
+    to: &mut Counting<W>,
+) -> Exit
+    ensures responds { Responds (answers_of ask) R.remaining from.old from.new
+        W.contents to.old to.new result }
+    ensures reads { calls_of from.new ≤ calls_of from.old + (longest + 2) }
+
+    // From the check's success each claim is known to hold in every run, for all inputs and
+    // whatever comes from outside.
+    ensures accepted { ask ≡ Ask.Check → result ≡ Exit.Success
+        → Accepted R.remaining from.old from.new W.contents to.old to.new }
+{
+    match ask {
+        Ask::Check => respond(&Check, alloc, from, to),
+    }
+}
