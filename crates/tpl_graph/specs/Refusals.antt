@@ -218,6 +218,6 @@ pub record IsLeast (d : Draft) (f : GraphFault) : Type 0 where
   pub least : (w : Why) (at : ℕ) → number w < number f.why → applies d w at ≡ false
   pub earliest : (at : ℕ) → at < f.at → applies d f.why at ≡ false
 
--- memory aside
+-- want of memory, at 0, or else the least refusal
 abbrev pub Refuses : Draft → GraphFault → Type 0
-Refuses d f = (f.why ≡ why.Memory) ⊎ IsLeast d f
+Refuses d f = ((f.why ≡ why.Memory) × (f.at ≡ 0)) ⊎ IsLeast d f

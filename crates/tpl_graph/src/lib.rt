@@ -18,8 +18,6 @@ mod same;
 mod starters;
 mod tables;
 mod task_options;
-#[cfg(test)]
-mod tests;
 mod too_many;
 
 pub use draft::{Draft, DraftBody, DraftKind, DraftStmt, DraftTask, DraftToken, DraftWork};
