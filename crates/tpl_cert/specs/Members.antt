@@ -15,6 +15,11 @@ abbrev pub Gives : {X Y : Type 0} → (X → Y) → Result X Miss → Option Y �
 Gives view (Ok x) read = read ≡ Some (view x)
 Gives view (Err e) read = Misses e read
 
+-- what a function gives that takes no memory: an error is a wrong shape
+abbrev pub IsShape : Miss → Type 0
+IsShape misses.Shape = Unit {0}
+IsShape misses.Memory = ⊥
+
 infixl 10 ◌>>=◌
 abbrev pub ◌>>=◌ : {A B : Type 0} → Option A → (A → Option B) → Option B
 o >>= f = option_and_then f o

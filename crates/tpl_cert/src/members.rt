@@ -1,11 +1,11 @@
 //! Members of an object, by their names.
 
-ghost use Rattle.std.specs.Prelude.{◌≡◌, map, option_map, option_and_then, string_bytes};
+ghost use Rattle.std.specs.Prelude.{◌≡◌, map, option_map, option_and_then, string_bytes, IfErr};
 ghost use Rattle.std.specs.List.{list_all};
 ghost use Rattle.std.specs.BTreeMap.{keys};
 ghost use Rattle.serde_json.specs.Find.{get, as_array, as_str, as_bool};
 ghost use Rattle.serde_json.specs.View.{view, members_view};
-ghost use Rattle.tpl_cert.specs.Members.{has_only, members_within, is_one_of, text_in, list_in, list_or_none, texts_in, each, Gives};
+ghost use Rattle.tpl_cert.specs.Members.{has_only, members_within, is_one_of, text_in, list_in, list_or_none, texts_in, each, Gives, IsShape};
 
 use crate::miss::Miss;
 use serde_json::{Map, Value};
@@ -40,7 +40,8 @@ pub fn has_only(value: &Value, names: &[&str]) -> bool
 /// The member's text.
 #[tactic(auto, unfolding(crate::specs::Members::text_in))]
 pub fn text_in<'v>(value: &'v Value, name: &str) -> Result<&'v str, Miss>
-    ensures { Gives (λ s. s.now) result (text_in name.now (view value.now)) }
+    ensures gives { Gives (λ s. s.now) result (text_in name.now (view value.now)) }
+    ensures shape { IfErr result IsShape }
 {
     match value.get(name).and_then(Value::as_str) {
         None => Err(Miss::Shape),
@@ -50,7 +51,8 @@ pub fn text_in<'v>(value: &'v Value, name: &str) -> Result<&'v str, Miss>
 
 /// The member.
 pub fn member_in<'v>(value: &'v Value, name: &str) -> Result<&'v Value, Miss>
-    ensures { Gives (λ v. view v.now) result (get name.now (view value.now)) }
+    ensures gives { Gives (λ v. view v.now) result (get name.now (view value.now)) }
+    ensures shape { IfErr result IsShape }
 {
     match value.get(name) {
         None => Err(Miss::Shape),
@@ -61,7 +63,8 @@ pub fn member_in<'v>(value: &'v Value, name: &str) -> Result<&'v Value, Miss>
 /// The elements of an array.
 #[tactic(auto, using(crate::proofs::Arrays::elements_view))]
 pub fn list_of(value: &Value) -> Result<&[Value], Miss>
-    ensures { Gives (λ s. map view s.now) result (list_in (view value.now)) }
+    ensures gives { Gives (λ s. map view s.now) result (list_in (view value.now)) }
+    ensures shape { IfErr result IsShape }
 {
     match value.as_array() {
         None => Err(Miss::Shape),
@@ -72,7 +75,8 @@ pub fn list_of(value: &Value) -> Result<&[Value], Miss>
 /// The elements of the member, an array, and none where it isn't there.
 #[tactic(auto, unfolding(crate::specs::Members::list_or_none))]
 pub fn list_or_none<'v>(value: &'v Value, name: &str) -> Result<&'v [Value], Miss>
-    ensures { Gives (λ s. map view s.now) result (list_or_none (get name.now (view value.now))) }
+    ensures gives { Gives (λ s. map view s.now) result (list_or_none (get name.now (view value.now))) }
+    ensures shape { IfErr result IsShape }
 {
     match value.get(name) {
         None => Ok(&[]),
@@ -82,7 +86,8 @@ pub fn list_or_none<'v>(value: &'v Value, name: &str) -> Result<&'v [Value], Mis
 
 /// The value's text.
 pub fn text_of(value: &Value) -> Result<&str, Miss>
-    ensures { Gives (λ s. s.now) result (as_str (view value.now)) }
+    ensures gives { Gives (λ s. s.now) result (as_str (view value.now)) }
+    ensures shape { IfErr result IsShape }
 {
     match value.as_str() {
         None => Err(Miss::Shape),
@@ -92,7 +97,8 @@ pub fn text_of(value: &Value) -> Result<&str, Miss>
 
 /// The value, true or false.
 pub fn bool_of(value: &Value) -> Result<bool, Miss>
-    ensures { Gives (λ b. b) result (as_bool (view value.now)) }
+    ensures gives { Gives (λ b. b) result (as_bool (view value.now)) }
+    ensures shape { IfErr result IsShape }
 {
     match value.as_bool() {
         None => Err(Miss::Shape),
@@ -102,7 +108,8 @@ pub fn bool_of(value: &Value) -> Result<bool, Miss>
 
 /// The member, true or false.
 pub fn bool_in(value: &Value, name: &str) -> Result<bool, Miss>
-    ensures { Gives (λ b. b) result (option_and_then as_bool (get name.now (view value.now))) }
+    ensures gives { Gives (λ b. b) result (option_and_then as_bool (get name.now (view value.now))) }
+    ensures shape { IfErr result IsShape }
 {
     match value.get(name).and_then(Value::as_bool) {
         None => Err(Miss::Shape),

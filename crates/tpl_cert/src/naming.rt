@@ -1,6 +1,6 @@
 //! Ids for the names of a tree.
 
-ghost use Rattle.std.specs.Prelude.{◌≡◌, Some, map};
+ghost use Rattle.std.specs.Prelude.{◌≡◌, Some, map, IfErr};
 ghost use Rattle.std.specs.List.{list_all};
 ghost use Rattle.tpl_graph.specs.Ids.{task_number};
 ghost use Rattle.tpl_cert.specs.Seen.{row_of, tree_of};
@@ -15,7 +15,8 @@ use tpl_graph::Graph;
 use tpl_words::{InputId, TaskId, TaskSet};
 
 fn input_in(graph: &Graph, name: &str) -> Result<InputId, TreeFault>
-    ensures { Finds result (is_declared graph.now.names.inputs name.now) (λ i. number_of graph.now.names.inputs name.now ≡ Some i.0) }
+    ensures finds { Finds result (is_declared graph.now.names.inputs name.now) (λ i. number_of graph.now.names.inputs name.now ≡ Some i.0) }
+    ensures unknown { IfErr result (λ e. e ≡ TreeFault.Unknown) }
 {
     match graph.input(name) {
         None => Err(TreeFault::Unknown),
@@ -24,7 +25,8 @@ fn input_in(graph: &Graph, name: &str) -> Result<InputId, TreeFault>
 }
 
 fn task_in(graph: &Graph, name: &str) -> Result<TaskId, TreeFault>
-    ensures { Finds result (is_declared graph.now.names.tasks name.now) (λ t. number_of graph.now.names.tasks name.now ≡ Some t.0) }
+    ensures finds { Finds result (is_declared graph.now.names.tasks name.now) (λ t. number_of graph.now.names.tasks name.now ≡ Some t.0) }
+    ensures unknown { IfErr result (λ e. e ≡ TreeFault.Unknown) }
 {
     match graph.task(name) {
         None => Err(TreeFault::Unknown),
@@ -33,7 +35,8 @@ fn task_in(graph: &Graph, name: &str) -> Result<TaskId, TreeFault>
 }
 
 fn set_in(graph: &Graph, names: &[&str]) -> Result<TaskSet, TreeFault>
-    ensures { Finds result (are_declared graph.now.names.tasks (map (λ s. s.now) names.now)) (λ s. IsSetOf graph.now.names.tasks (map (λ s. s.now) names.now) s) }
+    ensures finds { Finds result (are_declared graph.now.names.tasks (map (λ s. s.now) names.now)) (λ s. IsSetOf graph.now.names.tasks (map (λ s. s.now) names.now) s) }
+    ensures unknown { IfErr result (λ e. e ≡ TreeFault.Unknown) }
 {
     graph.valid();
     let mut set = TaskSet::empty();

@@ -1,10 +1,10 @@
 //! Reading a certificate tree with names.
 
-ghost use Rattle.std.specs.Prelude.{◌≡◌, map, option_and_then};
+ghost use Rattle.std.specs.Prelude.{◌≡◌, map, option_and_then, IfErr};
 ghost use Rattle.serde_json.specs.Find.{get, as_str, as_bool};
 ghost use Rattle.serde_json.specs.View.{view};
 ghost use Rattle.tpl_cert.specs.Seen.{row_of, tree_of};
-ghost use Rattle.tpl_cert.specs.Members.{Gives, each};
+ghost use Rattle.tpl_cert.specs.Members.{Gives, each, IsShape};
 ghost use Rattle.tpl_cert.specs.Reading.{with_final, no_finals, final_word, final_at, finals_at, row_at, leaf_at, input_at, end_at, node_at, tree_at};
 
 use crate::members::{bool_in, has_only, list_of, member_in, text_in, text_of, texts_in};
@@ -16,7 +16,8 @@ use tpl_words::{Final, Finals};
 
 #[tactic(auto, unfolding(crate::specs::Reading::final_word))]
 fn final_word(word: &str) -> Result<Final, Miss>
-    ensures { Gives (λ f. f) result (final_word word.now) }
+    ensures gives { Gives (λ f. f) result (final_word word.now) }
+    ensures shape { IfErr result IsShape }
 {
     match word {
         "RanToCompletion" => Ok(Final::RanToCompletion),
@@ -29,7 +30,8 @@ fn final_word(word: &str) -> Result<Final, Miss>
 #[tactic(auto, unfolding(crate::specs::Reading::final_at))]
 /// A final status, by its name.
 pub fn final_of(value: &Value) -> Result<Final, Miss>
-    ensures { Gives (λ f. f) result (final_at (view value.now)) }
+    ensures gives { Gives (λ f. f) result (final_at (view value.now)) }
+    ensures shape { IfErr result IsShape }
 {
     let word = text_of(value)?;
     final_word(word)
@@ -56,7 +58,8 @@ fn with_final(finals: Finals, ending: Final) -> Finals
 
 /// The set of the final statuses of an array.
 pub fn finals_of(values: &[Value]) -> Result<Finals, Miss>
-    ensures { Gives (λ f. f) result (finals_at no_finals (map view values.now)) }
+    ensures gives { Gives (λ f. f) result (finals_at no_finals (map view values.now)) }
+    ensures shape { IfErr result IsShape }
 {
     let mut finals = Finals {
         ran: false,

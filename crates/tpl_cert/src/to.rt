@@ -1,6 +1,6 @@
 //! From a certificate tree to a JSON value.
 
-ghost use Rattle.std.specs.Prelude.{◌≡◌, ◌++◌, ◌∷◌, [], map, IfOk, OnOk, Err, true, false};
+ghost use Rattle.std.specs.Prelude.{◌≡◌, ◌++◌, ◌∷◌, [], map, IfOk, OnOk, Err, true, false, IfErr};
 ghost use Rattle.std.specs.List.{list_all};
 ghost use Rattle.serde_json.specs.Data.{array, string, boolean};
 ghost use Rattle.serde_json.specs.View.{view, items_of};
@@ -48,7 +48,8 @@ fn finals_to(alloc: Global, ends: Finals) -> Result<Value, AllocError>
 }
 
 fn input_name(graph: &Graph, input: InputId) -> Result<&str, TreeToFault>
-    ensures { Writes result (is_id graph.now.names.inputs input.0) (λ s. s.now ≡ name_at graph.now.names.inputs input.0) }
+    ensures writes { Writes result (is_id graph.now.names.inputs input.0) (λ s. s.now ≡ name_at graph.now.names.inputs input.0) }
+    ensures unknown { IfErr result (λ e. e ≡ TreeToFault.Unknown) }
 {
     graph.valid();
     if (input.0 as usize) < graph.input_count() {
@@ -59,7 +60,8 @@ fn input_name(graph: &Graph, input: InputId) -> Result<&str, TreeToFault>
 }
 
 fn task_name(graph: &Graph, task: TaskId) -> Result<&str, TreeToFault>
-    ensures { Writes result (is_id graph.now.names.tasks task.0) (λ s. s.now ≡ name_at graph.now.names.tasks task.0) }
+    ensures writes { Writes result (is_id graph.now.names.tasks task.0) (λ s. s.now ≡ name_at graph.now.names.tasks task.0) }
+    ensures unknown { IfErr result (λ e. e ≡ TreeToFault.Unknown) }
 {
     graph.valid();
     if (task.0 as usize) < graph.len() {

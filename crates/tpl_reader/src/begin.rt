@@ -1,6 +1,6 @@
 //! Where a run starts, with ids in place of names.
 
-ghost use Rattle.std.specs.Prelude.{◌≡◌, ◌&&◌, ◌<◌, length, map, true, Some, is_some, string_bytes, MatchOption};
+ghost use Rattle.std.specs.Prelude.{◌≡◌, ◌&&◌, ◌<◌, length, map, true, Some, is_some, string_bytes, MatchOption, IfErr};
 ghost use Rattle.std.specs.Option.{option_map};
 ghost use Rattle.std.specs.List.{All, list_all};
 ghost use Rattle.std.specs.BTreeMap.{keys};
@@ -69,7 +69,8 @@ fn values_in(graph: &Graph, inputs: Option<&Value>) -> Option<Inputs>
 }
 
 fn token_in(graph: &Graph, name: &str) -> Result<TokenId, Stop<StartFault>>
-    ensures { Takes result (λ t. (is_declared graph.now.names.tokens name.now ≡ true) × (number_of graph.now.names.tokens name.now ≡ Some t.0)) (IsUnknownName (is_declared graph.now.names.tokens name.now)) }
+    ensures takes { Takes result (λ t. (is_declared graph.now.names.tokens name.now ≡ true) × (number_of graph.now.names.tokens name.now ≡ Some t.0)) (IsUnknownName (is_declared graph.now.names.tokens name.now)) }
+    ensures unknown { IfErr result (λ e. e ≡ Stop.Fault StartFault.Unknown) }
 {
     match graph.token(name) {
         None => Err(Stop::Fault(StartFault::Unknown)),
@@ -89,7 +90,8 @@ fn tokens_in(alloc: Global, graph: &Graph, names: &[&str]) -> Result<Vec<TokenId
 }
 
 fn site_in(graph: &Graph, name: &str) -> Result<SiteId, Stop<StartFault>>
-    ensures { Takes result (λ t. (is_declared graph.now.names.sites name.now ≡ true) × (number_of graph.now.names.sites name.now ≡ Some t.0)) (IsUnknownName (is_declared graph.now.names.sites name.now)) }
+    ensures takes { Takes result (λ t. (is_declared graph.now.names.sites name.now ≡ true) × (number_of graph.now.names.sites name.now ≡ Some t.0)) (IsUnknownName (is_declared graph.now.names.sites name.now)) }
+    ensures unknown { IfErr result (λ e. e ≡ Stop.Fault StartFault.Unknown) }
 {
     match graph.site(name) {
         None => Err(Stop::Fault(StartFault::Unknown)),

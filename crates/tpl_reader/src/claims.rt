@@ -1,9 +1,9 @@
 //! Reading claims with names.
 
-ghost use Rattle.std.specs.Prelude.{◌≡◌, map, codes};
+ghost use Rattle.std.specs.Prelude.{◌≡◌, map, codes, IfErr};
 ghost use Rattle.serde_json.specs.Find.{get};
 ghost use Rattle.serde_json.specs.View.{view};
-ghost use Rattle.tpl_cert.specs.Members.{Gives, each};
+ghost use Rattle.tpl_cert.specs.Members.{Gives, each, IsShape};
 ghost use Rattle.tpl_reader.specs.SeenClaims.{given_of, property_of, claim_of};
 ghost use Rattle.tpl_reader.specs.Claims.{input_at, quiet_at, given_at, some_finals, final_claim, two_texts, after_claim, observed_claim, never_claim, excludes_claim, property_at, claim_at};
 
@@ -16,7 +16,8 @@ use tpl_words::Finals;
 
 #[tactic(auto, unfolding(crate::specs::Claims::input_at))]
 fn input_of(value: &Value) -> Result<NamedGiven<'_>, Miss>
-    ensures { Gives given_of result (input_at (view value.now)) }
+    ensures gives { Gives given_of result (input_at (view value.now)) }
+    ensures shape { IfErr result IsShape }
 {
     if !has_only(value, &["input", "is"]) {
         return Err(Miss::Shape);
@@ -28,7 +29,8 @@ fn input_of(value: &Value) -> Result<NamedGiven<'_>, Miss>
 
 #[tactic(auto, unfolding(crate::specs::Claims::quiet_at))]
 fn quiet_of(value: &Value) -> Result<NamedGiven<'_>, Miss>
-    ensures { Gives given_of result (quiet_at (view value.now)) }
+    ensures gives { Gives given_of result (quiet_at (view value.now)) }
+    ensures shape { IfErr result IsShape }
 {
     if !has_only(value, &["quiet"]) {
         return Err(Miss::Shape);
@@ -39,7 +41,8 @@ fn quiet_of(value: &Value) -> Result<NamedGiven<'_>, Miss>
 
 #[tactic(auto, unfolding(crate::specs::Claims::given_at))]
 fn given_of(value: &Value) -> Result<NamedGiven<'_>, Miss>
-    ensures { Gives given_of result (given_at (view value.now)) }
+    ensures gives { Gives given_of result (given_at (view value.now)) }
+    ensures shape { IfErr result IsShape }
 {
     if value.get("input").is_some() {
         return input_of(value);
@@ -60,7 +63,8 @@ fn givens_of(alloc: Global, values: &[Value]) -> Result<Vec<NamedGiven<'_>>, Mis
 
 #[tactic(auto, unfolding(crate::specs::Claims::some_finals))]
 fn some_finals(values: &[Value]) -> Result<Finals, Miss>
-    ensures { Gives (λ f. f) result (some_finals (map view values.now)) }
+    ensures gives { Gives (λ f. f) result (some_finals (map view values.now)) }
+    ensures shape { IfErr result IsShape }
 {
     match values {
         [] => Err(Miss::Shape),
@@ -70,7 +74,8 @@ fn some_finals(values: &[Value]) -> Result<Finals, Miss>
 
 #[tactic(auto, unfolding(crate::specs::Claims::final_claim))]
 fn final_claim(value: &Value) -> Result<NamedProperty<'_>, Miss>
-    ensures { Gives property_of result (final_claim (view value.now)) }
+    ensures gives { Gives property_of result (final_claim (view value.now)) }
+    ensures shape { IfErr result IsShape }
 {
     if !has_only(value, &["given", "final", "in"]) {
         return Err(Miss::Shape);
@@ -83,7 +88,8 @@ fn final_claim(value: &Value) -> Result<NamedProperty<'_>, Miss>
 
 #[tactic(auto, unfolding(crate::specs::Claims::two_texts))]
 fn two_texts(values: &[Value]) -> Result<(&str, &str), Miss>
-    ensures { Gives (λ p. (p.0.now, p.1.now)) result (two_texts (map view values.now)) }
+    ensures gives { Gives (λ p. (p.0.now, p.1.now)) result (two_texts (map view values.now)) }
+    ensures shape { IfErr result IsShape }
 {
     match values {
         [first, second] => {
@@ -97,7 +103,8 @@ fn two_texts(values: &[Value]) -> Result<(&str, &str), Miss>
 
 #[tactic(auto, unfolding(crate::specs::Claims::after_claim))]
 fn after_claim(value: &Value) -> Result<NamedProperty<'_>, Miss>
-    ensures { Gives property_of result (after_claim (view value.now)) }
+    ensures gives { Gives property_of result (after_claim (view value.now)) }
+    ensures shape { IfErr result IsShape }
 {
     if !has_only(value, &["given", "after"]) {
         return Err(Miss::Shape);
@@ -109,7 +116,8 @@ fn after_claim(value: &Value) -> Result<NamedProperty<'_>, Miss>
 
 #[tactic(auto, unfolding(crate::specs::Claims::observed_claim))]
 fn observed_claim(value: &Value) -> Result<NamedProperty<'_>, Miss>
-    ensures { Gives property_of result (observed_claim (view value.now)) }
+    ensures gives { Gives property_of result (observed_claim (view value.now)) }
+    ensures shape { IfErr result IsShape }
 {
     if !has_only(value, &["given", "observed"]) {
         return Err(Miss::Shape);
@@ -120,7 +128,8 @@ fn observed_claim(value: &Value) -> Result<NamedProperty<'_>, Miss>
 
 #[tactic(auto, unfolding(crate::specs::Claims::never_claim))]
 fn never_claim(value: &Value) -> Result<NamedProperty<'_>, Miss>
-    ensures { Gives property_of result (never_claim (view value.now)) }
+    ensures gives { Gives property_of result (never_claim (view value.now)) }
+    ensures shape { IfErr result IsShape }
 {
     if !has_only(value, &["given", "never"]) {
         return Err(Miss::Shape);
@@ -131,7 +140,8 @@ fn never_claim(value: &Value) -> Result<NamedProperty<'_>, Miss>
 
 #[tactic(auto, unfolding(crate::specs::Claims::excludes_claim))]
 fn excludes_claim(value: &Value) -> Result<NamedProperty<'_>, Miss>
-    ensures { Gives property_of result (excludes_claim (view value.now)) }
+    ensures gives { Gives property_of result (excludes_claim (view value.now)) }
+    ensures shape { IfErr result IsShape }
 {
     if !has_only(value, &["given", "excludes"]) {
         return Err(Miss::Shape);
@@ -143,7 +153,8 @@ fn excludes_claim(value: &Value) -> Result<NamedProperty<'_>, Miss>
 
 #[tactic(auto, unfolding(crate::specs::Claims::property_at))]
 fn property_of(value: &Value) -> Result<NamedProperty<'_>, Miss>
-    ensures { Gives property_of result (property_at (view value.now)) }
+    ensures gives { Gives property_of result (property_at (view value.now)) }
+    ensures shape { IfErr result IsShape }
 {
     if value.get("final").is_some() {
         return final_claim(value);

@@ -1,12 +1,12 @@
 //! Reading where a run starts, with names.
 
-ghost use Rattle.std.specs.Prelude.{◌≡◌, map, is_some};
+ghost use Rattle.std.specs.Prelude.{◌≡◌, map, is_some, IfErr};
 ghost use Rattle.std.specs.Option.{option_map};
 ghost use Rattle.std.specs.List.{list_all};
 ghost use Rattle.std.specs.BTreeMap.{values};
 ghost use Rattle.serde_json.specs.Find.{get, as_bool};
 ghost use Rattle.serde_json.specs.View.{view};
-ghost use Rattle.tpl_cert.specs.Members.{Gives};
+ghost use Rattle.tpl_cert.specs.Members.{Gives, IsShape};
 ghost use Rattle.tpl_reader.specs.Start.{all_truths, has_truths, truths_or_none, start_at};
 ghost use Rattle.tpl_reader.specs.SeenStart.{start_of};
 
@@ -35,7 +35,8 @@ fn has_truths(value: &Value) -> bool
 
 #[tactic(auto, unfolding(crate::specs::Start::truths_or_none))]
 fn truths_or_none<'v>(value: &'v Value, name: &str) -> Result<Option<&'v Value>, Miss>
-    ensures { Gives (λ o. option_map (λ v. view v.now) o) result (truths_or_none (get name.now (view value.now))) }
+    ensures gives { Gives (λ o. option_map (λ v. view v.now) o) result (truths_or_none (get name.now (view value.now))) }
+    ensures shape { IfErr result IsShape }
 {
     match value.get(name) {
         None => Ok(None),

@@ -1,10 +1,10 @@
 //! Reading bodies.
 
-ghost use Rattle.std.specs.Prelude.{◌≡◌, map, codes, string_bytes, option_and_then};
+ghost use Rattle.std.specs.Prelude.{◌≡◌, map, codes, string_bytes, option_and_then, IfErr};
 ghost use Rattle.serde_json.specs.Find.{get};
 ghost use Rattle.serde_json.specs.View.{view};
 ghost use Rattle.tpl_graph.specs.SeenDraft.{line_of, lines_of};
-ghost use Rattle.tpl_cert.specs.Members.{Gives, each};
+ghost use Rattle.tpl_cert.specs.Members.{Gives, each, IsShape};
 ghost use Rattle.tpl_reader.specs.Statements.{body_of, word_at, name_at, throw_at, check_at, cancel_at, start_at, bool_or_false, work_at, else_at, if_at, when_at, branch_at, is_branch, simple_at, object_at, statement_at, list_at, body_at};
 
 use serde_json::Value;
@@ -15,7 +15,8 @@ use tpl_graph::{DraftBody, DraftStmt};
 
 #[tactic(auto, unfolding(crate::specs::Statements::word_at))]
 fn word_of(word: &str) -> Result<DraftStmt, Miss>
-    ensures { Gives line_of result (word_at word.now) }
+    ensures gives { Gives line_of result (word_at word.now) }
+    ensures shape { IfErr result IsShape }
 {
     match word {
         "return" => Ok(DraftStmt::Return),
@@ -69,7 +70,8 @@ fn start_of(alloc: Global, value: &Value) -> Result<DraftStmt, Miss>
 
 #[tactic(auto, unfolding(crate::specs::Statements::bool_or_false))]
 fn bool_or_false(value: &Value, name: &str) -> Result<bool, Miss>
-    ensures { Gives (λ b. b) result (bool_or_false (get name.now (view value.now))) }
+    ensures gives { Gives (λ b. b) result (bool_or_false (get name.now (view value.now))) }
+    ensures shape { IfErr result IsShape }
 {
     match value.get(name) {
         None => Ok(false),

@@ -1,11 +1,11 @@
 //! Reading tasks and tokens.
 
-ghost use Rattle.std.specs.Prelude.{◌≡◌, map, codes, string_bytes, option_and_then};
+ghost use Rattle.std.specs.Prelude.{◌≡◌, map, codes, string_bytes, option_and_then, IfErr};
 ghost use Rattle.std.specs.Option.{option_map};
 ghost use Rattle.serde_json.specs.Find.{get, as_str};
 ghost use Rattle.serde_json.specs.View.{view};
 ghost use Rattle.tpl_graph.specs.SeenTasks.{work_of, kind_of, task_of, token_of};
-ghost use Rattle.tpl_cert.specs.Members.{Gives, each};
+ghost use Rattle.tpl_cert.specs.Members.{Gives, each, IsShape};
 ghost use Rattle.tpl_reader.specs.Tasks.{option_at, options_at, text_or_none, work_at, root_at, child_at, then_at, args_at, all_at, any_at, kind_at, task_at, linked_at, plain_at, token_at};
 
 use crate::statements::body_of;
@@ -30,7 +30,8 @@ pub(crate) fn owned_texts(alloc: Global, values: &[Value]) -> Result<Vec<String>
 
 #[tactic(auto, unfolding(crate::specs::Tasks::option_at))]
 fn option_of(value: &Value) -> Result<Options, Miss>
-    ensures { Gives (λ o. o) result (option_at (view value.now)) }
+    ensures gives { Gives (λ o. o) result (option_at (view value.now)) }
+    ensures shape { IfErr result IsShape }
 {
     let word = text_of(value)?;
     match Options::from_word(word) {
@@ -40,7 +41,8 @@ fn option_of(value: &Value) -> Result<Options, Miss>
 }
 
 fn options_of(values: &[Value]) -> Result<Options, Miss>
-    ensures { Gives (λ o. o) result (options_at 0 (map view values.now)) }
+    ensures gives { Gives (λ o. o) result (options_at 0 (map view values.now)) }
+    ensures shape { IfErr result IsShape }
 {
     let mut options = Options::empty();
     for value in values {

@@ -1,11 +1,11 @@
 //! Reading a document as far as its shape goes.
 
-ghost use Rattle.std.specs.Prelude.{◌≡◌, ◌≤◌, map, codes, string_bytes, option_and_then};
+ghost use Rattle.std.specs.Prelude.{◌≡◌, ◌≤◌, map, codes, string_bytes, option_and_then, IfErr};
 ghost use Rattle.std.specs.Option.{option_map};
 ghost use Rattle.serde_json.specs.Data.{depth};
 ghost use Rattle.serde_json.specs.Find.{get, as_number, as_u64};
 ghost use Rattle.serde_json.specs.View.{view};
-ghost use Rattle.tpl_cert.specs.Members.{Gives, each};
+ghost use Rattle.tpl_cert.specs.Members.{Gives, each, IsShape};
 ghost use Rattle.tpl_graph.specs.SeenTasks.{token_of, task_of};
 ghost use Rattle.tpl_reader.specs.SeenClaims.{claim_of};
 ghost use Rattle.tpl_reader.specs.SeenTop.{members_of};
@@ -39,7 +39,8 @@ pub(crate) struct Members<'v> {
 
 #[tactic(auto, unfolding(crate::specs::Top::links_in))]
 fn links_in(version: u64) -> Result<bool, Miss>
-    ensures { Gives (λ b. b) result (links_in version) }
+    ensures gives { Gives (λ b. b) result (links_in version) }
+    ensures shape { IfErr result IsShape }
 {
     if version == 1 {
         return Ok(false);
@@ -53,7 +54,8 @@ fn links_in(version: u64) -> Result<bool, Miss>
 /// The version: whether tokens may be linked.
 #[tactic(auto, unfolding(crate::specs::Top::version_at))]
 fn version_of(value: &Value) -> Result<bool, Miss>
-    ensures { Gives (λ b. b) result (version_at (view value.now)) }
+    ensures gives { Gives (λ b. b) result (version_at (view value.now)) }
+    ensures shape { IfErr result IsShape }
 {
     match value.get("version").and_then(Value::as_u64) {
         None => Err(Miss::Shape),
@@ -74,7 +76,8 @@ fn tokens_of(alloc: Global, links: bool, values: &[Value]) -> Result<Vec<DraftTo
 
 #[tactic(auto, unfolding(crate::specs::Top::text_or_empty))]
 fn text_or_empty<'v>(value: &'v Value, name: &str) -> Result<&'v str, Miss>
-    ensures { Gives (λ s. s.now) result (text_or_empty (get name.now (view value.now))) }
+    ensures gives { Gives (λ s. s.now) result (text_or_empty (get name.now (view value.now))) }
+    ensures shape { IfErr result IsShape }
 {
     match value.get(name) {
         None => Ok(""),
