@@ -3,9 +3,6 @@ use Rattle.std.proofs.Common.{◌≡◌, ℕ, suc, ◌&&◌, ◌||◌, Bool, tru
 use Rattle.std.specs.Prelude.{if◌then◌else◌}
 use Rattle.std.proofs.lemmas.Bool.{eqb-true}
 use Rattle.tpl_words.specs.Members.{mem}
-use Rattle.tpl_words.specs.declared.status.Actor.{Actor}
-use Rattle.tpl_words.specs.declared.status.Status.{Status}
-use Rattle.tpl_words.specs.declared.finals.Final.{Final}
 use Rattle.tpl_words.specs.Options.{lazy_cancellation}
 use Rattle.tpl_script.specs.Statements.{Statements, Return, Throw, Check, Cancel, Start, Observe, Work, If, When, Nothing, ◌⨾◌}
 use Rattle.tpl_model.specs.declared.event.Act.{Act}
@@ -14,7 +11,7 @@ use Rattle.tpl_model.specs.declared.event.Event.{Event}
 use Rattle.tpl_model.specs.Graph.{TaskGraph, TaskKind, Root, Child, Continues, WhenAll, WhenAny, kind, task, options, attached}
 use Rattle.tpl_model.specs.Facts.{Rest, Ending, begun, released, left_body, ending, ends_by, ending_by, started, starts_by, is_start, rest, requested, all_over, final_in}
 use Rattle.tpl_model.specs.Rules.{status, status_by, opening, token_requested, token_requested_by, all_ended, some_ended, can_settle, to_end}
-use Rattle.tpl_laws.specs.Allowed.{has_task, is_inactive, is_ready, is_waiting, may_start, may_not_start, may_cancel, may_drop, allowed_end, excluded_end, can_release, can_drop, can_close, can_settle_now, has_ended}
+use Rattle.tpl_laws.specs.Allowed.{has_task, is_inactive, is_ready, is_waiting, may_start, may_not_start, may_cancel, allowed_end, excluded_end, can_release, can_drop, can_close, can_settle_now, has_ended}
 use Rattle.tpl_laws.specs.RowTests.{implies}
 use Rattle.tpl_machine.specs.Body.{start_of}
 use Rattle.tpl_machine.specs.Rows.{is_it}
@@ -22,7 +19,7 @@ use Rattle.tpl_fast.specs.declared.marks.Mark.{Mark}
 use Rattle.tpl_fast.specs.Marks.{acting, mark_at, noted}
 use Rattle.tpl_fast.specs.Tokens.{starting}
 use Rattle.tpl_fast.specs.Due.{is_due, awaits, waits, ender}
-use Rattle.tpl_fast.proofs.Basics.{true_false, same_number, mem_here, mem_there, decide}
+use Rattle.tpl_fast.proofs.Basics.{true_false, same_number, mem_here, mem_there}
 use Rattle.tpl_fast.proofs.MarkLemmas.{mark_step}
 use Rattle.tpl_fast.proofs.StateLemmas.{ending_kept}
 

@@ -2,6 +2,7 @@ pub mod Basics
 pub mod BitLemmas
 pub mod MarkLemmas
 pub mod TokenLemmas
+pub mod HeadLemmas
 pub mod StateLemmas
 pub mod FrameLemmas
 pub mod IndexLemmas

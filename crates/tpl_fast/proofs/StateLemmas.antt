@@ -1,25 +1,24 @@
 -- What follows from a run and a valid graph.
-use Rattle.std.proofs.Common.{◌≡◌, ℕ, zero, suc, ◌<◌, ◌≤◌, ◌&&◌, ◌++◌, Bool, true, false, List, [], ◌∷◌, length, map, filter, get_or, Option, Some, None, refl, sym, ap, ◌∙◌, subst, arith, inl, inr, nat_eq}
-use Rattle.std.specs.Prelude.{IfSome, slice_index_or, if◌then◌else◌}
+use Rattle.std.proofs.Common.{◌≡◌, ℕ, zero, suc, ◌<◌, ◌≤◌, ◌&&◌, Bool, true, false, List, [], ◌∷◌, length, map, filter, get_or, Option, Some, None, refl, sym, ap, ◌∙◌, subst, arith, inl, inr, nat_eq}
+use Rattle.std.specs.Prelude.{IfSome, if◌then◌else◌}
 use Rattle.std.specs.Option.{option_map}
-use Rattle.std.proofs.lemmas.Bool.{cases_lt, eqb-true}
+use Rattle.std.proofs.lemmas.Bool.{eqb-true}
 use Rattle.std.proofs.lemmas.List.{get_or_past}
 use Rattle.tpl_words.specs.declared.ids.TaskId.{TaskId}
 use Rattle.tpl_words.specs.declared.ids.TokenId.{TokenId}
 use Rattle.tpl_words.specs.declared.status.Actor.{Actor}
 use Rattle.tpl_words.specs.Members.{mem}
-use Rattle.tpl_words.specs.Options.{attached_to_parent, deny_child_attach}
 use Rattle.tpl_script.specs.Statements.{Statement, Return, Throw, Check, Cancel, Start, Observe, Work, If, When, Statements, Nothing, ◌⨾◌, starts, starts_of}
 use Rattle.tpl_model.specs.declared.event.Act.{Act}
 use Rattle.tpl_model.specs.declared.event.Act.TheVariants.{Request, Release, Begin, Step, Worked, Leave, Close, Drop, Settle}
 use Rattle.tpl_model.specs.declared.event.Event.{Event}
-use Rattle.tpl_model.specs.Graph.{TaskGraph, TaskKind, Root, Child, Continues, WhenAll, WhenAny, kind, body, task, attached, is_task, is_token, IsParent, options}
+use Rattle.tpl_model.specs.Graph.{TaskGraph, TaskKind, Root, Child, Continues, WhenAll, WhenAny, kind, body, task, attached, is_task, is_token, IsParent}
 use Rattle.tpl_model.specs.Facts.{Ending, ending, ends_by, ending_by, ended_at_once, started, rest, all_over}
 use Rattle.tpl_model.specs.Rules.{Run, Allows}
 use Rattle.tpl_model.specs.Valid.{IsGraph, IdsOf, IdsWithin, OwnToken, IsPlaced}
 use Rattle.tpl_graph.specs.Ids.{task_number, token_number}
 use Rattle.tpl_graph.specs.Named.{antecedent_of}
-use Rattle.tpl_machine.specs.Reading.{IsDue, NoneDue, IsFirstDue, due_task}
+use Rattle.tpl_machine.specs.Reading.{NoneDue}
 use Rattle.tpl_laws.specs.Allowed.{CanIsRight, can_release, can_drop, can_close, can_settle_now}
 use Rattle.tpl_words.specs.declared.status.Actor.TheVariants.{Outside}
 use Rattle.tpl_fast.specs.Marks.{acting}

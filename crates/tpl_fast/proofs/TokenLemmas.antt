@@ -1,5 +1,5 @@
 -- The tables of requested tokens.
-use Rattle.std.proofs.Common.{◌≡◌, ℕ, zero, suc, ◌+◌, ◌<◌, ◌≤◌, ◌||◌, Bool, false, List, [], ◌∷◌, length, set, Option, Some, None, refl, sym, ap, ◌∙◌, arith, subst, inl, inr, nat_eq}
+use Rattle.std.proofs.Common.{◌≡◌, ℕ, zero, suc, ◌+◌, ◌<◌, ◌||◌, Bool, false, List, [], ◌∷◌, length, set, Option, refl, sym, ap, ◌∙◌, arith, subst, inl, inr}
 use Rattle.std.specs.Prelude.{slice_index_or, replicate}
 use Rattle.std.proofs.Math.Path.{fun_ext}
 use Rattle.std.proofs.lemmas.Bool.{cases_eq}
@@ -19,7 +19,7 @@ use Rattle.tpl_machine.specs.Journal.{Journal, opened, after}
 use Rattle.tpl_fast.specs.declared.marks.Mark.{Mark}
 use Rattle.tpl_fast.specs.Marks.{AreMarks}
 use Rattle.tpl_fast.specs.Tokens.{asks, AreAsked, IsTable}
-use Rattle.tpl_fast.specs.Kept.{IsKept}
+use Rattle.tpl_fast.specs.Kept.{IsKept, AreHeads}
 
 pub all_false : (n k : ℕ) → slice_index_or (replicate n false) k false ≡ false
 all_false zero k = refl
@@ -112,10 +112,10 @@ asked_none g v itself closed many many' off off' = record {
   count = many';
 }
 
-pub kept_open : (j : Journal) (n : Named) (v : List Bool) (list : List Mark) (itself closed : List Bool) → j ≡ opened n v → AreMarks (length n.graph.tasks) [] list → length itself ≡ 32 → length closed ≡ 32 → ((k : ℕ) → slice_index_or itself k false ≡ false) → ((k : ℕ) → slice_index_or closed k false ≡ false) → IsKept j n list itself closed
-kept_open j n v list itself closed is marks many many' off off' =
-    subst (λ (x : Journal). IsKept x n list itself closed) (sym is)
-    (record { graph = refl; names = refl; marks = marks; tokens = asked_none n.graph v itself closed many many' off off' })
+pub kept_open : (j : Journal) (n : Named) (v : List Bool) (list : List Mark) (itself closed : List Bool) (places : List ℕ) → j ≡ opened n v → AreMarks (length n.graph.tasks) [] list → length itself ≡ 32 → length closed ≡ 32 → ((k : ℕ) → slice_index_or itself k false ≡ false) → ((k : ℕ) → slice_index_or closed k false ≡ false) → AreHeads (opened n v) places → IsKept j n list itself closed places
+kept_open j n v list itself closed places is marks many many' off off' heads =
+    subst (λ (x : Journal). IsKept x n list itself closed places) (sym is)
+    (record { graph = refl; names = refl; marks = marks; tokens = asked_none n.graph v itself closed many many' off off'; heads = heads })
 
 tokens_after : (g g' : TaskGraph) (v : List Bool) (h : List Event) (e : Event) (token : Option ℕ) (itself itself' closed closed' : List Bool) → g' ≡ g → ((v : List Bool) (h later : List Event) → AreAsked g' v h itself closed → ((k : ℕ) → requested_itself g' v later k ≡ (is_it token k || requested_itself g' v h k)) → AreAsked g' v later itself' closed') → token ≡ asks e.act (rest g v h) → AreAsked g v h itself closed → AreAsked g v (e ∷ h) itself' closed'
 tokens_after g g' v h e token itself itself' closed closed' same ask =
@@ -123,10 +123,11 @@ tokens_after g g' v h e token itself itself' closed closed' same ask =
     (λ is a. ask v h (e ∷ h) a (itself_after g' v h e token is))
 
 -- what is kept, one event later
-pub kept_after : (j : Journal) (n : Named) (list list' : List Mark) (itself itself' closed closed' : List Bool) (e : Event) (token : Option ℕ) (place : ℕ) → IsKept j n list itself closed → place ≡ suc (length j.events) → token ≡ asks e.act (rest j.graph j.inputs j.events) → ((m : ℕ) (h : List Event) → place ≡ suc (length h) → AreMarks m h list → AreMarks m (e ∷ h) list') → ((v : List Bool) (h later : List Event) → AreAsked n.graph v h itself closed → ((k : ℕ) → requested_itself n.graph v later k ≡ (is_it token k || requested_itself n.graph v h k)) → AreAsked n.graph v later itself' closed') → IsKept (after j e) n list' itself' closed'
-kept_after j n list list' itself itself' closed closed' e token place k place_is token_is notes ask = record {
+pub kept_after : (j : Journal) (n : Named) (list list' : List Mark) (itself itself' closed closed' : List Bool) (places : List ℕ) (e : Event) (token : Option ℕ) (place : ℕ) → IsKept j n list itself closed places → place ≡ suc (length j.events) → token ≡ asks e.act (rest j.graph j.inputs j.events) → ((m : ℕ) (h : List Event) → place ≡ suc (length h) → AreMarks m h list → AreMarks m (e ∷ h) list') → ((v : List Bool) (h later : List Event) → AreAsked n.graph v h itself closed → ((k : ℕ) → requested_itself n.graph v later k ≡ (is_it token k || requested_itself n.graph v h k)) → AreAsked n.graph v later itself' closed') → AreHeads (after j e) places → IsKept (after j e) n list' itself' closed' places
+kept_after j n list list' itself itself' closed closed' places e token place k place_is token_is notes ask heads = record {
   graph = k.graph;
   names = k.names;
   marks = notes (length j.graph.tasks) j.events place_is k.marks;
   tokens = tokens_after j.graph n.graph j.inputs j.events e token itself itself' closed closed' k.graph ask token_is k.tokens;
+  heads = heads;
 }

@@ -1,5 +1,5 @@
 -- What is due, what a task waits for, and who is told when that changes.
-use Rattle.std.specs.Prelude.{◌≡◌, ℕ, ◌<◌, ◌≤◌, ◌||◌, Bool, true, false, Option, Some, None, List, [], length, map, slice_get, nat_eq, not}
+use Rattle.std.specs.Prelude.{◌≡◌, ℕ, ◌≤◌, ◌||◌, Bool, true, false, Option, Some, None, List, length, map, slice_get, nat_eq, not}
 use Rattle.std.specs.declared.vec.Vec.{Vec}
 use Rattle.std.specs.declared.alloc.Global.{Global}
 use Rattle.tpl_words.specs.declared.ids.TaskId.{TaskId}

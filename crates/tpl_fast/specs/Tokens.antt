@@ -1,6 +1,5 @@
 -- Which tokens are requested, by tables.
 use Rattle.std.specs.Prelude.{◌≡◌, ℕ, ◌<◌, ◌≤◌, Bool, false, Option, None, List, length, slice_index_or}
-use Rattle.tpl_script.specs.Statements.{Statements}
 use Rattle.tpl_model.specs.declared.event.Act.{Act}
 use Rattle.tpl_model.specs.declared.event.Act.TheVariants.{Request, Step}
 use Rattle.tpl_model.specs.declared.event.Event.{Event}

@@ -5,6 +5,7 @@ ghost use Rattle.tpl_machine.specs.Journal.{opened};
 
 mod allowed;
 mod due;
+mod heads;
 mod readers;
 mod record;
 
@@ -17,13 +18,15 @@ use tpl_machine::Machine;
 use tpl_words::Inputs;
 
 /// A run, which contracts see as a journal. Beside the events and rows of the plain machine it keeps when each task
-/// was released, begun and left, and which tokens are requested, so that no reader walks the events.
+/// was released, begun and left, which tokens are requested, and how far the arguments of each task have ended, so that
+/// no reader walks the events and no argument that has ended is looked at again.
 #[derive(Drop)]
 pub(crate) struct State<'g> {
     machine: Machine<'g>,
     graph: &'g Graph,
     marks: Vec<Mark>,
     asked: Asked,
+    heads: Vec<usize>,
 }
 
 impl<'g> Model for State<'g> {
@@ -37,7 +40,7 @@ impl<'g> Model for State<'g> {
 
     ghost view = { λ s. s.machine };
 
-    ghost invariant = { λ s. IsKept s.machine s.graph.now s.marks.items s.asked.itself s.asked.closed };
+    ghost invariant = { λ s. IsKept s.machine s.graph.now s.marks.items s.asked.itself s.asked.closed s.heads.items };
 }
 
 impl<'g> State<'g> {
@@ -47,12 +50,14 @@ impl<'g> State<'g> {
     {
         graph.valid();
         let marks = unmarked(alloc, graph.len())?;
+        let heads = vec![in alloc; 0; graph.len()]?;
         let machine = Machine::open(alloc, graph, inputs)?;
         Ok(State {
             machine,
             graph,
             marks,
             asked: Asked::none(),
+            heads,
         })
     }
 }

@@ -73,6 +73,15 @@ pub(crate) fn tell_waiters(due: &mut Bits, state: &State, links: &Links, task: O
     }
 }
 
+/// Those that wait for a task look on from the first argument that hasn't ended.
+pub(crate) fn advance_waiters(state: &mut State, links: &Links, task: Option<TaskId>)
+    ensures { state.new ≡ state.old }
+{
+    if let Some(task) = task {
+        state.advance_each(links.waiters(task));
+    }
+}
+
 /// Tells of a token the tasks whose own it is, if it wasn't requested before.
 fn tell_owners(due: &mut Bits, state: &State, links: &Links, token: TokenId, before: bool)
     requires token { is_token state.now.graph token.0 }

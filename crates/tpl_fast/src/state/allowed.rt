@@ -211,7 +211,7 @@ impl<'g> State<'g> {
         ensures { result ≡ can_settle (kind self.now.graph task.0) (ending self.now.graph self.now.inputs self.now.events) }
     {
         match self.kind(task) {
-            Kind::All => self.all_ended(self.args(task)),
+            Kind::All => self.args_ended(task),
             Kind::Any => self.some_ended(self.args(task)),
             _ => false,
         }

@@ -1,4 +1,4 @@
-use Rattle.std.proofs.Common.{◌≡◌, ap, ◌∙◌, sym, subst, true}
+use Rattle.std.proofs.Common.{ap, ◌∙◌, sym}
 use Rattle.tpl_words.specs.Members.{mem}
 use Rattle.tpl_model.specs.Graph.{attached}
 use Rattle.tpl_graph.specs.Named.{Named}

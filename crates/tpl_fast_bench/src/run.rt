@@ -1,0 +1,84 @@
+//! Whole runs of a graph.
+
+use crate::graph::STATEMENTS;
+use tpl_graph::Kind;
+use tpl_machine::Core;
+use tpl_model::{Act, Event};
+use tpl_words::{Actor, TaskId, Worker};
+
+/// In which order the tasks of a run act.
+#[derive(Clone, Copy)]
+pub enum Order {
+    /// One task after another.
+    OneByOne,
+    /// All tasks begin, then each passes a statement in turn, and at last all are left.
+    SideBySide,
+}
+
+/// Where the act isn't allowed, the run is shorter.
+fn attempt<C: Core>(core: &mut C, act: Act) {
+    let event = Event {
+        actor: Actor::Worker(Worker(1)),
+        act,
+    };
+    let _ = core.step(event);
+}
+
+/// Begins a task, passes its statements, and leaves it.
+fn pass_body<C: Core>(core: &mut C, task: TaskId, statements: usize) {
+    attempt(core, Act::Begin(task));
+    for _ in 0..statements {
+        attempt(core, Act::Step(task));
+    }
+    attempt(core, Act::Leave(task));
+}
+
+fn kind_of<C: Core>(core: &C, task: TaskId) -> Kind {
+    if (task.0 as usize) < core.graph().len() {
+        core.graph().kind(task)
+    } else {
+        Kind::Root
+    }
+}
+
+fn whole_task<C: Core>(core: &mut C, task: TaskId, statements: usize) {
+    match kind_of(core, task) {
+        Kind::All | Kind::Any => attempt(core, Act::Settle(task)),
+        Kind::Then => {
+            attempt(core, Act::Release(task));
+            pass_body(core, task, statements);
+        }
+        Kind::Root | Kind::Child => pass_body(core, task, statements),
+    }
+}
+
+fn one_by_one<C: Core>(core: &mut C, statements: usize) {
+    for i in 0..core.graph().len() {
+        whole_task(core, TaskId(i as u16), statements);
+    }
+}
+
+/// The same act of each task.
+fn each_task<C: Core, F: Fn(TaskId) -> Act>(core: &mut C, act: F)
+    requires { F.IsAlwaysCallable act }
+{
+    for i in 0..core.graph().len() {
+        attempt(core, act(TaskId(i as u16)));
+    }
+}
+
+fn side_by_side<C: Core>(core: &mut C, statements: usize) {
+    each_task(core, |task| Act::Begin(task));
+    for _ in 0..statements {
+        each_task(core, |task| Act::Step(task));
+    }
+    each_task(core, |task| Act::Leave(task));
+}
+
+/// A whole run of a graph whose bodies have so many statements.
+pub fn play<C: Core>(core: &mut C, order: Order, statements: usize) {
+    match order {
+        Order::OneByOne => one_by_one(core, statements),
+        Order::SideBySide => side_by_side(core, statements),
+    }
+}

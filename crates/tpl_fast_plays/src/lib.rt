@@ -1,0 +1,5 @@
+//! Plays on the indexed machine.
+#![tactic(auto)]
+
+#[cfg(test)]
+mod tests;
