@@ -1,5 +1,5 @@
 -- Trees for the claims, one after another.
-use Rattle.std.proofs.Common.{◌≡◌, ℕ, suc, ◌+◌, ◌<◌, ◌≤◌, ◌++◌, List, [], ◌∷◌, take, drop, length, sym, ap, ◌∙◌, subst, slice_index_or, arith}
+use Rattle.std.proofs.Common.{ℕ, suc, ◌+◌, ◌<◌, ◌≤◌, ◌++◌, List, [], ◌∷◌, take, drop, length, sym, ap, ◌∙◌, subst, slice_index_or, arith}
 use Rattle.std.specs.List.{All}
 use Rattle.std.proofs.lemmas.List.{take_more, take_all, take-append-drop, length-take-le}
 use Rattle.std.proofs.lemmas.List.Elements.{All-push, All-nil}

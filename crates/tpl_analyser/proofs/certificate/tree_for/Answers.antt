@@ -1,4 +1,4 @@
-use Rattle.std.proofs.Common.{◌≡◌, IfOk, IfSome, ap, ◌∙◌, subst}
+use Rattle.std.proofs.Common.{IfOk, IfSome, ap, ◌∙◌, subst}
 use Rattle.tpl_model.specs.declared.claim.Property.{Property}
 use Rattle.tpl_model.specs.Certificate.{Assumed, assumed}
 use Rattle.tpl_analyser.specs.Found.{IsFound}
