@@ -6,16 +6,13 @@ usage: cases/memory.py [PROGRAM]    crates/tpl_cli/out/tpl_cli, if none is named
 
 The toolchain's own C compiler builds what refuses them. The last line is 'N passed, M failed'.
 """
-import json
 import os
 import pathlib
 import subprocess
 import sys
 import tempfile
 
-from run import given
-
-HERE = pathlib.Path(__file__).resolve().parent
+from suite import HERE, PROGRAM, cases, files, given, program, tell
 
 
 def shared(folder):
@@ -53,20 +50,13 @@ def differs(program, case, library):
     return None
 
 
-def main():
-    program = sys.argv[1] if len(sys.argv) > 1 else HERE.parent / "crates/tpl_cli/out/tpl_cli"
-    passed = failed = 0
+def compared():
     with tempfile.TemporaryDirectory() as folder:
-        library = shared(folder)
-        for file in sorted(HERE.glob("*.json")):
-            case = json.loads(file.read_text(encoding="utf-8"))[0]
-            why = differs(program, case, library)
-            passed, failed = passed + (not why), failed + bool(why)
-            if why:
-                print(f"{file.name}: {case['name']}: {why}")
-    print(f"{passed} passed, {failed} failed")
-    return 1 if failed else 0
+        named, library = program(PROGRAM), shared(folder)
+        for file in files():
+            case = cases(file)[0]
+            yield file, case, differs(named, case, library)
 
 
 if __name__ == "__main__":
-    sys.exit(main())
+    sys.exit(tell(compared()))

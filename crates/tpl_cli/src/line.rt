@@ -1,11 +1,11 @@
 //! What the words of the command line say.
 
-ghost use Rattle.std.specs.Prelude.{◌≡◌, true, IfOk, MatchResult, map};
-ghost use Rattle.clap.specs.Words.{app_of, kind_of, takes};
-ghost use Rattle.tpl_cli.specs.Line.{taskgraph, Names};
+ghost use Rattle.std.specs.Prelude.{◌≡◌, ℕ, true, false, IfOk, MatchResult, map};
+ghost use Rattle.clap.specs.Words.{app_of, found_of, kind_of, rows_of, rule_of, takes};
+ghost use Rattle.tpl_cli.specs.Line.{taskgraph, depth_rule, IsDepth, IsWithinDepth, Names};
 
-use clap::Command;
 use clap::error::ErrorKind;
+use clap::{Arg, ArgMatches, Command, value_parser};
 use std::alloc::{AllocError, Global};
 use thiserror::Error;
 
@@ -14,6 +14,8 @@ use thiserror::Error;
 pub enum Line {
     /// Check the certificate of a document.
     Check,
+    /// Search a certificate of a document's claims with at most so many splits on each path, 0 to 6.
+    Analyse(u8),
 }
 
 /// Why there is nothing to do.
@@ -42,6 +44,19 @@ impl From<AllocError> for LineFault {
     }
 }
 
+/// The option for the most splits on each path.
+fn depth<'a>(alloc: Global) -> Arg<'a>
+    ensures rule { rule_of result ≡ depth_rule }
+    ensures own { result.global ≡ false }
+{
+    Arg::new(alloc, "depth")
+        .long("depth")
+        .value_name("N")
+        .help("The most splits on each path of a tree, 0 to 6")
+        .default_value("2")
+        .value_parser(value_parser!(u8).range(0..=6))
+}
+
 /// The command line: one of the subcommands has to stand there.
 fn taskgraph<'a>(alloc: Global) -> Result<Command<'a>, AllocError>
     ensures { IfOk result (λ command. app_of command ≡ taskgraph) }
@@ -49,7 +64,12 @@ fn taskgraph<'a>(alloc: Global) -> Result<Command<'a>, AllocError>
     Command::new(alloc, "taskgraph")
         .about("Checks certificates of .NET task graphs; the document comes on standard input.")
         .subcommand_required(true)
-        .subcommand(Command::new(alloc, "check").about("Checks the document's certificate"))
+        .subcommand(Command::new(alloc, "check").about("Checks the document's certificate"))?
+        .subcommand(
+            Command::new(alloc, "analyse")
+                .about("Searches a certificate of the document's claims")
+                .arg(depth(alloc))?,
+        )
 }
 
 /// The text goes where its kind belongs: help that was asked for isn't a fault of the words.
@@ -68,9 +88,22 @@ fn fault_of(alloc: Global, error: clap::Error) -> LineFault
     }
 }
 
+/// The value of the option, which the parse has tested.
+fn depth_of(alloc: Global, given: &ArgMatches<'_>) -> Result<u8, LineFault>
+    ensures named { IfOk result (IsDepth (rows_of (found_of given.now))) }
+    ensures taken { (depth : ℕ) → IsDepth (rows_of (found_of given.now)) depth
+        → MatchResult result (λ found. found ≡ depth) (λ fault. fault ≡ LineFault.Memory) }
+{
+    match given.get_one::<u8>("depth") {
+        Some(depth) if depth <= 6 => Ok(depth),
+        _ => Err(LineFault::Usage(String::from_str(alloc, "error: no depth\n")?)),
+    }
+}
+
 /// What the words say, the first of which is the program's own name. They are read by `clap`.
 pub fn line_of<'a>(alloc: Global, words: &'a [&'a str]) -> Result<Line, LineFault>
     ensures named { IfOk result (Names (map (λ word. word.now) words.entry.now)) }
+    ensures limit { IfOk result IsWithinDepth }
 
     // Words that the command line takes are refused for want of memory alone.
     ensures taken { let texts = map (λ word. word.now) words.entry.now in
@@ -83,6 +116,10 @@ pub fn line_of<'a>(alloc: Global, words: &'a [&'a str]) -> Result<Line, LineFaul
     };
     match matches.subcommand() {
         Some(("check", _)) => Ok(Line::Check),
+        Some(("analyse", given)) => match depth_of(alloc, given) {
+            Ok(depth) => Ok(Line::Analyse(depth)),
+            Err(fault) => Err(fault),
+        },
         _ => Err(LineFault::Usage(String::from_str(alloc, "error: no command\n")?)),
     }
 }
@@ -100,8 +137,34 @@ mod tests {
     }
 
     #[test]
+    fn reads_the_depth(rt: HostRuntime) -> Result<(), Fail> {
+        let lines: [(&[&str], u8); 6] = [
+            (&["taskgraph", "analyse"], 2),
+            (&["taskgraph", "analyse", "--depth", "0"], 0),
+            (&["taskgraph", "analyse", "--depth", "1"], 1),
+            (&["taskgraph", "analyse", "--depth=2"], 2),
+            (&["taskgraph", "analyse", "--depth", "03"], 3),
+            (&["taskgraph", "analyse", "--depth", "6"], 6),
+        ];
+        for (words, depth) in lines {
+            let line = line_of(rt.alloc(), words);
+            assert!(rt;
+                matches!(line, Ok(Line::Analyse(found)) if found == depth),
+                "{words:?}"
+            );
+        }
+        Ok(())
+    }
+
+    #[test]
     fn refuses_other_words(rt: HostRuntime) -> Result<(), Fail> {
-        let lines: [&[&str]; 5] = [
+        let lines: [&[&str]; 11] = [
+            &["taskgraph", "analyse", "--depth", "7"],
+            &["taskgraph", "analyse", "--depth", "-1"],
+            &["taskgraph", "analyse", "--depth", "two"],
+            &["taskgraph", "analyse", "--depth"],
+            &["taskgraph", "analyse", "--depth", "1", "--depth", "1"],
+            &["taskgraph", "check", "--depth", "1"],
             &["taskgraph"],
             &["taskgraph", "verify"],
             &["taskgraph", "check", "file.json"],
@@ -120,7 +183,8 @@ mod tests {
 
     #[test]
     fn gives_help_where_it_is_asked_for(rt: HostRuntime) -> Result<(), Fail> {
-        let lines: [&[&str]; 4] = [
+        let lines: [&[&str]; 5] = [
+            &["taskgraph", "analyse", "--help"],
             &["taskgraph", "--help"],
             &["taskgraph", "-h"],
             &["taskgraph", "help"],

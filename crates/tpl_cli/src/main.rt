@@ -3,6 +3,9 @@
 
 mod line;
 
+ghost use Rattle.std.specs.Prelude.{IfOk};
+ghost use Rattle.tpl_cli.specs.Line.{IsWithinDepth};
+
 use crate::line::{Line, LineFault, line_of};
 use std::io::ErrorKind;
 use std::process::ExitCode;
@@ -23,7 +26,9 @@ fn words(rt: &HostRuntime) -> Result<Vec<String>, LineFault> {
 }
 
 /// What the command line says. Its texts call the program `taskgraph`, whatever file it is run from.
-fn given_line(rt: &HostRuntime) -> Result<Line, LineFault> {
+fn given_line(rt: &HostRuntime) -> Result<Line, LineFault>
+    ensures { IfOk result IsWithinDepth }
+{
     let words = words(rt)?;
     let given = words.iter().skip(1).map(|word| word.as_str());
     let texts: Vec<&str> = iter::once("taskgraph").chain(given).collect(rt.alloc())?;
@@ -31,11 +36,14 @@ fn given_line(rt: &HostRuntime) -> Result<Line, LineFault> {
 }
 
 /// Does what the command line says.
-fn perform(rt: &HostRuntime, line: Line) -> Exit {
+fn perform(rt: &HostRuntime, line: Line) -> Exit
+    requires { IsWithinDepth line }
+{
     let mut from = Counting::new(rt.stdin());
     let mut to = Counting::new(rt.stdout());
     match line {
         Line::Check => serve(rt.alloc(), Ask::Check, &mut from, &mut to),
+        Line::Analyse(depth) => serve(rt.alloc(), Ask::Analyse(depth), &mut from, &mut to),
     }
 }
 

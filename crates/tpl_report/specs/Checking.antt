@@ -1,5 +1,5 @@
 -- What `check` answers to a document.
-use Rattle.std.specs.Prelude.{◌≡◌, ◌⊎◌, ℕ, Bool, List, Some, Ok, Err, codes, slice_get}
+use Rattle.std.specs.Prelude.{◌≡◌, ℕ, Bool, List, Some, Ok, Err, codes, slice_get}
 use Rattle.tpl_model.specs.declared.event.Event.{Event}
 use Rattle.tpl_model.specs.declared.fault.CertFault.{CertFault}
 use Rattle.tpl_model.specs.declared.fault.CertFault.TheVariants.{Shape, NotClosed, ClaimNot}
@@ -10,13 +10,12 @@ use Rattle.tpl_model.specs.Certificate.{Accepts}
 use Rattle.tpl_laws.specs.Verdict.{verdict}
 use Rattle.tpl_laws.specs.Faults.{IsFirstFault}
 use Rattle.tpl_laws.specs.Soundness.{Each}
-use Rattle.tpl_reader.specs.Document.{DocumentValue, Spells, IsFault}
-use Rattle.tpl_reader.specs.declared.fault.ReadFault.{ReadFault}
+use Rattle.tpl_reader.specs.Document.{DocumentValue}
 use Rattle.tpl_report.specs.declared.exit.Exit.{Exit}
-use Rattle.tpl_report.specs.declared.exit.Exit.TheVariants.{Success, Failure, Unreadable}
+use Rattle.tpl_report.specs.declared.exit.Exit.TheVariants.{Success, Failure}
 use Rattle.tpl_report.specs.Texts.{refused_shape, refused_leaf, refused_claim}
-use Rattle.tpl_report.specs.Unreadable.{IsUnreadable}
 use Rattle.tpl_report.specs.Responding.{Answers}
+use Rattle.tpl_report.specs.Documents.{ToDocument}
 
 -- each claim holds in each run of the graph, for all inputs and whatever comes from outside
 abbrev pub ClaimsHold : DocumentValue → Type 0
@@ -50,11 +49,8 @@ IsVerdict doc Failure text =
     (fault : CertFault) × IsRefused doc fault × IsRefusal doc.graph.names.tasks fault text
 IsVerdict doc exit text = ⊥
 
--- the bytes spell a document on which this is the verdict, or they spell none and the text says why
 abbrev pub Checks : Answers
-Checks input exit text =
-    ((doc : DocumentValue) × Spells input doc × IsVerdict doc exit text)
-    ⊎ ((fault : ReadFault) × IsFault input fault × (exit ≡ Unreadable) × IsUnreadable fault text)
+Checks = ToDocument IsVerdict
 
 -- the task that is named is the graph's
 abbrev pub NamesTask : TaskGraph → CertFault → Type 0

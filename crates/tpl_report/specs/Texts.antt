@@ -20,6 +20,9 @@ refused_leaf claim leaf name rule = codes "refused: not closed claim " ++ (decim
 abbrev pub refused_claim : ℕ → ℕ → List ℕ
 refused_claim claim leaf = codes "refused: claim " ++ (decimal claim ++ (codes " leaf " ++ (decimal leaf ++ codes "\n")))
 
+abbrev pub not_found : ℕ → List ℕ
+not_found claim = codes "not found: claim " ++ (decimal claim ++ codes "\n")
+
 abbrev pub unreadable : List ℕ → List ℕ
 unreadable what = codes "unreadable: " ++ (what ++ codes "\n")
 

@@ -11,7 +11,7 @@ use crate::answer::Answer;
 use crate::exit::Exit;
 use crate::responding::Command;
 use crate::text::{refused_claim, refused_leaf, refused_shape};
-use crate::unreadable::unreadable_text;
+use crate::unreadable::unreadable_answer;
 use std::alloc::{AllocError, Global};
 use tpl_checker::check;
 use tpl_graph::Graph;
@@ -27,13 +27,7 @@ impl Command for Check {
     fn answer(&self, alloc: Global, bytes: &[u8]) -> Result<Answer, AllocError> {
         match read_document(alloc, bytes) {
             Ok(document) => verdict_on(alloc, &document),
-            Err(fault) => {
-                let text = unreadable_text(alloc, fault)?;
-                Ok(Answer {
-                    exit: Exit::Unreadable,
-                    text,
-                })
-            }
+            Err(fault) => unreadable_answer(alloc, fault),
         }
     }
 }

@@ -4,6 +4,7 @@
 mod answer;
 mod checking;
 mod exit;
+mod finding;
 mod responding;
 mod serving;
 mod text;
@@ -12,6 +13,7 @@ mod unreadable;
 pub use answer::{Answer, put_answer, put_out_of_memory};
 pub use checking::Check;
 pub use exit::Exit;
+pub use finding::Analyse;
 pub use responding::{Command, read_input, respond};
 pub use serving::{Ask, serve};
 

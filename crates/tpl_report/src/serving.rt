@@ -1,12 +1,13 @@
 //! The commands that read one document and write one text.
 
-ghost use Rattle.std.specs.Prelude.{◌≡◌, ◌+◌, ◌≤◌};
+ghost use Rattle.std.specs.Prelude.{◌≡◌, ◌+◌, ◌≤◌, ℕ};
 ghost use Rattle.tpl_journal.specs.Counting.{calls_of};
 ghost use Rattle.tpl_report.specs.Responding.{longest, Responds};
-ghost use Rattle.tpl_report.specs.Serving.{answers_of, Accepted};
+ghost use Rattle.tpl_report.specs.Serving.{answers_of, IsWithinDepth, Accepted, Found};
 
 use crate::checking::Check;
 use crate::exit::Exit;
+use crate::finding::Analyse;
 use crate::responding::respond;
 use std::alloc::Global;
 use std::io::{Read, Write};
@@ -17,6 +18,8 @@ use tpl_journal::Counting;
 pub enum Ask {
     /// Is its certificate accepted?
     Check,
+    /// Which certificate do its claims have, with at most so many splits on each path (0 to 6)?
+    Analyse(u8),
 }
 
 /// Reads a document to its end, at most 16,777,216 bytes, and writes the answer. The text is made
@@ -28,16 +31,20 @@ pub fn serve<R: Read, W: Write>(
     from: &mut Counting<R>,
     to: &mut Counting<W>,
 ) -> Exit
+    requires { IsWithinDepth ask }
     ensures responds { Responds (answers_of ask) R.remaining from.old from.new
         W.contents to.old to.new result }
     ensures reads { calls_of from.new ≤ calls_of from.old + (longest + 2) }
 
     // From the check's success each claim is known to hold in every run, for all inputs and
-    // whatever comes from outside.
+    // whatever comes from outside; and so it is where a certificate is written.
     ensures accepted { ask ≡ Ask.Check → result ≡ Exit.Success
         → Accepted R.remaining from.old from.new W.contents to.old to.new }
+    ensures found { (depth : ℕ) → ask ≡ Ask.Analyse depth → result ≡ Exit.Success
+        → Found R.remaining from.old from.new W.contents to.old to.new depth }
 {
     match ask {
         Ask::Check => respond(&Check, alloc, from, to),
+        Ask::Analyse(depth) => respond(&Analyse { depth }, alloc, from, to),
     }
 }

@@ -1,5 +1,6 @@
 //! Commands over devices whose bytes no clause knows.
 ghost use Rattle.std.specs.Prelude.{◌≡◌, ◌++◌, codes, decimal, length};
+ghost use Rattle.tpl_report.specs.Serving.{IsWithinDepth};
 
 use crate::{Answer, Ask, Command, Exit, put_out_of_memory, respond, serve};
 use std::alloc::{AllocError, Global};
@@ -11,6 +12,10 @@ use tpl_journal::Counting;
 /// One task that returns, the claim that it ends RanToCompletion, and its certificate.
 const ONE_ROOT: &[u8] =
     b"{\"version\":1,\"tasks\":[{\"name\":\"A\",\"kind\":\"root\",\"body\":[\"return\"]}],\"claims\":[{\"final\":\"A\",\"in\":[\"RanToCompletion\"]}],\"certificate\":[{\"rows\":[{\"ends\":[\"RanToCompletion\"],\"runs\":true}]}]}";
+
+/// The certificate that is found for it.
+const ITS_CERTIFICATE: &[u8] =
+    b"[{\"rows\":[{\"before\":[],\"chain\":[],\"ends\":[\"RanToCompletion\"],\"past\":[],\"runs\":true}]}]\n";
 
 /// Answers with the number of bytes.
 struct Count;
@@ -187,15 +192,17 @@ fn codes_of_exits(rt: HostRuntime) -> Result<(), Fail> {
     Ok(())
 }
 
-/// What the check of what is read gave: the exit and what was written.
-fn served<R: Read + Drop>(alloc: Global, reader: R, fails: usize) -> (Exit, Vec<u8>) {
+/// What `serve` gave for what is read: the exit and what was written.
+fn served<R: Read + Drop>(alloc: Global, ask: Ask, reader: R, fails: usize) -> (Exit, Vec<u8>)
+    requires { IsWithinDepth ask }
+{
     let mut from = Counting::new(reader);
     let mut to = Counting::new(Narrow {
         held: Vec::new(alloc),
         writes: 0,
         fails,
     });
-    let exit = serve(alloc, Ask::Check, &mut from, &mut to);
+    let exit = serve(alloc, ask, &mut from, &mut to);
     let Narrow { held, .. } = to.into_inner();
     (exit, held)
 }
@@ -203,11 +210,11 @@ fn served<R: Read + Drop>(alloc: Global, reader: R, fails: usize) -> (Exit, Vec<
 #[test]
 fn checks_a_document_byte_by_byte(rt: HostRuntime) -> Result<(), Fail> {
     let never = usize::MAX;
-    let (exit, held) = served(rt.alloc(), text_of(ONE_ROOT, never), never);
+    let (exit, held) = served(rt.alloc(), Ask::Check, text_of(ONE_ROOT, never), never);
     assert_eq!(rt; exit, Exit::Success);
     assert!(rt; held.as_slice() == b"accepted\n".as_slice());
 
-    let (exit, held) = served(rt.alloc(), Endless, never);
+    let (exit, held) = served(rt.alloc(), Ask::Check, Endless, never);
     assert_eq!(rt; exit, Exit::Unreadable);
     assert!(rt; held.as_slice() == b"unreadable: too long\n".as_slice());
     Ok(())
@@ -216,7 +223,7 @@ fn checks_a_document_byte_by_byte(rt: HostRuntime) -> Result<(), Fail> {
 #[test]
 fn a_check_ends_at_each_failed_read(rt: HostRuntime) -> Result<(), Fail> {
     for n in 0..=ONE_ROOT.len() {
-        let (exit, held) = served(rt.alloc(), text_of(ONE_ROOT, n), usize::MAX);
+        let (exit, held) = served(rt.alloc(), Ask::Check, text_of(ONE_ROOT, n), usize::MAX);
         assert!(rt; exit == Exit::Device && held.is_empty(), "read {n}");
     }
     Ok(())
@@ -225,9 +232,38 @@ fn a_check_ends_at_each_failed_read(rt: HostRuntime) -> Result<(), Fail> {
 #[test]
 fn a_check_ends_at_each_failed_write(rt: HostRuntime) -> Result<(), Fail> {
     for n in 0..9usize {
-        let (exit, held) = served(rt.alloc(), text_of(ONE_ROOT, usize::MAX), n);
+        let (exit, held) = served(rt.alloc(), Ask::Check, text_of(ONE_ROOT, usize::MAX), n);
         assert!(rt; exit == Exit::Device, "write {n}");
         assert!(rt; held.as_slice() == &b"accepted\n"[..n], "write {n}");
+    }
+    Ok(())
+}
+
+#[test]
+fn searches_a_certificate_byte_by_byte(rt: HostRuntime) -> Result<(), Fail> {
+    let never = usize::MAX;
+    let ask = Ask::Analyse(0);
+    let (exit, held) = served(rt.alloc(), ask, text_of(ONE_ROOT, never), never);
+    assert_eq!(rt; exit, Exit::Success);
+    assert!(rt; held.as_slice() == ITS_CERTIFICATE);
+
+    let (exit, held) = served(rt.alloc(), ask, text_of(&ONE_ROOT[..40], never), never);
+    assert_eq!(rt; exit, Exit::Unreadable);
+    assert!(rt; held.as_slice() == b"unreadable: not JSON\n".as_slice());
+    Ok(())
+}
+
+#[test]
+fn a_search_ends_at_each_failed_write(rt: HostRuntime) -> Result<(), Fail> {
+    for n in 0..ITS_CERTIFICATE.len() {
+        let (exit, held) = served(
+            rt.alloc(),
+            Ask::Analyse(2),
+            text_of(ONE_ROOT, usize::MAX),
+            n,
+        );
+        assert!(rt; exit == Exit::Device, "write {n}");
+        assert!(rt; held.as_slice() == &ITS_CERTIFICATE[..n], "write {n}");
     }
     Ok(())
 }

@@ -1,7 +1,7 @@
 //! The lines that the program writes.
 
 ghost use Rattle.std.specs.Prelude.{◌≡◌, IfOk, string_bytes};
-ghost use Rattle.tpl_report.specs.Texts.{rule_name, refused_shape, refused_leaf, refused_claim, unreadable, unreadable_part, unreadable_at, unreadable_graph, unreadable_start};
+ghost use Rattle.tpl_report.specs.Texts.{rule_name, refused_shape, refused_leaf, refused_claim, not_found, unreadable, unreadable_part, unreadable_at, unreadable_graph, unreadable_start};
 
 use std::alloc::{AllocError, Global};
 use tpl_model::Rule;
@@ -43,6 +43,12 @@ pub(crate) fn refused_claim(alloc: Global, claim: usize, leaf: usize) -> Result<
     ensures { IfOk result (λ text. string_bytes text ≡ refused_claim claim leaf) }
 {
     format!(in alloc; "refused: claim {claim} leaf {leaf}\n")
+}
+
+pub(crate) fn not_found(alloc: Global, claim: usize) -> Result<String, AllocError>
+    ensures { IfOk result (λ text. string_bytes text ≡ not_found claim) }
+{
+    format!(in alloc; "not found: claim {claim}\n")
 }
 
 pub(crate) fn unreadable(alloc: Global, what: &str) -> Result<String, AllocError>

@@ -4,6 +4,8 @@ ghost use Rattle.std.specs.Prelude.{◌≡◌, IfOk, string_bytes};
 ghost use Rattle.std.specs.Option.{option_map};
 ghost use Rattle.tpl_report.specs.Unreadable.{options_word, graph_word, claim_word, tree_word, start_word, shape_text, IsUnreadable};
 
+use crate::answer::Answer;
+use crate::exit::Exit;
 use crate::text::{unreadable, unreadable_at, unreadable_graph, unreadable_part, unreadable_start};
 use std::alloc::{AllocError, Global};
 use tpl_cert::TreeFault;
@@ -86,7 +88,7 @@ fn shape_text(alloc: Global, part: Part) -> Result<String, AllocError>
 }
 
 /// The line for a document that can't be read. Want of memory has none.
-pub(crate) fn unreadable_text(alloc: Global, fault: ReadFault) -> Result<String, AllocError>
+fn unreadable_text(alloc: Global, fault: ReadFault) -> Result<String, AllocError>
     ensures { IfOk result (λ text. IsUnreadable fault (string_bytes text)) }
 {
     match fault {
@@ -107,4 +109,15 @@ pub(crate) fn unreadable_text(alloc: Global, fault: ReadFault) -> Result<String,
         ReadFault::Start(fault) => unreadable_start(alloc, start_word(fault)),
         ReadFault::Memory => Err(AllocError),
     }
+}
+
+/// The answer to a document that can't be read.
+pub(crate) fn unreadable_answer(alloc: Global, fault: ReadFault) -> Result<Answer, AllocError>
+    ensures { IfOk result (λ given.
+        (given.exit ≡ Exit.Unreadable) × IsUnreadable fault (string_bytes given.text)) }
+{
+    Ok(Answer {
+        exit: Exit::Unreadable,
+        text: unreadable_text(alloc, fault)?,
+    })
 }

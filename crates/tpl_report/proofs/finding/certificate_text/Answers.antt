@@ -1,0 +1,13 @@
+use Rattle.std.proofs.Common.{◌≡◌, ◌++◌, ◌∙◌, ap, codes}
+use Rattle.serde_json.specs.Data.{array}
+use Rattle.serde_json.specs.View.{view, items_of}
+use Rattle.tpl_report.specs.Finding.{written_trees}
+use Rattle.tpl_report.proofs.WrittenTrees.{no_float}
+use Rattle.tpl_report.proofs.finding.certificate_text.Goals as goal
+
+pub returns-clause-written : goal.returns-clause-written
+returns-clause-written c =
+    let value : view c.array_of.result ≡ written_trees c.args.graph.now.names c.args.trees.now =
+    c.array_of.ensures ∙ ap (λ ds. array (items_of ds)) c.in_ok-tree_values.ensures.written in
+    let text = rw value at c.in_ok-text.ensures.text in
+    c.in_ok-push_str.ensures.bytes ∙ ap (λ bytes. bytes ++ codes "\n") (text (no_float c.args.graph.now.names c.args.trees.now))

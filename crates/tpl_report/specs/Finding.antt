@@ -1,0 +1,51 @@
+-- What `analyse` answers to a document.
+use Rattle.std.specs.Prelude.{◌≡◌, ◌≤◌, ℕ, List, ◌++◌, codes, map}
+use Rattle.std.specs.List.{All}
+use Rattle.serde_json.specs.Data.{Data, array}
+use Rattle.serde_json.specs.View.{items_of}
+use Rattle.serde_json.specs.Written.{compact_text}
+use Rattle.tpl_model.specs.Certificate.{Tree, Accepts}
+use Rattle.tpl_graph.specs.Named.{Names}
+use Rattle.tpl_cert.specs.Heights.{height}
+use Rattle.tpl_cert.specs.Spelled.{SpellsTree}
+use Rattle.tpl_cert.specs.Written.{tree_data, named}
+use Rattle.tpl_analyser.specs.Gaps.{IsFirstWithout}
+use Rattle.tpl_reader.specs.Document.{DocumentValue}
+use Rattle.tpl_report.specs.declared.exit.Exit.{Exit}
+use Rattle.tpl_report.specs.declared.exit.Exit.TheVariants.{Success, Failure}
+use Rattle.tpl_report.specs.Texts.{not_found}
+use Rattle.tpl_report.specs.Responding.{Answers}
+use Rattle.tpl_report.specs.Documents.{ToDocument}
+use Rattle.tpl_report.specs.Checking.{ClaimsHold}
+
+-- the JSON value that is written for a tree
+abbrev pub written_tree : Names → Tree → Data
+written_tree names tree = tree_data (named names tree)
+
+-- the JSON value of a certificate: an array of its trees
+abbrev pub written_trees : Names → List Tree → Data
+written_trees names trees = array (items_of (map (written_tree names) trees))
+
+-- what is written for a tree is read as that tree
+abbrev pub IsRead : Names → Tree → Type 0
+IsRead names tree = SpellsTree names (written_tree names tree) tree
+
+-- The text is that of a certificate with at most so many splits on each path, which is accepted for
+-- the document's claims, and so they hold.
+pub record IsCertificate (depth : ℕ) (doc : DocumentValue) (text : List ℕ) : Type 0 where
+  pub trees : List Tree
+  pub accepted : Accepts doc.graph.graph doc.claims trees
+  pub hold : ClaimsHold doc
+  pub splits : All (λ tree. height tree ≤ depth) trees
+  pub read : All (IsRead doc.graph.names) trees
+  pub written : text ≡ compact_text (written_trees doc.graph.names trees) ++ codes "\n"
+
+-- a certificate, or the number of the first claim for which none was found
+abbrev pub IsFinding : ℕ → DocumentValue → Exit → List ℕ → Type 0
+IsFinding depth doc Success text = IsCertificate depth doc text
+IsFinding depth doc Failure text =
+    (claim : ℕ) × IsFirstWithout doc.graph.graph doc.claims depth claim × (text ≡ not_found claim)
+IsFinding depth doc exit text = ⊥
+
+abbrev pub Finds : ℕ → Answers
+Finds depth = ToDocument (IsFinding depth)
