@@ -2,9 +2,9 @@ pub mod Basics
 pub mod BitLemmas
 pub mod MarkLemmas
 pub mod TokenLemmas
-pub mod HeadLemmas
 pub mod StateLemmas
 pub mod FrameLemmas
+pub mod HeadLemmas
 pub mod IndexLemmas
 pub mod LinkLemmas
 pub mod DueLemmas

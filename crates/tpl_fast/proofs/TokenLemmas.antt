@@ -1,5 +1,5 @@
 -- The tables of requested tokens.
-use Rattle.std.proofs.Common.{◌≡◌, ℕ, zero, suc, ◌+◌, ◌<◌, ◌||◌, Bool, false, List, [], ◌∷◌, length, set, Option, refl, sym, ap, ◌∙◌, arith, subst, inl, inr}
+use Rattle.std.proofs.Common.{◌≡◌, ℕ, zero, suc, ◌+◌, ◌<◌, ◌||◌, Bool, false, List, [], ◌∷◌, length, set, Option, None, refl, sym, ap, ◌∙◌, arith, subst, inl, inr}
 use Rattle.std.specs.Prelude.{slice_index_or, replicate}
 use Rattle.std.proofs.Math.Path.{fun_ext}
 use Rattle.std.proofs.lemmas.Bool.{cases_eq}
@@ -19,7 +19,7 @@ use Rattle.tpl_machine.specs.Journal.{Journal, opened, after}
 use Rattle.tpl_fast.specs.declared.marks.Mark.{Mark}
 use Rattle.tpl_fast.specs.Marks.{AreMarks}
 use Rattle.tpl_fast.specs.Tokens.{asks, AreAsked, IsTable}
-use Rattle.tpl_fast.specs.Kept.{IsKept, AreHeads}
+use Rattle.tpl_fast.specs.Kept.{AreEnded, AreOver, AreFound, IsKept}
 
 pub all_false : (n k : ℕ) → slice_index_or (replicate n false) k false ≡ false
 all_false zero k = refl
@@ -112,10 +112,10 @@ asked_none g v itself closed many many' off off' = record {
   count = many';
 }
 
-pub kept_open : (j : Journal) (n : Named) (v : List Bool) (list : List Mark) (itself closed : List Bool) (places : List ℕ) → j ≡ opened n v → AreMarks (length n.graph.tasks) [] list → length itself ≡ 32 → length closed ≡ 32 → ((k : ℕ) → slice_index_or itself k false ≡ false) → ((k : ℕ) → slice_index_or closed k false ≡ false) → AreHeads (opened n v) places → IsKept j n list itself closed places
-kept_open j n v list itself closed places is marks many many' off off' heads =
-    subst (λ (x : Journal). IsKept x n list itself closed places) (sym is)
-    (record { graph = refl; names = refl; marks = marks; tokens = asked_none n.graph v itself closed many many' off off'; heads = heads })
+pub kept_open : (j : Journal) (n : Named) (v : List Bool) (list : List Mark) (itself closed : List Bool) (ended over : List ℕ) (found : List Bool) → j ≡ opened n v → AreMarks (length n.graph.tasks) [] list → length itself ≡ 32 → length closed ≡ 32 → ((k : ℕ) → slice_index_or itself k false ≡ false) → ((k : ℕ) → slice_index_or closed k false ≡ false) → AreEnded (opened n v) ended → AreOver (opened n v) over → AreFound (opened n v) found → IsKept j n list itself closed ended over found
+kept_open j n v list itself closed ended over found is marks many many' off off' ended_so_far over_so_far found_so_far =
+    subst (λ (x : Journal). IsKept x n list itself closed ended over found) (sym is)
+    (record { graph = refl; names = refl; marks = marks; tokens = asked_none n.graph v itself closed many many' off off'; ended = ended_so_far; over = over_so_far; found = found_so_far })
 
 tokens_after : (g g' : TaskGraph) (v : List Bool) (h : List Event) (e : Event) (token : Option ℕ) (itself itself' closed closed' : List Bool) → g' ≡ g → ((v : List Bool) (h later : List Event) → AreAsked g' v h itself closed → ((k : ℕ) → requested_itself g' v later k ≡ (is_it token k || requested_itself g' v h k)) → AreAsked g' v later itself' closed') → token ≡ asks e.act (rest g v h) → AreAsked g v h itself closed → AreAsked g v (e ∷ h) itself' closed'
 tokens_after g g' v h e token itself itself' closed closed' same ask =
@@ -123,11 +123,17 @@ tokens_after g g' v h e token itself itself' closed closed' same ask =
     (λ is a. ask v h (e ∷ h) a (itself_after g' v h e token is))
 
 -- what is kept, one event later
-pub kept_after : (j : Journal) (n : Named) (list list' : List Mark) (itself itself' closed closed' : List Bool) (places : List ℕ) (e : Event) (token : Option ℕ) (place : ℕ) → IsKept j n list itself closed places → place ≡ suc (length j.events) → token ≡ asks e.act (rest j.graph j.inputs j.events) → ((m : ℕ) (h : List Event) → place ≡ suc (length h) → AreMarks m h list → AreMarks m (e ∷ h) list') → ((v : List Bool) (h later : List Event) → AreAsked n.graph v h itself closed → ((k : ℕ) → requested_itself n.graph v later k ≡ (is_it token k || requested_itself n.graph v h k)) → AreAsked n.graph v later itself' closed') → AreHeads (after j e) places → IsKept (after j e) n list' itself' closed' places
-kept_after j n list list' itself itself' closed closed' places e token place k place_is token_is notes ask heads = record {
+pub kept_after : (j : Journal) (n : Named) (list list' : List Mark) (itself itself' closed closed' : List Bool) (ended over over' : List ℕ) (found : List Bool) (e : Event) (token : Option ℕ) (place : ℕ) → IsKept j n list itself closed ended over found → place ≡ suc (length j.events) → token ≡ asks e.act (rest j.graph j.inputs j.events) → ((m : ℕ) (h : List Event) → place ≡ suc (length h) → AreMarks m h list → AreMarks m (e ∷ h) list') → ((v : List Bool) (h later : List Event) → AreAsked n.graph v h itself closed → ((k : ℕ) → requested_itself n.graph v later k ≡ (is_it token k || requested_itself n.graph v h k)) → AreAsked n.graph v later itself' closed') → AreEnded (after j e) ended → AreOver (after j e) over' → AreFound (after j e) found → IsKept (after j e) n list' itself' closed' ended over' found
+kept_after j n list list' itself itself' closed closed' ended over over' found e token place k place_is token_is notes ask ended_now over_now found_now = record {
   graph = k.graph;
   names = k.names;
   marks = notes (length j.graph.tasks) j.events place_is k.marks;
   tokens = tokens_after j.graph n.graph j.inputs j.events e token itself itself' closed closed' k.graph ask token_is k.tokens;
-  heads = heads;
+  ended = ended_now;
+  over = over_now;
+  found = found_now;
 }
+
+-- an event that requests no token itself requests none through a link
+pub requested_same : (g : TaskGraph) (v : List Bool) (h : List Event) (e : Event) → asks e.act (rest g v h) ≡ None → (k : ℕ) → requested g v (e ∷ h) k ≡ requested g v h k
+requested_same g v h e none k = ap (λ f. within g f (length g.tokens) k) (fun_ext (λ j. itself_after g v h e None (sym none) j))

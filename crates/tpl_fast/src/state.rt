@@ -18,15 +18,18 @@ use tpl_machine::Machine;
 use tpl_words::Inputs;
 
 /// A run, which contracts see as a journal. Beside the events and rows of the plain machine it keeps when each task
-/// was released, begun and left, which tokens are requested, and how far the arguments of each task have ended, so that
-/// no reader walks the events and no argument that has ended is looked at again.
+/// was released, begun and left, which tokens are requested, how far the arguments and the attached children of each
+/// task have ended, and whether an argument has, so that no reader walks the events and a task that waits looks at none
+/// again that has ended.
 #[derive(Drop)]
 pub(crate) struct State<'g> {
     machine: Machine<'g>,
     graph: &'g Graph,
     marks: Vec<Mark>,
     asked: Asked,
-    heads: Vec<usize>,
+    ended: Vec<usize>,
+    over: Vec<usize>,
+    found: Vec<bool>,
 }
 
 impl<'g> Model for State<'g> {
@@ -40,7 +43,7 @@ impl<'g> Model for State<'g> {
 
     ghost view = { λ s. s.machine };
 
-    ghost invariant = { λ s. IsKept s.machine s.graph.now s.marks.items s.asked.itself s.asked.closed s.heads.items };
+    ghost invariant = { λ s. IsKept s.machine s.graph.now s.marks.items s.asked.itself s.asked.closed s.ended.items s.over.items s.found.items };
 }
 
 impl<'g> State<'g> {
@@ -50,14 +53,18 @@ impl<'g> State<'g> {
     {
         graph.valid();
         let marks = unmarked(alloc, graph.len())?;
-        let heads = vec![in alloc; 0; graph.len()]?;
+        let ended = vec![in alloc; 0; graph.len()]?;
+        let over = vec![in alloc; 0; graph.len()]?;
+        let found = vec![in alloc; false; graph.len()]?;
         let machine = Machine::open(alloc, graph, inputs)?;
         Ok(State {
             machine,
             graph,
             marks,
             asked: Asked::none(),
-            heads,
+            ended,
+            over,
+            found,
         })
     }
 }

@@ -1,13 +1,13 @@
 //! Who is told of an event: each task of which it may change what is due.
 
-ghost use Rattle.std.specs.Prelude.{◌≡◌, ℕ, ◌≤◌, length, map, slice_index_or, true, false, Some};
+ghost use Rattle.std.specs.Prelude.{◌≡◌, ℕ, ◌≤◌, length, map, slice_index_or, true, false, Some, None};
 ghost use Rattle.std.specs.Option.{option_map};
 ghost use Rattle.tpl_words.specs.Members.{mem};
 ghost use Rattle.tpl_words.specs.TaskSet.{is_set};
 ghost use Rattle.tpl_model.specs.Graph as spec;
 ghost use Rattle.tpl_model.specs.Graph.{is_task, is_token};
 ghost use Rattle.tpl_model.specs.Facts.{requested};
-ghost use Rattle.tpl_graph.specs.Ids.{task_number};
+ghost use Rattle.tpl_graph.specs.Ids.{task_number, token_number};
 ghost use Rattle.tpl_fast.specs.Due.{IsRight, IsOpenRight, Keeps, AreTold, waits, ender};
 
 use crate::bits::Bits;
@@ -95,18 +95,32 @@ fn tell_owners(due: &mut Bits, state: &State, links: &Links, token: TokenId, bef
 }
 
 /// Tells of each token that wasn't requested before, and is now, the tasks whose own it is.
-pub(crate) fn tell_all_owners(
-    due: &mut Bits,
-    state: &State,
-    links: &Links,
-    before: &[bool; MOST_TOKENS],
-)
+fn tell_all_owners(due: &mut Bits, state: &State, links: &Links, before: &[bool; MOST_TOKENS])
     requires { AreTold state.now.graph links.now.waiters.items links.now.owners.items }
     ensures told { let j = state.now in (t k : ℕ) → (spec.task j.graph t).token ≡ Some k → is_task j.graph t → is_token j.graph k → (requested j.graph j.inputs j.events k ≡ slice_index_or before.now k false → ⊥) → IsRight j due.new t }
     ensures kept { Keeps state.now (λ t s. IsRight state.now s t) due.old due.new }
 {
     for i in 0..state.graph().token_count() {
         tell_owners(due, state, links, TokenId(i as u8), before[i]);
+    }
+}
+
+/// Tells of each token that an event requested, itself or through a link, the tasks whose own it is. `token` is the one
+/// that it requested itself, and without one there is none.
+pub(crate) fn tell_requested(
+    due: &mut Bits,
+    state: &State,
+    links: &Links,
+    before: &[bool; MOST_TOKENS],
+    token: Option<TokenId>,
+)
+    requires links { AreTold state.now.graph links.now.waiters.items links.now.owners.items }
+    requires none { option_map token_number token ≡ None → let j = state.now in (k : ℕ) → is_token j.graph k → requested j.graph j.inputs j.events k ≡ slice_index_or before.now k false }
+    ensures told { let j = state.now in (t k : ℕ) → (spec.task j.graph t).token ≡ Some k → is_task j.graph t → is_token j.graph k → (requested j.graph j.inputs j.events k ≡ slice_index_or before.now k false → ⊥) → IsRight j due.new t }
+    ensures kept { Keeps state.now (λ t s. IsRight state.now s t) due.old due.new }
+{
+    if token.is_some() {
+        tell_all_owners(due, state, links, before);
     }
 }
 

@@ -193,7 +193,7 @@ impl<'g> State<'g> {
     pub fn may_close(&self, task: TaskId) -> bool
         ensures { result ≡ laws.can_close self.now.graph self.now.inputs self.now.events task.0 }
     {
-        self.has_task(task) && self.is_waiting(task) && self.all_over(self.children(task))
+        self.has_task(task) && self.is_waiting(task) && self.children_over(task)
     }
 
     pub fn may_drop(&self, task: TaskId) -> bool
@@ -212,7 +212,7 @@ impl<'g> State<'g> {
     {
         match self.kind(task) {
             Kind::All => self.args_ended(task),
-            Kind::Any => self.some_ended(self.args(task)),
+            Kind::Any => self.some_arg_ended(task),
             _ => false,
         }
     }

@@ -1,24 +1,63 @@
-//! How far the arguments of a task have ended, so that none that has is looked at again.
+//! How far the arguments and the attached children of a task have ended, so that none that has is looked at again.
 
-ghost use Rattle.std.specs.Prelude.{◌≡◌, ◌≤◌, take, length, map, true};
+ghost use Rattle.std.specs.Prelude.{◌≡◌, ℕ, ◌≤◌, if◌then◌else◌, take, length, map, true, slice_index_or};
+ghost use Rattle.std.specs.Option.{option_map};
+ghost use Rattle.tpl_words.specs.Members.{mem};
 ghost use Rattle.tpl_model.specs.Graph as spec;
-ghost use Rattle.tpl_model.specs.Graph.{is_task};
-ghost use Rattle.tpl_model.specs.Facts.{ending};
-ghost use Rattle.tpl_model.specs.Rules.{all_ended};
+ghost use Rattle.tpl_model.specs.Graph.{is_task, attached, IsParent};
+ghost use Rattle.tpl_model.specs.Facts.{started, ending, all_over};
+ghost use Rattle.tpl_model.specs.Rules.{all_ended, some_ended};
 ghost use Rattle.tpl_graph.specs.Ids.{task_number};
 ghost use Rattle.tpl_graph.specs.Named.{args_of};
+ghost use Rattle.tpl_machine.specs.Rows.{is_it};
+ghost use Rattle.tpl_fast.specs.Kept.{has_ended, is_over, all_pass};
 
 use crate::state::State;
+use tpl_graph::{Graph, Kind};
 use tpl_words::TaskId;
+
+/// The task whose body starts this child, if it is one.
+pub(crate) fn parent_of(graph: &Graph, child: Option<TaskId>) -> Option<TaskId>
+    ensures { (p c : ℕ) → is_task graph.now.graph c → option_map task_number child ≡ Some c → IsParent graph.now.graph p c → option_map task_number result ≡ Some p }
+{
+    graph.valid();
+    let child = child?;
+    if (child.0 as usize) < graph.len() {
+        graph.parent_of(child)
+    } else {
+        None
+    }
+}
+
+/// A task that starts a child looks at its children again from the first.
+pub(crate) fn restart(over: &mut Vec<usize>, task: Option<TaskId>)
+    ensures count { length over.new.items ≡ length over.old.items }
+    ensures each { (t : ℕ) → slice_index_or over.new.items t 0 ≡ (if is_it (option_map task_number task) t then 0 else slice_index_or over.old.items t 0) }
+{
+    if let Some(task) = task
+        && (task.0 as usize) < over.len()
+    {
+        over[task.0 as usize] = 0;
+    }
+}
 
 impl<'g> State<'g> {
     /// So many of the first arguments of a task have ended.
-    fn head(&self, task: TaskId) -> usize
+    fn args_head(&self, task: TaskId) -> usize
         requires { is_task self.now.graph task.0 }
         ensures within { result ≤ length (args_of (spec.kind self.now.graph task.0)) }
-        ensures ended { all_ended (take result (args_of (spec.kind self.now.graph task.0))) (ending self.now.graph self.now.inputs self.now.events) ≡ true }
+        ensures ended { all_pass (has_ended self.now) (take result (args_of (spec.kind self.now.graph task.0))) ≡ true }
     {
-        self.heads[task.0 as usize]
+        self.ended[task.0 as usize]
+    }
+
+    /// So many of the first attached children of a task are over.
+    fn children_head(&self, task: TaskId) -> usize
+        requires { is_task self.now.graph task.0 }
+        ensures within { result ≤ length (attached self.now.graph task.0) }
+        ensures over { all_pass (is_over self.now) (take result (attached self.now.graph task.0)) ≡ true }
+    {
+        self.over[task.0 as usize]
     }
 
     /// All arguments of a task have ended.
@@ -27,15 +66,41 @@ impl<'g> State<'g> {
         ensures { result ≡ all_ended (args_of (spec.kind self.now.graph task.0)) (ending self.now.graph self.now.inputs self.now.events) }
     {
         let args = self.args(task);
-        let head = self.head(task);
+        let head = self.args_head(task);
         self.all_ended(&args[head..])
     }
 
+    /// An argument of the task was found that has ended.
+    fn has_found(&self, task: TaskId) -> bool
+        requires { is_task self.now.graph task.0 }
+        ensures { result ≡ true → some_ended (args_of (spec.kind self.now.graph task.0)) (ending self.now.graph self.now.inputs self.now.events) ≡ true }
+    {
+        self.found[task.0 as usize]
+    }
+
+    /// One of the arguments of a task has ended.
+    pub fn some_arg_ended(&self, task: TaskId) -> bool
+        requires { is_task self.now.graph task.0 }
+        ensures { result ≡ some_ended (args_of (spec.kind self.now.graph task.0)) (ending self.now.graph self.now.inputs self.now.events) }
+    {
+        self.has_found(task) || self.some_ended(self.args(task))
+    }
+
+    /// Each attached child of a task that was started has ended.
+    pub fn children_over(&self, task: TaskId) -> bool
+        requires { is_task self.now.graph task.0 }
+        ensures { let j = self.now in result ≡ all_over (attached j.graph task.0) (started j.graph j.inputs j.events) (ending j.graph j.inputs j.events) }
+    {
+        let children = self.children(task);
+        let head = self.children_head(task);
+        self.all_over(&children[head..])
+    }
+
     /// The place of the first of the tasks, from this one on, that hasn't ended; else how many they are.
-    fn first_open(&self, tasks: &[TaskId], from: usize) -> usize
+    fn first_unended(&self, tasks: &[TaskId], from: usize) -> usize
         requires { from ≤ length tasks.now }
         ensures within { result ≤ length tasks.now }
-        ensures ended { let e = ending self.now.graph self.now.inputs self.now.events in all_ended (map task_number (take from tasks.now)) e ≡ true → all_ended (map task_number (take result tasks.now)) e ≡ true }
+        ensures ended { all_pass (has_ended self.now) (map task_number (take from tasks.now)) ≡ true → all_pass (has_ended self.now) (map task_number (take result tasks.now)) ≡ true }
     {
         for i in from..tasks.len() {
             if !self.has_ended(tasks[i]) {
@@ -45,17 +110,69 @@ impl<'g> State<'g> {
         tasks.len()
     }
 
+    /// The place of the first of the children, from this one on, that was started and hasn't ended; else how many they
+    /// are.
+    fn first_open(&self, children: &[TaskId], from: usize) -> usize
+        requires within { from ≤ length children.now }
+        requires tasks { (c : ℕ) → mem c (map task_number children.now) ≡ true → is_task self.now.graph c }
+        ensures within { result ≤ length children.now }
+        ensures over { all_pass (is_over self.now) (map task_number (take from children.now)) ≡ true → all_pass (is_over self.now) (map task_number (take result children.now)) ≡ true }
+    {
+        for i in from..children.len() {
+            if self.is_open(children[i]) {
+                return i;
+            }
+        }
+        children.len()
+    }
+
     /// Notes how far the arguments of a task have ended.
+    fn advance_args(&mut self, task: TaskId)
+        requires { is_task self.old.graph task.0 }
+        ensures { self.new ≡ self.old }
+    {
+        let head = self.first_unended(self.args(task), self.args_head(task));
+        self.ended[task.0 as usize] = head;
+    }
+
+    /// Notes how far the attached children of a task are over.
+    fn advance_children(&mut self, task: TaskId)
+        requires { is_task self.old.graph task.0 }
+        ensures { self.new ≡ self.old }
+    {
+        let head = self.first_open(self.children(task), self.children_head(task));
+        self.over[task.0 as usize] = head;
+    }
+
+    /// Notes whether one of the arguments of a task has ended.
+    fn find_arg(&mut self, task: TaskId)
+        requires { is_task self.old.graph task.0 }
+        ensures { self.new ≡ self.old }
+    {
+        let found = self.some_arg_ended(task);
+        self.found[task.0 as usize] = found;
+    }
+
+    /// Notes how far those have ended that a task waits for. Its children count from when its body is left, as it
+    /// starts no more of them then.
     fn advance(&mut self, task: TaskId)
         ensures { self.new ≡ self.old }
     {
-        if self.has_task(task) {
-            let head = self.first_open(self.args(task), self.head(task));
-            self.heads[task.0 as usize] = head;
+        if !self.has_task(task) {
+            return;
+        }
+        match self.kind(task) {
+            Kind::All => self.advance_args(task),
+            Kind::Any => self.find_arg(task),
+            _ => {
+                if self.left_body(task) {
+                    self.advance_children(task);
+                }
+            }
         }
     }
 
-    /// Notes how far the arguments of each of the tasks have ended.
+    /// Notes how far those have ended that each of the tasks waits for.
     pub fn advance_each(&mut self, tasks: &[TaskId])
         ensures { self.new ≡ self.old }
     {

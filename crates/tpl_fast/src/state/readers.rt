@@ -171,7 +171,7 @@ impl<'g> State<'g> {
     }
 
     /// The task's worker has left its body.
-    fn left_body(&self, task: TaskId) -> bool
+    pub fn left_body(&self, task: TaskId) -> bool
         requires { is_task self.now.graph task.0 }
         ensures { result ≡ left_body self.now.events task.0 }
     {
@@ -263,7 +263,7 @@ impl<'g> State<'g> {
     }
 
     /// The child was started and hasn't ended.
-    fn is_open(&self, child: TaskId) -> bool
+    pub fn is_open(&self, child: TaskId) -> bool
         requires { is_task self.now.graph child.0 }
         ensures { let j = self.now in result ≡ (started j.graph j.inputs j.events child.0 && not (is_some (ending j.graph j.inputs j.events child.0))) }
     {
