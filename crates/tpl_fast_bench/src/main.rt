@@ -1,33 +1,36 @@
-//! How long the steps of an indexed machine take in long runs.
+//! How long the steps of the indexed machine take in long runs, beside those of the plain one.
 //!
-//! With the word `measure` it prints the nanoseconds an event of runs of up to 68,607 events: tasks that stand apart, one
-//! after another and side by side; a chain of continuations; and roots that WhenAll tasks wait for. With no word it
-//! plays the shortest and prints how long they are.
+//! With the word `measure` it prints, for seven courses of 770 to 68,639 events, the nanoseconds an event on both
+//! machines: the quickest of 20 runs on the indexed one, and one run on the plain one. With no word it plays the
+//! shortest of each on both, and prints how long they are.
 #![tactic(auto)]
 
+mod course;
 mod graph;
 mod run;
 
-use graph::{STATEMENTS, Shape, of_tasks};
+use course::{Course, LENGTHS, Length};
+use graph::of_tasks;
 use run::{Order, play};
 use std::alloc::Global;
 use std::time::{Clock, Duration, Instant};
 use std::{env, io};
 use tpl_fast::Fast;
 use tpl_graph::Graph;
-use tpl_machine::Core;
+use tpl_machine::{Core, Machine};
 use tpl_words::Inputs;
 
-/// How many tasks the graphs have whose bodies are long.
-const LONG: [usize; 4] = [15, 76, 303, 1_024];
+const COURSES: [Course; 7] = [
+    Course::OneByOne,
+    Course::SideBySide,
+    Course::FirstRounds,
+    Course::Chained,
+    Course::Joined,
+    Course::Raced,
+    Course::Families,
+];
 
-/// How many tasks the graphs have whose roots WhenAll tasks wait for.
-const JOINED: [usize; 4] = [257, 514, 771, 1_024];
-
-/// How many of the graphs are played where nothing is measured.
-const FEW: usize = 1;
-
-/// How often a run is measured.
+/// How often a run is measured on the indexed machine.
 const TIMES: u32 = 20;
 
 /// The length of a run, and the time of its steps.
@@ -37,50 +40,38 @@ struct Played {
     time: Duration,
 }
 
-fn measured(
-    clock: &impl Clock,
-    mut fast: Fast,
-    order: Order,
-    statements: usize,
-) -> io::Result<Played> {
+impl Played {
+    /// Nanoseconds an event.
+    fn rate(self) -> u128 {
+        self.time.as_nanos() / (self.events as u128).max(1)
+    }
+}
+
+fn measured<C: Core + Drop>(clock: &impl Clock, mut core: C, order: Order) -> io::Result<Played> {
     let start = Instant::now(clock)?;
-    play(&mut fast, order, statements);
+    play(&mut core, order);
     let time = start.elapsed(clock)?;
     Ok(Played {
-        events: fast.events().len(),
+        events: core.events().len(),
         time,
     })
 }
 
-fn graph_of(alloc: Global, shape: Shape, tasks: usize) -> io::Result<Graph> {
-    match Graph::build(alloc, of_tasks(alloc, shape, tasks)?) {
-        Ok(graph) => Ok(graph),
-        Err(_) => Err(io::Error::from(io::ErrorKind::OutOfMemory)),
-    }
+fn on_plain(clock: &impl Clock, alloc: Global, graph: &Graph, order: Order) -> io::Result<Played> {
+    let machine = Machine::open(alloc, graph, Inputs::new(0))?;
+    measured(clock, machine, order)
 }
 
-fn run_of(
-    clock: &impl Clock,
-    alloc: Global,
-    graph: &Graph,
-    order: Order,
-    statements: usize,
-) -> io::Result<Played> {
+fn on_fast(clock: &impl Clock, alloc: Global, graph: &Graph, order: Order) -> io::Result<Played> {
     let fast = Fast::open(alloc, graph, Inputs::new(0))?;
-    measured(clock, fast, order, statements)
+    measured(clock, fast, order)
 }
 
-/// The quickest of several runs.
-fn quickest(
-    clock: &impl Clock,
-    alloc: Global,
-    graph: &Graph,
-    order: Order,
-    statements: usize,
-) -> io::Result<Played> {
-    let mut best = run_of(clock, alloc, graph, order, statements)?;
+/// The quickest of several runs on the indexed machine.
+fn quickest(clock: &impl Clock, alloc: Global, graph: &Graph, order: Order) -> io::Result<Played> {
+    let mut best = on_fast(clock, alloc, graph, order)?;
     for _ in 1..TIMES {
-        let played = run_of(clock, alloc, graph, order, statements)?;
+        let played = on_fast(clock, alloc, graph, order)?;
         if played.time < best.time {
             best = played;
         }
@@ -88,31 +79,51 @@ fn quickest(
     Ok(best)
 }
 
-/// Nanoseconds an event.
-fn rate(played: Played) -> u128 {
-    played.time.as_nanos() / (played.events as u128).max(1)
+fn graph_of(alloc: Global, length: Length) -> io::Result<Graph> {
+    match Graph::build(alloc, of_tasks(alloc, length.shape, length.tasks)?) {
+        Ok(graph) => Ok(graph),
+        Err(_) => Err(io::Error::from(io::ErrorKind::OutOfMemory)),
+    }
+}
+
+fn both(clock: &impl Clock, alloc: Global, length: Length) -> io::Result<(Played, Played)> {
+    let graph = graph_of(alloc, length)?;
+    let fast = quickest(clock, alloc, &graph, length.order)?;
+    let plain = on_plain(clock, alloc, &graph, length.order)?;
+    Ok((plain, fast))
+}
+
+fn show_lengths(rt: &HostRuntime, course: Course) -> io::Result<()> {
+    let (plain, fast) = both(rt, rt.alloc(), course.length(0))?;
+    println!(rt;
+        "{}: {} events on the plain machine, {} on the indexed one",
+        course.name(),
+        plain.events,
+        fast.events
+    )
+}
+
+fn show_rates(rt: &HostRuntime, course: Course) -> io::Result<()> {
+    for length in 0..LENGTHS {
+        let (plain, fast) = both(rt, rt.alloc(), course.length(length))?;
+        println!(rt;
+            "{}, {} events: {} ns an event on the plain machine, {} on the indexed one",
+            course.name(),
+            fast.events,
+            plain.rate(),
+            fast.rate()
+        )?;
+    }
+    Ok(())
 }
 
 fn main(rt: HostRuntime) -> io::Result<()> {
     let measures = env::args(&rt)?.nth(1).is_some();
-    let count = if measures { LONG.len() } else { FEW };
-    for i in 0..count {
-        let apart = graph_of(rt.alloc(), Shape::Apart, LONG[i])?;
-        let one_by_one = quickest(&rt, rt.alloc(), &apart, Order::OneByOne, STATEMENTS)?;
-        let side_by_side = quickest(&rt, rt.alloc(), &apart, Order::SideBySide, STATEMENTS)?;
-        let chain = graph_of(rt.alloc(), Shape::Chained, LONG[i])?;
-        let chained = quickest(&rt, rt.alloc(), &chain, Order::OneByOne, STATEMENTS)?;
-        let arguments = graph_of(rt.alloc(), Shape::Joined, JOINED[i])?;
-        let joined = quickest(&rt, rt.alloc(), &arguments, Order::OneByOne, 1)?;
-        println!(rt;
-            "{}, {}, {} and {} events",
-            one_by_one.events, side_by_side.events, chained.events, joined.events
-        )?;
+    for course in COURSES {
         if measures {
-            println!(rt; "one by one: {} ns an event", rate(one_by_one))?;
-            println!(rt; "side by side: {} ns an event", rate(side_by_side))?;
-            println!(rt; "chained: {} ns an event", rate(chained))?;
-            println!(rt; "joined: {} ns an event", rate(joined))?;
+            show_rates(&rt, course)?;
+        } else {
+            show_lengths(&rt, course)?;
         }
     }
     Ok(())

@@ -1,18 +1,20 @@
-//! Whole runs of a graph.
+//! Runs of a graph.
 
-use crate::graph::STATEMENTS;
+use crate::graph::{FAMILY, STATEMENTS};
 use tpl_graph::Kind;
 use tpl_machine::Core;
 use tpl_model::{Act, Event};
-use tpl_words::{Actor, TaskId, Worker};
+use tpl_words::{Actor, TaskId, TokenId, Worker};
 
 /// In which order the tasks of a run act.
 #[derive(Clone, Copy)]
 pub enum Order {
-    /// One task after another.
-    OneByOne,
-    /// All tasks begin, then each passes a statement in turn, and at last all are left.
-    SideBySide,
+    /// One task after another. Their bodies have so many statements.
+    OneByOne(usize),
+    /// All tasks begin, then each passes a statement in turn, so many in all; after the last of its body it is left.
+    SideBySide(usize),
+    /// Parents start their children and are left, and then the children run, which closes the parent.
+    FamilyByFamily,
 }
 
 /// Where the act isn't allowed, the run is shorter.
@@ -72,13 +74,46 @@ fn side_by_side<C: Core>(core: &mut C, statements: usize) {
     for _ in 0..statements {
         each_task(core, |task| Act::Step(task));
     }
-    each_task(core, |task| Act::Leave(task));
+    if statements == STATEMENTS {
+        each_task(core, |task| Act::Leave(task));
+    }
 }
 
-/// A whole run of a graph whose bodies have so many statements.
-pub fn play<C: Core>(core: &mut C, order: Order, statements: usize) {
-    match order {
-        Order::OneByOne => one_by_one(core, statements),
-        Order::SideBySide => side_by_side(core, statements),
+/// Starts the children of a task, which are those that follow it, passes them, and closes it.
+fn family<C: Core>(core: &mut C, parent: TaskId) {
+    pass_body(core, parent, STATEMENTS);
+    for place in 1..FAMILY {
+        let child = parent.0.saturating_add(place as u16);
+        pass_body(core, TaskId(child), 1);
     }
+    attempt(core, Act::Close(parent));
+}
+
+fn family_by_family<C: Core>(core: &mut C) {
+    for i in 0..core.graph().len() {
+        let task = TaskId(i as u16);
+        if kind_of(core, task) == Kind::Root {
+            family(core, task);
+        }
+    }
+}
+
+fn request_all<C: Core>(core: &mut C) {
+    for i in 0..core.graph().token_count() {
+        let event = Event {
+            actor: Actor::Outside(1),
+            act: Act::Request(TokenId(i as u8)),
+        };
+        let _ = core.step(event);
+    }
+}
+
+/// Passes a graph in this order. At the end all tokens are requested.
+pub fn play<C: Core>(core: &mut C, order: Order) {
+    match order {
+        Order::OneByOne(statements) => one_by_one(core, statements),
+        Order::SideBySide(statements) => side_by_side(core, statements),
+        Order::FamilyByFamily => family_by_family(core),
+    }
+    request_all(core);
 }
