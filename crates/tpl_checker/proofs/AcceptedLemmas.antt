@@ -4,7 +4,7 @@ use Rattle.tpl_model.specs.Graph.{TaskGraph}
 use Rattle.tpl_model.specs.Valid.{IsGraph}
 use Rattle.tpl_model.specs.declared.claim.Property.{Property}
 use Rattle.tpl_model.specs.Certificate.{Row, Assumed, AcceptsTree, Leaf, AllTasks, IdsOfRows}
-use Rattle.tpl_laws.specs.RowTests.{all_in, proves}
+use Rattle.tpl_laws.specs.RowTests.{proves}
 use Rattle.tpl_laws.specs.Decided.{FirstBrokenIsRight, ProvesIsRight}
 use Rattle.tpl_laws.specs.Verdict.{LeafFault, ProvesNot, or_else, unless, first_broken, leaf_fault, has_tasks, rows_fit}
 use Rattle.tpl_checker.proofs.Basics.{and_split, and_join}

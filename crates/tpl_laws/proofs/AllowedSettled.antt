@@ -1,15 +1,12 @@
 -- The tests of whole runs say what is settled, complete and claimed.
-use Rattle.std.proofs.Common.{◌≡◌, ℕ, zero, suc, ◌+◌, ◌<◌, ◌≤◌, ◌⊎◌, inl, inr, ◌&&◌, ◌||◌, not, Bool, true, false, if◌then◌else◌, Option, Some, None, List, [], ◌∷◌, refl, sym, ap, ◌∙◌, subst, arith, length, is_some}
-use Rattle.std.specs.Prelude.{Decides, slice_index_or}
-use Rattle.std.proofs.lemmas.Bool.{cases_lt}
+use Rattle.std.proofs.Common.{◌≡◌, ℕ, zero, suc, ◌<◌, ◌≤◌, inl, inr, ◌&&◌, not, Bool, true, false, Option, Some, None, List, [], ◌∷◌, refl, sym, ap, ◌∙◌, arith, length, is_some}
+use Rattle.std.specs.Prelude.{Decides}
 use Rattle.std.proofs.lemmas.Bool.Decides.{Decides-and, Decides-below_and}
-use Rattle.tpl_words.specs.Members.{mem}
 use Rattle.tpl_words.specs.declared.finals.Final.{Final}
 use Rattle.tpl_words.specs.declared.finals.Finals.{Finals}
 use Rattle.tpl_words.specs.Finals.{has}
 use Rattle.tpl_words.specs.declared.status.Label.{Label}
-use Rattle.tpl_script.specs.Statements.{Nothing, starts}
-use Rattle.tpl_model.specs.Graph.{TaskGraph, Task, TaskKind, Root, Child, Continues, WhenAll, WhenAny, kind, body, is_task, IsParent}
+use Rattle.tpl_model.specs.Graph.{TaskGraph, TaskKind, Root, Child, Continues, WhenAll, WhenAny, kind}
 use Rattle.tpl_model.specs.declared.event.Event.{Event}
 use Rattle.tpl_model.specs.Facts.{begun, begun_by, requested, started, ending}
 use Rattle.tpl_model.specs.Rules.{final, label, seen, Settled, ended, unstarted, to_end, Complete}
@@ -19,10 +16,9 @@ use Rattle.tpl_model.specs.declared.claim.Given.TheVariants.{Input, Quiet}
 use Rattle.tpl_model.specs.declared.claim.Property.TheVariants.{Final as EndsIn, After, Observed, Never, Excludes}
 use Rattle.tpl_model.specs.Certificate.{same}
 use Rattle.tpl_model.specs.Claims.{input, IsGiven, SettledAtBegin, HoldsOf}
-use Rattle.tpl_laws.specs.RowTests.{implies, parent_from, parent_of}
+use Rattle.tpl_laws.specs.RowTests.{implies, parent_of}
 use Rattle.tpl_laws.specs.Allowed.{is_child, some_parent, settled_within, is_settled, all_below, has_ended, is_complete, is_given, settled_at_begin, ends_within, holds_of, IsSettledIsRight, IsCompleteIsRight, HoldsOfIsRight, HoldsIsRight}
 use Rattle.tpl_laws.proofs.Basics.{or_split, or_left, or_right}
-use Rattle.tpl_laws.proofs.Settling.{beyond}
 use Rattle.tpl_laws.proofs.Parents.{parent_is, the_parent, parent_before}
 use Rattle.tpl_laws.proofs.AllowedDecided.{itself, denied, both_of, joined_from}
 

@@ -1,5 +1,5 @@
 -- A claim whose names are looked up.
-use Rattle.std.proofs.Common.{◌≡◌, ◌&&◌, ◌<◌, ℕ, List, [], ◌∷◌, length, map, Bool, true, false, Option, Some, None, option_map, is_some, refl, sym, ap, ◌∙◌, subst, arith}
+use Rattle.std.proofs.Common.{◌≡◌, ◌<◌, ℕ, List, [], ◌∷◌, length, map, true, false, Option, Some, None, option_map, is_some, refl, ap, ◌∙◌, subst, arith}
 use Rattle.std.specs.List.{All}
 use Rattle.std.proofs.lemmas.List.Elements.{All-cons}
 use Rattle.tpl_words.specs.declared.ids.TaskId.{TaskId}
@@ -17,13 +17,13 @@ use Rattle.tpl_model.specs.declared.claim.Given.{Given}
 use Rattle.tpl_model.specs.declared.claim.Property.{Property}
 use Rattle.tpl_model.specs.Claims.{Claim}
 use Rattle.tpl_graph.specs.Named.{Names, Named}
-use Rattle.tpl_claims.specs.Fits.{Fits, IsGivenOf, TasksOf, have_bodies, given_twice}
+use Rattle.tpl_claims.specs.Fits.{IsGivenOf, TasksOf, have_bodies, given_twice}
 use Rattle.tpl_reader.specs.NamedClaims.{NamedGiven, GivenInput, GivenQuiet, NamedProperty, EndsIn, After, Observed, Never, Excludes, NamedClaim}
 use Rattle.tpl_reader.specs.declared.fault.Stop.{Stop}
 use Rattle.tpl_reader.specs.declared.fault.Stop.TheVariants as stop
 use Rattle.tpl_reader.specs.declared.fault.ClaimFault.{ClaimFault}
 use Rattle.tpl_reader.specs.declared.fault.ClaimFault.TheVariants as faults
-use Rattle.tpl_reader.specs.Asked.{task_in, token_in, input_in, pair_in, given_in, property_in, IsClaimOf, knows_claim, IsAsked, IsWrongClaim, Refuses, IsUnknown}
+use Rattle.tpl_reader.specs.Asked.{task_in, token_in, input_in, pair_in, given_in, property_in, IsClaimOf, IsAsked, IsWrongClaim, Refuses, IsUnknown}
 
 unknown_given : (g : Named) (s : NamedClaim) (f : ClaimFault) → IsUnknown (list_all (λ x. is_some (given_in g.names x)) s.given) f → IsWrongClaim g s f
 unknown_given g s faults.TooMany h = absurd h

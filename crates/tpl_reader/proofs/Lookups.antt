@@ -1,6 +1,5 @@
 -- Ids by their numbers.
-use Rattle.std.proofs.Common.{◌≡◌, ℕ, List, Option, Some, None, option_map, refl, ap}
-use Rattle.std.specs.List.{position}
+use Rattle.std.proofs.Common.{◌≡◌, ℕ, Option, Some, None, option_map, ap}
 use Rattle.tpl_words.specs.declared.ids.TaskId.{TaskId}
 use Rattle.tpl_words.specs.declared.ids.TokenId.{TokenId}
 use Rattle.tpl_words.specs.declared.ids.InputId.{InputId}

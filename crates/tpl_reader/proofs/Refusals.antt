@@ -1,6 +1,5 @@
 -- From the passes over a document to its first refusal.
-use Rattle.std.proofs.Common.{◌≡◌, List, Option, Some, None, rules}
-use Rattle.serde_json.specs.Data.{Data}
+use Rattle.std.proofs.Common.{◌≡◌, List}
 use Rattle.tpl_model.specs.Claims.{Claim}
 use Rattle.tpl_model.specs.Certificate.{Tree}
 use Rattle.tpl_graph.specs.Named.{Named}

@@ -1,12 +1,12 @@
 -- The members of an object, all true or false.
-use Rattle.std.proofs.Common.{◌≡◌, ◌&&◌, List, [], ◌∷◌, String, Global, is_some, refl, map}
+use Rattle.std.proofs.Common.{◌≡◌, List, [], ◌∷◌, String, Global, is_some, refl}
 use Rattle.std.specs.List.{list_all}
 use Rattle.std.specs.Map.{values_of}
 use Rattle.serde_json.specs.Find.{as_bool}
 use Rattle.serde_json.specs.View.{view, members_view}
 use Rattle.serde_json.specs.declared.value.Value.{Value}
 use Rattle.std.specs.Map.{keys_of}
-use Rattle.std.proofs.Common.{ℕ, zero, suc, Bool, Option, Some, None, string_bytes, false}
+use Rattle.std.proofs.Common.{ℕ, zero, suc, Bool, Some, string_bytes, false}
 use Rattle.std.specs.Prelude.{slice_get, slice_index_or}
 use Rattle.tpl_cert.specs.Naming.{is_declared}
 use Rattle.tpl_reader.specs.Begin.{declares}

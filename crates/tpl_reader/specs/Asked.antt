@@ -1,5 +1,5 @@
 -- Claims with ids in place of names, and what is wrong with one.
-use Rattle.std.specs.Prelude.{◌≡◌, ℕ, ◌&&◌, Bool, true, false, List, [], ◌∷◌, Option, Some, None, map, is_some, option_map, Result, Ok, Err}
+use Rattle.std.specs.Prelude.{◌≡◌, ℕ, ◌&&◌, Bool, true, false, List, Option, Some, None, map, is_some, option_map, Result, Ok, Err}
 use Rattle.std.specs.List.{list_all}
 use Rattle.tpl_words.specs.declared.ids.TaskId.{TaskId}
 use Rattle.tpl_words.specs.declared.ids.TokenId.{TokenId}

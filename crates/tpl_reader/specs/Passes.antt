@@ -1,5 +1,5 @@
 -- Reading the elements of a list one after another, as far as the first that isn't read.
-use Rattle.std.specs.Prelude.{◌≡◌, ℕ, ◌-◌, ◌<◌, List, [], ◌∷◌, Option, Some, Result, Ok, Err, take, map, slice_get}
+use Rattle.std.specs.Prelude.{◌≡◌, ℕ, ◌-◌, ◌<◌, List, [], ◌∷◌, Some, Result, Ok, Err, take, slice_get}
 use Rattle.tpl_reader.specs.declared.fault.Halt.{Halt}
 use Rattle.tpl_reader.specs.declared.fault.Halt.TheVariants as halt
 

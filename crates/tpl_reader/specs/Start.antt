@@ -1,5 +1,5 @@
 -- Reading where a run starts, with names. `None` is a wrong shape.
-use Rattle.std.specs.Prelude.{◌≡◌, ◌&&◌, ℕ, List, [], ◌∷◌, Option, Some, None, Bool, true, false, codes, is_some, if◌then◌else◌}
+use Rattle.std.specs.Prelude.{◌&&◌, ℕ, List, [], ◌∷◌, Option, Some, None, Bool, true, false, codes, is_some, if◌then◌else◌}
 use Rattle.serde_json.specs.Data.{Data, Members, no_members, member, string, array, object, null, boolean, number}
 use Rattle.serde_json.specs.Find.{get, as_bool}
 use Rattle.tpl_cert.specs.Members.{◌>>=◌, only_if, has_only, texts_in}

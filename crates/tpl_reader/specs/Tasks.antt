@@ -1,12 +1,12 @@
 -- Reading tasks and tokens. `None` is a wrong shape.
-use Rattle.std.specs.Prelude.{◌≡◌, ℕ, zero, suc, List, [], ◌∷◌, Option, Some, None, Bool, true, false, codes, is_some, if◌then◌else◌}
+use Rattle.std.specs.Prelude.{ℕ, List, [], ◌∷◌, Option, Some, None, Bool, codes, if◌then◌else◌}
 use Rattle.std.specs.Int.RustNames.{bit_or}
 use Rattle.std.specs.Str.{bytes_eq}
 use Rattle.bitflags.specs.Sets.{find_name}
 use Rattle.serde_json.specs.Data.{Data, string, array, object, null, boolean, number}
 use Rattle.serde_json.specs.Find.{get, as_str}
 use Rattle.tpl_words.specs.Options.{words}
-use Rattle.tpl_cert.specs.Members.{◌>>=◌, only_if, has_only, text_in, list_in, list_or_none, texts_in, each}
+use Rattle.tpl_cert.specs.Members.{◌>>=◌, only_if, has_only, text_in, list_in, list_or_none, each}
 use Rattle.tpl_graph.specs.Draft.{Worked, Kind, Root, Child, Continues, WhenAll, WhenAny, Task, Token}
 use Rattle.tpl_reader.specs.Statements.{body_at}
 

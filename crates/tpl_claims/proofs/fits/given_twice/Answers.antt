@@ -1,8 +1,8 @@
-use Rattle.std.proofs.Common.{◌≡◌, ℕ, ◌+◌, ◌<◌, Bool, false, List, length, take, drop, get_or, refl, sym, ◌∙◌, drop-cons, add-one}
+use Rattle.std.proofs.Common.{◌≡◌, ℕ, ◌+◌, ◌<◌, false, List, length, take, drop, get_or, refl, ◌∙◌, drop-cons, add-one}
 use Rattle.std.proofs.lemmas.List.{take_more}
 use Rattle.std.specs.List.{list_any}
 use Rattle.tpl_model.specs.declared.claim.Given.{Given}
-use Rattle.tpl_claims.specs.Fits.{is_of_one_thing, given_again, given_twice}
+use Rattle.tpl_claims.specs.Fits.{is_of_one_thing, given_again}
 use Rattle.tpl_claims.proofs.fits.given_twice.Goals as goal
 
 one_more : (given : List Given) (i : ℕ) (x : Given) → i < length given → false ≡ list_any (is_of_one_thing (get_or given i x)) (take i given) → given_again (take i given) (drop i given) ≡ given_again (take (i + 1) given) (drop (i + 1) given)

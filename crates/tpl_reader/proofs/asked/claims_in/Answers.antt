@@ -1,4 +1,3 @@
-use Rattle.std.proofs.Common.{◌≡◌, ◌+◌, map, arith}
 use Rattle.std.proofs.lemmas.Result.{err_from_is_err_and}
 use Rattle.tpl_reader.specs.SeenClaims.{claim_of}
 use Rattle.tpl_reader.specs.Asked.{IsAsked, IsWrongClaim}

@@ -1,6 +1,6 @@
 use Rattle.std.proofs.Common.{map, take}
 use Rattle.tpl_reader.specs.SeenClaims.{claim_of}
-use Rattle.tpl_reader.specs.Asked.{IsAsked, IsWrongClaim}
+use Rattle.tpl_reader.specs.Asked.{IsAsked}
 use Rattle.tpl_reader.specs.Passes.{AllRead}
 use Rattle.tpl_reader.proofs.asked.claims_in.Given as goal
 

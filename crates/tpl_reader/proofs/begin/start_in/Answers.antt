@@ -1,4 +1,3 @@
-use Rattle.std.proofs.Common.{map}
 use Rattle.tpl_reader.proofs.Begins.{sites_below}
 use Rattle.tpl_reader.proofs.begin.start_in.Goals as goal
 

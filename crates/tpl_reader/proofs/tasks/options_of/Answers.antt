@@ -1,7 +1,5 @@
-use Rattle.std.proofs.Common.{◌≡◌, map, sym, ◌∙◌}
+use Rattle.std.proofs.Common.{sym, ◌∙◌}
 use Rattle.std.proofs.lemmas.Result.{err_from_is_err_and}
-use Rattle.serde_json.specs.View.{view}
-use Rattle.tpl_reader.specs.Tasks.{options_at}
 use Rattle.tpl_reader.proofs.OptionWords.{options_step, options_stop, options_done}
 use Rattle.tpl_reader.proofs.tasks.options_of.Goals as goal
 

@@ -1,7 +1,7 @@
 use Rattle.std.proofs.Common.{map, take}
 use Rattle.serde_json.specs.View.{view}
 use Rattle.tpl_reader.specs.SeenClaims.{claim_of}
-use Rattle.tpl_reader.specs.ClaimGrammar.{IsClaim, IsNoClaim}
+use Rattle.tpl_reader.specs.ClaimGrammar.{IsClaim}
 use Rattle.tpl_reader.specs.Passes.{AllRead}
 use Rattle.tpl_reader.proofs.top.claims_of.Given as goal
 
