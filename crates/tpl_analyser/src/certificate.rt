@@ -2,7 +2,7 @@
 
 ghost use Rattle.std.specs.Prelude.{◌≡◌, ◌≤◌, IfOk, IfErr, IfSome};
 ghost use Rattle.std.specs.List.{All};
-ghost use Rattle.tpl_cert.specs.Heights.{height, IsWithinLimits};
+ghost use Rattle.tpl_cert.specs.Heights.{height};
 ghost use Rattle.tpl_claims.specs.Fits.{Fits};
 ghost use Rattle.tpl_model.specs.Certificate.{Accepts, assumed};
 ghost use Rattle.tpl_checker.specs.Assumptions.{assumed_of};
@@ -46,7 +46,6 @@ pub fn analyse(
     requires depth { depth ≤ 6 }
     ensures accepted { IfOk result (λ c. Accepts graph.now.graph claims.now c) }
     ensures splits { IfOk result (All (λ tree. height tree ≤ depth)) }
-    ensures limits { IfOk result (All IsWithinLimits) }
     ensures gap { IfErr result (IsGap graph.now.graph claims.now depth) }
 {
     let below = Below::of_graph(graph);

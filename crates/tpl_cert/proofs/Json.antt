@@ -1,5 +1,5 @@
 -- JSON values: what their members and elements are, and how deep they nest.
-use Rattle.std.proofs.Common.{◌≡◌, ℕ, suc, ◌≤◌, ◌&&◌, List, [], ◌∷◌, map, Bool, true, false, Option, Some, None, Ordering, Less, Equal, Greater, is_eq, nat_cmp, refl, sym, ap, subst, ◌∙◌, arith, true≢false}
+use Rattle.std.proofs.Common.{◌≡◌, ℕ, zero, suc, ◌<◌, ◌≤◌, ◌&&◌, List, [], ◌∷◌, map, Bool, true, false, Option, Some, None, Ordering, Less, Equal, Greater, is_eq, nat_cmp, refl, sym, ap, subst, ◌∙◌, arith, true≢false}
 use Rattle.std.specs.Cmp.Lexicographic.{slice_cmp}
 use Rattle.std.specs.Ordering.{match_ordering}
 use Rattle.std.proofs.lemmas.Map.Text.{is_eq-slice_cmp}
@@ -115,6 +115,15 @@ no_member k (number b) x le h = cc
 no_member k (string b) x le h = cc
 no_member k (array b) x le h = cc
 no_member k (object ms) x le h = omega arith
+
+lower_by : (n : ℕ) (k : List ℕ) (d x : Data) → depth d ≡ n → get k d ≡ Some x → depth x < depth d
+lower_by zero k d x e h = absurd (no_member k d x (omega arith) h)
+lower_by (suc n) k d x e h =
+    let le : depth x ≤ n = get_depth k d x n (omega arith) h in
+    omega arith
+
+pub member_lower : (k : List ℕ) (d x : Data) → get k d ≡ Some x → depth x < depth d
+member_lower k d x h = lower_by (depth d) k d x refl h
 
 abbrev pub Within : ℕ → List Data → Type 0
 Within n [] = Unit {0}

@@ -1,26 +1,13 @@
--- Trees, one level at a time.
-use Rattle.std.proofs.Common.{◌≡◌, ℕ, zero, suc, ◌-◌, ◌<◌, List, [], ◌∷◌, Bool, true, Option, Some, None, codes, option_and_then, refl, arith}
+-- A split on an input, whose names are too long for the check's own search.
+use Rattle.std.proofs.Common.{◌≡◌, ℕ, List, [], ◌∷◌, Bool, true, Option, Some, codes, option_and_then, refl}
 use Rattle.serde_json.specs.Data.{Data}
 use Rattle.serde_json.specs.Find.{get}
 use Rattle.tpl_cert.specs.declared.miss.Miss.{Miss}
 use Rattle.tpl_cert.specs.declared.miss.Miss.TheVariants as misses
 use Rattle.tpl_cert.specs.NamedTrees.{NamedTree, SplitInput}
 use Rattle.tpl_cert.specs.Members.{has_only, text_in, Misses}
-use Rattle.tpl_cert.specs.Reading.{node_at, tree_at, input_at}
+use Rattle.tpl_cert.specs.Reading.{input_at}
 
-pub tree_at-zero : (n : ℕ) (d : Data) → n ≡ 0 → tree_at n d ≡ None
-unfolding tree_at
-tree_at-zero zero d e = refl
-tree_at-zero (suc n) d e = absurd (omega arith)
-
-pub tree_at-below : (n : ℕ) (d : Data) → 0 < n → tree_at n d ≡ node_at (tree_at (n - 1)) d
-unfolding tree_at
-tree_at-below zero d lt = absurd (omega arith)
-tree_at-below (suc n) d lt = let e : suc n - 1 ≡ n = omega arith in rw e refl
-
-pub ruleset levels = (tree_at-zero, tree_at-below)
-
--- a split on an input, whose names are too long for the check's own search
 abbrev only_input : Data → Bool
 only_input d = has_only (codes "split_input" ∷ codes "yes" ∷ codes "no" ∷ []) d
 

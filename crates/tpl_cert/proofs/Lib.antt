@@ -10,3 +10,5 @@ pub mod Ids
 pub mod Unique
 pub mod Again
 pub mod OneTree
+pub mod Nesting
+pub mod Faultless

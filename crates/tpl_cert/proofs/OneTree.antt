@@ -1,6 +1,6 @@
 -- A value spells one tree at most.
-use Rattle.std.proofs.Common.{◌≡◌, ℕ, Bool, List, [], ◌∷◌, map, Option, Some, refl, sym, subst, ◌∙◌, arith}
-use Rattle.serde_json.specs.Data.{Data, depth}
+use Rattle.std.proofs.Common.{◌≡◌, ℕ, Bool, List, [], ◌∷◌, map, Option, Some, refl, sym, subst, ◌∙◌}
+use Rattle.serde_json.specs.Data.{Data}
 use Rattle.tpl_words.specs.declared.finals.Finals.{Finals}
 use Rattle.tpl_words.specs.TaskSet.{SetsAreTheirMembers}
 use Rattle.tpl_model.specs.Certificate.{Row, Tree}
@@ -12,7 +12,7 @@ use Rattle.tpl_cert.specs.Naming.{number_of, AreNumbers, IsSetOf, IsRowOf, AreRo
 use Rattle.tpl_cert.specs.Spelled.{SpellsTree}
 use Rattle.tpl_cert.proofs.Arrays.{some_is}
 use Rattle.tpl_cert.proofs.Json.{cons_same}
-use Rattle.tpl_cert.proofs.Trees.{tree_complete}
+use Rattle.tpl_cert.proofs.Trees.{whole_complete}
 
 abbrev found : ℕ → Option ℕ
 found n = Some n
@@ -88,8 +88,8 @@ tree_same law n (Leaf spelled) (tree.Leaf rs) (tree.SplitEnd j w v u) p q = absu
 tree_same law n (Leaf spelled) (tree.SplitInput i x y) u p q = absurd p
 tree_same law n (Leaf spelled) (tree.SplitEnd i x y z) u p q = absurd p
 
-names_same : (d : Data) (s z : NamedTree) → IsTree s d → IsTree z d → s ≡ z
-names_same d s z x y = some_is s z (sym (tree_complete (depth d) d s (omega arith) x) ∙ tree_complete (depth d) d z (omega arith) y)
+pub names_same : (d : Data) (s z : NamedTree) → IsTree s d → IsTree z d → s ≡ z
+names_same d s z x y = some_is s z (sym (whole_complete d s x) ∙ whole_complete d z y)
 
 pub one_tree : SetsAreTheirMembers → (n : Names) (d : Data) (t u : Tree) → SpellsTree n d t → SpellsTree n d u → t ≡ u
 one_tree law n d t u x y = tree_same law n x.0 t u x.2 (subst (λ z. IsTreeOf n z u) (sym (names_same d x.0 y.0 x.1 y.1)) y.2)

@@ -1,10 +1,10 @@
 -- A tree with names is read exactly where it is spelled.
-use Rattle.std.proofs.Common.{◌≡◌, ℕ, zero, suc, ◌≤◌, List, [], ◌∷◌, Bool, true, false, cond, Option, Some, None, codes, is_some, refl, subst}
+use Rattle.std.proofs.Common.{◌≡◌, ℕ, zero, suc, ◌≤◌, List, [], ◌∷◌, Bool, true, false, cond, Option, Some, None, codes, is_some, refl, sym, subst, arith}
 use Rattle.serde_json.specs.Data.{Data, string, depth}
 use Rattle.serde_json.specs.Find.{get}
 use Rattle.tpl_cert.specs.Members.{◌>>=◌, only_if, has_only, text_in, list_in, each}
 use Rattle.tpl_cert.specs.NamedTrees.{NamedTree, SplitInput, SplitEnd, Leaf}
-use Rattle.tpl_cert.specs.Reading.{row_at, leaf_at, input_at, end_at, node_at, tree_at}
+use Rattle.tpl_cert.specs.Reading.{row_at, leaf_at, input_at, end_at, node_at, tree_at, whole_tree}
 use Rattle.tpl_cert.specs.Grammar.{HasMember, IsTree}
 use Rattle.tpl_cert.proofs.Arrays.{bind_some, some_is}
 use Rattle.tpl_cert.proofs.Json.{only_is, text_is, get_depth, no_member, other}
@@ -73,15 +73,48 @@ no_tree d (SplitInput name a b) le p = no_member (codes "split_input") d (string
 no_tree d (SplitEnd name a b c) le p = no_member (codes "split_end") d (string name) le p.1
 no_tree d (Leaf rows) le p = no_member (codes "rows") d p.1.0 le p.1.1
 
-pub tree_complete : (n : ℕ) → Complete n (tree_at n)
-unfolding tree_at node_at leaf_at input_at end_at text_in
-tree_complete zero d s le p = absurd (no_tree d s le p)
-tree_complete (suc n) d (SplitInput name a b) le p =
-    rw (p.1, p.0, inside_read (tree_at n) n (tree_complete n) (codes "yes") d a le p.2, inside_read (tree_at n) n (tree_complete n) (codes "no") d b le p.3) refl
-tree_complete (suc n) d (SplitEnd name a b c) le p =
+-- what is spelled in a member is read by `inner`
+abbrev ReadsInside : (Data → Option NamedTree) → Data → Type 0
+ReadsInside inner d = (name : List ℕ) (s : NamedTree) → HasMember d name (IsTree s) → (get name d >>= inner) ≡ Some s
+
+node_complete : (inner : Data → Option NamedTree) (d : Data) → ReadsInside inner d → (s : NamedTree) → IsTree s d → node_at inner d ≡ Some s
+unfolding node_at leaf_at input_at end_at text_in
+node_complete inner d h (SplitInput name a b) p = rw (p.1, p.0, h (codes "yes") a p.2, h (codes "no") b p.3) refl
+node_complete inner d h (SplitEnd name a b c) p =
     let none : get (codes "split_input") d ≡ None = other _ (codes "split_input") d p.0 refl in
-    rw (none, p.1, p.0, inside_read (tree_at n) n (tree_complete n) (codes "ran") d a le p.2, inside_read (tree_at n) n (tree_complete n) (codes "canceled") d b le p.3, inside_read (tree_at n) n (tree_complete n) (codes "faulted") d c le p.4) refl
-tree_complete (suc n) d (Leaf rows) le p =
+    rw (none, p.1, p.0, h (codes "ran") a p.2, h (codes "canceled") b p.3, h (codes "faulted") c p.4) refl
+node_complete inner d h (Leaf rows) p =
     let none : get (codes "split_input") d ≡ None = other _ (codes "split_input") d p.0 refl in
     let no_end : get (codes "split_end") d ≡ None = other _ (codes "split_end") d p.0 refl in
     rw (none, no_end, p.0, p.1.1, p.1.2.1, rows_complete p.1.2.0 rows p.1.2.2) refl
+
+pub tree_complete : (n : ℕ) → Complete n (tree_at n)
+unfolding tree_at
+tree_complete zero d s le p = absurd (no_tree d s le p)
+tree_complete (suc n) d s le p = node_complete (tree_at n) d (λ name x m. inside_read (tree_at n) n (tree_complete n) name d x le m) s p
+
+-- ---- however deep a value nests
+
+pub whole_sound : Sound whole_tree
+unfolding whole_tree
+whole_sound d s e = tree_sound (depth d) d s e
+
+pub whole_complete : (d : Data) (s : NamedTree) → IsTree s d → whole_tree d ≡ Some s
+unfolding whole_tree
+whole_complete d s p = tree_complete (depth d) d s (omega arith) p
+
+node_sound : (d : Data) (s : NamedTree) → node_at whole_tree d ≡ Some s → IsTree s d
+unfolding node_at
+node_sound d s e = choice_sound (is_some (get (codes "split_input") d)) (is_some (get (codes "split_end") d)) whole_tree whole_sound d s e
+
+both_same : {A : Type 0} (x y : Option A) → ((a : A) → x ≡ Some a → y ≡ Some a) → ((a : A) → y ≡ Some a → x ≡ Some a) → x ≡ y
+both_same None None f g = refl
+both_same None (Some b) f g = g b refl
+both_same (Some a) y f g = sym (f a refl)
+
+-- a tree is a node with trees inside
+pub whole_tree-node : (d : Data) → whole_tree d ≡ node_at whole_tree d
+whole_tree-node d =
+    both_same (whole_tree d) (node_at whole_tree d)
+    (λ s e. node_complete whole_tree d (λ name x m. rw m.1 (whole_complete m.0 x m.2)) s (whole_sound d s e))
+    (λ s e. whole_complete d s (node_sound d s e))

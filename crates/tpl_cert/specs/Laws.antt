@@ -1,5 +1,15 @@
--- What is true of names and their numbers.
-use Rattle.std.specs.Prelude.{◌≡◌, ℕ, ◌++◌, ◌&&◌, Some, List, [], ◌∷◌}
+-- What is true of names and their numbers, and of the trees that values spell.
+use Rattle.std.specs.Prelude.{◌≡◌, ℕ, ◌≤◌, ◌++◌, ◌&&◌, Some, List, [], ◌∷◌}
+use Rattle.std.specs.List.{All}
+use Rattle.serde_json.specs.Data.{Data, depth}
+use Rattle.serde_json.specs.Read.{max_depth}
+use Rattle.tpl_model.specs.Certificate.{Tree}
+use Rattle.tpl_graph.specs.Named.{Names}
+use Rattle.tpl_cert.specs.declared.fault.TreeFault.{TreeFault}
+use Rattle.tpl_cert.specs.declared.fault.TreeFault.TheVariants.{Memory}
+use Rattle.tpl_cert.specs.Heights.{height}
+use Rattle.tpl_cert.specs.Spelled.{SpellsTree, ReadsAs, IsWrongTree}
+use Rattle.tpl_cert.specs.Written.{certificate_data}
 use Rattle.tpl_cert.specs.Naming.{number_of, is_declared, are_declared, AreNumbers}
 
 -- with one text more, all are declared where those before are and it is
@@ -11,3 +21,15 @@ abbrev pub NumbersOneByOne : Type 0
 NumbersOneByOne =
     (names texts : List (List ℕ)) (ns : List ℕ) (text : List ℕ) (n : ℕ)
     → AreNumbers names texts ns → number_of names text ≡ Some n → AreNumbers names (texts ++ text ∷ []) (ns ++ n ∷ [])
+
+-- a value spells one tree at most
+abbrev pub SpellsOneTree : Type 0
+SpellsOneTree = (names : Names) (d : Data) (t other : Tree) → SpellsTree names d t → SpellsTree names d other → other ≡ t
+
+-- of a value that is read as a tree no fault is true, memory aside
+abbrev pub ReadHasNoFault : Type 0
+ReadHasNoFault = (names : Names) (d : Data) (t : Tree) (fault : TreeFault) → ReadsAs names d t → IsWrongTree names d fault → fault ≡ Memory
+
+-- what is written for trees of at most 6 splits on a path nests no deeper than what is read
+abbrev pub CertificatesNestLittle : Type 0
+CertificatesNestLittle = (names : Names) (trees : List Tree) → All (λ t. height t ≤ 6) trees → depth (certificate_data names trees) ≤ max_depth

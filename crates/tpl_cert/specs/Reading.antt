@@ -1,7 +1,7 @@
 -- Reading a certificate tree with names. `None` is a wrong shape.
 use Rattle.std.specs.Prelude.{ℕ, zero, suc, List, [], ◌∷◌, Option, Some, None, true, false, codes, is_some, if◌then◌else◌}
 use Rattle.std.specs.Str.{bytes_eq}
-use Rattle.serde_json.specs.Data.{Data}
+use Rattle.serde_json.specs.Data.{Data, depth}
 use Rattle.serde_json.specs.Find.{get, as_bool, as_str}
 use Rattle.tpl_words.specs.declared.finals.Final.{Final}
 use Rattle.tpl_words.specs.declared.finals.Final.TheVariants.{RanToCompletion, Canceled, Faulted}
@@ -73,3 +73,7 @@ node_at inner d = if is_some (get (codes "split_input") d) then input_at inner d
 unfoldable pub tree_at : ℕ → Data → Option NamedTree
 tree_at zero d = None
 tree_at (suc n) d = node_at (tree_at n) d
+
+-- trees in trees as deep as the value nests
+unfoldable pub whole_tree : Data → Option NamedTree
+whole_tree d = tree_at (depth d) d

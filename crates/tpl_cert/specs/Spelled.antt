@@ -1,6 +1,6 @@
 -- Which tree a JSON value spells, and what is wrong with a value that isn't read.
-use Rattle.std.specs.Prelude.{◌≡◌, ◌≤◌, false}
-use Rattle.serde_json.specs.Data.{Data, depth}
+use Rattle.std.specs.Prelude.{◌≡◌, false}
+use Rattle.serde_json.specs.Data.{Data}
 use Rattle.tpl_model.specs.Certificate.{Tree}
 use Rattle.tpl_graph.specs.Named.{Names}
 use Rattle.tpl_cert.specs.declared.fault.TreeFault.{TreeFault}
@@ -18,9 +18,9 @@ SpellsTree n d t = (s : NamedTree) × IsTree s d × IsTreeOf n s t
 abbrev pub ReadsAs : Names → Data → Tree → Type 0
 ReadsAs n d t = SpellsTree n d t × IsWithinLimits t
 
--- what is wrong with a value, which as that of a text nests at most 127 deep: no tree is spelled so, or a name in it isn't the graph's, or it goes beyond the limits
+-- what is wrong with a value: no tree is spelled so, or a name in it isn't the graph's, or it goes beyond the limits
 abbrev pub IsWrongTree : Names → Data → TreeFault → Type 0
-IsWrongTree n d faults.Shape = depth d ≤ 127 → (s : NamedTree) → IsTree s d → ⊥
+IsWrongTree n d faults.Shape = (s : NamedTree) → IsTree s d → ⊥
 IsWrongTree n d faults.Unknown = (s : NamedTree) × IsTree s d × (knows n s ≡ false)
 IsWrongTree n d faults.Limit = (t : Tree) × SpellsTree n d t × (IsWithinLimits t → ⊥)
 IsWrongTree n d faults.Memory = Unit {0}

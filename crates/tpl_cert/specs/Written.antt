@@ -60,6 +60,10 @@ named n (tree.SplitInput i a b) = SplitInput (name_at n.inputs i) (named n a) (n
 named n (tree.SplitEnd t a b c) = SplitEnd (name_at n.tasks t) (named n a) (named n b) (named n c)
 named n (tree.Leaf rows) = Leaf (map (named_row n) rows)
 
+-- the array of the values of trees
+abbrev pub certificate_data : Names → List Tree → Data
+certificate_data n trees = array (items_of (map (λ t. tree_data (named n t)) trees))
+
 -- each id in the tree is the graph's
 abbrev pub has_row_ids : Names → Row → Bool
 has_row_ids n r = list_all (is_id n.tasks) r.before && (list_all (is_id n.tasks) r.past && list_all (is_id n.tasks) r.chain)

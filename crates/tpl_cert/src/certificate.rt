@@ -1,11 +1,14 @@
 //! Certificates.
 
 ghost use Rattle.std.specs.Prelude.{◌≡◌};
+ghost use Rattle.std.specs.List.{All};
+ghost use Rattle.tpl_cert.specs.Heights.{IsWithinLimits};
 
 use crate::tree::Tree;
 use std::marker::Model;
 
-/// A certificate: a tree for each claim, in the order of the claims. Contracts see the list of the trees.
+/// A certificate: a tree for each claim, in the order of the claims, each within the limits: at most 6 splits on each
+/// path, and at most 16 tasks in a chain. Contracts see the list of the trees.
 #[derive(Drop)]
 pub struct Certificate {
     trees: Vec<Tree>,
@@ -15,21 +18,33 @@ impl Model for Certificate {
     ghost use Rattle.std.specs.Prelude.{List};
     ghost use Rattle.std.specs.Coded.{coded_list};
     ghost use Rattle.tpl_model.specs.Certificate as certificate;
+    ghost use Rattle.std.specs.List.{All};
     ghost use Rattle.tpl_cert.specs.Coding.{tree_code};
+    ghost use Rattle.tpl_cert.specs.Heights.{IsWithinLimits};
 
     ghost Value = { List certificate.Tree };
 
     ghost coded = { coded_list tree_code };
 
     ghost view = { λ c. c.trees.items };
+
+    ghost invariant = { λ c. All IsWithinLimits c.trees.items };
 }
 
 impl Certificate {
-    /// The certificate of these trees.
+    /// The certificate of these trees, each of which is within the limits (`is_within_limits` tells).
     pub fn new(trees: Vec<Tree>) -> Certificate
+        requires { All IsWithinLimits trees.items }
         ensures { result ≡ trees.items }
     {
         Certificate { trees }
+    }
+
+    /// Each tree is within the limits: a caller that needs it calls this, which does nothing.
+    pub fn within_limits(&self)
+        ensures { All IsWithinLimits self.now }
+    {
+        let _ = &self.trees;
     }
 
     /// Its trees.

@@ -14,14 +14,14 @@ use serde_json::Value;
 use std::alloc::Global;
 use tpl_graph::Graph;
 
-/// The certificate tree that the value spells with the names of the graph. A value of a text nests at most 127 deep;
-/// one that nests deeper may be refused as `Shape`. A tree within the limits has at most 6 splits on each path and at
-/// most 16 tasks in a chain.
+/// The certificate tree that the value spells with the names of the graph, where it is within the limits: at most 6
+/// splits on each path and at most 16 tasks in a chain. Else the least `TreeFault` that applies anywhere in the value,
+/// however deep it nests, or `Memory`.
 pub fn tree_from(alloc: Global, graph: &Graph, value: &Value) -> Result<Tree, TreeFault>
     ensures ok { IfOk result (λ t. ReadsAs graph.now.names (view value.now) t) }
     ensures err { IfErr result (λ e. IsWrongTree graph.now.names (view value.now) e) }
 {
-    let named = match named_tree(alloc, 127, value) {
+    let named = match named_tree(alloc, value) {
         Ok(named) => named,
         Err(Miss::Shape) => return Err(TreeFault::Shape),
         Err(Miss::Memory) => return Err(TreeFault::Memory),

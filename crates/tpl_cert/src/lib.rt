@@ -18,7 +18,7 @@ mod tree;
 pub use certificate::Certificate;
 pub use fault::{TreeFault, TreeToFault};
 pub use from::tree_from;
-pub use laws::names_one_by_one;
+pub use laws::{certificates_nest_little, names_one_by_one, one_reading};
 pub use limits::is_within_limits;
 pub use miss::Miss;
 pub use read::{final_of, finals_of};

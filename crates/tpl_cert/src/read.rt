@@ -5,7 +5,7 @@ ghost use Rattle.serde_json.specs.Find.{get, as_str, as_bool};
 ghost use Rattle.serde_json.specs.View.{view};
 ghost use Rattle.tpl_cert.specs.Seen.{row_of, tree_of};
 ghost use Rattle.tpl_cert.specs.Members.{Gives, each, IsShape};
-ghost use Rattle.tpl_cert.specs.Reading.{with_final, no_finals, final_word, final_at, finals_at, row_at, leaf_at, input_at, end_at, node_at, tree_at};
+ghost use Rattle.tpl_cert.specs.Reading.{with_final, no_finals, final_word, final_at, finals_at, row_at, leaf_at, input_at, end_at, node_at, whole_tree};
 
 use crate::members::{bool_in, has_only, list_of, member_in, text_in, text_of, texts_in};
 use crate::miss::Miss;
@@ -118,72 +118,63 @@ fn leaf_of(alloc: Global, value: &Value) -> Result<NamedTree<'_>, Miss>
 }
 
 #[cycle(tree)]
-fn branch_of<'v>(
-    alloc: Global,
-    levels: u32,
-    value: &'v Value,
-    name: &str,
-) -> Result<Box<NamedTree<'v>>, Miss>
+fn branch_of<'v>(alloc: Global, value: &'v Value, name: &str) -> Result<Box<NamedTree<'v>>, Miss>
     ensures { Gives (λ b. tree_of b.value) result
-        (option_and_then (tree_at levels) (get name.now (view value.now))) }
+        (option_and_then whole_tree (get name.now (view value.now))) }
 {
     let member = member_in(value, name)?;
-    let tree = named_tree(alloc, levels, member)?;
+    let tree = named_tree(alloc, member)?;
     let boxed = Box::new(alloc, tree)?;
     Ok(boxed)
 }
 
 #[cycle(tree)]
 #[tactic(auto, unfolding(crate::specs::Reading::input_at))]
-fn input_of(alloc: Global, levels: u32, value: &Value) -> Result<NamedTree<'_>, Miss>
-    ensures { Gives tree_of result (input_at (tree_at levels) (view value.now)) }
+fn input_of(alloc: Global, value: &Value) -> Result<NamedTree<'_>, Miss>
+    ensures { Gives tree_of result (input_at whole_tree (view value.now)) }
 {
     if !has_only(value, &["split_input", "yes", "no"]) {
         return Err(Miss::Shape);
     }
     let name = text_in(value, "split_input")?;
-    let first = branch_of(alloc, levels, value, "yes")?;
-    let second = branch_of(alloc, levels, value, "no")?;
+    let first = branch_of(alloc, value, "yes")?;
+    let second = branch_of(alloc, value, "no")?;
     Ok(NamedTree::SplitInput(name, first, second))
 }
 
 #[cycle(tree)]
 #[tactic(auto, unfolding(crate::specs::Reading::end_at))]
-fn end_of(alloc: Global, levels: u32, value: &Value) -> Result<NamedTree<'_>, Miss>
-    ensures { Gives tree_of result (end_at (tree_at levels) (view value.now)) }
+fn end_of(alloc: Global, value: &Value) -> Result<NamedTree<'_>, Miss>
+    ensures { Gives tree_of result (end_at whole_tree (view value.now)) }
 {
     if !has_only(value, &["split_end", "ran", "canceled", "faulted"]) {
         return Err(Miss::Shape);
     }
     let name = text_in(value, "split_end")?;
-    let ran = branch_of(alloc, levels, value, "ran")?;
-    let canceled = branch_of(alloc, levels, value, "canceled")?;
-    let faulted = branch_of(alloc, levels, value, "faulted")?;
+    let ran = branch_of(alloc, value, "ran")?;
+    let canceled = branch_of(alloc, value, "canceled")?;
+    let faulted = branch_of(alloc, value, "faulted")?;
     Ok(NamedTree::SplitEnd(name, ran, canceled, faulted))
 }
 
 #[cycle(tree)]
 #[tactic(auto, unfolding(crate::specs::Reading::node_at))]
-fn node_of(alloc: Global, levels: u32, value: &Value) -> Result<NamedTree<'_>, Miss>
-    ensures { Gives tree_of result (node_at (tree_at levels) (view value.now)) }
+fn node_of(alloc: Global, value: &Value) -> Result<NamedTree<'_>, Miss>
+    ensures { Gives tree_of result (node_at whole_tree (view value.now)) }
 {
     if value.get("split_input").is_some() {
-        return input_of(alloc, levels, value);
+        return input_of(alloc, value);
     }
     if value.get("split_end").is_some() {
-        return end_of(alloc, levels, value);
+        return end_of(alloc, value);
     }
     leaf_of(alloc, value)
 }
 
+/// A tree, however deep the value nests.
 #[cycle(tree)]
-#[tactic(auto, using(crate::proofs::Levels::levels))]
-/// A tree, with trees in trees to this depth.
-pub(crate) fn named_tree(alloc: Global, levels: u32, value: &Value) -> Result<NamedTree<'_>, Miss>
-    ensures { Gives tree_of result (tree_at levels (view value.now)) }
+pub(crate) fn named_tree(alloc: Global, value: &Value) -> Result<NamedTree<'_>, Miss>
+    ensures { Gives tree_of result (whole_tree (view value.now)) }
 {
-    if levels == 0 {
-        return Err(Miss::Shape);
-    }
-    node_of(alloc, levels - 1, value)
+    node_of(alloc, value)
 }

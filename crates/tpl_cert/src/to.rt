@@ -1,12 +1,13 @@
 //! From a certificate tree to a JSON value.
 
-ghost use Rattle.std.specs.Prelude.{◌≡◌, ◌++◌, ◌∷◌, [], map, IfOk, OnOk, Err, true, false, IfErr};
+ghost use Rattle.std.specs.Prelude.{◌≡◌, ◌≤◌, ◌+◌, ◌++◌, ◌∷◌, [], map, IfOk, OnOk, Err, true, false, IfErr};
 ghost use Rattle.std.specs.List.{list_all};
-ghost use Rattle.serde_json.specs.Data.{array, string, boolean};
+ghost use Rattle.serde_json.specs.Data.{array, string, boolean, depth};
 ghost use Rattle.serde_json.specs.View.{view, items_of};
 ghost use Rattle.tpl_graph.specs.Ids.{task_number};
 ghost use Rattle.tpl_words.specs.TaskSet.{IsTaskSet};
 ghost use Rattle.tpl_model.specs.Certificate as certificate;
+ghost use Rattle.tpl_cert.specs.Heights.{height};
 ghost use Rattle.tpl_cert.specs.Spelled.{SpellsTree};
 ghost use Rattle.tpl_cert.specs.Written.{texts_data, words_of, row_object, row_data, leaf_data, input_data, end_data, tree_data, name_at, is_id, named_row, named, has_row_ids, has_ids, AreTaskSets, HasTaskSets, Writes};
 
@@ -190,11 +191,12 @@ fn tree_value(alloc: Global, graph: &Graph, tree: &Tree) -> Result<Value, TreeTo
 
 /// The tree as JSON with the names of the graph, in its one spelling: each member, in the order of the bytes of its
 /// name; `ends` in the order RanToCompletion, Canceled, Faulted, `before` and `past` in declared order. It spells the
-/// tree and no other, so it is read as the same tree again.
+/// tree and no other, so it is read as the same tree again, and nests 4 levels more than the tree splits.
 pub fn tree_to(alloc: Global, graph: &Graph, tree: &Tree) -> Result<Value, TreeToFault>
     ensures written { IfOk result (λ v. view v ≡ tree_data (named graph.now.names tree.now)) }
     ensures spells { IfOk result (λ v. SpellsTree graph.now.names (view v) tree.now) }
     ensures only { IfOk result (λ v. (other : certificate.Tree) → SpellsTree graph.now.names (view v) other → other ≡ tree.now) }
+    ensures nests { IfOk result (λ v. depth (view v) ≤ height tree.now + 4) }
     ensures known { IfOk result (λ _. has_ids graph.now.names tree.now ≡ true) }
     ensures unknown { result ≡ Err TreeToFault.Unknown → has_ids graph.now.names tree.now ≡ false }
 {

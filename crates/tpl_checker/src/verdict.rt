@@ -1,8 +1,8 @@
 //! The check of a certificate.
 
-ghost use Rattle.std.specs.Prelude.{◌≡◌, ◌↔◌, List, Bool, IsOk, IfOk, IfErr, None};
+ghost use Rattle.std.specs.Prelude.{◌≡◌, ◌≤◌, ◌↔◌, List, Bool, IsOk, IfOk, IfErr, None};
 ghost use Rattle.std.specs.List.{All};
-ghost use Rattle.tpl_cert.specs.Heights.{IsWithinLimits};
+ghost use Rattle.tpl_cert.specs.Heights.{height};
 ghost use Rattle.tpl_claims.specs.Fits.{Fits};
 ghost use Rattle.tpl_laws.specs.Faults.{IsFirstFault};
 ghost use Rattle.tpl_laws.specs.Soundness.{Each};
@@ -21,8 +21,7 @@ use tpl_claims::Claim;
 use tpl_graph::Graph;
 use tpl_model::CertFault;
 
-/// Checks that the certificate proves the claims of the graph. Each tree is to be within the
-/// limits, and each claim one that can be asked of the graph.
+/// Checks that the certificate proves the claims of the graph, each of which can be asked of it.
 ///
 /// The first fault is told. `Shape` comes first, for the first claim that has it: it has no tree,
 /// or a tree has no claim, a leaf hasn't one row for each task, or an id isn't the graph's. Then
@@ -34,7 +33,6 @@ use tpl_model::CertFault;
 /// outside. No memory is taken.
 pub fn check(graph: &Graph, claims: &[Claim], certificate: &Certificate) -> Result<(), CertFault>
     requires claims { All (Fits graph.now.graph) claims.now }
-    requires trees { All IsWithinLimits certificate.now }
     ensures verdict { result ≡ verdict graph.now.graph claims.now certificate.now }
     ensures accepted { IsOk result ↔ Accepts graph.now.graph claims.now certificate.now }
     ensures sound { IfOk result (λ u. (v : List Bool) (h : List Event) → Run graph.now.graph v h → Each (λ claim. Holds graph.now.graph claim v h) claims.now) }
@@ -44,13 +42,14 @@ pub fn check(graph: &Graph, claims: &[Claim], certificate: &Certificate) -> Resu
     tpl_laws::verdict_is_right();
     tpl_laws::verdict_is_sound();
     tpl_laws::fault_is_first();
+    certificate.within_limits();
     verdict(graph, claims, certificate.trees())
 }
 
 /// The first fault: shapes first, then claim by claim.
 fn verdict(graph: &Graph, claims: &[Claim], trees: &[Tree]) -> Result<(), CertFault>
     requires claims { All (Fits graph.now.graph) claims.now }
-    requires trees { All IsWithinLimits trees.now }
+    requires trees { All (λ tree. height tree ≤ 6) trees.now }
     ensures { result ≡ verdict graph.now.graph claims.now trees.now }
 {
     match misfit(graph, claims, trees) {
@@ -62,7 +61,7 @@ fn verdict(graph: &Graph, claims: &[Claim], trees: &[Tree]) -> Result<(), CertFa
 /// The first claim whose tree fails.
 fn claims_fault(graph: &Graph, claims: &[Claim], trees: &[Tree]) -> Result<(), CertFault>
     requires claims { All (Fits graph.now.graph) claims.now }
-    requires trees { All IsWithinLimits trees.now }
+    requires trees { All (λ tree. height tree ≤ 6) trees.now }
     requires shapes { misfit graph.now.graph 1 claims.now trees.now ≡ None }
     ensures { result ≡ no_fault (claims_fault graph.now.graph 1 claims.now trees.now) }
 {

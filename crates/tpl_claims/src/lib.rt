@@ -7,5 +7,5 @@ mod run;
 
 pub use claim::Claim;
 pub use fits::{given_twice, have_bodies};
-pub use run::holds;
+pub use run::{holds, is_true_of};
 pub use tpl_model::{Given, Property};

@@ -110,7 +110,8 @@ fn is_observed<C: Core>(core: &C, task: TaskId) -> bool
     !core.complete() || core.label(task).is_none() || core.seen(task)
 }
 
-fn is_true_of<C: Core>(core: &C, body: Property) -> bool
+/// Whether the property is true of the run.
+pub fn is_true_of<C: Core>(core: &C, body: Property) -> bool
     requires { TasksOf (C.journal core.now).graph body }
     ensures { let j = C.journal core.now in IsTrue result ↔ HoldsOf j.graph j.inputs j.events body }
 {

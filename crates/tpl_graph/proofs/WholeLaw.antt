@@ -1,6 +1,7 @@
 -- A valid draft, none of whose names stands twice, spells a graph with its names.
-use Rattle.std.proofs.Common.{◌≡◌, ℕ, suc, ◌-◌, ◌≤◌, false, [], length, flat_map, take, nat_eq, nat_lt, refl, sym, ap, ◌∙◌, subst, arith, ⊎_elim}
-use Rattle.std.specs.Prelude.{count_by, None}
+use Rattle.std.proofs.Common.{◌≡◌, ℕ, zero, suc, ◌-◌, ◌≤◌, true, false, List, [], ◌∷◌, Some, map, length, flat_map, take, nat_eq, nat_lt, refl, sym, ap, ◌∙◌, subst, arith, ⊎_elim}
+use Rattle.std.specs.Prelude.{count_by, None, slice_get}
+use Rattle.std.specs.List.{list_any}
 use Rattle.std.specs.Str.{bytes_eq}
 use Rattle.std.proofs.lemmas.Bool.{ltb-false, cases_lt}
 use Rattle.std.proofs.lemmas.List.{length-map, take_all}
@@ -12,15 +13,27 @@ use Rattle.tpl_graph.specs.declared.collect.Sort.TheVariants.{Labels, Sites}
 use Rattle.tpl_graph.specs.declared.fault.Why.TheVariants as why
 use Rattle.tpl_graph.specs.Names.{some_twice}
 use Rattle.tpl_graph.specs.Named.{numbers_from}
-use Rattle.tpl_graph.specs.Kept.{AreNamed, IsNamedGraph}
+use Rattle.tpl_graph.specs.Kept.{AreNamed, AreSpelled, IsNamedGraph}
 use Rattle.tpl_graph.specs.Draft.{Draft, Task, Token, worked, statements_in}
 use Rattle.tpl_graph.specs.Numbered.{names_of, graph_in, task_in, token_in, numbered, names_in, all_named, sites_of, AreFew}
-use Rattle.tpl_graph.specs.Refusals.{IsValid, exceeds, site_total}
-use Rattle.tpl_graph.proofs.Bools.{or_right}
+use Rattle.tpl_graph.specs.Refusals.{IsValid, exceeds, site_total, is_name, is_bad_name, says_bad_name}
+use Rattle.tpl_graph.proofs.Bools.{or_left, or_right, not_false}
 use Rattle.tpl_graph.proofs.PlaceLaws.{places_from, with_names-once, adds_names, at_most_once}
 use Rattle.tpl_graph.proofs.ReaderLemmas.{length-numbers_from}
 use Rattle.tpl_graph.proofs.SiteLaws.{sites_all, site_total_is, label_total, length-with_names, are_named, any_flat}
 use Rattle.tpl_graph.proofs.GraphLaw.{find, none_at, are_small, each_task, few_tasks, few_inputs, few_tokens, links_law}
+
+none_bad : (names : List (List ℕ)) → list_any is_bad_name names ≡ false → AreSpelled names
+none_bad [] none i name e = absurd (cc)
+none_bad (x ∷ names) none zero name e =
+    let same : x ≡ name = cc in
+    subst (λ z. is_name z ≡ true) same (not_false (is_name x) (or_left (is_bad_name x) (list_any is_bad_name names) none))
+none_bad (x ∷ names) none (suc i) name e = none_bad names (or_right (is_bad_name x) (list_any is_bad_name names) none) i name e
+
+named_by : {A : Type 0} (f : A → List ℕ) (xs : List A) (i : ℕ) (name : List ℕ) → slice_get (map f xs) i ≡ Some name → (x : A) × (slice_get xs i ≡ Some x) × (f x ≡ name)
+named_by f [] i name e = absurd (cc)
+named_by f (x ∷ xs) zero name e = (x, refl, cc)
+named_by f (x ∷ xs) (suc i) name e = named_by f xs i name e
 
 module _ (d : Draft) (valid : IsValid d) where
   few_sites : site_total d.tasks ≤ 256
@@ -72,6 +85,14 @@ module _ (d : Draft) (valid : IsValid d) where
       (λ r. let long = length-map d.tasks (task_in (names_of d)) in absurd (omega arith))
       (find (task_in (names_of d)) (record { kind = graph.Root; body = script.Nothing; token = None; options = 0 }) d.tasks t)
 
+  tokens_spelled : AreSpelled (names_of d).tokens
+  tokens_spelled = none_bad (names_of d).tokens (or_right (list_any is_bad_name (names_of d).inputs) (list_any is_bad_name (names_of d).tokens) (valid why.BadName 0 (omega arith)))
+
+  tasks_spelled : AreSpelled (names_of d).tasks
+  tasks_spelled t name e =
+      let x = named_by (λ (x : Task). x.name) d.tasks t name e in
+      subst (λ z. is_name z ≡ true) x.2 (not_false (is_name x.0.name) (or_left (is_bad_name x.0.name) (list_any says_bad_name (statements_in x.0)) (none_at d valid why.BadName t x.0 (omega arith) x.1)))
+
   pub is_named_graph : some_twice (names_of d).inputs ≡ false → some_twice (names_of d).tokens ≡ false → some_twice (names_of d).tasks ≡ false → some_twice (names_of d).sites ≡ false → IsNamedGraph (numbered d)
   is_named_graph inputs tokens tasks sites = record {
     graph = is_graph sites;
@@ -81,6 +102,8 @@ module _ (d : Draft) (valid : IsValid d) where
     inputs_once = inputs;
     tokens_once = tokens;
     tasks_once = tasks;
+    tokens_spelled = tokens_spelled;
+    tasks_spelled = tasks_spelled;
     labels_once = with_names-once [] (all_named Labels d.tasks) refl;
     sites_once = sites;
     sites_in_order = in_order sites;

@@ -1,5 +1,5 @@
 -- What is true of each graph with its names, and of the tables that its readers read.
-use Rattle.std.specs.Prelude.{◌≡◌, ℕ, ◌<◌, false, Option, Some, None, List, length, map, slice_get}
+use Rattle.std.specs.Prelude.{◌≡◌, ℕ, ◌<◌, true, false, Option, Some, None, List, length, map, slice_get}
 use Rattle.tpl_words.specs.declared.ids.TaskId.{TaskId}
 use Rattle.tpl_script.specs.Statements.{Statement, Statements, Nothing, ◌⨾◌, Throw, Work, If, When, sites}
 use Rattle.tpl_model.specs.Graph.{TaskGraph, body, attached, is_task, IsParent}
@@ -9,6 +9,7 @@ use Rattle.std.specs.declared.alloc.Global.{Global}
 use Rattle.tpl_graph.specs.Ids.{task_number}
 use Rattle.tpl_graph.specs.Names.{some_twice}
 use Rattle.tpl_graph.specs.Named.{Named, numbers_from}
+use Rattle.tpl_graph.specs.Refusals.{is_name}
 
 -- the labels and sites of a body have names
 abbrev mutual
@@ -23,6 +24,10 @@ abbrev mutual
   IsNamed labels sites (When f first second) = AreNamed labels sites first × AreNamed labels sites second
   IsNamed labels sites s = Unit {0}
 
+-- each of the names is spelled as one
+abbrev pub AreSpelled : List (List ℕ) → Type 0
+AreSpelled names = (i : ℕ) (name : List ℕ) → slice_get names i ≡ Some name → is_name name ≡ true
+
 -- a task graph within its limits, whose tasks, tokens, inputs, labels and sites have names; no two of a sort have the same, and the sites are numbered in the order of the text
 pub record IsNamedGraph (n : Named) : Type 0 where
   pub graph : IsGraph n.graph
@@ -32,6 +37,8 @@ pub record IsNamedGraph (n : Named) : Type 0 where
   pub inputs_once : some_twice n.names.inputs ≡ false
   pub tokens_once : some_twice n.names.tokens ≡ false
   pub tasks_once : some_twice n.names.tasks ≡ false
+  pub tokens_spelled : AreSpelled n.names.tokens
+  pub tasks_spelled : AreSpelled n.names.tasks
   pub labels_once : some_twice n.names.labels ≡ false
   pub sites_once : some_twice n.names.sites ≡ false
   pub sites_in_order : all_sites n.graph ≡ numbers_from 0 (length n.names.sites)

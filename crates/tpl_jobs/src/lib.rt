@@ -8,6 +8,3 @@ mod receipt;
 pub use item::{Work, WorkItem};
 pub use job::{Job, WorkJob};
 pub use receipt::Receipt;
-
-#[cfg(test)]
-mod tests;

@@ -25,3 +25,4 @@ pub mod ForCode
 pub mod AllowedDecided
 pub mod AllowedSettled
 pub mod GraphDecided
+pub mod FailingLemmas

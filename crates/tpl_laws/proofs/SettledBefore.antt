@@ -44,7 +44,7 @@ act_place g t place a (Leave s) re st en r e = ap place_in (sym e)
 act_place g t place a (Close s) re st en r e = ap place_in (sym e)
 
 -- no task has ended at a later place than that of the newest event
-ended_within : (g : TaskGraph) (v : List Bool) (h : List Event) (t : ℕ) (r : Ending) → ending g v h t ≡ Some r → r.place ≤ length h
+pub ended_within : (g : TaskGraph) (v : List Bool) (h : List Event) (t : ℕ) (r : Ending) → ending g v h t ≡ Some r → r.place ≤ length h
 ended_within g v [] t r e = let none : r.place ≡ 0 = at_once_place (kind g t) r e in omega arith
 ended_within g v (x ∷ h) t r e =
     elim (ending_new g v h x.actor x.act t r e) [
@@ -52,12 +52,12 @@ ended_within g v (x ∷ h) t r e =
       | inr new ↦ let at = act_place g t (suc (length h)) x.actor x.act (rest g v h) (started g v h) (ending g v h) r new.1 in omega arith
     ]
 
-longer : (later h : List Event) → length h ≤ length (later ++ h)
+pub longer : (later h : List Event) → length h ≤ length (later ++ h)
 longer [] h = omega arith
 longer (x ∷ later) h = let more = longer later h in omega arith
 
 -- what ended at a place of h had ended in h
-ended_then : (g : TaskGraph) (v : List Bool) (later h : List Event) (t : ℕ) (r : Ending) → ending g v (later ++ h) t ≡ Some r → r.place ≤ length h → ending g v h t ≡ Some r
+pub ended_then : (g : TaskGraph) (v : List Bool) (later h : List Event) (t : ℕ) (r : Ending) → ending g v (later ++ h) t ≡ Some r → r.place ≤ length h → ending g v h t ≡ Some r
 ended_then g v [] h t r e early = e
 ended_then g v (x ∷ later) h t r e early =
     elim (ending_new g v (later ++ h) x.actor x.act t r e) [
@@ -99,7 +99,7 @@ seen_then g v later h t valid run (never_started {p = p} n par s) =
     par (seen_then g v later h p valid run s)
 
 -- nobody begins a task that has begun
-begins_once : (g : TaskGraph) (v : List Bool) (h : List Event) (a : Actor) (x : Act) (b : ℕ) → Allows g v h a x → begun_by x b ≡ true → begun h b ≡ None
+pub begins_once : (g : TaskGraph) (v : List Bool) (h : List Event) (a : Actor) (x : Act) (b : ℕ) → Allows g v h a x → begun_by x b ≡ true → begun h b ≡ None
 begins_once g v h a (Begin s) b al e = subst (λ z. begun h z ≡ None) (same_number s.0 b e) (waiting_facts g v h s.0 WaitingToRun al.1 (inl refl)).2
 begins_once g v h a (Request s) b al e = true_false (sym e)
 begins_once g v h a (Release s) b al e = true_false (sym e)
@@ -110,7 +110,7 @@ begins_once g v h a (Close s) b al e = true_false (sym e)
 begins_once g v h a (Drop s) b al e = true_false (sym e)
 begins_once g v h a (Settle s) b al e = true_false (sym e)
 
-begun_once : (x : Event) (h : List Event) (b : ℕ) → begun (x ∷ h) b ≡ None → (begun_by x.act b ≡ false) × (begun h b ≡ None)
+pub begun_once : (x : Event) (h : List Event) (b : ℕ) → begun (x ∷ h) b ≡ None → (begun_by x.act b ≡ false) × (begun h b ≡ None)
 begun_once x h b e =
     elim (decide (begun_by x.act b)) [
       | inl now ↦ some_none x.actor (sym (if_true (begun_by x.act b) (Some x.actor) (begun h b) now) ∙ e)

@@ -8,4 +8,5 @@ pub mod GraphTests
 pub mod Tests
 pub mod Verdict
 pub mod Decided
+pub mod Failing
 pub mod Faults

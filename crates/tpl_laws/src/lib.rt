@@ -4,6 +4,7 @@
 
 pub mod allowed;
 mod closed;
+mod failing;
 mod links;
 mod runs;
 mod settled;
@@ -13,6 +14,9 @@ pub use closed::{
     before_is_right, below_in_one_pass, below_is_right, broken_is_right, chain_is_right,
     ends_is_right, fault_is_first, first_broken_is_right, parent_is_right, past_is_right,
     proves_is_right, runs_is_right, verdict_is_right, verdict_is_sound,
+};
+pub use failing::{
+    complete_is_noted, failure_is_told, only_requests, request_is_noted, stays_complete,
 };
 pub use links::{
     quiet_by_a_link, quiet_with_sources, requested_by_a_source, requested_through_sources,

@@ -12,6 +12,3 @@ mod rule;
 
 pub use pass::QueuePass;
 pub use queue::JobQueue;
-
-#[cfg(test)]
-mod tests;

@@ -48,6 +48,10 @@ impl<I: Drop> JobQueue<I> {
     }
 
     /// Cuts a pass in two halves. The first keeps what the pass put and took.
+    ///
+    /// Neither half knows what the other puts and takes. So at a half what `put` says of a full queue, and `take` of an
+    /// empty one and of the oldest job, says nothing of what the queue held: it is a fact of the whole pass alone, which
+    /// is had again once all halves are joined.
     pub fn split(&self, pass: QueuePass<I>) -> (QueuePass<I>, QueuePass<I>)
         requires { pass.queue ≡ self.now.id }
         ensures queue { (result.0.queue ≡ self.now.id) × (result.1.queue ≡ self.now.id) }
@@ -72,7 +76,9 @@ impl<I: Drop> JobQueue<I> {
         QueuePass { seat }
     }
 
-    /// Puts a job at the back. The job comes back only where the queue was full at one moment of the call.
+    /// Puts a job at the back. The job comes back only where the queue was full at one moment of the call, as the whole
+    /// pass knows; at a part of it `full` says nothing (`split`). That there was a free place where the job was put, no
+    /// clause says.
     pub fn put<R: Wait>(&self, rt: &R, pass: &mut QueuePass<I>, job: Job<I>) -> Result<(), Job<I>>
         requires { pass.old.queue ≡ self.now.id }
         ensures queue { pass.new.queue ≡ pass.old.queue }
@@ -83,7 +89,8 @@ impl<I: Drop> JobQueue<I> {
         self.ring.push_as::<Put, R>(rt, &mut pass.seat, job)
     }
 
-    /// Takes the job at the front. There is none only where the queue was empty at one moment of the call.
+    /// Takes the job at the front. There is none only where the queue was empty at one moment of the call, as the whole
+    /// pass knows; at a part of it `empty` and `oldest` say nothing (`split`).
     pub fn take<R: Wait>(&self, rt: &R, pass: &mut QueuePass<I>) -> Option<Job<I>>
         requires { pass.old.queue ≡ self.now.id }
         ensures queue { pass.new.queue ≡ pass.old.queue }

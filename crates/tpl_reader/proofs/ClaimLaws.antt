@@ -187,7 +187,7 @@ claim_sound d c e =
     subst (λ (x : NamedClaim). IsClaim d x) (some_is (record { given = f.0; body = a.0 }) c f.2)
     (record { property = property_sound d a.0 a.1; given = list_sound given_at IsGiven given_sound (get (codes "given") d) b.0 f.0 b.1 f.1 })
 
-claim_read : (d : Data) (c : NamedClaim) → IsClaim d c → claim_at d ≡ Some c
+pub claim_read : (d : Data) (c : NamedClaim) → IsClaim d c → claim_at d ≡ Some c
 unfolding claim_at
 claim_read d c is =
     let given = list_read given_at IsGiven given_read (get (codes "given") d) c.given is.given in

@@ -18,3 +18,6 @@ pub mod StartLaws
 pub mod TopLaws
 pub mod Shallow
 pub mod Checkable
+pub mod OneDocument
+pub mod Faultless
+pub mod Certified

@@ -18,7 +18,10 @@ all_shallow : (ds : List Data) → Within 127 ds → AreShallow ds
 all_shallow [] w = λ k d lt. absurd (omega arith)
 all_shallow (d ∷ ds) w = All-cons (λ (x : Data). depth x ≤ 127) d ds w.0 (all_shallow ds w.1)
 
-pub tasks_shallow : (d : Data) (m : Members) → depth d ≤ 127 → IsTop d m → AreShallow m.tasks
-tasks_shallow d m le is =
+pub tasks_within : (d : Data) (m : Members) → depth d ≤ 127 → IsTop d m → Within 127 m.tasks
+tasks_within d m le is =
     let inside : depth is.tasks.0 ≤ 127 = get_depth (codes "tasks") d is.tasks.0 127 (omega arith) is.tasks.1 in
-    all_shallow m.tasks (list_within is.tasks.0 m.tasks 127 (omega arith) is.tasks.2)
+    list_within is.tasks.0 m.tasks 127 (omega arith) is.tasks.2
+
+pub tasks_shallow : (d : Data) (m : Members) → depth d ≤ 127 → IsTop d m → AreShallow m.tasks
+tasks_shallow d m le is = all_shallow m.tasks (tasks_within d m le is)

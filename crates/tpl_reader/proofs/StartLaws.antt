@@ -83,7 +83,7 @@ if_any_sound (Some d) s e =
     let a = bind_some (start_at d) (λ x. Some (Some x)) s e in
     subst (λ (x : Option NamedStart). IsStartIfAny (Some d) x) (some_is (Some a.0) s a.2) (start_sound d a.0 a.1)
 
-if_any_read : (o : Option Data) (s : Option NamedStart) → IsStartIfAny o s → start_or_none o ≡ Some s
+pub if_any_read : (o : Option Data) (s : Option NamedStart) → IsStartIfAny o s → start_or_none o ≡ Some s
 unfolding start_or_none
 if_any_read None None p = refl
 if_any_read None (Some s) p = absurd p

@@ -204,7 +204,7 @@ kind_read d (Continues a w) le is = rw (is.0, is.2, work_read d w le is.3) refl
 kind_read d (WhenAll args) le is = rw (args_read d args is.0 is.2) refl
 kind_read d (WhenAny args) le is = rw (args_read d args is.0 is.2) refl
 
-task_read : (d : Data) (t : Task) → depth d ≤ 127 → IsTask d t → task_at d ≡ Some t
+pub task_read : (d : Data) (t : Task) → depth d ≤ 127 → IsTask d t → task_at d ≡ Some t
 unfolding task_at text_in
 task_read d t le is = rw (is.0, kind_text d t.kind is.1, kind_read d t.kind le is.1) refl
 

@@ -117,7 +117,7 @@ top_sound d m e =
       start = refl;
     })
 
-top_read : (d : Data) (m : Members) → IsTop d m → top_at d ≡ Some m
+pub top_read : (d : Data) (m : Members) → IsTop d m → top_at d ≡ Some m
 unfolding top_at
 top_read d m is =
     let inputs = names_back (get (codes "inputs") d) m.inputs is.inputs in

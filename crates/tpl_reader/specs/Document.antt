@@ -8,6 +8,8 @@ use Rattle.tpl_graph.specs.Draft.{Task, Draft}
 use Rattle.tpl_graph.specs.Named.{Named}
 use Rattle.tpl_graph.specs.Numbered.{numbered}
 use Rattle.tpl_graph.specs.Refusals.{IsValid, IsLeast}
+use Rattle.tpl_cert.specs.declared.fault.TreeFault.{TreeFault}
+use Rattle.tpl_cert.specs.declared.fault.TreeFault.TheVariants as trees
 use Rattle.tpl_cert.specs.Spelled.{ReadsAs, IsWrongTree}
 use Rattle.tpl_reader.specs.NamedClaims.{NamedClaim}
 use Rattle.tpl_reader.specs.Start.{NamedStart}
@@ -120,8 +122,15 @@ ClaimFaults g ss (faults.Claim n f) = IsRefusedClaim g ss n f
 ClaimFaults g ss faults.Memory = Unit {0}
 ClaimFaults g ss e = ⊥
 
+-- want of memory is no fault of a tree
+abbrev pub IsNoMemory : TreeFault → Type 0
+IsNoMemory trees.Shape = Unit {0}
+IsNoMemory trees.Unknown = Unit {0}
+IsNoMemory trees.Limit = Unit {0}
+IsNoMemory trees.Memory = ⊥
+
 abbrev pub TreeFaults : Named → List Data → ReadFault → Type 0
-TreeFaults g ds (faults.Certificate n f) = FirstWrong (ReadsAs g.names) (IsWrongTree g.names) ds n f
+TreeFaults g ds (faults.Certificate n f) = IsNoMemory f × FirstWrong (ReadsAs g.names) (IsWrongTree g.names) ds n f
 TreeFaults g ds faults.Memory = Unit {0}
 TreeFaults g ds e = ⊥
 

@@ -17,3 +17,4 @@ pub mod SeenTop
 pub mod Begin
 pub mod Document
 pub mod SeenDocument
+pub mod Laws

@@ -6,6 +6,7 @@ mod begin;
 mod claims;
 mod document;
 mod fault;
+mod laws;
 mod named;
 mod read;
 mod shape;
@@ -17,4 +18,5 @@ mod trees;
 
 pub use document::{Document, Start};
 pub use fault::{ClaimFault, Part, ReadFault, StartFault};
+pub use laws::{certificate_is_read_back, one_document};
 pub use read::{LONGEST, MOST_CLAIMS, read_document};

@@ -38,6 +38,3 @@ pub fn may_start_is_right()
 pub fn must_observe_is_right()
     ensures { MustObserveIsRight }
 {}
-
-#[cfg(test)]
-mod tests;

@@ -16,6 +16,3 @@ pub use members::Members;
 pub use options::{OptionFault, Options};
 pub use status::{Actor, Answer, Label, Status};
 pub use task_set::{MOST_TASKS, TaskSet, sets_are_their_members};
-
-#[cfg(test)]
-mod tests;

@@ -31,6 +31,10 @@ impl<'g> Core for Fast<'g> {
         self.state.is_run();
     }
 
+    fn room(&self) -> u32 {
+        self.state.machine().room()
+    }
+
     fn input(&self, input: InputId) -> bool {
         self.state.machine().input(input)
     }

@@ -5,6 +5,7 @@ use crate::marks::began;
 use crate::run::{Core, Next, Refused};
 use tpl_graph::Graph;
 use tpl_laws::allowed::{can_is_right, is_complete_is_right};
+use tpl_laws::is_bounded;
 use tpl_model::{Act, Event};
 use tpl_words::{InputId, Label, Status, TaskId, TokenId};
 
@@ -30,6 +31,11 @@ impl<'g> Core for Machine<'g> {
 
     fn is_run(&self) {
         self.graph.valid();
+    }
+
+    fn room(&self) -> u32 {
+        is_bounded();
+        self.graph.bound()
     }
 
     fn input(&self, input: InputId) -> bool {

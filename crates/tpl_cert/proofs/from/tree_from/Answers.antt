@@ -6,17 +6,17 @@ use Rattle.tpl_cert.proofs.Whole.{no_spelling, wrong_names, spells}
 use Rattle.tpl_cert.proofs.from.tree_from.Goals as goal
 
 pub returns-in-Err-Shape-clause-err : goal.returns-in-Err-Shape-clause-err
-returns-in-Err-Shape-clause-err c = no_spelling 127 (view c.args.value.now) (rw c.in-Err-Shape.field-0-is at c.in-Err-Shape.ensures)
+returns-in-Err-Shape-clause-err c = no_spelling (view c.args.value.now) (rw c.in-Err-Shape.field-0-is at c.in-Err-Shape.ensures)
 
 pub returns-in_err-tree-clause-err : goal.returns-in_err-tree-clause-err
 returns-in_err-tree-clause-err c =
     let p = err_from_is_err_and c.from_residual.result c.from_residual.ensures.1 in
-    rw (p.1, p.2) (wrong_names c.args.graph.now.names 127 (view c.args.value.now) (tree_of c.in-Ok.named) c.in_err-tree.field-0.0 c.in-Ok.ensures c.in_err-tree.ensures)
+    rw (p.1, p.2) (wrong_names c.args.graph.now.names (view c.args.value.now) (tree_of c.in-Ok.named) c.in_err-tree.field-0.0 c.in-Ok.ensures c.in_err-tree.ensures)
 
 pub returns-then-is_within_limits-clause-ok : goal.returns-then-is_within_limits-clause-ok
 returns-then-is_within_limits-clause-ok c =
-    (spells c.args.graph.now.names 127 (view c.args.value.now) (tree_of c.in-Ok.named) c.in_ok-tree.tree c.in-Ok.ensures c.in_ok-tree.ensures.1, c.if-is_within_limits.ensures.0 refl)
+    (spells c.args.graph.now.names (view c.args.value.now) (tree_of c.in-Ok.named) c.in_ok-tree.tree c.in-Ok.ensures c.in_ok-tree.ensures.1, c.if-is_within_limits.ensures.0 refl)
 
 pub returns-clause-err : goal.returns-clause-err
 returns-clause-err c =
-    (c.in_ok-tree.tree, spells c.args.graph.now.names 127 (view c.args.value.now) (tree_of c.in-Ok.named) c.in_ok-tree.tree c.in-Ok.ensures c.in_ok-tree.ensures.1, λ h. true≢false (sym (c.if-is_within_limits.ensures.1 h)))
+    (c.in_ok-tree.tree, spells c.args.graph.now.names (view c.args.value.now) (tree_of c.in-Ok.named) c.in_ok-tree.tree c.in-Ok.ensures c.in_ok-tree.ensures.1, λ h. true≢false (sym (c.if-is_within_limits.ensures.1 h)))

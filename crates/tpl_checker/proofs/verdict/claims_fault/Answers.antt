@@ -11,7 +11,7 @@ pub tree_fault-requires-clause-room : goal.tree_fault-requires-clause-room
 tree_fault-requires-clause-room c =
     let lt = tree_there c.args.graph.now.graph c.args.claims.now c.args.trees.now c.loop-at.at c.loop-at-test.true c.loop-at.invariant in
     let t = c.index-trees-at.result in
-    omega (arith, at_most_729_leaves t (subst (λ (z : Tree). height z ≤ 6) (sym c.index-trees-at.is) (c.requires.trees c.loop-at.at t lt).0))
+    omega (arith, at_most_729_leaves t (subst (λ (z : Tree). height z ≤ 6) (sym c.index-trees-at.is) (c.requires.trees c.loop-at.at t lt)))
 
 pub returns-in_err-tree_fault : goal.returns-in_err-tree_fault
 returns-in_err-tree_fault c =

@@ -33,3 +33,7 @@ returns-clause-claims c =
 pub returns-clause-trees : goal.returns-clause-trees
 returns-clause-trees c =
     rw c.new.ensures (all_within c.in_ok-graph.graph.names (map view c.args.shaped.certificate.now) c.in_ok-trees.trees.items c.in_ok-trees.ensures.ok)
+
+pub new-requires : goal.new-requires
+new-requires c =
+    all_within c.in_ok-graph.graph.names (map view c.args.shaped.certificate.now) c.in_ok-trees.trees.items c.in_ok-trees.ensures.ok

@@ -1,0 +1,117 @@
+-- From which place on a claim fails along a run, told by a few places of the whole run.
+use Rattle.std.specs.Prelude.{◌≡◌, ℕ, suc, ◌≤◌, ◌++◌, ◌||◌, not, Bool, true, false, if◌then◌else◌, Option, Some, None, IfSome, List, [], ◌∷◌, length, max, nat_le}
+use Rattle.tpl_model.specs.Graph.{TaskGraph}
+use Rattle.tpl_model.specs.declared.event.Act.{Act}
+use Rattle.tpl_model.specs.declared.event.Act.TheVariants.{Request}
+use Rattle.tpl_model.specs.declared.event.Event.{Event}
+use Rattle.tpl_words.specs.declared.ids.TokenId.{TokenId}
+use Rattle.tpl_words.specs.declared.status.Actor.{Actor}
+use Rattle.tpl_model.specs.Facts.{Ending, begun_by, requested, ending}
+use Rattle.tpl_model.specs.Rules.{Allows, Run, Complete}
+use Rattle.tpl_model.specs.Valid.{IsGraph}
+use Rattle.tpl_model.specs.declared.claim.Given.{Given}
+use Rattle.tpl_model.specs.declared.claim.Given.TheVariants.{Input, Quiet}
+use Rattle.tpl_model.specs.declared.claim.Property.{Property}
+use Rattle.tpl_model.specs.declared.claim.Property.TheVariants.{Final as EndsIn, After, Observed, Never, Excludes}
+use Rattle.tpl_model.specs.Certificate.{same}
+use Rattle.tpl_model.specs.Claims.{Claim, input}
+use Rattle.tpl_laws.specs.Allowed.{is_complete, holds_of, holds}
+use Rattle.tpl_laws.specs.Runs.{gives_quiet}
+
+-- the place is reached
+abbrev pub is_at : Option ℕ → ℕ → Bool
+is_at None n = false
+is_at (Some place) n = nat_le place n
+
+-- Along a list of events the test is false before a place and true from it on; where there is none it is false
+-- throughout.
+pub record IsFrom (test : List Event → Bool) (h : List Event) (place : Option ℕ) : Type 0 where
+  pub within : IfSome place (λ p. p ≤ length h)
+  pub each : (later before : List Event) → later ++ before ≡ h → test before ≡ is_at place (length before)
+
+-- the place at which a task began
+abbrev pub began_at : List Event → ℕ → Option ℕ
+began_at [] t = None
+began_at (e ∷ h) t = if begun_by e.act t then Some (suc (length h)) else began_at h t
+
+-- the place at which a task ended
+abbrev pub place_of : Option Ending → Option ℕ
+place_of None = None
+place_of (Some e) = Some e.place
+
+-- the later of two places, if there are both
+abbrev pub later_of : Option ℕ → Option ℕ → Option ℕ
+later_of (Some p) (Some q) = Some (max p q)
+later_of p q = None
+
+-- where the place is noted after the first event after which the test is true
+abbrev pub or_now : Option ℕ → Bool → ℕ → Option ℕ
+or_now None now n = if now then Some n else None
+or_now (Some p) now n = Some p
+
+-- where a property that the run has lost was lost. A run is complete from its place `complete` on
+abbrev pub lost_at : TaskGraph → List Bool → List Event → Option ℕ → Property → Option ℕ
+lost_at g v h complete (EndsIn t ends) = place_of (ending g v h t.0)
+lost_at g v h complete (After a b) = began_at h b.0
+lost_at g v h complete (Observed t) = complete
+lost_at g v h complete (Never t) = began_at h t.0
+lost_at g v h complete (Excludes a b) = later_of (began_at h a.0) (began_at h b.0)
+
+-- the place from which on a property isn't true of the run
+abbrev pub fails_from : TaskGraph → List Bool → List Event → Option ℕ → Property → Option ℕ
+fails_from g v h complete p = if holds_of g v h p then None else lost_at g v h complete p
+
+-- at the place something of what is given isn't true of the run. A token k is requested from the place `asked k` on
+abbrev pub is_broken : List Bool → (ℕ → Option ℕ) → List Given → ℕ → Bool
+is_broken v asked [] n = false
+is_broken v asked (Input i value ∷ given) n = not (same (input v i.0) value) || is_broken v asked given n
+is_broken v asked (Quiet k ∷ given) n = is_at (asked k.0) n || is_broken v asked given n
+
+-- a property fails first at its place, unless what is given is broken there
+abbrev pub unless_broken : Option ℕ → (ℕ → Bool) → Option ℕ
+unless_broken None broken = None
+unless_broken (Some place) broken = if broken place then None else Some place
+
+-- the first place at which a claim fails
+abbrev pub first_failure : TaskGraph → List Bool → List Event → Option ℕ → (ℕ → Option ℕ) → Claim → Option ℕ
+first_failure g v h complete asked claim = unless_broken (fails_from g v h complete claim.body) (is_broken v asked claim.given)
+
+-- the claim fails at the place, and holds before; without a place it holds throughout
+pub record IsFirstFailure (g : TaskGraph) (v : List Bool) (h : List Event) (claim : Claim) (place : Option ℕ) : Type 0 where
+  pub within : IfSome place (λ p. p ≤ length h)
+  pub before : (later before : List Event) → later ++ before ≡ h → is_at place (length before) ≡ false → holds g claim v before ≡ true
+  pub there : (later before : List Event) → later ++ before ≡ h → place ≡ Some (length before) → holds g claim v before ≡ false
+
+-- Where a claim first fails in a run is told by the ends and begins of tasks, by the place from which the run is
+-- complete, and by those from which tokens are requested.
+abbrev pub FailureIsTold : Type 0
+FailureIsTold =
+    (g : TaskGraph) (v : List Bool) (h : List Event) (complete : Option ℕ) (asked : ℕ → Option ℕ) (claim : Claim)
+    → IsGraph g → Run g v h → IsFrom (is_complete g v) h complete → ((k : ℕ) → gives_quiet claim.given k ≡ true → IsFrom (λ before. requested g v before k) h (asked k))
+    → IsFirstFailure g v h claim (first_failure g v h complete asked claim)
+
+-- a run that is complete goes on with requests alone
+abbrev pub OnlyRequests : Type 0
+OnlyRequests =
+    (g : TaskGraph) (v : List Bool) (h : List Event) (a : Actor) (x : Act)
+    → Run g v h → Complete g v h → Allows g v h a x → (k : TokenId) × (x ≡ Request k)
+
+-- and stays complete
+abbrev pub StaysComplete : Type 0
+StaysComplete = (g : TaskGraph) (v : List Bool) (later h : List Event) → Run g v (later ++ h) → Complete g v h → Complete g v (later ++ h)
+
+-- along a run the place from which it is complete can be noted, event by event
+abbrev pub CompleteIsNoted : Type 0
+CompleteIsNoted =
+    (g : TaskGraph) (v : List Bool)
+    → IsFrom (is_complete g v) [] (or_now None (is_complete g v []) 0)
+    × ((h : List Event) (x : Event) (place : Option ℕ) → Run g v (x ∷ h) → IsFrom (is_complete g v) h place
+    → IsFrom (is_complete g v) (x ∷ h) (or_now place (is_complete g v (x ∷ h)) (suc (length h))))
+
+-- and so can that from which a token is requested
+abbrev pub RequestIsNoted : Type 0
+RequestIsNoted =
+    (g : TaskGraph) (v : List Bool) (k : ℕ)
+    → IsFrom (λ before. requested g v before k) [] (or_now None (requested g v [] k) 0)
+    × ((h : List Event) (x : Event) (place : Option ℕ) → Run g v (x ∷ h) → IsFrom (λ before. requested g v before k) h place
+    → IsFrom (λ before. requested g v before k) (x ∷ h) (or_now place (requested g v (x ∷ h) k) (suc (length h))))

@@ -1,0 +1,28 @@
+//! From which place on a claim fails along a run.
+
+ghost use Rattle.tpl_laws.specs.Failing.{CompleteIsNoted, FailureIsTold, OnlyRequests, RequestIsNoted, StaysComplete};
+
+/// A run that is complete goes on with requests alone.
+pub fn only_requests()
+    ensures { OnlyRequests }
+{}
+
+/// What is complete stays so.
+pub fn stays_complete()
+    ensures { StaysComplete }
+{}
+
+/// Where a claim first fails is told by a few places of the run.
+pub fn failure_is_told()
+    ensures { FailureIsTold }
+{}
+
+/// Along a run the place from which it is complete can be noted, event by event.
+pub fn complete_is_noted()
+    ensures { CompleteIsNoted }
+{}
+
+/// And so can the place from which a token is requested.
+pub fn request_is_noted()
+    ensures { RequestIsNoted }
+{}

@@ -1,0 +1,127 @@
+-- A document with another certificate.
+use Rattle.std.proofs.Common.{◌≡◌, ℕ, suc, ◌≤◌, ◌&&◌, List, [], ◌∷◌, map, Bool, true, false, Option, Some, Ordering, Less, Equal, Greater, codes, refl, sym, ap, subst, ◌∙◌, length, arith, true≢false}
+use Rattle.std.specs.List.{All}
+use Rattle.std.specs.Str.{bytes_eq}
+use Rattle.std.specs.Cmp.Lexicographic.{slice_cmp}
+use Rattle.std.specs.Ordering.{nat_cmp, match_ordering}
+use Rattle.std.proofs.lemmas.Slice.Eq.{bytes_eq-Decides}
+use Rattle.serde_json.specs.Data.{Data, Members, no_members, member, string, array, object, put}
+use Rattle.serde_json.specs.Find.{get}
+use Rattle.serde_json.specs.View.{items_of}
+use Rattle.serde_json.proofs.Views.{get_member-put, get_member-put_other}
+use Rattle.tpl_model.specs.Certificate.{Tree}
+use Rattle.tpl_graph.specs.Named.{Names}
+use Rattle.tpl_cert.specs.Members.{is_one_of, members_within, has_only, elements, list_in}
+use Rattle.tpl_cert.specs.Grammar.{HasOnly, IfThere, IsArray}
+use Rattle.tpl_cert.specs.Spelled.{ReadsAs}
+use Rattle.tpl_cert.specs.Written.{tree_data, named, certificate_data}
+use Rattle.tpl_reader.specs.Passes.{AllRead}
+use Rattle.tpl_reader.specs.TaskGrammar.{IsToken}
+use Rattle.tpl_reader.specs.Top as top
+use Rattle.tpl_reader.specs.TopGrammar.{IsTop}
+use Rattle.tpl_reader.specs.Document.{Spelled, IsSpelled, DocumentValue, IsDocument, Spells, longest}
+use Rattle.tpl_reader.specs.Laws.{IsReadBack, HoldsCertificate}
+use Rattle.tpl_reader.proofs.Json.{some}
+use Rattle.tpl_reader.proofs.OneDocument.{value_same}
+
+-- ---- the members
+
+and_both : (a b : Bool) → a ≡ true → b ≡ true → (a && b) ≡ true
+and_both a b e f = rw (e, f) refl
+
+and_first : (a b : Bool) → (a && b) ≡ true → a ≡ true
+and_first true b e = refl
+and_first false b e = absurd cc
+
+and_second : (a b : Bool) → (a && b) ≡ true → b ≡ true
+and_second true b e = e
+and_second false b e = absurd cc
+
+either_way : (o : Ordering) (names : List (List ℕ)) (a b c : Members) → members_within names a ≡ true → members_within names b ≡ true → members_within names c ≡ true → members_within names (match_ordering o a b c) ≡ true
+either_way Less names a b c x y z = x
+either_way Equal names a b c x y z = y
+either_way Greater names a b c x y z = z
+
+within_put : (names : List (List ℕ)) (k : List ℕ) (d : Data) (ms : Members) → is_one_of names k ≡ true → members_within names ms ≡ true → members_within names (put k d ms) ≡ true
+within_put names k d no_members one all = and_both (is_one_of names k) true one refl
+within_put names k d (member l e ms) one all =
+    let first = and_first (is_one_of names l) (members_within names ms) all in
+    let rest = and_second (is_one_of names l) (members_within names ms) all in
+    either_way (slice_cmp nat_cmp k l) names (member k d (member l e ms)) (member l d ms) (member l e (put k d ms))
+    (and_both (is_one_of names k) _ one all) (and_both (is_one_of names l) _ first rest) (and_both (is_one_of names l) _ first (within_put names k d ms one rest))
+
+only_put : (names : List (List ℕ)) (k : List ℕ) (d : Data) (ms : Members) → is_one_of names k ≡ true → HasOnly names (object ms) → HasOnly names (object (put k d ms))
+unfolding has_only
+only_put names k d ms one all = within_put names k d ms one all
+
+differ : (a b : List ℕ) → bytes_eq a b ≡ false → a ≡ b → ⊥
+differ a b apart same = true≢false (sym ((bytes_eq-Decides a b).1 same) ∙ apart)
+
+-- another member is as it was
+other : (name : List ℕ) (d : Data) (ms : Members) → bytes_eq name (codes "certificate") ≡ false → get name (object ms) ≡ get name (object (put (codes "certificate") d ms))
+other name d ms apart = sym (get_member-put_other name (codes "certificate") d ms (differ name (codes "certificate") apart))
+
+elements-items_of : (ds : List Data) → elements (items_of ds) ≡ ds
+elements-items_of [] = refl
+elements-items_of (d ∷ ds) = ap (λ (xs : List Data). d ∷ xs) (elements-items_of ds)
+
+abbrev with_trees : top.Members → List Data → top.Members
+with_trees m ds = record { inputs = m.inputs; tokens = m.tokens; tasks = m.tasks; claims = m.claims; certificate = ds; journal = m.journal; start = m.start }
+
+there : (ds : List Data) (o : Option Data) → o ≡ Some (array (items_of ds)) → IfThere o (λ x. list_in x ≡ Some ds) (ds ≡ [])
+there ds o e = subst (λ (z : Option Data). IfThere z (λ x. list_in x ≡ Some ds) (ds ≡ [])) (sym e) (ap (λ (xs : List Data). some xs) (elements-items_of ds))
+
+top_put : (ms : Members) (m : top.Members) (ds : List Data) → IsTop (object ms) m → IsTop (object (put (codes "certificate") (array (items_of ds)) ms)) (with_trees m ds)
+top_put ms m ds is =
+    let c = array (items_of ds) in
+    record {
+      only = only_put _ (codes "certificate") c ms refl is.only;
+      links = is.links;
+      version = sym (other (codes "version") c ms refl) ∙ is.version;
+      inputs = subst (λ (o : Option Data). IfThere o (λ x. list_in x ≡ Some (map string m.inputs)) (m.inputs ≡ [])) (other (codes "inputs") c ms refl) is.inputs;
+      tokens = subst (λ (o : Option Data). IfThere o (IsArray (λ ds. AllRead (IsToken is.links) ds m.tokens)) (m.tokens ≡ [])) (other (codes "tokens") c ms refl) is.tokens;
+      tasks = (is.tasks.0, sym (other (codes "tasks") c ms refl) ∙ is.tasks.1, is.tasks.2);
+      claims = subst (λ (o : Option Data). IfThere o (λ x. list_in x ≡ Some m.claims) (m.claims ≡ [])) (other (codes "claims") c ms refl) is.claims;
+      certificate = there ds (get (codes "certificate") (object (put (codes "certificate") c ms))) (get_member-put (codes "certificate") c ms);
+      journal = subst (λ (o : Option Data). IfThere o (λ x. x ≡ string m.journal) (m.journal ≡ [])) (other (codes "journal") c ms refl) is.journal;
+      start = is.start ∙ other (codes "start") c ms refl;
+    }
+
+-- ---- the document
+
+spelled_put : (ms : Members) (s : Spelled) (ds : List Data) → IsSpelled (object ms) s → IsSpelled (object (put (codes "certificate") (array (items_of ds)) ms)) (record s { certificate = ds })
+spelled_put ms s ds is = record {
+  members = with_trees is.members ds;
+  top = top_put ms is.members ds is.top;
+  inputs = is.inputs;
+  tokens = is.tokens;
+  tasks = is.tasks;
+  claims = is.claims;
+  certificate = refl;
+  journal = is.journal;
+  start = is.start;
+}
+
+read_back : (n : Names) (trees : List Tree) → All (IsReadBack n) trees → AllRead (ReadsAs n) (map (λ t. tree_data (named n t)) trees) trees
+read_back n [] all = tt
+read_back n (t ∷ trees) all = (all 0 t (omega arith), read_back n trees (λ k x lt. all (suc k) x (omega arith)))
+
+document_put : (s : Spelled) (doc : DocumentValue) (trees : List Tree) → IsDocument s doc → All (IsReadBack doc.graph.names) trees
+    → IsDocument (record s { certificate = map (λ t. tree_data (named doc.graph.names t)) trees }) (record doc { certificate = trees })
+document_put s doc trees is all = record {
+  valid = is.valid;
+  graph = is.graph;
+  claims = is.claims;
+  certificate = read_back doc.graph.names trees all;
+  journal = is.journal;
+  start = is.start;
+}
+
+pub is_read_back : (bytes with : List ℕ) (doc : DocumentValue) (trees : List Tree) → Spells bytes doc → All (IsReadBack doc.graph.names) trees → HoldsCertificate bytes (certificate_data doc.graph.names trees) with → length with ≤ longest → Spells with (record doc { certificate = trees })
+is_read_back bytes with doc trees is all holds le =
+    let ds = map (λ t. tree_data (named doc.graph.names t)) trees in
+    let d = holds.0 in
+    let has = holds.4 in
+    let same : is.1.0 ≡ object has.0 = value_same bytes is.1.0 d is.1.1 holds.2 ∙ has.1 in
+    let spelled : IsSpelled (object has.0) is.1.2.0 = subst (λ (z : Data). IsSpelled z is.1.2.0) same is.1.2.1 in
+    (le, (holds.1, holds.3, (record is.1.2.0 { certificate = ds }, subst (λ (z : Data). IsSpelled z (record is.1.2.0 { certificate = ds })) (sym has.2) (spelled_put has.0 is.1.2.0 ds spelled), document_put is.1.2.0 doc trees is.1.2.2 all)))

@@ -1,0 +1,171 @@
+-- Of bytes that spell a document no fault is true.
+use Rattle.std.proofs.Common.{◌≡◌, ℕ, zero, suc, ◌-◌, ◌<◌, inl, inr, List, [], ◌∷◌, map, Bool, true, Option, Some, None, is_some, refl, sym, ap, subst, ◌∙◌, arith, true≢false}
+use Rattle.std.specs.Prelude.{slice_get}
+use Rattle.std.specs.List.{list_all}
+use Rattle.serde_json.specs.Data.{Data}
+use Rattle.tpl_model.specs.Claims.{Claim}
+use Rattle.tpl_claims.specs.Fits.{have_bodies, given_twice}
+use Rattle.tpl_graph.specs.declared.fault.Why.{Why}
+use Rattle.tpl_graph.specs.declared.fault.Why.TheVariants as why
+use Rattle.tpl_graph.specs.declared.fault.GraphFault.{GraphFault}
+use Rattle.tpl_graph.specs.Draft.{Draft}
+use Rattle.tpl_graph.specs.Named.{Names, Named}
+use Rattle.tpl_graph.specs.Numbered.{numbered}
+use Rattle.tpl_graph.specs.Refusals.{number, IsValid, IsLeast}
+use Rattle.tpl_cert.specs.declared.fault.TreeFault.{TreeFault}
+use Rattle.tpl_cert.specs.declared.fault.TreeFault.TheVariants as trees
+use Rattle.tpl_cert.specs.Laws.{ReadHasNoFault}
+use Rattle.tpl_cert.specs.Spelled.{ReadsAs, IsWrongTree}
+use Rattle.tpl_reader.specs.NamedClaims.{NamedClaim}
+use Rattle.tpl_reader.specs.Start.{NamedStart}
+use Rattle.tpl_reader.specs.Begin.{StartValue, may_all_fail, IsStartOf, IsWrongStart}
+use Rattle.tpl_reader.specs.Asked.{given_in, knows_claim, IsClaimOf, IsAsked, IsWrongClaim}
+use Rattle.tpl_reader.specs.Top.{Members}
+use Rattle.tpl_reader.specs.TaskGrammar.{IsTask, IsNoTask}
+use Rattle.tpl_reader.specs.ClaimGrammar.{IsClaim, IsNoClaim}
+use Rattle.tpl_reader.specs.Passes.{AllRead, FirstWrong}
+use Rattle.tpl_reader.specs.declared.fault.Part.{Part}
+use Rattle.tpl_reader.specs.declared.fault.Part.TheVariants as part
+use Rattle.tpl_reader.specs.declared.fault.ClaimFault.{ClaimFault}
+use Rattle.tpl_reader.specs.declared.fault.ClaimFault.TheVariants as claims
+use Rattle.tpl_reader.specs.declared.fault.StartFault.{StartFault}
+use Rattle.tpl_reader.specs.declared.fault.StartFault.TheVariants as starts
+use Rattle.tpl_reader.specs.declared.fault.ReadFault.{ReadFault}
+use Rattle.tpl_reader.specs.declared.fault.ReadFault.TheVariants as faults
+use Rattle.tpl_reader.specs.Document.{Spelled, IsSpelled, IsMisshapen, IsNoStart, IsNoMemory, DocumentValue, IsStarted, AreAsked, IsRefusedClaim, IsWrongBegin, IsRefused, IsDocument, Reads, Spells, IsFault}
+use Rattle.tpl_reader.proofs.OneDocument.{top_same, spelled_same, claim_of_same, numbers_same, shallow, value_same}
+
+-- ---- an element that is read isn't wrong
+
+read_at : {D A : Type 0} (R : D → A → Type 0) (ds : List D) (xs : List A) (k : ℕ) (d : D) → AllRead R ds xs → slice_get ds k ≡ Some d → (x : A) × R d x
+read_at R [] xs k d all e = absurd cc
+read_at R (c ∷ ds) [] k d all e = absurd all
+read_at R (c ∷ ds) (x ∷ xs) zero d all e = (x, subst (λ z. R z x) (head c d e) all.0)
+  where
+    head : {D : Type 0} (c d : D) → Some c ≡ Some d → c ≡ d
+    head c d e = cc
+read_at R (c ∷ ds) (x ∷ xs) (suc k) d all e = read_at R ds xs k d all.1 e
+
+none_wrong : {D A F : Type 0} (R : D → A → Type 0) (W : D → F → Type 0) (ds : List D) (xs : List A) (n : ℕ) (f : F) → ((d : D) (x : A) → R d x → W d f → ⊥) → AllRead R ds xs → FirstWrong R W ds n f → ⊥
+none_wrong R W ds xs n f never all first =
+    let is = read_at R ds xs (n - 1) first.wrong all first.stands in
+    never first.wrong is.0 is.1 first.why
+
+-- ---- the form
+
+well_shaped : (d : Data) (s : Spelled) → IsSpelled d s → (p : Part) → IsMisshapen d p → ⊥
+well_shaped d s is part.Top wrong = wrong is.members is.top
+well_shaped d s is (part.Task n) wrong =
+    let same : wrong.0 ≡ is.members = top_same d wrong.0 is.members wrong.1 is.top in
+    none_wrong IsTask IsNoTask is.members.tasks s.draft.tasks n tt (λ c x r no. no x r) is.tasks (subst (λ (m : Members). FirstWrong IsTask IsNoTask m.tasks n tt) same wrong.2)
+well_shaped d s is (part.Claim n) wrong =
+    let same : wrong.0 ≡ is.members = top_same d wrong.0 is.members wrong.1 is.top in
+    none_wrong IsClaim IsNoClaim is.members.claims s.claims n tt (λ c x r no. no x r) is.claims (subst (λ (m : Members). FirstWrong IsClaim IsNoClaim m.claims n tt) same wrong.3)
+well_shaped d s is part.Start wrong =
+    let same : wrong.0 ≡ is.members = top_same d wrong.0 is.members wrong.1 is.top in
+    subst (λ (m : Members). IsNoStart m.start) same wrong.4 s.start is.start
+
+-- ---- the graph
+
+number_below : (w : Why) → number w < 14
+number_below why.TooMany = omega arith
+number_below why.BadName = omega arith
+number_below why.NameTwice = omega arith
+number_below why.Unknown = omega arith
+number_below why.NotEarlier = omega arith
+number_below why.OfChild = omega arith
+number_below why.EmptyAny = omega arith
+number_below why.ChildPlace = omega arith
+number_below why.SiteTwice = omega arith
+number_below (why.Option f) = omega arith
+number_below why.ObserveNothing = omega arith
+number_below why.Memory = omega arith
+number_below why.LinkPlace = omega arith
+
+valid_graph : (d : Draft) → IsValid d → (f : GraphFault) → IsLeast d f → ⊥
+valid_graph d valid f least = true≢false (sym least.here ∙ valid f.why f.at (number_below f.why))
+
+-- ---- the claims
+
+all_known : {A B : Type 0} (f : A → Option B) (xs : List A) (ys : List B) → map f xs ≡ map (λ (y : B). Some y) ys → list_all (λ x. is_some (f x)) xs ≡ true
+all_known f [] ys e = refl
+all_known f (x ∷ xs) [] e = absurd cc
+all_known f (x ∷ xs) (y ∷ ys) e = rw (first_is (f x) (map f xs) y (map (λ y. Some y) ys) e, all_known f xs ys (rest_is (f x) (map f xs) y (map (λ y. Some y) ys) e)) refl
+  where
+    first_is : {B : Type 0} (o : Option B) (os : List (Option B)) (y : B) (ys : List (Option B)) → o ∷ os ≡ Some y ∷ ys → o ≡ Some y
+    first_is o os y ys e = cc
+
+    rest_is : {B : Type 0} (o : Option B) (os : List (Option B)) (y : B) (ys : List (Option B)) → o ∷ os ≡ Some y ∷ ys → os ≡ ys
+    rest_is o os y ys e = cc
+
+claim_known : (n : Names) (s : NamedClaim) (claim : Claim) → IsClaimOf n s claim → knows_claim n s ≡ true
+claim_known n s claim is = rw (all_known (given_in n) s.given claim.given is.given, is.body) refl
+
+right_claim : (g : Named) (s : NamedClaim) (claim : Claim) (f : ClaimFault) → IsAsked g s claim → IsWrongClaim g s f → ⊥
+right_claim g s claim claims.TooMany is wrong = wrong
+right_claim g s claim claims.Unknown is wrong = true≢false (sym (claim_known g.names s claim is.named) ∙ wrong)
+right_claim g s claim claims.NoBody is wrong =
+    true≢false (sym is.fits.bodies ∙ ap (λ (c : Claim). have_bodies g.graph c.body) (claim_of_same g.names s claim wrong.0 is.named wrong.1) ∙ wrong.2)
+right_claim g s claim claims.GivenTwice is wrong =
+    true≢false (sym wrong.3 ∙ ap (λ (c : Claim). given_twice c.given) (claim_of_same g.names s wrong.0 claim wrong.1 is.named) ∙ is.fits.once)
+
+right_claims : (g : Named) (ss : List NamedClaim) (xs : List Claim) (n : ℕ) (f : ClaimFault) → AreAsked g ss xs → IsRefusedClaim g ss n f → ⊥
+right_claims g ss xs n f asked (inl many) = let few = asked.few in let more = many.0 in omega arith
+right_claims g ss xs n f asked (inr first) = none_wrong (IsAsked g) (IsWrongClaim g) ss xs n f (λ s x is wrong. right_claim g s x f is wrong) asked.each first.1
+
+-- ---- the start
+
+right_start : (g : Named) (s : NamedStart) (start : StartValue) (f : StartFault) → IsStartOf g s start → IsWrongStart g s f → ⊥
+right_start g s start starts.Unknown is wrong = true≢false (sym is.known ∙ wrong)
+right_start g s start starts.Missing is wrong = some_none _ (sym (is.inputs.each wrong.1.0 wrong.1.1) ∙ wrong.1.2)
+  where
+    some_none : (b : Bool) → Some b ≡ None → ⊥
+    some_none b e = cc
+right_start g s start starts.FailNot is wrong =
+    let same = numbers_same g.names.sites s.fail start.fail wrong.2.0 is.sites wrong.2.1 in
+    true≢false (sym is.may_fail ∙ ap (may_all_fail g.graph) same ∙ wrong.2.2)
+
+right_begin : (g : Named) (s : Option NamedStart) (start : Option StartValue) (f : StartFault) → IsStarted g s start → IsWrongBegin g s f → ⊥
+right_begin g None start f is wrong = wrong
+right_begin g (Some s) None f is wrong = is
+right_begin g (Some s) (Some start) f is wrong = right_start g s start f is wrong
+
+-- ---- the whole
+
+no_memory : (f : TreeFault) → IsNoMemory f → f ≡ trees.Memory → ⊥
+no_memory f is e = subst IsNoMemory e is
+
+module _ (faultless : ReadHasNoFault) (s : Spelled) (doc : DocumentValue) (is : IsDocument s doc) where
+  not_refused : (e : ReadFault) → IsRefused s e → e ≡ faults.Memory
+  not_refused (faults.Graph f) wrong = absurd (valid_graph s.draft is.valid f wrong)
+  not_refused (faults.Claim n f) wrong = absurd (right_claims (numbered s.draft) s.claims doc.claims n f (subst (λ (g : Named). AreAsked g s.claims doc.claims) is.graph is.claims) wrong.1)
+  not_refused (faults.Certificate n f) wrong =
+      let g = numbered s.draft in
+      absurd (none_wrong (ReadsAs g.names) (IsWrongTree g.names) s.certificate doc.certificate n f (λ d t reads no. no_memory f wrong.2.0 (faultless g.names d t f reads no)) (subst (λ (g : Named). AllRead (ReadsAs g.names) s.certificate doc.certificate) is.graph is.certificate) wrong.2.1)
+  not_refused (faults.Start f) wrong = absurd (right_begin (numbered s.draft) s.start doc.start f (subst (λ (g : Named). IsStarted g s.start doc.start) is.graph is.start) wrong.3)
+  not_refused faults.Memory wrong = refl
+  not_refused faults.TooLong wrong = absurd wrong
+  not_refused faults.NotJson wrong = absurd wrong
+  not_refused (faults.Shape p) wrong = absurd wrong
+
+settled : ReadHasNoFault → (bytes : List ℕ) (doc : DocumentValue) (e : ReadFault) → Spells bytes doc → (d : Data) → Reads bytes d → (s : Spelled) → IsSpelled d s → IsRefused s e → e ≡ faults.Memory
+settled faultless bytes doc e is d reads s spelled wrong =
+    let here = is.1.0 in
+    let there = is.1.2.0 in
+    let moved : IsSpelled here s = subst (λ (z : Data). IsSpelled z s) (value_same bytes d here reads is.1.1) spelled in
+    let same : s ≡ there = spelled_same here s there (shallow bytes here is.1.1) moved is.1.2.1 in
+    not_refused faultless there doc is.1.2.2 e (subst (λ (z : Spelled). IsRefused z e) same wrong)
+
+shaped : (bytes : List ℕ) (doc : DocumentValue) → Spells bytes doc → (d : Data) → Reads bytes d → (p : Part) → IsMisshapen d p → ⊥
+shaped bytes doc is d reads p wrong =
+    well_shaped is.1.0 is.1.2.0 is.1.2.1 p (subst (λ (z : Data). IsMisshapen z p) (value_same bytes d is.1.0 reads is.1.1) wrong)
+
+pub no_fault : ReadHasNoFault → (bytes : List ℕ) (doc : DocumentValue) (e : ReadFault) → Spells bytes doc → IsFault bytes e → e ≡ faults.Memory
+no_fault faultless bytes doc faults.TooLong is wrong = let le = is.0 in absurd (omega arith)
+no_fault faultless bytes doc faults.NotJson is wrong = absurd (wrong.1 is.1.0 is.1.1)
+no_fault faultless bytes doc (faults.Shape p) is wrong = absurd (shaped bytes doc is wrong.1.0 wrong.1.1 p wrong.1.2)
+no_fault faultless bytes doc faults.Memory is wrong = refl
+no_fault faultless bytes doc (faults.Graph f) is wrong = settled faultless bytes doc (faults.Graph f) is wrong.1.0 wrong.1.1 wrong.1.2.0 wrong.1.2.1 wrong.1.2.2
+no_fault faultless bytes doc (faults.Claim n f) is wrong = settled faultless bytes doc (faults.Claim n f) is wrong.1.0 wrong.1.1 wrong.1.2.0 wrong.1.2.1 wrong.1.2.2
+no_fault faultless bytes doc (faults.Certificate n f) is wrong = settled faultless bytes doc (faults.Certificate n f) is wrong.1.0 wrong.1.1 wrong.1.2.0 wrong.1.2.1 wrong.1.2.2
+no_fault faultless bytes doc (faults.Start f) is wrong = settled faultless bytes doc (faults.Start f) is wrong.1.0 wrong.1.1 wrong.1.2.0 wrong.1.2.1 wrong.1.2.2

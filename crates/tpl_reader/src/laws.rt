@@ -1,0 +1,19 @@
+//! What follows from the definition of the documents that bytes spell. Each law is the contract of a function that does
+//! nothing.
+
+ghost use Rattle.tpl_reader.specs.Laws.{CertificateIsReadBack, SpelledHasNoFault, SpellsOneDocument};
+
+/// Bytes spell one document at most, and where they spell one, no fault is true of them but want of memory. So what
+/// `read_document` answers is settled by the bytes, memory aside: the document where they spell one, else a fault.
+pub fn one_document()
+    ensures one { SpellsOneDocument }
+    ensures faultless { SpelledHasNoFault }
+{
+    tpl_cert::one_reading();
+}
+
+/// What is written for trees that are read back can be the member `certificate` of any document that isn't too long
+/// then: it is read as just these trees, and all else as before.
+pub fn certificate_is_read_back()
+    ensures { CertificateIsReadBack }
+{}
