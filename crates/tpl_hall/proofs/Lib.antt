@@ -1,0 +1,5 @@
+pub mod HallLemmas
+pub mod GrowthLemmas
+pub mod MoveLemmas
+pub mod ReportLemmas
+pub mod Crosses

@@ -1,0 +1,34 @@
+-- What a seat is told of a run, the newest event first.
+use Rattle.std.specs.Prelude.{◌≡◌, ℕ, ◌≤◌, Bool, true, List, length, take, reverse, Option, Some, None}
+use Rattle.tpl_model.specs.Graph.{TaskGraph}
+use Rattle.tpl_model.specs.declared.event.Event.{Event}
+use Rattle.tpl_model.specs.Facts.{requested}
+use Rattle.tpl_model.specs.Rules.{Run, status, Complete as IsComplete}
+use Rattle.tpl_hall.specs.declared.sight.Sight.{Sight}
+use Rattle.tpl_hall.specs.declared.sight.Sight.TheVariants.{At, Already, Complete}
+use Rattle.tpl_hall.specs.Lists.{Stands}
+
+-- what was told is true of a run
+abbrev pub IsTrueOf : TaskGraph → List Bool → List Event → Sight → Type 0
+IsTrueOf g v h (At t s) = status g v h t.0 ≡ s
+IsTrueOf g v h (Already k) = requested g v h k.0 ≡ true
+IsTrueOf g v h Complete = IsComplete g v h
+
+-- what was told last lies in a run of n events
+abbrev pub IsWithin : ℕ → Option (ℕ × Sight) → Type 0
+IsWithin n None = Unit {0}
+IsWithin n (Some l) = l.0 ≤ n
+
+-- what was told last is true of the first events of the journal, the first one first, up to its place
+abbrev pub LastHolds : TaskGraph → List Bool → List Event → Option (ℕ × Sight) → Type 0
+LastHolds g v journal None = Unit {0}
+LastHolds g v journal (Some l) = (l.0 ≤ length journal) × IsTrueOf g v (reverse (take l.0 journal)) l.1
+
+-- There is a run of n events of this graph with these inputs that has all of the seat's own events at their places, in which this is true; and n isn't below the place of what the seat was told before
+pub record IsSeen (g : TaskGraph) (v : List Bool) (mine : List (ℕ × Event)) (last : Option (ℕ × Sight)) (sight : Sight) (n : ℕ) : Type 0 where
+  pub events : List Event
+  pub run : Run g v events
+  pub place : length events ≡ n
+  pub is_true : IsTrueOf g v events sight
+  pub stands : Stands mine (reverse events)
+  pub not_before : IsWithin n last

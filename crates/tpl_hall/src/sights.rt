@@ -1,0 +1,116 @@
+//! Whether what seats were told last is true of a journal.
+
+ghost use Rattle.std.specs.Prelude.{◌≡◌, ◌≤◌, ◌<◌, ◌+◌, [], length, IsTrue, IfOk};
+ghost use Rattle.tpl_hall.specs.Closes.{AllLast, AllHoldAt, AllHoldBelow, HoldsAt};
+ghost use Rattle.tpl_hall.specs.Sights.{IsTrueOf};
+
+use crate::own::are_within;
+use crate::seat::Seat;
+use crate::sight::Sight;
+use std::alloc::{AllocError, Global};
+use tpl_fast::Fast;
+use tpl_graph::Graph;
+use tpl_machine::Core;
+use tpl_model::Event;
+use tpl_words::{Final, Inputs, Status};
+
+/// Both words for how a task ended are the same.
+fn same_final(a: Final, b: Final) -> bool
+    ensures { IsTrue result → a ≡ b }
+{
+    match (a, b) {
+        (Final::RanToCompletion, Final::RanToCompletion) => true,
+        (Final::Canceled, Final::Canceled) => true,
+        (Final::Faulted, Final::Faulted) => true,
+        _ => false,
+    }
+}
+
+/// Both words for where a task stands are the same.
+fn same_status(a: Status, b: Status) -> bool
+    ensures { IsTrue result → a ≡ b }
+{
+    match (a, b) {
+        (Status::Created, Status::Created) => true,
+        (Status::WaitingForActivation, Status::WaitingForActivation) => true,
+        (Status::WaitingToRun, Status::WaitingToRun) => true,
+        (Status::Running, Status::Running) => true,
+        (Status::WaitingForChildrenToComplete, Status::WaitingForChildrenToComplete) => true,
+        (Status::Completed(x), Status::Completed(y)) => same_final(x, y),
+        _ => false,
+    }
+}
+
+/// What was told is true of this run.
+fn is_true(core: &Fast<'_>, sight: Sight) -> bool
+    ensures { IsTrue result → IsTrueOf core.now.graph core.now.inputs core.now.events sight }
+{
+    match sight {
+        Sight::At(task, status) => {
+            (task.0 as usize) < core.graph().len() && same_status(core.status(task), status)
+        }
+        Sight::Already(token) => {
+            (token.0 as usize) < core.graph().token_count() && core.requested(token)
+        }
+        Sight::Complete => core.complete(),
+    }
+}
+
+/// What was told at this place is true of this run.
+fn holds_at(core: &Fast<'_>, place: usize, last: Option<(u32, Sight)>) -> bool
+    ensures { IsTrue result → HoldsAt core.now.graph core.now.inputs core.now.events place last }
+{
+    match last {
+        Some((at, sight)) => at as usize != place || is_true(core, sight),
+        None => true,
+    }
+}
+
+/// What each seat was told at this place is true of this run.
+fn all_hold_at(core: &Fast<'_>, place: usize, seats: &[Seat]) -> bool
+    ensures { IsTrue result → AllHoldAt core.now.graph core.now.inputs core.now.events place
+        seats.now }
+{
+    for seat in seats {
+        if !holds_at(core, place, seat.last()) {
+            return false;
+        }
+    }
+    true
+}
+
+/// Plays a journal, and tests at each place what the seats were told there.
+fn seats_hold(core: &mut Fast<'_>, journal: &[Event], seats: &[Seat]) -> bool
+    requires { core.old.events ≡ [] }
+    ensures { IsTrue result → AllHoldBelow core.old.graph core.old.inputs journal.now (length
+        journal.now + 1) seats.now }
+{
+    for place in 0..journal.len() {
+        if !all_hold_at(core, place, seats) {
+            return false;
+        }
+        match core.step(journal[place]) {
+            Ok(()) => {}
+            Err(_) => return false,
+        }
+    }
+    all_hold_at(core, journal.len(), seats)
+}
+
+/// Plays the journal again, and tests at each place what the seats were told there. It fails where there is no memory.
+pub fn all_last(
+    alloc: Global,
+    graph: &Graph,
+    inputs: &Inputs,
+    journal: &[Event],
+    seats: &[Seat],
+) -> Result<bool, AllocError>
+    ensures { IfOk result (λ b. IsTrue b → AllLast graph.now.graph inputs.now seats.now
+        journal.now) }
+{
+    if !are_within(seats, journal.len()) {
+        return Ok(false);
+    }
+    let mut core = Fast::open(alloc, graph, inputs.copy())?;
+    Ok(seats_hold(&mut core, journal, seats))
+}

@@ -1,0 +1,55 @@
+//! Why items aren't those of a graph.
+
+ghost use Rattle.std.specs.Prelude.{◌≡◌, length, slice_index_or, false, IfSome, IfNone};
+ghost use Rattle.tpl_graph.specs.Named.{all_may_fail};
+ghost use Rattle.tpl_items.specs.Items.{AreItems, RefusesItems};
+ghost use Rattle.tpl_items.specs.declared.why.OpenWhy.TheVariants.{Memory};
+
+use crate::counts::{first_missing, first_twice};
+use crate::differs::first_differing;
+use crate::item::Item;
+use crate::strange::first_strange;
+use tpl_graph::Graph;
+use tpl_words::SiteId;
+
+/// Why a session wasn't opened: the first of these that applies. Each refusal of an item names the least site to which
+/// it applies.
+#[derive(Clone, Copy, PartialEq, Eq, Debug)]
+pub enum OpenWhy {
+    /// A site of the graph has no item.
+    ItemMissing(SiteId),
+    /// An item is of no site of the graph.
+    ItemStrange(SiteId),
+    /// A site has two items.
+    ItemTwice(SiteId),
+    /// An item says that it may fail where its site says that it may not, or the other way round.
+    MayFailDiffers(SiteId),
+    /// The items are those of the graph, and there was no memory.
+    Memory,
+}
+
+/// Why these aren't the items of a graph, one for each of its work statements; `None` where they are. It is never
+/// `Memory`.
+pub fn refusal<K, W: Item<K>>(graph: &Graph, items: &[W]) -> Option<OpenWhy>
+    ensures some { IfSome result (λ why. RefusesItems W.site W.may_fail (length
+        graph.now.names.sites) (λ s. slice_index_or (all_may_fail graph.now.graph) s false)
+        items.now why) }
+    ensures not_memory { IfSome result (λ why. why ≡ Memory → ⊥) }
+    ensures none { IfNone result (AreItems W.site W.may_fail (length graph.now.names.sites)
+        (λ s. slice_index_or (all_may_fail graph.now.graph) s false) items.now) }
+{
+    let sites = graph.site_count() as u16;
+    if let Some(site) = first_missing::<K, W>(sites, items) {
+        return Some(OpenWhy::ItemMissing(SiteId(site)));
+    }
+    if let Some(site) = first_strange::<K, W>(sites, items) {
+        return Some(OpenWhy::ItemStrange(SiteId(site)));
+    }
+    if let Some(site) = first_twice::<K, W>(sites, items) {
+        return Some(OpenWhy::ItemTwice(SiteId(site)));
+    }
+    if let Some(site) = first_differing::<K, W>(graph, items) {
+        return Some(OpenWhy::MayFailDiffers(SiteId(site)));
+    }
+    None
+}

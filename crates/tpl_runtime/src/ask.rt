@@ -1,0 +1,62 @@
+//! The request of a token.
+
+ghost use Rattle.std.specs.Prelude.{◌≡◌, ℕ, Some};
+ghost use Rattle.tpl_model.specs.Graph.{is_token};
+ghost use Rattle.tpl_hall.specs.Growth.{Requests};
+ghost use Rattle.tpl_hall.specs.Moves.{MatchAsked};
+ghost use Rattle.tpl_hall.specs.Sights.{IsSeen};
+ghost use Rattle.tpl_hall.specs.declared.sight.Sight.TheVariants.{Already};
+
+use crate::put::put_ready;
+use crate::shared::{Shared, is_worker};
+use crate::stock::{ItemPass, ItemQueue};
+use std::sync::Wait;
+use tpl_graph::Graph;
+use tpl_hall::{Asked, Seat};
+use tpl_items::Item;
+use tpl_model::Act;
+use tpl_words::{Inputs, TokenId};
+
+impl<'g, K: Drop, W: Item<K>> Shared<'g, K, W> {
+    /// Requests a token, for an outside seat.
+    pub fn ask<R: Wait>(
+        &mut self,
+        rt: &R,
+        graph: &Graph,
+        inputs: &Inputs,
+        queue: &ItemQueue<W>,
+        pass: &mut ItemPass<W>,
+        seat: &mut Seat,
+        token: TokenId,
+    ) -> Asked
+        requires token { is_token graph.now.graph token.0 }
+        requires pass { pass.old.queue ≡ queue.now.id }
+        ensures pass { pass.new.queue ≡ queue.now.id }
+        ensures actor { seat.new.actor ≡ seat.old.actor }
+        ensures asked { MatchAsked result (λ n. Requests graph.now.graph inputs.now seat.old
+            seat.new token n × (seat.new.last ≡ seat.old.last)) ((n : ℕ)
+            × (seat.new ≡ record seat.old { last = Some (n, Already token) })
+            × IsSeen graph.now.graph inputs.now seat.old.mine seat.old.last (Already token) n)
+            (seat.new ≡ seat.old) }
+    {
+        if is_worker(seat.actor()) || !self.hall.fits(graph, inputs, seat) {
+            return Asked::Stray;
+        }
+        if self.halted {
+            return Asked::Halted;
+        }
+        self.hall.is_run();
+        if self.hall.tell_requested(seat, token) {
+            return Asked::Already;
+        }
+        match self.hall.step(seat, Act::Request(token)) {
+            Ok(place) => {
+                self.hall.sweep(seat);
+                self.hall.is_run();
+                put_ready(rt, &self.hall, &mut self.stock, queue, pass);
+                Asked::Place(place)
+            }
+            Err(_) => Asked::Stray,
+        }
+    }
+}

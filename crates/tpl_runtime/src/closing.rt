@@ -1,0 +1,219 @@
+//! What a session leaves, and what is compared when it is closed.
+
+ghost use Rattle.std.specs.Prelude.{◌≡◌, ◌↔◌, ◌+◌, true, length, map, reverse, All, IsTrue, IfOk, OnOk};
+ghost use Rattle.tpl_model.specs.Rules.{Run, Complete, status, label, carried};
+ghost use Rattle.tpl_graph.specs.Ids.{task_number};
+ghost use Rattle.tpl_machine.specs.Journal.{named};
+ghost use Rattle.tpl_hall.specs.Answers.{answers, shown};
+ghost use Rattle.tpl_hall.specs.Closes.{AllOwn, AllLast};
+ghost use Rattle.tpl_hall.specs.Lists.{IsSeat, all_seated};
+ghost use Rattle.tpl_runtime.specs.Reports.{each_below, those_below, is_unseen, AreOnce};
+
+use crate::tables::{Told, tables};
+use std::alloc::{AllocError, Global};
+use tpl_graph::Graph;
+use tpl_hall::{Hall, Seat, all_last, are_own, are_seats, have_seats, receipts_of};
+use tpl_items::{Item, items_of};
+use tpl_jobs::Receipt;
+use tpl_model::Event;
+use tpl_words::{Inputs, Label, Status, TaskId};
+
+/// What a session leaves: the run, the first event first; of each task where it stands, what its own body threw, and
+/// whose exceptions it carries; the tasks whose exception nobody has observed; the receipts in the order of the Worked
+/// events, the items that weren't called, and whether the run is complete.
+#[derive(Drop)]
+pub struct Report<K, W> {
+    pub journal: Vec<Event>,
+    pub statuses: Vec<Status>,
+    pub labels: Vec<Option<Label>>,
+    pub carried: Vec<Vec<TaskId>>,
+    pub unseen: Vec<TaskId>,
+    pub receipts: Vec<Receipt<K>>,
+    pub items: Vec<W>,
+    pub complete: bool,
+}
+
+/// Why a session wasn't closed well.
+#[derive(Clone, Copy, PartialEq, Eq, Debug)]
+pub enum CloseWhy {
+    /// There are not as many seats as were made.
+    SeatsMissing,
+    /// What was handed in isn't what was done.
+    Mismatch,
+    /// There was no memory.
+    Memory,
+}
+
+/// Why a session wasn't closed well, and what comes back.
+#[derive(Drop)]
+pub struct CloseFault<K, W> {
+    pub why: CloseWhy,
+    pub journal: Vec<Event>,
+    pub receipts: Vec<Receipt<K>>,
+    pub items: Vec<W>,
+}
+
+/// The two are one together.
+fn are_one(a: usize, b: usize) -> bool
+    ensures { IsTrue result → a + b ≡ 1 }
+{
+    match a {
+        0 => b == 1,
+        1 => b == 0,
+        _ => false,
+    }
+}
+
+/// Each site has one receipt or one item.
+fn are_once<K, W: Item<K>>(sites: u16, receipts: &[Receipt<K>], items: &[W]) -> bool
+    ensures { IsTrue result → AreOnce sites (map (λ r. r.site.0) receipts.now) (map W.site
+        items.now) }
+{
+    for site in 0..sites {
+        let called = receipts_of(site, receipts);
+        let left = items_of::<K, W>(site, items);
+        if !are_one(called, left) {
+            return false;
+        }
+    }
+    true
+}
+
+/// The run is of this graph with these inputs, and the seats, receipts and items are what it was made by.
+fn agrees<K: Drop, W: Item<K>>(
+    hall: &Hall<'_, K>,
+    graph: &Graph,
+    inputs: &Inputs,
+    seats: &[Seat],
+    items: &[W],
+) -> bool
+    ensures graph { IsTrue result → named hall.now.core ≡ graph.now }
+    ensures inputs { IsTrue result → hall.now.core.inputs ≡ inputs.now }
+    ensures own { IsTrue result → AllOwn seats.now hall.now.journal.items }
+    ensures seats { IsTrue result → All (λ e. IsSeat e.actor) hall.now.journal.items }
+    ensures seated { IsTrue result → all_seated hall.now.journal.items (map (λ s. s.actor)
+        seats.now) ≡ true }
+    ensures once { IsTrue result → AreOnce (length graph.now.names.sites) (map (λ r. r.site.0)
+        hall.now.receipts.items) (map W.site items.now) }
+{
+    hall.is_of(graph, inputs)
+        && are_own(seats, hall.journal())
+        && have_seats(hall.journal(), seats)
+        && are_seats(hall.journal())
+        && are_once::<K, W>(graph.site_count() as u16, hall.receipts(), items)
+}
+
+/// Compares the seats and items with the run, and tells of each task.
+fn judge<K: Drop, W: Item<K>>(
+    alloc: Global,
+    hall: &Hall<'_, K>,
+    graph: &Graph,
+    inputs: &Inputs,
+    seats: &[Seat],
+    made: usize,
+    items: &[W],
+) -> Result<Told, CloseWhy>
+    ensures run { OnOk result (Run graph.now.graph inputs.now (reverse hall.now.journal.items)) }
+    ensures own { OnOk result (AllOwn seats.now hall.now.journal.items) }
+    ensures last { OnOk result (AllLast graph.now.graph inputs.now seats.now
+        hall.now.journal.items) }
+    ensures seats { OnOk result (All (λ e. IsSeat e.actor) hall.now.journal.items) }
+    ensures seated { OnOk result (all_seated hall.now.journal.items (map (λ s. s.actor) seats.now)
+        ≡ true) }
+    ensures once { OnOk result (AreOnce (length graph.now.names.sites) (map (λ r. r.site.0)
+        hall.now.receipts.items) (map W.site items.now)) }
+    ensures matched { OnOk result (map shown hall.now.receipts.items ≡ answers graph.now.graph
+        inputs.now (reverse hall.now.journal.items)) }
+    ensures statuses { IfOk result (λ t. t.statuses.items ≡ each_below (status graph.now.graph
+        inputs.now (reverse hall.now.journal.items)) (length graph.now.graph.tasks)) }
+    ensures labels { IfOk result (λ t. t.labels.items ≡ each_below (label graph.now.graph
+        inputs.now (reverse hall.now.journal.items)) (length graph.now.graph.tasks)) }
+    ensures carried { IfOk result (λ t. map (λ c. map task_number c.items) t.carried.items ≡
+        each_below (carried graph.now.graph inputs.now (reverse hall.now.journal.items)) (length
+        graph.now.graph.tasks)) }
+    ensures unseen { IfOk result (λ t. map task_number t.unseen.items ≡ those_below (is_unseen
+        graph.now.graph inputs.now (reverse hall.now.journal.items)) (length
+        graph.now.graph.tasks)) }
+    ensures complete { IfOk result (λ t. (t.complete ≡ true) ↔ Complete graph.now.graph inputs.now
+        (reverse hall.now.journal.items)) }
+{
+    if seats.len() != made {
+        return Err(CloseWhy::SeatsMissing);
+    }
+    if !agrees(hall, graph, inputs, seats, items) {
+        return Err(CloseWhy::Mismatch);
+    }
+    match all_last(alloc, graph, inputs, hall.journal(), seats) {
+        Ok(true) => {}
+        Ok(false) => return Err(CloseWhy::Mismatch),
+        Err(AllocError) => return Err(CloseWhy::Memory),
+    }
+    hall.is_run();
+    match tables(alloc, hall, graph, inputs) {
+        Ok(tables) => Ok(tables),
+        Err(AllocError) => Err(CloseWhy::Memory),
+    }
+}
+
+/// Compares the seats and items with the run, and gives what the hall has.
+pub fn settle<K: Drop, W: Item<K>>(
+    alloc: Global,
+    hall: Hall<'_, K>,
+    graph: &Graph,
+    inputs: &Inputs,
+    seats: &[Seat],
+    made: usize,
+    items: Vec<W>,
+) -> Result<Report<K, W>, CloseFault<K, W>>
+    ensures run { IfOk result (λ r. Run graph.now.graph inputs.now (reverse r.journal.items)) }
+    ensures own { IfOk result (λ r. AllOwn seats.now r.journal.items) }
+    ensures last { IfOk result (λ r. AllLast graph.now.graph inputs.now seats.now r.journal.items) }
+    ensures seats { IfOk result (λ r. All (λ e. IsSeat e.actor) r.journal.items) }
+    ensures seated { IfOk result (λ r. all_seated r.journal.items (map (λ s. s.actor) seats.now) ≡
+        true) }
+    ensures once { IfOk result (λ r. AreOnce (length graph.now.names.sites) (map (λ x. x.site.0)
+        r.receipts.items) (map W.site r.items.items)) }
+    ensures matched { IfOk result (λ r. map shown r.receipts.items ≡ answers graph.now.graph
+        inputs.now (reverse r.journal.items)) }
+    ensures statuses { IfOk result (λ r. r.statuses.items ≡ each_below (status graph.now.graph
+        inputs.now (reverse r.journal.items)) (length graph.now.graph.tasks)) }
+    ensures labels { IfOk result (λ r. r.labels.items ≡ each_below (label graph.now.graph
+        inputs.now (reverse r.journal.items)) (length graph.now.graph.tasks)) }
+    ensures carried { IfOk result (λ r. map (λ c. map task_number c.items) r.carried.items ≡
+        each_below (carried graph.now.graph inputs.now (reverse r.journal.items)) (length
+        graph.now.graph.tasks)) }
+    ensures unseen { IfOk result (λ r. map task_number r.unseen.items ≡ those_below (is_unseen
+        graph.now.graph inputs.now (reverse r.journal.items)) (length graph.now.graph.tasks)) }
+    ensures complete { IfOk result (λ r. (r.complete ≡ true) ↔ Complete graph.now.graph inputs.now
+        (reverse r.journal.items)) }
+{
+    let told = judge(alloc, &hall, graph, inputs, seats, made, items.as_slice());
+    let (journal, receipts) = hall.into_lists();
+    match told {
+        Ok(tables) => {
+            let Told {
+                statuses,
+                labels,
+                carried,
+                unseen,
+                complete,
+            } = tables;
+            Ok(Report {
+                journal,
+                statuses,
+                labels,
+                carried,
+                unseen,
+                receipts,
+                items,
+                complete,
+            })
+        }
+        Err(why) => Err(CloseFault {
+            why,
+            journal,
+            receipts,
+            items,
+        }),
+    }
+}

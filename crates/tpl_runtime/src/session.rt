@@ -1,0 +1,266 @@
+//! The session that threads share.
+
+ghost use Rattle.std.specs.Prelude.{◌≡◌, ◌↔◌, ℕ, [], Some, None, true, length, map, reverse, All, List, IfOk, IfErr, OnOk};
+ghost use Rattle.tpl_model.specs.Rules.{Run, Complete, status, label, carried};
+ghost use Rattle.tpl_model.specs.Certificate.{Accepts, Tree};
+ghost use Rattle.tpl_model.specs.Claims.{Claim, Holds};
+ghost use Rattle.tpl_laws.specs.Soundness.{Each};
+ghost use Rattle.tpl_graph.specs.Ids.{task_number};
+ghost use Rattle.tpl_hall.specs.Answers.{answers, shown};
+ghost use Rattle.tpl_hall.specs.Lists.{IsSeat, all_seated};
+ghost use Rattle.tpl_hall.specs.Closes.{AllOwn, AllLast};
+ghost use Rattle.tpl_runtime.specs.Reports.{each_below, those_below, is_unseen, AreOnce};
+ghost use Rattle.tpl_model.specs.Graph.{is_task, is_token};
+ghost use Rattle.tpl_queue.specs.Tally.{first_half, second_half, both};
+ghost use Rattle.tpl_hall.specs.Growth.{WorksOn, Requests};
+ghost use Rattle.tpl_hall.specs.Moves.{MatchAsked, MatchLooked, EndsAs};
+ghost use Rattle.tpl_hall.specs.Sights.{IsSeen};
+ghost use Rattle.tpl_hall.specs.declared.seat.SeatFault.TheVariants.{BadActor};
+ghost use Rattle.tpl_hall.specs.declared.sight.Sight.TheVariants.{At, Already};
+
+use crate::closing::{CloseFault, Report, settle};
+use crate::shared::{Hand, Shared, Turn};
+use crate::stock::{ItemPass, ItemQueue};
+use std::alloc::Global;
+use std::marker::Model;
+use std::sync::{Condvar, Mutex, Wait};
+use tpl_graph::Graph;
+use tpl_hall::{Asked, Cells, Ended, Looked, Seat, SeatFault, is_seat};
+use tpl_items::Item;
+use tpl_words::{Actor, Inputs, TaskId, TokenId};
+
+/// A run that threads make together. Contracts see the graph and the inputs with which it was opened, and the name of
+/// its queue. What lies under its lock changes under every caller, so no contract names it: what a caller knows of it
+/// stands in its [`Seat`].
+#[derive(Drop)]
+pub struct Session<'g, K, W> {
+    pub(crate) graph: &'g Graph,
+    pub(crate) inputs: Inputs,
+    pub(crate) shared: Mutex<Shared<'g, K, W>>,
+    pub(crate) moved: Condvar,
+    pub(crate) queue: ItemQueue<W>,
+    pub(crate) cells: Cells,
+}
+
+impl<'g, K, W> Model for Session<'g, K, W> {
+    ghost use Rattle.tpl_runtime.specs.Views.{SessionView, session_code};
+
+    ghost Value = { SessionView };
+
+    ghost coded = { session_code };
+
+    ghost view = { λ s. record { graph = s.graph.now; inputs = s.inputs; queue = s.queue.id } };
+}
+
+impl<'g, K: Drop, W: Item<K>> Session<'g, K, W> {
+    /// A seat for an actor that has none yet.
+    pub fn seat<R: Wait>(&self, rt: &R, alloc: Global, actor: Actor) -> Result<Seat, SeatFault>
+        ensures seat { IfOk result (λ seat. (seat.actor ≡ actor) × (seat.mine ≡ [])
+            × (seat.last ≡ None)) }
+        ensures actor { OnOk result (IsSeat actor) }
+        ensures bad_actor { IfErr result (λ fault. (fault ≡ BadActor) ↔ (IsSeat actor → ⊥)) }
+    {
+        if !is_seat(actor) {
+            return Err(SeatFault::BadActor);
+        }
+        let mut shared = self.shared.lock(rt);
+        shared.seat(alloc, actor)
+    }
+
+    /// Where a task stands at one moment of the call.
+    pub fn status<R: Wait>(&self, rt: &R, seat: &mut Seat, task: TaskId) -> Looked
+        requires { is_task self.now.graph.graph task.0 }
+        ensures { MatchLooked result (λ status place. IsSeen self.now.graph.graph self.now.inputs
+            seat.old.mine seat.old.last (At task status) place
+            × (seat.new ≡ record seat.old { last = Some (place, At task status) })) (seat.new ≡
+            seat.old) }
+    {
+        let shared = self.shared.lock(rt);
+        shared.hall.look(self.graph, &self.inputs, seat, task)
+    }
+
+    /// Requests a token, for an outside seat.
+    pub fn request<R: Wait>(
+        &self,
+        rt: &R,
+        seat: &mut Seat,
+        pass: &mut ItemPass<W>,
+        token: TokenId,
+    ) -> Asked
+        requires token { is_token self.now.graph.graph token.0 }
+        requires pass { pass.old.queue ≡ self.now.queue }
+        ensures pass { pass.new.queue ≡ self.now.queue }
+        ensures actor { seat.new.actor ≡ seat.old.actor }
+        ensures asked { MatchAsked result (λ n. Requests self.now.graph.graph self.now.inputs
+            seat.old seat.new token n × (seat.new.last ≡ seat.old.last)) ((n : ℕ)
+            × (seat.new ≡ record seat.old { last = Some (n, Already token) })
+            × IsSeen self.now.graph.graph self.now.inputs seat.old.mine seat.old.last (Already
+            token) n) (seat.new ≡ seat.old) }
+    {
+        let mut shared = self.shared.lock(rt);
+        let asked = shared.ask(rt, self.graph, &self.inputs, &self.queue, pass, seat, token);
+        drop(shared);
+        self.moved.notify_all();
+        asked
+    }
+
+    /// Workers leave at their next section.
+    pub fn halt<R: Wait>(&self, rt: &R) {
+        let mut shared = self.shared.lock(rt);
+        shared.halt();
+        drop(shared);
+        self.moved.notify_all();
+    }
+
+    /// Cuts a pass in two halves. The first keeps what the pass put and took.
+    pub fn split(&self, pass: ItemPass<W>) -> (ItemPass<W>, ItemPass<W>)
+        requires { pass.queue ≡ self.now.queue }
+        ensures queue { (result.0.queue ≡ self.now.queue) × (result.1.queue ≡ self.now.queue) }
+        ensures first { result.0.tally ≡ first_half pass.tally }
+        ensures second { result.1.tally ≡ second_half pass.tally }
+    {
+        self.queue.split(pass)
+    }
+
+    /// Makes one pass of two. What the second put and took stands behind what the first did.
+    pub fn join(&self, first: ItemPass<W>, second: ItemPass<W>) -> ItemPass<W>
+        requires first { first.queue ≡ self.now.queue }
+        requires second { second.queue ≡ self.now.queue }
+        ensures queue { result.queue ≡ self.now.queue }
+        ensures both { result.tally ≡ both first.tally second.tally }
+    {
+        self.queue.join(first, second)
+    }
+
+    /// What a worker that has nothing takes from the queue, with no lock.
+    fn take<R: Wait>(&self, rt: &R, pass: &mut ItemPass<W>, hand: Hand<K, W>) -> Hand<K, W>
+        requires { pass.old.queue ≡ self.now.queue }
+        ensures { pass.new.queue ≡ self.now.queue }
+    {
+        match hand {
+            Hand::Free => match self.queue.take(rt, pass) {
+                Some(job) => Hand::Taken(job),
+                None => Hand::Free,
+            },
+            hand => hand,
+        }
+    }
+
+    /// Works until the run is complete, the session is halted, or the seat is found to be of another run. Items are
+    /// called outside the lock.
+    pub fn work<R: Wait>(&self, rt: &R, seat: Seat, pass: ItemPass<W>) -> (Seat, ItemPass<W>, Ended)
+        requires { pass.queue ≡ self.now.queue }
+        ensures pass { result.1.queue ≡ self.now.queue }
+        ensures actor { result.0.actor ≡ seat.actor }
+        ensures list { WorksOn self.now.graph.graph self.now.inputs seat.mine result.0.mine }
+        ensures last { EndsAs result.2 self.now.graph.graph self.now.inputs seat result.0 }
+    {
+        let mut seat = seat;
+        let mut pass = pass;
+        let mut hand = Hand::New;
+        for _ in rt.forever() {
+            let held = self.take(rt, &mut pass, hand);
+            let mut shared = self.shared.lock(rt);
+            match shared.turn(
+                rt,
+                self.graph,
+                &self.inputs,
+                &self.queue,
+                &mut pass,
+                &mut seat,
+                held,
+            ) {
+                Turn::Go(next) => {
+                    drop(shared);
+                    self.moved.notify_all();
+                    hand = next;
+                }
+                Turn::Call(task, items, item) => {
+                    drop(shared);
+                    self.moved.notify_all();
+                    hand = Hand::Called(task, items, item.call());
+                }
+                Turn::Wait => {
+                    let _again = self.moved.wait(rt, shared);
+                    hand = Hand::Free;
+                }
+                Turn::Over(ended) => {
+                    drop(shared);
+                    self.moved.notify_all();
+                    return (seat, pass, ended);
+                }
+            }
+        }
+        unreachable!()
+    }
+
+    /// Takes the run out, and compares with it all seats, and what the pass, the receipts and the items tell. It is not
+    /// closed well where a seat is missing, or where what was handed in isn't what was done.
+    pub fn close<R: Wait>(
+        self,
+        rt: &R,
+        alloc: Global,
+        seats: Vec<Seat>,
+        pass: ItemPass<W>,
+    ) -> Result<Report<K, W>, CloseFault<K, W>>
+        requires { pass.queue ≡ self.queue }
+        ensures run { IfOk result (λ r. Run self.entry.graph.graph self.entry.inputs (reverse
+            r.journal.items)) }
+        ensures claims { IfOk result (λ r. (claims : List Claim) (certificate : List Tree)
+            → Accepts self.entry.graph.graph claims certificate
+            → Each (λ claim. Holds self.entry.graph.graph claim self.entry.inputs (reverse
+            r.journal.items)) claims) }
+        ensures own { IfOk result (λ r. AllOwn seats.items r.journal.items) }
+        ensures last { IfOk result (λ r. AllLast self.entry.graph.graph self.entry.inputs
+            seats.items r.journal.items) }
+        ensures seats { IfOk result (λ r. All (λ e. IsSeat e.actor) r.journal.items) }
+        ensures seated { IfOk result (λ r. all_seated r.journal.items (map (λ s. s.actor)
+            seats.items) ≡ true) }
+        ensures once { IfOk result (λ r. AreOnce (length self.entry.graph.names.sites) (map
+            (λ x. x.site.0) r.receipts.items) (map W.site r.items.items)) }
+        ensures matched { IfOk result (λ r. map shown r.receipts.items ≡ answers
+            self.entry.graph.graph self.entry.inputs (reverse r.journal.items)) }
+        ensures statuses { IfOk result (λ r. r.statuses.items ≡ each_below (status
+            self.entry.graph.graph self.entry.inputs (reverse r.journal.items)) (length
+            self.entry.graph.graph.tasks)) }
+        ensures labels { IfOk result (λ r. r.labels.items ≡ each_below (label
+            self.entry.graph.graph self.entry.inputs (reverse r.journal.items)) (length
+            self.entry.graph.graph.tasks)) }
+        ensures carried { IfOk result (λ r. map (λ c. map task_number c.items) r.carried.items ≡
+            each_below (carried self.entry.graph.graph self.entry.inputs (reverse r.journal.items))
+            (length self.entry.graph.graph.tasks)) }
+        ensures unseen { IfOk result (λ r. map task_number r.unseen.items ≡ those_below (is_unseen
+            self.entry.graph.graph self.entry.inputs (reverse r.journal.items)) (length
+            self.entry.graph.graph.tasks)) }
+        ensures complete { IfOk result (λ r. (r.complete ≡ true)
+            ↔ Complete self.entry.graph.graph self.entry.inputs (reverse r.journal.items)) }
+    {
+        let Session {
+            graph,
+            inputs,
+            shared,
+            moved: _,
+            queue,
+            cells: _,
+        } = self;
+        graph.valid();
+        tpl_laws::soundness();
+        let left = queue.drain(rt, pass);
+        let Shared {
+            hall,
+            stock,
+            seats: made,
+            halted: _,
+        } = shared.into_inner();
+        let items = stock.into_items(left);
+        settle(
+            alloc,
+            hall,
+            graph,
+            &inputs,
+            seats.as_slice(),
+            made.len(),
+            items,
+        )
+    }
+}

@@ -1,0 +1,220 @@
+//! What the session's lock guards.
+
+ghost use Rattle.std.specs.Prelude.{◌≡◌, [], None, IfOk, IfErr, IfSome, IfNone};
+ghost use Rattle.tpl_hall.specs.Moves.{Moves};
+ghost use Rattle.tpl_hall.specs.declared.seat.SeatFault.TheVariants.{BadActor};
+ghost use Rattle.tpl_runtime.specs.Turns.{IsToldAt};
+
+use crate::put::put_ready;
+use crate::stock::{ItemJob, ItemPass, ItemQueue, Stock};
+use std::alloc::{AllocError, Global};
+use std::sync::Wait;
+use tpl_hall::{Ended, Hall, Seat, SeatFault, has_seat};
+use tpl_items::Item;
+use tpl_jobs::Receipt;
+use tpl_machine::Core;
+use tpl_model::Act;
+use tpl_words::{Actor, TaskId};
+
+/// What a worker holds when it comes to the lock.
+#[derive(Drop)]
+pub enum Hand<K, W> {
+    /// It comes for the first time.
+    New,
+    /// Nothing.
+    Free,
+    /// A job that hasn't begun.
+    Taken(ItemJob<W>),
+    /// The items of the task that it runs.
+    Running(TaskId, Vec<W>),
+    /// The same, and the receipt of the item that it has called.
+    Called(TaskId, Vec<W>, Receipt<K>),
+}
+
+/// What a worker does when it has left the lock.
+#[derive(Drop)]
+pub enum Turn<K, W> {
+    /// It comes again.
+    Go(Hand<K, W>),
+    /// It calls this item of the task that it runs.
+    Call(TaskId, Vec<W>, W),
+    /// It waits until something has happened.
+    Wait,
+    /// Its work has come to its end.
+    Over(Ended),
+}
+
+/// What lies under the lock: the run, the jobs that no worker has, who has a seat, and whether the session is halted.
+#[derive(Drop)]
+pub struct Shared<'g, K, W> {
+    pub(crate) hall: Hall<'g, K>,
+    pub(crate) stock: Stock<W>,
+    pub(crate) seats: Vec<Actor>,
+    pub(crate) halted: bool,
+}
+
+/// The actor is a worker.
+pub fn is_worker(actor: Actor) -> bool {
+    match actor {
+        Actor::Worker(_) => true,
+        Actor::Outside(_) => false,
+    }
+}
+
+impl<W: Drop> Stock<W> {
+    /// Takes back what a worker holds.
+    pub(crate) fn give_hand_back<K: Drop>(&mut self, hand: Hand<K, W>) {
+        match hand {
+            Hand::New => {}
+            Hand::Free => {}
+            Hand::Taken(job) => self.give_all_back(job.items),
+            Hand::Running(_task, items) => self.give_all_back(items),
+            Hand::Called(_task, items, _receipt) => self.give_all_back(items),
+        }
+    }
+}
+
+impl<'g, K: Drop, W: Item<K>> Shared<'g, K, W> {
+    /// What ends each section in which something was done: a sweep, and then the jobs of the tasks that are ready.
+    pub(crate) fn finish<R: Wait>(
+        &mut self,
+        rt: &R,
+        queue: &ItemQueue<W>,
+        pass: &mut ItemPass<W>,
+        seat: &mut Seat,
+    )
+        requires { pass.old.queue ≡ queue.now.id }
+        ensures pass { pass.new.queue ≡ queue.now.id }
+        ensures moves { Moves seat.old seat.new self.old.hall.core self.new.hall.core }
+        ensures last { seat.new.last ≡ seat.old.last }
+    {
+        self.hall.sweep(seat);
+        put_ready(rt, &self.hall, &mut self.stock, queue, pass);
+    }
+
+    /// Does an act, if it may be done, and what ends the section. It says whether the act was done.
+    pub(crate) fn act<R: Wait>(
+        &mut self,
+        rt: &R,
+        queue: &ItemQueue<W>,
+        pass: &mut ItemPass<W>,
+        seat: &mut Seat,
+        act: Act,
+    ) -> bool
+        requires { pass.old.queue ≡ queue.now.id }
+        ensures pass { pass.new.queue ≡ queue.now.id }
+        ensures moves { Moves seat.old seat.new self.old.hall.core self.new.hall.core }
+        ensures last { seat.new.last ≡ seat.old.last }
+    {
+        match self.hall.step(seat, act) {
+            Ok(_place) => {
+                self.finish(rt, queue, pass, seat);
+                true
+            }
+            Err(_) => false,
+        }
+    }
+
+    /// Does the Worked event of a receipt, if it may be done, and what ends the section. It says whether it was done.
+    pub(crate) fn answer<R: Wait>(
+        &mut self,
+        rt: &R,
+        queue: &ItemQueue<W>,
+        pass: &mut ItemPass<W>,
+        seat: &mut Seat,
+        task: TaskId,
+        receipt: Receipt<K>,
+    ) -> bool
+        requires { pass.old.queue ≡ queue.now.id }
+        ensures pass { pass.new.queue ≡ queue.now.id }
+        ensures moves { Moves seat.old seat.new self.old.hall.core self.new.hall.core }
+        ensures last { seat.new.last ≡ seat.old.last }
+    {
+        match self.hall.worked(seat, task, receipt) {
+            Ok(_place) => {
+                self.finish(rt, queue, pass, seat);
+                true
+            }
+            Err(_back) => false,
+        }
+    }
+
+    /// A job for a worker that holds none: one that it alone may begin, one from the shelf, or one from the queue.
+    pub(crate) fn find<R: Wait>(
+        &mut self,
+        rt: &R,
+        queue: &ItemQueue<W>,
+        pass: &mut ItemPass<W>,
+        actor: Actor,
+    ) -> Option<ItemJob<W>>
+        requires { pass.old.queue ≡ queue.now.id }
+        ensures pass { pass.new.queue ≡ queue.now.id }
+        ensures hall { self.new.hall.core ≡ self.old.hall.core }
+    {
+        let kept = self.stock.take_kept(actor);
+        if kept.is_some() {
+            return kept;
+        }
+        let shelved = self.stock.take_shelved();
+        if shelved.is_some() {
+            return shelved;
+        }
+        queue.take(rt, pass)
+    }
+
+    /// Halts the session, since the worker's task went on without it. The worker's items come back.
+    pub(crate) fn lose(&mut self, items: Vec<W>)
+        ensures { self.new.hall.core ≡ self.old.hall.core }
+    {
+        self.halted = true;
+        self.stock.give_all_back(items);
+    }
+
+    /// Whether the worker's work ends here: where the session is halted, or the run complete.
+    pub(crate) fn end_of(&self, seat: &mut Seat) -> Option<Ended>
+        ensures seat { (seat.new.actor ≡ seat.old.actor) × (seat.new.mine ≡ seat.old.mine) }
+        ensures none { IfNone result (seat.new.last ≡ seat.old.last) }
+        ensures some { IfSome result (λ ended. IsToldAt ended self.now.hall.core seat.old.last
+            seat.new.last) }
+    {
+        if self.halted {
+            return Some(Ended::Halted);
+        }
+        if self.hall.tell_complete(seat) {
+            return Some(Ended::Complete);
+        }
+        None
+    }
+
+    /// What a worker holds that has left its task: a job that was kept for it, if there is one.
+    pub(crate) fn hand_on(&mut self, actor: Actor) -> Hand<K, W>
+        ensures { self.new.hall.core ≡ self.old.hall.core }
+    {
+        match self.stock.take_kept(actor) {
+            Some(job) => Hand::Taken(job),
+            None => Hand::Free,
+        }
+    }
+
+    /// Workers leave at their next section.
+    pub fn halt(&mut self) {
+        self.halted = true;
+    }
+
+    /// A seat for an actor that has none.
+    pub fn seat(&mut self, alloc: Global, actor: Actor) -> Result<Seat, SeatFault>
+        ensures seat { IfOk result (λ s. (s.actor ≡ actor) × (s.mine ≡ []) × (s.last ≡ None)) }
+        ensures fault { IfErr result (λ fault. fault ≡ BadActor → ⊥) }
+    {
+        if has_seat(actor, self.seats.as_slice()) || self.seats.len() >= self.seats.capacity() {
+            return Err(SeatFault::SeatTaken);
+        }
+        match Seat::empty(alloc, actor, self.hall.core().graph()) {
+            Ok(seat) => {
+                self.seats.push_reserved(actor);
+                Ok(seat)
+            }
+            Err(AllocError) => Err(SeatFault::Memory),
+        }
+    }
+}

@@ -1,0 +1,105 @@
+//! A worker's locked section, from what it brings to what it does next.
+
+ghost use Rattle.std.specs.Prelude.{◌≡◌};
+ghost use Rattle.tpl_hall.specs.Growth.{WorksOn};
+ghost use Rattle.tpl_hall.specs.Moves.{EndsAs, Moves};
+ghost use Rattle.tpl_runtime.specs.Turns.{OnOver, IsToldAt};
+
+use crate::shared::{Hand, Shared, Turn, is_worker};
+use crate::stock::{ItemPass, ItemQueue};
+use std::sync::Wait;
+use tpl_graph::Graph;
+use tpl_hall::{Ended, Seat};
+use tpl_items::Item;
+use tpl_words::Inputs;
+
+impl<'g, K: Drop, W: Item<K>> Shared<'g, K, W> {
+    /// Does the Worked event of a receipt that a worker brings, and what is due where it comes for the first time. It
+    /// says what the worker holds then, and whether something was done; nothing where the receipt was refused.
+    fn bring<R: Wait>(
+        &mut self,
+        rt: &R,
+        queue: &ItemQueue<W>,
+        pass: &mut ItemPass<W>,
+        seat: &mut Seat,
+        hand: Hand<K, W>,
+    ) -> Option<(Hand<K, W>, bool)>
+        requires { pass.old.queue ≡ queue.now.id }
+        ensures pass { pass.new.queue ≡ queue.now.id }
+        ensures moves { Moves seat.old seat.new self.old.hall.core self.new.hall.core }
+        ensures last { seat.new.last ≡ seat.old.last }
+    {
+        match hand {
+            Hand::Called(task, items, receipt) => {
+                if self.answer(rt, queue, pass, seat, task, receipt) {
+                    return Some((Hand::Running(task, items), true));
+                }
+                self.lose(items);
+                None
+            }
+            Hand::New => {
+                self.finish(rt, queue, pass, seat);
+                Some((Hand::Free, true))
+            }
+            Hand::Free => Some((Hand::Free, false)),
+            Hand::Taken(job) => Some((Hand::Taken(job), false)),
+            Hand::Running(task, items) => Some((Hand::Running(task, items), false)),
+        }
+    }
+
+    /// A worker's section, once its seat was found to fit. What it brings comes first, then the test whether its work
+    /// ends here, then one event of its own.
+    fn play<R: Wait>(
+        &mut self,
+        rt: &R,
+        queue: &ItemQueue<W>,
+        pass: &mut ItemPass<W>,
+        seat: &mut Seat,
+        hand: Hand<K, W>,
+    ) -> Turn<K, W>
+        requires { pass.old.queue ≡ queue.now.id }
+        ensures pass { pass.new.queue ≡ queue.now.id }
+        ensures moves { Moves seat.old seat.new self.old.hall.core self.new.hall.core }
+        ensures last { OnOver result (λ ended. IsToldAt ended self.new.hall.core seat.old.last
+            seat.new.last) (seat.new.last ≡ seat.old.last) }
+    {
+        let Some((held, done)) = self.bring(rt, queue, pass, seat, hand) else {
+            return Turn::Over(Ended::Stray);
+        };
+        if let Some(ended) = self.end_of(seat) {
+            self.stock.give_hand_back(held);
+            return Turn::Over(ended);
+        }
+        if done {
+            return Turn::Go(held);
+        }
+        self.next(rt, queue, pass, seat, held)
+    }
+
+    /// One section of a worker's work.
+    pub fn turn<R: Wait>(
+        &mut self,
+        rt: &R,
+        graph: &Graph,
+        inputs: &Inputs,
+        queue: &ItemQueue<W>,
+        pass: &mut ItemPass<W>,
+        seat: &mut Seat,
+        hand: Hand<K, W>,
+    ) -> Turn<K, W>
+        requires { pass.old.queue ≡ queue.now.id }
+        ensures pass { pass.new.queue ≡ queue.now.id }
+        ensures actor { seat.new.actor ≡ seat.old.actor }
+        ensures list { WorksOn graph.now.graph inputs.now seat.old.mine seat.new.mine }
+        ensures last { OnOver result (λ ended. EndsAs ended graph.now.graph inputs.now seat.old
+            seat.new) (seat.new.last ≡ seat.old.last) }
+    {
+        if !is_worker(seat.actor()) || !self.hall.fits(graph, inputs, seat) {
+            self.stock.give_hand_back(hand);
+            return Turn::Over(Ended::Stray);
+        }
+        let turn = self.play(rt, queue, pass, seat, hand);
+        self.hall.is_run();
+        turn
+    }
+}
