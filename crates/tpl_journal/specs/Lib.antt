@@ -1,3 +1,6 @@
 pub mod Counting
+pub mod Cuts
+pub mod Lines
 pub mod Reading
+pub mod Verbs
 pub mod Writing

@@ -1,7 +1,7 @@
 use Rattle.std.proofs.Common.{◌≡◌, ◌-◌, ◌≤◌, length, take}
 use Rattle.std.specs.Io.KnownBytes.{Appends}
 use Rattle.tpl_journal.specs.Counting.{failures_of, contents_of}
-use Rattle.tpl_journal.proofs.writing.write_whole.Given as goal
+use Rattle.tpl_journal.proofs.writing.write_all.Given as goal
 
 abbrev pub decreases-loop-written : goal.decreases-loop-written
 decreases-loop-written g l = length l.text - l.written

@@ -1,7 +1,7 @@
 use Rattle.std.proofs.Common.{◌∙◌, arith}
 use Rattle.std.proofs.lemmas.List.{take_rest}
 use Rattle.tpl_journal.proofs.Known.{appends_more, took_some}
-use Rattle.tpl_journal.proofs.writing.write_whole.Goals as goal
+use Rattle.tpl_journal.proofs.writing.write_all.Goals as goal
 
 pub loop-written-preserved : goal.loop-written-preserved
 loop-written-preserved g c = record {

@@ -1,0 +1,174 @@
+-- Where claims fail first.
+use Rattle.std.proofs.Common.{◌≡◌, ℕ, zero, suc, ◌+◌, ◌<◌, ◌≤◌, ◌++◌, Bool, true, false, if◌then◌else◌, Option, Some, None, List, [], ◌∷◌, length, get_or, take, drop, reverse, refl, sym, ap, ◌∙◌, subst, nat_eq, ⊎_elim, arith}
+use Rattle.std.specs.Prelude.{IfSome, slice_get, nat_le, nat_lt}
+use Rattle.std.proofs.lemmas.Bool.{or_cases, eqb-true, ltb-true, ltb-false, lt-leb}
+use Rattle.std.proofs.lemmas.List.{take_all, reverse-append, length-reverse, take-append-drop}
+use Rattle.std.proofs.lemmas.List.Elements.{All-head, All-tail, All-nil, All-more}
+use Rattle.std.proofs.lemmas.Option.{slice_get-get_or}
+use Rattle.tpl_model.specs.Graph.{TaskGraph, is_token}
+use Rattle.tpl_model.specs.declared.event.Event.{Event}
+use Rattle.tpl_model.specs.declared.claim.Given.{Given}
+use Rattle.tpl_model.specs.declared.claim.Given.TheVariants.{Input, Quiet}
+use Rattle.tpl_model.specs.Claims.{Claim, Holds}
+use Rattle.tpl_model.specs.Rules.{Run}
+use Rattle.tpl_model.specs.Valid.{IsGraph}
+use Rattle.tpl_claims.specs.Fits.{IsGivenOf, AreGivenOf, Fits}
+use Rattle.tpl_laws.specs.Runs.{gives_quiet, PrefixIsRun}
+use Rattle.tpl_laws.specs.Allowed.{HoldsIsRight}
+use Rattle.tpl_laws.specs.Failing.{is_at, fails_from, is_broken, unless_broken, first_failure, FailureIsTold}
+use Rattle.tpl_laws.specs.Failing as law
+use Rattle.tpl_audit.specs.declared.verdict.Failure.{Failure}
+use Rattle.tpl_audit.specs.Audit.{first_events, AllHoldAt, FirstFails, better, IsVerdict, FindsNoFailure}
+use Rattle.tpl_audit.specs.declared.verdict.Verdict.{Verdict}
+use Rattle.tpl_audit.specs.declared.verdict.Verdict.TheVariants.{Run as Ran, NotAllowed, Memory}
+use Rattle.tpl_model.specs.Certificate.{Tree, Accepts}
+use Rattle.tpl_laws.specs.Soundness.{Each, Soundness}
+use Rattle.tpl_audit.specs.Watching.{asked_at, IsWatched}
+use Rattle.tpl_audit.proofs.WatchLemmas.{length-first}
+
+-- one claim
+
+quiet_token : (g : TaskGraph) (given : List Given) (k : ℕ) → AreGivenOf g given → gives_quiet given k ≡ true → is_token g k
+quiet_token g [] k fit e = absurd (cc)
+quiet_token g (Input i value ∷ given) k fit e = quiet_token g given k (All-tail (IsGivenOf g) (Input i value) given fit) e
+quiet_token g (Quiet j ∷ given) k fit e =
+    ⊎_elim
+    (λ here. subst (is_token g) (eqb-true j.0 k here) (All-head (IsGivenOf g) (Quiet j) given fit))
+    (λ later. quiet_token g given k (All-tail (IsGivenOf g) (Quiet j) given fit) later)
+    (or_cases (nat_eq j.0 k) (gives_quiet given k) e)
+
+pub told_at : (g : TaskGraph) (v : List Bool) (h : List Event) (claim : Claim) (complete : Option ℕ) (asked : List (Option ℕ)) (result : Option ℕ) → FailureIsTold → IsGraph g → Run g v h → Fits g claim → IsWatched g v h complete asked → result ≡ first_failure g v h complete (asked_at asked) claim → law.IsFirstFailure g v h claim result
+told_at g v h claim complete asked result told valid run fits w e =
+    subst (law.IsFirstFailure g v h claim) (sym e)
+    (told g v h complete (asked_at asked) claim valid run w.completes (λ k quiet. w.requests k (quiet_token g claim.given k fits.given quiet)))
+
+pub unless_at : (fails : Option ℕ) (broken : ℕ → Bool) (place : ℕ) (b : Bool) → Some place ≡ fails → b ≡ broken place → (if b then None else Some place) ≡ unless_broken fails broken
+unless_at fails broken place b e f =
+    let P : Option ℕ → Type 0 = λ z. (if b then None else Some place) ≡ unless_broken z broken in
+    subst P e (ap (λ z. if z then None else Some place) f)
+
+pub unless_none : (fails : Option ℕ) (broken : ℕ → Bool) → None ≡ fails → None ≡ unless_broken fails broken
+unless_none fails broken e = ap (λ z. unless_broken z broken) e
+
+-- A claim by the places of a list: it holds before its place, and not there.
+pub record FailsAt (g : TaskGraph) (v : List Bool) (events : List Event) (claim : Claim) (o : Option ℕ) : Type 0 where
+  pub within : IfSome o (λ p. p ≤ length events)
+  pub holds_before : (p : ℕ) → p ≤ length events → is_at o p ≡ false → Holds g claim v (first_events events p)
+  pub fails_there : (p : ℕ) → p ≤ length events → o ≡ Some p → Holds g claim v (first_events events p) → ⊥
+
+pub by_places : (g : TaskGraph) (v : List Bool) (events : List Event) (claim : Claim) (o : Option ℕ) → HoldsIsRight → IsGraph g → law.IsFirstFailure g v (reverse events) claim o → FailsAt g v events claim o
+by_places g v events claim o right valid f = record {
+  within = within o f.within;
+  holds_before = λ p le late. (right g claim v (first_events events p) valid).0 (f.before (reverse (drop p events)) (first_events events p) (parts p) (ap (is_at o) (length-first events p le) ∙ late));
+  fails_there = λ p le at h.
+      let no_more = f.there (reverse (drop p events)) (first_events events p) (parts p) (at ∙ ap Some (sym (length-first events p le))) in
+      let still = (right g claim v (first_events events p) valid).1 h in
+      absurd (cc);
+}
+  where
+    within : (q : Option ℕ) → IfSome q (λ p. p ≤ length (reverse events)) → IfSome q (λ p. p ≤ length events)
+    within None w = tt
+    within (Some p) w = let size = length-reverse events in omega arith
+
+    parts : (p : ℕ) → reverse (drop p events) ++ first_events events p ≡ reverse events
+    parts p = sym (reverse-append (take p events) (drop p events)) ∙ ap reverse (take-append-drop p events)
+
+-- The first failure among the first n claims.
+pub record FoundBelow (g : TaskGraph) (v : List Bool) (events : List Event) (claims : List Claim) (n : ℕ) (failure : Failure) : Type 0 where
+  pub within : failure.place ≤ length events
+  pub earlier : (p : ℕ) → p < failure.place → AllHoldAt g v events (take n claims) p
+  pub before : ℕ
+  pub number : failure.claim ≡ suc before
+  pub claim : Claim
+  pub there : slice_get claims before ≡ Some claim
+  pub fails : Holds g claim v (first_events events failure.place) → ⊥
+  pub least : AllHoldAt g v events (take before claims) failure.place
+
+abbrev pub Found : TaskGraph → List Bool → List Event → List Claim → ℕ → Option Failure → Type 0
+Found g v events claims n None = (p : ℕ) → p ≤ length events → AllHoldAt g v events (take n claims) p
+Found g v events claims n (Some failure) = FoundBelow g v events claims n failure
+
+module _ (g : TaskGraph) (v : List Bool) (events : List Event) (claims : List Claim) (n : ℕ) (d : Claim) (lt : n < length claims) where
+  one_more : (p : ℕ) → AllHoldAt g v events (take n claims) p → Holds g (get_or claims n d) v (first_events events p) → AllHoldAt g v events (take (n + 1) claims) p
+  one_more p all here = All-more (λ claim. Holds g claim v (first_events events p)) claims n d lt all here
+
+  stays : (failure : Failure) → FoundBelow g v events claims n failure → ((p : ℕ) → p < failure.place → Holds g (get_or claims n d) v (first_events events p)) → FoundBelow g v events claims (n + 1) failure
+  stays failure found holds_it = record {
+    within = found.within;
+    earlier = λ p early. one_more p (found.earlier p early) (holds_it p early);
+    before = found.before;
+    number = found.number;
+    claim = found.claim;
+    there = found.there;
+    fails = found.fails;
+    least = found.least;
+  }
+
+  replaces : (place : ℕ) → ((p : ℕ) → p ≤ place → AllHoldAt g v events (take n claims) p) → FailsAt g v events (get_or claims n d) (Some place) → FoundBelow g v events claims (n + 1) (record { place = place; claim = n + 1 })
+  replaces place all f = record {
+    within = f.within;
+    earlier = λ p early. one_more p (all p (omega arith)) (f.holds_before p (let in_it = f.within in omega arith) (late p early));
+    before = n;
+    number = omega arith;
+    claim = get_or claims n d;
+    there = slice_get-get_or claims n d lt;
+    fails = f.fails_there place f.within refl;
+    least = all place (omega arith);
+  }
+    where
+      late : (p : ℕ) → p < place → nat_le place p ≡ false
+      late p early = lt-leb place p early
+
+  pub found_more : (found : Option Failure) (o : Option ℕ) → Found g v events claims n found → FailsAt g v events (get_or claims n d) o → Found g v events claims (n + 1) (better found o (n + 1))
+  found_more None None all f = λ p le. one_more p (all p le) (f.holds_before p le refl)
+  found_more (Some failure) None found f = stays failure found (λ p early. f.holds_before p (let in_it = found.within in omega arith) refl)
+  found_more None (Some place) all f = replaces place (λ p le. all p (let in_it = f.within in omega arith)) f
+  found_more (Some failure) (Some place) found f = here (nat_lt place failure.place) refl
+    where
+      here : (b : Bool) → nat_lt place failure.place ≡ b → Found g v events claims (n + 1) (if b then Some (record { place = place; claim = n + 1 }) else Some failure)
+      here true e = replaces place (λ p le. found.earlier p (let less = ltb-true place failure.place e in omega arith)) f
+      here false e =
+          stays failure found (λ p early.
+          let le = ltb-false place failure.place e in
+          f.holds_before p (let in_it = found.within in omega arith) (lt-leb place p (omega arith)))
+
+pub none_found : (g : TaskGraph) (v : List Bool) (events : List Event) (claims : List Claim) → Found g v events claims 0 None
+none_found g v events claims p le = subst (λ (l : List Claim). AllHoldAt g v events l p) (sym (nothing claims)) (All-nil (λ claim. Holds g claim v (first_events events p)))
+  where
+    nothing : (xs : List Claim) → take 0 xs ≡ []
+    nothing [] = refl
+    nothing (x ∷ xs) = refl
+
+pub all_found : (g : TaskGraph) (v : List Bool) (events : List Event) (claims : List Claim) (n : ℕ) (found : Option Failure) → length claims ≤ n → Found g v events claims n found → FirstFails g v events claims found
+all_found g v events claims n None le all = λ p in_it. subst (λ (l : List Claim). AllHoldAt g v events l p) (take_all n claims le) (all p in_it)
+all_found g v events claims n (Some failure) le found = record {
+  within = found.within;
+  earlier = λ p early. subst (λ (l : List Claim). AllHoldAt g v events l p) (take_all n claims le) (found.earlier p early);
+  before = found.before;
+  number = found.number;
+  claim = found.claim;
+  there = found.there;
+  fails = found.fails;
+  least = found.least;
+}
+
+-- where a certificate is accepted, nothing fails
+
+each_at : (P : Claim → Type 0) (claims : List Claim) (i : ℕ) (claim : Claim) → Each P claims → slice_get claims i ≡ Some claim → P claim
+each_at P [] i claim all e = absurd (cc)
+each_at P (x ∷ claims) zero claim all e = let same : x ≡ claim = cc in subst P same all.0
+each_at P (x ∷ claims) (suc i) claim all e = each_at P claims i claim all.1 e
+
+front_run : (g : TaskGraph) (v : List Bool) (events : List Event) (p : ℕ) → PrefixIsRun → Run g v (reverse events) → Run g v (first_events events p)
+front_run g v events p prefix run =
+    let parts : reverse (drop p events) ++ first_events events p ≡ reverse events = sym (reverse-append (take p events) (drop p events)) ∙ ap reverse (take-append-drop p events) in
+    prefix g v (reverse (drop p events)) (first_events events p) (subst (Run g v) (sym parts) run)
+
+pub sound_verdict : (g : TaskGraph) (v : List Bool) (events : List Event) (claims : List Claim) (verdict : Verdict) (certificate : List Tree) → Soundness → PrefixIsRun → IsGraph g → IsVerdict g v events claims verdict → Accepts g claims certificate → FindsNoFailure verdict
+sound_verdict g v events claims (Ran complete None) certificate sound prefix valid is accepted = refl
+sound_verdict g v events claims (Ran complete (Some failure)) certificate sound prefix valid is accepted =
+    let f = is.failure in
+    let hold = sound g claims certificate valid accepted v (first_events events failure.place) (front_run g v events failure.place prefix is.run) in
+    absurd (f.fails (each_at (λ claim. Holds g claim v (first_events events failure.place)) claims f.before f.claim hold f.there))
+sound_verdict g v events claims (NotAllowed place) certificate sound prefix valid is accepted = tt
+sound_verdict g v events claims Memory certificate sound prefix valid is accepted = tt

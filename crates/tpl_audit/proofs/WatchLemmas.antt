@@ -1,0 +1,80 @@
+-- Places that are noted.
+use Rattle.std.proofs.Common.{◌≡◌, ℕ, zero, suc, ◌+◌, ◌<◌, ◌≤◌, Bool, Option, None, List, [], ◌∷◌, length, get_or, take, reverse, replicate, refl, sym, ap, ◌∙◌, subst, arith}
+use Rattle.std.proofs.lemmas.List.{take_more, reverse-append, length-reverse, length-take-le}
+use Rattle.tpl_model.specs.Graph.{TaskGraph, is_token}
+use Rattle.tpl_model.specs.declared.event.Event.{Event}
+use Rattle.tpl_model.specs.Facts.{requested}
+use Rattle.tpl_model.specs.Rules.{Run}
+use Rattle.std.specs.Prelude.{Result, Ok, Err, is_err, false, OnOk}
+use Rattle.tpl_laws.specs.Allowed.{is_complete}
+use Rattle.tpl_laws.specs.Failing.{IsFrom, or_now, CompleteIsNoted, RequestIsNoted}
+use Rattle.tpl_machine.specs.Journal.{Journal, after}
+use Rattle.tpl_audit.specs.Audit.{first_events}
+use Rattle.tpl_audit.specs.Watching.{asked_at, IsWatched}
+
+pub none_asked : (n k : ℕ) → asked_at (replicate n None) k ≡ None
+none_asked zero k = refl
+none_asked (suc n) zero = refl
+none_asked (suc n) (suc k) = none_asked n k
+
+-- one more event of a list
+
+pub first_more : (events : List Event) (i : ℕ) (x : Event) → i < length events → x ≡ get_or events i x → first_events events (i + 1) ≡ x ∷ first_events events i
+first_more events i x lt is =
+    ap reverse (take_more events i x lt) ∙ (reverse-append (take i events) (get_or events i x ∷ []) ∙ ap (λ z. z ∷ reverse (take i events)) (sym is))
+
+pub length-first : (events : List Event) (i : ℕ) → i ≤ length events → length (first_events events i) ≡ i
+length-first events i le = length-reverse (take i events) ∙ length-take-le i events le
+
+-- what is noted along a run
+
+pub watch_start : (g : TaskGraph) (v : List Bool) (complete : Option ℕ) (asked : List (Option ℕ)) → CompleteIsNoted → RequestIsNoted → complete ≡ or_now None (is_complete g v []) 0 → ((k : ℕ) → is_token g k → asked_at asked k ≡ or_now None (requested g v [] k) 0) → IsWatched g v [] complete asked
+watch_start g v complete asked completes requests c r = record {
+  completes = subst (IsFrom (is_complete g v) []) (sym c) (completes g v).0;
+  requests = λ k tok. subst (IsFrom (λ before. requested g v before k) []) (sym (r k tok)) (requests g v k).0;
+}
+
+pub watch_more : (g : TaskGraph) (v : List Bool) (h : List Event) (x : Event) (place : ℕ) (old new : Option ℕ) (asked more : List (Option ℕ)) → CompleteIsNoted → RequestIsNoted → Run g v (x ∷ h) → place ≡ suc (length h) → IsWatched g v h old asked → new ≡ or_now old (is_complete g v (x ∷ h)) place → ((k : ℕ) → is_token g k → asked_at more k ≡ or_now (asked_at asked k) (requested g v (x ∷ h) k) place) → IsWatched g v (x ∷ h) new more
+watch_more g v h x place old new asked more completes requests run at w c r = record {
+  completes = subst (IsFrom (is_complete g v) (x ∷ h)) (sym (c ∙ ap (or_now old (is_complete g v (x ∷ h))) at)) ((completes g v).1 h x old run w.completes);
+  requests = λ k tok.
+      subst (IsFrom (λ before. requested g v before k) (x ∷ h)) (sym (r k tok ∙ ap (or_now (asked_at asked k) (requested g v (x ∷ h) k)) at)) ((requests g v k).1 h x (asked_at asked k) run (w.requests k tok));
+}
+
+-- the first events of a list were done, and what came to be true was noted
+pub record Played (first now : Journal) (events : List Event) (i : ℕ) (complete : Option ℕ) (asked : List (Option ℕ)) : Type 0 where
+  pub journal : now ≡ record first { events = first_events events i }
+  pub watched : IsWatched first.graph first.inputs (first_events events i) complete asked
+
+pub played_none : (first : Journal) (events : List Event) (complete : Option ℕ) (asked : List (Option ℕ)) → first.events ≡ [] → IsWatched first.graph first.inputs first.events complete asked → Played first first events 0 complete asked
+played_none first events complete asked none w = record {
+  journal = ap (λ h. record first { events = h }) (none ∙ sym (nothing events));
+  watched = subst (λ h. IsWatched first.graph first.inputs h complete asked) (none ∙ sym (nothing events)) w;
+}
+  where
+    nothing : (xs : List Event) → first_events xs 0 ≡ []
+    nothing [] = refl
+    nothing (x ∷ xs) = refl
+
+pub played_more : (first before now : Journal) (events : List Event) (i : ℕ) (x : Event) (place : ℕ) (old new : Option ℕ) (asked more : List (Option ℕ)) → CompleteIsNoted → RequestIsNoted → i < length events → x ≡ get_or events i x → place ≡ i + 1 → Played first before events i old asked → now ≡ after before x → Run now.graph now.inputs now.events → new ≡ or_now old (is_complete now.graph now.inputs now.events) place → ((k : ℕ) → is_token now.graph k → asked_at more k ≡ or_now (asked_at asked k) (requested now.graph now.inputs now.events k) place) → Played first now events (i + 1) new more
+played_more first before now events i x place old new asked more completes requests lt is at p made run c r =
+    let done : now ≡ record first { events = x ∷ first_events events i } = made ∙ ap (λ z. after z x) p.journal in
+    let next = first_more events i x lt is in
+    let size = length-first events i (omega arith) in
+    let run_on : Run first.graph first.inputs (x ∷ first_events events i) = subst (λ z. Run z.graph z.inputs z.events) done run in
+    let c_on : new ≡ or_now old (is_complete first.graph first.inputs (x ∷ first_events events i)) place = c ∙ ap (λ (z : Journal). or_now old (is_complete z.graph z.inputs z.events) place) done in
+    let r_on : (k : ℕ) → is_token first.graph k → asked_at more k ≡ or_now (asked_at asked k) (requested first.graph first.inputs (x ∷ first_events events i) k) place = λ k tok. r k (subst (λ (z : Journal). is_token z.graph k) (sym done) tok) ∙ ap (λ (z : Journal). or_now (asked_at asked k) (requested z.graph z.inputs z.events k) place) done in
+    record {
+      journal = done ∙ ap (λ h. record first { events = h }) (sym next);
+      watched = subst (λ h. IsWatched first.graph first.inputs h new more) (sym next) (watch_more first.graph first.inputs (first_events events i) x place old new asked more completes requests run_on (omega arith) p.watched c_on r_on);
+    }
+
+pub when_ok : {T E : Type 0} (r : Result T E) (P : Type 0) → false ≡ is_err r → OnOk r P → P
+when_ok (Ok x) P e p = p
+when_ok (Err x) P e p = absurd (cc)
+
+-- what stands past the end makes no difference
+pub at_default : {A : Type 0} (xs : List A) (i : ℕ) (d e : A) → i < length xs → get_or xs i d ≡ get_or xs i e
+at_default [] i d e lt = absurd (omega arith)
+at_default (x ∷ xs) zero d e lt = refl
+at_default (x ∷ xs) (suc i) d e lt = at_default xs i d e (omega arith)

@@ -1,0 +1,140 @@
+//! Where claims fail first.
+
+ghost use Rattle.std.specs.Prelude.{◌≡◌, ℕ, reverse, List};
+ghost use Rattle.std.specs.List.{All};
+ghost use Rattle.tpl_claims.specs.Fits.{AreGivenOf, TasksOf, Fits};
+ghost use Rattle.tpl_laws.specs.Failing as law;
+ghost use Rattle.tpl_model.specs.declared.event.Event.{Event};
+ghost use Rattle.tpl_audit.specs.Audit.{FirstFails, better};
+ghost use Rattle.tpl_audit.specs.Watching.{asked_at, IsWatched};
+
+use crate::verdict::Failure;
+use crate::watch::Watch;
+use tpl_claims::{Claim, is_true_of};
+use tpl_machine::Core;
+use tpl_model::{Given, Property};
+
+fn is_at(noted: Option<usize>, place: usize) -> bool
+    ensures { result ≡ law.is_at noted place }
+{
+    match noted {
+        Some(at) => at <= place,
+        None => false,
+    }
+}
+
+fn place_of(place: Option<u32>) -> Option<usize>
+    ensures { result ≡ place }
+{
+    match place {
+        Some(place) => Some(place as usize),
+        None => None,
+    }
+}
+
+/// The later of two places, if there are both.
+fn later_of(one: Option<u32>, other: Option<u32>) -> Option<usize>
+    ensures { result ≡ law.later_of one other }
+{
+    match (one, other) {
+        (Some(one), Some(other)) => Some(one.max(other) as usize),
+        _ => None,
+    }
+}
+
+/// The place from which on a property isn't true of the run.
+fn fails_from<C: Core>(core: &C, complete: Option<usize>, body: Property) -> Option<usize>
+    requires { TasksOf (C.journal core.now).graph body }
+    ensures { let j = C.journal core.now in
+        result ≡ law.fails_from j.graph j.inputs j.events complete body }
+{
+    core.is_run();
+    tpl_laws::allowed::holds_of_is_right();
+    if is_true_of(core, body) {
+        return None;
+    }
+    match body {
+        Property::Final(task, _) => place_of(core.ended(task)),
+        Property::After(_, second) => place_of(core.began(second)),
+        Property::Observed(_) => complete,
+        Property::Never(task) => place_of(core.began(task)),
+        Property::Excludes(one, other) => later_of(core.began(one), core.began(other)),
+    }
+}
+
+/// At the place, something of what is given isn't true of the run.
+fn is_broken<C: Core>(core: &C, watch: &Watch, given: &[Given], place: usize) -> bool
+    requires { AreGivenOf (C.journal core.now).graph given.now }
+    ensures { let j = C.journal core.now in
+        result ≡ law.is_broken j.inputs (asked_at watch.now.asked) given.now place }
+{
+    core.is_run();
+    for one in given {
+        let broken = match one {
+            Given::Input(input, value) => core.input(*input) != *value,
+            Given::Quiet(token) => is_at(watch.asked[token.0 as usize], place),
+        };
+        if broken {
+            return true;
+        }
+    }
+    false
+}
+
+/// The first place at which a claim fails.
+fn failure_of<C: Core>(core: &C, watch: &Watch, claim: &Claim) -> Option<usize>
+    requires fits { Fits (C.journal core.now).graph claim.now }
+    requires watched { let j = C.journal core.now in
+        IsWatched j.graph j.inputs j.events watch.now.complete watch.now.asked }
+    ensures { let j = C.journal core.now in
+        law.IsFirstFailure j.graph j.inputs j.events claim.now result }
+{
+    core.is_run();
+    tpl_laws::failure_is_told();
+    match fails_from(core, watch.complete, claim.body()) {
+        Some(place) => {
+            if is_broken(core, watch, claim.given(), place) {
+                None
+            } else {
+                Some(place)
+            }
+        }
+        None => None,
+    }
+}
+
+/// The failure of a claim with this number, where it is at an earlier place than the one that was
+/// found.
+fn better(found: Option<Failure>, place: Option<usize>, claim: usize) -> Option<Failure>
+    ensures { result ≡ better found place claim }
+{
+    match (found, place) {
+        (Some(failure), Some(place)) => {
+            if place < failure.place {
+                Some(Failure { place, claim })
+            } else {
+                Some(failure)
+            }
+        }
+        (None, Some(place)) => Some(Failure { place, claim }),
+        (found, None) => found,
+    }
+}
+
+/// The first place at which a claim fails, and the least claim there. Of each claim the place is
+/// read off the ends and begins of its tasks and what was noted along the run.
+pub(crate) fn first_failure<C: Core>(core: &C, watch: &Watch, claims: &[Claim]) -> Option<Failure>
+    requires fit { All (Fits (C.journal core.now).graph) claims.now }
+    requires watched { let j = C.journal core.now in
+        IsWatched j.graph j.inputs j.events watch.now.complete watch.now.asked }
+    ensures { let j = C.journal core.now in (events : List Event) → j.events ≡ reverse events
+        → FirstFails j.graph j.inputs events claims.now result }
+{
+    core.is_run();
+    tpl_laws::allowed::holds_is_right();
+    let mut found = None;
+    for (i, claim) in claims.iter().enumerate() {
+        found = better(found, failure_of(core, watch, claim), i + 1);
+    }
+    found
+}

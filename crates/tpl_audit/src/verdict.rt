@@ -1,0 +1,29 @@
+//! What an audit says.
+
+/// A claim that doesn't hold.
+#[derive(Clone, Copy, PartialEq, Eq, Debug)]
+pub struct Failure {
+    /// After how many events it doesn't; 0 is before the first.
+    pub place: usize,
+    /// Which one, counted from 1.
+    pub claim: usize,
+}
+
+/// What an audit says of a list of events.
+#[derive(Clone, Copy, PartialEq, Eq, Debug)]
+pub enum Verdict {
+    /// Each event is allowed after those before it.
+    Run {
+        /// Each task that is no child, and each started child, has ended.
+        complete: bool,
+        /// The first place at which a claim doesn't hold, and the least claim there.
+        fails: Option<Failure>,
+    },
+    /// An event isn't allowed after those before it.
+    NotAllowed {
+        /// The place of the first such event, counted from 1.
+        place: usize,
+    },
+    /// The memory for the run was refused.
+    Memory,
+}

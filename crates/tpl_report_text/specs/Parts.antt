@@ -1,0 +1,8 @@
+-- Texts in parts.
+use Rattle.std.specs.Prelude.{ℕ, List, [], ◌∷◌, ◌++◌}
+use denote.Bor.{Bor}
+
+-- one after another
+abbrev pub joined : List (Bor (List ℕ)) → List ℕ
+joined [] = []
+joined (part ∷ parts) = part.now ++ joined parts
