@@ -1,4 +1,4 @@
--- The depth that the words give.
+-- The numbers that the words give.
 use Rattle.std.proofs.Common.{◌≡◌, ◌∙◌, ◌<◌, ◌≤◌, ℕ, List, Option, Some, None, Result, Ok, Err, codes, sym, ap, subst, refl, arith}
 use Rattle.std.specs.Prelude.{option_map, Box}
 use Rattle.std.specs.Box.{box_value}
@@ -11,39 +11,40 @@ use Rattle.clap.specs.declared.parser.matches.ArgMatches.TheViews.{out-ArgMatche
 use Rattle.clap.specs.declared.parser.matches.SubCommand.{SubCommand}
 use Rattle.clap.proofs.WalkLemmas.{one_text-rows}
 use Rattle.tpl_cli.specs.declared.line.Line.{Line}
-use Rattle.tpl_cli.specs.declared.line.Line.TheVariants.{Check, Analyse}
-use Rattle.tpl_cli.specs.Line.{taskgraph, IsDepth, IsWithinDepth, Names}
+use Rattle.tpl_cli.specs.declared.line.Line.TheVariants.{Check, Analyse, Run, Audit}
+use Rattle.tpl_cli.specs.Line.{taskgraph, IsGiven, IsDepth, IsWorkers, IsWithin, Names}
 
 pub some_same : {A : Type 0} (x y : A) → Some x ≡ Some y → x ≡ y
 some_same x y e = cc
 
-module _ {E : Type 0} (gives : List ℕ → Result ℕ E → Type 0) (parses : (u : List ℕ) (x : Result ℕ E) → gives u x → ParsesUnsigned 8 10 u x) (found : Found) where
-  -- a depth that was read is the one that the words give
-  pub read_depth : (d : ℕ) → d ≤ 6 → (one_text found (codes "depth") ≡ None → Some d ≡ None)
-      → ((t : List ℕ) → one_text found (codes "depth") ≡ Some t → ReadsOne gives t (Some d)) → IsDepth (rows_of found) d
-  read_depth d limit none value = go (one_text found (codes "depth")) refl
+module _ {E : Type 0} (gives : List ℕ → Result ℕ E → Type 0) (parses : (u : List ℕ) (x : Result ℕ E) → gives u x → ParsesUnsigned 8 10 u x) (found : Found) (option : Text) (least most : ℕ) (small : most < 256) where
+  -- a number that was read is the one that the words give
+  pub number_read : (d : ℕ) → least ≤ d → d ≤ most → (one_text found option ≡ None → Some d ≡ None)
+      → ((t : List ℕ) → one_text found option ≡ Some t → ReadsOne gives t (Some d)) → IsGiven option least most (rows_of found) d
+  number_read d above limit none value = go (one_text found option) refl
     where
-      go : (o : Option Text) → one_text found (codes "depth") ≡ o → IsDepth (rows_of found) d
+      go : (o : Option Text) → one_text found option ≡ o → IsGiven option least most (rows_of found) d
       go None e = let bad = none e in absurd cc
       go (Some t) e =
           let p = parses t (Ok d) (value t e) in
           record {
             text = t;
-            given = sym (one_text-rows found (codes "depth")) ∙ e;
+            given = sym (one_text-rows found option) ∙ e;
             digits = p.0.0;
             value = sym p.1;
+            least_of = above;
             limit = limit;
           }
 
-  -- a depth that the words give is read
-  pub depth_read : (d : ℕ) (r : Option ℕ) → IsDepth (rows_of found) d → ((t : List ℕ) → one_text found (codes "depth") ≡ Some t → ReadsOne gives t r) → r ≡ Some d
-  depth_read d None is value =
-      let read = value is.text (one_text-rows found (codes "depth") ∙ is.given) in
+  -- a number that the words give is read
+  pub given_read : (d : ℕ) (r : Option ℕ) → IsGiven option least most (rows_of found) d → ((t : List ℕ) → one_text found option ≡ Some t → ReadsOne gives t r) → r ≡ Some d
+  given_read d None is value =
+      let read = value is.text (one_text-rows found option ∙ is.given) in
       let refused = parses is.text (Err read.0) read.1 in
-      let small : digits_value 10 (without_leading_plus is.text) < 256 = subst (λ (n : ℕ). n < 256) (sym is.value) (omega (arith, is.limit)) in
-      absurd (refused (is.digits, small))
-  depth_read d (Some n) is value =
-      let read = value is.text (one_text-rows found (codes "depth") ∙ is.given) in
+      let below : digits_value 10 (without_leading_plus is.text) < 256 = subst (λ (n : ℕ). n < 256) (sym is.value) (omega (arith, is.limit, small)) in
+      absurd (refused (is.digits, below))
+  given_read d (Some n) is value =
+      let read = value is.text (one_text-rows found option ∙ is.given) in
       let p = parses is.text (Ok n) read in
       ap Some (p.1 ∙ is.value)
 
@@ -61,16 +62,31 @@ pub entered : (m : ArgMatches) (name : Text) (rows : List Row) (stop : Option (T
 entered m name rows stop is e f =
     sym is ∙ whole (subcommand_rows_of m) name rows (e ∙ name_of_rows (out-ArgMatches m).subcommand) f
 
+-- two commands are not one
+entered_once : (words : List Text) (name other : Text) (rows : List Row) → subcommand_of taskgraph words ≡ Some (name, rows) → option_map (λ p. p.0) (subcommand_of taskgraph words) ≡ Some other → name ≡ other
+entered_once words name other rows e f = some_same name other (sym (ap (option_map (λ p. p.0)) e) ∙ f)
+
 -- where the words enter `analyse`, the line that they name has the depth that they give
-pub names_depth : (words : List Text) (rows : List Row) (line : Line) → subcommand_of taskgraph words ≡ Some (codes "analyse", rows) → Names words line → (depth : ℕ) × IsDepth rows depth
-names_depth words rows Check e named =
-    let differs = some_same (codes "analyse") (codes "check") (sym (ap (option_map (λ p. p.0)) e) ∙ named) in
-    absurd cc
+pub names_depth : (words : List Text) (rows : List Row) (line : Line) → subcommand_of taskgraph words ≡ Some (codes "analyse", rows) → Names words line → (depth : ℕ) × IsDepth rows depth × (line ≡ Analyse depth)
+names_depth words rows Check e named = let differs = entered_once words (codes "analyse") (codes "check") rows e named in absurd cc
 names_depth words rows (Analyse depth) e named =
     let both = some_same (codes "analyse", named.0) (codes "analyse", rows) (sym named.1 ∙ e) in
-    (depth, subst (λ (rs : List Row). IsDepth rs depth) (ap (λ p. p.1) both) named.2)
+    (depth, subst (λ (rs : List Row). IsDepth rs depth) (ap (λ p. p.1) both) named.2, refl)
+names_depth words rows (Run workers) e named = let differs = entered_once words (codes "analyse") (codes "run") rows e (ap (option_map (λ p. p.0)) named.1) in absurd cc
+names_depth words rows Audit e named = let differs = entered_once words (codes "analyse") (codes "audit") rows e named in absurd cc
 
--- a line that words name is within the limit
-pub named_within : (words : List Text) (line : Line) → Names words line → IsWithinDepth line
+-- where they enter `run`, it has the workers that they give
+pub names_workers : (words : List Text) (rows : List Row) (line : Line) → subcommand_of taskgraph words ≡ Some (codes "run", rows) → Names words line → (workers : ℕ) × IsWorkers rows workers × (line ≡ Run workers)
+names_workers words rows Check e named = let differs = entered_once words (codes "run") (codes "check") rows e named in absurd cc
+names_workers words rows (Analyse depth) e named = let differs = entered_once words (codes "run") (codes "analyse") rows e (ap (option_map (λ p. p.0)) named.1) in absurd cc
+names_workers words rows (Run workers) e named =
+    let both = some_same (codes "run", named.0) (codes "run", rows) (sym named.1 ∙ e) in
+    (workers, subst (λ (rs : List Row). IsWorkers rs workers) (ap (λ p. p.1) both) named.2, refl)
+names_workers words rows Audit e named = let differs = entered_once words (codes "run") (codes "audit") rows e named in absurd cc
+
+-- a line that words name is within its limits
+pub named_within : (words : List Text) (line : Line) → Names words line → IsWithin line
 named_within words Check named = tt
 named_within words (Analyse depth) named = named.2.limit
+named_within words (Run workers) named = (named.2.least_of, named.2.limit)
+named_within words Audit named = tt

@@ -5,7 +5,7 @@ use Rattle.clap.specs.Words.{App, Row, Rule, Text, new_app, new_rule, one_of, su
 use Rattle.clap.specs.Simple.{on_top}
 use Rattle.clap.specs.declared.builder.value_parser.ValueParser.TheVariants as vp
 use Rattle.tpl_cli.specs.declared.line.Line.{Line}
-use Rattle.tpl_cli.specs.declared.line.Line.TheVariants.{Check, Analyse}
+use Rattle.tpl_cli.specs.declared.line.Line.TheVariants.{Check, Analyse, Run, Audit}
 
 -- `--depth N`, a number from 0 to 6, and 2 where it is left out
 abbrev pub depth_rule : Rule
@@ -16,33 +16,64 @@ depth_rule = record (new_rule (codes "depth")) {
   parser = Some (vp.Signed (pos 0) (pos 6));
 }
 
--- a command line with its subcommands
-abbrev pub taskgraph : App
-taskgraph = with_subcommand
+-- `--workers N`, a number from 1 to 64, and 4 where it is left out
+abbrev pub workers_rule : Rule
+workers_rule = record (new_rule (codes "workers")) {
+  long = Some (codes "workers");
+  value_names = 1;
+  defaults = codes "4" ∷ [];
+  parser = Some (vp.Signed (pos 1) (pos 64));
+}
+
+-- the subcommands that are about certificates
+abbrev pub about_certificates : App
+about_certificates = with_subcommand
     (with_subcommand
     (on_top (λ s. record s { subcommand_required = true }) (new_app (codes "taskgraph")))
     (new_app (codes "check")).top)
     (with_rule (new_app (codes "analyse")) depth_rule).top
 
+abbrev pub run_command : App
+run_command = with_rule (new_app (codes "run")) workers_rule
+
+abbrev pub audit_command : App
+audit_command = new_app (codes "audit")
+
+-- a command line with its subcommands
+abbrev pub taskgraph : App
+taskgraph = with_subcommand (with_subcommand about_certificates run_command.top) audit_command.top
+
 -- the subcommand that the words enter
 abbrev pub command_of : List Text → Option Text
 command_of words = option_map (λ p. p.0) (subcommand_of taskgraph words)
 
--- the option's text is this number in decimal digits, and at most 6
-pub record IsDepth (rows : List Row) (depth : ℕ) : Type 0 where
+-- the option's text is this number in decimal digits, within its range
+pub record IsGiven (option : Text) (least most : ℕ) (rows : List Row) (number : ℕ) : Type 0 where
   pub text : Text
-  pub given : one_of (codes "depth") rows ≡ Some text
+  pub given : one_of option rows ≡ Some text
   pub digits : IsNumeral 10 (without_leading_plus text)
-  pub value : digits_value 10 (without_leading_plus text) ≡ depth
-  pub limit : depth ≤ 6
+  pub value : digits_value 10 (without_leading_plus text) ≡ number
+  pub least_of : least ≤ number
+  pub limit : number ≤ most
+
+abbrev pub IsDepth : List Row → ℕ → Type 0
+IsDepth rows depth = IsGiven (codes "depth") 0 6 rows depth
+
+abbrev pub IsWorkers : List Row → ℕ → Type 0
+IsWorkers rows workers = IsGiven (codes "workers") 1 64 rows workers
 
 -- the words name this command
 abbrev pub Names : List Text → Line → Type 0
 Names words Check = command_of words ≡ Some (codes "check")
 Names words (Analyse depth) =
     (rows : List Row) × (subcommand_of taskgraph words ≡ Some (codes "analyse", rows)) × IsDepth rows depth
+Names words (Run workers) =
+    (rows : List Row) × (subcommand_of taskgraph words ≡ Some (codes "run", rows)) × IsWorkers rows workers
+Names words Audit = command_of words ≡ Some (codes "audit")
 
 -- what a line asks for is within the limits of the command
-abbrev pub IsWithinDepth : Line → Type 0
-IsWithinDepth Check = Unit {0}
-IsWithinDepth (Analyse depth) = depth ≤ 6
+abbrev pub IsWithin : Line → Type 0
+IsWithin Check = Unit {0}
+IsWithin (Analyse depth) = depth ≤ 6
+IsWithin (Run workers) = (1 ≤ workers) × (workers ≤ 64)
+IsWithin Audit = Unit {0}

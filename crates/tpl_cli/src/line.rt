@@ -1,8 +1,8 @@
 //! What the words of the command line say.
 
 ghost use Rattle.std.specs.Prelude.{◌≡◌, ℕ, true, false, IfOk, MatchResult, map};
-ghost use Rattle.clap.specs.Words.{app_of, found_of, kind_of, rows_of, rule_of, takes};
-ghost use Rattle.tpl_cli.specs.Line.{taskgraph, depth_rule, IsDepth, IsWithinDepth, Names};
+ghost use Rattle.clap.specs.Words.{app_of, found_of, kind_of, rows_of, rule_of, takes, with_subcommand};
+ghost use Rattle.tpl_cli.specs.Line.{about_certificates, audit_command, run_command, taskgraph, depth_rule, workers_rule, IsDepth, IsWorkers, IsWithin, Names};
 
 use clap::error::ErrorKind;
 use clap::{Arg, ArgMatches, Command, value_parser};
@@ -16,6 +16,10 @@ pub enum Line {
     Check,
     /// Search a certificate of a document's claims with at most so many splits on each path, 0 to 6.
     Analyse(u8),
+    /// Make a run of a document by so many workers, 1 to 64.
+    Run(u16),
+    /// Audit the journal of a document.
+    Audit,
 }
 
 /// Why there is nothing to do.
@@ -57,12 +61,25 @@ fn depth<'a>(alloc: Global) -> Arg<'a>
         .value_parser(value_parser!(u8).range(0..=6))
 }
 
-/// The command line: one of the subcommands has to stand there.
-fn taskgraph<'a>(alloc: Global) -> Result<Command<'a>, AllocError>
-    ensures { IfOk result (λ command. app_of command ≡ taskgraph) }
+/// The option for how many workers make a run.
+fn workers<'a>(alloc: Global) -> Arg<'a>
+    ensures rule { rule_of result ≡ workers_rule }
+    ensures own { result.global ≡ false }
+{
+    Arg::new(alloc, "workers")
+        .long("workers")
+        .value_name("N")
+        .help("How many workers make the run, 1 to 64")
+        .default_value("4")
+        .value_parser(value_parser!(u8).range(1..=64))
+}
+
+/// The subcommands that are about certificates. One of the subcommands has to stand there.
+fn about_certificates<'a>(alloc: Global) -> Result<Command<'a>, AllocError>
+    ensures { IfOk result (λ command. app_of command ≡ about_certificates) }
 {
     Command::new(alloc, "taskgraph")
-        .about("Checks certificates of .NET task graphs; the document comes on standard input.")
+        .about("Checks and runs .NET task graphs; the document comes on standard input.")
         .subcommand_required(true)
         .subcommand(Command::new(alloc, "check").about("Checks the document's certificate"))?
         .subcommand(
@@ -70,6 +87,34 @@ fn taskgraph<'a>(alloc: Global) -> Result<Command<'a>, AllocError>
                 .about("Searches a certificate of the document's claims")
                 .arg(depth(alloc))?,
         )
+}
+
+/// The command line so far, and the subcommand that makes a run.
+fn with_run<'a>(alloc: Global, command: Command<'a>) -> Result<Command<'a>, AllocError>
+    ensures { IfOk result (λ more. app_of more ≡ with_subcommand (app_of command.entry) run_command.top) }
+{
+    command.subcommand(
+        Command::new(alloc, "run")
+            .about("Checks the document's certificate and makes a run of its graph")
+            .arg(workers(alloc))?,
+    )
+}
+
+/// The command line so far, and the subcommand that audits.
+fn with_audit<'a>(alloc: Global, command: Command<'a>) -> Result<Command<'a>, AllocError>
+    ensures { IfOk result (λ more. app_of more ≡ with_subcommand (app_of command.entry) audit_command.top) }
+{
+    command.subcommand(Command::new(alloc, "audit").about("Audits the document's journal"))
+}
+
+/// The command line.
+fn taskgraph<'a>(alloc: Global) -> Result<Command<'a>, AllocError>
+    ensures { IfOk result (λ command. app_of command ≡ taskgraph) }
+{
+    let certificates = about_certificates(alloc)?;
+    let runs = with_run(alloc, certificates)?;
+    let all = with_audit(alloc, runs)?;
+    Ok(all)
 }
 
 /// The text goes where its kind belongs: help that was asked for isn't a fault of the words.
@@ -100,10 +145,22 @@ fn depth_of(alloc: Global, given: &ArgMatches<'_>) -> Result<u8, LineFault>
     }
 }
 
+/// The value of the option, which the parse has tested.
+fn workers_of(alloc: Global, given: &ArgMatches<'_>) -> Result<u8, LineFault>
+    ensures named { IfOk result (IsWorkers (rows_of (found_of given.now))) }
+    ensures taken { (workers : ℕ) → IsWorkers (rows_of (found_of given.now)) workers
+        → MatchResult result (λ found. found ≡ workers) (λ fault. fault ≡ LineFault.Memory) }
+{
+    match given.get_one::<u8>("workers") {
+        Some(workers) if 1 <= workers && workers <= 64 => Ok(workers),
+        _ => Err(LineFault::Usage(String::from_str(alloc, "error: no workers\n")?)),
+    }
+}
+
 /// What the words say, the first of which is the program's own name. They are read by `clap`.
 pub fn line_of<'a>(alloc: Global, words: &'a [&'a str]) -> Result<Line, LineFault>
     ensures named { IfOk result (Names (map (λ word. word.now) words.entry.now)) }
-    ensures limit { IfOk result IsWithinDepth }
+    ensures limit { IfOk result IsWithin }
 
     // Words that the command line takes are refused for want of memory alone.
     ensures taken { let texts = map (λ word. word.now) words.entry.now in
@@ -120,6 +177,11 @@ pub fn line_of<'a>(alloc: Global, words: &'a [&'a str]) -> Result<Line, LineFaul
             Ok(depth) => Ok(Line::Analyse(depth)),
             Err(fault) => Err(fault),
         },
+        Some(("run", given)) => match workers_of(alloc, given) {
+            Ok(workers) => Ok(Line::Run(u16::from(workers))),
+            Err(fault) => Err(fault),
+        },
+        Some(("audit", _)) => Ok(Line::Audit),
         _ => Err(LineFault::Usage(String::from_str(alloc, "error: no command\n")?)),
     }
 }

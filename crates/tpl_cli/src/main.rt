@@ -1,17 +1,22 @@
 //! `taskgraph`: the document comes on standard input, and the answer goes to standard output.
 #![tactic(auto)]
 
+mod boxes;
 mod line;
 
 ghost use Rattle.std.specs.Prelude.{IfOk};
-ghost use Rattle.tpl_cli.specs.Line.{IsWithinDepth};
+ghost use Rattle.tpl_cli.specs.Line.{IsWithin};
 
+use crate::boxes::run_boxes;
 use crate::line::{Line, LineFault, line_of};
-use std::io::ErrorKind;
+use std::alloc::Global;
+use std::io::{BufWriter, ErrorKind, Read, Write};
 use std::process::ExitCode;
+use std::sync::Wait;
+use std::thread::Threads;
 use std::{env, iter};
 use tpl_journal::Counting;
-use tpl_report::{Ask, Exit, put_out_of_memory, serve};
+use tpl_report::{Ask, Exit, load, put_out_of_memory, serve};
 
 /// The words of the command line, the program's own name first.
 fn words(rt: &HostRuntime) -> Result<Vec<String>, LineFault> {
@@ -27,7 +32,7 @@ fn words(rt: &HostRuntime) -> Result<Vec<String>, LineFault> {
 
 /// What the command line says. Its texts call the program `taskgraph`, whatever file it is run from.
 fn given_line(rt: &HostRuntime) -> Result<Line, LineFault>
-    ensures { IfOk result IsWithinDepth }
+    ensures { IfOk result IsWithin }
 {
     let words = words(rt)?;
     let given = words.iter().skip(1).map(|word| word.as_str());
@@ -35,15 +40,35 @@ fn given_line(rt: &HostRuntime) -> Result<Line, LineFault>
     line_of(rt.alloc(), &texts)
 }
 
-/// Does what the command line says.
-fn perform(rt: &HostRuntime, line: Line) -> Exit
-    requires { IsWithinDepth line }
+/// Makes the run of the document that comes.
+fn run<R: Threads + Wait + Sync, I: Read, O: Write>(
+    rt: &R,
+    alloc: Global,
+    workers: u16,
+    from: &mut Counting<I>,
+    to: &mut Counting<O>,
+) -> Exit {
+    match load(alloc, from, to) {
+        Ok(document) => run_boxes(rt, alloc, &document, workers, to),
+        Err(exit) => exit,
+    }
+}
+
+/// Does what the command line says. What is written is kept together, and all of it is written out before the end is
+/// known.
+fn perform<R: Threads + Wait + Sync>(rt: &HostRuntime, threads: &R, line: Line) -> Exit
+    requires { IsWithin line }
 {
     let mut from = Counting::new(rt.stdin());
-    let mut to = Counting::new(rt.stdout());
+    let Ok(out) = BufWriter::new(rt.alloc(), rt.stdout()) else {
+        return put_out_of_memory(&mut Counting::new(rt.stdout()));
+    };
+    let mut to = Counting::new(out);
     match line {
         Line::Check => serve(rt.alloc(), Ask::Check, &mut from, &mut to),
         Line::Analyse(depth) => serve(rt.alloc(), Ask::Analyse(depth), &mut from, &mut to),
+        Line::Run(workers) => run(threads, rt.alloc(), workers, &mut from, &mut to),
+        Line::Audit => serve(rt.alloc(), Ask::Audit, &mut from, &mut to),
     }
 }
 
@@ -64,7 +89,7 @@ fn refuse(rt: &HostRuntime, fault: LineFault) -> Exit {
 
 fn main(rt: HostRuntime) -> ExitCode {
     let exit = match given_line(&rt) {
-        Ok(line) => perform(&rt, line),
+        Ok(line) => perform(&rt, &rt, line),
         Err(fault) => refuse(&rt, fault),
     };
     ExitCode::from(exit.code())

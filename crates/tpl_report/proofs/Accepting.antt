@@ -7,7 +7,7 @@ use Rattle.tpl_report.specs.declared.answer.Answer.{Answer}
 use Rattle.tpl_report.specs.declared.exit.Exit.{Exit}
 use Rattle.tpl_report.specs.declared.serving.Ask.{Ask}
 use Rattle.tpl_report.specs.declared.serving.Ask.TheVariants.{Analyse}
-use Rattle.tpl_report.specs.declared.exit.Exit.TheVariants.{Success, Failure, Usage, Unreadable, Memory, Device}
+use Rattle.tpl_report.specs.declared.exit.Exit.TheVariants.{Success, Failure, Usage, Unreadable, Memory, Device, Fault}
 use Rattle.tpl_report.specs.Checking.{Checks, IsAccepted}
 use Rattle.tpl_report.specs.Documents.{ToDocument}
 use Rattle.tpl_report.specs.Finding.{Finds, IsCertificate}
@@ -34,6 +34,7 @@ says_success input Usage text e s = absurd s
 says_success input Unreadable text e s = absurd cc
 says_success input Memory text e s = absurd cc
 says_success input Device text e s = absurd s
+says_success input Fault text e s = absurd s
 
 puts_success : {W : Type 0} (contents : W → Option (List ℕ)) (old new : Counting W) (exit : Exit) (text : List ℕ) (result : Exit) → Puts contents old new exit text result → result ≡ Success → (exit ≡ Success) × Writes contents old new text
 puts_success contents old new exit text result (inl w) e = (sym w.0 ∙ e, w.1)
@@ -71,6 +72,7 @@ says_found depth input Usage text e s = absurd s
 says_found depth input Unreadable text e s = absurd cc
 says_found depth input Memory text e s = absurd cc
 says_found depth input Device text e s = absurd s
+says_found depth input Fault text e s = absurd s
 
 pub success_finds : {R W : Type 0} (remaining : R → Option (List ℕ)) (from_old from_new : Counting R) (contents : W → Option (List ℕ)) (old new : Counting W) (depth : ℕ) (result : Exit) → Responds (Finds depth) remaining from_old from_new contents old new result → result ≡ Success → Found remaining from_old from_new contents old new depth
 unfolding IsFound

@@ -7,8 +7,12 @@ use Rattle.tpl_report.specs.declared.exit.Exit.TheVariants.{Unreadable}
 use Rattle.tpl_report.specs.Unreadable.{IsUnreadable}
 use Rattle.tpl_report.specs.Responding.{Answers}
 
+-- the bytes spell no document, and the text says why
+abbrev pub NoDocument : Answers
+NoDocument input exit text = (fault : ReadFault) × IsFault input fault × (exit ≡ Unreadable) × IsUnreadable fault text
+
 -- the bytes spell a document to which this is the answer, or they spell none and the text says why
 abbrev pub ToDocument : (DocumentValue → Exit → List ℕ → Type 0) → Answers
 ToDocument Is input exit text =
     ((doc : DocumentValue) × Spells input doc × Is doc exit text)
-    ⊎ ((fault : ReadFault) × IsFault input fault × (exit ≡ Unreadable) × IsUnreadable fault text)
+    ⊎ NoDocument input exit text

@@ -1,7 +1,7 @@
 -- How the program ends.
 use Rattle.std.specs.Prelude.{ℕ, Bool, true, false}
 use Rattle.tpl_report.specs.declared.exit.Exit.{Exit}
-use Rattle.tpl_report.specs.declared.exit.Exit.TheVariants.{Success, Failure, Usage, Unreadable, Memory, Device}
+use Rattle.tpl_report.specs.declared.exit.Exit.TheVariants.{Success, Failure, Usage, Unreadable, Memory, Device, Fault}
 
 -- the status of the process
 abbrev pub exit_code : Exit → ℕ
@@ -11,6 +11,7 @@ exit_code Usage = 2
 exit_code Unreadable = 3
 exit_code Memory = 4
 exit_code Device = 5
+exit_code Fault = 5
 
 -- a document was answered, whatever the answer was
 abbrev pub is_verdict : Exit → Bool
@@ -20,3 +21,4 @@ is_verdict Usage = false
 is_verdict Unreadable = true
 is_verdict Memory = false
 is_verdict Device = false
+is_verdict Fault = false

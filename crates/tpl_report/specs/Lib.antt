@@ -1,8 +1,14 @@
+pub mod Auditing
 pub mod Checking
 pub mod Documents
 pub mod Exit
 pub mod Finding
+pub mod Loading
+pub mod Reported
 pub mod Responding
+pub mod Running
+pub mod RunTexts
 pub mod Serving
+pub mod Starting
 pub mod Texts
 pub mod Unreadable

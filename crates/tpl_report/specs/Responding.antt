@@ -5,7 +5,7 @@ use Rattle.tpl_journal.specs.declared.counting.Counting.{Counting}
 use Rattle.tpl_journal.specs.Counting.{failures_of, counted, remaining_of, contents_of}
 use Rattle.tpl_journal.specs.Writing.{AppendsFront}
 use Rattle.tpl_report.specs.declared.exit.Exit.{Exit}
-use Rattle.tpl_report.specs.declared.exit.Exit.TheVariants.{Success, Failure, Usage, Unreadable, Memory, Device}
+use Rattle.tpl_report.specs.declared.exit.Exit.TheVariants.{Success, Failure, Usage, Unreadable, Memory, Device, Fault}
 
 -- the most bytes of a document
 abbrev pub longest : ℕ
@@ -30,6 +30,7 @@ Says answers input Unreadable text =
     ⊎ ((longest < length input) × (text ≡ codes "unreadable: too long\n"))
 Says answers input Memory text = text ≡ codes "out of memory\n"
 Says answers input Device text = ⊥
+Says answers input Fault text = ⊥
 
 -- no read failed, and what the reader had is this input, where that is known
 pub record Reads {R : Type 0} (remaining : R → Option (List ℕ)) (old new : Counting R) (input : List ℕ) : Type 0 where

@@ -4,19 +4,23 @@ use Rattle.tpl_journal.specs.declared.counting.Counting.{Counting}
 use Rattle.tpl_model.specs.Certificate.{Accepts}
 use Rattle.tpl_reader.specs.Document.{DocumentValue, Spells}
 use Rattle.tpl_report.specs.declared.serving.Ask.{Ask}
-use Rattle.tpl_report.specs.declared.serving.Ask.TheVariants.{Check, Analyse}
+use Rattle.tpl_report.specs.declared.serving.Ask.TheVariants.{Check, Analyse, Audit}
 use Rattle.tpl_report.specs.Responding.{Answers, Reads, Writes}
 use Rattle.tpl_report.specs.Checking.{Checks, ClaimsHold}
 use Rattle.tpl_report.specs.Finding.{Finds, IsCertificate}
+use Rattle.tpl_report.specs.Auditing.{Audits, IsAudit, NamesNoFailure}
+use Rattle.tpl_report.specs.declared.exit.Exit.{Exit}
 
 abbrev pub answers_of : Ask → Answers
 answers_of Check = Checks
 answers_of (Analyse depth) = Finds depth
+answers_of Audit = Audits
 
 -- a search has at most 6 splits on a path
 abbrev pub IsWithinDepth : Ask → Type 0
 IsWithinDepth Check = Unit {0}
 IsWithinDepth (Analyse depth) = depth ≤ 6
+IsWithinDepth Audit = Unit {0}
 
 -- What was read spells a document whose certificate is accepted, and each of its claims holds in
 -- each run of its graph; `accepted` was written.
@@ -38,4 +42,16 @@ pub record Found {R W : Type 0} (remaining : R → Option (List ℕ)) (from_old 
   pub spelled : Spells input doc
   pub text : List ℕ
   pub certificate : IsCertificate depth doc text
+  pub writes : Writes contents to_old to_new text
+
+-- What was read spells a document, and the audit of its journal was written, which ends so. Where its
+-- certificate is accepted, no claim is named as failing.
+pub record Audited {R W : Type 0} (remaining : R → Option (List ℕ)) (from_old from_new : Counting R) (contents : W → Option (List ℕ)) (to_old to_new : Counting W) (exit : Exit) : Type 0 where
+  pub input : List ℕ
+  pub reads : Reads remaining from_old from_new input
+  pub doc : DocumentValue
+  pub spelled : Spells input doc
+  pub text : List ℕ
+  pub audit : IsAudit doc exit text
+  pub sound : Accepts doc.graph.graph doc.claims doc.certificate → NamesNoFailure text
   pub writes : Writes contents to_old to_new text

@@ -1,5 +1,5 @@
 -- The lines that the program writes.
-use Rattle.std.specs.Prelude.{ℕ, List, ◌++◌, codes, decimal}
+use Rattle.std.specs.Prelude.{ℕ, Bool, true, false, List, ◌++◌, codes, decimal}
 use Rattle.tpl_model.specs.declared.fault.Rule.{Rule}
 use Rattle.tpl_model.specs.declared.fault.Rule.TheVariants.{K1, K2, K3, K4, K5, K6}
 
@@ -22,6 +22,17 @@ refused_claim claim leaf = codes "refused: claim " ++ (decimal claim ++ (codes "
 
 abbrev pub not_found : ℕ → List ℕ
 not_found claim = codes "not found: claim " ++ (decimal claim ++ codes "\n")
+
+-- whether each task has ended
+abbrev pub ended : Bool → List ℕ
+ended true = codes "run complete\n"
+ended false = codes "run not complete\n"
+
+abbrev pub claim_fails : ℕ → ℕ → List ℕ
+claim_fails claim place = codes "claim " ++ (decimal claim ++ (codes " fails at " ++ (decimal place ++ codes "\n")))
+
+abbrev pub not_allowed : ℕ → List ℕ
+not_allowed place = codes "not allowed at " ++ (decimal place ++ codes "\n")
 
 abbrev pub unreadable : List ℕ → List ℕ
 unreadable what = codes "unreadable: " ++ (what ++ codes "\n")

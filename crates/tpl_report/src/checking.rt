@@ -1,11 +1,11 @@
 //! The check of a document's certificate.
 
-ghost use Rattle.std.specs.Prelude.{◌≡◌, IfOk, string_bytes};
+ghost use Rattle.std.specs.Prelude.{◌≡◌, IfOk, IfErr, OnOk, string_bytes};
 ghost use Rattle.std.specs.List.{All};
 ghost use Rattle.tpl_cert.specs.Heights.{IsWithinLimits};
 ghost use Rattle.tpl_claims.specs.Fits.{Fits};
 ghost use Rattle.tpl_reader.specs.SeenDocument.{doc_of};
-ghost use Rattle.tpl_report.specs.Checking.{Checks, IsVerdict, IsRefusal, NamesTask};
+ghost use Rattle.tpl_report.specs.Checking.{Checks, IsAccepted, IsRefused, IsVerdict, IsRefusal, NamesTask};
 
 use crate::answer::Answer;
 use crate::exit::Exit;
@@ -32,6 +32,20 @@ impl Command for Check {
     }
 }
 
+/// The check of a document's certificate.
+pub(crate) fn check_document(document: &Document) -> Result<(), CertFault>
+    requires claims { All (Fits document.now.graph.graph) document.now.claims.items }
+    requires trees { All IsWithinLimits document.now.certificate }
+    ensures accepted { OnOk result (IsAccepted (doc_of document.now)) }
+    ensures refused { IfErr result (IsRefused (doc_of document.now)) }
+    ensures named { IfErr result (NamesTask document.now.graph.graph) }
+{
+    match check(&document.graph, &document.claims, &document.certificate) {
+        Ok(()) => Ok(()),
+        Err(fault) => Err(fault),
+    }
+}
+
 /// The verdict on a document's certificate.
 fn verdict_on(alloc: Global, document: &Document) -> Result<Answer, AllocError>
     requires claims { All (Fits document.now.graph.graph) document.now.claims.items }
@@ -39,16 +53,29 @@ fn verdict_on(alloc: Global, document: &Document) -> Result<Answer, AllocError>
     ensures { IfOk result (λ given.
         IsVerdict (doc_of document.now) given.exit (string_bytes given.text)) }
 {
-    match check(&document.graph, &document.claims, &document.certificate) {
+    match check_document(document) {
         Ok(()) => Ok(Answer {
             exit: Exit::Success,
             text: String::from_str(alloc, "accepted\n")?,
         }),
-        Err(fault) => Ok(Answer {
-            exit: Exit::Failure,
-            text: refusal(alloc, &document.graph, fault)?,
-        }),
+        Err(fault) => refused_answer(alloc, &document.graph, fault),
     }
+}
+
+/// The answer to a certificate that has this fault.
+pub(crate) fn refused_answer(
+    alloc: Global,
+    graph: &Graph,
+    fault: CertFault,
+) -> Result<Answer, AllocError>
+    requires { NamesTask graph.now.graph fault }
+    ensures { IfOk result (λ given. (given.exit ≡ Exit.Failure)
+        × IsRefusal graph.now.names.tasks fault (string_bytes given.text)) }
+{
+    Ok(Answer {
+        exit: Exit::Failure,
+        text: refusal(alloc, graph, fault)?,
+    })
 }
 
 /// The line for the first fault of a certificate.

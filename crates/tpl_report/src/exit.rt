@@ -6,7 +6,7 @@ ghost use Rattle.tpl_report.specs.Exit.{exit_code};
 /// How the program ends.
 #[derive(Clone, Copy, Debug, Drop, PartialEq, Eq)]
 pub enum Exit {
-    /// The certificate is accepted, a certificate was found, the run is complete, or help was given.
+    /// The certificate is accepted, a certificate was found, the run is complete and no claim fails, or help was given.
     Success,
     /// It isn't.
     Failure,
@@ -18,6 +18,8 @@ pub enum Exit {
     Memory,
     /// A read or a write failed.
     Device,
+    /// A run couldn't be opened, made or closed, for another reason than memory.
+    Fault,
 }
 
 impl Exit {
@@ -32,6 +34,7 @@ impl Exit {
             Exit::Unreadable => 3,
             Exit::Memory => 4,
             Exit::Device => 5,
+            Exit::Fault => 5,
         }
     }
 }

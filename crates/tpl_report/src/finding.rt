@@ -1,10 +1,12 @@
 //! The search for a certificate of a document's claims.
 
-ghost use Rattle.std.specs.Prelude.{◌≡◌, ◌++◌, ◌≤◌, true, codes, IfOk, map, string_bytes};
+ghost use Rattle.std.specs.Prelude.{◌≡◌, ◌++◌, ◌≤◌, true, Some, codes, IfOk, map, string_bytes};
 ghost use Rattle.std.specs.List.{All};
 ghost use Rattle.serde_json.specs.Data.{array};
+ghost use Rattle.serde_json.specs.Read.{read};
 ghost use Rattle.serde_json.specs.View.{view, items_of};
 ghost use Rattle.serde_json.specs.Written.{compact_text};
+ghost use Rattle.tpl_cert.specs.Heights.{height};
 ghost use Rattle.tpl_cert.specs.Written.{has_ids};
 ghost use Rattle.tpl_claims.specs.Fits.{Fits};
 ghost use Rattle.tpl_reader.specs.SeenDocument.{doc_of};
@@ -18,9 +20,9 @@ use crate::unreadable::unreadable_answer;
 use serde_json::Value;
 use std::alloc::{AllocError, Global};
 use tpl_analyser::{Gap, analyse};
-use tpl_cert::{Tree, TreeToFault, tree_to};
+use tpl_cert::{Tree, TreeToFault, certificates_nest_little, tree_to};
 use tpl_graph::Graph;
-use tpl_reader::{Document, read_document};
+use tpl_reader::{Document, certificate_is_read_back, one_document, read_document};
 
 /// Searches a certificate of a document's claims. The certificate that the document has, if any, is read like the rest
 /// of it, and not used.
@@ -51,11 +53,17 @@ fn finding_for(alloc: Global, document: &Document, depth: u8) -> Result<Answer, 
 {
     document.graph.valid();
     tpl_laws::soundness();
+    one_document();
+    certificate_is_read_back();
     match analyse(alloc, &document.graph, &document.claims, depth) {
-        Ok(certificate) => Ok(Answer {
-            exit: Exit::Success,
-            text: certificate_text(alloc, &document.graph, certificate.trees())?,
-        }),
+        Ok(certificate) => {
+            certificate.within_limits();
+            let text = certificate_text(alloc, &document.graph, certificate.trees())?;
+            Ok(Answer {
+                exit: Exit::Success,
+                text,
+            })
+        }
         Err(Gap::NotFound { claim }) => Ok(Answer {
             exit: Exit::Failure,
             text: not_found(alloc, claim)?,
@@ -66,11 +74,15 @@ fn finding_for(alloc: Global, document: &Document, depth: u8) -> Result<Answer, 
 
 /// The trees as one array, and a line break.
 fn certificate_text(alloc: Global, graph: &Graph, trees: &[Tree]) -> Result<String, AllocError>
-    requires { All (λ tree. has_ids graph.now.names tree ≡ true) trees.now }
+    requires ids { All (λ tree. has_ids graph.now.names tree ≡ true) trees.now }
+    requires limits { All (λ tree. height tree ≤ 6) trees.now }
     ensures written { IfOk result (λ text.
         string_bytes text ≡ compact_text (written_trees graph.now.names trees.now) ++ codes "\n") }
     ensures read { IfOk result (λ _. All (IsRead graph.now.names) trees.now) }
+    ensures value { IfOk result (λ _. read (compact_text (written_trees graph.now.names trees.now))
+        ≡ Some (written_trees graph.now.names trees.now)) }
 {
+    certificates_nest_little();
     let mut text = array_of(tree_values(alloc, graph, trees)?).to_string(alloc)?;
     text.push_str("\n")?;
     Ok(text)

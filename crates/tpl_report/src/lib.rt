@@ -2,20 +2,30 @@
 #![tactic(auto)]
 
 mod answer;
+mod auditing;
 mod checking;
 mod exit;
+mod fault;
 mod finding;
+mod loading;
 mod responding;
+mod running;
 mod serving;
+mod session;
 mod text;
 mod unreadable;
 
 pub use answer::{Answer, put_answer, put_out_of_memory};
+pub use auditing::Audit;
 pub use checking::Check;
 pub use exit::Exit;
+pub use fault::RunFault;
 pub use finding::Analyse;
+pub use loading::load;
 pub use responding::{Command, read_input, respond};
+pub use running::serve_run;
 pub use serving::{Ask, serve};
+pub use tpl_report_text::write_report;
 
 #[cfg(test)]
 mod tests;

@@ -1,10 +1,11 @@
 //! The commands that read one document and write one text.
 
-ghost use Rattle.std.specs.Prelude.{◌≡◌, ◌+◌, ◌≤◌, ℕ};
+ghost use Rattle.std.specs.Prelude.{◌≡◌, ◌⊎◌, ◌+◌, ◌≤◌, ℕ};
 ghost use Rattle.tpl_journal.specs.Counting.{calls_of};
 ghost use Rattle.tpl_report.specs.Responding.{longest, Responds};
-ghost use Rattle.tpl_report.specs.Serving.{answers_of, IsWithinDepth, Accepted, Found};
+ghost use Rattle.tpl_report.specs.Serving.{answers_of, IsWithinDepth, Accepted, Found, Audited};
 
+use crate::auditing::Audit;
 use crate::checking::Check;
 use crate::exit::Exit;
 use crate::finding::Analyse;
@@ -20,6 +21,8 @@ pub enum Ask {
     Check,
     /// Which certificate do its claims have, with at most so many splits on each path (0 to 6)?
     Analyse(u8),
+    /// Is its journal a run, is that complete, and where does a claim fail?
+    Audit,
 }
 
 /// Reads a document to its end, at most 16,777,216 bytes, and writes the answer. The text is made
@@ -42,9 +45,14 @@ pub fn serve<R: Read, W: Write>(
         → Accepted R.remaining from.old from.new W.contents to.old to.new }
     ensures found { (depth : ℕ) → ask ≡ Ask.Analyse depth → result ≡ Exit.Success
         → Found R.remaining from.old from.new W.contents to.old to.new depth }
+
+    // Where the audit answers and the document's certificate is accepted, no claim is named as failing.
+    ensures audited { ask ≡ Ask.Audit → (result ≡ Exit.Success) ⊎ (result ≡ Exit.Failure)
+        → Audited R.remaining from.old from.new W.contents to.old to.new result }
 {
     match ask {
         Ask::Check => respond(&Check, alloc, from, to),
         Ask::Analyse(depth) => respond(&Analyse { depth }, alloc, from, to),
+        Ask::Audit => respond(&Audit, alloc, from, to),
     }
 }

@@ -1,7 +1,7 @@
 //! The lines that the program writes.
 
-ghost use Rattle.std.specs.Prelude.{◌≡◌, IfOk, string_bytes};
-ghost use Rattle.tpl_report.specs.Texts.{rule_name, refused_shape, refused_leaf, refused_claim, not_found, unreadable, unreadable_part, unreadable_at, unreadable_graph, unreadable_start};
+ghost use Rattle.std.specs.Prelude.{◌≡◌, ◌++◌, IfOk, string_bytes};
+ghost use Rattle.tpl_report.specs.Texts.{rule_name, refused_shape, refused_leaf, refused_claim, not_found, ended, claim_fails, not_allowed, unreadable, unreadable_part, unreadable_at, unreadable_graph, unreadable_start};
 
 use std::alloc::{AllocError, Global};
 use tpl_model::Rule;
@@ -49,6 +49,36 @@ pub(crate) fn not_found(alloc: Global, claim: usize) -> Result<String, AllocErro
     ensures { IfOk result (λ text. string_bytes text ≡ not_found claim) }
 {
     format!(in alloc; "not found: claim {claim}\n")
+}
+
+/// Whether each task has ended.
+pub(crate) fn ended(complete: bool) -> &'static str
+    ensures { result.now ≡ ended complete }
+{
+    if complete {
+        "run complete\n"
+    } else {
+        "run not complete\n"
+    }
+}
+
+/// Whether each task has ended, and where a claim fails.
+pub(crate) fn failing(
+    alloc: Global,
+    complete: bool,
+    claim: usize,
+    place: usize,
+) -> Result<String, AllocError>
+    ensures { IfOk result (λ text. string_bytes text ≡ ended complete ++ claim_fails claim place) }
+{
+    let ended = ended(complete);
+    format!(in alloc; "{ended}claim {claim} fails at {place}\n")
+}
+
+pub(crate) fn not_allowed(alloc: Global, place: usize) -> Result<String, AllocError>
+    ensures { IfOk result (λ text. string_bytes text ≡ not_allowed place) }
+{
+    format!(in alloc; "not allowed at {place}\n")
 }
 
 pub(crate) fn unreadable(alloc: Global, what: &str) -> Result<String, AllocError>

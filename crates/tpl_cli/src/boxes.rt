@@ -1,0 +1,73 @@
+//! The boxes of a document's work statements.
+
+ghost use Rattle.std.specs.Prelude.{◌≡◌, false};
+ghost use Rattle.std.specs.List.{All};
+ghost use Rattle.tpl_cert.specs.Heights.{IsWithinLimits};
+ghost use Rattle.tpl_claims.specs.Fits.{Fits};
+ghost use Rattle.tpl_reader.specs.SeenDocument.{doc_of};
+ghost use Rattle.tpl_report.specs.Loading.{RequestsTokens};
+
+use std::alloc::Global;
+use std::io::Write;
+use std::sync::Wait;
+use std::thread::Threads;
+use tpl_jobs::{Work, WorkItem};
+use tpl_journal::Counting;
+use tpl_reader::Document;
+use tpl_report::{Exit, put_out_of_memory, serve_run};
+use tpl_words::{Answer, SiteId};
+
+/// The stamp of this program's boxes.
+#[derive(Drop)]
+struct Stamp;
+
+/// The document says that the job of this site fails.
+fn fails(document: &Document, site: SiteId) -> bool {
+    match &document.start {
+        Some(start) => start.fail.iter().any(|there| there.0 == site.0),
+        None => false,
+    }
+}
+
+/// What the job of this site answers.
+fn answer_of(document: &Document, site: SiteId, may_fail: bool) -> Answer
+    ensures { may_fail ≡ false → result ≡ Answer.Done }
+{
+    if may_fail && fails(document, site) {
+        Answer::Failed
+    } else {
+        Answer::Done
+    }
+}
+
+/// Makes one box for each work statement, which answers `Failed` exactly where `start.fail` names it, and makes the run
+/// of the document with them.
+pub fn run_boxes<R: Threads + Wait + Sync, O: Write>(
+    rt: &R,
+    alloc: Global,
+    document: &Document,
+    workers: u16,
+    to: &mut Counting<O>,
+) -> Exit
+    requires claims { All (Fits document.now.graph.graph) document.now.claims.items }
+    requires trees { All IsWithinLimits document.now.certificate }
+    requires tokens { RequestsTokens (doc_of document.now) }
+{
+    let mut items: Vec<WorkItem<Stamp>> = Vec::new(alloc);
+    for number in 0..document.graph.site_count() {
+        let site = SiteId(number as u16);
+        let may_fail = document.graph.site_may_fail(site);
+        let answer = answer_of(document, site, may_fail);
+        let Ok(work) = Box::new(alloc, move |_site: SiteId| -> Answer { answer }) else {
+            return put_out_of_memory(to);
+        };
+        let work: Work = work;
+        if items
+            .push(WorkItem::new(Stamp, site, may_fail, work))
+            .is_err()
+        {
+            return put_out_of_memory(to);
+        }
+    }
+    serve_run(rt, alloc, document, items, workers, to)
+}

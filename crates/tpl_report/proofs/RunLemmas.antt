@@ -1,0 +1,113 @@
+-- From a session's report to what is written of it.
+use Rattle.std.proofs.Common.{◌≡◌, ◌∙◌, ℕ, zero, suc, ◌<◌, Bool, true, false, List, [], ◌∷◌, length, length-append, map, Option, Some, None, Result, Ok, Err, codes, refl, sym, ap, subst, inl, inr, arith}
+use Rattle.std.specs.Prelude.{reverse, IfOk, MatchResult, string_bytes}
+use Rattle.std.specs.declared.alloc.AllocError.{AllocError}
+use Rattle.tpl_model.specs.declared.fault.CertFault.{CertFault}
+use Rattle.tpl_report.specs.declared.answer.Answer.{Answer}
+use Rattle.std.specs.List.{All}
+use Rattle.std.proofs.lemmas.List.{get_or-map, length-map}
+use Rattle.tpl_graph.specs.Named.{Named}
+use Rattle.tpl_journal.specs.declared.counting.Counting.{Counting}
+use Rattle.tpl_journal.specs.Lines.{CanSpell}
+use Rattle.tpl_reader.specs.Document.{DocumentValue}
+use Rattle.tpl_report_text.specs.ReportText.{ReportValue, ReportText, IsReportOf}
+use Rattle.tpl_runtime.specs.Reports.{each_below}
+use Rattle.tpl_report.specs.declared.exit.Exit.{Exit}
+use Rattle.tpl_report.specs.declared.exit.Exit.TheVariants.{Success, Failure, Usage, Unreadable, Memory, Device, Fault}
+use Rattle.tpl_report.specs.Checking.{IsAccepted, IsRefused, IsRefusal}
+use Rattle.tpl_report.specs.Reported.{IsReport}
+use Rattle.tpl_report.specs.Responding.{Puts, Writes}
+use Rattle.tpl_report.specs.Running.{report_exit, IsReported, RunsFrom, RunsWith, Runs, Completes}
+use Rattle.tpl_report.specs.Starting.{inputs_of}
+
+-- what holds of each number holds of what it is the number of
+pub all_mapped : {X Y : Type 0} (f : X → Y) (P : Y → Type 0) (xs : List X) → All P (map f xs) → All (λ x. P (f x)) xs
+all_mapped f P xs all = λ k d lt.
+    subst P (get_or-map f xs k d (f d) lt) (all k (f d) (subst (λ (n : ℕ). k < n) (sym (length-map xs f)) lt))
+
+length-each_below : {A : Type 0} (f : ℕ → A) (n : ℕ) → length (each_below f n) ≡ n
+length-each_below f zero = refl
+length-each_below f (suc n) = omega (arith, length-append (each_below f n) (f n ∷ []), length-each_below f n)
+
+-- a report of a run can be written
+pub report_is_of : (n : Named) (inputs : List Bool) (r : ReportValue) → IsReport n inputs r → All (CanSpell n.graph) r.journal → IsReportOf n r
+report_is_of n inputs r is events = record {
+  statuses = ap length is.statuses ∙ length-each_below _ (length n.graph.tasks);
+  carried = ap length is.carried ∙ length-each_below _ (length n.graph.tasks);
+  events = events;
+}
+
+-- the exit of a report, with its text
+report_runs : (doc : DocumentValue) (inputs : List Bool) (complete : Bool) (text : List ℕ) → IsReported doc inputs complete text → RunsWith doc inputs (report_exit complete) text
+report_runs doc inputs true text is = is
+report_runs doc inputs false text is = inl is
+
+pub reported : {W : Type 0} (doc : DocumentValue) (inputs : List Bool) (r : ReportValue) (contents : W → Option (List ℕ)) (old new : Counting W) (result : Exit) → IsAccepted doc → IsReport doc.graph inputs r
+    → Puts contents old new (report_exit r.complete) (ReportText doc.graph r) result → Runs doc (Some inputs) contents old new result
+reported doc inputs r contents old new result accepted is puts = record {
+  exit = report_exit r.complete;
+  text = ReportText doc.graph r;
+  runs = report_runs doc inputs r.complete (ReportText doc.graph r) (record {
+    accepted = accepted;
+    report = r;
+    of_run = is;
+    hold = accepted.hold inputs (reverse r.journal) is.run;
+    says = refl;
+    written = refl;
+  });
+  puts = puts;
+}
+
+-- the line for a certificate that is refused
+pub refused : {W : Type 0} (doc : DocumentValue) (inputs : List Bool) (fault : CertFault) (contents : W → Option (List ℕ)) (old new : Counting W) (result : Exit) (r : Result Answer AllocError) → IsRefused doc fault
+    → IfOk r (λ given. (given.exit ≡ Failure) × IsRefusal doc.graph.names.tasks fault (string_bytes given.text))
+    → MatchResult r (λ given. Puts contents old new given.exit (string_bytes given.text) result) (λ _. Puts contents old new Memory (codes "out of memory\n") result)
+    → Runs doc (Some inputs) contents old new result
+refused doc inputs fault contents old new result (Ok given) wrong is puts = record {
+  exit = Failure;
+  text = string_bytes given.text;
+  runs = inr (fault, wrong, is.1);
+  puts = subst (λ (e : Exit). Puts contents old new e (string_bytes given.text) result) is.0 puts;
+}
+refused doc inputs fault contents old new result (Err e) wrong is puts = record {
+  exit = Memory;
+  text = codes "out of memory\n";
+  runs = refl;
+  puts = puts;
+}
+
+-- what a run's end says of what was written
+
+success_completes : {W : Type 0} (doc : DocumentValue) (inputs : Option (List Bool)) (contents : W → Option (List ℕ)) (old new : Counting W) (exit : Exit) (text : List ℕ) → inputs_of doc ≡ inputs → exit ≡ Success → RunsFrom doc inputs exit text → Writes contents old new text → Completes doc contents old new
+success_completes doc None contents old new exit text known e runs writes = let f = sym e ∙ runs.0 in absurd cc
+success_completes doc (Some inputs) contents old new Success text known e runs writes = record { inputs = inputs; known = known; text = text; reported = runs; writes = writes }
+success_completes doc (Some inputs) contents old new Failure text known e runs writes = absurd cc
+success_completes doc (Some inputs) contents old new Usage text known e runs writes = absurd cc
+success_completes doc (Some inputs) contents old new Unreadable text known e runs writes = absurd cc
+success_completes doc (Some inputs) contents old new Memory text known e runs writes = absurd cc
+success_completes doc (Some inputs) contents old new Device text known e runs writes = absurd cc
+success_completes doc (Some inputs) contents old new Fault text known e runs writes = absurd cc
+
+pub run_completes : {W : Type 0} (doc : DocumentValue) (inputs : Option (List Bool)) (contents : W → Option (List ℕ)) (old new : Counting W) (result : Exit) → inputs_of doc ≡ inputs → Runs doc inputs contents old new result → result ≡ Success → Completes doc contents old new
+run_completes doc inputs contents old new result known r e = go r.puts
+  where
+    go : Puts contents old new r.exit r.text result → Completes doc contents old new
+    go (inl w) = success_completes doc inputs contents old new r.exit r.text known (sym w.0 ∙ e) r.runs w.1
+    go (inr f) = let d = sym e ∙ f.0 in absurd cc
+
+memory_writes : {W : Type 0} (doc : DocumentValue) (inputs : Option (List Bool)) (contents : W → Option (List ℕ)) (old new : Counting W) (exit : Exit) (text : List ℕ) → exit ≡ Memory → RunsFrom doc inputs exit text → Writes contents old new text → Writes contents old new (codes "out of memory\n")
+memory_writes doc None contents old new exit text e runs writes = let f = sym e ∙ runs.0 in absurd cc
+memory_writes doc (Some inputs) contents old new Success text e runs writes = absurd cc
+memory_writes doc (Some inputs) contents old new Failure text e runs writes = absurd cc
+memory_writes doc (Some inputs) contents old new Usage text e runs writes = absurd cc
+memory_writes doc (Some inputs) contents old new Unreadable text e runs writes = absurd cc
+memory_writes doc (Some inputs) contents old new Memory text e runs writes = subst (λ (t : List ℕ). Writes contents old new t) runs writes
+memory_writes doc (Some inputs) contents old new Device text e runs writes = absurd cc
+memory_writes doc (Some inputs) contents old new Fault text e runs writes = absurd cc
+
+pub run_starves : {W : Type 0} (doc : DocumentValue) (inputs : Option (List Bool)) (contents : W → Option (List ℕ)) (old new : Counting W) (result : Exit) → Runs doc inputs contents old new result → result ≡ Memory → Writes contents old new (codes "out of memory\n")
+run_starves doc inputs contents old new result r e = go r.puts
+  where
+    go : Puts contents old new r.exit r.text result → Writes contents old new (codes "out of memory\n")
+    go (inl w) = memory_writes doc inputs contents old new r.exit r.text (sym w.0 ∙ e) r.runs w.1
+    go (inr f) = let d = sym e ∙ f.0 in absurd cc

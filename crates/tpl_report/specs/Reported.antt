@@ -1,0 +1,36 @@
+-- What a report says of a run.
+use Rattle.std.specs.Prelude.{◌≡◌, ◌↔◌, ℕ, Bool, true, List, length, map, reverse}
+use Rattle.tpl_model.specs.Rules.{Run, Complete, status, label, carried}
+use Rattle.tpl_graph.specs.Named.{Named}
+use Rattle.tpl_report_text.specs.Carried.{numbers, numbers_of}
+use Rattle.tpl_report_text.specs.ReportText.{ReportValue}
+use Rattle.tpl_hall.specs.Answers.{answers}
+use Rattle.tpl_runtime.specs.Reports.{each_below, those_below, is_unseen, AreOnce}
+use Rattle.tpl_runtime.specs.declared.closing.Report.{Report}
+
+-- what is written of a session's report
+abbrev pub told : {K W : Type 0} → Report K W → ReportValue
+told r = record {
+  complete = r.complete;
+  statuses = r.statuses.items;
+  labels = r.labels.items;
+  carried = map numbers_of r.carried.items;
+  unseen = numbers r.unseen.items;
+  called = length r.receipts.items;
+  returned = length r.items.items;
+  journal = r.journal.items;
+}
+
+-- The report is of a run of this graph with these inputs: its journal is one, the first event first, and
+-- the rest is true of it. Each work statement was called, as the journal says, or its item came back.
+pub record IsReport (n : Named) (inputs : List Bool) (r : ReportValue) : Type 0 where
+  pub run : Run n.graph inputs (reverse r.journal)
+  pub completeness : (r.complete ≡ true) ↔ Complete n.graph inputs (reverse r.journal)
+  pub statuses : r.statuses ≡ each_below (status n.graph inputs (reverse r.journal)) (length n.graph.tasks)
+  pub labels : r.labels ≡ each_below (label n.graph inputs (reverse r.journal)) (length n.graph.tasks)
+  pub carried : r.carried ≡ each_below (carried n.graph inputs (reverse r.journal)) (length n.graph.tasks)
+  pub unseen : r.unseen ≡ those_below (is_unseen n.graph inputs (reverse r.journal)) (length n.graph.tasks)
+  pub called : r.called ≡ length (answers n.graph inputs (reverse r.journal))
+  pub back : List ℕ
+  pub returned : r.returned ≡ length back
+  pub once : AreOnce (length n.names.sites) (map (λ a. a.0) (answers n.graph inputs (reverse r.journal))) back

@@ -1,0 +1,163 @@
+//! A document's run, from its items to a writer.
+
+ghost use Rattle.std.specs.Prelude.{◌≡◌, Some, IfErr, codes};
+ghost use Rattle.std.specs.List.{All};
+ghost use Rattle.tpl_cert.specs.Heights.{IsWithinLimits};
+ghost use Rattle.tpl_claims.specs.Fits.{Fits};
+ghost use Rattle.tpl_model.specs.Graph.{is_token};
+ghost use Rattle.tpl_reader.specs.SeenDocument.{doc_of};
+ghost use Rattle.tpl_report_text.specs.Carried.{said};
+ghost use Rattle.tpl_report_text.specs.ReportText.{IsReportOf, ReportText};
+ghost use Rattle.tpl_report.specs.Checking.{IsAccepted};
+ghost use Rattle.tpl_report.specs.Loading.{RequestsTokens};
+ghost use Rattle.tpl_report.specs.Responding.{Puts, Writes};
+ghost use Rattle.tpl_report.specs.Reported.{told};
+ghost use Rattle.tpl_report.specs.Running.{report_exit, Completes, Runs};
+ghost use Rattle.tpl_report.specs.Starting.{inputs_of};
+ghost use Rattle.tpl_words.specs.declared.ids.TokenId.{TokenId};
+
+use crate::answer::{put, put_answer, put_out_of_memory};
+use crate::auditing::inputs_of;
+use crate::checking::{check_document, refused_answer};
+use crate::exit::Exit;
+use crate::fault::Stop;
+use crate::session::report_on;
+use std::alloc::Global;
+use std::io::Write;
+use std::sync::Wait;
+use std::thread::Threads;
+use tpl_graph::Graph;
+use tpl_journal::Counting;
+use tpl_reader::Document;
+use tpl_report_text::{Report as Told, write_report};
+use tpl_runtime::{Item, Report};
+use tpl_words::{Inputs, TokenId};
+
+/// The tokens that are requested first.
+fn requests(document: &Document) -> &[TokenId]
+    requires { RequestsTokens (doc_of document.now) }
+    ensures { All (λ (k : TokenId). is_token document.now.graph.graph k.0) result.now }
+{
+    match &document.start {
+        Some(start) => start.request.as_slice(),
+        None => &[],
+    }
+}
+
+/// What is written of a session's report.
+fn told<'a, K: Drop, W: Drop>(report: &'a Report<K, W>) -> Told<'a>
+    ensures { said result ≡ told report.now }
+{
+    Told {
+        complete: report.complete,
+        statuses: report.statuses.as_slice(),
+        labels: report.labels.as_slice(),
+        carried: report.carried.as_slice(),
+        unseen: report.unseen.as_slice(),
+        called: report.receipts.len(),
+        returned: report.items.len(),
+        journal: report.journal.as_slice(),
+    }
+}
+
+/// Success, where the run is complete.
+fn report_exit(complete: bool) -> Exit
+    ensures { result ≡ report_exit complete }
+{
+    if complete {
+        Exit::Success
+    } else {
+        Exit::Failure
+    }
+}
+
+/// Writes the text of a report.
+fn put_report<O: Write, K: Drop, W: Drop>(
+    graph: &Graph,
+    report: &Report<K, W>,
+    to: &mut Counting<O>,
+) -> Exit
+    requires { IsReportOf graph.now (told report.now) }
+    ensures { Puts O.contents to.old to.new (report_exit report.now.complete)
+        (ReportText graph.now (told report.now)) result }
+{
+    match write_report(graph, &told(report), to) {
+        Ok(()) => report_exit(report.complete),
+        Err(_) => Exit::Device,
+    }
+}
+
+/// Makes the run of a document whose certificate is accepted, and writes what comes of it.
+fn run_with<R: Threads + Wait + Sync, K: Drop + Send, W: Item<K> + Send, O: Write>(
+    rt: &R,
+    alloc: Global,
+    document: &Document,
+    inputs: Inputs,
+    items: Vec<W>,
+    workers: u16,
+    to: &mut Counting<O>,
+) -> Exit
+    requires accepted { IsAccepted (doc_of document.now) }
+    requires tokens { RequestsTokens (doc_of document.now) }
+    ensures { Runs (doc_of document.now) (Some inputs) O.contents to.old to.new result }
+{
+    let graph = &document.graph;
+    match report_on(rt, alloc, graph, inputs, requests(document), items, workers) {
+        Ok(report) => put_report(graph, &report, to),
+        Err(Stop::Memory) => put_out_of_memory(to),
+        Err(Stop::Fault(fault)) => put(Exit::Fault, fault.line().as_bytes(), to),
+    }
+}
+
+/// Checks the certificate of a document, and makes its run where it is accepted.
+fn check_and_run<R: Threads + Wait + Sync, K: Drop + Send, W: Item<K> + Send, O: Write>(
+    rt: &R,
+    alloc: Global,
+    document: &Document,
+    inputs: Inputs,
+    items: Vec<W>,
+    workers: u16,
+    to: &mut Counting<O>,
+) -> Exit
+    requires claims { All (Fits document.now.graph.graph) document.now.claims.items }
+    requires trees { All IsWithinLimits document.now.certificate }
+    requires tokens { RequestsTokens (doc_of document.now) }
+    ensures { Runs (doc_of document.now) (Some inputs) O.contents to.old to.new result }
+{
+    match check_document(document) {
+        Ok(()) => run_with(rt, alloc, document, inputs, items, workers, to),
+        Err(fault) => put_answer(refused_answer(alloc, &document.graph, fault), to),
+    }
+}
+
+/// Makes the run of a document by so many workers, 1 to 64, who call the items, one for each work statement; and writes
+/// the report on it. The certificate is checked first: where it is refused, the check's line is written, and nothing is
+/// run. The tokens of `start` are requested before the workers begin. Where there is no `start` and the graph has
+/// inputs, the document can't be run. Nothing is written before the report is known, and writing it takes no memory, so
+/// the line for want of memory stands alone; after a failed write nothing more is written.
+pub fn serve_run<R: Threads + Wait + Sync, K: Drop + Send, W: Item<K> + Send, O: Write>(
+    rt: &R,
+    alloc: Global,
+    document: &Document,
+    items: Vec<W>,
+    workers: u16,
+    to: &mut Counting<O>,
+) -> Exit
+    requires claims { All (Fits document.now.graph.graph) document.now.claims.items }
+    requires trees { All IsWithinLimits document.now.certificate }
+    requires tokens { RequestsTokens (doc_of document.now) }
+    ensures runs { let doc = doc_of document.now in
+        Runs doc (inputs_of doc) O.contents to.old to.new result }
+
+    // Success: the report that was written says that the run is complete, and each claim holds of it.
+    ensures complete { result ≡ Exit.Success
+        → Completes (doc_of document.now) O.contents to.old to.new }
+
+    // The line for want of memory stands alone.
+    ensures memory { result ≡ Exit.Memory → Writes O.contents to.old to.new (codes "out of memory\n") }
+{
+    match inputs_of(document) {
+        Some(inputs) => check_and_run(rt, alloc, document, inputs, items, workers, to),
+        None => put(Exit::Unreadable, b"unreadable: start Missing\n", to),
+    }
+}
