@@ -1,6 +1,6 @@
 //! Through a list under a lock.
 
-use crate::{PAIRS, PLACES};
+use crate::queue::{PAIRS, PLACES};
 use std::alloc::{AllocError, Global};
 use std::collections::VecDeque;
 use std::sync::{Mutex, Wait};

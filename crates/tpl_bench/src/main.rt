@@ -1,47 +1,62 @@
-//! How many jobs a second go from four producers to four consumers: through the queue of `tpl_queue`,
-//! and through a `VecDeque` under a `Mutex`.
+//! Measurements, a word for each: `queue`, `graph`, `reader`, `checker`, `machines` and `analyser`.
 //!
-//! With a number of jobs as its argument it prints what it measured. With none it sends a few jobs
-//! each way and prints their number alone.
+//! With one of these words as its argument the program prints what it measured. With none it does a little of each, and
+//! prints what came of it.
 #![tactic(auto)]
 
+mod building;
+mod checking;
+mod courses;
+mod documents;
+mod drafts;
+mod groups;
+mod leaves;
 mod locked;
+mod machines;
+mod orders;
+mod queue;
+mod reading;
+mod searching;
+mod shapes;
 mod shared;
+mod timing;
 
-use std::time::{Duration, Instant};
+use crate::building::{measure_graphs, show_graph};
+use crate::checking::show_checks;
+use crate::machines::show_machines;
+use crate::queue::show_queue;
+use crate::reading::{measure_reading, show_reading};
+use crate::searching::show_searches;
 use std::{env, io};
 
-/// Each producer puts as many jobs as each consumer takes.
-const PAIRS: u64 = 4;
+/// A little of each but the queue.
+fn show_all(rt: &HostRuntime) -> io::Result<()> {
+    show_graph(rt)?;
+    show_reading(rt)?;
+    show_checks(rt, false)?;
+    show_machines(rt, false)?;
+    show_searches(rt, false)
+}
 
-/// How many jobs the queue and the list have places for.
-const PLACES: usize = 1_024;
-
-/// How many jobs each producer puts where no number is given.
-const FEW: u64 = 250;
-
-/// Jobs a second.
-fn rate(jobs: u64, time: Duration) -> u128 {
-    u128::from(jobs) * 1_000_000 / time.as_micros().max(1)
+/// What the word asks for, but the queue.
+fn measure(rt: &HostRuntime, word: &str) -> io::Result<()> {
+    match word {
+        "graph" => measure_graphs(rt),
+        "reader" => measure_reading(rt),
+        "checker" => show_checks(rt, true),
+        "machines" => show_machines(rt, true),
+        "analyser" => show_searches(rt, true),
+        _ => println!(rt; "queue, graph, reader, checker, machines or analyser"),
+    }
 }
 
 fn main(rt: HostRuntime) -> io::Result<()> {
-    let asked = match env::args(&rt)?.nth(1) {
-        Some(word) => word.parse::<u64>().ok(),
-        None => None,
-    };
-    let each = asked.map_or(FEW, |jobs| jobs / PAIRS);
-    let start = Instant::now(&rt)?;
-    let through_queue = shared::exchange(&rt, rt.alloc(), each)?;
-    let queue_time = start.elapsed(&rt)?;
-    let start = Instant::now(&rt)?;
-    let through_lock = locked::exchange(&rt, rt.alloc(), each)?;
-    let lock_time = start.elapsed(&rt)?;
-    println!(rt; "queue: {through_queue} jobs")?;
-    println!(rt; "mutex: {through_lock} jobs")?;
-    if asked.is_some() {
-        println!(rt; "queue: {} jobs a second", rate(through_queue, queue_time))?;
-        println!(rt; "mutex: {} jobs a second", rate(through_lock, lock_time))?;
+    match env::args(&rt)?.nth(1) {
+        None => {
+            show_queue(&rt, rt.alloc(), false)?;
+            show_all(&rt)
+        }
+        Some(word) if word.as_str() == "queue" => show_queue(&rt, rt.alloc(), true),
+        Some(word) => measure(&rt, word.as_str()),
     }
-    Ok(())
 }

@@ -1,7 +1,7 @@
 //! Through the queue.
 ghost use Rattle.std.specs.Prelude.{◌≡◌, All, IfOk};
 
-use crate::{PAIRS, PLACES};
+use crate::queue::{PAIRS, PLACES};
 use std::alloc::{AllocError, Global};
 use std::sync::Wait;
 use std::thread;

@@ -1,5 +1,0 @@
-//! Plays on the indexed machine.
-#![tactic(auto)]
-
-#[cfg(test)]
-mod tests;

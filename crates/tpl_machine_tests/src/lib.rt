@@ -1,5 +1,0 @@
-//! Plays on the plain machine.
-#![tactic(auto)]
-
-#[cfg(test)]
-mod tests;

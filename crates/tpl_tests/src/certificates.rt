@@ -1,0 +1,124 @@
+//! What is answered to a certificate tree, and to the search for a certificate.
+
+ghost use Rattle.std.specs.Prelude.{◌≤◌};
+ghost use Rattle.std.specs.List.{All};
+ghost use Rattle.tpl_claims.specs.Fits.{Fits};
+
+use crate::documents::fault_text;
+use serde_json::Value;
+use std::alloc::{AllocError, Global};
+use tpl_analyser::{Gap, analyse};
+use tpl_cert::{Certificate, Node, Row, Tree, TreeToFault, is_within_limits, tree_from, tree_to};
+use tpl_graph::Graph;
+use tpl_reader::{Document, read_document};
+use tpl_words::{Finals, TaskId, TaskSet};
+
+/// The most splits on a path that may be asked for.
+const MOST_SPLITS: u8 = 6;
+
+/// The text that is written of a tree.
+fn written(alloc: Global, graph: &Graph, tree: &Tree) -> Result<String, AllocError> {
+    match tree_to(alloc, graph, tree) {
+        Ok(value) => value.to_string(alloc),
+        Err(TreeToFault::Memory) => Err(AllocError),
+        Err(fault) => format!(in alloc; "not written: {fault}"),
+    }
+}
+
+/// The text that is written of the tree that the text spells, or why it spells none.
+fn once(alloc: Global, graph: &Graph, text: &str) -> Result<String, AllocError> {
+    match Value::from_str(alloc, text) {
+        Ok(value) => match tree_from(alloc, graph, &value) {
+            Ok(tree) => written(alloc, graph, &tree),
+            Err(fault) => format!(in alloc; "{fault}"),
+        },
+        Err(_) => String::from_str(alloc, "not JSON"),
+    }
+}
+
+/// The same of what was written, if it isn't the same again.
+fn twice(alloc: Global, graph: &Graph, text: &str) -> Result<String, AllocError> {
+    let first = once(alloc, graph, text)?;
+    if !first.starts_with('{') {
+        return Ok(first);
+    }
+    let second = once(alloc, graph, first.as_str())?;
+    if first == second {
+        Ok(first)
+    } else {
+        format!(in alloc; "{first}, and then {second}")
+    }
+}
+
+/// A tree with a task that a graph of three tasks hasn't.
+fn stranger(alloc: Global) -> Result<Tree, AllocError> {
+    let ends = Finals {
+        ran: false,
+        canceled: true,
+        faulted: false,
+    };
+    let chain = vec![in alloc; TaskId(3)]?;
+    let row = Row::new(ends, false, TaskSet::empty(), TaskSet::empty(), chain);
+    Ok(Tree::new(Node::Leaf(vec![in alloc; row]?)))
+}
+
+/// What is written of it.
+fn stranger_text(alloc: Global, graph: &Graph) -> Result<String, AllocError> {
+    let tree = stranger(alloc)?;
+    let within = is_within_limits(&tree);
+    let text = written(alloc, graph, &tree)?;
+    format!(in alloc; "within the limits: {within}, {text}")
+}
+
+/// What is written of a tree over the graph of the document, or why it is refused; and the same of what was written.
+pub fn tree_answer(alloc: Global, document: &str, tree: &str) -> Result<String, AllocError> {
+    match read_document(alloc, document.as_bytes()) {
+        Err(fault) => fault_text(alloc, fault),
+        Ok(read) if tree == "stranger" => stranger_text(alloc, &read.graph),
+        Ok(read) => twice(alloc, &read.graph, tree),
+    }
+}
+
+/// The text of a certificate.
+fn certificate_text(
+    alloc: Global,
+    graph: &Graph,
+    certificate: &Certificate,
+) -> Result<String, AllocError> {
+    let mut text = String::from_str(alloc, "[")?;
+    for tree in certificate.trees() {
+        if text.len() > 1 {
+            text.push(',')?;
+        }
+        let tree = written(alloc, graph, tree)?;
+        text.push_str(tree.as_str())?;
+    }
+    text.push(']')?;
+    Ok(text)
+}
+
+/// The certificate for the document, or for which claim none was found.
+fn found(alloc: Global, document: &Document, depth: u8) -> Result<String, AllocError>
+    requires claims { All (Fits document.now.graph.graph) document.now.claims.items }
+    requires depth { depth ≤ 6 }
+{
+    match analyse(alloc, &document.graph, &document.claims, depth) {
+        Ok(certificate) => certificate_text(alloc, &document.graph, &certificate),
+        Err(Gap::Memory) => Err(AllocError),
+        Err(gap) => format!(in alloc; "{gap}"),
+    }
+}
+
+/// The certificate for a document, with at most as many splits on a path as the word before it says; or why none is
+/// given.
+pub fn search_answer(alloc: Global, question: &str) -> Result<String, AllocError> {
+    let (word, document) = question.split_once(' ').unwrap_or((question, ""));
+    let depth = match word.parse::<u8>() {
+        Ok(depth) if depth <= MOST_SPLITS => depth,
+        _ => return format!(in alloc; "no number of splits"),
+    };
+    match read_document(alloc, document.as_bytes()) {
+        Ok(read) => found(alloc, &read, depth),
+        Err(fault) => fault_text(alloc, fault),
+    }
+}

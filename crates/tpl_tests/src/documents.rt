@@ -1,0 +1,58 @@
+//! What is answered to a document.
+
+use std::alloc::{AllocError, Global};
+use tpl_journal::{JournalFault, read_journal};
+use tpl_model::Event;
+use tpl_reader::{Document, ReadFault, read_document};
+use tpl_words::Inputs;
+
+/// Why there is no document; want of memory is no answer.
+pub fn fault_text(alloc: Global, fault: ReadFault) -> Result<String, AllocError> {
+    match fault {
+        ReadFault::Memory => Err(AllocError),
+        fault => format!(in alloc; "{fault}"),
+    }
+}
+
+/// How many there are of each part of a document.
+fn parts_of(alloc: Global, document: &Document) -> Result<String, AllocError> {
+    let graph = &document.graph;
+    format!(in alloc;
+        "tasks {}, tokens {}, inputs {}, claims {}, trees {}, journal {}, start {}",
+        graph.len(),
+        graph.token_count(),
+        graph.input_count(),
+        document.claims.len(),
+        document.certificate.trees().len(),
+        document.journal.len(),
+        document.start.is_some()
+    )
+}
+
+/// The parts of the document that the bytes spell, or why they spell none.
+pub fn document_answer(alloc: Global, bytes: &[u8]) -> Result<String, AllocError> {
+    match read_document(alloc, bytes) {
+        Err(fault) => fault_text(alloc, fault),
+        Ok(document) => parts_of(alloc, &document),
+    }
+}
+
+/// The inputs of the runs of a document.
+pub fn inputs_of(document: &Document) -> Inputs {
+    match &document.start {
+        Some(start) => start.inputs.copy(),
+        None => Inputs::new(0),
+    }
+}
+
+/// The events of the journal of a document, or why it has none.
+pub fn events_of(
+    alloc: Global,
+    document: &Document,
+) -> Result<Result<Vec<Event>, String>, AllocError> {
+    match read_journal(alloc, &document.graph, document.journal.as_str()) {
+        Ok(events) => Ok(Ok(events)),
+        Err(JournalFault::Memory) => Err(AllocError),
+        Err(fault) => Ok(Err(format!(in alloc; "{fault}")?)),
+    }
+}

@@ -1,0 +1,73 @@
+//! Asks the libraries what documents and other texts mean, and compares each answer with the one that was worked out by
+//! hand or by an independent reference.
+//!
+//! The file `files` has the kind of its questions before each file of questions. There a line after `=> ` is a line of
+//! the answer to the question above it, one after `@ ` says what the questions below it are about, one after `#` is a
+//! title, and each other line is a question.
+#![tactic(auto)]
+
+mod answers;
+mod audits;
+mod bytes;
+mod cases;
+mod certificates;
+mod claims;
+mod documents;
+mod graphs;
+mod reports;
+mod scripts;
+mod sets;
+mod tell;
+mod words;
+
+use crate::answers::answer;
+use crate::cases::{Case, cases_of};
+use std::{fs, io};
+
+/// How many answers were compared, and how many of them were others.
+#[derive(Clone, Copy)]
+struct Tally {
+    checks: usize,
+    failed: usize,
+}
+
+/// Compares one answer.
+fn check(rt: &HostRuntime, kind: &str, file: &str, case: &Case) -> io::Result<bool> {
+    let given = answer(rt.alloc(), kind, case.context.as_str(), case.question)?;
+    let line = case.line;
+    if given == case.answer {
+        println!(rt; "{file}, line {line}: as expected")?;
+        return Ok(true);
+    }
+    println!(rt; "{file}, line {line}: FAILED")?;
+    println!(rt; "expected: {}", case.answer)?;
+    println!(rt; "answered: {given}")?;
+    Ok(false)
+}
+
+/// Compares the answers of a file.
+fn check_file(rt: &HostRuntime, kind: &str, file: &str, so_far: Tally) -> io::Result<Tally> {
+    let text = fs::read_to_string(rt, file)?;
+    let mut tally = so_far;
+    for case in cases_of(rt.alloc(), text.as_str())?.iter() {
+        tally.checks = tally.checks.saturating_add(1);
+        if !check(rt, kind, file, case)? {
+            tally.failed = tally.failed.saturating_add(1);
+        }
+    }
+    Ok(tally)
+}
+
+fn main(rt: HostRuntime) -> io::Result<()> {
+    let files = fs::read_to_string(&rt, "files")?;
+    let mut tally = Tally {
+        checks: 0,
+        failed: 0,
+    };
+    for line in files.lines() {
+        if let Some((kind, file)) = line.split_once(' ') {
+            tally = check_file(&rt, kind, file, tally)?;
+        }
+    }
+    println!(&rt; "{} checks, {} failed", tally.checks, tally.failed)
+}

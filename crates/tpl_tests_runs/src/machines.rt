@@ -1,0 +1,56 @@
+//! Machines that are opened anew at each place of a run.
+
+use std::alloc::{AllocError, Global};
+use tpl_fast::Fast;
+use tpl_graph::Graph;
+use tpl_machine::{Core, Machine};
+use tpl_model::Event;
+use tpl_words::Inputs;
+
+/// Opens machines, each time with the same graph and inputs.
+pub trait Opener {
+    type Machine: Core + Drop;
+
+    fn open(&self) -> Result<Self::Machine, AllocError>;
+}
+
+/// Opens plain machines.
+#[derive(Drop)]
+pub struct Plain<'g> {
+    pub alloc: Global,
+    pub graph: &'g Graph,
+    pub inputs: Inputs,
+}
+
+impl<'g> Opener for Plain<'g> {
+    type Machine = Machine<'g>;
+
+    fn open(&self) -> Result<Machine<'g>, AllocError> {
+        Machine::open(self.alloc, self.graph, self.inputs.copy())
+    }
+}
+
+/// Opens indexed machines.
+#[derive(Drop)]
+pub struct Indexed<'g> {
+    pub alloc: Global,
+    pub graph: &'g Graph,
+    pub inputs: Inputs,
+}
+
+impl<'g> Opener for Indexed<'g> {
+    type Machine = Fast<'g>;
+
+    fn open(&self) -> Result<Fast<'g>, AllocError> {
+        Fast::open(self.alloc, self.graph, self.inputs.copy())
+    }
+}
+
+/// A machine after these events. What isn't allowed is left out.
+pub fn replayed<O: Opener>(opener: &O, events: &[Event]) -> Result<O::Machine, AllocError> {
+    let mut core = opener.open()?;
+    for event in events {
+        let _ = core.step(*event);
+    }
+    Ok(core)
+}

@@ -1,0 +1,61 @@
+//! Runs: plays on both machines, runs by chance on both side by side, and the queue between threads.
+//!
+//! The file `files` names the plays. Each check is a line, and the last line counts them.
+#![tactic(auto)]
+
+mod allowed;
+mod chance;
+mod dice;
+mod exchange;
+mod generate;
+mod machines;
+mod names;
+mod plays;
+mod queue;
+mod seen;
+
+use crate::chance::check_chance;
+use crate::plays::check_play;
+use crate::queue::check_queue;
+use std::{fs, io};
+
+/// How many checks there were, and how many of them failed.
+#[derive(Clone, Copy)]
+struct Tally {
+    checks: usize,
+    failed: usize,
+}
+
+impl Tally {
+    /// With these checks, of which those failed that don't hold.
+    fn with(self, checks: &[bool]) -> Tally {
+        let mut tally = self;
+        for holds in checks {
+            tally.checks = tally.checks.saturating_add(1);
+            if !*holds {
+                tally.failed = tally.failed.saturating_add(1);
+            }
+        }
+        tally
+    }
+}
+
+/// Each play, on both machines.
+fn check_plays(rt: &HostRuntime, so_far: Tally) -> io::Result<Tally> {
+    let mut tally = so_far;
+    for file in fs::read_to_string(rt, "files")?.lines() {
+        tally = tally.with(&check_play(rt, file)?);
+    }
+    Ok(tally)
+}
+
+fn main(rt: HostRuntime) -> io::Result<()> {
+    let tally = Tally {
+        checks: 0,
+        failed: 0,
+    };
+    let tally = check_plays(&rt, tally)?;
+    let tally = tally.with(&check_chance(&rt)?);
+    let tally = tally.with(&check_queue(&rt, rt.alloc())?);
+    println!(&rt; "{} checks, {} failed", tally.checks, tally.failed)
+}
