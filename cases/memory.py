@@ -1,6 +1,6 @@
 #!/usr/bin/env python3
 """Refuses each allocation of the program in turn, alone and with all after it, for the first case of each file: the answer
-is the same, or 'out of memory' with exit 4.
+is the same, or 'out of memory' with exit 4; or, where a run finds no thread for a worker, 'run: Spawn' with exit 5.
 
 usage: cases/memory.py [PROGRAM]    crates/tpl_cli/out/tpl_cli, if none is named
 
@@ -42,10 +42,13 @@ def answer(program, case, library, **refusing):
 def differs(program, case, library):
     """Where an answer with a refused allocation is another one, or None."""
     full, asked = answer(program, case, library)
+    allowed = [full, (b"out of memory\n", 4)]
+    if case["command"] == "run":
+        allowed.append((b"run: Spawn\n", 5))
     for number in range(1, int(asked) + 1):
         for rest in ({}, {"REFUSE_REST": "1"}):
             got, _ = answer(program, case, library, REFUSED=str(number), **rest)
-            if got not in (full, (b"out of memory\n", 4)):
+            if got not in allowed:
                 return f"allocation {number} of {int(asked)} refused: {got}, not {full}"
     return None
 

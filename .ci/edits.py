@@ -1,0 +1,383 @@
+"""Wrong bodies: the edits that make them, the functions that they fall into, the rounds in which they are tried together,
+and what a check's lines say of each.
+
+An edit is a file of lines 'file: src/a.rt' and pairs 'old: TEXT' and 'new: TEXT', as under must-fail/: each old text
+stands in that file exactly once.
+"""
+import os
+import re
+from collections import namedtuple
+
+# where a function's text lies: `path` is its name below the crate, as a check prints it; `head` is where its first line
+# begins, and `at` to `end` is its body, from the opening brace; functions of one `cycle` are proved together
+Function = namedtuple("Function", "path owner name head at end cycle")
+# a pair of an edit: in `file` the text `old` becomes `new`
+Change = namedtuple("Change", "file old new")
+Edit = namedtuple("Edit", "name changes")
+
+
+class BadEdit(Exception):
+    """The edit cannot be tried, and why."""
+
+
+def parse(name, text):
+    """The edit that a file's text describes."""
+    file, old, changes = "", None, []
+    for line in text.split("\n"):
+        if line.startswith("file: "):
+            file = line[len("file: ") :].strip()
+            if os.path.normpath(file) != file or not file.startswith(("src/", "specs/", "proofs/")):
+                raise BadEdit("a 'file:' line names no file below src/, specs/ or proofs/")
+        elif line.startswith("old: "):
+            if old is not None:
+                raise BadEdit("an 'old:' line has no 'new:' line")
+            old = line[len("old: ") :]
+        elif line.startswith("new:"):
+            if not file or not old:
+                raise BadEdit("a 'new:' line stands before any 'file:' or 'old:' line")
+            changes.append(Change(file, old, re.sub(r"\A ", "", line[len("new:") :])))
+            old = None
+    if not changes or old is not None:
+        raise BadEdit("it has no 'old:' and 'new:' pair, or an 'old:' line has no 'new:' line")
+    return Edit(name, tuple(changes))
+
+
+def applied(edit, texts):
+    """The texts of a crate's files with the edit in them. Each old text must stand in its file exactly once."""
+    made = dict(texts)
+    for change in edit.changes:
+        if change.file not in made:
+            raise BadEdit(f"there is no file {change.file}")
+        found = made[change.file].count(change.old)
+        if found != 1:
+            raise BadEdit(f"an 'old:' text is in {change.file} {found} times, and not once")
+        made[change.file] = made[change.file].replace(change.old, change.new)
+    if made == texts:
+        raise BadEdit("it changes nothing")
+    return made
+
+
+FN = re.compile(r"( *)(?:pub(?:\([a-z ]+\))? )?(?:(?:const|unsafe) )*fn (\w+)")
+IMPL = re.compile(r"( *)(?:unsafe )?impl\b(.*)")
+TRAIT = re.compile(r"( *)(?:pub(?:\([a-z ]+\))? )?trait (\w+)")
+CYCLE = re.compile(r" *#\[cycle\((\w+)\)\]")
+
+
+def parted(text):
+    """What stands outside of < and > in a text, and each part between commas in its first outermost pair of them."""
+    outside, parts, depth, is_first = "", [""], 0, True
+    for at, letter in enumerate(text):
+        if letter == ">" and text[at - 1 : at] != "-":
+            depth -= 1
+            is_first = is_first and depth > 0
+        elif letter == "<":
+            depth += 1
+        elif not depth:
+            outside += letter
+        if depth and is_first and (letter != "<" or depth > 1):
+            if letter == "," and depth == 1:
+                parts.append("")
+            else:
+                parts[-1] += letter
+    return outside, [it.strip() for it in parts if it.strip()]
+
+
+def last_word(text):
+    return (re.findall(r"\w+", parted(text)[0]) or [""])[-1]
+
+
+def owner_of(header):
+    """What a check calls the methods of an impl whose header goes on so: the type, the trait, and the types that the trait is
+    of, as PairFromVec."""
+    words = re.split(r" where |\{", header.strip())[0].strip()
+    own = []
+    if words.startswith("<"):
+        own = [last_word(it.partition(":")[0]) for it in parted(words)[1]]
+        depth = 0
+        for at, letter in enumerate(words):
+            depth += (letter == "<") - (letter == ">" and words[at - 1] != "-")
+            if not depth:
+                words = words[at + 1 :].strip()
+                break
+    trait, _, type_ = words.rpartition(" for ")
+    of = [last_word(it) for it in parted(trait)[1] if not it.startswith(("'", "("))]
+    return last_word(type_) + last_word(trait) + "".join(it for it in of if it not in own)
+
+
+def module_of(file):
+    """The path of a source file's module below the crate."""
+    path = file[len("src/") : -len(".rt")].replace("/", "::")
+    path = "" if path in ("lib", "main") else path
+    return path[: -len("::mod")] if path.endswith("::mod") else path
+
+
+def body_at(lines, first, indent):
+    """The line on which the body of the function of line `first` opens, or None."""
+    for at in range(first, len(lines)):
+        line = lines[at]
+        inner = line[len(indent) :] if line.startswith(indent) else ""
+        if at > first and inner == "{":
+            return at
+        is_head = inner and not inner.startswith(" ")
+        if is_head and inner.endswith(("{", "}")):
+            return at
+        if is_head and (inner.endswith(";") or at > first and not inner.startswith((")", "where"))):
+            return None
+    return None
+
+
+def functions_of(file, text, types=None):
+    """The functions of a source file as rt fmt leaves it: a body ends with the brace that stands under its first line. A
+    method of a type itself bears the path of the type's module."""
+    lines, module, found = text.split("\n"), module_of(file), []
+    starts = [0]
+    for line in lines:
+        starts.append(starts[-1] + len(line) + 1)
+    owner, owner_indent, cycle = "", None, None
+    for at, line in enumerate(lines):
+        if owner_indent is not None and line == owner_indent + "}":
+            owner, owner_indent = "", None
+        head = IMPL.match(line) or TRAIT.match(line)
+        if head and owner_indent is None and not line.rstrip().endswith("}"):
+            # a header may go on over several lines
+            whole = " ".join(lines[at : at + 8])[len(head[1]) :]
+            is_impl = bool(IMPL.match(line))
+            owner = owner_of(re.sub(r"\A(?:unsafe )?impl\b", "", whole)) if is_impl else head[2]
+            owner_indent = head[1]
+        named = CYCLE.match(line)
+        cycle = named[1] if named else cycle
+        fn = FN.match(line)
+        if not fn:
+            continue
+        opens = body_at(lines, at, fn[1])
+        if opens is not None:
+            begin = starts[opens] + lines[opens].index("{")
+            closing = opens
+            if lines[opens].endswith("{"):
+                ends = [it for it in range(opens, len(lines)) if lines[it] == fn[1] + "}"]
+                closing = ends[0] if ends else opens
+            inside = owner if owner_indent is not None and len(fn[1]) > len(owner_indent) else ""
+            home = (types or {}).get(inside, module)
+            path = "::".join(it for it in (home, inside, fn[2]) if it)
+            key = f"{module}+{cycle}" if cycle else ""
+            found.append(Function(path, inside, fn[2], starts[at], begin, starts[closing] + len(lines[closing]), key))
+        cycle = None
+    return found
+
+
+def types_of(file, text):
+    """The modules of the types that a source file declares, by the types' names."""
+    return {it: module_of(file) for it in re.findall(r"(?m)^ *(?:pub(?:\([a-z ]+\))? )?(?:struct|enum) (\w+)", text)}
+
+
+class Crate:
+    """The texts of a crate's files and the functions in them."""
+
+    def __init__(self, name, texts):
+        self.name, self.texts = name, texts
+        self.functions, self.of_file = {}, {}
+        sources = {file: text for file, text in sorted(texts.items()) if file.startswith("src/") and file.endswith(".rt")}
+        self.types = {}
+        for file, text in sources.items():
+            self.types.update(types_of(file, text))
+        for file, text in sources.items():
+            self.of_file[file] = functions_of(file, text, self.types)
+            for it in self.of_file[file]:
+                # of two functions of one name a check's line does not tell which it means
+                self.functions[it.path] = None if it.path in self.functions else it
+        # functions for whose proofs rattle takes no hole
+        self.whole = set()
+        self.calls = {}
+        for file, functions in self.of_file.items():
+            for it in functions:
+                self.calls[it.path] = self.called(it, texts[file][it.at : it.end])
+
+    def called(self, function, body):
+        """The crate's functions that a body may call, as far as their names tell."""
+        owners = {it.owner for it in self.functions.values() if it and it.owner}
+        found = set()
+        for dot, prefix, name in re.findall(r"(\.?)(?:\b(\w+)::)?\b(\w+)\b", body):
+            prefix = function.owner if prefix == "Self" else prefix
+            for it in self.named.get(name, ()):
+                if prefix in owners:
+                    is_it = it.owner == prefix
+                else:
+                    is_it = bool(it.owner) == bool(dot)
+                if is_it:
+                    found.add(it.path)
+        return found
+
+    @property
+    def named(self):
+        if not hasattr(self, "_named"):
+            self._named = {}
+            for it in self.functions.values():
+                if it:
+                    self._named.setdefault(it.name, []).append(it)
+        return self._named
+
+    def reach(self, path):
+        """The functions on whose proofs a function's may rest: those that it calls, and what is behind one of them that
+        keeps its proof."""
+        found, left = set(), [path]
+        while left:
+            for it in self.calls.get(left.pop(), ()):
+                if it not in found:
+                    found.add(it)
+                    left += [] if self.takes_hole(it) else [it]
+        return found
+
+    def takes_hole(self, path):
+        """A hole can stand for the function's proof: not where it calls itself, or is proved together with others."""
+        function = self.functions.get(path)
+        return bool(function) and not function.cycle and path not in self.calls[path] and path not in self.whole
+
+    def places(self, edit):
+        """The functions into whose bodies the edit falls, or None where a part of it falls outside of bodies."""
+        found, texts = set(), dict(self.texts)
+        for change in edit.changes:
+            text = texts.get(change.file, "")
+            if text.count(change.old) != 1:
+                return None
+            at = text.index(change.old)
+            functions = functions_of(change.file, text, self.types) if change.file in self.of_file else ()
+            holds = [it for it in functions if it.at <= at and at + len(change.old) <= it.end]
+            # the innermost
+            if not holds or not self.functions.get(holds[-1].path):
+                return None
+            found.add(holds[-1].path)
+            texts[change.file] = text.replace(change.old, change.new)
+        return found
+
+
+def next_round(crate, left, places):
+    """Chooses from the edits that are left those of one round: at most one a function and a cycle, none in a function that
+    comes by calls to another one that is edited, as far as names tell; and each applies beside the others. Returns them
+    and the crate's texts with all of them."""
+    many = {}
+    for it in left:
+        for path in places[it.name]:
+            many[path] = many.get(path, 0) + 1
+    order = sorted(left, key=lambda it: -max(many[path] for path in places[it.name]))
+    chosen, texts, taken, cycles, reached = [], dict(crate.texts), set(), set(), set()
+    for it in order:
+        own = places[it.name]
+        own_cycles = {crate.functions[path].cycle for path in own} - {""}
+        below = set().union(*(crate.reach(path) for path in own)) - own
+        if own & taken or own_cycles & cycles or own & reached or below & taken:
+            continue
+        try:
+            texts = applied(it, texts)
+        except BadEdit:
+            continue
+        chosen.append(it)
+        taken |= own
+        cycles |= own_cycles
+        reached |= below
+    return chosen, texts
+
+
+def lines_of(said):
+    """What a check says of each function, by its whole name."""
+    return dict(re.findall(r"(?m)^fn (\S+): (.*)$", said))
+
+
+def names_in(line):
+    """The functions and modules that a function's line names."""
+    return [it for it in re.findall(r"`([^`]*)`", line) if "::" in it or it.startswith("Rattle.")]
+
+
+PASSED = re.compile(r"(proved|no holes|depends on a hole in .*)\Z")
+# what a function's line says where a goal of its own failed
+OWN_GOAL = re.compile(r"`search` did not prove `|it stands on `")
+
+
+def is_own(crate, function, name):
+    """The name is of the function itself, of a closure in it or of its own proof, which functions of one cycle share."""
+    if function.cycle:
+        together = [it for it in crate.functions.values() if it and it.cycle == function.cycle]
+    else:
+        together = [function]
+    for it in together:
+        module = it.path.rpartition("::")[0]
+        if it.owner:
+            module = module.rpartition("::")[0]
+        inner = it.path[len(module) :].removeprefix("::")
+        closures = "::".join(word for word in (crate.name, module, "fn", inner) if word) + "::"
+        if name == f"{crate.name}::{it.path}" or name.startswith(closures):
+            return True
+        for path in (f"{crate.name}::{it.path}::", closures):
+            if name.startswith(f"Rattle.{crate.name}.proofs." + path[len(crate.name) + 2 :].replace("::", ".")):
+                return True
+    module, _, cycle = function.cycle.rpartition("+")
+    home = ".".join(word for word in (f"Rattle.{crate.name}.proofs", module.replace("::", "."), f"+{cycle}") if word)
+    return bool(cycle) and name.startswith(f"{home}.")
+
+
+def is_sound(crate, edited, name, lines):
+    """The name is of a function that is not edited and lacks nothing but holes' proofs, or of an impl of such functions."""
+    told = {it: line for it, line in lines.items() if it == name or it.startswith(f"{name}::")}
+    is_edited = lambda it: it.removeprefix(f"{crate.name}::") in edited
+    return bool(told) and all(PASSED.match(line) and not is_edited(it) for it, line in told.items())
+
+
+def verdict(crate, path, lines, edited, has_open_goal=False):
+    """What a check's lines say of one of the edited functions: 'refused' where its own goal failed and none is named beside
+    it but functions that are not edited and lack nothing but holes' proofs, 'proved', or 'unsettled'. A note of the check
+    may tell of an open goal that the function's line doesn't name."""
+    function = crate.functions[path]
+    own = {name: it for name, it in lines.items() if is_own(crate, function, name)}
+    failed = [it for it in own.values() if re.match(r"(not proved|no proof)\b", it)]
+    for it in failed:
+        others = [name for name in names_in(it) if not is_own(crate, function, name)]
+        # with no goal named, what failed is the call of another
+        if all(is_sound(crate, edited, name, lines) for name in others) and (not others or has_open_goal or OWN_GOAL.search(it)):
+            return "refused"
+    return "proved" if PASSED.match(lines.get(f"{crate.name}::{path}", "")) and not failed else "unsettled"
+
+
+# a proof file that names what the edit took away, and what cites that proof, as rt must-fail tells it
+NAMES = re.compile(r"(\./)?proofs/.*(has no field|is not in scope|has no `|was not admitted)")
+NOTE = re.compile(r"(?:note: )?(\S+):\d+:\d+:")
+
+
+def unread(line, changed):
+    """The line says that a text of src/, of specs/ or of a changed file could not be read, so that no contract was tried."""
+    at = re.match(r"(?:\./)?(\S+?):\d+:\d+: error: (?:(`[^`]*`): )?(.*)", line)
+    if not at or at[1] not in changed and not at[1].startswith(("src/", "specs/")):
+        return False
+    told = re.sub(r"`[^`]*`", "", at[3])
+    return not at[2] or bool(re.search(r"is not in scope|has no field|is no name|operand is missing|expected the end|cannot continue", told))
+
+
+def told_by_names_alone(lines):
+    """All that a check's lines tell is that proof files name what an edit took away: this says little of the contract."""
+    told = [it for it in lines if NOTE.match(it)]
+    told = [it for it in told if ": error" in it or it.startswith("note: ")] or told
+    return bool(told) and all(NAMES.match(it) for it in told)
+
+
+def line_at(text, at):
+    """The number of the line in which a place lies."""
+    return text.count("\n", 0, at) + 1
+
+
+def own_lines(crate, path, text, file, lines):
+    """The lines of a check that tell of places in an edited function's body, or in its own proof files."""
+    here = [it for it in functions_of(file, text, crate.types) if it.path == path]
+    folder = "proofs/" + path.replace("::", "/") + "/"
+    found = []
+    for line in lines:
+        at = re.match(r"(?:note: )?(?:\./)?(\S+?):(\d+):\d+:", line)
+        if not at:
+            continue
+        if at[1].startswith(folder):
+            found.append(line)
+        elif at[1] == file and any(line_at(text, it.head) <= int(at[2]) <= line_at(text, it.end) for it in here):
+            found.append(line)
+    return found
+
+
+def has_open_goal(lines):
+    """A check's lines tell of a goal that is not proved."""
+    return any(re.match(r"note: \S+:\d+:\d+: it is not proved that ", it) for it in lines)

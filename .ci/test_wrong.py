@@ -1,0 +1,348 @@
+#!/usr/bin/env python3
+"""Tests of the scripts that try wrong bodies, without the prover: edits read, places found, rounds formed, verdicts read.
+
+The last line is 'N passed, M failed'.
+"""
+import importlib.machinery
+import importlib.util
+import os
+import sys
+import unittest
+
+sys.dont_write_bytecode = True
+HERE = os.path.dirname(os.path.realpath(__file__))
+sys.path.insert(0, HERE)
+import edits  # noqa: E402
+from edits import BadEdit  # noqa: E402
+
+
+
+def script(name):
+    """A script of this folder as a module."""
+    loader = importlib.machinery.SourceFileLoader(name, f"{HERE}/{name}")
+    made = importlib.util.module_from_spec(importlib.util.spec_from_loader(name, loader))
+    loader.exec_module(made)
+    return made
+
+
+WRONG, MINUTES = script("wrong"), script("minutes")
+
+SOURCE = """//! A pair of numbers.
+
+use crate::other::twice;
+
+const MOST: u8 = 9;
+
+pub struct Pair {
+    first: u8,
+    second: u8,
+}
+
+impl Pair {
+    /// The first.
+    pub fn first(&self) -> u8
+        requires { self.now.first < 9 }
+        ensures {
+            result ≡ self.now.first
+        }
+    {
+        self.first
+    }
+
+    /// Both, one after the other.
+    pub fn both<F: Fn(u8) -> u8>(
+        &self,
+        then: F,
+    ) -> u8 {
+        let one = self.first();
+        twice(one)
+    }
+
+    fn none() {}
+}
+
+impl<'a, T: Drop> From<Vec<T>> for Pair {
+    fn from(list: Vec<T>) -> Pair {
+        Pair { first: 1, second: 1 }
+    }
+}
+
+impl fmt::Display for Pair {
+    fn fmt(&self) -> u8 {
+        Pair::both(self)
+    }
+}
+
+#[cycle(parity)]
+fn even(n: u8) -> bool {
+    n == 0 || odd(n - 1)
+}
+
+#[cycle(parity)]
+fn odd(n: u8) -> bool {
+    n != 0 && even(n - 1)
+}
+
+fn alone() -> u8 {
+    3
+}
+"""
+OTHER = """pub fn twice(n: u8) -> u8 {
+    n + n
+}
+
+impl Pair {
+    pub fn second(&self) -> u8 {
+        self.second
+    }
+}
+"""
+
+
+def crate():
+    return edits.Crate("two", {"src/pair.rt": SOURCE, "src/other.rt": OTHER, "proofs/pair/Pair/first/Answers.antt": "first"})
+
+
+def edit(name, old, new, file="src/pair.rt"):
+    return edits.parse(name, f"file: {file}\nold: {old}\nnew: {new}\n")
+
+
+def lines(*told):
+    return edits.lines_of("".join(f"fn two::{it}\n" for it in told))
+
+
+class Read(unittest.TestCase):
+    def test_pairs(self):
+        made = edits.parse("a", "file: src/a.rt\nold: x\nnew: y\nfile: specs/B.antt\nold:   z \nnew:\n")
+        self.assertEqual(made.changes, (("src/a.rt", "x", "y"), ("specs/B.antt", "  z ", "")))
+
+    def test_no_pair(self):
+        for text in ("", "file: src/a.rt\n", "file: src/a.rt\nold: x\n", "old: x\nnew: y\n", "file: src/a.rt\nnew: y\n"):
+            self.assertRaises(BadEdit, edits.parse, "a", text)
+
+    def test_two_olds(self):
+        self.assertRaises(BadEdit, edits.parse, "a", "file: src/a.rt\nold: x\nold: y\nnew: z\n")
+
+    def test_files_outside(self):
+        for file in ("out/a.rt", "../a/src/a.rt", "src/../a.rt", "/src/a.rt"):
+            self.assertRaises(BadEdit, edits.parse, "a", f"file: {file}\nold: x\nnew: y\n")
+
+
+class Apply(unittest.TestCase):
+    def test_once(self):
+        made = edits.applied(edit("a", "self.first()", "7"), {"src/pair.rt": SOURCE})
+        self.assertIn("let one = 7;", made["src/pair.rt"])
+
+    def test_no_place(self):
+        self.assertRaisesRegex(BadEdit, "0 times", edits.applied, edit("a", "nowhere", "x"), {"src/pair.rt": SOURCE})
+
+    def test_two_places(self):
+        self.assertRaisesRegex(BadEdit, "2 times", edits.applied, edit("a", "n - 1", "n"), {"src/pair.rt": SOURCE})
+
+    def test_no_file(self):
+        self.assertRaises(BadEdit, edits.applied, edit("a", "x", "y", "src/none.rt"), {"src/pair.rt": SOURCE})
+
+    def test_no_change(self):
+        self.assertRaises(BadEdit, edits.applied, edit("a", "fn alone", "fn alone"), {"src/pair.rt": SOURCE})
+
+
+class Places(unittest.TestCase):
+    def test_names(self):
+        wanted = "pair::Pair::first pair::Pair::both pair::Pair::none pair::PairFromVec::from pair::PairDisplay::fmt pair::even"
+        wanted += " pair::odd pair::alone other::twice pair::Pair::second"
+        self.assertEqual(sorted(crate().functions), sorted(wanted.split()))
+
+    def test_owners(self):
+        for header, owner in (
+            (" Pair {", "Pair"),
+            ("<'g, K: Drop> Hall<'g, K> {", "Hall"),
+            ("<T: Drop> From<AllocFailed<T>> for Stop<T> {", "StopFromAllocFailed"),
+            (" fmt::Display for Final {", "FinalDisplay"),
+            ("<K: Fn(u8) -> u8> Item<K> for Work<K> where K: Drop {", "WorkItem"),
+            ("<'g> Core for Machine<'g> {", "MachineCore"),
+        ):
+            self.assertEqual(edits.owner_of(header), owner)
+
+    def test_modules(self):
+        for file, path in (("lib", ""), ("main", ""), ("a", "a"), ("a/b", "a::b"), ("a/mod", "a")):
+            self.assertEqual(edits.module_of(f"src/{file}.rt"), path)
+
+    def test_bodies(self):
+        made = crate()
+        # a text in two places falls nowhere
+        self.assertIsNone(made.places(edit("a", "self.first", "1")))
+        self.assertEqual(made.places(edit("a", "let one = self.first()", "let one = 1")), {"pair::Pair::both"})
+        self.assertEqual(made.places(edit("a", "first: 1, second: 1", "first: 2, second: 1")), {"pair::PairFromVec::from"})
+        self.assertEqual(made.places(edit("a", "n + n", "n", "src/other.rt")), {"other::twice"})
+        self.assertEqual(made.places(edit("a", "self.second", "1", "src/other.rt")), {"pair::Pair::second"})
+
+    def test_outside_of_bodies(self):
+        for old in ("MOST: u8 = 9", "    first: u8,", "self.now.first < 9", "result ≡", "pub fn both", "use crate::other"):
+            self.assertIsNone(crate().places(edit("a", old, "x")))
+
+    def test_pairs_after_one_another(self):
+        text = "file: src/pair.rt\nold: self.first()\nnew: (self).first()\nold: _self.first\nnew: 1\n"
+        self.assertIsNone(crate().places(edits.parse("a", text)))
+        # the second text is in one place once the first pair is applied
+        text = "file: src/pair.rt\nold: n == 0 || odd(n - 1)\nnew: n == 0 || odd(n)\nold: n - 1\nnew: n\n"
+        self.assertEqual(crate().places(edits.parse("a", text)), {"pair::even", "pair::odd"})
+
+
+class Rounds(unittest.TestCase):
+    def chosen(self, *given):
+        made = crate()
+        places = {it.name: made.places(it) for it in given}
+        chosen, texts = edits.next_round(made, list(given), places)
+        return [it.name for it in chosen], texts
+
+    def test_one_a_function(self):
+        self.assertEqual(self.chosen(edit("a", "    3", "    4"), edit("b", "3\n".strip(), "5"))[0], ["a"])
+
+    def test_many_functions(self):
+        names, texts = self.chosen(edit("a", "    3", "    4"), edit("b", "n + n", "n", "src/other.rt"))
+        self.assertEqual(names, ["a", "b"])
+        self.assertIn("    4", texts["src/pair.rt"])
+        self.assertIn("    n\n", texts["src/other.rt"])
+
+    def test_no_caller_beside_what_it_calls(self):
+        self.assertEqual(len(self.chosen(edit("a", "twice(one)", "one"), edit("b", "n + n", "n", "src/other.rt"))[0]), 1)
+
+    def test_one_a_cycle(self):
+        self.assertEqual(len(self.chosen(edit("a", "n == 0 ||", "n == 1 ||"), edit("b", "n != 0 &&", "n != 1 &&"))[0]), 1)
+
+
+class Verdicts(unittest.TestCase):
+    CALL = "pair::Pair::both: no proof: `search` did not prove `returns`; it calls `two::other::twice`, which is not proved"
+    HOLE = "other::twice: depends on a hole in `Rattle.two.proofs.other.twice.Proof.twice_spec`"
+
+    def verdict(self, path, *told, edited=()):
+        return edits.verdict(crate(), path, lines(*told), {path, *edited})
+
+    def test_refused(self):
+        for told in (
+            "not proved",
+            "no proof: expected answers in ./proofs/pair/alone/Answers.antt; `search` did not prove `returns`",
+            "not proved; it stands on `Rattle.two.proofs.pair.alone.Answers.returns`, which antt refuses",
+        ):
+            self.assertEqual(self.verdict("pair::alone", f"pair::alone: {told}"), "refused")
+
+    def test_proved(self):
+        for told in ("proved", "no holes", "depends on a hole in `Rattle.two.proofs.other.twice.Proof.twice_spec`"):
+            self.assertEqual(self.verdict("pair::alone", f"pair::alone: {told}"), "proved")
+
+    def test_unsettled(self):
+        for told in (["pair::alone: could not tell"], [], ["other::twice: not proved"]):
+            self.assertEqual(self.verdict("pair::alone", *told), "unsettled")
+
+    def test_another_edited_function_is_named(self):
+        self.assertEqual(self.verdict("pair::Pair::both", self.CALL, "other::twice: not proved", edited=["other::twice"]), "unsettled")
+        self.assertEqual(self.verdict("pair::Pair::both", self.CALL, self.HOLE, edited=["other::twice"]), "unsettled")
+
+    def test_a_hole_is_named(self):
+        self.assertEqual(self.verdict("pair::Pair::both", self.CALL, self.HOLE), "refused")
+
+    def test_a_function_that_fails_is_named(self):
+        self.assertEqual(self.verdict("pair::Pair::both", self.CALL, "other::twice: not proved"), "unsettled")
+        self.assertEqual(self.verdict("pair::Pair::both", self.CALL), "unsettled")
+
+    def test_an_impl_is_named(self):
+        told = "pair::alone: no proof: `search` did not prove `returns`; it passes the block `two::pair::PairDisplay`, which is not proved"
+        hole = "pair::PairDisplay::fmt: depends on a hole in `Rattle.two.proofs.other.twice.Proof.twice_spec`"
+        self.assertEqual(self.verdict("pair::alone", told, hole), "refused")
+        self.assertEqual(self.verdict("pair::alone", told, hole, edited=["pair::PairDisplay::fmt"]), "unsettled")
+        self.assertEqual(self.verdict("pair::alone", told), "unsettled")
+
+    def test_only_the_call_of_another_failed(self):
+        told = "pair::Pair::both: no proof: it calls `two::other::twice`, which is not proved"
+        self.assertEqual(self.verdict("pair::Pair::both", told, self.HOLE), "unsettled")
+        # unless a note tells of a goal of its own
+        made, told = crate(), lines(told, self.HOLE)
+        notes = ["note: src/pair.rt:27:5: it is not proved that what the function ensures holds", "note: src/pair.rt:2:1: a note"]
+        own = edits.own_lines(made, "pair::Pair::both", SOURCE, "src/pair.rt", notes)
+        self.assertEqual(own, notes[:1])
+        self.assertEqual(edits.verdict(made, "pair::Pair::both", told, {"pair::Pair::both"}, edits.has_open_goal(own)), "refused")
+
+    def test_a_cycle_has_one_proof(self):
+        told = "pair::even: no proof: expected answers in ./proofs/pair/+parity/Answers.antt; `search` did not prove"
+        told += " `even-returns`; in `two::pair::odd`, of this cycle of calls: it calls `two::other::twice`, which is not proved"
+        self.assertEqual(self.verdict("pair::even", told, self.HOLE), "refused")
+        told = "pair::even: not proved; it stands on `Rattle.two.proofs.pair.+parity.Answers.even-returns`, which antt refuses"
+        self.assertEqual(self.verdict("pair::even", told), "refused")
+
+    def test_another_proof_is_named(self):
+        told = "pair::alone: not proved; it stands on `Rattle.two.proofs.Lemmas.sum`, which antt refuses"
+        self.assertEqual(self.verdict("pair::alone", told), "unsettled")
+
+    def test_a_closure_is_the_functions_own(self):
+        told = ["pair::Pair::both: not proved; it calls `two::pair::fn::Pair::both::map`, which is not proved"]
+        told.append("pair::fn::Pair::both::map: no proof: `search` did not prove `returns`")
+        self.assertEqual(self.verdict("pair::Pair::both", *told), "refused")
+
+
+class Told(unittest.TestCase):
+    def test_unread(self):
+        self.assertTrue(edits.unread("src/pair.rt:3:4: error: expected the end", {"src/pair.rt"}))
+        self.assertTrue(edits.unread("src/pair.rt:3:4: error: `x`: it is not in scope", set()))
+        self.assertFalse(edits.unread("proofs/pair/alone/Answers.antt:3:4: error: it does not fit", {"src/pair.rt"}))
+
+    def test_told_by_names_alone(self):
+        names = "./proofs/pair/alone/Answers.antt:3:4: error: `returns` is not in scope"
+        goal = "note: src/pair.rt:3:4: it is not proved that"
+        self.assertTrue(edits.told_by_names_alone([names]))
+        self.assertFalse(edits.told_by_names_alone([names, goal]))
+        self.assertFalse(edits.told_by_names_alone([]))
+
+    def test_holes(self):
+        texts = WRONG.with_holes(crate(), crate().texts, {"pair::Pair::first"})
+        self.assertNotIn("proofs/pair/Pair/first/Answers.antt", texts)
+        self.assertIn("first_spec = ?", texts["proofs/pair/Pair/first/Proof.antt"])
+
+    def test_proofs_of_others_stay(self):
+        # a function and a module of one name
+        sources = {"src/lib.rt": "fn pair() {}\n\nfn same() {}\n", "src/pair.rt": "fn first() {}\n"}
+        proofs = {f"proofs/{it}/Answers.antt": "a" for it in ("pair", "pair/first", "pair/+cycle", "same")}
+        made = WRONG.with_holes(edits.Crate("two", {**sources, **proofs}), {**sources, **proofs}, {"pair"})
+        gone = {it for it in proofs if it not in made}
+        self.assertEqual(gone, {"proofs/pair/Answers.antt"})
+
+    def test_no_hole_where_a_function_calls_itself(self):
+        text = "fn again(n: u8) -> u8 {\n    again(n)\n}\n\nfn once(n: u8) -> u8 {\n    again(n)\n}\n"
+        made = edits.Crate("two", {"src/lib.rt": text})
+        self.assertEqual([made.takes_hole(it) for it in ("again", "once", "none")], [False, True, False])
+        self.assertFalse(crate().takes_hole("pair::even"))
+
+    def test_lanes(self):
+        words = ["--jobs", "3", "tpl_words"]
+        self.assertEqual(WRONG.lanes(words), 3)
+        self.assertEqual(words, ["tpl_words"])
+
+
+class Minutes(unittest.TestCase):
+    def test_parts(self):
+        for words, folder, above, part in (
+            ("/kit/bin/rattle build --crate-name a src/lib.rt", "/top/crates/a", "other", "proofs"),
+            ("/kit/bin/rattle check --crate-name a src/main.rt", "/top/crates/a", "other", "programs"),
+            ("/kit/bin/rattle build --crate-name a src/lib.rt --test", "/top/crates/a", "other", "tests of crates"),
+            ("/kit/bin/rattle check --crate-name a src/lib.rt", "/tmp/rt-edit-x", "other", "must-fail edits"),
+            ("rattle check --crate-name a src/main.rt", "/tmp/wrong-x", "wrong bodies in rounds", "wrong bodies in rounds"),
+            ("python3 .ci/wrong", "/top", "other", "wrong bodies in rounds"),
+            ("/tmp/rt-run-x/bin/a", "/tmp/rt-run-x/data", "other", "programs"),
+            ("python3 cases/run.py crates/a/out/a", "/top", "other", "cases"),
+            ("crates/a/out/a check", "/top", "cases", "cases"),
+        ):
+            self.assertEqual(MINUTES.part_of(words.split(), folder, above), part)
+
+    def test_table(self):
+        minute = 60 * MINUTES.TICKS
+        spent = [("proofs", "a", minute), ("must-fail edits", "a", minute), ("programs", "b", 3 * minute), ("cases", None, minute)]
+        told = MINUTES.table(spent)
+        self.assertIn("  all                         6.0", told)
+        self.assertEqual(told[-1], "the slowest crates: b 3.0, a 2.0")
+
+
+if __name__ == "__main__":
+    tests = unittest.defaultTestLoader.loadTestsFromModule(sys.modules["__main__"])
+    result = unittest.TextTestRunner(stream=sys.stdout, verbosity=0).run(tests)
+    bad = len(result.failures) + len(result.errors)
+    print(f"{result.testsRun - bad} passed, {bad} failed")
+    sys.exit(1 if bad else 0)

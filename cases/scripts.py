@@ -1,0 +1,234 @@
+#!/usr/bin/env python3
+"""Tests of the scripts: those of examples/, of this folder, and .ci/trusted.
+
+usage: cases/scripts.py [PROGRAM]    the script `taskgraph` at the top, if none is named
+
+The last line is 'N passed, M failed'.
+"""
+import importlib.util
+import json
+import os
+import pathlib
+import re
+import subprocess
+import sys
+import tempfile
+from importlib.machinery import SourceFileLoader
+
+import pages
+from suite import HERE, program, tell
+
+TOP = HERE.parent
+
+
+def loaded(path):
+    """A script as a module, whatever its name ends in."""
+    loader = SourceFileLoader(path.name.replace(".", "_"), str(path))
+    module = importlib.util.module_from_spec(importlib.util.spec_from_loader(loader.name, loader))
+    sys.dont_write_bytecode = True
+    loader.exec_module(module)
+    return module
+
+
+ASK, CERTIFY, PIPELINE = (loaded(TOP / "examples" / name) for name in ("ask", "certify", "pipeline"))
+TRUSTED = loaded(TOP / ".ci/trusted")
+
+
+def named():
+    """The program that is tested."""
+    return pathlib.Path(program("taskgraph")).resolve()
+
+
+def words(path, *given, text=""):
+    """What a script writes, and its exit status."""
+    environment = {**os.environ, "TASKGRAPH": str(named())}
+    ended = subprocess.run(
+        [path, *given], input=text, capture_output=True, text=True, env=environment, timeout=120, check=False
+    )
+    return ended.stdout, ended.returncode
+
+
+# ---- examples/ask
+
+
+def ask_replaces_the_claims():
+    document = {"version": 1, "tasks": [], "claims": [1], "certificate": [2], "journal": "x", "start": {}}
+    expected = {"version": 1, "tasks": [], "claims": [{"never": "A"}], "journal": "", "start": {}}
+    assert ASK.asked(document, {"never": "A"}) == expected
+    assert document["claims"] == [1]
+
+
+def ask_takes_a_journal():
+    document = ASK.asked({"version": 1, "tasks": []}, {"never": "A"}, "w1 begin A\n")
+    assert document["journal"] == "w1 begin A\n"
+
+
+def ask_reads_its_words():
+    path, claim = TOP / "examples/one-root.json", '{"never":"A"}'
+    text, status = words(TOP / "examples/ask", path, claim, "--journal", text="w1 begin A\n")
+    assert status == 0
+    assert json.loads(text)["journal"] == "w1 begin A\n"
+    assert json.loads(words(TOP / "examples/ask", path, claim)[0])["claims"] == [{"never": "A"}]
+    assert words(TOP / "examples/ask")[1] == 2
+    assert words(TOP / "examples/ask", path, claim, "--other")[1] == 2
+
+
+# ---- examples/certify
+
+
+ROW = {"ends": ["Faulted"], "runs": True, "before": ["A", "B"], "past": ["B"], "chain": []}
+
+
+def slim_rows_keep_one_task():
+    assert CERTIFY.slim_row(ROW, "A") == {"ends": ["Faulted"], "runs": True, "before": ["A"]}
+    assert CERTIFY.slim_row(ROW, None) == {"ends": ["Faulted"], "runs": True}
+    assert CERTIFY.slim_row({**ROW, "chain": ["C"]}, None) == {"ends": ["Faulted"], "runs": True, "chain": ["C"]}
+
+
+def slim_trees_keep_their_splits():
+    leaf = {"rows": [ROW]}
+    tree = {"split_input": "i", "yes": leaf, "no": leaf}
+    slimmed = {"rows": [{"ends": ["Faulted"], "runs": True, "past": ["B"], "before": ["B"]}]}
+    assert CERTIFY.slim_tree(tree, "B") == {"split_input": "i", "yes": slimmed, "no": slimmed}
+    assert CERTIFY.slim([leaf], [{"after": ["B", "C"]}]) == [slimmed]
+
+
+def certify_reads_its_words():
+    assert CERTIFY.options(["d"]) == ("d", [], False)
+    assert CERTIFY.options(["d", "--slim", "--depth", "3"]) == ("d", ["--depth", "3"], True)
+    assert CERTIFY.options([]) is None
+    assert CERTIFY.options(["d", "--depht", "3"]) is None
+
+
+def certify_makes_what_check_accepts():
+    for more in ([], ["--slim"]):
+        text, status = words(TOP / "examples/certify", TOP / "examples/either-or.json", *more)
+        assert status == 0
+        answer = subprocess.run([named(), "check"], input=text, capture_output=True, text=True, timeout=120, check=False)
+        assert answer.stdout == "accepted\n"
+
+
+def certify_hands_a_refusal_on():
+    assert words(TOP / "examples/certify", TOP / "examples/either-or.json", "--depth", "0") == ("", 1)
+
+
+# ---- examples/pipeline
+
+
+def pipelines_have_four_tasks_a_shard():
+    assert len(PIPELINE.pipeline(248)["tasks"]) == 1000
+    assert len(PIPELINE.pipeline(1)["tasks"]) == 12
+
+
+def pipelines_keep_the_limits():
+    tasks = PIPELINE.pipeline(248)["tasks"]
+    assert max(len(task.get("of", [])) for task in tasks) <= 256
+    assert sum(1 for task in tasks for it in task.get("body", []) if "work" in it) <= 256
+
+
+def pipeline_refuses_other_numbers():
+    for shards in ("0", "249", "two"):
+        assert words(TOP / "examples/pipeline", shards) == ("", 2)
+
+
+# ---- cases/pages.py
+
+
+PAGE = "text\n\n```console\n$ a <<END | b\nin\nEND\nout\n$ c\n```\n\n```json\n{}\n```\n\n`check` says `accepted`.\n\nmore\n"
+
+
+def pages_are_read_block_by_block():
+    console, snippet = pages.blocks(PAGE)
+    assert pages.commands(console[1]) == [("a <<END | b\nin\nEND\n", "out\n"), ("c\n", "")]
+    assert snippet == ("json", "{}\n", "`check` says `accepted`.")
+    assert pages.SAYS.findall(snippet[2]) == [("check", "accepted", "")]
+    found = pages.SAYS.findall("`analyse --depth 1` finds a certificate.")
+    assert found == [("analyse --depth 1", "", "finds a certificate")]
+
+
+def snippets_stand_behind_the_version():
+    assert pages.document('"tasks": []') == {"version": 2, "tasks": []}
+    assert pages.document('{"version": 1}') == {"version": 1}
+
+
+def lines_of_the_output_page_stand_for_others():
+    lines = [("claim N fails at P", 1), ("TREES", 0), ("run complete", 0), ("task NAME STATUS", 0)]
+    known = pages.rows("".join(f"| `{line}` | {status} | x |\n" for line, status in lines))
+    assert pages.ending("run complete\n", known) == (0, None)
+    assert pages.ending("run complete\nclaim 2 fails at 14\n", known) == (1, None)
+    assert pages.ending("task A Faulted A:WorkFailed(s) B:x\n", known) == (0, None)
+    assert pages.ending("[1]\n", known) == (0, None)
+    assert pages.ending("claim two\n", known) == (0, "claim two")
+
+
+def a_wrong_page_fails():
+    known = pages.rows((TOP / "docs/OUTPUT.md").read_text(encoding="utf-8"))
+    with tempfile.TemporaryDirectory() as folder:
+        page = pages.Page(named(), folder, known)
+        assert page.shown("./taskgraph check < examples/one-root.json\n", "accepted\n") is None
+        assert page.shown("./taskgraph check < examples/one-root.json\n", "refused: shape claim 1\n") is not None
+        snippet = '"tasks": [{"name": "A", "kind": "root", "body": []}], "claims": [{"never": "A"}]'
+        assert page.said(snippet, "analyse", "not found: claim 1", "") is None
+        assert page.said(snippet, "analyse", "not found: claim 2", "") is not None
+        assert page.said(snippet, "analyse", "", "finds a certificate") is not None
+
+
+def each_word_of_a_refusal_has_its_line():
+    page = (TOP / "docs/OUTPUT.md").read_text(encoding="utf-8")
+    words = set()
+    for source in TOP.glob("crates/tpl_report/src/*.rt"):
+        if source.name != "tests.rt":
+            words |= set(re.findall(r'"([A-Z][a-z]\w+)"', source.read_text(encoding="utf-8")))
+    for source in TOP.glob("crates/*/src/**/*.rt"):
+        words |= set(re.findall(r'#\[error\("([A-Z][a-z]\w+)"\)\]', source.read_text(encoding="utf-8")))
+    missing = sorted(word for word in words if not re.search(rf"\b{word}\b", page))
+    assert len(words) >= 20 and not missing, f"docs/OUTPUT.md hasn't {missing}"
+
+
+def each_line_in_the_code_is_on_the_page():
+    known = pages.rows((TOP / "docs/OUTPUT.md").read_text(encoding="utf-8"))
+    lines = set()
+    for source in TOP.glob("crates/tpl_report/src/*.rt"):
+        if source.name != "tests.rt":
+            lines |= set(re.findall(r'"([^"{}]+)\\n"', source.read_text(encoding="utf-8")))
+    missing = sorted(line for line in lines if pages.ending(line + "\n", known)[1] is not None)
+    assert "accepted" in lines and not missing, f"docs/OUTPUT.md hasn't {missing}"
+
+
+# ---- the page on what is trusted
+
+
+def the_page_on_what_is_trusted_is_current():
+    assert TRUSTED.PAGE.read_text(encoding="utf-8") == TRUSTED.page(), "docs/TRUSTED.md: .ci/trusted --write makes it anew"
+
+
+def imports_lead_to_files():
+    files, types, foreign = TRUSTED.imports(TOP / "crates/tpl_model/specs/Claims.antt")
+    assert TOP / "crates/tpl_model/specs/Rules.antt" in files
+    assert ("tpl_model", "Property") in types
+    assert foreign == {"std"}
+
+
+TESTS = [
+    ask_replaces_the_claims, ask_takes_a_journal, ask_reads_its_words,
+    slim_rows_keep_one_task, slim_trees_keep_their_splits,
+    certify_reads_its_words, certify_makes_what_check_accepts, certify_hands_a_refusal_on,
+    pipelines_have_four_tasks_a_shard, pipelines_keep_the_limits, pipeline_refuses_other_numbers,
+    pages_are_read_block_by_block, snippets_stand_behind_the_version, lines_of_the_output_page_stand_for_others,
+    a_wrong_page_fails, each_word_of_a_refusal_has_its_line, each_line_in_the_code_is_on_the_page,
+    the_page_on_what_is_trusted_is_current, imports_lead_to_files,
+]
+
+
+def compared():
+    for test in TESTS:
+        try:
+            test()
+            why = None
+        except (AssertionError, OSError, ValueError, KeyError, subprocess.SubprocessError) as fault:
+            why = repr(fault)
+        yield pathlib.Path(__file__), {"name": test.__name__}, why
+
+
+if __name__ == "__main__":
+    sys.exit(tell(compared()))
