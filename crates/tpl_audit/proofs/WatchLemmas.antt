@@ -3,14 +3,16 @@ use Rattle.std.proofs.Common.{◌≡◌, ℕ, zero, suc, ◌+◌, ◌<◌, ◌�
 use Rattle.std.proofs.lemmas.List.{take_more, reverse-append, length-reverse, length-take-le}
 use Rattle.tpl_model.specs.Graph.{TaskGraph, is_token}
 use Rattle.tpl_model.specs.declared.event.Event.{Event}
+use Rattle.tpl_model.specs.declared.event.Act.{Act}
+use Rattle.tpl_model.specs.declared.event.Act.TheVariants.{Request, Begin, Step, Worked, Leave, Release, Drop, Close, Settle}
 use Rattle.tpl_model.specs.Facts.{requested}
 use Rattle.tpl_model.specs.Rules.{Run}
-use Rattle.std.specs.Prelude.{Result, Ok, Err, is_err, false, OnOk}
+use Rattle.std.specs.Prelude.{Result, Ok, Err, is_err, true, false, Some, if◌then◌else◌, OnOk}
 use Rattle.tpl_laws.specs.Allowed.{is_complete}
-use Rattle.tpl_laws.specs.Failing.{IsFrom, or_now, CompleteIsNoted, RequestIsNoted}
+use Rattle.tpl_laws.specs.Failing.{IsFrom, is_at, or_now, CompleteIsNoted, RequestIsNoted}
 use Rattle.tpl_machine.specs.Journal.{Journal, after}
 use Rattle.tpl_audit.specs.Audit.{first_events}
-use Rattle.tpl_audit.specs.Watching.{asked_at, IsWatched}
+use Rattle.tpl_audit.specs.Watching.{asked_at, may_request, noted_after, IsWatched}
 
 pub none_asked : (n k : ℕ) → asked_at (replicate n None) k ≡ None
 none_asked zero k = refl
@@ -34,6 +36,34 @@ watch_start g v complete asked completes requests c r = record {
   requests = λ k tok. subst (IsFrom (λ before. requested g v before k) []) (sym (r k tok)) (requests g v k).0;
 }
 
+-- an act that can't request a token leaves each as it is
+
+requests_none : (g : TaskGraph) (v : List Bool) (h : List Event) (x : Event) (act : Act) (k : ℕ) → x.act ≡ act → may_request act ≡ false → requested g v (x ∷ h) k ≡ requested g v h k
+requests_none g v h x act k is none = subst (λ a. requested g v (record x { act = a } ∷ h) k ≡ requested g v h k) (sym is) (at act none)
+  where
+    at : (a : Act) → may_request a ≡ false → requested g v (record x { act = a } ∷ h) k ≡ requested g v h k
+    at (Request j) e = absurd (cc)
+    at (Step t) e = absurd (cc)
+    at (Begin t) e = refl
+    at (Worked t answer) e = refl
+    at (Leave t) e = refl
+    at (Release t) e = refl
+    at (Drop t) e = refl
+    at (Close t) e = refl
+    at (Settle t) e = refl
+
+noted_stays : (old : Option ℕ) (now : Bool) (place n : ℕ) → now ≡ is_at old n → or_now old now place ≡ old
+noted_stays None now place n e = ap (λ b. or_now None b place) e
+noted_stays (Some p) now place n e = refl
+
+-- so what is noted after any act is what would be noted where each token is looked at
+pub noted_is_now : (g : TaskGraph) (v : List Bool) (h : List Event) (x : Event) (k place : ℕ) (old : Option ℕ) → IsFrom (λ before. requested g v before k) h old → noted_after x.act old (requested g v (x ∷ h) k) place ≡ or_now old (requested g v (x ∷ h) k) place
+noted_is_now g v h x k place old from = by_case (may_request x.act) refl
+  where
+    by_case : (b : Bool) → may_request x.act ≡ b → noted_after x.act old (requested g v (x ∷ h) k) place ≡ or_now old (requested g v (x ∷ h) k) place
+    by_case true e = ap (λ b. if b then or_now old (requested g v (x ∷ h) k) place else old) e
+    by_case false e = ap (λ b. if b then or_now old (requested g v (x ∷ h) k) place else old) e ∙ sym (noted_stays old (requested g v (x ∷ h) k) place (length h) (requests_none g v h x x.act k refl e ∙ from.each [] h refl))
+
 pub watch_more : (g : TaskGraph) (v : List Bool) (h : List Event) (x : Event) (place : ℕ) (old new : Option ℕ) (asked more : List (Option ℕ)) → CompleteIsNoted → RequestIsNoted → Run g v (x ∷ h) → place ≡ suc (length h) → IsWatched g v h old asked → new ≡ or_now old (is_complete g v (x ∷ h)) place → ((k : ℕ) → is_token g k → asked_at more k ≡ or_now (asked_at asked k) (requested g v (x ∷ h) k) place) → IsWatched g v (x ∷ h) new more
 watch_more g v h x place old new asked more completes requests run at w c r = record {
   completes = subst (IsFrom (is_complete g v) (x ∷ h)) (sym (c ∙ ap (or_now old (is_complete g v (x ∷ h))) at)) ((completes g v).1 h x old run w.completes);
@@ -56,14 +86,14 @@ played_none first events complete asked none w = record {
     nothing [] = refl
     nothing (x ∷ xs) = refl
 
-pub played_more : (first before now : Journal) (events : List Event) (i : ℕ) (x : Event) (place : ℕ) (old new : Option ℕ) (asked more : List (Option ℕ)) → CompleteIsNoted → RequestIsNoted → i < length events → x ≡ get_or events i x → place ≡ i + 1 → Played first before events i old asked → now ≡ after before x → Run now.graph now.inputs now.events → new ≡ or_now old (is_complete now.graph now.inputs now.events) place → ((k : ℕ) → is_token now.graph k → asked_at more k ≡ or_now (asked_at asked k) (requested now.graph now.inputs now.events k) place) → Played first now events (i + 1) new more
+pub played_more : (first before now : Journal) (events : List Event) (i : ℕ) (x : Event) (place : ℕ) (old new : Option ℕ) (asked more : List (Option ℕ)) → CompleteIsNoted → RequestIsNoted → i < length events → x ≡ get_or events i x → place ≡ i + 1 → Played first before events i old asked → now ≡ after before x → Run now.graph now.inputs now.events → new ≡ or_now old (is_complete now.graph now.inputs now.events) place → ((k : ℕ) → is_token now.graph k → asked_at more k ≡ noted_after x.act (asked_at asked k) (requested now.graph now.inputs now.events k) place) → Played first now events (i + 1) new more
 played_more first before now events i x place old new asked more completes requests lt is at p made run c r =
     let done : now ≡ record first { events = x ∷ first_events events i } = made ∙ ap (λ z. after z x) p.journal in
     let next = first_more events i x lt is in
     let size = length-first events i (omega arith) in
     let run_on : Run first.graph first.inputs (x ∷ first_events events i) = subst (λ z. Run z.graph z.inputs z.events) done run in
     let c_on : new ≡ or_now old (is_complete first.graph first.inputs (x ∷ first_events events i)) place = c ∙ ap (λ (z : Journal). or_now old (is_complete z.graph z.inputs z.events) place) done in
-    let r_on : (k : ℕ) → is_token first.graph k → asked_at more k ≡ or_now (asked_at asked k) (requested first.graph first.inputs (x ∷ first_events events i) k) place = λ k tok. r k (subst (λ (z : Journal). is_token z.graph k) (sym done) tok) ∙ ap (λ (z : Journal). or_now (asked_at asked k) (requested z.graph z.inputs z.events k) place) done in
+    let r_on : (k : ℕ) → is_token first.graph k → asked_at more k ≡ or_now (asked_at asked k) (requested first.graph first.inputs (x ∷ first_events events i) k) place = λ k tok. r k (subst (λ (z : Journal). is_token z.graph k) (sym done) tok) ∙ (ap (λ (z : Journal). noted_after x.act (asked_at asked k) (requested z.graph z.inputs z.events k) place) done ∙ noted_is_now first.graph first.inputs (first_events events i) x k place (asked_at asked k) (p.watched.requests k tok)) in
     record {
       journal = done ∙ ap (λ h. record first { events = h }) (sym next);
       watched = subst (λ h. IsWatched first.graph first.inputs h new more) (sym next) (watch_more first.graph first.inputs (first_events events i) x place old new asked more completes requests run_on (omega arith) p.watched c_on r_on);

@@ -5,9 +5,10 @@ ghost use Rattle.tpl_model.specs.Graph.{is_token};
 ghost use Rattle.tpl_model.specs.Facts.{requested};
 ghost use Rattle.tpl_laws.specs.Allowed.{is_complete};
 ghost use Rattle.tpl_laws.specs.Failing.{or_now};
-ghost use Rattle.tpl_audit.specs.Watching.{asked_at};
+ghost use Rattle.tpl_audit.specs.Watching.{asked_at, may_request, noted_after};
 
 use tpl_machine::Core;
+use tpl_model::Act;
 use tpl_words::{MOST_TOKENS, TokenId};
 
 /// The place from which the run is complete, and for each token that from which it is requested.
@@ -24,6 +25,17 @@ fn or_now(noted: Option<usize>, now: bool, place: usize) -> Option<usize>
     match noted {
         Some(at) => Some(at),
         None => { if now { Some(place) } else { None } }
+    }
+}
+
+/// A token may be requested by the act.
+fn may_request(act: Act) -> bool
+    ensures { result ≡ may_request act }
+{
+    match act {
+        Act::Request(_) => true,
+        Act::Step(_) => true,
+        _ => false,
     }
 }
 
@@ -64,5 +76,21 @@ impl Watch {
         tpl_laws::allowed::is_complete_is_right();
         self.complete = or_now(self.complete, core.complete(), place);
         note_requests(&mut self.asked, core, place);
+    }
+
+    /// Notes what is true for the first time at this place, which is right after the act. It looks at the tokens only where
+    /// the act may request one.
+    pub(crate) fn note_after<C: Core>(&mut self, core: &C, act: Act, place: usize)
+        ensures complete { let j = C.journal core.now in self.new.complete
+            ≡ or_now self.old.complete (is_complete j.graph j.inputs j.events) place }
+        ensures asked { let j = C.journal core.now in (k : ℕ) → is_token j.graph k
+            → asked_at self.new.asked k ≡ noted_after act (asked_at self.old.asked k)
+            (requested j.graph j.inputs j.events k) place }
+    {
+        tpl_laws::allowed::is_complete_is_right();
+        self.complete = or_now(self.complete, core.complete(), place);
+        if may_request(act) {
+            note_requests(&mut self.asked, core, place);
+        }
     }
 }
