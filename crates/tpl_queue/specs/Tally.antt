@@ -1,5 +1,5 @@
 -- What one pass of a queue knows.
-use Rattle.std.specs.Prelude.{◌≡◌, ℕ, ◌+◌, ◌*◌, ◌^◌, ◌==◌, if◌then◌else◌, List, [], ◌∷◌, ◌++◌, length}
+use Rattle.std.specs.Prelude.{◌≡◌, ℕ, ◌+◌, ◌*◌, ◌^◌, ◌<◌, ◌==◌, if◌then◌else◌, List, [], ◌∷◌, ◌++◌, length}
 use Rattle.tpl_queue.specs.declared.rule.Tally.{Tally}
 
 -- the weights of the tasks, added up
@@ -54,6 +54,14 @@ pub record Accounts (v : Tally) (tasks : List ℕ) : Type 0 where
 -- at one moment of the call the queue held n tasks, for which the pass accounts
 abbrev pub HeldAtOnce : ℕ → Tally → Type 0
 HeldAtOnce n v = (tasks : List ℕ) × (length tasks ≡ n) × Accounts v tasks
+
+-- at one moment of the call the queue held fewer than n tasks, for which the pass accounts
+abbrev pub HeldFewer : ℕ → Tally → Type 0
+HeldFewer n v = (tasks : List ℕ) × (length tasks < n) × Accounts v tasks
+
+-- the same, with the number that a witness tells
+abbrev pub HadRoom : List ℕ → Tally → Type 0
+HadRoom told v = (n : ℕ) → told ≡ n ∷ [] → HeldFewer n v
 
 -- at one moment of the call the task t was the oldest in the queue, and the pass accounts for it and those behind it
 abbrev pub WasOldest : ℕ → Tally → Type 0

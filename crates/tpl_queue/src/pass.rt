@@ -1,9 +1,8 @@
 //! What a worker uses the queue by.
 
-use crate::rule::Tally;
+use crate::rule::{Placed, Tally};
 use crossbeam_queue::Pass;
 use std::marker::Model;
-use tpl_jobs::Job;
 
 /// A pass of one queue. It has no bytes, and is neither copied nor cloned.
 ///
@@ -12,7 +11,7 @@ use tpl_jobs::Job;
 /// whole pass is never had again.
 #[derive(Drop)]
 pub struct QueuePass<I> {
-    pub(crate) seat: Pass<Job<I>, Tally>,
+    pub(crate) seat: Pass<Placed<I>, Tally>,
 }
 
 impl<I> Model for QueuePass<I> {

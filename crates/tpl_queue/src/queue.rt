@@ -1,10 +1,10 @@
 //! The queue.
 ghost use Rattle.std.specs.Prelude.{◌≡◌, ◌<◌, ◌+◌, ℕ, [], map, IfOk, IfErr, IfSome, IfNone, OnOk, OnErr};
-ghost use Rattle.tpl_queue.specs.Tally.{new_tally, times, after_put, after_take, first_half, second_half, both, IsWhole, Accounts, HeldAtOnce, WasOldest};
+ghost use Rattle.tpl_queue.specs.Tally.{new_tally, times, after_put, after_take, first_half, second_half, both, IsWhole, Accounts, HeldAtOnce, HeldFewer, WasOldest};
 
 use crate::pass::QueuePass;
-use crate::reserve::{Reserve, reserved, unreserved};
-use crate::rule::{Halves, Put, Ring, Taken};
+use crate::reserve::{Reserve, reserved, unreserved, witness};
+use crate::rule::{Halves, Placed, Put, Ring, Taken};
 use std::alloc::{AllocError, Global};
 use std::marker::Model;
 use std::sync::Wait;
@@ -30,7 +30,7 @@ impl<I> Model for JobQueue<I> {
 
     ghost view = { λ q. record { id = q.ring.table.shared.table_id; capacity = ruled_capacity q.ring } };
 
-    ghost invariant = { λ q. q.reserve.shared.key ≡ ruled_capacity q.ring };
+    ghost invariant = { λ q. (q.reserve.shared.key ≡ ruled_capacity q.ring) × (q.reserve.shared.table_id.words ≡ 1) };
 }
 
 impl<I: Drop> JobQueue<I> {
@@ -49,9 +49,9 @@ impl<I: Drop> JobQueue<I> {
 
     /// Cuts a pass in two halves. The first keeps what the pass put and took.
     ///
-    /// Neither half knows what the other puts and takes. So at a half what `put` says of a full queue, and `take` of an
-    /// empty one and of the oldest job, says nothing of what the queue held: it is a fact of the whole pass alone, which
-    /// is had again once all halves are joined.
+    /// Neither half knows what the other puts and takes. So at a half what `put` says of a free place and of a full
+    /// queue, `take` of an empty one and of the oldest job, and `drain` of the list, says nothing of what the queue held:
+    /// these are facts of the whole pass alone, which is had again once all halves are joined.
     pub fn split(&self, pass: QueuePass<I>) -> (QueuePass<I>, QueuePass<I>)
         requires { pass.queue ≡ self.now.id }
         ensures queue { (result.0.queue ≡ self.now.id) × (result.1.queue ≡ self.now.id) }
@@ -76,17 +76,23 @@ impl<I: Drop> JobQueue<I> {
         QueuePass { seat }
     }
 
-    /// Puts a job at the back. The job comes back only where the queue was full at one moment of the call, as the whole
-    /// pass knows; at a part of it `full` says nothing (`split`). That there was a free place where the job was put, no
-    /// clause says.
+    /// Puts a job at the back. It is put only where the queue had a free place at one moment of the call, and comes back
+    /// only where the queue was full at one, as the whole pass knows; at a part of it `room` and `full` say nothing
+    /// (`split`).
     pub fn put<R: Wait>(&self, rt: &R, pass: &mut QueuePass<I>, job: Job<I>) -> Result<(), Job<I>>
         requires { pass.old.queue ≡ self.now.id }
         ensures queue { pass.new.queue ≡ pass.old.queue }
         ensures put { OnOk result (pass.new.tally ≡ after_put pass.old.tally job.task.0) }
         ensures refused { IfErr result (λ back. (back ≡ job) × (pass.new.tally ≡ pass.old.tally)) }
         ensures full { OnErr result (HeldAtOnce self.now.capacity pass.old.tally) }
+        ensures room { OnOk result (HeldFewer self.now.capacity pass.old.tally) }
     {
-        self.ring.push_as::<Put, R>(rt, &mut pass.seat, job)
+        let places = witness(&self.reserve);
+        let placed = Placed { job, places };
+        if let Err(back) = self.ring.push_as::<Put, R>(rt, &mut pass.seat, placed) {
+            return Err(back.into_job());
+        }
+        Ok(())
     }
 
     /// Takes the job at the front. There is none only where the queue was empty at one moment of the call, as the whole
@@ -99,11 +105,13 @@ impl<I: Drop> JobQueue<I> {
         ensures none { IfNone result (pass.new.tally ≡ pass.old.tally) }
         ensures empty { IfNone result (HeldAtOnce 0 pass.old.tally) }
     {
-        self.ring.pop_as::<Taken, R>(rt, &mut pass.seat)
+        let placed = self.ring.pop_as::<Taken, R>(rt, &mut pass.seat)?;
+        Some(placed.into_job())
     }
 
     /// Takes all jobs that are left, the oldest first, into the list that `new` reserved. Where the pass
-    /// is the whole one, each task was put as often as it was taken or is in this list.
+    /// is the whole one, each task was put as often as it was taken or is in this list; at a part of it the clauses say
+    /// nothing (`split`).
     pub fn drain<R: Wait>(self, rt: &R, pass: QueuePass<I>) -> Vec<Job<I>>
         requires { pass.queue ≡ self.id }
         ensures accounts { Accounts pass.tally (map (λ j. j.task.0) result.items) }
@@ -115,7 +123,7 @@ impl<I: Drop> JobQueue<I> {
         let count = ring.len_as::<Taken, R>(rt, &mut seat);
         for _turn in 0..count {
             match ring.pop_as::<Taken, R>(rt, &mut seat) {
-                Some(job) => list.push_reserved(job),
+                Some(placed) => list.push_reserved(placed.into_job()),
                 None => return list,
             }
         }

@@ -10,7 +10,8 @@ use Rattle.core.proofs.once.Sent.{once_send, once_sync}
 use Rattle.core.specs.declared.alloc.Allocator.{Ghosts as AllocGhosts}
 use Rattle.atomic_table.specs.declared.shared.TableRule.{Ghosts as TableGhosts}
 use Rattle.atomic_table.specs.contracts.shared.Shared as Shared_table
-use Rattle.atomic_table.proofs.Sent.{shares_keyless}
+use Rattle.atomic_table.specs.contracts.badge.Badge as Badge
+use Rattle.atomic_table.proofs.Sent.{badge_keyless, shares_keyless}
 use Rattle.atomic_table.proofs.Rights.{right_send}
 use Rattle.atomic_table.specs.contracts.send_lease.SendLease as Lease
 use Rattle.std.specs.contracts.sync.Mutex as Mutex
@@ -34,8 +35,12 @@ lease_send T A g f = right_send T A g f
 lease_sync : (T A : RattleType) (g : AllocGhosts A.Denot) → Frees g g.dealloc_token → IsSync (Lease.the_row T A g)
 lease_sync T A g f = record { shared = λ d b o ν q. part_keyless (Lease.the_row T A g) (right_send T A g f) q d b o }
 
+-- a witness, as its own crate has it
+badge_send : (V : RattleType) → IsSend (Badge.the_row V)
+badge_send V = record { owned = λ d vs. ((λ vss. (tt, ((λ uss. (tt, tt)), tt))), badge_keyless V.coded.code d.table_id d.id d.views); leaving = λ k f vs. tt }
+
 queue_sync : (W : RattleType) → IsSend W → IsSync (JobQueue.the_row W)
-queue_sync W s = search (sendable, crosses, table_sync, lease_sync, lease_send) depth 60 fits 30000
+queue_sync W s = search (sendable, crosses, badge_send, table_sync, lease_sync, lease_send) depth 60 fits 30000
 
 stock_send : (W : RattleType) → IsSend W → IsSend (Stock.the_field W).row
 stock_send W w = search (sendable, crosses, text_crosses) depth 60
