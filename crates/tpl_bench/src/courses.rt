@@ -1,7 +1,10 @@
 //! The courses that are measured.
 
 use crate::orders::Order;
-use crate::shapes::{STATEMENTS, Shape};
+use crate::shapes::{STATEMENTS, Shape, of_tasks};
+use std::alloc::Global;
+use std::io;
+use tpl_graph::Graph;
 
 /// How many lengths a course has.
 pub const LENGTHS: usize = 4;
@@ -25,12 +28,33 @@ pub enum Course {
     Families,
 }
 
+/// All courses.
+pub const COURSES: [Course; 7] = [
+    Course::OneByOne,
+    Course::SideBySide,
+    Course::FirstRounds,
+    Course::Chained,
+    Course::Joined,
+    Course::Raced,
+    Course::Families,
+];
+
 /// One length of a course.
 #[derive(Clone, Copy)]
 pub struct Length {
     pub shape: Shape,
     pub tasks: usize,
     pub order: Order,
+}
+
+impl Length {
+    /// Its graph.
+    pub fn graph(self, alloc: Global) -> io::Result<Graph> {
+        match Graph::build(alloc, of_tasks(alloc, self.shape, self.tasks)?) {
+            Ok(graph) => Ok(graph),
+            Err(_) => Err(io::Error::from(io::ErrorKind::OutOfMemory)),
+        }
+    }
 }
 
 /// The number of tasks of graphs whose bodies are long.

@@ -2,9 +2,8 @@
 //! to 68,639 events the nanoseconds an event on both, the quickest of 20 runs on the indexed one, and one run on the
 //! plain one.
 
-use crate::courses::{Course, LENGTHS, Length};
+use crate::courses::{COURSES, Course, LENGTHS, Length};
 use crate::orders::{Order, play};
-use crate::shapes::of_tasks;
 use std::alloc::Global;
 use std::io;
 use std::time::{Clock, Duration, Instant};
@@ -12,16 +11,6 @@ use tpl_fast::Fast;
 use tpl_graph::Graph;
 use tpl_machine::{Core, Machine};
 use tpl_words::Inputs;
-
-const COURSES: [Course; 7] = [
-    Course::OneByOne,
-    Course::SideBySide,
-    Course::FirstRounds,
-    Course::Chained,
-    Course::Joined,
-    Course::Raced,
-    Course::Families,
-];
 
 /// How often a run is measured on the indexed machine.
 const TIMES: u32 = 20;
@@ -72,15 +61,8 @@ fn quickest(clock: &impl Clock, alloc: Global, graph: &Graph, order: Order) -> i
     Ok(best)
 }
 
-fn graph_of(alloc: Global, length: Length) -> io::Result<Graph> {
-    match Graph::build(alloc, of_tasks(alloc, length.shape, length.tasks)?) {
-        Ok(graph) => Ok(graph),
-        Err(_) => Err(io::Error::from(io::ErrorKind::OutOfMemory)),
-    }
-}
-
 fn both(clock: &impl Clock, alloc: Global, length: Length) -> io::Result<(Played, Played)> {
-    let graph = graph_of(alloc, length)?;
+    let graph = length.graph(alloc)?;
     let fast = quickest(clock, alloc, &graph, length.order)?;
     let plain = on_plain(clock, alloc, &graph, length.order)?;
     Ok((plain, fast))

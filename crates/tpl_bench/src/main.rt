@@ -1,9 +1,10 @@
-//! Measurements, a word for each: `queue`, `graph`, `reader`, `checker`, `machines` and `analyser`.
+//! Measurements, a word for each: `queue`, `runs`, `graph`, `reader`, `checker`, `machines`, `analyser` and `audits`.
 //!
 //! With one of these words as its argument the program prints what it measured. With none it does a little of each, and
 //! prints what came of it.
 #![tactic(auto)]
 
+mod audits;
 mod building;
 mod checking;
 mod courses;
@@ -14,31 +15,39 @@ mod leaves;
 mod locked;
 mod machines;
 mod orders;
+mod plans;
+mod pool;
 mod queue;
 mod reading;
+mod runs;
 mod searching;
+mod session;
 mod shapes;
 mod shared;
+mod spins;
 mod timing;
 
+use crate::audits::show_audits;
 use crate::building::{measure_graphs, show_graph};
 use crate::checking::show_checks;
 use crate::machines::show_machines;
 use crate::queue::show_queue;
 use crate::reading::{measure_reading, show_reading};
+use crate::runs::show_runs;
 use crate::searching::show_searches;
 use std::{env, io};
 
-/// A little of each but the queue.
+/// A little of each but the queue and the runs.
 fn show_all(rt: &HostRuntime) -> io::Result<()> {
     show_graph(rt)?;
     show_reading(rt)?;
     show_checks(rt, false)?;
     show_machines(rt, false)?;
-    show_searches(rt, false)
+    show_searches(rt, false)?;
+    show_audits(rt, false)
 }
 
-/// What the word asks for, but the queue.
+/// What the word asks for, but the queue and the runs.
 fn measure(rt: &HostRuntime, word: &str) -> io::Result<()> {
     match word {
         "graph" => measure_graphs(rt),
@@ -46,7 +55,8 @@ fn measure(rt: &HostRuntime, word: &str) -> io::Result<()> {
         "checker" => show_checks(rt, true),
         "machines" => show_machines(rt, true),
         "analyser" => show_searches(rt, true),
-        _ => println!(rt; "queue, graph, reader, checker, machines or analyser"),
+        "audits" => show_audits(rt, true),
+        _ => println!(rt; "queue, runs, graph, reader, checker, machines, analyser or audits"),
     }
 }
 
@@ -54,9 +64,11 @@ fn main(rt: HostRuntime) -> io::Result<()> {
     match env::args(&rt)?.nth(1) {
         None => {
             show_queue(&rt, rt.alloc(), false)?;
+            show_runs(&rt, rt.alloc(), false)?;
             show_all(&rt)
         }
         Some(word) if word.as_str() == "queue" => show_queue(&rt, rt.alloc(), true),
+        Some(word) if word.as_str() == "runs" => show_runs(&rt, rt.alloc(), true),
         Some(word) => measure(&rt, word.as_str()),
     }
 }

@@ -2,7 +2,7 @@ use Rattle.std.proofs.Common.{sym, subst}
 use Rattle.std.specs.List.{All}
 use Rattle.tpl_model.specs.Rules.{Run}
 use Rattle.tpl_journal.specs.Lines.{CanSpell}
-use Rattle.tpl_bench_audits.proofs.audits.text_of.Goals as goal
+use Rattle.tpl_bench.proofs.audits.text_of.Goals as goal
 
 pub write_journal-requires : goal.write_journal-requires
 write_journal-requires g c =

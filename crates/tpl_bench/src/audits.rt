@@ -1,4 +1,5 @@
-//! How long the audit of a run takes.
+//! How long the audit of a run takes, beside its steps alone and the reading of its text: for seven courses of 770 to
+//! 68,639 events the nanoseconds an event, the quickest of 20 of each.
 
 ghost use Rattle.std.specs.Prelude.{◌↔◌, ◌<◌, IsTrue};
 ghost use Rattle.std.specs.List.{All};
@@ -6,9 +7,8 @@ ghost use Rattle.tpl_claims.specs.Fits.{Fits};
 ghost use Rattle.tpl_model.specs.declared.event.Event.{Event as event};
 ghost use Rattle.tpl_journal.specs.Lines.{IsSeat};
 
-use crate::course::{Course, LENGTHS, Length};
-use crate::graph::of_tasks;
-use crate::run::play;
+use crate::courses::{COURSES, Course, LENGTHS, Length};
+use crate::orders::play;
 use std::alloc::{AllocError, Global};
 use std::io;
 use std::time::{Clock, Duration, Instant};
@@ -75,13 +75,6 @@ fn text_of<C: Core>(alloc: Global, core: &C) -> io::Result<String> {
     }
     match str::from_utf8(to.into_inner().as_slice()) {
         Ok(text) => Ok(String::from_str(alloc, text)?),
-        Err(_) => Err(refused()),
-    }
-}
-
-fn graph_of(alloc: Global, length: Length) -> io::Result<Graph> {
-    match Graph::build(alloc, of_tasks(alloc, length.shape, length.tasks)?) {
-        Ok(graph) => Ok(graph),
         Err(_) => Err(refused()),
     }
 }
@@ -229,9 +222,10 @@ fn quickest(clock: &impl Clock, alloc: Global, graph: &Graph, run: &Recorded) ->
     Ok(best)
 }
 
+/// Prints the nanoseconds an event of the steps alone, of reading the text and of the audit.
 fn show_rates(rt: &HostRuntime, course: Course, length: Length) -> io::Result<()> {
     let alloc = rt.alloc();
-    let graph = graph_of(alloc, length)?;
+    let graph = length.graph(alloc)?;
     let run = record_of(alloc, &graph, length)?;
     let events = run.events.len();
     let best = quickest(rt, alloc, &graph, &run)?;
@@ -245,14 +239,6 @@ fn show_rates(rt: &HostRuntime, course: Course, length: Length) -> io::Result<()
         rate(best.audits[2], events),
         rate(best.audits[3], events)
     )
-}
-
-/// Prints the nanoseconds an event of the steps alone, of reading the text and of the audit, for each length of a course.
-pub fn show_audits(rt: &HostRuntime, course: Course) -> io::Result<()> {
-    for length in 0..LENGTHS {
-        show_rates(rt, course, course.length(length))?;
-    }
-    Ok(())
 }
 
 /// What an audit with all claims finds.
@@ -269,18 +255,37 @@ fn verdict_of(
 }
 
 /// Prints what an audit finds of the shortest run of a course.
-pub fn show_verdict(rt: &HostRuntime, course: Course) -> io::Result<()> {
+fn show_verdict(rt: &HostRuntime, course: Course) -> io::Result<()> {
     let alloc = rt.alloc();
     let length = course.length(0);
-    let graph = graph_of(alloc, length)?;
+    let graph = length.graph(alloc)?;
     let run = record_of(alloc, &graph, length)?;
     let claims = claims_of(alloc, &graph, 64)?;
     let count = run.events.len();
     match verdict_of(alloc, &graph, run.events.as_slice(), claims.as_slice())? {
         Verdict::Run { complete, .. } => println!(rt;
-            "{}: {count} events, complete {complete}",
+            "audits, {}: {count} events, complete {complete}",
             course.name()
         ),
-        _ => println!(rt; "{}: no run", course.name()),
+        _ => println!(rt; "audits, {}: no run", course.name()),
     }
+}
+
+fn measure_course(rt: &HostRuntime, course: Course) -> io::Result<()> {
+    for length in 0..LENGTHS {
+        show_rates(rt, course, course.length(length))?;
+    }
+    Ok(())
+}
+
+/// Audits the shortest run of each course, or measures all.
+pub(crate) fn show_audits(rt: &HostRuntime, measures: bool) -> io::Result<()> {
+    for course in COURSES {
+        if measures {
+            measure_course(rt, course)?;
+        } else {
+            show_verdict(rt, course)?;
+        }
+    }
+    Ok(())
 }
