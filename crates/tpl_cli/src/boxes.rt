@@ -2,7 +2,6 @@
 
 ghost use Rattle.std.specs.Prelude.{◌≡◌, false};
 ghost use Rattle.std.specs.List.{All};
-ghost use Rattle.tpl_cert.specs.Heights.{IsWithinLimits};
 ghost use Rattle.tpl_claims.specs.Fits.{Fits};
 ghost use Rattle.tpl_reader.specs.SeenDocument.{doc_of};
 ghost use Rattle.tpl_report.specs.Loading.{RequestsTokens};
@@ -50,7 +49,6 @@ pub fn run_boxes<R: Threads + Wait + Sync, O: Write>(
     to: &mut Counting<O>,
 ) -> Exit
     requires claims { All (Fits document.now.graph.graph) document.now.claims.items }
-    requires trees { All IsWithinLimits document.now.certificate }
     requires tokens { RequestsTokens (doc_of document.now) }
 {
     let mut items: Vec<WorkItem<Stamp>> = Vec::new(alloc);

@@ -2,7 +2,6 @@
 
 ghost use Rattle.std.specs.Prelude.{◌≡◌, IfOk, IfErr, OnOk, string_bytes};
 ghost use Rattle.std.specs.List.{All};
-ghost use Rattle.tpl_cert.specs.Heights.{IsWithinLimits};
 ghost use Rattle.tpl_claims.specs.Fits.{Fits};
 ghost use Rattle.tpl_reader.specs.SeenDocument.{doc_of};
 ghost use Rattle.tpl_report.specs.Checking.{Checks, IsAccepted, IsRefused, IsVerdict, IsRefusal, NamesTask};
@@ -35,7 +34,6 @@ impl Command for Check {
 /// The check of a document's certificate.
 pub(crate) fn check_document(document: &Document) -> Result<(), CertFault>
     requires claims { All (Fits document.now.graph.graph) document.now.claims.items }
-    requires trees { All IsWithinLimits document.now.certificate }
     ensures accepted { OnOk result (IsAccepted (doc_of document.now)) }
     ensures refused { IfErr result (IsRefused (doc_of document.now)) }
     ensures named { IfErr result (NamesTask document.now.graph.graph) }
@@ -49,7 +47,6 @@ pub(crate) fn check_document(document: &Document) -> Result<(), CertFault>
 /// The verdict on a document's certificate.
 fn verdict_on(alloc: Global, document: &Document) -> Result<Answer, AllocError>
     requires claims { All (Fits document.now.graph.graph) document.now.claims.items }
-    requires trees { All IsWithinLimits document.now.certificate }
     ensures { IfOk result (λ given.
         IsVerdict (doc_of document.now) given.exit (string_bytes given.text)) }
 {

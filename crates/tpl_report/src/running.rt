@@ -2,7 +2,6 @@
 
 ghost use Rattle.std.specs.Prelude.{◌≡◌, Some, IfErr, codes};
 ghost use Rattle.std.specs.List.{All};
-ghost use Rattle.tpl_cert.specs.Heights.{IsWithinLimits};
 ghost use Rattle.tpl_claims.specs.Fits.{Fits};
 ghost use Rattle.tpl_model.specs.Graph.{is_token};
 ghost use Rattle.tpl_reader.specs.SeenDocument.{doc_of};
@@ -120,7 +119,6 @@ fn check_and_run<R: Threads + Wait + Sync, K: Drop + Send, W: Item<K> + Send, O:
     to: &mut Counting<O>,
 ) -> Exit
     requires claims { All (Fits document.now.graph.graph) document.now.claims.items }
-    requires trees { All IsWithinLimits document.now.certificate }
     requires tokens { RequestsTokens (doc_of document.now) }
     ensures { Runs (doc_of document.now) (Some inputs) O.contents to.old to.new result }
 {
@@ -144,7 +142,6 @@ pub fn serve_run<R: Threads + Wait + Sync, K: Drop + Send, W: Item<K> + Send, O:
     to: &mut Counting<O>,
 ) -> Exit
     requires claims { All (Fits document.now.graph.graph) document.now.claims.items }
-    requires trees { All IsWithinLimits document.now.certificate }
     requires tokens { RequestsTokens (doc_of document.now) }
     ensures runs { let doc = doc_of document.now in
         Runs doc (inputs_of doc) O.contents to.old to.new result }
