@@ -3,10 +3,16 @@
 use crate::audits::audit_answer;
 use crate::bytes::bytes_answer;
 use crate::certificates::{search_answer, tree_answer};
+use crate::changes::changes_answer;
 use crate::claims::claims_answer;
+use crate::cuts::cuts_answer;
+use crate::devices::devices_answer;
 use crate::documents::document_answer;
 use crate::graphs::{graph_answer, readers_answer, same_answer};
+use crate::journals::journal_answer;
+use crate::lengths::lengths_answer;
 use crate::reports::report_answer;
+use crate::rounds::rounds_answer;
 use crate::scripts::script_answer;
 use crate::sets::sets_answer;
 use crate::words::words_answer;
@@ -33,6 +39,12 @@ pub fn answer(
         "certificate" => search_answer(alloc, question),
         "audit" => audit_answer(alloc, question),
         "report" => report_answer(alloc, question),
+        "journal" => journal_answer(alloc, question),
+        "changes" => changes_answer(alloc, context, question),
+        "cuts" => cuts_answer(alloc, question),
+        "rounds" => rounds_answer(alloc, context, question),
+        "lengths" => lengths_answer(alloc, context, question),
+        "devices" => devices_answer(alloc, question),
         _ => String::from_str(alloc, "no kind of question"),
     }
 }

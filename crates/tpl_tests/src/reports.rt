@@ -2,6 +2,7 @@
 
 use crate::audits::one_of;
 use crate::documents::{events_of, fault_text, inputs_of};
+use crate::names::{task_name, token_name};
 use std::alloc::{AllocError, Global};
 use tpl_fast::Fast;
 use tpl_graph::Graph;
@@ -9,24 +10,6 @@ use tpl_machine::{Core, Machine};
 use tpl_model::Event;
 use tpl_reader::{Document, read_document};
 use tpl_words::{Label, LabelId, SiteId, TaskId, TokenId};
-
-/// The name of a task; nothing where it isn't the graph's.
-fn task_name(graph: &Graph, task: TaskId) -> &str {
-    if (task.0 as usize) < graph.len() {
-        graph.name(task)
-    } else {
-        ""
-    }
-}
-
-/// The name of a token; nothing where it isn't the graph's.
-fn token_name(graph: &Graph, token: TokenId) -> &str {
-    if (token.0 as usize) < graph.token_count() {
-        graph.token_name(token)
-    } else {
-        ""
-    }
-}
 
 /// The text of a label; nothing where it isn't the graph's.
 fn thrown_name(graph: &Graph, label: LabelId) -> &str {

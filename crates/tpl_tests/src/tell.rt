@@ -1,5 +1,6 @@
 //! What the readers of a graph answer.
 
+use crate::names::{task_name, token_name};
 use std::alloc::AllocError;
 use tpl_graph::Graph;
 use tpl_words::{InputId, LabelId, Options, SiteId, TaskId, TokenId};
@@ -31,24 +32,6 @@ pub fn tell_counts(text: &mut String, graph: &Graph) -> Result<(), AllocError> {
     write!(text, "{sites} sites, {labels} labels, {bound} events")
 }
 
-/// The name of a task; nothing where it isn't the graph's.
-fn name_of(graph: &Graph, task: TaskId) -> &str {
-    if (task.0 as usize) < graph.len() {
-        graph.name(task)
-    } else {
-        ""
-    }
-}
-
-/// The name of a token; nothing where it isn't the graph's.
-fn token_name_of(graph: &Graph, token: TokenId) -> &str {
-    if (token.0 as usize) < graph.token_count() {
-        graph.token_name(token)
-    } else {
-        ""
-    }
-}
-
 /// Tells a number that is found by its name.
 fn tell_found(text: &mut String, number: Option<usize>) -> Result<(), AllocError> {
     match number {
@@ -64,7 +47,7 @@ fn tell_tasks_of(
     tasks: &[TaskId],
 ) -> Result<(), AllocError> {
     for task in tasks {
-        let name = name_of(graph, *task);
+        let name = task_name(graph, *task);
         write!(text, ", {word} {name}")?;
     }
     Ok(())
@@ -77,7 +60,7 @@ fn tell_task_of(
     task: Option<TaskId>,
 ) -> Result<(), AllocError> {
     if let Some(task) = task {
-        let name = name_of(graph, task);
+        let name = task_name(graph, task);
         write!(text, ", {word} {name}")?;
     }
     Ok(())
@@ -85,7 +68,7 @@ fn tell_task_of(
 
 fn tell_tokens_of(text: &mut String, graph: &Graph, tokens: &[TokenId]) -> Result<(), AllocError> {
     for token in tokens {
-        let name = token_name_of(graph, *token);
+        let name = token_name(graph, *token);
         write!(text, ", linked to {name}")?;
     }
     Ok(())
@@ -156,7 +139,7 @@ fn tell_task(text: &mut String, graph: &Graph, task: TaskId) -> Result<(), Alloc
     tell_task_of(text, graph, "after", graph.antecedent(task))?;
     tell_tasks_of(text, graph, "of", graph.args(task))?;
     if let Some(token) = graph.own_token(task) {
-        let token = token_name_of(graph, token);
+        let token = token_name(graph, token);
         write!(text, ", token {token}")?;
     }
     tell_options(text, graph.options(task))?;

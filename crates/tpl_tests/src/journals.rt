@@ -3,12 +3,12 @@
 ghost use Rattle.std.specs.List.{All};
 ghost use Rattle.tpl_claims.specs.Fits.{Fits};
 
+use crate::documents::inputs_of;
 use std::alloc::{AllocError, Global};
 use tpl_audit::{Failure, Verdict, audit};
 use tpl_journal::{JournalFault, read_journal};
 use tpl_model::Event;
 use tpl_reader::{Document, read_document};
-use tpl_words::Inputs;
 
 /// What is found of a text.
 #[derive(Clone, Copy, PartialEq, Eq)]
@@ -24,14 +24,6 @@ pub enum Found {
         complete: bool,
         fails: Option<Failure>,
     },
-}
-
-/// The inputs of the runs of a document.
-pub fn inputs_of(document: &Document) -> Inputs {
-    match &document.start {
-        Some(start) => start.inputs.copy(),
-        None => Inputs::new(0),
-    }
 }
 
 /// The events of a text, or what is found instead.

@@ -1,7 +1,8 @@
 //! What is to be found of a text: its lines are read one by one, its events are done on the plain machine, and each
 //! claim is asked anew at each place.
 
-use crate::journals::{Found, inputs_of};
+use crate::documents::inputs_of;
+use crate::journals::Found;
 use crate::spelled::event_of;
 use std::alloc::{AllocError, Global};
 use tpl_audit::Failure;

@@ -1,9 +1,0 @@
-use denote.Text.{Utf8}
-use denote.Shadow.{shadow}
-use Rattle.tpl_tests_journals.proofs.cases.cases_of.Given as goal
-
-abbrev pub invariant-loop-number : goal.invariant-loop-number
-invariant-loop-number l =
-    (goal.iterator-loop-number).can_next l.number-iterator ×
-    (goal.iterator-loop-number).is_finite l.number-iterator ×
-    shadow (Utf8 l.context)
