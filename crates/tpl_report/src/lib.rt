@@ -28,4 +28,8 @@ pub use serving::{Ask, serve};
 pub use tpl_report_text::write_report;
 
 #[cfg(test)]
+mod command_tests;
+#[cfg(test)]
+mod faulty;
+#[cfg(test)]
 mod tests;

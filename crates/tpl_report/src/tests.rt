@@ -2,10 +2,11 @@
 ghost use Rattle.std.specs.Prelude.{◌≡◌, ◌++◌, codes, decimal, length};
 ghost use Rattle.tpl_report.specs.Serving.{IsWithinDepth};
 
+use crate::faulty::{Narrow, Slow};
 use crate::{Answer, Ask, Command, Exit, put_out_of_memory, respond, serve};
 use std::alloc::{AllocError, Global};
 use std::io;
-use std::io::{ErrorKind, Read, Write};
+use std::io::{ErrorKind, Read};
 use std::test::*;
 use tpl_journal::Counting;
 
@@ -47,30 +48,6 @@ impl Command for Starved {
     }
 }
 
-/// Gives one byte a read, and fails at the read of number `fails`, counted from 0.
-#[derive(Drop)]
-struct Slow<'a> {
-    bytes: &'a [u8],
-    reads: usize,
-    fails: usize,
-}
-
-impl Read for Slow<'_> {
-    fn read(&mut self, buf: &mut [u8]) -> io::Result<usize> {
-        let at = self.reads;
-        self.reads = self.reads.saturating_add(1);
-        if at == self.fails {
-            return Err(io::Error::from(ErrorKind::Other));
-        }
-        if at < self.bytes.len() && !buf.is_empty() {
-            buf[0] = self.bytes[at];
-            Ok(1)
-        } else {
-            Ok(0)
-        }
-    }
-}
-
 /// Gives spaces without end.
 #[derive(Drop)]
 struct Endless;
@@ -79,30 +56,6 @@ impl Read for Endless {
     fn read(&mut self, buf: &mut [u8]) -> io::Result<usize> {
         buf.fill(b' ');
         Ok(buf.len())
-    }
-}
-
-/// Takes one byte a write, and fails at the write of number `fails`, counted from 0.
-#[derive(Drop)]
-struct Narrow {
-    held: Vec<u8>,
-    writes: usize,
-    fails: usize,
-}
-
-impl Write for Narrow {
-    fn write(&mut self, buf: &[u8]) -> io::Result<usize> {
-        let at = self.writes;
-        self.writes = self.writes.saturating_add(1);
-        if at == self.fails || buf.is_empty() {
-            return Err(io::Error::from(ErrorKind::Other));
-        }
-        self.held.push(buf[0])?;
-        Ok(1)
-    }
-
-    fn flush(&mut self) -> io::Result<()> {
-        Ok(())
     }
 }
 
@@ -116,8 +69,9 @@ fn played<C: Command, R: Read + Drop>(
     let mut from = Counting::new(reader);
     let mut to = Counting::new(Narrow {
         held: Vec::new(alloc),
-        writes: 0,
+        calls: 0,
         fails,
+        error: Some(ErrorKind::Other),
     });
     let exit = respond(command, alloc, &mut from, &mut to);
     let Narrow { held, .. } = to.into_inner();
@@ -129,6 +83,7 @@ fn text_of(bytes: &[u8], fails: usize) -> Slow<'_> {
         bytes,
         reads: 0,
         fails,
+        error: ErrorKind::Other,
     }
 }
 
@@ -177,8 +132,9 @@ fn each_failed_write_leaves_a_front(rt: HostRuntime) -> Result<(), Fail> {
 fn codes_of_exits(rt: HostRuntime) -> Result<(), Fail> {
     let mut to = Counting::new(Narrow {
         held: Vec::new(rt.alloc()),
-        writes: 0,
+        calls: 0,
         fails: usize::MAX,
+        error: None,
     });
     let codes = [
         Exit::Success.code(),
@@ -199,8 +155,9 @@ fn served<R: Read + Drop>(alloc: Global, ask: Ask, reader: R, fails: usize) -> (
     let mut from = Counting::new(reader);
     let mut to = Counting::new(Narrow {
         held: Vec::new(alloc),
-        writes: 0,
+        calls: 0,
         fails,
+        error: Some(ErrorKind::Other),
     });
     let exit = serve(alloc, ask, &mut from, &mut to);
     let Narrow { held, .. } = to.into_inner();
