@@ -19,6 +19,9 @@ const DRAFTS: usize = 60;
 
 const LEAST: usize = 15;
 
+/// How many tasks a graph has.
+const TASKS: usize = 10;
+
 /// No run of such a graph is longer.
 const MOST_EVENTS: usize = 1_000;
 
@@ -100,7 +103,7 @@ fn play_graph(alloc: Global, graph: &Graph, dice: &mut Dice) -> Result<bool, All
 fn play_drafts(alloc: Global, dice: &mut Dice) -> Result<Option<usize>, AllocError> {
     let mut valid: usize = 0;
     for _ in 0..DRAFTS {
-        if let Ok(graph) = Graph::build(alloc, draft(alloc, dice)?) {
+        if let Ok(graph) = Graph::build(alloc, draft(alloc, dice, TASKS)?) {
             if !play_graph(alloc, &graph, dice)? {
                 return Ok(None);
             }

@@ -5,9 +5,6 @@ use std::alloc::{AllocError, Global};
 use tpl_graph::{Draft, DraftBody, DraftKind, DraftStmt, DraftTask, DraftToken, DraftWork};
 use tpl_words::{Final, Options};
 
-/// How many tasks a graph has at most.
-const TASKS: usize = 10;
-
 const TOKENS: usize = 3;
 
 /// What a task is.
@@ -221,10 +218,10 @@ fn tokens(alloc: Global) -> Result<Vec<DraftToken>, AllocError> {
     Ok(vec![in alloc; first, second, last]?)
 }
 
-/// A graph by chance. Not each one is valid.
-pub fn draft(alloc: Global, dice: &mut Dice) -> Result<Draft, AllocError> {
+/// A graph of so many tasks by chance. Not each one is valid.
+pub fn draft(alloc: Global, dice: &mut Dice, count: usize) -> Result<Draft, AllocError> {
     let mut sorts = Vec::new(alloc);
-    for _ in 0..TASKS {
+    for _ in 0..count {
         let next = draw(dice, sorts.as_slice());
         sorts.push(next)?;
     }

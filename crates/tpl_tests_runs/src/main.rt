@@ -1,22 +1,34 @@
-//! Runs: plays on both machines, runs by chance on both side by side, and the queue between threads.
+//! Runs: plays on both machines, runs by chance on both side by side, the queue between threads, and sessions.
 //!
 //! The file `files` names the plays. Each check is a line, and the last line counts them.
 #![tactic(auto)]
 
 mod allowed;
+mod asked;
 mod chance;
+mod crews;
 mod dice;
 mod exchange;
 mod generate;
+mod graphs;
 mod machines;
+mod meeting;
 mod names;
 mod plays;
 mod queue;
+mod refusals;
+mod retold;
+mod rounds;
 mod seen;
+mod sessions;
 
 use crate::chance::check_chance;
+use crate::meeting::check_meetings;
 use crate::plays::check_play;
 use crate::queue::check_queue;
+use crate::refusals::{check_counts, check_items};
+use crate::rounds::check_rounds;
+use crate::sessions::check_sessions;
 use std::{fs, io};
 
 /// How many checks there were, and how many of them failed.
@@ -57,5 +69,10 @@ fn main(rt: HostRuntime) -> io::Result<()> {
     let tally = check_plays(&rt, tally)?;
     let tally = tally.with(&check_chance(&rt)?);
     let tally = tally.with(&check_queue(&rt, rt.alloc())?);
+    let tally = tally.with(&check_sessions(&rt, rt.alloc())?);
+    let tally = tally.with(&check_items(&rt, rt.alloc())?);
+    let tally = tally.with(&[check_counts(&rt, rt.alloc())?]);
+    let tally = tally.with(&check_meetings(&rt, rt.alloc())?);
+    let tally = tally.with(&[check_rounds(&rt, rt.alloc())?]);
     println!(&rt; "{} checks, {} failed", tally.checks, tally.failed)
 }

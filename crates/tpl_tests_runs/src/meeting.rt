@@ -1,0 +1,103 @@
+//! Boxes that wait for each other, so that their workers must run at the same time.
+
+ghost use Rattle.std.specs.Prelude.{◌≡◌};
+
+use crate::crews::{Play, all_ran, run_by};
+use crate::exchange::Stamp;
+use crate::graphs::graph_of;
+use crate::sessions::{places, tell};
+use std::alloc::{AllocError, Global};
+use std::fs::Files;
+use std::sync::atomic::{AtomicU64, Ordering};
+use std::sync::{Arc, Wait};
+use std::thread::Threads;
+use std::{io, thread};
+use tpl_graph::Graph;
+use tpl_jobs::{Work, WorkItem};
+use tpl_queue::JobQueue;
+use tpl_runtime::Session;
+use tpl_words::{Answer, Inputs, SiteId};
+
+/// How often a box looks for the others before it gives up.
+const TURNS: usize = 20_000_000;
+
+/// The graphs whose boxes meet, each with as many workers as boxes.
+const MEETINGS: [(&str, u16); 2] = [("two_that_meet", 2), ("eight_that_meet", 8)];
+
+/// Whether each flag is set.
+fn all_set(flags: &[AtomicU64]) -> bool {
+    flags.iter().all(|flag| flag.load(Ordering::SeqCst) == 1)
+}
+
+/// Sets the flag of a box, and waits for all others: it is done once all are set.
+fn meet(flags: &[AtomicU64], site: SiteId) -> Answer {
+    if let Some(flag) = flags.get(site.0 as usize) {
+        flag.store(1, Ordering::SeqCst);
+    }
+    for _ in 0..TURNS {
+        if all_set(flags) {
+            return Answer::Done;
+        }
+        thread::yield_now();
+    }
+    Answer::Failed
+}
+
+/// A flag for each work statement.
+fn flags_of(alloc: Global, graph: &Graph) -> Result<Arc<Vec<AtomicU64>, Global>, AllocError> {
+    let mut flags = Vec::with_capacity(alloc, graph.site_count())?;
+    for _ in 0..graph.site_count() {
+        flags.push(AtomicU64::new(0))?;
+    }
+    Ok(Arc::new(alloc, flags)?)
+}
+
+/// The boxes of a graph meet, with so many workers.
+fn all_meet<R: Threads + Wait + Sync>(
+    rt: &R,
+    alloc: Global,
+    graph: &Graph,
+    workers: u16,
+) -> Result<bool, AllocError> {
+    let flags = flags_of(alloc, graph)?;
+    let mut items: Vec<WorkItem<Stamp>> = Vec::new(alloc);
+    for number in 0..graph.site_count() {
+        let own = Arc::try_clone(&flags)?;
+        let work: Work = Box::new(alloc, move |site: SiteId| -> Answer {
+            meet(own.as_slice(), site)
+        })?;
+        let site = SiteId(number as u16);
+        items.push(WorkItem::new(Stamp(0), site, true, work))?;
+    }
+    let play = Play {
+        workers,
+        inputs: &Inputs::new(graph.input_count()),
+        tokens: &[],
+    };
+    let (queue, pass) = JobQueue::new(alloc, places(graph))?;
+    match Session::open(alloc, graph, play.inputs.copy(), items, queue, &pass) {
+        Ok(session) => match run_by(rt, alloc, graph, session, pass, &play)? {
+            Some(report) => Ok(all_ran(graph, &report, None) && all_set(flags.as_slice())),
+            None => Ok(false),
+        },
+        Err(_) => Ok(false),
+    }
+}
+
+/// Lets the boxes of each graph meet, and answers where they do.
+pub fn check_meetings<R: Files + Alloc + Print + Threads + Wait + Sync>(
+    rt: &R,
+    alloc: Global,
+) -> io::Result<[bool; 2]> {
+    let mut all = [false; 2];
+    for (number, holds) in all.iter_mut().enumerate() {
+        if let Some((name, workers)) = MEETINGS.get(number) {
+            *holds = match graph_of(rt, alloc, name)? {
+                Some(document) => all_meet(rt, alloc, &document.graph, *workers)?,
+                None => false,
+            };
+            tell(rt, "boxes that wait for each other", *holds)?;
+        }
+    }
+    Ok(all)
+}

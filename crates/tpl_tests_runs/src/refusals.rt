@@ -1,0 +1,155 @@
+//! What sessions refuse: items that aren't those of the graph, and counts of workers.
+
+ghost use Rattle.std.specs.Prelude.{◌≡◌, ◌<◌};
+
+use crate::crews::LOOKER;
+use crate::exchange::Stamp;
+use crate::graphs::graph_of;
+use crate::sessions::{places, tell};
+use std::alloc::{AllocError, Global};
+use std::fs::Files;
+use std::io;
+use std::sync::Wait;
+use std::thread::Threads;
+use tpl_graph::Graph;
+use tpl_jobs::{Work, WorkItem};
+use tpl_queue::{JobQueue, QueuePass};
+use tpl_runtime::{Item, OpenFault, OpenWhy, RunWhy, SeatFault, Session};
+use tpl_words::{Actor, Answer, Inputs, SiteId, Worker};
+
+/// An item of a work statement, and whether it says that it may fail.
+type Given = (u16, bool);
+
+/// Items, and why they aren't those of a graph whose work statements are 0 and 1, neither of which may fail.
+const REFUSED: [(&[Given], OpenWhy); COUNT] = [
+    (&[], OpenWhy::ItemMissing(SiteId(0))),
+    (&[(0, false)], OpenWhy::ItemMissing(SiteId(1))),
+    (&[(1, true), (1, false)], OpenWhy::ItemMissing(SiteId(0))),
+    (
+        &[(0, false), (1, false), (2, false)],
+        OpenWhy::ItemStrange(SiteId(2)),
+    ),
+    (
+        &[(0, false), (1, false), (1, false)],
+        OpenWhy::ItemTwice(SiteId(1)),
+    ),
+    (&[(1, false), (0, true)], OpenWhy::MayFailDiffers(SiteId(0))),
+    (&[(0, false), (1, true)], OpenWhy::MayFailDiffers(SiteId(1))),
+];
+
+/// How many lists of items there are.
+const COUNT: usize = 7;
+
+/// The items are those that were given, in their order.
+fn are_given(items: &[WorkItem<Stamp>], given: &[Given]) -> bool {
+    let mut all = items.len() == given.len();
+    for at in 0..given.len() {
+        if let (Some(item), Some((site, may_fail))) = (items.get(at), given.get(at)) {
+            let same = item.site().0 == *site && item.may_fail() == *may_fail;
+            all = all && same;
+        }
+    }
+    all
+}
+
+/// A session isn't opened with these items, for this reason, and all of them come back.
+fn refuses(
+    alloc: Global,
+    graph: &Graph,
+    given: &[Given],
+    why: OpenWhy,
+) -> Result<bool, AllocError> {
+    let mut items: Vec<WorkItem<Stamp>> = Vec::new(alloc);
+    for (site, may_fail) in given {
+        let work: Work = Box::new(alloc, |_site: SiteId| -> Answer { Answer::Done })?;
+        items.push(WorkItem::new(Stamp(0), SiteId(*site), *may_fail, work))?;
+    }
+    let inputs = Inputs::new(graph.input_count());
+    let (queue, pass) = JobQueue::new(alloc, places(graph))?;
+    match Session::open(alloc, graph, inputs, items, queue, &pass) {
+        Ok(_) => Ok(false),
+        Err(fault) => Ok(fault.why == why && are_given(fault.items.as_slice(), given)),
+    }
+}
+
+/// The session doesn't run so many workers, for this reason.
+fn refuses_to_run<R: Threads + Wait + Sync, K: Drop + Send, W: Item<K> + Send>(
+    rt: &R,
+    alloc: Global,
+    session: &Session<'_, K, W>,
+    pass: QueuePass<Vec<W>>,
+    workers: u16,
+    why: RunWhy,
+) -> (QueuePass<Vec<W>>, bool)
+    requires { pass.queue ≡ session.now.queue }
+    ensures { result.0.queue ≡ session.now.queue }
+{
+    match session.run(rt, alloc, pass, workers) {
+        Ok((_done, pass)) => (pass, false),
+        Err(fault) => (fault.pass, fault.why == why && fault.seats.is_empty()),
+    }
+}
+
+/// There are 1 to 64 workers, and none of them is seated already.
+fn refuses_counts<R: Threads + Wait + Sync, K: Drop + Send, W: Item<K> + Send>(
+    rt: &R,
+    alloc: Global,
+    session: Session<'_, K, W>,
+    pass: QueuePass<Vec<W>>,
+) -> Result<bool, AllocError>
+    requires { pass.queue ≡ session.queue }
+{
+    let (pass, none) = refuses_to_run(rt, alloc, &session, pass, 0, RunWhy::BadCount);
+    let (pass, more) = refuses_to_run(rt, alloc, &session, pass, 65, RunWhy::BadCount);
+    let Ok(seat) = session.seat(rt, alloc, Actor::Worker(Worker(1))) else {
+        return Ok(false);
+    };
+    let taken = RunWhy::Seat(SeatFault::SeatTaken);
+    let (pass, one) = refuses_to_run(rt, alloc, &session, pass, 1, taken);
+    let closed = session
+        .close(rt, alloc, vec![in alloc; seat]?, pass)
+        .is_ok();
+    Ok(closed && none && more && one)
+}
+
+/// A session of a graph with no work statements, and what it refuses to run.
+fn counts<R: Threads + Wait + Sync>(
+    rt: &R,
+    alloc: Global,
+    graph: &Graph,
+) -> Result<bool, AllocError> {
+    let inputs = Inputs::new(graph.input_count());
+    let items: Vec<WorkItem<Stamp>> = Vec::new(alloc);
+    let (queue, pass) = JobQueue::new(alloc, places(graph))?;
+    match Session::open(alloc, graph, inputs, items, queue, &pass) {
+        Ok(session) => refuses_counts(rt, alloc, session, pass),
+        Err(_) => Ok(false),
+    }
+}
+
+/// Tries to open a session with each list of items, and answers which of them are refused as they must be.
+pub fn check_items<R: Files + Alloc + Print>(rt: &R, alloc: Global) -> io::Result<[bool; COUNT]> {
+    let mut all = [false; COUNT];
+    for (number, holds) in all.iter_mut().enumerate() {
+        if let Some((given, why)) = REFUSED.get(number) {
+            *holds = match graph_of(rt, alloc, "two_jobs")? {
+                Some(document) => refuses(alloc, &document.graph, given, *why)?,
+                None => false,
+            };
+            tell(rt, "items that aren't the graph's", *holds)?;
+        }
+    }
+    Ok(all)
+}
+
+/// Tries to run a session by counts of workers that can't be, and answers whether they are refused.
+pub fn check_counts<R: Files + Alloc + Print + Threads + Wait + Sync>(
+    rt: &R,
+    alloc: Global,
+) -> io::Result<bool> {
+    let holds = match graph_of(rt, alloc, "two")? {
+        Some(document) => counts(rt, alloc, &document.graph)?,
+        None => false,
+    };
+    tell(rt, "workers that can't be", holds)
+}

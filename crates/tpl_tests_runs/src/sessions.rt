@@ -1,0 +1,212 @@
+//! Sessions with boxes: what is tried on which graph.
+
+ghost use Rattle.std.specs.Prelude.{◌≡◌, ◌<◌, ◌≤◌, false};
+ghost use Rattle.tpl_words.specs.declared.status.Answer.TheVariants.{Done};
+
+use crate::asked::{Closing, asks_a_link, halts_first, requests};
+use crate::crews::{Length, Play, all_ran, run_by};
+use crate::exchange::Stamp;
+use crate::graphs::graph_of;
+use std::alloc::{AllocError, Global};
+use std::fs::Files;
+use std::io;
+use std::sync::Wait;
+use std::thread::Threads;
+use tpl_graph::Graph;
+use tpl_jobs::{Work, WorkItem};
+use tpl_queue::{JobQueue, QueuePass};
+use tpl_runtime::{Item, Session};
+use tpl_words::{Answer, Inputs, SiteId};
+
+/// What is tried on a session.
+#[derive(Clone, Copy)]
+pub enum Trial {
+    /// So many workers run it, to a journal of so many events.
+    Run(u16, Length),
+    /// A token is requested twice, and the session is closed so.
+    Requests(Closing),
+    /// A token is requested, and one that is linked to it.
+    Link,
+    /// It is halted before anyone works.
+    Halt,
+}
+
+/// What is tried on the graph of which file, how often.
+#[derive(Clone, Copy)]
+struct Case {
+    title: &'static str,
+    file: &'static str,
+    trial: Trial,
+    rounds: usize,
+}
+
+/// How many cases there are.
+const COUNT: usize = 11;
+
+const CASES: [Case; COUNT] = [
+    Case {
+        title: "seven tasks by one worker",
+        file: "seven",
+        trial: Trial::Run(1, Some(24)),
+        rounds: 1,
+    },
+    Case {
+        title: "seven tasks by two workers",
+        file: "seven",
+        trial: Trial::Run(2, None),
+        rounds: 20,
+    },
+    Case {
+        title: "seven tasks by eight workers, a hundred times",
+        file: "seven",
+        trial: Trial::Run(8, None),
+        rounds: 100,
+    },
+    Case {
+        title: "one task by 64 workers",
+        file: "one_job",
+        trial: Trial::Run(64, Some(3)),
+        rounds: 10,
+    },
+    Case {
+        title: "jobs one after the other by four workers",
+        file: "one_after_the_other",
+        trial: Trial::Run(4, Some(4)),
+        rounds: 10,
+    },
+    Case {
+        title: "requests from outside",
+        file: "two",
+        trial: Trial::Requests(Closing::Whole),
+        rounds: 1,
+    },
+    Case {
+        title: "closed with no seat",
+        file: "two",
+        trial: Trial::Requests(Closing::NoSeat),
+        rounds: 1,
+    },
+    Case {
+        title: "closed with a fresh session's seat",
+        file: "two",
+        trial: Trial::Requests(Closing::OtherSeat),
+        rounds: 1,
+    },
+    Case {
+        title: "a watcher in a fresh session",
+        file: "two",
+        trial: Trial::Requests(Closing::OtherWatcher),
+        rounds: 1,
+    },
+    Case {
+        title: "a link is requested with its source",
+        file: "linked",
+        trial: Trial::Link,
+        rounds: 1,
+    },
+    Case {
+        title: "halted before anyone works",
+        file: "seven_with_stop",
+        trial: Trial::Halt,
+        rounds: 1,
+    },
+];
+
+/// How many places the queue of a graph has.
+pub fn places(graph: &Graph) -> usize
+    ensures { 0 < result }
+{
+    if graph.len() == 0 { 1 } else { graph.len() }
+}
+
+/// Whether what is tried on a session goes as it must.
+fn goes<R: Threads + Wait + Sync, K: Drop + Send, W: Item<K> + Send>(
+    rt: &R,
+    alloc: Global,
+    graph: &Graph,
+    session: Session<'_, K, W>,
+    pass: QueuePass<Vec<W>>,
+    trial: Trial,
+) -> Result<bool, AllocError>
+    requires graph { session.graph ≡ graph.now }
+    requires pass { pass.queue ≡ session.queue }
+{
+    match trial {
+        Trial::Run(workers, events) => {
+            let play = Play {
+                workers,
+                inputs: &Inputs::new(graph.input_count()),
+                tokens: &[],
+            };
+            match run_by(rt, alloc, graph, session, pass, &play)? {
+                Some(report) => Ok(all_ran(graph, &report, events)),
+                None => Ok(false),
+            }
+        }
+        Trial::Requests(closing) => requests(rt, alloc, graph, session, pass, closing),
+        Trial::Link => asks_a_link(rt, alloc, graph, session, pass),
+        Trial::Halt => halts_first(rt, alloc, graph, session, pass),
+    }
+}
+
+/// Makes a box for each work statement, which answers that it is done, and tries a session with them.
+fn tried<R: Threads + Wait + Sync>(
+    rt: &R,
+    alloc: Global,
+    graph: &Graph,
+    trial: Trial,
+) -> Result<bool, AllocError> {
+    let mut items: Vec<WorkItem<Stamp>> = Vec::new(alloc);
+    for number in 0..graph.site_count() {
+        let site = SiteId(number as u16);
+        let work: Work = Box::new(alloc, |_site: SiteId| -> Answer { Answer::Done })?;
+        let stamp = Stamp(number as u32);
+        items.push(WorkItem::new(stamp, site, graph.site_may_fail(site), work))?;
+    }
+    let inputs = Inputs::new(graph.input_count());
+    let (queue, pass) = JobQueue::new(alloc, places(graph))?;
+    match Session::open(alloc, graph, inputs, items, queue, &pass) {
+        Ok(session) => goes(rt, alloc, graph, session, pass, trial),
+        Err(_) => Ok(false),
+    }
+}
+
+/// Tries each round of a case.
+fn tried_each<R: Threads + Wait + Sync>(
+    rt: &R,
+    alloc: Global,
+    graph: &Graph,
+    case: Case,
+) -> Result<bool, AllocError> {
+    for _ in 0..case.rounds {
+        if !tried(rt, alloc, graph, case.trial)? {
+            return Ok(false);
+        }
+    }
+    Ok(true)
+}
+
+/// Writes whether a check of sessions holds.
+pub fn tell<R: Print>(rt: &R, title: &str, holds: bool) -> io::Result<bool> {
+    let word = if holds { "holds" } else { "FAILED" };
+    println!(rt; "session, {title}: {word}")?;
+    Ok(holds)
+}
+
+/// Tries each case, and answers which of them hold.
+pub fn check_sessions<R: Files + Alloc + Print + Threads + Wait + Sync>(
+    rt: &R,
+    alloc: Global,
+) -> io::Result<[bool; COUNT]> {
+    let mut all = [false; COUNT];
+    for (number, holds) in all.iter_mut().enumerate() {
+        if let Some(case) = CASES.get(number) {
+            *holds = match graph_of(rt, alloc, case.file)? {
+                Some(document) => tried_each(rt, alloc, &document.graph, *case)?,
+                None => false,
+            };
+            tell(rt, case.title, *holds)?;
+        }
+    }
+    Ok(all)
+}
