@@ -1,6 +1,7 @@
 #!/usr/bin/env python3
-"""Refuses each allocation of the program in turn, alone and with all after it, for the first case of each file: the answer
-is the same, or 'out of memory' with exit 4; or, where a run finds no thread for a worker, 'run: Spawn' with exit 5.
+"""Refuses each allocation of the program in turn, alone and with all after it, for the first case of each file and some
+more: the answer is the same, or 'out of memory' with exit 4; or, where a run finds no thread for a worker, 'run: Spawn'
+with exit 5.
 
 usage: cases/memory.py [PROGRAM]    crates/tpl_cli/out/tpl_cli, if none is named
 
@@ -13,6 +14,23 @@ import sys
 import tempfile
 
 from suite import HERE, PROGRAM, cases, files, given, program, tell
+
+# beside the first case of each file
+MORE = {
+    "first-examples.json": [
+        "LazyCancellation lets a continuation keep what is past its antecedent",
+        "two continuations on opposite ends, split on the end",
+    ],
+    "runs.json": ["seven tasks by one worker", "a job that is to fail"],
+}
+
+
+def chosen(file):
+    """The cases of a file whose allocations are refused."""
+    every = cases(file)
+    more = [case for case in every if case["name"] in MORE.get(pathlib.Path(file).name, ())]
+    assert len(more) == len(MORE.get(pathlib.Path(file).name, ())), f"{file} lacks a case that is named here"
+    return [every[0], *more]
 
 
 def shared(folder):
@@ -57,8 +75,8 @@ def compared():
     with tempfile.TemporaryDirectory() as folder:
         named, library = program(PROGRAM), shared(folder)
         for file in files():
-            case = cases(file)[0]
-            yield file, case, differs(named, case, library)
+            for case in chosen(file):
+                yield file, case, differs(named, case, library)
 
 
 if __name__ == "__main__":
