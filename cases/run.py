@@ -8,13 +8,16 @@ The last line is 'N passed, M failed'.
 import subprocess
 import sys
 
-from suite import cases, files, given, program, tell
+from suite import cases, files, given, program, tell, words
+
+# how the program ends where its words name no command; it has to say so on standard error
+USAGE = 2
 
 
-def difference(case, words):
+def difference(case, line):
     """What differs from the case where the program is run by these words, or None."""
     try:
-        ended = subprocess.run(words, input=given(case), capture_output=True, timeout=120)
+        ended = subprocess.run(line, input=given(case), capture_output=True, timeout=120)
     except subprocess.TimeoutExpired:
         return "no end after 120 seconds"
     wrote = ended.stdout.decode(errors="replace")
@@ -22,6 +25,8 @@ def difference(case, words):
         return f"exit {ended.returncode}, not {case['exit']}; {wrote[:200]!r}"
     if case["stdout"] is not None and ended.stdout != case["stdout"].encode():
         return f"wrote {wrote[:200]!r}, not {case['stdout'][:200]!r}"
+    if ended.returncode == USAGE and not ended.stderr:
+        return "says nothing on standard error"
     missing = [it for it in case.get("contains") or [] if it not in wrote.split("\n")]
     return f"no line {missing[0]!r} in {wrote[:200]!r}" if missing else None
 
@@ -30,7 +35,7 @@ def compared():
     named = program("taskgraph")
     for file in files():
         for case in cases(file):
-            yield file, case, difference(case, [named, case["command"], *case["args"]])
+            yield file, case, difference(case, [named, *words(case)])
 
 
 if __name__ == "__main__":

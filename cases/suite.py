@@ -15,6 +15,11 @@ def given(case):
     return case["stdin"].encode()
 
 
+def words(case):
+    """The words after the program's name."""
+    return [*([case["command"]] if case["command"] else []), *case["args"]]
+
+
 def cases(file):
     """The cases of a file."""
     return json.loads(file.read_text(encoding="utf-8"))
