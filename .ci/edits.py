@@ -13,7 +13,8 @@ from collections import namedtuple
 Function = namedtuple("Function", "path owner name head at end cycle")
 # a pair of an edit: in `file` the text `old` becomes `new`
 Change = namedtuple("Change", "file old new")
-Edit = namedtuple("Edit", "name changes")
+# `files` are whole new files, each with its text
+Edit = namedtuple("Edit", "name changes files", defaults=((),))
 
 
 class BadEdit(Exception):
@@ -54,6 +55,7 @@ def applied(edit, texts):
         made[change.file] = made[change.file].replace(change.old, change.new)
     if made == texts:
         raise BadEdit("it changes nothing")
+    made.update(edit.files)
     return made
 
 
@@ -248,6 +250,59 @@ class Crate:
             found.add(holds[-1].path)
             texts[change.file] = text.replace(change.old, change.new)
         return found
+
+
+# the proof files that a function has in its own folder, where no other is declared beside them
+OWN_PROOFS = {"Proof.antt", "Answers.antt", "Invariants.antt"}
+
+
+def can_have_twin(crate, path):
+    """A copy of the function under another name, with its proof files, is a function that nothing else tells apart from
+    it: a free one or a method of a type itself, that calls not itself, has none inside, and no file of lemmas of its own."""
+    function = crate.functions.get(path)
+    if not function or function.cycle or path in crate.whole or path == "main" or function.owner and function.owner not in crate.types:
+        return False
+    file, text = next((file, crate.texts[file]) for file, found in crate.of_file.items() if function in found)
+    inside = [it for it in crate.of_file[file] if function.head < it.head < function.end]
+    before = r"\b(?:Self::|self\.)" if function.owner else r"(?<![\w.:])"
+    is_again = re.search(rf"{before}{function.name}(?:::<[^()]*>)?\(", text[function.at : function.end])
+    folder = "proofs/" + path.replace("::", "/")
+    own = {file[len(folder) + 1 :] for file in crate.texts if file.startswith(f"{folder}/")}
+    is_plain = own <= OWN_PROOFS and f"{folder}.antt" not in crate.texts
+    return is_plain and not inside and not is_again and text.count(text[function.head : function.end]) == 1
+
+
+def attributes_above(text, head):
+    """The attributes of a function whose first line begins at `head`: the lines above it up to a comment, a blank line, or
+    what ends another item."""
+    above = text[:head].split("\n")[:-1]
+    first = len(above)
+    while first and above[first - 1].strip() and not re.search(r"^\s*//|[;{}]$", above[first - 1]):
+        first -= 1
+    return "".join(f"{line}\n" for line in above[first:])
+
+
+def twin(crate, path, number, edit=None):
+    """An edit that adds a copy of a function beside it, changed as the given edit changes the function, and the copy's path."""
+    function = crate.functions[path]
+    file = next(file for file, found in crate.of_file.items() if function in found)
+    name, text = f"{function.name}_twin_{number}", crate.texts[file]
+    whole = text[function.head : function.end]
+    changed = whole
+    if edit:
+        after = len(text) - function.end
+        edited = applied(edit, crate.texts)[file]
+        changed = edited[function.head : len(edited) - after]
+    copied = re.sub(rf"\bfn {function.name}\b", f"fn {name}", changed, count=1)
+    dotted, folder = path.replace("::", "."), "proofs/" + path.replace("::", "/")
+    files = []
+    for at, proof in crate.texts.items():
+        if at.startswith(f"{folder}/"):
+            proof = re.sub(rf"\b(Rattle\.{crate.name}\.(?:proofs|specs\.contracts)\.{re.escape(dotted)})\b(?!\.\w+_twin_)", rf"\1_twin_{number}", proof)
+            proof = re.sub(rf"\b{function.name}_spec\b", f"{name}_spec", proof)
+            files.append((f"{folder}_twin_{number}{at[len(folder):]}", proof))
+    change = Change(file, whole, f"{whole}\n\n{attributes_above(text, function.head)}{copied}")
+    return Edit(edit.name if edit else name, (change,), tuple(files)), f"{path}_twin_{number}"
 
 
 def next_round(crate, left, places):

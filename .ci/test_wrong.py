@@ -188,6 +188,77 @@ class Places(unittest.TestCase):
         self.assertEqual(crate().places(edits.parse("a", text)), {"pair::even", "pair::odd"})
 
 
+class Twins(unittest.TestCase):
+    PROOF = "use Rattle.two.proofs.pair.Pair.first.Statement as stated\nuse Rattle.two.proofs.pair.Pair.first_of.Goals\nfirst_spec = 1\n"
+
+    def crate(self, *files):
+        texts = {"src/pair.rt": SOURCE, "src/other.rt": OTHER, "proofs/pair/Pair/first/Proof.antt": self.PROOF}
+        return edits.Crate("two", {**texts, **dict.fromkeys(files, "")})
+
+    def test_who_can_have_one(self):
+        made = self.crate()
+        for path, can in (
+            ("pair::Pair::first", True),
+            ("pair::alone", True),
+            ("pair::PairDisplay::fmt", False),
+            ("pair::even", False),
+            ("pair::nowhere", False),
+        ):
+            self.assertEqual(edits.can_have_twin(made, path), can)
+
+    def test_none_with_lemmas_of_its_own(self):
+        for file in ("proofs/pair/Pair/first/Lemmas.antt", "proofs/pair/Pair/first.antt"):
+            self.assertFalse(edits.can_have_twin(self.crate(file), "pair::Pair::first"))
+
+    def test_none_where_it_calls_itself(self):
+        made = edits.Crate("two", {"src/lib.rt": "fn again(n: u8) -> u8 {\n    again(n)\n}\n"})
+        self.assertFalse(edits.can_have_twin(made, "again"))
+
+    def test_it_stands_beside_the_function(self):
+        made = self.crate()
+        given, path = edits.twin(made, "pair::alone", 2, edit("a", "    3", "    4"))
+        self.assertEqual((given.name, path), ("a", "pair::alone_twin_2"))
+        texts = edits.applied(given, made.texts)
+        self.assertIn("fn alone() -> u8 {\n    3\n}\n\nfn alone_twin_2() -> u8 {\n    4\n}\n", texts["src/pair.rt"])
+        self.assertIn(path, edits.Crate("two", texts).functions)
+        # and another beside both
+        other, _ = edits.twin(made, "pair::alone", 3, edit("b", "    3", "    5"))
+        self.assertEqual(edits.applied(other, texts)["src/pair.rt"].count("fn alone"), 3)
+
+    def test_it_has_the_functions_attributes(self):
+        text = "struct One;\n#[tactic(\n    auto,\n    using(a)\n)]\n#[inline]\nfn once() {\n    1\n}\n"
+        made = edits.Crate("two", {"src/lib.rt": text})
+        found = edits.applied(edits.twin(made, "once", 1)[0], made.texts)["src/lib.rt"]
+        self.assertIn("}\n\n#[tactic(\n    auto,\n    using(a)\n)]\n#[inline]\nfn once_twin_1() {\n", found)
+        self.assertEqual(edits.attributes_above("/// It.\nfn f() {}\n", len("/// It.\n")), "")
+
+    def test_unedited(self):
+        made = self.crate()
+        texts = edits.applied(edits.twin(made, "pair::alone", 1)[0], made.texts)
+        self.assertIn("fn alone_twin_1() -> u8 {\n    3\n}\n", texts["src/pair.rt"])
+
+    def test_its_proof_files_name_it(self):
+        made = self.crate()
+        texts = edits.applied(edits.twin(made, "pair::Pair::first", 1)[0], made.texts)
+        told = texts["proofs/pair/Pair/first_twin_1/Proof.antt"].split("\n")
+        self.assertEqual(told[0], "use Rattle.two.proofs.pair.Pair.first_twin_1.Statement as stated")
+        self.assertEqual(told[1:3], ["use Rattle.two.proofs.pair.Pair.first_of.Goals", "first_twin_1_spec = 1"])
+        self.assertEqual(texts["proofs/pair/Pair/first/Proof.antt"], self.PROOF)
+
+    def test_edits_of_one_function_in_one_round(self):
+        trial = WRONG.Trial.__new__(WRONG.Trial)
+        trial.name, trial.crate, trial.twins, trial.unedited = "two", self.crate(), set(), {}
+        trial.texts = trial.crate.texts
+        given = [edit("a", "    3", "    4"), edit("b", "    3", "    5"), edit("c", "n != 0 &&", "n != 1 &&")]
+        made = trial.make_twins(given, set())
+        self.assertEqual(trial.places, {"a": {"pair::alone_twin_1"}, "b": {"pair::alone_twin_2"}, "c": {"pair::odd"}})
+        self.assertEqual(sorted(trial.unedited), ["pair::alone_twin_1"])
+        self.assertEqual(len(edits.next_round(trial.crate, made, trial.places)[0]), 3)
+        trial.known(trial.texts)
+        trial.make_twins(given, {"pair::alone"})
+        self.assertEqual([sorted(it) for it in trial.places.values()], [["pair::alone"], ["pair::alone"], ["pair::odd"]])
+
+
 class Rounds(unittest.TestCase):
     def chosen(self, *given):
         made = crate()
