@@ -19,8 +19,6 @@ import pages
 from suite import HERE, program, tell
 
 TOP = HERE.parent
-# what of the crates' sources the tests alone read
-TEST_SOURCES = ("tests.rt", "command_tests.rt", "faulty.rt")
 
 
 def loaded(path):
@@ -179,8 +177,7 @@ def each_word_of_a_refusal_has_its_line():
     page = (TOP / "docs/OUTPUT.md").read_text(encoding="utf-8")
     words = set()
     for source in TOP.glob("crates/tpl_report/src/*.rt"):
-        if source.name not in TEST_SOURCES:
-            words |= set(re.findall(r'"([A-Z][a-z]\w+)"', source.read_text(encoding="utf-8")))
+        words |= set(re.findall(r'"([A-Z][a-z]\w+)"', source.read_text(encoding="utf-8")))
     for source in TOP.glob("crates/*/src/**/*.rt"):
         words |= set(re.findall(r'#\[error\("([A-Z][a-z]\w+)"\)\]', source.read_text(encoding="utf-8")))
     missing = sorted(word for word in words if not re.search(rf"\b{word}\b", page))
@@ -191,8 +188,7 @@ def each_line_in_the_code_is_on_the_page():
     known = pages.rows((TOP / "docs/OUTPUT.md").read_text(encoding="utf-8"))
     lines = set()
     for source in TOP.glob("crates/tpl_report/src/*.rt"):
-        if source.name not in TEST_SOURCES:
-            lines |= set(re.findall(r'"([^"{}]+)\\n"', source.read_text(encoding="utf-8")))
+        lines |= set(re.findall(r'"([^"{}]+)\\n"', source.read_text(encoding="utf-8")))
     missing = sorted(line for line in lines if pages.ending(line + "\n", known)[1] is not None)
     assert "accepted" in lines and not missing, f"docs/OUTPUT.md hasn't {missing}"
 

@@ -26,10 +26,3 @@ pub use responding::{Command, read_input, respond};
 pub use running::serve_run;
 pub use serving::{Ask, serve};
 pub use tpl_report_text::write_report;
-
-#[cfg(test)]
-mod command_tests;
-#[cfg(test)]
-mod faulty;
-#[cfg(test)]
-mod tests;

@@ -13,10 +13,12 @@ mod cases;
 mod certificates;
 mod changes;
 mod claims;
+mod commands;
 mod cuts;
 mod devices;
 mod dice;
 mod documents;
+mod faulty;
 mod graphs;
 mod journals;
 mod lengths;
@@ -33,7 +35,14 @@ mod words;
 
 use crate::answers::answer;
 use crate::cases::{Case, cases_of};
+use crate::commands::commands_answer;
+use std::alloc::Global;
+use std::sync::Wait;
+use std::thread::Threads;
 use std::{fs, io};
+
+/// The kind of question whose answer waits for threads.
+const COMMANDS: &str = "commands";
 
 /// How many answers were compared, and how many of them were others.
 #[derive(Clone, Copy)]
@@ -43,8 +52,18 @@ struct Tally {
 }
 
 /// Compares one answer.
-fn check(rt: &HostRuntime, kind: &str, file: &str, case: &Case) -> io::Result<bool> {
-    let given = answer(rt.alloc(), kind, case.context.as_str(), case.question)?;
+fn check<R: Print + Threads + Wait + Sync>(
+    rt: &R,
+    alloc: Global,
+    kind: &str,
+    file: &str,
+    case: &Case,
+) -> io::Result<bool> {
+    let given = if kind == COMMANDS {
+        commands_answer(rt, alloc, case.question)?
+    } else {
+        answer(alloc, kind, case.context.as_str(), case.question)?
+    };
     let line = case.line;
     if given == case.answer {
         println!(rt; "{file}, line {line}: as expected")?;
@@ -56,13 +75,19 @@ fn check(rt: &HostRuntime, kind: &str, file: &str, case: &Case) -> io::Result<bo
     Ok(false)
 }
 
-/// Compares the answers of a file.
-fn check_file(rt: &HostRuntime, kind: &str, file: &str, so_far: Tally) -> io::Result<Tally> {
-    let text = fs::read_to_string(rt, file)?;
+/// Compares the answers of a file, whose text is given.
+fn check_file<R: Print + Threads + Wait + Sync>(
+    rt: &R,
+    alloc: Global,
+    kind: &str,
+    file: &str,
+    text: &str,
+    so_far: Tally,
+) -> io::Result<Tally> {
     let mut tally = so_far;
-    for case in cases_of(rt.alloc(), text.as_str())?.iter() {
+    for case in cases_of(alloc, text)?.iter() {
         tally.checks = tally.checks.saturating_add(1);
-        if !check(rt, kind, file, case)? {
+        if !check(rt, alloc, kind, file, case)? {
             tally.failed = tally.failed.saturating_add(1);
         }
     }
@@ -77,7 +102,8 @@ fn main(rt: HostRuntime) -> io::Result<()> {
     };
     for line in files.lines() {
         if let Some((kind, file)) = line.split_once(' ') {
-            tally = check_file(&rt, kind, file, tally)?;
+            let text = fs::read_to_string(&rt, file)?;
+            tally = check_file(&rt, rt.alloc(), kind, file, text.as_str(), tally)?;
         }
     }
     println!(&rt; "{} checks, {} failed", tally.checks, tally.failed)
