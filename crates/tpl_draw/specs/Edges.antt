@@ -1,0 +1,46 @@
+-- The edges of a graph.
+use Rattle.std.specs.Prelude.{ℕ, Option, List, [], ◌∷◌, ◌++◌, length, map}
+use Rattle.std.specs.Option.{option_to_list}
+use Rattle.tpl_script.specs.Statements.{Statement, Statements, Nothing, ◌⨾◌, Start, Cancel as Request, If, When}
+use Rattle.tpl_model.specs.Graph.{TaskGraph, task, kind, body, sources}
+use Rattle.tpl_graph.specs.Named.{antecedent_of, args_of}
+use Rattle.tpl_draw.specs.declared.edge.Tie.{Tie}
+use Rattle.tpl_draw.specs.declared.edge.Tie.TheVariants.{After, Argument, Child, Cancel, Own, Link}
+use Rattle.tpl_draw.specs.declared.edge.Edge.{Edge}
+use Rattle.tpl_draw.specs.Below.{below}
+
+abbrev pub edge : Tie → ℕ → ℕ → Edge
+edge tie from to = record { tie = tie; from = from; to = to }
+
+-- an edge from each of them to one
+abbrev pub from_each : Tie → List ℕ → ℕ → List Edge
+from_each tie xs to = map (λ x. edge tie x to) xs
+
+-- what a body does to other tasks and to tokens, in the order of its text: it starts children and requests tokens
+abbrev mutual
+  pub acts : ℕ → Statements → List Edge
+  acts t Nothing = []
+  acts t (s ⨾ rest) = acts_of t s ++ acts t rest
+
+  pub acts_of : ℕ → Statement → List Edge
+  acts_of t (Start c) = edge Child t c ∷ []
+  acts_of t (Request k) = edge Cancel t k ∷ []
+  acts_of t (If i first second) = acts t first ++ acts t second
+  acts_of t (When f first second) = acts t first ++ acts t second
+  acts_of t s = []
+
+-- of a task: its own token, what it continues, what it waits for, and what its body does
+abbrev pub task_edges : TaskGraph → ℕ → List Edge
+task_edges g t =
+    from_each Own (option_to_list (task g t).token) t
+    ++ from_each After (option_to_list (antecedent_of (kind g t))) t
+    ++ from_each Argument (args_of (kind g t)) t
+    ++ acts t (body g t)
+
+-- of a token: those that it is linked to
+abbrev pub token_edges : TaskGraph → ℕ → List Edge
+token_edges g k = from_each Link (sources g k) k
+
+-- the edges of the tokens, then those of the tasks, each in declared order
+abbrev pub edges : TaskGraph → List Edge
+edges g = below (token_edges g) (length g.tokens) ++ below (task_edges g) (length g.tasks)

@@ -1,0 +1,3 @@
+pub mod Below
+pub mod Edges
+pub mod Picture

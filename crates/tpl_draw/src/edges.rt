@@ -1,0 +1,165 @@
+//! The edges of a graph.
+
+ghost use Rattle.std.specs.Prelude.{◌≡◌, ◌++◌, length, map, IfOk, OnOk};
+ghost use Rattle.std.specs.Option.{option_to_list};
+ghost use Rattle.tpl_script.specs.Seen.{statement_of};
+ghost use Rattle.tpl_model.specs.Graph.{is_task, is_token};
+ghost use Rattle.tpl_graph.specs.Ids.{task_number, token_number};
+ghost use Rattle.tpl_draw.specs.Below.{below};
+ghost use Rattle.tpl_draw.specs.Edges.{acts, acts_of, edges, from_each, task_edges, token_edges};
+
+use crate::edge::{Edge, Tie};
+use std::alloc::{AllocError, Global};
+use tpl_graph::Graph;
+use tpl_script::{Body, Stmt};
+use tpl_words::{TaskId, TokenId};
+
+/// Adds an edge from each of the tokens to one of them.
+fn add_links(found: &mut Vec<Edge>, sources: &[TokenId], to: TokenId) -> Result<(), AllocError>
+    ensures { OnOk result (found.new.items ≡ found.old.items
+        ++ from_each Tie.Link (map token_number sources.now) to.0) }
+{
+    for source in sources {
+        found.push(Edge {
+            tie: Tie::Link,
+            from: u16::from(source.0),
+            to: u16::from(to.0),
+        })?;
+    }
+    Ok(())
+}
+
+/// Adds an edge from each of the arguments of a task.
+fn add_arguments(found: &mut Vec<Edge>, arguments: &[TaskId], to: TaskId) -> Result<(), AllocError>
+    ensures { OnOk result (found.new.items ≡ found.old.items
+        ++ from_each Tie.Argument (map task_number arguments.now) to.0) }
+{
+    for argument in arguments {
+        found.push(Edge {
+            tie: Tie::Argument,
+            from: argument.0,
+            to: to.0,
+        })?;
+    }
+    Ok(())
+}
+
+/// Adds what a body does to other tasks and to tokens.
+#[cycle(acts)]
+fn add_acts(found: &mut Vec<Edge>, task: TaskId, body: &Body) -> Result<(), AllocError>
+    ensures { OnOk result (found.new.items ≡ found.old.items ++ acts task.0 body.now) }
+{
+    for statement in body.list() {
+        add_act(found, task, statement)?;
+    }
+    Ok(())
+}
+
+/// Adds what a statement does to other tasks and to tokens.
+#[cycle(acts)]
+fn add_act(found: &mut Vec<Edge>, task: TaskId, statement: &Stmt) -> Result<(), AllocError>
+    ensures { OnOk result (found.new.items ≡ found.old.items
+        ++ acts_of task.0 (statement_of statement.now)) }
+{
+    match statement {
+        Stmt::Start(child) => {
+            found.push(Edge {
+                tie: Tie::Child,
+                from: task.0,
+                to: child.0,
+            })?;
+            Ok(())
+        }
+        Stmt::Cancel(token) => {
+            found.push(Edge {
+                tie: Tie::Cancel,
+                from: task.0,
+                to: u16::from(token.0),
+            })?;
+            Ok(())
+        }
+        Stmt::If(_, first, second) => {
+            add_acts(found, task, first)?;
+            add_acts(found, task, second)
+        }
+        Stmt::When(_, first, second) => {
+            add_acts(found, task, first)?;
+            add_acts(found, task, second)
+        }
+        _ => Ok(()),
+    }
+}
+
+/// Adds an edge from a task's own token, if it has one.
+fn add_own(found: &mut Vec<Edge>, token: Option<TokenId>, to: TaskId) -> Result<(), AllocError>
+    ensures { OnOk result (found.new.items ≡ found.old.items
+        ++ from_each Tie.Own (map token_number (option_to_list token)) to.0) }
+{
+    if let Some(token) = token {
+        found.push(Edge {
+            tie: Tie::Own,
+            from: u16::from(token.0),
+            to: to.0,
+        })?;
+    }
+    Ok(())
+}
+
+/// Adds an edge from the task that one continues, if it does.
+fn add_after(found: &mut Vec<Edge>, before: Option<TaskId>, to: TaskId) -> Result<(), AllocError>
+    ensures { OnOk result (found.new.items ≡ found.old.items
+        ++ from_each Tie.After (map task_number (option_to_list before)) to.0) }
+{
+    if let Some(before) = before {
+        found.push(Edge {
+            tie: Tie::After,
+            from: before.0,
+            to: to.0,
+        })?;
+    }
+    Ok(())
+}
+
+/// Adds the edges of a task.
+fn add_task(found: &mut Vec<Edge>, graph: &Graph, task: TaskId) -> Result<(), AllocError>
+    requires { is_task graph.now.graph task.0 }
+    ensures { OnOk result (found.new.items ≡ found.old.items ++ task_edges graph.now.graph task.0) }
+{
+    add_own(found, graph.own_token(task), task)?;
+    add_after(found, graph.antecedent(task), task)?;
+    add_arguments(found, graph.args(task), task)?;
+    add_acts(found, task, graph.body(task).body())
+}
+
+/// Adds the edges of the tokens.
+fn add_tokens(found: &mut Vec<Edge>, graph: &Graph) -> Result<(), AllocError>
+    ensures { OnOk result (found.new.items ≡ found.old.items
+        ++ below (token_edges graph.now.graph) (length graph.now.graph.tokens)) }
+{
+    for number in 0..graph.token_count() {
+        let token = TokenId(number as u8);
+        add_links(found, graph.sources(token), token)?;
+    }
+    Ok(())
+}
+
+/// Adds the edges of the tasks.
+fn add_tasks(found: &mut Vec<Edge>, graph: &Graph) -> Result<(), AllocError>
+    ensures { OnOk result (found.new.items ≡ found.old.items
+        ++ below (task_edges graph.now.graph) (length graph.now.graph.tasks)) }
+{
+    for number in 0..graph.len() {
+        add_task(found, graph, TaskId(number as u16))?;
+    }
+    Ok(())
+}
+
+/// The edges of a graph.
+pub(crate) fn edges(alloc: Global, graph: &Graph) -> Result<Vec<Edge>, AllocError>
+    ensures { IfOk result (λ found. found.items ≡ edges graph.now.graph) }
+{
+    let mut found = Vec::new(alloc);
+    add_tokens(&mut found, graph)?;
+    add_tasks(&mut found, graph)?;
+    Ok(found)
+}
