@@ -1,6 +1,7 @@
 pub mod Auditing
 pub mod Checking
 pub mod Documents
+pub mod Drawing
 pub mod Exit
 pub mod Finding
 pub mod Loading

@@ -4,10 +4,11 @@ use Rattle.tpl_journal.specs.declared.counting.Counting.{Counting}
 use Rattle.tpl_model.specs.Certificate.{Accepts}
 use Rattle.tpl_reader.specs.Document.{DocumentValue, Spells}
 use Rattle.tpl_report.specs.declared.serving.Ask.{Ask}
-use Rattle.tpl_report.specs.declared.serving.Ask.TheVariants.{Check, Analyse, Audit}
+use Rattle.tpl_report.specs.declared.serving.Ask.TheVariants.{Check, Analyse, Audit, Draw}
 use Rattle.tpl_report.specs.Responding.{Answers, Reads, Writes}
 use Rattle.tpl_report.specs.Checking.{Checks, ClaimsHold}
 use Rattle.tpl_report.specs.Finding.{Finds, IsCertificate}
+use Rattle.tpl_report.specs.Drawing.{Draws}
 use Rattle.tpl_report.specs.Auditing.{Audits, IsAudit, NamesNoFailure}
 use Rattle.tpl_report.specs.declared.exit.Exit.{Exit}
 
@@ -15,12 +16,14 @@ abbrev pub answers_of : Ask → Answers
 answers_of Check = Checks
 answers_of (Analyse depth) = Finds depth
 answers_of Audit = Audits
+answers_of (Draw language) = Draws language
 
 -- a search has at most 6 splits on a path
 abbrev pub IsWithinDepth : Ask → Type 0
 IsWithinDepth Check = Unit {0}
 IsWithinDepth (Analyse depth) = depth ≤ 6
 IsWithinDepth Audit = Unit {0}
+IsWithinDepth (Draw language) = Unit {0}
 
 -- What was read spells a document whose certificate is accepted, and each of its claims holds in
 -- each run of its graph; `accepted` was written.

@@ -4,6 +4,7 @@
 mod answer;
 mod auditing;
 mod checking;
+mod drawing;
 mod exit;
 mod fault;
 mod finding;
@@ -18,6 +19,7 @@ mod unreadable;
 pub use answer::{Answer, put_answer, put_out_of_memory};
 pub use auditing::Audit;
 pub use checking::Check;
+pub use drawing::Draw;
 pub use exit::Exit;
 pub use fault::RunFault;
 pub use finding::Analyse;

@@ -7,11 +7,13 @@ ghost use Rattle.tpl_report.specs.Serving.{answers_of, IsWithinDepth, Accepted, 
 
 use crate::auditing::Audit;
 use crate::checking::Check;
+use crate::drawing::Draw;
 use crate::exit::Exit;
 use crate::finding::Analyse;
 use crate::responding::respond;
 use std::alloc::Global;
 use std::io::{Read, Write};
+use tpl_draw::Language;
 use tpl_journal::Counting;
 
 /// What is asked of a document.
@@ -23,6 +25,8 @@ pub enum Ask {
     Analyse(u8),
     /// Is its journal a run, is that complete, and where does a claim fail?
     Audit,
+    /// What is the picture of its graph, in this language?
+    Draw(Language),
 }
 
 /// Reads a document to its end, at most 16,777,216 bytes, and writes the answer. The text is made
@@ -54,5 +58,6 @@ pub fn serve<R: Read, W: Write>(
         Ask::Check => respond(&Check, alloc, from, to),
         Ask::Analyse(depth) => respond(&Analyse { depth }, alloc, from, to),
         Ask::Audit => respond(&Audit, alloc, from, to),
+        Ask::Draw(language) => respond(&Draw { language }, alloc, from, to),
     }
 }
