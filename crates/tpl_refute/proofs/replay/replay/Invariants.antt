@@ -1,0 +1,5 @@
+use Rattle.tpl_claims.specs.Fits.{Fits}
+use Rattle.tpl_refute.proofs.replay.replay.Given as goal
+
+abbrev pub invariant-loop-place : goal.invariant-loop-place
+invariant-loop-place l = Fits l.core.graph l.claim

@@ -1,0 +1,5 @@
+use Rattle.tpl_claims.specs.Fits.{Fits}
+use Rattle.tpl_refute.proofs.walk.walk.Given as goal
+
+abbrev pub invariant-loop : goal.invariant-loop
+invariant-loop l = Fits l.core.graph l.claim

@@ -1,0 +1,90 @@
+//! Whether events refute a claim.
+
+ghost use Rattle.std.specs.Prelude.{◌↔◌, IsTrue, IfOk, IfSome};
+ghost use Rattle.std.specs.List.{All};
+ghost use Rattle.tpl_claims.specs.Fits.{Fits};
+ghost use Rattle.tpl_journal.specs.Lines.{IsSeat};
+ghost use Rattle.tpl_refute.specs.Refuting.{Refutes};
+
+use crate::counterexample::Counterexample;
+use std::alloc::{AllocError, Global};
+use std::slice;
+use tpl_audit::{Verdict, audit};
+use tpl_claims::Claim;
+use tpl_graph::Graph;
+use tpl_model::Event;
+use tpl_words::{Actor, Inputs};
+
+/// A journal can name the actor: a worker from 1 to 64, or a seat outside from 1 to 8.
+fn is_seat(actor: Actor) -> bool
+    ensures { IsTrue result ↔ IsSeat actor }
+{
+    match actor {
+        Actor::Worker(worker) => 0 < worker.0 && worker.0 <= 64,
+        Actor::Outside(seat) => 0 < seat && seat <= 8,
+    }
+}
+
+fn have_seats(events: &[Event]) -> bool
+    ensures { IsTrue result ↔ All (λ e. IsSeat e.actor) events.now }
+{
+    events.iter().all(|event| is_seat(event.actor))
+}
+
+/// The events up to the place where the claim fails first, if they are a run in which it does.
+pub(crate) fn judge(
+    alloc: Global,
+    graph: &Graph,
+    claim: &Claim,
+    inputs: Inputs,
+    mut events: Vec<Event>,
+) -> Result<Option<Counterexample>, AllocError>
+    requires { Fits graph.now.graph claim.now }
+    ensures { IfOk result (λ found. IfSome found (λ one.
+        Refutes graph.now.graph claim.now one.inputs one.events.items)) }
+{
+    tpl_laws::prefix_is_run();
+    let alone = slice::from_ref(claim);
+    match audit(alloc, graph, inputs.copy(), events.as_slice(), alone) {
+        Verdict::Run {
+            fails: Some(failure),
+            ..
+        } => {
+            events.truncate(failure.place);
+            if have_seats(events.as_slice()) {
+                Ok(Some(Counterexample { inputs, events }))
+            } else {
+                Ok(None)
+            }
+        }
+        Verdict::Run { fails: None, .. } => Ok(None),
+        Verdict::NotAllowed { .. } => Ok(None),
+        Verdict::Memory => Err(AllocError),
+    }
+}
+
+/// Whether the events refute the claim: they are a run with these inputs, after the last of them the claim doesn't hold
+/// for the first time, and a journal can name whoever acts. Want of memory is the only error.
+pub fn refutes(
+    alloc: Global,
+    graph: &Graph,
+    claim: &Claim,
+    inputs: Inputs,
+    events: &[Event],
+) -> Result<bool, AllocError>
+    requires { Fits graph.now.graph claim.now }
+    ensures { IfOk result (λ answer.
+        IsTrue answer ↔ Refutes graph.now.graph claim.now inputs events.now) }
+{
+    tpl_laws::prefix_is_run();
+    let alone = slice::from_ref(claim);
+    match audit(alloc, graph, inputs, events, alone) {
+        Verdict::Run {
+            fails: Some(failure),
+            ..
+        } => Ok(failure.place == events.len() && have_seats(events)),
+        Verdict::Run { fails: None, .. } => Ok(false),
+        Verdict::NotAllowed { .. } => Ok(false),
+        Verdict::Memory => Err(AllocError),
+    }
+}

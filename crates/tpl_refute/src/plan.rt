@@ -1,0 +1,213 @@
+//! What is drawn for one run.
+
+use crate::dice::Dice;
+use crate::weights::{FIRST, LAST, Mover, Way, Weights};
+use tpl_claims::Claim;
+use tpl_graph::Graph;
+use tpl_model::{Given, Property};
+use tpl_words::{Answer, InputId, Inputs, MOST_TOKENS, TaskId, TokenId};
+
+/// The most places at which a priority drops.
+pub(crate) const MOST_DROPS: usize = 4;
+/// How often of ten times a token may be requested from outside.
+const ASKED_IN_TEN: u32 = 6;
+/// How often of ten times a run is led to where the claim may fail.
+const LED_IN_TEN: u32 = 5;
+/// How many of ten jobs fail, one of these for a run.
+const FAILING_IN_TEN: [u32; 6] = [0, 1, 3, 5, 9, 10];
+
+/// What is drawn for one run.
+#[derive(Drop)]
+pub(crate) struct Plan {
+    /// The values of the inputs.
+    pub(crate) inputs: Inputs,
+    /// The tokens that may be requested from outside.
+    pub(crate) tokens: [bool; MOST_TOKENS],
+    /// How the weights are meant.
+    pub(crate) way: Way,
+    /// At these places the priority of who acts drops.
+    pub(crate) drops: [u32; MOST_DROPS],
+    /// How many of ten jobs fail.
+    pub(crate) failing: u32,
+    /// A task all of whose jobs give this answer, if they may.
+    pub(crate) fixed: Option<(TaskId, Answer)>,
+}
+
+/// The tokens that are requested in no run that agrees with what is given: those, and each source of one.
+pub(crate) fn quiet_tokens(graph: &Graph, given: &[Given]) -> [bool; MOST_TOKENS] {
+    let mut quiet = [false; MOST_TOKENS];
+    for one in given {
+        if let Given::Quiet(token) = one {
+            mark(&mut quiet, *token);
+        }
+    }
+    for number in (0..graph.token_count()).rev() {
+        if quiet[number] {
+            mark_all(&mut quiet, graph.sources(TokenId(number as u8)));
+        }
+    }
+    quiet
+}
+
+fn mark(quiet: &mut [bool; MOST_TOKENS], token: TokenId) {
+    let at = token.0 as usize;
+    if at < MOST_TOKENS {
+        quiet[at] = true;
+    }
+}
+
+fn mark_all(quiet: &mut [bool; MOST_TOKENS], tokens: &[TokenId]) {
+    for token in tokens {
+        mark(quiet, *token);
+    }
+}
+
+/// Gives an input its value.
+fn set(inputs: &mut Inputs, input: InputId, value: bool) {
+    if (input.0 as usize) < inputs.len() {
+        inputs.set(input, value);
+    }
+}
+
+/// Values of the inputs by chance, but what is given.
+fn inputs_of(graph: &Graph, given: &[Given], dice: &mut Dice) -> Inputs {
+    let mut inputs = Inputs::new(graph.input_count());
+    for number in 0..graph.input_count() {
+        set(&mut inputs, InputId(number as u8), dice.in_ten(5));
+    }
+    for one in given {
+        if let Given::Input(input, value) = one {
+            set(&mut inputs, *input, *value);
+        }
+    }
+    inputs
+}
+
+/// Some of the tokens that aren't quiet.
+fn tokens_of(graph: &Graph, quiet: &[bool; MOST_TOKENS], dice: &mut Dice) -> [bool; MOST_TOKENS] {
+    let mut tokens = [false; MOST_TOKENS];
+    for number in 0..graph.token_count() {
+        tokens[number] = !quiet[number] && dice.in_ten(ASKED_IN_TEN);
+    }
+    tokens
+}
+
+/// Places by chance, the first so many of them within a run of this length.
+fn drops_of(dice: &mut Dice, count: usize, length: u32) -> [u32; MOST_DROPS] {
+    let mut drops = [0; MOST_DROPS];
+    for (at, one) in drops.iter_mut().enumerate() {
+        if at < count {
+            *one = dice.roll(length).saturating_add(1);
+        }
+    }
+    drops
+}
+
+/// Has a task act first, and what it comes after.
+fn hurry(weights: &mut Weights, graph: &Graph, task: TaskId) {
+    let mut at = task;
+    for _ in 0..graph.len() {
+        if at.0 as usize >= graph.len() {
+            return;
+        }
+        weights.set(Mover::Task(at), FIRST);
+        match (graph.antecedent(at), graph.parent_of(at)) {
+            (Some(before), _) => at = before,
+            (None, Some(before)) => at = before,
+            (None, None) => return,
+        }
+    }
+}
+
+/// Has a task's own token requested first.
+fn hurry_token(weights: &mut Weights, graph: &Graph, task: TaskId) {
+    if (task.0 as usize) < graph.len() {
+        if let Some(token) = graph.own_token(task) {
+            weights.set(Mover::Token(token), FIRST);
+        }
+    }
+}
+
+/// Leads a run to where the property may fail, and says what a task's jobs are to answer.
+fn lead(weights: &mut Weights, graph: &Graph, body: Property) -> Option<(TaskId, Answer)> {
+    match body {
+        Property::After(first, second) => {
+            hurry(weights, graph, second);
+            weights.set(Mover::Task(first), LAST);
+            None
+        }
+        Property::Never(task) => {
+            hurry(weights, graph, task);
+            None
+        }
+        Property::Excludes(one, other) => {
+            hurry(weights, graph, one);
+            hurry(weights, graph, other);
+            None
+        }
+        Property::Observed(task) => Some((task, Answer::Failed)),
+        Property::Final(task, ends) => {
+            if !ends.canceled {
+                hurry_token(weights, graph, task);
+            }
+            if ends.faulted {
+                Some((task, Answer::Done))
+            } else {
+                Some((task, Answer::Failed))
+            }
+        }
+    }
+}
+
+impl Plan {
+    /// Draws the weights of a run and all else of it. A run has so many drops of priority, and is expected to have this
+    /// length.
+    pub(crate) fn draw(
+        graph: &Graph,
+        claim: &Claim,
+        weights: &mut Weights,
+        dice: &mut Dice,
+        way: Way,
+        drops: usize,
+        length: u32,
+    ) -> Plan {
+        weights.draw(dice, way);
+        let fixed = if dice.in_ten(LED_IN_TEN) {
+            lead(weights, graph, claim.body())
+        } else {
+            None
+        };
+        let quiet = quiet_tokens(graph, claim.given());
+        let failing = FAILING_IN_TEN[dice.roll(FAILING_IN_TEN.len() as u32) as usize];
+        Plan {
+            inputs: inputs_of(graph, claim.given(), dice),
+            tokens: tokens_of(graph, &quiet, dice),
+            way,
+            drops: drops_of(dice, drops, length),
+            failing,
+            fixed,
+        }
+    }
+
+    /// What the next job of a task answers, if it may.
+    pub(crate) fn answer(&self, dice: &mut Dice, task: TaskId) -> Answer {
+        match self.fixed {
+            Some((fixed, answer)) if fixed == task => answer,
+            _ => {
+                if dice.in_ten(self.failing) {
+                    Answer::Failed
+                } else {
+                    Answer::Done
+                }
+            }
+        }
+    }
+
+    /// The priority to which who acts at this place drops.
+    pub(crate) fn dropped(&self, place: usize) -> Option<u32> {
+        match self.drops.iter().position(|drop| *drop as usize == place) {
+            Some(at) => Some(at as u32 + 1),
+            None => None,
+        }
+    }
+}

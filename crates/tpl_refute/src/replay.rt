@@ -1,0 +1,83 @@
+//! Runs with some of the events of another.
+
+ghost use Rattle.std.specs.Prelude.{◌≡◌};
+ghost use Rattle.tpl_claims.specs.Fits.{Fits};
+
+use crate::crew::Crew;
+use std::alloc::{AllocError, Global};
+use tpl_claims::{Claim, holds};
+use tpl_fast::Fast;
+use tpl_graph::Graph;
+use tpl_machine::Core;
+use tpl_model::{Act, Event};
+use tpl_words::{Inputs, TaskId};
+
+/// What is left out of a run: all from the first number on and below the second.
+#[derive(Clone, Copy, PartialEq, Eq, Debug)]
+pub(crate) enum Cut {
+    /// The acts of these tasks.
+    Tasks(usize, usize),
+    /// The events at these places, counted from 0.
+    Events(usize, usize),
+}
+
+/// The task of an act, if it has one.
+fn task_of(act: Act) -> Option<TaskId> {
+    match act {
+        Act::Request(_) => None,
+        Act::Release(task) => Some(task),
+        Act::Begin(task) => Some(task),
+        Act::Step(task) => Some(task),
+        Act::Worked(task, _) => Some(task),
+        Act::Leave(task) => Some(task),
+        Act::Close(task) => Some(task),
+        Act::Drop(task) => Some(task),
+        Act::Settle(task) => Some(task),
+    }
+}
+
+impl Cut {
+    /// The act at this place is left out.
+    fn has(self, place: usize, act: Act) -> bool {
+        match self {
+            Cut::Events(from, to) => from <= place && place < to,
+            Cut::Tasks(from, to) => match task_of(act) {
+                Some(task) => from <= task.0 as usize && (task.0 as usize) < to,
+                None => false,
+            },
+        }
+    }
+
+    /// One of the events is left out.
+    pub(crate) fn has_any(self, events: &[Event]) -> bool {
+        events
+            .iter()
+            .enumerate()
+            .any(|(place, event)| self.has(place, event.act))
+    }
+}
+
+/// Does the acts that aren't left out and are still allowed, and gives the events up to where the claim fails, if it
+/// does.
+pub(crate) fn replay(
+    alloc: Global,
+    graph: &Graph,
+    claim: &Claim,
+    inputs: Inputs,
+    events: &[Event],
+    cut: Cut,
+) -> Result<Option<Vec<Event>>, AllocError>
+    requires { Fits graph.now.graph claim.now }
+{
+    let mut core = Fast::open(alloc, graph, inputs)?;
+    let mut crew = Crew::new();
+    for (place, event) in events.iter().enumerate() {
+        if !cut.has(place, event.act) {
+            crew.perform(&mut core, event.act);
+        }
+        if !holds(&core, claim) {
+            return Ok(Some(Vec::from_slice(alloc, core.events())?));
+        }
+    }
+    Ok(None)
+}

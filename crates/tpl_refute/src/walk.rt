@@ -1,0 +1,150 @@
+//! One run by chance.
+
+ghost use Rattle.std.specs.Prelude.{◌≡◌};
+ghost use Rattle.tpl_claims.specs.Fits.{Fits};
+
+use crate::awake::Awake;
+use crate::crew::{Crew, has_task};
+use crate::dice::Dice;
+use crate::links::Links;
+use crate::plan::Plan;
+use crate::weights::{Mover, Way, Weights};
+use std::alloc::{AllocError, Global};
+use tpl_claims::{Claim, holds};
+use tpl_fast::Fast;
+use tpl_graph::Graph;
+use tpl_machine::{Core, Next};
+use tpl_model::{Act, Event};
+use tpl_words::{Answer, Status, TaskId};
+
+/// How often somebody is chosen in a run at most.
+const MOST_CHOICES: u32 = 1_000_000;
+
+/// What the runs of one claim share.
+#[derive(Drop)]
+pub(crate) struct Tables {
+    pub(crate) links: Links,
+    pub(crate) weights: Weights,
+    pub(crate) awake: Awake,
+}
+
+/// How a run ended.
+#[derive(Drop)]
+pub(crate) enum Walked {
+    /// The claim fails after these events.
+    Fails(Vec<Event>),
+    /// It held after each of so many events.
+    Holds(usize),
+}
+
+impl Tables {
+    pub(crate) fn new(alloc: Global, graph: &Graph) -> Result<Tables, AllocError> {
+        Ok(Tables {
+            links: Links::new(alloc, graph)?,
+            weights: Weights::new(alloc, graph)?,
+            awake: Awake::new(alloc, graph)?,
+        })
+    }
+}
+
+/// Does what a running task does next.
+fn run_on(core: &mut Fast<'_>, crew: &mut Crew, task: TaskId, answer: Answer) -> bool
+    ensures { core.new.graph ≡ core.old.graph }
+{
+    if !has_task(core, task) {
+        return false;
+    }
+    match core.next(task) {
+        Next::NotRunning => false,
+        Next::Silent => crew.perform(core, Act::Step(task)),
+        Next::Work(_) => {
+            crew.perform(core, Act::Worked(task, answer))
+                || crew.perform(core, Act::Worked(task, Answer::Done))
+        }
+        Next::Over => crew.perform(core, Act::Leave(task)),
+    }
+}
+
+/// Does the next act of a task, if it has one.
+fn advance(core: &mut Fast<'_>, crew: &mut Crew, task: TaskId, answer: Answer) -> bool
+    ensures { core.new.graph ≡ core.old.graph }
+{
+    if !has_task(core, task) {
+        return false;
+    }
+    match core.status(task) {
+        Status::Created | Status::Completed(_) => false,
+        Status::WaitingForActivation => {
+            crew.perform(core, Act::Release(task))
+                || crew.perform(core, Act::Settle(task))
+                || crew.perform(core, Act::Drop(task))
+        }
+        Status::WaitingToRun => {
+            crew.perform(core, Act::Begin(task)) || crew.perform(core, Act::Drop(task))
+        }
+        Status::Running => run_on(core, crew, task, answer),
+        Status::WaitingForChildrenToComplete => crew.perform(core, Act::Close(task)),
+    }
+}
+
+/// Does what is next of a task or a token, if there is something.
+fn act(core: &mut Fast<'_>, crew: &mut Crew, mover: Mover, plan: &Plan, dice: &mut Dice) -> bool
+    ensures { core.new.graph ≡ core.old.graph }
+{
+    match mover {
+        Mover::Token(token) => crew.perform(core, Act::Request(token)),
+        Mover::Task(task) => {
+            let answer = plan.answer(dice, task);
+            advance(core, crew, task, answer)
+        }
+    }
+}
+
+/// Tells of the newest event, and drops a priority where the plan says so.
+fn tell(tables: &mut Tables, core: &Fast<'_>, mover: Mover, plan: &Plan) -> Result<(), AllocError> {
+    if let Some(event) = core.events().last() {
+        tables.awake.tell(core, &tables.links, event.act)?;
+    }
+    if plan.way == Way::Priorities {
+        if let Some(weight) = plan.dropped(core.events().len()) {
+            tables.weights.set(mover, weight);
+        }
+    }
+    Ok(())
+}
+
+/// Makes a run by the plan, until the claim fails or nobody can act.
+pub(crate) fn walk(
+    alloc: Global,
+    graph: &Graph,
+    claim: &Claim,
+    tables: &mut Tables,
+    dice: &mut Dice,
+    plan: &Plan,
+) -> Result<Walked, AllocError>
+    requires { Fits graph.now.graph claim.now }
+{
+    let mut core = Fast::open(alloc, graph, plan.inputs.copy())?;
+    let mut crew = Crew::new();
+    tables.awake.begin(&core, &tables.links)?;
+    tables.awake.add_tokens(&plan.tokens)?;
+    for _ in 0..MOST_CHOICES {
+        if !holds(&core, claim) {
+            return Ok(Walked::Fails(Vec::from_slice(alloc, core.events())?));
+        }
+        if core.complete() {
+            break;
+        }
+        let at = tables.weights.choose(tables.awake.movers(), dice, plan.way);
+        let mover = match tables.awake.movers().get(at) {
+            Some(mover) => *mover,
+            None => break,
+        };
+        if act(&mut core, &mut crew, mover, plan, dice) {
+            tell(tables, &core, mover, plan)?;
+        } else {
+            tables.awake.sleep(at);
+        }
+    }
+    Ok(Walked::Holds(core.events().len()))
+}
