@@ -8,20 +8,22 @@ ghost use Rattle.tpl_claims.specs.Fits.{AreGivenOf};
 ghost use Rattle.tpl_checker.specs.Assumptions.{assumed_of};
 ghost use Rattle.tpl_analyser.specs.Questions.{IsReady};
 
-use crate::outline::Outline;
+use crate::outline::{NO_END, Outline};
 use crate::pass::outline;
 use crate::question::Question;
+use crate::split::{Split, Splits, Turn};
 use tpl_checker::{Assumptions, assumed};
 use tpl_model::Given;
-use tpl_words::{Final, Finals, InputId, MOST_INPUTS, TaskId, TaskSet};
+use tpl_words::{Final, Finals, InputId, TaskId};
 
 /// A branch of the search.
 #[derive(Drop)]
 pub(crate) struct Branch {
     pub(crate) assumed: Assumptions,
+    /// What becomes of the tasks that bear on the property.
     pub(crate) outline: Outline,
-    inputs: [bool; MOST_INPUTS],
-    tasks: TaskSet,
+    /// The splits above it.
+    above: Splits,
 }
 
 impl Branch {
@@ -32,13 +34,11 @@ impl Branch {
         ensures { assumed_of result.assumed ≡ assumed question.entry.graph.now.graph given.now }
     {
         let assumed = assumed(question.graph, given);
-        let blank = Outline::unsettled();
-        let outline = outline(question.graph, question.stages, &assumed, &blank, true);
+        let outline = outline(question, &assumed, &Outline::unsettled(), true);
         Branch {
             assumed,
             outline,
-            inputs: [false; MOST_INPUTS],
-            tasks: TaskSet::empty(),
+            above: Splits::none(),
         }
     }
 
@@ -49,21 +49,9 @@ impl Branch {
         ensures { assumed_of result.assumed ≡ with_input (assumed_of self.now.assumed) input.0 value }
     {
         let assumed = self.assumed.with_input(input, value);
-        let outline = outline(
-            question.graph,
-            question.stages,
-            &assumed,
-            &self.outline,
-            true,
-        );
-        let mut inputs = self.inputs;
-        inputs[input.0 as usize] = true;
-        Branch {
-            assumed,
-            outline,
-            inputs,
-            tasks: self.tasks.copy(),
-        }
+        let mut branch = self.under(question, assumed, true);
+        branch.above.insert(Split::Input(input));
+        branch
     }
 
     /// Where the task, if it ends, does so in this way.
@@ -74,43 +62,63 @@ impl Branch {
     {
         question.graph.valid();
         let assumed = self.assumed.with_end(task, status);
-        let outline = outline(
-            question.graph,
-            question.stages,
-            &assumed,
-            &self.outline,
-            false,
-        );
-        let mut tasks = self.tasks.copy();
-        tasks.insert(task);
+        let mut branch = self.under(question, assumed, false);
+        branch.above.insert(Split::End(task));
+        branch
+    }
+
+    /// Where all this is assumed: what is assumed here and more, but of inputs the same unless
+    /// `all` is true.
+    pub(crate) fn under(&self, question: Question<'_>, assumed: Assumptions, all: bool) -> Branch
+        requires question { IsReady question }
+        ensures { result.assumed ≡ assumed }
+    {
+        let outline = outline(question, &assumed, &self.outline, all);
         Branch {
             assumed,
             outline,
-            inputs: self.inputs,
-            tasks,
+            above: self.above.copy(),
         }
     }
 
-    /// No split on the input is above.
-    pub(crate) fn may_split_input(&self, input: InputId) -> bool {
-        let at = input.0 as usize;
-        at < MOST_INPUTS && !self.inputs[at]
+    /// On this branch of a split, which isn't counted as one above it.
+    pub(crate) fn turned(&self, question: Question<'_>, turn: Turn) -> Branch
+        requires { IsReady question }
+    {
+        let all = match turn {
+            Turn::Input(_, _) => true,
+            Turn::End(_, _) => false,
+        };
+        self.under(question, turn.assumed(&self.assumed), all)
     }
 
-    /// No split on how the task ends is above.
-    pub(crate) fn may_split_end(&self, task: TaskId) -> bool {
-        !self.tasks.contains(task)
+    /// No split on this is above.
+    pub(crate) fn may_split(&self, split: Split) -> bool {
+        !self.above.contains(split)
     }
 
-    /// A split on how the task ends has a branch in which nothing that bears on the property is
-    /// otherwise than without the split.
-    pub(crate) fn changes_nothing(&self, question: Question<'_>, task: TaskId) -> bool {
-        let Finals {
-            ran,
-            canceled,
-            faulted,
-        } = self.outline.fate(task).ends;
-        let may_end_otherwise = ran && canceled || ran && faulted || canceled && faulted;
-        !may_end_otherwise || !question.cone.contains(task)
+    /// The split has a branch in which nothing that bears on the property is otherwise than without
+    /// the split.
+    pub(crate) fn changes_nothing(&self, question: Question<'_>, split: Split) -> bool {
+        let has_one_branch = match split {
+            Split::Input(_) => false,
+            Split::End(task) => {
+                let Finals {
+                    ran,
+                    canceled,
+                    faulted,
+                } = self.outline.fate(task).ends;
+                !(ran && canceled || ran && faulted || canceled && faulted)
+            }
+        };
+        has_one_branch || !question.cone.bears(split)
+    }
+
+    /// What is assumed here leaves this branch of a split open.
+    pub(crate) fn may_turn(&self, turn: Turn) -> bool {
+        match turn {
+            Turn::Input(input, value) => self.assumed.view(None, NO_END).may_be(input, value),
+            Turn::End(task, status) => self.outline.fate(task).ends.contains(status),
+        }
     }
 }

@@ -1,6 +1,6 @@
 //! The search for a certificate.
 
-ghost use Rattle.std.specs.Prelude.{◌≡◌, ◌≤◌, IfOk, IfErr, IfSome};
+ghost use Rattle.std.specs.Prelude.{◌≡◌, ◌<◌, ◌≤◌, IfOk, IfErr, IfSome};
 ghost use Rattle.std.specs.List.{All};
 ghost use Rattle.tpl_cert.specs.Heights.{height};
 ghost use Rattle.tpl_claims.specs.Fits.{Fits};
@@ -10,14 +10,18 @@ ghost use Rattle.tpl_checker.specs.Below.{AreBelow};
 ghost use Rattle.tpl_analyser.specs.Found.{IsFound};
 ghost use Rattle.tpl_analyser.specs.Gaps.{IsGap};
 ghost use Rattle.tpl_analyser.specs.Questions.{IsReady};
+ghost use Rattle.tpl_analyser.specs.Splits.{IsSplitOf};
 ghost use Rattle.tpl_analyser.specs.Stages.{IsStageOf};
 
 use crate::branch::Branch;
-use crate::cone::cone;
+use crate::budget::Budget;
+use crate::choice::{Bound, bound_of};
+use crate::cone::Cone;
 use crate::gap::Gap;
 use crate::leaf::leaf;
 use crate::question::Question;
 use crate::search::{Reach, split};
+use crate::split::{Split, all_splits};
 use crate::stages::{Stage, stages};
 use std::alloc::{AllocError, Global};
 use tpl_cert::{Certificate, Tree};
@@ -28,14 +32,18 @@ use tpl_graph::Graph;
 /// The most leaves that are tried for one claim (this program's own limit).
 const MOST_LEAVES: u32 = 100_000;
 
+/// The most leaves that are then tried in a directed search (this program's own limit).
+const MOST_LEAVES_DIRECTED: u32 = 20_000;
+
 /// Searches a certificate of the claims, each of which can be asked of the graph, with at most
 /// `depth` splits on each path, and at most 6. For each claim, trees with 0 splits on a path are
 /// tried first, then such with 1, and so on.
 ///
 /// The certificate that it gives is accepted, so each claim holds in every run. `NotFound` names
-/// the first claim for which no tree is found within 100,000 leaves; it doesn't say that the claim
-/// is false. `Memory` says that an allocation was refused. Memory is taken for the tree that is
-/// found and for the leaf that is tried.
+/// the first claim for which no tree is found within 100,000 leaves, and then within 20,000 of a
+/// directed search; it doesn't say that the claim is false. `Memory` says that an allocation was
+/// refused. Memory is taken for the tree that is found, for the leaf that is tried, and for one way
+/// through the splits.
 pub fn analyse(
     alloc: Global,
     graph: &Graph,
@@ -50,9 +58,10 @@ pub fn analyse(
 {
     let below = Below::of_graph(graph);
     let stages = stages(alloc, graph, &below)?;
+    let splits = all_splits(alloc, graph)?;
     let mut trees = Vec::new(alloc);
     for at in 0..claims.len() {
-        match tree_for(alloc, graph, &below, &stages, &claims[at], depth)? {
+        match tree_for(alloc, graph, &below, &stages, &splits, &claims[at], depth)? {
             Some(tree) => trees.push(tree)?,
             None => return Err(Gap::NotFound { claim: at + 1 }),
         }
@@ -66,27 +75,31 @@ fn tree_for(
     graph: &Graph,
     below: &Below,
     stages: &[Stage],
+    splits: &[Split],
     claim: &Claim,
     depth: u8,
 ) -> Result<Option<Tree>, AllocError>
     requires claim { Fits graph.now.graph claim.now }
     requires below { AreBelow graph.now.graph below.now }
     requires stages { All (IsStageOf graph.now.graph) stages.now }
+    requires splits { All (IsSplitOf graph.now.graph) splits.now }
     ensures { IfOk result (λ found. IfSome found (IsFound graph.now.graph claim.now.body (assumed graph.now.graph claim.now.given) depth)) }
 {
-    let cone = cone(graph, claim.body());
+    let cone = Cone::of(graph, claim.body(), splits);
     let question = Question {
         graph,
         below,
         stages,
         property: claim.body(),
+        splits,
         cone: &cone,
     };
     let root = Branch::root(question, claim.given());
     deepened(alloc, question, &root, depth)
 }
 
-/// A tree with as few splits on a path as one is found with.
+/// A tree with as few splits on a path as one is found with: in the order of the search, and where
+/// that uses its leaves up, by a directed search.
 fn deepened(
     alloc: Global,
     question: Question<'_>,
@@ -96,18 +109,69 @@ fn deepened(
     requires { IsReady question }
     ensures { IfOk result (λ found. IfSome found (IsFound question.entry.graph.now.graph question.entry.property (assumed_of root.now.assumed) depth)) }
 {
-    let mut left = MOST_LEAVES;
-    if let Some(tree) = leaf(alloc, question, root, &mut left)? {
+    let mut budget = Budget::new(MOST_LEAVES);
+    if let Some(tree) = leaf(alloc, question, root, &mut budget)? {
         return Ok(Some(tree));
     }
+    if depth == 0 {
+        return Ok(None);
+    }
+    if let Some(tree) = by_depth(alloc, question, root, depth, false, &mut budget)? {
+        return Ok(Some(tree));
+    }
+    if !budget.ran_out() {
+        return Ok(None);
+    }
+    let mut budget = Budget::new(MOST_LEAVES_DIRECTED);
+    by_depth(alloc, question, root, depth, true, &mut budget)
+}
+
+/// A tree with a split at its top: one with few splits on a path before one with more.
+fn by_depth(
+    alloc: Global,
+    question: Question<'_>,
+    root: &Branch,
+    depth: u8,
+    directed: bool,
+    budget: &mut Budget,
+) -> Result<Option<Tree>, AllocError>
+    requires { IsReady question }
+    ensures { IfOk result (λ found. IfSome found (IsFound question.entry.graph.now.graph question.entry.property (assumed_of root.now.assumed) depth)) }
+{
+    let Some(bound) = bound_of(alloc, question, root, depth, budget)? else {
+        return Ok(None);
+    };
     for fewer in 0..depth {
         let reach = Reach {
             splits: fewer + 1,
             failed: true,
+            directed,
         };
-        if let Some(tree) = split(alloc, question, root, reach, &mut left)? {
+        if let Some(tree) = at_depth(alloc, question, root, reach, &bound, budget)? {
             return Ok(Some(tree));
         }
     }
     Ok(None)
+}
+
+/// A tree with a split at its top and so many on a path, if that many may be enough.
+fn at_depth(
+    alloc: Global,
+    question: Question<'_>,
+    root: &Branch,
+    reach: Reach,
+    bound: &Bound,
+    budget: &mut Budget,
+) -> Result<Option<Tree>, AllocError>
+    requires question { IsReady question }
+    requires splits { 0 < reach.splits }
+    ensures { IfOk result (λ found. IfSome found (IsFound question.entry.graph.now.graph question.entry.property (assumed_of root.now.assumed) reach.splits)) }
+{
+    if bound.least() > reach.splits as u32 {
+        return Ok(None);
+    }
+    match bound.choice(alloc, question, root, reach, budget)? {
+        None => Ok(None),
+        Some(choice) => split(alloc, question, root, reach, &choice, budget),
+    }
 }

@@ -6,8 +6,11 @@ ghost use Rattle.tpl_analyser.specs.Found.{IsFound};
 ghost use Rattle.tpl_analyser.specs.Questions.{IsReady};
 
 use crate::branch::Branch;
+use crate::budget::Budget;
 use crate::chain::chain;
 use crate::goal::is_reached;
+use crate::outline::Outline;
+use crate::pass::whole_outline;
 use crate::question::Question;
 use crate::rows::{Parts, rows};
 use std::alloc::{AllocError, Global};
@@ -22,43 +25,77 @@ pub(crate) fn leaf(
     alloc: Global,
     question: Question<'_>,
     branch: &Branch,
-    left: &mut u32,
+    budget: &mut Budget,
 ) -> Result<Option<Tree>, AllocError>
     requires { IsReady question }
     ensures { IfOk result (λ found. IfSome found (IsFound question.entry.graph.now.graph question.entry.property (assumed_of branch.now.assumed) 0)) }
 {
-    if *left == 0 {
+    if !budget.spend() {
         return Ok(None);
     }
-    *left -= 1;
-    match least_rows(alloc, question, branch)? {
+    match reached(alloc, question, branch)? {
         None => Ok(None),
-        Some(rows) => Ok(tested(question, branch, rows)),
+        Some(chain) => {
+            let rows = least_rows(alloc, question, branch, &chain)?;
+            Ok(tested(question, branch, rows))
+        }
     }
 }
 
-/// The least rows, if they prove the property.
+/// Whether the least rows of the branch prove the property; and one leaf less is left to be tried.
+/// Where none is left, it answers that they do, so that whoever looks for what is still open ends.
+pub(crate) fn is_proved(
+    alloc: Global,
+    question: Question<'_>,
+    branch: &Branch,
+    budget: &mut Budget,
+) -> Result<bool, AllocError> {
+    if !budget.spend() {
+        return Ok(true);
+    }
+    let reached = reached(alloc, question, branch)?;
+    Ok(reached.is_some())
+}
+
+/// The chain of the observed task, or an empty one, if the least rows prove the property with it.
+fn reached(
+    alloc: Global,
+    question: Question<'_>,
+    branch: &Branch,
+) -> Result<Option<Vec<TaskId>>, AllocError> {
+    let chain = match observed(question.property) {
+        Some(task) => chain(alloc, question.graph, &branch.assumed, task)?,
+        None => Vec::new(alloc),
+    };
+    let parts = parts(question, branch, &branch.outline);
+    if is_reached(parts, question, &chain) {
+        Ok(Some(chain))
+    } else {
+        Ok(None)
+    }
+}
+
+/// The least rows, with this chain of the observed task.
 fn least_rows(
     alloc: Global,
     question: Question<'_>,
     branch: &Branch,
-) -> Result<Option<Vec<Row>>, AllocError> {
-    let parts = Parts {
+    chain: &[TaskId],
+) -> Result<Vec<Row>, AllocError>
+    requires { IsReady question }
+{
+    let outline = whole_outline(question.graph, question.stages, &branch.assumed);
+    let parts = parts(question, branch, &outline);
+    rows(alloc, parts, observed(question.property), chain)
+}
+
+fn parts<'s>(question: Question<'s>, branch: &'s Branch, outline: &'s Outline) -> Parts<'s> {
+    Parts {
         graph: question.graph,
         below: question.below,
         assumed: &branch.assumed,
-        outline: &branch.outline,
-    };
-    let observed = observed(question.property);
-    let chain = match observed {
-        Some(task) => chain(alloc, question.graph, &branch.assumed, task)?,
-        None => Vec::new(alloc),
-    };
-    if !is_reached(parts, question.property, &chain) {
-        return Ok(None);
+        outline,
     }
-    let rows = rows(alloc, parts, observed, &chain)?;
-    Ok(Some(rows))
 }
 
 /// The task whose exception the property says to be observed.

@@ -1,9 +1,12 @@
 //! The search for certificates of claims.
 #![tactic(auto)]
 
+mod asked;
 mod branch;
+mod budget;
 mod certificate;
 mod chain;
+mod choice;
 mod cone;
 mod gap;
 mod goal;
@@ -13,7 +16,9 @@ mod pass;
 mod question;
 mod rows;
 mod search;
+mod split;
 mod stages;
+mod way;
 
 pub use certificate::analyse;
 pub use gap::Gap;

@@ -9,7 +9,7 @@ use tpl_script::Verdicts;
 use tpl_words::{Final, Finals, TaskId};
 
 /// How no task ends.
-const NO_END: Finals = Finals {
+pub(crate) const NO_END: Finals = Finals {
     ran: false,
     canceled: false,
     faulted: false,

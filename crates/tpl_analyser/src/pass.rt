@@ -3,9 +3,11 @@
 ghost use Rattle.std.specs.Prelude.{◌≡◌, ◌<◌};
 ghost use Rattle.std.specs.List.{All};
 ghost use Rattle.tpl_model.specs.Graph.{is_task};
+ghost use Rattle.tpl_analyser.specs.Questions.{IsReady};
 ghost use Rattle.tpl_analyser.specs.Stages.{IsStageOf};
 
 use crate::outline::{Fate, Outline};
+use crate::question::Question;
 use crate::stages::Stage;
 use tpl_checker::{Assumptions, Ready, allowed, parent, ready_of, some_end};
 use tpl_graph::Graph;
@@ -25,16 +27,33 @@ struct Pass {
     moved: TaskSet,
 }
 
-/// What becomes of the tasks under what is assumed. It begins with the outline of a branch that
-/// assumes less; where `all` isn't true, both assume the same of inputs.
+/// What becomes of all tasks under what is assumed.
+pub(crate) fn whole_outline(graph: &Graph, stages: &[Stage], assumed: &Assumptions) -> Outline
+    requires { All (IsStageOf graph.now.graph) stages.now }
+{
+    let mut pass = Pass {
+        outline: Outline::unsettled(),
+        all: true,
+        read: TaskSet::empty(),
+        started: TaskSet::empty(),
+        moved: TaskSet::empty(),
+    };
+    for stage in stages {
+        pass.take(graph, assumed, *stage);
+    }
+    let Pass { outline, .. } = pass;
+    outline
+}
+
+/// What becomes of the tasks that bear on a property, under what is assumed. It begins with the
+/// outline of a branch that assumes less; where `all` isn't true, both assume the same of inputs.
 pub(crate) fn outline(
-    graph: &Graph,
-    stages: &[Stage],
+    question: Question<'_>,
     assumed: &Assumptions,
     from: &Outline,
     all: bool,
 ) -> Outline
-    requires { All (IsStageOf graph.now.graph) stages.now }
+    requires { IsReady question }
 {
     let mut pass = Pass {
         outline: from.copy(),
@@ -43,8 +62,10 @@ pub(crate) fn outline(
         started: TaskSet::empty(),
         moved: TaskSet::empty(),
     };
-    for stage in stages {
-        pass.take(graph, assumed, *stage);
+    for stage in question.stages {
+        if question.cone.has(stage.task()) {
+            pass.take(question.graph, assumed, *stage);
+        }
     }
     let Pass { outline, .. } = pass;
     outline

@@ -1,16 +1,20 @@
 //! The search for a tree: rows first, then splits on inputs in order, then on tasks in order, none
-//! twice on a path.
+//! twice on a path; only those that can lead to one.
 
-ghost use Rattle.std.specs.Prelude.{◌≡◌, ◌<◌, ◌≤◌, IfOk, IfSome};
+ghost use Rattle.std.specs.Prelude.{◌≡◌, ◌<◌, ◌+◌, IfOk, IfSome};
 ghost use Rattle.tpl_model.specs.Graph.{is_task};
 ghost use Rattle.tpl_model.specs.Certificate.{SplitEnd, SplitInput};
 ghost use Rattle.tpl_checker.specs.Assumptions.{assumed_of};
 ghost use Rattle.tpl_analyser.specs.Found.{IsFound};
 ghost use Rattle.tpl_analyser.specs.Questions.{IsReady};
+ghost use Rattle.tpl_analyser.specs.Splits.{IsSplitOf};
 
 use crate::branch::Branch;
+use crate::budget::Budget;
+use crate::choice::{Choice, bound_of};
 use crate::leaf::leaf;
 use crate::question::Question;
+use crate::split::Split;
 use std::alloc::{AllocError, Global};
 use tpl_cert::{Node, Tree};
 use tpl_words::{Final, InputId, TaskId};
@@ -22,6 +26,22 @@ pub(crate) struct Reach {
     pub(crate) splits: u8,
     /// With one split less nothing was found, so a split that changes nothing needn't be tried.
     pub(crate) failed: bool,
+    /// At each node only such splits are tried as were enough on one way.
+    pub(crate) directed: bool,
+}
+
+impl Reach {
+    /// How far it may go on behind a split, whose leaf is tried first.
+    fn behind(self) -> Reach
+        requires { 0 < self.splits }
+        ensures { result.splits + 1 ≡ self.splits }
+    {
+        Reach {
+            splits: self.splits - 1,
+            failed: self.splits == 2,
+            directed: self.directed,
+        }
+    }
 }
 
 /// The split on an input with these branches.
@@ -54,70 +74,99 @@ fn end_tree(
     Ok(Tree::new(Node::SplitEnd(task, ran, canceled, faulted)))
 }
 
-/// A tree with at most so many splits on each path, if one is found before `left` more leaves are
+/// A tree with at most so many splits on each path, if one is found before no leaf is left to be
 /// tried.
 #[cycle(search)]
 fn find(
     alloc: Global,
     question: Question<'_>,
     branch: &Branch,
-    splits: u8,
-    left: &mut u32,
+    reach: Reach,
+    budget: &mut Budget,
 ) -> Result<Option<Tree>, AllocError>
     requires { IsReady question }
-    ensures { IfOk result (λ found. IfSome found (IsFound question.entry.graph.now.graph question.entry.property (assumed_of branch.now.assumed) splits)) }
+    ensures { IfOk result (λ found. IfSome found (IsFound question.entry.graph.now.graph question.entry.property (assumed_of branch.now.assumed) reach.splits)) }
 {
-    if let Some(tree) = leaf(alloc, question, branch, left)? {
+    if let Some(tree) = leaf(alloc, question, branch, budget)? {
         return Ok(Some(tree));
     }
-    if splits == 0 {
+    if reach.splits == 0 {
         return Ok(None);
     }
-    let failed = splits == 1;
-    split(alloc, question, branch, Reach { splits, failed }, left)
+    match choice(alloc, question, branch, reach, budget)? {
+        None => Ok(None),
+        Some(choice) => split(alloc, question, branch, reach, &choice, budget),
+    }
 }
 
-/// A tree with a split at its top.
+/// The splits that are tried at a node, if there are some. On the last level of a search that isn't
+/// directed each is, which costs no more than to find out.
+fn choice(
+    alloc: Global,
+    question: Question<'_>,
+    branch: &Branch,
+    reach: Reach,
+    budget: &mut Budget,
+) -> Result<Option<Choice>, AllocError>
+    requires { IsReady question }
+{
+    if reach.splits == 1 && !reach.directed {
+        return Ok(Some(Choice::Any));
+    }
+    match bound_of(alloc, question, branch, reach.splits, budget)? {
+        None => Ok(None),
+        Some(bound) => bound.choice(alloc, question, branch, reach, budget),
+    }
+}
+
+/// A tree with one of these splits at its top. Once one of them has failed, none that changes
+/// nothing is tried: it would need a tree with a split less, and that split's branch would have had
+/// it too.
 #[cycle(search)]
 pub(crate) fn split(
     alloc: Global,
     question: Question<'_>,
     branch: &Branch,
     reach: Reach,
-    left: &mut u32,
+    choice: &Choice,
+    budget: &mut Budget,
 ) -> Result<Option<Tree>, AllocError>
     requires question { IsReady question }
     requires splits { 0 < reach.splits }
     ensures { IfOk result (λ found. IfSome found (IsFound question.entry.graph.now.graph question.entry.property (assumed_of branch.now.assumed) reach.splits)) }
 {
-    if let Some(tree) = split_inputs(alloc, question, branch, reach, left)? {
-        return Ok(Some(tree));
+    let mut failed = reach.failed;
+    for split in question.splits {
+        let skipped = failed && branch.changes_nothing(question, *split);
+        if !budget.is_spent() && choice.has(*split) && branch.may_split(*split) && !skipped {
+            if let Some(tree) = by_split(alloc, question, branch, reach, *split, budget)? {
+                return Ok(Some(tree));
+            }
+            failed = true;
+        }
     }
-    split_ends(alloc, question, branch, reach, left)
+    Ok(None)
 }
 
-/// A tree with a split on an input at its top.
+/// A tree with this split at its top.
 #[cycle(search)]
-fn split_inputs(
+fn by_split(
     alloc: Global,
     question: Question<'_>,
     branch: &Branch,
     reach: Reach,
-    left: &mut u32,
+    split: Split,
+    budget: &mut Budget,
 ) -> Result<Option<Tree>, AllocError>
     requires question { IsReady question }
     requires splits { 0 < reach.splits }
+    requires split { IsSplitOf question.graph.now.graph split }
     ensures { IfOk result (λ found. IfSome found (IsFound question.entry.graph.now.graph question.entry.property (assumed_of branch.now.assumed) reach.splits)) }
 {
-    for input in 0..question.graph.input_count() {
-        let input = InputId(input as u8);
-        if *left > 0 && branch.may_split_input(input) {
-            if let Some(tree) = by_input(alloc, question, branch, reach, input, left)? {
-                return Ok(Some(tree));
-            }
-        }
+    match split {
+        Split::Input(input) => by_input(alloc, question, branch, reach, input, budget),
+        Split::End(task) => by_end(alloc, question, branch, reach, task, budget),
     }
-    Ok(None)
 }
 
 /// A tree with a split on this input at its top.
@@ -128,7 +177,7 @@ fn by_input(
     branch: &Branch,
     reach: Reach,
     input: InputId,
-    left: &mut u32,
+    budget: &mut Budget,
 ) -> Result<Option<Tree>, AllocError>
     requires question { IsReady question }
     requires splits { 0 < reach.splits }
@@ -136,42 +185,17 @@ fn by_input(
     ensures { IfOk result (λ found. IfSome found (IsFound question.entry.graph.now.graph question.entry.property (assumed_of branch.now.assumed) reach.splits)) }
 {
     question.graph.valid();
-    let splits = reach.splits - 1;
+    let reach = reach.behind();
     let yes = branch.with_input(question, input, true);
-    let Some(on_true) = find(alloc, question, &yes, splits, left)? else {
+    let Some(on_true) = find(alloc, question, &yes, reach, budget)? else {
         return Ok(None);
     };
     let no = branch.with_input(question, input, false);
-    let Some(on_false) = find(alloc, question, &no, splits, left)? else {
+    let Some(on_false) = find(alloc, question, &no, reach, budget)? else {
         return Ok(None);
     };
     let tree = input_tree(alloc, input, on_true, on_false)?;
     Ok(Some(tree))
-}
-
-/// A tree with a split on how a task ends at its top.
-#[cycle(search)]
-fn split_ends(
-    alloc: Global,
-    question: Question<'_>,
-    branch: &Branch,
-    reach: Reach,
-    left: &mut u32,
-) -> Result<Option<Tree>, AllocError>
-    requires question { IsReady question }
-    requires splits { 0 < reach.splits }
-    ensures { IfOk result (λ found. IfSome found (IsFound question.entry.graph.now.graph question.entry.property (assumed_of branch.now.assumed) reach.splits)) }
-{
-    for task in 0..question.graph.len() {
-        let task = TaskId(task as u16);
-        let skipped = reach.failed && branch.changes_nothing(question, task);
-        if *left > 0 && !skipped && branch.may_split_end(task) {
-            if let Some(tree) = by_end(alloc, question, branch, reach, task, left)? {
-                return Ok(Some(tree));
-            }
-        }
-    }
-    Ok(None)
 }
 
 /// A tree with a split on how this task ends at its top.
@@ -182,24 +206,24 @@ fn by_end(
     branch: &Branch,
     reach: Reach,
     task: TaskId,
-    left: &mut u32,
+    budget: &mut Budget,
 ) -> Result<Option<Tree>, AllocError>
     requires question { IsReady question }
     requires splits { 0 < reach.splits }
     requires task { is_task question.graph.now.graph task.0 }
     ensures { IfOk result (λ found. IfSome found (IsFound question.entry.graph.now.graph question.entry.property (assumed_of branch.now.assumed) reach.splits)) }
 {
-    let splits = reach.splits - 1;
+    let reach = reach.behind();
     let ran = branch.with_end(question, task, Final::RanToCompletion);
-    let Some(on_ran) = find(alloc, question, &ran, splits, left)? else {
+    let Some(on_ran) = find(alloc, question, &ran, reach, budget)? else {
         return Ok(None);
     };
     let canceled = branch.with_end(question, task, Final::Canceled);
-    let Some(on_canceled) = find(alloc, question, &canceled, splits, left)? else {
+    let Some(on_canceled) = find(alloc, question, &canceled, reach, budget)? else {
         return Ok(None);
     };
     let faulted = branch.with_end(question, task, Final::Faulted);
-    let Some(on_faulted) = find(alloc, question, &faulted, splits, left)? else {
+    let Some(on_faulted) = find(alloc, question, &faulted, reach, budget)? else {
         return Ok(None);
     };
     let tree = end_tree(alloc, task, on_ran, on_canceled, on_faulted)?;

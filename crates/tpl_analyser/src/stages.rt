@@ -19,6 +19,16 @@ pub(crate) enum Stage {
     End(TaskId),
 }
 
+impl Stage {
+    /// The task whose stage it is.
+    pub(crate) fn task(self) -> TaskId {
+        match self {
+            Stage::Begin(task) => task,
+            Stage::End(task) => task,
+        }
+    }
+}
+
 /// The stages of all tasks, each after those on which it depends: a task begins after its parent
 /// and after the end of what it waits for, and ends after its attached children.
 pub(crate) fn stages(alloc: Global, graph: &Graph, below: &Below) -> Result<Vec<Stage>, AllocError>

@@ -2,16 +2,13 @@ use Rattle.std.proofs.Common.{◌+◌, ◌*◌}
 use Rattle.tpl_analyser.proofs.search.+search.Given as goal
 
 abbrev pub decreases-find : goal.decreases-find
-decreases-find l = 4 * l.splits + 4
+decreases-find l = 4 * l.reach.splits + 4
 
 abbrev pub decreases-split : goal.decreases-split
 decreases-split l = 4 * l.reach.splits + 3
 
-abbrev pub decreases-split_inputs : goal.decreases-split_inputs
-decreases-split_inputs l = 4 * l.reach.splits + 2
-
-abbrev pub decreases-split_ends : goal.decreases-split_ends
-decreases-split_ends l = 4 * l.reach.splits + 2
+abbrev pub decreases-by_split : goal.decreases-by_split
+decreases-by_split l = 4 * l.reach.splits + 2
 
 abbrev pub decreases-by_input : goal.decreases-by_input
 decreases-by_input l = 4 * l.reach.splits + 1

@@ -1,0 +1,26 @@
+//! Which inputs a body asks for.
+
+use tpl_script::{Body, Stmt};
+use tpl_words::InputId;
+
+/// The body asks for the input, on some path or on none.
+#[cycle(asked)]
+pub(crate) fn asks_for(body: &Body, input: InputId) -> bool {
+    for statement in body.list() {
+        if statement_asks_for(statement, input) {
+            return true;
+        }
+    }
+    false
+}
+
+#[cycle(asked)]
+fn statement_asks_for(statement: &Stmt, input: InputId) -> bool {
+    match statement {
+        Stmt::If(asked, first, second) => {
+            *asked == input || asks_for(first, input) || asks_for(second, input)
+        }
+        Stmt::When(_, first, second) => asks_for(first, input) || asks_for(second, input),
+        _ => false,
+    }
+}

@@ -1,0 +1,126 @@
+//! One way through the splits, on which as little as possible is proved.
+
+ghost use Rattle.tpl_analyser.specs.Questions.{IsReady};
+
+use crate::branch::Branch;
+use crate::budget::Budget;
+use crate::leaf::is_proved;
+use crate::question::Question;
+use crate::split::{Split, Turn};
+use std::alloc::{AllocError, Global};
+use tpl_checker::Assumptions;
+
+/// One way through the splits: a branch of each that bears on the property.
+#[derive(Drop)]
+pub(crate) struct Way {
+    /// The branches that it takes until the property is proved; what is declared last comes first.
+    pub(crate) taken: Vec<Turn>,
+    /// What is assumed on its branches of the other splits.
+    pub(crate) passed: Assumptions,
+    /// Where all that it takes is assumed.
+    branch: Branch,
+    /// The property is proved there. If it isn't, no tree proves it at all, however many splits it
+    /// has: each has a leaf that assumes no more than all branches of this way.
+    pub(crate) proved: bool,
+}
+
+/// A way from a branch on: of each split the first branch on which the property isn't proved yet,
+/// until there is none; from then on the first that is open.
+pub(crate) fn way_from(
+    alloc: Global,
+    question: Question<'_>,
+    from: &Branch,
+    budget: &mut Budget,
+) -> Result<Way, AllocError>
+    requires { IsReady question }
+{
+    let mut way = Way {
+        taken: Vec::new(alloc),
+        passed: from.assumed.copy(),
+        branch: from.under(question, from.assumed.copy(), false),
+        proved: false,
+    };
+    for split in question.splits.iter().rev() {
+        if question.cone.bears(*split) && from.may_split(*split) {
+            way.add(alloc, question, *split, budget)?;
+        }
+    }
+    Ok(way)
+}
+
+impl Way {
+    /// Goes on by a branch of the split.
+    fn add(
+        &mut self,
+        alloc: Global,
+        question: Question<'_>,
+        split: Split,
+        budget: &mut Budget,
+    ) -> Result<(), AllocError>
+        requires { IsReady question }
+    {
+        if self.proved || self.branch.changes_nothing(question, split) {
+            self.pass(split);
+            return Ok(());
+        }
+        let first = self.first(split);
+        for turn in split.turns() {
+            if let Some(turn) = turn {
+                if self.tries(alloc, question, turn, budget)? {
+                    return Ok(());
+                }
+            }
+        }
+        self.proved = true;
+        self.go(question, first)
+    }
+
+    /// Goes on by this branch, if it is open and the property isn't proved on it.
+    fn tries(
+        &mut self,
+        alloc: Global,
+        question: Question<'_>,
+        turn: Turn,
+        budget: &mut Budget,
+    ) -> Result<bool, AllocError>
+        requires { IsReady question }
+    {
+        if !self.branch.may_turn(turn) {
+            return Ok(false);
+        }
+        let branch = self.branch.turned(question, turn);
+        if is_proved(alloc, question, &branch, budget)? {
+            return Ok(false);
+        }
+        self.branch = branch;
+        self.taken.push(turn)?;
+        Ok(true)
+    }
+
+    /// Goes on by this branch, on which the property is proved.
+    fn go(&mut self, question: Question<'_>, turn: Turn) -> Result<(), AllocError>
+        requires { IsReady question }
+    {
+        self.branch = self.branch.turned(question, turn);
+        self.taken.push(turn)?;
+        Ok(())
+    }
+
+    /// Passes a split by, on the first branch that is open.
+    fn pass(&mut self, split: Split) {
+        let turn = self.first(split);
+        self.passed = turn.assumed(&self.passed);
+    }
+
+    /// The first branch of the split that is open; where there is none, the first.
+    fn first(&self, split: Split) -> Turn {
+        for turn in split.turns() {
+            if let Some(turn) = turn {
+                if self.branch.may_turn(turn) {
+                    return turn;
+                }
+            }
+        }
+        split.first()
+    }
+}
