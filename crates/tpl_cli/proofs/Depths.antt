@@ -1,18 +1,20 @@
--- The numbers that the words give.
+-- The numbers and the languages that the words give.
 use Rattle.std.proofs.Common.{◌≡◌, ◌∙◌, ◌<◌, ◌≤◌, ℕ, List, Option, Some, None, Result, Ok, Err, codes, sym, ap, subst, refl, arith}
-use Rattle.std.specs.Prelude.{option_map, Box}
+use Rattle.std.specs.Prelude.{option_map, Box, MatchOption}
 use Rattle.std.specs.Box.{box_value}
 use Rattle.std.specs.Str.Parse.{ParsesUnsigned, digits_value, without_leading_plus}
-use Rattle.clap.specs.Words.{Row, Text, ReadsOne, one_text, rows_of, subcommand_name_of, subcommand_of, subcommand_rows_of}
+use Rattle.tpl_draw.specs.declared.language.Language.{Language}
+use Rattle.tpl_draw.specs.declared.language.Language.TheVariants.{Mermaid, Dot}
+use Rattle.clap.specs.Words.{Row, Text, ReadsOne, first_of, first_value, one_text, rows_of, subcommand_name_of, subcommand_of, subcommand_rows_of}
 use Rattle.clap.specs.Simple.{subcommand_rows}
 use Rattle.clap.specs.declared.parser.matches.Found.{Found}
 use Rattle.clap.specs.declared.parser.matches.ArgMatches.{ArgMatches}
 use Rattle.clap.specs.declared.parser.matches.ArgMatches.TheViews.{out-ArgMatches, out-SubCommand}
 use Rattle.clap.specs.declared.parser.matches.SubCommand.{SubCommand}
-use Rattle.clap.proofs.WalkLemmas.{one_text-rows}
+use Rattle.clap.proofs.WalkLemmas.{first_value-rows, one_text-rows}
 use Rattle.tpl_cli.specs.declared.line.Line.{Line}
-use Rattle.tpl_cli.specs.declared.line.Line.TheVariants.{Check, Analyse, Run, Audit}
-use Rattle.tpl_cli.specs.Line.{taskgraph, IsGiven, IsDepth, IsWorkers, IsWithin, Names}
+use Rattle.tpl_cli.specs.declared.line.Line.TheVariants.{Check, Analyse, Run, Audit, Draw}
+use Rattle.tpl_cli.specs.Line.{language_word, taskgraph, IsGiven, IsDepth, IsLanguage, IsWorkers, IsWithin, Names}
 
 pub some_same : {A : Type 0} (x y : A) → Some x ≡ Some y → x ≡ y
 some_same x y e = cc
@@ -48,6 +50,29 @@ module _ {E : Type 0} (gives : List ℕ → Result ℕ E → Type 0) (parses : (
       let p = parses is.text (Ok n) read in
       ap Some (p.1 ∙ is.value)
 
+-- a text that was read is the one that the words give
+text_given : (found : Found) (t word : Text) → Some t ≡ first_value found (codes "as") → t ≡ word → first_of (codes "as") (rows_of found) ≡ Some word
+text_given found t word gives is = sym (first_value-rows found (codes "as")) ∙ (sym gives ∙ ap Some is)
+
+-- two languages have two words
+same_word : (a b : Language) → language_word a ≡ language_word b → a ≡ b
+same_word Mermaid Mermaid e = refl
+same_word Mermaid Dot e = absurd cc
+same_word Dot Mermaid e = absurd cc
+same_word Dot Dot e = refl
+
+pub same_language : (found : Found) (a b : Language) → IsLanguage (rows_of found) a → IsLanguage (rows_of found) b → a ≡ b
+same_language found a b first second = same_word a b (some_same (language_word a) (language_word b) (sym first ∙ second))
+
+pub none_given : (found : Found) (language : Language) → None ≡ first_value found (codes "as") → IsLanguage (rows_of found) language → ⊥
+none_given found language gives is = let e = gives ∙ (first_value-rows found (codes "as") ∙ is) in absurd cc
+
+-- the language that a text names is the one that the words give, if that text is given
+pub language_given : (found : Found) (t : Text) (o : Option Language) → Some t ≡ first_value found (codes "as") → MatchOption o ((l : Language) → language_word l ≡ t → ⊥) (λ l. language_word l ≡ t)
+    → MatchOption o ((l : Language) → IsLanguage (rows_of found) l → ⊥) (IsLanguage (rows_of found))
+language_given found t None gives none = λ l is. none l (sym (some_same t (language_word l) (gives ∙ (first_value-rows found (codes "as") ∙ is))))
+language_given found t (Some l) gives is = text_given found t (language_word l) gives (sym is)
+
 -- ---- the subcommand that the words enter
 
 name_of_rows : {Z : Type 0} (o : Option (Box SubCommand Z)) → option_map (λ b. (out-SubCommand (box_value b)).name.now) o ≡ option_map (λ p. p.0) (subcommand_rows o)
@@ -74,6 +99,7 @@ names_depth words rows (Analyse depth) e named =
     (depth, subst (λ (rs : List Row). IsDepth rs depth) (ap (λ p. p.1) both) named.2, refl)
 names_depth words rows (Run workers) e named = let differs = entered_once words (codes "analyse") (codes "run") rows e (ap (option_map (λ p. p.0)) named.1) in absurd cc
 names_depth words rows Audit e named = let differs = entered_once words (codes "analyse") (codes "audit") rows e named in absurd cc
+names_depth words rows (Draw language) e named = let differs = entered_once words (codes "analyse") (codes "draw") rows e (ap (option_map (λ p. p.0)) named.1) in absurd cc
 
 -- where they enter `run`, it has the workers that they give
 pub names_workers : (words : List Text) (rows : List Row) (line : Line) → subcommand_of taskgraph words ≡ Some (codes "run", rows) → Names words line → (workers : ℕ) × IsWorkers rows workers × (line ≡ Run workers)
@@ -83,6 +109,17 @@ names_workers words rows (Run workers) e named =
     let both = some_same (codes "run", named.0) (codes "run", rows) (sym named.1 ∙ e) in
     (workers, subst (λ (rs : List Row). IsWorkers rs workers) (ap (λ p. p.1) both) named.2, refl)
 names_workers words rows Audit e named = let differs = entered_once words (codes "run") (codes "audit") rows e named in absurd cc
+names_workers words rows (Draw language) e named = let differs = entered_once words (codes "run") (codes "draw") rows e (ap (option_map (λ p. p.0)) named.1) in absurd cc
+
+-- where they enter `draw`, it has the language that they give
+pub names_language : (words : List Text) (rows : List Row) (line : Line) → subcommand_of taskgraph words ≡ Some (codes "draw", rows) → Names words line → (language : Language) × IsLanguage rows language × (line ≡ Draw language)
+names_language words rows Check e named = let differs = entered_once words (codes "draw") (codes "check") rows e named in absurd cc
+names_language words rows (Analyse depth) e named = let differs = entered_once words (codes "draw") (codes "analyse") rows e (ap (option_map (λ p. p.0)) named.1) in absurd cc
+names_language words rows (Run workers) e named = let differs = entered_once words (codes "draw") (codes "run") rows e (ap (option_map (λ p. p.0)) named.1) in absurd cc
+names_language words rows Audit e named = let differs = entered_once words (codes "draw") (codes "audit") rows e named in absurd cc
+names_language words rows (Draw language) e named =
+    let both = some_same (codes "draw", named.0) (codes "draw", rows) (sym named.1 ∙ e) in
+    (language, subst (λ (rs : List Row). IsLanguage rs language) (ap (λ p. p.1) both) named.2, refl)
 
 -- a line that words name is within its limits
 pub named_within : (words : List Text) (line : Line) → Names words line → IsWithin line
@@ -90,3 +127,4 @@ named_within words Check named = tt
 named_within words (Analyse depth) named = named.2.limit
 named_within words (Run workers) named = (named.2.least_of, named.2.limit)
 named_within words Audit named = tt
+named_within words (Draw language) named = tt

@@ -1,11 +1,13 @@
 -- The command line, and which command words name.
 use Rattle.std.specs.Prelude.{◌≡◌, ◌≤◌, ℕ, pos, true, List, [], ◌∷◌, Option, Some, option_map, codes}
 use Rattle.std.specs.Str.Parse.{IsNumeral, digits_value, without_leading_plus}
-use Rattle.clap.specs.Words.{App, Row, Rule, Text, new_app, new_rule, one_of, subcommand_of, with_rule, with_subcommand}
+use Rattle.tpl_draw.specs.declared.language.Language.{Language}
+use Rattle.tpl_draw.specs.declared.language.Language.TheVariants.{Mermaid, Dot}
+use Rattle.clap.specs.Words.{App, Row, Rule, Text, first_of, new_app, new_rule, one_of, subcommand_of, with_rule, with_subcommand}
 use Rattle.clap.specs.Simple.{on_top}
 use Rattle.clap.specs.declared.builder.value_parser.ValueParser.TheVariants as vp
 use Rattle.tpl_cli.specs.declared.line.Line.{Line}
-use Rattle.tpl_cli.specs.declared.line.Line.TheVariants.{Check, Analyse, Run, Audit}
+use Rattle.tpl_cli.specs.declared.line.Line.TheVariants.{Check, Analyse, Run, Audit, Draw}
 
 -- `--depth N`, a number from 0 to 6, and 2 where it is left out
 abbrev pub depth_rule : Rule
@@ -25,6 +27,14 @@ workers_rule = record (new_rule (codes "workers")) {
   parser = Some (vp.Signed (pos 1) (pos 64));
 }
 
+-- `--as LANGUAGE`, and mermaid where it is left out
+abbrev pub language_rule : Rule
+language_rule = record (new_rule (codes "as")) {
+  long = Some (codes "as");
+  value_names = 1;
+  defaults = codes "mermaid" ∷ [];
+}
+
 -- the subcommands that are about certificates
 abbrev pub about_certificates : App
 about_certificates = with_subcommand
@@ -39,9 +49,12 @@ run_command = with_rule (new_app (codes "run")) workers_rule
 abbrev pub audit_command : App
 audit_command = new_app (codes "audit")
 
+abbrev pub draw_command : App
+draw_command = with_rule (new_app (codes "draw")) language_rule
+
 -- a command line with its subcommands
 abbrev pub taskgraph : App
-taskgraph = with_subcommand (with_subcommand about_certificates run_command.top) audit_command.top
+taskgraph = with_subcommand (with_subcommand (with_subcommand about_certificates run_command.top) audit_command.top) draw_command.top
 
 -- the subcommand that the words enter
 abbrev pub command_of : List Text → Option Text
@@ -62,6 +75,14 @@ IsDepth rows depth = IsGiven (codes "depth") 0 6 rows depth
 abbrev pub IsWorkers : List Row → ℕ → Type 0
 IsWorkers rows workers = IsGiven (codes "workers") 1 64 rows workers
 
+-- the word for a language
+abbrev pub language_word : Language → Text
+language_word Mermaid = codes "mermaid"
+language_word Dot = codes "dot"
+
+abbrev pub IsLanguage : List Row → Language → Type 0
+IsLanguage rows language = first_of (codes "as") rows ≡ Some (language_word language)
+
 -- the words name this command
 abbrev pub Names : List Text → Line → Type 0
 Names words Check = command_of words ≡ Some (codes "check")
@@ -70,6 +91,8 @@ Names words (Analyse depth) =
 Names words (Run workers) =
     (rows : List Row) × (subcommand_of taskgraph words ≡ Some (codes "run", rows)) × IsWorkers rows workers
 Names words Audit = command_of words ≡ Some (codes "audit")
+Names words (Draw language) =
+    (rows : List Row) × (subcommand_of taskgraph words ≡ Some (codes "draw", rows)) × IsLanguage rows language
 
 -- what a line asks for is within the limits of the command
 abbrev pub IsWithin : Line → Type 0
@@ -77,3 +100,4 @@ IsWithin Check = Unit {0}
 IsWithin (Analyse depth) = depth ≤ 6
 IsWithin (Run workers) = (1 ≤ workers) × (workers ≤ 64)
 IsWithin Audit = Unit {0}
+IsWithin (Draw language) = Unit {0}

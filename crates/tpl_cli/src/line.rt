@@ -1,13 +1,14 @@
 //! What the words of the command line say.
 
-ghost use Rattle.std.specs.Prelude.{◌≡◌, ℕ, true, false, IfOk, MatchResult, map};
+ghost use Rattle.std.specs.Prelude.{◌≡◌, ℕ, true, false, IfOk, MatchOption, MatchResult, map};
 ghost use Rattle.clap.specs.Words.{app_of, found_of, kind_of, rows_of, rule_of, takes, with_subcommand};
-ghost use Rattle.tpl_cli.specs.Line.{about_certificates, audit_command, run_command, taskgraph, depth_rule, workers_rule, IsDepth, IsWorkers, IsWithin, Names};
+ghost use Rattle.tpl_cli.specs.Line.{about_certificates, audit_command, draw_command, language_rule, run_command, taskgraph, depth_rule, language_word, workers_rule, IsDepth, IsLanguage, IsWorkers, IsWithin, Names};
 
 use clap::error::ErrorKind;
 use clap::{Arg, ArgMatches, Command, value_parser};
 use std::alloc::{AllocError, Global};
 use thiserror::Error;
+use tpl_draw::Language;
 
 /// What the program is to do.
 #[derive(Clone, Copy, Debug, Drop, PartialEq, Eq)]
@@ -20,6 +21,8 @@ pub enum Line {
     Run(u16),
     /// Audit the journal of a document.
     Audit,
+    /// Draw the graph of a document in this language.
+    Draw(Language),
 }
 
 /// Why there is nothing to do.
@@ -74,6 +77,18 @@ fn workers<'a>(alloc: Global) -> Arg<'a>
         .value_parser(value_parser!(u8).range(1..=64))
 }
 
+/// The option for the language of a picture.
+fn language<'a>(alloc: Global) -> Arg<'a>
+    ensures rule { rule_of result ≡ language_rule }
+    ensures own { result.global ≡ false }
+{
+    Arg::new(alloc, "as")
+        .long("as")
+        .value_name("LANGUAGE")
+        .help("The language of the picture, mermaid or dot")
+        .default_value("mermaid")
+}
+
 /// The subcommands that are about certificates. One of the subcommands has to stand there.
 fn about_certificates<'a>(alloc: Global) -> Result<Command<'a>, AllocError>
     ensures { IfOk result (λ command. app_of command ≡ about_certificates) }
@@ -107,13 +122,25 @@ fn with_audit<'a>(alloc: Global, command: Command<'a>) -> Result<Command<'a>, Al
     command.subcommand(Command::new(alloc, "audit").about("Audits the document's journal"))
 }
 
+/// The command line so far, and the subcommand that draws.
+fn with_draw<'a>(alloc: Global, command: Command<'a>) -> Result<Command<'a>, AllocError>
+    ensures { IfOk result (λ more. app_of more ≡ with_subcommand (app_of command.entry) draw_command.top) }
+{
+    command.subcommand(
+        Command::new(alloc, "draw")
+            .about("Draws the document's graph")
+            .arg(language(alloc))?,
+    )
+}
+
 /// The command line.
 fn taskgraph<'a>(alloc: Global) -> Result<Command<'a>, AllocError>
     ensures { IfOk result (λ command. app_of command ≡ taskgraph) }
 {
     let certificates = about_certificates(alloc)?;
     let runs = with_run(alloc, certificates)?;
-    let all = with_audit(alloc, runs)?;
+    let audits = with_audit(alloc, runs)?;
+    let all = with_draw(alloc, audits)?;
     Ok(all)
 }
 
@@ -157,6 +184,47 @@ fn workers_of(alloc: Global, given: &ArgMatches<'_>) -> Result<u8, LineFault>
     }
 }
 
+/// The language that a word names.
+fn language_named(word: &str) -> Option<Language>
+    ensures { MatchOption result ((l : Language) → language_word l ≡ word.now → ⊥)
+        (λ l. language_word l ≡ word.now) }
+{
+    if word == "mermaid" {
+        Some(Language::Mermaid)
+    } else if word == "dot" {
+        Some(Language::Dot)
+    } else {
+        None
+    }
+}
+
+/// The language that the option names.
+fn language_in(given: &ArgMatches<'_>) -> Option<Language>
+    ensures { MatchOption result
+        ((l : Language) → IsLanguage (rows_of (found_of given.now)) l → ⊥)
+        (IsLanguage (rows_of (found_of given.now))) }
+{
+    match given.get_str("as") {
+        Some(word) => language_named(word),
+        None => None,
+    }
+}
+
+/// The value of the option.
+fn language_of(alloc: Global, given: &ArgMatches<'_>) -> Result<Language, LineFault>
+    ensures named { IfOk result (IsLanguage (rows_of (found_of given.now))) }
+    ensures taken { (language : Language) → IsLanguage (rows_of (found_of given.now)) language
+        → MatchResult result (λ found. found ≡ language) (λ fault. fault ≡ LineFault.Memory) }
+{
+    match language_in(given) {
+        Some(language) => Ok(language),
+        None => Err(LineFault::Usage(String::from_str(
+            alloc,
+            "error: a picture is drawn --as mermaid or --as dot\n",
+        )?)),
+    }
+}
+
 /// What the words say, the first of which is the program's own name. They are read by `clap`.
 pub fn line_of<'a>(alloc: Global, words: &'a [&'a str]) -> Result<Line, LineFault>
     ensures named { IfOk result (Names (map (λ word. word.now) words.entry.now)) }
@@ -182,6 +250,10 @@ pub fn line_of<'a>(alloc: Global, words: &'a [&'a str]) -> Result<Line, LineFaul
             Err(fault) => Err(fault),
         },
         Some(("audit", _)) => Ok(Line::Audit),
+        Some(("draw", given)) => match language_of(alloc, given) {
+            Ok(language) => Ok(Line::Draw(language)),
+            Err(fault) => Err(fault),
+        },
         _ => Err(LineFault::Usage(String::from_str(alloc, "error: no command\n")?)),
     }
 }

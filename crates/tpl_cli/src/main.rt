@@ -69,6 +69,7 @@ fn perform<R: Threads + Wait + Sync>(rt: &HostRuntime, threads: &R, line: Line) 
         Line::Analyse(depth) => serve(rt.alloc(), Ask::Analyse(depth), &mut from, &mut to),
         Line::Run(workers) => run(threads, rt.alloc(), workers, &mut from, &mut to),
         Line::Audit => serve(rt.alloc(), Ask::Audit, &mut from, &mut to),
+        Line::Draw(language) => serve(rt.alloc(), Ask::Draw(language), &mut from, &mut to),
     }
 }
 
