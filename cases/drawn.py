@@ -1,0 +1,120 @@
+"""The picture of a document, worked out by the rules of docs/PICTURES.md alone."""
+
+SHAPES = {
+    "mermaid": {
+        "root": ('["', '"]'),
+        "child": ('("', '")'),
+        "then": ('(["', '"])'),
+        "all": ('{{"', '"}}'),
+        "any": ('{"', '"}'),
+    },
+    "dot": {"root": "box", "child": "Mrecord", "then": "ellipse", "all": "hexagon", "any": "diamond"},
+}
+LINES = {
+    "mermaid": {"wait": "-->", "child": "==>", "cancel": "-.->", "token": "-.->"},
+    "dot": {
+        "wait": "solid",
+        "child": "bold",
+        "cancel": "dashed, color=red3",
+        "token": "dotted, color=gray40",
+    },
+}
+OPENING = {
+    "mermaid": "flowchart LR\n",
+    "dot": """digraph taskgraph {
+  graph [rankdir=LR, ranksep=0.4, nodesep=0.3];
+  node [fontname="sans-serif", fontsize=11, height=0.3, margin="0.08,0.04"];
+  edge [fontname="sans-serif", fontsize=9, arrowsize=0.7];
+""",
+}
+CLOSING = {"mermaid": "  classDef token fill:#eee,stroke:#888\n", "dot": "}\n"}
+
+ENDS = frozenset(["RanToCompletion", "Canceled", "Faulted"])
+# the ends of its antecedent after which a continuation with the word doesn't start
+EXCLUDES = {
+    "NotOnRanToCompletion": {"RanToCompletion"},
+    "NotOnCanceled": {"Canceled"},
+    "NotOnFaulted": {"Faulted"},
+    "OnlyOnRanToCompletion": {"Canceled", "Faulted"},
+    "OnlyOnCanceled": {"RanToCompletion", "Faulted"},
+    "OnlyOnFaulted": {"RanToCompletion", "Canceled"},
+}
+# the one word for the ends after which a continuation starts
+WORDS = {ENDS - excluded: word for word, excluded in EXCLUDES.items()} | {ENDS: "always"}
+
+
+def name_of(token):
+    return token["name"] if isinstance(token, dict) else token
+
+
+def start_words(options):
+    """When a continuation with these options starts."""
+    excluded = set().union(*(EXCLUDES.get(word, ()) for word in options))
+    words = [WORDS[ENDS - excluded]]
+    words += ["lazy"] * ("LazyCancellation" in options)
+    words += ["synchronous"] * ("ExecuteSynchronously" in options)
+    return [] if words == ["always"] else words
+
+
+def acts(body):
+    """The children that a body starts and the tokens that it requests, in the order of its text."""
+    for statement in body:
+        if "start" in statement and isinstance(statement, dict):
+            yield "start", statement["start"]
+        elif "cancel" in statement and isinstance(statement, dict):
+            yield "cancel", statement["cancel"]
+        elif isinstance(statement, dict):
+            yield from acts(statement.get("then", []))
+            yield from acts(statement.get("else", []))
+
+
+def edges(document):
+    """Each edge: from, to, its line, what stands at it."""
+    tasks = {task["name"]: task for task in document["tasks"]}
+    for token in document.get("tokens", []):
+        if isinstance(token, dict):
+            for source in token.get("linked", []):
+                yield f"k_{source}", f"k_{token['name']}", "token", ["linked"]
+    for task in document["tasks"]:
+        node, options = f"t_{task['name']}", task.get("options", [])
+        if "token" in task:
+            yield f"k_{task['token']}", node, "token", []
+        if "after" in task:
+            yield f"t_{task['after']}", node, "wait", start_words(options)
+        for waited in task.get("of", []):
+            yield f"t_{waited}", node, "wait", []
+        for act, name in acts(task.get("body", [])):
+            if act == "cancel":
+                yield node, f"k_{name}", "cancel", ["cancels"]
+            else:
+                attached = "AttachedToParent" in tasks[name].get("options", []) and "DenyChildAttach" not in options
+                yield node, f"t_{name}", "child", ["attached" if attached else "detached"]
+
+
+def token_node(language, name):
+    if language == "mermaid":
+        return f'  k_{name}>"{name}<br/>token"]:::token\n'
+    return f'  k_{name} [label="{name}\\ntoken", shape=note];\n'
+
+
+def task_node(language, name, kind):
+    shape = SHAPES[language][kind]
+    if language == "mermaid":
+        return f"  t_{name}{shape[0]}{name}<br/>{kind}{shape[1]}\n"
+    return f'  t_{name} [label="{name}\\n{kind}", shape={shape}];\n'
+
+
+def edge_line(language, start, end, line, label):
+    drawn, said = LINES[language][line], " ".join(label)
+    if language == "mermaid":
+        return f"  {start} {drawn}" + (f'|"{said}"|' if said else "") + f" {end}\n"
+    return f"  {start} -> {end} [style={drawn}" + (f', label="{said}"' if said else "") + "];\n"
+
+
+def picture(document, language):
+    """The text of the picture."""
+    lines = [OPENING[language]]
+    lines += [token_node(language, name_of(token)) for token in document.get("tokens", [])]
+    lines += [task_node(language, task["name"], task["kind"]) for task in document["tasks"]]
+    lines += [edge_line(language, *edge) for edge in edges(document)]
+    return "".join(lines + [CLOSING[language]])
