@@ -5,6 +5,7 @@
 
 mod allowed;
 mod asked;
+mod beside;
 mod chance;
 mod crews;
 mod dice;
@@ -22,6 +23,7 @@ mod rounds;
 mod seen;
 mod sessions;
 
+use crate::beside::check_beside;
 use crate::chance::check_chance;
 use crate::meeting::check_meetings;
 use crate::plays::check_play;
@@ -73,6 +75,7 @@ fn main(rt: HostRuntime) -> io::Result<()> {
     let tally = tally.with(&check_items(&rt, rt.alloc())?);
     let tally = tally.with(&[check_counts(&rt, rt.alloc())?]);
     let tally = tally.with(&check_meetings(&rt, rt.alloc())?);
+    let tally = tally.with(&check_beside(&rt, rt.alloc())?);
     let tally = tally.with(&[check_rounds(&rt, rt.alloc())?]);
     println!(&rt; "{} checks, {} failed", tally.checks, tally.failed)
 }
