@@ -163,6 +163,9 @@ def of_cases(known):
             words = {case["command"], *case["args"]}
             if case["stdout"] is None or case["exit"] == 2 or words & {"--help", "-h", "help", "--version"}:
                 continue
+            # a picture's lines are those of docs/PICTURES.md
+            if case["command"] == "draw" and case["exit"] == 0:
+                continue
             status, unknown = ending(case["stdout"], known)
             why = f"docs/OUTPUT.md hasn't the line {unknown!r}" if unknown is not None else None
             yield file, case, why or (None if status == case["exit"] else f"docs/OUTPUT.md has exit {status}")
