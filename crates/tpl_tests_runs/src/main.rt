@@ -1,6 +1,7 @@
 //! Runs: plays on both machines, runs by chance on both side by side, the queue between threads, and sessions.
 //!
-//! The file `files` names the plays. Each check is a line, and the last line counts them.
+//! The file `files` names the plays. Each check is a line, and the last line counts them. With the word `memory`, the
+//! sessions of cases/session_memory.py alone.
 #![tactic(auto)]
 
 mod allowed;
@@ -14,6 +15,7 @@ mod generate;
 mod graphs;
 mod machines;
 mod meeting;
+mod memory;
 mod names;
 mod plays;
 mod queue;
@@ -26,12 +28,13 @@ mod sessions;
 use crate::beside::check_beside;
 use crate::chance::check_chance;
 use crate::meeting::check_meetings;
+use crate::memory::play_with_little;
 use crate::plays::check_play;
 use crate::queue::check_queue;
 use crate::refusals::{check_counts, check_items};
 use crate::rounds::check_rounds;
 use crate::sessions::check_sessions;
-use std::{fs, io};
+use std::{env, fs, io};
 
 /// How many checks there were, and how many of them failed.
 #[derive(Clone, Copy)]
@@ -64,6 +67,11 @@ fn check_plays(rt: &HostRuntime, so_far: Tally) -> io::Result<Tally> {
 }
 
 fn main(rt: HostRuntime) -> io::Result<()> {
+    if let Some(word) = env::args(&rt)?.nth(1) {
+        if word.as_str() == "memory" {
+            return play_with_little(&rt, rt.alloc());
+        }
+    }
     let tally = Tally {
         checks: 0,
         failed: 0,
