@@ -1,6 +1,5 @@
 pub mod HallLemmas
 pub mod GrowthLemmas
 pub mod MoveLemmas
-pub mod StayLemmas
 pub mod ReportLemmas
 pub mod Crosses

@@ -4,6 +4,5 @@ pub mod Answers
 pub mod Growth
 pub mod Sights
 pub mod Moves
-pub mod Stays
 pub mod Closes
 pub mod Watched

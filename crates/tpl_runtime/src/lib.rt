@@ -3,7 +3,6 @@
 #![tactic(auto)]
 
 mod ask;
-mod children;
 mod closing;
 mod crew;
 mod open;

@@ -2,8 +2,7 @@
 
 ghost use Rattle.std.specs.Prelude.{◌≡◌, ◌<◌, length, IfSome};
 ghost use Rattle.tpl_hall.specs.Moves.{Moves};
-ghost use Rattle.tpl_hall.specs.Stays.{MayEnd};
-ghost use Rattle.tpl_runtime.specs.Turns.{IfOver};
+ghost use Rattle.tpl_runtime.specs.Turns.{OnOver, IsToldAt};
 
 use crate::shared::{Hand, Shared, Turn};
 use crate::stock::{ItemJob, ItemPass, ItemQueue};
@@ -46,8 +45,8 @@ impl<'g, K: Drop, W: Item<K>> Shared<'g, K, W> {
         requires { pass.old.queue ≡ queue.now.id }
         ensures pass { pass.new.queue ≡ queue.now.id }
         ensures moves { Moves seat.old seat.new self.old.hall.core self.new.hall.core }
-        ensures last { seat.new.last ≡ seat.old.last }
-        ensures over { IfOver result (λ ended. MayEnd ended self.new.hall.core) }
+        ensures last { OnOver result (λ ended. IsToldAt ended self.new.hall.core seat.old.last
+            seat.new.last) (seat.new.last ≡ seat.old.last) }
     {
         let Job { task, items } = job;
         if self.act(rt, queue, pass, seat, Act::Begin(task)) {
@@ -70,8 +69,8 @@ impl<'g, K: Drop, W: Item<K>> Shared<'g, K, W> {
         requires { pass.old.queue ≡ queue.now.id }
         ensures pass { pass.new.queue ≡ queue.now.id }
         ensures moves { Moves seat.old seat.new self.old.hall.core self.new.hall.core }
-        ensures last { seat.new.last ≡ seat.old.last }
-        ensures over { IfOver result (λ ended. MayEnd ended self.new.hall.core) }
+        ensures last { OnOver result (λ ended. IsToldAt ended self.new.hall.core seat.old.last
+            seat.new.last) (seat.new.last ≡ seat.old.last) }
     {
         if self.act(rt, queue, pass, seat, Act::Step(task)) {
             return Turn::Go(Hand::Running(task, items));
@@ -93,8 +92,8 @@ impl<'g, K: Drop, W: Item<K>> Shared<'g, K, W> {
         requires { pass.old.queue ≡ queue.now.id }
         ensures pass { pass.new.queue ≡ queue.now.id }
         ensures moves { Moves seat.old seat.new self.old.hall.core self.new.hall.core }
-        ensures last { seat.new.last ≡ seat.old.last }
-        ensures over { IfOver result (λ ended. MayEnd ended self.new.hall.core) }
+        ensures last { OnOver result (λ ended. IsToldAt ended self.new.hall.core seat.old.last
+            seat.new.last) (seat.new.last ≡ seat.old.last) }
     {
         if self.act(rt, queue, pass, seat, Act::Leave(task)) {
             self.stock.give_all_back(items);
@@ -117,8 +116,8 @@ impl<'g, K: Drop, W: Item<K>> Shared<'g, K, W> {
         requires { pass.old.queue ≡ queue.now.id }
         ensures pass { pass.new.queue ≡ queue.now.id }
         ensures moves { Moves seat.old seat.new self.old.hall.core self.new.hall.core }
-        ensures last { seat.new.last ≡ seat.old.last }
-        ensures over { IfOver result (λ ended. MayEnd ended self.new.hall.core) }
+        ensures last { OnOver result (λ ended. IsToldAt ended self.new.hall.core seat.old.last
+            seat.new.last) (seat.new.last ≡ seat.old.last) }
     {
         let core = self.hall.core();
         if task.0 as usize >= core.graph().len() {
@@ -157,8 +156,8 @@ impl<'g, K: Drop, W: Item<K>> Shared<'g, K, W> {
         requires { pass.old.queue ≡ queue.now.id }
         ensures pass { pass.new.queue ≡ queue.now.id }
         ensures moves { Moves seat.old seat.new self.old.hall.core self.new.hall.core }
-        ensures last { seat.new.last ≡ seat.old.last }
-        ensures over { IfOver result (λ ended. MayEnd ended self.new.hall.core) }
+        ensures last { OnOver result (λ ended. IsToldAt ended self.new.hall.core seat.old.last
+            seat.new.last) (seat.new.last ≡ seat.old.last) }
     {
         match hand {
             Hand::Taken(job) => self.begin(rt, queue, pass, seat, job),
