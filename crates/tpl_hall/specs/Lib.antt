@@ -4,5 +4,6 @@ pub mod Answers
 pub mod Growth
 pub mod Sights
 pub mod Moves
+pub mod Stays
 pub mod Closes
 pub mod Watched

@@ -11,6 +11,7 @@ mod receipts;
 mod seat;
 mod sight;
 mod sights;
+mod stint;
 mod watcher;
 
 pub use board::{Cells, cells};
@@ -21,4 +22,5 @@ pub use receipts::receipts_of;
 pub use seat::{Seat, SeatFault};
 pub use sight::{Asked, Ended, Looked, Sight};
 pub use sights::all_last;
+pub use stint::Stint;
 pub use watcher::{Watcher, all_begin};

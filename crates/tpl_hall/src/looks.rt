@@ -1,17 +1,19 @@
 //! What the hall tells of a seat, and a seat of the run.
 
-ghost use Rattle.std.specs.Prelude.{◌≡◌, ◌↔◌, ◌≤◌, length, Some, IsTrue, IsFalse};
+ghost use Rattle.std.specs.Prelude.{◌≡◌, ◌≤◌, length, Some, IsTrue, IsFalse};
 ghost use Rattle.tpl_model.specs.Facts.{requested};
 ghost use Rattle.tpl_model.specs.Graph.{is_task, is_token};
-ghost use Rattle.tpl_model.specs.Rules.{Complete};
-ghost use Rattle.tpl_hall.specs.Moves.{Fits, MatchLooked};
+ghost use Rattle.tpl_hall.specs.Moves.{Fits, HasRoom, MatchLooked};
 ghost use Rattle.tpl_hall.specs.Sights.{IsSeen};
-ghost use Rattle.tpl_hall.specs.declared.sight.Sight.TheVariants.{At, Already, Complete as AllDone};
+ghost use Rattle.tpl_hall.specs.Stays.{Stays, GoesOn, MayEnd, Leaves};
+ghost use Rattle.tpl_hall.specs.Views.{SeatView};
+ghost use Rattle.tpl_hall.specs.declared.sight.Sight.TheVariants.{At, Already};
 
 use crate::checks::{is_within, stands};
 use crate::hall::Hall;
 use crate::seat::Seat;
-use crate::sight::{Looked, Sight};
+use crate::sight::{Ended, Looked, Sight};
+use crate::stint::Stint;
 use tpl_graph::Graph;
 use tpl_laws::is_bounded;
 use tpl_machine::Core;
@@ -21,7 +23,11 @@ impl<'g, K: Drop> Hall<'g, K> {
     /// The run is of this graph with these inputs, what the seat has is of this run, and it has room as long as the run
     /// can go on.
     pub fn fits(&self, graph: &Graph, inputs: &Inputs, seat: &Seat) -> bool
-        ensures { IsTrue result → Fits self.now.core graph.now inputs.now seat.now }
+        ensures fits { IsTrue result → Fits self.now.core graph.now inputs.now seat.now }
+        ensures room { IsTrue result → HasRoom graph.now.graph (length self.now.core.events)
+            seat.now }
+        ensures stray { IsFalse result → Fits self.now.core graph.now inputs.now seat.now
+            → HasRoom graph.now.graph (length self.now.core.events) seat.now → ⊥ }
     {
         self.is_of(graph, inputs)
             && stands(seat.mine(), self.journal.as_slice())
@@ -32,10 +38,13 @@ impl<'g, K: Drop> Hall<'g, K> {
     /// Where a task stands at this moment, for a seat of this run.
     pub fn look(&self, graph: &Graph, inputs: &Inputs, seat: &mut Seat, task: TaskId) -> Looked
         requires { is_task graph.now.graph task.0 }
-        ensures { MatchLooked result (λ status place. IsSeen graph.now.graph inputs.now
+        ensures looked { MatchLooked result (λ status place. IsSeen graph.now.graph inputs.now
             seat.old.mine seat.old.last (At task status) place
             × (seat.new ≡ record seat.old { last = Some (place, At task status) })) (seat.new ≡
             seat.old) }
+        ensures stray { MatchLooked result (λ status place. Unit {0}) (Fits self.now.core graph.now
+            inputs.now seat.old → HasRoom graph.now.graph (length self.now.core.events) seat.old
+            → ⊥) }
     {
         if !self.fits(graph, inputs, seat) {
             return Looked::Stray;
@@ -48,31 +57,54 @@ impl<'g, K: Drop> Hall<'g, K> {
     }
 
     /// How many events the run has.
-    fn len(&self) -> u32
+    pub fn len(&self) -> u32
         ensures { result ≡ length self.now.core.events }
     {
         self.journal().len() as u32
     }
 
-    /// Tells a seat that the run is complete, if it is, and says whether it is.
-    pub fn tell_complete(&self, seat: &mut Seat) -> bool
-        ensures exact { IsTrue result ↔ Complete self.now.core.graph self.now.core.inputs
-            self.now.core.events }
-        ensures told { IsTrue result → seat.new ≡ record seat.old {
-          last = Some (
-            length
-                self.now.core.events,
-            AllDone,
-          );
-        } }
-        ensures not_told { IsFalse result → seat.new ≡ seat.old }
+    /// A worker's seat may go on. Where it comes for the first time, it has to fit; later it is enough that the run has
+    /// not become shorter since.
+    pub fn goes_on(&self, graph: &Graph, inputs: &Inputs, seat: &Seat, stint: Stint) -> bool
+        ensures { IsTrue result → (first : SeatView) → Stays stint first seat.now
+            → GoesOn (length self.now.core.events) first seat.now }
     {
-        if !self.core.complete() {
-            return false;
+        match stint.seen {
+            Some(events) => events <= self.len(),
+            None => self.fits(graph, inputs, seat),
         }
-        let place = self.len();
-        seat.tell(place, Sight::Complete);
-        true
+    }
+
+    /// Lets a worker go whose work ends so, and tells it where the run is complete. Its seat has to fit once more; else
+    /// it goes as stray, with the events with which it came.
+    pub fn let_go(
+        &self,
+        graph: &Graph,
+        inputs: &Inputs,
+        seat: &mut Seat,
+        stint: Stint,
+        ended: Ended,
+    ) -> Ended
+        requires { MayEnd ended self.now.core }
+        ensures actor { seat.new.actor ≡ seat.old.actor }
+        ensures left { (first : SeatView) → Stays stint first seat.old
+            → GoesOn (length self.now.core.events) first seat.old
+            → Leaves result graph.now.graph inputs.now first seat.new }
+    {
+        if !self.fits(graph, inputs, seat) {
+            seat.stray(stint);
+            return Ended::Stray;
+        }
+        self.core.is_run();
+        match ended {
+            Ended::Complete => {
+                let place = self.len();
+                seat.tell(place, Sight::Complete);
+                Ended::Complete
+            }
+            Ended::Halted => Ended::Halted,
+            Ended::Stray => Ended::Stray,
+        }
     }
 
     /// Tells a seat that a token was requested, if it was, and says whether it was.

@@ -7,7 +7,7 @@ ghost use Rattle.tpl_hall.specs.Moves.{MatchAsked};
 ghost use Rattle.tpl_hall.specs.Sights.{IsSeen};
 ghost use Rattle.tpl_hall.specs.declared.sight.Sight.TheVariants.{Already};
 
-use crate::put::put_ready;
+use crate::put::put_after;
 use crate::shared::{Shared, is_worker};
 use crate::stock::{ItemPass, ItemQueue};
 use std::sync::Wait;
@@ -49,11 +49,20 @@ impl<'g, K: Drop, W: Item<K>> Shared<'g, K, W> {
         if self.hall.tell_requested(seat, token) {
             return Asked::Already;
         }
+        let from = seat.mine().len();
         match self.hall.step(seat, Act::Request(token)) {
             Ok(place) => {
                 self.hall.sweep(seat);
                 self.hall.is_run();
-                put_ready(rt, &self.hall, &mut self.stock, queue, pass);
+                put_after(
+                    rt,
+                    &self.hall,
+                    &mut self.stock,
+                    &self.children,
+                    queue,
+                    pass,
+                    seat.since(from),
+                );
                 Asked::Place(place)
             }
             Err(_) => Asked::Stray,

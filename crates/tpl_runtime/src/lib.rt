@@ -3,6 +3,7 @@
 #![tactic(auto)]
 
 mod ask;
+mod children;
 mod closing;
 mod crew;
 mod open;

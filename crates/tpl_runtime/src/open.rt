@@ -5,6 +5,7 @@ ghost use Rattle.tpl_graph.specs.Named.{all_may_fail};
 ghost use Rattle.tpl_queue.specs.Tally.{new_tally};
 ghost use Rattle.tpl_items.specs.Items.{AreItems, RefusesItems};
 
+use crate::children::Children;
 use crate::session::Session;
 use crate::shared::Shared;
 use crate::stock::{ItemPass, ItemQueue, Stock};
@@ -25,16 +26,17 @@ pub struct OpenFault<W> {
     pub items: Vec<W>,
 }
 
-/// The hall and the cells of a session, and an empty list for its actors.
+/// The hall and the cells of a session, the children of each task, and an empty list for its actors.
 fn parts<'g, K: Drop>(
     alloc: Global,
     graph: &'g Graph,
     inputs: &Inputs,
-) -> Result<(Hall<'g, K>, Cells, Vec<Actor>), AllocError> {
+) -> Result<(Hall<'g, K>, Cells, Children, Vec<Actor>), AllocError> {
     let shown = cells(alloc, graph.bound() as usize)?;
     let hall = Hall::open(alloc, graph, inputs.copy(), Arc::try_clone(&shown)?)?;
+    let children = Children::open(alloc, graph)?;
     let seats = Vec::with_capacity(alloc, MOST_SEATS)?;
-    Ok((hall, shown, seats))
+    Ok((hall, shown, children, seats))
 }
 
 impl<'g, K: Drop, W: Item<K>> Session<'g, K, W> {
@@ -65,7 +67,7 @@ impl<'g, K: Drop, W: Item<K>> Session<'g, K, W> {
         if let Some(why) = refusal::<K, W>(graph, items.as_slice()) {
             return Err(OpenFault { why, items });
         }
-        let Ok((hall, cells, seats)) = parts(alloc, graph, &inputs) else {
+        let Ok((hall, cells, children, seats)) = parts(alloc, graph, &inputs) else {
             return Err(OpenFault {
                 why: OpenWhy::Memory,
                 items,
@@ -78,6 +80,7 @@ impl<'g, K: Drop, W: Item<K>> Session<'g, K, W> {
                 shared: Mutex::new(Shared {
                     hall,
                     stock,
+                    children,
                     seats,
                     halted: false,
                 }),

@@ -2,16 +2,65 @@
 
 ghost use Rattle.std.specs.Prelude.{◌≡◌};
 
+use crate::children::Children;
 use crate::stock::{ItemPass, ItemQueue, Stock};
 use std::sync::Wait;
 use tpl_hall::Hall;
 use tpl_jobs::Job;
 use tpl_machine::Core;
+use tpl_model::{Act, Event};
 use tpl_words::{Status, TaskId};
 
-/// Puts the job of each task that is ready to run, unless it was put before. One that only a certain worker may begin is
-/// kept for it, and one for which the queue has no place is shelved.
-pub fn put_ready<K: Drop, W: Drop, R: Wait>(
+/// Puts the job of a task, if it is ready to run and wasn't put before. One that only a certain worker may begin is kept
+/// for it, and one for which the queue has no place is shelved.
+fn put_one<K: Drop, W: Drop, R: Wait>(
+    rt: &R,
+    hall: &Hall<'_, K>,
+    stock: &mut Stock<W>,
+    queue: &ItemQueue<W>,
+    pass: &mut ItemPass<W>,
+    task: TaskId,
+)
+    requires { pass.old.queue ≡ queue.now.id }
+    ensures { pass.new.queue ≡ queue.now.id }
+{
+    let number = task.0 as usize;
+    if number >= hall.core().graph().len() || hall.core().status(task) != Status::WaitingToRun {
+        return;
+    }
+    let Some(items) = stock.take_unput(number) else {
+        return;
+    };
+    let job = Job { task, items };
+    match hall.bound_to(task) {
+        Some(worker) => stock.keep(worker, job),
+        None => {
+            if let Err(back) = queue.put(rt, pass, job) {
+                stock.shelve(back);
+            }
+        }
+    }
+}
+
+/// Puts the jobs of those among the tasks that are ready to run and weren't put before.
+fn put_each<K: Drop, W: Drop, R: Wait>(
+    rt: &R,
+    hall: &Hall<'_, K>,
+    stock: &mut Stock<W>,
+    queue: &ItemQueue<W>,
+    pass: &mut ItemPass<W>,
+    tasks: &[TaskId],
+)
+    requires { pass.old.queue ≡ queue.now.id }
+    ensures { pass.new.queue ≡ queue.now.id }
+{
+    for task in tasks {
+        put_one(rt, hall, stock, queue, pass, *task);
+    }
+}
+
+/// Puts the jobs of all tasks that are ready to run and weren't put before.
+pub(crate) fn put_all<K: Drop, W: Drop, R: Wait>(
     rt: &R,
     hall: &Hall<'_, K>,
     stock: &mut Stock<W>,
@@ -22,21 +71,28 @@ pub fn put_ready<K: Drop, W: Drop, R: Wait>(
     ensures { pass.new.queue ≡ queue.now.id }
 {
     for number in 0..hall.core().graph().len() {
-        let task = TaskId(number as u16);
-        if hall.core().status(task) != Status::WaitingToRun {
-            continue;
-        }
-        let Some(items) = stock.take_unput(number) else {
-            continue;
-        };
-        let job = Job { task, items };
-        match hall.bound_to(task) {
-            Some(worker) => stock.keep(worker, job),
-            None => {
-                if let Err(back) = queue.put(rt, pass, job) {
-                    stock.shelve(back);
-                }
-            }
+        put_one(rt, hall, stock, queue, pass, TaskId(number as u16));
+    }
+}
+
+/// Puts the jobs of the tasks that these events made ready: a release its own task, and a step a child of its task.
+pub(crate) fn put_after<K: Drop, W: Drop, R: Wait>(
+    rt: &R,
+    hall: &Hall<'_, K>,
+    stock: &mut Stock<W>,
+    children: &Children,
+    queue: &ItemQueue<W>,
+    pass: &mut ItemPass<W>,
+    events: &[(u32, Event)],
+)
+    requires { pass.old.queue ≡ queue.now.id }
+    ensures { pass.new.queue ≡ queue.now.id }
+{
+    for (_place, event) in events {
+        match event.act {
+            Act::Release(task) => put_one(rt, hall, stock, queue, pass, task),
+            Act::Step(task) => put_each(rt, hall, stock, queue, pass, children.of(task)),
+            _ => {}
         }
     }
 }

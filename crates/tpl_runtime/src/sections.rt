@@ -2,7 +2,8 @@
 
 ghost use Rattle.std.specs.Prelude.{◌≡◌, ◌<◌, length, IfSome};
 ghost use Rattle.tpl_hall.specs.Moves.{Moves};
-ghost use Rattle.tpl_runtime.specs.Turns.{OnOver, IsToldAt};
+ghost use Rattle.tpl_hall.specs.Stays.{MayEnd};
+ghost use Rattle.tpl_runtime.specs.Turns.{IfOver};
 
 use crate::shared::{Hand, Shared, Turn};
 use crate::stock::{ItemJob, ItemPass, ItemQueue};
@@ -45,8 +46,8 @@ impl<'g, K: Drop, W: Item<K>> Shared<'g, K, W> {
         requires { pass.old.queue ≡ queue.now.id }
         ensures pass { pass.new.queue ≡ queue.now.id }
         ensures moves { Moves seat.old seat.new self.old.hall.core self.new.hall.core }
-        ensures last { OnOver result (λ ended. IsToldAt ended self.new.hall.core seat.old.last
-            seat.new.last) (seat.new.last ≡ seat.old.last) }
+        ensures last { seat.new.last ≡ seat.old.last }
+        ensures over { IfOver result (λ ended. MayEnd ended self.new.hall.core) }
     {
         let Job { task, items } = job;
         if self.act(rt, queue, pass, seat, Act::Begin(task)) {
@@ -69,8 +70,8 @@ impl<'g, K: Drop, W: Item<K>> Shared<'g, K, W> {
         requires { pass.old.queue ≡ queue.now.id }
         ensures pass { pass.new.queue ≡ queue.now.id }
         ensures moves { Moves seat.old seat.new self.old.hall.core self.new.hall.core }
-        ensures last { OnOver result (λ ended. IsToldAt ended self.new.hall.core seat.old.last
-            seat.new.last) (seat.new.last ≡ seat.old.last) }
+        ensures last { seat.new.last ≡ seat.old.last }
+        ensures over { IfOver result (λ ended. MayEnd ended self.new.hall.core) }
     {
         if self.act(rt, queue, pass, seat, Act::Step(task)) {
             return Turn::Go(Hand::Running(task, items));
@@ -92,8 +93,8 @@ impl<'g, K: Drop, W: Item<K>> Shared<'g, K, W> {
         requires { pass.old.queue ≡ queue.now.id }
         ensures pass { pass.new.queue ≡ queue.now.id }
         ensures moves { Moves seat.old seat.new self.old.hall.core self.new.hall.core }
-        ensures last { OnOver result (λ ended. IsToldAt ended self.new.hall.core seat.old.last
-            seat.new.last) (seat.new.last ≡ seat.old.last) }
+        ensures last { seat.new.last ≡ seat.old.last }
+        ensures over { IfOver result (λ ended. MayEnd ended self.new.hall.core) }
     {
         if self.act(rt, queue, pass, seat, Act::Leave(task)) {
             self.stock.give_all_back(items);
@@ -116,8 +117,8 @@ impl<'g, K: Drop, W: Item<K>> Shared<'g, K, W> {
         requires { pass.old.queue ≡ queue.now.id }
         ensures pass { pass.new.queue ≡ queue.now.id }
         ensures moves { Moves seat.old seat.new self.old.hall.core self.new.hall.core }
-        ensures last { OnOver result (λ ended. IsToldAt ended self.new.hall.core seat.old.last
-            seat.new.last) (seat.new.last ≡ seat.old.last) }
+        ensures last { seat.new.last ≡ seat.old.last }
+        ensures over { IfOver result (λ ended. MayEnd ended self.new.hall.core) }
     {
         let core = self.hall.core();
         if task.0 as usize >= core.graph().len() {
@@ -156,8 +157,8 @@ impl<'g, K: Drop, W: Item<K>> Shared<'g, K, W> {
         requires { pass.old.queue ≡ queue.now.id }
         ensures pass { pass.new.queue ≡ queue.now.id }
         ensures moves { Moves seat.old seat.new self.old.hall.core self.new.hall.core }
-        ensures last { OnOver result (λ ended. IsToldAt ended self.new.hall.core seat.old.last
-            seat.new.last) (seat.new.last ≡ seat.old.last) }
+        ensures last { seat.new.last ≡ seat.old.last }
+        ensures over { IfOver result (λ ended. MayEnd ended self.new.hall.core) }
     {
         match hand {
             Hand::Taken(job) => self.begin(rt, queue, pass, seat, job),

@@ -25,7 +25,7 @@ use std::alloc::Global;
 use std::marker::Model;
 use std::sync::{Condvar, Mutex, Wait};
 use tpl_graph::Graph;
-use tpl_hall::{Asked, Cells, Ended, Looked, Seat, SeatFault, is_seat};
+use tpl_hall::{Asked, Cells, Ended, Looked, Seat, SeatFault, Stint, is_seat};
 use tpl_items::Item;
 use tpl_words::{Actor, Inputs, TaskId, TokenId};
 
@@ -157,6 +157,10 @@ impl<'g, K: Drop, W: Item<K>> Session<'g, K, W> {
     {
         let mut seat = seat;
         let mut pass = pass;
+        let mut stint = Stint {
+            came: seat.mine().len(),
+            seen: None,
+        };
         let mut hand = Hand::New;
         for _ in rt.forever() {
             let held = self.take(rt, &mut pass, hand);
@@ -168,6 +172,7 @@ impl<'g, K: Drop, W: Item<K>> Session<'g, K, W> {
                 &self.queue,
                 &mut pass,
                 &mut seat,
+                &mut stint,
                 held,
             ) {
                 Turn::Go(next) => {
@@ -249,6 +254,7 @@ impl<'g, K: Drop, W: Item<K>> Session<'g, K, W> {
         let Shared {
             hall,
             stock,
+            children: _,
             seats: made,
             halted: _,
         } = shared.into_inner();

@@ -1,11 +1,12 @@
 //! What the session's lock guards.
 
-ghost use Rattle.std.specs.Prelude.{◌≡◌, [], None, IfOk, IfErr, IfSome, IfNone};
+ghost use Rattle.std.specs.Prelude.{◌≡◌, [], None, IfOk, IfErr, IfSome};
 ghost use Rattle.tpl_hall.specs.Moves.{Moves};
+ghost use Rattle.tpl_hall.specs.Stays.{MayEnd};
 ghost use Rattle.tpl_hall.specs.declared.seat.SeatFault.TheVariants.{BadActor};
-ghost use Rattle.tpl_runtime.specs.Turns.{IsToldAt};
 
-use crate::put::put_ready;
+use crate::children::Children;
+use crate::put::{put_after, put_all};
 use crate::stock::{ItemJob, ItemPass, ItemQueue, Stock};
 use std::alloc::{AllocError, Global};
 use std::sync::Wait;
@@ -44,11 +45,13 @@ pub enum Turn<K, W> {
     Over(Ended),
 }
 
-/// What lies under the lock: the run, the jobs that no worker has, who has a seat, and whether the session is halted.
+/// What lies under the lock: the run, the jobs that no worker has, the children of each task, who has a seat, and whether
+/// the session is halted.
 #[derive(Drop)]
 pub struct Shared<'g, K, W> {
     pub(crate) hall: Hall<'g, K>,
     pub(crate) stock: Stock<W>,
+    pub(crate) children: Children,
     pub(crate) seats: Vec<Actor>,
     pub(crate) halted: bool,
 }
@@ -75,8 +78,8 @@ impl<W: Drop> Stock<W> {
 }
 
 impl<'g, K: Drop, W: Item<K>> Shared<'g, K, W> {
-    /// What ends each section in which something was done: a sweep, and then the jobs of the tasks that are ready.
-    pub(crate) fn finish<R: Wait>(
+    /// What begins a worker's work: a sweep, and then the jobs of all tasks that are ready.
+    pub(crate) fn enter<R: Wait>(
         &mut self,
         rt: &R,
         queue: &ItemQueue<W>,
@@ -89,7 +92,34 @@ impl<'g, K: Drop, W: Item<K>> Shared<'g, K, W> {
         ensures last { seat.new.last ≡ seat.old.last }
     {
         self.hall.sweep(seat);
-        put_ready(rt, &self.hall, &mut self.stock, queue, pass);
+        put_all(rt, &self.hall, &mut self.stock, queue, pass);
+    }
+
+    /// What ends each section in which something was done: a sweep, and then the jobs of the tasks that the section made
+    /// ready. `from` is how many events the seat had before the section.
+    pub(crate) fn finish<R: Wait>(
+        &mut self,
+        rt: &R,
+        queue: &ItemQueue<W>,
+        pass: &mut ItemPass<W>,
+        seat: &mut Seat,
+        from: usize,
+    )
+        requires { pass.old.queue ≡ queue.now.id }
+        ensures pass { pass.new.queue ≡ queue.now.id }
+        ensures moves { Moves seat.old seat.new self.old.hall.core self.new.hall.core }
+        ensures last { seat.new.last ≡ seat.old.last }
+    {
+        self.hall.sweep(seat);
+        put_after(
+            rt,
+            &self.hall,
+            &mut self.stock,
+            &self.children,
+            queue,
+            pass,
+            seat.since(from),
+        );
     }
 
     /// Does an act, if it may be done, and what ends the section. It says whether the act was done.
@@ -106,9 +136,10 @@ impl<'g, K: Drop, W: Item<K>> Shared<'g, K, W> {
         ensures moves { Moves seat.old seat.new self.old.hall.core self.new.hall.core }
         ensures last { seat.new.last ≡ seat.old.last }
     {
+        let from = seat.mine().len();
         match self.hall.step(seat, act) {
             Ok(_place) => {
-                self.finish(rt, queue, pass, seat);
+                self.finish(rt, queue, pass, seat, from);
                 true
             }
             Err(_) => false,
@@ -130,9 +161,10 @@ impl<'g, K: Drop, W: Item<K>> Shared<'g, K, W> {
         ensures moves { Moves seat.old seat.new self.old.hall.core self.new.hall.core }
         ensures last { seat.new.last ≡ seat.old.last }
     {
+        let from = seat.mine().len();
         match self.hall.worked(seat, task, receipt) {
             Ok(_place) => {
-                self.finish(rt, queue, pass, seat);
+                self.finish(rt, queue, pass, seat, from);
                 true
             }
             Err(_back) => false,
@@ -171,16 +203,13 @@ impl<'g, K: Drop, W: Item<K>> Shared<'g, K, W> {
     }
 
     /// Whether the worker's work ends here: where the session is halted, or the run complete.
-    pub(crate) fn end_of(&self, seat: &mut Seat) -> Option<Ended>
-        ensures seat { (seat.new.actor ≡ seat.old.actor) × (seat.new.mine ≡ seat.old.mine) }
-        ensures none { IfNone result (seat.new.last ≡ seat.old.last) }
-        ensures some { IfSome result (λ ended. IsToldAt ended self.now.hall.core seat.old.last
-            seat.new.last) }
+    pub(crate) fn end_of(&self) -> Option<Ended>
+        ensures { IfSome result (λ ended. MayEnd ended self.now.hall.core) }
     {
         if self.halted {
             return Some(Ended::Halted);
         }
-        if self.hall.tell_complete(seat) {
+        if self.hall.core().complete() {
             return Some(Ended::Complete);
         }
         None

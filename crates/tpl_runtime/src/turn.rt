@@ -1,15 +1,16 @@
 //! A worker's locked section, from what it brings to what it does next.
 
 ghost use Rattle.std.specs.Prelude.{◌≡◌};
-ghost use Rattle.tpl_hall.specs.Growth.{WorksOn};
-ghost use Rattle.tpl_hall.specs.Moves.{EndsAs, Moves};
-ghost use Rattle.tpl_runtime.specs.Turns.{OnOver, IsToldAt};
+ghost use Rattle.tpl_hall.specs.Moves.{Moves};
+ghost use Rattle.tpl_hall.specs.Stays.{Stays, MayEnd, Leaves};
+ghost use Rattle.tpl_hall.specs.Views.{SeatView};
+ghost use Rattle.tpl_runtime.specs.Turns.{OnOver, IfOver};
 
 use crate::shared::{Hand, Shared, Turn, is_worker};
 use crate::stock::{ItemPass, ItemQueue};
 use std::sync::Wait;
 use tpl_graph::Graph;
-use tpl_hall::{Ended, Seat};
+use tpl_hall::{Ended, Seat, Stint};
 use tpl_items::Item;
 use tpl_words::Inputs;
 
@@ -38,7 +39,7 @@ impl<'g, K: Drop, W: Item<K>> Shared<'g, K, W> {
                 None
             }
             Hand::New => {
-                self.finish(rt, queue, pass, seat);
+                self.enter(rt, queue, pass, seat);
                 Some((Hand::Free, true))
             }
             Hand::Free => Some((Hand::Free, false)),
@@ -60,13 +61,13 @@ impl<'g, K: Drop, W: Item<K>> Shared<'g, K, W> {
         requires { pass.old.queue ≡ queue.now.id }
         ensures pass { pass.new.queue ≡ queue.now.id }
         ensures moves { Moves seat.old seat.new self.old.hall.core self.new.hall.core }
-        ensures last { OnOver result (λ ended. IsToldAt ended self.new.hall.core seat.old.last
-            seat.new.last) (seat.new.last ≡ seat.old.last) }
+        ensures last { seat.new.last ≡ seat.old.last }
+        ensures over { IfOver result (λ ended. MayEnd ended self.new.hall.core) }
     {
         let Some((held, done)) = self.bring(rt, queue, pass, seat, hand) else {
             return Turn::Over(Ended::Stray);
         };
-        if let Some(ended) = self.end_of(seat) {
+        if let Some(ended) = self.end_of() {
             self.stock.give_hand_back(held);
             return Turn::Over(ended);
         }
@@ -76,7 +77,8 @@ impl<'g, K: Drop, W: Item<K>> Shared<'g, K, W> {
         self.next(rt, queue, pass, seat, held)
     }
 
-    /// One section of a worker's work.
+    /// One section of a worker's work. Its seat is compared with the run where it comes for the first time and where its
+    /// work ends; between them it is enough that the run has not become shorter.
     pub fn turn<R: Wait>(
         &mut self,
         rt: &R,
@@ -85,21 +87,30 @@ impl<'g, K: Drop, W: Item<K>> Shared<'g, K, W> {
         queue: &ItemQueue<W>,
         pass: &mut ItemPass<W>,
         seat: &mut Seat,
+        stint: &mut Stint,
         hand: Hand<K, W>,
     ) -> Turn<K, W>
         requires { pass.old.queue ≡ queue.now.id }
         ensures pass { pass.new.queue ≡ queue.now.id }
         ensures actor { seat.new.actor ≡ seat.old.actor }
-        ensures list { WorksOn graph.now.graph inputs.now seat.old.mine seat.new.mine }
-        ensures last { OnOver result (λ ended. EndsAs ended graph.now.graph inputs.now seat.old
-            seat.new) (seat.new.last ≡ seat.old.last) }
+        ensures stays { (first : SeatView) → Stays stint.old first seat.old
+            → OnOver result (λ ended. Leaves ended graph.now.graph inputs.now first seat.new)
+            (Stays stint.new first seat.new) }
     {
-        if !is_worker(seat.actor()) || !self.hall.fits(graph, inputs, seat) {
+        if !is_worker(seat.actor()) || !self.hall.goes_on(graph, inputs, seat, *stint) {
             self.stock.give_hand_back(hand);
+            seat.stray(*stint);
             return Turn::Over(Ended::Stray);
         }
         let turn = self.play(rt, queue, pass, seat, hand);
-        self.hall.is_run();
-        turn
+        stint.seen = Some(self.hall.len());
+        match turn {
+            Turn::Go(hand) => Turn::Go(hand),
+            Turn::Call(task, items, item) => Turn::Call(task, items, item),
+            Turn::Wait => Turn::Wait,
+            Turn::Over(ended) => {
+                Turn::Over(self.hall.let_go(graph, inputs, seat, *stint, ended))
+            }
+        }
     }
 }

@@ -25,7 +25,7 @@ const STRANGE: [Actor; 4] = [
 /// The task after another one, and how it stands once its token is requested.
 const SECOND: TaskId = TaskId(1);
 
-const CANCELED: Status = Status::Completed(Final::Canceled);
+pub const CANCELED: Status = Status::Completed(Final::Canceled);
 
 /// Requests a token, if the graph has it.
 pub fn ask<'g, R: Wait, K: Drop, W: Item<K>>(

@@ -16,7 +16,7 @@ use tpl_words::{Actor, Final, Inputs, Status, TaskId, TokenId};
 pub const LOOKER: Actor = Actor::Outside(1);
 
 /// How a task stands that ran to its end.
-const RAN: Status = Status::Completed(Final::RanToCompletion);
+pub const RAN: Status = Status::Completed(Final::RanToCompletion);
 
 /// How many events a run has, where there is but one number.
 pub type Length = Option<usize>;

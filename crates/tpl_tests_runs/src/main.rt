@@ -1,10 +1,12 @@
 //! Runs: plays on both machines, runs by chance on both side by side, the queue between threads, and sessions.
 //!
-//! The file `files` names the plays. Each check is a line, and the last line counts them.
+//! The file `files` names the plays. Each check is a line, and the last line counts them. With the word `memory`, the
+//! sessions of cases/session_memory.py alone.
 #![tactic(auto)]
 
 mod allowed;
 mod asked;
+mod beside;
 mod chance;
 mod crews;
 mod dice;
@@ -13,6 +15,7 @@ mod generate;
 mod graphs;
 mod machines;
 mod meeting;
+mod memory;
 mod names;
 mod plays;
 mod queue;
@@ -22,14 +25,16 @@ mod rounds;
 mod seen;
 mod sessions;
 
+use crate::beside::check_beside;
 use crate::chance::check_chance;
 use crate::meeting::check_meetings;
+use crate::memory::play_with_little;
 use crate::plays::check_play;
 use crate::queue::check_queue;
 use crate::refusals::{check_counts, check_items};
 use crate::rounds::check_rounds;
 use crate::sessions::check_sessions;
-use std::{fs, io};
+use std::{env, fs, io};
 
 /// How many checks there were, and how many of them failed.
 #[derive(Clone, Copy)]
@@ -62,6 +67,11 @@ fn check_plays(rt: &HostRuntime, so_far: Tally) -> io::Result<Tally> {
 }
 
 fn main(rt: HostRuntime) -> io::Result<()> {
+    if let Some(word) = env::args(&rt)?.nth(1) {
+        if word.as_str() == "memory" {
+            return play_with_little(&rt, rt.alloc());
+        }
+    }
     let tally = Tally {
         checks: 0,
         failed: 0,
@@ -73,6 +83,7 @@ fn main(rt: HostRuntime) -> io::Result<()> {
     let tally = tally.with(&check_items(&rt, rt.alloc())?);
     let tally = tally.with(&[check_counts(&rt, rt.alloc())?]);
     let tally = tally.with(&check_meetings(&rt, rt.alloc())?);
+    let tally = tally.with(&check_beside(&rt, rt.alloc())?);
     let tally = tally.with(&[check_rounds(&rt, rt.alloc())?]);
     println!(&rt; "{} checks, {} failed", tally.checks, tally.failed)
 }

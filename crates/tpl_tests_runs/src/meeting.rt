@@ -1,6 +1,7 @@
 //! Boxes that wait for each other, so that their workers must run at the same time.
 
-ghost use Rattle.std.specs.Prelude.{◌≡◌};
+ghost use Rattle.std.specs.Prelude.{◌≡◌, false};
+ghost use Rattle.tpl_words.specs.declared.status.Answer.TheVariants.{Done};
 
 use crate::crews::{Play, all_ran, run_by};
 use crate::exchange::Stamp;
@@ -24,29 +25,43 @@ const TURNS: usize = 20_000_000;
 /// The graphs whose boxes meet, each with as many workers as boxes.
 const MEETINGS: [(&str, u16); 2] = [("two_that_meet", 2), ("eight_that_meet", 8)];
 
-/// Whether each flag is set.
-fn all_set(flags: &[AtomicU64]) -> bool {
-    flags.iter().all(|flag| flag.load(Ordering::SeqCst) == 1)
+/// Whether the first flags, so many, are set.
+fn are_set(flags: &[AtomicU64], count: usize) -> bool {
+    flags
+        .iter()
+        .take(count)
+        .all(|flag| flag.load(Ordering::SeqCst) == 1)
 }
 
-/// Sets the flag of a box, and waits for all others: it is done once all are set.
-fn meet(flags: &[AtomicU64], site: SiteId) -> Answer {
-    if let Some(flag) = flags.get(site.0 as usize) {
-        flag.store(1, Ordering::SeqCst);
-    }
+/// Waits until the first flags, so many, are set, and says whether they are.
+pub fn all_come(flags: &[AtomicU64], count: usize) -> bool {
     for _ in 0..TURNS {
-        if all_set(flags) {
-            return Answer::Done;
+        if are_set(flags, count) {
+            return true;
         }
         thread::yield_now();
     }
-    Answer::Failed
+    false
 }
 
-/// A flag for each work statement.
-fn flags_of(alloc: Global, graph: &Graph) -> Result<Arc<Vec<AtomicU64>, Global>, AllocError> {
-    let mut flags = Vec::with_capacity(alloc, graph.site_count())?;
-    for _ in 0..graph.site_count() {
+/// Sets the flag of a box, and waits for all others. It fails where they don't come, if it may.
+pub fn meet(flags: &[AtomicU64], site: SiteId, may_fail: bool) -> Answer
+    ensures { may_fail ≡ false → result ≡ Done }
+{
+    if let Some(flag) = flags.get(site.0 as usize) {
+        flag.store(1, Ordering::SeqCst);
+    }
+    if all_come(flags, flags.len()) || !may_fail {
+        Answer::Done
+    } else {
+        Answer::Failed
+    }
+}
+
+/// So many flags, none of which is set.
+pub fn flags_of(alloc: Global, count: usize) -> Result<Arc<Vec<AtomicU64>, Global>, AllocError> {
+    let mut flags = Vec::with_capacity(alloc, count)?;
+    for _ in 0..count {
         flags.push(AtomicU64::new(0))?;
     }
     Ok(Arc::new(alloc, flags)?)
@@ -59,12 +74,12 @@ fn all_meet<R: Threads + Wait + Sync>(
     graph: &Graph,
     workers: u16,
 ) -> Result<bool, AllocError> {
-    let flags = flags_of(alloc, graph)?;
+    let flags = flags_of(alloc, graph.site_count())?;
     let mut items: Vec<WorkItem<Stamp>> = Vec::new(alloc);
     for number in 0..graph.site_count() {
         let own = Arc::try_clone(&flags)?;
         let work: Work = Box::new(alloc, move |site: SiteId| -> Answer {
-            meet(own.as_slice(), site)
+            meet(own.as_slice(), site, true)
         })?;
         let site = SiteId(number as u16);
         items.push(WorkItem::new(Stamp(0), site, true, work))?;
@@ -77,7 +92,9 @@ fn all_meet<R: Threads + Wait + Sync>(
     let (queue, pass) = JobQueue::new(alloc, places(graph))?;
     match Session::open(alloc, graph, play.inputs.copy(), items, queue, &pass) {
         Ok(session) => match run_by(rt, alloc, graph, session, pass, &play)? {
-            Some(report) => Ok(all_ran(graph, &report, None) && all_set(flags.as_slice())),
+            Some(report) => Ok(
+                all_ran(graph, &report, None) && are_set(flags.as_slice(), flags.len()),
+            ),
             None => Ok(false),
         },
         Err(_) => Ok(false),

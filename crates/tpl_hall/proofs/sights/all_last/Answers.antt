@@ -9,5 +9,5 @@ returns c = λ true.
     let journal = c.args.journal.now in
     let seats = c.args.seats.now in
     let made : c.in_ok-core.core ≡ opened c.args.graph.now c.args.inputs.now = c.in_ok-core.ensures ∙ ap (opened c.args.graph.now) c.copy.ensures in
-    all_last_of c.args.graph.now.graph c.args.inputs.now journal seats (c.are_within.ensures c.if-not-are_within.false)
+    all_last_of c.args.graph.now.graph c.args.inputs.now journal seats (c.are_within.ensures.0 c.if-not-are_within.false)
     (subst (λ (j : Journal). AllHoldBelow j.graph j.inputs journal (length journal + 1) seats) made (c.seats_hold.ensures true))

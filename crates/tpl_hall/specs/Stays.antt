@@ -1,0 +1,41 @@
+-- A worker's seat between the worker's sections under the lock.
+use Rattle.std.specs.Prelude.{◌≡◌, ℕ, Bool, List, length, Option, Some, None}
+use Rattle.tpl_model.specs.Graph.{TaskGraph}
+use Rattle.tpl_model.specs.Rules.{Complete as IsComplete}
+use Rattle.tpl_machine.specs.Journal.{Journal}
+use Rattle.tpl_hall.specs.declared.sight.Ended.{Ended}
+use Rattle.tpl_hall.specs.declared.sight.Ended.TheVariants.{Complete, Halted, Stray}
+use Rattle.tpl_hall.specs.declared.stint.Stint.{Stint}
+use Rattle.tpl_hall.specs.Views.{SeatView}
+use Rattle.tpl_hall.specs.Lists.{Extends, AllUpTo}
+use Rattle.tpl_hall.specs.Sights.{IsWithin}
+use Rattle.tpl_hall.specs.Growth.{WorksOn}
+use Rattle.tpl_hall.specs.Moves.{EndsAs}
+
+-- the seat's list goes on from the one with which it came, it was told nothing more, and nothing that it has lies beyond the first n events
+pub record GoesOn (n : ℕ) (first seat : SeatView) : Type 0 where
+  pub last : seat.last ≡ first.last
+  pub list : Extends first.mine seat.mine
+  pub below : AllUpTo n seat.mine
+  pub within : IsWithin n first.last
+
+-- the seat is as it came, or it goes on from there among as many events as the run had
+abbrev pub IsOn : Option ℕ → SeatView → SeatView → Type 0
+IsOn None first seat = seat ≡ first
+IsOn (Some n) first seat = GoesOn n first seat
+
+-- the worker came with this seat
+pub record Stays (stint : Stint) (first seat : SeatView) : Type 0 where
+  pub came : length first.mine ≡ stint.came
+  pub on : IsOn stint.seen first seat
+
+-- a worker's work ends as complete only where the run is
+abbrev pub MayEnd : Ended → Journal → Type 0
+MayEnd Complete j = IsComplete j.graph j.inputs j.events
+MayEnd Halted j = Unit {0}
+MayEnd Stray j = Unit {0}
+
+-- what a worker leaves that came with the first seat
+pub record Leaves (ended : Ended) (g : TaskGraph) (v : List Bool) (first seat : SeatView) : Type 0 where
+  pub list : WorksOn g v first.mine seat.mine
+  pub last : EndsAs ended g v first seat

@@ -1,0 +1,9 @@
+//! What a worker remembers between its sections under the lock.
+
+/// How many events a worker's seat had when the worker came, and how many the run had when it left the lock last;
+/// nothing where it wasn't there yet.
+#[derive(Clone, Copy)]
+pub struct Stint {
+    pub came: usize,
+    pub seen: Option<u32>,
+}
