@@ -46,7 +46,8 @@ impl Branch {
     pub(crate) fn with_input(&self, question: Question<'_>, input: InputId, value: bool) -> Branch
         requires question { IsReady question }
         requires input { input.0 < 16 }
-        ensures { assumed_of result.assumed ≡ with_input (assumed_of self.now.assumed) input.0 value }
+        ensures { assumed_of result.assumed ≡ with_input (assumed_of self.now.assumed) input.0
+            value }
     {
         let assumed = self.assumed.with_input(input, value);
         let mut branch = self.under(question, assumed, true);

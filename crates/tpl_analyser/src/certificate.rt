@@ -83,7 +83,8 @@ fn tree_for(
     requires below { AreBelow graph.now.graph below.now }
     requires stages { All (IsStageOf graph.now.graph) stages.now }
     requires splits { All (IsSplitOf graph.now.graph) splits.now }
-    ensures { IfOk result (λ found. IfSome found (IsFound graph.now.graph claim.now.body (assumed graph.now.graph claim.now.given) depth)) }
+    ensures { IfOk result (λ found. IfSome found (IsFound graph.now.graph claim.now.body
+        (assumed graph.now.graph claim.now.given) depth)) }
 {
     let cone = Cone::of(graph, claim.body(), splits);
     let question = Question {
@@ -107,7 +108,8 @@ fn deepened(
     depth: u8,
 ) -> Result<Option<Tree>, AllocError>
     requires { IsReady question }
-    ensures { IfOk result (λ found. IfSome found (IsFound question.entry.graph.now.graph question.entry.property (assumed_of root.now.assumed) depth)) }
+    ensures { IfOk result (λ found. IfSome found (IsFound question.entry.graph.now.graph
+        question.entry.property (assumed_of root.now.assumed) depth)) }
 {
     let mut budget = Budget::new(MOST_LEAVES);
     if let Some(tree) = leaf(alloc, question, root, &mut budget)? {
@@ -136,7 +138,8 @@ fn by_depth(
     budget: &mut Budget,
 ) -> Result<Option<Tree>, AllocError>
     requires { IsReady question }
-    ensures { IfOk result (λ found. IfSome found (IsFound question.entry.graph.now.graph question.entry.property (assumed_of root.now.assumed) depth)) }
+    ensures { IfOk result (λ found. IfSome found (IsFound question.entry.graph.now.graph
+        question.entry.property (assumed_of root.now.assumed) depth)) }
 {
     let Some(bound) = bound_of(alloc, question, root, depth, budget)? else {
         return Ok(None);
@@ -165,7 +168,8 @@ fn at_depth(
 ) -> Result<Option<Tree>, AllocError>
     requires question { IsReady question }
     requires splits { 0 < reach.splits }
-    ensures { IfOk result (λ found. IfSome found (IsFound question.entry.graph.now.graph question.entry.property (assumed_of root.now.assumed) reach.splits)) }
+    ensures { IfOk result (λ found. IfSome found (IsFound question.entry.graph.now.graph
+        question.entry.property (assumed_of root.now.assumed) reach.splits)) }
 {
     if bound.least() > reach.splits as u32 {
         return Ok(None);

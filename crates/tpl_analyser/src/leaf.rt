@@ -28,7 +28,8 @@ pub(crate) fn leaf(
     budget: &mut Budget,
 ) -> Result<Option<Tree>, AllocError>
     requires { IsReady question }
-    ensures { IfOk result (λ found. IfSome found (IsFound question.entry.graph.now.graph question.entry.property (assumed_of branch.now.assumed) 0)) }
+    ensures { IfOk result (λ found. IfSome found (IsFound question.entry.graph.now.graph
+        question.entry.property (assumed_of branch.now.assumed) 0)) }
 {
     if !budget.spend() {
         return Ok(None);
@@ -109,7 +110,8 @@ fn observed(property: Property) -> Option<TaskId> {
 /// A leaf with these rows, if it is accepted and within the limits.
 fn tested(question: Question<'_>, branch: &Branch, rows: Vec<Row>) -> Option<Tree>
     requires { IsReady question }
-    ensures { IfSome result (IsFound question.entry.graph.now.graph question.entry.property (assumed_of branch.now.assumed) 0) }
+    ensures { IfSome result (IsFound question.entry.graph.now.graph question.entry.property
+        (assumed_of branch.now.assumed) 0) }
 {
     if !accepts_leaf(
         question.graph,

@@ -21,7 +21,8 @@ fn is_one_of(names: &[&str], key: &str) -> bool
 }
 
 fn members_within(names: &[&str], members: &Map<String, Value>) -> bool
-    ensures { result ≡ list_all (λ key. is_one_of (map (λ s. s.now) names.now) (string_bytes key)) (keys members.now) }
+    ensures { result ≡ list_all (λ key. is_one_of (map (λ s. s.now) names.now) (string_bytes key))
+        (keys members.now) }
 {
     members.keys().all(|key| is_one_of(names, key.as_str()))
 }
@@ -75,7 +76,8 @@ pub fn list_of(value: &Value) -> Result<&[Value], Miss>
 /// The elements of the member, an array, and none where it isn't there.
 #[tactic(auto, unfolding(crate::specs::Members::list_or_none))]
 pub fn list_or_none<'v>(value: &'v Value, name: &str) -> Result<&'v [Value], Miss>
-    ensures gives { Gives (λ s. map view s.now) result (list_or_none (get name.now (view value.now))) }
+    ensures gives { Gives (λ s. map view s.now) result (list_or_none
+        (get name.now (view value.now))) }
     ensures shape { IfErr result IsShape }
 {
     match value.get(name) {
@@ -108,7 +110,8 @@ pub fn bool_of(value: &Value) -> Result<bool, Miss>
 
 /// The member, true or false.
 pub fn bool_in(value: &Value, name: &str) -> Result<bool, Miss>
-    ensures gives { Gives (λ b. b) result (option_and_then as_bool (get name.now (view value.now))) }
+    ensures gives { Gives (λ b. b) result (option_and_then as_bool
+        (get name.now (view value.now))) }
     ensures shape { IfErr result IsShape }
 {
     match value.get(name).and_then(Value::as_bool) {

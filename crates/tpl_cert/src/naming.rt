@@ -15,7 +15,8 @@ use tpl_graph::Graph;
 use tpl_words::{InputId, TaskId, TaskSet};
 
 fn input_in(graph: &Graph, name: &str) -> Result<InputId, TreeFault>
-    ensures finds { Finds result (is_declared graph.now.names.inputs name.now) (λ i. number_of graph.now.names.inputs name.now ≡ Some i.0) }
+    ensures finds { Finds result (is_declared graph.now.names.inputs name.now)
+        (λ i. number_of graph.now.names.inputs name.now ≡ Some i.0) }
     ensures unknown { IfErr result (λ e. e ≡ TreeFault.Unknown) }
 {
     match graph.input(name) {
@@ -25,7 +26,8 @@ fn input_in(graph: &Graph, name: &str) -> Result<InputId, TreeFault>
 }
 
 fn task_in(graph: &Graph, name: &str) -> Result<TaskId, TreeFault>
-    ensures finds { Finds result (is_declared graph.now.names.tasks name.now) (λ t. number_of graph.now.names.tasks name.now ≡ Some t.0) }
+    ensures finds { Finds result (is_declared graph.now.names.tasks name.now)
+        (λ t. number_of graph.now.names.tasks name.now ≡ Some t.0) }
     ensures unknown { IfErr result (λ e. e ≡ TreeFault.Unknown) }
 {
     match graph.task(name) {
@@ -35,7 +37,8 @@ fn task_in(graph: &Graph, name: &str) -> Result<TaskId, TreeFault>
 }
 
 fn set_in(graph: &Graph, names: &[&str]) -> Result<TaskSet, TreeFault>
-    ensures finds { Finds result (are_declared graph.now.names.tasks (map (λ s. s.now) names.now)) (λ s. IsSetOf graph.now.names.tasks (map (λ s. s.now) names.now) s) }
+    ensures finds { Finds result (are_declared graph.now.names.tasks (map (λ s. s.now) names.now))
+        (λ s. IsSetOf graph.now.names.tasks (map (λ s. s.now) names.now) s) }
     ensures unknown { IfErr result (λ e. e ≡ TreeFault.Unknown) }
 {
     graph.valid();
@@ -48,7 +51,9 @@ fn set_in(graph: &Graph, names: &[&str]) -> Result<TaskSet, TreeFault>
 }
 
 fn chain_in(alloc: Global, graph: &Graph, names: &[&str]) -> Result<Vec<TaskId>, TreeFault>
-    ensures { Finds result (are_declared graph.now.names.tasks (map (λ s. s.now) names.now)) (λ v. AreNumbers graph.now.names.tasks (map (λ s. s.now) names.now) (map task_number v.items)) }
+    ensures { Finds result (are_declared graph.now.names.tasks (map (λ s. s.now) names.now))
+        (λ v. AreNumbers graph.now.names.tasks (map (λ s. s.now) names.now)
+        (map task_number v.items)) }
 {
     let mut chain = Vec::new(alloc);
     for name in names {
@@ -59,7 +64,8 @@ fn chain_in(alloc: Global, graph: &Graph, names: &[&str]) -> Result<Vec<TaskId>,
 }
 
 fn row_in(alloc: Global, graph: &Graph, row: &NamedRow) -> Result<Row, TreeFault>
-    ensures { Finds result (knows_row graph.now.names (row_of row.now)) (λ r. IsRowOf graph.now.names (row_of row.now) r) }
+    ensures { Finds result (knows_row graph.now.names (row_of row.now))
+        (λ r. IsRowOf graph.now.names (row_of row.now) r) }
 {
     let before = set_in(graph, &row.before)?;
     let past = set_in(graph, &row.past)?;
@@ -68,7 +74,8 @@ fn row_in(alloc: Global, graph: &Graph, row: &NamedRow) -> Result<Row, TreeFault
 }
 
 fn rows_in(alloc: Global, graph: &Graph, rows: &[NamedRow]) -> Result<Vec<Row>, TreeFault>
-    ensures { Finds result (list_all (knows_row graph.now.names) (map row_of rows.now)) (λ v. AreRowsOf graph.now.names (map row_of rows.now) v.items) }
+    ensures { Finds result (list_all (knows_row graph.now.names) (map row_of rows.now))
+        (λ v. AreRowsOf graph.now.names (map row_of rows.now) v.items) }
 {
     let mut found = Vec::new(alloc);
     for row in rows {
@@ -80,7 +87,8 @@ fn rows_in(alloc: Global, graph: &Graph, rows: &[NamedRow]) -> Result<Vec<Row>, 
 
 #[cycle(naming)]
 fn inside_in(alloc: Global, graph: &Graph, tree: &NamedTree) -> Result<Box<Tree>, TreeFault>
-    ensures { Finds result (knows graph.now.names (tree_of tree.now)) (λ b. IsTreeOf graph.now.names (tree_of tree.now) b.value) }
+    ensures { Finds result (knows graph.now.names (tree_of tree.now))
+        (λ b. IsTreeOf graph.now.names (tree_of tree.now) b.value) }
 {
     let found = tree_in(alloc, graph, tree)?;
     Ok(Box::new(alloc, found)?)
@@ -89,7 +97,8 @@ fn inside_in(alloc: Global, graph: &Graph, tree: &NamedTree) -> Result<Box<Tree>
 /// The tree with ids in place of names.
 #[cycle(naming)]
 pub(crate) fn tree_in(alloc: Global, graph: &Graph, tree: &NamedTree) -> Result<Tree, TreeFault>
-    ensures { Finds result (knows graph.now.names (tree_of tree.now)) (λ t. IsTreeOf graph.now.names (tree_of tree.now) t) }
+    ensures { Finds result (knows graph.now.names (tree_of tree.now))
+        (λ t. IsTreeOf graph.now.names (tree_of tree.now) t) }
 {
     match tree {
         NamedTree::SplitInput(name, first, second) => {

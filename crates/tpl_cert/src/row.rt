@@ -27,7 +27,13 @@ impl Model for Row {
 
     ghost use Rattle.tpl_graph.specs.Ids.{task_number};
 
-    ghost view = { λ r. record { ends = r.ends; runs = r.runs; before = r.before; past = r.past; chain = map task_number r.chain.items } };
+    ghost view = { λ r. record {
+      ends = r.ends;
+      runs = r.runs;
+      before = r.before;
+      past = r.past;
+      chain = map task_number r.chain.items;
+    } };
 }
 
 impl Row {

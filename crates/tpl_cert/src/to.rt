@@ -49,7 +49,8 @@ fn finals_to(alloc: Global, ends: Finals) -> Result<Value, AllocError>
 }
 
 fn input_name(graph: &Graph, input: InputId) -> Result<&str, TreeToFault>
-    ensures writes { Writes result (is_id graph.now.names.inputs input.0) (λ s. s.now ≡ name_at graph.now.names.inputs input.0) }
+    ensures writes { Writes result (is_id graph.now.names.inputs input.0)
+        (λ s. s.now ≡ name_at graph.now.names.inputs input.0) }
     ensures unknown { IfErr result (λ e. e ≡ TreeToFault.Unknown) }
 {
     graph.valid();
@@ -61,7 +62,8 @@ fn input_name(graph: &Graph, input: InputId) -> Result<&str, TreeToFault>
 }
 
 fn task_name(graph: &Graph, task: TaskId) -> Result<&str, TreeToFault>
-    ensures writes { Writes result (is_id graph.now.names.tasks task.0) (λ s. s.now ≡ name_at graph.now.names.tasks task.0) }
+    ensures writes { Writes result (is_id graph.now.names.tasks task.0)
+        (λ s. s.now ≡ name_at graph.now.names.tasks task.0) }
     ensures unknown { IfErr result (λ e. e ≡ TreeToFault.Unknown) }
 {
     graph.valid();
@@ -78,7 +80,9 @@ fn push_name(
     to: &mut Vec<Value>,
     task: TaskId,
 ) -> Result<(), TreeToFault>
-    ensures { Writes result (is_id graph.now.names.tasks task.0) (λ _. map view to.new.items ≡ map view to.old.items ++ string (name_at graph.now.names.tasks task.0) ∷ []) }
+    ensures { Writes result (is_id graph.now.names.tasks task.0)
+        (λ _. map view to.new.items ≡ map view to.old.items
+        ++ string (name_at graph.now.names.tasks task.0) ∷ []) }
 {
     let name = task_name(graph, task)?;
     push_text(alloc, to, name)?;
@@ -86,7 +90,9 @@ fn push_name(
 }
 
 fn set_to(alloc: Global, graph: &Graph, set: &TaskSet) -> Result<Value, TreeToFault>
-    ensures { Writes result (list_all (is_id graph.now.names.tasks) set.now) (λ v. (view v ≡ texts_data (map (name_at graph.now.names.tasks) set.now)) × IsTaskSet set.now) }
+    ensures { Writes result (list_all (is_id graph.now.names.tasks) set.now)
+        (λ v. (view v ≡ texts_data (map (name_at graph.now.names.tasks) set.now))
+        × IsTaskSet set.now) }
 {
     let mut list = Vec::new(alloc);
     for task in set.members() {
@@ -96,7 +102,9 @@ fn set_to(alloc: Global, graph: &Graph, set: &TaskSet) -> Result<Value, TreeToFa
 }
 
 fn chain_to(alloc: Global, graph: &Graph, chain: &[TaskId]) -> Result<Value, TreeToFault>
-    ensures { Writes result (list_all (is_id graph.now.names.tasks) (map task_number chain.now)) (λ v. view v ≡ texts_data (map (name_at graph.now.names.tasks) (map task_number chain.now))) }
+    ensures { Writes result (list_all (is_id graph.now.names.tasks) (map task_number chain.now))
+        (λ v. view v ≡ texts_data (map (name_at graph.now.names.tasks)
+        (map task_number chain.now))) }
 {
     let mut list = Vec::new(alloc);
     for task in chain {
@@ -120,7 +128,9 @@ fn row_object(
 }
 
 fn row_to(alloc: Global, graph: &Graph, row: &Row) -> Result<Value, TreeToFault>
-    ensures { Writes result (has_row_ids graph.now.names row.now) (λ v. (view v ≡ row_data (named_row graph.now.names row.now)) × IsTaskSet row.now.before × IsTaskSet row.now.past) }
+    ensures { Writes result (has_row_ids graph.now.names row.now)
+        (λ v. (view v ≡ row_data (named_row graph.now.names row.now)) × IsTaskSet row.now.before
+        × IsTaskSet row.now.past) }
 {
     let before = set_to(alloc, graph, row.before())?;
     let past = set_to(alloc, graph, row.past())?;
@@ -130,7 +140,9 @@ fn row_to(alloc: Global, graph: &Graph, row: &Row) -> Result<Value, TreeToFault>
 }
 
 fn rows_to(alloc: Global, graph: &Graph, rows: &[Row]) -> Result<Value, TreeToFault>
-    ensures { Writes result (list_all (has_row_ids graph.now.names) rows.now) (λ v. (view v ≡ array (items_of (map row_data (map (named_row graph.now.names) rows.now)))) × AreTaskSets rows.now) }
+    ensures { Writes result (list_all (has_row_ids graph.now.names) rows.now)
+        (λ v. (view v ≡ array (items_of (map row_data (map (named_row graph.now.names) rows.now))))
+        × AreTaskSets rows.now) }
 {
     let mut list = Vec::new(alloc);
     for row in rows {
@@ -166,7 +178,8 @@ fn end_object(
 }
 
 fn tree_value(alloc: Global, graph: &Graph, tree: &Tree) -> Result<Value, TreeToFault>
-    ensures { Writes result (has_ids graph.now.names tree.now) (λ v. (view v ≡ tree_data (named graph.now.names tree.now)) × HasTaskSets tree.now) }
+    ensures { Writes result (has_ids graph.now.names tree.now)
+        (λ v. (view v ≡ tree_data (named graph.now.names tree.now)) × HasTaskSets tree.now) }
 {
     match tree.node() {
         Node::SplitInput(input, first, second) => {
@@ -195,7 +208,8 @@ fn tree_value(alloc: Global, graph: &Graph, tree: &Tree) -> Result<Value, TreeTo
 pub fn tree_to(alloc: Global, graph: &Graph, tree: &Tree) -> Result<Value, TreeToFault>
     ensures written { IfOk result (λ v. view v ≡ tree_data (named graph.now.names tree.now)) }
     ensures spells { IfOk result (λ v. SpellsTree graph.now.names (view v) tree.now) }
-    ensures only { IfOk result (λ v. (other : certificate.Tree) → SpellsTree graph.now.names (view v) other → other ≡ tree.now) }
+    ensures only { IfOk result (λ v. (other : certificate.Tree) → SpellsTree graph.now.names
+        (view v) other → other ≡ tree.now) }
     ensures nests { IfOk result (λ v. depth (view v) ≤ height tree.now + 4) }
     ensures known { IfOk result (λ _. has_ids graph.now.names tree.now ≡ true) }
     ensures unknown { result ≡ Err TreeToFault.Unknown → has_ids graph.now.names tree.now ≡ false }

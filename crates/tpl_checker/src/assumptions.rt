@@ -135,7 +135,12 @@ impl Assumptions {
 
     /// What the body of a task with this token sees, whose subject may have ended in these ways.
     pub fn view(&self, own: Option<TokenId>, subject: Finals) -> View
-        ensures { known result ≡ record { possible = (assumed_of self.now).possible; quiet = (assumed_of self.now).quiet; own = option_map token_number own; subject = has subject } }
+        ensures { known result ≡ record {
+          possible = (assumed_of self.now).possible;
+          quiet = (assumed_of self.now).quiet;
+          own = option_map token_number own;
+          subject = has subject;
+        } }
     {
         View {
             inputs: self.inputs,

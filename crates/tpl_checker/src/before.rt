@@ -25,7 +25,8 @@ pub(crate) fn before(graph: &Graph, rows: &[Row], task: TaskId) -> bool
 fn is_settled(graph: &Graph, rows: &[Row], task: TaskId) -> bool
     requires task { is_task graph.now.graph task.0 }
     requires rows { length rows.now ≡ length graph.now.graph.tasks }
-    ensures { result ≡ all_in (before_by graph.now.graph rows.now task.0 (kind graph.now.graph task.0)) (row rows.now task.0).before }
+    ensures { result ≡ all_in (before_by graph.now.graph rows.now task.0
+        (kind graph.now.graph task.0)) (row rows.now task.0).before }
 {
     graph.valid();
     let before = row(rows, task).before();
@@ -41,7 +42,8 @@ fn is_settled(graph: &Graph, rows: &[Row], task: TaskId) -> bool
 fn is_before_parent(graph: &Graph, rows: &[Row], task: TaskId) -> bool
     requires task { is_task graph.now.graph task.0 }
     requires rows { length rows.now ≡ length graph.now.graph.tasks }
-    ensures { result ≡ all_in (before_by graph.now.graph rows.now task.0 Child) (row rows.now task.0).before }
+    ensures { result ≡ all_in (before_by graph.now.graph rows.now task.0 Child)
+        (row rows.now task.0).before }
 {
     match parent(graph, task) {
         None => true,

@@ -19,7 +19,8 @@ use tpl_words::TaskId;
 pub(crate) fn runs(graph: &Graph, rows: &[Row], bodies: &Bodies, task: TaskId) -> bool
     requires task { is_task graph.now.graph task.0 }
     requires rows { length rows.now ≡ length graph.now.graph.tasks }
-    ensures { (l : Assumed) → AreBodies graph.now.graph l rows.now bodies.now → result ≡ runs graph.now.graph l rows.now task.0 }
+    ensures { (l : Assumed) → AreBodies graph.now.graph l rows.now bodies.now
+        → result ≡ runs graph.now.graph l rows.now task.0 }
 {
     match ready_of(graph, task) {
         Ready::Root => row(rows, task).runs(),
@@ -33,7 +34,8 @@ fn runs_after(graph: &Graph, rows: &[Row], task: TaskId, antecedent: TaskId) -> 
     requires task { is_task graph.now.graph task.0 }
     requires antecedent { is_task graph.now.graph antecedent.0 }
     requires rows { length rows.now ≡ length graph.now.graph.tasks }
-    ensures { (l : Assumed) → result ≡ runs_by graph.now.graph l rows.now task.0 (Continues antecedent.0) }
+    ensures { (l : Assumed) → result ≡ runs_by graph.now.graph l rows.now task.0
+        (Continues antecedent.0) }
 {
     let ends = allowed(row(rows, antecedent).ends(), graph.options(task));
     implies(some_end(ends), row(rows, task).runs())
@@ -42,7 +44,8 @@ fn runs_after(graph: &Graph, rows: &[Row], task: TaskId, antecedent: TaskId) -> 
 fn runs_if_started(graph: &Graph, rows: &[Row], bodies: &Bodies, task: TaskId) -> bool
     requires task { is_task graph.now.graph task.0 }
     requires rows { length rows.now ≡ length graph.now.graph.tasks }
-    ensures { (l : Assumed) → AreBodies graph.now.graph l rows.now bodies.now → result ≡ runs_by graph.now.graph l rows.now task.0 Child }
+    ensures { (l : Assumed) → AreBodies graph.now.graph l rows.now bodies.now
+        → result ≡ runs_by graph.now.graph l rows.now task.0 Child }
 {
     match parent(graph, task) {
         None => true,

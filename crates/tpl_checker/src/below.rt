@@ -79,7 +79,8 @@ fn has_attached(graph: &Graph, task: TaskId) -> bool
 /// The child is attached to the task, or to one of those found below it.
 fn is_attached_below(graph: &Graph, task: TaskId, child: TaskId, found: &TaskSet) -> bool
     requires { is_task graph.now.graph child.0 }
-    ensures { result ≡ below_by graph.now.graph task.0 child.0 (parent_of graph.now.graph child.0) (λ p. mem p found.now) }
+    ensures { result ≡ below_by graph.now.graph task.0 child.0 (parent_of graph.now.graph child.0)
+        (λ p. mem p found.now) }
 {
     match parent(graph, child) {
         None => false,

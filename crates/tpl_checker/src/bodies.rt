@@ -56,7 +56,8 @@ impl Bodies {
     fn with(self, graph: &Graph, assumed: &Assumptions, rows: &[Row], task: TaskId) -> Bodies
         requires task { is_task graph.now.graph task.0 }
         requires rows { length rows.now ≡ length graph.now.graph.tasks }
-        ensures { AreFirstBodies graph.now.graph (assumed_of assumed.now) rows.now task.0 self → AreFirstBodies graph.now.graph (assumed_of assumed.now) rows.now (task.0 + 1) result }
+        ensures { AreFirstBodies graph.now.graph (assumed_of assumed.now) rows.now task.0 self
+            → AreFirstBodies graph.now.graph (assumed_of assumed.now) rows.now (task.0 + 1) result }
     {
         graph.valid();
         tpl_script::may_is_right();

@@ -32,7 +32,8 @@ pub(crate) fn chain(graph: &Graph, assumed: &Assumptions, rows: &[Row], task: Ta
 fn leads_to_reader(graph: &Graph, assumed: &Assumptions, task: TaskId, chain: &[TaskId]) -> bool
     requires task { is_task graph.now.graph task.0 }
     requires tasks { AreTasks (length graph.now.graph.tasks) chain.now }
-    ensures { result ≡ chain_by graph.now.graph (assumed_of assumed.now) task.0 (map task_number chain.now) }
+    ensures { result ≡ chain_by graph.now.graph (assumed_of assumed.now) task.0
+        (map task_number chain.now) }
 {
     let mut carrier = task;
     for at in 0..chain.len() {
@@ -73,7 +74,8 @@ fn continues(graph: &Graph, reader: TaskId, task: TaskId) -> bool
 /// Each path of the reader's body passes an `observe`, where its antecedent is faulted.
 fn observes(graph: &Graph, assumed: &Assumptions, reader: TaskId) -> bool
     requires { is_task graph.now.graph reader.0 }
-    ensures { result ≡ must_observe (faulted_view graph.now.graph (assumed_of assumed.now) reader.0) (body graph.now.graph reader.0) }
+    ensures { result ≡ must_observe (faulted_view graph.now.graph (assumed_of assumed.now) reader.0)
+        (body graph.now.graph reader.0) }
 {
     tpl_script::must_observe_is_right();
     tpl_script::must_observe(graph.body(reader), &faulted_view(graph, assumed, reader))

@@ -32,7 +32,8 @@ pub(crate) fn ends(
 ) -> bool
     requires task { is_task graph.now.graph task.0 }
     requires rows { length rows.now ≡ length graph.now.graph.tasks }
-    ensures { AreBodies graph.now.graph (assumed_of assumed.now) rows.now bodies.now → result ≡ ends graph.now.graph (assumed_of assumed.now) rows.now task.0 }
+    ensures { AreBodies graph.now.graph (assumed_of assumed.now) rows.now bodies.now
+        → result ≡ ends graph.now.graph (assumed_of assumed.now) rows.now task.0 }
 {
     let found = may_end(graph, assumed, rows, bodies, task);
     let listed = row(rows, task).ends();
@@ -48,7 +49,8 @@ fn is_listed(
     listed: Finals,
     status: Final,
 ) -> bool
-    ensures { result ≡ implies ((assumed_of assumed.now).cut task.0 status) (implies (has found status) (has listed status)) }
+    ensures { result ≡ implies ((assumed_of assumed.now).cut task.0 status)
+        (implies (has found status) (has listed status)) }
 {
     let is_found = found.contains(status);
     implies(
@@ -67,7 +69,9 @@ fn may_end(
 ) -> Finals
     requires task { is_task graph.now.graph task.0 }
     requires rows { length rows.now ≡ length graph.now.graph.tasks }
-    ensures { AreBodies graph.now.graph (assumed_of assumed.now) rows.now bodies.now → (f : Final) → has result f ≡ may_end_as graph.now.graph (assumed_of assumed.now) rows.now task.0 (kind graph.now.graph task.0) f }
+    ensures { AreBodies graph.now.graph (assumed_of assumed.now) rows.now bodies.now
+        → (f : Final) → has result f ≡ may_end_as graph.now.graph (assumed_of assumed.now) rows.now
+        task.0 (kind graph.now.graph task.0) f }
 {
     match ready_of(graph, task) {
         Ready::Root => ready_ends(graph, assumed, rows, bodies, task),
@@ -90,8 +94,12 @@ fn ready_ends(
 ) -> Finals
     requires task { is_task graph.now.graph task.0 }
     requires rows { length rows.now ≡ length graph.now.graph.tasks }
-    ensures root { AreBodies graph.now.graph (assumed_of assumed.now) rows.now bodies.now → (f : Final) → has result f ≡ may_end_as graph.now.graph (assumed_of assumed.now) rows.now task.0 Root f }
-    ensures child { AreBodies graph.now.graph (assumed_of assumed.now) rows.now bodies.now → (f : Final) → has result f ≡ may_end_as graph.now.graph (assumed_of assumed.now) rows.now task.0 Child f }
+    ensures root { AreBodies graph.now.graph (assumed_of assumed.now) rows.now bodies.now
+        → (f : Final) → has result f ≡ may_end_as graph.now.graph (assumed_of assumed.now) rows.now
+        task.0 Root f }
+    ensures child { AreBodies graph.now.graph (assumed_of assumed.now) rows.now bodies.now
+        → (f : Final) → has result f ≡ may_end_as graph.now.graph (assumed_of assumed.now) rows.now
+        task.0 Child f }
 {
     let ends = body_ends(graph, rows, bodies, task);
     let runs = row(rows, task).runs();
@@ -111,7 +119,9 @@ fn continued_ends(
     requires task { is_task graph.now.graph task.0 }
     requires antecedent { is_task graph.now.graph antecedent.0 }
     requires rows { length rows.now ≡ length graph.now.graph.tasks }
-    ensures { AreBodies graph.now.graph (assumed_of assumed.now) rows.now bodies.now → (f : Final) → has result f ≡ may_end_as graph.now.graph (assumed_of assumed.now) rows.now task.0 (Continues antecedent.0) f }
+    ensures { AreBodies graph.now.graph (assumed_of assumed.now) rows.now bodies.now
+        → (f : Final) → has result f ≡ may_end_as graph.now.graph (assumed_of assumed.now) rows.now
+        task.0 (Continues antecedent.0) f }
 {
     let ends = body_ends(graph, rows, bodies, task);
     with_canceled(
@@ -121,7 +131,8 @@ fn continued_ends(
 }
 
 fn with_canceled(ends: Finals, canceled: bool) -> Finals
-    ensures { (f : Final) → has result f ≡ (has ends f || (is_final f finals.Canceled && canceled)) }
+    ensures { (f : Final) → has result f ≡ (has ends f || (is_final f finals.Canceled
+        && canceled)) }
 {
     Finals {
         ran: ends.ran,
@@ -142,7 +153,8 @@ fn may_be_canceled(
     requires task { is_task graph.now.graph task.0 }
     requires antecedent { is_task graph.now.graph antecedent.0 }
     requires rows { length rows.now ≡ length graph.now.graph.tasks }
-    ensures { result ≡ may_be_canceled graph.now.graph (assumed_of assumed.now) rows.now task.0 antecedent.0 }
+    ensures { result ≡ may_be_canceled graph.now.graph (assumed_of assumed.now) rows.now task.0
+        antecedent.0 }
 {
     let options = graph.options(task);
     let ends = row(rows, antecedent).ends();
@@ -162,7 +174,9 @@ fn canceled_by_token(loud: bool, lazy: bool, may_be_final: bool) -> bool
 fn body_ends(graph: &Graph, rows: &[Row], bodies: &Bodies, task: TaskId) -> Finals
     requires task { is_task graph.now.graph task.0 }
     requires rows { length rows.now ≡ length graph.now.graph.tasks }
-    ensures { (l : Assumed) → AreBodies graph.now.graph l rows.now bodies.now → (f : Final) → has result f ≡ ((row rows.now task.0).runs && body_may_end graph.now.graph l rows.now task.0 f) }
+    ensures { (l : Assumed) → AreBodies graph.now.graph l rows.now bodies.now
+        → (f : Final) → has result f ≡ ((row rows.now task.0).runs
+        && body_may_end graph.now.graph l rows.now task.0 f) }
 {
     if !row(rows, task).runs() {
         return NO_END;
@@ -180,7 +194,10 @@ fn body_ends(graph: &Graph, rows: &[Row], bodies: &Bodies, task: TaskId) -> Fina
 fn child_may_fault(graph: &Graph, rows: &[Row], bodies: &Bodies, task: TaskId) -> bool
     requires task { is_task graph.now.graph task.0 }
     requires rows { length rows.now ≡ length graph.now.graph.tasks }
-    ensures { (l : Assumed) → AreBodies graph.now.graph l rows.now bodies.now → result ≡ some_in (λ c. reaches c (view graph.now.graph l rows.now task.0) (body graph.now.graph task.0) && has (row rows.now c).ends finals.Faulted) (attached graph.now.graph task.0) }
+    ensures { (l : Assumed) → AreBodies graph.now.graph l rows.now bodies.now
+        → result ≡ some_in (λ c. reaches c (view graph.now.graph l rows.now task.0)
+        (body graph.now.graph task.0) && has (row rows.now c).ends finals.Faulted)
+        (attached graph.now.graph task.0) }
 {
     graph.valid();
     some_faults(rows, &bodies.started, graph.attached(task))
@@ -189,7 +206,8 @@ fn child_may_fault(graph: &Graph, rows: &[Row], bodies: &Bodies, task: TaskId) -
 /// One of the tasks is in the set and may end Faulted.
 fn some_faults(rows: &[Row], started: &TaskSet, tasks: &[TaskId]) -> bool
     requires { AreTasks (length rows.now) tasks.now }
-    ensures { result ≡ some_in (λ c. mem c started.now && has (row rows.now c).ends finals.Faulted) (map task_number tasks.now) }
+    ensures { result ≡ some_in (λ c. mem c started.now && has (row rows.now c).ends finals.Faulted)
+        (map task_number tasks.now) }
 {
     for task in tasks {
         if started.contains(*task) && row(rows, *task).ends().faulted {
@@ -228,7 +246,8 @@ fn all_end(rows: &[Row], args: &[TaskId]) -> Finals
 /// A WhenAny task ends RanToCompletion, once one argument has ended.
 fn any_ends(rows: &[Row], args: &[TaskId]) -> Finals
     requires { AreTasks (length rows.now) args.now }
-    ensures { (g : TaskGraph) (l : Assumed) (t : ℕ) (f : Final) → has result f ≡ may_end_as g l rows.now t (WhenAny (map task_number args.now)) f }
+    ensures { (g : TaskGraph) (l : Assumed) (t : ℕ) (f : Final) → has result f
+        ≡ may_end_as g l rows.now t (WhenAny (map task_number args.now)) f }
 {
     Finals {
         ran: some_end(ends_of_one(rows, args)),

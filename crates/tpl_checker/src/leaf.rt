@@ -47,7 +47,8 @@ pub fn accepts_leaf(
 ) -> bool
     requires tasks { TasksOf graph.now.graph property }
     requires below { AreBelow graph.now.graph below.now }
-    ensures { IsTrue result ↔ AcceptsTree graph.now.graph property (assumed_of assumed.now) (Leaf rows.now) }
+    ensures { IsTrue result ↔ AcceptsTree graph.now.graph property (assumed_of assumed.now)
+        (Leaf rows.now) }
 {
     graph.valid();
     tpl_laws::first_broken_is_right();
@@ -76,7 +77,8 @@ pub(crate) fn leaf_fault(
     requires below { AreBelow graph.now.graph below.now }
     requires rows { length rows.now ≡ length graph.now.graph.tasks }
     requires ids { IsTrue (rows_fit graph.now.graph rows.now) }
-    ensures { fault_in result ≡ leaf_fault graph.now.graph property (assumed_of assumed.now) rows.now }
+    ensures { fault_in result ≡ leaf_fault graph.now.graph property (assumed_of assumed.now)
+        rows.now }
 {
     let bodies = Bodies::of_leaf(graph, assumed, rows);
     if let Some(fault) = first_broken(graph, assumed, below, rows, &bodies) {
@@ -100,7 +102,8 @@ fn first_broken(
     requires rows { length rows.now ≡ length graph.now.graph.tasks }
     requires ids { IsTrue (rows_fit graph.now.graph rows.now) }
     requires bodies { AreBodies graph.now.graph (assumed_of assumed.now) rows.now bodies.now }
-    ensures { fault_in result ≡ first_broken graph.now.graph (assumed_of assumed.now) rows.now 0 (length graph.now.graph.tasks) }
+    ensures { fault_in result ≡ first_broken graph.now.graph (assumed_of assumed.now) rows.now 0
+        (length graph.now.graph.tasks) }
 {
     for task in 0..graph.len() {
         let task = TaskId(task as u16);

@@ -50,7 +50,8 @@ fn is_past_child(graph: &Graph, below: &Below, rows: &[Row], task: TaskId) -> bo
     requires task { is_task graph.now.graph task.0 }
     requires rows { length rows.now ≡ length graph.now.graph.tasks }
     requires below { AreBelow graph.now.graph below.now }
-    ensures { (l : Assumed) → result ≡ all_in (past_by graph.now.graph l rows.now task.0 Child) (row rows.now task.0).past }
+    ensures { (l : Assumed) → result ≡ all_in (past_by graph.now.graph l rows.now task.0 Child)
+        (row rows.now task.0).past }
 {
     graph.valid();
     match parent(graph, task) {
@@ -76,7 +77,8 @@ fn is_past_continuation(
     requires antecedent { is_task graph.now.graph antecedent.0 }
     requires rows { length rows.now ≡ length graph.now.graph.tasks }
     requires below { AreBelow graph.now.graph below.now }
-    ensures { result ≡ all_in (past_by graph.now.graph (assumed_of assumed.now) rows.now task.0 (Continues antecedent.0)) (row rows.now task.0).past }
+    ensures { result ≡ all_in (past_by graph.now.graph (assumed_of assumed.now) rows.now task.0
+        (Continues antecedent.0)) (row rows.now task.0).past }
 {
     graph.valid();
     let past = row(rows, task).past();
@@ -102,7 +104,8 @@ fn may_end_early(graph: &Graph, assumed: &Assumptions, rows: &[Row], task: TaskI
 fn settled_after_some(rows: &[Row], tasks: &[TaskId]) -> TaskSet
     requires tasks { AreTasks (length rows.now) tasks.now }
     requires limit { length rows.now ≤ 1024 }
-    ensures { (x : ℕ) → mem x result ≡ some_in (λ y. nat_eq x y || mem x (row rows.now y).past) (map task_number tasks.now) }
+    ensures { (x : ℕ) → mem x result ≡ some_in (λ y. nat_eq x y
+        || mem x (row rows.now y).past) (map task_number tasks.now) }
 {
     let mut settled = TaskSet::empty();
     for task in tasks {
@@ -115,7 +118,8 @@ fn settled_after_some(rows: &[Row], tasks: &[TaskId]) -> TaskSet
 fn settled_after_each(rows: &[Row], tasks: &[TaskId], set: &TaskSet) -> TaskSet
     requires tasks { AreTasks (length rows.now) tasks.now }
     requires limit { length rows.now ≤ 1024 }
-    ensures { (x : ℕ) → mem x result ≡ (mem x set.now && all_in (λ y. nat_eq x y || mem x (row rows.now y).past) (map task_number tasks.now)) }
+    ensures { (x : ℕ) → mem x result ≡ (mem x set.now && all_in (λ y. nat_eq x y
+        || mem x (row rows.now y).past) (map task_number tasks.now)) }
 {
     let mut settled = set.copy();
     for task in tasks {

@@ -20,7 +20,8 @@ use tpl_words::{Finals, TaskId};
 pub(crate) fn proves(graph: &Graph, rows: &[Row], bodies: &Bodies, property: Property) -> bool
     requires tasks { TasksOf graph.now.graph property }
     requires rows { length rows.now ≡ length graph.now.graph.tasks }
-    ensures { (l : Assumed) → AreBodies graph.now.graph l rows.now bodies.now → result ≡ proves graph.now.graph l rows.now property }
+    ensures { (l : Assumed) → AreBodies graph.now.graph l rows.now bodies.now
+        → result ≡ proves graph.now.graph l rows.now property }
 {
     match property {
         Property::Final(task, ends) => ends_only_in(row(rows, task).ends(), ends),
@@ -50,7 +51,8 @@ fn ends_only_in(ends: Finals, allowed: Finals) -> bool
 fn is_observed(graph: &Graph, rows: &[Row], bodies: &Bodies, task: TaskId) -> bool
     requires task { is_task graph.now.graph task.0 }
     requires rows { length rows.now ≡ length graph.now.graph.tasks }
-    ensures { (l : Assumed) → AreBodies graph.now.graph l rows.now bodies.now → result ≡ proves graph.now.graph l rows.now (Observed task) }
+    ensures { (l : Assumed) → AreBodies graph.now.graph l rows.now bodies.now
+        → result ≡ proves graph.now.graph l rows.now (Observed task) }
 {
     let has_chain = !row(rows, task).chain().is_empty();
     let faulted = row(rows, task).ends().faulted;

@@ -68,7 +68,8 @@ pub(crate) fn settled_after(rows: &[Row], task: TaskId) -> TaskSet
 
 /// Each member of the set is one of those allowed.
 pub(crate) fn within(set: &TaskSet, allowed: &TaskSet) -> bool
-    ensures { (test : ℕ → Bool) → ((x : ℕ) → mem x allowed.now ≡ test x) → result ≡ all_in test set.now }
+    ensures { (test : ℕ → Bool) → ((x : ℕ) → mem x allowed.now ≡ test x)
+        → result ≡ all_in test set.now }
 {
     set.is_subset(allowed)
 }

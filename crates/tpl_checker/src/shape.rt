@@ -48,7 +48,8 @@ pub(crate) fn rows_fit(graph: &Graph, rows: &[Row]) -> bool
 /// Each id in the row is the graph's, whose tasks are all of these.
 fn row_fits(graph: &Graph, row: &Row, all: &TaskSet) -> bool
     requires { (x : ℕ) → mem x all.now ≡ nat_lt x (length graph.now.graph.tasks) }
-    ensures { result ≡ (has_tasks graph.now.graph row.now.before && (has_tasks graph.now.graph row.now.past && has_tasks graph.now.graph row.now.chain)) }
+    ensures { result ≡ (has_tasks graph.now.graph row.now.before
+        && (has_tasks graph.now.graph row.now.past && has_tasks graph.now.graph row.now.chain)) }
 {
     let before = within(row.before(), all);
     let past = within(row.past(), all);

@@ -32,7 +32,8 @@ pub(crate) fn tree_fault(
     requires below { AreBelow graph.now.graph below.now }
     requires fits { IsTrue (fits graph.now.graph tree.now) }
     requires room { first + leaves tree.now < 2 ^ 64 }
-    ensures { Failing (tree_fault graph.now.graph property claim (assumed_of assumed.now) first tree.now) (first + leaves tree.now) result }
+    ensures { Failing (tree_fault graph.now.graph property claim (assumed_of assumed.now) first
+        tree.now) (first + leaves tree.now) result }
 {
     graph.valid();
     match tree.node() {
@@ -69,7 +70,8 @@ fn leaf_at(
     requires rows { length rows.now ≡ length graph.now.graph.tasks }
     requires ids { IsTrue (rows_fit graph.now.graph rows.now) }
     requires room { leaf + 1 < 2 ^ 64 }
-    ensures { Failing (tree_fault graph.now.graph property claim (assumed_of assumed.now) leaf (Leaf rows.now)) (leaf + 1) result }
+    ensures { Failing (tree_fault graph.now.graph property claim (assumed_of assumed.now) leaf
+        (Leaf rows.now)) (leaf + 1) result }
 {
     match leaf_fault(graph, property, assumed, below, rows) {
         None => Ok(leaf + 1),

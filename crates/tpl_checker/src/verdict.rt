@@ -35,8 +35,10 @@ pub fn check(graph: &Graph, claims: &[Claim], certificate: &Certificate) -> Resu
     requires claims { All (Fits graph.now.graph) claims.now }
     ensures verdict { result ≡ verdict graph.now.graph claims.now certificate.now }
     ensures accepted { IsOk result ↔ Accepts graph.now.graph claims.now certificate.now }
-    ensures sound { IfOk result (λ u. (v : List Bool) (h : List Event) → Run graph.now.graph v h → Each (λ claim. Holds graph.now.graph claim v h) claims.now) }
-    ensures first { IfErr result (λ fault. IsFirstFault graph.now.graph claims.now certificate.now fault) }
+    ensures sound { IfOk result (λ u. (v : List Bool) (h : List Event) → Run graph.now.graph v h
+        → Each (λ claim. Holds graph.now.graph claim v h) claims.now) }
+    ensures first { IfErr result (λ fault. IsFirstFault graph.now.graph claims.now certificate.now
+        fault) }
 {
     graph.valid();
     tpl_laws::verdict_is_right();

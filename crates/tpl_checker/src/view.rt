@@ -61,7 +61,8 @@ pub(crate) fn faulted_view(graph: &Graph, assumed: &Assumptions, reader: TaskId)
 fn subject(graph: &Graph, rows: &[Row], task: TaskId) -> Finals
     requires task { is_task graph.now.graph task.0 }
     requires rows { length rows.now ≡ length graph.now.graph.tasks }
-    ensures { (f : Final) → has result f ≡ subject_set graph.now.graph rows.now task.0 (kind graph.now.graph task.0) f }
+    ensures { (f : Final) → has result f ≡ subject_set graph.now.graph rows.now task.0
+        (kind graph.now.graph task.0) f }
 {
     match ready_of(graph, task) {
         Ready::Then(antecedent) => match ready_of(graph, antecedent) {

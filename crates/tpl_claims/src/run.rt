@@ -14,7 +14,8 @@ use tpl_words::{Finals, Status, TaskId};
 
 fn is_given<C: Core>(core: &C, given: Given) -> bool
     requires { IsGivenOf (C.journal core.now).graph given }
-    ensures { let j = C.journal core.now in IsTrue result ↔ IsGiven j.graph j.inputs j.events (given ∷ []) }
+    ensures { let j = C.journal core.now in IsTrue result
+        ↔ IsGiven j.graph j.inputs j.events (given ∷ []) }
 {
     match given {
         Given::Input(input, value) => core.input(input) == value,
@@ -24,7 +25,8 @@ fn is_given<C: Core>(core: &C, given: Given) -> bool
 
 fn are_given<C: Core>(core: &C, given: &[Given]) -> bool
     requires { AreGivenOf (C.journal core.now).graph given.now }
-    ensures { let j = C.journal core.now in IsTrue result ↔ IsGiven j.graph j.inputs j.events given.now }
+    ensures { let j = C.journal core.now in IsTrue result
+        ↔ IsGiven j.graph j.inputs j.events given.now }
 {
     for one in given {
         if !is_given(core, *one) {
@@ -36,7 +38,8 @@ fn are_given<C: Core>(core: &C, given: &[Given]) -> bool
 
 fn ends_within<C: Core>(core: &C, task: TaskId, ends: Finals) -> bool
     requires { is_task (C.journal core.now).graph task.0 }
-    ensures { let j = C.journal core.now in IsTrue result ↔ HoldsOf j.graph j.inputs j.events (Property.Final task ends) }
+    ensures { let j = C.journal core.now in IsTrue result
+        ↔ HoldsOf j.graph j.inputs j.events (Property.Final task ends) }
 {
     match core.status(task) {
         Status::Completed(status) => ends.contains(status),
@@ -53,7 +56,8 @@ fn has_begun<C: Core>(core: &C, task: TaskId) -> bool
 
 fn ended_before<C: Core>(core: &C, task: TaskId, place: u32) -> bool
     requires { is_task (C.journal core.now).graph task.0 }
-    ensures { let j = C.journal core.now in IsTrue result ↔ ((e : Ending) × (ending j.graph j.inputs j.events task.0 ≡ Some e) × (e.place < place)) }
+    ensures { let j = C.journal core.now in IsTrue result
+        ↔ ((e : Ending) × (ending j.graph j.inputs j.events task.0 ≡ Some e) × (e.place < place)) }
 {
     match core.ended(task) {
         Some(end) => end < place,
@@ -64,8 +68,11 @@ fn ended_before<C: Core>(core: &C, task: TaskId, place: u32) -> bool
 /// The task whose body would have started a child that wasn't started.
 fn never_started_by<C: Core>(core: &C, task: TaskId) -> Option<TaskId>
     requires { is_task (C.journal core.now).graph task.0 }
-    ensures some { let j = C.journal core.now in IfSome result (λ p. (started j.graph j.inputs j.events task.0 ≡ false) × IsParent j.graph p.0 task.0) }
-    ensures none { let j = C.journal core.now in IfNone result ((started j.graph j.inputs j.events task.0 ≡ true) ⊎ ((p : ℕ) → IsParent j.graph p task.0 → ⊥)) }
+    ensures some { let j = C.journal core.now in IfSome result
+        (λ p. (started j.graph j.inputs j.events task.0 ≡ false) × IsParent j.graph p.0 task.0) }
+    ensures none { let j = C.journal core.now in IfNone result
+        ((started j.graph j.inputs j.events task.0 ≡ true)
+        ⊎ ((p : ℕ) → IsParent j.graph p task.0 → ⊥)) }
 {
     if core.started(task) {
         None
@@ -76,7 +83,8 @@ fn never_started_by<C: Core>(core: &C, task: TaskId) -> Option<TaskId>
 
 fn settled_before<C: Core>(core: &C, task: TaskId, place: u32) -> bool
     requires { is_task (C.journal core.now).graph task.0 }
-    ensures { let j = C.journal core.now in IsTrue result ↔ SettledBefore j.graph j.inputs j.events place task.0 }
+    ensures { let j = C.journal core.now in IsTrue result
+        ↔ SettledBefore j.graph j.inputs j.events place task.0 }
 {
     core.is_run();
     let mut at = task;
@@ -92,7 +100,8 @@ fn settled_before<C: Core>(core: &C, task: TaskId, place: u32) -> bool
 fn settled_at_begin<C: Core>(core: &C, first: TaskId, second: TaskId) -> bool
     requires first { is_task (C.journal core.now).graph first.0 }
     requires second { is_task (C.journal core.now).graph second.0 }
-    ensures { let j = C.journal core.now in IsTrue result ↔ SettledAtBegin j.graph j.inputs first.0 second.0 j.events }
+    ensures { let j = C.journal core.now in IsTrue result
+        ↔ SettledAtBegin j.graph j.inputs first.0 second.0 j.events }
 {
     core.is_run();
     tpl_laws::settled_without_begin();
@@ -105,7 +114,8 @@ fn settled_at_begin<C: Core>(core: &C, first: TaskId, second: TaskId) -> bool
 
 fn is_observed<C: Core>(core: &C, task: TaskId) -> bool
     requires { is_task (C.journal core.now).graph task.0 }
-    ensures { let j = C.journal core.now in IsTrue result ↔ HoldsOf j.graph j.inputs j.events (Property.Observed task) }
+    ensures { let j = C.journal core.now in IsTrue result
+        ↔ HoldsOf j.graph j.inputs j.events (Property.Observed task) }
 {
     !core.complete() || core.label(task).is_none() || core.seen(task)
 }
@@ -130,7 +140,8 @@ pub fn is_true_of<C: Core>(core: &C, body: Property) -> bool
 /// isn't started and its parent is settled.
 pub fn holds<C: Core>(core: &C, claim: &Claim) -> bool
     requires { Fits (C.journal core.now).graph claim.now }
-    ensures { let j = C.journal core.now in IsTrue result ↔ Holds j.graph claim.now j.inputs j.events }
+    ensures { let j = C.journal core.now in IsTrue result
+        ↔ Holds j.graph claim.now j.inputs j.events }
 {
     !are_given(core, claim.given()) || is_true_of(core, claim.body())
 }

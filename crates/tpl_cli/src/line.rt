@@ -106,7 +106,8 @@ fn about_certificates<'a>(alloc: Global) -> Result<Command<'a>, AllocError>
 
 /// The command line so far, and the subcommand that makes a run.
 fn with_run<'a>(alloc: Global, command: Command<'a>) -> Result<Command<'a>, AllocError>
-    ensures { IfOk result (λ more. app_of more ≡ with_subcommand (app_of command.entry) run_command.top) }
+    ensures { IfOk result (λ more. app_of more ≡ with_subcommand (app_of command.entry)
+        run_command.top) }
 {
     command.subcommand(
         Command::new(alloc, "run")
@@ -117,14 +118,16 @@ fn with_run<'a>(alloc: Global, command: Command<'a>) -> Result<Command<'a>, Allo
 
 /// The command line so far, and the subcommand that audits.
 fn with_audit<'a>(alloc: Global, command: Command<'a>) -> Result<Command<'a>, AllocError>
-    ensures { IfOk result (λ more. app_of more ≡ with_subcommand (app_of command.entry) audit_command.top) }
+    ensures { IfOk result (λ more. app_of more ≡ with_subcommand (app_of command.entry)
+        audit_command.top) }
 {
     command.subcommand(Command::new(alloc, "audit").about("Audits the document's journal"))
 }
 
 /// The command line so far, and the subcommand that draws.
 fn with_draw<'a>(alloc: Global, command: Command<'a>) -> Result<Command<'a>, AllocError>
-    ensures { IfOk result (λ more. app_of more ≡ with_subcommand (app_of command.entry) draw_command.top) }
+    ensures { IfOk result (λ more. app_of more ≡ with_subcommand (app_of command.entry)
+        draw_command.top) }
 {
     command.subcommand(
         Command::new(alloc, "draw")

@@ -41,7 +41,8 @@ impl Bits {
 
     fn insert(&mut self, task: TaskId)
         requires { task.0 < MOST_TASKS }
-        ensures { (x : ℕ) → is_set self.new x ≡ (if nat_eq x task.0 then true else is_set self.old x) }
+        ensures { (x : ℕ) → is_set self.new x ≡ (if nat_eq x task.0 then true
+            else is_set self.old x) }
     {
         let at = task.0 as usize;
         self.words[at / 64] |= 1 << (at % 64);
@@ -49,7 +50,8 @@ impl Bits {
 
     fn remove(&mut self, task: TaskId)
         requires { task.0 < MOST_TASKS }
-        ensures { (x : ℕ) → is_set self.new x ≡ (if nat_eq x task.0 then false else is_set self.old x) }
+        ensures { (x : ℕ) → is_set self.new x ≡ (if nat_eq x task.0 then false
+            else is_set self.old x) }
     {
         let at = task.0 as usize;
         self.words[at / 64] &= !(1 << (at % 64));
@@ -58,7 +60,8 @@ impl Bits {
     /// Makes the task a member, or no member.
     pub fn put(&mut self, task: TaskId, member: bool)
         requires { task.0 < MOST_TASKS }
-        ensures { (x : ℕ) → is_set self.new x ≡ (if nat_eq x task.0 then member else is_set self.old x) }
+        ensures { (x : ℕ) → is_set self.new x ≡ (if nat_eq x task.0 then member
+            else is_set self.old x) }
     {
         if member {
             self.insert(task);
@@ -69,7 +72,8 @@ impl Bits {
 
     /// The least member.
     pub fn first(&self) -> Option<TaskId>
-        ensures some { IfSome result (λ t. (is_set self.now t.0 ≡ true) × ((s : ℕ) → s < t.0 → is_set self.now s ≡ false)) }
+        ensures some { IfSome result (λ t. (is_set self.now t.0 ≡ true)
+            × ((s : ℕ) → s < t.0 → is_set self.now s ≡ false)) }
         ensures none { IfNone result ((s : ℕ) → is_set self.now s ≡ false) }
     {
         for i in 0..WORDS {

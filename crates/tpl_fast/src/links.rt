@@ -34,7 +34,8 @@ fn empty(alloc: Global, count: usize) -> Result<Vec<Vec<TaskId>>, AllocError>
 /// Puts the task into a list, if there is one of this number.
 fn tell(lists: &mut Vec<Vec<TaskId>>, at: usize, task: TaskId) -> Result<(), AllocError>
     ensures count { OnOk result (length lists.new.items ≡ length lists.old.items) }
-    ensures told { OnOk result (at < length lists.old.items → is_told lists.new.items at task.0 ≡ true) }
+    ensures told { OnOk result (at < length lists.old.items
+        → is_told lists.new.items at task.0 ≡ true) }
     ensures kept { OnOk result (Keep lists.old.items lists.new.items) }
 {
     if at < lists.len() {
@@ -51,7 +52,8 @@ fn tell_each(
     task: TaskId,
 ) -> Result<(), AllocError>
     ensures count { OnOk result (length lists.new.items ≡ length lists.old.items) }
-    ensures told { OnOk result ((x : ℕ) → mem x (map task_number others.now) ≡ true → x < length lists.old.items → is_told lists.new.items x task.0 ≡ true) }
+    ensures told { OnOk result ((x : ℕ) → mem x (map task_number others.now) ≡ true
+        → x < length lists.old.items → is_told lists.new.items x task.0 ≡ true) }
     ensures kept { OnOk result (Keep lists.old.items lists.new.items) }
 {
     for other in others {
@@ -68,7 +70,8 @@ fn tell_antecedent(
 ) -> Result<(), AllocError>
     requires { is_task graph.now.graph task.0 }
     ensures count { OnOk result (length lists.new.items ≡ length lists.old.items) }
-    ensures told { OnOk result ((a : ℕ) → antecedent_of (kind graph.now.graph task.0) ≡ Some a → a < length lists.old.items → is_told lists.new.items a task.0 ≡ true) }
+    ensures told { OnOk result ((a : ℕ) → antecedent_of (kind graph.now.graph task.0) ≡ Some a
+        → a < length lists.old.items → is_told lists.new.items a task.0 ≡ true) }
     ensures kept { OnOk result (Keep lists.old.items lists.new.items) }
 {
     match graph.antecedent(task) {
@@ -81,7 +84,8 @@ fn tell_antecedent(
 fn tell_task(lists: &mut Vec<Vec<TaskId>>, graph: &Graph, task: TaskId) -> Result<(), AllocError>
     requires { is_task graph.now.graph task.0 }
     ensures count { OnOk result (length lists.new.items ≡ length lists.old.items) }
-    ensures told { OnOk result ((x : ℕ) → x < length lists.old.items → waits graph.now.graph task.0 x ≡ true → is_told lists.new.items x task.0 ≡ true) }
+    ensures told { OnOk result ((x : ℕ) → x < length lists.old.items
+        → waits graph.now.graph task.0 x ≡ true → is_told lists.new.items x task.0 ≡ true) }
     ensures kept { OnOk result (Keep lists.old.items lists.new.items) }
 {
     tell_antecedent(lists, graph, task)?;
@@ -92,7 +96,9 @@ fn tell_task(lists: &mut Vec<Vec<TaskId>>, graph: &Graph, task: TaskId) -> Resul
 
 /// For each task the tasks that wait for it.
 fn waiters(alloc: Global, graph: &Graph) -> Result<Vec<Vec<TaskId>>, AllocError>
-    ensures { IfOk result (λ lists. (t x : ℕ) → is_task graph.now.graph t → is_task graph.now.graph x → waits graph.now.graph t x ≡ true → is_told lists.items x t ≡ true) }
+    ensures { IfOk result (λ lists. (t x : ℕ) → is_task graph.now.graph t
+        → is_task graph.now.graph x → waits graph.now.graph t x ≡ true
+        → is_told lists.items x t ≡ true) }
 {
     let mut lists = empty(alloc, graph.len())?;
     for i in 0..graph.len() {
@@ -106,7 +112,8 @@ fn tell_owner(lists: &mut Vec<Vec<TaskId>>, graph: &Graph, task: TaskId) -> Resu
     requires task { is_task graph.now.graph task.0 }
     requires count { length lists.old.items ≡ MOST_TOKENS }
     ensures count { OnOk result (length lists.new.items ≡ length lists.old.items) }
-    ensures told { OnOk result ((k : ℕ) → (spec.task graph.now.graph task.0).token ≡ Some k → is_told lists.new.items k task.0 ≡ true) }
+    ensures told { OnOk result ((k : ℕ) → (spec.task graph.now.graph task.0).token ≡ Some k
+        → is_told lists.new.items k task.0 ≡ true) }
     ensures kept { OnOk result (Keep lists.old.items lists.new.items) }
 {
     graph.valid();
@@ -118,7 +125,8 @@ fn tell_owner(lists: &mut Vec<Vec<TaskId>>, graph: &Graph, task: TaskId) -> Resu
 
 /// For each token the tasks whose own it is.
 fn owners(alloc: Global, graph: &Graph) -> Result<Vec<Vec<TaskId>>, AllocError>
-    ensures { IfOk result (λ lists. (t k : ℕ) → is_task graph.now.graph t → (spec.task graph.now.graph t).token ≡ Some k → is_told lists.items k t ≡ true) }
+    ensures { IfOk result (λ lists. (t k : ℕ) → is_task graph.now.graph t
+        → (spec.task graph.now.graph t).token ≡ Some k → is_told lists.items k t ≡ true) }
 {
     let mut lists = empty(alloc, MOST_TOKENS)?;
     for i in 0..graph.len() {
@@ -139,7 +147,8 @@ impl Links {
 
     /// The tasks that wait for a task.
     pub fn waiters(&self, task: TaskId) -> &[TaskId]
-        ensures { (t : ℕ) → mem t (map task_number result.now) ≡ is_told self.now.waiters.items task.0 t }
+        ensures { (t : ℕ) → mem t (map task_number result.now)
+            ≡ is_told self.now.waiters.items task.0 t }
     {
         match self.waiters.get(task.0 as usize) {
             None => &[],
@@ -149,7 +158,8 @@ impl Links {
 
     /// The tasks whose own token this is.
     pub fn owners(&self, token: TokenId) -> &[TaskId]
-        ensures { (t : ℕ) → mem t (map task_number result.now) ≡ is_told self.now.owners.items token.0 t }
+        ensures { (t : ℕ) → mem t (map task_number result.now)
+            ≡ is_told self.now.owners.items token.0 t }
     {
         match self.owners.get(token.0 as usize) {
             None => &[],

@@ -80,7 +80,8 @@ fn note_at(marks: &mut Vec<Mark>, task: TaskId, event: Event, place: u32)
 /// Notes an event in the marks of its task. `place` is the event's, counted from 1.
 pub(crate) fn note(marks: &mut Vec<Mark>, event: Event, place: u32)
     requires { (t : ℕ) → acting event.act ≡ Some t → t < vec_len marks.old }
-    ensures { (n : ℕ) (h : List Event) → place ≡ suc (length h) → AreMarks n h marks.old.items → AreMarks n (event ∷ h) marks.new.items }
+    ensures { (n : ℕ) (h : List Event) → place ≡ suc (length h) → AreMarks n h marks.old.items
+        → AreMarks n (event ∷ h) marks.new.items }
 {
     if let Some(task) = task_of(event.act) {
         note_at(marks, task, event, place);

@@ -43,7 +43,8 @@ impl<'g> Model for State<'g> {
 
     ghost view = { λ s. s.machine };
 
-    ghost invariant = { λ s. IsKept s.machine s.graph.now s.marks.items s.asked.itself s.asked.closed s.ended.items s.over.items s.found.items };
+    ghost invariant = { λ s. IsKept s.machine s.graph.now s.marks.items s.asked.itself
+        s.asked.closed s.ended.items s.over.items s.found.items };
 }
 
 impl<'g> State<'g> {

@@ -44,7 +44,8 @@ fn refresh(due: &mut Bits, state: &State, task: TaskId)
 
 /// Notes whether each of the tasks has something due.
 fn refresh_each(due: &mut Bits, state: &State, tasks: &[TaskId])
-    ensures told { (t : ℕ) → mem t (map task_number tasks.now) ≡ true → is_task state.now.graph t → IsRight state.now due.new t }
+    ensures told { (t : ℕ) → mem t (map task_number tasks.now) ≡ true → is_task state.now.graph t
+        → IsRight state.now due.new t }
     ensures kept { Keeps state.now (λ t s. IsRight state.now s t) due.old due.new }
 {
     for task in tasks {
@@ -54,7 +55,8 @@ fn refresh_each(due: &mut Bits, state: &State, tasks: &[TaskId])
 
 /// Tells a task of itself, if there is one.
 pub(crate) fn tell(due: &mut Bits, state: &State, task: Option<TaskId>)
-    ensures told { (t : ℕ) → option_map task_number task ≡ Some t → is_task state.now.graph t → IsRight state.now due.new t }
+    ensures told { (t : ℕ) → option_map task_number task ≡ Some t → is_task state.now.graph t
+        → IsRight state.now due.new t }
     ensures kept { Keeps state.now (λ t s. IsRight state.now s t) due.old due.new }
 {
     if let Some(task) = task {
@@ -65,7 +67,9 @@ pub(crate) fn tell(due: &mut Bits, state: &State, task: Option<TaskId>)
 /// Tells of a task those that wait for it.
 pub(crate) fn tell_waiters(due: &mut Bits, state: &State, links: &Links, task: Option<TaskId>)
     requires { AreTold state.now.graph links.now.waiters.items links.now.owners.items }
-    ensures told { (t x : ℕ) → option_map task_number task ≡ Some x → waits state.now.graph t x ≡ true → is_task state.now.graph t → is_task state.now.graph x → IsRight state.now due.new t }
+    ensures told { (t x : ℕ) → option_map task_number task ≡ Some x
+        → waits state.now.graph t x ≡ true → is_task state.now.graph t → is_task state.now.graph x
+        → IsRight state.now due.new t }
     ensures kept { Keeps state.now (λ t s. IsRight state.now s t) due.old due.new }
 {
     if let Some(task) = task {
@@ -86,7 +90,9 @@ pub(crate) fn advance_waiters(state: &mut State, links: &Links, task: Option<Tas
 fn tell_owners(due: &mut Bits, state: &State, links: &Links, token: TokenId, before: bool)
     requires token { is_token state.now.graph token.0 }
     requires links { AreTold state.now.graph links.now.waiters.items links.now.owners.items }
-    ensures told { let j = state.now in (t : ℕ) → (spec.task j.graph t).token ≡ Some token.0 → is_task j.graph t → (requested j.graph j.inputs j.events token.0 ≡ before → ⊥) → IsRight j due.new t }
+    ensures told { let j = state.now in (t : ℕ) → (spec.task j.graph t).token ≡ Some token.0
+        → is_task j.graph t → (requested j.graph j.inputs j.events token.0 ≡ before → ⊥)
+        → IsRight j due.new t }
     ensures kept { Keeps state.now (λ t s. IsRight state.now s t) due.old due.new }
 {
     if state.asked(token) != before {
@@ -97,7 +103,9 @@ fn tell_owners(due: &mut Bits, state: &State, links: &Links, token: TokenId, bef
 /// Tells of each token that wasn't requested before, and is now, the tasks whose own it is.
 fn tell_all_owners(due: &mut Bits, state: &State, links: &Links, before: &[bool; MOST_TOKENS])
     requires { AreTold state.now.graph links.now.waiters.items links.now.owners.items }
-    ensures told { let j = state.now in (t k : ℕ) → (spec.task j.graph t).token ≡ Some k → is_task j.graph t → is_token j.graph k → (requested j.graph j.inputs j.events k ≡ slice_index_or before.now k false → ⊥) → IsRight j due.new t }
+    ensures told { let j = state.now in (t k : ℕ) → (spec.task j.graph t).token ≡ Some k
+        → is_task j.graph t → is_token j.graph k → (requested j.graph j.inputs j.events k
+        ≡ slice_index_or before.now k false → ⊥) → IsRight j due.new t }
     ensures kept { Keeps state.now (λ t s. IsRight state.now s t) due.old due.new }
 {
     for i in 0..state.graph().token_count() {
@@ -115,8 +123,12 @@ pub(crate) fn tell_requested(
     token: Option<TokenId>,
 )
     requires links { AreTold state.now.graph links.now.waiters.items links.now.owners.items }
-    requires none { option_map token_number token ≡ None → let j = state.now in (k : ℕ) → is_token j.graph k → requested j.graph j.inputs j.events k ≡ slice_index_or before.now k false }
-    ensures told { let j = state.now in (t k : ℕ) → (spec.task j.graph t).token ≡ Some k → is_task j.graph t → is_token j.graph k → (requested j.graph j.inputs j.events k ≡ slice_index_or before.now k false → ⊥) → IsRight j due.new t }
+    requires none { option_map token_number token ≡ None → let j = state.now in
+        (k : ℕ) → is_token j.graph k → requested j.graph j.inputs j.events k
+        ≡ slice_index_or before.now k false }
+    ensures told { let j = state.now in (t k : ℕ) → (spec.task j.graph t).token ≡ Some k
+        → is_task j.graph t → is_token j.graph k → (requested j.graph j.inputs j.events k
+        ≡ slice_index_or before.now k false → ⊥) → IsRight j due.new t }
     ensures kept { Keeps state.now (λ t s. IsRight state.now s t) due.old due.new }
 {
     if token.is_some() {
@@ -126,7 +138,8 @@ pub(crate) fn tell_requested(
 
 /// Notes whether a task must still end, if there is one.
 pub(crate) fn note_open(unended: &mut Bits, state: &State, task: Option<TaskId>)
-    ensures told { (t : ℕ) → option_map task_number task ≡ Some t → is_task state.now.graph t → IsOpenRight state.now unended.new t }
+    ensures told { (t : ℕ) → option_map task_number task ≡ Some t → is_task state.now.graph t
+        → IsOpenRight state.now unended.new t }
     ensures kept { Keeps state.now (λ t s. IsOpenRight state.now s t) unended.old unended.new }
 {
     state.is_run();

@@ -31,7 +31,8 @@ fn none() -> [bool; MOST_TOKENS]
 
 /// One of the tokens is marked in the table.
 fn some_in(table: &[bool; MOST_TOKENS], tokens: &[TokenId]) -> bool
-    ensures { result ≡ some_in (λ k. slice_index_or table.now k false) (map token_number tokens.now) }
+    ensures { result ≡ some_in (λ k. slice_index_or table.now k false)
+        (map token_number tokens.now) }
 {
     for token in tokens {
         let at = token.0 as usize;
@@ -45,14 +46,16 @@ fn some_in(table: &[bool; MOST_TOKENS], tokens: &[TokenId]) -> bool
 /// A token or one of its sources is marked in the table.
 fn is_marked(table: &[bool; MOST_TOKENS], token: TokenId, sources: &[TokenId]) -> bool
     requires { token.0 < MOST_TOKENS }
-    ensures { result ≡ (slice_index_or table.now token.0 false || some_in (λ k. slice_index_or table.now k false) (map token_number sources.now)) }
+    ensures { result ≡ (slice_index_or table.now token.0 false
+        || some_in (λ k. slice_index_or table.now k false) (map token_number sources.now)) }
 {
     table[token.0 as usize] || some_in(table, sources)
 }
 
 /// Which tokens are requested, by those that were requested themselves.
 fn close(itself: &[bool; MOST_TOKENS], graph: &Graph) -> [bool; MOST_TOKENS]
-    ensures { (v : List Bool) (h : List SpecEvent) → IsTable graph.now.graph v h itself.now 0 → IsTable graph.now.graph v h result (length graph.now.graph.tokens) }
+    ensures { (v : List Bool) (h : List SpecEvent) → IsTable graph.now.graph v h itself.now 0
+        → IsTable graph.now.graph v h result (length graph.now.graph.tokens) }
 {
     graph.valid();
     requested_by_a_source();
@@ -67,7 +70,8 @@ fn close(itself: &[bool; MOST_TOKENS], graph: &Graph) -> [bool; MOST_TOKENS]
 
 /// Marks the token.
 fn mark(table: &mut [bool; MOST_TOKENS], token: TokenId)
-    ensures marks { (k : ℕ) → k < MOST_TOKENS → slice_index_or table.new k false ≡ (is_it (option_map token_number (Some token)) k || slice_index_or table.old k false) }
+    ensures marks { (k : ℕ) → k < MOST_TOKENS → slice_index_or table.new k false
+        ≡ (is_it (option_map token_number (Some token)) k || slice_index_or table.old k false) }
     ensures count { length table.new ≡ length table.old }
 {
     let at = token.0 as usize;
@@ -107,8 +111,10 @@ impl Asked {
 
     /// One more token is requested, if there is one, and with it those that are linked to it.
     pub fn request(&mut self, token: Option<TokenId>, graph: &Graph)
-        ensures { (v : List Bool) (h later : List SpecEvent) → AreAsked graph.now.graph v h self.old.itself self.old.closed
-            → ((k : ℕ) → requested_itself graph.now.graph v later k ≡ (is_it (option_map token_number token) k || requested_itself graph.now.graph v h k))
+        ensures { (v : List Bool) (h later : List SpecEvent) → AreAsked graph.now.graph v h
+            self.old.itself self.old.closed
+            → ((k : ℕ) → requested_itself graph.now.graph v later k
+            ≡ (is_it (option_map token_number token) k || requested_itself graph.now.graph v h k))
             → AreAsked graph.now.graph v later self.new.itself self.new.closed }
     {
         graph.valid();

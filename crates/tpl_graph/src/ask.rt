@@ -66,7 +66,8 @@ pub(crate) fn is_child_at(tasks: &[DraftTask], number: usize) -> bool
 }
 
 fn is_unknown(statement: &DraftStmt, declared: &Declared) -> bool
-    ensures { result ≡ spec.says_unknown declared.now.inputs declared.now.tokens declared.now.tasks (line_of statement.now) }
+    ensures { result ≡ spec.says_unknown declared.now.inputs declared.now.tokens declared.now.tasks
+        (line_of statement.now) }
 {
     match statement {
         DraftStmt::Check(token) => !declared.tokens.has(token.as_str()),
@@ -110,7 +111,8 @@ pub(crate) fn some_statement(body: &DraftBody, ask: &Ask<'_>) -> bool
 
 #[cycle(some)]
 fn some_within(statement: &DraftStmt, ask: &Ask<'_>) -> bool
-    ensures { result ≡ list_any (asks ask.now) (line_of statement.now ∷ each_within (line_of statement.now)) }
+    ensures { result ≡ list_any (asks ask.now) (line_of statement.now ∷ each_within
+        (line_of statement.now)) }
 {
     if asks(statement, ask) {
         return true;

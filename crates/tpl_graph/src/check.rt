@@ -140,7 +140,8 @@ fn pass_children(
 ) -> Result<(Vec<Vec<TaskId>>, Vec<Starter>, Vec<Site>), GraphFault>
     requires names { AreDeclared (draft_of draft.now) declared.now }
     requires before { NoneBelow (draft_of draft.now) 8 }
-    ensures starts { IfOk result (λ r. map numbers r.0.items ≡ all_starts (graph_in (names_of (draft_of draft.now)) (draft_of draft.now))) }
+    ensures starts { IfOk result (λ r. map numbers r.0.items
+        ≡ all_starts (graph_in (names_of (draft_of draft.now)) (draft_of draft.now))) }
     ensures starters { IfOk result (λ r. AreStarters (draft_of draft.now) r.1.items) }
     ensures long { IfOk result (λ r. length r.1.items ≡ length (draft_of draft.now).tasks) }
     ensures sites { IfOk result (λ r. r.2.items ≡ all_owned 0 (draft_of draft.now).tasks) }
@@ -158,7 +159,8 @@ fn pass_children(
 fn pass_links(alloc: Global, draft: &Draft, names: &Names) -> Result<Vec<Origin>, GraphFault>
     requires names { names.now ≡ (names_of (draft_of draft.now)).tokens }
     requires before { NoneBelow (draft_of draft.now) 12 }
-    ensures tokens { IfOk result (λ v. map token_of v.items ≡ (graph_in (names_of (draft_of draft.now)) (draft_of draft.now)).tokens) }
+    ensures tokens { IfOk result (λ v. map token_of v.items
+        ≡ (graph_in (names_of (draft_of draft.now)) (draft_of draft.now)).tokens) }
     ensures valid { OnOk result (IsValid (draft_of draft.now)) }
     ensures fault { IfErr result (Refuses (draft_of draft.now)) }
 {
@@ -213,7 +215,8 @@ fn pass_rest(
     ensures sites { IfOk result (λ r. r.0 ≡ (names_of (draft_of draft.now)).sites) }
     ensures once { OnOk result (some_twice (names_of (draft_of draft.now)).sites ≡ false) }
     ensures labels { IfOk result (λ r. r.2 ≡ (names_of (draft_of draft.now)).labels) }
-    ensures tokens { IfOk result (λ r. map token_of r.1.items ≡ (graph_in (names_of (draft_of draft.now)) (draft_of draft.now)).tokens) }
+    ensures tokens { IfOk result (λ r. map token_of r.1.items
+        ≡ (graph_in (names_of (draft_of draft.now)) (draft_of draft.now)).tokens) }
     ensures valid { OnOk result (IsValid (draft_of draft.now)) }
     ensures fault { IfErr result (Refuses (draft_of draft.now)) }
 {

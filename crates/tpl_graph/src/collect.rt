@@ -52,8 +52,10 @@ pub(crate) fn add_names(names: &mut Names, body: &DraftBody, sort: Sort) -> Resu
 
 #[cycle(add)]
 fn add_within(names: &mut Names, statement: &DraftStmt, sort: Sort) -> Result<bool, AllocError>
-    ensures names { OnOk result (names.new ≡ with_names names.old (flat_map (names_in sort) (line_of statement.now ∷ each_within (line_of statement.now)))) }
-    ensures twice { IfOk result (λ twice. twice ≡ twice_after names.old (flat_map (names_in sort) (line_of statement.now ∷ each_within (line_of statement.now)))) }
+    ensures names { OnOk result (names.new ≡ with_names names.old
+        (flat_map (names_in sort) (line_of statement.now ∷ each_within (line_of statement.now)))) }
+    ensures twice { IfOk result (λ twice. twice ≡ twice_after names.old
+        (flat_map (names_in sort) (line_of statement.now ∷ each_within (line_of statement.now)))) }
 {
     match statement {
         DraftStmt::Throw(label) => match sort {
@@ -88,7 +90,8 @@ pub(crate) fn collect(
     tasks: &Names,
 ) -> Result<(), AllocError>
     requires { length tasks.now ≤ 1024 }
-    ensures starts { OnOk result (map task_number starts.new.items ≡ map task_number starts.old.items ++ started tasks.now body.now) }
+    ensures starts { OnOk result (map task_number starts.new.items
+        ≡ map task_number starts.old.items ++ started tasks.now body.now) }
     ensures sites { OnOk result (sites.new.items ≡ sites.old.items ++ owned owner.0 body.now) }
 {
     for statement in body.list() {
@@ -106,8 +109,12 @@ fn collect_within(
     tasks: &Names,
 ) -> Result<(), AllocError>
     requires { length tasks.now ≤ 1024 }
-    ensures starts { OnOk result (map task_number starts.new.items ≡ map task_number starts.old.items ++ flat_map (start_in tasks.now) (line_of statement.now ∷ each_within (line_of statement.now))) }
-    ensures sites { OnOk result (sites.new.items ≡ sites.old.items ++ flat_map (owned_in owner.0) (line_of statement.now ∷ each_within (line_of statement.now))) }
+    ensures starts { OnOk result (map task_number starts.new.items
+        ≡ map task_number starts.old.items ++ flat_map (start_in tasks.now)
+        (line_of statement.now ∷ each_within (line_of statement.now))) }
+    ensures sites { OnOk result (sites.new.items ≡ sites.old.items
+        ++ flat_map (owned_in owner.0) (line_of statement.now ∷ each_within
+        (line_of statement.now))) }
 {
     match statement {
         DraftStmt::Start(task) => {

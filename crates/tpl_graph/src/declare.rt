@@ -15,7 +15,8 @@ use crate::names::{Names, NamesFault, number_names};
 use std::alloc::{AllocError, Global};
 
 fn token_names(alloc: Global, tokens: &[DraftToken]) -> Result<Vec<String>, AllocError>
-    ensures { IfOk result (λ v. map string_bytes v.items ≡ map (λ k. k.name) (map token_of tokens.now)) }
+    ensures { IfOk result (λ v. map string_bytes v.items
+        ≡ map (λ k. k.name) (map token_of tokens.now)) }
 {
     let mut names = Vec::new(alloc);
     for token in tokens {
@@ -25,7 +26,8 @@ fn token_names(alloc: Global, tokens: &[DraftToken]) -> Result<Vec<String>, Allo
 }
 
 fn task_names(alloc: Global, tasks: &[DraftTask]) -> Result<Vec<String>, AllocError>
-    ensures { IfOk result (λ v. map string_bytes v.items ≡ map (λ t. t.name) (map task_of tasks.now)) }
+    ensures { IfOk result (λ v. map string_bytes v.items
+        ≡ map (λ t. t.name) (map task_of tasks.now)) }
 {
     let mut names = Vec::new(alloc);
     for task in tasks {

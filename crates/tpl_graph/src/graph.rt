@@ -58,9 +58,19 @@ impl Model for Graph {
     ghost use Rattle.tpl_graph.specs.Kept.{IsNamedGraph, AreKept};
     ghost use Rattle.tpl_graph.specs.Sites.{AreSites};
 
-    ghost view = { λ g. record { graph = graph_of g.tokens.items (length g.names.inputs) g.tasks.items; names = seen g.names } };
+    ghost view = { λ g. record {
+      graph = graph_of g.tokens.items (length g.names.inputs)
+          g.tasks.items;
+      names = seen g.names;
+    } };
 
-    ghost invariant = { λ g. let n : Named = record { graph = graph_of g.tokens.items (length g.names.inputs) g.tasks.items; names = seen g.names } in IsNamedGraph n × AreKept n g.parents.items g.attached.items g.bound × AreSites n.graph g.sites.items };
+    ghost invariant = { λ g. let n : Named = record {
+      graph = graph_of g.tokens.items
+          (length g.names.inputs) g.tasks.items;
+      names = seen g.names;
+    } in
+        IsNamedGraph n × AreKept n g.parents.items g.attached.items g.bound
+        × AreSites n.graph g.sites.items };
 }
 
 /// The graph of a checked draft.
@@ -188,7 +198,8 @@ impl Graph {
 
     /// The task of a name.
     pub fn task(&self, name: &str) -> Option<TaskId>
-        ensures { option_map task_number result ≡ position (bytes_eq name.now) self.now.names.tasks }
+        ensures { option_map task_number result ≡ position (bytes_eq name.now)
+            self.now.names.tasks }
     {
         match self.names.tasks.number(name) {
             Some(number) => Some(TaskId(number as u16)),
@@ -198,7 +209,8 @@ impl Graph {
 
     /// The token of a name.
     pub fn token(&self, name: &str) -> Option<TokenId>
-        ensures { option_map token_number result ≡ position (bytes_eq name.now) self.now.names.tokens }
+        ensures { option_map token_number result ≡ position (bytes_eq name.now)
+            self.now.names.tokens }
     {
         match self.names.tokens.number(name) {
             Some(number) => Some(TokenId(number as u8)),
@@ -208,7 +220,8 @@ impl Graph {
 
     /// The input of a name.
     pub fn input(&self, name: &str) -> Option<InputId>
-        ensures { option_map input_number result ≡ position (bytes_eq name.now) self.now.names.inputs }
+        ensures { option_map input_number result ≡ position (bytes_eq name.now)
+            self.now.names.inputs }
     {
         match self.names.inputs.number(name) {
             Some(number) => Some(InputId(number as u8)),
@@ -218,7 +231,8 @@ impl Graph {
 
     /// The site of a name.
     pub fn site(&self, name: &str) -> Option<SiteId>
-        ensures { option_map site_number result ≡ position (bytes_eq name.now) self.now.names.sites }
+        ensures { option_map site_number result ≡ position (bytes_eq name.now)
+            self.now.names.sites }
     {
         match self.names.sites.number(name) {
             Some(number) => Some(SiteId(number as u16)),
@@ -309,7 +323,9 @@ impl Graph {
     /// Each work statement says of its site what `site_may_fail` says: a caller that needs this calls it, which does
     /// nothing.
     pub fn work_is_listed(&self)
-        ensures { (t site : ℕ) (may_fail : Bool) → HasWork site may_fail (spec.body self.now.graph t) → slice_get (all_may_fail self.now.graph) site ≡ Some may_fail }
+        ensures { (t site : ℕ) (may_fail : Bool) → HasWork site may_fail
+            (spec.body self.now.graph t) → slice_get (all_may_fail self.now.graph) site
+            ≡ Some may_fail }
     {
         let _ = &self.sites;
     }

@@ -16,10 +16,12 @@ pub(crate) struct Room {
 /// The room that the body leaves, if there is room for it and for its levels.
 #[cycle(room)]
 pub(crate) fn room_behind(body: &DraftBody, room: Room, levels: u8) -> Option<Room>
-    ensures statements { IfSome result (λ left. left.statements + line_count body.now ≡ room.statements) }
+    ensures statements { IfSome result (λ left. left.statements + line_count body.now
+        ≡ room.statements) }
     ensures sites { IfSome result (λ left. left.sites + site_count body.now ≡ room.sites) }
     ensures levels { IfSome result (λ left. level_count body.now ≤ levels) }
-    ensures exceeds { IfNone result ((room.statements < line_count body.now) ⊎ ((levels < level_count body.now) ⊎ (room.sites < site_count body.now))) }
+    ensures exceeds { IfNone result ((room.statements < line_count body.now)
+        ⊎ ((levels < level_count body.now) ⊎ (room.sites < site_count body.now))) }
 {
     if levels == 0 {
         return None;
@@ -34,10 +36,14 @@ pub(crate) fn room_behind(body: &DraftBody, room: Room, levels: u8) -> Option<Ro
 #[cycle(room)]
 fn room_behind_statement(statement: &DraftStmt, room: Room, levels: u8) -> Option<Room>
     requires { 0 < levels }
-    ensures statements { IfSome result (λ left. left.statements + count_line (line_of statement.now) ≡ room.statements) }
-    ensures sites { IfSome result (λ left. left.sites + count_site (line_of statement.now) ≡ room.sites) }
+    ensures statements { IfSome result (λ left. left.statements + count_line (line_of statement.now)
+        ≡ room.statements) }
+    ensures sites { IfSome result (λ left. left.sites + count_site (line_of statement.now)
+        ≡ room.sites) }
     ensures levels { IfSome result (λ left. levels_in (line_of statement.now) ≤ levels) }
-    ensures exceeds { IfNone result ((room.statements < count_line (line_of statement.now)) ⊎ ((levels < levels_in (line_of statement.now)) ⊎ (room.sites < count_site (line_of statement.now)))) }
+    ensures exceeds { IfNone result ((room.statements < count_line (line_of statement.now))
+        ⊎ ((levels < levels_in (line_of statement.now))
+        ⊎ (room.sites < count_site (line_of statement.now)))) }
 {
     let statements = room.statements.checked_sub(1)?;
     let sites = room.sites;

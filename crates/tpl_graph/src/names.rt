@@ -36,7 +36,8 @@ impl Names {
     /// Adds a name behind the others, and says whether it is new. A name that is there stays where it is.
     pub(crate) fn add(&mut self, name: String) -> Result<bool, AllocError>
         ensures fresh { IfOk result (λ added. added ≡ not (has_name self.old (string_bytes name))) }
-        ensures ok { IfOk result (λ added. self.new ≡ (if added then self.old ++ string_bytes name ∷ [] else self.old)) }
+        ensures ok { IfOk result (λ added. self.new ≡ (if added
+            then self.old ++ string_bytes name ∷ [] else self.old)) }
         ensures err { OnErr result (self.new ≡ self.old) }
     {
         let (_, added) = self.set.insert_full(name)?;
@@ -105,7 +106,8 @@ impl From<AllocError> for NamesFault {
 /// Numbers names in order. The first name that stands twice is refused.
 pub(crate) fn number_names(alloc: Global, names: &[String]) -> Result<Names, NamesFault>
     ensures ok { IfOk result (λ n. n ≡ map string_bytes names.now) }
-    ensures distinct { OnOk result (NoneTwiceBelow (map string_bytes names.now) (length names.now)) }
+    ensures distinct { OnOk result (NoneTwiceBelow (map string_bytes names.now)
+        (length names.now)) }
     ensures none { OnOk result (some_twice (map string_bytes names.now) ≡ false) }
     ensures fault { IfErr result (λ e. NamesFaultIs (map string_bytes names.now) e) }
     ensures twice { IfErr result (λ e. IsTwice (map string_bytes names.now) e) }

@@ -74,7 +74,8 @@ fn number_statement(
     statement: &DraftStmt,
 ) -> Result<Stmt, AllocError>
     requires { AreFew (seen tables.now) }
-    ensures { IfOk result (λ s. statement_of s ≡ statement_in (seen tables.now) (line_of statement.now)) }
+    ensures { IfOk result (λ s. statement_of s ≡ statement_in (seen tables.now)
+        (line_of statement.now)) }
 {
     match statement {
         DraftStmt::Return => Ok(Stmt::Return),

@@ -98,7 +98,8 @@ fn lacks_source(names: &Names, token: &DraftToken) -> bool
 
 /// Some token is linked to a token that is not declared.
 fn some_lacks_source(names: &Names, tokens: &[DraftToken]) -> bool
-    ensures { result ≡ list_any (λ token. list_any (lacks names.now) (linked_to (token_of token).linked)) tokens.now }
+    ensures { result ≡ list_any (λ token. list_any (lacks names.now)
+        (linked_to (token_of token).linked)) tokens.now }
 {
     tokens.iter().any(|token| lacks_source(names, token))
 }
@@ -128,14 +129,16 @@ fn lacks_token(declared: &Declared, task: &DraftTask) -> bool
 
 /// The antecedent or some argument is not declared.
 fn lacks_waited(declared: &Declared, task: &DraftTask) -> bool
-    ensures { result ≡ list_any (lacks declared.now.tasks) (meaning.waits_for (task_of task.now).kind) }
+    ensures { result ≡ list_any (lacks declared.now.tasks)
+        (meaning.waits_for (task_of task.now).kind) }
 {
     lacks_some(&declared.tasks, waits_for(task))
 }
 
 /// Some name is not among those before a number.
 fn some_later(names: &Names, number: usize, wanted: &[String]) -> bool
-    ensures { result ≡ list_any (λ name. not (nat_lt (place names.now (string_bytes name)) number)) wanted.now }
+    ensures { result ≡ list_any (λ name. not (nat_lt (place names.now (string_bytes name)) number))
+        wanted.now }
 {
     wanted
         .iter()
@@ -144,14 +147,16 @@ fn some_later(names: &Names, number: usize, wanted: &[String]) -> bool
 
 /// The antecedent or some argument is not declared before the task.
 fn waits_for_later(declared: &Declared, t: usize, task: &DraftTask) -> bool
-    ensures { result ≡ list_any (λ a. not (nat_lt (place declared.now.tasks a) t)) (meaning.waits_for (task_of task.now).kind) }
+    ensures { result ≡ list_any (λ a. not (nat_lt (place declared.now.tasks a) t))
+        (meaning.waits_for (task_of task.now).kind) }
 {
     some_later(&declared.tasks, t, waits_for(task))
 }
 
 /// Some name is that of a child.
 fn some_child(names: &Names, tasks: &[DraftTask], wanted: &[String]) -> bool
-    ensures { result ≡ list_any (λ name. spec.is_child_at (map task_of tasks.now) (place names.now (string_bytes name))) wanted.now }
+    ensures { result ≡ list_any (λ name. spec.is_child_at (map task_of tasks.now)
+        (place names.now (string_bytes name))) wanted.now }
 {
     wanted
         .iter()
@@ -160,7 +165,8 @@ fn some_child(names: &Names, tasks: &[DraftTask], wanted: &[String]) -> bool
 
 /// The antecedent or some argument is a child.
 fn waits_for_child(declared: &Declared, tasks: &[DraftTask], task: &DraftTask) -> bool
-    ensures { result ≡ list_any (λ a. spec.is_child_at (map task_of tasks.now) (place declared.now.tasks a)) (meaning.waits_for (task_of task.now).kind) }
+    ensures { result ≡ list_any (λ a. spec.is_child_at (map task_of tasks.now)
+        (place declared.now.tasks a)) (meaning.waits_for (task_of task.now).kind) }
 {
     some_child(&declared.tasks, tasks, waits_for(task))
 }
@@ -242,7 +248,8 @@ fn bad_name_in_lists(draft: &Draft) -> bool
 
 /// Some token is linked to a token that is not declared.
 fn unknown_in_lists(draft: &Draft, names: &Names) -> bool
-    ensures { result ≡ list_any (λ (k : Token). list_any (lacks names.now) (linked_to k.linked)) (draft_of draft.now).tokens }
+    ensures { result ≡ list_any (λ (k : Token). list_any (lacks names.now) (linked_to k.linked))
+        (draft_of draft.now).tokens }
 {
     some_lacks_source(names, &draft.tokens)
 }

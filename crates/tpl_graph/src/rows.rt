@@ -24,7 +24,8 @@ use tpl_words::{Options, TaskId, TokenId};
 /// The tasks of a list of names.
 fn task_ids(alloc: Global, tables: &Tables, names: &[String]) -> Result<Vec<TaskId>, AllocError>
     requires { AreFew (seen tables.now) }
-    ensures { IfOk result (λ v. map task_number v.items ≡ map (place tables.now.tasks) (map string_bytes names.now)) }
+    ensures { IfOk result (λ v. map task_number v.items
+        ≡ map (place tables.now.tasks) (map string_bytes names.now)) }
 {
     let mut ids = Vec::new(alloc);
     for name in names {
@@ -35,7 +36,8 @@ fn task_ids(alloc: Global, tables: &Tables, names: &[String]) -> Result<Vec<Task
 
 fn own_token(tables: &Tables, name: &Option<String>) -> Option<TokenId>
     requires { AreFew (seen tables.now) }
-    ensures { option_map token_number result ≡ option_map (place tables.now.tokens) (option_map string_bytes name.now) }
+    ensures { option_map token_number result ≡ option_map (place tables.now.tokens)
+        (option_map string_bytes name.now) }
 {
     match name {
         Some(name) => Some(token_id(tables, name.as_str())),
@@ -72,7 +74,8 @@ fn number_work(
     requires small { IsSmall work.now.body }
     ensures role { IfOk result (λ r. r.role ≡ role) }
     ensures script { IfOk result (λ r. r.script ≡ script_in (seen tables.now) work.now.body) }
-    ensures token { IfOk result (λ r. option_map token_number r.token ≡ option_map (place tables.now.tokens) (option_map string_bytes work.now.token)) }
+    ensures token { IfOk result (λ r. option_map token_number r.token
+        ≡ option_map (place tables.now.tokens) (option_map string_bytes work.now.token)) }
     ensures options { IfOk result (λ r. r.options ≡ work.now.options) }
 {
     Ok(Row {
@@ -130,7 +133,8 @@ pub(crate) fn number_tasks(
 ) -> Result<Vec<Row>, AllocError>
     requires few { AreFew (seen tables.now) }
     requires small { AreSmall (map task_of tasks.now) }
-    ensures { IfOk result (λ v. map rows.task_of v.items ≡ map (task_in (seen tables.now)) (map task_of tasks.now)) }
+    ensures { IfOk result (λ v. map rows.task_of v.items
+        ≡ map (task_in (seen tables.now)) (map task_of tasks.now)) }
 {
     let mut made = Vec::new(alloc);
     for task in tasks {
@@ -142,7 +146,8 @@ pub(crate) fn number_tasks(
 /// The tokens of a list of names.
 fn token_ids(alloc: Global, names: &Names, list: &[String]) -> Result<Vec<TokenId>, AllocError>
     requires { length names.now ≤ 32 }
-    ensures { IfOk result (λ v. map token_number v.items ≡ map (place names.now) (map string_bytes list.now)) }
+    ensures { IfOk result (λ v. map token_number v.items
+        ≡ map (place names.now) (map string_bytes list.now)) }
 {
     let mut ids = Vec::new(alloc);
     for name in list {
@@ -169,7 +174,8 @@ pub(crate) fn origins(
     tokens: &[DraftToken],
 ) -> Result<Vec<Origin>, AllocError>
     requires { length names.now ≤ 32 }
-    ensures { IfOk result (λ v. map rows.token_of v.items ≡ map (λ (k : meaning.Token). token_in names.now k.linked) (map token_of tokens.now)) }
+    ensures { IfOk result (λ v. map rows.token_of v.items
+        ≡ map (λ (k : meaning.Token). token_in names.now k.linked) (map token_of tokens.now)) }
 {
     let mut made = Vec::new(alloc);
     for token in tokens {

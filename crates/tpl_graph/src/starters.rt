@@ -30,8 +30,10 @@ fn task_starts(
     names: &Names,
 ) -> Result<Vec<TaskId>, AllocError>
     requires { length names.now ≤ 1024 }
-    ensures starts { IfOk result (λ v. numbers v ≡ started names.now (worked (task_of task.now).kind).body) }
-    ensures sites { OnOk result (sites.new.items ≡ sites.old.items ++ owned owner.0 (worked (task_of task.now).kind).body) }
+    ensures starts { IfOk result (λ v. numbers v ≡ started names.now
+        (worked (task_of task.now).kind).body) }
+    ensures sites { OnOk result (sites.new.items ≡ sites.old.items
+        ++ owned owner.0 (worked (task_of task.now).kind).body) }
 {
     let mut starts = Vec::new(alloc);
     match &task.kind {
@@ -52,8 +54,10 @@ pub(crate) fn all_starts(
 ) -> Result<Vec<Vec<TaskId>>, AllocError>
     requires names { length names.now ≤ 1024 }
     requires tasks { length tasks.now ≤ 1024 }
-    ensures starts { IfOk result (λ v. map numbers v.items ≡ map (λ x. started names.now (worked x.kind).body) (map task_of tasks.now)) }
-    ensures sites { OnOk result (sites.new.items ≡ sites.old.items ++ all_owned 0 (map task_of tasks.now)) }
+    ensures starts { IfOk result (λ v. map numbers v.items
+        ≡ map (λ x. started names.now (worked x.kind).body) (map task_of tasks.now)) }
+    ensures sites { OnOk result (sites.new.items ≡ sites.old.items
+        ++ all_owned 0 (map task_of tasks.now)) }
 {
     let mut starts = Vec::new(alloc);
     for (t, task) in tasks.iter().enumerate() {
@@ -73,7 +77,8 @@ fn more(before: Starter, starter: TaskId) -> Starter
 
 /// Notes the start statements of a body in the table.
 fn note(table: &mut [Starter], starter: TaskId, starts: &[TaskId])
-    ensures { (t : ℕ) → t < length table.old → get_or table.new t Nobody ≡ noted t starter.0 (get_or table.old t Nobody) (map task_number starts.now) }
+    ensures { (t : ℕ) → t < length table.old → get_or table.new t Nobody
+        ≡ noted t starter.0 (get_or table.old t Nobody) (map task_number starts.now) }
 {
     for child in starts {
         let c = child.0 as usize;
@@ -99,7 +104,8 @@ fn nobody(alloc: Global, count: usize) -> Result<Vec<Starter>, AllocError>
 pub(crate) fn starters(alloc: Global, starts: &[Vec<TaskId>]) -> Result<Vec<Starter>, AllocError>
     requires { length starts.now ≤ 1024 }
     ensures long { IfOk result (λ v. length v.items ≡ length starts.now) }
-    ensures each { IfOk result (λ v. (t : ℕ) → t < length starts.now → get_or v.items t Nobody ≡ starter_of (starters_from t 0 (map numbers starts.now))) }
+    ensures each { IfOk result (λ v. (t : ℕ) → t < length starts.now
+        → get_or v.items t Nobody ≡ starter_of (starters_from t 0 (map numbers starts.now))) }
 {
     let mut table = nobody(alloc, starts.len())?;
     for (p, started) in starts.iter().enumerate() {
@@ -155,7 +161,8 @@ fn attached_children(
     parent: usize,
     starts: &[TaskId],
 ) -> Result<Vec<TaskId>, AllocError>
-    ensures { IfOk result (λ v. numbers v ≡ attached_of rows.now parent (map task_number starts.now)) }
+    ensures { IfOk result (λ v. numbers v ≡ attached_of rows.now parent
+        (map task_number starts.now)) }
 {
     let denied = denies(rows, parent);
     let mut children = Vec::new(alloc);
@@ -174,7 +181,9 @@ pub(crate) fn attached(
     starts: &[Vec<TaskId>],
 ) -> Result<Vec<Vec<TaskId>>, AllocError>
     ensures long { IfOk result (λ v. length v.items ≡ length starts.now) }
-    ensures each { IfOk result (λ v. EachAt (λ p children. (l : List ℕ) → slice_get (map numbers starts.now) p ≡ Some l → numbers children ≡ attached_of rows.now p l) v.items) }
+    ensures each { IfOk result (λ v. EachAt (λ p children. (l : List ℕ) → slice_get
+        (map numbers starts.now) p ≡ Some l → numbers children ≡ attached_of rows.now p l)
+        v.items) }
 {
     let mut made = Vec::new(alloc);
     for (p, started) in starts.iter().enumerate() {

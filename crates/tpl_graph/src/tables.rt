@@ -17,8 +17,10 @@ use std::alloc::{AllocError, Global};
 
 /// Adds the names of a sort in a task, and says whether one of them stood there before.
 fn add_task(names: &mut Names, task: &DraftTask, sort: Sort) -> Result<bool, AllocError>
-    ensures names { OnOk result (names.new ≡ with_names names.old (flat_map (names_in sort) (statements_in (task_of task.now)))) }
-    ensures twice { IfOk result (λ twice. twice ≡ twice_after names.old (flat_map (names_in sort) (statements_in (task_of task.now)))) }
+    ensures names { OnOk result (names.new ≡ with_names names.old
+        (flat_map (names_in sort) (statements_in (task_of task.now)))) }
+    ensures twice { IfOk result (λ twice. twice ≡ twice_after names.old
+        (flat_map (names_in sort) (statements_in (task_of task.now)))) }
 {
     match &task.kind {
         DraftKind::Root(work) | DraftKind::Child(work) | DraftKind::Then(_, work) => {

@@ -39,19 +39,22 @@ fn linked_to_many(token: &DraftToken) -> bool
 
 /// Some token is linked to more than 32 tokens.
 fn some_linked_to_many(tokens: &[DraftToken]) -> bool
-    ensures { result ≡ list_any (λ token. nat_lt 32 (length (meaning.linked_to (token_of token).linked))) tokens.now }
+    ensures { result ≡ list_any (λ token. nat_lt 32 (length
+        (meaning.linked_to (token_of token).linked))) tokens.now }
 {
     tokens.iter().any(|token| linked_to_many(token))
 }
 
 fn sources_exceed(draft: &Draft) -> bool
-    ensures { result ≡ list_any (λ (k : Token). nat_lt 32 (length (meaning.linked_to k.linked))) (draft_of draft.now).tokens }
+    ensures { result ≡ list_any (λ (k : Token). nat_lt 32 (length (meaning.linked_to k.linked)))
+        (draft_of draft.now).tokens }
 {
     some_linked_to_many(&draft.tokens)
 }
 
 fn counts_exceed(draft: &Draft) -> bool
-    ensures { result ≡ (nat_lt 16 (length (draft_of draft.now).inputs) || nat_lt 32 (length (draft_of draft.now).tokens)) }
+    ensures { result ≡ (nat_lt 16 (length (draft_of draft.now).inputs)
+        || nat_lt 32 (length (draft_of draft.now).tokens)) }
 {
     draft.inputs.len() > MOST_INPUTS || draft.tokens.len() > MOST_TOKENS
 }
@@ -65,10 +68,15 @@ fn lists_exceed(draft: &Draft) -> bool
 
 /// The room that the task's body leaves, if there is room for it and for its levels.
 fn room_behind_body(task: &DraftTask, room: Room) -> Option<Room>
-    ensures statements { IfSome result (λ left. left.statements + line_count (worked (task_of task.now).kind).body ≡ room.statements) }
-    ensures sites { IfSome result (λ left. left.sites + site_count (worked (task_of task.now).kind).body ≡ room.sites) }
+    ensures statements { IfSome result (λ left. left.statements + line_count
+        (worked (task_of task.now).kind).body ≡ room.statements) }
+    ensures sites { IfSome result (λ left. left.sites + site_count
+        (worked (task_of task.now).kind).body ≡ room.sites) }
     ensures levels { IfSome result (λ left. level_count (worked (task_of task.now).kind).body ≤ 8) }
-    ensures exceeds { IfNone result ((room.statements < line_count (worked (task_of task.now).kind).body) ⊎ ((8 < level_count (worked (task_of task.now).kind).body) ⊎ (room.sites < site_count (worked (task_of task.now).kind).body))) }
+    ensures exceeds { IfNone result ((room.statements < line_count
+        (worked (task_of task.now).kind).body) ⊎ ((8 < level_count
+        (worked (task_of task.now).kind).body) ⊎ (room.sites < site_count
+        (worked (task_of task.now).kind).body))) }
 {
     match &task.kind {
         DraftKind::Root(work) | DraftKind::Child(work) | DraftKind::Then(_, work) => {
@@ -81,8 +89,10 @@ fn room_behind_body(task: &DraftTask, room: Room) -> Option<Room>
 /// The room for sites that the t-th task leaves, if it is within the limits.
 fn sites_behind(t: usize, task: &DraftTask, sites: u16) -> Option<u16>
     ensures within { IfSome result (λ left. exceeds t (task_of task.now) ≡ false) }
-    ensures sites { IfSome result (λ left. left + site_count (worked (task_of task.now).kind).body ≡ sites) }
-    ensures exceeds { IfNone result ((exceeds t (task_of task.now) || nat_lt sites (site_count (worked (task_of task.now).kind).body)) ≡ true) }
+    ensures sites { IfSome result (λ left. left + site_count (worked (task_of task.now).kind).body
+        ≡ sites) }
+    ensures exceeds { IfNone result ((exceeds t (task_of task.now)
+        || nat_lt sites (site_count (worked (task_of task.now).kind).body)) ≡ true) }
 {
     let arguments = waits_for(task).len();
     if t == MOST_TASKS || arguments > MOST_ARGUMENTS {

@@ -19,7 +19,8 @@ pub struct WorkItem<K> {
     may_fail: bool,
     work: Work,
     ghost callable: { Work.pre work site },
-    ghost honest: { (answer : Answer) → Work.post work site answer → may_fail ≡ false → answer ≡ Done },
+    ghost honest: { (answer : Answer) → Work.post work site answer → may_fail ≡ false
+        → answer ≡ Done },
 }
 
 impl<K> WorkItem<K> {
@@ -27,7 +28,8 @@ impl<K> WorkItem<K> {
     /// statement may fail it answers `Done` there.
     pub fn new(stamp: K, site: SiteId, may_fail: bool, work: Work) -> WorkItem<K>
         requires callable { Work.pre work site }
-        requires honest { (answer : Answer) → Work.post work site answer → may_fail ≡ false → answer ≡ Done }
+        requires honest { (answer : Answer) → Work.post work site answer → may_fail ≡ false
+            → answer ≡ Done }
         ensures stamp { result.stamp ≡ stamp }
         ensures site { result.site ≡ site }
         ensures may_fail { result.may_fail ≡ may_fail }

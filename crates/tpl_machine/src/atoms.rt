@@ -23,7 +23,8 @@ fn has(tasks: &[TaskId], task: TaskId) -> bool
 fn add(tasks: &mut Vec<TaskId>, task: TaskId)
     requires atoms { AreAtoms (vec_capacity tasks.old) (map task_number tasks.old.items) }
     requires below { task.0 < vec_capacity tasks.old }
-    ensures items { let xs = map task_number tasks.old.items in map task_number tasks.new.items ≡ (if mem task.0 xs then xs else xs ++ task.0 ∷ []) }
+    ensures items { let xs = map task_number tasks.old.items in
+        map task_number tasks.new.items ≡ (if mem task.0 xs then xs else xs ++ task.0 ∷ []) }
     ensures atoms { AreAtoms (vec_capacity tasks.old) (map task_number tasks.new.items) }
     ensures capacity { vec_capacity tasks.new ≡ vec_capacity tasks.old }
 {
@@ -35,8 +36,10 @@ fn add(tasks: &mut Vec<TaskId>, task: TaskId)
 /// Adds those of the tasks that the list hasn't got, in their order. The list has room for every task of the graph.
 pub(crate) fn join(tasks: &mut Vec<TaskId>, more: &[TaskId])
     requires atoms { AreAtoms (vec_capacity tasks.old) (map task_number tasks.old.items) }
-    requires below { (x : ℕ) → mem x (map task_number more.now) ≡ true → x < vec_capacity tasks.old }
-    ensures items { map task_number tasks.new.items ≡ joined (map task_number tasks.old.items) (map task_number more.now) }
+    requires below { (x : ℕ) → mem x (map task_number more.now) ≡ true
+        → x < vec_capacity tasks.old }
+    ensures items { map task_number tasks.new.items ≡ joined (map task_number tasks.old.items)
+        (map task_number more.now) }
     ensures atoms { AreAtoms (vec_capacity tasks.old) (map task_number tasks.new.items) }
     ensures capacity { vec_capacity tasks.new ≡ vec_capacity tasks.old }
 {

@@ -32,7 +32,8 @@ fn canceled(own: Option<TokenId>, token: TokenId) -> Outcome
 /// Passes the next statement, if it isn't a job, and gives the outcome that it ends the body with. `holds` is what the
 /// statement tests.
 pub(crate) fn pass(rest: &mut Cursor, own: Option<TokenId>, holds: bool) -> Option<Outcome>
-    ensures { passed (option_map token_number own) holds rest.old ≡ record { left = rest.new; outcome = result } }
+    ensures { passed (option_map token_number own) holds rest.old
+        ≡ record { left = rest.new; outcome = result } }
 {
     let Some(statement) = rest.first() else {
         return None;

@@ -15,7 +15,8 @@ use tpl_words::{MOST_TASKS, TaskId, TaskSet};
 fn gather_one(list: &mut Vec<TaskId>, rows: &[Row], task: TaskId)
     requires rooms { HaveRoom rows.now (vec_capacity list.old) }
     requires atoms { AreAtoms (vec_capacity list.old) (map task_number list.old.items) }
-    ensures items { map task_number list.new.items ≡ joined (map task_number list.old.items) (carried_in (ending_in rows.now task.0)) }
+    ensures items { map task_number list.new.items ≡ joined (map task_number list.old.items)
+        (carried_in (ending_in rows.now task.0)) }
     ensures atoms { AreAtoms (vec_capacity list.old) (map task_number list.new.items) }
     ensures capacity { vec_capacity list.new ≡ vec_capacity list.old }
 {
@@ -28,7 +29,8 @@ fn gather_one(list: &mut Vec<TaskId>, rows: &[Row], task: TaskId)
 pub fn gather(list: &mut Vec<TaskId>, rows: &[Row], tasks: &[TaskId])
     requires rooms { HaveRoom rows.now (vec_capacity list.old) }
     requires atoms { AreAtoms (vec_capacity list.old) (map task_number list.old.items) }
-    ensures items { map task_number list.new.items ≡ gathered (map task_number list.old.items) (map task_number tasks.now) (ending_in rows.now) }
+    ensures items { map task_number list.new.items ≡ gathered (map task_number list.old.items)
+        (map task_number tasks.now) (ending_in rows.now) }
     ensures atoms { AreAtoms (vec_capacity list.old) (map task_number list.new.items) }
     ensures capacity { vec_capacity list.new ≡ vec_capacity list.old }
 {
@@ -41,7 +43,9 @@ pub fn gather(list: &mut Vec<TaskId>, rows: &[Row], tasks: &[TaskId])
 fn gather_child(list: &mut Vec<TaskId>, rows: &[Row], started: &TaskSet, child: TaskId)
     requires rooms { HaveRoom rows.now (vec_capacity list.old) }
     requires atoms { AreAtoms (vec_capacity list.old) (map task_number list.old.items) }
-    ensures items { let xs = map task_number list.old.items in map task_number list.new.items ≡ (if mem child.0 started.now then joined xs (carried_in (ending_in rows.now child.0)) else xs) }
+    ensures items { let xs = map task_number list.old.items in
+        map task_number list.new.items ≡ (if mem child.0 started.now
+        then joined xs (carried_in (ending_in rows.now child.0)) else xs) }
     ensures atoms { AreAtoms (vec_capacity list.old) (map task_number list.new.items) }
     ensures capacity { vec_capacity list.new ≡ vec_capacity list.old }
 {
@@ -54,7 +58,9 @@ fn gather_child(list: &mut Vec<TaskId>, rows: &[Row], started: &TaskSet, child: 
 pub fn gather_started(list: &mut Vec<TaskId>, rows: &[Row], started: &TaskSet, children: &[TaskId])
     requires rooms { HaveRoom rows.now (vec_capacity list.old) }
     requires atoms { AreAtoms (vec_capacity list.old) (map task_number list.old.items) }
-    ensures items { map task_number list.new.items ≡ gathered (map task_number list.old.items) (those_started (map task_number children.now) (λ c. mem c started.now)) (ending_in rows.now) }
+    ensures items { map task_number list.new.items ≡ gathered (map task_number list.old.items)
+        (those_started (map task_number children.now) (λ c. mem c started.now))
+        (ending_in rows.now) }
     ensures atoms { AreAtoms (vec_capacity list.old) (map task_number list.new.items) }
     ensures capacity { vec_capacity list.new ≡ vec_capacity list.old }
 {

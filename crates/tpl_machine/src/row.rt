@@ -50,7 +50,11 @@ impl<'g> Model for Row<'g> {
 
     ghost use Rattle.tpl_machine.specs.Rows.{ending_of, AreKeptAtoms};
 
-    ghost view = { λ r. record { rest = record { left = r.rest; outcome = r.outcome }; ending = ending_of r.ended r.carried.items; room = vec_capacity r.carried } };
+    ghost view = { λ r. record {
+      rest = record { left = r.rest; outcome = r.outcome };
+      ending = ending_of r.ended r.carried.items;
+      room = vec_capacity r.carried;
+    } };
 
     ghost invariant = { λ r. AreKeptAtoms r.ended r.carried.items (vec_capacity r.carried) };
 }
@@ -63,7 +67,11 @@ impl<'g> Row<'g> {
         ended: Option<Ended>,
         room: usize,
     ) -> Result<Row<'g>, AllocError>
-        ensures { IfOk result (λ r. r ≡ record { rest = on script.now; ending = ending_of ended []; room = room }) }
+        ensures { IfOk result (λ r. r ≡ record {
+          rest = on script.now;
+          ending = ending_of ended [];
+          room = room;
+        }) }
     {
         let carried = Vec::with_capacity(alloc, room)?;
         Ok(Row {
@@ -76,7 +84,8 @@ impl<'g> Row<'g> {
 
     /// The task passes its next statement. `holds` is what the statement tests.
     pub(crate) fn pass(&mut self, own: Option<TokenId>, holds: bool)
-        ensures { self.new ≡ with_rest self.old (passed (option_map token_number own) holds self.old.rest.left) }
+        ensures { self.new ≡ with_rest self.old (passed (option_map token_number own) holds
+            self.old.rest.left) }
     {
         let outcome = body::pass(&mut self.rest, own, holds);
         self.outcome = outcome;
@@ -129,7 +138,8 @@ impl<'g> Row<'g> {
 
     /// The next statement.
     pub fn statement(&self) -> Option<&'g Stmt>
-        ensures { MatchOption result (self.now.rest.left ≡ Nothing) (λ s. BeginsWith self.now.rest.left (statement_of s.now)) }
+        ensures { MatchOption result (self.now.rest.left ≡ Nothing)
+            (λ s. BeginsWith self.now.rest.left (statement_of s.now)) }
     {
         self.rest.first()
     }

@@ -20,7 +20,8 @@ use tpl_words::{Actor, Answer, Final, MOST_TASKS, TaskId, TaskSet, TokenId};
 /// Marks a token as requested, if there is one.
 pub fn mark(requested: &mut [bool; MOST_TOKENS], token: Option<TokenId>)
     requires { IfSome token (λ k. k.0 < MOST_TOKENS) }
-    ensures marks { (k : ℕ) → slice_index_or requested.new k false ≡ (is_it (option_map token_number token) k || slice_index_or requested.old k false) }
+    ensures marks { (k : ℕ) → slice_index_or requested.new k false
+        ≡ (is_it (option_map token_number token) k || slice_index_or requested.old k false) }
     ensures count { length requested.new ≡ length requested.old }
 {
     if let Some(token) = token {
@@ -31,7 +32,8 @@ pub fn mark(requested: &mut [bool; MOST_TOKENS], token: Option<TokenId>)
 /// Makes a child a member of those that were started, if there is one.
 pub fn start(started: &mut TaskSet, child: Option<TaskId>)
     requires { IfSome child (λ c. c.0 < MOST_TASKS) }
-    ensures { (t : ℕ) → mem t started.new ≡ (is_it (option_map task_number child) t || mem t started.old) }
+    ensures { (t : ℕ) → mem t started.new ≡ (is_it (option_map task_number child) t
+        || mem t started.old) }
 {
     if let Some(child) = child {
         started.insert(child);
@@ -41,7 +43,8 @@ pub fn start(started: &mut TaskSet, child: Option<TaskId>)
 /// The exceptions that a task carries, if there is one, are observed.
 pub fn observe(seen: &mut TaskSet, rows: &[Row], subject: Option<TaskId>)
     requires { (t : ℕ) (x : TaskRow) → slice_get rows.now t ≡ Some x → x.room ≤ MOST_TASKS }
-    ensures { (t : ℕ) → mem t seen.new ≡ (carries rows.now (option_map task_number subject) t || mem t seen.old) }
+    ensures { (t : ℕ) → mem t seen.new ≡ (carries rows.now (option_map task_number subject) t
+        || mem t seen.old) }
 {
     let Some(subject) = subject else {
         return;
@@ -55,7 +58,8 @@ pub fn observe(seen: &mut TaskSet, rows: &[Row], subject: Option<TaskId>)
 pub fn pass_row(rows: &mut Vec<Row>, task: TaskId, own: Option<TokenId>, holds: bool)
     requires { task.0 < vec_len rows.old }
     ensures { (x : TaskRow) → slice_get rows.old.items task.0 ≡ Some x
-        → rows.new.items ≡ slice_set rows.old.items task.0 (with_rest x (passed (option_map token_number own) holds x.rest.left)) }
+        → rows.new.items ≡ slice_set rows.old.items task.0
+        (with_rest x (passed (option_map token_number own) holds x.rest.left)) }
 {
     let row = &mut rows[task.0 as usize];
     row.pass(own, holds);
@@ -65,7 +69,8 @@ pub fn pass_row(rows: &mut Vec<Row>, task: TaskId, own: Option<TokenId>, holds: 
 pub fn work_row(rows: &mut Vec<Row>, task: TaskId, answer: Answer)
     requires { task.0 < vec_len rows.old }
     ensures { (x : TaskRow) → slice_get rows.old.items task.0 ≡ Some x
-        → rows.new.items ≡ slice_set rows.old.items task.0 (with_rest x (worked answer x.rest.left)) }
+        → rows.new.items ≡ slice_set rows.old.items task.0
+        (with_rest x (worked answer x.rest.left)) }
 {
     let row = &mut rows[task.0 as usize];
     row.work(answer);
@@ -77,7 +82,8 @@ pub fn end_row(rows: &mut Vec<Row>, task: TaskId, ended: Ended, atoms: &mut Vec<
     requires row { CanEnd rows.old.items task.0 (vec_capacity atoms.old) }
     requires atoms { AreAtoms (vec_capacity atoms.old) (map task_number atoms.old.items) }
     ensures rows { (x : TaskRow) → slice_get rows.old.items task.0 ≡ Some x
-        → rows.new.items ≡ slice_set rows.old.items task.0 (with_ending x (ending_of (Some ended) atoms.old.items)) }
+        → rows.new.items ≡ slice_set rows.old.items task.0
+        (with_ending x (ending_of (Some ended) atoms.old.items)) }
     ensures list { atoms.new.items ≡ [] }
     ensures capacity { vec_capacity atoms.new ≡ vec_capacity atoms.old }
 {
@@ -131,7 +137,9 @@ pub fn gather_body(
     requires none { atoms.old.items ≡ [] }
     requires below { task.0 < vec_capacity atoms.old }
     requires rooms { HaveRoom rows.now (vec_capacity atoms.old) }
-    ensures items { map task_number atoms.new.items ≡ gathered (own_atom task.0 outcome) (those_started (map task_number children.now) (λ c. mem c started.now)) (ending_in rows.now) }
+    ensures items { map task_number atoms.new.items ≡ gathered (own_atom task.0 outcome)
+        (those_started (map task_number children.now) (λ c. mem c started.now))
+        (ending_in rows.now) }
     ensures atoms { AreAtoms (vec_capacity atoms.old) (map task_number atoms.new.items) }
     ensures capacity { vec_capacity atoms.new ≡ vec_capacity atoms.old }
 {
@@ -141,7 +149,8 @@ pub fn gather_body(
 
 /// How a body that is over ends its task, with these exceptions.
 pub fn end_of_body(atoms: &[TaskId], outcome: Option<Outcome>, place: u32, actor: Actor) -> Ended
-    ensures { ending_of (Some result) atoms.now ≡ body_over place actor (map task_number atoms.now) outcome }
+    ensures { ending_of (Some result) atoms.now ≡ body_over place actor (map task_number atoms.now)
+        outcome }
 {
     Ended {
         place,
@@ -155,7 +164,8 @@ pub fn end_of_body(atoms: &[TaskId], outcome: Option<Outcome>, place: u32, actor
 pub fn gather_args(atoms: &mut Vec<TaskId>, rows: &[Row], kind: Kind, args: &[TaskId])
     requires none { atoms.old.items ≡ [] }
     requires rooms { HaveRoom rows.now (vec_capacity atoms.old) }
-    ensures items { map task_number atoms.new.items ≡ (if is_all kind then gathered [] (map task_number args.now) (ending_in rows.now) else []) }
+    ensures items { map task_number atoms.new.items ≡ (if is_all kind
+        then gathered [] (map task_number args.now) (ending_in rows.now) else []) }
     ensures atoms { AreAtoms (vec_capacity atoms.old) (map task_number atoms.new.items) }
     ensures capacity { vec_capacity atoms.new ≡ vec_capacity atoms.old }
 {

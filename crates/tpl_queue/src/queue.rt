@@ -28,9 +28,13 @@ impl<I> Model for JobQueue<I> {
     ghost use Rattle.std.specs.Prelude.{◌≡◌};
     ghost use Rattle.crossbeam_queue.specs.Passes.{ruled_capacity};
 
-    ghost view = { λ q. record { id = q.ring.table.shared.table_id; capacity = ruled_capacity q.ring } };
+    ghost view = { λ q. record {
+      id = q.ring.table.shared.table_id;
+      capacity = ruled_capacity q.ring;
+    } };
 
-    ghost invariant = { λ q. (q.reserve.shared.key ≡ ruled_capacity q.ring) × (q.reserve.shared.table_id.words ≡ 1) };
+    ghost invariant = { λ q. (q.reserve.shared.key ≡ ruled_capacity q.ring)
+        × (q.reserve.shared.table_id.words ≡ 1) };
 }
 
 impl<I: Drop> JobQueue<I> {
@@ -100,7 +104,8 @@ impl<I: Drop> JobQueue<I> {
     pub fn take<R: Wait>(&self, rt: &R, pass: &mut QueuePass<I>) -> Option<Job<I>>
         requires { pass.old.queue ≡ self.now.id }
         ensures queue { pass.new.queue ≡ pass.old.queue }
-        ensures taken { IfSome result (λ job. pass.new.tally ≡ after_take pass.old.tally job.task.0) }
+        ensures taken { IfSome result (λ job. pass.new.tally
+            ≡ after_take pass.old.tally job.task.0) }
         ensures oldest { IfSome result (λ job. WasOldest job.task.0 pass.old.tally) }
         ensures none { IfNone result (pass.new.tally ≡ pass.old.tally) }
         ensures empty { IfNone result (HeldAtOnce 0 pass.old.tally) }
@@ -115,7 +120,8 @@ impl<I: Drop> JobQueue<I> {
     pub fn drain<R: Wait>(self, rt: &R, pass: QueuePass<I>) -> Vec<Job<I>>
         requires { pass.queue ≡ self.id }
         ensures accounts { Accounts pass.tally (map (λ j. j.task.0) result.items) }
-        ensures each_once { IsWhole pass.tally → (t : ℕ) → times t pass.tally.put ≡ times t pass.tally.taken + times t (map (λ j. j.task.0) result.items) }
+        ensures each_once { IsWhole pass.tally → (t : ℕ) → times t pass.tally.put
+            ≡ times t pass.tally.taken + times t (map (λ j. j.task.0) result.items) }
     {
         let JobQueue { ring, reserve } = self;
         let QueuePass { mut seat } = pass;

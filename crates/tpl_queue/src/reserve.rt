@@ -18,7 +18,8 @@ pub struct HasRoom;
 impl<T> TableRule<Vec<T>, usize, usize> for HasRoom {
     ghost use Rattle.tpl_queue.specs.Reserve.{KeepsRoom};
 
-    ghost holds = { λ places state. KeepsRoom (λ v. v.items) (λ v. vec_capacity v) places state.homes };
+    ghost holds = { λ places state. KeepsRoom (λ v. v.items) (λ v. vec_capacity v) places
+        state.homes };
 
     ghost first = { λ places. places };
 }

@@ -50,7 +50,8 @@ fn given_in(graph: &Graph, given: &NamedGiven) -> Option<Given>
 }
 
 fn pair_in(graph: &Graph, first: &str, second: &str) -> Option<(TaskId, TaskId)>
-    ensures { result ≡ pair_in (task_in graph.now.names first.now) (task_in graph.now.names second.now) }
+    ensures { result ≡ pair_in (task_in graph.now.names first.now)
+        (task_in graph.now.names second.now) }
 {
     match (task_in(graph, first), task_in(graph, second)) {
         (Some(a), Some(b)) => Some((a, b)),
@@ -90,7 +91,9 @@ fn givens_in(
     graph: &Graph,
     given: &[NamedGiven],
 ) -> Result<Vec<Given>, Stop<ClaimFault>>
-    ensures { Takes result (λ v. map (given_in graph.now.names) (map given_of given.now) ≡ map (λ x. Some x) v.items) (IsUnknown (list_all (λ x. is_some (given_in graph.now.names x)) (map given_of given.now))) }
+    ensures { Takes result (λ v. map (given_in graph.now.names) (map given_of given.now)
+        ≡ map (λ x. Some x) v.items) (IsUnknown (list_all
+        (λ x. is_some (given_in graph.now.names x)) (map given_of given.now))) }
 {
     let mut found = Vec::new(alloc);
     for one in given {
@@ -103,7 +106,8 @@ fn givens_in(
 }
 
 fn claim_in(alloc: Global, graph: &Graph, claim: &NamedClaim) -> Result<Claim, Stop<ClaimFault>>
-    ensures { Takes result (IsAsked graph.now (claim_of claim.now)) (IsWrongClaim graph.now (claim_of claim.now)) }
+    ensures { Takes result (IsAsked graph.now (claim_of claim.now))
+        (IsWrongClaim graph.now (claim_of claim.now)) }
 {
     graph.valid();
     let given = givens_in(alloc, graph, &claim.given)?;
@@ -126,7 +130,8 @@ fn numbered_claim(
     number: usize,
     claim: &NamedClaim,
 ) -> Result<Claim, Halt<ClaimFault>>
-    ensures { Here (IsAsked graph.now) (IsWrongClaim graph.now) (claim_of claim.now) number (λ c. c) result }
+    ensures { Here (IsAsked graph.now) (IsWrongClaim graph.now) (claim_of claim.now) number (λ c. c)
+        result }
 {
     match claim_in(alloc, graph, claim) {
         Ok(claim) => Ok(claim),
@@ -141,7 +146,8 @@ pub(crate) fn claims_in(
     graph: &Graph,
     claims: &[NamedClaim],
 ) -> Result<Vec<Claim>, Halt<ClaimFault>>
-    ensures { Passes (IsAsked graph.now) (IsWrongClaim graph.now) (map claim_of claims.now) (λ v. v.items) result }
+    ensures { Passes (IsAsked graph.now) (IsWrongClaim graph.now) (map claim_of claims.now)
+        (λ v. v.items) result }
 {
     let mut asked = Vec::new(alloc);
     for (index, claim) in claims.iter().enumerate() {

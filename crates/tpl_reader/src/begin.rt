@@ -21,7 +21,8 @@ use tpl_graph::Graph;
 use tpl_words::{InputId, Inputs, SiteId, TokenId};
 
 fn declares(graph: &Graph, members: &Map<String, Value>) -> bool
-    ensures { result ≡ list_all (λ key. is_declared graph.now.names.inputs (string_bytes key)) (keys members.now) }
+    ensures { result ≡ list_all (λ key. is_declared graph.now.names.inputs (string_bytes key))
+        (keys members.now) }
 {
     members
         .keys()
@@ -31,7 +32,8 @@ fn declares(graph: &Graph, members: &Map<String, Value>) -> bool
 /// Whether the names of the members are inputs.
 #[tactic(auto, using(crate::proofs::Truths::declares_of), unfolding(crate::specs::Begin::knows_members))]
 fn knows_members(graph: &Graph, inputs: Option<&Value>) -> bool
-    ensures { result ≡ knows_members graph.now.names.inputs (option_map (λ v. view v.now) inputs.entry) }
+    ensures { result ≡ knows_members graph.now.names.inputs
+        (option_map (λ v. view v.now) inputs.entry) }
 {
     match inputs {
         None => true,
@@ -54,7 +56,9 @@ fn truth_at(inputs: Option<&Value>, name: &str) -> Option<bool>
 
 /// The values of the inputs, if each has one.
 fn values_in(graph: &Graph, inputs: Option<&Value>) -> Option<Inputs>
-    ensures { MatchOption result (LacksTruth graph.now.names.inputs (option_map (λ v. view v.now) inputs.entry)) (λ v. HasTruths graph.now.names.inputs (option_map (λ v. view v.now) inputs.entry) v) }
+    ensures { MatchOption result (LacksTruth graph.now.names.inputs
+        (option_map (λ v. view v.now) inputs.entry)) (λ v. HasTruths graph.now.names.inputs
+        (option_map (λ v. view v.now) inputs.entry) v) }
 {
     graph.valid();
     let mut values = Inputs::new(graph.input_count());
@@ -69,7 +73,9 @@ fn values_in(graph: &Graph, inputs: Option<&Value>) -> Option<Inputs>
 }
 
 fn token_in(graph: &Graph, name: &str) -> Result<TokenId, Stop<StartFault>>
-    ensures takes { Takes result (λ t. (is_declared graph.now.names.tokens name.now ≡ true) × (number_of graph.now.names.tokens name.now ≡ Some t.0)) (IsUnknownName (is_declared graph.now.names.tokens name.now)) }
+    ensures takes { Takes result (λ t. (is_declared graph.now.names.tokens name.now ≡ true)
+        × (number_of graph.now.names.tokens name.now ≡ Some t.0))
+        (IsUnknownName (is_declared graph.now.names.tokens name.now)) }
     ensures unknown { IfErr result (λ e. e ≡ Stop.Fault StartFault.Unknown) }
 {
     match graph.token(name) {
@@ -79,7 +85,10 @@ fn token_in(graph: &Graph, name: &str) -> Result<TokenId, Stop<StartFault>>
 }
 
 fn tokens_in(alloc: Global, graph: &Graph, names: &[&str]) -> Result<Vec<TokenId>, Stop<StartFault>>
-    ensures { Takes result (λ v. (are_declared graph.now.names.tokens (map (λ s. s.now) names.now) ≡ true) × AreNumbers graph.now.names.tokens (map (λ s. s.now) names.now) (map token_number v.items)) (IsUnknownName (are_declared graph.now.names.tokens (map (λ s. s.now) names.now))) }
+    ensures { Takes result (λ v. (are_declared graph.now.names.tokens (map (λ s. s.now) names.now)
+        ≡ true) × AreNumbers graph.now.names.tokens (map (λ s. s.now) names.now)
+        (map token_number v.items)) (IsUnknownName (are_declared graph.now.names.tokens
+        (map (λ s. s.now) names.now))) }
 {
     let mut tokens = Vec::new(alloc);
     for name in names {
@@ -90,7 +99,9 @@ fn tokens_in(alloc: Global, graph: &Graph, names: &[&str]) -> Result<Vec<TokenId
 }
 
 fn site_in(graph: &Graph, name: &str) -> Result<SiteId, Stop<StartFault>>
-    ensures takes { Takes result (λ t. (is_declared graph.now.names.sites name.now ≡ true) × (number_of graph.now.names.sites name.now ≡ Some t.0)) (IsUnknownName (is_declared graph.now.names.sites name.now)) }
+    ensures takes { Takes result (λ t. (is_declared graph.now.names.sites name.now ≡ true)
+        × (number_of graph.now.names.sites name.now ≡ Some t.0))
+        (IsUnknownName (is_declared graph.now.names.sites name.now)) }
     ensures unknown { IfErr result (λ e. e ≡ Stop.Fault StartFault.Unknown) }
 {
     match graph.site(name) {
@@ -100,7 +111,10 @@ fn site_in(graph: &Graph, name: &str) -> Result<SiteId, Stop<StartFault>>
 }
 
 fn sites_in(alloc: Global, graph: &Graph, names: &[&str]) -> Result<Vec<SiteId>, Stop<StartFault>>
-    ensures { Takes result (λ v. (are_declared graph.now.names.sites (map (λ s. s.now) names.now) ≡ true) × AreNumbers graph.now.names.sites (map (λ s. s.now) names.now) (map site_number v.items)) (IsUnknownName (are_declared graph.now.names.sites (map (λ s. s.now) names.now))) }
+    ensures { Takes result (λ v. (are_declared graph.now.names.sites (map (λ s. s.now) names.now)
+        ≡ true) × AreNumbers graph.now.names.sites (map (λ s. s.now) names.now)
+        (map site_number v.items)) (IsUnknownName (are_declared graph.now.names.sites
+        (map (λ s. s.now) names.now))) }
 {
     let mut sites = Vec::new(alloc);
     for name in names {
@@ -137,7 +151,8 @@ pub(crate) fn start_in(
     graph: &Graph,
     start: &NamedStart,
 ) -> Result<Start, Stop<StartFault>>
-    ensures { Takes result (λ s. IsStartOf graph.now (start_of start.now) (value_of s)) (IsWrongStart graph.now (start_of start.now)) }
+    ensures { Takes result (λ s. IsStartOf graph.now (start_of start.now) (value_of s))
+        (IsWrongStart graph.now (start_of start.now)) }
 {
     if !knows_members(graph, start.inputs) {
         return Err(Stop::Fault(StartFault::Unknown));

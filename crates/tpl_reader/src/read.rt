@@ -66,7 +66,8 @@ fn claims_for(alloc: Global, graph: &Graph, claims: &[NamedClaim]) -> Result<Vec
 }
 
 fn trees_for(alloc: Global, graph: &Graph, values: &[Value]) -> Result<Vec<Tree>, ReadFault>
-    ensures ok { IfOk result (λ v. AllRead (ReadsAs graph.now.names) (map view values.now) v.items) }
+    ensures ok { IfOk result (λ v. AllRead (ReadsAs graph.now.names) (map view values.now)
+        v.items) }
     ensures err { IfErr result (TreeFaults graph.now (map view values.now)) }
 {
     match trees_in(alloc, graph, values) {
@@ -82,7 +83,8 @@ fn start_for(
     graph: &Graph,
     start: &Option<NamedStart>,
 ) -> Result<Option<Start>, ReadFault>
-    ensures ok { IfOk result (λ o. IsStarted graph.now (option_map start_of start.now) (option_map value_of o)) }
+    ensures ok { IfOk result (λ o. IsStarted graph.now (option_map start_of start.now)
+        (option_map value_of o)) }
     ensures err { IfErr result (StartFaults graph.now (option_map start_of start.now)) }
 {
     match start {

@@ -39,7 +39,8 @@ pub(crate) struct Shaped<'v> {
 }
 
 fn top_part(alloc: Global, value: &Value) -> Result<Members<'_>, Stop<Part>>
-    ensures { Takes result (λ m. IsTop (view value.now) (members_of m)) (WrongTop (view value.now)) }
+    ensures { Takes result (λ m. IsTop (view value.now) (members_of m))
+        (WrongTop (view value.now)) }
 {
     match members_of(alloc, value) {
         Ok(members) => Ok(members),
@@ -50,7 +51,8 @@ fn top_part(alloc: Global, value: &Value) -> Result<Members<'_>, Stop<Part>>
 
 fn task_part(alloc: Global, values: &[Value]) -> Result<Vec<DraftTask>, Stop<Part>>
     requires { AreShallow (map view values.now) }
-    ensures { Takes result (λ v. AllRead IsTask (map view values.now) (map task_of v.items)) (WrongTask (map view values.now)) }
+    ensures { Takes result (λ v. AllRead IsTask (map view values.now) (map task_of v.items))
+        (WrongTask (map view values.now)) }
 {
     match tasks_of(alloc, values) {
         Ok(tasks) => Ok(tasks),
@@ -60,7 +62,8 @@ fn task_part(alloc: Global, values: &[Value]) -> Result<Vec<DraftTask>, Stop<Par
 }
 
 fn claim_part(alloc: Global, values: &[Value]) -> Result<Vec<NamedClaim<'_>>, Stop<Part>>
-    ensures { Takes result (λ v. AllRead IsClaim (map view values.now) (map claim_of v.items)) (WrongClaim (map view values.now)) }
+    ensures { Takes result (λ v. AllRead IsClaim (map view values.now) (map claim_of v.items))
+        (WrongClaim (map view values.now)) }
 {
     match claims_of(alloc, values) {
         Ok(claims) => Ok(claims),
@@ -74,7 +77,8 @@ fn start_or_none<'v>(
     alloc: Global,
     value: Option<&'v Value>,
 ) -> Result<Option<NamedStart<'v>>, Miss>
-    ensures { Gives (λ o. option_map start_of o) result (start_or_none (option_map (λ v. view v.now) value.entry)) }
+    ensures { Gives (λ o. option_map start_of o) result
+        (start_or_none (option_map (λ v. view v.now) value.entry)) }
 {
     match value {
         None => Ok(None),
@@ -89,7 +93,8 @@ fn start_part<'v>(
     alloc: Global,
     value: Option<&'v Value>,
 ) -> Result<Option<NamedStart<'v>>, Stop<Part>>
-    ensures { Takes result (λ o. IsStartIfAny (option_map (λ v. view v.now) value.entry) (option_map start_of o)) (WrongStart (option_map (λ v. view v.now) value.entry)) }
+    ensures { Takes result (λ o. IsStartIfAny (option_map (λ v. view v.now) value.entry)
+        (option_map start_of o)) (WrongStart (option_map (λ v. view v.now) value.entry)) }
 {
     match start_or_none(alloc, value) {
         Ok(start) => Ok(start),
@@ -101,7 +106,8 @@ fn start_part<'v>(
 /// The document with names, or the first part that hasn't its form. The value nests at most 127 deep, as that of a text.
 pub(crate) fn shape_of(alloc: Global, value: &Value) -> Result<Shaped<'_>, Stop<Part>>
     requires { depth (view value.now) ≤ 127 }
-    ensures { Takes result (λ s. IsSpelled (view value.now) (spelled_of s)) (IsMisshapen (view value.now)) }
+    ensures { Takes result (λ s. IsSpelled (view value.now) (spelled_of s))
+        (IsMisshapen (view value.now)) }
 {
     let members = top_part(alloc, value)?;
     let tasks = task_part(alloc, members.tasks)?;

@@ -35,7 +35,8 @@ fn has_truths(value: &Value) -> bool
 
 #[tactic(auto, unfolding(crate::specs::Start::truths_or_none))]
 fn truths_or_none<'v>(value: &'v Value, name: &str) -> Result<Option<&'v Value>, Miss>
-    ensures gives { Gives (λ o. option_map (λ v. view v.now) o) result (truths_or_none (get name.now (view value.now))) }
+    ensures gives { Gives (λ o. option_map (λ v. view v.now) o) result
+        (truths_or_none (get name.now (view value.now))) }
     ensures shape { IfErr result IsShape }
 {
     match value.get(name) {

@@ -121,7 +121,8 @@ fn is_branch(value: &Value) -> bool
 
 #[cycle(body)]
 fn first_of(alloc: Global, levels: u32, value: &Value) -> Result<DraftBody, Miss>
-    ensures { Gives (λ b. b) result (option_and_then (body_at levels) (get (codes "then") (view value.now))) }
+    ensures { Gives (λ b. b) result (option_and_then (body_at levels)
+        (get (codes "then") (view value.now))) }
 {
     let list = member_in(value, "then")?;
     body_of(alloc, levels, list)
@@ -130,7 +131,8 @@ fn first_of(alloc: Global, levels: u32, value: &Value) -> Result<DraftBody, Miss
 #[cycle(body)]
 #[tactic(auto, unfolding(crate::specs::Statements::else_at))]
 fn second_of(alloc: Global, levels: u32, value: &Value) -> Result<DraftBody, Miss>
-    ensures { Gives (λ b. b) result (else_at (body_at levels) (get (codes "else") (view value.now))) }
+    ensures { Gives (λ b. b) result (else_at (body_at levels)
+        (get (codes "else") (view value.now))) }
 {
     match value.get("else") {
         None => Ok(DraftBody::new(Vec::new(alloc))),
@@ -198,7 +200,8 @@ fn statement_of(alloc: Global, levels: u32, value: &Value) -> Result<DraftStmt, 
 
 #[cycle(body)]
 fn statements_of(alloc: Global, levels: u32, values: &[Value]) -> Result<Vec<DraftStmt>, Miss>
-    ensures { Gives (λ v. map line_of v.items) result (each (statement_at (body_at levels)) (map view values.now)) }
+    ensures { Gives (λ v. map line_of v.items) result (each (statement_at (body_at levels))
+        (map view values.now)) }
 {
     let mut statements = Vec::new(alloc);
     for value in values {

@@ -53,7 +53,8 @@ fn options_of(values: &[Value]) -> Result<Options, Miss>
 
 #[tactic(auto, unfolding(crate::specs::Tasks::text_or_none))]
 fn text_or_none(alloc: Global, value: &Value, name: &str) -> Result<Option<String>, Miss>
-    ensures { Gives (λ o. option_map string_bytes o) result (text_or_none (get name.now (view value.now))) }
+    ensures { Gives (λ o. option_map string_bytes o) result
+        (text_or_none (get name.now (view value.now))) }
 {
     match value.get(name) {
         None => Ok(None),

@@ -64,7 +64,8 @@ fn version_of(value: &Value) -> Result<bool, Miss>
 }
 
 fn tokens_of(alloc: Global, links: bool, values: &[Value]) -> Result<Vec<DraftToken>, Miss>
-    ensures { Gives (λ v. map token_of v.items) result (each (token_at links) (map view values.now)) }
+    ensures { Gives (λ v. map token_of v.items) result (each (token_at links)
+        (map view values.now)) }
 {
     let mut tokens = Vec::new(alloc);
     for value in values {

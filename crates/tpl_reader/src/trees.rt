@@ -17,7 +17,8 @@ fn numbered_tree(
     number: usize,
     value: &Value,
 ) -> Result<Tree, Halt<TreeFault>>
-    ensures { Here (ReadsAs graph.now.names) (IsWrongTree graph.now.names) (view value.now) number (λ t. t) result }
+    ensures { Here (ReadsAs graph.now.names) (IsWrongTree graph.now.names) (view value.now) number
+        (λ t. t) result }
 {
     match tree_from(alloc, graph, value) {
         Ok(tree) => Ok(tree),
@@ -31,7 +32,8 @@ pub(crate) fn trees_in(
     graph: &Graph,
     values: &[Value],
 ) -> Result<Vec<Tree>, Halt<TreeFault>>
-    ensures { Passes (ReadsAs graph.now.names) (IsWrongTree graph.now.names) (map view values.now) (λ v. v.items) result }
+    ensures { Passes (ReadsAs graph.now.names) (IsWrongTree graph.now.names) (map view values.now)
+        (λ v. v.items) result }
 {
     let mut trees = Vec::new(alloc);
     for (index, value) in values.iter().enumerate() {

@@ -151,7 +151,8 @@ pub fn serve_run<R: Threads + Wait + Sync, K: Drop + Send, W: Item<K> + Send, O:
         → Completes (doc_of document.now) O.contents to.old to.new }
 
     // The line for want of memory stands alone.
-    ensures memory { result ≡ Exit.Memory → Writes O.contents to.old to.new (codes "out of memory\n") }
+    ensures memory { result ≡ Exit.Memory → Writes O.contents to.old to.new
+        (codes "out of memory\n") }
 {
     match inputs_of(document) {
         Some(inputs) => check_and_run(rt, alloc, document, inputs, items, workers, to),

@@ -75,7 +75,8 @@ fn start_one<'s, E, C: Crew + Sync + 's, R: Threads + Wait + Sync>(
 where
     C::Load: Send,
     requires pass { pass.queue ≡ C.queue crew.now }
-    requires children { All (λ h. h.promise.pass.value.queue ≡ C.queue crew.now) children.old.items }
+    requires children { All (λ h. h.promise.pass.value.queue ≡ C.queue crew.now)
+        children.old.items }
     ensures pass { result.0.queue ≡ C.queue crew.now }
     ensures children { All (λ h. h.promise.pass.value.queue ≡ C.queue crew.now) children.new.items }
 {
@@ -106,7 +107,8 @@ fn start_all<'s, E, C: Crew + Sync + 's, R: Threads + Wait + Sync>(
 where
     C::Load: Send,
     requires pass { pass.queue ≡ C.queue crew.now }
-    requires children { All (λ h. h.promise.pass.value.queue ≡ C.queue crew.now) children.old.items }
+    requires children { All (λ h. h.promise.pass.value.queue ≡ C.queue crew.now)
+        children.old.items }
     ensures pass { result.0.queue ≡ C.queue crew.now }
     ensures children { All (λ h. h.promise.pass.value.queue ≡ C.queue crew.now) children.new.items }
 {

@@ -59,7 +59,8 @@ impl<'a> Cursor<'a> {
 
     /// The next statement, if one is left.
     pub fn first(&self) -> Option<&'a Stmt>
-        ensures { MatchOption result (self.now ≡ Nothing) (λ s. BeginsWith self.now (statement_of s.now)) }
+        ensures { MatchOption result (self.now ≡ Nothing)
+            (λ s. BeginsWith self.now (statement_of s.now)) }
     {
         let levels = &self.levels[..];
         let depth = settled(levels, self.depth);
@@ -124,8 +125,10 @@ impl<'a> Cursor<'a> {
 
 /// The list that a choice takes, or none where the statement is no choice.
 fn chosen_list(statement: &Stmt, first: bool) -> Option<&Body>
-    ensures list { MatchOption result (chosen (statement_of statement.now) first ≡ Nothing) (λ b. b.now ≡ chosen (statement_of statement.now) first) }
-    ensures nested { IfSome result (λ b. level_count b.now < levels_in (statement_of statement.now)) }
+    ensures list { MatchOption result (chosen (statement_of statement.now) first ≡ Nothing)
+        (λ b. b.now ≡ chosen (statement_of statement.now) first) }
+    ensures nested { IfSome result (λ b. level_count b.now < levels_in
+        (statement_of statement.now)) }
 {
     match statement {
         Stmt::If(_, yes, no) | Stmt::When(_, yes, no) => Some(if first { yes } else { no }),

@@ -29,7 +29,12 @@ struct Ends {
 impl Ends {
     /// No path ends.
     fn open(goes_on: bool) -> Ends
-        ensures { result ≡ record { goes_on = goes_on; returned = false; thrown = false; acknowledged = false } }
+        ensures { result ≡ record {
+          goes_on = goes_on;
+          returned = false;
+          thrown = false;
+          acknowledged = false;
+        } }
     {
         Ends {
             goes_on,
@@ -77,7 +82,11 @@ impl Ends {
 
     /// The verdicts with which a path ends; one that goes on returns at the end of the body.
     fn verdicts(self) -> Verdicts
-        ensures { result ≡ record { returned = self.returned || self.goes_on; thrown = self.thrown; acknowledged = self.acknowledged } }
+        ensures { result ≡ record {
+          returned = self.returned || self.goes_on;
+          thrown = self.thrown;
+          acknowledged = self.acknowledged;
+        } }
     {
         Verdicts {
             returned: self.returned || self.goes_on,
@@ -153,7 +162,8 @@ fn checked(token: TokenId, view: &View) -> Ends
 pub fn may(script: &Script, view: &View) -> Verdicts
     ensures returned { IsTrue result.returned ↔ MayEnd (known view.now) script.now Returned }
     ensures thrown { IsTrue result.thrown ↔ MayThrow (known view.now) script.now }
-    ensures acknowledged { IsTrue result.acknowledged ↔ MayEnd (known view.now) script.now Acknowledged }
+    ensures acknowledged { IsTrue result.acknowledged ↔ MayEnd (known view.now) script.now
+        Acknowledged }
 {
     ends_of(script.body(), view, true).verdicts()
 }

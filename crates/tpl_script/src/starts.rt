@@ -125,7 +125,8 @@ fn add_starts_in(body: &Body, view: &View, found: &mut TaskSet) -> bool
 #[cycle(starts)]
 fn add_starts_at(statement: &Stmt, view: &View, found: &mut TaskSet) -> bool
     ensures goes_on { result ≡ passes_by none (known view.now) (statement_of statement.now) }
-    ensures found { Adds found.old found.new (λ x. reaches_in x (known view.now) (statement_of statement.now)) }
+    ensures found { Adds found.old found.new (λ x. reaches_in x (known view.now)
+        (statement_of statement.now)) }
 {
     match statement {
         Stmt::Return | Stmt::Throw(_) => false,
@@ -152,7 +153,8 @@ fn add_starts_at(statement: &Stmt, view: &View, found: &mut TaskSet) -> bool
 #[cycle(starts)]
 fn add_starts_if(possible: bool, body: &Body, view: &View, found: &mut TaskSet) -> bool
     ensures goes_on { result ≡ (possible && gets_through none (known view.now) body.now) }
-    ensures found { Adds found.old found.new (λ x. possible && reaches x (known view.now) body.now) }
+    ensures found { Adds found.old found.new (λ x. possible
+        && reaches x (known view.now) body.now) }
 {
     possible && add_starts_in(body, view, found)
 }
@@ -176,7 +178,8 @@ pub fn may_start(script: &Script, view: &View, child: TaskId) -> bool
 /// The children whose start some path of the script passes, in the runs that the view knows of:
 /// those below `MOST_TASKS`, all found in one walk.
 pub fn may_start_all(script: &Script, view: &View) -> TaskSet
-    ensures members { (x : ℕ) → x < MOST_TASKS → (mem x result ≡ true) ↔ MayStartChild (known view.now) script.now x }
+    ensures members { (x : ℕ) → x < MOST_TASKS → (mem x result ≡ true)
+        ↔ MayStartChild (known view.now) script.now x }
     ensures set { IsTaskSet result }
 {
     let mut found = TaskSet::empty();

@@ -138,7 +138,8 @@ fn there_and_back<I: Drop, R: Wait>(
     alloc: Global,
     job: Job<I>,
 ) -> Result<Option<Vec<Job<I>>>, AllocError>
-    ensures { IfOk result (λ back. IfSome back (λ all. (t : ℕ) → times t (map (λ j. j.task.0) all.items) ≡ times t (job.task.0 ∷ []))) }
+    ensures { IfOk result (λ back. IfSome back (λ all. (t : ℕ) → times t
+        (map (λ j. j.task.0) all.items) ≡ times t (job.task.0 ∷ []))) }
 {
     let (queue, pass) = JobQueue::new(alloc, 4)?;
     let (first, mut second) = queue.split(pass);

@@ -30,7 +30,8 @@ impl Final {
 
     /// The final status that a word names.
     pub fn from_name(name: &str) -> Option<Final>
-        ensures { MatchOption result ((f : Final) → final_name f ≡ name.now → ⊥) (λ f. final_name f ≡ name.now) }
+        ensures { MatchOption result ((f : Final) → final_name f ≡ name.now
+            → ⊥) (λ f. final_name f ≡ name.now) }
     {
         if name == "RanToCompletion" {
             Some(Final::RanToCompletion)

@@ -109,7 +109,8 @@ impl TaskSet {
 
     /// Takes the least member out and gives it.
     pub fn pop_first(&mut self) -> Option<TaskId>
-        ensures first { MatchOption result ((self.old ≡ []) × (self.new ≡ [])) (λ t. self.old ≡ t.0 ∷ self.new) }
+        ensures first { MatchOption result ((self.old ≡ [])
+            × (self.new ≡ [])) (λ t. self.old ≡ t.0 ∷ self.new) }
         ensures set { IsTaskSet self.old }
     {
         for i in 0..WORDS {

@@ -52,27 +52,31 @@ fn begins_on(actor: Actor, bound: Option<Actor>) -> bool
 impl<'g> State<'g> {
     fn is_inactive(&self, task: TaskId) -> bool
         requires { is_task self.now.graph task.0 }
-        ensures { result ≡ laws.is_inactive (status self.now.graph self.now.inputs self.now.events task.0) }
+        ensures { result ≡ laws.is_inactive (status self.now.graph self.now.inputs self.now.events
+            task.0) }
     {
         matches!(self.status_of(task), Status::WaitingForActivation)
     }
 
     fn is_ready(&self, task: TaskId) -> bool
         requires { is_task self.now.graph task.0 }
-        ensures { result ≡ laws.is_ready (status self.now.graph self.now.inputs self.now.events task.0) }
+        ensures { result ≡ laws.is_ready (status self.now.graph self.now.inputs self.now.events
+            task.0) }
     {
         matches!(self.status_of(task), Status::WaitingToRun)
     }
 
     fn is_waiting(&self, task: TaskId) -> bool
         requires { is_task self.now.graph task.0 }
-        ensures { result ≡ laws.is_waiting (status self.now.graph self.now.inputs self.now.events task.0) }
+        ensures { result ≡ laws.is_waiting (status self.now.graph self.now.inputs self.now.events
+            task.0) }
     {
         matches!(self.status_of(task), Status::WaitingForChildrenToComplete)
     }
 
     fn runs_on(&self, actor: Actor, task: TaskId) -> bool
-        ensures { result ≡ laws.runs_on self.now.graph self.now.inputs self.now.events actor task.0 }
+        ensures { result ≡ laws.runs_on self.now.graph self.now.inputs self.now.events actor
+            task.0 }
     {
         self.has_task(task)
             && is_by(self.begun(task), actor)
@@ -80,7 +84,8 @@ impl<'g> State<'g> {
     }
 
     fn may_request(&self, actor: Actor, token: TokenId) -> bool
-        ensures { result ≡ laws.can_request self.now.graph self.now.inputs self.now.events actor token.0 }
+        ensures { result ≡ laws.can_request self.now.graph self.now.inputs self.now.events actor
+            token.0 }
     {
         is_outside(actor) && self.has_token(token) && !self.asked(token)
     }
@@ -88,7 +93,8 @@ impl<'g> State<'g> {
     /// A continuation's antecedent has ended in a way that its options allow.
     fn may_start(&self, task: TaskId) -> bool
         requires { is_task self.now.graph task.0 }
-        ensures { result ≡ laws.may_start self.now.graph self.now.inputs self.now.events task.0 (kind self.now.graph task.0) }
+        ensures { result ≡ laws.may_start self.now.graph self.now.inputs self.now.events task.0
+            (kind self.now.graph task.0) }
     {
         match self.antecedent(task) {
             None => false,
@@ -102,7 +108,8 @@ impl<'g> State<'g> {
     /// A continuation's antecedent has ended in a way that its options don't allow.
     fn may_not_start(&self, task: TaskId) -> bool
         requires { is_task self.now.graph task.0 }
-        ensures { result ≡ laws.may_not_start self.now.graph self.now.inputs self.now.events task.0 (kind self.now.graph task.0) }
+        ensures { result ≡ laws.may_not_start self.now.graph self.now.inputs self.now.events task.0
+            (kind self.now.graph task.0) }
     {
         match self.antecedent(task) {
             None => false,
@@ -116,7 +123,8 @@ impl<'g> State<'g> {
     /// A continuation isn't lazy, or its antecedent has ended (`TaskContinuationOptions.LazyCancellation`).
     fn may_cancel(&self, task: TaskId) -> bool
         requires { is_task self.now.graph task.0 }
-        ensures { result ≡ laws.may_cancel self.now.graph self.now.inputs self.now.events task.0 (kind self.now.graph task.0) }
+        ensures { result ≡ laws.may_cancel self.now.graph self.now.inputs self.now.events task.0
+            (kind self.now.graph task.0) }
     {
         match self.antecedent(task) {
             None => false,
@@ -140,7 +148,9 @@ impl<'g> State<'g> {
     fn is_synchronous(&self, task: TaskId, antecedent: TaskId) -> bool
         requires task { is_task self.now.graph task.0 }
         requires antecedent { is_task self.now.graph antecedent.0 }
-        ensures { let g = self.now.graph in result ≡ (execute_synchronously (options g task.0) && not (run_continuations_asynchronously (options g task.0)) && not (run_continuations_asynchronously (options g antecedent.0))) }
+        ensures { let g = self.now.graph in result ≡ (execute_synchronously (options g task.0)
+            && not (run_continuations_asynchronously (options g task.0))
+            && not (run_continuations_asynchronously (options g antecedent.0))) }
     {
         let options = self.options(task);
         options.execute_synchronously()
@@ -151,7 +161,8 @@ impl<'g> State<'g> {
     /// Who ended the antecedent of a synchronous continuation, which is bound to that worker.
     fn bound_to(&self, task: TaskId) -> Option<Actor>
         requires { is_task self.now.graph task.0 }
-        ensures { worker_of result ≡ bound_worker self.now.graph self.now.inputs self.now.events task.0 (kind self.now.graph task.0) }
+        ensures { worker_of result ≡ bound_worker self.now.graph self.now.inputs self.now.events
+            task.0 (kind self.now.graph task.0) }
     {
         let antecedent = self.antecedent(task)?;
         if self.is_synchronous(task, antecedent) {
@@ -162,7 +173,8 @@ impl<'g> State<'g> {
     }
 
     fn may_begin(&self, actor: Actor, task: TaskId) -> bool
-        ensures { result ≡ laws.can_begin self.now.graph self.now.inputs self.now.events actor task.0 }
+        ensures { result ≡ laws.can_begin self.now.graph self.now.inputs self.now.events actor
+            task.0 }
     {
         self.has_task(task)
             && self.is_ready(task)
@@ -171,13 +183,15 @@ impl<'g> State<'g> {
     }
 
     fn may_step(&self, actor: Actor, task: TaskId) -> bool
-        ensures { result ≡ laws.can_step self.now.graph self.now.inputs self.now.events actor task.0 }
+        ensures { result ≡ laws.can_step self.now.graph self.now.inputs self.now.events actor
+            task.0 }
     {
         self.runs_on(actor, task) && self.row(task).outcome().is_none() && self.row(task).steps()
     }
 
     fn may_work(&self, actor: Actor, task: TaskId, answer: Answer) -> bool
-        ensures { result ≡ laws.can_work self.now.graph self.now.inputs self.now.events actor task.0 answer }
+        ensures { result ≡ laws.can_work self.now.graph self.now.inputs self.now.events actor task.0
+            answer }
     {
         self.runs_on(actor, task)
             && self.row(task).outcome().is_none()
@@ -185,7 +199,8 @@ impl<'g> State<'g> {
     }
 
     fn may_leave(&self, actor: Actor, task: TaskId) -> bool
-        ensures { result ≡ laws.can_leave self.now.graph self.now.inputs self.now.events actor task.0 }
+        ensures { result ≡ laws.can_leave self.now.graph self.now.inputs self.now.events actor
+            task.0 }
     {
         self.runs_on(actor, task) && self.row(task).outcome_now().is_some()
     }
@@ -208,7 +223,8 @@ impl<'g> State<'g> {
     /// The arguments of a WhenAll or WhenAny task have ended, as far as it waits for them.
     fn is_settling(&self, task: TaskId) -> bool
         requires { is_task self.now.graph task.0 }
-        ensures { result ≡ can_settle (kind self.now.graph task.0) (ending self.now.graph self.now.inputs self.now.events) }
+        ensures { result ≡ can_settle (kind self.now.graph task.0)
+            (ending self.now.graph self.now.inputs self.now.events) }
     {
         match self.kind(task) {
             Kind::All => self.args_ended(task),
@@ -218,14 +234,16 @@ impl<'g> State<'g> {
     }
 
     pub fn may_settle(&self, task: TaskId) -> bool
-        ensures { result ≡ laws.can_settle_now self.now.graph self.now.inputs self.now.events task.0 }
+        ensures { result ≡ laws.can_settle_now self.now.graph self.now.inputs self.now.events
+            task.0 }
     {
         self.has_task(task) && !self.has_ended(task) && self.is_settling(task)
     }
 
     /// The event is allowed next.
     pub fn allows(&self, event: Event) -> bool
-        ensures { result ≡ laws.can self.now.graph self.now.inputs self.now.events event.actor event.act }
+        ensures { result ≡ laws.can self.now.graph self.now.inputs self.now.events event.actor
+            event.act }
     {
         let actor = event.actor;
         match event.act {

@@ -18,7 +18,8 @@ use tpl_words::TaskId;
 
 /// The task whose body starts this child, if it is one.
 pub(crate) fn parent_of(graph: &Graph, child: Option<TaskId>) -> Option<TaskId>
-    ensures { (p c : ℕ) → is_task graph.now.graph c → option_map task_number child ≡ Some c → IsParent graph.now.graph p c → option_map task_number result ≡ Some p }
+    ensures { (p c : ℕ) → is_task graph.now.graph c → option_map task_number child ≡ Some c
+        → IsParent graph.now.graph p c → option_map task_number result ≡ Some p }
 {
     graph.valid();
     let child = child?;
@@ -32,7 +33,8 @@ pub(crate) fn parent_of(graph: &Graph, child: Option<TaskId>) -> Option<TaskId>
 /// A task that starts a child looks at its children again from the first.
 pub(crate) fn restart(over: &mut Vec<usize>, task: Option<TaskId>)
     ensures count { length over.new.items ≡ length over.old.items }
-    ensures each { (t : ℕ) → slice_index_or over.new.items t 0 ≡ (if is_it (option_map task_number task) t then 0 else slice_index_or over.old.items t 0) }
+    ensures each { (t : ℕ) → slice_index_or over.new.items t 0
+        ≡ (if is_it (option_map task_number task) t then 0 else slice_index_or over.old.items t 0) }
 {
     if let Some(task) = task
         && (task.0 as usize) < over.len()
@@ -46,7 +48,8 @@ impl<'g> State<'g> {
     fn args_head(&self, task: TaskId) -> usize
         requires { is_task self.now.graph task.0 }
         ensures within { result ≤ length (args_of (spec.kind self.now.graph task.0)) }
-        ensures ended { all_pass (has_ended self.now) (take result (args_of (spec.kind self.now.graph task.0))) ≡ true }
+        ensures ended { all_pass (has_ended self.now) (take result
+            (args_of (spec.kind self.now.graph task.0))) ≡ true }
     {
         self.ended[task.0 as usize]
     }
@@ -55,7 +58,8 @@ impl<'g> State<'g> {
     fn children_head(&self, task: TaskId) -> usize
         requires { is_task self.now.graph task.0 }
         ensures within { result ≤ length (attached self.now.graph task.0) }
-        ensures over { all_pass (is_over self.now) (take result (attached self.now.graph task.0)) ≡ true }
+        ensures over { all_pass (is_over self.now) (take result (attached self.now.graph task.0))
+            ≡ true }
     {
         self.over[task.0 as usize]
     }
@@ -63,7 +67,8 @@ impl<'g> State<'g> {
     /// All arguments of a task have ended.
     pub fn args_ended(&self, task: TaskId) -> bool
         requires { is_task self.now.graph task.0 }
-        ensures { result ≡ all_ended (args_of (spec.kind self.now.graph task.0)) (ending self.now.graph self.now.inputs self.now.events) }
+        ensures { result ≡ all_ended (args_of (spec.kind self.now.graph task.0))
+            (ending self.now.graph self.now.inputs self.now.events) }
     {
         let args = self.args(task);
         let head = self.args_head(task);
@@ -73,7 +78,8 @@ impl<'g> State<'g> {
     /// An argument of the task was found that has ended.
     fn has_found(&self, task: TaskId) -> bool
         requires { is_task self.now.graph task.0 }
-        ensures { result ≡ true → some_ended (args_of (spec.kind self.now.graph task.0)) (ending self.now.graph self.now.inputs self.now.events) ≡ true }
+        ensures { result ≡ true → some_ended (args_of (spec.kind self.now.graph task.0))
+            (ending self.now.graph self.now.inputs self.now.events) ≡ true }
     {
         self.found[task.0 as usize]
     }
@@ -81,7 +87,8 @@ impl<'g> State<'g> {
     /// One of the arguments of a task has ended.
     pub fn some_arg_ended(&self, task: TaskId) -> bool
         requires { is_task self.now.graph task.0 }
-        ensures { result ≡ some_ended (args_of (spec.kind self.now.graph task.0)) (ending self.now.graph self.now.inputs self.now.events) }
+        ensures { result ≡ some_ended (args_of (spec.kind self.now.graph task.0))
+            (ending self.now.graph self.now.inputs self.now.events) }
     {
         self.has_found(task) || self.some_ended(self.args(task))
     }
@@ -89,7 +96,8 @@ impl<'g> State<'g> {
     /// Each attached child of a task that was started has ended.
     pub fn children_over(&self, task: TaskId) -> bool
         requires { is_task self.now.graph task.0 }
-        ensures { let j = self.now in result ≡ all_over (attached j.graph task.0) (started j.graph j.inputs j.events) (ending j.graph j.inputs j.events) }
+        ensures { let j = self.now in result ≡ all_over (attached j.graph task.0)
+            (started j.graph j.inputs j.events) (ending j.graph j.inputs j.events) }
     {
         let children = self.children(task);
         let head = self.children_head(task);
@@ -100,7 +108,8 @@ impl<'g> State<'g> {
     fn first_unended(&self, tasks: &[TaskId], from: usize) -> usize
         requires { from ≤ length tasks.now }
         ensures within { result ≤ length tasks.now }
-        ensures ended { all_pass (has_ended self.now) (map task_number (take from tasks.now)) ≡ true → all_pass (has_ended self.now) (map task_number (take result tasks.now)) ≡ true }
+        ensures ended { all_pass (has_ended self.now) (map task_number (take from tasks.now)) ≡ true
+            → all_pass (has_ended self.now) (map task_number (take result tasks.now)) ≡ true }
     {
         for i in from..tasks.len() {
             if !self.has_ended(tasks[i]) {
@@ -114,9 +123,11 @@ impl<'g> State<'g> {
     /// are.
     fn first_open(&self, children: &[TaskId], from: usize) -> usize
         requires within { from ≤ length children.now }
-        requires tasks { (c : ℕ) → mem c (map task_number children.now) ≡ true → is_task self.now.graph c }
+        requires tasks { (c : ℕ) → mem c (map task_number children.now) ≡ true
+            → is_task self.now.graph c }
         ensures within { result ≤ length children.now }
-        ensures over { all_pass (is_over self.now) (map task_number (take from children.now)) ≡ true → all_pass (is_over self.now) (map task_number (take result children.now)) ≡ true }
+        ensures over { all_pass (is_over self.now) (map task_number (take from children.now)) ≡ true
+            → all_pass (is_over self.now) (map task_number (take result children.now)) ≡ true }
     {
         for i in from..children.len() {
             if self.is_open(children[i]) {

@@ -43,7 +43,8 @@ impl<'g> State<'g> {
     /// The task that a continuation continues.
     pub fn antecedent(&self, task: TaskId) -> Option<TaskId>
         requires { is_task self.now.graph task.0 }
-        ensures antecedent { option_map task_number result ≡ antecedent_of (spec.kind self.now.graph task.0) }
+        ensures antecedent { option_map task_number result
+            ≡ antecedent_of (spec.kind self.now.graph task.0) }
         ensures within { IfSome result (λ a. is_task self.now.graph a.0) }
     {
         self.is_run();
@@ -110,7 +111,8 @@ impl<'g> State<'g> {
 
     /// No task past the graph's has ended.
     fn outside(&self)
-        ensures { (t : ℕ) → length self.now.graph.tasks ≤ t → ending self.now.graph self.now.inputs self.now.events t ≡ None }
+        ensures { (t : ℕ) → length self.now.graph.tasks ≤ t
+            → ending self.now.graph self.now.inputs self.now.events t ≡ None }
     {
         self.is_run();
     }
@@ -223,14 +225,16 @@ impl<'g> State<'g> {
 
     /// Which tokens of the graph are requested.
     pub fn tokens(&self) -> [bool; MOST_TOKENS]
-        ensures { let j = self.now in (k : ℕ) → is_token j.graph k → slice_index_or result k false ≡ requested j.graph j.inputs j.events k }
+        ensures { let j = self.now in (k : ℕ) → is_token j.graph k
+            → slice_index_or result k false ≡ requested j.graph j.inputs j.events k }
     {
         self.asked.all()
     }
 
     /// All of the tasks have ended.
     pub fn all_ended(&self, tasks: &[TaskId]) -> bool
-        ensures { result ≡ all_ended (map task_number tasks.now) (ending self.now.graph self.now.inputs self.now.events) }
+        ensures { result ≡ all_ended (map task_number tasks.now)
+            (ending self.now.graph self.now.inputs self.now.events) }
     {
         for task in tasks {
             if !self.has_ended(*task) {
@@ -242,7 +246,8 @@ impl<'g> State<'g> {
 
     /// One of the tasks has ended.
     pub fn some_ended(&self, tasks: &[TaskId]) -> bool
-        ensures { result ≡ some_ended (map task_number tasks.now) (ending self.now.graph self.now.inputs self.now.events) }
+        ensures { result ≡ some_ended (map task_number tasks.now)
+            (ending self.now.graph self.now.inputs self.now.events) }
     {
         for task in tasks {
             if self.has_ended(*task) {
@@ -256,7 +261,8 @@ impl<'g> State<'g> {
     pub fn children(&self, task: TaskId) -> &[TaskId]
         requires { is_task self.now.graph task.0 }
         ensures children { map task_number result.now ≡ attached self.now.graph task.0 }
-        ensures within { (c : ℕ) → mem c (map task_number result.now) ≡ true → is_task self.now.graph c }
+        ensures within { (c : ℕ) → mem c (map task_number result.now) ≡ true
+            → is_task self.now.graph c }
     {
         self.is_run();
         self.graph().attached(task)
@@ -265,15 +271,18 @@ impl<'g> State<'g> {
     /// The child was started and hasn't ended.
     pub fn is_open(&self, child: TaskId) -> bool
         requires { is_task self.now.graph child.0 }
-        ensures { let j = self.now in result ≡ (started j.graph j.inputs j.events child.0 && not (is_some (ending j.graph j.inputs j.events child.0))) }
+        ensures { let j = self.now in result ≡ (started j.graph j.inputs j.events child.0
+            && not (is_some (ending j.graph j.inputs j.events child.0))) }
     {
         self.was_started(child) && !self.has_ended(child)
     }
 
     /// Each of the children that was started has ended.
     pub fn all_over(&self, children: &[TaskId]) -> bool
-        requires { (c : ℕ) → mem c (map task_number children.now) ≡ true → is_task self.now.graph c }
-        ensures { let j = self.now in result ≡ all_over (map task_number children.now) (started j.graph j.inputs j.events) (ending j.graph j.inputs j.events) }
+        requires { (c : ℕ) → mem c (map task_number children.now) ≡ true
+            → is_task self.now.graph c }
+        ensures { let j = self.now in result ≡ all_over (map task_number children.now)
+            (started j.graph j.inputs j.events) (ending j.graph j.inputs j.events) }
     {
         for child in children {
             if self.is_open(*child) {

@@ -69,21 +69,24 @@ impl<'g> Machine<'g> {
 
     fn is_inactive(&self, task: TaskId) -> bool
         requires { is_task self.now.graph task.0 }
-        ensures { result ≡ laws.is_inactive (status self.now.graph self.now.inputs self.now.events task.0) }
+        ensures { result ≡ laws.is_inactive (status self.now.graph self.now.inputs self.now.events
+            task.0) }
     {
         matches!(self.status_of(task), Status::WaitingForActivation)
     }
 
     fn is_ready(&self, task: TaskId) -> bool
         requires { is_task self.now.graph task.0 }
-        ensures { result ≡ laws.is_ready (status self.now.graph self.now.inputs self.now.events task.0) }
+        ensures { result ≡ laws.is_ready (status self.now.graph self.now.inputs self.now.events
+            task.0) }
     {
         matches!(self.status_of(task), Status::WaitingToRun)
     }
 
     fn is_waiting(&self, task: TaskId) -> bool
         requires { is_task self.now.graph task.0 }
-        ensures { result ≡ laws.is_waiting (status self.now.graph self.now.inputs self.now.events task.0) }
+        ensures { result ≡ laws.is_waiting (status self.now.graph self.now.inputs self.now.events
+            task.0) }
     {
         matches!(self.status_of(task), Status::WaitingForChildrenToComplete)
     }
@@ -103,7 +106,8 @@ impl<'g> Machine<'g> {
     /// The task whose exception and end a continuation reads.
     pub(crate) fn subject(&self, task: TaskId) -> Option<TaskId>
         requires { is_task self.now.graph task.0 }
-        ensures { option_map task_number result ≡ subject self.now.graph self.now.inputs self.now.events task.0 }
+        ensures { option_map task_number result ≡ subject self.now.graph self.now.inputs
+            self.now.events task.0 }
     {
         let antecedent = self.graph.antecedent(task)?;
         if self.has_task(antecedent) && self.graph.kind(antecedent) == Kind::Any {
@@ -116,7 +120,8 @@ impl<'g> Machine<'g> {
     /// A continuation's subject has ended so.
     fn subject_ended(&self, task: TaskId, status: Final) -> bool
         requires { is_task self.now.graph task.0 }
-        ensures { let e = ending self.now.graph self.now.inputs self.now.events in result ≡ has_final status e (subject_in self.now.graph (kind self.now.graph task.0) e) }
+        ensures { let e = ending self.now.graph self.now.inputs self.now.events in
+            result ≡ has_final status e (subject_in self.now.graph (kind self.now.graph task.0) e) }
     {
         match self.subject(task) {
             None => false,
@@ -127,7 +132,9 @@ impl<'g> Machine<'g> {
     /// What the task's next statement tests.
     pub(crate) fn decides(&self, task: TaskId) -> bool
         requires { is_task self.now.graph task.0 }
-        ensures { let j = self.now in result ≡ decision j.graph j.inputs task.0 (rest j.graph j.inputs j.events task.0).left (requested j.graph j.inputs j.events) (ending j.graph j.inputs j.events) }
+        ensures { let j = self.now in result ≡ decision j.graph j.inputs task.0
+            (rest j.graph j.inputs j.events task.0).left (requested j.graph j.inputs j.events)
+            (ending j.graph j.inputs j.events) }
     {
         match self.row(task).statement() {
             Some(Stmt::Check(token)) => self.asked(*token),
@@ -138,7 +145,8 @@ impl<'g> Machine<'g> {
     }
 
     fn runs_on(&self, actor: Actor, task: TaskId) -> bool
-        ensures { result ≡ laws.runs_on self.now.graph self.now.inputs self.now.events actor task.0 }
+        ensures { result ≡ laws.runs_on self.now.graph self.now.inputs self.now.events actor
+            task.0 }
     {
         self.has_task(task)
             && is_by(begun(self.events.as_slice(), task), actor)
@@ -146,7 +154,8 @@ impl<'g> Machine<'g> {
     }
 
     fn may_request(&self, actor: Actor, token: TokenId) -> bool
-        ensures { result ≡ laws.can_request self.now.graph self.now.inputs self.now.events actor token.0 }
+        ensures { result ≡ laws.can_request self.now.graph self.now.inputs self.now.events actor
+            token.0 }
     {
         is_outside(actor) && self.has_token(token) && !self.asked(token)
     }
@@ -154,7 +163,8 @@ impl<'g> Machine<'g> {
     /// A continuation's antecedent has ended in a way that its options allow.
     fn may_start(&self, task: TaskId) -> bool
         requires { is_task self.now.graph task.0 }
-        ensures { result ≡ laws.may_start self.now.graph self.now.inputs self.now.events task.0 (kind self.now.graph task.0) }
+        ensures { result ≡ laws.may_start self.now.graph self.now.inputs self.now.events task.0
+            (kind self.now.graph task.0) }
     {
         match self.graph.antecedent(task) {
             None => false,
@@ -168,7 +178,8 @@ impl<'g> Machine<'g> {
     /// A continuation's antecedent has ended in a way that its options don't allow.
     fn may_not_start(&self, task: TaskId) -> bool
         requires { is_task self.now.graph task.0 }
-        ensures { result ≡ laws.may_not_start self.now.graph self.now.inputs self.now.events task.0 (kind self.now.graph task.0) }
+        ensures { result ≡ laws.may_not_start self.now.graph self.now.inputs self.now.events task.0
+            (kind self.now.graph task.0) }
     {
         match self.graph.antecedent(task) {
             None => false,
@@ -182,7 +193,8 @@ impl<'g> Machine<'g> {
     /// A continuation isn't lazy, or its antecedent has ended (`TaskContinuationOptions.LazyCancellation`).
     fn may_cancel(&self, task: TaskId) -> bool
         requires { is_task self.now.graph task.0 }
-        ensures { result ≡ laws.may_cancel self.now.graph self.now.inputs self.now.events task.0 (kind self.now.graph task.0) }
+        ensures { result ≡ laws.may_cancel self.now.graph self.now.inputs self.now.events task.0
+            (kind self.now.graph task.0) }
     {
         match self.graph.antecedent(task) {
             None => false,
@@ -205,7 +217,8 @@ impl<'g> Machine<'g> {
     /// (`TaskContinuationOptions.ExecuteSynchronously`, `RunContinuationsAsynchronously`).
     fn bound_to(&self, task: TaskId) -> Option<Actor>
         requires { is_task self.now.graph task.0 }
-        ensures { worker_of result ≡ bound_worker self.now.graph self.now.inputs self.now.events task.0 (kind self.now.graph task.0) }
+        ensures { worker_of result ≡ bound_worker self.now.graph self.now.inputs self.now.events
+            task.0 (kind self.now.graph task.0) }
     {
         let antecedent = self.graph.antecedent(task)?;
         let options = self.graph.options(task);
@@ -224,7 +237,8 @@ impl<'g> Machine<'g> {
     }
 
     fn may_begin(&self, actor: Actor, task: TaskId) -> bool
-        ensures { result ≡ laws.can_begin self.now.graph self.now.inputs self.now.events actor task.0 }
+        ensures { result ≡ laws.can_begin self.now.graph self.now.inputs self.now.events actor
+            task.0 }
     {
         self.has_task(task)
             && self.is_ready(task)
@@ -233,13 +247,15 @@ impl<'g> Machine<'g> {
     }
 
     fn may_step(&self, actor: Actor, task: TaskId) -> bool
-        ensures { result ≡ laws.can_step self.now.graph self.now.inputs self.now.events actor task.0 }
+        ensures { result ≡ laws.can_step self.now.graph self.now.inputs self.now.events actor
+            task.0 }
     {
         self.runs_on(actor, task) && self.row(task).outcome().is_none() && self.row(task).steps()
     }
 
     fn may_work(&self, actor: Actor, task: TaskId, answer: Answer) -> bool
-        ensures { result ≡ laws.can_work self.now.graph self.now.inputs self.now.events actor task.0 answer }
+        ensures { result ≡ laws.can_work self.now.graph self.now.inputs self.now.events actor task.0
+            answer }
     {
         self.runs_on(actor, task)
             && self.row(task).outcome().is_none()
@@ -247,7 +263,8 @@ impl<'g> Machine<'g> {
     }
 
     fn may_leave(&self, actor: Actor, task: TaskId) -> bool
-        ensures { result ≡ laws.can_leave self.now.graph self.now.inputs self.now.events actor task.0 }
+        ensures { result ≡ laws.can_leave self.now.graph self.now.inputs self.now.events actor
+            task.0 }
     {
         self.runs_on(actor, task) && self.row(task).outcome_now().is_some()
     }
@@ -270,7 +287,8 @@ impl<'g> Machine<'g> {
     /// The arguments of a WhenAll or WhenAny task have ended, as far as it waits for them.
     fn is_settling(&self, task: TaskId) -> bool
         requires { is_task self.now.graph task.0 }
-        ensures { result ≡ can_settle (kind self.now.graph task.0) (ending self.now.graph self.now.inputs self.now.events) }
+        ensures { result ≡ can_settle (kind self.now.graph task.0)
+            (ending self.now.graph self.now.inputs self.now.events) }
     {
         match self.graph.kind(task) {
             Kind::All => self.all_ended(self.graph.args(task)),
@@ -280,14 +298,16 @@ impl<'g> Machine<'g> {
     }
 
     pub(crate) fn may_settle(&self, task: TaskId) -> bool
-        ensures { result ≡ laws.can_settle_now self.now.graph self.now.inputs self.now.events task.0 }
+        ensures { result ≡ laws.can_settle_now self.now.graph self.now.inputs self.now.events
+            task.0 }
     {
         self.has_task(task) && !self.has_ended(task) && self.is_settling(task)
     }
 
     /// The event is allowed next.
     pub(crate) fn allows(&self, event: Event) -> bool
-        ensures { result ≡ laws.can self.now.graph self.now.inputs self.now.events event.actor event.act }
+        ensures { result ≡ laws.can self.now.graph self.now.inputs self.now.events event.actor
+            event.act }
     {
         let actor = event.actor;
         match event.act {

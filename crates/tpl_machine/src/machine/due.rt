@@ -16,8 +16,10 @@ impl<'g> Machine<'g> {
     /// The allowed Release, Drop, Close or Settle of a task.
     fn due_of(&self, task: TaskId) -> Option<Act>
         requires { is_task self.now.graph task.0 }
-        ensures some { IfSome result (λ act. IsDue self.now.graph self.now.inputs self.now.events task.0 act) }
-        ensures none { IfNone result (NoneDue self.now.graph self.now.inputs self.now.events task.0) }
+        ensures some { IfSome result (λ act. IsDue self.now.graph self.now.inputs self.now.events
+            task.0 act) }
+        ensures none { IfNone result (NoneDue self.now.graph self.now.inputs self.now.events
+            task.0) }
     {
         can_is_right();
         if self.may_release(task) {
@@ -35,8 +37,10 @@ impl<'g> Machine<'g> {
 
     /// The allowed Release, Drop, Close or Settle of the least task that has one.
     pub(crate) fn first_due(&self) -> Option<Act>
-        ensures some { IfSome result (λ act. IsFirstDue self.now.graph self.now.inputs self.now.events act) }
-        ensures none { IfNone result ((t : ℕ) → NoneDue self.now.graph self.now.inputs self.now.events t) }
+        ensures some { IfSome result (λ act. IsFirstDue self.now.graph self.now.inputs
+            self.now.events act) }
+        ensures none { IfNone result ((t : ℕ) → NoneDue self.now.graph self.now.inputs
+            self.now.events t) }
     {
         for i in 0..self.graph.len() {
             let found = self.due_of(TaskId(i as u16));

@@ -30,8 +30,10 @@ fn worse(first: Option<Final>, others: Final) -> Final
 impl<'g> Machine<'g> {
     /// What is kept of a task, if it is one.
     fn some_row(&self, task: TaskId) -> Option<&Row<'g>>
-        ensures some { IfSome result (λ x. x.now ≡ row_at self.now.graph self.now.inputs self.now.events task.0) }
-        ensures none { IfNone result (ending self.now.graph self.now.inputs self.now.events task.0 ≡ None) }
+        ensures some { IfSome result (λ x. x.now ≡ row_at self.now.graph self.now.inputs
+            self.now.events task.0) }
+        ensures none { IfNone result (ending self.now.graph self.now.inputs self.now.events task.0
+            ≡ None) }
     {
         self.rows.get(task.0 as usize)
     }
@@ -65,7 +67,8 @@ impl<'g> Machine<'g> {
 
     /// The argument that ended a task.
     pub(crate) fn winner_of(&self, task: TaskId) -> Option<TaskId>
-        ensures { option_map task_number result ≡ winner_of (ending self.now.graph self.now.inputs self.now.events task.0) }
+        ensures { option_map task_number result ≡ winner_of
+            (ending self.now.graph self.now.inputs self.now.events task.0) }
     {
         match self.some_row(task) {
             None => None,
@@ -88,7 +91,8 @@ impl<'g> Machine<'g> {
 
     /// All of the tasks have ended.
     pub(crate) fn all_ended(&self, tasks: &[TaskId]) -> bool
-        ensures { result ≡ all_ended (map task_number tasks.now) (ending self.now.graph self.now.inputs self.now.events) }
+        ensures { result ≡ all_ended (map task_number tasks.now)
+            (ending self.now.graph self.now.inputs self.now.events) }
     {
         for task in tasks {
             if !self.has_ended(*task) {
@@ -100,7 +104,8 @@ impl<'g> Machine<'g> {
 
     /// One of the tasks has ended.
     pub(crate) fn some_ended(&self, tasks: &[TaskId]) -> bool
-        ensures { result ≡ some_ended (map task_number tasks.now) (ending self.now.graph self.now.inputs self.now.events) }
+        ensures { result ≡ some_ended (map task_number tasks.now)
+            (ending self.now.graph self.now.inputs self.now.events) }
     {
         for task in tasks {
             if self.has_ended(*task) {
@@ -112,7 +117,8 @@ impl<'g> Machine<'g> {
 
     /// Each of the children that was started has ended.
     pub(crate) fn all_over(&self, children: &[TaskId]) -> bool
-        ensures { let j = self.now in result ≡ all_over (map task_number children.now) (started j.graph j.inputs j.events) (ending j.graph j.inputs j.events) }
+        ensures { let j = self.now in result ≡ all_over (map task_number children.now)
+            (started j.graph j.inputs j.events) (ending j.graph j.inputs j.events) }
     {
         for child in children {
             if self.was_started(*child) && !self.has_ended(*child) {
@@ -124,7 +130,8 @@ impl<'g> Machine<'g> {
 
     /// The worst of how the tasks ended.
     pub(crate) fn worst(&self, tasks: &[TaskId]) -> Final
-        ensures { result ≡ all_final (map task_number tasks.now) (ending self.now.graph self.now.inputs self.now.events) }
+        ensures { result ≡ all_final (map task_number tasks.now)
+            (ending self.now.graph self.now.inputs self.now.events) }
     {
         let mut so_far = Final::RanToCompletion;
         for i in (0..tasks.len()).rev() {
@@ -135,7 +142,9 @@ impl<'g> Machine<'g> {
 
     /// Of a task and the best so far, the one that ended first.
     fn earlier(&self, task: TaskId, best: Option<TaskId>) -> Option<TaskId>
-        ensures { let e = ending self.now.graph self.now.inputs self.now.events in option_map task_number result ≡ earlier e task.0 (e task.0) (option_map task_number best) }
+        ensures { let e = ending self.now.graph self.now.inputs self.now.events in
+            option_map task_number result ≡ earlier e task.0 (e task.0)
+            (option_map task_number best) }
     {
         if !self.has_ended(task) {
             return best;
@@ -154,7 +163,8 @@ impl<'g> Machine<'g> {
 
     /// The task that ended first; of those that ended before the first event, the earliest in the list.
     pub(crate) fn first_ended(&self, tasks: &[TaskId]) -> Option<TaskId>
-        ensures { option_map task_number result ≡ first_ended (map task_number tasks.now) (ending self.now.graph self.now.inputs self.now.events) }
+        ensures { option_map task_number result ≡ first_ended (map task_number tasks.now)
+            (ending self.now.graph self.now.inputs self.now.events) }
     {
         let mut best = None;
         for i in (0..tasks.len()).rev() {

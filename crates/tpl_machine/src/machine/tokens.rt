@@ -15,7 +15,8 @@ use tpl_words::{TaskId, TokenId};
 
 /// One of the tokens is marked in the table.
 fn some_in(table: &[bool; MOST_TOKENS], tokens: &[TokenId]) -> bool
-    ensures { result ≡ some_in (λ k. slice_index_or table.now k false) (map token_number tokens.now) }
+    ensures { result ≡ some_in (λ k. slice_index_or table.now k false)
+        (map token_number tokens.now) }
 {
     for token in tokens {
         let at = token.0 as usize;
@@ -29,7 +30,8 @@ fn some_in(table: &[bool; MOST_TOKENS], tokens: &[TokenId]) -> bool
 /// A token or one of its sources is marked in the table.
 fn is_marked(table: &[bool; MOST_TOKENS], token: TokenId, sources: &[TokenId]) -> bool
     requires { token.0 < MOST_TOKENS }
-    ensures { result ≡ (slice_index_or table.now token.0 false || some_in (λ k. slice_index_or table.now k false) (map token_number sources.now)) }
+    ensures { result ≡ (slice_index_or table.now token.0 false
+        || some_in (λ k. slice_index_or table.now k false) (map token_number sources.now)) }
 {
     table[token.0 as usize] || some_in(table, sources)
 }
@@ -37,7 +39,8 @@ fn is_marked(table: &[bool; MOST_TOKENS], token: TokenId, sources: &[TokenId]) -
 impl<'g> Machine<'g> {
     /// Which tokens are requested, themselves or through their sources.
     fn all_requested(&self) -> [bool; MOST_TOKENS]
-        ensures { IsTable self.now.graph self.now.inputs self.now.events result (length self.now.graph.tokens) }
+        ensures { IsTable self.now.graph self.now.inputs self.now.events result
+            (length self.now.graph.tokens) }
     {
         requested_by_a_source();
         let count = self.graph.token_count();
