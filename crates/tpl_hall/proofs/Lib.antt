@@ -4,3 +4,4 @@ pub mod MoveLemmas
 pub mod StayLemmas
 pub mod ReportLemmas
 pub mod Crosses
+pub mod BoundLemmas

@@ -2,17 +2,15 @@
 use Rattle.std.proofs.Common.{◌≡◌, ℕ, zero, suc, ◌∷◌, ◌+◌, ◌≤◌, List, [], ◌++◌, length, Bool, refl, sym, ap, subst, ◌∙◌, arith, inl, inr}
 use Rattle.std.specs.Prelude.{reverse, take, Option, Some, None}
 use Rattle.std.proofs.lemmas.List.{append-nil, length-reverse}
-use Rattle.tpl_model.specs.declared.event.Event.{Event}
 use Rattle.tpl_model.specs.Graph.{TaskGraph}
 use Rattle.tpl_model.specs.Rules.{Run, Complete as IsComplete}
 use Rattle.tpl_graph.specs.Named.{Named}
 use Rattle.tpl_machine.specs.Journal.{Journal}
 use Rattle.tpl_hall.specs.declared.sight.Ended.TheVariants.{Complete, Halted, Stray}
-use Rattle.tpl_hall.specs.declared.sight.Sight.{Sight}
 use Rattle.tpl_hall.specs.declared.sight.Sight.TheVariants.{Complete as AllDone}
 use Rattle.tpl_hall.specs.declared.stint.Stint.{Stint}
 use Rattle.tpl_hall.specs.Views.{SeatView}
-use Rattle.tpl_hall.specs.Lists.{Stands, AllUpTo}
+use Rattle.tpl_hall.specs.Lists.{AllUpTo}
 use Rattle.tpl_hall.specs.Sights.{IsWithin}
 use Rattle.tpl_hall.specs.Growth.{entries, WorksOn}
 use Rattle.tpl_hall.specs.Moves.{Fits, Moves}

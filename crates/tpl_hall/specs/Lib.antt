@@ -3,6 +3,7 @@ pub mod Lists
 pub mod Answers
 pub mod Growth
 pub mod Sights
+pub mod Bound
 pub mod Moves
 pub mod Stays
 pub mod Closes

@@ -1,7 +1,8 @@
 -- A worker's seat between the worker's sections under the lock.
-use Rattle.std.specs.Prelude.{◌≡◌, ℕ, Bool, List, length, Option, Some, None}
+use Rattle.std.specs.Prelude.{◌≡◌, ℕ, ◌≤◌, Bool, List, length, Option, Some, None}
 use Rattle.tpl_model.specs.Graph.{TaskGraph}
 use Rattle.tpl_model.specs.Rules.{Complete as IsComplete}
+use Rattle.tpl_graph.specs.Named.{Named}
 use Rattle.tpl_machine.specs.Journal.{Journal}
 use Rattle.tpl_hall.specs.declared.sight.Ended.{Ended}
 use Rattle.tpl_hall.specs.declared.sight.Ended.TheVariants.{Complete, Halted, Stray}
@@ -10,7 +11,7 @@ use Rattle.tpl_hall.specs.Views.{SeatView}
 use Rattle.tpl_hall.specs.Lists.{Extends, AllUpTo}
 use Rattle.tpl_hall.specs.Sights.{IsWithin}
 use Rattle.tpl_hall.specs.Growth.{WorksOn}
-use Rattle.tpl_hall.specs.Moves.{EndsAs}
+use Rattle.tpl_hall.specs.Moves.{Fits, HasRoom, EndsAs}
 
 -- the seat's list goes on from the one with which it came, it was told nothing more, and nothing that it has lies beyond the first n events
 pub record GoesOn (n : ℕ) (first seat : SeatView) : Type 0 where
@@ -28,6 +29,11 @@ IsOn (Some n) first seat = GoesOn n first seat
 pub record Stays (stint : Stint) (first seat : SeatView) : Type 0 where
   pub came : length first.mine ≡ stint.came
   pub on : IsOn stint.seen first seat
+
+-- a worker's seat may go on: where its worker comes, if it fits and has room, and later if the run is at least as long as it was
+abbrev pub MayGoOn : Option ℕ → Journal → Named → List Bool → SeatView → Type 0
+MayGoOn None j graph v seat = Fits j graph v seat × HasRoom graph.graph (length j.events) seat
+MayGoOn (Some n) j graph v seat = n ≤ length j.events
 
 -- a worker's work ends as complete only where the run is
 abbrev pub MayEnd : Ended → Journal → Type 0

@@ -3,6 +3,7 @@
 #![tactic(auto)]
 
 mod board;
+mod bound;
 mod checks;
 mod hall;
 mod looks;

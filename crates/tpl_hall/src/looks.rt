@@ -1,11 +1,11 @@
 //! What the hall tells of a seat, and a seat of the run.
 
-ghost use Rattle.std.specs.Prelude.{◌≡◌, ◌≤◌, length, Some, IsTrue, IsFalse};
+ghost use Rattle.std.specs.Prelude.{◌≡◌, ◌↔◌, length, Some, IsTrue, IsFalse};
 ghost use Rattle.tpl_model.specs.Facts.{requested};
 ghost use Rattle.tpl_model.specs.Graph.{is_task, is_token};
 ghost use Rattle.tpl_hall.specs.Moves.{Fits, HasRoom, MatchLooked};
 ghost use Rattle.tpl_hall.specs.Sights.{IsSeen};
-ghost use Rattle.tpl_hall.specs.Stays.{Stays, GoesOn, MayEnd, Leaves};
+ghost use Rattle.tpl_hall.specs.Stays.{Stays, GoesOn, MayGoOn, MayEnd, Leaves};
 ghost use Rattle.tpl_hall.specs.Views.{SeatView};
 ghost use Rattle.tpl_hall.specs.declared.sight.Sight.TheVariants.{At, Already};
 
@@ -17,7 +17,7 @@ use crate::stint::Stint;
 use tpl_graph::Graph;
 use tpl_laws::is_bounded;
 use tpl_machine::Core;
-use tpl_words::{Actor, Inputs, TaskId, TokenId, Worker};
+use tpl_words::{Inputs, TaskId, TokenId};
 
 impl<'g, K: Drop> Hall<'g, K> {
     /// The run is of this graph with these inputs, what the seat has is of this run, and it has room as long as the run
@@ -66,7 +66,9 @@ impl<'g, K: Drop> Hall<'g, K> {
     /// A worker's seat may go on. Where it comes for the first time, it has to fit; later it is enough that the run has
     /// not become shorter since.
     pub fn goes_on(&self, graph: &Graph, inputs: &Inputs, seat: &Seat, stint: Stint) -> bool
-        ensures { IsTrue result → (first : SeatView) → Stays stint first seat.now
+        ensures exact { IsTrue result ↔ MayGoOn stint.seen self.now.core graph.now inputs.now
+            seat.now }
+        ensures goes { IsTrue result → (first : SeatView) → Stays stint first seat.now
             → GoesOn (length self.now.core.events) first seat.now }
     {
         match stint.seen {
@@ -127,32 +129,5 @@ impl<'g, K: Drop> Hall<'g, K> {
         let place = self.len();
         seat.tell(place, Sight::Already(token));
         true
-    }
-
-    /// The worker on which a task has to begin, if it is bound to one: that of the event that ended its antecedent
-    /// (`TaskContinuationOptions.ExecuteSynchronously`).
-    pub fn bound_to(&self, task: TaskId) -> Option<Worker>
-        requires { is_task self.now.core.graph task.0 }
-    {
-        let graph = self.core.graph();
-        let antecedent = graph.antecedent(task)?;
-        if antecedent.0 as usize >= graph.len() {
-            return None;
-        }
-        let options = graph.options(task);
-        if !options.execute_synchronously()
-            || options.run_continuations_asynchronously()
-            || graph.options(antecedent).run_continuations_asynchronously()
-        {
-            return None;
-        }
-        let place = self.core.ended(antecedent)?;
-        if place == 0 {
-            return None;
-        }
-        match self.journal.get(place as usize - 1)?.actor {
-            Actor::Worker(worker) => Some(worker),
-            Actor::Outside(_) => None,
-        }
     }
 }

@@ -1,8 +1,9 @@
 //! Whether what seats were told last is true of a journal.
 
-ghost use Rattle.std.specs.Prelude.{◌≡◌, ◌≤◌, ◌<◌, ◌+◌, [], length, IsTrue, IfOk};
+ghost use Rattle.std.specs.Prelude.{◌≡◌, ◌↔◌, ◌+◌, [], length, reverse, IsTrue, IfOk};
+ghost use Rattle.tpl_model.specs.Rules.{Run};
 ghost use Rattle.tpl_hall.specs.Closes.{AllLast, AllHoldAt, AllHoldBelow, HoldsAt};
-ghost use Rattle.tpl_hall.specs.Sights.{IsTrueOf};
+ghost use Rattle.tpl_hall.specs.Sights.{IsOf, IsTrueOf};
 
 use crate::own::are_within;
 use crate::seat::Seat;
@@ -16,7 +17,7 @@ use tpl_words::{Final, Inputs, Status};
 
 /// Both words for how a task ended are the same.
 fn same_final(a: Final, b: Final) -> bool
-    ensures { IsTrue result → a ≡ b }
+    ensures { IsTrue result ↔ (a ≡ b) }
 {
     match (a, b) {
         (Final::RanToCompletion, Final::RanToCompletion) => true,
@@ -28,7 +29,7 @@ fn same_final(a: Final, b: Final) -> bool
 
 /// Both words for where a task stands are the same.
 fn same_status(a: Status, b: Status) -> bool
-    ensures { IsTrue result → a ≡ b }
+    ensures { IsTrue result ↔ (a ≡ b) }
 {
     match (a, b) {
         (Status::Created, Status::Created) => true,
@@ -41,9 +42,10 @@ fn same_status(a: Status, b: Status) -> bool
     }
 }
 
-/// What was told is true of this run.
+/// What was told is of the graph, and true of this run.
 fn is_true(core: &Fast<'_>, sight: Sight) -> bool
-    ensures { IsTrue result → IsTrueOf core.now.graph core.now.inputs core.now.events sight }
+    ensures { IsTrue result ↔ (IsOf core.now.graph sight
+        × IsTrueOf core.now.graph core.now.inputs core.now.events sight) }
 {
     match sight {
         Sight::At(task, status) => {
@@ -58,7 +60,7 @@ fn is_true(core: &Fast<'_>, sight: Sight) -> bool
 
 /// What was told at this place is true of this run.
 fn holds_at(core: &Fast<'_>, place: usize, last: Option<(u32, Sight)>) -> bool
-    ensures { IsTrue result → HoldsAt core.now.graph core.now.inputs core.now.events place last }
+    ensures { IsTrue result ↔ HoldsAt core.now.graph core.now.inputs core.now.events place last }
 {
     match last {
         Some((at, sight)) => at as usize != place || is_true(core, sight),
@@ -68,7 +70,7 @@ fn holds_at(core: &Fast<'_>, place: usize, last: Option<(u32, Sight)>) -> bool
 
 /// What each seat was told at this place is true of this run.
 fn all_hold_at(core: &Fast<'_>, place: usize, seats: &[Seat]) -> bool
-    ensures { IsTrue result → AllHoldAt core.now.graph core.now.inputs core.now.events place
+    ensures { IsTrue result ↔ AllHoldAt core.now.graph core.now.inputs core.now.events place
         seats.now }
 {
     for seat in seats {
@@ -79,11 +81,12 @@ fn all_hold_at(core: &Fast<'_>, place: usize, seats: &[Seat]) -> bool
     true
 }
 
-/// Plays a journal, and tests at each place what the seats were told there.
+/// Plays a journal, as far as it is a run, and tests at each place what the seats were told there.
 fn seats_hold(core: &mut Fast<'_>, journal: &[Event], seats: &[Seat]) -> bool
     requires { core.old.events ≡ [] }
-    ensures { IsTrue result → AllHoldBelow core.old.graph core.old.inputs journal.now (length
-        journal.now + 1) seats.now }
+    ensures { IsTrue result ↔ (Run core.old.graph core.old.inputs (reverse journal.now)
+        × AllHoldBelow core.old.graph core.old.inputs journal.now (length journal.now + 1)
+        seats.now) }
 {
     for place in 0..journal.len() {
         if !all_hold_at(core, place, seats) {
@@ -94,10 +97,12 @@ fn seats_hold(core: &mut Fast<'_>, journal: &[Event], seats: &[Seat]) -> bool
             Err(_) => return false,
         }
     }
+    core.is_run();
     all_hold_at(core, journal.len(), seats)
 }
 
-/// Plays the journal again, and tests at each place what the seats were told there. It fails where there is no memory.
+/// Plays the journal again, and tests at each place what the seats were told there: the journal is a run, and what each
+/// seat was told last is true of it. It fails where there is no memory.
 pub fn all_last(
     alloc: Global,
     graph: &Graph,
@@ -105,8 +110,8 @@ pub fn all_last(
     journal: &[Event],
     seats: &[Seat],
 ) -> Result<bool, AllocError>
-    ensures { IfOk result (λ b. IsTrue b → AllLast graph.now.graph inputs.now seats.now
-        journal.now) }
+    ensures { IfOk result (λ b. IsTrue b ↔ (Run graph.now.graph inputs.now (reverse journal.now)
+        × AllLast graph.now.graph inputs.now seats.now journal.now)) }
 {
     if !are_within(seats, journal.len()) {
         return Ok(false);
