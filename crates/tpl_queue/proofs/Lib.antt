@@ -1,3 +1,4 @@
+pub mod Crosses
 pub mod Drained
 pub mod Kept
 pub mod Moments

@@ -8,8 +8,8 @@ ghost use Rattle.tpl_hall.specs.Sights.{IsSeen};
 ghost use Rattle.tpl_hall.specs.declared.sight.Sight.TheVariants.{Already};
 
 use crate::put::put_after;
+use crate::queue::{ItemPass, ItemQueue};
 use crate::shared::{Shared, is_worker};
-use crate::stock::{ItemPass, ItemQueue};
 use std::sync::Wait;
 use tpl_graph::Graph;
 use tpl_hall::{Asked, Seat};

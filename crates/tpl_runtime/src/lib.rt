@@ -3,16 +3,15 @@
 #![tactic(auto)]
 
 mod ask;
-mod children;
 mod closing;
 mod crew;
 mod open;
 mod put;
+mod queue;
 mod run;
 mod sections;
 mod session;
 mod shared;
-mod stock;
 mod tables;
 mod threads;
 mod turn;

@@ -5,15 +5,14 @@ ghost use Rattle.tpl_graph.specs.Named.{all_may_fail};
 ghost use Rattle.tpl_queue.specs.Tally.{new_tally};
 ghost use Rattle.tpl_items.specs.Items.{AreItems, RefusesItems};
 
-use crate::children::Children;
+use crate::queue::{ItemPass, ItemQueue};
 use crate::session::Session;
 use crate::shared::Shared;
-use crate::stock::{ItemPass, ItemQueue, Stock};
 use std::alloc::{AllocError, Global};
 use std::sync::{Arc, Condvar, Mutex};
 use tpl_graph::Graph;
 use tpl_hall::{Cells, Hall, cells};
-use tpl_items::{Item, OpenWhy, refusal};
+use tpl_items::{Children, Item, OpenWhy, Stock, refusal};
 use tpl_words::{Actor, Inputs};
 
 /// The most seats that a session has: those of 64 workers, and 8 outside.

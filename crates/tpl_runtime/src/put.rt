@@ -2,10 +2,10 @@
 
 ghost use Rattle.std.specs.Prelude.{◌≡◌};
 
-use crate::children::Children;
-use crate::stock::{ItemPass, ItemQueue, Stock};
+use crate::queue::{ItemPass, ItemQueue};
 use std::sync::Wait;
 use tpl_hall::Hall;
+use tpl_items::{Children, Stock};
 use tpl_jobs::Job;
 use tpl_machine::Core;
 use tpl_model::{Act, Event};

@@ -3,8 +3,8 @@
 ghost use Rattle.std.specs.Prelude.{◌≡◌, ◌≤◌, length, vec_len, IfOk, IfErr, IsTrue};
 ghost use Rattle.tpl_runtime.specs.Workers.{worker, AreWorkersFrom};
 
+use crate::queue::ItemPass;
 use crate::session::Session;
-use crate::stock::ItemPass;
 use crate::threads::{Child, run_crew};
 use std::alloc::Global;
 use std::sync::Wait;

@@ -5,11 +5,11 @@ ghost use Rattle.tpl_hall.specs.Moves.{Moves};
 ghost use Rattle.tpl_hall.specs.Stays.{MayEnd};
 ghost use Rattle.tpl_runtime.specs.Turns.{IfOver};
 
+use crate::queue::{ItemPass, ItemQueue};
 use crate::shared::{Hand, Shared, Turn};
-use crate::stock::{ItemJob, ItemPass, ItemQueue};
 use std::sync::Wait;
 use tpl_hall::{Ended, Seat};
-use tpl_items::Item;
+use tpl_items::{Item, ItemJob};
 use tpl_jobs::Job;
 use tpl_machine::{Core, Next};
 use tpl_model::Act;

@@ -19,8 +19,8 @@ ghost use Rattle.tpl_hall.specs.declared.seat.SeatFault.TheVariants.{BadActor};
 ghost use Rattle.tpl_hall.specs.declared.sight.Sight.TheVariants.{At, Already};
 
 use crate::closing::{CloseFault, Report, settle};
+use crate::queue::{ItemPass, ItemQueue};
 use crate::shared::{Hand, Shared, Turn};
-use crate::stock::{ItemPass, ItemQueue};
 use std::alloc::Global;
 use std::marker::Model;
 use std::sync::{Condvar, Mutex, Wait};

@@ -5,13 +5,12 @@ ghost use Rattle.tpl_hall.specs.Moves.{Moves};
 ghost use Rattle.tpl_hall.specs.Stays.{MayEnd};
 ghost use Rattle.tpl_hall.specs.declared.seat.SeatFault.TheVariants.{BadActor};
 
-use crate::children::Children;
 use crate::put::{put_after, put_all};
-use crate::stock::{ItemJob, ItemPass, ItemQueue, Stock};
+use crate::queue::{ItemPass, ItemQueue};
 use std::alloc::{AllocError, Global};
 use std::sync::Wait;
 use tpl_hall::{Ended, Hall, Seat, SeatFault, has_seat};
-use tpl_items::Item;
+use tpl_items::{Children, Item, ItemJob, Stock};
 use tpl_jobs::Receipt;
 use tpl_machine::Core;
 use tpl_model::Act;
@@ -64,16 +63,14 @@ pub fn is_worker(actor: Actor) -> bool {
     }
 }
 
-impl<W: Drop> Stock<W> {
-    /// Takes back what a worker holds.
-    pub(crate) fn give_hand_back<K: Drop>(&mut self, hand: Hand<K, W>) {
-        match hand {
-            Hand::New => {}
-            Hand::Free => {}
-            Hand::Taken(job) => self.give_all_back(job.items),
-            Hand::Running(_task, items) => self.give_all_back(items),
-            Hand::Called(_task, items, _receipt) => self.give_all_back(items),
-        }
+/// Takes back what a worker holds.
+pub(crate) fn give_hand_back<K: Drop, W: Drop>(stock: &mut Stock<W>, hand: Hand<K, W>) {
+    match hand {
+        Hand::New => {}
+        Hand::Free => {}
+        Hand::Taken(job) => stock.give_all_back(job.items),
+        Hand::Running(_task, items) => stock.give_all_back(items),
+        Hand::Called(_task, items, _receipt) => stock.give_all_back(items),
     }
 }
 

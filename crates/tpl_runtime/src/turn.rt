@@ -6,8 +6,8 @@ ghost use Rattle.tpl_hall.specs.Stays.{Stays, MayEnd, Leaves};
 ghost use Rattle.tpl_hall.specs.Views.{SeatView};
 ghost use Rattle.tpl_runtime.specs.Turns.{OnOver, IfOver};
 
-use crate::shared::{Hand, Shared, Turn, is_worker};
-use crate::stock::{ItemPass, ItemQueue};
+use crate::queue::{ItemPass, ItemQueue};
+use crate::shared::{Hand, Shared, Turn, give_hand_back, is_worker};
 use std::sync::Wait;
 use tpl_graph::Graph;
 use tpl_hall::{Ended, Seat, Stint};
@@ -68,7 +68,7 @@ impl<'g, K: Drop, W: Item<K>> Shared<'g, K, W> {
             return Turn::Over(Ended::Stray);
         };
         if let Some(ended) = self.end_of() {
-            self.stock.give_hand_back(held);
+            give_hand_back(&mut self.stock, held);
             return Turn::Over(ended);
         }
         if done {
@@ -98,7 +98,7 @@ impl<'g, K: Drop, W: Item<K>> Shared<'g, K, W> {
             (Stays stint.new first seat.new) }
     {
         if !is_worker(seat.actor()) || !self.hall.goes_on(graph, inputs, seat, *stint) {
-            self.stock.give_hand_back(hand);
+            give_hand_back(&mut self.stock, hand);
             seat.stray(*stint);
             return Turn::Over(Ended::Stray);
         }

@@ -13,8 +13,8 @@ ghost use Rattle.tpl_hall.specs.Watched.{AllBegin};
 ghost use Rattle.tpl_runtime.specs.Reports.{each_below, those_below, is_unseen, AreOnce};
 
 use crate::closing::{CloseFault, CloseWhy, Report};
+use crate::queue::ItemPass;
 use crate::session::Session;
-use crate::stock::ItemPass;
 use std::alloc::{AllocError, Global};
 use std::sync::Wait;
 use tpl_hall::{Seat, Watcher, all_begin};

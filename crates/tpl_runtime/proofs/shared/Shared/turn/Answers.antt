@@ -5,21 +5,21 @@ use Rattle.tpl_runtime.proofs.shared.Shared.turn.Goals as goal
 pub returns-in-Go-clause-stays : goal.returns-in-Go-clause-stays
 returns-in-Go-clause-stays g c = λ first stays.
     stays_on c.args.stint.now c.len.result first c.args.seat.now c.play-turn.new.seat c.args.self.now.hall.core c.play-turn.new.self.hall.core stays
-    (c.goes_on.ensures c.if-not-goes_on.false first stays) c.play-turn.ensures.moves c.play-turn.ensures.last c.len.ensures
+    (c.goes_on.ensures.goes c.if-not-goes_on.false first stays) c.play-turn.ensures.moves c.play-turn.ensures.last c.len.ensures
 
 pub returns-in-Call-clause-stays : goal.returns-in-Call-clause-stays
 returns-in-Call-clause-stays g c = λ first stays.
     stays_on c.args.stint.now c.len.result first c.args.seat.now c.play-turn.new.seat c.args.self.now.hall.core c.play-turn.new.self.hall.core stays
-    (c.goes_on.ensures c.if-not-goes_on.false first stays) c.play-turn.ensures.moves c.play-turn.ensures.last c.len.ensures
+    (c.goes_on.ensures.goes c.if-not-goes_on.false first stays) c.play-turn.ensures.moves c.play-turn.ensures.last c.len.ensures
 
 pub returns-in-Wait-clause-stays : goal.returns-in-Wait-clause-stays
 returns-in-Wait-clause-stays g c = λ first stays.
     stays_on c.args.stint.now c.len.result first c.args.seat.now c.play-turn.new.seat c.args.self.now.hall.core c.play-turn.new.self.hall.core stays
-    (c.goes_on.ensures c.if-not-goes_on.false first stays) c.play-turn.ensures.moves c.play-turn.ensures.last c.len.ensures
+    (c.goes_on.ensures.goes c.if-not-goes_on.false first stays) c.play-turn.ensures.moves c.play-turn.ensures.last c.len.ensures
 
 pub returns-in-Over-clause-stays : goal.returns-in-Over-clause-stays
 returns-in-Over-clause-stays g c = λ first stays.
-    let goes = c.goes_on.ensures c.if-not-goes_on.false first stays in
+    let goes = c.goes_on.ensures.goes c.if-not-goes_on.false first stays in
     let seat = c.args.seat.now in
     let was = c.args.self.now.hall.core in
     let done = c.play-turn.new.self.hall.core in

@@ -6,7 +6,7 @@ use tpl_words::TaskId;
 
 /// By task, the children that its body may start.
 #[derive(Drop)]
-pub(crate) struct Children {
+pub struct Children {
     lists: Vec<Vec<TaskId>>,
 }
 
@@ -21,7 +21,7 @@ fn empty_lists(alloc: Global, graph: &Graph) -> Result<Vec<Vec<TaskId>>, AllocEr
 
 impl Children {
     /// The children of each task of the graph.
-    pub(crate) fn open(alloc: Global, graph: &Graph) -> Result<Children, AllocError> {
+    pub fn open(alloc: Global, graph: &Graph) -> Result<Children, AllocError> {
         let mut lists = empty_lists(alloc, graph)?;
         for number in 0..graph.len() {
             let child = TaskId(number as u16);
@@ -35,7 +35,7 @@ impl Children {
     }
 
     /// The children of a task.
-    pub(crate) fn of(&self, task: TaskId) -> &[TaskId] {
+    pub fn of(&self, task: TaskId) -> &[TaskId] {
         match self.lists.get(task.0 as usize) {
             Some(list) => list.as_slice(),
             None => &[],

@@ -2,21 +2,14 @@
 
 ghost use Rattle.std.specs.Prelude.{◌≡◌, IfErr};
 
+use crate::item::Item;
 use std::alloc::Global;
 use tpl_graph::Graph;
-use tpl_items::Item;
 use tpl_jobs::Job;
-use tpl_queue::{JobQueue, QueuePass};
 use tpl_words::{Actor, SiteId, Worker};
 
 /// A job of items.
 pub type ItemJob<W> = Job<Vec<W>>;
-
-/// The queue that carries them.
-pub type ItemQueue<W> = JobQueue<Vec<W>>;
-
-/// A pass of it.
-pub type ItemPass<W> = QueuePass<Vec<W>>;
 
 /// Where the items are that no worker has. It takes no memory once it is made: there is a place for each job in each of
 /// its lists, and for each item among those that came back.
