@@ -3,3 +3,4 @@ pub mod Stages
 pub mod Found
 pub mod Gaps
 pub mod Questions
+pub mod Slim

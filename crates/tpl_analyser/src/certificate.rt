@@ -10,6 +10,7 @@ ghost use Rattle.tpl_checker.specs.Below.{AreBelow};
 ghost use Rattle.tpl_analyser.specs.Found.{IsFound};
 ghost use Rattle.tpl_analyser.specs.Gaps.{IsGap};
 ghost use Rattle.tpl_analyser.specs.Questions.{IsReady};
+ghost use Rattle.tpl_analyser.specs.Slim.{IsCertificateOf};
 ghost use Rattle.tpl_analyser.specs.Splits.{IsSplitOf};
 ghost use Rattle.tpl_analyser.specs.Stages.{IsStageOf};
 
@@ -17,6 +18,7 @@ use crate::branch::Branch;
 use crate::budget::Budget;
 use crate::choice::{Bound, bound_of};
 use crate::cone::Cone;
+use crate::form::Form;
 use crate::gap::Gap;
 use crate::leaf::leaf;
 use crate::question::Question;
@@ -36,8 +38,8 @@ const MOST_LEAVES: u32 = 100_000;
 const MOST_LEAVES_DIRECTED: u32 = 20_000;
 
 /// Searches a certificate of the claims, each of which can be asked of the graph, with at most
-/// `depth` splits on each path, and at most 6. For each claim, trees with 0 splits on a path are
-/// tried first, then such with 1, and so on.
+/// `depth` splits on each path, and at most 6, whose rows say all that the rules permit. For each
+/// claim, trees with 0 splits on a path are tried first, then such with 1, and so on.
 ///
 /// The certificate that it gives is accepted, so each claim holds in every run. `NotFound` names
 /// the first claim for which no tree is found within 100,000 leaves, and then within 20,000 of a
@@ -56,12 +58,40 @@ pub fn analyse(
     ensures splits { IfOk result (All (λ tree. height tree ≤ depth)) }
     ensures gap { IfErr result (IsGap graph.now.graph claims.now depth) }
 {
+    analyse_in(alloc, graph, claims, depth, Form::Full)
+}
+
+/// Searches a certificate as `analyse` does, and gives it in this form. Which claim is `NotFound`
+/// does not depend on the form.
+pub fn analyse_in(
+    alloc: Global,
+    graph: &Graph,
+    claims: &[Claim],
+    depth: u8,
+    form: Form,
+) -> Result<Certificate, Gap>
+    requires claims { All (Fits graph.now.graph) claims.now }
+    requires depth { depth ≤ 6 }
+    ensures accepted { IfOk result (λ c. Accepts graph.now.graph claims.now c) }
+    ensures splits { IfOk result (All (λ tree. height tree ≤ depth)) }
+    ensures form { IfOk result (IsCertificateOf form claims.now) }
+    ensures gap { IfErr result (IsGap graph.now.graph claims.now depth) }
+{
     let below = Below::of_graph(graph);
     let stages = stages(alloc, graph, &below)?;
     let splits = all_splits(alloc, graph)?;
     let mut trees = Vec::new(alloc);
     for at in 0..claims.len() {
-        match tree_for(alloc, graph, &below, &stages, &splits, &claims[at], depth)? {
+        match tree_for(
+            alloc,
+            graph,
+            &below,
+            &stages,
+            &splits,
+            &claims[at],
+            form,
+            depth,
+        )? {
             Some(tree) => trees.push(tree)?,
             None => return Err(Gap::NotFound { claim: at + 1 }),
         }
@@ -77,6 +107,7 @@ fn tree_for(
     stages: &[Stage],
     splits: &[Split],
     claim: &Claim,
+    form: Form,
     depth: u8,
 ) -> Result<Option<Tree>, AllocError>
     requires claim { Fits graph.now.graph claim.now }
@@ -84,7 +115,7 @@ fn tree_for(
     requires stages { All (IsStageOf graph.now.graph) stages.now }
     requires splits { All (IsSplitOf graph.now.graph) splits.now }
     ensures { IfOk result (λ found. IfSome found (IsFound graph.now.graph claim.now.body
-        (assumed graph.now.graph claim.now.given) depth)) }
+        form (assumed graph.now.graph claim.now.given) depth)) }
 {
     let cone = Cone::of(graph, claim.body(), splits);
     let question = Question {
@@ -92,6 +123,7 @@ fn tree_for(
         below,
         stages,
         property: claim.body(),
+        form,
         splits,
         cone: &cone,
     };
@@ -109,7 +141,7 @@ fn deepened(
 ) -> Result<Option<Tree>, AllocError>
     requires { IsReady question }
     ensures { IfOk result (λ found. IfSome found (IsFound question.entry.graph.now.graph
-        question.entry.property (assumed_of root.now.assumed) depth)) }
+        question.entry.property question.entry.form (assumed_of root.now.assumed) depth)) }
 {
     let mut budget = Budget::new(MOST_LEAVES);
     if let Some(tree) = leaf(alloc, question, root, &mut budget)? {
@@ -139,7 +171,7 @@ fn by_depth(
 ) -> Result<Option<Tree>, AllocError>
     requires { IsReady question }
     ensures { IfOk result (λ found. IfSome found (IsFound question.entry.graph.now.graph
-        question.entry.property (assumed_of root.now.assumed) depth)) }
+        question.entry.property question.entry.form (assumed_of root.now.assumed) depth)) }
 {
     let Some(bound) = bound_of(alloc, question, root, depth, budget)? else {
         return Ok(None);
@@ -169,7 +201,7 @@ fn at_depth(
     requires question { IsReady question }
     requires splits { 0 < reach.splits }
     ensures { IfOk result (λ found. IfSome found (IsFound question.entry.graph.now.graph
-        question.entry.property (assumed_of root.now.assumed) reach.splits)) }
+        question.entry.property question.entry.form (assumed_of root.now.assumed) reach.splits)) }
 {
     if bound.least() > reach.splits as u32 {
         return Ok(None);

@@ -4,10 +4,12 @@ ghost use Rattle.std.specs.Prelude.{◌≡◌, IfOk, IfSome};
 ghost use Rattle.tpl_checker.specs.Assumptions.{assumed_of};
 ghost use Rattle.tpl_analyser.specs.Found.{IsFound};
 ghost use Rattle.tpl_analyser.specs.Questions.{IsReady};
+ghost use Rattle.tpl_analyser.specs.Slim.{AreOfForm};
 
 use crate::branch::Branch;
 use crate::budget::Budget;
 use crate::chain::chain;
+use crate::form::in_form;
 use crate::goal::is_reached;
 use crate::outline::Outline;
 use crate::pass::whole_outline;
@@ -29,7 +31,7 @@ pub(crate) fn leaf(
 ) -> Result<Option<Tree>, AllocError>
     requires { IsReady question }
     ensures { IfOk result (λ found. IfSome found (IsFound question.entry.graph.now.graph
-        question.entry.property (assumed_of branch.now.assumed) 0)) }
+        question.entry.property question.entry.form (assumed_of branch.now.assumed) 0)) }
 {
     if !budget.spend() {
         return Ok(None);
@@ -76,7 +78,7 @@ fn reached(
     }
 }
 
-/// The least rows, with this chain of the observed task.
+/// The least rows in the form that is asked for, with this chain of the observed task.
 fn least_rows(
     alloc: Global,
     question: Question<'_>,
@@ -84,10 +86,13 @@ fn least_rows(
     chain: &[TaskId],
 ) -> Result<Vec<Row>, AllocError>
     requires { IsReady question }
+    ensures { IfOk result (λ rows.
+        AreOfForm question.entry.form question.entry.property rows.items) }
 {
     let outline = whole_outline(question.graph, question.stages, &branch.assumed);
     let parts = parts(question, branch, &outline);
-    rows(alloc, parts, observed(question.property), chain)
+    let rows = rows(alloc, parts, observed(question.property), chain)?;
+    in_form(alloc, question.form, question.property, rows)
 }
 
 fn parts<'s>(question: Question<'s>, branch: &'s Branch, outline: &'s Outline) -> Parts<'s> {
@@ -109,9 +114,10 @@ fn observed(property: Property) -> Option<TaskId> {
 
 /// A leaf with these rows, if it is accepted and within the limits.
 fn tested(question: Question<'_>, branch: &Branch, rows: Vec<Row>) -> Option<Tree>
-    requires { IsReady question }
+    requires question { IsReady question }
+    requires form { AreOfForm question.form question.property rows.items }
     ensures { IfSome result (IsFound question.entry.graph.now.graph question.entry.property
-        (assumed_of branch.now.assumed) 0) }
+        question.entry.form (assumed_of branch.now.assumed) 0) }
 {
     if !accepts_leaf(
         question.graph,

@@ -8,6 +8,7 @@ mod certificate;
 mod chain;
 mod choice;
 mod cone;
+mod form;
 mod gap;
 mod goal;
 mod leaf;
@@ -20,5 +21,6 @@ mod split;
 mod stages;
 mod way;
 
-pub use certificate::analyse;
+pub use certificate::{analyse, analyse_in};
+pub use form::Form;
 pub use gap::Gap;

@@ -1,6 +1,7 @@
 //! What is searched for, and what is made once for all branches of the search.
 
 use crate::cone::Cone;
+use crate::form::Form;
 use crate::split::Split;
 use crate::stages::Stage;
 use tpl_checker::Below;
@@ -14,6 +15,8 @@ pub(crate) struct Question<'s> {
     pub(crate) below: &'s Below,
     pub(crate) stages: &'s [Stage],
     pub(crate) property: Property,
+    /// How much the rows of a leaf are to say.
+    pub(crate) form: Form,
     /// All splits of the graph, in the order of the search.
     pub(crate) splits: &'s [Split],
     /// What bears on the property.

@@ -86,7 +86,7 @@ fn find(
 ) -> Result<Option<Tree>, AllocError>
     requires { IsReady question }
     ensures { IfOk result (λ found. IfSome found (IsFound question.entry.graph.now.graph
-        question.entry.property (assumed_of branch.now.assumed) reach.splits)) }
+        question.entry.property question.entry.form (assumed_of branch.now.assumed) reach.splits)) }
 {
     if let Some(tree) = leaf(alloc, question, branch, budget)? {
         return Ok(Some(tree));
@@ -135,7 +135,7 @@ pub(crate) fn split(
     requires question { IsReady question }
     requires splits { 0 < reach.splits }
     ensures { IfOk result (λ found. IfSome found (IsFound question.entry.graph.now.graph
-        question.entry.property (assumed_of branch.now.assumed) reach.splits)) }
+        question.entry.property question.entry.form (assumed_of branch.now.assumed) reach.splits)) }
 {
     let mut failed = reach.failed;
     for split in question.splits {
@@ -164,7 +164,7 @@ fn by_split(
     requires splits { 0 < reach.splits }
     requires split { IsSplitOf question.graph.now.graph split }
     ensures { IfOk result (λ found. IfSome found (IsFound question.entry.graph.now.graph
-        question.entry.property (assumed_of branch.now.assumed) reach.splits)) }
+        question.entry.property question.entry.form (assumed_of branch.now.assumed) reach.splits)) }
 {
     match split {
         Split::Input(input) => by_input(alloc, question, branch, reach, input, budget),
@@ -186,7 +186,7 @@ fn by_input(
     requires splits { 0 < reach.splits }
     requires input { input.0 < question.graph.now.graph.inputs }
     ensures { IfOk result (λ found. IfSome found (IsFound question.entry.graph.now.graph
-        question.entry.property (assumed_of branch.now.assumed) reach.splits)) }
+        question.entry.property question.entry.form (assumed_of branch.now.assumed) reach.splits)) }
 {
     question.graph.valid();
     let reach = reach.behind();
@@ -216,7 +216,7 @@ fn by_end(
     requires splits { 0 < reach.splits }
     requires task { is_task question.graph.now.graph task.0 }
     ensures { IfOk result (λ found. IfSome found (IsFound question.entry.graph.now.graph
-        question.entry.property (assumed_of branch.now.assumed) reach.splits)) }
+        question.entry.property question.entry.form (assumed_of branch.now.assumed) reach.splits)) }
 {
     let reach = reach.behind();
     let ran = branch.with_end(question, task, Final::RanToCompletion);

@@ -39,8 +39,9 @@ front_run g v events place prefix run =
     prefix g v (reverse (drop place events)) (first_events events place) (subst (Run g v) (sym parts) run)
 
 pub refutes : (g : TaskGraph) (claim : Claim) (v : List Bool) (events front : List Event) (complete : Bool) (failure : Failure)
-    → PrefixIsRun → IsVerdict g v events (claim ∷ []) (Ran complete (Some failure)) → front ≡ take failure.place events → All (λ e. IsSeat e.actor) front → Refutes g claim v front
-refutes g claim v events front complete failure prefix is e seats = subst (Refutes g claim v) (sym e) (record {
+    → PrefixIsRun → IsVerdict g v events (claim ∷ []) (Ran complete (Some failure)) → front ≡ take failure.place events → length v ≡ g.inputs → All (λ e. IsSeat e.actor) front → Refutes g claim v front
+refutes g claim v events front complete failure prefix is e count seats = subst (Refutes g claim v) (sym e) (record {
+  inputs = count;
   run = front_run g v events failure.place prefix is.run;
   fails = λ holds. is.failure.fails (subst (λ (c : Claim). Holds g c v (first_events events failure.place)) (sym same) holds);
   earlier = λ place lt.
@@ -84,7 +85,7 @@ fails_at_the_end g claim v events failure first r = by (nat_lt failure.place (le
 
 pub judged : (g : TaskGraph) (claim : Claim) (v w : List Bool) (events told front : List Event) (claims : List Claim) (verdict : Verdict) (complete : Bool) (failure : Failure)
     → PrefixIsRun → w ≡ v → told ≡ events → claims ≡ claim ∷ [] → verdict ≡ Ran complete (Some failure) → IsVerdict g w told claims verdict
-    → front ≡ take failure.place events → All (λ e. IsSeat e.actor) front → Refutes g claim v front
+    → front ≡ take failure.place events → length v ≡ g.inputs → All (λ e. IsSeat e.actor) front → Refutes g claim v front
 judged g claim v w events told front claims verdict complete failure prefix e1 e2 e3 e4 is =
     let is1 = subst (λ (z : List Bool). IsVerdict g z told claims verdict) e1 is in
     let is2 = subst (λ (z : List Event). IsVerdict g v z claims verdict) e2 is1 in
@@ -95,7 +96,7 @@ module _ (g : TaskGraph) (claim : Claim) (v : List Bool) (events : List Event) (
   of_one : IsVerdict g v events (claim ∷ []) verdict
   of_one = subst (λ (z : List Claim). IsVerdict g v events z verdict) alone_in is
 
-  pub refuted_at_the_end : (complete : Bool) (failure : Failure) → PrefixIsRun → verdict ≡ Ran complete (Some failure) → failure.place ≡ length events → All (λ e. IsSeat e.actor) events → Refutes g claim v events
+  pub refuted_at_the_end : (complete : Bool) (failure : Failure) → PrefixIsRun → verdict ≡ Ran complete (Some failure) → failure.place ≡ length events → length v ≡ g.inputs → All (λ e. IsSeat e.actor) events → Refutes g claim v events
   refuted_at_the_end complete failure prefix e at =
       refutes g claim v events events complete failure prefix (subst (IsVerdict g v events (claim ∷ [])) e of_one)
       (sym (take_all failure.place events (let same = at in omega arith)))

@@ -1,6 +1,6 @@
 //! Whether events refute a claim.
 
-ghost use Rattle.std.specs.Prelude.{◌↔◌, IsTrue, IfOk, IfSome};
+ghost use Rattle.std.specs.Prelude.{◌≡◌, ◌↔◌, IsTrue, IfOk, IfSome, length};
 ghost use Rattle.std.specs.List.{All};
 ghost use Rattle.tpl_claims.specs.Fits.{Fits};
 ghost use Rattle.tpl_journal.specs.Lines.{IsSeat};
@@ -31,6 +31,14 @@ fn have_seats(events: &[Event]) -> bool
     events.iter().all(|event| is_seat(event.actor))
 }
 
+/// A document of the graph can have these inputs, and its journal these events.
+fn can_be_written(graph: &Graph, inputs: &Inputs, events: &[Event]) -> bool
+    ensures { IsTrue result ↔ ((length inputs.now ≡ graph.now.graph.inputs)
+        × All (λ e. IsSeat e.actor) events.now) }
+{
+    inputs.len() == graph.input_count() && have_seats(events)
+}
+
 /// The events up to the place where the claim fails first, if they are a run in which it does.
 pub(crate) fn judge(
     alloc: Global,
@@ -51,7 +59,7 @@ pub(crate) fn judge(
             ..
         } => {
             events.truncate(failure.place);
-            if have_seats(events.as_slice()) {
+            if can_be_written(graph, &inputs, events.as_slice()) {
                 Ok(Some(Counterexample { inputs, events }))
             } else {
                 Ok(None)
@@ -63,8 +71,9 @@ pub(crate) fn judge(
     }
 }
 
-/// Whether the events refute the claim: they are a run with these inputs, after the last of them the claim doesn't hold
-/// for the first time, and a journal can name whoever acts. Want of memory is the only error.
+/// Whether the events refute the claim: they are a run with these inputs, one for each that the graph has, after the last
+/// of them the claim doesn't hold for the first time, and a journal can name whoever acts. Want of memory is the only
+/// error.
 pub fn refutes(
     alloc: Global,
     graph: &Graph,
@@ -78,11 +87,12 @@ pub fn refutes(
 {
     tpl_laws::prefix_is_run();
     let alone = slice::from_ref(claim);
+    let written = can_be_written(graph, &inputs, events);
     match audit(alloc, graph, inputs, events, alone) {
         Verdict::Run {
             fails: Some(failure),
             ..
-        } => Ok(failure.place == events.len() && have_seats(events)),
+        } => Ok(failure.place == events.len() && written),
         Verdict::Run { fails: None, .. } => Ok(false),
         Verdict::NotAllowed { .. } => Ok(false),
         Verdict::Memory => Err(AllocError),

@@ -5,9 +5,10 @@ use Rattle.tpl_journal.specs.Lines.{IsSeat}
 use Rattle.tpl_refute.proofs.JudgeLemmas.{judged}
 use Rattle.tpl_refute.proofs.judging.judge.Goals as goal
 
-pub returns-then-have_seats : goal.returns-then-have_seats
-returns-then-have_seats c =
+pub returns-then-can_be_written : goal.returns-then-can_be_written
+returns-then-can_be_written c =
+    let can = c.can_be_written.ensures.0 c.if-can_be_written.true in
     let w = c.in-Run-default-Some in
     judged c.args.graph.now.graph c.args.claim.now c.args.inputs c.copy.result c.args.events.items c.as_slice.result.now c.truncate.new.self.items c.from_ref-alone.result.now c.audit.result w.complete w.failure
     c.prefix_is_run.ensures c.copy.ensures c.as_slice.ensures.value c.from_ref-alone.ensures.value (w.is ∙ ap (λ z. Run w.complete z) w.fails-is) c.audit.ensures.verdict
-    c.truncate.ensures.items (subst (All (λ e. IsSeat e.actor)) c.as_slice-in-Run-default-Some.ensures.value (c.have_seats.ensures.0 c.if-have_seats.true))
+    c.truncate.ensures.items can.0 (subst (All (λ e. IsSeat e.actor)) c.as_slice-in-Run-default-Some.ensures.value can.1)

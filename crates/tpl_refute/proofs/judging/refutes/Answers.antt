@@ -7,8 +7,8 @@ use Rattle.tpl_refute.proofs.judging.refutes.Goals as goal
 pub returns-then-failure-events : goal.returns-then-failure-events
 returns-then-failure-events c =
     let w = c.in-Run-default-Some in (
-      λ told. refuted_at_the_end c.args.graph.now.graph c.args.claim.now c.args.inputs c.args.events.now c.from_ref-alone.result.now c.audit.result c.from_ref-alone.ensures.value c.audit.ensures.verdict w.complete w.failure c.prefix_is_run.ensures (w.is ∙ ap (λ z. Run w.complete z) w.fails-is) c.if-failure-events.true (c.have_seats.ensures.0 told),
-      λ r. c.have_seats.ensures.1 r.seats,
+      λ told. refuted_at_the_end c.args.graph.now.graph c.args.claim.now c.args.inputs c.args.events.now c.from_ref-alone.result.now c.audit.result c.from_ref-alone.ensures.value c.audit.ensures.verdict w.complete w.failure c.prefix_is_run.ensures (w.is ∙ ap (λ z. Run w.complete z) w.fails-is) c.if-failure-events.true (c.can_be_written-written.ensures.0 told).0 (c.can_be_written-written.ensures.0 told).1,
+      λ r. c.can_be_written-written.ensures.1 (r.inputs, r.seats),
     )
 
 pub returns-else-failure-events : goal.returns-else-failure-events

@@ -1,0 +1,72 @@
+//! The forms of a leaf: what its rows say in `before` and `past`.
+
+ghost use Rattle.std.specs.Prelude.{◌≡◌, ℕ, true, ◌&&◌, IfOk};
+ghost use Rattle.std.specs.List.{All};
+ghost use Rattle.tpl_words.specs.Members.{mem};
+ghost use Rattle.tpl_analyser.specs.Slim.{AreOfForm, IsSlimRow, IsUsed};
+
+use std::alloc::{AllocError, Global};
+use tpl_cert::Row;
+use tpl_model::Property;
+use tpl_words::{MOST_TASKS, TaskSet};
+
+/// How much the rows of a certificate say in `before` and `past`.
+#[derive(Clone, Copy, Debug, Drop, PartialEq, Eq)]
+pub enum Form {
+    /// All that the rules permit.
+    Full,
+    /// What the claim's proof uses: the first task of an `after`, and for other claims nothing.
+    Slim,
+}
+
+/// The rows in this form.
+pub(crate) fn in_form(
+    alloc: Global,
+    form: Form,
+    property: Property,
+    rows: Vec<Row>,
+) -> Result<Vec<Row>, AllocError>
+    ensures { IfOk result (λ given. AreOfForm form property given.items) }
+{
+    match form {
+        Form::Full => Ok(rows),
+        Form::Slim => slim(alloc, property, &rows),
+    }
+}
+
+/// The rows with what the proof of the property uses.
+fn slim(alloc: Global, property: Property, rows: &[Row]) -> Result<Vec<Row>, AllocError>
+    ensures { IfOk result (λ slim. All (IsSlimRow property) slim.items) }
+{
+    let used = used(property);
+    let mut slim = Vec::new(alloc);
+    for row in rows {
+        slim.push(with_used(alloc, row, &used)?)?;
+    }
+    Ok(slim)
+}
+
+/// The row, of whose tasks only these are left in `before` and `past`.
+fn with_used(alloc: Global, row: &Row, used: &TaskSet) -> Result<Row, AllocError>
+    ensures before { IfOk result (λ slim. (x : ℕ)
+        → mem x slim.before ≡ (mem x row.now.before && mem x used.now)) }
+    ensures past { IfOk result (λ slim. (x : ℕ)
+        → mem x slim.past ≡ (mem x row.now.past && mem x used.now)) }
+{
+    let chain = row.chain().to_vec(alloc)?;
+    let before = row.before().intersection(used);
+    let past = row.past().intersection(used);
+    Ok(Row::new(row.ends(), row.runs(), before, past, chain))
+}
+
+/// The tasks of which the proof of the property uses where they are settled.
+fn used(property: Property) -> TaskSet
+    ensures { (x : ℕ) → mem x result ≡ true → IsUsed property x }
+{
+    let mut used = TaskSet::empty();
+    match property {
+        Property::After(first, _) if first.0 < MOST_TASKS => used.insert(first),
+        _ => {}
+    }
+    used
+}
