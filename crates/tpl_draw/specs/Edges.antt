@@ -1,5 +1,5 @@
 -- The edges of a graph.
-use Rattle.std.specs.Prelude.{ℕ, Option, List, [], ◌∷◌, ◌++◌, length, map}
+use Rattle.std.specs.Prelude.{ℕ, List, [], ◌∷◌, ◌++◌, length, map}
 use Rattle.std.specs.Option.{option_to_list}
 use Rattle.tpl_script.specs.Statements.{Statement, Statements, Nothing, ◌⨾◌, Start, Cancel as Request, If, When}
 use Rattle.tpl_model.specs.Graph.{TaskGraph, task, kind, body, sources}

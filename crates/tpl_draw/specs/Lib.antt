@@ -1,3 +1,5 @@
 pub mod Below
 pub mod Edges
+pub mod Endings
+pub mod Marks
 pub mod Picture

@@ -1,8 +1,8 @@
 -- The text of a picture.
 use Rattle.std.specs.Prelude.{ℕ, Bool, true, false, not, ◌&&◌, List, [], ◌∷◌, ◌++◌, length, codes, flat_map, slice_index_or, if◌then◌else◌}
 use Rattle.tpl_words.specs.declared.finals.Final.TheVariants.{RanToCompletion, Canceled, Faulted}
+use Rattle.tpl_words.specs.declared.finals.Finals.{Finals}
 use Rattle.tpl_words.specs.Options.{allows, attached_to_parent, deny_child_attach, lazy_cancellation, execute_synchronously}
-use Rattle.tpl_model.specs.Graph as model
 use Rattle.tpl_model.specs.Graph.{TaskGraph, kind, options}
 use Rattle.tpl_graph.specs.Named.{Names, Named}
 use Rattle.tpl_graph.specs.Rows.{kind_of}
@@ -15,6 +15,7 @@ use Rattle.tpl_draw.specs.declared.edge.Tie.TheVariants.{After, Argument, Child,
 use Rattle.tpl_draw.specs.declared.edge.Edge.{Edge}
 use Rattle.tpl_draw.specs.Below.{below}
 use Rattle.tpl_draw.specs.Edges.{edges}
+use Rattle.tpl_draw.specs.Marks.{mark_at}
 
 abbrev pub task_name : Names → ℕ → List ℕ
 task_name names t = slice_index_or names.tasks t []
@@ -27,25 +28,25 @@ abbrev pub token_node : Language → List ℕ → List ℕ
 token_node Mermaid name = codes "  k_" ++ (name ++ (codes ">\"" ++ (name ++ codes "<br/>token\"]:::token\n")))
 token_node Dot name = codes "  k_" ++ (name ++ (codes " [label=\"" ++ (name ++ codes "\\ntoken\", shape=note];\n")))
 
--- the node of a task in Mermaid, whose shape says its kind
-abbrev pub mermaid_node : Kind → List ℕ → List ℕ
-mermaid_node kinds.Root name = codes "  t_" ++ (name ++ (codes "[\"" ++ (name ++ codes "<br/>root\"]\n")))
-mermaid_node kinds.Child name = codes "  t_" ++ (name ++ (codes "(\"" ++ (name ++ codes "<br/>child\")\n")))
-mermaid_node kinds.Then name = codes "  t_" ++ (name ++ (codes "([\"" ++ (name ++ codes "<br/>then\"])\n")))
-mermaid_node kinds.All name = codes "  t_" ++ (name ++ (codes "{{\"" ++ (name ++ codes "<br/>all\"}}\n")))
-mermaid_node kinds.Any name = codes "  t_" ++ (name ++ (codes "{\"" ++ (name ++ codes "<br/>any\"}\n")))
+-- the node of a task in Mermaid, whose shape says its kind, and its mark how it may end
+abbrev pub mermaid_node : Kind → (name mark : List ℕ) → List ℕ
+mermaid_node kinds.Root name mark = codes "  t_" ++ (name ++ (codes "[\"" ++ (name ++ (codes "<br/>root\"]" ++ (mark ++ codes "\n")))))
+mermaid_node kinds.Child name mark = codes "  t_" ++ (name ++ (codes "(\"" ++ (name ++ (codes "<br/>child\")" ++ (mark ++ codes "\n")))))
+mermaid_node kinds.Then name mark = codes "  t_" ++ (name ++ (codes "([\"" ++ (name ++ (codes "<br/>then\"])" ++ (mark ++ codes "\n")))))
+mermaid_node kinds.All name mark = codes "  t_" ++ (name ++ (codes "{{\"" ++ (name ++ (codes "<br/>all\"}}" ++ (mark ++ codes "\n")))))
+mermaid_node kinds.Any name mark = codes "  t_" ++ (name ++ (codes "{\"" ++ (name ++ (codes "<br/>any\"}" ++ (mark ++ codes "\n")))))
 
--- the node of a task in DOT, whose shape says its kind
-abbrev pub dot_node : Kind → List ℕ → List ℕ
-dot_node kinds.Root name = codes "  t_" ++ (name ++ (codes " [label=\"" ++ (name ++ codes "\\nroot\", shape=box];\n")))
-dot_node kinds.Child name = codes "  t_" ++ (name ++ (codes " [label=\"" ++ (name ++ codes "\\nchild\", shape=Mrecord];\n")))
-dot_node kinds.Then name = codes "  t_" ++ (name ++ (codes " [label=\"" ++ (name ++ codes "\\nthen\", shape=ellipse];\n")))
-dot_node kinds.All name = codes "  t_" ++ (name ++ (codes " [label=\"" ++ (name ++ codes "\\nall\", shape=hexagon];\n")))
-dot_node kinds.Any name = codes "  t_" ++ (name ++ (codes " [label=\"" ++ (name ++ codes "\\nany\", shape=diamond];\n")))
+-- the same in DOT
+abbrev pub dot_node : Kind → (name mark : List ℕ) → List ℕ
+dot_node kinds.Root name mark = codes "  t_" ++ (name ++ (codes " [label=\"" ++ (name ++ (codes "\\nroot\", shape=box" ++ (mark ++ codes "];\n")))))
+dot_node kinds.Child name mark = codes "  t_" ++ (name ++ (codes " [label=\"" ++ (name ++ (codes "\\nchild\", shape=Mrecord" ++ (mark ++ codes "];\n")))))
+dot_node kinds.Then name mark = codes "  t_" ++ (name ++ (codes " [label=\"" ++ (name ++ (codes "\\nthen\", shape=ellipse" ++ (mark ++ codes "];\n")))))
+dot_node kinds.All name mark = codes "  t_" ++ (name ++ (codes " [label=\"" ++ (name ++ (codes "\\nall\", shape=hexagon" ++ (mark ++ codes "];\n")))))
+dot_node kinds.Any name mark = codes "  t_" ++ (name ++ (codes " [label=\"" ++ (name ++ (codes "\\nany\", shape=diamond" ++ (mark ++ codes "];\n")))))
 
-abbrev pub task_node : Language → Kind → List ℕ → List ℕ
-task_node Mermaid k name = mermaid_node k name
-task_node Dot k name = dot_node k name
+abbrev pub task_node : Language → Kind → (name mark : List ℕ) → List ℕ
+task_node Mermaid k name mark = mermaid_node k name mark
+task_node Dot k name mark = dot_node k name mark
 
 -- the option word that says after which ends of its antecedent a continuation starts, by whether it may after each:
 -- after it ran to completion, was canceled, faulted
@@ -156,8 +157,9 @@ edge_line language n e =
 abbrev pub token_line : Language → Named → ℕ → List ℕ
 token_line language n k = token_node language (token_name n.names k)
 
-abbrev pub task_line : Language → Named → ℕ → List ℕ
-task_line language n t = task_node language (kind_of (kind n.graph t)) (task_name n.names t)
+abbrev pub task_line : Language → Named → List Finals → ℕ → List ℕ
+task_line language n ends t =
+    task_node language (kind_of (kind n.graph t)) (task_name n.names t) (mark_at language ends t)
 
 -- before the first node
 abbrev pub opening : Language → List ℕ
@@ -170,14 +172,21 @@ opening Dot =
 
 -- after the last edge
 abbrev pub closing : Language → List ℕ
-closing Mermaid = codes "  classDef token fill:#eee,stroke:#888\n"
+closing Mermaid =
+    codes "  classDef token fill:#eee,stroke:#888\n"
+    ++ codes "  classDef canceled fill:#f0c848,color:#000\n"
+    ++ codes "  classDef faulted fill:#ee7560,color:#000\n"
+    ++ codes "  classDef canceled_or_faulted fill:#c596da,color:#000\n"
+    ++ codes "  classDef ran_or_canceled fill:#fff8d0,color:#000\n"
+    ++ codes "  classDef ran_or_faulted fill:#ffdfd0,color:#000\n"
+    ++ codes "  classDef any_end fill:#e0d0ec,color:#000\n"
 closing Dot = codes "}\n"
 
--- a node for each token, a node for each task, a line for each edge
-abbrev pub picture : Language → Named → List ℕ
-picture language n =
+-- a node for each token, a node for each task, coloured by how it may end, a line for each edge
+abbrev pub picture : Language → Named → List Finals → List ℕ
+picture language n ends =
     opening language
     ++ below (token_line language n) (length n.graph.tokens)
-    ++ below (task_line language n) (length n.graph.tasks)
+    ++ below (task_line language n ends) (length n.graph.tasks)
     ++ flat_map (edge_line language n) (edges n.graph)
     ++ closing language

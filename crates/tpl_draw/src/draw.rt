@@ -8,9 +8,10 @@ use crate::edge::Edge;
 use crate::edges::edges;
 use crate::language::Language;
 use crate::lines::{edge_line, name_of, task_node, token_node};
+use crate::marks::mark_at;
 use std::alloc::{AllocError, Global};
 use tpl_graph::Graph;
-use tpl_words::TaskId;
+use tpl_words::{Finals, TaskId};
 
 /// What stands before the first node.
 fn opening(language: Language) -> &'static str
@@ -29,7 +30,9 @@ fn closing(language: Language) -> &'static str
     ensures { result.now ≡ closing language }
 {
     match language {
-        Language::Mermaid => "  classDef token fill:#eee,stroke:#888\n",
+        Language::Mermaid => {
+            "  classDef token fill:#eee,stroke:#888\n  classDef canceled fill:#f0c848,color:#000\n  classDef faulted fill:#ee7560,color:#000\n  classDef canceled_or_faulted fill:#c596da,color:#000\n  classDef ran_or_canceled fill:#fff8d0,color:#000\n  classDef ran_or_faulted fill:#ffdfd0,color:#000\n  classDef any_end fill:#e0d0ec,color:#000\n"
+        }
         Language::Dot => "}\n",
     }
 }
@@ -51,20 +54,22 @@ fn add_tokens(
     Ok(())
 }
 
-/// Adds the node of each task.
+/// Adds the node of each task, coloured by how it may end.
 fn add_tasks(
     text: &mut String,
     alloc: Global,
     language: Language,
     graph: &Graph,
+    ends: &[Finals],
 ) -> Result<(), AllocError>
     ensures { OnOk result (string_bytes text.new ≡ string_bytes text.old
-        ++ below (task_line language graph.now) (length graph.now.graph.tasks)) }
+        ++ below (task_line language graph.now ends.now) (length graph.now.graph.tasks)) }
 {
     for number in 0..graph.len() {
         let name = name_of(graph, false, number as u16);
         let kind = graph.kind(TaskId(number as u16));
-        text.push_str(task_node(alloc, language, kind, name)?.as_str())?;
+        let mark = mark_at(language, ends, number);
+        text.push_str(task_node(alloc, language, kind, name, mark)?.as_str())?;
     }
     Ok(())
 }
@@ -88,14 +93,20 @@ fn add_edges(
 
 /// The picture of a graph: a node for each token and each task, then an edge for each link of a token, for each task's
 /// own token, for what it continues and what it waits for, and for each child that its body starts and each token
-/// that it requests. Want of memory is the only error.
-pub fn picture(alloc: Global, language: Language, graph: &Graph) -> Result<String, AllocError>
-    ensures { IfOk result (λ text. string_bytes text ≡ picture language graph.now) }
+/// that it requests. A task that may end otherwise than by running to completion is coloured by its place in `ends`;
+/// past the end of these none is. Want of memory is the only error.
+pub fn picture(
+    alloc: Global,
+    language: Language,
+    graph: &Graph,
+    ends: &[Finals],
+) -> Result<String, AllocError>
+    ensures { IfOk result (λ text. string_bytes text ≡ picture language graph.now ends.now) }
 {
     let edges = edges(alloc, graph)?;
     let mut text = String::from_str(alloc, opening(language))?;
     add_tokens(&mut text, alloc, language, graph)?;
-    add_tasks(&mut text, alloc, language, graph)?;
+    add_tasks(&mut text, alloc, language, graph, ends)?;
     add_edges(&mut text, alloc, language, graph, &edges)?;
     text.push_str(closing(language))?;
     Ok(text)

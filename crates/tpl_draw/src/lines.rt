@@ -26,27 +26,37 @@ pub(crate) fn token_node(
     }
 }
 
-fn mermaid_node(alloc: Global, kind: Kind, name: &str) -> Result<String, AllocError>
-    ensures { IfOk result (λ line. string_bytes line ≡ mermaid_node kind name.now) }
+/// The node of a task in Mermaid, whose shape says its kind, and its mark how it may end.
+fn mermaid_node(alloc: Global, kind: Kind, name: &str, mark: &str) -> Result<String, AllocError>
+    ensures { IfOk result (λ line. string_bytes line ≡ mermaid_node kind name.now mark.now) }
 {
     match kind {
-        Kind::Root => format!(in alloc; "  t_{name}[\"{name}<br/>root\"]\n"),
-        Kind::Child => format!(in alloc; "  t_{name}(\"{name}<br/>child\")\n"),
-        Kind::Then => format!(in alloc; "  t_{name}([\"{name}<br/>then\"])\n"),
-        Kind::All => format!(in alloc; "  t_{name}{{{{\"{name}<br/>all\"}}}}\n"),
-        Kind::Any => format!(in alloc; "  t_{name}{{\"{name}<br/>any\"}}\n"),
+        Kind::Root => format!(in alloc; "  t_{name}[\"{name}<br/>root\"]{mark}\n"),
+        Kind::Child => format!(in alloc; "  t_{name}(\"{name}<br/>child\"){mark}\n"),
+        Kind::Then => format!(in alloc; "  t_{name}([\"{name}<br/>then\"]){mark}\n"),
+        Kind::All => format!(in alloc; "  t_{name}{{{{\"{name}<br/>all\"}}}}{mark}\n"),
+        Kind::Any => format!(in alloc; "  t_{name}{{\"{name}<br/>any\"}}{mark}\n"),
     }
 }
 
-fn dot_node(alloc: Global, kind: Kind, name: &str) -> Result<String, AllocError>
-    ensures { IfOk result (λ line. string_bytes line ≡ dot_node kind name.now) }
+/// The same in DOT.
+fn dot_node(alloc: Global, kind: Kind, name: &str, mark: &str) -> Result<String, AllocError>
+    ensures { IfOk result (λ line. string_bytes line ≡ dot_node kind name.now mark.now) }
 {
     match kind {
-        Kind::Root => format!(in alloc; "  t_{name} [label=\"{name}\\nroot\", shape=box];\n"),
-        Kind::Child => format!(in alloc; "  t_{name} [label=\"{name}\\nchild\", shape=Mrecord];\n"),
-        Kind::Then => format!(in alloc; "  t_{name} [label=\"{name}\\nthen\", shape=ellipse];\n"),
-        Kind::All => format!(in alloc; "  t_{name} [label=\"{name}\\nall\", shape=hexagon];\n"),
-        Kind::Any => format!(in alloc; "  t_{name} [label=\"{name}\\nany\", shape=diamond];\n"),
+        Kind::Root => format!(in alloc; "  t_{name} [label=\"{name}\\nroot\", shape=box{mark}];\n"),
+        Kind::Child => {
+            format!(in alloc; "  t_{name} [label=\"{name}\\nchild\", shape=Mrecord{mark}];\n")
+        }
+        Kind::Then => {
+            format!(in alloc; "  t_{name} [label=\"{name}\\nthen\", shape=ellipse{mark}];\n")
+        }
+        Kind::All => {
+            format!(in alloc; "  t_{name} [label=\"{name}\\nall\", shape=hexagon{mark}];\n")
+        }
+        Kind::Any => {
+            format!(in alloc; "  t_{name} [label=\"{name}\\nany\", shape=diamond{mark}];\n")
+        }
     }
 }
 
@@ -56,12 +66,13 @@ pub(crate) fn task_node(
     language: Language,
     kind: Kind,
     name: &str,
+    mark: &str,
 ) -> Result<String, AllocError>
-    ensures { IfOk result (λ line. string_bytes line ≡ task_node language kind name.now) }
+    ensures { IfOk result (λ line. string_bytes line ≡ task_node language kind name.now mark.now) }
 {
     match language {
-        Language::Mermaid => mermaid_node(alloc, kind, name),
-        Language::Dot => dot_node(alloc, kind, name),
+        Language::Mermaid => mermaid_node(alloc, kind, name, mark),
+        Language::Dot => dot_node(alloc, kind, name, mark),
     }
 }
 

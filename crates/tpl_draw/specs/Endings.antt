@@ -1,0 +1,46 @@
+-- How the tasks may end by the rows of a certificate.
+use Rattle.std.specs.Prelude.{◌≡◌, ℕ, ◌||◌, ◌⊎◌, Bool, true, false, Some, List, [], ◌∷◌}
+use Rattle.tpl_words.specs.declared.finals.Final.{Final}
+use Rattle.tpl_words.specs.declared.finals.Finals.{Finals}
+use Rattle.tpl_words.specs.Finals.{has}
+use Rattle.tpl_model.specs.Graph.{TaskGraph}
+use Rattle.tpl_model.specs.declared.event.Event.{Event}
+use Rattle.tpl_model.specs.Rules.{final, Run}
+use Rattle.tpl_model.specs.Valid.{IsGraph}
+use Rattle.tpl_model.specs.Claims.{Claim, IsGiven}
+use Rattle.tpl_model.specs.Certificate.{Tree, SplitInput, SplitEnd, Leaf, row, Accepts}
+use Rattle.tpl_draw.specs.Below.{below}
+
+abbrev pub no_ends : Finals
+no_ends = record { ran = false; canceled = false; faulted = false }
+
+-- the members of either set
+abbrev pub either : Finals → Finals → Finals
+either a b = record { ran = a.ran || b.ran; canceled = a.canceled || b.canceled; faulted = a.faulted || b.faulted }
+
+-- how a task may end by the rows of one leaf of the tree or another
+abbrev pub tree_ends : Tree → ℕ → Finals
+tree_ends (SplitInput i on_true on_false) t = either (tree_ends on_true t) (tree_ends on_false t)
+tree_ends (SplitEnd s ran canceled faulted) t = either (tree_ends ran t) (either (tree_ends canceled t) (tree_ends faulted t))
+tree_ends (Leaf rows) t = (row rows t).ends
+
+-- how a task may end by one tree or another
+abbrev pub ends : List Tree → ℕ → Finals
+ends [] t = no_ends
+ends (tree ∷ trees) t = either (tree_ends tree t) (ends trees t)
+
+-- the same for each of so many tasks
+abbrev pub endings : List Tree → ℕ → List Finals
+endings trees n = below (λ t. ends trees t ∷ []) n
+
+-- what one of the claims gives is true of a run so far
+abbrev pub IsSomeGiven : TaskGraph → List Bool → List Event → List Claim → Type 0
+IsSomeGiven g v h [] = ⊥
+IsSomeGiven g v h (claim ∷ claims) = IsGiven g v h claim.given ⊎ IsSomeGiven g v h claims
+
+-- where a certificate is accepted, a task ends as one of its rows says, in each run of which what one of the claims gives is true
+abbrev pub EndingsAreTrue : Type 0
+EndingsAreTrue =
+    (g : TaskGraph) (claims : List Claim) (certificate : List Tree) → IsGraph g → Accepts g claims certificate
+    → (v : List Bool) (h : List Event) → Run g v h → IsSomeGiven g v h claims
+    → (t : ℕ) (f : Final) → final g v h t ≡ Some f → has (ends certificate t) f ≡ true
