@@ -1,8 +1,10 @@
 pub mod Accepting
 pub mod AuditLemmas
 pub mod Inputs
+pub mod LineBreak
 pub mod LoadLemmas
 pub mod RunLemmas
 pub mod ReceiptLemmas
 pub mod TakenBack
+pub mod Whole
 pub mod WrittenTrees

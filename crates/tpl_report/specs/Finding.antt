@@ -10,7 +10,9 @@ use Rattle.tpl_graph.specs.Named.{Names}
 use Rattle.tpl_cert.specs.Heights.{height}
 use Rattle.tpl_cert.specs.Spelled.{SpellsTree}
 use Rattle.tpl_cert.specs.Written.{tree_data, named}
+use Rattle.tpl_analyser.specs.declared.form.Form.{Form}
 use Rattle.tpl_analyser.specs.Gaps.{IsFirstWithout}
+use Rattle.tpl_analyser.specs.Slim.{IsCertificateOf}
 use Rattle.tpl_reader.specs.Document.{DocumentValue, Spells, longest}
 use Rattle.tpl_reader.specs.Laws.{IsReadBack, HoldsCertificate}
 use Rattle.tpl_report.specs.declared.exit.Exit.{Exit}
@@ -50,26 +52,31 @@ CanBePut doc trees value =
     (input bytes : List ℕ) → Spells input doc → HoldsCertificate input value bytes → length bytes ≤ longest
     → IsTakenBack doc trees bytes
 
--- The text is that of a certificate with at most so many splits on each path, which is accepted for
--- the document's claims, and so they hold. As the member `certificate` of the document it is read as
+-- The text is that of a certificate of this form with at most so many splits on each path, which is
+-- accepted for the document's claims, and so they hold. As the member `certificate` of the document it is read as
 -- these trees, and accepted.
-pub record IsCertificate (depth : ℕ) (doc : DocumentValue) (text : List ℕ) : Type 0 where
+pub record IsCertificate (depth : ℕ) (form : Form) (doc : DocumentValue) (text : List ℕ) : Type 0 where
   pub trees : List Tree
   pub accepted : Accepts doc.graph.graph doc.claims trees
   pub hold : ClaimsHold doc
   pub splits : All (λ tree. height tree ≤ depth) trees
+  pub of_form : IsCertificateOf form doc.claims trees
   pub value : read (compact_text (written_trees doc.graph.names trees))
       ≡ Some (written_trees doc.graph.names trees)
   pub read : All (IsReadBack doc.graph.names) trees
   pub again : CanBePut doc trees (written_trees doc.graph.names trees)
   pub written : text ≡ compact_text (written_trees doc.graph.names trees) ++ codes "\n"
 
--- a certificate, or the number of the first claim for which none was found
-abbrev pub IsFinding : ℕ → DocumentValue → Exit → List ℕ → Type 0
-IsFinding depth doc Success text = IsCertificate depth doc text
-IsFinding depth doc Failure text =
+-- the text names the first claim for which none was found
+abbrev pub IsNotFound : ℕ → DocumentValue → List ℕ → Type 0
+IsNotFound depth doc text =
     (claim : ℕ) × IsFirstWithout doc.graph.graph doc.claims depth claim × (text ≡ not_found claim)
-IsFinding depth doc exit text = ⊥
 
-abbrev pub Finds : ℕ → Answers
-Finds depth = ToDocument (IsFinding depth)
+-- a certificate, or the first claim for which none was found
+abbrev pub IsFinding : ℕ → Form → DocumentValue → Exit → List ℕ → Type 0
+IsFinding depth form doc Success text = IsCertificate depth form doc text
+IsFinding depth form doc Failure text = IsNotFound depth doc text
+IsFinding depth form doc exit text = ⊥
+
+abbrev pub Finds : ℕ → Form → Answers
+Finds depth form = ToDocument (IsFinding depth form)

@@ -1,4 +1,5 @@
 pub mod Auditing
+pub mod Certifying
 pub mod Checking
 pub mod Documents
 pub mod Drawing

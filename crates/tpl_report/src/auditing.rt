@@ -33,7 +33,7 @@ impl Command for Audit {
 }
 
 /// The values of the inputs, where they are known: the start gives them, or there are none.
-pub(crate) fn inputs_of(document: &Document) -> Option<Inputs>
+pub fn inputs_of(document: &Document) -> Option<Inputs>
     ensures { result ≡ inputs_of (doc_of document.now) }
 {
     match &document.start {

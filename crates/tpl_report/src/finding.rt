@@ -19,7 +19,7 @@ use crate::text::not_found;
 use crate::unreadable::unreadable_answer;
 use serde_json::Value;
 use std::alloc::{AllocError, Global};
-use tpl_analyser::{Gap, analyse};
+use tpl_analyser::{Form, Gap, analyse_in};
 use tpl_cert::{Tree, TreeToFault, certificates_nest_little, tree_to};
 use tpl_graph::Graph;
 use tpl_reader::{Document, certificate_is_read_back, one_document, read_document};
@@ -30,32 +30,39 @@ use tpl_reader::{Document, certificate_is_read_back, one_document, read_document
 pub struct Analyse {
     /// The most splits on each path.
     pub depth: u8,
+    /// What the rows are to say.
+    pub form: Form,
     ghost within: { depth ≤ 6 },
 }
 
 impl Command for Analyse {
-    ghost answers = { λ this. Finds this.depth };
+    ghost answers = { λ this. Finds this.depth this.form };
 
     fn answer(&self, alloc: Global, bytes: &[u8]) -> Result<Answer, AllocError> {
         match read_document(alloc, bytes) {
-            Ok(document) => finding_for(alloc, &document, self.depth),
+            Ok(document) => finding_for(alloc, &document, self.depth, self.form),
             Err(fault) => unreadable_answer(alloc, fault),
         }
     }
 }
 
 /// The text of a certificate of the document's claims, or the first claim for which none was found.
-fn finding_for(alloc: Global, document: &Document, depth: u8) -> Result<Answer, AllocError>
+fn finding_for(
+    alloc: Global,
+    document: &Document,
+    depth: u8,
+    form: Form,
+) -> Result<Answer, AllocError>
     requires claims { All (Fits document.now.graph.graph) document.now.claims.items }
     requires depth { depth ≤ 6 }
     ensures { IfOk result (λ given.
-        IsFinding depth (doc_of document.now) given.exit (string_bytes given.text)) }
+        IsFinding depth form (doc_of document.now) given.exit (string_bytes given.text)) }
 {
     document.graph.valid();
     tpl_laws::soundness();
     one_document();
     certificate_is_read_back();
-    match analyse(alloc, &document.graph, &document.claims, depth) {
+    match analyse_in(alloc, &document.graph, &document.claims, depth, form) {
         Ok(certificate) => {
             certificate.within_limits();
             let text = certificate_text(alloc, &document.graph, certificate.trees())?;
@@ -83,9 +90,24 @@ fn certificate_text(alloc: Global, graph: &Graph, trees: &[Tree]) -> Result<Stri
         ≡ Some (written_trees graph.now.names trees.now)) }
 {
     certificates_nest_little();
-    let mut text = array_of(tree_values(alloc, graph, trees)?).to_string(alloc)?;
+    let mut text = certificate_value(alloc, graph, trees)?.to_string(alloc)?;
     text.push_str("\n")?;
     Ok(text)
+}
+
+/// The trees as one array.
+pub(crate) fn certificate_value(
+    alloc: Global,
+    graph: &Graph,
+    trees: &[Tree],
+) -> Result<Value, AllocError>
+    requires { All (λ tree. has_ids graph.now.names tree ≡ true) trees.now }
+    ensures written { IfOk result (λ value.
+        view value ≡ written_trees graph.now.names trees.now) }
+    ensures read { IfOk result (λ _. All (IsRead graph.now.names) trees.now) }
+{
+    let values = tree_values(alloc, graph, trees)?;
+    Ok(array_of(values))
 }
 
 fn array_of(values: Vec<Value>) -> Value

@@ -3,6 +3,7 @@
 
 mod answer;
 mod auditing;
+mod certifying;
 mod checking;
 mod drawing;
 mod exit;
@@ -17,7 +18,8 @@ mod text;
 mod unreadable;
 
 pub use answer::{Answer, put_answer, put_out_of_memory};
-pub use auditing::Audit;
+pub use auditing::{Audit, inputs_of};
+pub use certifying::Certify;
 pub use checking::Check;
 pub use drawing::Draw;
 pub use exit::Exit;
@@ -27,4 +29,5 @@ pub use loading::load;
 pub use responding::{Command, read_input, respond};
 pub use running::serve_run;
 pub use serving::{Ask, serve};
+pub use tpl_analyser::Form;
 pub use tpl_report_text::write_report;

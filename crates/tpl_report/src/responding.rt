@@ -9,9 +9,7 @@ use crate::exit::Exit;
 use std::alloc::{AllocError, Global};
 use std::io::{Read, Write};
 use tpl_journal::{Counting, InputFault, read_limited};
-
-/// The most bytes of a document.
-const LONGEST: usize = 16_777_216;
+use tpl_reader::LONGEST;
 
 /// What is to be done with a document.
 pub trait Command {

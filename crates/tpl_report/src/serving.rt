@@ -3,9 +3,10 @@
 ghost use Rattle.std.specs.Prelude.{◌≡◌, ◌⊎◌, ◌+◌, ◌≤◌, ℕ};
 ghost use Rattle.tpl_journal.specs.Counting.{calls_of};
 ghost use Rattle.tpl_report.specs.Responding.{longest, Responds};
-ghost use Rattle.tpl_report.specs.Serving.{answers_of, IsWithinDepth, Accepted, Found, Audited};
+ghost use Rattle.tpl_report.specs.Serving.{answers_of, IsWithinDepth, Accepted, Found, Certified, Audited};
 
 use crate::auditing::Audit;
+use crate::certifying::Certify;
 use crate::checking::Check;
 use crate::drawing::Draw;
 use crate::exit::Exit;
@@ -13,6 +14,7 @@ use crate::finding::Analyse;
 use crate::responding::respond;
 use std::alloc::Global;
 use std::io::{Read, Write};
+use tpl_analyser::Form;
 use tpl_draw::Language;
 use tpl_journal::Counting;
 
@@ -23,6 +25,10 @@ pub enum Ask {
     Check,
     /// Which certificate do its claims have, with at most so many splits on each path (0 to 6)?
     Analyse(u8),
+    /// Which certificate of this form do its claims have, with at most so many splits on each path (0 to 6)?
+    AnalyseIn(u8, Form),
+    /// What is the document with such a certificate in place of its own?
+    Certify(u8, Form),
     /// Is its journal a run, is that complete, and where does a claim fail?
     Audit,
     /// What is the picture of its graph, in this language?
@@ -48,7 +54,13 @@ pub fn serve<R: Read, W: Write>(
     ensures accepted { ask ≡ Ask.Check → result ≡ Exit.Success
         → Accepted R.remaining from.old from.new W.contents to.old to.new }
     ensures found { (depth : ℕ) → ask ≡ Ask.Analyse depth → result ≡ Exit.Success
-        → Found R.remaining from.old from.new W.contents to.old to.new depth }
+        → Found R.remaining from.old from.new W.contents to.old to.new depth Form.Full }
+    ensures found_in { (depth : ℕ) → (form : Form) → ask ≡ Ask.AnalyseIn depth form
+        → result ≡ Exit.Success
+        → Found R.remaining from.old from.new W.contents to.old to.new depth form }
+    ensures certified { (depth : ℕ) → (form : Form) → ask ≡ Ask.Certify depth form
+        → result ≡ Exit.Success
+        → Certified R.remaining from.old from.new W.contents to.old to.new depth form }
 
     // Where the audit answers and the document's certificate is accepted, no claim is named as failing.
     ensures audited { ask ≡ Ask.Audit → (result ≡ Exit.Success) ⊎ (result ≡ Exit.Failure)
@@ -56,7 +68,12 @@ pub fn serve<R: Read, W: Write>(
 {
     match ask {
         Ask::Check => respond(&Check, alloc, from, to),
-        Ask::Analyse(depth) => respond(&Analyse { depth }, alloc, from, to),
+        Ask::Analyse(depth) => {
+            let form = Form::Full;
+            respond(&Analyse { depth, form }, alloc, from, to)
+        }
+        Ask::AnalyseIn(depth, form) => respond(&Analyse { depth, form }, alloc, from, to),
+        Ask::Certify(depth, form) => respond(&Certify { depth, form }, alloc, from, to),
         Ask::Audit => respond(&Audit, alloc, from, to),
         Ask::Draw(language) => respond(&Draw { language }, alloc, from, to),
     }

@@ -3,6 +3,7 @@ use Rattle.std.specs.List.{All}
 use Rattle.tpl_model.specs.Claims.{Claim}
 use Rattle.tpl_model.specs.Certificate.{Accepts}
 use Rattle.tpl_cert.specs.Written.{has_ids}
+use Rattle.tpl_analyser.specs.Slim.{IsCertificateOf}
 use Rattle.tpl_reader.specs.Laws.{IsReadBack}
 use Rattle.tpl_reader.specs.SeenDocument.{doc_of}
 use Rattle.tpl_report.specs.Finding.{IsRead}
@@ -33,6 +34,7 @@ returns-in_ok-text-in-Ok c =
       accepted = accepted;
       hold = λ inputs events run. c.soundness.ensures g c.args.document.now.claims.items trees c.valid.ensures.graph accepted inputs events run;
       splits = c.in-Ok.ensures.splits;
+      of_form = subst (λ (claims : List Claim). IsCertificateOf c.args.form claims trees) c.deref.ensures.value c.in-Ok.ensures.form;
       read = back;
       again = taken_back c.one_document.ensures.one c.one_document.ensures.faultless c.certificate_is_read_back.ensures doc trees accepted back;
       value = rw c.trees.ensures at c.in_ok-text-in-Ok.ensures.value;
