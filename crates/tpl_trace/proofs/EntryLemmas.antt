@@ -1,0 +1,48 @@
+-- The entries of one event after another.
+use Rattle.std.proofs.Common.{◌≡◌, ◌∙◌, ℕ, suc, map, ◌<◌, List, [], ◌∷◌, ◌++◌, length, take, drop, get_or, slice_index_or, sym, ap, append_assoc, arith}
+use Rattle.std.proofs.lemmas.List.{take_more, length-take-le, map_push}
+use Rattle.std.proofs.Math.Seq.{drop-cons}
+use Rattle.std.proofs.Math.Numerals.{add-one}
+use Rattle.serde_json.specs.Data.{Data}
+use Rattle.serde_json.specs.View.{view}
+use Rattle.serde_json.specs.declared.value.Value.{Value}
+use Rattle.tpl_graph.specs.Named.{Named}
+use Rattle.tpl_model.specs.declared.event.Event.{Event}
+use Rattle.tpl_trace.specs.Trace.{track_of, new_track, marks, event_marks, marks_from}
+
+marks_step : (n : Named) (h : List Event) (i : ℕ) (d : Event) → i < length h → marks_from n (take i h) (drop i h) ≡ event_marks n (take i h) (get_or h i d) (drop (suc i) h) ++ marks_from n (take (suc i) h) (drop (suc i) h)
+marks_step n h i d lt =
+    ap (marks_from n (take i h)) (drop-cons h i d lt)
+    ∙ ap (λ past. event_marks n (take i h) (get_or h i d) (drop (suc i) h) ++ marks_from n past (drop (suc i) h)) (sym (rw add-one at (take_more h i d lt)))
+
+event_at : (n : Named) (h : List Event) (i : ℕ) (e : Event) → i < length h → event_marks n (take i h) e (drop (suc i) h) ≡ new_track (take i h) e.actor ++ marks n e.act (track_of e.actor) (suc i) (take i h) (drop (suc i) h)
+event_at n h i e lt =
+    ap (λ place. new_track (take i h) e.actor ++ marks n e.act (track_of e.actor) (suc place) (take i h) (drop (suc i) h)) (length-take-le i h (omega (arith, lt)))
+
+-- after the entries of one event more
+pub marks_more : (n : Named) (h : List Event) (i : ℕ) (d : Event) (e : Event) (all now mid new : List Data) → i < length h → e ≡ slice_index_or h i d
+    → now ++ marks_from n (take i h) (drop i h) ≡ all
+    → mid ≡ now ++ new_track (take i h) e.actor
+    → new ≡ mid ++ marks n e.act (track_of e.actor) (suc i) (take i h) (drop (suc i) h)
+    → new ++ marks_from n (take (suc i) h) (drop (suc i) h) ≡ all
+marks_more n h i d e all now mid new lt is so_far track act =
+    let rest = marks_from n (take (suc i) h) (drop (suc i) h) in
+    let first = new_track (take i h) e.actor in
+    let second = marks n e.act (track_of e.actor) (suc i) (take i h) (drop (suc i) h) in
+    ap (λ xs. xs ++ rest) (act ∙ ap (λ xs. xs ++ second) track)
+    ∙ (append_assoc (now ++ first) second rest
+    ∙ (append_assoc now first (second ++ rest)
+    ∙ (ap (λ xs. now ++ xs) (sym (append_assoc first second rest))
+    ∙ (ap (λ xs. now ++ (xs ++ rest)) (sym (event_at n h i e lt))
+    ∙ (ap (λ (x : Event). now ++ (event_marks n (take i h) x (drop (suc i) h) ++ rest)) is
+    ∙ (ap (λ xs. now ++ xs) (sym (marks_step n h i d lt))
+    ∙ so_far))))))
+
+-- one entry, and then others
+pub then_more : (old pushed : List Value) (v : Value) (i : Data) (new more : List Data) → pushed ≡ old ++ (v ∷ []) → view v ≡ i → new ≡ map view pushed ++ more → new ≡ map view old ++ (i ∷ more)
+then_more old pushed v i new more push is added =
+    added
+    ∙ (ap (λ vs. map view vs ++ more) push
+    ∙ (ap (λ ds. ds ++ more) (map_push view old v)
+    ∙ (append_assoc (map view old) (view v ∷ []) more
+    ∙ ap (λ d. map view old ++ (d ∷ more)) is)))

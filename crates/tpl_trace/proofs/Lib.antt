@@ -1,0 +1,5 @@
+pub mod EntryLemmas
+pub mod NoFloat
+pub mod RunLemmas
+pub mod TrackLemmas
+pub mod Tracing

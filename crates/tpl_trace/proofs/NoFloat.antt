@@ -1,0 +1,71 @@
+-- No number of a trace is a float.
+use Rattle.std.proofs.Common.{◌≡◌, ℕ, suc, List, [], ◌∷◌, ◌++◌, Bool, true, false, Option, refl, codes}
+use Rattle.std.specs.Prelude.{◌||◌, if◌then◌else◌}
+use Rattle.serde_json.specs.Data.{Data}
+use Rattle.serde_json.specs.View.{items_of}
+use Rattle.serde_json.specs.Written.{has_float, items_have_float}
+use Rattle.tpl_words.specs.declared.status.Actor.{Actor}
+use Rattle.tpl_model.specs.Graph.{TaskGraph, kind}
+use Rattle.tpl_model.specs.declared.event.Act.{Act}
+use Rattle.tpl_model.specs.declared.event.Act.TheVariants.{Request, Release, Begin, Step, Worked, Leave, Close, Drop, Settle}
+use Rattle.tpl_model.specs.declared.event.Event.{Event}
+use Rattle.tpl_graph.specs.Named.{Named, antecedent_of}
+use Rattle.tpl_journal.specs.Lines.{task_name}
+use Rattle.tpl_trace.specs.Marks.{slice_mark, arrow_start, arrow_end, track_mark}
+use Rattle.tpl_trace.specs.Trace.{may_end, releases, some_ends, acts_in, track_of, track_name, new_track, arrows, arrow_to, marks, event_marks, marks_from, trace_data}
+
+abbrev IsWhole : List Data → Type 0
+IsWhole ds = items_have_float (items_of ds) ≡ false
+
+or_false : (b x y : Bool) → (x ≡ false → y ≡ false) → b || x ≡ false → b || y ≡ false
+or_false true x y so none = none
+or_false false x y so none = so none
+
+whole_append : (xs ys : List Data) → IsWhole xs → IsWhole ys → IsWhole (xs ++ ys)
+whole_append [] ys first second = second
+whole_append (x ∷ xs) ys first second = or_false (has_float x) _ _ (λ none. whole_append xs ys none second) first
+
+arrow_whole : (ends follows : Bool) (track time place : ℕ) (ds : List Data) → IsWhole ds → IsWhole (if ends then [] else ((if follows then arrow_start place track time ∷ [] else []) ++ ds))
+arrow_whole true follows track time place ds whole = refl
+arrow_whole false true track time place ds whole = whole
+arrow_whole false false track time place ds whole = whole
+
+arrows_whole : (g : TaskGraph) (t track time place : ℕ) (h : List Event) → IsWhole (arrows g t track time place h)
+arrows_whole g t track time place [] = refl
+arrows_whole g t track time place (e ∷ later) = arrow_whole (may_end t e.act) (releases g t e.act) track time place _ (arrows_whole g t track time (suc place) later)
+
+arrow_to_whole : (a : Option ℕ) (track time : ℕ) (past : List Event) → IsWhole (arrow_to a track time past)
+arrow_to_whole a track time past = go (some_ends a past)
+  where
+    go : (b : Bool) → IsWhole (if b then arrow_end time track time ∷ [] else [])
+    go true = refl
+    go false = refl
+
+marks_whole : (n : Named) (x : Act) (track time : ℕ) (past later : List Event) → IsWhole (marks n x track time past later)
+marks_whole n (Request k) track time past later = refl
+marks_whole n (Release c) track time past later = arrow_to_whole (antecedent_of (kind n.graph c.0)) track time past
+marks_whole n (Begin t) track time past later = refl
+marks_whole n (Step t) track time past later = refl
+marks_whole n (Worked t answer) track time past later = refl
+marks_whole n (Leave t) track time past later =
+    whole_append (arrows n.graph t.0 track time (suc time) later) (slice_mark (codes "E") (task_name n.names t) track time ∷ []) (arrows_whole n.graph t.0 track time (suc time) later) refl
+marks_whole n (Close t) track time past later = arrows_whole n.graph t.0 track time (suc time) later
+marks_whole n (Drop t) track time past later = arrows_whole n.graph t.0 track time (suc time) later
+marks_whole n (Settle t) track time past later = arrows_whole n.graph t.0 track time (suc time) later
+
+track_whole : (past : List Event) (a : Actor) → IsWhole (new_track past a)
+track_whole past a = go (acts_in a past)
+  where
+    go : (b : Bool) → IsWhole (if b then [] else track_mark (track_name a) (track_of a) ∷ [])
+    go true = refl
+    go false = refl
+
+from_whole : (n : Named) (past later : List Event) → IsWhole (marks_from n past later)
+from_whole n past [] = refl
+from_whole n past (e ∷ later) =
+    whole_append (event_marks n past e later) (marks_from n (past ++ (e ∷ [])) later)
+    (whole_append (new_track past e.actor) _ (track_whole past e.actor) (marks_whole n e.act _ _ past later))
+    (from_whole n (past ++ (e ∷ [])) later)
+
+pub no_float : (n : Named) (h : List Event) → has_float (trace_data n h) ≡ false
+no_float n h = rw (from_whole n [] h) refl

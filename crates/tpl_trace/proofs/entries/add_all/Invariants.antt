@@ -1,0 +1,9 @@
+use Rattle.std.proofs.Common.{◌≡◌, ◌++◌, [], drop, take, map}
+use Rattle.serde_json.specs.View.{view}
+use Rattle.tpl_trace.specs.Trace.{marks_from}
+use Rattle.tpl_trace.proofs.entries.add_all.Given as goal
+
+abbrev pub invariant-loop-before : goal.invariant-loop-before
+invariant-loop-before l =
+    map view l.entries.items ++ marks_from l.graph (take l.before l.events) (drop l.before l.events)
+    ≡ map view l.fn.entries.items ++ marks_from l.graph [] l.events

@@ -1,0 +1,45 @@
+-- What `trace` answers to a document.
+use Rattle.std.specs.Prelude.{◌≡◌, ◌⊎◌, ℕ, Bool, List, Option, Some, reverse}
+use Rattle.tpl_model.specs.declared.event.Event.{Event}
+use Rattle.tpl_model.specs.Rules.{Run}
+use Rattle.tpl_journal.specs.declared.counting.Counting.{Counting}
+use Rattle.tpl_journal.specs.Lines.{IsJournal}
+use Rattle.tpl_reader.specs.Document.{DocumentValue, Spells}
+use Rattle.tpl_report.specs.declared.exit.Exit.TheVariants.{Success}
+use Rattle.tpl_report.specs.Auditing.{Audits}
+use Rattle.tpl_report.specs.Responding.{Answers, Reads, Writes}
+use Rattle.tpl_report.specs.Starting.{inputs_of}
+use Rattle.tpl_trace.specs.Trace.{trace_text}
+
+-- the journal's text is that of these events, and they are a run with the document's inputs
+pub record HasRun (doc : DocumentValue) (events : List Event) : Type 0 where
+  pub inputs : List Bool
+  pub known : inputs_of doc ≡ Some inputs
+  pub journal : IsJournal doc.graph doc.journal events
+  pub run : Run doc.graph.graph inputs (reverse events)
+
+-- the journal is a run, and this is its trace
+pub record IsTraced (doc : DocumentValue) (text : List ℕ) : Type 0 where
+  pub events : List Event
+  pub run : HasRun doc events
+  pub said : text ≡ trace_text doc.graph events
+
+-- the bytes spell no document whose journal is a run
+abbrev pub SpellsNoRun : List ℕ → Type 0
+SpellsNoRun input = (doc : DocumentValue) (events : List Event) → Spells input doc → HasRun doc events → ⊥
+
+-- The trace of the document's journal, where that is a run; else what `audit` answers.
+abbrev pub Traces : Answers
+Traces input exit text =
+    ((doc : DocumentValue) × Spells input doc × IsTraced doc text × (exit ≡ Success))
+    ⊎ (SpellsNoRun input × Audits input exit text)
+
+-- What was read spells a document whose journal is a run, and its trace was written.
+pub record Traced {R W : Type 0} (remaining : R → Option (List ℕ)) (from_old from_new : Counting R) (contents : W → Option (List ℕ)) (to_old to_new : Counting W) : Type 0 where
+  pub input : List ℕ
+  pub reads : Reads remaining from_old from_new input
+  pub doc : DocumentValue
+  pub spelled : Spells input doc
+  pub text : List ℕ
+  pub traced : IsTraced doc text
+  pub writes : Writes contents to_old to_new text

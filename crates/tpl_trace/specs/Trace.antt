@@ -1,0 +1,114 @@
+-- The trace of a journal: for each event its entries. The time of an event is its place, in microseconds.
+use Rattle.std.specs.Prelude.{ℕ, suc, ◌+◌, ◌||◌, Bool, false, if◌then◌else◌, Option, Some, None, List, [], ◌∷◌, ◌++◌, length, codes, decimal, nat_eq}
+use Rattle.serde_json.specs.Data.{Data, array, object, no_members, member}
+use Rattle.serde_json.specs.View.{items_of}
+use Rattle.serde_json.specs.Written.{compact_text}
+use Rattle.tpl_words.specs.declared.status.Actor.{Actor}
+use Rattle.tpl_words.specs.declared.status.Actor.TheVariants.{Worker, Outside}
+use Rattle.tpl_model.specs.Graph.{TaskGraph, kind}
+use Rattle.tpl_model.specs.Journal.{same_actor}
+use Rattle.tpl_model.specs.declared.event.Act.{Act}
+use Rattle.tpl_model.specs.declared.event.Act.TheVariants.{Request, Release, Begin, Step, Worked, Leave, Close, Drop, Settle}
+use Rattle.tpl_model.specs.declared.event.Event.{Event}
+use Rattle.tpl_graph.specs.Named.{Named, antecedent_of}
+use Rattle.tpl_journal.specs.Lines.{task_name, token_name}
+use Rattle.tpl_trace.specs.Marks.{process_mark, track_mark, slice_mark, instant_mark, arrow_start, arrow_end}
+
+-- the number of an actor's track: those of the seats outside come behind those of 64 workers
+abbrev pub track_of : Actor → ℕ
+track_of (Worker n) = n.0
+track_of (Outside n) = 64 + n
+
+abbrev pub track_name : Actor → List ℕ
+track_name (Worker n) = codes "worker " ++ decimal n.0
+track_name (Outside n) = codes "outside " ++ decimal n
+
+-- the actor does one of the events
+abbrev pub acts_in : Actor → List Event → Bool
+acts_in a [] = false
+acts_in a (e ∷ h) = same_actor a e.actor || acts_in a h
+
+-- the name of an actor's track, where the actor did none of the past events
+abbrev pub new_track : (past : List Event) → Actor → List Data
+new_track past a = if acts_in a past then [] else track_mark (track_name a) (track_of a) ∷ []
+
+-- an act that may end the task: it leaves, closes, drops or settles it
+abbrev pub may_end : ℕ → Act → Bool
+may_end t (Leave s) = nat_eq s.0 t
+may_end t (Close s) = nat_eq s.0 t
+may_end t (Drop s) = nat_eq s.0 t
+may_end t (Settle s) = nat_eq s.0 t
+may_end t act = false
+
+-- one of the events is such an act
+abbrev pub some_may_end : ℕ → List Event → Bool
+some_may_end t [] = false
+some_may_end t (e ∷ h) = may_end t e.act || some_may_end t h
+
+-- there is a task, and one of the events is such an act
+abbrev pub some_ends : Option ℕ → List Event → Bool
+some_ends None h = false
+some_ends (Some t) h = some_may_end t h
+
+abbrev pub is_number : ℕ → Option ℕ → Bool
+is_number t None = false
+is_number t (Some a) = nat_eq a t
+
+-- the act releases a continuation of the task
+abbrev pub releases : TaskGraph → ℕ → Act → Bool
+releases g t (Release c) = is_number t (antecedent_of (kind g c.0))
+releases g t act = false
+
+-- The arrows from an act that ended the task, on this track at this time, to each later act that releases a continuation
+-- of it; where a later act may end the task too, none starts here beyond that. The first later event is at `place`, and
+-- each arrow is numbered by the place of its end.
+abbrev pub arrows : TaskGraph → (task track time place : ℕ) → List Event → List Data
+arrows g t track time place [] = []
+arrows g t track time place (e ∷ later) =
+    if may_end t e.act then []
+    else ((if releases g t e.act then arrow_start place track time ∷ [] else []) ++ arrows g t track time (suc place) later)
+
+-- the end of the arrow to the release of a continuation of the task, which starts at the last act before it that may end the task
+abbrev pub arrow_to : Option ℕ → (track time : ℕ) → (past : List Event) → List Data
+arrow_to t track time past = if some_ends t past then arrow_end time track time ∷ [] else []
+
+abbrev pub instant : (verb name : List ℕ) → (track time : ℕ) → Data
+instant verb name track time = instant_mark (verb ++ (codes " " ++ name)) track time
+
+-- The entries of an act. A body's slice goes from its begin to its leave; requests, releases, closes, drops and settles
+-- are instants; steps and answers of jobs have no entry.
+abbrev pub marks : Named → Act → (track time : ℕ) → (past later : List Event) → List Data
+marks n (Request k) track time past later = instant (codes "request") (token_name n.names k) track time ∷ []
+marks n (Release c) track time past later =
+    instant (codes "release") (task_name n.names c) track time ∷ arrow_to (antecedent_of (kind n.graph c.0)) track time past
+marks n (Begin t) track time past later = slice_mark (codes "B") (task_name n.names t) track time ∷ []
+marks n (Step t) track time past later = []
+marks n (Worked t answer) track time past later = []
+marks n (Leave t) track time past later =
+    arrows n.graph t.0 track time (suc time) later ++ (slice_mark (codes "E") (task_name n.names t) track time ∷ [])
+marks n (Close t) track time past later =
+    instant (codes "close") (task_name n.names t) track time ∷ arrows n.graph t.0 track time (suc time) later
+marks n (Drop t) track time past later =
+    instant (codes "drop") (task_name n.names t) track time ∷ arrows n.graph t.0 track time (suc time) later
+marks n (Settle t) track time past later =
+    instant (codes "settle") (task_name n.names t) track time ∷ arrows n.graph t.0 track time (suc time) later
+
+-- those of an event, on its actor's track and at its place; before the first one on a track stands the track's name
+abbrev pub event_marks : Named → (past : List Event) → Event → (later : List Event) → List Data
+event_marks n past e later = new_track past e.actor ++ marks n e.act (track_of e.actor) (suc (length past)) past later
+
+-- those of each of the later events
+abbrev pub marks_from : Named → (past later : List Event) → List Data
+marks_from n past [] = []
+marks_from n past (e ∷ later) = event_marks n past e later ++ marks_from n (past ++ (e ∷ [])) later
+
+-- the name of the process, and the entries of each event
+abbrev pub entries : Named → List Event → List Data
+entries n h = process_mark (codes "taskgraph") ∷ marks_from n [] h
+
+abbrev pub trace_data : Named → List Event → Data
+trace_data n h = object (member (codes "traceEvents") (array (items_of (entries n h))) no_members)
+
+-- one line
+abbrev pub trace_text : Named → List Event → List ℕ
+trace_text n h = compact_text (trace_data n h) ++ codes "\n"

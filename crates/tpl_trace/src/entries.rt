@@ -1,0 +1,157 @@
+//! The entries of a trace.
+
+ghost use Rattle.std.specs.Prelude.{◌≡◌, ◌++◌, ◌<◌, ◌≤◌, ◌∷◌, [], codes, drop, length, map, suc, take, IfOk, OnOk};
+ghost use Rattle.std.specs.List.{All};
+ghost use Rattle.serde_json.specs.View.{view};
+ghost use Rattle.tpl_graph.specs.Named.{antecedent_of};
+ghost use Rattle.tpl_journal.specs.Lines.{CanSpell, HasId, task_name, token_name};
+ghost use Rattle.tpl_model.specs.Graph.{is_task, is_token, kind};
+ghost use Rattle.tpl_trace.specs.Trace.{arrow_to, arrows, entries, instant, marks, marks_from};
+
+use crate::arrows::{add_arrow_end, add_arrows};
+use crate::marks::{instant, process_mark, slice_mark};
+use crate::tracks::{add_new_track, track_of};
+use serde_json::Value;
+use std::alloc::{AllocError, Global};
+use tpl_graph::Graph;
+use tpl_model::{Act, Event};
+use tpl_words::{TaskId, TokenId};
+
+fn name_of(graph: &Graph, task: TaskId) -> &str
+    requires { is_task graph.now.graph task.0 }
+    ensures { result.now ≡ task_name graph.now.names task }
+{
+    graph.valid();
+    graph.name(task)
+}
+
+fn token_name_of(graph: &Graph, token: TokenId) -> &str
+    requires { is_token graph.now.graph token.0 }
+    ensures { result.now ≡ token_name graph.now.names token }
+{
+    graph.valid();
+    graph.token_name(token)
+}
+
+/// Adds the entries of the event behind so many others: those of its act, on this track and at its place.
+fn add_marks(
+    entries: &mut Vec<Value>,
+    alloc: Global,
+    graph: &Graph,
+    act: Act,
+    track: u16,
+    events: &[Event],
+    before: usize,
+) -> Result<(), AllocError>
+    requires before { before < length events.now }
+    requires act { HasId graph.now.graph act }
+    requires events { All (CanSpell graph.now.graph) events.now }
+    ensures { OnOk result (map view entries.new.items ≡ map view entries.old.items
+        ++ marks graph.now act track (suc before) (take before events.now)
+        (drop (suc before) events.now)) }
+{
+    let time = before + 1;
+    match act {
+        Act::Request(token) => {
+            let name = token_name_of(graph, token);
+            entries.push(instant(alloc, "request", name, track, time)?)?;
+            Ok(())
+        }
+        Act::Release(task) => {
+            add_release(entries, alloc, graph, task, track, time, &events[..before])
+        }
+        Act::Begin(task) => {
+            let name = name_of(graph, task);
+            entries.push(slice_mark(alloc, "B", name, track, time)?)?;
+            Ok(())
+        }
+        Act::Step(_) | Act::Worked(_, _) => Ok(()),
+        Act::Leave(task) => {
+            add_arrows(entries, alloc, graph, task, track, events, time)?;
+            let name = name_of(graph, task);
+            entries.push(slice_mark(alloc, "E", name, track, time)?)?;
+            Ok(())
+        }
+        Act::Close(task) => add_end(entries, alloc, graph, "close", task, track, events, time),
+        Act::Drop(task) => add_end(entries, alloc, graph, "drop", task, track, events, time),
+        Act::Settle(task) => add_end(entries, alloc, graph, "settle", task, track, events, time),
+    }
+}
+
+/// Adds the release of a continuation, and the end of the arrow to it.
+fn add_release(
+    entries: &mut Vec<Value>,
+    alloc: Global,
+    graph: &Graph,
+    task: TaskId,
+    track: u16,
+    time: usize,
+    past: &[Event],
+) -> Result<(), AllocError>
+    requires { is_task graph.now.graph task.0 }
+    ensures { OnOk result (map view entries.new.items ≡ map view entries.old.items
+        ++ instant (codes "release") (task_name graph.now.names task) track time
+        ∷ arrow_to (antecedent_of (kind graph.now.graph task.0)) track time past.now) }
+{
+    let name = name_of(graph, task);
+    entries.push(instant(alloc, "release", name, track, time)?)?;
+    add_arrow_end(entries, alloc, graph, task, track, time, past)
+}
+
+/// Adds an instant at which a task ended, and the arrows from there.
+fn add_end(
+    entries: &mut Vec<Value>,
+    alloc: Global,
+    graph: &Graph,
+    verb: &str,
+    task: TaskId,
+    track: u16,
+    events: &[Event],
+    time: usize,
+) -> Result<(), AllocError>
+    requires task { is_task graph.now.graph task.0 }
+    requires events { All (CanSpell graph.now.graph) events.now }
+    requires time { time ≤ length events.now }
+    ensures { OnOk result (map view entries.new.items ≡ map view entries.old.items
+        ++ instant verb.now (task_name graph.now.names task) track time
+        ∷ arrows graph.now.graph task.0 track time (suc time) (drop time events.now)) }
+{
+    let name = name_of(graph, task);
+    entries.push(instant(alloc, verb, name, track, time)?)?;
+    add_arrows(entries, alloc, graph, task, track, events, time)
+}
+
+/// Adds those of each event.
+fn add_all(
+    entries: &mut Vec<Value>,
+    alloc: Global,
+    graph: &Graph,
+    events: &[Event],
+) -> Result<(), AllocError>
+    requires { All (CanSpell graph.now.graph) events.now }
+    ensures { OnOk result (map view entries.new.items ≡ map view entries.old.items
+        ++ marks_from graph.now [] events.now) }
+{
+    for before in 0..events.len() {
+        let event = events[before];
+        add_new_track(entries, alloc, &events[..before], event.actor)?;
+        let track = track_of(event.actor);
+        add_marks(entries, alloc, graph, event.act, track, events, before)?;
+    }
+    Ok(())
+}
+
+/// The name of the process, and the entries of each event.
+pub(crate) fn entries(
+    alloc: Global,
+    graph: &Graph,
+    events: &[Event],
+) -> Result<Vec<Value>, AllocError>
+    requires { All (CanSpell graph.now.graph) events.now }
+    ensures { IfOk result (λ list. map view list.items ≡ entries graph.now events.now) }
+{
+    let mut list = Vec::new(alloc);
+    list.push(process_mark(alloc, "taskgraph")?)?;
+    add_all(&mut list, alloc, graph, events)?;
+    Ok(list)
+}

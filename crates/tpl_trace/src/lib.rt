@@ -1,0 +1,11 @@
+//! The run of a journal for a viewer, in the Trace Event Format.
+#![tactic(auto)]
+
+mod answering;
+mod arrows;
+mod entries;
+mod marks;
+mod text;
+mod tracks;
+
+pub use answering::trace_document;
