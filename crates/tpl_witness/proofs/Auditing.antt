@@ -1,0 +1,84 @@
+-- What the audit says of a document with a run that refutes a claim.
+use Rattle.std.proofs.Common.{◌≡◌, ℕ, ◌⊎◌, inl, inr, Bool, List, length, reverse, Option, Some, None, refl, sym, ap, subst, arith}
+use Rattle.std.specs.Prelude.{slice_get}
+use Rattle.std.specs.List.{All}
+use Rattle.std.proofs.lemmas.List.{take_all}
+use Rattle.std.proofs.lemmas.Option.{get_or_from_slice_get, slice_get_within}
+use Rattle.tpl_laws.specs.Runs.{PrefixIsRun}
+use Rattle.tpl_model.specs.Graph.{TaskGraph}
+use Rattle.tpl_model.specs.declared.event.Event.{Event}
+use Rattle.tpl_model.specs.Claims.{Claim, Holds}
+use Rattle.tpl_graph.specs.Kept.{IsNamedGraph}
+use Rattle.tpl_journal.specs.declared.reading_lines.JournalFault.{JournalFault}
+use Rattle.tpl_journal.specs.declared.reading_lines.JournalFault.TheVariants as broken
+use Rattle.tpl_journal.specs.Lines.{IsJournal, lines, TextIsUnambiguous, FaultIsNoJournal}
+use Rattle.tpl_audit.specs.declared.verdict.Verdict.{Verdict}
+use Rattle.tpl_audit.specs.declared.verdict.Verdict.TheVariants as ruled
+use Rattle.tpl_audit.specs.Audit.{first_events, AllHoldAt, FirstFails, IsVerdict}
+use Rattle.tpl_refute.specs.Refuting.{Refutes}
+use Rattle.tpl_refute.proofs.JudgeLemmas.{is_allowed}
+use Rattle.tpl_reader.specs.declared.fault.ReadFault.{ReadFault}
+use Rattle.tpl_reader.specs.declared.fault.ReadFault.TheVariants as faults
+use Rattle.tpl_reader.specs.Begin.{StartValue}
+use Rattle.tpl_reader.specs.Document.{DocumentValue, Spells}
+use Rattle.tpl_reader.specs.Laws.{SpellsOneDocument, SpelledHasNoFault}
+use Rattle.tpl_report.specs.declared.exit.Exit.{Exit}
+use Rattle.tpl_report.specs.declared.exit.Exit.TheVariants.{Memory}
+use Rattle.tpl_report.specs.Auditing.{IsAudit, IsAuditWith, IsAudited, IsNoJournal, IsNoJournalText, verdict_exit, verdict_text}
+use Rattle.tpl_report.specs.Unreadable.{IsUnreadable}
+use Rattle.tpl_report.specs.Starting.{inputs_of}
+use Rattle.tpl_witness.specs.Asking.{IsNumbered}
+use Rattle.tpl_witness.specs.Filled.{started}
+use Rattle.tpl_witness.specs.Witness.{refuted_by, NamesFailure, IsAuditedSo}
+
+-- ---- the verdict on the run
+
+there : (P : Claim → Type 0) (claims : List Claim) (at : ℕ) (claim : Claim) → All P claims → slice_get claims at ≡ Some claim → P claim
+there P claims at claim all e = subst P (get_or_from_slice_get claims at claim claim e) (all at claim (slice_get_within claims at claim e))
+
+module _ (g : TaskGraph) (claims : List Claim) (claim : Claim) (number : ℕ) (inputs : List Bool) (events : List Event) (numbered : IsNumbered claims number claim) (refutes : Refutes g claim inputs events) where
+  never_all : FirstFails g inputs events claims None → ⊥
+  never_all none =
+      let all : AllHoldAt g inputs events claims (length events) = none (length events) (omega arith) in
+      let holds = there (λ c. Holds g c inputs (first_events events (length events))) claims numbered.0 claim all numbered.2 in
+      refutes.fails (subst (Holds g claim inputs) (ap reverse (take_all (length events) events (omega arith))) holds)
+
+  names_failure : PrefixIsRun → (verdict : Verdict) (exit : Exit) (text : List ℕ) → IsVerdict g inputs events claims verdict → exit ≡ verdict_exit verdict → text ≡ verdict_text verdict
+      → (exit ≡ Memory) ⊎ NamesFailure (length events) exit text
+  names_failure prefix (ruled.Run complete None) exit text is ends said = absurd (never_all is.failure)
+  names_failure prefix (ruled.Run complete (Some failure)) exit text is ends said =
+      inr (record { ends = ends; complete = complete; failure = failure; early = is.failure.within; said = said })
+  names_failure prefix (ruled.NotAllowed place) exit text is ends said = absurd (is_allowed g claim inputs events place prefix is refutes)
+  names_failure prefix ruled.Memory exit text is ends said = inl ends
+
+-- ---- the audit of the document
+
+never_unreadable : (fault : ReadFault) (text : List ℕ) → fault ≡ faults.Memory → IsUnreadable fault text → ⊥
+never_unreadable fault text e is = subst (λ (f : ReadFault). IsUnreadable f text) e is
+
+has_text : (fault : JournalFault) (text : List ℕ) → IsNoJournalText fault text → fault ≡ broken.Memory → ⊥
+has_text fault text is e = subst (λ (f : JournalFault). IsNoJournalText f text) e is
+
+started_inputs : (start : Option StartValue) (inputs : List Bool) → (started start inputs).inputs ≡ inputs
+started_inputs None inputs = refl
+started_inputs (Some start) inputs = refl
+
+module _ (doc : DocumentValue) (claim : Claim) (number : ℕ) (inputs : List Bool) (events : List Event) (numbered : IsNumbered doc.claims number claim) (refutes : Refutes doc.graph.graph claim inputs events)
+    (named : IsNamedGraph doc.graph) (journal : IsJournal doc.graph (lines doc.graph.names events) events) (prefix : PrefixIsRun) (unambiguous : TextIsUnambiguous) (no_journal : FaultIsNoJournal) where
+  of_journal : (exit : Exit) (text : List ℕ) → IsAudited (refuted_by doc inputs events) inputs exit text → (exit ≡ Memory) ⊎ NamesFailure (length events) exit text
+  of_journal exit text is =
+      let same : events ≡ is.events = unambiguous doc.graph events is.events named journal.spelled is.journal.spelled is.journal.reads in
+      let verdict : IsVerdict doc.graph.graph inputs events doc.claims is.verdict = subst (λ (h : List Event). IsVerdict doc.graph.graph inputs h doc.claims is.verdict) (sym same) is.audited in
+      names_failure doc.graph.graph doc.claims claim number inputs events numbered refutes prefix is.verdict exit text verdict is.ends is.said
+
+  of_audit : (exit : Exit) (text : List ℕ) → IsAudited (refuted_by doc inputs events) inputs exit text ⊎ IsNoJournal (refuted_by doc inputs events) exit text → (exit ≡ Memory) ⊎ NamesFailure (length events) exit text
+  of_audit exit text (inl is) = of_journal exit text is
+  of_audit exit text (inr is) = absurd (no_journal doc.graph (lines doc.graph.names events) is.fault events named is.is (has_text is.fault text is.said) journal)
+
+  pub audited_so : (bytes : List ℕ) → SpellsOneDocument → SpelledHasNoFault → Spells bytes (refuted_by doc inputs events) → IsAuditedSo (length events) bytes
+  audited_so bytes one faultless spelled exit text (inl found) =
+      let is : IsAudit (refuted_by doc inputs events) exit text = subst (λ (d : DocumentValue). IsAudit d exit text) (one bytes (refuted_by doc inputs events) found.0 spelled found.1) found.2 in
+      let known : inputs_of (refuted_by doc inputs events) ≡ Some inputs = ap (λ v. Some v) (started_inputs doc.start inputs) in
+      of_audit exit text (subst (λ (v : Option (List Bool)). IsAuditWith (refuted_by doc inputs events) v exit text) known is)
+  audited_so bytes one faultless spelled exit text (inr wrong) =
+      absurd (never_unreadable wrong.0 text (faultless bytes (refuted_by doc inputs events) wrong.0 spelled wrong.1) wrong.3)

@@ -1,0 +1,7 @@
+pub mod Puts
+pub mod Truths
+pub mod Starts
+pub mod Filling
+pub mod Ascii
+pub mod Auditing
+pub mod Answering

@@ -1,0 +1,53 @@
+-- A document in which the inputs and the journal are filled in.
+use Rattle.std.specs.Prelude.{◌≡◌, ◌≤◌, ℕ, ◌<◌, Bool, true, false, List, [], length, Option, Some, None, codes, slice_index_or}
+use Rattle.serde_json.specs.Data.{Data, Members, no_members, boolean, string, object, put, members_depth}
+use Rattle.serde_json.specs.Find.{get_member}
+use Rattle.tpl_cert.specs.Written.{name_at}
+use Rattle.tpl_reader.specs.Begin.{StartValue, declares}
+use Rattle.tpl_reader.specs.StartGrammar.{AreTruths}
+use Rattle.tpl_reader.specs.Document.{Spelled, IsSpelled, DocumentValue, IsDocument, Reads}
+
+-- the start with these inputs; nothing is requested first and no job is to fail, where the document has no start
+abbrev pub started : Option StartValue → List Bool → StartValue
+started None inputs = record { inputs = inputs; request = []; fail = [] }
+started (Some start) inputs = record start { inputs = inputs }
+
+-- the document with these inputs and this journal, and all else as it was
+abbrev pub with_run : DocumentValue → List Bool → List ℕ → DocumentValue
+with_run doc inputs journal = record doc { journal = journal; start = Some (started doc.start inputs) }
+
+-- the bytes are a text of the document, which may be longer than one that is read
+abbrev pub IsTextOf : List ℕ → DocumentValue → Type 0
+IsTextOf bytes doc = (d : Data) × Reads bytes d × ((s : Spelled) × IsSpelled d s × IsDocument s doc)
+
+-- the value has the form of a document
+abbrev pub HasForm : Data → Type 0
+HasForm d = (s : Spelled) × IsSpelled d s
+
+-- ---- the members that are put into a document
+
+-- the members give the first inputs these values
+pub record AreFirst (names : List (List ℕ)) (values : List Bool) (count : ℕ) (members : Members) : Type 0 where
+  pub each : (i : ℕ) → i < count → get_member (name_at names i) members ≡ Some (boolean (slice_index_or values i false))
+  pub declared : declares names members ≡ true
+  pub truths : AreTruths members
+  pub flat : members_depth members ≤ 0
+
+-- the start that stands in the document, or an empty one
+abbrev pub start_data : Option Data → Data
+start_data None = object no_members
+start_data (Some d) = d
+
+-- the start with these inputs
+pub record IsStartWith (names : List (List ℕ)) (values : List Bool) (old : Option Data) (new : Data) : Type 0 where
+  pub members : Members
+  pub old_is : start_data old ≡ object members
+  pub inputs : Members
+  pub all : AreFirst names values (length names) inputs
+  pub new_is : new ≡ object (put (codes "inputs") (object inputs) members)
+
+-- the document with this start and this journal
+pub record IsFilled (start : Data) (journal : List ℕ) (old new : Data) : Type 0 where
+  pub members : Members
+  pub old_is : old ≡ object members
+  pub new_is : new ≡ object (put (codes "journal") (string journal) (put (codes "start") start members))

@@ -1,0 +1,4 @@
+pub mod Asking
+pub mod Filled
+pub mod Witness
+pub mod Serving

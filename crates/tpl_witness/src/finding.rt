@@ -1,0 +1,55 @@
+//! The search for a run in which a claim of a document fails.
+
+ghost use Rattle.std.specs.Prelude.{IfOk, IfSome};
+ghost use Rattle.std.specs.List.{All};
+ghost use Rattle.tpl_claims.specs.Fits.{Fits};
+ghost use Rattle.tpl_reader.specs.SeenDocument.{doc_of};
+ghost use Rattle.tpl_witness.specs.Witness.{IsFound};
+
+use crate::aside::tell_end;
+use crate::search::Search;
+use std::alloc::{AllocError, Global};
+use std::io::Write;
+use tpl_journal::Counting;
+use tpl_reader::Document;
+use tpl_refute::{Counterexample, Effort, refute};
+
+/// A run in which a claim fails.
+#[derive(Drop)]
+pub(crate) struct Found {
+    /// The claim's number, from 1.
+    pub(crate) number: usize,
+    /// The run.
+    pub(crate) run: Counterexample,
+}
+
+/// The first run that is found, claim by claim. Each claim has random numbers of its own.
+pub(crate) fn find<P: Write>(
+    alloc: Global,
+    search: Search,
+    document: &Document,
+    aside: &mut Counting<P>,
+) -> Result<Option<Found>, AllocError>
+    requires { All (Fits document.now.graph.graph) document.now.claims.items }
+    ensures { IfOk result (λ o. IfSome o (λ found. IsFound search.claim (doc_of document.now)
+        found.number found.run.inputs found.run.events.items)) }
+{
+    for (index, claim) in document.claims.iter().enumerate() {
+        let number = index + 1;
+        if search.asks(number) {
+            let effort = Effort {
+                runs: search.runs,
+                seed: search.seed,
+                stream: number as u64,
+            };
+            let found = refute(alloc, &document.graph, claim, effort)?;
+            if search.explain {
+                tell_end(alloc, number, search.runs, found.is_some(), aside)?;
+            }
+            if let Some(run) = found {
+                return Ok(Some(Found { number, run }));
+            }
+        }
+    }
+    Ok(None)
+}

@@ -1,0 +1,13 @@
+//! Runs in which claims of a document fail, from a reader to a writer.
+#![tactic(auto)]
+
+mod aside;
+mod finding;
+mod journal;
+mod refuting;
+mod search;
+mod start;
+mod text;
+
+pub use refuting::refute_document;
+pub use search::Search;

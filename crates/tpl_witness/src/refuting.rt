@@ -1,0 +1,170 @@
+//! The search for runs in which the claims of a document fail, from a reader to a writer.
+
+ghost use Rattle.std.specs.Prelude.{◌≡◌, ◌+◌, ◌≤◌, IfOk, string_bytes};
+ghost use Rattle.std.specs.List.{All};
+ghost use Rattle.tpl_claims.specs.Fits.{Fits};
+ghost use Rattle.tpl_journal.specs.Counting.{calls_of};
+ghost use Rattle.tpl_reader.specs.Document.{IsFault, Spells};
+ghost use Rattle.tpl_reader.specs.SeenDocument.{doc_of};
+ghost use Rattle.tpl_report.specs.Documents.{NoDocument};
+ghost use Rattle.tpl_report.specs.Responding.{longest, Responds};
+ghost use Rattle.tpl_witness.specs.Serving.{Refuted, Unrefuted};
+ghost use Rattle.tpl_witness.specs.Witness.{IsFound, IsSearched, Searches};
+
+use crate::aside::tell_run;
+use crate::finding::{Found, find};
+use crate::journal::journal_text;
+use crate::search::{Search, has_claim};
+use crate::text::text_with;
+use std::alloc::{AllocError, Global};
+use std::io::{Read, Write};
+use tpl_journal::{Counting, fault_is_no_journal, spells_run, text_is_unambiguous};
+use tpl_reader::{Document, LONGEST, ReadFault, one_document, read_document};
+use tpl_report::{Answer, Check, Command, Exit, put_answer, read_input};
+
+/// The document with the run that was found.
+fn refutation<P: Write>(
+    alloc: Global,
+    search: Search,
+    bytes: &[u8],
+    document: &Document,
+    found: Found,
+    aside: &mut Counting<P>,
+) -> Result<Answer, AllocError>
+    requires spelled { Spells bytes.now (doc_of document.now) }
+    requires found { IsFound search.claim (doc_of document.now) found.number found.run.inputs
+        found.run.events.items }
+    ensures { IfOk result (λ given.
+        IsSearched search.claim (doc_of document.now) given.exit (string_bytes given.text)) }
+{
+    document.graph.valid();
+    one_document();
+    spells_run();
+    text_is_unambiguous();
+    fault_is_no_journal();
+    tpl_laws::is_bounded();
+    tpl_laws::prefix_is_run();
+    tpl_laws::soundness();
+    let events = found.run.events.as_slice();
+    let journal = journal_text(alloc, &document.graph, events)?;
+    tell_run(alloc, found.number, journal.as_str(), aside)?;
+    let text = text_with(alloc, bytes, document, &found.run.inputs, journal)?;
+    if text.len() > LONGEST {
+        return Ok(Answer {
+            exit: Exit::Unreadable,
+            text: String::from_str(alloc, "unreadable: too long\n")?,
+        });
+    }
+    Ok(Answer {
+        exit: Exit::Failure,
+        text,
+    })
+}
+
+/// The answer to a document.
+fn answer_for<P: Write>(
+    alloc: Global,
+    search: Search,
+    bytes: &[u8],
+    document: &Document,
+    aside: &mut Counting<P>,
+) -> Result<Answer, AllocError>
+    requires spelled { Spells bytes.now (doc_of document.now) }
+    requires claims { All (Fits document.now.graph.graph) document.now.claims.items }
+    ensures { IfOk result (λ given.
+        IsSearched search.claim (doc_of document.now) given.exit (string_bytes given.text)) }
+{
+    if let Some(number) = search.claim {
+        if !has_claim(document, number) {
+            return Ok(Answer {
+                exit: Exit::Unreadable,
+                text: format!(in alloc; "unreadable: claim {number} Missing\n")?,
+            });
+        }
+    }
+    match find(alloc, search, document, aside)? {
+        Some(found) => refutation(alloc, search, bytes, document, found, aside),
+        None => Ok(Answer {
+            exit: Exit::Success,
+            text: String::from_str(alloc, "not refuted\n")?,
+        }),
+    }
+}
+
+/// The answer to bytes that can't be read: the check's.
+fn unread(alloc: Global, bytes: &[u8], fault: ReadFault) -> Result<Answer, AllocError>
+    requires { IsFault bytes.now fault }
+    ensures { IfOk result (λ given.
+        NoDocument bytes.now given.exit (string_bytes given.text)) }
+{
+    one_document();
+    match fault {
+        ReadFault::Memory => Err(AllocError),
+        _ => Check.answer(alloc, bytes),
+    }
+}
+
+/// The answer to bytes.
+fn answer<P: Write>(
+    alloc: Global,
+    search: Search,
+    bytes: &[u8],
+    aside: &mut Counting<P>,
+) -> Result<Answer, AllocError>
+    ensures { IfOk result (λ given.
+        Searches search.claim bytes.now given.exit (string_bytes given.text)) }
+{
+    match read_document(alloc, bytes) {
+        Ok(document) => answer_for(alloc, search, bytes, &document, aside),
+        Err(fault) => unread(alloc, bytes, fault),
+    }
+}
+
+/// Reads a document and writes the answer to it.
+fn respond<I: Read, O: Write, P: Write>(
+    alloc: Global,
+    search: Search,
+    from: &mut Counting<I>,
+    to: &mut Counting<O>,
+    aside: &mut Counting<P>,
+) -> Exit
+    ensures responds { Responds (Searches search.claim) I.remaining from.old from.new
+        O.contents to.old to.new result }
+    ensures reads { calls_of from.new ≤ calls_of from.old + (longest + 2) }
+{
+    match read_input(alloc, from, to) {
+        Ok(bytes) => put_answer(answer(alloc, search, &bytes, aside), to),
+        Err(exit) => exit,
+    }
+}
+
+/// Reads a document to its end, at most 16,777,216 bytes, searches a run in which one of its claims fails, or the claim
+/// that is asked for, and writes the document itself with `start.inputs` and `journal` filled in, as one line of JSON; or
+/// `not refuted`, where no such run was found. A claim that isn't there is answered by `unreadable: claim N Missing`, and
+/// a document that is too long with its journal by `unreadable: too long`.
+///
+/// The text is made whole before its first byte is written. A failed read ends the reading, and then nothing is written;
+/// after a failed write no more is. The run itself is written aside, for people, with the place where the claim fails;
+/// whether that can be written changes nothing.
+pub fn refute_document<I: Read, O: Write, P: Write>(
+    alloc: Global,
+    search: Search,
+    from: &mut Counting<I>,
+    to: &mut Counting<O>,
+    aside: &mut Counting<P>,
+) -> Exit
+    ensures responds { Responds (Searches search.claim) I.remaining from.old from.new
+        O.contents to.old to.new result }
+    ensures reads { calls_of from.new ≤ calls_of from.old + (longest + 2) }
+
+    // Where the claim is refuted, what was written spells the same document with a run in which the claim fails: the
+    // audit says so, and no certificate of its claims is accepted.
+    ensures refuted { result ≡ Exit.Failure → Refuted I.remaining from.old from.new
+        O.contents to.old to.new search.claim }
+
+    // Success says no more than that the claim is there and that no such run was found.
+    ensures unrefuted { result ≡ Exit.Success → Unrefuted I.remaining from.old from.new
+        O.contents to.old to.new search.claim }
+{
+    respond(alloc, search, from, to, aside)
+}
