@@ -1,1 +1,3 @@
-pub mod Depths
+pub mod GivenOptions
+pub mod Lines
+pub mod Commands

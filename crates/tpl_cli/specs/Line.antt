@@ -1,103 +1,74 @@
--- The command line, and which command words name.
-use Rattle.std.specs.Prelude.{◌≡◌, ◌≤◌, ℕ, pos, true, List, [], ◌∷◌, Option, Some, option_map, codes}
-use Rattle.std.specs.Str.Parse.{IsNumeral, digits_value, without_leading_plus}
-use Rattle.tpl_draw.specs.declared.language.Language.{Language}
-use Rattle.tpl_draw.specs.declared.language.Language.TheVariants.{Mermaid, Dot}
-use Rattle.clap.specs.Words.{App, Row, Rule, Text, first_of, new_app, new_rule, one_of, subcommand_of, with_rule, with_subcommand}
-use Rattle.clap.specs.Simple.{on_top}
-use Rattle.clap.specs.declared.builder.value_parser.ValueParser.TheVariants as vp
-use Rattle.tpl_cli.specs.declared.line.Line.{Line}
-use Rattle.tpl_cli.specs.declared.line.Line.TheVariants.{Check, Analyse, Run, Audit, Draw}
+-- What the words of the command line name.
+use Rattle.std.specs.Prelude.{◌≡◌, ◌≤◌, ◌⊎◌, ℕ, Bool, true, false, List, Option, Some, None, codes}
+use Rattle.clap.specs.Words.{Row, Text, first_of, subcommand_of}
+use Rattle.tpl_analyser.specs.declared.form.Form.{Form}
+use Rattle.tpl_analyser.specs.declared.form.Form.TheVariants.{Full, Slim}
+use Rattle.tpl_cli.specs.declared.line.Line as lines
+use Rattle.tpl_cli.specs.declared.line.Line.TheVariants as line
+use Rattle.tpl_cli.specs.declared.subcommand.Subcommand.{Subcommand}
+use Rattle.tpl_cli.specs.declared.subcommand.Subcommand.TheVariants.{Check, Analyse, Run, Audit, Refute, Draw, Trace}
+use Rattle.tpl_cli.specs.Options.{IsGiven, IsLanguage, IsSet}
+use Rattle.tpl_cli.specs.Usage.{taskgraph}
 
--- `--depth N`, a number from 0 to 6, and 2 where it is left out
-abbrev pub depth_rule : Rule
-depth_rule = record (new_rule (codes "depth")) {
-  long = Some (codes "depth");
-  value_names = 1;
-  defaults = codes "2" ∷ [];
-  parser = Some (vp.Signed (pos 0) (pos 6));
-}
+-- the name of a subcommand
+abbrev pub subcommand_word : Subcommand → Text
+subcommand_word Check = codes "check"
+subcommand_word Analyse = codes "analyse"
+subcommand_word Run = codes "run"
+subcommand_word Audit = codes "audit"
+subcommand_word Refute = codes "refute"
+subcommand_word Draw = codes "draw"
+subcommand_word Trace = codes "trace"
 
--- `--workers N`, a number from 1 to 64, and 4 where it is left out
-abbrev pub workers_rule : Rule
-workers_rule = record (new_rule (codes "workers")) {
-  long = Some (codes "workers");
-  value_names = 1;
-  defaults = codes "4" ∷ [];
-  parser = Some (vp.Signed (pos 1) (pos 64));
-}
+-- the form that is asked for
+abbrev pub IsForm : List Row → Form → Type 0
+IsForm rows Full = IsSet (codes "slim") rows → ⊥
+IsForm rows Slim = IsSet (codes "slim") rows
 
--- `--as LANGUAGE`, and mermaid where it is left out
-abbrev pub language_rule : Rule
-language_rule = record (new_rule (codes "as")) {
-  long = Some (codes "as");
-  value_names = 1;
-  defaults = codes "mermaid" ∷ [];
-}
+-- the claim that is asked for, if it is one
+abbrev pub IsClaim : List Row → Option ℕ → Type 0
+IsClaim rows None = first_of (codes "claim") rows ≡ None
+IsClaim rows (Some claim) = (first_of (codes "claim") rows ≡ None → ⊥) × IsGiven (codes "claim") 1 64 rows claim
 
--- the subcommands that are about certificates
-abbrev pub about_certificates : App
-about_certificates = with_subcommand
-    (with_subcommand
-    (on_top (λ s. record s { subcommand_required = true }) (new_app (codes "taskgraph")))
-    (new_app (codes "check")).top)
-    (with_rule (new_app (codes "analyse")) depth_rule).top
+-- lines are asked for on the standard error
+abbrev pub IsExplained : List Row → Bool → Type 0
+IsExplained rows true = IsSet (codes "explain") rows
+IsExplained rows false = IsSet (codes "explain") rows → ⊥
 
-abbrev pub run_command : App
-run_command = with_rule (new_app (codes "run")) workers_rule
+-- a search for a certificate alone, in this form
+abbrev pub search : ℕ → Form → lines.Line
+search depth Full = line.Analyse depth
+search depth Slim = line.AnalyseIn depth Slim
 
-abbrev pub audit_command : App
-audit_command = new_app (codes "audit")
+-- with these options the subcommand means this line
+abbrev pub Means : Subcommand → List Row → lines.Line → Type 0
+Means Check rows l = l ≡ line.Check
+Means Analyse rows l =
+    (depth : ℕ) × IsGiven (codes "depth") 0 6 rows depth × ((form : Form) × IsForm rows form
+    × ((IsSet (codes "whole") rows × (l ≡ line.Certify depth form))
+    ⊎ ((IsSet (codes "whole") rows → ⊥) × (l ≡ search depth form))))
+Means Run rows l = (workers : ℕ) × IsGiven (codes "workers") 1 64 rows workers × (l ≡ line.Run workers)
+Means Audit rows l = l ≡ line.Audit
+Means Refute rows l =
+    (claim : Option ℕ) × IsClaim rows claim
+    × ((runs : ℕ) × IsGiven (codes "runs") 0 1000000 rows runs
+    × ((seed : ℕ) × IsGiven (codes "seed") 0 4294967295 rows seed
+    × ((explain : Bool) × IsExplained rows explain × (l ≡ line.Refute claim runs seed explain))))
+Means Draw rows l = (language : _) × IsLanguage rows language × (l ≡ line.Draw language)
+Means Trace rows l = l ≡ line.Trace
 
-abbrev pub draw_command : App
-draw_command = with_rule (new_app (codes "draw")) language_rule
+-- where a subcommand was entered with these options, this line is meant
+abbrev pub IsLineOf : Option (Text × List Row) → lines.Line → Type 0
+IsLineOf entered l = (s : Subcommand) × (rows : List Row) × (entered ≡ Some (subcommand_word s, rows)) × Means s rows l
 
--- a command line with its subcommands
-abbrev pub taskgraph : App
-taskgraph = with_subcommand (with_subcommand (with_subcommand about_certificates run_command.top) audit_command.top) draw_command.top
-
--- the subcommand that the words enter
-abbrev pub command_of : List Text → Option Text
-command_of words = option_map (λ p. p.0) (subcommand_of taskgraph words)
-
--- the option's text is this number in decimal digits, within its range
-pub record IsGiven (option : Text) (least most : ℕ) (rows : List Row) (number : ℕ) : Type 0 where
-  pub text : Text
-  pub given : one_of option rows ≡ Some text
-  pub digits : IsNumeral 10 (without_leading_plus text)
-  pub value : digits_value 10 (without_leading_plus text) ≡ number
-  pub least_of : least ≤ number
-  pub limit : number ≤ most
-
-abbrev pub IsDepth : List Row → ℕ → Type 0
-IsDepth rows depth = IsGiven (codes "depth") 0 6 rows depth
-
-abbrev pub IsWorkers : List Row → ℕ → Type 0
-IsWorkers rows workers = IsGiven (codes "workers") 1 64 rows workers
-
--- the word for a language
-abbrev pub language_word : Language → Text
-language_word Mermaid = codes "mermaid"
-language_word Dot = codes "dot"
-
-abbrev pub IsLanguage : List Row → Language → Type 0
-IsLanguage rows language = first_of (codes "as") rows ≡ Some (language_word language)
-
--- the words name this command
-abbrev pub Names : List Text → Line → Type 0
-Names words Check = command_of words ≡ Some (codes "check")
-Names words (Analyse depth) =
-    (rows : List Row) × (subcommand_of taskgraph words ≡ Some (codes "analyse", rows)) × IsDepth rows depth
-Names words (Run workers) =
-    (rows : List Row) × (subcommand_of taskgraph words ≡ Some (codes "run", rows)) × IsWorkers rows workers
-Names words Audit = command_of words ≡ Some (codes "audit")
-Names words (Draw language) =
-    (rows : List Row) × (subcommand_of taskgraph words ≡ Some (codes "draw", rows)) × IsLanguage rows language
+-- the words name this line
+abbrev pub Names : List Text → lines.Line → Type 0
+Names words = IsLineOf (subcommand_of taskgraph words)
 
 -- what a line asks for is within the limits of the command
-abbrev pub IsWithin : Line → Type 0
-IsWithin Check = Unit {0}
-IsWithin (Analyse depth) = depth ≤ 6
-IsWithin (Run workers) = (1 ≤ workers) × (workers ≤ 64)
-IsWithin Audit = Unit {0}
-IsWithin (Draw language) = Unit {0}
+abbrev pub IsWithin : lines.Line → Type 0
+IsWithin (line.Analyse depth) = depth ≤ 6
+IsWithin (line.AnalyseIn depth form) = depth ≤ 6
+IsWithin (line.Certify depth form) = depth ≤ 6
+IsWithin (line.Run workers) = (1 ≤ workers) × (workers ≤ 64)
+IsWithin l = Unit {0}

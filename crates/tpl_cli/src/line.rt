@@ -1,14 +1,19 @@
 //! What the words of the command line say.
 
-ghost use Rattle.std.specs.Prelude.{◌≡◌, ℕ, true, false, IfOk, MatchOption, MatchResult, map};
-ghost use Rattle.clap.specs.Words.{app_of, found_of, kind_of, rows_of, rule_of, takes, with_subcommand};
-ghost use Rattle.tpl_cli.specs.Line.{about_certificates, audit_command, draw_command, language_rule, run_command, taskgraph, depth_rule, language_word, workers_rule, IsDepth, IsLanguage, IsWorkers, IsWithin, Names};
+ghost use Rattle.std.specs.Prelude.{◌≡◌, ℕ, true, Option, IfOk, MatchOption, MatchResult, map};
+ghost use Rattle.clap.specs.Words.{found_of, kind_of, rows_of, subcommand_rows_of, takes};
+ghost use Rattle.tpl_cli.specs.Line.{IsClaim, IsLineOf, IsWithin, Means, Names};
+ghost use Rattle.tpl_cli.specs.Usage.{taskgraph};
 
+use crate::options::{is_set, language_in, number_in};
+use crate::subcommand::{Subcommand, subcommand_named};
+use crate::usage::taskgraph;
+use clap::ArgMatches;
 use clap::error::ErrorKind;
-use clap::{Arg, ArgMatches, Command, value_parser};
 use std::alloc::{AllocError, Global};
 use thiserror::Error;
 use tpl_draw::Language;
+use tpl_report::Form;
 
 /// What the program is to do.
 #[derive(Clone, Copy, Debug, Drop, PartialEq, Eq)]
@@ -17,18 +22,27 @@ pub enum Line {
     Check,
     /// Search a certificate of a document's claims with at most so many splits on each path, 0 to 6.
     Analyse(u8),
+    /// Search a certificate of this form.
+    AnalyseIn(u8, Form),
+    /// Search a certificate of this form, and write the document with it.
+    Certify(u8, Form),
     /// Make a run of a document by so many workers, 1 to 64.
     Run(u16),
     /// Audit the journal of a document.
     Audit,
+    /// Search a run in which a claim doesn't hold: the claim, 1 to 64, or each; how many runs are tried for it, at most
+    /// 1,000,000; where the random numbers begin; and whether lines are asked for on the standard error.
+    Refute(Option<u8>, u32, u32, bool),
     /// Draw the graph of a document in this language.
     Draw(Language),
+    /// Write the journal of a document for a trace viewer.
+    Trace,
 }
 
 /// Why there is nothing to do.
 #[derive(Debug, Drop, Error)]
 pub enum LineFault {
-    /// Help was asked for: its text, which belongs on the standard output.
+    /// Help or the version was asked for: its text, which belongs on the standard output.
     #[error("{0}")]
     Help(String),
     /// The words name no command: what is wrong with them and how they are written, which belongs
@@ -51,102 +65,6 @@ impl From<AllocError> for LineFault {
     }
 }
 
-/// The option for the most splits on each path.
-fn depth<'a>(alloc: Global) -> Arg<'a>
-    ensures rule { rule_of result ≡ depth_rule }
-    ensures own { result.global ≡ false }
-{
-    Arg::new(alloc, "depth")
-        .long("depth")
-        .value_name("N")
-        .help("The most splits on each path of a tree, 0 to 6")
-        .default_value("2")
-        .value_parser(value_parser!(u8).range(0..=6))
-}
-
-/// The option for how many workers make a run.
-fn workers<'a>(alloc: Global) -> Arg<'a>
-    ensures rule { rule_of result ≡ workers_rule }
-    ensures own { result.global ≡ false }
-{
-    Arg::new(alloc, "workers")
-        .long("workers")
-        .value_name("N")
-        .help("How many workers make the run, 1 to 64")
-        .default_value("4")
-        .value_parser(value_parser!(u8).range(1..=64))
-}
-
-/// The option for the language of a picture.
-fn language<'a>(alloc: Global) -> Arg<'a>
-    ensures rule { rule_of result ≡ language_rule }
-    ensures own { result.global ≡ false }
-{
-    Arg::new(alloc, "as")
-        .long("as")
-        .value_name("LANGUAGE")
-        .help("The language of the picture, mermaid or dot")
-        .default_value("mermaid")
-}
-
-/// The subcommands that are about certificates. One of the subcommands has to stand there.
-fn about_certificates<'a>(alloc: Global) -> Result<Command<'a>, AllocError>
-    ensures { IfOk result (λ command. app_of command ≡ about_certificates) }
-{
-    Command::new(alloc, "taskgraph")
-        .about("Checks and runs .NET task graphs; the document comes on standard input.")
-        .subcommand_required(true)
-        .subcommand(Command::new(alloc, "check").about("Checks the document's certificate"))?
-        .subcommand(
-            Command::new(alloc, "analyse")
-                .about("Searches a certificate of the document's claims")
-                .arg(depth(alloc))?,
-        )
-}
-
-/// The command line so far, and the subcommand that makes a run.
-fn with_run<'a>(alloc: Global, command: Command<'a>) -> Result<Command<'a>, AllocError>
-    ensures { IfOk result (λ more. app_of more ≡ with_subcommand (app_of command.entry)
-        run_command.top) }
-{
-    command.subcommand(
-        Command::new(alloc, "run")
-            .about("Checks the document's certificate and makes a run of its graph")
-            .arg(workers(alloc))?,
-    )
-}
-
-/// The command line so far, and the subcommand that audits.
-fn with_audit<'a>(alloc: Global, command: Command<'a>) -> Result<Command<'a>, AllocError>
-    ensures { IfOk result (λ more. app_of more ≡ with_subcommand (app_of command.entry)
-        audit_command.top) }
-{
-    command.subcommand(Command::new(alloc, "audit").about("Audits the document's journal"))
-}
-
-/// The command line so far, and the subcommand that draws.
-fn with_draw<'a>(alloc: Global, command: Command<'a>) -> Result<Command<'a>, AllocError>
-    ensures { IfOk result (λ more. app_of more ≡ with_subcommand (app_of command.entry)
-        draw_command.top) }
-{
-    command.subcommand(
-        Command::new(alloc, "draw")
-            .about("Draws the document's graph")
-            .arg(language(alloc))?,
-    )
-}
-
-/// The command line.
-fn taskgraph<'a>(alloc: Global) -> Result<Command<'a>, AllocError>
-    ensures { IfOk result (λ command. app_of command ≡ taskgraph) }
-{
-    let certificates = about_certificates(alloc)?;
-    let runs = with_run(alloc, certificates)?;
-    let audits = with_audit(alloc, runs)?;
-    let all = with_draw(alloc, audits)?;
-    Ok(all)
-}
-
 /// The text goes where its kind belongs: help that was asked for isn't a fault of the words.
 fn fault_of(alloc: Global, error: clap::Error) -> LineFault
     ensures { kind_of error ≡ ErrorKind.OutOfMemory → result ≡ LineFault.Memory }
@@ -158,74 +76,119 @@ fn fault_of(alloc: Global, error: clap::Error) -> LineFault
     };
     match kind {
         ErrorKind::OutOfMemory => LineFault::Memory,
-        ErrorKind::DisplayHelp => LineFault::Help(text),
+        ErrorKind::DisplayHelp | ErrorKind::DisplayVersion => LineFault::Help(text),
         _ => LineFault::Usage(text),
     }
 }
 
-/// The value of the option, which the parse has tested.
-fn depth_of(alloc: Global, given: &ArgMatches<'_>) -> Result<u8, LineFault>
-    ensures named { IfOk result (IsDepth (rows_of (found_of given.now))) }
-    ensures taken { (depth : ℕ) → IsDepth (rows_of (found_of given.now)) depth
-        → MatchResult result (λ found. found ≡ depth) (λ fault. fault ≡ LineFault.Memory) }
-{
-    match given.get_one::<u8>("depth") {
-        Some(depth) if depth <= 6 => Ok(depth),
-        _ => Err(LineFault::Usage(String::from_str(alloc, "error: no depth\n")?)),
-    }
-}
-
-/// The value of the option, which the parse has tested.
-fn workers_of(alloc: Global, given: &ArgMatches<'_>) -> Result<u8, LineFault>
-    ensures named { IfOk result (IsWorkers (rows_of (found_of given.now))) }
-    ensures taken { (workers : ℕ) → IsWorkers (rows_of (found_of given.now)) workers
-        → MatchResult result (λ found. found ≡ workers) (λ fault. fault ≡ LineFault.Memory) }
-{
-    match given.get_one::<u8>("workers") {
-        Some(workers) if 1 <= workers && workers <= 64 => Ok(workers),
-        _ => Err(LineFault::Usage(String::from_str(alloc, "error: no workers\n")?)),
-    }
-}
-
-/// The language that a word names.
-fn language_named(word: &str) -> Option<Language>
-    ensures { MatchOption result ((l : Language) → language_word l ≡ word.now → ⊥)
-        (λ l. language_word l ≡ word.now) }
-{
-    if word == "mermaid" {
-        Some(Language::Mermaid)
-    } else if word == "dot" {
-        Some(Language::Dot)
-    } else {
-        None
-    }
-}
-
-/// The language that the option names.
-fn language_in(given: &ArgMatches<'_>) -> Option<Language>
+/// The line that `analyse` means with these options.
+fn analyse_line(given: &ArgMatches<'_>) -> Option<Line>
     ensures { MatchOption result
-        ((l : Language) → IsLanguage (rows_of (found_of given.now)) l → ⊥)
-        (IsLanguage (rows_of (found_of given.now))) }
+        ((l : Line) → Means Subcommand.Analyse (rows_of (found_of given.now)) l → ⊥)
+        (Means Subcommand.Analyse (rows_of (found_of given.now))) }
 {
-    match given.get_str("as") {
-        Some(word) => language_named(word),
+    let Some(depth) = number_in(given, "depth", 0, 6) else {
+        return None;
+    };
+    let depth = depth as u8;
+    let slim = is_set(given, "slim");
+    if is_set(given, "whole") {
+        Some(Line::Certify(depth, if slim { Form::Slim } else { Form::Full }))
+    } else if slim {
+        Some(Line::AnalyseIn(depth, Form::Slim))
+    } else {
+        Some(Line::Analyse(depth))
+    }
+}
+
+/// The line that `run` means with these options.
+fn run_line(given: &ArgMatches<'_>) -> Option<Line>
+    ensures { MatchOption result
+        ((l : Line) → Means Subcommand.Run (rows_of (found_of given.now)) l → ⊥)
+        (Means Subcommand.Run (rows_of (found_of given.now))) }
+{
+    match number_in(given, "workers", 1, 64) {
+        Some(workers) => Some(Line::Run(workers as u16)),
         None => None,
     }
 }
 
-/// The value of the option.
-fn language_of(alloc: Global, given: &ArgMatches<'_>) -> Result<Language, LineFault>
-    ensures named { IfOk result (IsLanguage (rows_of (found_of given.now))) }
-    ensures taken { (language : Language) → IsLanguage (rows_of (found_of given.now)) language
-        → MatchResult result (λ found. found ≡ language) (λ fault. fault ≡ LineFault.Memory) }
+/// The claim that is asked for: one, each, or a number out of range.
+fn claim_in(given: &ArgMatches<'_>) -> Option<Option<u8>>
+    ensures { MatchOption result
+        ((claim : Option ℕ) → IsClaim (rows_of (found_of given.now)) claim → ⊥)
+        (IsClaim (rows_of (found_of given.now))) }
+{
+    match given.get_str("claim") {
+        None => Some(None),
+        Some(_) => match number_in(given, "claim", 1, 64) {
+            Some(claim) => Some(Some(claim as u8)),
+            None => None,
+        },
+    }
+}
+
+/// The line that `refute` means with these options.
+fn refute_line(given: &ArgMatches<'_>) -> Option<Line>
+    ensures { MatchOption result
+        ((l : Line) → Means Subcommand.Refute (rows_of (found_of given.now)) l → ⊥)
+        (Means Subcommand.Refute (rows_of (found_of given.now))) }
+{
+    let Some(claim) = claim_in(given) else {
+        return None;
+    };
+    let Some(runs) = number_in(given, "runs", 0, 1_000_000) else {
+        return None;
+    };
+    let Some(seed) = number_in(given, "seed", 0, 4_294_967_295) else {
+        return None;
+    };
+    let explain = is_set(given, "explain");
+    Some(Line::Refute(claim, runs, seed, explain))
+}
+
+/// The line that `draw` means with these options.
+fn draw_line(given: &ArgMatches<'_>) -> Option<Line>
+    ensures { MatchOption result
+        ((l : Line) → Means Subcommand.Draw (rows_of (found_of given.now)) l → ⊥)
+        (Means Subcommand.Draw (rows_of (found_of given.now))) }
 {
     match language_in(given) {
-        Some(language) => Ok(language),
-        None => Err(LineFault::Usage(String::from_str(
-            alloc,
-            "error: a picture is drawn --as mermaid or --as dot\n",
-        )?)),
+        Some(language) => Some(Line::Draw(language)),
+        None => None,
     }
+}
+
+/// The line that a subcommand means with these options.
+fn line_meant(subcommand: Subcommand, given: &ArgMatches<'_>) -> Option<Line>
+    ensures { MatchOption result
+        ((l : Line) → Means subcommand (rows_of (found_of given.now)) l → ⊥)
+        (Means subcommand (rows_of (found_of given.now))) }
+{
+    match subcommand {
+        Subcommand::Check => Some(Line::Check),
+        Subcommand::Analyse => analyse_line(given),
+        Subcommand::Run => run_line(given),
+        Subcommand::Audit => Some(Line::Audit),
+        Subcommand::Refute => refute_line(given),
+        Subcommand::Draw => draw_line(given),
+        Subcommand::Trace => Some(Line::Trace),
+    }
+}
+
+/// The line that the words meant which were read so.
+fn line_in(matches: &ArgMatches<'_>) -> Option<Line>
+    ensures { MatchOption result
+        ((l : Line) → IsLineOf (subcommand_rows_of matches.now) l → ⊥)
+        (IsLineOf (subcommand_rows_of matches.now)) }
+{
+    let Some((name, given)) = matches.subcommand() else {
+        return None;
+    };
+    let Some(subcommand) = subcommand_named(name) else {
+        return None;
+    };
+    line_meant(subcommand, given)
 }
 
 /// What the words say, the first of which is the program's own name. They are read by `clap`.
@@ -242,21 +205,8 @@ pub fn line_of<'a>(alloc: Global, words: &'a [&'a str]) -> Result<Line, LineFaul
         Ok(matches) => matches,
         Err(error) => return Err(fault_of(alloc, error)),
     };
-    match matches.subcommand() {
-        Some(("check", _)) => Ok(Line::Check),
-        Some(("analyse", given)) => match depth_of(alloc, given) {
-            Ok(depth) => Ok(Line::Analyse(depth)),
-            Err(fault) => Err(fault),
-        },
-        Some(("run", given)) => match workers_of(alloc, given) {
-            Ok(workers) => Ok(Line::Run(u16::from(workers))),
-            Err(fault) => Err(fault),
-        },
-        Some(("audit", _)) => Ok(Line::Audit),
-        Some(("draw", given)) => match language_of(alloc, given) {
-            Ok(language) => Ok(Line::Draw(language)),
-            Err(fault) => Err(fault),
-        },
-        _ => Err(LineFault::Usage(String::from_str(alloc, "error: no command\n")?)),
+    match line_in(&matches) {
+        Some(line) => Ok(line),
+        None => Err(LineFault::Usage(String::from_str(alloc, "error: no command\n")?)),
     }
 }

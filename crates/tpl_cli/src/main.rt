@@ -3,6 +3,9 @@
 
 mod boxes;
 mod line;
+mod options;
+mod subcommand;
+mod usage;
 
 ghost use Rattle.std.specs.Prelude.{IfOk};
 ghost use Rattle.tpl_cli.specs.Line.{IsWithin};
@@ -17,6 +20,8 @@ use std::thread::Threads;
 use std::{env, iter};
 use tpl_journal::Counting;
 use tpl_report::{Ask, Exit, load, put_out_of_memory, serve};
+use tpl_trace::trace_document;
+use tpl_witness::{Search, refute_document};
 
 /// The words of the command line, the program's own name first.
 fn words(rt: &HostRuntime) -> Result<Vec<String>, LineFault> {
@@ -54,6 +59,16 @@ fn run<R: Threads + Wait + Sync, I: Read, O: Write>(
     }
 }
 
+/// The search for a run in which a claim fails.
+fn search_of(claim: Option<u8>, runs: u32, seed: u32, explain: bool) -> Search {
+    Search {
+        claim: claim.map(usize::from),
+        runs,
+        seed: u64::from(seed),
+        explain,
+    }
+}
+
 /// Does what the command line says. What is written is kept together, and all of it is written out before the end is
 /// known.
 fn perform<R: Threads + Wait + Sync>(rt: &HostRuntime, threads: &R, line: Line) -> Exit
@@ -67,9 +82,21 @@ fn perform<R: Threads + Wait + Sync>(rt: &HostRuntime, threads: &R, line: Line) 
     match line {
         Line::Check => serve(rt.alloc(), Ask::Check, &mut from, &mut to),
         Line::Analyse(depth) => serve(rt.alloc(), Ask::Analyse(depth), &mut from, &mut to),
+        Line::AnalyseIn(depth, form) => {
+            serve(rt.alloc(), Ask::AnalyseIn(depth, form), &mut from, &mut to)
+        }
+        Line::Certify(depth, form) => {
+            serve(rt.alloc(), Ask::Certify(depth, form), &mut from, &mut to)
+        }
         Line::Run(workers) => run(threads, rt.alloc(), workers, &mut from, &mut to),
         Line::Audit => serve(rt.alloc(), Ask::Audit, &mut from, &mut to),
+        Line::Refute(claim, runs, seed, explain) => {
+            let search = search_of(claim, runs, seed, explain);
+            let mut aside = Counting::new(rt.stderr());
+            refute_document(rt.alloc(), search, &mut from, &mut to, &mut aside)
+        }
         Line::Draw(language) => serve(rt.alloc(), Ask::Draw(language), &mut from, &mut to),
+        Line::Trace => trace_document(rt.alloc(), &mut from, &mut to),
     }
 }
 

@@ -1,6 +1,6 @@
 use Rattle.clap.specs.Words.{found_of}
-use Rattle.tpl_cli.proofs.Depths.{language_given, none_given}
-use Rattle.tpl_cli.proofs.line.language_in.Goals as goal
+use Rattle.tpl_cli.proofs.GivenOptions.{language_given, none_given}
+use Rattle.tpl_cli.proofs.options.language_in.Goals as goal
 
 pub returns-in-Some : goal.returns-in-Some
 returns-in-Some c =

@@ -1,0 +1,75 @@
+-- The options of the command line, and what is given for them.
+use Rattle.std.specs.Prelude.{◌≡◌, ◌≤◌, ℕ, pos, List, [], ◌∷◌, Some, codes}
+use Rattle.std.specs.Str.Parse.{IsNumeral, digits_value, without_leading_plus}
+use Rattle.tpl_draw.specs.declared.language.Language.{Language}
+use Rattle.tpl_draw.specs.declared.language.Language.TheVariants.{Mermaid, Dot}
+use Rattle.clap.specs.Words.{Row, Rule, Text, first_of, new_rule, one_of}
+use Rattle.clap.specs.declared.builder.action.ArgAction.TheVariants.{SetTrue}
+use Rattle.clap.specs.declared.builder.value_parser.ValueParser.TheVariants as vp
+
+-- an option `--NAME` that has no value
+abbrev pub flag : Text → Rule
+flag name = record (new_rule name) {
+  long = Some name;
+  action = Some SetTrue;
+}
+
+-- an option `--NAME VALUE`, with what stands for a value that is left out
+abbrev pub valued : Text → List Text → Rule
+valued name defaults = record (new_rule name) {
+  long = Some name;
+  value_names = 1;
+  defaults = defaults;
+}
+
+-- an option `--NAME N`, where N is a number from least to most
+abbrev pub numbered : Text → List Text → ℕ → ℕ → Rule
+numbered name defaults least most = record (valued name defaults) { parser = Some (vp.Signed (pos least) (pos most)) }
+
+abbrev pub depth_rule : Rule
+depth_rule = numbered (codes "depth") (codes "2" ∷ []) 0 6
+
+abbrev pub slim_rule : Rule
+slim_rule = flag (codes "slim")
+
+abbrev pub whole_rule : Rule
+whole_rule = flag (codes "whole")
+
+abbrev pub workers_rule : Rule
+workers_rule = numbered (codes "workers") (codes "4" ∷ []) 1 64
+
+abbrev pub claim_rule : Rule
+claim_rule = numbered (codes "claim") [] 1 64
+
+abbrev pub runs_rule : Rule
+runs_rule = numbered (codes "runs") (codes "100000" ∷ []) 0 1000000
+
+abbrev pub seed_rule : Rule
+seed_rule = numbered (codes "seed") (codes "0" ∷ []) 0 4294967295
+
+abbrev pub explain_rule : Rule
+explain_rule = flag (codes "explain")
+
+abbrev pub language_rule : Rule
+language_rule = valued (codes "as") (codes "mermaid" ∷ [])
+
+-- the option was used
+abbrev pub IsSet : Text → List Row → Type 0
+IsSet option rows = first_of option rows ≡ Some (codes "true")
+
+-- the option's text is this number in decimal digits, within its range
+pub record IsGiven (option : Text) (least most : ℕ) (rows : List Row) (number : ℕ) : Type 0 where
+  pub text : Text
+  pub given : one_of option rows ≡ Some text
+  pub digits : IsNumeral 10 (without_leading_plus text)
+  pub value : digits_value 10 (without_leading_plus text) ≡ number
+  pub least_of : least ≤ number
+  pub limit : number ≤ most
+
+-- the word for a language
+abbrev pub language_word : Language → Text
+language_word Mermaid = codes "mermaid"
+language_word Dot = codes "dot"
+
+abbrev pub IsLanguage : List Row → Language → Type 0
+IsLanguage rows language = first_of (codes "as") rows ≡ Some (language_word language)

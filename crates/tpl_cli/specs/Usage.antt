@@ -1,0 +1,41 @@
+-- The command line and its subcommands.
+use Rattle.std.specs.Prelude.{true, codes}
+use Rattle.clap.specs.Words.{App, new_app, with_rule, with_subcommand}
+use Rattle.clap.specs.Simple.{on_top}
+use Rattle.tpl_cli.specs.Options.{claim_rule, depth_rule, explain_rule, language_rule, runs_rule, seed_rule, slim_rule, whole_rule, workers_rule}
+
+-- one of the subcommands has to stand there
+abbrev pub no_command : App
+no_command = on_top (λ s. record s { subcommand_required = true; has_version = true }) (new_app (codes "taskgraph"))
+
+abbrev pub check_command : App
+check_command = new_app (codes "check")
+
+abbrev pub analyse_command : App
+analyse_command = with_rule (with_rule (with_rule (new_app (codes "analyse")) depth_rule) slim_rule) whole_rule
+
+abbrev pub run_command : App
+run_command = with_rule (new_app (codes "run")) workers_rule
+
+abbrev pub audit_command : App
+audit_command = new_app (codes "audit")
+
+-- `refute` with the options for which runs are tried
+abbrev pub tried_runs : App
+tried_runs = with_rule (with_rule (with_rule (new_app (codes "refute")) claim_rule) runs_rule) seed_rule
+
+abbrev pub refute_command : App
+refute_command = with_rule tried_runs explain_rule
+
+abbrev pub draw_command : App
+draw_command = with_rule (new_app (codes "draw")) language_rule
+
+abbrev pub trace_command : App
+trace_command = new_app (codes "trace")
+
+-- the subcommands that are about certificates and runs
+abbrev pub first_commands : App
+first_commands = with_subcommand (with_subcommand (with_subcommand (with_subcommand no_command check_command.top) analyse_command.top) run_command.top) audit_command.top
+
+abbrev pub taskgraph : App
+taskgraph = with_subcommand (with_subcommand (with_subcommand first_commands refute_command.top) draw_command.top) trace_command.top

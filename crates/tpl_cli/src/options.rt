@@ -1,0 +1,166 @@
+//! The options of the command line, and what is given for them.
+
+ghost use Rattle.std.specs.Prelude.{◌≡◌, ◌↔◌, ℕ, false, IsTrue, MatchOption};
+ghost use Rattle.clap.specs.Words.{found_of, rows_of, rule_of};
+ghost use Rattle.tpl_cli.specs.Options.{claim_rule, depth_rule, explain_rule, language_rule, language_word, runs_rule, seed_rule, slim_rule, whole_rule, workers_rule, IsGiven, IsLanguage, IsSet};
+
+use clap::{Arg, ArgAction, ArgMatches, value_parser};
+use std::alloc::Global;
+use tpl_draw::Language;
+
+/// The option for the most splits on each path.
+pub(crate) fn depth<'a>(alloc: Global) -> Arg<'a>
+    ensures rule { rule_of result ≡ depth_rule }
+    ensures own { result.global ≡ false }
+{
+    Arg::new(alloc, "depth")
+        .long("depth")
+        .value_name("N")
+        .help("The most splits on each path of a tree, 0 to 6")
+        .default_value("2")
+        .value_parser(value_parser!(u32).range(0..=6))
+}
+
+/// The option for rows that say no more than is used.
+pub(crate) fn slim<'a>(alloc: Global) -> Arg<'a>
+    ensures rule { rule_of result ≡ slim_rule }
+    ensures own { result.global ≡ false }
+{
+    Arg::new(alloc, "slim")
+        .long("slim")
+        .action(ArgAction::SetTrue)
+        .help("Leaves out of the rows what the claim's proof does not use")
+}
+
+/// The option for the whole document.
+pub(crate) fn whole<'a>(alloc: Global) -> Arg<'a>
+    ensures rule { rule_of result ≡ whole_rule }
+    ensures own { result.global ≡ false }
+{
+    Arg::new(alloc, "whole")
+        .long("whole")
+        .action(ArgAction::SetTrue)
+        .help("Writes the document with the certificate in its place")
+}
+
+/// The option for how many workers make a run.
+pub(crate) fn workers<'a>(alloc: Global) -> Arg<'a>
+    ensures rule { rule_of result ≡ workers_rule }
+    ensures own { result.global ≡ false }
+{
+    Arg::new(alloc, "workers")
+        .long("workers")
+        .value_name("N")
+        .help("How many workers make the run, 1 to 64")
+        .default_value("4")
+        .value_parser(value_parser!(u32).range(1..=64))
+}
+
+/// The option for one claim.
+pub(crate) fn claim<'a>(alloc: Global) -> Arg<'a>
+    ensures rule { rule_of result ≡ claim_rule }
+    ensures own { result.global ≡ false }
+{
+    Arg::new(alloc, "claim")
+        .long("claim")
+        .value_name("N")
+        .help("The claim, 1 to 64; every claim where it is left out")
+        .value_parser(value_parser!(u32).range(1..=64))
+}
+
+/// The option for how many runs are tried.
+pub(crate) fn runs<'a>(alloc: Global) -> Arg<'a>
+    ensures rule { rule_of result ≡ runs_rule }
+    ensures own { result.global ≡ false }
+{
+    Arg::new(alloc, "runs")
+        .long("runs")
+        .value_name("N")
+        .help("How many runs are tried for each claim, at most 1000000")
+        .default_value("100000")
+        .value_parser(value_parser!(u32).range(0..=1_000_000))
+}
+
+/// The option for where the random numbers begin.
+pub(crate) fn seed<'a>(alloc: Global) -> Arg<'a>
+    ensures rule { rule_of result ≡ seed_rule }
+    ensures own { result.global ≡ false }
+{
+    Arg::new(alloc, "seed")
+        .long("seed")
+        .value_name("N")
+        .help("Where the random numbers begin, 0 to 4294967295")
+        .default_value("0")
+        .value_parser(value_parser!(u32).range(0..=4_294_967_295))
+}
+
+/// The option for lines on the standard error.
+pub(crate) fn explain<'a>(alloc: Global) -> Arg<'a>
+    ensures rule { rule_of result ≡ explain_rule }
+    ensures own { result.global ≡ false }
+{
+    Arg::new(alloc, "explain")
+        .long("explain")
+        .action(ArgAction::SetTrue)
+        .help("Says on the standard error how many runs were tried for each claim")
+}
+
+/// The option for the language of a picture.
+pub(crate) fn language<'a>(alloc: Global) -> Arg<'a>
+    ensures rule { rule_of result ≡ language_rule }
+    ensures own { result.global ≡ false }
+{
+    Arg::new(alloc, "as")
+        .long("as")
+        .value_name("LANGUAGE")
+        .help("The language of the picture, mermaid or dot")
+        .default_value("mermaid")
+}
+
+/// Whether the option was used.
+pub(crate) fn is_set(given: &ArgMatches<'_>, option: &str) -> bool
+    ensures { IsTrue result ↔ IsSet option.now (rows_of (found_of given.now)) }
+{
+    match given.get_str(option) {
+        Some(text) if text == "true" => true,
+        _ => false,
+    }
+}
+
+/// The number that is given for the option, if it lies in this range.
+pub(crate) fn number_in(given: &ArgMatches<'_>, option: &str, least: u32, most: u32) -> Option<u32>
+    ensures { MatchOption result
+        ((n : ℕ) → IsGiven option.now least most (rows_of (found_of given.now)) n → ⊥)
+        (IsGiven option.now least most (rows_of (found_of given.now))) }
+{
+    match given.get_one::<u32>(option) {
+        Some(number) if least <= number && number <= most => Some(number),
+        _ => None,
+    }
+}
+
+/// The language that a word names.
+fn language_named(word: &str) -> Option<Language>
+    ensures { MatchOption result ((l : Language) → language_word l ≡ word.now → ⊥)
+        (λ l. language_word l ≡ word.now) }
+{
+    if word == "mermaid" {
+        Some(Language::Mermaid)
+    } else if word == "dot" {
+        Some(Language::Dot)
+    } else {
+        None
+    }
+}
+
+/// The language that the option names.
+pub(crate) fn language_in(given: &ArgMatches<'_>) -> Option<Language>
+    ensures { MatchOption result
+        ((l : Language) → IsLanguage (rows_of (found_of given.now)) l → ⊥)
+        (IsLanguage (rows_of (found_of given.now))) }
+{
+    match given.get_str("as") {
+        Some(word) => language_named(word),
+        None => None,
+    }
+}
