@@ -1,4 +1,5 @@
-//! Measurements, a word for each: `queue`, `runs`, `graph`, `reader`, `checker`, `machines`, `analyser` and `audits`.
+//! Measurements, a word for each: `queue`, `runs`, `graph`, `reader`, `checker`, `machines`, `analyser`, `audits` and
+//! `refutes`.
 //!
 //! With one of these words as its argument the program prints what it measured. With none it does a little of each, and
 //! prints what came of it.
@@ -19,12 +20,14 @@ mod plans;
 mod pool;
 mod queue;
 mod reading;
+mod refutes;
 mod runs;
 mod searching;
 mod session;
 mod shapes;
 mod shared;
 mod spins;
+mod stages;
 mod timing;
 
 use crate::audits::show_audits;
@@ -33,6 +36,7 @@ use crate::checking::show_checks;
 use crate::machines::show_machines;
 use crate::queue::show_queue;
 use crate::reading::{measure_reading, show_reading};
+use crate::refutes::{measure_refutes, show_refutes};
 use crate::runs::show_runs;
 use crate::searching::show_searches;
 use std::{env, io};
@@ -44,7 +48,8 @@ fn show_all(rt: &HostRuntime) -> io::Result<()> {
     show_checks(rt, false)?;
     show_machines(rt, false)?;
     show_searches(rt, false)?;
-    show_audits(rt, false)
+    show_audits(rt, false)?;
+    show_refutes(rt)
 }
 
 /// What the word asks for, but the queue and the runs.
@@ -56,7 +61,10 @@ fn measure(rt: &HostRuntime, word: &str) -> io::Result<()> {
         "machines" => show_machines(rt, true),
         "analyser" => show_searches(rt, true),
         "audits" => show_audits(rt, true),
-        _ => println!(rt; "queue, runs, graph, reader, checker, machines, analyser or audits"),
+        "refutes" => measure_refutes(rt),
+        _ => println!(rt;
+            "queue, runs, graph, reader, checker, machines, analyser, audits or refutes"
+        ),
     }
 }
 

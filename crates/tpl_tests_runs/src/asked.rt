@@ -1,13 +1,13 @@
 //! What seats and watchers outside a session's threads are told.
 
-ghost use Rattle.std.specs.Prelude.{◌≡◌};
+ghost use Rattle.std.specs.Prelude.{◌≡◌, IfOk, IfSome};
 
 use crate::crews::LOOKER;
-use crate::sessions::places;
+use crate::opened::opened;
 use std::alloc::{AllocError, Global};
 use std::sync::Wait;
 use tpl_graph::Graph;
-use tpl_queue::{JobQueue, QueuePass};
+use tpl_queue::QueuePass;
 use tpl_runtime::{
     Asked, CloseFault, CloseWhy, Ended, Item, Looked, Report, Seat, SeatFault, Session, Sight,
     Watcher,
@@ -165,6 +165,19 @@ fn refused<K: Drop, W: Drop>(
     }
 }
 
+/// A session of the graph, which has no work statements, and its pass. None where it isn't opened.
+fn fresh<'g, K: Drop, W: Item<K>>(
+    alloc: Global,
+    graph: &'g Graph,
+) -> Result<Option<(Session<'g, K, W>, QueuePass<Vec<W>>)>, AllocError>
+    ensures graph { IfOk result (λ found. IfSome found (λ s. s.0.graph ≡ graph.now)) }
+    ensures pass { IfOk result (λ found. IfSome found (λ s. s.1.queue ≡ s.0.queue)) }
+{
+    let inputs = Inputs::new(graph.input_count());
+    let items: Vec<W> = Vec::new(alloc);
+    opened::<K, W>(alloc, graph, inputs, items)
+}
+
 /// A seat of a fresh session of the graph, which has no work statements, where another session's seat is stray. None
 /// where that is told otherwise.
 fn other_seat<R: Wait, K: Drop, W: Item<K>>(
@@ -173,12 +186,9 @@ fn other_seat<R: Wait, K: Drop, W: Item<K>>(
     graph: &Graph,
     stranger: &mut Seat,
 ) -> Result<Option<Seat>, AllocError> {
-    let inputs = Inputs::new(graph.input_count());
-    let items: Vec<W> = Vec::new(alloc);
-    let (queue, pass) = JobQueue::new(alloc, places(graph))?;
-    match Session::<K, W>::open(alloc, graph, inputs, items, queue, &pass) {
-        Ok(fresh) => Ok(fresh_seat(rt, alloc, graph, &fresh, stranger)),
-        Err(_) => Ok(None),
+    match fresh::<K, W>(alloc, graph)? {
+        Some((session, _pass)) => Ok(fresh_seat(rt, alloc, graph, &session, stranger)),
+        None => Ok(None),
     }
 }
 
@@ -189,16 +199,11 @@ fn refuses_watcher<R: Wait, K: Drop, W: Item<K>>(
     graph: &Graph,
     watchers: Vec<Watcher>,
 ) -> Result<bool, AllocError> {
-    let inputs = Inputs::new(graph.input_count());
-    let items: Vec<W> = Vec::new(alloc);
-    let (queue, pass) = JobQueue::new(alloc, places(graph))?;
-    match Session::<K, W>::open(alloc, graph, inputs, items, queue, &pass) {
-        Ok(fresh) => {
-            let closed = fresh.close_watched(rt, alloc, Vec::new(alloc), pass, watchers);
-            Ok(refused(closed, CloseWhy::Mismatch, 0))
-        }
-        Err(_) => Ok(false),
-    }
+    let Some((session, pass)) = fresh::<K, W>(alloc, graph)? else {
+        return Ok(false);
+    };
+    let closed = session.close_watched(rt, alloc, Vec::new(alloc), pass, watchers);
+    Ok(refused(closed, CloseWhy::Mismatch, 0))
 }
 
 /// Whether the session is closed well, with two events.

@@ -1,15 +1,15 @@
 //! Sessions that are run by workers, from the first seat to the report.
 
-ghost use Rattle.std.specs.Prelude.{◌≡◌};
+ghost use Rattle.std.specs.Prelude.{◌≡◌, IfOk, IfSome};
 
 use crate::asked::ask;
-use crate::retold::is_retold;
+use crate::closed::{Back, closes_well};
 use std::alloc::{AllocError, Global};
 use std::sync::Wait;
 use std::thread::Threads;
 use tpl_graph::Graph;
 use tpl_queue::QueuePass;
-use tpl_runtime::{Asked, Ended, Item, Looked, Report, Seat, Session};
+use tpl_runtime::{Asked, Ended, Item, Looked, Report, Seat, Session, Watcher};
 use tpl_words::{Actor, Final, Inputs, Status, TaskId, TokenId};
 
 /// The outside seat that looks at the tasks.
@@ -87,6 +87,59 @@ fn ask_all<'g, R: Wait, K: Drop, W: Item<K>>(
     all
 }
 
+/// Requests the tokens by a seat outside, and lets workers run. None where they don't.
+fn runs<'g, R: Threads + Wait + Sync, K: Drop + Send, W: Item<K> + Send>(
+    rt: &R,
+    alloc: Global,
+    graph: &Graph,
+    session: &Session<'g, K, W>,
+    seat: &mut Seat,
+    pass: QueuePass<Vec<W>>,
+    play: &Play<'_>,
+) -> Result<Option<Back<W>>, AllocError>
+    requires graph { session.now.graph ≡ graph.now }
+    requires pass { pass.queue ≡ session.now.queue }
+    ensures { IfOk result (λ found. IfSome found (λ b. b.pass.queue ≡ session.now.queue)) }
+{
+    let mut pass = pass;
+    let asked = ask_all(rt, graph, session, seat, &mut pass, play.tokens);
+    let Ok((done, pass)) = session.run(rt, alloc, pass, play.workers) else {
+        return Ok(None);
+    };
+    let (seats, complete) = with_workers(Vec::new(alloc), done, Ended::Complete)?;
+    Ok(Some(Back {
+        seats,
+        pass,
+        watchers: Vec::new(alloc),
+        well: asked && complete,
+    }))
+}
+
+/// Lets workers run, and a watcher look, which is handed in with them. A second one saw as much; None where it didn't.
+fn runs_watched<'g, R: Threads + Wait + Sync, K: Drop + Send, W: Item<K> + Send>(
+    rt: &R,
+    alloc: Global,
+    graph: &Graph,
+    session: &Session<'g, K, W>,
+    seat: &mut Seat,
+    pass: QueuePass<Vec<W>>,
+    watcher: &mut Watcher,
+    play: &Play<'_>,
+) -> Result<Option<Back<W>>, AllocError>
+    requires graph { session.now.graph ≡ graph.now }
+    requires pass { pass.queue ≡ session.now.queue }
+    ensures { IfOk result (λ found. IfSome found (λ b. b.pass.queue ≡ session.now.queue)) }
+{
+    let mut other = session.watch(alloc)?;
+    let Some(back) = runs(rt, alloc, graph, session, seat, pass, play)? else {
+        return Ok(None);
+    };
+    let mut back = back;
+    back.well = back.well && watcher.look() == other.look();
+    back.watchers.push(other)?;
+    Ok(Some(back))
+}
+
 /// Lets workers run. A seat outside is told of each task then what the report says, watchers saw the whole run, and the
 /// plain machine tells the same. None where it isn't so.
 pub fn run_by<'g, R: Threads + Wait + Sync, K: Drop + Send, W: Item<K> + Send>(
@@ -101,29 +154,27 @@ pub fn run_by<'g, R: Threads + Wait + Sync, K: Drop + Send, W: Item<K> + Send>(
     requires pass { pass.queue ≡ session.queue }
 {
     let mut watcher = session.watch(alloc)?;
-    let mut other = session.watch(alloc)?;
     let Ok(seat) = session.seat(rt, alloc, LOOKER) else {
         return Ok(None);
     };
     let mut seat = seat;
-    let mut pass = pass;
-    let asked = ask_all(rt, graph, &session, &mut seat, &mut pass, play.tokens);
-    let Ok((done, pass)) = session.run(rt, alloc, pass, play.workers) else {
+    let found = runs_watched(
+        rt,
+        alloc,
+        graph,
+        &session,
+        &mut seat,
+        pass,
+        &mut watcher,
+        play,
+    )?;
+    let Some(back) = found else {
         return Ok(None);
     };
-    let looked = looks(rt, alloc, graph, &session, &mut seat)?;
-    let counts = [watcher.look() as usize, other.look() as usize];
-    let (seats, complete) = with_workers(vec![in alloc; seat]?, done, Ended::Complete)?;
-    let Ok(report) = session.close_watched(rt, alloc, seats, pass, vec![in alloc; other]?) else {
-        return Ok(None);
-    };
-    let events = report.journal.len();
-    let whole = counts == [events, events] && watcher.list() == report.journal.as_slice();
-    let told = is_retold(alloc, graph, play.inputs.copy(), &report)?;
-    if asked && complete && whole && told && looked.as_slice() == report.statuses.as_slice() {
-        Ok(Some(report))
-    } else {
-        Ok(None)
+    let inputs = play.inputs.copy();
+    match closes_well(rt, alloc, graph, inputs, session, back, seat)? {
+        Some(report) if watcher.list() == report.journal.as_slice() => Ok(Some(report)),
+        _ => Ok(None),
     }
 }
 

@@ -7,7 +7,9 @@
 mod allowed;
 mod asked;
 mod beside;
+mod cast;
 mod chance;
+mod closed;
 mod crews;
 mod dice;
 mod exchange;
@@ -17,6 +19,8 @@ mod machines;
 mod meeting;
 mod memory;
 mod names;
+mod opened;
+mod parts;
 mod plays;
 mod queue;
 mod refusals;

@@ -6,7 +6,8 @@ ghost use Rattle.tpl_words.specs.declared.status.Answer.TheVariants.{Done};
 use crate::crews::{Play, all_ran, run_by};
 use crate::exchange::Stamp;
 use crate::graphs::graph_of;
-use crate::sessions::{places, tell};
+use crate::opened::opened;
+use crate::sessions::tell;
 use std::alloc::{AllocError, Global};
 use std::fs::Files;
 use std::sync::atomic::{AtomicU64, Ordering};
@@ -15,8 +16,7 @@ use std::thread::Threads;
 use std::{io, thread};
 use tpl_graph::Graph;
 use tpl_jobs::{Work, WorkItem};
-use tpl_queue::JobQueue;
-use tpl_runtime::Session;
+use tpl_runtime::Item;
 use tpl_words::{Answer, Inputs, SiteId};
 
 /// How often a box looks for the others before it gives up.
@@ -67,6 +67,29 @@ pub fn flags_of(alloc: Global, count: usize) -> Result<Arc<Vec<AtomicU64>, Globa
     Ok(Arc::new(alloc, flags)?)
 }
 
+/// So many workers run a session with these items to its end.
+fn run_to_the_end<R: Threads + Wait + Sync, K: Drop + Send, W: Item<K> + Send>(
+    rt: &R,
+    alloc: Global,
+    graph: &Graph,
+    items: Vec<W>,
+    workers: u16,
+) -> Result<bool, AllocError> {
+    let inputs = Inputs::new(graph.input_count());
+    let play = Play {
+        workers,
+        inputs: &inputs,
+        tokens: &[],
+    };
+    let Some((session, pass)) = opened(alloc, graph, inputs.copy(), items)? else {
+        return Ok(false);
+    };
+    match run_by(rt, alloc, graph, session, pass, &play)? {
+        Some(report) => Ok(all_ran(graph, &report, None)),
+        None => Ok(false),
+    }
+}
+
 /// The boxes of a graph meet, with so many workers.
 fn all_meet<R: Threads + Wait + Sync>(
     rt: &R,
@@ -84,21 +107,22 @@ fn all_meet<R: Threads + Wait + Sync>(
         let site = SiteId(number as u16);
         items.push(WorkItem::new(Stamp(0), site, true, work))?;
     }
-    let play = Play {
-        workers,
-        inputs: &Inputs::new(graph.input_count()),
-        tokens: &[],
+    let ran = run_to_the_end(rt, alloc, graph, items, workers)?;
+    Ok(ran && are_set(flags.as_slice(), flags.len()))
+}
+
+/// Lets the boxes of a graph meet.
+fn check_meeting<R: Files + Alloc + Print + Threads + Wait + Sync>(
+    rt: &R,
+    alloc: Global,
+    name: &str,
+    workers: u16,
+) -> io::Result<bool> {
+    let holds = match graph_of(rt, alloc, name)? {
+        Some(document) => all_meet(rt, alloc, &document.graph, workers)?,
+        None => false,
     };
-    let (queue, pass) = JobQueue::new(alloc, places(graph))?;
-    match Session::open(alloc, graph, play.inputs.copy(), items, queue, &pass) {
-        Ok(session) => match run_by(rt, alloc, graph, session, pass, &play)? {
-            Some(report) => Ok(
-                all_ran(graph, &report, None) && are_set(flags.as_slice(), flags.len()),
-            ),
-            None => Ok(false),
-        },
-        Err(_) => Ok(false),
-    }
+    tell(rt, "boxes that wait for each other", holds)
 }
 
 /// Lets the boxes of each graph meet, and answers where they do.
@@ -107,14 +131,8 @@ pub fn check_meetings<R: Files + Alloc + Print + Threads + Wait + Sync>(
     alloc: Global,
 ) -> io::Result<[bool; 2]> {
     let mut all = [false; 2];
-    for (number, holds) in all.iter_mut().enumerate() {
-        if let Some((name, workers)) = MEETINGS.get(number) {
-            *holds = match graph_of(rt, alloc, name)? {
-                Some(document) => all_meet(rt, alloc, &document.graph, *workers)?,
-                None => false,
-            };
-            tell(rt, "boxes that wait for each other", *holds)?;
-        }
+    for (holds, (name, workers)) in all.iter_mut().zip(MEETINGS) {
+        *holds = check_meeting(rt, alloc, name, workers)?;
     }
     Ok(all)
 }

@@ -7,7 +7,7 @@ use crate::crews::{LOOKER, with_workers};
 use crate::exchange::Stamp;
 use crate::graphs::graph_of;
 use crate::sessions::{places, tell};
-use std::alloc::Global;
+use std::alloc::{AllocError, Global};
 use std::fs::Files;
 use std::io;
 use std::sync::Wait;
@@ -16,7 +16,8 @@ use tpl_graph::Graph;
 use tpl_jobs::{Work, WorkItem};
 use tpl_queue::{JobQueue, QueuePass};
 use tpl_runtime::{
-    Asked, CloseWhy, Ended, Item, OpenWhy, RunFault, RunWhy, Seat, SeatFault, Session, Watcher,
+    Asked, CloseFault, CloseWhy, Ended, Item, OpenFault, OpenWhy, Report, RunFault, RunWhy, Seat,
+    SeatFault, Session, Watcher,
 };
 use tpl_words::{Actor, Answer, Inputs, SiteId, TokenId, Worker};
 
@@ -28,6 +29,9 @@ const WORKERS: u16 = 2;
 /// There is room for a seat outside, those of the workers, and one more.
 const SEATS: usize = 4;
 
+/// What is told of a call, and whether it went as it must.
+type Told = (&'static str, bool);
+
 /// The seats and the pass of a session, and whether its workers ended it.
 #[derive(Drop)]
 struct Crew<W> {
@@ -36,7 +40,24 @@ struct Crew<W> {
     ran: bool,
 }
 
-/// A seat outside. Where there was no memory for it, its actor is free still.
+/// A seat outside after one that was refused for want of memory: its actor is free still.
+fn seat_again<'g, R: Wait, K: Drop, W: Item<K>>(
+    rt: &R,
+    alloc: Global,
+    session: &Session<'g, K, W>,
+    fault: SeatFault,
+) -> (Option<Seat>, Told) {
+    let refused = fault == SeatFault::Memory;
+    match session.seat(rt, alloc, LOOKER) {
+        Ok(seat) => (
+            Some(seat),
+            ("no memory for a seat, and then there is", refused),
+        ),
+        Err(again) => (None, ("no memory for a seat", refused && again == fault)),
+    }
+}
+
+/// A seat outside, if there is memory for it.
 fn seat_outside<'g, R: Print + Wait, K: Drop, W: Item<K>>(
     rt: &R,
     alloc: Global,
@@ -46,21 +67,72 @@ fn seat_outside<'g, R: Print + Wait, K: Drop, W: Item<K>>(
         Ok(seat) => return Ok(Some(seat)),
         Err(fault) => fault,
     };
-    let refused = fault == SeatFault::Memory;
-    match session.seat(rt, alloc, LOOKER) {
-        Ok(seat) => {
-            tell(rt, "no memory for a seat, and then there is", refused)?;
-            Ok(Some(seat))
+    let (seat, (title, holds)) = seat_again(rt, alloc, session, fault);
+    tell(rt, title, holds)?;
+    Ok(seat)
+}
+
+/// One of the workers who were seated, or the first one, who is seated now.
+fn some_worker<'g, R: Wait, K: Drop, W: Item<K>>(
+    rt: &R,
+    alloc: Global,
+    session: &Session<'g, K, W>,
+    made: &mut Vec<Seat>,
+) -> Option<Seat> {
+    match made.pop() {
+        Some(seat) => Some(seat),
+        None => session.seat(rt, alloc, Actor::Worker(Worker(1))).ok(),
+    }
+}
+
+/// One who is seated works alone.
+fn works_alone<'g, R: Wait, K: Drop, W: Item<K>>(
+    rt: &R,
+    session: &Session<'g, K, W>,
+    seats: Vec<Seat>,
+    seat: Seat,
+    pass: QueuePass<Vec<W>>,
+) -> Result<Crew<W>, AllocError>
+    requires { pass.queue ≡ session.now.queue }
+    ensures { IfOk result (λ c. c.pass.queue ≡ session.now.queue) }
+{
+    let mut seats = seats;
+    let (seat, pass, ended) = session.work(rt, seat, pass);
+    seats.push(seat)?;
+    Ok(Crew {
+        seats,
+        pass,
+        ran: ended == Ended::Complete,
+    })
+}
+
+/// Lets one work alone, if one is seated, and says whether the run ends so. The second is what is told where none is.
+fn works_or_not<'g, R: Wait, K: Drop, W: Item<K>>(
+    rt: &R,
+    session: &Session<'g, K, W>,
+    seats: Vec<Seat>,
+    seat: Option<Seat>,
+    pass: QueuePass<Vec<W>>,
+    none: bool,
+) -> Result<(Crew<W>, Told), AllocError>
+    requires { pass.queue ≡ session.now.queue }
+    ensures { IfOk result (λ c. c.0.pass.queue ≡ session.now.queue) }
+{
+    match seat {
+        Some(seat) => {
+            let crew = works_alone(rt, session, seats, seat, pass)?;
+            let ended = none && crew.ran;
+            Ok((crew, ("no memory to run, and one works alone", ended)))
         }
-        Err(again) => {
-            tell(rt, "no memory for a seat", refused && again == fault)?;
-            Ok(None)
+        None => {
+            let ran = false;
+            Ok((Crew { seats, pass, ran }, ("no memory to run", none)))
         }
     }
 }
 
 /// After a run that had no memory no worker was started, and the session isn't halted: one who is seated ends it.
-fn works_alone<'g, R: Print + Wait, K: Drop, W: Item<K>>(
+fn goes_on<'g, R: Print + Wait, K: Drop, W: Item<K>>(
     rt: &R,
     alloc: Global,
     session: &Session<'g, K, W>,
@@ -73,23 +145,43 @@ fn works_alone<'g, R: Print + Wait, K: Drop, W: Item<K>>(
     let mut seats = others;
     let mut made = fault.seats;
     let none = made.iter().all(|seat| seat.mine().is_empty());
-    let first = match made.pop() {
-        Some(seat) => Some(seat),
-        None => session.seat(rt, alloc, Actor::Worker(Worker(1))).ok(),
-    };
+    let seat = some_worker(rt, alloc, session, &mut made);
     seats.append(&mut made)?;
-    let Some(seat) = first else {
-        tell(rt, "no memory to run", none)?;
-        return Ok(Crew {
-            seats,
-            pass: fault.pass,
-            ran: false,
-        });
-    };
-    let (seat, pass, ended) = session.work(rt, seat, fault.pass);
-    seats.push(seat)?;
-    let ran = ended == Ended::Complete;
-    tell(rt, "no memory to run, and one works alone", none && ran)?;
+    let (crew, (title, holds)) = works_or_not(rt, session, seats, seat, fault.pass, none)?;
+    tell(rt, title, holds)?;
+    Ok(crew)
+}
+
+/// After a run that found no thread the seats that are left come back.
+fn has_no_thread<R: Print, W: Drop>(
+    rt: &R,
+    fault: RunFault<W>,
+    others: Vec<Seat>,
+) -> io::Result<Crew<W>>
+    ensures { IfOk result (λ c. c.pass.queue ≡ fault.pass.queue) }
+{
+    let mut seats = others;
+    let mut left = fault.seats;
+    tell(rt, "no thread to run", fault.why == RunWhy::Spawn)?;
+    seats.append(&mut left)?;
+    Ok(Crew {
+        seats,
+        pass: fault.pass,
+        ran: false,
+    })
+}
+
+/// The workers have come back.
+fn have_run<R: Print, W: Drop>(
+    rt: &R,
+    done: Vec<(Seat, Ended)>,
+    pass: QueuePass<Vec<W>>,
+    others: Vec<Seat>,
+) -> io::Result<Crew<W>>
+    ensures { IfOk result (λ c. c.pass.queue ≡ pass.queue) }
+{
+    let (seats, ran) = with_workers(others, done, Ended::Complete)?;
+    tell(rt, "run", ran)?;
     Ok(Crew { seats, pass, ran })
 }
 
@@ -103,28 +195,49 @@ fn runs<'g, R: Print + Threads + Wait + Sync, K: Drop + Send, W: Item<K> + Send>
     requires { crew.pass.queue ≡ session.now.queue }
     ensures { IfOk result (λ c. c.pass.queue ≡ session.now.queue) }
 {
-    let mut seats = crew.seats;
     match session.run(rt, alloc, crew.pass, WORKERS) {
-        Ok((done, pass)) => {
-            let (seats, ran) = with_workers(seats, done, Ended::Complete)?;
-            tell(rt, "run", ran)?;
-            Ok(Crew { seats, pass, ran })
+        Ok((done, pass)) => have_run(rt, done, pass, crew.seats),
+        Err(fault) if fault.why == RunWhy::Memory => {
+            goes_on(rt, alloc, session, fault, crew.seats)
         }
-        Err(fault) if fault.why == RunWhy::Memory => works_alone(rt, alloc, session, fault, seats),
-        Err(fault) => {
-            tell(rt, "no thread to run", fault.why == RunWhy::Spawn)?;
-            let mut left = fault.seats;
-            seats.append(&mut left)?;
-            Ok(Crew {
-                seats,
-                pass: fault.pass,
-                ran: false,
-            })
-        }
+        Err(fault) => has_no_thread(rt, fault, crew.seats),
     }
 }
 
-/// Closes a session, with its watchers where nobody worked. Each item was called, or comes back.
+/// Closes a session, with its watchers where nobody worked.
+fn closed<R: Wait, K: Drop, W: Item<K>>(
+    rt: &R,
+    alloc: Global,
+    worked: bool,
+    session: Session<'_, K, W>,
+    seats: Vec<Seat>,
+    pass: QueuePass<Vec<W>>,
+    watchers: Vec<Watcher>,
+) -> Result<Report<K, W>, CloseFault<K, W>>
+    requires { pass.queue ≡ session.queue }
+{
+    if worked {
+        session.close(rt, alloc, seats, pass)
+    } else {
+        session.close_watched(rt, alloc, seats, pass, watchers)
+    }
+}
+
+/// What is told of a session that is closed: each item was called, or comes back.
+fn told_closed<K, W>(graph: &Graph, report: &Report<K, W>, ran: bool) -> Told {
+    let items = report.receipts.len().saturating_add(report.items.len());
+    let all = items == graph.site_count() && report.statuses.len() == graph.len();
+    ("closed", all && (report.complete || !ran))
+}
+
+/// What is told of a session that isn't closed: each item was called, or comes back.
+fn told_open<K, W>(graph: &Graph, fault: &CloseFault<K, W>) -> Told {
+    let items = fault.receipts.len().saturating_add(fault.items.len());
+    let memory = fault.why == CloseWhy::Memory;
+    ("no memory to close", items == graph.site_count() && memory)
+}
+
+/// Closes a session.
 fn closes<R: Print + Wait, K: Drop, W: Item<K>>(
     rt: &R,
     alloc: Global,
@@ -136,27 +249,70 @@ fn closes<R: Print + Wait, K: Drop, W: Item<K>>(
     requires { crew.pass.queue ≡ session.queue }
 {
     let Crew { seats, pass, ran } = crew;
-    let closed = if graph.site_count() == 0 {
-        session.close_watched(rt, alloc, seats, pass, watchers)
-    } else {
-        session.close(rt, alloc, seats, pass)
+    let worked = graph.site_count() > 0;
+    let (title, holds) = match closed(rt, alloc, worked, session, seats, pass, watchers) {
+        Ok(report) => told_closed(graph, &report, ran),
+        Err(fault) => told_open(graph, &fault),
     };
-    match closed {
-        Ok(report) => {
-            let items = report.receipts.len().saturating_add(report.items.len());
-            let all = items == graph.site_count() && report.statuses.len() == graph.len();
-            tell(rt, "closed", all && (report.complete || !ran))
-        }
-        Err(fault) => {
-            let items = fault.receipts.len().saturating_add(fault.items.len());
-            let all = items == graph.site_count();
-            tell(
-                rt,
-                "no memory to close",
-                all && fault.why == CloseWhy::Memory,
-            )
+    tell(rt, title, holds)
+}
+
+/// A watcher, if there is memory for it.
+fn watches<'g, R: Print, K: Drop, W: Item<K>>(
+    rt: &R,
+    alloc: Global,
+    session: &Session<'g, K, W>,
+) -> io::Result<Vec<Watcher>> {
+    let mut watchers = Vec::with_capacity(alloc, 1)?;
+    match session.watch(alloc) {
+        Ok(watcher) => watchers.push(watcher)?,
+        Err(_) => {
+            tell(rt, "no memory for a watcher", true)?;
         }
     }
+    Ok(watchers)
+}
+
+/// A seat outside requests the token, if there is one.
+fn requests<'g, R: Print + Wait, K: Drop, W: Item<K>>(
+    rt: &R,
+    graph: &Graph,
+    session: &Session<'g, K, W>,
+    seat: &mut Seat,
+    pass: &mut QueuePass<Vec<W>>,
+) -> io::Result<()>
+    requires graph { session.now.graph ≡ graph.now }
+    requires pass { pass.old.queue ≡ session.now.queue }
+    ensures { pass.new.queue ≡ session.now.queue }
+{
+    if graph.token_count() > 0 {
+        let asked = ask(rt, graph, session, seat, pass, TokenId(0));
+        tell(rt, "requested", asked == Some(Asked::Place(1)))?;
+    }
+    Ok(())
+}
+
+/// A seat outside, which requests the token.
+fn comes<'g, R: Print + Wait, K: Drop, W: Item<K>>(
+    rt: &R,
+    alloc: Global,
+    graph: &Graph,
+    session: &Session<'g, K, W>,
+    pass: QueuePass<Vec<W>>,
+) -> io::Result<Crew<W>>
+    requires graph { session.now.graph ≡ graph.now }
+    requires pass { pass.queue ≡ session.now.queue }
+    ensures { IfOk result (λ c. c.pass.queue ≡ session.now.queue) }
+{
+    let mut pass = pass;
+    let mut seats = Vec::with_capacity(alloc, SEATS)?;
+    if let Some(seat) = seat_outside(rt, alloc, session)? {
+        let mut seat = seat;
+        requests(rt, graph, session, &mut seat, &mut pass)?;
+        seats.push(seat)?;
+    }
+    let ran = false;
+    Ok(Crew { seats, pass, ran })
 }
 
 /// Watches a session, requests its token, lets workers run its boxes, and closes it.
@@ -170,36 +326,36 @@ fn plays<R: Print + Threads + Wait + Sync, K: Drop + Send, W: Item<K> + Send>(
     requires graph { session.graph ≡ graph.now }
     requires pass { pass.queue ≡ session.queue }
 {
-    let mut pass = pass;
-    let mut watchers = Vec::with_capacity(alloc, 1)?;
-    let mut seats = Vec::with_capacity(alloc, SEATS)?;
-    match session.watch(alloc) {
-        Ok(watcher) => watchers.push(watcher)?,
-        Err(_) => {
-            tell(rt, "no memory for a watcher", true)?;
-        }
-    }
-    if let Some(seat) = seat_outside(rt, alloc, &session)? {
-        let mut seat = seat;
-        if graph.token_count() > 0 {
-            let asked = ask(rt, graph, &session, &mut seat, &mut pass, TokenId(0));
-            tell(rt, "requested", asked == Some(Asked::Place(1)))?;
-        }
-        seats.push(seat)?;
-    }
-    let mut crew = Crew {
-        seats,
-        pass,
-        ran: false,
-    };
+    let watchers = watches(rt, alloc, &session)?;
+    let mut crew = comes(rt, alloc, graph, &session, pass)?;
     if graph.site_count() > 0 {
         crew = runs(rt, alloc, &session, crew)?;
     }
     closes(rt, alloc, graph, session, crew, watchers)
 }
 
-/// Opens a session, whose boxes answer that they are done. Where there is no memory all items come back.
-fn opens<R: Print + Threads + Wait + Sync>(
+/// Whether a session wasn't opened for want of memory, and all items come back.
+fn is_refused<W>(graph: &Graph, fault: &OpenFault<W>) -> bool {
+    fault.items.len() == graph.site_count() && fault.why == OpenWhy::Memory
+}
+
+/// Opens a session with these items, and plays it. Where there is no memory all items come back.
+fn opens<R: Print + Threads + Wait + Sync, K: Drop + Send, W: Item<K> + Send>(
+    rt: &R,
+    alloc: Global,
+    graph: &Graph,
+    items: Vec<W>,
+) -> io::Result<bool> {
+    let inputs = Inputs::new(graph.input_count());
+    let (queue, pass) = JobQueue::new(alloc, places(graph))?;
+    match Session::open(alloc, graph, inputs, items, queue, &pass) {
+        Ok(session) => plays(rt, alloc, graph, session, pass),
+        Err(fault) => tell(rt, "no memory to open", is_refused(graph, &fault)),
+    }
+}
+
+/// Makes a box for each work statement, which answers that it is done, and plays a session with them.
+fn plays_graph<R: Print + Threads + Wait + Sync>(
     rt: &R,
     alloc: Global,
     graph: &Graph,
@@ -210,15 +366,7 @@ fn opens<R: Print + Threads + Wait + Sync>(
         let work: Work = Box::new(alloc, |_site: SiteId| -> Answer { Answer::Done })?;
         items.push(WorkItem::new(Stamp(0), site, graph.site_may_fail(site), work))?;
     }
-    let inputs = Inputs::new(graph.input_count());
-    let (queue, pass) = JobQueue::new(alloc, places(graph))?;
-    match Session::open(alloc, graph, inputs, items, queue, &pass) {
-        Ok(session) => plays(rt, alloc, graph, session, pass),
-        Err(fault) => {
-            let all = fault.items.len() == graph.site_count();
-            tell(rt, "no memory to open", all && fault.why == OpenWhy::Memory)
-        }
-    }
+    opens(rt, alloc, graph, items)
 }
 
 /// Plays the sessions.
@@ -228,7 +376,7 @@ pub fn play_with_little<R: Files + Alloc + Print + Threads + Wait + Sync>(
 ) -> io::Result<()> {
     for name in GRAPHS {
         if let Some(document) = graph_of(rt, alloc, name)? {
-            opens(rt, alloc, &document.graph)?;
+            plays_graph(rt, alloc, &document.graph)?;
         }
     }
     Ok(())

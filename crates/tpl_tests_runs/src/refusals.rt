@@ -5,6 +5,7 @@ ghost use Rattle.std.specs.Prelude.{◌≡◌, ◌<◌};
 use crate::crews::LOOKER;
 use crate::exchange::Stamp;
 use crate::graphs::graph_of;
+use crate::opened::opened;
 use crate::sessions::{places, tell};
 use std::alloc::{AllocError, Global};
 use std::fs::Files;
@@ -56,6 +57,22 @@ fn are_given(items: &[WorkItem<Stamp>], given: &[Given]) -> bool {
 fn refuses(
     alloc: Global,
     graph: &Graph,
+    items: Vec<WorkItem<Stamp>>,
+    given: &[Given],
+    why: OpenWhy,
+) -> Result<bool, AllocError> {
+    let inputs = Inputs::new(graph.input_count());
+    let (queue, pass) = JobQueue::new(alloc, places(graph))?;
+    match Session::open(alloc, graph, inputs, items, queue, &pass) {
+        Ok(_) => Ok(false),
+        Err(fault) => Ok(fault.why == why && are_given(fault.items.as_slice(), given)),
+    }
+}
+
+/// A session isn't opened with items that are given so, for this reason.
+fn refuses_given(
+    alloc: Global,
+    graph: &Graph,
     given: &[Given],
     why: OpenWhy,
 ) -> Result<bool, AllocError> {
@@ -64,12 +81,7 @@ fn refuses(
         let work: Work = Box::new(alloc, |_site: SiteId| -> Answer { Answer::Done })?;
         items.push(WorkItem::new(Stamp(0), SiteId(*site), *may_fail, work))?;
     }
-    let inputs = Inputs::new(graph.input_count());
-    let (queue, pass) = JobQueue::new(alloc, places(graph))?;
-    match Session::open(alloc, graph, inputs, items, queue, &pass) {
-        Ok(_) => Ok(false),
-        Err(fault) => Ok(fault.why == why && are_given(fault.items.as_slice(), given)),
-    }
+    refuses(alloc, graph, items, given, why)
 }
 
 /// The session doesn't run so many workers, for this reason.
@@ -120,24 +132,31 @@ fn counts<R: Threads + Wait + Sync>(
 ) -> Result<bool, AllocError> {
     let inputs = Inputs::new(graph.input_count());
     let items: Vec<WorkItem<Stamp>> = Vec::new(alloc);
-    let (queue, pass) = JobQueue::new(alloc, places(graph))?;
-    match Session::open(alloc, graph, inputs, items, queue, &pass) {
-        Ok(session) => refuses_counts(rt, alloc, session, pass),
-        Err(_) => Ok(false),
+    match opened(alloc, graph, inputs, items)? {
+        Some((session, pass)) => refuses_counts(rt, alloc, session, pass),
+        None => Ok(false),
     }
+}
+
+/// Tries to open a session with a list of items.
+fn check_given<R: Files + Alloc + Print>(
+    rt: &R,
+    alloc: Global,
+    given: &[Given],
+    why: OpenWhy,
+) -> io::Result<bool> {
+    let holds = match graph_of(rt, alloc, "two_jobs")? {
+        Some(document) => refuses_given(alloc, &document.graph, given, why)?,
+        None => false,
+    };
+    tell(rt, "items that aren't the graph's", holds)
 }
 
 /// Tries to open a session with each list of items, and answers which of them are refused as they must be.
 pub fn check_items<R: Files + Alloc + Print>(rt: &R, alloc: Global) -> io::Result<[bool; COUNT]> {
     let mut all = [false; COUNT];
-    for (number, holds) in all.iter_mut().enumerate() {
-        if let Some((given, why)) = REFUSED.get(number) {
-            *holds = match graph_of(rt, alloc, "two_jobs")? {
-                Some(document) => refuses(alloc, &document.graph, given, *why)?,
-                None => false,
-            };
-            tell(rt, "items that aren't the graph's", *holds)?;
-        }
+    for (holds, (given, why)) in all.iter_mut().zip(REFUSED) {
+        *holds = check_given(rt, alloc, given, why)?;
     }
     Ok(all)
 }

@@ -7,15 +7,15 @@ use crate::crews::{Play, run_by};
 use crate::dice::Dice;
 use crate::exchange::Stamp;
 use crate::generate::draft;
-use crate::sessions::{places, tell};
+use crate::opened::opened;
+use crate::sessions::tell;
 use std::alloc::{AllocError, Global};
 use std::io;
 use std::sync::Wait;
 use std::thread::Threads;
 use tpl_graph::Graph;
 use tpl_jobs::{Work, WorkItem};
-use tpl_queue::JobQueue;
-use tpl_runtime::Session;
+use tpl_runtime::Item;
 use tpl_words::{Answer, InputId, Inputs, SiteId, TokenId};
 
 /// How many graphs are run, from this seed, and how many drafts are made of them at most.
@@ -63,7 +63,30 @@ fn tokens(alloc: Global, graph: &Graph, dice: &mut Dice) -> Result<Vec<TokenId>,
     Ok(list)
 }
 
-/// Runs a graph. Some of its tokens are requested before, and some of the jobs that may fail do.
+/// Runs a graph with these items by 1 to 16 workers. Some of its tokens are requested before.
+fn runs<R: Threads + Wait + Sync, K: Drop + Send, W: Item<K> + Send>(
+    rt: &R,
+    alloc: Global,
+    graph: &Graph,
+    items: Vec<W>,
+    dice: &mut Dice,
+) -> Result<bool, AllocError> {
+    let inputs = inputs(graph, dice);
+    let tokens = tokens(alloc, graph, dice)?;
+    let workers = dice.roll(MOST_WORKERS).saturating_add(1).min(MOST_WORKERS);
+    let play = Play {
+        workers: workers as u16,
+        inputs: &inputs,
+        tokens: tokens.as_slice(),
+    };
+    let Some((session, pass)) = opened(alloc, graph, inputs.copy(), items)? else {
+        return Ok(false);
+    };
+    let report = run_by(rt, alloc, graph, session, pass, &play)?;
+    Ok(report.is_some())
+}
+
+/// Runs a graph. Some of the jobs that may fail do.
 fn round<R: Threads + Wait + Sync>(
     rt: &R,
     alloc: Global,
@@ -78,19 +101,7 @@ fn round<R: Threads + Wait + Sync>(
         let work: Work = Box::new(alloc, move |_site: SiteId| -> Answer { answer })?;
         items.push(WorkItem::new(Stamp(number as u32), site, may_fail, work))?;
     }
-    let inputs = inputs(graph, dice);
-    let tokens = tokens(alloc, graph, dice)?;
-    let workers = dice.roll(MOST_WORKERS).saturating_add(1).min(MOST_WORKERS);
-    let play = Play {
-        workers: workers as u16,
-        inputs: &inputs,
-        tokens: tokens.as_slice(),
-    };
-    let (queue, pass) = JobQueue::new(alloc, places(graph))?;
-    match Session::open(alloc, graph, inputs.copy(), items, queue, &pass) {
-        Ok(session) => Ok(run_by(rt, alloc, graph, session, pass, &play)?.is_some()),
-        Err(_) => Ok(false),
-    }
+    runs(rt, alloc, graph, items, dice)
 }
 
 /// Runs each valid draft, until there were enough, and answers how many runs went as they must.

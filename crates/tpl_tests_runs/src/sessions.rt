@@ -7,6 +7,7 @@ use crate::asked::{Closing, asks_a_link, halts_first, requests};
 use crate::crews::{Length, Play, all_ran, run_by};
 use crate::exchange::Stamp;
 use crate::graphs::graph_of;
+use crate::opened::opened;
 use std::alloc::{AllocError, Global};
 use std::fs::Files;
 use std::io;
@@ -14,7 +15,7 @@ use std::sync::Wait;
 use std::thread::Threads;
 use tpl_graph::Graph;
 use tpl_jobs::{Work, WorkItem};
-use tpl_queue::{JobQueue, QueuePass};
+use tpl_queue::QueuePass;
 use tpl_runtime::{Item, Session};
 use tpl_words::{Answer, Inputs, SiteId};
 
@@ -119,6 +120,31 @@ pub fn places(graph: &Graph) -> usize
     if graph.len() == 0 { 1 } else { graph.len() }
 }
 
+/// So many workers run a session to its end, to a journal of so many events.
+fn runs<R: Threads + Wait + Sync, K: Drop + Send, W: Item<K> + Send>(
+    rt: &R,
+    alloc: Global,
+    graph: &Graph,
+    session: Session<'_, K, W>,
+    pass: QueuePass<Vec<W>>,
+    workers: u16,
+    events: Length,
+) -> Result<bool, AllocError>
+    requires graph { session.graph ≡ graph.now }
+    requires pass { pass.queue ≡ session.queue }
+{
+    let inputs = Inputs::new(graph.input_count());
+    let play = Play {
+        workers,
+        inputs: &inputs,
+        tokens: &[],
+    };
+    match run_by(rt, alloc, graph, session, pass, &play)? {
+        Some(report) => Ok(all_ran(graph, &report, events)),
+        None => Ok(false),
+    }
+}
+
 /// Whether what is tried on a session goes as it must.
 fn goes<R: Threads + Wait + Sync, K: Drop + Send, W: Item<K> + Send>(
     rt: &R,
@@ -132,20 +158,25 @@ fn goes<R: Threads + Wait + Sync, K: Drop + Send, W: Item<K> + Send>(
     requires pass { pass.queue ≡ session.queue }
 {
     match trial {
-        Trial::Run(workers, events) => {
-            let play = Play {
-                workers,
-                inputs: &Inputs::new(graph.input_count()),
-                tokens: &[],
-            };
-            match run_by(rt, alloc, graph, session, pass, &play)? {
-                Some(report) => Ok(all_ran(graph, &report, events)),
-                None => Ok(false),
-            }
-        }
+        Trial::Run(workers, events) => runs(rt, alloc, graph, session, pass, workers, events),
         Trial::Requests(closing) => requests(rt, alloc, graph, session, pass, closing),
         Trial::Link => asks_a_link(rt, alloc, graph, session, pass),
         Trial::Halt => halts_first(rt, alloc, graph, session, pass),
+    }
+}
+
+/// Opens a session with these items, and tries it.
+fn tries<R: Threads + Wait + Sync, K: Drop + Send, W: Item<K> + Send>(
+    rt: &R,
+    alloc: Global,
+    graph: &Graph,
+    items: Vec<W>,
+    trial: Trial,
+) -> Result<bool, AllocError> {
+    let inputs = Inputs::new(graph.input_count());
+    match opened(alloc, graph, inputs, items)? {
+        Some((session, pass)) => goes(rt, alloc, graph, session, pass, trial),
+        None => Ok(false),
     }
 }
 
@@ -163,12 +194,7 @@ fn tried<R: Threads + Wait + Sync>(
         let stamp = Stamp(number as u32);
         items.push(WorkItem::new(stamp, site, graph.site_may_fail(site), work))?;
     }
-    let inputs = Inputs::new(graph.input_count());
-    let (queue, pass) = JobQueue::new(alloc, places(graph))?;
-    match Session::open(alloc, graph, inputs, items, queue, &pass) {
-        Ok(session) => goes(rt, alloc, graph, session, pass, trial),
-        Err(_) => Ok(false),
-    }
+    tries(rt, alloc, graph, items, trial)
 }
 
 /// Tries each round of a case.
@@ -193,20 +219,27 @@ pub fn tell<R: Print>(rt: &R, title: &str, holds: bool) -> io::Result<bool> {
     Ok(holds)
 }
 
+/// Tries a case.
+fn check_case<R: Files + Alloc + Print + Threads + Wait + Sync>(
+    rt: &R,
+    alloc: Global,
+    case: Case,
+) -> io::Result<bool> {
+    let holds = match graph_of(rt, alloc, case.file)? {
+        Some(document) => tried_each(rt, alloc, &document.graph, case)?,
+        None => false,
+    };
+    tell(rt, case.title, holds)
+}
+
 /// Tries each case, and answers which of them hold.
 pub fn check_sessions<R: Files + Alloc + Print + Threads + Wait + Sync>(
     rt: &R,
     alloc: Global,
 ) -> io::Result<[bool; COUNT]> {
     let mut all = [false; COUNT];
-    for (number, holds) in all.iter_mut().enumerate() {
-        if let Some(case) = CASES.get(number) {
-            *holds = match graph_of(rt, alloc, case.file)? {
-                Some(document) => tried_each(rt, alloc, &document.graph, *case)?,
-                None => false,
-            };
-            tell(rt, case.title, *holds)?;
-        }
+    for (holds, case) in all.iter_mut().zip(CASES) {
+        *holds = check_case(rt, alloc, case)?;
     }
     Ok(all)
 }

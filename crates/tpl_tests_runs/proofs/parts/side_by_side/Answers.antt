@@ -2,7 +2,7 @@ use denote.Param.Send.{sendable}
 use Rattle.std.proofs.Crossing.{crosses}
 use Rattle.tpl_hall.proofs.Crosses.{graph_sync}
 use Rattle.tpl_runtime.proofs.Crosses.{session_sync}
-use Rattle.tpl_tests_runs.proofs.beside.side_by_side.Goals as goal
+use Rattle.tpl_tests_runs.proofs.parts.side_by_side.Goals as goal
 
 pub map_vec-requires-sync-F : goal.map_vec-requires-sync-F
 map_vec-requires-sync-F g c κs within =
