@@ -27,9 +27,22 @@ OPENING = {
   edge [fontname="sans-serif", fontsize=9, arrowsize=0.7];
 """,
 }
-CLOSING = {"mermaid": "  classDef token fill:#eee,stroke:#888\n", "dot": "}\n"}
-
 ENDS = frozenset(["RanToCompletion", "Canceled", "Faulted"])
+# the class and the colour of a task that may end in these ways
+CLASSES = {
+    frozenset(["Canceled"]): ("canceled", "#f0c848"),
+    frozenset(["Faulted"]): ("faulted", "#ee7560"),
+    frozenset(["Canceled", "Faulted"]): ("canceled_or_faulted", "#c596da"),
+    frozenset(["RanToCompletion", "Canceled"]): ("ran_or_canceled", "#fff8d0"),
+    frozenset(["RanToCompletion", "Faulted"]): ("ran_or_faulted", "#ffdfd0"),
+    ENDS: ("any_end", "#e0d0ec"),
+}
+CLOSING = {
+    "mermaid": "  classDef token fill:#eee,stroke:#888\n"
+    + "".join(f"  classDef {word} fill:{colour},color:#000\n" for word, colour in CLASSES.values()),
+    "dot": "}\n",
+}
+
 # the ends of its antecedent after which a continuation with the word doesn't start
 EXCLUDES = {
     "NotOnRanToCompletion": {"RanToCompletion"},
@@ -97,11 +110,38 @@ def token_node(language, name):
     return f'  k_{name} [label="{name}\\ntoken", shape=note];\n'
 
 
-def task_node(language, name, kind):
+def leaves(tree):
+    """The rows of each leaf."""
+    if "rows" in tree:
+        yield tree["rows"]
+    for branch in ("yes", "no", "ran", "canceled", "faulted"):
+        if branch in tree:
+            yield from leaves(tree[branch])
+
+
+def endings(document):
+    """For each task the ways in which it may end by the rows of the certificate, of whatever leaf."""
+    found = [set() for _ in document["tasks"]]
+    for tree in document.get("certificate", []):
+        for rows in leaves(tree):
+            for ends, row in zip(found, rows):
+                ends.update(row["ends"])
+    return found
+
+
+def mark(language, ends):
+    """What stands at the node of a task that may end in these ways."""
+    if frozenset(ends) not in CLASSES:
+        return ""
+    word, colour = CLASSES[frozenset(ends)]
+    return f":::{word}" if language == "mermaid" else f', style=filled, fillcolor="{colour}"'
+
+
+def task_node(language, name, kind, marked):
     shape = SHAPES[language][kind]
     if language == "mermaid":
-        return f"  t_{name}{shape[0]}{name}<br/>{kind}{shape[1]}\n"
-    return f'  t_{name} [label="{name}\\n{kind}", shape={shape}];\n'
+        return f"  t_{name}{shape[0]}{name}<br/>{kind}{shape[1]}{marked}\n"
+    return f'  t_{name} [label="{name}\\n{kind}", shape={shape}{marked}];\n'
 
 
 def edge_line(language, start, end, line, label):
@@ -111,10 +151,11 @@ def edge_line(language, start, end, line, label):
     return f"  {start} -> {end} [style={drawn}" + (f', label="{said}"' if said else "") + "];\n"
 
 
-def picture(document, language):
-    """The text of the picture."""
+def picture(document, language, accepted):
+    """The text of the picture; the nodes of tasks are coloured where the document's certificate is accepted."""
+    marks = [mark(language, ends if accepted else ()) for ends in endings(document)]
     lines = [OPENING[language]]
     lines += [token_node(language, name_of(token)) for token in document.get("tokens", [])]
-    lines += [task_node(language, task["name"], task["kind"]) for task in document["tasks"]]
+    lines += [task_node(language, task["name"], task["kind"], it) for task, it in zip(document["tasks"], marks)]
     lines += [edge_line(language, *edge) for edge in edges(document)]
     return "".join(lines + [CLOSING[language]])

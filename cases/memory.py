@@ -17,11 +17,16 @@ from suite import HERE, PROGRAM, cases, files, given, program, tell
 
 # beside the first case of each file
 MORE = {
+    "analyse.json": ["the whole document with a slim certificate"],
     "first-examples.json": [
         "LazyCancellation lets a continuation keep what is past its antecedent",
         "two continuations on opposite ends, split on the end",
     ],
     "runs.json": ["seven tasks by one worker", "a job that is to fail"],
+    "refutes.json": [
+        "no run is tried",
+        "all else of the document stays, its start and its certificate too",
+    ],
 }
 
 
@@ -45,7 +50,7 @@ def shared(folder):
 
 
 def answer(program, case, library, **refusing):
-    """What the program writes, how it ends, and what refuse.c says."""
+    """What the program writes, how it ends, and what refuse.c says: behind the last line of what the program says aside."""
     ended = subprocess.run(
         [program, case["command"], *case["args"]],
         input=given(case),
@@ -54,7 +59,7 @@ def answer(program, case, library, **refusing):
         env={**os.environ, "LD_PRELOAD": library, **refusing},
         timeout=120,
     )
-    return (ended.stdout, ended.returncode), ended.stderr
+    return (ended.stdout, ended.returncode), ended.stderr.rpartition(b"\n")[2]
 
 
 def differs(program, case, library):

@@ -65,23 +65,28 @@ def pattern(line):
     """The lines that a row of docs/OUTPUT.md stands for: its words in capitals stand for any word."""
     if line == "TREES":
         return re.compile(r"\[.*\]")
+    if line == "DOCUMENT":
+        return re.compile(r"\{.*\}")
     carried = r"(?: [^ ]+:[^ ]+)*" if line.startswith("task ") else ""
-    return re.compile(r"[^ ]+".join(map(re.escape, PLACE.split(line))) + carried)
+    return re.compile(r"[^ \"]+".join(map(re.escape, PLACE.split(line))) + carried)
 
 
 def rows(text):
-    """The lines of docs/OUTPUT.md with their exit statuses."""
-    return [(pattern(row.group(1)), int(row.group(2))) for row in ROW.finditer(text)]
+    """The lines of docs/OUTPUT.md with their exit statuses, and the heading under which each stands."""
+    parts = re.split(r"^## `?([^`\n]*)`?\n", text, flags=re.MULTILINE)
+    headed = zip(["", *parts[1::2]], parts[::2])
+    return [(head, pattern(row.group(1)), int(row.group(2))) for head, part in headed for row in ROW.finditer(part)]
 
 
-def ending(answer, known):
-    """The exit status that belongs to these lines, and the first line that no row has, or None."""
+def ending(answer, known, command=""):
+    """The exit status that belongs to these lines, and the first line that no row has, or None. Where two commands write
+    such a line, it is the command's own that counts."""
     status = 0
     for line in answer.splitlines():
-        fits = [number for shape, number in known if shape.fullmatch(line)]
+        fits = [(head != command, number) for head, shape, number in known if shape.fullmatch(line)]
         if not fits:
             return status, line
-        status = max(status, fits[0])
+        status = max(status, next((number for others, number in fits if not others), fits[0][1]))
     return status, None
 
 
@@ -121,7 +126,8 @@ class Page:
             return f"wrote {wrote[:300]!r}, not {answer[:300]!r}; {ended.stderr[-200:]!r}"
         if not re.search(r"\./taskgraph [^|]*(<<END|$)", command.split("\n")[0]):
             return None
-        status, unknown = ending(answer, self.known)
+        *_, asked = re.findall(r"\./taskgraph (\w*)", command.split("\n")[0])
+        status, unknown = ending(answer, self.known, asked)
         if unknown is not None:
             return f"docs/OUTPUT.md hasn't the line {unknown!r}"
         return None if ended.returncode == status else f"exit {ended.returncode}, not {status}"
@@ -131,7 +137,7 @@ class Page:
         given = document(snippet)
         wrote, status = self.ask(words.split(), given)
         if not found:
-            expected, _ = ending(answer + "\n", self.known)
+            expected, _ = ending(answer + "\n", self.known, words.split()[0])
             return None if (wrote, status) == (answer + "\n", expected) else f"wrote {wrote[:200]!r}, exit {status}"
         if status != 0:
             return f"no certificate: {wrote[:200]!r}"
@@ -166,7 +172,7 @@ def of_cases(known):
             # a picture's lines are those of docs/PICTURES.md
             if case["command"] == "draw" and case["exit"] == 0:
                 continue
-            status, unknown = ending(case["stdout"], known)
+            status, unknown = ending(case["stdout"], known, case["command"])
             why = f"docs/OUTPUT.md hasn't the line {unknown!r}" if unknown is not None else None
             yield file, case, why or (None if status == case["exit"] else f"docs/OUTPUT.md has exit {status}")
 

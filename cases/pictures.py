@@ -1,7 +1,8 @@
 #!/usr/bin/env python3
 """Draws each example, and a pipeline of 40 and one of 300 tasks, and compares each picture with the one that follows from
 the rules of docs/PICTURES.md. The pictures of the examples are also held against the files of pictures/, at which a person
-has looked, and Graphviz has to read what is written for it: one node for each task and token, one line for each edge.
+has looked, and Graphviz has to read what is written for it: one node for each task and token, one line for each edge. A
+certificate of these documents that has a tree for each claim is taken as accepted, and `check` has to say the same.
 
 usage: cases/pictures.py [PROGRAM] [--write]    the script `taskgraph` at the top, if none is named; --write writes the
                                                 files of pictures/ from the rules, and draws nothing
@@ -41,6 +42,17 @@ def graphviz():
     return shutil.which("dot")
 
 
+def accepted(document):
+    """Whether the certificate is taken as accepted."""
+    return len(document.get("certificate", [])) == len(document.get("claims", []))
+
+
+def judged_otherwise(named, document, text):
+    """What `check` says of the certificate, if it is something else, or None."""
+    answer = subprocess.run([named, "check"], input=text.encode(), capture_output=True, timeout=300).stdout
+    return None if (answer == b"accepted\n") == accepted(document) else f"check: {answer[:200]!r}"
+
+
 def unread(dot, document, text):
     """What Graphviz makes of the picture in another way than it is meant, or None."""
     drawn = subprocess.run([dot, "-Tsvg"], input=text, capture_output=True, text=True)
@@ -57,7 +69,7 @@ def difference(words, text, language, kept, dot):
     ended = subprocess.run(words, input=text.encode(), capture_output=True, timeout=300)
     wrote = ended.stdout.decode(errors="replace")
     document = json.loads(text)
-    if ended.returncode != 0 or wrote != picture(document, language):
+    if ended.returncode != 0 or wrote != picture(document, language, accepted(document)):
         return f"exit {ended.returncode}; wrote {wrote[:200]!r}"
     if kept and wrote != kept.read_text(encoding="utf-8"):
         return f"another picture than {kept.name}"
@@ -74,13 +86,17 @@ def compared():
             case = {"name": f"{name} as {language}"}
             words = [named, "draw", "--as", language]
             yield pathlib.Path("pictures.py"), case, difference(words, text, language, kept, dot)
+        case = {"name": f"the check of {name}"}
+        yield pathlib.Path("pictures.py"), case, judged_otherwise(named, json.loads(text), text)
 
 
 def write():
     for name, text, folder in documents():
         for language, ending in LANGUAGES.items():
             if folder:
-                (folder / f"{name}.{ending}").write_text(picture(json.loads(text), language), encoding="utf-8")
+                document = json.loads(text)
+                drawn = picture(document, language, accepted(document))
+                (folder / f"{name}.{ending}").write_text(drawn, encoding="utf-8")
 
 
 if __name__ == "__main__":

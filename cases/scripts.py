@@ -30,7 +30,7 @@ def loaded(path):
     return module
 
 
-ASK, CERTIFY, PIPELINE = (loaded(TOP / "examples" / name) for name in ("ask", "certify", "pipeline"))
+ASK, PIPELINE = (loaded(TOP / "examples" / name) for name in ("ask", "pipeline"))
 TRUSTED = loaded(TOP / ".ci/trusted")
 
 
@@ -73,43 +73,12 @@ def ask_reads_its_words():
     assert words(TOP / "examples/ask", path, claim, "--other")[1] == 2
 
 
-# ---- examples/certify
+# ---- the version
 
 
-ROW = {"ends": ["Faulted"], "runs": True, "before": ["A", "B"], "past": ["B"], "chain": []}
-
-
-def slim_rows_keep_one_task():
-    assert CERTIFY.slim_row(ROW, "A") == {"ends": ["Faulted"], "runs": True, "before": ["A"]}
-    assert CERTIFY.slim_row(ROW, None) == {"ends": ["Faulted"], "runs": True}
-    assert CERTIFY.slim_row({**ROW, "chain": ["C"]}, None) == {"ends": ["Faulted"], "runs": True, "chain": ["C"]}
-
-
-def slim_trees_keep_their_splits():
-    leaf = {"rows": [ROW]}
-    tree = {"split_input": "i", "yes": leaf, "no": leaf}
-    slimmed = {"rows": [{"ends": ["Faulted"], "runs": True, "past": ["B"], "before": ["B"]}]}
-    assert CERTIFY.slim_tree(tree, "B") == {"split_input": "i", "yes": slimmed, "no": slimmed}
-    assert CERTIFY.slim([leaf], [{"after": ["B", "C"]}]) == [slimmed]
-
-
-def certify_reads_its_words():
-    assert CERTIFY.options(["d"]) == ("d", [], False)
-    assert CERTIFY.options(["d", "--slim", "--depth", "3"]) == ("d", ["--depth", "3"], True)
-    assert CERTIFY.options([]) is None
-    assert CERTIFY.options(["d", "--depht", "3"]) is None
-
-
-def certify_makes_what_check_accepts():
-    for more in ([], ["--slim"]):
-        text, status = words(TOP / "examples/certify", TOP / "examples/either-or.json", *more)
-        assert status == 0
-        answer = subprocess.run([named(), "check"], input=text, capture_output=True, text=True, timeout=120, check=False)
-        assert answer.stdout == "accepted\n"
-
-
-def certify_hands_a_refusal_on():
-    assert words(TOP / "examples/certify", TOP / "examples/either-or.json", "--depth", "0") == ("", 1)
+def the_version_is_that_of_the_file():
+    answer = subprocess.run([named(), "--version"], capture_output=True, text=True, timeout=120, check=False)
+    assert answer.stdout == f"taskgraph {(TOP / 'VERSION').read_text()}"
 
 
 # ---- examples/pipeline
@@ -209,8 +178,7 @@ def imports_lead_to_files():
 
 TESTS = [
     ask_replaces_the_claims, ask_takes_a_journal, ask_reads_its_words,
-    slim_rows_keep_one_task, slim_trees_keep_their_splits,
-    certify_reads_its_words, certify_makes_what_check_accepts, certify_hands_a_refusal_on,
+    the_version_is_that_of_the_file,
     pipelines_have_four_tasks_a_shard, pipelines_keep_the_limits, pipeline_refuses_other_numbers,
     pages_are_read_block_by_block, snippets_stand_behind_the_version, lines_of_the_output_page_stand_for_others,
     a_wrong_page_fails, each_word_of_a_refusal_has_its_line, each_line_in_the_code_is_on_the_page,

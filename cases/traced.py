@@ -1,0 +1,64 @@
+"""The trace of a document's journal, worked out by the rules of docs/PICTURES.md alone."""
+import json
+
+SEATS_BEHIND = 64
+ENDINGS = ("leave", "close", "drop", "settle")
+INSTANTS = ("request", "release", "close", "drop", "settle")
+
+
+def events(document):
+    """The events of the journal: place, actor, verb, task or token."""
+    lines = document.get("journal", "").splitlines()
+    for place, line in enumerate(lines, 1):
+        actor, verb, name, *_ = line.split(" ")
+        yield place, actor, verb, name
+
+
+def track(actor):
+    """The number of an actor's track."""
+    return int(actor[1:]) + (SEATS_BEHIND if actor[0] == "o" else 0)
+
+
+def arrows(document):
+    """Each arrow: the place of the ending, that of the release, by the last ending before it."""
+    after = {task["name"]: task.get("after") for task in document["tasks"]}
+    ended = {}
+    for place, _, verb, name in events(document):
+        if verb == "release" and after[name] in ended:
+            yield ended[after[name]], place
+        if verb in ENDINGS:
+            ended[name] = place
+
+
+def entry(phase, name, tid, ts, **more):
+    return {"name": name, "ph": phase, "pid": 1, "tid": tid, "ts": ts, **more}
+
+
+def arrow(phase, number, tid, ts, **more):
+    return entry(phase, "release", tid, ts, cat="release", id=number, **more)
+
+
+def entries(document):
+    """Each entry, in the order in which they stand."""
+    yield {"args": {"name": "taskgraph"}, "name": "process_name", "ph": "M", "pid": 1}
+    drawn, named = list(arrows(document)), set()
+    for place, actor, verb, name in events(document):
+        tid = track(actor)
+        if actor not in named:
+            called = ("worker " if actor[0] == "w" else "outside ") + actor[1:]
+            yield {"args": {"name": called}, "name": "thread_name", "ph": "M", "pid": 1, "tid": tid}
+            named.add(actor)
+        if verb == "begin":
+            yield entry("B", name, tid, place)
+        if verb in INSTANTS:
+            yield entry("i", f"{verb} {name}", tid, place, s="t")
+        yield from (arrow("s", end, tid, place) for start, end in drawn if start == place)
+        yield from (arrow("f", place, tid, place, bp="e") for _, end in drawn if end == place)
+        if verb == "leave":
+            yield entry("E", name, tid, place)
+
+
+def trace(document):
+    """The text of the trace."""
+    value = {"traceEvents": list(entries(document))}
+    return json.dumps(value, separators=(",", ":"), sort_keys=True) + "\n"
