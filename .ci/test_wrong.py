@@ -7,6 +7,7 @@ import importlib.machinery
 import importlib.util
 import os
 import sys
+import tempfile
 import unittest
 
 sys.dont_write_bytecode = True
@@ -252,11 +253,88 @@ class Twins(unittest.TestCase):
         given = [edit("a", "    3", "    4"), edit("b", "    3", "    5"), edit("c", "n != 0 &&", "n != 1 &&")]
         made = trial.make_twins(given, set())
         self.assertEqual(trial.places, {"a": {"pair::alone_twin_1"}, "b": {"pair::alone_twin_2"}, "c": {"pair::odd"}})
-        self.assertEqual(sorted(trial.unedited), ["pair::alone_twin_1"])
+        self.assertEqual(sorted(trial.unedited), ["pair::alone_twin_0"])
+        self.assertEqual(trial.twins, {f"pair::alone_twin_{it}" for it in range(3)})
         self.assertEqual(len(edits.next_round(trial.crate, made, trial.places)[0]), 3)
         trial.known(trial.texts)
         trial.make_twins(given, {"pair::alone"})
         self.assertEqual([sorted(it) for it in trial.places.values()], [["pair::alone"], ["pair::alone"], ["pair::odd"]])
+
+
+class FirstRound(unittest.TestCase):
+    """The first round, where a prover that is made up answers."""
+
+    GIVEN = [edit("a", "    3", "    4"), edit("b", "    3", "    5"), edit("c", "n != 0 &&", "n != 1 &&")]
+    OPEN = "no proof: expected answers in ./proofs/pair/alone/Answers.antt; `search` did not prove `returns`"
+
+    def trial(self, *answers):
+        """A trial of these edits, and the functions of each check, which answers so: a line for each function's path."""
+        made = WRONG.Trial("tpl_words", self.GIVEN)
+        made.name, made.crate, made.texts = "two", Twins().crate(), crate().texts
+        left, asked = list(answers), []
+
+        def check(texts, words):
+            asked.append({it for it in words if "::" in it})
+            told = left.pop(0)
+            if told is None:
+                return "rattle: error: what is this\n", 1
+            known = [f"fn two::{it}: {told.get(it, 'proved')}\n" for it in sorted(asked[-1])]
+            return "".join(known) + "only=1 holes=1\n", 1
+
+        made.check = check
+        return made, asked
+
+    def test_the_unedited_are_tried_beside_the_edited(self):
+        trial, asked = self.trial({"pair::alone_twin_1": self.OPEN, "pair::alone_twin_2": self.OPEN})
+        left, why, unknown = trial.begin(self.GIVEN)
+        self.assertEqual((asked, why, unknown), ([{*(f"pair::alone_twin_{it}" for it in range(3)), "pair::odd"}], None, set()))
+        self.assertEqual((trial.said, [it.name for it in left]), ({"a": "refused", "b": "refused"}, ["c"]))
+
+    def test_what_is_proved_with_an_edit_is_tried_alone(self):
+        trial, _ = self.trial({"pair::alone_twin_1": self.OPEN})
+        left, why, _ = trial.begin(self.GIVEN)
+        self.assertEqual((why, trial.passed, [it.name for it in left]), (None, {"b"}, ["b", "c"]))
+
+    def test_a_twin_that_is_not_proved_unedited_settles_nothing(self):
+        told = {f"pair::alone_twin_{it}": self.OPEN for it in range(3)}
+        trial, asked = self.trial(told, {})
+        left, why, _ = trial.begin(self.GIVEN)
+        self.assertEqual((why, trial.said, [it.name for it in left]), (None, {}, ["a", "b", "c"]))
+        self.assertEqual(asked[1], {"pair::alone", "pair::odd"})
+
+    def test_a_function_that_is_not_proved_unedited_ends_the_trial(self):
+        trial, _ = self.trial({"pair::odd": "not proved"})
+        self.assertIn("pair::odd is not proved unedited", trial.begin(self.GIVEN)[1])
+
+    def test_edits_that_are_not_read_are_left_for_later(self):
+        trial, asked = self.trial(None, {})
+        left, why, _ = trial.begin(self.GIVEN)
+        self.assertEqual((why, trial.said, len(left)), (None, {}, 3))
+        self.assertEqual(asked[1], {"pair::alone_twin_0", "pair::odd"})
+
+
+class Beside(unittest.TestCase):
+    def test_what_rt_says(self):
+        with tempfile.TemporaryDirectory() as folder:
+            beside = WRONG.Beside()
+            beside.file = f"{folder}/log"
+            with open(beside.file, "w", encoding="utf-8") as it:
+                it.write("rt: tpl_one proved\nrt: tpl_two proved\nrt: tpl_three not proved\n")
+            self.assertEqual((beside.is_over(), beside.wait_for(["tpl_one", "tpl_two"])), (False, set()))
+            with open(beside.file, "a", encoding="utf-8") as it:
+                it.write(f"2 passed, 1 failed\n{WRONG.ENDED}\n")
+            self.assertEqual((beside.is_over(), beside.wait_for(["tpl_one", "tpl_three"])), (True, {"tpl_three"}))
+
+    def test_half_the_lanes(self):
+        lanes, before = WRONG.Lanes(), WRONG.BESIDE
+        lanes.at_once = 4
+        try:
+            WRONG.BESIDE = WRONG.Beside()
+            self.assertEqual(lanes.open(), 4)
+            WRONG.BESIDE.file = "/dev/null"
+            self.assertEqual(lanes.open(), 2)
+        finally:
+            WRONG.BESIDE = before
 
 
 class Rounds(unittest.TestCase):
