@@ -336,6 +336,21 @@ class Beside(unittest.TestCase):
         finally:
             WRONG.BESIDE = before
 
+    def test_one_check_where_memory_is_short(self):
+        lanes, before, free = WRONG.Lanes(), WRONG.BESIDE, WRONG.free_memory
+        self.assertGreater(free(), 0)
+        lanes.at_once = 4
+        try:
+            WRONG.BESIDE = WRONG.Beside()
+            WRONG.BESIDE.file, WRONG.free_memory = "/dev/null", lambda: WRONG.ROOM - 1
+            self.assertFalse(lanes.is_full())
+            with lanes:
+                self.assertTrue(lanes.is_full())
+                WRONG.BESIDE.file = None
+                self.assertFalse(lanes.is_full())
+        finally:
+            WRONG.BESIDE, WRONG.free_memory = before, free
+
 
 class Rounds(unittest.TestCase):
     def chosen(self, *given):
