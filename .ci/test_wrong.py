@@ -8,6 +8,8 @@ import importlib.util
 import os
 import sys
 import tempfile
+import threading
+import time
 import unittest
 
 sys.dont_write_bytecode = True
@@ -335,6 +337,40 @@ class Beside(unittest.TestCase):
             self.assertEqual(lanes.open(), 2)
         finally:
             WRONG.BESIDE = before
+
+    def test_the_first_in_order_goes_first(self):
+        lanes, order = WRONG.Lanes(), []
+
+        def enter(rank):
+            lanes.mine.rank = rank
+            with lanes:
+                order.append(rank)
+
+        with lanes:
+            others = [threading.Thread(target=enter, args=[it]) for it in (2, 1)]
+            for it in others:
+                it.start()
+            while len(lanes.waiting) < 2:
+                time.sleep(0.01)
+        for it in others:
+            it.join()
+        self.assertEqual(order, [1, 2])
+
+    def test_what_is_not_settled_in_time_is_put_off(self):
+        lanes = WRONG.Lanes()
+        lanes.until = time.time() - 1
+        with self.assertRaises(WRONG.PutOff):
+            lanes.__enter__()
+        self.assertEqual((lanes.busy, lanes.waiting), (0, []))
+        trial, before = WRONG.Trial("tpl_words", []), WRONG.LANES.until
+        try:
+            WRONG.LANES.until = time.time() + 0.2
+            with self.assertRaises(WRONG.PutOff):
+                trial.ran(["sleep", "60"], ".")
+            WRONG.LANES.until = before
+            self.assertEqual(trial.ran(["echo", "yes"], "."), ("yes\n", 0))
+        finally:
+            WRONG.LANES.until = before
 
     def test_one_check_where_memory_is_short(self):
         lanes, before, free = WRONG.Lanes(), WRONG.BESIDE, WRONG.free_memory
