@@ -27,7 +27,12 @@ fn with_check<'a>(alloc: Global, command: Command<'a>) -> Result<Command<'a>, Al
     ensures { IfOk result (λ more. app_of more ≡ with_subcommand (app_of command.entry)
         check_command.top) }
 {
-    command.subcommand(Command::new(alloc, "check").about("Checks the document's certificate"))
+    command.subcommand(
+        Command::new(alloc, "check")
+            .about("Checks the document's certificate")
+            .after_help("Example: ./taskgraph check < examples/one-root.json")
+            .arg(explain(alloc))?,
+    )
 }
 
 /// The command line so far, and the subcommand that searches a certificate.
@@ -38,9 +43,11 @@ fn with_analyse<'a>(alloc: Global, command: Command<'a>) -> Result<Command<'a>, 
     command.subcommand(
         Command::new(alloc, "analyse")
             .about("Searches a certificate of the document's claims")
+            .after_help("Example: ./taskgraph analyse --whole < examples/either-or.json | ./taskgraph check")
             .arg(depth(alloc))?
             .arg(slim(alloc))?
-            .arg(whole(alloc))?,
+            .arg(whole(alloc))?
+            .arg(explain(alloc))?,
     )
 }
 
@@ -52,7 +59,9 @@ fn with_run<'a>(alloc: Global, command: Command<'a>) -> Result<Command<'a>, Allo
     command.subcommand(
         Command::new(alloc, "run")
             .about("Checks the document's certificate and makes a run of its graph")
-            .arg(workers(alloc))?,
+            .after_help("Example: ./taskgraph run --workers 2 < examples/one-root.json")
+            .arg(workers(alloc))?
+            .arg(explain(alloc))?,
     )
 }
 
@@ -61,7 +70,12 @@ fn with_audit<'a>(alloc: Global, command: Command<'a>) -> Result<Command<'a>, Al
     ensures { IfOk result (λ more. app_of more ≡ with_subcommand (app_of command.entry)
         audit_command.top) }
 {
-    command.subcommand(Command::new(alloc, "audit").about("Audits the document's journal"))
+    command.subcommand(
+        Command::new(alloc, "audit")
+            .about("Audits the document's journal")
+            .after_help("Example: ./taskgraph refute < examples/exactly-one-broken.json | ./taskgraph audit")
+            .arg(explain(alloc))?,
+    )
 }
 
 /// The subcommand `refute`, with the options for which runs are tried.
@@ -71,6 +85,7 @@ fn tried_runs<'a>(alloc: Global) -> Result<Command<'a>, AllocError>
 {
     Command::new(alloc, "refute")
         .about("Searches a run of the document's graph in which a claim does not hold")
+        .after_help("Example: ./taskgraph refute --explain < examples/exactly-one-broken.json")
         .arg(claim(alloc))?
         .arg(runs(alloc))?
         .arg(seed(alloc))
@@ -102,7 +117,9 @@ fn with_draw<'a>(alloc: Global, command: Command<'a>) -> Result<Command<'a>, All
     command.subcommand(
         Command::new(alloc, "draw")
             .about("Draws the document's graph")
-            .arg(language(alloc))?,
+            .after_help("Example: ./taskgraph draw --as dot < examples/saga.json")
+            .arg(language(alloc))?
+            .arg(explain(alloc))?,
     )
 }
 
@@ -111,9 +128,12 @@ fn with_trace<'a>(alloc: Global, command: Command<'a>) -> Result<Command<'a>, Al
     ensures { IfOk result (λ more. app_of more ≡ with_subcommand (app_of command.entry)
         trace_command.top) }
 {
-    command.subcommand(Command::new(alloc, "trace").about(
-        "Writes the document's journal for a trace viewer",
-    ))
+    command.subcommand(
+        Command::new(alloc, "trace")
+            .about("Writes the document's journal for a trace viewer")
+            .after_help("Example: ./taskgraph refute < examples/exactly-one-broken.json | ./taskgraph trace")
+            .arg(explain(alloc))?,
+    )
 }
 
 /// The command line.
