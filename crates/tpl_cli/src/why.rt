@@ -1,5 +1,8 @@
 //! What is said on the standard error, for people: why an answer is what it is. It changes nothing of the answer.
 
+ghost use Rattle.tpl_cli.specs.Line.{IsWithin};
+ghost use Rattle.tpl_reasons.specs.Reasons.{IsWithinDepth};
+
 use crate::line::Line;
 use std::io::IsTerminal;
 use tpl_reasons::{Asked, explain};
@@ -11,14 +14,18 @@ pub(crate) fn asks_why(words: &[&str]) -> bool {
 }
 
 /// What a line asks of the document, as far as the reasons of its answer go.
-fn asked_by(line: Line) -> Asked {
+fn asked_by(line: Line) -> Asked
+    requires { IsWithin line }
+    ensures { IsWithinDepth result }
+{
     match line {
         Line::Check => Asked::Check,
         Line::Analyse(depth) | Line::AnalyseIn(depth, _) | Line::Certify(depth, _) => {
             Asked::Analyse(depth)
         }
         Line::Run(_) => Asked::Run,
-        Line::Audit | Line::Trace => Asked::Audit,
+        Line::Audit => Asked::Audit,
+        Line::Trace => Asked::Trace,
         Line::Refute(..) | Line::Draw(_) => Asked::Other,
     }
 }
@@ -35,7 +42,9 @@ fn is_told(line: Line, exit: Exit) -> bool {
 
 /// Says why the answer to a document of these bytes was what it was. Where there is no memory for it, or the standard
 /// error takes nothing, it isn't said.
-pub(crate) fn tell_why(rt: &HostRuntime, line: Line, exit: Exit, bytes: &[u8]) {
+pub(crate) fn tell_why(rt: &HostRuntime, line: Line, exit: Exit, bytes: &[u8])
+    requires { IsWithin line }
+{
     if !is_told(line, exit) {
         return;
     }
