@@ -4,7 +4,7 @@ ghost use Rattle.std.specs.Prelude.{◌≡◌, Some, IfOk, IfSome, IfNone};
 ghost use Rattle.std.specs.List.{All};
 ghost use Rattle.tpl_claims.specs.Fits.{Fits};
 ghost use Rattle.tpl_reader.specs.SeenDocument.{doc_of};
-ghost use Rattle.tpl_reasons.specs.Reasons.{AreInputs, HasNoInputs, IsAuditReason, IsTraceReason, IsSilent};
+ghost use Rattle.tpl_reasons.specs.Reasons.{AreInputs, HasNoInputs, IsAudited, IsAuditReason, IsTraceReason, IsSilent};
 
 use crate::asked::Asked;
 use crate::journal::line_text;
@@ -33,19 +33,20 @@ pub(crate) fn inputs_of(document: &Document) -> Option<Inputs>
     }
 }
 
-/// The reason of a verdict, if it has one. Want of memory has none.
-fn verdict_reason(verdict: Verdict) -> Result<Option<Reason>, AllocError> {
+/// The reason of a verdict on the journal, if it has one. Want of memory has none.
+fn verdict_reason(document: &Document, verdict: Verdict) -> Result<Option<Reason>, AllocError>
+    requires audited { IsAudited (doc_of document.now) verdict }
+    ensures some { IfOk result (λ o. IfSome o (IsAuditReason (doc_of document.now))) }
+    ensures none { IfOk result (λ o. IfNone o (IsSilent (doc_of document.now) Asked.Audit)) }
+{
+    let _ = document;
     match verdict {
         Verdict::NotAllowed { place } => Ok(Some(Reason::NotAllowed(place))),
-        Verdict::Run {
-            fails: Some(failure),
-            ..
-        } => Ok(Some(Reason::Fails(failure))),
-        Verdict::Run {
-            complete: false,
-            ..
-        } => Ok(Some(Reason::NotComplete)),
-        Verdict::Run { .. } => Ok(None),
+        Verdict::Run { complete, fails } => match fails {
+            Some(failure) => Ok(Some(Reason::Fails(failure))),
+            None if complete => Ok(None),
+            None => Ok(Some(Reason::NotComplete)),
+        },
         Verdict::Memory => Err(AllocError),
     }
 }
@@ -60,13 +61,11 @@ pub(crate) fn audit_reason(alloc: Global, document: &Document) -> Result<Option<
         return Ok(Some(Reason::NoStart));
     };
     match read_journal(alloc, &document.graph, document.journal.as_str()) {
-        Ok(events) => verdict_reason(audit(
-            alloc,
-            &document.graph,
-            inputs,
-            &events,
-            &document.claims,
-        )),
+        Ok(events) => {
+            let claims = document.claims.as_slice();
+            let verdict = audit(alloc, &document.graph, inputs, &events, claims);
+            verdict_reason(document, verdict)
+        }
         Err(JournalFault::Memory) => Err(AllocError),
         Err(fault) => Ok(Some(Reason::NoJournal(fault))),
     }
@@ -142,7 +141,7 @@ fn played<'g>(
 }
 
 /// The run of the document's journal. None, where that can't be read.
-fn replay(alloc: Global, document: &Document) -> Result<Option<Replay<'_>>, AllocError> {
+fn replayed(alloc: Global, document: &Document) -> Result<Option<Replay<'_>>, AllocError> {
     match read_journal(alloc, &document.graph, document.journal.as_str()) {
         Ok(events) => played(alloc, document, &events),
         Err(JournalFault::Memory) => Err(AllocError),
@@ -153,7 +152,7 @@ fn replay(alloc: Global, document: &Document) -> Result<Option<Replay<'_>>, Allo
 /// Why the event of this line isn't allowed.
 pub(crate) fn not_allowed_text(alloc: Global, document: &Document, number: usize) -> Said {
     let line = line_text(alloc, document, number)?;
-    let Some(replay) = replay(alloc, document)? else {
+    let Some(replay) = replayed(alloc, document)? else {
         return Ok(line);
     };
     let Some(event) = replay.refused else {
@@ -193,7 +192,7 @@ fn awaited_text<C: Core>(alloc: Global, run: &C, task: TaskId) -> Said {
 /// Which tasks have not ended.
 pub(crate) fn not_complete_text(alloc: Global, document: &Document) -> Said {
     let mut text = String::from_str(alloc, "not each task has ended")?;
-    if let Some(replay) = replay(alloc, document)? {
+    if let Some(replay) = replayed(alloc, document)? {
         for number in 0..document.graph.len() {
             text.push_str(awaited_text(alloc, &replay.run, TaskId(number as u16))?.as_str())?;
         }

@@ -43,9 +43,9 @@ pub(crate) fn run_reason(document: &Document) -> Option<Reason>
     if inputs_of(document).is_none() {
         return Some(Reason::NoStart);
     }
-    match check(&document.graph, &document.claims, &document.certificate) {
-        Ok(()) => None,
-        Err(fault) => Some(Reason::Unchecked(fault)),
+    match check_reason(document) {
+        Some(Reason::NothingAsked) => None,
+        reason => reason,
     }
 }
 

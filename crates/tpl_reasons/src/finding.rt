@@ -1,6 +1,6 @@
 //! Why no certificate was found.
 
-ghost use Rattle.std.specs.Prelude.{◌≤◌, IfOk, IfSome, IfNone};
+ghost use Rattle.std.specs.Prelude.{◌<◌, ◌≤◌, length, IfOk, IfSome, IfNone};
 ghost use Rattle.std.specs.List.{All};
 ghost use Rattle.tpl_claims.specs.Fits.{Fits};
 ghost use Rattle.tpl_reader.specs.SeenDocument.{doc_of};
@@ -46,6 +46,7 @@ fn is_found(
     at: usize,
     depth: u8,
 ) -> Result<bool, AllocError>
+    requires at { at < length claims.now }
     requires claims { All (Fits graph.now.graph) claims.now }
     requires depth { depth ≤ 6 }
 {
