@@ -108,10 +108,13 @@ IsSilent doc Audit = IsAudited doc (ruled.Run true None)
 IsSilent doc Trace = (complete : Bool) × ((verdict : Verdict) × IsAudited doc verdict)
 IsSilent doc Other = Unit {0}
 
+-- the bytes spell no document, and not for want of memory
+abbrev pub IsUnreadable : List ℕ → Reason → Type 0
+IsUnreadable bytes reason = (fault : ReadFault) × (reason ≡ Unreadable fault) × IsFault bytes fault × (fault ≡ read.Memory → ⊥)
+
 -- the reason of the answer to these bytes
 abbrev pub IsReason : List ℕ → Asked → Reason → Type 0
-IsReason bytes asked (Unreadable fault) = IsFault bytes fault × (fault ≡ read.Memory → ⊥)
-IsReason bytes asked reason = (doc : DocumentValue) × Spells bytes doc × IsReasonOf doc asked reason
+IsReason bytes asked reason = IsUnreadable bytes reason ⊎ ((doc : DocumentValue) × Spells bytes doc × IsReasonOf doc asked reason)
 
 -- the bytes spell a document, and the answer to it says all
 abbrev pub HasNoReason : List ℕ → Asked → Type 0

@@ -3,7 +3,7 @@
 ghost use Rattle.std.specs.Prelude.{IfOk, IfSome, IfNone};
 ghost use Rattle.std.specs.List.{All};
 ghost use Rattle.tpl_claims.specs.Fits.{Fits};
-ghost use Rattle.tpl_reader.specs.Document.{IsFault};
+ghost use Rattle.tpl_reader.specs.Document.{IsFault, Spells};
 ghost use Rattle.tpl_reader.specs.SeenDocument.{doc_of};
 ghost use Rattle.tpl_reasons.specs.Reasons.{HasNoReason, IsReason, IsReasonOf, IsSilent, IsWithinDepth};
 
@@ -69,22 +69,25 @@ fn text_of(alloc: Global, asked: Asked, document: &Document, reason: Reason) -> 
     }
 }
 
-/// Why the answer to a document is what it is.
+/// Why the answer to the document that the bytes spell is what it is.
 fn explain_in(
     alloc: Global,
     asked: Asked,
+    bytes: &[u8],
     document: &Document,
 ) -> Result<Option<Reasoned>, AllocError>
+    requires spelled { Spells bytes.now (doc_of document.now) }
     requires claims { All (Fits document.now.graph.graph) document.now.claims.items }
     requires depth { IsWithinDepth asked }
-    ensures some { IfOk result (λ o. IfSome o (λ r. IsReasonOf (doc_of document.now) asked r.reason)) }
-    ensures none { IfOk result (λ o. IfNone o (IsSilent (doc_of document.now) asked)) }
+    ensures some { IfOk result (λ o. IfSome o (λ r. IsReason bytes.now asked r.reason)) }
+    ensures none { IfOk result (λ o. IfNone o (HasNoReason bytes.now asked)) }
 {
+    let _ = bytes;
     match reason_of(alloc, asked, document)? {
-        Some(reason) => Ok(Some(Reasoned {
-            reason,
-            text: text_of(alloc, asked, document, reason)?,
-        })),
+        Some(reason) => {
+            let text = text_of(alloc, asked, document, reason)?;
+            Ok(Some(Reasoned { reason, text }))
+        }
         None => Ok(None),
     }
 }
@@ -124,7 +127,7 @@ pub fn explain(alloc: Global, asked: Asked, bytes: &[u8]) -> Result<Option<Reaso
     ensures none { IfOk result (λ o. IfNone o (HasNoReason bytes.now asked)) }
 {
     match read_document(alloc, bytes) {
-        Ok(document) => explain_in(alloc, asked, &document),
+        Ok(document) => explain_in(alloc, asked, bytes, &document),
         Err(fault) => unreadable(alloc, asked, bytes, fault),
     }
 }
