@@ -150,15 +150,3 @@ pub(crate) fn fault_text(alloc: Global, document: &Document, fault: CertFault) -
         }
     }
 }
-
-/// That nothing was claimed.
-pub(crate) fn nothing_text(alloc: Global, document: &Document) -> Said {
-    if document.graph.len() == 0 {
-        String::from_str(
-            alloc,
-            "there is no task and no claim, so nothing is shown\n",
-        )
-    } else {
-        String::from_str(alloc, "no claim was asked, so nothing is shown\n")
-    }
-}

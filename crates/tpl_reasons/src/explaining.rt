@@ -12,7 +12,7 @@ use crate::auditing::{
     audit_reason, fails_text, no_journal_text, no_start_text, not_allowed_text, not_complete_text,
     trace_reason,
 };
-use crate::checking::{check_reason, fault_text, nothing_text, run_reason};
+use crate::checking::{check_reason, fault_text, run_reason};
 use crate::finding::{not_found_text, search_reason};
 use crate::reason::Reason;
 use crate::words::Said;
@@ -21,6 +21,11 @@ use tpl_reader::{Document, ReadFault, read_document};
 
 /// What is said of bytes that spell no document.
 const UNREAD: &str = "the document can't be read\n";
+
+/// What is said of a document without tasks, and of one without claims.
+const NO_TASK: &str = "there is no task and no claim, so nothing is shown\n";
+
+const NO_CLAIM: &str = "no claim was asked, so nothing is shown\n";
 
 /// Why the program's answer is what it is.
 #[derive(Drop)]
@@ -65,7 +70,8 @@ fn text_of(alloc: Global, asked: Asked, document: &Document, reason: Reason) -> 
         Reason::NotAllowed(line) => not_allowed_text(alloc, document, line),
         Reason::Fails(failure) => fails_text(alloc, document, failure),
         Reason::NotComplete => not_complete_text(alloc, document),
-        Reason::NothingAsked => nothing_text(alloc, document),
+        Reason::NothingAsked if document.graph.len() == 0 => String::from_str(alloc, NO_TASK),
+        Reason::NothingAsked => String::from_str(alloc, NO_CLAIM),
     }
 }
 

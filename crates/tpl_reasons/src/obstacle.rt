@@ -20,11 +20,6 @@ fn loud_token<'g>(graph: &'g Graph, assumed: &Assumptions, task: TaskId) -> Opti
     }
 }
 
-/// The task may be canceled as soon as its token is requested.
-fn is_eager(graph: &Graph, task: TaskId) -> bool {
-    (task.0 as usize) < graph.len() && !graph.options(task).lazy_cancellation()
-}
-
 /// Why a task for which another one waits may have ended too early, if it may.
 fn early_text(
     alloc: Global,
@@ -33,8 +28,11 @@ fn early_text(
     task: TaskId,
 ) -> Result<Option<String>, AllocError> {
     let label = name(graph, task);
+    if (task.0 as usize) < graph.len() && graph.options(task).lazy_cancellation() {
+        return Ok(None);
+    }
     let text = match ready(graph, task) {
-        Some(Ready::Then(before)) if is_eager(graph, task) => {
+        Some(Ready::Then(before)) => {
             let Some(token) = loud_token(graph, assumed, task) else {
                 return Ok(None);
             };
