@@ -1,5 +1,5 @@
 -- The reasons of the program's answers.
-use Rattle.std.specs.Prelude.{◌≡◌, ◌⊎◌, ◌≤◌, ℕ, Bool, true, false, List, [], Some, None, Err}
+use Rattle.std.specs.Prelude.{◌≡◌, ◌⊎◌, ◌≤◌, ℕ, Bool, true, false, List, [], Option, Some, None, Err}
 use Rattle.tpl_model.specs.Certificate.{Tree, Accepts}
 use Rattle.tpl_model.specs.declared.event.Event.{Event}
 use Rattle.tpl_model.specs.declared.fault.CertFault.{CertFault}
@@ -10,6 +10,7 @@ use Rattle.tpl_journal.specs.declared.reading_lines.JournalFault.{JournalFault}
 use Rattle.tpl_journal.specs.declared.reading_lines.JournalFault.TheVariants as broken
 use Rattle.tpl_analyser.specs.Gaps.{IsFirstWithout}
 use Rattle.tpl_audit.specs.Audit.{IsVerdict}
+use Rattle.tpl_audit.specs.declared.verdict.Failure.{Failure}
 use Rattle.tpl_audit.specs.declared.verdict.Verdict.{Verdict}
 use Rattle.tpl_audit.specs.declared.verdict.Verdict.TheVariants as ruled
 use Rattle.tpl_reader.specs.Begin.{StartValue}
@@ -104,7 +105,7 @@ IsSilent doc Check = IsAccepted doc × (doc.claims ≡ [] → ⊥)
 IsSilent doc Run = IsAccepted doc
 IsSilent doc (Analyse depth) = (trees : List Tree) × Accepts doc.graph.graph doc.claims trees
 IsSilent doc Audit = IsAudited doc (ruled.Run true None)
-IsSilent doc Trace = (complete : Bool) × ((verdict : Verdict) × IsAudited doc verdict)
+IsSilent doc Trace = (complete : Bool) × ((fails : Option Failure) × IsAudited doc (ruled.Run complete fails))
 IsSilent doc Other = Unit {0}
 
 -- the bytes spell no document, and not for want of memory
