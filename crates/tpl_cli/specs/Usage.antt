@@ -11,8 +11,12 @@ no_command = on_top (λ s. record s { subcommand_required = true; has_version = 
 abbrev pub check_command : App
 check_command = with_rule (new_app (codes "check")) explain_rule
 
+-- `analyse` with the options for which certificate is searched
+abbrev pub searched : App
+searched = with_rule (with_rule (with_rule (new_app (codes "analyse")) depth_rule) slim_rule) whole_rule
+
 abbrev pub analyse_command : App
-analyse_command = with_rule (with_rule (with_rule (with_rule (new_app (codes "analyse")) depth_rule) slim_rule) whole_rule) explain_rule
+analyse_command = with_rule searched explain_rule
 
 abbrev pub run_command : App
 run_command = with_rule (with_rule (new_app (codes "run")) workers_rule) explain_rule

@@ -3,7 +3,7 @@
 ghost use Rattle.std.specs.Prelude.{◌≡◌, false, IfOk};
 ghost use Rattle.clap.specs.Words.{app_of, with_subcommand};
 ghost use Rattle.clap.specs.declared.builder.command.Command.TheViews.{out-Command};
-ghost use Rattle.tpl_cli.specs.Usage.{analyse_command, audit_command, check_command, draw_command, no_command, refute_command, run_command, taskgraph, trace_command, tried_runs};
+ghost use Rattle.tpl_cli.specs.Usage.{analyse_command, audit_command, check_command, draw_command, no_command, refute_command, run_command, searched, taskgraph, trace_command, tried_runs};
 
 use crate::options::{claim, depth, explain, language, runs, seed, slim, whole, workers};
 use clap::Command;
@@ -35,20 +35,37 @@ fn with_check<'a>(alloc: Global, command: Command<'a>) -> Result<Command<'a>, Al
     )
 }
 
-/// The command line so far, and the subcommand that searches a certificate.
+/// The subcommand `analyse`, with the options for which certificate is searched.
+fn searched<'a>(alloc: Global) -> Result<Command<'a>, AllocError>
+    ensures app { IfOk result (λ command. app_of command ≡ searched) }
+    ensures own { IfOk result (λ command. (out-Command command).has_globals ≡ false) }
+{
+    Command::new(alloc, "analyse")
+        .about("Searches a certificate of the document's claims")
+        .after_help(
+            "Example: ./taskgraph analyse --whole < examples/either-or.json | ./taskgraph check",
+        )
+        .arg(depth(alloc))?
+        .arg(slim(alloc))?
+        .arg(whole(alloc))
+}
+
+/// The subcommand that searches a certificate.
+fn analyse<'a>(alloc: Global) -> Result<Command<'a>, AllocError>
+    ensures app { IfOk result (λ command. app_of command ≡ analyse_command) }
+    ensures own { IfOk result (λ command. (out-Command command).has_globals ≡ false) }
+{
+    let searched = searched(alloc)?;
+    searched.arg(explain(alloc))
+}
+
+/// The command line so far, and that subcommand.
 fn with_analyse<'a>(alloc: Global, command: Command<'a>) -> Result<Command<'a>, AllocError>
     ensures { IfOk result (λ more. app_of more ≡ with_subcommand (app_of command.entry)
         analyse_command.top) }
 {
-    command.subcommand(
-        Command::new(alloc, "analyse")
-            .about("Searches a certificate of the document's claims")
-            .after_help("Example: ./taskgraph analyse --whole < examples/either-or.json | ./taskgraph check")
-            .arg(depth(alloc))?
-            .arg(slim(alloc))?
-            .arg(whole(alloc))?
-            .arg(explain(alloc))?,
-    )
+    let analyse = analyse(alloc)?;
+    command.subcommand(analyse)
 }
 
 /// The command line so far, and the subcommand that makes a run.
@@ -73,7 +90,9 @@ fn with_audit<'a>(alloc: Global, command: Command<'a>) -> Result<Command<'a>, Al
     command.subcommand(
         Command::new(alloc, "audit")
             .about("Audits the document's journal")
-            .after_help("Example: ./taskgraph refute < examples/exactly-one-broken.json | ./taskgraph audit")
+            .after_help(
+                "Example: ./taskgraph refute < examples/exactly-one-broken.json | ./taskgraph audit",
+            )
             .arg(explain(alloc))?,
     )
 }
@@ -131,7 +150,9 @@ fn with_trace<'a>(alloc: Global, command: Command<'a>) -> Result<Command<'a>, Al
     command.subcommand(
         Command::new(alloc, "trace")
             .about("Writes the document's journal for a trace viewer")
-            .after_help("Example: ./taskgraph refute < examples/exactly-one-broken.json | ./taskgraph trace")
+            .after_help(
+                "Example: ./taskgraph refute < examples/exactly-one-broken.json | ./taskgraph trace",
+            )
             .arg(explain(alloc))?,
     )
 }

@@ -56,7 +56,9 @@ pub(crate) fn tell_why(rt: &HostRuntime, line: Line, exit: Exit, bytes: &[u8])
 /// Says why no document was read, where it was too long.
 pub(crate) fn tell_why_unread(rt: &HostRuntime, exit: Exit) {
     if exit == Exit::Unreadable {
-        let _ = eprint!(rt; "the document is longer than 16777216 bytes, the most that is read; --slim makes shorter certificates\n");
+        let _ = eprint!(rt;
+            "the document is longer than 16777216 bytes, the most that is read; --slim makes shorter certificates\n"
+        );
     }
 }
 
