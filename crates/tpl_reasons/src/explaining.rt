@@ -17,6 +17,7 @@ use crate::finding::{not_found_text, search_reason};
 use crate::reason::Reason;
 use crate::words::Said;
 use std::alloc::{AllocError, Global};
+use tpl_explain::explain_document;
 use tpl_reader::{Document, ReadFault, read_document};
 
 /// What is said of bytes that spell no document.
@@ -132,8 +133,14 @@ pub fn explain(alloc: Global, asked: Asked, bytes: &[u8]) -> Result<Option<Reaso
     ensures some { IfOk result (λ o. IfSome o (λ r. IsReason bytes.now asked r.reason)) }
     ensures none { IfOk result (λ o. IfNone o (HasNoReason bytes.now asked)) }
 {
-    match read_document(alloc, bytes) {
-        Ok(document) => explain_in(alloc, asked, bytes, &document),
-        Err(fault) => unreadable(alloc, asked, bytes, fault),
+    match explain_document(alloc, bytes)? {
+        Some(explanation) => Ok(Some(Reasoned {
+            reason: Reason::Unreadable(explanation.fault),
+            text: explanation.text,
+        })),
+        None => match read_document(alloc, bytes) {
+            Ok(document) => explain_in(alloc, asked, bytes, &document),
+            Err(fault) => unreadable(alloc, asked, bytes, fault),
+        },
     }
 }
