@@ -12,6 +12,8 @@ from suite import cases, files, given, program, tell, words
 
 # how the program ends where its words name no command; it has to say so on standard error
 USAGE = 2
+# the word with which the program says on standard error what is to be changed
+EXPLAIN = "--explain"
 
 
 def difference(case, line):
@@ -28,7 +30,11 @@ def difference(case, line):
     if ended.returncode == USAGE and not ended.stderr:
         return "says nothing on standard error"
     missing = [it for it in case.get("contains") or [] if it not in wrote.split("\n")]
-    return f"no line {missing[0]!r} in {wrote[:200]!r}" if missing else None
+    if missing:
+        return f"no line {missing[0]!r} in {wrote[:200]!r}"
+    said = ended.stderr.decode(errors="replace")
+    unsaid = [it for it in case.get("stderr") or [] if it not in said] if EXPLAIN in line else []
+    return f"no {unsaid[0]!r} in {said[:200]!r} on standard error" if unsaid else None
 
 
 def compared():

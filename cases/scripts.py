@@ -9,6 +9,7 @@ import importlib.util
 import json
 import os
 import pathlib
+import pty
 import re
 import subprocess
 import sys
@@ -79,6 +80,53 @@ def ask_reads_its_words():
 def the_version_is_that_of_the_file():
     answer = subprocess.run([named(), "--version"], capture_output=True, text=True, timeout=120, check=False)
     assert answer.stdout == f"taskgraph {(TOP / 'VERSION').read_text()}"
+
+
+# ---- help, and terminals
+
+
+COMMANDS = ("check", "analyse", "run", "audit", "refute", "draw", "trace")
+
+
+def each_command_has_an_example_that_works():
+    for command in COMMANDS:
+        text = subprocess.run([named(), command, "--help"], capture_output=True, text=True, timeout=120, check=True).stdout
+        (line,) = re.findall(r"(?m)^Example: (.*)$", text)
+        assert command in line, line
+        ended = subprocess.run(["sh", "-c", line], cwd=TOP, capture_output=True, text=True, timeout=120, check=False)
+        assert ended.stdout and ended.returncode in (0, 1), (line, ended.returncode, ended.stderr)
+
+
+def on_terminal(line, which):
+    """What the program writes to a terminal that is its standard input or its standard error."""
+    leader, follower = pty.openpty()
+    try:
+        given = {which: follower, "stdout": subprocess.DEVNULL}
+        if which == "stderr":
+            given["stdin"] = subprocess.DEVNULL
+        else:
+            given["stderr"] = subprocess.PIPE
+        with subprocess.Popen([named(), *line], **given) as started:
+            if which == "stdin":
+                os.write(leader, b"\x04")
+                return started.communicate(timeout=120)[1].decode()
+            started.wait(timeout=120)
+            return os.read(leader, 10_000).decode()
+    finally:
+        os.close(follower)
+        os.close(leader)
+
+
+def a_terminal_is_told_that_a_document_is_read():
+    assert "standard input" in on_terminal(["check"], "stdin")
+    ended = subprocess.run([named(), "check"], stdin=subprocess.DEVNULL, capture_output=True, timeout=120, check=False)
+    assert (ended.stdout, ended.stderr, ended.returncode) == (b"unreadable: not JSON\n", b"", 3)
+
+
+def a_terminal_is_told_why_without_being_asked():
+    text = on_terminal(["check"], "stderr")
+    asked = subprocess.run([named(), "check", "--explain"], stdin=subprocess.DEVNULL, capture_output=True, timeout=120, check=False)
+    assert asked.stderr and text.replace("\r\n", "\n") == asked.stderr.decode(), text
 
 
 # ---- examples/pipeline
@@ -179,6 +227,8 @@ def imports_lead_to_files():
 TESTS = [
     ask_replaces_the_claims, ask_takes_a_journal, ask_reads_its_words,
     the_version_is_that_of_the_file,
+    each_command_has_an_example_that_works, a_terminal_is_told_that_a_document_is_read,
+    a_terminal_is_told_why_without_being_asked,
     pipelines_have_four_tasks_a_shard, pipelines_keep_the_limits, pipeline_refuses_other_numbers,
     pages_are_read_block_by_block, snippets_stand_behind_the_version, lines_of_the_output_page_stand_for_others,
     a_wrong_page_fails, each_word_of_a_refusal_has_its_line, each_line_in_the_code_is_on_the_page,

@@ -9,16 +9,20 @@ abbrev pub no_command : App
 no_command = on_top (λ s. record s { subcommand_required = true; has_version = true }) (new_app (codes "taskgraph"))
 
 abbrev pub check_command : App
-check_command = new_app (codes "check")
+check_command = with_rule (new_app (codes "check")) explain_rule
+
+-- `analyse` with the options for which certificate is searched
+abbrev pub searched : App
+searched = with_rule (with_rule (with_rule (new_app (codes "analyse")) depth_rule) slim_rule) whole_rule
 
 abbrev pub analyse_command : App
-analyse_command = with_rule (with_rule (with_rule (new_app (codes "analyse")) depth_rule) slim_rule) whole_rule
+analyse_command = with_rule searched explain_rule
 
 abbrev pub run_command : App
-run_command = with_rule (new_app (codes "run")) workers_rule
+run_command = with_rule (with_rule (new_app (codes "run")) workers_rule) explain_rule
 
 abbrev pub audit_command : App
-audit_command = new_app (codes "audit")
+audit_command = with_rule (new_app (codes "audit")) explain_rule
 
 -- `refute` with the options for which runs are tried
 abbrev pub tried_runs : App
@@ -28,10 +32,10 @@ abbrev pub refute_command : App
 refute_command = with_rule tried_runs explain_rule
 
 abbrev pub draw_command : App
-draw_command = with_rule (new_app (codes "draw")) language_rule
+draw_command = with_rule (with_rule (new_app (codes "draw")) language_rule) explain_rule
 
 abbrev pub trace_command : App
-trace_command = new_app (codes "trace")
+trace_command = with_rule (new_app (codes "trace")) explain_rule
 
 -- the subcommands that are about certificates and runs
 abbrev pub first_commands : App

@@ -6,20 +6,22 @@ mod line;
 mod options;
 mod subcommand;
 mod usage;
+mod why;
 
 ghost use Rattle.std.specs.Prelude.{IfOk};
 ghost use Rattle.tpl_cli.specs.Line.{IsWithin};
 
 use crate::boxes::run_boxes;
 use crate::line::{Line, LineFault, line_of};
+use crate::why::{asks_why, say_what_is_read, tell_why, tell_why_unread};
 use std::alloc::Global;
-use std::io::{BufWriter, ErrorKind, Read, Write};
+use std::io::{BufWriter, ErrorKind, IsTerminal, Read, Write};
 use std::process::ExitCode;
 use std::sync::Wait;
 use std::thread::Threads;
 use std::{env, iter};
 use tpl_journal::Counting;
-use tpl_report::{Ask, Exit, load, put_out_of_memory, serve};
+use tpl_report::{Ask, Exit, load, put_out_of_memory, read_input, serve};
 use tpl_trace::trace_document;
 use tpl_witness::{Search, refute_document};
 
@@ -35,14 +37,24 @@ fn words(rt: &HostRuntime) -> Result<Vec<String>, LineFault> {
     }
 }
 
-/// What the command line says. Its texts call the program `taskgraph`, whatever file it is run from.
-fn given_line(rt: &HostRuntime) -> Result<Line, LineFault>
-    ensures { IfOk result IsWithin }
+/// What is to be done, and whether the standard error is to say why the answer is what it is.
+#[derive(Drop)]
+struct Order {
+    line: Line,
+    explains: bool,
+}
+
+/// What the command line says. Its texts call the program `taskgraph`, whatever file it is run from. Where the standard
+/// error is a terminal, it says why without being asked.
+fn given_order(rt: &HostRuntime) -> Result<Order, LineFault>
+    ensures { IfOk result (λ order. IsWithin order.line) }
 {
     let words = words(rt)?;
     let given = words.iter().skip(1).map(|word| word.as_str());
     let texts: Vec<&str> = iter::once("taskgraph").chain(given).collect(rt.alloc())?;
-    line_of(rt.alloc(), &texts)
+    let line = line_of(rt.alloc(), &texts)?;
+    let explains = asks_why(&texts) || rt.stderr().is_terminal();
+    Ok(Order { line, explains })
 }
 
 /// Makes the run of the document that comes.
@@ -69,34 +81,72 @@ fn search_of(claim: Option<u8>, runs: u32, seed: u32, explain: bool) -> Search {
     }
 }
 
-/// Does what the command line says. What is written is kept together, and all of it is written out before the end is
-/// known.
-fn perform<R: Threads + Wait + Sync>(rt: &HostRuntime, threads: &R, line: Line) -> Exit
+/// Answers the document that comes.
+fn answer<R: Threads + Wait + Sync, I: Read, O: Write>(
+    rt: &HostRuntime,
+    threads: &R,
+    line: Line,
+    from: &mut Counting<I>,
+    to: &mut Counting<O>,
+) -> Exit
     requires { IsWithin line }
 {
+    match line {
+        Line::Check => serve(rt.alloc(), Ask::Check, from, to),
+        Line::Analyse(depth) => serve(rt.alloc(), Ask::Analyse(depth), from, to),
+        Line::AnalyseIn(depth, form) => serve(rt.alloc(), Ask::AnalyseIn(depth, form), from, to),
+        Line::Certify(depth, form) => serve(rt.alloc(), Ask::Certify(depth, form), from, to),
+        Line::Run(workers) => run(threads, rt.alloc(), workers, from, to),
+        Line::Audit => serve(rt.alloc(), Ask::Audit, from, to),
+        Line::Refute(claim, runs, seed, explain) => {
+            let search = search_of(claim, runs, seed, explain);
+            let mut aside = Counting::new(rt.stderr());
+            refute_document(rt.alloc(), search, from, to, &mut aside)
+        }
+        Line::Draw(language) => serve(rt.alloc(), Ask::Draw(language), from, to),
+        Line::Trace => trace_document(rt.alloc(), from, to),
+    }
+}
+
+/// Answers the document that comes, and says on the standard error why the answer is what it is.
+fn answer_and_explain<R: Threads + Wait + Sync, I: Read, O: Write>(
+    rt: &HostRuntime,
+    threads: &R,
+    line: Line,
+    from: &mut Counting<I>,
+    to: &mut Counting<O>,
+) -> Exit
+    requires { IsWithin line }
+{
+    match read_input(rt.alloc(), from, to) {
+        Ok(bytes) => {
+            let mut again = Counting::new(bytes.as_slice());
+            let exit = answer(rt, threads, line, &mut again, to);
+            tell_why(rt, line, exit, &bytes);
+            exit
+        }
+        Err(exit) => {
+            tell_why_unread(rt, exit);
+            exit
+        }
+    }
+}
+
+/// Does what the command line says. What is written is kept together, and all of it is written out before the end is
+/// known.
+fn perform<R: Threads + Wait + Sync>(rt: &HostRuntime, threads: &R, order: Order) -> Exit
+    requires { IsWithin order.line }
+{
+    say_what_is_read(rt);
     let mut from = Counting::new(rt.stdin());
     let Ok(out) = BufWriter::new(rt.alloc(), rt.stdout()) else {
         return put_out_of_memory(&mut Counting::new(rt.stdout()));
     };
     let mut to = Counting::new(out);
-    match line {
-        Line::Check => serve(rt.alloc(), Ask::Check, &mut from, &mut to),
-        Line::Analyse(depth) => serve(rt.alloc(), Ask::Analyse(depth), &mut from, &mut to),
-        Line::AnalyseIn(depth, form) => {
-            serve(rt.alloc(), Ask::AnalyseIn(depth, form), &mut from, &mut to)
-        }
-        Line::Certify(depth, form) => {
-            serve(rt.alloc(), Ask::Certify(depth, form), &mut from, &mut to)
-        }
-        Line::Run(workers) => run(threads, rt.alloc(), workers, &mut from, &mut to),
-        Line::Audit => serve(rt.alloc(), Ask::Audit, &mut from, &mut to),
-        Line::Refute(claim, runs, seed, explain) => {
-            let search = search_of(claim, runs, seed, explain);
-            let mut aside = Counting::new(rt.stderr());
-            refute_document(rt.alloc(), search, &mut from, &mut to, &mut aside)
-        }
-        Line::Draw(language) => serve(rt.alloc(), Ask::Draw(language), &mut from, &mut to),
-        Line::Trace => trace_document(rt.alloc(), &mut from, &mut to),
+    if order.explains {
+        answer_and_explain(rt, threads, order.line, &mut from, &mut to)
+    } else {
+        answer(rt, threads, order.line, &mut from, &mut to)
     }
 }
 
@@ -116,8 +166,8 @@ fn refuse(rt: &HostRuntime, fault: LineFault) -> Exit {
 }
 
 fn main(rt: HostRuntime) -> ExitCode {
-    let exit = match given_line(&rt) {
-        Ok(line) => perform(&rt, &rt, line),
+    let exit = match given_order(&rt) {
+        Ok(order) => perform(&rt, &rt, order),
         Err(fault) => refuse(&rt, fault),
     };
     ExitCode::from(exit.code())

@@ -102,7 +102,7 @@ pub(crate) fn explain<'a>(alloc: Global) -> Arg<'a>
     Arg::new(alloc, "explain")
         .long("explain")
         .action(ArgAction::SetTrue)
-        .help("Says on the standard error how many runs were tried for each claim")
+        .help("Says on the standard error why the answer is what it is, and what to do")
 }
 
 /// The option for the language of a picture.

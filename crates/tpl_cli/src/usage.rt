@@ -3,7 +3,7 @@
 ghost use Rattle.std.specs.Prelude.{◌≡◌, false, IfOk};
 ghost use Rattle.clap.specs.Words.{app_of, with_subcommand};
 ghost use Rattle.clap.specs.declared.builder.command.Command.TheViews.{out-Command};
-ghost use Rattle.tpl_cli.specs.Usage.{analyse_command, audit_command, check_command, draw_command, no_command, refute_command, run_command, taskgraph, trace_command, tried_runs};
+ghost use Rattle.tpl_cli.specs.Usage.{analyse_command, audit_command, check_command, draw_command, no_command, refute_command, run_command, searched, taskgraph, trace_command, tried_runs};
 
 use crate::options::{claim, depth, explain, language, runs, seed, slim, whole, workers};
 use clap::Command;
@@ -27,21 +27,45 @@ fn with_check<'a>(alloc: Global, command: Command<'a>) -> Result<Command<'a>, Al
     ensures { IfOk result (λ more. app_of more ≡ with_subcommand (app_of command.entry)
         check_command.top) }
 {
-    command.subcommand(Command::new(alloc, "check").about("Checks the document's certificate"))
+    command.subcommand(
+        Command::new(alloc, "check")
+            .about("Checks the document's certificate")
+            .after_help("Example: ./taskgraph check < examples/one-root.json")
+            .arg(explain(alloc))?,
+    )
 }
 
-/// The command line so far, and the subcommand that searches a certificate.
+/// The subcommand `analyse`, with the options for which certificate is searched.
+fn searched<'a>(alloc: Global) -> Result<Command<'a>, AllocError>
+    ensures app { IfOk result (λ command. app_of command ≡ searched) }
+    ensures own { IfOk result (λ command. (out-Command command).has_globals ≡ false) }
+{
+    Command::new(alloc, "analyse")
+        .about("Searches a certificate of the document's claims")
+        .after_help(
+            "Example: ./taskgraph analyse --whole < examples/either-or.json | ./taskgraph check",
+        )
+        .arg(depth(alloc))?
+        .arg(slim(alloc))?
+        .arg(whole(alloc))
+}
+
+/// The subcommand that searches a certificate.
+fn analyse<'a>(alloc: Global) -> Result<Command<'a>, AllocError>
+    ensures app { IfOk result (λ command. app_of command ≡ analyse_command) }
+    ensures own { IfOk result (λ command. (out-Command command).has_globals ≡ false) }
+{
+    let searched = searched(alloc)?;
+    searched.arg(explain(alloc))
+}
+
+/// The command line so far, and that subcommand.
 fn with_analyse<'a>(alloc: Global, command: Command<'a>) -> Result<Command<'a>, AllocError>
     ensures { IfOk result (λ more. app_of more ≡ with_subcommand (app_of command.entry)
         analyse_command.top) }
 {
-    command.subcommand(
-        Command::new(alloc, "analyse")
-            .about("Searches a certificate of the document's claims")
-            .arg(depth(alloc))?
-            .arg(slim(alloc))?
-            .arg(whole(alloc))?,
-    )
+    let analyse = analyse(alloc)?;
+    command.subcommand(analyse)
 }
 
 /// The command line so far, and the subcommand that makes a run.
@@ -52,7 +76,9 @@ fn with_run<'a>(alloc: Global, command: Command<'a>) -> Result<Command<'a>, Allo
     command.subcommand(
         Command::new(alloc, "run")
             .about("Checks the document's certificate and makes a run of its graph")
-            .arg(workers(alloc))?,
+            .after_help("Example: ./taskgraph run --workers 2 < examples/one-root.json")
+            .arg(workers(alloc))?
+            .arg(explain(alloc))?,
     )
 }
 
@@ -61,7 +87,14 @@ fn with_audit<'a>(alloc: Global, command: Command<'a>) -> Result<Command<'a>, Al
     ensures { IfOk result (λ more. app_of more ≡ with_subcommand (app_of command.entry)
         audit_command.top) }
 {
-    command.subcommand(Command::new(alloc, "audit").about("Audits the document's journal"))
+    command.subcommand(
+        Command::new(alloc, "audit")
+            .about("Audits the document's journal")
+            .after_help(
+                "Example: ./taskgraph refute < examples/exactly-one-broken.json | ./taskgraph audit",
+            )
+            .arg(explain(alloc))?,
+    )
 }
 
 /// The subcommand `refute`, with the options for which runs are tried.
@@ -71,6 +104,7 @@ fn tried_runs<'a>(alloc: Global) -> Result<Command<'a>, AllocError>
 {
     Command::new(alloc, "refute")
         .about("Searches a run of the document's graph in which a claim does not hold")
+        .after_help("Example: ./taskgraph refute --explain < examples/exactly-one-broken.json")
         .arg(claim(alloc))?
         .arg(runs(alloc))?
         .arg(seed(alloc))
@@ -102,7 +136,9 @@ fn with_draw<'a>(alloc: Global, command: Command<'a>) -> Result<Command<'a>, All
     command.subcommand(
         Command::new(alloc, "draw")
             .about("Draws the document's graph")
-            .arg(language(alloc))?,
+            .after_help("Example: ./taskgraph draw --as dot < examples/saga.json")
+            .arg(language(alloc))?
+            .arg(explain(alloc))?,
     )
 }
 
@@ -111,9 +147,14 @@ fn with_trace<'a>(alloc: Global, command: Command<'a>) -> Result<Command<'a>, Al
     ensures { IfOk result (λ more. app_of more ≡ with_subcommand (app_of command.entry)
         trace_command.top) }
 {
-    command.subcommand(Command::new(alloc, "trace").about(
-        "Writes the document's journal for a trace viewer",
-    ))
+    command.subcommand(
+        Command::new(alloc, "trace")
+            .about("Writes the document's journal for a trace viewer")
+            .after_help(
+                "Example: ./taskgraph refute < examples/exactly-one-broken.json | ./taskgraph trace",
+            )
+            .arg(explain(alloc))?,
+    )
 }
 
 /// The command line.

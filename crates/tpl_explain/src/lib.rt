@@ -1,0 +1,14 @@
+//! Why a document can't be read, in words.
+#![tactic(auto)]
+
+mod ask;
+mod bytes;
+mod explain;
+mod grammar;
+mod graph;
+mod misfit;
+mod others;
+mod say;
+mod walk;
+
+pub use explain::{Explanation, explain_document};

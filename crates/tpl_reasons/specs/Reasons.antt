@@ -1,0 +1,121 @@
+-- The reasons of the program's answers.
+use Rattle.std.specs.Prelude.{◌≡◌, ◌⊎◌, ◌≤◌, ℕ, Bool, true, false, List, [], Option, Some, None, Err}
+use Rattle.tpl_model.specs.Certificate.{Tree, Accepts}
+use Rattle.tpl_model.specs.declared.event.Event.{Event}
+use Rattle.tpl_model.specs.declared.fault.CertFault.{CertFault}
+use Rattle.tpl_laws.specs.Faults.{IsFirstFault}
+use Rattle.tpl_laws.specs.Verdict.{verdict}
+use Rattle.tpl_journal.specs.Lines.{IsJournal, IsJournalFault}
+use Rattle.tpl_journal.specs.declared.reading_lines.JournalFault.{JournalFault}
+use Rattle.tpl_journal.specs.declared.reading_lines.JournalFault.TheVariants as broken
+use Rattle.tpl_analyser.specs.Gaps.{IsFirstWithout}
+use Rattle.tpl_audit.specs.Audit.{IsVerdict}
+use Rattle.tpl_audit.specs.declared.verdict.Failure.{Failure}
+use Rattle.tpl_audit.specs.declared.verdict.Verdict.{Verdict}
+use Rattle.tpl_audit.specs.declared.verdict.Verdict.TheVariants as ruled
+use Rattle.tpl_reader.specs.Begin.{StartValue}
+use Rattle.tpl_reader.specs.Document.{DocumentValue, Spells, IsFault}
+use Rattle.tpl_reader.specs.declared.fault.ReadFault.{ReadFault}
+use Rattle.tpl_reader.specs.declared.fault.ReadFault.TheVariants as read
+use Rattle.tpl_reasons.specs.declared.asked.Asked.{Asked}
+use Rattle.tpl_reasons.specs.declared.asked.Asked.TheVariants.{Check, Run, Analyse, Audit, Trace, Other}
+use Rattle.tpl_reasons.specs.declared.reason.Reason.{Reason}
+use Rattle.tpl_reasons.specs.declared.reason.Reason.TheVariants.{Unreadable, Unchecked, NotFound, NoStart, NoJournal, NotAllowed, Fails, NotComplete, NothingAsked}
+
+-- a search has at most 6 splits on a path
+abbrev pub IsWithinDepth : Asked → Type 0
+IsWithinDepth (Analyse depth) = depth ≤ 6
+IsWithinDepth asked = Unit {0}
+
+-- the certificate is accepted
+abbrev pub IsAccepted : DocumentValue → Type 0
+IsAccepted doc = Accepts doc.graph.graph doc.claims doc.certificate
+
+-- this is the first fault of the certificate, the one that the check tells
+pub record IsRefused (doc : DocumentValue) (fault : CertFault) : Type 0 where
+  pub verdict : verdict doc.graph.graph doc.claims doc.certificate ≡ Err fault
+  pub first : IsFirstFault doc.graph.graph doc.claims doc.certificate fault
+
+-- these values are those of the start, or there is no input
+abbrev pub AreInputs : DocumentValue → List Bool → Type 0
+AreInputs doc inputs = ((start : StartValue) × (doc.start ≡ Some start) × (inputs ≡ start.inputs)) ⊎ ((doc.start ≡ None) × (doc.graph.graph.inputs ≡ 0) × (inputs ≡ []))
+
+-- there is an input and no start
+abbrev pub HasNoInputs : DocumentValue → Type 0
+HasNoInputs doc = (doc.start ≡ None) × (doc.graph.graph.inputs ≡ 0 → ⊥)
+
+-- the verdict on the journal
+pub record IsAudited (doc : DocumentValue) (verdict : Verdict) : Type 0 where
+  pub inputs : List Bool
+  pub known : AreInputs doc inputs
+  pub events : List Event
+  pub journal : IsJournal doc.graph doc.journal events
+  pub audited : IsVerdict doc.graph.graph inputs events doc.claims verdict
+
+-- the journal's text isn't one, and not for want of memory
+abbrev pub IsBroken : DocumentValue → JournalFault → Type 0
+IsBroken doc fault = IsJournalFault doc.graph doc.journal fault × (fault ≡ broken.Memory → ⊥)
+
+-- why the check says no, or says yes to nothing
+abbrev pub IsCheckReason : DocumentValue → Reason → Type 0
+IsCheckReason doc (Unchecked fault) = IsRefused doc fault
+IsCheckReason doc NothingAsked = IsAccepted doc × (doc.claims ≡ [])
+IsCheckReason doc reason = ⊥
+
+-- why no run is made
+abbrev pub IsRunReason : DocumentValue → Reason → Type 0
+IsRunReason doc NoStart = HasNoInputs doc
+IsRunReason doc (Unchecked fault) = IsRefused doc fault
+IsRunReason doc reason = ⊥
+
+-- why no certificate is found, or one of nothing
+abbrev pub IsSearchReason : ℕ → DocumentValue → Reason → Type 0
+IsSearchReason depth doc (NotFound claim) = IsFirstWithout doc.graph.graph doc.claims depth claim
+IsSearchReason depth doc NothingAsked = doc.claims ≡ []
+IsSearchReason depth doc reason = ⊥
+
+-- why the journal isn't a complete run in which each claim holds
+abbrev pub IsAuditReason : DocumentValue → Reason → Type 0
+IsAuditReason doc NoStart = HasNoInputs doc
+IsAuditReason doc (NoJournal fault) = IsBroken doc fault
+IsAuditReason doc (NotAllowed place) = IsAudited doc (ruled.NotAllowed place)
+IsAuditReason doc (Fails failure) = (complete : Bool) × IsAudited doc (ruled.Run complete (Some failure))
+IsAuditReason doc NotComplete = IsAudited doc (ruled.Run false None)
+IsAuditReason doc reason = ⊥
+
+-- why the journal isn't a run
+abbrev pub IsTraceReason : DocumentValue → Reason → Type 0
+IsTraceReason doc NoStart = HasNoInputs doc
+IsTraceReason doc (NoJournal fault) = IsBroken doc fault
+IsTraceReason doc (NotAllowed place) = IsAudited doc (ruled.NotAllowed place)
+IsTraceReason doc reason = ⊥
+
+-- the reason of the answer to a document
+abbrev pub IsReasonOf : DocumentValue → Asked → Reason → Type 0
+IsReasonOf doc Check reason = IsCheckReason doc reason
+IsReasonOf doc Run reason = IsRunReason doc reason
+IsReasonOf doc (Analyse depth) reason = IsSearchReason depth doc reason
+IsReasonOf doc Audit reason = IsAuditReason doc reason
+IsReasonOf doc Trace reason = IsTraceReason doc reason
+IsReasonOf doc Other reason = ⊥
+
+-- the answer to a document says all: what was asked for is shown, found, made, or another command's
+abbrev pub IsSilent : DocumentValue → Asked → Type 0
+IsSilent doc Check = IsAccepted doc × (doc.claims ≡ [] → ⊥)
+IsSilent doc Run = IsAccepted doc
+IsSilent doc (Analyse depth) = (trees : List Tree) × Accepts doc.graph.graph doc.claims trees
+IsSilent doc Audit = IsAudited doc (ruled.Run true None)
+IsSilent doc Trace = (complete : Bool) × ((fails : Option Failure) × IsAudited doc (ruled.Run complete fails))
+IsSilent doc Other = Unit {0}
+
+-- the bytes spell no document, and not for want of memory
+abbrev pub IsUnreadable : List ℕ → Reason → Type 0
+IsUnreadable bytes reason = (fault : ReadFault) × (reason ≡ Unreadable fault) × IsFault bytes fault × (fault ≡ read.Memory → ⊥)
+
+-- the reason of the answer to these bytes
+abbrev pub IsReason : List ℕ → Asked → Reason → Type 0
+IsReason bytes asked reason = IsUnreadable bytes reason ⊎ ((doc : DocumentValue) × Spells bytes doc × IsReasonOf doc asked reason)
+
+-- the bytes spell a document, and the answer to it says all
+abbrev pub HasNoReason : List ℕ → Asked → Type 0
+HasNoReason bytes asked = (doc : DocumentValue) × Spells bytes doc × IsSilent doc asked

@@ -1,0 +1,18 @@
+//! What was asked of the program.
+
+/// What was asked of the program.
+#[derive(Clone, Copy)]
+pub enum Asked {
+    /// Whether the document's certificate is accepted.
+    Check,
+    /// A run of the document.
+    Run,
+    /// A certificate with at most so many splits on each path.
+    Analyse(u8),
+    /// Whether the document's journal is a run, whether it is complete, and which claim fails.
+    Audit,
+    /// A picture of the document's journal, where that is a run.
+    Trace,
+    /// Something that says more than a line, where the document can be read.
+    Other,
+}

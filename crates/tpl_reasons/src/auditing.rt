@@ -1,0 +1,202 @@
+//! Why a journal can't be read, isn't a run, isn't complete, or shows that a claim fails.
+
+ghost use Rattle.std.specs.Prelude.{◌≡◌, Some, IfOk, IfSome, IfNone};
+ghost use Rattle.std.specs.List.{All};
+ghost use Rattle.tpl_claims.specs.Fits.{Fits};
+ghost use Rattle.tpl_reader.specs.SeenDocument.{doc_of};
+ghost use Rattle.tpl_reasons.specs.Reasons.{AreInputs, HasNoInputs, IsAudited, IsAuditReason, IsTraceReason, IsSilent};
+
+use crate::asked::Asked;
+use crate::journal::line_text;
+use crate::reason::Reason;
+use crate::refusal::refusal_text;
+use crate::words::{Said, claim_text, input_name, name};
+use std::alloc::{AllocError, Global};
+use tpl_audit::{Failure, Verdict, audit};
+use tpl_fast::Fast;
+use tpl_graph::Kind;
+use tpl_journal::{JournalFault, read_journal};
+use tpl_machine::Core;
+use tpl_model::Event;
+use tpl_reader::Document;
+use tpl_words::{InputId, Inputs, Status, TaskId};
+
+/// The values of the inputs, where they are known: the start gives them, or there are none.
+pub(crate) fn inputs_of(document: &Document) -> Option<Inputs>
+    ensures some { IfSome result (AreInputs (doc_of document.now)) }
+    ensures none { IfNone result (HasNoInputs (doc_of document.now)) }
+{
+    match &document.start {
+        Some(start) => Some(start.inputs.copy()),
+        None if document.graph.input_count() == 0 => Some(Inputs::new(0)),
+        None => None,
+    }
+}
+
+/// The reason of a verdict on the journal, if it has one. Want of memory has none.
+fn verdict_reason(document: &Document, verdict: Verdict) -> Result<Option<Reason>, AllocError>
+    requires audited { IsAudited (doc_of document.now) verdict }
+    ensures some { IfOk result (λ o. IfSome o (IsAuditReason (doc_of document.now))) }
+    ensures none { IfOk result (λ o. IfNone o (IsSilent (doc_of document.now) Asked.Audit)) }
+{
+    let _ = document;
+    match verdict {
+        Verdict::NotAllowed { place } => Ok(Some(Reason::NotAllowed(place))),
+        Verdict::Run { complete, fails } => match fails {
+            Some(failure) => Ok(Some(Reason::Fails(failure))),
+            None if complete => Ok(None),
+            None => Ok(Some(Reason::NotComplete)),
+        },
+        Verdict::Memory => Err(AllocError),
+    }
+}
+
+/// What is wrong with the journal, if anything.
+pub(crate) fn audit_reason(alloc: Global, document: &Document) -> Result<Option<Reason>, AllocError>
+    requires claims { All (Fits document.now.graph.graph) document.now.claims.items }
+    ensures some { IfOk result (λ o. IfSome o (IsAuditReason (doc_of document.now))) }
+    ensures none { IfOk result (λ o. IfNone o (IsSilent (doc_of document.now) Asked.Audit)) }
+{
+    let Some(inputs) = inputs_of(document) else {
+        return Ok(Some(Reason::NoStart));
+    };
+    match read_journal(alloc, &document.graph, document.journal.as_str()) {
+        Ok(events) => {
+            let claims = document.claims.as_slice();
+            let verdict = audit(alloc, &document.graph, inputs, &events, claims);
+            verdict_reason(document, verdict)
+        }
+        Err(JournalFault::Memory) => Err(AllocError),
+        Err(fault) => Ok(Some(Reason::NoJournal(fault))),
+    }
+}
+
+/// Why the journal isn't drawn.
+pub(crate) fn trace_reason(alloc: Global, document: &Document) -> Result<Option<Reason>, AllocError>
+    requires claims { All (Fits document.now.graph.graph) document.now.claims.items }
+    ensures some { IfOk result (λ o. IfSome o (IsTraceReason (doc_of document.now))) }
+    ensures none { IfOk result (λ o. IfNone o (IsSilent (doc_of document.now) Asked.Trace)) }
+{
+    match audit_reason(alloc, document)? {
+        Some(Reason::Fails(_)) | Some(Reason::NotComplete) => Ok(None),
+        reason => Ok(reason),
+    }
+}
+
+/// That the inputs have no values.
+pub(crate) fn no_start_text(alloc: Global, document: &Document) -> Said {
+    let mut text = String::from_str(alloc, "nothing says which values the inputs have:")?;
+    for number in 0..document.graph.input_count() {
+        text.push_str(" ")?;
+        text.push_str(input_name(&document.graph, InputId(number as u8)))?;
+    }
+    text.push_str("; `start` gives them, as {\"inputs\":{\"NAME\":true}}\n")?;
+    Ok(text)
+}
+
+/// Why the journal can't be read.
+pub(crate) fn no_journal_text(alloc: Global, document: &Document, fault: JournalFault) -> Said {
+    match fault {
+        JournalFault::Line(number) => {
+            let line = line_text(alloc, document, number)?;
+            format!(in alloc;
+                "{line} spells no event of this graph\na line is ACTOR VERB NAME with single spaces and a line break at its end, as `o1 request stop`, `w1 begin Build` or `w1 worked Build done`; ACTOR is w1 to w64, or o1 to o8, who request tokens and run no body\n"
+            )
+        }
+        _ => {
+            let most = document.graph.bound();
+            format!(in alloc;
+                "the journal has more than {most} lines, and no run of this graph has more events\n"
+            )
+        }
+    }
+}
+
+/// The run of a journal, as far as it is allowed.
+#[derive(Drop)]
+struct Replay<'g> {
+    run: Fast<'g>,
+    /// The first event that isn't allowed.
+    refused: Option<Event>,
+}
+
+/// The run of these events. None, where the values of the inputs aren't known.
+fn played<'g>(
+    alloc: Global,
+    document: &'g Document,
+    events: &[Event],
+) -> Result<Option<Replay<'g>>, AllocError> {
+    let Some(inputs) = inputs_of(document) else {
+        return Ok(None);
+    };
+    let mut run = Fast::open(alloc, &document.graph, inputs)?;
+    for event in events {
+        if run.step(*event).is_err() {
+            let refused = Some(*event);
+            return Ok(Some(Replay { run, refused }));
+        }
+    }
+    let refused = None;
+    Ok(Some(Replay { run, refused }))
+}
+
+/// The run of the document's journal. None, where that can't be read.
+fn replayed(alloc: Global, document: &Document) -> Result<Option<Replay<'_>>, AllocError> {
+    match read_journal(alloc, &document.graph, document.journal.as_str()) {
+        Ok(events) => played(alloc, document, &events),
+        Err(JournalFault::Memory) => Err(AllocError),
+        Err(_) => Ok(None),
+    }
+}
+
+/// Why the event of this line isn't allowed.
+pub(crate) fn not_allowed_text(alloc: Global, document: &Document, number: usize) -> Said {
+    let line = line_text(alloc, document, number)?;
+    let Some(replay) = replayed(alloc, document)? else {
+        return Ok(line);
+    };
+    let Some(event) = replay.refused else {
+        return Ok(line);
+    };
+    let why = refusal_text(alloc, &replay.run, event.act)?;
+    format!(in alloc; "{line} isn't allowed there: {why}")
+}
+
+/// At which event a claim fails.
+pub(crate) fn fails_text(alloc: Global, document: &Document, failure: Failure) -> Said {
+    let claim = claim_text(alloc, &document.graph, &document.claims, failure.claim)?;
+    if failure.place == 0 {
+        return format!(in alloc; "{claim} fails before the first event\n");
+    }
+    let line = line_text(alloc, document, failure.place)?;
+    format!(in alloc; "{claim} fails at {line}\n")
+}
+
+/// Where a task stands without whose end the run isn't complete: it is no child, or was started.
+fn awaited_text<C: Core>(alloc: Global, run: &C, task: TaskId) -> Said {
+    let graph = run.graph();
+    if (task.0 as usize) >= graph.len() {
+        return Ok(String::new(alloc));
+    }
+    let is_awaited = graph.kind(task) != Kind::Child || run.started(task);
+    match run.status(task) {
+        Status::Completed(_) => Ok(String::new(alloc)),
+        status if is_awaited => {
+            let (task, status) = (name(graph, task), status.name());
+            format!(in alloc; "; {task} is {status}")
+        }
+        _ => Ok(String::new(alloc)),
+    }
+}
+
+/// Which tasks have not ended.
+pub(crate) fn not_complete_text(alloc: Global, document: &Document) -> Said {
+    let mut text = String::from_str(alloc, "not each task has ended")?;
+    if let Some(replay) = replayed(alloc, document)? {
+        for number in 0..document.graph.len() {
+            text.push_str(awaited_text(alloc, &replay.run, TaskId(number as u16))?.as_str())?;
+        }
+    }
+    text.push_str("\n")?;
+    Ok(text)
+}

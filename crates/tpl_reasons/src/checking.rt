@@ -1,0 +1,152 @@
+//! Why a certificate is refused, or shows nothing.
+
+ghost use Rattle.std.specs.Prelude.{IfSome, IfNone};
+ghost use Rattle.std.specs.List.{All};
+ghost use Rattle.tpl_claims.specs.Fits.{Fits};
+ghost use Rattle.tpl_reader.specs.SeenDocument.{doc_of};
+ghost use Rattle.tpl_reasons.specs.Reasons.{IsCheckReason, IsRunReason, IsSilent};
+
+use crate::asked::Asked;
+use crate::auditing::inputs_of;
+use crate::leaves::{row_text, rows_of};
+use crate::reason::Reason;
+use crate::rules::rule_text;
+use crate::words::{Said, claim_text, count_text};
+use std::alloc::Global;
+use tpl_checker::check;
+use tpl_model::{CertFault, Property};
+use tpl_reader::Document;
+use tpl_words::TaskId;
+
+/// The most leaves of a tree with at most 6 splits on each path.
+const MOST_LEAVES: usize = 729;
+
+/// Why the certificate is refused, or shows nothing.
+pub(crate) fn check_reason(document: &Document) -> Option<Reason>
+    requires claims { All (Fits document.now.graph.graph) document.now.claims.items }
+    ensures some { IfSome result (IsCheckReason (doc_of document.now)) }
+    ensures none { IfNone result (IsSilent (doc_of document.now) Asked.Check) }
+{
+    match check(&document.graph, &document.claims, &document.certificate) {
+        Ok(()) if document.claims.is_empty() => Some(Reason::NothingAsked),
+        Ok(()) => None,
+        Err(fault) => Some(Reason::Unchecked(fault)),
+    }
+}
+
+/// Why no run is made.
+pub(crate) fn run_reason(document: &Document) -> Option<Reason>
+    requires claims { All (Fits document.now.graph.graph) document.now.claims.items }
+    ensures some { IfSome result (IsRunReason (doc_of document.now)) }
+    ensures none { IfNone result (IsSilent (doc_of document.now) Asked.Run) }
+{
+    if inputs_of(document).is_none() {
+        return Some(Reason::NoStart);
+    }
+    match check_reason(document) {
+        Some(Reason::NothingAsked) => None,
+        reason => reason,
+    }
+}
+
+/// Which leaf of a claim's tree hasn't one row for each task.
+fn rows_text(alloc: Global, document: &Document, claim: usize) -> Said {
+    for before in 0..MOST_LEAVES {
+        let leaf = before + 1;
+        match rows_of(document.certificate.trees(), claim, leaf) {
+            Some(rows) if rows.len() == document.graph.len() => {}
+            Some(rows) => {
+                let rows = count_text(alloc, rows.len(), "row")?;
+                let tasks = count_text(alloc, document.graph.len(), "task")?;
+                return format!(in alloc;
+                    "claim {claim}, leaf {leaf} has {rows} for {tasks}; a leaf has one row for each task, in declared order\n"
+                );
+            }
+            None => return format!(in alloc;
+                "the tree of claim {claim} names what the graph doesn't have\n"
+            ),
+        }
+    }
+    Ok(String::new(alloc))
+}
+
+/// Why claims and trees don't fit each other.
+fn shape_text(alloc: Global, document: &Document, claim: usize) -> Said {
+    let claims = document.claims.len();
+    let trees = document.certificate.trees().len();
+    let counts = count_text(alloc, claims, "claim")?;
+    let trees_text = count_text(alloc, trees, "tree")?;
+    if claim > trees {
+        return format!(in alloc;
+            "claim {claim} has no tree: {counts}, {trees_text}; `analyse` writes one for each claim\n"
+        );
+    }
+    if claim > claims {
+        return format!(in alloc;
+            "tree {claim} has no claim: {counts}, {trees_text}; `certificate` has one tree for each claim, in their order\n"
+        );
+    }
+    rows_text(alloc, document, claim)
+}
+
+/// The tasks of which a property speaks: one, or the same twice, or two.
+fn tasks_of(property: Property) -> (TaskId, TaskId) {
+    match property {
+        Property::Final(task, _) | Property::Observed(task) | Property::Never(task) => (task, task),
+        Property::After(first, second) => (first, second),
+        Property::Excludes(one, other) => (one, other),
+    }
+}
+
+/// When a leaf that keeps the rules proves a property.
+fn proved_if(property: Property) -> &'static str {
+    match property {
+        Property::Final(_, _) => "its row has no other end",
+        Property::After(_, _) => "the later task doesn't run, or its `before` has the earlier one",
+        Property::Observed(_) => "its row has a `chain`, or no end Faulted, or doesn't run",
+        Property::Never(_) => "its row doesn't run",
+        Property::Excludes(_, _) => "one of the two rows doesn't run",
+    }
+}
+
+/// Why a leaf doesn't prove its claim.
+fn unproved_text(alloc: Global, document: &Document, claim: usize, leaf: usize) -> Said {
+    let graph = &document.graph;
+    let number = claim_text(alloc, graph, &document.claims, claim)?;
+    let Some(asked) = document.claims.get(claim.saturating_sub(1)) else {
+        return Ok(number);
+    };
+    let rows = rows_of(document.certificate.trees(), claim, leaf).unwrap_or(&[]);
+    let (one, other) = tasks_of(asked.body());
+    let first = row_text(alloc, graph, rows, one)?;
+    let second = if one == other {
+        String::new(alloc)
+    } else {
+        row_text(alloc, graph, rows, other)?
+    };
+    let proved = proved_if(asked.body());
+    format!(in alloc;
+        "{number} isn't proved by leaf {leaf}, which keeps the rules; it is proved where {proved}\n{first}{second}"
+    )
+}
+
+/// Why a certificate is refused.
+pub(crate) fn fault_text(alloc: Global, document: &Document, fault: CertFault) -> Said {
+    let graph = &document.graph;
+    match fault {
+        CertFault::Shape { claim } => shape_text(alloc, document, claim),
+        CertFault::ClaimNot { claim, leaf } => unproved_text(alloc, document, claim, leaf),
+        CertFault::NotClosed {
+            claim,
+            leaf,
+            task,
+            rule,
+        } => {
+            let number = claim_text(alloc, graph, &document.claims, claim)?;
+            let rule = rule_text(alloc, graph, rule, task)?;
+            let rows = rows_of(document.certificate.trees(), claim, leaf).unwrap_or(&[]);
+            let row = row_text(alloc, graph, rows, task)?;
+            format!(in alloc; "{number}, leaf {leaf}: {rule}\n{row}")
+        }
+    }
+}

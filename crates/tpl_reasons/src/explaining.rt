@@ -1,0 +1,146 @@
+//! Why the program's answer is what it is.
+
+ghost use Rattle.std.specs.Prelude.{IfOk, IfSome, IfNone};
+ghost use Rattle.std.specs.List.{All};
+ghost use Rattle.tpl_claims.specs.Fits.{Fits};
+ghost use Rattle.tpl_reader.specs.Document.{IsFault, Spells};
+ghost use Rattle.tpl_reader.specs.SeenDocument.{doc_of};
+ghost use Rattle.tpl_reasons.specs.Reasons.{HasNoReason, IsReason, IsReasonOf, IsSilent, IsWithinDepth};
+
+use crate::asked::Asked;
+use crate::auditing::{
+    audit_reason, fails_text, no_journal_text, no_start_text, not_allowed_text, not_complete_text,
+    trace_reason,
+};
+use crate::checking::{check_reason, fault_text, run_reason};
+use crate::finding::{not_found_text, search_reason};
+use crate::reason::Reason;
+use crate::words::Said;
+use std::alloc::{AllocError, Global};
+use tpl_explain::explain_document;
+use tpl_reader::{Document, ReadFault, read_document};
+
+/// What is said of bytes that spell no document.
+const UNREAD: &str = "the document can't be read\n";
+
+/// What is said of a document without tasks, and of one without claims.
+const NO_TASK: &str = "there is no task and no claim, so nothing is shown\n";
+
+const NO_CLAIM: &str = "no claim was asked, so nothing is shown\n";
+
+/// Why the program's answer is what it is.
+#[derive(Drop)]
+pub struct Reasoned {
+    /// What the explanation is made of.
+    pub reason: Reason,
+    /// The explanation in words, a line or two, or more where each claim has one. It ends with a line break.
+    pub text: String,
+}
+
+/// The reason of the answer to a document, if there is something to say.
+fn reason_of(alloc: Global, asked: Asked, document: &Document) -> Result<Option<Reason>, AllocError>
+    requires claims { All (Fits document.now.graph.graph) document.now.claims.items }
+    requires depth { IsWithinDepth asked }
+    ensures some { IfOk result (λ o. IfSome o (IsReasonOf (doc_of document.now) asked)) }
+    ensures none { IfOk result (λ o. IfNone o (IsSilent (doc_of document.now) asked)) }
+{
+    match asked {
+        Asked::Check => Ok(check_reason(document)),
+        Asked::Run => Ok(run_reason(document)),
+        Asked::Analyse(depth) => search_reason(alloc, document, depth),
+        Asked::Audit => audit_reason(alloc, document),
+        Asked::Trace => trace_reason(alloc, document),
+        Asked::Other => Ok(None),
+    }
+}
+
+/// The reason in words.
+fn text_of(alloc: Global, asked: Asked, document: &Document, reason: Reason) -> Said
+    requires claims { All (Fits document.now.graph.graph) document.now.claims.items }
+    requires depth { IsWithinDepth asked }
+{
+    match reason {
+        Reason::Unreadable(_) => String::from_str(alloc, UNREAD),
+        Reason::Unchecked(fault) => fault_text(alloc, document, fault),
+        Reason::NotFound(claim) => match asked {
+            Asked::Analyse(depth) => not_found_text(alloc, document, depth, claim),
+            _ => Ok(String::new(alloc)),
+        },
+        Reason::NoStart => no_start_text(alloc, document),
+        Reason::NoJournal(fault) => no_journal_text(alloc, document, fault),
+        Reason::NotAllowed(line) => not_allowed_text(alloc, document, line),
+        Reason::Fails(failure) => fails_text(alloc, document, failure),
+        Reason::NotComplete => not_complete_text(alloc, document),
+        Reason::NothingAsked if document.graph.len() == 0 => String::from_str(alloc, NO_TASK),
+        Reason::NothingAsked => String::from_str(alloc, NO_CLAIM),
+    }
+}
+
+/// Why the answer to the document that the bytes spell is what it is.
+fn explain_in(
+    alloc: Global,
+    asked: Asked,
+    bytes: &[u8],
+    document: &Document,
+) -> Result<Option<Reasoned>, AllocError>
+    requires spelled { Spells bytes.now (doc_of document.now) }
+    requires claims { All (Fits document.now.graph.graph) document.now.claims.items }
+    requires depth { IsWithinDepth asked }
+    ensures some { IfOk result (λ o. IfSome o (λ r. IsReason bytes.now asked r.reason)) }
+    ensures none { IfOk result (λ o. IfNone o (HasNoReason bytes.now asked)) }
+{
+    let _ = bytes;
+    match reason_of(alloc, asked, document)? {
+        Some(reason) => {
+            let text = text_of(alloc, asked, document, reason)?;
+            Ok(Some(Reasoned { reason, text }))
+        }
+        None => Ok(None),
+    }
+}
+
+/// Why bytes spell no document.
+fn unreadable(
+    alloc: Global,
+    asked: Asked,
+    bytes: &[u8],
+    fault: ReadFault,
+) -> Result<Option<Reasoned>, AllocError>
+    requires { IsFault bytes.now fault }
+    ensures some { IfOk result (λ o. IfSome o (λ r. IsReason bytes.now asked r.reason)) }
+    ensures none { IfOk result (λ o. IfNone o (HasNoReason bytes.now asked)) }
+{
+    let _ = asked;
+    match fault {
+        ReadFault::Memory => Err(AllocError),
+        ReadFault::TooLong
+        | ReadFault::NotJson
+        | ReadFault::Shape(_)
+        | ReadFault::Graph(_)
+        | ReadFault::Claim(_, _)
+        | ReadFault::Certificate(_, _)
+        | ReadFault::Start(_) => Ok(Some(Reasoned {
+            reason: Reason::Unreadable(fault),
+            text: String::from_str(alloc, UNREAD)?,
+        })),
+    }
+}
+
+/// Why the program's answer to a document of these bytes is what it is, in words; none where there is nothing to say: the
+/// answer says all, or it is that of another command. Want of memory is the only error.
+pub fn explain(alloc: Global, asked: Asked, bytes: &[u8]) -> Result<Option<Reasoned>, AllocError>
+    requires depth { IsWithinDepth asked }
+    ensures some { IfOk result (λ o. IfSome o (λ r. IsReason bytes.now asked r.reason)) }
+    ensures none { IfOk result (λ o. IfNone o (HasNoReason bytes.now asked)) }
+{
+    match explain_document(alloc, bytes)? {
+        Some(explanation) => Ok(Some(Reasoned {
+            reason: Reason::Unreadable(explanation.fault),
+            text: explanation.text,
+        })),
+        None => match read_document(alloc, bytes) {
+            Ok(document) => explain_in(alloc, asked, bytes, &document),
+            Err(fault) => unreadable(alloc, asked, bytes, fault),
+        },
+    }
+}

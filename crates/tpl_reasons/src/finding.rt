@@ -1,0 +1,101 @@
+//! Why no certificate was found.
+
+ghost use Rattle.std.specs.Prelude.{◌<◌, ◌≤◌, length, IfOk, IfSome, IfNone};
+ghost use Rattle.std.specs.List.{All};
+ghost use Rattle.tpl_claims.specs.Fits.{Fits};
+ghost use Rattle.tpl_reader.specs.SeenDocument.{doc_of};
+ghost use Rattle.tpl_reasons.specs.Reasons.{IsSearchReason, IsSilent};
+
+use crate::asked::Asked;
+use crate::obstacle::obstacle_text;
+use crate::reason::Reason;
+use crate::words::{Said, claim_text, count_text};
+use std::alloc::{AllocError, Global};
+use tpl_analyser::{Gap, analyse};
+use tpl_claims::Claim;
+use tpl_graph::Graph;
+use tpl_reader::Document;
+
+/// Why no certificate was found.
+pub(crate) fn search_reason(
+    alloc: Global,
+    document: &Document,
+    depth: u8,
+) -> Result<Option<Reason>, AllocError>
+    requires claims { All (Fits document.now.graph.graph) document.now.claims.items }
+    requires depth { depth ≤ 6 }
+    ensures some { IfOk result (λ o. IfSome o (IsSearchReason depth (doc_of document.now))) }
+    ensures none { IfOk result (λ o. IfNone o
+        (IsSilent (doc_of document.now) (Asked.Analyse depth))) }
+{
+    if document.claims.is_empty() {
+        return Ok(Some(Reason::NothingAsked));
+    }
+    match analyse(alloc, &document.graph, &document.claims, depth) {
+        Ok(_) => Ok(None),
+        Err(Gap::NotFound { claim }) => Ok(Some(Reason::NotFound(claim))),
+        Err(Gap::Memory) => Err(AllocError),
+    }
+}
+
+/// A certificate of the claim of this number alone is found.
+fn is_found(
+    alloc: Global,
+    graph: &Graph,
+    claims: &[Claim],
+    at: usize,
+    depth: u8,
+) -> Result<bool, AllocError>
+    requires at { at < length claims.now }
+    requires claims { All (Fits graph.now.graph) claims.now }
+    requires depth { depth ≤ 6 }
+{
+    match analyse(alloc, graph, &claims[at..at + 1], depth) {
+        Ok(_) => Ok(true),
+        Err(Gap::NotFound { .. }) => Ok(false),
+        Err(Gap::Memory) => Err(AllocError),
+    }
+}
+
+/// A line for each claim: whether it is found at this depth.
+fn each_text(alloc: Global, document: &Document, depth: u8) -> Said
+    requires claims { All (Fits document.now.graph.graph) document.now.claims.items }
+    requires depth { depth ≤ 6 }
+{
+    let mut lines = String::new(alloc);
+    for at in 0..document.claims.len() {
+        let found = is_found(alloc, &document.graph, &document.claims, at, depth)?;
+        lines.push_str(if found { "found: " } else { "not found: " })?;
+        let claim = claim_text(alloc, &document.graph, &document.claims, at + 1)?;
+        lines.push_str(claim.as_str())?;
+        lines.push_str("\n")?;
+    }
+    Ok(lines)
+}
+
+/// What was tried for a claim.
+fn tried_text(alloc: Global, depth: u8) -> Said {
+    if depth == 0 {
+        return String::from_str(alloc, "the one tree without a split doesn't prove it");
+    }
+    let splits = count_text(alloc, depth as usize, "split")?;
+    format!(in alloc; "no tree with at most {splits} on each path was found within 100,000 leaves")
+}
+
+/// Why no certificate was found.
+pub(crate) fn not_found_text(alloc: Global, document: &Document, depth: u8, number: usize) -> Said
+    requires claims { All (Fits document.now.graph.graph) document.now.claims.items }
+    requires depth { depth ≤ 6 }
+{
+    let graph = &document.graph;
+    let claim = claim_text(alloc, graph, &document.claims, number)?;
+    let tried = tried_text(alloc, depth)?;
+    let obstacle = match document.claims.get(number.saturating_sub(1)) {
+        Some(claim) => obstacle_text(alloc, graph, claim)?,
+        None => String::new(alloc),
+    };
+    let each = each_text(alloc, document, depth)?;
+    format!(in alloc;
+        "{claim}: {tried}\n{obstacle}{each}a claim that isn't found may be true: try a greater `--depth`, at most 6, or `refute`, which looks for a run in which a claim fails\n"
+    )
+}

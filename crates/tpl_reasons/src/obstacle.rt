@@ -1,0 +1,94 @@
+//! What stands in the way of a claim, where it can be said simply.
+
+ghost use Rattle.tpl_claims.specs.Fits.{Fits};
+
+use crate::rules::ready;
+use crate::words::{Said, name, token_name};
+use std::alloc::{AllocError, Global};
+use tpl_checker::{Assumptions, Ready, assumed};
+use tpl_claims::Claim;
+use tpl_graph::Graph;
+use tpl_model::Property;
+use tpl_words::{Final, TaskId};
+
+/// The name of the task's token, if that may be requested.
+fn loud_token<'g>(graph: &'g Graph, assumed: &Assumptions, task: TaskId) -> Option<&'g str> {
+    if (task.0 as usize) < graph.len() && assumed.is_loud(graph, task) {
+        Some(token_name(graph, graph.own_token(task)?))
+    } else {
+        None
+    }
+}
+
+/// Why a task for which another one waits may have ended too early, if it may.
+fn early_text(
+    alloc: Global,
+    graph: &Graph,
+    assumed: &Assumptions,
+    task: TaskId,
+) -> Result<Option<String>, AllocError> {
+    let label = name(graph, task);
+    if (task.0 as usize) < graph.len() && graph.options(task).lazy_cancellation() {
+        return Ok(None);
+    }
+    let text = match ready(graph, task) {
+        Some(Ready::Then(before)) => {
+            let Some(token) = loud_token(graph, assumed, task) else {
+                return Ok(None);
+            };
+            let before = name(graph, before);
+            format!(in alloc;
+                "{label} may be canceled while {before} still runs: it has the token {token} and is not lazy\n"
+            )?
+        }
+        Some(Ready::Any(_)) => {
+            format!(in alloc;
+                "{label} ends as soon as one task of its list has, while the others may still run\n"
+            )?
+        }
+        Some(Ready::Root) => format!(in alloc; "{label} is a root: it waits for nothing\n")?,
+        _ => return Ok(None),
+    };
+    Ok(Some(text))
+}
+
+/// Why the second task may begin before the first is settled, where one of those that it waits for says so.
+fn order_text(
+    alloc: Global,
+    graph: &Graph,
+    assumed: &Assumptions,
+    first: TaskId,
+    second: TaskId,
+) -> Said {
+    let mut task = second;
+    for _ in 0..graph.len() {
+        match ready(graph, task) {
+            Some(Ready::Then(before)) if before != first => task = before,
+            _ => return Ok(String::new(alloc)),
+        }
+        if let Some(text) = early_text(alloc, graph, assumed, task)? {
+            return Ok(text);
+        }
+    }
+    Ok(String::new(alloc))
+}
+
+/// What stands in the way of the claim, as a line, where it can be said simply.
+pub(crate) fn obstacle_text(alloc: Global, graph: &Graph, claim: &Claim) -> Said
+    requires { Fits graph.now.graph claim.now }
+{
+    let assumed = assumed(graph, claim.given());
+    match claim.body() {
+        Property::After(first, second) => order_text(alloc, graph, &assumed, first, second),
+        Property::Final(task, ends) if !ends.contains(Final::Canceled) => {
+            let Some(token) = loud_token(graph, &assumed, task) else {
+                return Ok(String::new(alloc));
+            };
+            let task = name(graph, task);
+            format!(in alloc;
+                "{task} may be canceled: it has the token {token}, which may be requested\n"
+            )
+        }
+        _ => Ok(String::new(alloc)),
+    }
+}

@@ -1,0 +1,92 @@
+//! The rules for the rows of a leaf, each in one sentence.
+
+use crate::words::{Said, name};
+use std::alloc::Global;
+use tpl_checker::{Ready, ready_of};
+use tpl_graph::Graph;
+use tpl_model::Rule;
+use tpl_words::TaskId;
+
+/// What makes the task ready, if it is the graph's.
+pub(crate) fn ready(graph: &Graph, task: TaskId) -> Option<Ready<'_>> {
+    if (task.0 as usize) < graph.len() {
+        Some(ready_of(graph, task))
+    } else {
+        None
+    }
+}
+
+/// The rule, said of a root.
+fn root_rule(rule: Rule) -> &'static str {
+    match rule {
+        Rule::K1 => "K1: a root may begin, so its row has to say that it runs",
+        Rule::K3 => "K3: a root waits for nothing, so its `before` has to be empty",
+        _ => "K4: `past` of a root may have its attached children alone",
+    }
+}
+
+/// The rule, said of a child.
+fn child_rule(rule: Rule) -> &'static str {
+    match rule {
+        Rule::K1 => "K1: its parent runs and may start it, so its row has to say that it runs",
+        Rule::K3 => "K3: `before` of a child may have what `before` of its parent has",
+        _ => "K4: `past` of a child may have its attached children and what is before its parent",
+    }
+}
+
+/// The rule, said of a continuation.
+fn then_rule(rule: Rule) -> &'static str {
+    match rule {
+        Rule::K1 => "K1: its options allow an end of that task, so its row has to say that it runs",
+        Rule::K3 => "K3: its `before` may have that task and what `past` of that task has",
+        _ => {
+            "K4: its `past` may have that task, what `past` of that task has, and its attached children; but the children alone where it may be canceled while that task still runs: it has a token that may be requested, and is not lazy"
+        }
+    }
+}
+
+/// The rule K2.
+const ENDS: &str =
+    "K2: its `ends` has to name each way in which it may end: RanToCompletion where its body may return; Faulted where it may throw, a job of it may fail, or an attached child may be Faulted; Canceled where its token may be requested, or its options don't allow an end of the task that it continues";
+
+/// The rule K2, said of a WhenAll task.
+const ENDS_OF_ALL: &str =
+    "K2: the `ends` of WhenAll has to name RanToCompletion where each task of its list may run to completion; Canceled where each may end otherwise than Faulted and one may be Canceled; Faulted where each may end and one may be Faulted";
+
+/// The rule K6.
+const CHAIN: &str =
+    "K6: its `chain` has to lead over tasks that take its exception over (a parent that of its attached child, a WhenAll task that of a task of its list) to a continuation that reads it: its options allow Faulted, its token is never requested, and its body observes on each path";
+
+/// What the rule asks of a task.
+fn sentence(rule: Rule, ready: Option<Ready<'_>>) -> &'static str {
+    match (rule, ready) {
+        (Rule::K6, _) => CHAIN,
+        (Rule::K2, Some(Ready::All(_))) => ENDS_OF_ALL,
+        (Rule::K2, Some(Ready::Any(_))) => {
+            "K2: the `ends` of WhenAny has to name RanToCompletion where a task of its list may end"
+        }
+        (Rule::K2, _) => ENDS,
+        (_, Some(Ready::All(_))) => {
+            "K5: `past` of WhenAll may have the tasks of its list and what is in their `past`"
+        }
+        (_, Some(Ready::Any(_))) => {
+            "K5: `past` of WhenAny may have only what is past each task of its list, since any of them may be the first to end"
+        }
+        (_, Some(Ready::Root)) => root_rule(rule),
+        (_, Some(Ready::Then(_))) => then_rule(rule),
+        _ => child_rule(rule),
+    }
+}
+
+/// What the rule asks of a task, with its name.
+pub(crate) fn rule_text(alloc: Global, graph: &Graph, rule: Rule, task: TaskId) -> Said {
+    let ready = ready(graph, task);
+    let (task, rule) = (name(graph, task), sentence(rule, ready));
+    match ready {
+        Some(Ready::Then(antecedent)) => {
+            let antecedent = name(graph, antecedent);
+            format!(in alloc; "{task}, which continues {antecedent}, breaks rule {rule}")
+        }
+        _ => format!(in alloc; "{task} breaks rule {rule}"),
+    }
+}

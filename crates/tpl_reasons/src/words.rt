@@ -1,0 +1,171 @@
+//! Names, claims, and sets of tasks and of ends, in words.
+
+use std::alloc::{AllocError, Global};
+use tpl_claims::Claim;
+use tpl_graph::Graph;
+use tpl_model::{Given, Property};
+use tpl_words::{Actor, Final, Finals, InputId, TaskId, TaskSet, TokenId};
+
+/// A text, or want of memory.
+pub(crate) type Said = Result<String, AllocError>;
+
+/// The most tasks of a set that are named.
+const MOST_NAMES: usize = 5;
+
+/// The name of a task, or a question mark where the graph has no such task.
+pub(crate) fn name(graph: &Graph, task: TaskId) -> &str {
+    if (task.0 as usize) < graph.len() {
+        graph.name(task)
+    } else {
+        "?"
+    }
+}
+
+/// The name of a token, or a question mark where the graph has no such token.
+pub(crate) fn token_name(graph: &Graph, token: TokenId) -> &str {
+    if (token.0 as usize) < graph.token_count() {
+        graph.token_name(token)
+    } else {
+        "?"
+    }
+}
+
+/// The name of an input, or a question mark where the graph has no such input.
+pub(crate) fn input_name(graph: &Graph, input: InputId) -> &str {
+    if (input.0 as usize) < graph.input_count() {
+        graph.input_name(input)
+    } else {
+        "?"
+    }
+}
+
+/// Who does something, as journals spell it.
+pub(crate) fn actor_text(alloc: Global, actor: Actor) -> Said {
+    match actor {
+        Actor::Worker(worker) => {
+            let number = worker.0;
+            format!(in alloc; "w{number}")
+        }
+        Actor::Outside(number) => format!(in alloc; "o{number}"),
+    }
+}
+
+/// So many things.
+pub(crate) fn count_text(alloc: Global, count: usize, thing: &str) -> Said {
+    if count == 1 {
+        format!(in alloc; "1 {thing}")
+    } else {
+        format!(in alloc; "{count} {thing}s")
+    }
+}
+
+/// Adds a word to a list of words.
+fn add_word(list: &mut String, between: &str, word: &str) -> Result<(), AllocError> {
+    if !list.as_str().is_empty() {
+        list.push_str(between)?;
+    }
+    list.push_str(word)
+}
+
+/// A list of words, or `nothing`, where there is none.
+fn or_nothing(alloc: Global, list: String) -> Said {
+    if list.as_str().is_empty() {
+        String::from_str(alloc, "nothing")
+    } else {
+        Ok(list)
+    }
+}
+
+/// The ends of a set.
+pub(crate) fn ends_text(alloc: Global, ends: Finals) -> Said {
+    let mut list = String::new(alloc);
+    for end in [Final::RanToCompletion, Final::Canceled, Final::Faulted] {
+        if ends.contains(end) {
+            add_word(&mut list, " or ", end.name())?;
+        }
+    }
+    or_nothing(alloc, list)
+}
+
+/// The names of the tasks of a set, at most five of them.
+pub(crate) fn set_text(alloc: Global, graph: &Graph, set: &TaskSet) -> Said {
+    let mut list = String::new(alloc);
+    let mut room = MOST_NAMES;
+    for number in 0..graph.len() {
+        let task = TaskId(number as u16);
+        if set.contains(task) {
+            if room == 0 {
+                add_word(&mut list, " and ", "others")?;
+                return Ok(list);
+            }
+            room -= 1;
+            add_word(&mut list, ", ", name(graph, task))?;
+        }
+    }
+    or_nothing(alloc, list)
+}
+
+/// The names of the tasks of a list.
+pub(crate) fn list_text(alloc: Global, graph: &Graph, tasks: &[TaskId]) -> Said {
+    let mut list = String::new(alloc);
+    for task in tasks {
+        add_word(&mut list, ", ", name(graph, *task))?;
+    }
+    or_nothing(alloc, list)
+}
+
+/// What a property says of a run.
+fn property_text(alloc: Global, graph: &Graph, property: Property) -> Said {
+    match property {
+        Property::Final(task, ends) => {
+            let (task, ends) = (name(graph, task), ends_text(alloc, ends)?);
+            format!(in alloc; "{task} ends {ends}")
+        }
+        Property::After(first, second) => {
+            let (first, second) = (name(graph, first), name(graph, second));
+            format!(in alloc; "{second} begins only after {first} is settled")
+        }
+        Property::Observed(task) => {
+            let task = name(graph, task);
+            format!(in alloc; "the exception of {task} is observed")
+        }
+        Property::Never(task) => {
+            let task = name(graph, task);
+            format!(in alloc; "{task} never begins")
+        }
+        Property::Excludes(one, other) => {
+            let (one, other) = (name(graph, one), name(graph, other));
+            format!(in alloc; "{one} and {other} don't both begin")
+        }
+    }
+}
+
+/// What a claim takes as given.
+fn given_text(alloc: Global, graph: &Graph, given: &[Given]) -> Said {
+    let mut list = String::new(alloc);
+    for one in given {
+        let (thing, is) = match one {
+            Given::Input(input, true) => (input_name(graph, *input), " is true"),
+            Given::Input(input, false) => (input_name(graph, *input), " is false"),
+            Given::Quiet(token) => (token_name(graph, *token), " is never requested"),
+        };
+        add_word(&mut list, " and ", thing)?;
+        list.push_str(is)?;
+    }
+    Ok(list)
+}
+
+/// The claim of this number, counted from 1: `claim 3 (B begins only after A is settled)`.
+pub(crate) fn claim_text(alloc: Global, graph: &Graph, claims: &[Claim], number: usize) -> Said {
+    for (at, claim) in claims.iter().enumerate() {
+        if at + 1 == number {
+            let property = property_text(alloc, graph, claim.body())?;
+            let given = given_text(alloc, graph, claim.given())?;
+            if claim.given().is_empty() {
+                return format!(in alloc; "claim {number} ({property})");
+            }
+            return format!(in alloc; "claim {number} ({property}, where {given})");
+        }
+    }
+    format!(in alloc; "claim {number}")
+}
