@@ -1,5 +1,6 @@
 //! What is said on the standard error, for people: why an answer is what it is. It changes nothing of the answer.
 
+ghost use Rattle.std.specs.Prelude.{IfSome};
 ghost use Rattle.tpl_cli.specs.Line.{IsWithin};
 ghost use Rattle.tpl_reasons.specs.Reasons.{IsWithinDepth};
 
@@ -30,13 +31,21 @@ fn asked_by(line: Line) -> Asked
     }
 }
 
-/// Whether there may be a reason to tell: the document wasn't read, or the answer is no, or the check said yes, perhaps
-/// to no claim at all.
-fn is_told(line: Line, exit: Exit) -> bool {
+/// What the reasons are to go by, if there may be one to tell: the document wasn't read, or the answer is no, or it is
+/// yes, perhaps to no claim at all.
+fn told_of(line: Line, exit: Exit) -> Option<Asked>
+    requires { IsWithin line }
+    ensures { IfSome result IsWithinDepth }
+{
     match exit {
-        Exit::Failure | Exit::Unreadable => true,
-        Exit::Success => line == Line::Check,
-        _ => false,
+        Exit::Failure | Exit::Unreadable => Some(asked_by(line)),
+        Exit::Success => match line {
+            Line::Check | Line::Analyse(_) | Line::AnalyseIn(..) | Line::Certify(..) => {
+                Some(Asked::Claims)
+            }
+            _ => None,
+        },
+        _ => None,
     }
 }
 
@@ -45,10 +54,10 @@ fn is_told(line: Line, exit: Exit) -> bool {
 pub(crate) fn tell_why(rt: &HostRuntime, line: Line, exit: Exit, bytes: &[u8])
     requires { IsWithin line }
 {
-    if !is_told(line, exit) {
+    let Some(asked) = told_of(line, exit) else {
         return;
-    }
-    if let Ok(Some(told)) = explain(rt.alloc(), asked_by(line), bytes) {
+    };
+    if let Ok(Some(told)) = explain(rt.alloc(), asked, bytes) {
         let _ = eprint!(rt; "{}", told.text);
     }
 }

@@ -18,7 +18,7 @@ use Rattle.tpl_reader.specs.Document.{DocumentValue, Spells, IsFault}
 use Rattle.tpl_reader.specs.declared.fault.ReadFault.{ReadFault}
 use Rattle.tpl_reader.specs.declared.fault.ReadFault.TheVariants as read
 use Rattle.tpl_reasons.specs.declared.asked.Asked.{Asked}
-use Rattle.tpl_reasons.specs.declared.asked.Asked.TheVariants.{Check, Run, Analyse, Audit, Trace, Other}
+use Rattle.tpl_reasons.specs.declared.asked.Asked.TheVariants.{Check, Run, Analyse, Audit, Trace, Claims, Other}
 use Rattle.tpl_reasons.specs.declared.reason.Reason.{Reason}
 use Rattle.tpl_reasons.specs.declared.reason.Reason.TheVariants.{Unreadable, Unchecked, NotFound, NoStart, NoJournal, NotAllowed, Fails, NotComplete, NothingAsked}
 
@@ -90,6 +90,11 @@ IsTraceReason doc (NoJournal fault) = IsBroken doc fault
 IsTraceReason doc (NotAllowed place) = IsAudited doc (ruled.NotAllowed place)
 IsTraceReason doc reason = ⊥
 
+-- why an answer about all claims says nothing
+abbrev pub IsClaimsReason : DocumentValue → Reason → Type 0
+IsClaimsReason doc NothingAsked = doc.claims ≡ []
+IsClaimsReason doc reason = ⊥
+
 -- the reason of the answer to a document
 abbrev pub IsReasonOf : DocumentValue → Asked → Reason → Type 0
 IsReasonOf doc Check reason = IsCheckReason doc reason
@@ -97,6 +102,7 @@ IsReasonOf doc Run reason = IsRunReason doc reason
 IsReasonOf doc (Analyse depth) reason = IsSearchReason depth doc reason
 IsReasonOf doc Audit reason = IsAuditReason doc reason
 IsReasonOf doc Trace reason = IsTraceReason doc reason
+IsReasonOf doc Claims reason = IsClaimsReason doc reason
 IsReasonOf doc Other reason = ⊥
 
 -- the answer to a document says all: what was asked for is shown, found, made, or another command's
@@ -106,6 +112,7 @@ IsSilent doc Run = IsAccepted doc
 IsSilent doc (Analyse depth) = (trees : List Tree) × Accepts doc.graph.graph doc.claims trees
 IsSilent doc Audit = IsAudited doc (ruled.Run true None)
 IsSilent doc Trace = (complete : Bool) × ((fails : Option Failure) × IsAudited doc (ruled.Run complete fails))
+IsSilent doc Claims = doc.claims ≡ [] → ⊥
 IsSilent doc Other = Unit {0}
 
 -- the bytes spell no document, and not for want of memory

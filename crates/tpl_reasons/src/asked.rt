@@ -13,6 +13,8 @@ pub enum Asked {
     Audit,
     /// A picture of the document's journal, where that is a run.
     Trace,
+    /// Whether anything is claimed.
+    Claims,
     /// Something that says more than a line, where the document can be read.
     Other,
 }

@@ -4,7 +4,7 @@ ghost use Rattle.std.specs.Prelude.{IfSome, IfNone};
 ghost use Rattle.std.specs.List.{All};
 ghost use Rattle.tpl_claims.specs.Fits.{Fits};
 ghost use Rattle.tpl_reader.specs.SeenDocument.{doc_of};
-ghost use Rattle.tpl_reasons.specs.Reasons.{IsCheckReason, IsRunReason, IsSilent};
+ghost use Rattle.tpl_reasons.specs.Reasons.{IsCheckReason, IsClaimsReason, IsRunReason, IsSilent};
 
 use crate::asked::Asked;
 use crate::auditing::inputs_of;
@@ -31,6 +31,18 @@ pub(crate) fn check_reason(document: &Document) -> Option<Reason>
         Ok(()) if document.claims.is_empty() => Some(Reason::NothingAsked),
         Ok(()) => None,
         Err(fault) => Some(Reason::Unchecked(fault)),
+    }
+}
+
+/// Why an answer about all claims says nothing.
+pub(crate) fn claims_reason(document: &Document) -> Option<Reason>
+    ensures some { IfSome result (IsClaimsReason (doc_of document.now)) }
+    ensures none { IfNone result (IsSilent (doc_of document.now) Asked.Claims) }
+{
+    if document.claims.is_empty() {
+        Some(Reason::NothingAsked)
+    } else {
+        None
     }
 }
 

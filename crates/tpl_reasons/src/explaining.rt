@@ -12,7 +12,7 @@ use crate::auditing::{
     audit_reason, fails_text, no_journal_text, no_start_text, not_allowed_text, not_complete_text,
     trace_reason,
 };
-use crate::checking::{check_reason, fault_text, run_reason};
+use crate::checking::{check_reason, claims_reason, fault_text, run_reason};
 use crate::finding::{not_found_text, search_reason};
 use crate::reason::Reason;
 use crate::words::Said;
@@ -50,6 +50,7 @@ fn reason_of(alloc: Global, asked: Asked, document: &Document) -> Result<Option<
         Asked::Analyse(depth) => search_reason(alloc, document, depth),
         Asked::Audit => audit_reason(alloc, document),
         Asked::Trace => trace_reason(alloc, document),
+        Asked::Claims => Ok(claims_reason(document)),
         Asked::Other => Ok(None),
     }
 }
