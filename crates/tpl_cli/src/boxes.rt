@@ -13,7 +13,7 @@ use std::thread::Threads;
 use tpl_jobs::{Work, WorkItem};
 use tpl_journal::Counting;
 use tpl_reader::Document;
-use tpl_report::{Exit, put_out_of_memory, serve_run};
+use tpl_report::{Crew, Exit, Follow, put_out_of_memory, serve_run_followed};
 use tpl_words::{Answer, SiteId};
 
 /// The stamp of this program's boxes.
@@ -41,11 +41,11 @@ fn answer_of(document: &Document, site: SiteId, may_fail: bool) -> Answer
 
 /// Makes one box for each work statement, which answers `Failed` exactly where `start.fail` names it, and makes the run
 /// of the document with them.
-pub fn run_boxes<R: Threads + Wait + Sync, O: Write>(
+pub fn run_boxes<R: Threads + Wait + Sync, O: Write, F: Follow>(
     rt: &R,
     alloc: Global,
     document: &Document,
-    workers: u16,
+    crew: Crew<'_, F>,
     to: &mut Counting<O>,
 ) -> Exit
     requires claims { All (Fits document.now.graph.graph) document.now.claims.items }
@@ -67,5 +67,5 @@ pub fn run_boxes<R: Threads + Wait + Sync, O: Write>(
             return put_out_of_memory(to);
         }
     }
-    serve_run(rt, alloc, document, items, workers, to)
+    serve_run_followed(rt, alloc, document, items, crew, to)
 }

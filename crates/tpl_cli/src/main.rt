@@ -4,6 +4,7 @@
 mod boxes;
 mod line;
 mod options;
+mod progress;
 mod subcommand;
 mod usage;
 mod why;
@@ -13,6 +14,7 @@ ghost use Rattle.tpl_cli.specs.Line.{IsWithin};
 
 use crate::boxes::run_boxes;
 use crate::line::{Line, LineFault, line_of};
+use crate::progress::RunProgress;
 use crate::why::{asks_why, say_what_is_read, tell_why, tell_why_unread};
 use std::alloc::Global;
 use std::io::{BufWriter, ErrorKind, IsTerminal, Read, Write};
@@ -21,9 +23,10 @@ use std::sync::Wait;
 use std::thread::Threads;
 use std::{env, iter};
 use tpl_journal::Counting;
-use tpl_report::{Ask, Exit, load, put_out_of_memory, read_input, serve};
+use tpl_report::{Ask, Crew, Exit, inputs_of, load, put_out_of_memory, read_input, serve};
 use tpl_trace::trace_document;
 use tpl_witness::{Search, refute_document};
+use tpl_words::Inputs;
 
 /// The words of the command line, the program's own name first.
 fn words(rt: &HostRuntime) -> Result<Vec<String>, LineFault> {
@@ -59,14 +62,20 @@ fn given_order(rt: &HostRuntime) -> Result<Order, LineFault>
 
 /// Makes the run of the document that comes.
 fn run<R: Threads + Wait + Sync, I: Read, O: Write>(
-    rt: &R,
-    alloc: Global,
+    rt: &HostRuntime,
+    threads: &R,
     workers: u16,
     from: &mut Counting<I>,
     to: &mut Counting<O>,
 ) -> Exit {
-    match load(alloc, from, to) {
-        Ok(document) => run_boxes(rt, alloc, &document, workers, to),
+    match load(rt.alloc(), from, to) {
+        Ok(document) => {
+            let inputs = inputs_of(&document).unwrap_or(Inputs::new(0));
+            let progress = RunProgress::new(rt, &document.graph, inputs);
+            let follower = rt.stderr().is_terminal().then_some(&progress);
+            let crew = Crew { workers, follower };
+            run_boxes(threads, rt.alloc(), &document, crew, to)
+        }
         Err(exit) => exit,
     }
 }
@@ -96,7 +105,7 @@ fn answer<R: Threads + Wait + Sync, I: Read, O: Write>(
         Line::Analyse(depth) => serve(rt.alloc(), Ask::Analyse(depth), from, to),
         Line::AnalyseIn(depth, form) => serve(rt.alloc(), Ask::AnalyseIn(depth, form), from, to),
         Line::Certify(depth, form) => serve(rt.alloc(), Ask::Certify(depth, form), from, to),
-        Line::Run(workers) => run(threads, rt.alloc(), workers, from, to),
+        Line::Run(workers) => run(rt, threads, workers, from, to),
         Line::Audit => serve(rt.alloc(), Ask::Audit, from, to),
         Line::Refute(claim, runs, seed, explain) => {
             let search = search_of(claim, runs, seed, explain);

@@ -20,6 +20,7 @@ use crate::auditing::inputs_of;
 use crate::checking::{check_document, refused_answer};
 use crate::exit::Exit;
 use crate::fault::Stop;
+use crate::following::{Crew, Follow, Nobody};
 use crate::session::report_on;
 use std::alloc::Global;
 use std::io::Write;
@@ -87,13 +88,13 @@ fn put_report<O: Write, K: Drop, W: Drop>(
 }
 
 /// Makes the run of a document whose certificate is accepted, and writes what comes of it.
-fn run_with<R: Threads + Wait + Sync, K: Drop + Send, W: Item<K> + Send, O: Write>(
+fn run_with<R: Threads + Wait + Sync, K: Drop + Send, W: Item<K> + Send, O: Write, F: Follow>(
     rt: &R,
     alloc: Global,
     document: &Document,
     inputs: Inputs,
     items: Vec<W>,
-    workers: u16,
+    crew: Crew<'_, F>,
     to: &mut Counting<O>,
 ) -> Exit
     requires accepted { IsAccepted (doc_of document.now) }
@@ -101,7 +102,7 @@ fn run_with<R: Threads + Wait + Sync, K: Drop + Send, W: Item<K> + Send, O: Writ
     ensures { Runs (doc_of document.now) (Some inputs) O.contents to.old to.new result }
 {
     let graph = &document.graph;
-    match report_on(rt, alloc, graph, inputs, requests(document), items, workers) {
+    match report_on(rt, alloc, graph, inputs, requests(document), items, crew) {
         Ok(report) => put_report(graph, &report, to),
         Err(Stop::Memory) => put_out_of_memory(to),
         Err(Stop::Fault(fault)) => put(Exit::Fault, fault.line().as_bytes(), to),
@@ -109,13 +110,13 @@ fn run_with<R: Threads + Wait + Sync, K: Drop + Send, W: Item<K> + Send, O: Writ
 }
 
 /// Checks the certificate of a document, and makes its run where it is accepted.
-fn check_and_run<R: Threads + Wait + Sync, K: Drop + Send, W: Item<K> + Send, O: Write>(
+fn check_and_run<R: Threads + Wait + Sync, K: Drop + Send, W: Item<K> + Send, O: Write, F: Follow>(
     rt: &R,
     alloc: Global,
     document: &Document,
     inputs: Inputs,
     items: Vec<W>,
-    workers: u16,
+    crew: Crew<'_, F>,
     to: &mut Counting<O>,
 ) -> Exit
     requires claims { All (Fits document.now.graph.graph) document.now.claims.items }
@@ -123,7 +124,7 @@ fn check_and_run<R: Threads + Wait + Sync, K: Drop + Send, W: Item<K> + Send, O:
     ensures { Runs (doc_of document.now) (Some inputs) O.contents to.old to.new result }
 {
     match check_document(document) {
-        Ok(()) => run_with(rt, alloc, document, inputs, items, workers, to),
+        Ok(()) => run_with(rt, alloc, document, inputs, items, crew, to),
         Err(fault) => put_answer(refused_answer(alloc, &document.graph, fault), to),
     }
 }
@@ -154,8 +155,43 @@ pub fn serve_run<R: Threads + Wait + Sync, K: Drop + Send, W: Item<K> + Send, O:
     ensures memory { result ≡ Exit.Memory → Writes O.contents to.old to.new
         (codes "out of memory\n") }
 {
+    let crew: Crew<'_, Nobody> = Crew {
+        workers,
+        follower: None,
+    };
+    serve_run_followed(rt, alloc, document, items, crew, to)
+}
+
+/// Makes the run of a document as [`serve_run`] does, which somebody may follow.
+pub fn serve_run_followed<
+    R: Threads + Wait + Sync,
+    K: Drop + Send,
+    W: Item<K> + Send,
+    O: Write,
+    F: Follow,
+>(
+    rt: &R,
+    alloc: Global,
+    document: &Document,
+    items: Vec<W>,
+    crew: Crew<'_, F>,
+    to: &mut Counting<O>,
+) -> Exit
+    requires claims { All (Fits document.now.graph.graph) document.now.claims.items }
+    requires tokens { RequestsTokens (doc_of document.now) }
+    ensures runs { let doc = doc_of document.now in
+        Runs doc (inputs_of doc) O.contents to.old to.new result }
+
+    // Success: the report that was written says that the run is complete, and each claim holds of it.
+    ensures complete { result ≡ Exit.Success
+        → Completes (doc_of document.now) O.contents to.old to.new }
+
+    // The line for want of memory stands alone.
+    ensures memory { result ≡ Exit.Memory → Writes O.contents to.old to.new
+        (codes "out of memory\n") }
+{
     match inputs_of(document) {
-        Some(inputs) => check_and_run(rt, alloc, document, inputs, items, workers, to),
+        Some(inputs) => check_and_run(rt, alloc, document, inputs, items, crew, to),
         None => put(Exit::Unreadable, b"unreadable: start Missing\n", to),
     }
 }

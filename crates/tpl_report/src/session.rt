@@ -9,6 +9,7 @@ ghost use Rattle.tpl_report.specs.Reported.{told, IsReport};
 ghost use Rattle.tpl_words.specs.declared.ids.TokenId.{TokenId};
 
 use crate::fault::{Stop, close_stop, open_stop, run_stop, seat_stop};
+use crate::following::{Crew, Follow, run_followed};
 use std::alloc::{AllocError, Global};
 use std::sync::Wait;
 use std::thread::Threads;
@@ -20,15 +21,15 @@ use tpl_words::{Actor, Inputs, TokenId};
 /// The outside seat that makes the first requests.
 const ASKER: Actor = Actor::Outside(1);
 
-/// Makes a run of the graph: the tokens are requested first, and then so many workers call the items.
-pub(crate) fn report_on<R: Threads + Wait + Sync, K: Drop + Send, W: Item<K> + Send>(
+/// Makes a run of the graph: the tokens are requested first, and then the workers call the items.
+pub(crate) fn report_on<R: Threads + Wait + Sync, K: Drop + Send, W: Item<K> + Send, F: Follow>(
     rt: &R,
     alloc: Global,
     graph: &Graph,
     inputs: Inputs,
     tokens: &[TokenId],
     items: Vec<W>,
-    workers: u16,
+    crew: Crew<'_, F>,
 ) -> Result<Report<K, W>, Stop>
     requires { All (λ (k : TokenId). is_token graph.now.graph k.0) tokens.now }
     ensures report { IfOk result (λ r. IsReport graph.now inputs (told r)) }
@@ -37,26 +38,26 @@ pub(crate) fn report_on<R: Threads + Wait + Sync, K: Drop + Send, W: Item<K> + S
     let places = if graph.len() == 0 { 1 } else { graph.len() };
     let (queue, pass) = JobQueue::new(alloc, places)?;
     match Session::open(alloc, graph, inputs, items, queue, &pass) {
-        Ok(session) => closed(rt, alloc, session, tokens, pass, workers),
+        Ok(session) => closed(rt, alloc, session, tokens, pass, crew),
         Err(fault) => Err(open_stop(fault.why)),
     }
 }
 
 /// Makes the run of a session, and closes it.
-fn closed<'g, R: Threads + Wait + Sync, K: Drop + Send, W: Item<K> + Send>(
+fn closed<'g, R: Threads + Wait + Sync, K: Drop + Send, W: Item<K> + Send, F: Follow>(
     rt: &R,
     alloc: Global,
     session: Session<'g, K, W>,
     tokens: &[TokenId],
     pass: QueuePass<Vec<W>>,
-    workers: u16,
+    crew: Crew<'_, F>,
 ) -> Result<Report<K, W>, Stop>
     requires tokens { All (λ (k : TokenId). is_token session.graph.graph k.0) tokens.now }
     requires pass { pass.queue ≡ session.queue }
     ensures report { IfOk result (λ r. IsReport session.entry.graph session.entry.inputs (told r)) }
     ensures events { IfOk result (λ r. All (CanSpell session.entry.graph.graph) r.journal.items) }
 {
-    let (seats, pass) = seats_after_run(rt, alloc, &session, tokens, pass, workers)?;
+    let (seats, pass) = seats_after_run(rt, alloc, &session, tokens, pass, crew)?;
     tpl_journal::spells_run();
     match session.close(rt, alloc, seats, pass) {
         Ok(report) => Ok(report),
@@ -65,13 +66,13 @@ fn closed<'g, R: Threads + Wait + Sync, K: Drop + Send, W: Item<K> + Send>(
 }
 
 /// Requests the tokens, lets the workers run, and gives all seats back.
-fn seats_after_run<'g, R: Threads + Wait + Sync, K: Drop + Send, W: Item<K> + Send>(
+fn seats_after_run<'g, R: Threads + Wait + Sync, K: Drop + Send, W: Item<K> + Send, F: Follow>(
     rt: &R,
     alloc: Global,
     session: &Session<'g, K, W>,
     tokens: &[TokenId],
     pass: QueuePass<Vec<W>>,
-    workers: u16,
+    crew: Crew<'_, F>,
 ) -> Result<(Vec<Seat>, QueuePass<Vec<W>>), Stop>
     requires tokens { All (λ (k : TokenId). is_token session.now.graph.graph k.0) tokens.now }
     requires pass { pass.queue ≡ session.now.queue }
@@ -79,7 +80,7 @@ fn seats_after_run<'g, R: Threads + Wait + Sync, K: Drop + Send, W: Item<K> + Se
 {
     let mut pass = pass;
     let seats = first_seat(rt, alloc, session, tokens, &mut pass)?;
-    match session.run(rt, alloc, pass, workers) {
+    match run_followed(rt, alloc, session, pass, crew) {
         Ok((done, pass)) => Ok((with_workers(seats, done)?, pass)),
         Err(fault) => Err(run_stop(fault.why)),
     }

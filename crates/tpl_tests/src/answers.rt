@@ -8,6 +8,7 @@ use crate::claims::claims_answer;
 use crate::cuts::cuts_answer;
 use crate::devices::devices_answer;
 use crate::documents::document_answer;
+use crate::explained::explained_answer;
 use crate::graphs::{graph_answer, readers_answer, same_answer};
 use crate::journals::journal_answer;
 use crate::lengths::lengths_answer;
@@ -45,6 +46,7 @@ pub fn answer(
         "rounds" => rounds_answer(alloc, context, question),
         "lengths" => lengths_answer(alloc, context, question),
         "devices" => devices_answer(alloc, question),
+        "explained" => explained_answer(alloc, context, question),
         _ => String::from_str(alloc, "no kind of question"),
     }
 }

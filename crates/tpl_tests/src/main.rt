@@ -18,6 +18,7 @@ mod cuts;
 mod devices;
 mod dice;
 mod documents;
+mod explained;
 mod faulty;
 mod graphs;
 mod journals;

@@ -1,7 +1,7 @@
 use Rattle.std.proofs.Common.{Some, sym, ◌∙◌}
 use Rattle.tpl_reader.specs.SeenDocument.{doc_of}
 use Rattle.tpl_report.proofs.RunLemmas.{run_completes, run_starves}
-use Rattle.tpl_report.proofs.running.serve_run.Goals as goal
+use Rattle.tpl_report.proofs.running.serve_run_followed.Goals as goal
 
 pub returns-in-Some-clause-complete : goal.returns-in-Some-clause-complete
 returns-in-Some-clause-complete g c e =

@@ -1,0 +1,98 @@
+//! Who follows a run while it is made.
+
+ghost use Rattle.std.specs.Prelude.{◌≡◌, IfOk};
+
+use std::alloc::Global;
+use std::sync::Wait;
+use std::thread;
+use std::thread::{Scope, Threads};
+use tpl_queue::QueuePass;
+use tpl_runtime::{Ended, Item, RunFault, Seat, Session, Watcher};
+
+/// Follows a run while it is made. The run doesn't depend on it.
+pub trait Follow: Sync {
+    /// Sees the events of the run as they come. It is called in a thread of its own, and has to come back once the run
+    /// is over.
+    fn follow(&self, watcher: Watcher);
+
+    /// The run is over.
+    fn is_over(&self);
+}
+
+/// Sees nothing.
+#[derive(Drop)]
+pub struct Nobody;
+
+impl Follow for Nobody {
+    fn follow(&self, _watcher: Watcher) {}
+
+    fn is_over(&self) {}
+}
+
+/// Who makes a run, and who follows it.
+#[derive(Clone, Copy)]
+pub struct Crew<'f, F> {
+    /// How many workers there are, 1 to 64.
+    pub workers: u16,
+    /// Who follows it, if somebody does.
+    pub follower: Option<&'f F>,
+}
+
+/// Lets the follower see the run in a thread of its own. Where there is none for it, the run isn't followed.
+fn start<'s, E, F: Follow + 's>(scope: &Scope<'s, E>, follower: &'s F, watcher: Watcher) {
+    let _started = scope.spawn(move || follower.follow(watcher));
+}
+
+/// Lets the workers run, and the follower see it.
+fn run_seen<'g, R: Threads + Wait + Sync, K: Drop + Send, W: Item<K> + Send, F: Follow>(
+    rt: &R,
+    alloc: Global,
+    session: &Session<'g, K, W>,
+    pass: QueuePass<Vec<W>>,
+    workers: u16,
+    follower: &F,
+    watcher: Watcher,
+) -> Result<(Vec<(Seat, Ended)>, QueuePass<Vec<W>>), RunFault<W>>
+    requires { pass.queue ≡ session.now.queue }
+    ensures { IfOk result (λ r. r.1.queue ≡ session.now.queue) }
+{
+    thread::scope(
+        thread::scope_env(),
+        rt,
+        |scope| -> Result<(Vec<(Seat, Ended)>, QueuePass<Vec<W>>), RunFault<W>>
+            requires { pass.queue ≡ session.now.queue }
+            ensures { IfOk result (λ r. r.1.queue ≡ session.entry.now.queue) }
+        {
+            start(scope, follower, watcher);
+            let done = session.run(rt, alloc, pass, workers);
+            follower.is_over();
+            done
+        },
+    )
+}
+
+/// Lets the workers run, and who follows it, if somebody does and there is memory for it, see that.
+pub(crate) fn run_followed<
+    'g,
+    R: Threads + Wait + Sync,
+    K: Drop + Send,
+    W: Item<K> + Send,
+    F: Follow,
+>(
+    rt: &R,
+    alloc: Global,
+    session: &Session<'g, K, W>,
+    pass: QueuePass<Vec<W>>,
+    crew: Crew<'_, F>,
+) -> Result<(Vec<(Seat, Ended)>, QueuePass<Vec<W>>), RunFault<W>>
+    requires { pass.queue ≡ session.now.queue }
+    ensures { IfOk result (λ r. r.1.queue ≡ session.now.queue) }
+{
+    let Some(follower) = crew.follower else {
+        return session.run(rt, alloc, pass, crew.workers);
+    };
+    match session.watch(alloc) {
+        Ok(watcher) => run_seen(rt, alloc, session, pass, crew.workers, follower, watcher),
+        Err(_) => session.run(rt, alloc, pass, crew.workers),
+    }
+}
