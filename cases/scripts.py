@@ -193,7 +193,7 @@ def a_wrong_page_fails():
 def each_word_of_a_refusal_has_its_line():
     page = (TOP / "docs/OUTPUT.md").read_text(encoding="utf-8")
     words = set()
-    for source in TOP.glob("crates/tpl_report/src/*.rt"):
+    for source in [*TOP.glob("crates/tpl_commands/src/*.rt"), *TOP.glob("crates/tpl_report/src/*.rt")]:
         words |= set(re.findall(r'"([A-Z][a-z]\w+)"', source.read_text(encoding="utf-8")))
     for source in TOP.glob("crates/*/src/**/*.rt"):
         words |= set(re.findall(r'#\[error\("([A-Z][a-z]\w+)"\)\]', source.read_text(encoding="utf-8")))
@@ -204,7 +204,7 @@ def each_word_of_a_refusal_has_its_line():
 def each_line_in_the_code_is_on_the_page():
     known = pages.rows((TOP / "docs/OUTPUT.md").read_text(encoding="utf-8"))
     lines = set()
-    for source in TOP.glob("crates/tpl_report/src/*.rt"):
+    for source in [*TOP.glob("crates/tpl_commands/src/*.rt"), *TOP.glob("crates/tpl_report/src/*.rt")]:
         lines |= set(re.findall(r'"([^"{}]+)\\n"', source.read_text(encoding="utf-8")))
     missing = sorted(line for line in lines if pages.ending(line + "\n", known)[1] is not None)
     assert "accepted" in lines and not missing, f"docs/OUTPUT.md hasn't {missing}"

@@ -1,10 +1,2 @@
-pub mod Accepting
-pub mod AuditLemmas
-pub mod Inputs
-pub mod LineBreak
-pub mod LoadLemmas
-pub mod RunLemmas
 pub mod ReceiptLemmas
-pub mod TakenBack
-pub mod Whole
-pub mod WrittenTrees
+pub mod RunLemmas

@@ -3,7 +3,7 @@ use Rattle.std.proofs.Common.{◌≡◌, ◌∙◌, ℕ, zero, suc, ◌<◌, Boo
 use Rattle.std.specs.Prelude.{reverse, IfOk, MatchResult, string_bytes}
 use Rattle.std.specs.declared.alloc.AllocError.{AllocError}
 use Rattle.tpl_model.specs.declared.fault.CertFault.{CertFault}
-use Rattle.tpl_report.specs.declared.answer.Answer.{Answer}
+use Rattle.tpl_commands.specs.declared.answer.Answer.{Answer}
 use Rattle.std.specs.List.{All}
 use Rattle.std.proofs.lemmas.List.{get_or-map, length-map}
 use Rattle.tpl_graph.specs.Named.{Named}
@@ -12,13 +12,13 @@ use Rattle.tpl_journal.specs.Lines.{CanSpell}
 use Rattle.tpl_reader.specs.Document.{DocumentValue}
 use Rattle.tpl_report_text.specs.ReportText.{ReportValue, ReportText, IsReportOf}
 use Rattle.tpl_runtime.specs.Reports.{each_below}
-use Rattle.tpl_report.specs.declared.exit.Exit.{Exit}
-use Rattle.tpl_report.specs.declared.exit.Exit.TheVariants.{Success, Failure, Usage, Unreadable, Memory, Device, Fault}
-use Rattle.tpl_report.specs.Checking.{IsAccepted, IsRefused, IsRefusal}
+use Rattle.tpl_commands.specs.declared.exit.Exit.{Exit}
+use Rattle.tpl_commands.specs.declared.exit.Exit.TheVariants.{Success, Failure, Usage, Unreadable, Memory, Device, Fault}
+use Rattle.tpl_commands.specs.Checking.{IsAccepted, IsRefused, IsRefusal}
 use Rattle.tpl_report.specs.Reported.{IsReport}
-use Rattle.tpl_report.specs.Responding.{Puts, Writes}
+use Rattle.tpl_commands.specs.Responding.{Puts, Writes}
 use Rattle.tpl_report.specs.Running.{report_exit, IsReported, RunsFrom, RunsWith, Runs, Completes}
-use Rattle.tpl_report.specs.Starting.{inputs_of}
+use Rattle.tpl_commands.specs.Starting.{inputs_of}
 
 -- what holds of each number holds of what it is the number of
 pub all_mapped : {X Y : Type 0} (f : X → Y) (P : Y → Type 0) (xs : List X) → All P (map f xs) → All (λ x. P (f x)) xs

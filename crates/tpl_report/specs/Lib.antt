@@ -1,16 +1,3 @@
-pub mod Auditing
-pub mod Certifying
-pub mod Checking
-pub mod Documents
-pub mod Drawing
-pub mod Exit
-pub mod Finding
-pub mod Loading
 pub mod Reported
-pub mod Responding
 pub mod Running
 pub mod RunTexts
-pub mod Serving
-pub mod Starting
-pub mod Texts
-pub mod Unreadable

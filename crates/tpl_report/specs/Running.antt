@@ -6,15 +6,15 @@ use Rattle.tpl_laws.specs.Soundness.{Each}
 use Rattle.tpl_journal.specs.declared.counting.Counting.{Counting}
 use Rattle.tpl_reader.specs.Document.{DocumentValue}
 use Rattle.tpl_report_text.specs.ReportText.{ReportValue, ReportText}
-use Rattle.tpl_report.specs.declared.exit.Exit.{Exit}
-use Rattle.tpl_report.specs.declared.exit.Exit.TheVariants.{Success, Failure, Usage, Unreadable, Memory, Device, Fault}
+use Rattle.tpl_commands.specs.declared.exit.Exit.{Exit}
+use Rattle.tpl_commands.specs.declared.exit.Exit.TheVariants.{Success, Failure, Usage, Unreadable, Memory, Device, Fault}
 use Rattle.tpl_report.specs.declared.fault.RunFault.{RunFault}
-use Rattle.tpl_report.specs.Checking.{IsAccepted, IsRefused, IsRefusal}
+use Rattle.tpl_commands.specs.Checking.{IsAccepted, IsRefused, IsRefusal}
 use Rattle.tpl_report.specs.Reported.{IsReport}
-use Rattle.tpl_report.specs.Responding.{Puts, Writes}
+use Rattle.tpl_commands.specs.Responding.{Puts, Writes}
 use Rattle.tpl_report.specs.RunTexts.{fault_line}
-use Rattle.tpl_report.specs.Starting.{inputs_of}
-use Rattle.tpl_report.specs.Texts.{unreadable_start}
+use Rattle.tpl_commands.specs.Starting.{inputs_of}
+use Rattle.tpl_commands.specs.Texts.{unreadable_start}
 
 -- success, where the report says that the run is complete
 abbrev pub report_exit : Bool → Exit

@@ -7,18 +7,14 @@ ghost use Rattle.tpl_model.specs.Graph.{is_token};
 ghost use Rattle.tpl_reader.specs.SeenDocument.{doc_of};
 ghost use Rattle.tpl_report_text.specs.Carried.{said};
 ghost use Rattle.tpl_report_text.specs.ReportText.{IsReportOf, ReportText};
-ghost use Rattle.tpl_report.specs.Checking.{IsAccepted};
-ghost use Rattle.tpl_report.specs.Loading.{RequestsTokens};
-ghost use Rattle.tpl_report.specs.Responding.{Puts, Writes};
+ghost use Rattle.tpl_commands.specs.Checking.{IsAccepted};
+ghost use Rattle.tpl_commands.specs.Loading.{RequestsTokens};
+ghost use Rattle.tpl_commands.specs.Responding.{Puts, Writes};
 ghost use Rattle.tpl_report.specs.Reported.{told};
 ghost use Rattle.tpl_report.specs.Running.{report_exit, Completes, Runs};
-ghost use Rattle.tpl_report.specs.Starting.{inputs_of};
+ghost use Rattle.tpl_commands.specs.Starting.{inputs_of};
 ghost use Rattle.tpl_words.specs.declared.ids.TokenId.{TokenId};
 
-use crate::answer::{put, put_answer, put_out_of_memory};
-use crate::auditing::inputs_of;
-use crate::checking::{check_document, refused_answer};
-use crate::exit::Exit;
 use crate::fault::Stop;
 use crate::following::{Crew, Follow, Nobody};
 use crate::session::report_on;
@@ -26,6 +22,9 @@ use std::alloc::Global;
 use std::io::Write;
 use std::sync::Wait;
 use std::thread::Threads;
+use tpl_commands::{
+    Exit, check_document, inputs_of, put, put_answer, put_out_of_memory, refused_answer,
+};
 use tpl_graph::Graph;
 use tpl_journal::Counting;
 use tpl_reader::Document;

@@ -7,11 +7,11 @@ use Rattle.tpl_journal.specs.declared.counting.Counting.{Counting}
 use Rattle.tpl_journal.specs.Lines.{IsJournal}
 use Rattle.tpl_model.specs.declared.event.Event.{Event}
 use Rattle.tpl_reader.specs.Document.{DocumentValue, Spells}
-use Rattle.tpl_report.specs.declared.exit.Exit.{Exit}
-use Rattle.tpl_report.specs.declared.exit.Exit.TheVariants.{Success, Failure, Usage, Unreadable, Memory, Device, Fault}
-use Rattle.tpl_report.specs.Auditing.{Audits, IsAuditWith, verdict_exit}
-use Rattle.tpl_report.specs.Responding.{Says, Puts, Writes, Responds}
-use Rattle.tpl_report.specs.Starting.{inputs_of}
+use Rattle.tpl_commands.specs.declared.exit.Exit.{Exit}
+use Rattle.tpl_commands.specs.declared.exit.Exit.TheVariants.{Success, Failure, Usage, Unreadable, Memory, Device, Fault}
+use Rattle.tpl_commands.specs.Auditing.{Audits, IsAuditWith, verdict_exit}
+use Rattle.tpl_commands.specs.Responding.{Says, Puts, Writes, Responds}
+use Rattle.tpl_commands.specs.Starting.{inputs_of}
 use Rattle.tpl_trace.specs.Answer.{IsTraced, SpellsNoRun, Traces, Traced}
 
 -- the audit doesn't succeed where the journal is no run

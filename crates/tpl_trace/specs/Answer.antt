@@ -5,10 +5,10 @@ use Rattle.tpl_model.specs.Rules.{Run}
 use Rattle.tpl_journal.specs.declared.counting.Counting.{Counting}
 use Rattle.tpl_journal.specs.Lines.{IsJournal}
 use Rattle.tpl_reader.specs.Document.{DocumentValue, Spells}
-use Rattle.tpl_report.specs.declared.exit.Exit.TheVariants.{Success}
-use Rattle.tpl_report.specs.Auditing.{Audits}
-use Rattle.tpl_report.specs.Responding.{Answers, Reads, Writes}
-use Rattle.tpl_report.specs.Starting.{inputs_of}
+use Rattle.tpl_commands.specs.declared.exit.Exit.TheVariants.{Success}
+use Rattle.tpl_commands.specs.Auditing.{Audits}
+use Rattle.tpl_commands.specs.Responding.{Answers, Reads, Writes}
+use Rattle.tpl_commands.specs.Starting.{inputs_of}
 use Rattle.tpl_trace.specs.Trace.{trace_text}
 
 -- the journal's text is that of these events, and they are a run with the document's inputs

@@ -6,18 +6,18 @@ ghost use Rattle.tpl_journal.specs.Lines.{CanSpell};
 ghost use Rattle.std.specs.List.{All};
 ghost use Rattle.tpl_model.specs.declared.event.Event as events;
 ghost use Rattle.tpl_reader.specs.SeenDocument.{doc_of};
-ghost use Rattle.tpl_report.specs.Starting.{inputs_of};
-ghost use Rattle.tpl_report.specs.Responding.{longest, Responds};
+ghost use Rattle.tpl_commands.specs.Starting.{inputs_of};
+ghost use Rattle.tpl_commands.specs.Responding.{longest, Responds};
 ghost use Rattle.tpl_trace.specs.Answer.{HasRun, SpellsNoRun, Traced, Traces};
 
 use crate::text::trace_text;
 use std::alloc::{AllocError, Global};
 use std::io::{Read, Write};
 use tpl_audit::{Verdict, audit};
+use tpl_commands::{Answer, Audit, Command, Exit, inputs_of, respond};
 use tpl_journal::{Counting, JournalFault, fault_is_no_journal, read_journal, text_is_unambiguous};
 use tpl_model::Event;
 use tpl_reader::{Document, ReadFault, one_document, read_document};
-use tpl_report::{Answer, Audit, Command, Exit, inputs_of, respond};
 use tpl_words::Inputs;
 
 /// The events of the document's journal, where they are a run with these inputs; else none.

@@ -18,13 +18,13 @@ use Rattle.tpl_reader.specs.declared.fault.ReadFault.{ReadFault}
 use Rattle.tpl_reader.specs.declared.fault.ReadFault.TheVariants as faults
 use Rattle.tpl_reader.specs.Document.{DocumentValue, Spells, IsFault, longest}
 use Rattle.tpl_reader.specs.Laws.{SpellsOneDocument, SpelledHasNoFault}
-use Rattle.tpl_report.specs.declared.answer.Answer.{Answer}
-use Rattle.tpl_report.specs.declared.exit.Exit.{Exit}
-use Rattle.tpl_report.specs.declared.exit.Exit.TheVariants.{Success, Failure as Failed, Usage, Unreadable, Memory, Device, Fault}
-use Rattle.tpl_report.specs.Checking.{Checks}
-use Rattle.tpl_report.specs.Documents.{NoDocument}
-use Rattle.tpl_report.specs.Exit.{is_verdict}
-use Rattle.tpl_report.specs.Responding.{Answers, Says, Reads, Puts, Writes, Responds}
+use Rattle.tpl_commands.specs.declared.answer.Answer.{Answer}
+use Rattle.tpl_commands.specs.declared.exit.Exit.{Exit}
+use Rattle.tpl_commands.specs.declared.exit.Exit.TheVariants.{Success, Failure as Failed, Usage, Unreadable, Memory, Device, Fault}
+use Rattle.tpl_commands.specs.Checking.{Checks}
+use Rattle.tpl_commands.specs.Documents.{NoDocument}
+use Rattle.tpl_commands.specs.Exit.{is_verdict}
+use Rattle.tpl_commands.specs.Responding.{Answers, Says, Reads, Puts, Writes, Responds}
 use Rattle.tpl_witness.specs.Asking.{IsKnown}
 use Rattle.tpl_witness.specs.Filled.{IsTextOf}
 use Rattle.tpl_witness.specs.Serving.{Refuted, Unrefuted}

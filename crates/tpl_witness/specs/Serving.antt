@@ -2,7 +2,7 @@
 use Rattle.std.specs.Prelude.{ℕ, List, Option, codes, length}
 use Rattle.tpl_journal.specs.declared.counting.Counting.{Counting}
 use Rattle.tpl_reader.specs.Document.{DocumentValue, Spells}
-use Rattle.tpl_report.specs.Responding.{Reads, Writes}
+use Rattle.tpl_commands.specs.Responding.{Reads, Writes}
 use Rattle.tpl_witness.specs.Asking.{IsKnown}
 use Rattle.tpl_witness.specs.Witness.{IsRefutation}
 

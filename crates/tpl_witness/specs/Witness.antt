@@ -9,12 +9,12 @@ use Rattle.tpl_journal.specs.Lines.{IsJournal, lines}
 use Rattle.tpl_audit.specs.declared.verdict.Failure.{Failure}
 use Rattle.tpl_refute.specs.Refuting.{Refutes}
 use Rattle.tpl_reader.specs.Document.{DocumentValue, Spells, longest}
-use Rattle.tpl_report.specs.declared.exit.Exit.{Exit}
-use Rattle.tpl_report.specs.declared.exit.Exit.TheVariants.{Success, Failure as Failed, Usage, Unreadable, Memory, Device, Fault}
-use Rattle.tpl_report.specs.Auditing.{Audits, run_text}
-use Rattle.tpl_report.specs.Documents.{ToDocument}
-use Rattle.tpl_report.specs.Responding.{Answers}
-use Rattle.tpl_report.specs.Texts.{unreadable, unreadable_part}
+use Rattle.tpl_commands.specs.declared.exit.Exit.{Exit}
+use Rattle.tpl_commands.specs.declared.exit.Exit.TheVariants.{Success, Failure as Failed, Usage, Unreadable, Memory, Device, Fault}
+use Rattle.tpl_commands.specs.Auditing.{Audits, run_text}
+use Rattle.tpl_commands.specs.Documents.{ToDocument}
+use Rattle.tpl_commands.specs.Responding.{Answers}
+use Rattle.tpl_commands.specs.Texts.{unreadable, unreadable_part}
 use Rattle.tpl_witness.specs.Asking.{IsAsked, IsKnown, IsNumbered}
 use Rattle.tpl_witness.specs.Filled.{with_run, IsTextOf}
 

@@ -6,8 +6,8 @@ ghost use Rattle.tpl_claims.specs.Fits.{Fits};
 ghost use Rattle.tpl_journal.specs.Counting.{calls_of};
 ghost use Rattle.tpl_reader.specs.Document.{IsFault, Spells};
 ghost use Rattle.tpl_reader.specs.SeenDocument.{doc_of};
-ghost use Rattle.tpl_report.specs.Documents.{NoDocument};
-ghost use Rattle.tpl_report.specs.Responding.{longest, Responds};
+ghost use Rattle.tpl_commands.specs.Documents.{NoDocument};
+ghost use Rattle.tpl_commands.specs.Responding.{longest, Responds};
 ghost use Rattle.tpl_witness.specs.Serving.{Refuted, Unrefuted};
 ghost use Rattle.tpl_witness.specs.Witness.{IsFound, IsSearched, Searches};
 
@@ -18,9 +18,9 @@ use crate::search::{Search, has_claim};
 use crate::text::text_with;
 use std::alloc::{AllocError, Global};
 use std::io::{Read, Write};
+use tpl_commands::{Answer, Check, Command, Exit, put_answer, read_input};
 use tpl_journal::{Counting, fault_is_no_journal, spells_run, text_is_unambiguous};
 use tpl_reader::{Document, LONGEST, ReadFault, one_document, read_document};
-use tpl_report::{Answer, Check, Command, Exit, put_answer, read_input};
 
 /// The document with the run that was found.
 fn refutation<P: Write>(

@@ -1,5 +1,5 @@
 use Rattle.tpl_reader.specs.SeenDocument.{doc_of}
-use Rattle.tpl_report.proofs.Accepting.{to_document}
+use Rattle.tpl_commands.proofs.Accepting.{to_document}
 use Rattle.tpl_witness.specs.Witness.{IsSearched}
 use Rattle.tpl_witness.proofs.Answering.{unread}
 use Rattle.tpl_witness.proofs.refuting.answer.Goals as goal

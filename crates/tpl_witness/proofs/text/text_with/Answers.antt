@@ -5,7 +5,7 @@ use Rattle.serde_json.specs.View.{view}
 use Rattle.tpl_reader.specs.Document.{Reads}
 use Rattle.tpl_reader.specs.SeenDocument.{doc_of}
 use Rattle.tpl_witness.proofs.Filling.{run_depth, text_of}
-use Rattle.tpl_report.proofs.LineBreak.{read_with_line_break}
+use Rattle.tpl_commands.proofs.LineBreak.{read_with_line_break}
 use Rattle.tpl_witness.proofs.text.text_with.Goals as goal
 
 pub returns-clause-text : goal.returns-clause-text

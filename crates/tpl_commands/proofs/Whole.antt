@@ -1,0 +1,62 @@
+-- A document with a certificate in its place: what is written for it is read back.
+use Rattle.std.proofs.Common.{◌≡◌, ℕ, suc, ◌≤◌, ◌<◌, List, [], ◌∷◌, ◌++◌, Some, Result, Ok, Err, IfOk, string_bytes, inl, inr, Ordering, Less, Equal, Greater, codes, map, arith, sym, subst}
+use Rattle.std.specs.List.{All}
+use Rattle.std.specs.Ordering.{match_ordering}
+use Rattle.serde_json.specs.Data.{Data, Members, no_members, member, put, depth, items_depth, members_depth, object}
+use Rattle.serde_json.specs.Read.{read, max_depth}
+use Rattle.serde_json.specs.View.{items_of}
+use Rattle.serde_json.proofs.Nesting.{depth-read}
+use Rattle.tpl_model.specs.Certificate.{Tree}
+use Rattle.tpl_graph.specs.Named.{Names}
+use Rattle.tpl_cert.specs.Heights.{height}
+use Rattle.tpl_cert.proofs.Nesting.{tree_depth}
+use Rattle.std.specs.declared.alloc.AllocError.{AllocError}
+use Rattle.tpl_analyser.specs.declared.form.Form.{Form}
+use Rattle.tpl_reader.specs.Document.{DocumentValue, Spells}
+use Rattle.tpl_reader.specs.Laws.{SpellsOneDocument, SpelledHasNoFault, CertificateIsReadBack, IsReadBack, HasCertificate, HoldsCertificate}
+use Rattle.tpl_commands.specs.declared.answer.Answer.{Answer}
+use Rattle.tpl_commands.specs.declared.exit.Exit.{Exit}
+use Rattle.tpl_commands.specs.Certifying.{AreFound, IsCertified, IsTooLong, IsCertifying, IsSized}
+use Rattle.tpl_commands.specs.Checking.{ClaimsHold}
+use Rattle.tpl_commands.specs.Finding.{written_tree, written_trees}
+use Rattle.tpl_commands.proofs.TakenBack.{taken_back}
+
+one_of_three : (o : Ordering) (a b c : Members) (n : ℕ) → members_depth a ≤ n → members_depth b ≤ n → members_depth c ≤ n → members_depth (match_ordering o a b c) ≤ n
+one_of_three Less a b c n p q r = p
+one_of_three Equal a b c n p q r = q
+one_of_three Greater a b c n p q r = r
+
+put_depth : (k : List ℕ) (d : Data) (ms : Members) (n : ℕ) → depth d ≤ n → members_depth ms ≤ n → members_depth (put k d ms) ≤ n
+put_depth k d no_members n p q = omega arith
+put_depth k d (member l e ms) n p q =
+    one_of_three _ (member k d (member l e ms)) (member l d ms) (member l e (put k d ms)) n (omega arith) (omega arith) (omega (arith, put_depth k d ms n p (omega arith)))
+
+trees_depth : (n : Names) (trees : List Tree) → All (λ t. height t ≤ 6) trees → items_depth (items_of (map (written_tree n) trees)) ≤ 10
+trees_depth n [] low = omega arith
+trees_depth n (t ∷ trees) low =
+    let first = tree_depth n t in
+    let six : height t ≤ 6 = low 0 t (omega arith) in
+    let rest = trees_depth n trees (λ k x lt. low (suc k) x (omega arith)) in
+    omega arith
+
+-- with a certificate in its place a value that was read nests no deeper than what is read
+pub whole_depth : (n : Names) (trees : List Tree) (bytes : List ℕ) (d with : Data) → All (λ t. height t ≤ 6) trees → read bytes ≡ Some d → HasCertificate d (written_trees n trees) with → depth with ≤ max_depth
+whole_depth n trees bytes d with low is has =
+    let ms = has.0 in
+    let below : depth (object ms) ≤ max_depth = subst (λ (x : Data). depth x ≤ max_depth) has.1 (depth-read bytes d is) in
+    let shallow = trees_depth n trees low in
+    let le = put_depth (codes "certificate") (written_trees n trees) ms 126 (omega arith) (omega arith) in
+    subst (λ (x : Data). depth x ≤ max_depth) (sym has.2) (omega arith)
+
+-- the text of a document with a certificate in its place, read back or too long
+pub certifying : SpellsOneDocument → SpelledHasNoFault → CertificateIsReadBack → (depth : ℕ) (form : Form) (doc : DocumentValue) (trees : List Tree) (input text : List ℕ)
+    → AreFound depth form doc trees → ClaimsHold doc → All (IsReadBack doc.graph.names) trees → Spells input doc → HoldsCertificate input (written_trees doc.graph.names trees) text
+    → (r : Result Answer AllocError) → IfOk r (IsSized text) → IfOk r (λ given. IsCertifying depth form doc given.exit (string_bytes given.text))
+certifying one faultless put depth form doc trees input text found hold back spelled holds (Ok given) (inl (le, is_success, is_text)) =
+    let again = taken_back one faultless put doc trees found.accepted back input text spelled holds le in
+    let certified : IsCertified depth form doc text = record { trees = trees; found = found; hold = hold; taken_back = again } in
+    subst (λ (e : Exit). IsCertifying depth form doc e (string_bytes given.text)) (sym is_success) (subst (λ (bytes : List ℕ). IsCertified depth form doc bytes) (sym is_text) certified)
+certifying one faultless put depth form doc trees input text found hold back spelled holds (Ok given) (inr (lt, is_failure, is_text)) =
+    let too_long : IsTooLong depth form doc = record { trees = trees; found = found; input = input; spelled = spelled; text = text; holds = holds; long = lt } in
+    subst (λ (e : Exit). IsCertifying depth form doc e (string_bytes given.text)) (sym is_failure) (inr (too_long, is_text))
+certifying one faultless put depth form doc trees input text found hold back spelled holds (Err e) sized = tt

@@ -1,0 +1,78 @@
+-- What `audit` answers to a document.
+use Rattle.std.specs.Prelude.{◌≡◌, ◌⊎◌, ℕ, Bool, true, false, List, Option, Some, None, ◌++◌, codes}
+use Rattle.tpl_model.specs.declared.event.Event.{Event}
+use Rattle.tpl_model.specs.Certificate.{Accepts}
+use Rattle.tpl_journal.specs.declared.reading_lines.JournalFault.{JournalFault}
+use Rattle.tpl_journal.specs.declared.reading_lines.JournalFault.TheVariants as broken
+use Rattle.tpl_journal.specs.Lines.{IsJournal, IsJournalFault}
+use Rattle.tpl_audit.specs.declared.verdict.Failure.{Failure}
+use Rattle.tpl_audit.specs.declared.verdict.Verdict.{Verdict}
+use Rattle.tpl_audit.specs.declared.verdict.Verdict.TheVariants as ruled
+use Rattle.tpl_audit.specs.Audit.{IsVerdict, FindsNoFailure}
+use Rattle.tpl_reader.specs.Document.{DocumentValue}
+use Rattle.tpl_commands.specs.declared.exit.Exit.{Exit}
+use Rattle.tpl_commands.specs.declared.exit.Exit.TheVariants.{Success, Failure as Failed, Unreadable, Memory}
+use Rattle.tpl_commands.specs.Texts.{ended, claim_fails, not_allowed, unreadable, unreadable_at, unreadable_start}
+use Rattle.tpl_commands.specs.Responding.{Answers}
+use Rattle.tpl_commands.specs.Documents.{ToDocument}
+use Rattle.tpl_commands.specs.Starting.{inputs_of}
+
+-- what is said of a run: whether it is complete, and where a claim fails
+abbrev pub run_text : Bool → Option Failure → List ℕ
+run_text complete None = ended complete
+run_text complete (Some failure) = ended complete ++ claim_fails failure.claim failure.place
+
+abbrev pub verdict_text : Verdict → List ℕ
+verdict_text (ruled.Run complete fails) = run_text complete fails
+verdict_text (ruled.NotAllowed place) = not_allowed place
+verdict_text ruled.Memory = codes "out of memory\n"
+
+-- success, where the run is complete and no claim fails
+abbrev pub run_exit : Bool → Option Failure → Exit
+run_exit true None = Success
+run_exit false None = Failed
+run_exit complete (Some failure) = Failed
+
+abbrev pub verdict_exit : Verdict → Exit
+verdict_exit (ruled.Run complete fails) = run_exit complete fails
+verdict_exit (ruled.NotAllowed place) = Failed
+verdict_exit ruled.Memory = Memory
+
+-- The journal's text is that of these events, and this is the verdict on them. Where the document's
+-- certificate is accepted, no claim fails.
+pub record IsAudited (doc : DocumentValue) (inputs : List Bool) (exit : Exit) (text : List ℕ) : Type 0 where
+  pub events : List Event
+  pub journal : IsJournal doc.graph doc.journal events
+  pub verdict : Verdict
+  pub audited : IsVerdict doc.graph.graph inputs events doc.claims verdict
+  pub sound : Accepts doc.graph.graph doc.claims doc.certificate → FindsNoFailure verdict
+  pub ends : exit ≡ verdict_exit verdict
+  pub said : text ≡ verdict_text verdict
+
+-- the line for a text that is no journal
+abbrev pub IsNoJournalText : JournalFault → List ℕ → Type 0
+IsNoJournalText (broken.Line number) text = text ≡ unreadable_at (codes "journal line") number
+IsNoJournalText broken.Limit text = text ≡ unreadable (codes "journal limit")
+IsNoJournalText broken.Memory text = ⊥
+
+-- the journal's text is none of the graph's
+pub record IsNoJournal (doc : DocumentValue) (exit : Exit) (text : List ℕ) : Type 0 where
+  pub fault : JournalFault
+  pub is : IsJournalFault doc.graph doc.journal fault
+  pub ends : exit ≡ Unreadable
+  pub said : IsNoJournalText fault text
+
+-- the audit with these inputs, if they are known
+abbrev pub IsAuditWith : DocumentValue → Option (List Bool) → Exit → List ℕ → Type 0
+IsAuditWith doc None exit text = (exit ≡ Unreadable) × (text ≡ unreadable_start (codes "Missing"))
+IsAuditWith doc (Some inputs) exit text = IsAudited doc inputs exit text ⊎ IsNoJournal doc exit text
+
+abbrev pub IsAudit : DocumentValue → Exit → List ℕ → Type 0
+IsAudit doc exit text = IsAuditWith doc (inputs_of doc) exit text
+
+abbrev pub Audits : Answers
+Audits = ToDocument IsAudit
+
+-- the text has no line that names a claim which fails
+abbrev pub NamesNoFailure : List ℕ → Type 0
+NamesNoFailure text = (complete : Bool) (failure : Failure) → text ≡ run_text complete (Some failure) → ⊥

@@ -1,0 +1,66 @@
+-- What `analyse --whole` answers to a document.
+use Rattle.std.specs.Prelude.{◌≡◌, ◌⊎◌, ◌≤◌, ◌<◌, ℕ, List, codes, length, string_bytes}
+use Rattle.std.specs.List.{All}
+use Rattle.serde_json.specs.Data.{Data, Members, object}
+use Rattle.tpl_model.specs.Certificate.{Tree, Accepts}
+use Rattle.tpl_cert.specs.Heights.{height}
+use Rattle.tpl_analyser.specs.declared.form.Form.{Form}
+use Rattle.tpl_analyser.specs.Slim.{IsCertificateOf}
+use Rattle.tpl_reader.specs.Document.{DocumentValue, Reads, Spells, longest}
+use Rattle.tpl_reader.specs.Laws.{HoldsCertificate}
+use Rattle.tpl_commands.specs.declared.answer.Answer.{Answer}
+use Rattle.tpl_commands.specs.declared.exit.Exit.{Exit}
+use Rattle.tpl_commands.specs.declared.exit.Exit.TheVariants.{Success, Failure}
+use Rattle.tpl_commands.specs.Responding.{Answers}
+use Rattle.tpl_commands.specs.Documents.{ToDocument}
+use Rattle.tpl_commands.specs.Checking.{ClaimsHold}
+use Rattle.tpl_commands.specs.Finding.{written_trees, IsTakenBack, IsNotFound}
+
+-- The trees are a certificate of this form with at most so many splits on each path, which is accepted
+-- for the document's claims.
+pub record AreFound (depth : ℕ) (form : Form) (doc : DocumentValue) (trees : List Tree) : Type 0 where
+  pub accepted : Accepts doc.graph.graph doc.claims trees
+  pub splits : All (λ tree. height tree ≤ depth) trees
+  pub of_form : IsCertificateOf form doc.claims trees
+
+-- The text spells the document with such a certificate in place of its own, and no other document; the
+-- check accepts it, and so the claims hold.
+pub record IsCertified (depth : ℕ) (form : Form) (doc : DocumentValue) (text : List ℕ) : Type 0 where
+  pub trees : List Tree
+  pub found : AreFound depth form doc trees
+  pub hold : ClaimsHold doc
+  pub taken_back : IsTakenBack doc trees text
+
+-- A text of the document with such a certificate in its place is longer than what is read.
+pub record IsTooLong (depth : ℕ) (form : Form) (doc : DocumentValue) : Type 0 where
+  pub trees : List Tree
+  pub found : AreFound depth form doc trees
+  pub input : List ℕ
+  pub spelled : Spells input doc
+  pub text : List ℕ
+  pub holds : HoldsCertificate input (written_trees doc.graph.names trees) text
+  pub long : longest < length text
+
+-- the document with a certificate; or the number of the first claim for which none was found, or that the document would be too long
+abbrev pub IsCertifying : ℕ → Form → DocumentValue → Exit → List ℕ → Type 0
+IsCertifying depth form doc Success text = IsCertified depth form doc text
+IsCertifying depth form doc Failure text =
+    IsNotFound depth doc text ⊎ (IsTooLong depth form doc × (text ≡ codes "too long\n"))
+IsCertifying depth form doc exit text = ⊥
+
+abbrev pub Certifies : ℕ → Form → Answers
+Certifies depth form = ToDocument (IsCertifying depth form)
+
+-- the text itself where it is no longer than what is read, else that it is too long
+abbrev pub IsSized : List ℕ → Answer → Type 0
+IsSized text given =
+    ((length text ≤ longest) × (given.exit ≡ Success) × (string_bytes given.text ≡ text))
+    ⊎ ((longest < length text) × (given.exit ≡ Failure) × (string_bytes given.text ≡ codes "too long\n"))
+
+-- the value has members
+abbrev pub IsObject : Data → Type 0
+IsObject d = (ms : Members) × (d ≡ object ms)
+
+-- the bytes are a text of a value that has members
+abbrev pub IsTextOfObject : List ℕ → Type 0
+IsTextOfObject bytes = (d : Data) × Reads bytes d × IsObject d

@@ -1,0 +1,59 @@
+-- What `check` answers to a document.
+use Rattle.std.specs.Prelude.{◌≡◌, ℕ, Bool, List, Some, Ok, Err, codes, slice_get}
+use Rattle.tpl_model.specs.declared.event.Event.{Event}
+use Rattle.tpl_model.specs.declared.fault.CertFault.{CertFault}
+use Rattle.tpl_model.specs.declared.fault.CertFault.TheVariants.{Shape, NotClosed, ClaimNot}
+use Rattle.tpl_model.specs.Graph.{TaskGraph, is_task}
+use Rattle.tpl_model.specs.Rules.{Run}
+use Rattle.tpl_model.specs.Claims.{Holds}
+use Rattle.tpl_model.specs.Certificate.{Accepts}
+use Rattle.tpl_laws.specs.Verdict.{verdict}
+use Rattle.tpl_laws.specs.Faults.{IsFirstFault}
+use Rattle.tpl_laws.specs.Soundness.{Each}
+use Rattle.tpl_reader.specs.Document.{DocumentValue}
+use Rattle.tpl_commands.specs.declared.exit.Exit.{Exit}
+use Rattle.tpl_commands.specs.declared.exit.Exit.TheVariants.{Success, Failure}
+use Rattle.tpl_commands.specs.Texts.{refused_shape, refused_leaf, refused_claim}
+use Rattle.tpl_commands.specs.Responding.{Answers}
+use Rattle.tpl_commands.specs.Documents.{ToDocument}
+
+-- each claim holds in each run of the graph, for all inputs and whatever comes from outside
+abbrev pub ClaimsHold : DocumentValue → Type 0
+ClaimsHold doc =
+    (inputs : List Bool) (events : List Event) → Run doc.graph.graph inputs events
+    → Each (λ claim. Holds doc.graph.graph claim inputs events) doc.claims
+
+-- The certificate has no fault: it is accepted, and so the claims hold.
+pub record IsAccepted (doc : DocumentValue) : Type 0 where
+  pub verdict : verdict doc.graph.graph doc.claims doc.certificate ≡ Ok tt
+  pub accepted : Accepts doc.graph.graph doc.claims doc.certificate
+  pub hold : ClaimsHold doc
+
+-- This is the first fault of the certificate, which isn't accepted.
+pub record IsRefused (doc : DocumentValue) (fault : CertFault) : Type 0 where
+  pub verdict : verdict doc.graph.graph doc.claims doc.certificate ≡ Err fault
+  pub first : IsFirstFault doc.graph.graph doc.claims doc.certificate fault
+  pub not_accepted : Accepts doc.graph.graph doc.claims doc.certificate → ⊥
+
+-- the line for a fault, with the names of the tasks
+abbrev pub IsRefusal : List (List ℕ) → CertFault → List ℕ → Type 0
+IsRefusal names (Shape claim) text = text ≡ refused_shape claim
+IsRefusal names (NotClosed claim leaf task rule) text =
+    (name : List ℕ) × (slice_get names task.0 ≡ Some name) × (text ≡ refused_leaf claim leaf name rule)
+IsRefusal names (ClaimNot claim leaf) text = text ≡ refused_claim claim leaf
+
+-- `accepted` where the certificate is accepted, else its first fault
+abbrev pub IsVerdict : DocumentValue → Exit → List ℕ → Type 0
+IsVerdict doc Success text = IsAccepted doc × (text ≡ codes "accepted\n")
+IsVerdict doc Failure text =
+    (fault : CertFault) × IsRefused doc fault × IsRefusal doc.graph.names.tasks fault text
+IsVerdict doc exit text = ⊥
+
+abbrev pub Checks : Answers
+Checks = ToDocument IsVerdict
+
+-- the task that is named is the graph's
+abbrev pub NamesTask : TaskGraph → CertFault → Type 0
+NamesTask g (Shape claim) = Unit {0}
+NamesTask g (NotClosed claim leaf task rule) = is_task g task.0
+NamesTask g (ClaimNot claim leaf) = Unit {0}

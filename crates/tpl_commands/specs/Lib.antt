@@ -1,0 +1,13 @@
+pub mod Auditing
+pub mod Certifying
+pub mod Checking
+pub mod Documents
+pub mod Drawing
+pub mod Exit
+pub mod Finding
+pub mod Loading
+pub mod Responding
+pub mod Serving
+pub mod Starting
+pub mod Texts
+pub mod Unreadable

@@ -1,0 +1,78 @@
+-- What is asked of a document, and what is answered.
+use Rattle.std.specs.Prelude.{ℕ, ◌≤◌, List, Option, codes}
+use Rattle.tpl_journal.specs.declared.counting.Counting.{Counting}
+use Rattle.tpl_model.specs.Certificate.{Accepts}
+use Rattle.tpl_reader.specs.Document.{DocumentValue, Spells}
+use Rattle.tpl_commands.specs.declared.serving.Ask.{Ask}
+use Rattle.tpl_commands.specs.declared.serving.Ask.TheVariants.{Check, Analyse, AnalyseIn, Certify, Audit, Draw}
+use Rattle.tpl_commands.specs.Responding.{Answers, Reads, Writes}
+use Rattle.tpl_commands.specs.Checking.{Checks, ClaimsHold}
+use Rattle.tpl_analyser.specs.declared.form.Form.{Form}
+use Rattle.tpl_analyser.specs.declared.form.Form.TheVariants.{Full}
+use Rattle.tpl_commands.specs.Finding.{Finds, IsCertificate}
+use Rattle.tpl_commands.specs.Certifying.{Certifies, IsCertified}
+use Rattle.tpl_commands.specs.Drawing.{Draws}
+use Rattle.tpl_commands.specs.Auditing.{Audits, IsAudit, NamesNoFailure}
+use Rattle.tpl_commands.specs.declared.exit.Exit.{Exit}
+
+abbrev pub answers_of : Ask → Answers
+answers_of Check = Checks
+answers_of (Analyse depth) = Finds depth Full
+answers_of (AnalyseIn depth form) = Finds depth form
+answers_of (Certify depth form) = Certifies depth form
+answers_of Audit = Audits
+answers_of (Draw language) = Draws language
+
+-- a search has at most 6 splits on a path
+abbrev pub IsWithinDepth : Ask → Type 0
+IsWithinDepth Check = Unit {0}
+IsWithinDepth (Analyse depth) = depth ≤ 6
+IsWithinDepth (AnalyseIn depth form) = depth ≤ 6
+IsWithinDepth (Certify depth form) = depth ≤ 6
+IsWithinDepth Audit = Unit {0}
+IsWithinDepth (Draw language) = Unit {0}
+
+-- What was read spells a document whose certificate is accepted, and each of its claims holds in
+-- each run of its graph; `accepted` was written.
+pub record Accepted {R W : Type 0} (remaining : R → Option (List ℕ)) (from_old from_new : Counting R) (contents : W → Option (List ℕ)) (to_old to_new : Counting W) : Type 0 where
+  pub input : List ℕ
+  pub reads : Reads remaining from_old from_new input
+  pub doc : DocumentValue
+  pub spelled : Spells input doc
+  pub accepted : Accepts doc.graph.graph doc.claims doc.certificate
+  pub hold : ClaimsHold doc
+  pub writes : Writes contents to_old to_new (codes "accepted\n")
+
+-- What was read spells a document, and the text of a certificate was written that is accepted for it;
+-- each of its claims holds in each run of its graph.
+pub record Found {R W : Type 0} (remaining : R → Option (List ℕ)) (from_old from_new : Counting R) (contents : W → Option (List ℕ)) (to_old to_new : Counting W) (depth : ℕ) (form : Form) : Type 0 where
+  pub input : List ℕ
+  pub reads : Reads remaining from_old from_new input
+  pub doc : DocumentValue
+  pub spelled : Spells input doc
+  pub text : List ℕ
+  pub certificate : IsCertificate depth form doc text
+  pub writes : Writes contents to_old to_new text
+
+-- What was read spells a document, and what was written spells it with a certificate that is accepted;
+-- each of its claims holds in each run of its graph.
+pub record Certified {R W : Type 0} (remaining : R → Option (List ℕ)) (from_old from_new : Counting R) (contents : W → Option (List ℕ)) (to_old to_new : Counting W) (depth : ℕ) (form : Form) : Type 0 where
+  pub input : List ℕ
+  pub reads : Reads remaining from_old from_new input
+  pub doc : DocumentValue
+  pub spelled : Spells input doc
+  pub text : List ℕ
+  pub certified : IsCertified depth form doc text
+  pub writes : Writes contents to_old to_new text
+
+-- What was read spells a document, and the audit of its journal was written, which ends so. Where its
+-- certificate is accepted, no claim is named as failing.
+pub record Audited {R W : Type 0} (remaining : R → Option (List ℕ)) (from_old from_new : Counting R) (contents : W → Option (List ℕ)) (to_old to_new : Counting W) (exit : Exit) : Type 0 where
+  pub input : List ℕ
+  pub reads : Reads remaining from_old from_new input
+  pub doc : DocumentValue
+  pub spelled : Spells input doc
+  pub text : List ℕ
+  pub audit : IsAudit doc exit text
+  pub sound : Accepts doc.graph.graph doc.claims doc.certificate → NamesNoFailure text
+  pub writes : Writes contents to_old to_new text

@@ -1,0 +1,40 @@
+//! How the program ends.
+
+ghost use Rattle.std.specs.Prelude.{◌≡◌};
+ghost use Rattle.tpl_commands.specs.Exit.{exit_code};
+
+/// How the program ends.
+#[derive(Clone, Copy, Debug, Drop, PartialEq, Eq)]
+pub enum Exit {
+    /// The certificate is accepted, a certificate was found, the run is complete and no claim fails, or help was given.
+    Success,
+    /// It isn't.
+    Failure,
+    /// The words of the command line name no command.
+    Usage,
+    /// The document can't be read.
+    Unreadable,
+    /// Memory was refused.
+    Memory,
+    /// A read or a write failed.
+    Device,
+    /// A run couldn't be opened, made or closed, for another reason than memory.
+    Fault,
+}
+
+impl Exit {
+    /// The status of the process.
+    pub fn code(self) -> u8
+        ensures { result ≡ exit_code self }
+    {
+        match self {
+            Exit::Success => 0,
+            Exit::Failure => 1,
+            Exit::Usage => 2,
+            Exit::Unreadable => 3,
+            Exit::Memory => 4,
+            Exit::Device => 5,
+            Exit::Fault => 5,
+        }
+    }
+}

@@ -1,0 +1,49 @@
+//! The document of a run.
+
+ghost use Rattle.std.specs.Prelude.{◌≡◌, ◌+◌, ◌≤◌, IfOk, IfErr};
+ghost use Rattle.std.specs.List.{All};
+ghost use Rattle.tpl_cert.specs.Heights.{IsWithinLimits};
+ghost use Rattle.tpl_claims.specs.Fits.{Fits};
+ghost use Rattle.tpl_journal.specs.Counting.{calls_of};
+ghost use Rattle.tpl_reader.specs.SeenDocument.{doc_of};
+ghost use Rattle.tpl_commands.specs.Documents.{NoDocument};
+ghost use Rattle.tpl_commands.specs.Loading.{Loads, RequestsTokens};
+ghost use Rattle.tpl_commands.specs.Responding.{longest, Responds};
+
+use crate::answer::put_answer;
+use crate::exit::Exit;
+use crate::responding::read_input;
+use crate::unreadable::unreadable_answer;
+use std::alloc::Global;
+use std::io::{Read, Write};
+use tpl_journal::Counting;
+use tpl_reader::{Document, read_document};
+
+/// Reads a document to its end, at most 16,777,216 bytes. Where that can't be, or they spell none, the line for it is
+/// written and its exit answered. It is made whole before its first byte is written, so the line for want of memory
+/// stands alone.
+pub fn load<R: Read, W: Write>(
+    alloc: Global,
+    from: &mut Counting<R>,
+    to: &mut Counting<W>,
+) -> Result<Document, Exit>
+    ensures document { IfOk result (λ d. Loads R.remaining from.old from.new (doc_of d)
+        × (to.new ≡ to.old)) }
+    ensures claims { IfOk result (λ d. All (Fits d.graph.graph) d.claims.items) }
+    ensures trees { IfOk result (λ d. All IsWithinLimits d.certificate) }
+    ensures tokens { IfOk result (λ d. RequestsTokens (doc_of d)) }
+    ensures err { IfErr result
+        (Responds NoDocument R.remaining from.old from.new W.contents to.old to.new) }
+    ensures reads { calls_of from.new ≤ calls_of from.old + (longest + 2) }
+{
+    match read_input(alloc, from, to) {
+        Ok(bytes) => match read_document(alloc, &bytes) {
+            Ok(document) => {
+                document.graph.valid();
+                Ok(document)
+            }
+            Err(fault) => Err(put_answer(unreadable_answer(alloc, fault), to)),
+        },
+        Err(exit) => Err(exit),
+    }
+}
