@@ -1,5 +1,4 @@
 pub mod Splits
-pub mod Stages
 pub mod Found
 pub mod Gaps
 pub mod Questions

@@ -12,7 +12,7 @@ ghost use Rattle.tpl_analyser.specs.Gaps.{IsGap};
 ghost use Rattle.tpl_analyser.specs.Questions.{IsReady};
 ghost use Rattle.tpl_analyser.specs.Slim.{IsCertificateOf};
 ghost use Rattle.tpl_analyser.specs.Splits.{IsSplitOf};
-ghost use Rattle.tpl_analyser.specs.Stages.{IsStageOf};
+ghost use Rattle.tpl_outline.specs.Stages.{IsStageOf};
 
 use crate::branch::Branch;
 use crate::budget::Budget;
@@ -24,12 +24,12 @@ use crate::leaf::leaf;
 use crate::question::Question;
 use crate::search::{Reach, split};
 use crate::split::{Split, all_splits};
-use crate::stages::{Stage, stages};
 use std::alloc::{AllocError, Global};
 use tpl_cert::{Certificate, Tree};
 use tpl_checker::Below;
 use tpl_claims::Claim;
 use tpl_graph::Graph;
+use tpl_outline::{Stage, stages_of};
 
 /// The most leaves that are tried for one claim (this program's own limit).
 const MOST_LEAVES: u32 = 100_000;
@@ -78,7 +78,7 @@ pub fn analyse_in(
     ensures gap { IfErr result (IsGap graph.now.graph claims.now depth) }
 {
     let below = Below::of_graph(graph);
-    let stages = stages(alloc, graph, &below)?;
+    let stages = stages_of(alloc, graph, &below)?;
     let splits = all_splits(alloc, graph)?;
     let mut trees = Vec::new(alloc);
     for at in 0..claims.len() {

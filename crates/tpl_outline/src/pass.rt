@@ -1,13 +1,15 @@
 //! The making of an outline, from nothing or from what a split changes.
 
-ghost use Rattle.std.specs.Prelude.{◌≡◌, ◌<◌};
+ghost use Rattle.std.specs.Prelude.{◌≡◌, ℕ, ◌<◌, false};
 ghost use Rattle.std.specs.List.{All};
+ghost use Rattle.tpl_words.specs.Members.{mem};
 ghost use Rattle.tpl_model.specs.Graph.{is_task};
-ghost use Rattle.tpl_analyser.specs.Questions.{IsReady};
-ghost use Rattle.tpl_analyser.specs.Stages.{IsStageOf};
+ghost use Rattle.tpl_checker.specs.Assumptions.{assumed_of};
+ghost use Rattle.tpl_outline.specs.Fates.{fate_of, IsOpen, KeepsOthers};
+ghost use Rattle.tpl_outline.specs.Stages.{IsStageOf, task_of};
 
 use crate::outline::{Fate, Outline};
-use crate::question::Question;
+use crate::setting::Setting;
 use crate::stages::Stage;
 use tpl_checker::{Assumptions, Ready, allowed, parent, ready_of, some_end};
 use tpl_graph::Graph;
@@ -28,43 +30,29 @@ struct Pass {
 }
 
 /// What becomes of all tasks under what is assumed.
-pub(crate) fn whole_outline(graph: &Graph, stages: &[Stage], assumed: &Assumptions) -> Outline
-    requires { All (IsStageOf graph.now.graph) stages.now }
+pub(crate) fn whole_outline(setting: Setting<'_>) -> Outline
+    requires { All (IsStageOf setting.graph.now.graph) setting.stages.now }
 {
-    let mut pass = Pass {
-        outline: Outline::unsettled(),
-        all: true,
-        read: TaskSet::empty(),
-        started: TaskSet::empty(),
-        moved: TaskSet::empty(),
-    };
-    for stage in stages {
-        pass.take(graph, assumed, *stage);
+    let mut pass = Pass::from(Outline::unsettled(), true);
+    for stage in setting.stages {
+        pass.take(setting.graph, setting.assumed, *stage);
     }
     let Pass { outline, .. } = pass;
     outline
 }
 
-/// What becomes of the tasks that bear on a property, under what is assumed. It begins with the
-/// outline of a branch that assumes less; where `all` isn't true, both assume the same of inputs.
-pub(crate) fn outline(
-    question: Question<'_>,
-    assumed: &Assumptions,
-    from: &Outline,
-    all: bool,
-) -> Outline
-    requires { IsReady question }
+/// What becomes of these tasks under what is assumed; they are those that bear on a property. It
+/// begins with an outline where less is assumed; where `all` isn't true, both assume the same of
+/// inputs. Which ways to end remain of those that are open no clause says.
+pub fn outline_under(setting: Setting<'_>, tasks: &TaskSet, from: &Outline, all: bool) -> Outline
+    requires { All (IsStageOf setting.graph.now.graph) setting.stages.now }
+    ensures others { (t : ℕ) → mem t tasks.now ≡ false → fate_of result t ≡ fate_of from.now t }
+    ensures ends { IsOpen (assumed_of setting.entry.assumed.now) from.now result }
 {
-    let mut pass = Pass {
-        outline: from.copy(),
-        all,
-        read: TaskSet::empty(),
-        started: TaskSet::empty(),
-        moved: TaskSet::empty(),
-    };
-    for stage in question.stages {
-        if question.cone.has(stage.task()) {
-            pass.take(question.graph, assumed, *stage);
+    let mut pass = Pass::from(from.copy(), all);
+    for stage in setting.stages {
+        if tasks.contains(stage.task()) {
+            pass.take(setting.graph, setting.assumed, *stage);
         }
     }
     let Pass { outline, .. } = pass;
@@ -72,8 +60,23 @@ pub(crate) fn outline(
 }
 
 impl Pass {
+    /// Before the first stage.
+    fn from(outline: Outline, all: bool) -> Pass
+        ensures { result.outline ≡ outline }
+    {
+        Pass {
+            outline,
+            all,
+            read: TaskSet::empty(),
+            started: TaskSet::empty(),
+            moved: TaskSet::empty(),
+        }
+    }
+
     fn take(&mut self, graph: &Graph, assumed: &Assumptions, stage: Stage)
         requires { IsStageOf graph.now.graph stage }
+        ensures others { KeepsOthers (task_of stage) self.old.outline self.new.outline }
+        ensures ends { IsOpen (assumed_of assumed.now) self.old.outline self.new.outline }
     {
         match stage {
             Stage::Begin(task) => self.begin(graph, assumed, task),
@@ -84,6 +87,8 @@ impl Pass {
     /// Settles whether the task may begin and how its body ends, if that may have changed.
     fn begin(&mut self, graph: &Graph, assumed: &Assumptions, task: TaskId)
         requires { is_task graph.now.graph task.0 }
+        ensures others { KeepsOthers task.0 self.old.outline self.new.outline }
+        ensures ends { IsOpen (assumed_of assumed.now) self.old.outline self.new.outline }
     {
         graph.valid();
         if !self.sees_change(graph, task) {
@@ -111,6 +116,8 @@ impl Pass {
     /// Settles how the task may end.
     fn end(&mut self, graph: &Graph, assumed: &Assumptions, task: TaskId)
         requires { is_task graph.now.graph task.0 }
+        ensures others { KeepsOthers task.0 self.old.outline self.new.outline }
+        ensures ends { IsOpen (assumed_of assumed.now) self.old.outline self.new.outline }
     {
         graph.valid();
         let fate = self.outline.fate(task);

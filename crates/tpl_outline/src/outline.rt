@@ -1,7 +1,11 @@
 //! How tasks begin and end under what is assumed: the least that the rules K1 and K2 force.
 
-ghost use Rattle.std.specs.Prelude.{◌≡◌, ◌<◌};
+ghost use Rattle.std.specs.Prelude.{◌≡◌, ◌≢◌, ℕ, ◌<◌, true};
+ghost use Rattle.tpl_words.specs.declared.finals.Final as finals;
+ghost use Rattle.tpl_words.specs.Finals.{has};
 ghost use Rattle.tpl_model.specs.Graph.{is_task};
+ghost use Rattle.tpl_checker.specs.Assumptions.{assumed_of};
+ghost use Rattle.tpl_outline.specs.Fates.{fate_of, unsettled};
 
 use tpl_checker::{Assumptions, Ready, allowed, excluded, ready_of, some_end};
 use tpl_graph::Graph;
@@ -9,7 +13,7 @@ use tpl_script::Verdicts;
 use tpl_words::{Final, Finals, TaskId};
 
 /// How no task ends.
-pub(crate) const NO_END: Finals = Finals {
+pub const NO_END: Finals = Finals {
     ran: false,
     canceled: false,
     faulted: false,
@@ -28,36 +32,42 @@ const UNSETTLED: Fate = Fate {
 
 /// What may become of a task.
 #[derive(Clone, Copy, PartialEq, Eq)]
-pub(crate) struct Fate {
+pub struct Fate {
     /// It may begin.
-    pub(crate) runs: bool,
+    pub runs: bool,
     /// How the paths of its body end.
-    pub(crate) verdicts: Verdicts,
+    pub verdicts: Verdicts,
     /// How it may end.
-    pub(crate) ends: Finals,
+    pub ends: Finals,
 }
 
 /// What may become of each task of a graph, 7 kilobytes long.
 #[derive(Drop)]
-pub(crate) struct Outline {
+pub struct Outline {
     fates: [Fate; 1024],
 }
 
 impl Outline {
     /// Nothing is settled.
-    pub(crate) fn unsettled() -> Outline {
+    pub fn unsettled() -> Outline
+        ensures { (t : ℕ) → fate_of result t ≡ unsettled }
+    {
         Outline {
             fates: [UNSETTLED; 1024],
         }
     }
 
     /// The same again.
-    pub(crate) fn copy(&self) -> Outline {
+    pub(crate) fn copy(&self) -> Outline
+        ensures { result ≡ self.now }
+    {
         Outline { fates: self.fates }
     }
 
-    /// What may become of the task.
-    pub(crate) fn fate(&self, task: TaskId) -> Fate {
+    /// What may become of the task. No task from the 1024th on may begin or end.
+    pub fn fate(&self, task: TaskId) -> Fate
+        ensures { result ≡ fate_of self.now task.0 }
+    {
         let at = task.0 as usize;
         if at < 1024 { self.fates[at] } else { UNSETTLED }
     }
@@ -65,6 +75,8 @@ impl Outline {
     /// Settles what may become of the task.
     pub(crate) fn settle(&mut self, task: TaskId, fate: Fate)
         requires { task.0 < 1024 }
+        ensures settled { fate_of self.new task.0 ≡ fate }
+        ensures others { (t : ℕ) → t ≢ task.0 → fate_of self.new t ≡ fate_of self.old t }
     {
         self.fates[task.0 as usize] = fate;
     }
@@ -86,6 +98,7 @@ impl Outline {
     /// How the task may end, but for the ways that are left out.
     pub(crate) fn ends(&self, graph: &Graph, assumed: &Assumptions, task: TaskId) -> Finals
         requires { is_task graph.now.graph task.0 }
+        ensures { (f : Final) → has result f ≡ true → (assumed_of assumed.now).cut task.0 f ≡ true }
     {
         let found = match ready_of(graph, task) {
             Ready::Root => self.ready_ends(graph, assumed, task),

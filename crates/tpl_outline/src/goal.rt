@@ -1,20 +1,27 @@
 //! Whether the least rows of a leaf prove a claim's property.
 
 ghost use Rattle.tpl_model.specs.Graph.{is_task};
+ghost use Rattle.tpl_outline.specs.Shown.{IsAnswer};
 
-use crate::cone::Cone;
-use crate::question::Question;
 use crate::rows::{Parts, may_end_early};
 use tpl_checker::{Ready, parent, ready_of};
 use tpl_model::Property;
 use tpl_words::{TaskId, TaskSet};
 
-/// Whether the least rows prove the property, where an observed task has this chain.
-pub(crate) fn is_reached(parts: Parts<'_>, question: Question<'_>, chain: &[TaskId]) -> bool {
-    match question.property {
+/// Whether the least rows prove the property, on which these tasks bear, where an observed task has
+/// this chain.
+pub(crate) fn is_reached(
+    parts: Parts<'_>,
+    property: Property,
+    tasks: &TaskSet,
+    chain: &[TaskId],
+) -> bool
+    ensures { IsAnswer property parts.entry.outline.now result }
+{
+    match property {
         Property::Final(task, ends) => parts.outline.fate(task).ends.is_subset(&ends),
         Property::After(first, second) => {
-            !parts.outline.fate(second).runs || is_before(parts, question.cone, first, second)
+            !parts.outline.fate(second).runs || is_before(parts, tasks, first, second)
         }
         Property::Observed(task) => {
             let fate = parts.outline.fate(task);
@@ -35,14 +42,14 @@ struct Places {
 }
 
 /// The first task is settled when the second begins.
-fn is_before(parts: Parts<'_>, cone: &Cone, first: TaskId, second: TaskId) -> bool {
+fn is_before(parts: Parts<'_>, tasks: &TaskSet, first: TaskId, second: TaskId) -> bool {
     let mut places = Places {
         before: TaskSet::empty(),
         past: TaskSet::empty(),
     };
     for task in 0..parts.graph.len() {
         let task = TaskId(task as u16);
-        if cone.has(task) {
+        if tasks.contains(task) {
             places.add(parts, first, task);
         }
     }

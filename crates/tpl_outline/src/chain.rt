@@ -1,6 +1,6 @@
 //! The chain of an observed task: who takes its exception over, and who reads it (the rule K6).
 
-ghost use Rattle.std.specs.Prelude.{◌<◌};
+ghost use Rattle.std.specs.Prelude.{◌<◌, ◌≤◌, length, IfOk};
 ghost use Rattle.tpl_model.specs.Graph.{is_task};
 
 use std::alloc::{AllocError, Global};
@@ -28,7 +28,9 @@ pub(crate) fn chain(
     graph: &Graph,
     assumed: &Assumptions,
     task: TaskId,
-) -> Result<Vec<TaskId>, AllocError> {
+) -> Result<Vec<TaskId>, AllocError>
+    ensures { IfOk result (λ chain. length chain.items ≤ 16) }
+{
     let mut seen = TaskSet::empty();
     let mut carriers = Vec::new(alloc);
     carriers.push(Carrier {
@@ -87,11 +89,13 @@ fn path(
     carriers: &[Carrier],
     place: usize,
     reader: TaskId,
-) -> Result<Vec<TaskId>, AllocError> {
+) -> Result<Vec<TaskId>, AllocError>
+    ensures { IfOk result (λ path. length path.items ≤ 16) }
+{
     let mut path = Vec::new(alloc);
     path.push(reader)?;
     let mut at = place;
-    for _ in 0..MOST_IN_CHAIN {
+    for _ in 0..MOST_IN_CHAIN - 1 {
         match carrier_at(carriers, at) {
             Some(carrier) if carrier.taken > 0 => {
                 path.push(carrier.task)?;

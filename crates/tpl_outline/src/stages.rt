@@ -3,7 +3,7 @@
 ghost use Rattle.std.specs.Prelude.{◌≡◌, ◌++◌, ◌∷◌, [], OnOk, IfOk};
 ghost use Rattle.std.specs.List.{All};
 ghost use Rattle.tpl_model.specs.Graph.{is_task};
-ghost use Rattle.tpl_analyser.specs.Stages.{IsStageOf};
+ghost use Rattle.tpl_outline.specs.Stages.{IsStageOf, task_of};
 
 use std::alloc::{AllocError, Global};
 use tpl_checker::Below;
@@ -12,7 +12,7 @@ use tpl_words::{TaskId, TaskSet};
 
 /// A step of a leaf's making.
 #[derive(Clone, Copy)]
-pub(crate) enum Stage {
+pub enum Stage {
     /// It is settled whether the task may begin.
     Begin(TaskId),
     /// It is settled how the task may end.
@@ -21,7 +21,9 @@ pub(crate) enum Stage {
 
 impl Stage {
     /// The task whose stage it is.
-    pub(crate) fn task(self) -> TaskId {
+    pub(crate) fn task(self) -> TaskId
+        ensures { result.0 ≡ task_of self }
+    {
         match self {
             Stage::Begin(task) => task,
             Stage::End(task) => task,
@@ -31,7 +33,7 @@ impl Stage {
 
 /// The stages of all tasks, each after those on which it depends: a task begins after its parent
 /// and after the end of what it waits for, and ends after its attached children.
-pub(crate) fn stages(alloc: Global, graph: &Graph, below: &Below) -> Result<Vec<Stage>, AllocError>
+pub fn stages_of(alloc: Global, graph: &Graph, below: &Below) -> Result<Vec<Stage>, AllocError>
     ensures { IfOk result (λ v. All (IsStageOf graph.now.graph) v.items) }
 {
     let attached = attached(graph, below);

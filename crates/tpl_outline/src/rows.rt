@@ -1,5 +1,6 @@
 //! The rows of a leaf: the greatest `before` and `past` that the rules K3 to K5 permit.
 
+ghost use Rattle.std.specs.Prelude.{◌≡◌, length, IfOk};
 ghost use Rattle.tpl_model.specs.Graph.{is_task};
 
 use crate::outline::Outline;
@@ -25,7 +26,10 @@ pub(crate) fn rows(
     parts: Parts<'_>,
     observed: Option<TaskId>,
     chain: &[TaskId],
-) -> Result<Vec<Row>, AllocError> {
+) -> Result<Vec<Row>, AllocError>
+    ensures { IfOk result (λ rows. length rows.items
+        ≡ length parts.entry.graph.now.graph.tasks) }
+{
     let mut rows = Vec::new(alloc);
     for task in 0..parts.graph.len() {
         let task = TaskId(task as u16);
