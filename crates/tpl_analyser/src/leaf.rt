@@ -10,6 +10,7 @@ use crate::branch::Branch;
 use crate::budget::Budget;
 use crate::form::in_form;
 use crate::question::Question;
+use crate::watch::Watch;
 use std::alloc::{AllocError, Global};
 use tpl_cert::{Node, Row, Tree, is_within_limits};
 use tpl_checker::accepts_leaf;
@@ -18,11 +19,11 @@ use tpl_words::TaskId;
 
 /// The leaf of a branch, if it is accepted; and one leaf less is left to be tried. Where none is
 /// left, none is given.
-pub(crate) fn leaf(
+pub(crate) fn leaf<W: Watch>(
     alloc: Global,
     question: Question<'_>,
     branch: &Branch,
-    budget: &mut Budget,
+    budget: &mut Budget<W>,
 ) -> Result<Option<Tree>, AllocError>
     requires { IsReady question }
     ensures { IfOk result (λ found. IfSome found (IsFound question.entry.graph.now.graph
@@ -42,11 +43,11 @@ pub(crate) fn leaf(
 
 /// Whether the least rows of the branch prove the property; and one leaf less is left to be tried.
 /// Where none is left, it answers that they do, so that whoever looks for what is still open ends.
-pub(crate) fn is_proved(
+pub(crate) fn is_proved<W: Watch>(
     alloc: Global,
     question: Question<'_>,
     branch: &Branch,
-    budget: &mut Budget,
+    budget: &mut Budget<W>,
 ) -> Result<bool, AllocError> {
     if !budget.spend() {
         return Ok(true);

@@ -10,11 +10,15 @@ mod cone;
 mod form;
 mod gap;
 mod leaf;
+mod missed;
 mod question;
 mod search;
 mod split;
+mod watch;
 mod way;
 
-pub use certificate::{analyse, analyse_in};
+pub use certificate::{analyse, analyse_in, analyse_watched};
 pub use form::Form;
 pub use gap::Gap;
+pub use missed::{Missed, RanOut};
+pub use watch::Watch;

@@ -3,14 +3,14 @@ use Rattle.tpl_model.specs.Claims.{Claim}
 use Rattle.tpl_model.specs.Certificate.{Tree, assumed}
 use Rattle.tpl_analyser.specs.Found.{IsFound}
 use Rattle.tpl_analyser.proofs.GapLemmas.{FoundSoFar, first_without, one_more}
-use Rattle.tpl_analyser.proofs.certificate.analyse_in.Goals as goal
+use Rattle.tpl_analyser.proofs.certificate.analyse_watched.Goals as goal
 
 pub returns-in-None-clause-gap : goal.returns-in-None-clause-gap
-returns-in-None-clause-gap c =
+returns-in-None-clause-gap over c =
     first_without c.args.graph.now.graph c.args.claims.now c.args.form c.args.depth c.loop-at.at c.loop-at.trees.items c.index-claims-at.result c.loop-at-test.true c.loop-at.invariant
 
 pub loop-at-preserved : goal.loop-at-preserved
-loop-at-preserved c =
+loop-at-preserved over c =
     let g = c.args.graph.now.graph in
     let claim = c.index-claims-at.result in
     let tree = c.in-Some.tree in
