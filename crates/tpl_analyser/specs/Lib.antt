@@ -1,6 +1,6 @@
 pub mod Splits
-pub mod Stages
 pub mod Found
 pub mod Gaps
+pub mod Missed
 pub mod Questions
 pub mod Slim

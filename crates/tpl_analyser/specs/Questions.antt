@@ -4,7 +4,7 @@ use Rattle.tpl_claims.specs.Fits.{TasksOf}
 use Rattle.tpl_checker.specs.Below.{AreBelow}
 use Rattle.tpl_analyser.specs.declared.question.Question.{Question}
 use Rattle.tpl_analyser.specs.Splits.{IsSplitOf}
-use Rattle.tpl_analyser.specs.Stages.{IsStageOf}
+use Rattle.tpl_outline.specs.Stages.{IsStageOf}
 
 -- the property is one of the graph's tasks, and the rest is made of the graph
 pub record IsReady (q : Question) : Type 0 where

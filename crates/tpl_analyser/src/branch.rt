@@ -8,12 +8,11 @@ ghost use Rattle.tpl_claims.specs.Fits.{AreGivenOf};
 ghost use Rattle.tpl_checker.specs.Assumptions.{assumed_of};
 ghost use Rattle.tpl_analyser.specs.Questions.{IsReady};
 
-use crate::outline::{NO_END, Outline};
-use crate::pass::outline;
 use crate::question::Question;
 use crate::split::{Split, Splits, Turn};
 use tpl_checker::{Assumptions, assumed};
 use tpl_model::Given;
+use tpl_outline::{NO_END, Outline, Setting, outline_under};
 use tpl_words::{Final, Finals, InputId, TaskId};
 
 /// A branch of the search.
@@ -34,7 +33,13 @@ impl Branch {
         ensures { assumed_of result.assumed ≡ assumed question.entry.graph.now.graph given.now }
     {
         let assumed = assumed(question.graph, given);
-        let outline = outline(question, &assumed, &Outline::unsettled(), true);
+        let setting = Setting {
+            graph: question.graph,
+            below: question.below,
+            stages: question.stages,
+            assumed: &assumed,
+        };
+        let outline = outline_under(setting, &question.cone.tasks, &Outline::unsettled(), true);
         Branch {
             assumed,
             outline,
@@ -74,7 +79,13 @@ impl Branch {
         requires question { IsReady question }
         ensures { result.assumed ≡ assumed }
     {
-        let outline = outline(question, &assumed, &self.outline, all);
+        let setting = Setting {
+            graph: question.graph,
+            below: question.below,
+            stages: question.stages,
+            assumed: &assumed,
+        };
+        let outline = outline_under(setting, &question.cone.tasks, &self.outline, all);
         Branch {
             assumed,
             outline,

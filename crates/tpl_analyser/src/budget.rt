@@ -1,19 +1,59 @@
-//! How many leaves may still be tried.
+//! How many leaves may still be tried, and who is told of those that are.
+
+use crate::missed::RanOut;
+use crate::watch::Watch;
+
+/// The most leaves that are tried for one claim (this program's own limit).
+const MOST_LEAVES: u32 = 100_000;
+
+/// The most leaves that are then tried in a directed search (this program's own limit).
+const MOST_LEAVES_DIRECTED: u32 = 20_000;
+
+/// After so many leaves the watcher is told again.
+const LEAVES_BETWEEN: u32 = 1_000;
 
 /// How many leaves may still be tried for a claim.
 #[derive(Drop)]
-pub(crate) struct Budget {
+pub(crate) struct Budget<W> {
+    watch: W,
+    /// The number of the claim.
+    claim: usize,
+    /// How many have been tried for it.
+    tried: u32,
     left: u32,
+    /// They were used up once, and more were allowed.
+    renewed: bool,
+    /// There is no tree for the claim, however many splits it may have.
     hopeless: bool,
 }
 
-impl Budget {
-    /// So many leaves.
-    pub(crate) fn new(left: u32) -> Budget {
+impl<W: Watch> Budget<W> {
+    /// Before the first claim.
+    pub(crate) fn new(watch: W) -> Budget<W> {
         Budget {
-            left,
+            watch,
+            claim: 0,
+            tried: 0,
+            left: 0,
+            renewed: false,
             hopeless: false,
         }
+    }
+
+    /// The search for the claim of this number begins.
+    pub(crate) fn begin(&mut self, claim: usize) {
+        self.claim = claim;
+        self.tried = 0;
+        self.left = MOST_LEAVES;
+        self.renewed = false;
+        self.hopeless = false;
+        self.watch.tries(claim, 0);
+    }
+
+    /// The directed search for the same claim begins.
+    pub(crate) fn renew(&mut self) {
+        self.left = MOST_LEAVES_DIRECTED;
+        self.renewed = true;
     }
 
     /// One leaf less is left, if there is one.
@@ -22,6 +62,10 @@ impl Budget {
             return false;
         }
         self.left -= 1;
+        self.tried = self.tried.saturating_add(1);
+        if self.tried % LEAVES_BETWEEN == 0 {
+            self.watch.tries(self.claim, self.tried);
+        }
         true
     }
 
@@ -36,8 +80,14 @@ impl Budget {
         self.hopeless = true;
     }
 
-    /// The leaves were used up, and it isn't known that there is no tree.
-    pub(crate) fn ran_out(&self) -> bool {
-        self.left == 0 && !self.hopeless
+    /// What ran out, where no tree was found for the claim.
+    pub(crate) fn ran_out(&self) -> RanOut {
+        if self.hopeless {
+            RanOut::Trees
+        } else if self.renewed || self.left == 0 {
+            RanOut::Leaves
+        } else {
+            RanOut::Depth
+        }
     }
 }

@@ -9,10 +9,11 @@ ghost use Rattle.tpl_checker.specs.Assumptions.{assumed_of};
 ghost use Rattle.tpl_checker.specs.Below.{AreBelow};
 ghost use Rattle.tpl_analyser.specs.Found.{IsFound};
 ghost use Rattle.tpl_analyser.specs.Gaps.{IsGap};
+ghost use Rattle.tpl_analyser.specs.Missed.{gap_of};
 ghost use Rattle.tpl_analyser.specs.Questions.{IsReady};
 ghost use Rattle.tpl_analyser.specs.Slim.{IsCertificateOf};
 ghost use Rattle.tpl_analyser.specs.Splits.{IsSplitOf};
-ghost use Rattle.tpl_analyser.specs.Stages.{IsStageOf};
+ghost use Rattle.tpl_outline.specs.Stages.{IsStageOf};
 
 use crate::branch::Branch;
 use crate::budget::Budget;
@@ -21,21 +22,17 @@ use crate::cone::Cone;
 use crate::form::Form;
 use crate::gap::Gap;
 use crate::leaf::leaf;
+use crate::missed::{Missed, RanOut};
 use crate::question::Question;
 use crate::search::{Reach, split};
 use crate::split::{Split, all_splits};
-use crate::stages::{Stage, stages};
+use crate::watch::{Nobody, Watch};
 use std::alloc::{AllocError, Global};
 use tpl_cert::{Certificate, Tree};
 use tpl_checker::Below;
 use tpl_claims::Claim;
 use tpl_graph::Graph;
-
-/// The most leaves that are tried for one claim (this program's own limit).
-const MOST_LEAVES: u32 = 100_000;
-
-/// The most leaves that are then tried in a directed search (this program's own limit).
-const MOST_LEAVES_DIRECTED: u32 = 20_000;
+use tpl_outline::{Stage, stages_of};
 
 /// Searches a certificate of the claims, each of which can be asked of the graph, with at most
 /// `depth` splits on each path, and at most 6, whose rows say all that the rules permit. For each
@@ -77,11 +74,37 @@ pub fn analyse_in(
     ensures form { IfOk result (IsCertificateOf form claims.now) }
     ensures gap { IfErr result (IsGap graph.now.graph claims.now depth) }
 {
+    match analyse_watched(alloc, graph, claims, depth, form, Nobody) {
+        Ok(certificate) => Ok(certificate),
+        Err(Missed::NotFound { claim, .. }) => Err(Gap::NotFound { claim }),
+        Err(Missed::Memory) => Err(Gap::Memory),
+    }
+}
+
+/// Searches a certificate as `analyse_in` does. The watcher is told how far the search is, and where
+/// a claim is `NotFound`, it is said what ran out.
+pub fn analyse_watched<W: Watch>(
+    alloc: Global,
+    graph: &Graph,
+    claims: &[Claim],
+    depth: u8,
+    form: Form,
+    watch: W,
+) -> Result<Certificate, Missed>
+    requires claims { All (Fits graph.now.graph) claims.now }
+    requires depth { depth ≤ 6 }
+    ensures accepted { IfOk result (λ c. Accepts graph.now.graph claims.now c) }
+    ensures splits { IfOk result (All (λ tree. height tree ≤ depth)) }
+    ensures form { IfOk result (IsCertificateOf form claims.now) }
+    ensures gap { IfErr result (λ missed. IsGap graph.now.graph claims.now depth (gap_of missed)) }
+{
     let below = Below::of_graph(graph);
-    let stages = stages(alloc, graph, &below)?;
+    let stages = stages_of(alloc, graph, &below)?;
     let splits = all_splits(alloc, graph)?;
+    let mut budget = Budget::new(watch);
     let mut trees = Vec::new(alloc);
     for at in 0..claims.len() {
+        budget.begin(at + 1);
         match tree_for(
             alloc,
             graph,
@@ -91,16 +114,22 @@ pub fn analyse_in(
             &claims[at],
             form,
             depth,
+            &mut budget,
         )? {
             Some(tree) => trees.push(tree)?,
-            None => return Err(Gap::NotFound { claim: at + 1 }),
+            None => {
+                return Err(Missed::NotFound {
+                    claim: at + 1,
+                    ran_out: budget.ran_out(),
+                });
+            }
         }
     }
     Ok(Certificate::new(trees))
 }
 
 /// A tree for one claim.
-fn tree_for(
+fn tree_for<W: Watch>(
     alloc: Global,
     graph: &Graph,
     below: &Below,
@@ -109,6 +138,7 @@ fn tree_for(
     claim: &Claim,
     form: Form,
     depth: u8,
+    budget: &mut Budget<W>,
 ) -> Result<Option<Tree>, AllocError>
     requires claim { Fits graph.now.graph claim.now }
     requires below { AreBelow graph.now.graph below.now }
@@ -128,46 +158,46 @@ fn tree_for(
         cone: &cone,
     };
     let root = Branch::root(question, claim.given());
-    deepened(alloc, question, &root, depth)
+    deepened(alloc, question, &root, depth, budget)
 }
 
 /// A tree with as few splits on a path as one is found with: in the order of the search, and where
 /// that uses its leaves up, by a directed search.
-fn deepened(
+fn deepened<W: Watch>(
     alloc: Global,
     question: Question<'_>,
     root: &Branch,
     depth: u8,
+    budget: &mut Budget<W>,
 ) -> Result<Option<Tree>, AllocError>
     requires { IsReady question }
     ensures { IfOk result (λ found. IfSome found (IsFound question.entry.graph.now.graph
         question.entry.property question.entry.form (assumed_of root.now.assumed) depth)) }
 {
-    let mut budget = Budget::new(MOST_LEAVES);
-    if let Some(tree) = leaf(alloc, question, root, &mut budget)? {
+    if let Some(tree) = leaf(alloc, question, root, budget)? {
         return Ok(Some(tree));
     }
     if depth == 0 {
         return Ok(None);
     }
-    if let Some(tree) = by_depth(alloc, question, root, depth, false, &mut budget)? {
+    if let Some(tree) = by_depth(alloc, question, root, depth, false, budget)? {
         return Ok(Some(tree));
     }
-    if !budget.ran_out() {
+    if budget.ran_out() != RanOut::Leaves {
         return Ok(None);
     }
-    let mut budget = Budget::new(MOST_LEAVES_DIRECTED);
-    by_depth(alloc, question, root, depth, true, &mut budget)
+    budget.renew();
+    by_depth(alloc, question, root, depth, true, budget)
 }
 
 /// A tree with a split at its top: one with few splits on a path before one with more.
-fn by_depth(
+fn by_depth<W: Watch>(
     alloc: Global,
     question: Question<'_>,
     root: &Branch,
     depth: u8,
     directed: bool,
-    budget: &mut Budget,
+    budget: &mut Budget<W>,
 ) -> Result<Option<Tree>, AllocError>
     requires { IsReady question }
     ensures { IfOk result (λ found. IfSome found (IsFound question.entry.graph.now.graph
@@ -190,13 +220,13 @@ fn by_depth(
 }
 
 /// A tree with a split at its top and so many on a path, if that many may be enough.
-fn at_depth(
+fn at_depth<W: Watch>(
     alloc: Global,
     question: Question<'_>,
     root: &Branch,
     reach: Reach,
     bound: &Bound,
-    budget: &mut Budget,
+    budget: &mut Budget<W>,
 ) -> Result<Option<Tree>, AllocError>
     requires question { IsReady question }
     requires splits { 0 < reach.splits }

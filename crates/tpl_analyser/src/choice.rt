@@ -8,6 +8,7 @@ use crate::leaf::is_proved;
 use crate::question::Question;
 use crate::search::Reach;
 use crate::split::{Split, Splits, assumed_on};
+use crate::watch::Watch;
 use crate::way::{Way, way_from};
 use std::alloc::{AllocError, Global};
 
@@ -40,12 +41,12 @@ pub(crate) struct Bound {
 
 /// What one way shows of the trees of a branch; nothing where there is no tree with at most so many
 /// splits on a path.
-pub(crate) fn bound_of(
+pub(crate) fn bound_of<W: Watch>(
     alloc: Global,
     question: Question<'_>,
     branch: &Branch,
     splits: u8,
-    budget: &mut Budget,
+    budget: &mut Budget<W>,
 ) -> Result<Option<Bound>, AllocError>
     requires { IsReady question }
 {
@@ -63,13 +64,13 @@ pub(crate) fn bound_of(
 
 /// The splits that the way needs: with the branches of all others the property isn't proved. Where
 /// there are more than `most` of them, as many as show it.
-fn needed(
+fn needed<W: Watch>(
     alloc: Global,
     question: Question<'_>,
     branch: &Branch,
     way: &Way,
     most: u8,
-    budget: &mut Budget,
+    budget: &mut Budget<W>,
 ) -> Result<Splits, AllocError>
     requires { IsReady question }
 {
@@ -94,13 +95,13 @@ impl Bound {
     /// The splits that are tried where there may be so many on a path: if no more than the needed
     /// ones have room, these; else each, or in a directed search those that were enough on the way.
     /// None where they have no room.
-    pub(crate) fn choice(
+    pub(crate) fn choice<W: Watch>(
         &self,
         alloc: Global,
         question: Question<'_>,
         branch: &Branch,
         reach: Reach,
-        budget: &mut Budget,
+        budget: &mut Budget<W>,
     ) -> Result<Option<Choice>, AllocError>
         requires { IsReady question }
     {
@@ -121,12 +122,12 @@ impl Bound {
 
 /// Splits whose branches on the way are enough to prove the property, of which none can be left
 /// out. Those that are declared first are left out first.
-fn enough(
+fn enough<W: Watch>(
     alloc: Global,
     question: Question<'_>,
     branch: &Branch,
     way: &Way,
-    budget: &mut Budget,
+    budget: &mut Budget<W>,
 ) -> Result<Splits, AllocError>
     requires { IsReady question }
 {

@@ -8,26 +8,22 @@ ghost use Rattle.tpl_analyser.specs.Slim.{AreOfForm};
 
 use crate::branch::Branch;
 use crate::budget::Budget;
-use crate::chain::chain;
 use crate::form::in_form;
-use crate::goal::is_reached;
-use crate::outline::Outline;
-use crate::pass::whole_outline;
 use crate::question::Question;
-use crate::rows::{Parts, rows};
+use crate::watch::Watch;
 use std::alloc::{AllocError, Global};
 use tpl_cert::{Node, Row, Tree, is_within_limits};
 use tpl_checker::accepts_leaf;
-use tpl_model::Property;
+use tpl_outline::{Setting, least_rows, reached};
 use tpl_words::TaskId;
 
 /// The leaf of a branch, if it is accepted; and one leaf less is left to be tried. Where none is
 /// left, none is given.
-pub(crate) fn leaf(
+pub(crate) fn leaf<W: Watch>(
     alloc: Global,
     question: Question<'_>,
     branch: &Branch,
-    budget: &mut Budget,
+    budget: &mut Budget<W>,
 ) -> Result<Option<Tree>, AllocError>
     requires { IsReady question }
     ensures { IfOk result (λ found. IfSome found (IsFound question.entry.graph.now.graph
@@ -36,10 +32,10 @@ pub(crate) fn leaf(
     if !budget.spend() {
         return Ok(None);
     }
-    match reached(alloc, question, branch)? {
+    match chain_of(alloc, question, branch)? {
         None => Ok(None),
         Some(chain) => {
-            let rows = least_rows(alloc, question, branch, &chain)?;
+            let rows = rows_of(alloc, question, branch, &chain)?;
             Ok(tested(question, branch, rows))
         }
     }
@@ -47,39 +43,37 @@ pub(crate) fn leaf(
 
 /// Whether the least rows of the branch prove the property; and one leaf less is left to be tried.
 /// Where none is left, it answers that they do, so that whoever looks for what is still open ends.
-pub(crate) fn is_proved(
+pub(crate) fn is_proved<W: Watch>(
     alloc: Global,
     question: Question<'_>,
     branch: &Branch,
-    budget: &mut Budget,
+    budget: &mut Budget<W>,
 ) -> Result<bool, AllocError> {
     if !budget.spend() {
         return Ok(true);
     }
-    let reached = reached(alloc, question, branch)?;
-    Ok(reached.is_some())
+    let chain = chain_of(alloc, question, branch)?;
+    Ok(chain.is_some())
 }
 
-/// The chain of the observed task, or an empty one, if the least rows prove the property with it.
-fn reached(
+/// The chain with which the least rows of the branch prove the property, if they do.
+fn chain_of(
     alloc: Global,
     question: Question<'_>,
     branch: &Branch,
 ) -> Result<Option<Vec<TaskId>>, AllocError> {
-    let chain = match observed(question.property) {
-        Some(task) => chain(alloc, question.graph, &branch.assumed, task)?,
-        None => Vec::new(alloc),
+    let setting = Setting {
+        graph: question.graph,
+        below: question.below,
+        stages: question.stages,
+        assumed: &branch.assumed,
     };
-    let parts = parts(question, branch, &branch.outline);
-    if is_reached(parts, question, &chain) {
-        Ok(Some(chain))
-    } else {
-        Ok(None)
-    }
+    let tasks = &question.cone.tasks;
+    reached(alloc, setting, &branch.outline, question.property, tasks)
 }
 
 /// The least rows in the form that is asked for, with this chain of the observed task.
-fn least_rows(
+fn rows_of(
     alloc: Global,
     question: Question<'_>,
     branch: &Branch,
@@ -89,27 +83,14 @@ fn least_rows(
     ensures { IfOk result (λ rows.
         AreOfForm question.entry.form question.entry.property rows.items) }
 {
-    let outline = whole_outline(question.graph, question.stages, &branch.assumed);
-    let parts = parts(question, branch, &outline);
-    let rows = rows(alloc, parts, observed(question.property), chain)?;
-    in_form(alloc, question.form, question.property, rows)
-}
-
-fn parts<'s>(question: Question<'s>, branch: &'s Branch, outline: &'s Outline) -> Parts<'s> {
-    Parts {
+    let setting = Setting {
         graph: question.graph,
         below: question.below,
+        stages: question.stages,
         assumed: &branch.assumed,
-        outline,
-    }
-}
-
-/// The task whose exception the property says to be observed.
-fn observed(property: Property) -> Option<TaskId> {
-    match property {
-        Property::Observed(task) => Some(task),
-        _ => None,
-    }
+    };
+    let rows = least_rows(alloc, setting, question.property, chain)?;
+    in_form(alloc, question.form, question.property, rows)
 }
 
 /// A leaf with these rows, if it is accepted and within the limits.

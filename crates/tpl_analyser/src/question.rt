@@ -3,10 +3,10 @@
 use crate::cone::Cone;
 use crate::form::Form;
 use crate::split::Split;
-use crate::stages::Stage;
 use tpl_checker::Below;
 use tpl_graph::Graph;
 use tpl_model::Property;
+use tpl_outline::Stage;
 
 /// A claim's property and its graph, with what is made of the graph once.
 #[derive(Clone, Copy)]

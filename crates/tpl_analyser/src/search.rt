@@ -15,6 +15,7 @@ use crate::choice::{Choice, bound_of};
 use crate::leaf::leaf;
 use crate::question::Question;
 use crate::split::Split;
+use crate::watch::Watch;
 use std::alloc::{AllocError, Global};
 use tpl_cert::{Node, Tree};
 use tpl_words::{Final, InputId, TaskId};
@@ -77,12 +78,12 @@ fn end_tree(
 /// A tree with at most so many splits on each path, if one is found before no leaf is left to be
 /// tried.
 #[cycle(search)]
-fn find(
+fn find<W: Watch>(
     alloc: Global,
     question: Question<'_>,
     branch: &Branch,
     reach: Reach,
-    budget: &mut Budget,
+    budget: &mut Budget<W>,
 ) -> Result<Option<Tree>, AllocError>
     requires { IsReady question }
     ensures { IfOk result (λ found. IfSome found (IsFound question.entry.graph.now.graph
@@ -102,12 +103,12 @@ fn find(
 
 /// The splits that are tried at a node, if there are some. On the last level of a search that isn't
 /// directed each is, which costs no more than to find out.
-fn choice(
+fn choice<W: Watch>(
     alloc: Global,
     question: Question<'_>,
     branch: &Branch,
     reach: Reach,
-    budget: &mut Budget,
+    budget: &mut Budget<W>,
 ) -> Result<Option<Choice>, AllocError>
     requires { IsReady question }
 {
@@ -124,13 +125,13 @@ fn choice(
 /// nothing is tried: it would need a tree with a split less, and that split's branch would have had
 /// it too.
 #[cycle(search)]
-pub(crate) fn split(
+pub(crate) fn split<W: Watch>(
     alloc: Global,
     question: Question<'_>,
     branch: &Branch,
     reach: Reach,
     choice: &Choice,
-    budget: &mut Budget,
+    budget: &mut Budget<W>,
 ) -> Result<Option<Tree>, AllocError>
     requires question { IsReady question }
     requires splits { 0 < reach.splits }
@@ -152,13 +153,13 @@ pub(crate) fn split(
 
 /// A tree with this split at its top.
 #[cycle(search)]
-fn by_split(
+fn by_split<W: Watch>(
     alloc: Global,
     question: Question<'_>,
     branch: &Branch,
     reach: Reach,
     split: Split,
-    budget: &mut Budget,
+    budget: &mut Budget<W>,
 ) -> Result<Option<Tree>, AllocError>
     requires question { IsReady question }
     requires splits { 0 < reach.splits }
@@ -174,13 +175,13 @@ fn by_split(
 
 /// A tree with a split on this input at its top.
 #[cycle(search)]
-fn by_input(
+fn by_input<W: Watch>(
     alloc: Global,
     question: Question<'_>,
     branch: &Branch,
     reach: Reach,
     input: InputId,
-    budget: &mut Budget,
+    budget: &mut Budget<W>,
 ) -> Result<Option<Tree>, AllocError>
     requires question { IsReady question }
     requires splits { 0 < reach.splits }
@@ -204,13 +205,13 @@ fn by_input(
 
 /// A tree with a split on how this task ends at its top.
 #[cycle(search)]
-fn by_end(
+fn by_end<W: Watch>(
     alloc: Global,
     question: Question<'_>,
     branch: &Branch,
     reach: Reach,
     task: TaskId,
-    budget: &mut Budget,
+    budget: &mut Budget<W>,
 ) -> Result<Option<Tree>, AllocError>
     requires question { IsReady question }
     requires splits { 0 < reach.splits }

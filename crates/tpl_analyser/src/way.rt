@@ -7,6 +7,7 @@ use crate::budget::Budget;
 use crate::leaf::is_proved;
 use crate::question::Question;
 use crate::split::{Split, Turn};
+use crate::watch::Watch;
 use std::alloc::{AllocError, Global};
 use tpl_checker::Assumptions;
 
@@ -26,11 +27,11 @@ pub(crate) struct Way {
 
 /// A way from a branch on: of each split the first branch on which the property isn't proved yet,
 /// until there is none; from then on the first that is open.
-pub(crate) fn way_from(
+pub(crate) fn way_from<W: Watch>(
     alloc: Global,
     question: Question<'_>,
     from: &Branch,
-    budget: &mut Budget,
+    budget: &mut Budget<W>,
 ) -> Result<Way, AllocError>
     requires { IsReady question }
 {
@@ -50,12 +51,12 @@ pub(crate) fn way_from(
 
 impl Way {
     /// Goes on by a branch of the split.
-    fn add(
+    fn add<W: Watch>(
         &mut self,
         alloc: Global,
         question: Question<'_>,
         split: Split,
-        budget: &mut Budget,
+        budget: &mut Budget<W>,
     ) -> Result<(), AllocError>
         requires { IsReady question }
     {
@@ -76,12 +77,12 @@ impl Way {
     }
 
     /// Goes on by this branch, if it is open and the property isn't proved on it.
-    fn tries(
+    fn tries<W: Watch>(
         &mut self,
         alloc: Global,
         question: Question<'_>,
         turn: Turn,
-        budget: &mut Budget,
+        budget: &mut Budget<W>,
     ) -> Result<bool, AllocError>
         requires { IsReady question }
     {

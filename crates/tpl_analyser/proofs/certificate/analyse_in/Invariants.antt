@@ -1,5 +1,0 @@
-use Rattle.tpl_analyser.proofs.GapLemmas.{FoundSoFar}
-use Rattle.tpl_analyser.proofs.certificate.analyse_in.Given as goal
-
-abbrev pub invariant-loop-at : goal.invariant-loop-at
-invariant-loop-at l = FoundSoFar l.graph.graph l.claims l.form l.depth l.at l.trees.items

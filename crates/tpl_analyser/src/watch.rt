@@ -1,0 +1,16 @@
+//! Who is told how far a search is.
+
+/// Who is told how far a search is.
+pub trait Watch: Drop {
+    /// So many leaves have been tried for the claim of this number; claims count from 1. It is called
+    /// when the search for a claim begins, and then after each 1,000 leaves.
+    fn tries(&mut self, claim: usize, leaves: u32);
+}
+
+/// Who isn't interested.
+#[derive(Drop)]
+pub(crate) struct Nobody;
+
+impl Watch for Nobody {
+    fn tries(&mut self, _claim: usize, _leaves: u32) {}
+}

@@ -1,0 +1,6 @@
+use Rattle.std.specs.List.{All}
+use Rattle.tpl_outline.specs.Stages.{IsStageOf}
+use Rattle.tpl_outline.proofs.stages.stages_of.Given as goal
+
+abbrev pub invariant-loop-task : goal.invariant-loop-task
+invariant-loop-task l = All (IsStageOf l.graph.graph) l.stages.items

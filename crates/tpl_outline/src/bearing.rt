@@ -1,0 +1,94 @@
+//! The tasks that bear on a property.
+
+ghost use Rattle.std.specs.Prelude.{◌≡◌, ℕ, ◌<◌, true};
+ghost use Rattle.tpl_words.specs.Members.{mem};
+ghost use Rattle.tpl_model.specs.Graph.{is_task};
+ghost use Rattle.tpl_outline.specs.Bearing.{Names};
+
+use tpl_checker::{Ready, parent, ready_of};
+use tpl_graph::Graph;
+use tpl_model::Property;
+use tpl_words::{MOST_TASKS, TaskId, TaskSet};
+
+/// The tasks that bear on a property: those of which it speaks, what these wait for, their parents
+/// and their attached children, and what bears on these in turn. How any other task ends changes
+/// nothing of what is proved of them; of that no clause speaks.
+pub fn bearing_tasks(graph: &Graph, property: Property) -> TaskSet
+    ensures { (x : ℕ) → x < 1024 → Names property x → mem x result ≡ true }
+{
+    let mut bearing = named(property);
+    for _ in 0..MOST_TASKS {
+        let wider = widened(graph, &bearing);
+        if wider.same(&bearing) {
+            return bearing;
+        }
+        bearing = wider;
+    }
+    bearing
+}
+
+/// The tasks of which the property speaks.
+fn named(property: Property) -> TaskSet
+    ensures { (x : ℕ) → x < 1024 → Names property x → mem x result ≡ true }
+{
+    let none = TaskSet::empty();
+    match property {
+        Property::Final(task, _) => with(none, task),
+        Property::After(first, second) => with(with(none, first), second),
+        Property::Observed(task) => with(none, task),
+        Property::Never(task) => with(none, task),
+        Property::Excludes(first, second) => with(with(none, first), second),
+    }
+}
+
+/// With what bears on the tasks at once; most of it is declared before them.
+fn widened(graph: &Graph, tasks: &TaskSet) -> TaskSet
+    ensures { (x : ℕ) → mem x tasks.now ≡ true → mem x result ≡ true }
+{
+    let mut wider = tasks.copy();
+    for task in (0..graph.len()).rev() {
+        let task = TaskId(task as u16);
+        if wider.contains(task) {
+            wider = with_causes(graph, wider, task);
+        }
+    }
+    wider
+}
+
+/// With what bears on the task at once.
+fn with_causes(graph: &Graph, tasks: TaskSet, task: TaskId) -> TaskSet
+    requires { is_task graph.now.graph task.0 }
+    ensures { (x : ℕ) → mem x tasks ≡ true → mem x result ≡ true }
+{
+    let tasks = with_all(tasks, graph.attached(task));
+    match ready_of(graph, task) {
+        Ready::Root => tasks,
+        Ready::Then(antecedent) => with(tasks, antecedent),
+        Ready::Child => match parent(graph, task) {
+            None => tasks,
+            Some(parent) => with(tasks, parent),
+        },
+        Ready::All(args) | Ready::Any(args) => with_all(tasks, args),
+    }
+}
+
+fn with_all(tasks: TaskSet, others: &[TaskId]) -> TaskSet
+    ensures { (x : ℕ) → mem x tasks ≡ true → mem x result ≡ true }
+{
+    let mut tasks = tasks;
+    for task in others {
+        tasks = with(tasks, *task);
+    }
+    tasks
+}
+
+fn with(tasks: TaskSet, task: TaskId) -> TaskSet
+    ensures kept { (x : ℕ) → mem x tasks ≡ true → mem x result ≡ true }
+    ensures added { task.0 < 1024 → mem task.0 result ≡ true }
+{
+    let mut tasks = tasks;
+    if task.0 < MOST_TASKS {
+        tasks.insert(task);
+    }
+    tasks
+}

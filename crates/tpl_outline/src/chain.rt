@@ -1,0 +1,169 @@
+//! The chain of an observed task: who takes its exception over, and who reads it (the rule K6).
+
+ghost use Rattle.std.specs.Prelude.{◌<◌, ◌≤◌, length, IfOk};
+ghost use Rattle.tpl_model.specs.Graph.{is_task};
+
+use std::alloc::{AllocError, Global};
+use tpl_checker::{Assumptions, Ready, ready_of};
+use tpl_graph::Graph;
+use tpl_words::{Final, Finals, MOST_TASKS, TaskId, TaskSet};
+
+/// The most tasks in a chain (this program's own limit).
+const MOST_IN_CHAIN: usize = 16;
+
+/// A task that carries the exception over.
+#[derive(Clone, Copy)]
+struct Carrier {
+    task: TaskId,
+    /// The place of the carrier before it.
+    from: usize,
+    /// How many tasks have taken the exception over.
+    taken: usize,
+}
+
+/// The shortest chain of the task, of at most 16 tasks; of equally short ones the one with the
+/// least task where they first differ. It is empty where there is none.
+pub(crate) fn chain(
+    alloc: Global,
+    graph: &Graph,
+    assumed: &Assumptions,
+    task: TaskId,
+) -> Result<Vec<TaskId>, AllocError>
+    ensures { IfOk result (λ chain. length chain.items ≤ 16) }
+{
+    let mut seen = TaskSet::empty();
+    let mut carriers = Vec::new(alloc);
+    carriers.push(Carrier {
+        task,
+        from: 0,
+        taken: 0,
+    })?;
+    for place in 0..MOST_TASKS as usize {
+        let Some(carrier) = carrier_at(&carriers, place) else {
+            return Ok(Vec::new(alloc));
+        };
+        if let Some(reader) = reader_of(graph, assumed, carrier.task) {
+            return path(alloc, &carriers, place, reader);
+        }
+        if carrier.taken < MOST_IN_CHAIN - 1 {
+            push_takers(graph, &mut carriers, &mut seen, place, carrier)?;
+        }
+    }
+    Ok(Vec::new(alloc))
+}
+
+fn carrier_at(carriers: &[Carrier], place: usize) -> Option<Carrier> {
+    match carriers.get(place) {
+        None => None,
+        Some(carrier) => Some(*carrier),
+    }
+}
+
+/// The tasks that take over what the carrier at the place carries, if they aren't seen yet.
+fn push_takers(
+    graph: &Graph,
+    carriers: &mut Vec<Carrier>,
+    seen: &mut TaskSet,
+    place: usize,
+    carrier: Carrier,
+) -> Result<(), AllocError>
+    requires { carrier.taken < 16 }
+{
+    for task in 0..graph.len() {
+        let task = TaskId(task as u16);
+        if !seen.contains(task) && takes_over(graph, task, carrier.task) {
+            seen.insert(task);
+            carriers.push(Carrier {
+                task,
+                from: place,
+                taken: carrier.taken + 1,
+            })?;
+        }
+    }
+    Ok(())
+}
+
+/// The tasks from the first that takes over to the reader.
+fn path(
+    alloc: Global,
+    carriers: &[Carrier],
+    place: usize,
+    reader: TaskId,
+) -> Result<Vec<TaskId>, AllocError>
+    ensures { IfOk result (λ path. length path.items ≤ 16) }
+{
+    let mut path = Vec::new(alloc);
+    path.push(reader)?;
+    let mut at = place;
+    for _ in 0..MOST_IN_CHAIN - 1 {
+        match carrier_at(carriers, at) {
+            Some(carrier) if carrier.taken > 0 => {
+                path.push(carrier.task)?;
+                at = carrier.from;
+            }
+            _ => break,
+        }
+    }
+    path.reverse();
+    Ok(path)
+}
+
+/// The task takes over what the other carries: it is the parent of an attached child, or waits for
+/// an argument as WhenAll.
+fn takes_over(graph: &Graph, task: TaskId, other: TaskId) -> bool
+    requires { is_task graph.now.graph task.0 }
+{
+    match ready_of(graph, task) {
+        Ready::All(args) => is_one_of(other, args),
+        Ready::Any(_) => false,
+        _ => is_one_of(other, graph.attached(task)),
+    }
+}
+
+fn is_one_of(task: TaskId, tasks: &[TaskId]) -> bool {
+    for other in tasks {
+        if task == *other {
+            return true;
+        }
+    }
+    false
+}
+
+/// The least continuation that reads the task's exception.
+fn reader_of(graph: &Graph, assumed: &Assumptions, task: TaskId) -> Option<TaskId> {
+    for reader in 0..graph.len() {
+        let reader = TaskId(reader as u16);
+        if reads(graph, assumed, reader, task) {
+            return Some(reader);
+        }
+    }
+    None
+}
+
+/// The reader continues the task where it is faulted, isn't canceled before, and observes the
+/// exception on each path.
+fn reads(graph: &Graph, assumed: &Assumptions, reader: TaskId, task: TaskId) -> bool
+    requires { is_task graph.now.graph reader.0 }
+{
+    match graph.antecedent(reader) {
+        Some(antecedent) if antecedent == task => {
+            graph.options(reader).allows(Final::Faulted)
+                && !assumed.is_loud(graph, reader)
+                && observes(graph, assumed, reader)
+        }
+        _ => false,
+    }
+}
+
+/// Each path of the reader's body passes an `observe`, where its antecedent is faulted.
+fn observes(graph: &Graph, assumed: &Assumptions, reader: TaskId) -> bool
+    requires { is_task graph.now.graph reader.0 }
+{
+    let faulted = Finals {
+        ran: false,
+        canceled: false,
+        faulted: true,
+    };
+    let view = assumed.view(graph.own_token(reader), faulted);
+    tpl_script::must_observe(graph.body(reader), &view)
+}

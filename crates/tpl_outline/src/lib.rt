@@ -1,0 +1,19 @@
+//! What may become of each task of a graph under what is assumed, and the rows that say so.
+#![tactic(auto)]
+
+mod bearing;
+mod chain;
+mod goal;
+mod least;
+mod outline;
+mod pass;
+mod rows;
+mod setting;
+mod stages;
+
+pub use bearing::bearing_tasks;
+pub use least::{least_rows, reached};
+pub use outline::{Fate, NO_END, Outline};
+pub use pass::outline_under;
+pub use setting::Setting;
+pub use stages::{Stage, stages_of};

@@ -1,0 +1,16 @@
+//! A graph under what is assumed.
+
+use crate::stages::Stage;
+use tpl_checker::{Assumptions, Below};
+use tpl_graph::Graph;
+
+/// A graph under what is assumed, with what is made of the graph once.
+#[derive(Clone, Copy)]
+pub struct Setting<'s> {
+    pub graph: &'s Graph,
+    /// The tasks below each task.
+    pub below: &'s Below,
+    /// The order in which it is settled what becomes of the tasks.
+    pub stages: &'s [Stage],
+    pub assumed: &'s Assumptions,
+}
