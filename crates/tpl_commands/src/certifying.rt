@@ -20,7 +20,7 @@ use crate::text::not_found;
 use crate::unreadable::unreadable_answer;
 use serde_json::Value;
 use std::alloc::{AllocError, Global};
-use tpl_analyser::{Form, Gap, analyse_in};
+use tpl_analyser::{Form, Missed, Watch, analyse_watched};
 use tpl_cert::{Certificate, Tree};
 use tpl_graph::Graph;
 use tpl_reader::{Document, LONGEST, certificate_is_read_back, one_document, read_document};
@@ -28,32 +28,37 @@ use tpl_reader::{Document, LONGEST, certificate_is_read_back, one_document, read
 /// Searches a certificate of a document's claims, and answers the document with it in place of the one that it has, if
 /// any.
 #[derive(Drop)]
-pub struct Certify {
+pub struct Certify<T> {
     /// The most splits on each path.
     pub depth: u8,
     /// What the rows are to say.
     pub form: Form,
+    /// Who is told how far the search is.
+    pub watch: T,
     ghost within: { depth ≤ 6 },
 }
 
-impl Command for Certify {
+impl<T: Watch + Copy> Command for Certify<T> {
     ghost answers = { λ this. Certifies this.depth this.form };
 
     fn answer(&self, alloc: Global, bytes: &[u8]) -> Result<Answer, AllocError> {
         match read_document(alloc, bytes) {
-            Ok(document) => certified(alloc, bytes, &document, self.depth, self.form),
+            Ok(document) => {
+                certified(alloc, bytes, &document, self.depth, self.form, self.watch)
+            }
             Err(fault) => unreadable_answer(alloc, fault),
         }
     }
 }
 
 /// The document of these bytes with a certificate, or the first claim for which none was found.
-fn certified(
+fn certified<T: Watch>(
     alloc: Global,
     bytes: &[u8],
     document: &Document,
     depth: u8,
     form: Form,
+    watch: T,
 ) -> Result<Answer, AllocError>
     requires spelled { Spells bytes.now (doc_of document.now) }
     requires claims { All (Fits document.now.graph.graph) document.now.claims.items }
@@ -65,17 +70,17 @@ fn certified(
     tpl_laws::soundness();
     one_document();
     certificate_is_read_back();
-    match analyse_in(alloc, &document.graph, &document.claims, depth, form) {
+    match analyse_watched(alloc, &document.graph, &document.claims, depth, form, watch) {
         Ok(certificate) => {
             certificate.within_limits();
             let text = whole_text(alloc, bytes, &document.graph, certificate.trees())?;
             sized(alloc, text)
         }
-        Err(Gap::NotFound { claim }) => Ok(Answer {
+        Err(Missed::NotFound { claim, .. }) => Ok(Answer {
             exit: Exit::Failure,
             text: not_found(alloc, claim)?,
         }),
-        Err(Gap::Memory) => Err(AllocError),
+        Err(Missed::Memory) => Err(AllocError),
     }
 }
 

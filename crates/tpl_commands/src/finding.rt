@@ -19,7 +19,7 @@ use crate::text::not_found;
 use crate::unreadable::unreadable_answer;
 use serde_json::Value;
 use std::alloc::{AllocError, Global};
-use tpl_analyser::{Form, Gap, analyse_in};
+use tpl_analyser::{Form, Missed, Watch, analyse_watched};
 use tpl_cert::{Tree, TreeToFault, certificates_nest_little, tree_to};
 use tpl_graph::Graph;
 use tpl_reader::{Document, certificate_is_read_back, one_document, read_document};
@@ -27,31 +27,42 @@ use tpl_reader::{Document, certificate_is_read_back, one_document, read_document
 /// Searches a certificate of a document's claims. The certificate that the document has, if any, is read like the rest
 /// of it, and not used.
 #[derive(Drop)]
-pub struct Analyse {
+pub struct Analyse<T> {
     /// The most splits on each path.
     pub depth: u8,
     /// What the rows are to say.
     pub form: Form,
+    /// Who is told how far the search is.
+    pub watch: T,
     ghost within: { depth ≤ 6 },
 }
 
-impl Command for Analyse {
+/// Who isn't told how far a search is.
+#[derive(Clone, Copy, Drop)]
+pub(crate) struct Unwatched;
+
+impl Watch for Unwatched {
+    fn tries(&mut self, _claim: usize, _leaves: u32) {}
+}
+
+impl<T: Watch + Copy> Command for Analyse<T> {
     ghost answers = { λ this. Finds this.depth this.form };
 
     fn answer(&self, alloc: Global, bytes: &[u8]) -> Result<Answer, AllocError> {
         match read_document(alloc, bytes) {
-            Ok(document) => finding_for(alloc, &document, self.depth, self.form),
+            Ok(document) => finding_for(alloc, &document, self.depth, self.form, self.watch),
             Err(fault) => unreadable_answer(alloc, fault),
         }
     }
 }
 
 /// The text of a certificate of the document's claims, or the first claim for which none was found.
-fn finding_for(
+fn finding_for<T: Watch>(
     alloc: Global,
     document: &Document,
     depth: u8,
     form: Form,
+    watch: T,
 ) -> Result<Answer, AllocError>
     requires claims { All (Fits document.now.graph.graph) document.now.claims.items }
     requires depth { depth ≤ 6 }
@@ -62,7 +73,7 @@ fn finding_for(
     tpl_laws::soundness();
     one_document();
     certificate_is_read_back();
-    match analyse_in(alloc, &document.graph, &document.claims, depth, form) {
+    match analyse_watched(alloc, &document.graph, &document.claims, depth, form, watch) {
         Ok(certificate) => {
             certificate.within_limits();
             let text = certificate_text(alloc, &document.graph, certificate.trees())?;
@@ -71,11 +82,11 @@ fn finding_for(
                 text,
             })
         }
-        Err(Gap::NotFound { claim }) => Ok(Answer {
+        Err(Missed::NotFound { claim, .. }) => Ok(Answer {
             exit: Exit::Failure,
             text: not_found(alloc, claim)?,
         }),
-        Err(Gap::Memory) => Err(AllocError),
+        Err(Missed::Memory) => Err(AllocError),
     }
 }
 

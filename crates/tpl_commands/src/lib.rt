@@ -23,4 +23,4 @@ pub use exit::Exit;
 pub use finding::Analyse;
 pub use loading::load;
 pub use responding::{Command, read_input, respond};
-pub use serving::{Ask, serve};
+pub use serving::{Ask, serve, serve_watched};

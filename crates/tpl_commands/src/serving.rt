@@ -10,11 +10,11 @@ use crate::certifying::Certify;
 use crate::checking::Check;
 use crate::drawing::Draw;
 use crate::exit::Exit;
-use crate::finding::Analyse;
+use crate::finding::{Analyse, Unwatched};
 use crate::responding::respond;
 use std::alloc::Global;
 use std::io::{Read, Write};
-use tpl_analyser::Form;
+use tpl_analyser::{Form, Watch};
 use tpl_draw::Language;
 use tpl_journal::Counting;
 
@@ -66,14 +66,47 @@ pub fn serve<R: Read, W: Write>(
     ensures audited { ask ≡ Ask.Audit → (result ≡ Exit.Success) ⊎ (result ≡ Exit.Failure)
         → Audited R.remaining from.old from.new W.contents to.old to.new result }
 {
+    serve_watched(alloc, ask, Unwatched, from, to)
+}
+
+/// Answers a document as [`serve`] does. Of a search for a certificate the watcher is told how far it is.
+pub fn serve_watched<R: Read, W: Write, T: Watch + Copy>(
+    alloc: Global,
+    ask: Ask,
+    watch: T,
+    from: &mut Counting<R>,
+    to: &mut Counting<W>,
+) -> Exit
+    requires { IsWithinDepth ask }
+    ensures responds { Responds (answers_of ask) R.remaining from.old from.new
+        W.contents to.old to.new result }
+    ensures reads { calls_of from.new ≤ calls_of from.old + (longest + 2) }
+
+    // From the check's success each claim is known to hold in every run, for all inputs and
+    // whatever comes from outside; and so it is where a certificate is written.
+    ensures accepted { ask ≡ Ask.Check → result ≡ Exit.Success
+        → Accepted R.remaining from.old from.new W.contents to.old to.new }
+    ensures found { (depth : ℕ) → ask ≡ Ask.Analyse depth → result ≡ Exit.Success
+        → Found R.remaining from.old from.new W.contents to.old to.new depth Form.Full }
+    ensures found_in { (depth : ℕ) → (form : Form) → ask ≡ Ask.AnalyseIn depth form
+        → result ≡ Exit.Success
+        → Found R.remaining from.old from.new W.contents to.old to.new depth form }
+    ensures certified { (depth : ℕ) → (form : Form) → ask ≡ Ask.Certify depth form
+        → result ≡ Exit.Success
+        → Certified R.remaining from.old from.new W.contents to.old to.new depth form }
+
+    // Where the audit answers and the document's certificate is accepted, no claim is named as failing.
+    ensures audited { ask ≡ Ask.Audit → (result ≡ Exit.Success) ⊎ (result ≡ Exit.Failure)
+        → Audited R.remaining from.old from.new W.contents to.old to.new result }
+{
     match ask {
         Ask::Check => respond(&Check, alloc, from, to),
         Ask::Analyse(depth) => {
             let form = Form::Full;
-            respond(&Analyse { depth, form }, alloc, from, to)
+            respond(&Analyse { depth, form, watch }, alloc, from, to)
         }
-        Ask::AnalyseIn(depth, form) => respond(&Analyse { depth, form }, alloc, from, to),
-        Ask::Certify(depth, form) => respond(&Certify { depth, form }, alloc, from, to),
+        Ask::AnalyseIn(depth, form) => respond(&Analyse { depth, form, watch }, alloc, from, to),
+        Ask::Certify(depth, form) => respond(&Certify { depth, form, watch }, alloc, from, to),
         Ask::Audit => respond(&Audit, alloc, from, to),
         Ask::Draw(language) => respond(&Draw { language }, alloc, from, to),
     }

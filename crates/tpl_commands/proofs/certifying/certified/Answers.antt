@@ -12,13 +12,13 @@ use Rattle.tpl_commands.proofs.WrittenTrees.{trees_known}
 use Rattle.tpl_commands.proofs.certifying.certified.Goals as goal
 
 pub whole_text-requires-clause-ids : goal.whole_text-requires-clause-ids
-whole_text-requires-clause-ids c =
+whole_text-requires-clause-ids over c =
     let names = c.args.document.now.graph.names in
     subst (All (λ t. has_ids names t ≡ true)) (sym c.trees.ensures)
     (trees_known names c.args.document.now.graph.graph c.valid.ensures.tasks c.valid.ensures.inputs _ _ c.in-Ok.ensures.accepted)
 
 pub returns-in_ok-text-in-Ok : goal.returns-in_ok-text-in-Ok
-returns-in_ok-text-in-Ok c =
+returns-in_ok-text-in-Ok over c =
     let doc = doc_of c.args.document.now in
     let g = c.args.document.now.graph.graph in
     let names = c.args.document.now.graph.names in

@@ -12,16 +12,16 @@ use Rattle.tpl_commands.proofs.WrittenTrees.{trees_known}
 use Rattle.tpl_commands.proofs.finding.finding_for.Goals as goal
 
 pub certificate_text-requires-clause-ids : goal.certificate_text-requires-clause-ids
-certificate_text-requires-clause-ids c =
+certificate_text-requires-clause-ids over c =
     let names = c.args.document.now.graph.names in
     subst (All (λ t. has_ids names t ≡ true)) (sym c.trees.ensures)
     (trees_known names c.args.document.now.graph.graph c.valid.ensures.tasks c.valid.ensures.inputs _ _ c.in-Ok.ensures.accepted)
 
 pub certificate_text-requires-clause-limits : goal.certificate_text-requires-clause-limits
-certificate_text-requires-clause-limits c = rw c.trees.ensures (λ k t lt. (c.within_limits.ensures k t lt).0)
+certificate_text-requires-clause-limits over c = rw c.trees.ensures (λ k t lt. (c.within_limits.ensures k t lt).0)
 
 pub returns-in_ok-text-in-Ok : goal.returns-in_ok-text-in-Ok
-returns-in_ok-text-in-Ok c =
+returns-in_ok-text-in-Ok over c =
     let doc = doc_of c.args.document.now in
     let g = c.args.document.now.graph.graph in
     let names = c.args.document.now.graph.names in

@@ -1,7 +1,7 @@
 use Rattle.tpl_commands.proofs.Accepting.{success_accepts, success_finds, success_certifies, same_depth, same_depth_in, same_form_in, same_depth_certified, same_form_certified}
 use Rattle.tpl_commands.proofs.AuditLemmas.{answer_audits}
 use Rattle.tpl_analyser.specs.declared.form.Form.TheVariants.{Full}
-use Rattle.tpl_commands.proofs.serving.serve.Goals as goal
+use Rattle.tpl_commands.proofs.serving.serve_watched.Goals as goal
 
 pub returns-in-Check-clause-accepted : goal.returns-in-Check-clause-accepted
 returns-in-Check-clause-accepted g c is_check is_success =
