@@ -11,10 +11,11 @@ mod why;
 
 ghost use Rattle.std.specs.Prelude.{IfOk};
 ghost use Rattle.tpl_cli.specs.Line.{IsWithin};
+ghost use Rattle.tpl_commands.specs.Serving.{IsWithinDepth};
 
 use crate::boxes::run_boxes;
 use crate::line::{Line, LineFault, line_of};
-use crate::progress::RunProgress;
+use crate::progress::{RunProgress, SearchProgress};
 use crate::why::{asks_why, say_what_is_read, tell_why, tell_why_unread};
 use std::alloc::Global;
 use std::io::{BufWriter, ErrorKind, IsTerminal, Read, Write};
@@ -23,7 +24,9 @@ use std::sync::Wait;
 use std::thread::Threads;
 use std::{env, iter};
 use tpl_journal::Counting;
-use tpl_report::{Ask, Crew, Exit, inputs_of, load, put_out_of_memory, read_input, serve};
+use tpl_report::{
+    Ask, Crew, Exit, inputs_of, load, put_out_of_memory, read_input, serve, serve_watched,
+};
 use tpl_trace::trace_document;
 use tpl_witness::{Search, refute_document};
 use tpl_words::Inputs;
@@ -90,6 +93,21 @@ fn search_of(claim: Option<u8>, runs: u32, seed: u32, explain: bool) -> Search {
     }
 }
 
+/// Searches a certificate for the document that comes.
+fn search<I: Read, O: Write>(
+    rt: &HostRuntime,
+    ask: Ask,
+    from: &mut Counting<I>,
+    to: &mut Counting<O>,
+) -> Exit
+    requires { IsWithinDepth ask }
+{
+    let progress = SearchProgress::new(rt);
+    let exit = serve_watched(rt.alloc(), ask, progress, from, to);
+    progress.end();
+    exit
+}
+
 /// Answers the document that comes.
 fn answer<R: Threads + Wait + Sync, I: Read, O: Write>(
     rt: &HostRuntime,
@@ -102,9 +120,9 @@ fn answer<R: Threads + Wait + Sync, I: Read, O: Write>(
 {
     match line {
         Line::Check => serve(rt.alloc(), Ask::Check, from, to),
-        Line::Analyse(depth) => serve(rt.alloc(), Ask::Analyse(depth), from, to),
-        Line::AnalyseIn(depth, form) => serve(rt.alloc(), Ask::AnalyseIn(depth, form), from, to),
-        Line::Certify(depth, form) => serve(rt.alloc(), Ask::Certify(depth, form), from, to),
+        Line::Analyse(depth) => search(rt, Ask::Analyse(depth), from, to),
+        Line::AnalyseIn(depth, form) => search(rt, Ask::AnalyseIn(depth, form), from, to),
+        Line::Certify(depth, form) => search(rt, Ask::Certify(depth, form), from, to),
         Line::Run(workers) => run(rt, threads, workers, from, to),
         Line::Audit => serve(rt.alloc(), Ask::Audit, from, to),
         Line::Refute(claim, runs, seed, explain) => {
