@@ -1,5 +1,5 @@
 -- What is written for a tree spells the tree.
-use Rattle.std.proofs.Common.{◌≡◌, ℕ, ◌&&◌, List, [], ◌∷◌, map, Bool, true, false, refl, ap}
+use Rattle.std.proofs.Common.{◌≡◌, ℕ, List, [], ◌∷◌, map, Bool, true, false, refl, ap}
 use Rattle.std.specs.List.{list_all, list_any}
 use Rattle.serde_json.specs.Data.{Data, string, array}
 use Rattle.serde_json.specs.View.{items_of}
@@ -12,20 +12,19 @@ use Rattle.tpl_model.specs.Certificate.{Row, Tree}
 use Rattle.tpl_model.specs.Certificate as tree
 use Rattle.tpl_graph.specs.Named.{Names}
 use Rattle.tpl_graph.specs.Names.{some_twice}
-use Rattle.tpl_cert.specs.Members.{has_only, elements}
+use Rattle.tpl_json.specs.Members.{has_only}
 use Rattle.tpl_cert.specs.NamedTrees.{NamedRow, NamedTree, SplitInput, SplitEnd, Leaf}
-use Rattle.tpl_cert.specs.Grammar.{IsArray, IsTexts, AreFinals, IsRow, AreRows, IsTree}
+use Rattle.tpl_json.specs.Grammar.{IsArray, IsTexts, AreFinals}
+use Rattle.tpl_cert.specs.Grammar.{IsRow, AreRows, IsTree}
 use Rattle.tpl_cert.specs.Naming.{are_declared, AreNumbers, does_name, IsSetOf, IsRowOf, AreRowsOf, IsTreeOf}
 use Rattle.tpl_cert.specs.Written.{texts_data, words_of, row_data, tree_data, name_at, is_id, named_row, named, has_row_ids, has_ids, AreTaskSets, HasTaskSets}
 use Rattle.tpl_cert.specs.Spelled.{SpellsTree}
-use Rattle.tpl_cert.proofs.Json.{some}
+use Rattle.tpl_json.proofs.Truths.{and_first, and_second}
+use Rattle.tpl_json.proofs.Arrays.{elements-items_of}
+use Rattle.tpl_json.proofs.Json.{some}
 use Rattle.tpl_cert.proofs.Unique.{number_of-name_at}
 
 -- ---- the grammar
-
-elements-items_of : (ds : List Data) → elements (items_of ds) ≡ ds
-elements-items_of [] = refl
-elements-items_of (d ∷ ds) = ap (λ (xs : List Data). d ∷ xs) (elements-items_of ds)
 
 texts_again : (texts : List (List ℕ)) → IsTexts texts (texts_data texts)
 texts_again texts = ap (λ (xs : List Data). some xs) (elements-items_of (map string texts))
@@ -105,14 +104,6 @@ tree_again (SplitEnd name a b c) = (refl, refl, (tree_data a, refl, tree_again a
 tree_again (Leaf rows) = (refl, (array (items_of (map row_data rows)), refl, array_again (map row_data rows) (AreRows rows) (rows_again rows)))
 
 -- ---- the names
-
-and_first : (a b : Bool) → (a && b) ≡ true → a ≡ true
-and_first true b e = refl
-and_first false b e = absurd cc
-
-and_second : (a b : Bool) → (a && b) ≡ true → b ≡ true
-and_second true b e = e
-and_second false b e = absurd cc
 
 numbers_again : (names : List (List ℕ)) → some_twice names ≡ false → (ids : List ℕ) → list_all (is_id names) ids ≡ true → AreNumbers names (map (name_at names) ids) ids
 numbers_again names once [] h = refl

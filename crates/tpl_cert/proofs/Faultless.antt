@@ -1,5 +1,5 @@
 -- Of a value that is read as a tree no fault is true.
-use Rattle.std.proofs.Common.{◌≡◌, ℕ, ◌&&◌, Bool, true, List, [], ◌∷◌, Option, Some, None, is_some, refl, sym, subst, ap, ◌∙◌, true≢false}
+use Rattle.std.proofs.Common.{◌≡◌, ℕ, true, List, [], ◌∷◌, Option, Some, None, is_some, refl, sym, subst, ap, ◌∙◌, true≢false}
 use Rattle.std.specs.List.{list_all}
 use Rattle.serde_json.specs.Data.{Data}
 use Rattle.tpl_words.specs.TaskSet.{SetsAreTheirMembers}
@@ -8,14 +8,13 @@ use Rattle.tpl_model.specs.Certificate as tree
 use Rattle.tpl_graph.specs.Named.{Names}
 use Rattle.tpl_cert.specs.declared.fault.TreeFault.{TreeFault}
 use Rattle.tpl_cert.specs.declared.fault.TreeFault.TheVariants as faults
+use Rattle.tpl_json.proofs.Truths.{and_both}
+use Rattle.tpl_json.proofs.Arrays.{tail_is}
 use Rattle.tpl_cert.specs.NamedTrees.{NamedRow, NamedTree, SplitInput, SplitEnd, Leaf}
 use Rattle.tpl_cert.specs.Naming.{number_of, is_declared, are_declared, AreNumbers, IsRowOf, AreRowsOf, IsTreeOf, knows_row, knows}
 use Rattle.tpl_cert.specs.Heights.{IsWithinLimits}
 use Rattle.tpl_cert.specs.Spelled.{ReadsAs, IsWrongTree}
 use Rattle.tpl_cert.proofs.OneTree.{names_same, one_tree}
-
-both : (a b : Bool) → a ≡ true → b ≡ true → (a && b) ≡ true
-both a b e f = rw (e, f) refl
 
 declared : (names : List (List ℕ)) (name : List ℕ) (i : ℕ) → number_of names name ≡ Some i → is_declared names name ≡ true
 declared names name i e = rw e refl
@@ -24,33 +23,30 @@ first_some : (o : Option ℕ) (os : List (Option ℕ)) (n : ℕ) (ns : List (Opt
 first_some (Some m) os n ns e = refl
 first_some None os n ns e = absurd cc
 
-rest_same : (x y : Option ℕ) (xs ys : List (Option ℕ)) → x ∷ xs ≡ y ∷ ys → xs ≡ ys
-rest_same x y xs ys e = cc
-
 chain_declared : (names texts : List (List ℕ)) (ns : List ℕ) → AreNumbers names texts ns → are_declared names texts ≡ true
 chain_declared names [] ns e = refl
 chain_declared names (t ∷ texts) [] e = absurd cc
 chain_declared names (t ∷ texts) (n ∷ ns) e =
-    both (is_declared names t) (are_declared names texts) (first_some (number_of names t) _ n _ e) (chain_declared names texts ns (rest_same _ _ _ _ e))
+    and_both (is_declared names t) (are_declared names texts) (first_some (number_of names t) _ n _ e) (chain_declared names texts ns (tail_is _ _ _ _ e))
 
 row_known : (n : Names) (s : NamedRow) (r : Row) → IsRowOf n s r → knows_row n s ≡ true
 row_known n s r is =
-    both (are_declared n.tasks s.before) _ is.before.declared
-    (both (are_declared n.tasks s.past) (are_declared n.tasks s.chain) is.past.declared (chain_declared n.tasks s.chain r.chain is.chain))
+    and_both (are_declared n.tasks s.before) _ is.before.declared
+    (and_both (are_declared n.tasks s.past) (are_declared n.tasks s.chain) is.past.declared (chain_declared n.tasks s.chain r.chain is.chain))
 
 rows_known : (n : Names) (ss : List NamedRow) (rs : List Row) → AreRowsOf n ss rs → list_all (knows_row n) ss ≡ true
 rows_known n [] rs are = refl
 rows_known n (s ∷ ss) [] are = absurd are
-rows_known n (s ∷ ss) (r ∷ rs) are = both (knows_row n s) (list_all (knows_row n) ss) (row_known n s r are.0) (rows_known n ss rs are.1)
+rows_known n (s ∷ ss) (r ∷ rs) are = and_both (knows_row n s) (list_all (knows_row n) ss) (row_known n s r are.0) (rows_known n ss rs are.1)
 
 tree_known : (n : Names) (s : NamedTree) (t : Tree) → IsTreeOf n s t → knows n s ≡ true
 tree_known n (SplitInput name a b) (tree.SplitInput i x y) is =
-    both (is_declared n.inputs name) _ (declared n.inputs name i is.0) (both (knows n a) (knows n b) (tree_known n a x is.1) (tree_known n b y is.2))
+    and_both (is_declared n.inputs name) _ (declared n.inputs name i is.0) (and_both (knows n a) (knows n b) (tree_known n a x is.1) (tree_known n b y is.2))
 tree_known n (SplitInput name a b) (tree.SplitEnd i x y z) is = absurd is
 tree_known n (SplitInput name a b) (tree.Leaf rows) is = absurd is
 tree_known n (SplitEnd name a b c) (tree.SplitEnd i x y z) is =
-    both (is_declared n.tasks name) _ (declared n.tasks name i is.0)
-    (both (knows n a) _ (tree_known n a x is.1) (both (knows n b) (knows n c) (tree_known n b y is.2) (tree_known n c z is.3)))
+    and_both (is_declared n.tasks name) _ (declared n.tasks name i is.0)
+    (and_both (knows n a) _ (tree_known n a x is.1) (and_both (knows n b) (knows n c) (tree_known n b y is.2) (tree_known n c z is.3)))
 tree_known n (SplitEnd name a b c) (tree.SplitInput i x y) is = absurd is
 tree_known n (SplitEnd name a b c) (tree.Leaf rows) is = absurd is
 tree_known n (Leaf ss) (tree.Leaf rows) is = rows_known n ss rows is

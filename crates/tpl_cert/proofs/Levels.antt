@@ -2,10 +2,10 @@
 use Rattle.std.proofs.Common.{◌≡◌, ℕ, List, [], ◌∷◌, Bool, true, Option, Some, codes, option_and_then, refl}
 use Rattle.serde_json.specs.Data.{Data}
 use Rattle.serde_json.specs.Find.{get}
-use Rattle.tpl_cert.specs.declared.miss.Miss.{Miss}
-use Rattle.tpl_cert.specs.declared.miss.Miss.TheVariants as misses
+use Rattle.tpl_json.specs.declared.miss.Miss.{Miss}
+use Rattle.tpl_json.specs.declared.miss.Miss.TheVariants as misses
 use Rattle.tpl_cert.specs.NamedTrees.{NamedTree, SplitInput}
-use Rattle.tpl_cert.specs.Members.{has_only, text_in, Misses}
+use Rattle.tpl_json.specs.Members.{has_only, text_in, Misses}
 use Rattle.tpl_cert.specs.Reading.{input_at}
 
 abbrev only_input : Data → Bool

@@ -1,8 +1,5 @@
-pub mod Arrays
 pub mod Levels
-pub mod Endings
 pub mod Names
-pub mod Json
 pub mod Rows
 pub mod Trees
 pub mod Whole

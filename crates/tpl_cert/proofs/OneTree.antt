@@ -10,25 +10,19 @@ use Rattle.tpl_cert.specs.NamedTrees.{NamedRow, NamedTree, SplitInput, SplitEnd,
 use Rattle.tpl_cert.specs.Grammar.{IsTree}
 use Rattle.tpl_cert.specs.Naming.{number_of, AreNumbers, IsSetOf, IsRowOf, AreRowsOf, IsTreeOf}
 use Rattle.tpl_cert.specs.Spelled.{SpellsTree}
-use Rattle.tpl_cert.proofs.Arrays.{some_is}
-use Rattle.tpl_cert.proofs.Json.{cons_same}
+use Rattle.tpl_json.proofs.Arrays.{some_is, head_is, tail_is}
+use Rattle.tpl_json.proofs.Json.{cons_same}
 use Rattle.tpl_cert.proofs.Trees.{whole_complete}
 
 abbrev found : ℕ → Option ℕ
 found n = Some n
-
-head_same : (x y : Option ℕ) (xs ys : List (Option ℕ)) → x ∷ xs ≡ y ∷ ys → x ≡ y
-head_same x y xs ys e = cc
-
-tail_same : (x y : Option ℕ) (xs ys : List (Option ℕ)) → x ∷ xs ≡ y ∷ ys → xs ≡ ys
-tail_same x y xs ys e = cc
 
 numbers_same : (ns ms : List ℕ) → map found ns ≡ map found ms → ns ≡ ms
 numbers_same [] [] e = refl
 numbers_same [] (m ∷ ms) e = absurd cc
 numbers_same (n ∷ ns) [] e = absurd cc
 numbers_same (n ∷ ns) (m ∷ ms) e =
-    cons_same n m ns ms (some_is n m (head_same (found n) (found m) (map found ns) (map found ms) e)) (numbers_same ns ms (tail_same (found n) (found m) (map found ns) (map found ms) e))
+    cons_same n m ns ms (some_is n m (head_is (found n) (found m) (map found ns) (map found ms) e)) (numbers_same ns ms (tail_is (found n) (found m) (map found ns) (map found ms) e))
 
 chain_same : (names texts : List (List ℕ)) (ns ms : List ℕ) → AreNumbers names texts ns → AreNumbers names texts ms → ns ≡ ms
 chain_same names texts ns ms e f = numbers_same ns ms (sym e ∙ f)

@@ -2,12 +2,13 @@
 use Rattle.std.proofs.Common.{◌≡◌, ℕ, zero, suc, ◌≤◌, List, [], ◌∷◌, Bool, true, false, cond, Option, Some, None, codes, is_some, refl, sym, subst, arith}
 use Rattle.serde_json.specs.Data.{Data, string, depth}
 use Rattle.serde_json.specs.Find.{get}
-use Rattle.tpl_cert.specs.Members.{◌>>=◌, only_if, has_only, text_in, list_in, each}
+use Rattle.tpl_json.specs.Members.{◌>>=◌, only_if, has_only, text_in, list_in, each}
 use Rattle.tpl_cert.specs.NamedTrees.{NamedTree, SplitInput, SplitEnd, Leaf}
 use Rattle.tpl_cert.specs.Reading.{row_at, leaf_at, input_at, end_at, node_at, tree_at, whole_tree}
-use Rattle.tpl_cert.specs.Grammar.{HasMember, IsTree}
-use Rattle.tpl_cert.proofs.Arrays.{bind_some, some_is}
-use Rattle.tpl_cert.proofs.Json.{only_is, text_is, get_depth, no_member, other}
+use Rattle.tpl_json.specs.Grammar.{HasMember}
+use Rattle.tpl_cert.specs.Grammar.{IsTree}
+use Rattle.tpl_json.proofs.Arrays.{bind_some, some_is}
+use Rattle.tpl_json.proofs.Json.{only_is, text_is, get_depth, no_member, other}
 use Rattle.tpl_cert.proofs.Rows.{rows_sound, rows_complete}
 
 -- ---- what is read is spelled

@@ -10,7 +10,7 @@ use Rattle.tpl_cert.specs.Reading.{whole_tree}
 use Rattle.tpl_cert.specs.Grammar.{IsTree}
 use Rattle.tpl_cert.specs.Naming.{IsTreeOf, knows, Loses}
 use Rattle.tpl_cert.specs.Spelled.{SpellsTree, IsWrongTree}
-use Rattle.tpl_cert.proofs.Json.{some_none}
+use Rattle.tpl_json.proofs.Json.{some_none}
 use Rattle.tpl_cert.proofs.Trees.{whole_sound, whole_complete}
 
 pub no_spelling : (d : Data) → whole_tree d ≡ None → (s : NamedTree) → IsTree s d → ⊥

@@ -1,5 +1,5 @@
--- What is true of names and their numbers, and of the trees that values spell.
-use Rattle.std.specs.Prelude.{◌≡◌, ℕ, ◌≤◌, ◌++◌, ◌&&◌, Some, List, [], ◌∷◌}
+-- What is true of the trees that values spell.
+use Rattle.std.specs.Prelude.{◌≡◌, ◌≤◌, List}
 use Rattle.std.specs.List.{All}
 use Rattle.serde_json.specs.Data.{Data, depth}
 use Rattle.serde_json.specs.Read.{max_depth}
@@ -10,17 +10,6 @@ use Rattle.tpl_cert.specs.declared.fault.TreeFault.TheVariants.{Memory}
 use Rattle.tpl_cert.specs.Heights.{height}
 use Rattle.tpl_cert.specs.Spelled.{SpellsTree, ReadsAs, IsWrongTree}
 use Rattle.tpl_cert.specs.Written.{certificate_data}
-use Rattle.tpl_cert.specs.Naming.{number_of, is_declared, are_declared, AreNumbers}
-
--- with one text more, all are declared where those before are and it is
-abbrev pub DeclaredOneByOne : Type 0
-DeclaredOneByOne = (names texts : List (List ℕ)) (text : List ℕ) → are_declared names (texts ++ text ∷ []) ≡ (are_declared names texts && is_declared names text)
-
--- with one text more, its number stands behind those before
-abbrev pub NumbersOneByOne : Type 0
-NumbersOneByOne =
-    (names texts : List (List ℕ)) (ns : List ℕ) (text : List ℕ) (n : ℕ)
-    → AreNumbers names texts ns → number_of names text ≡ Some n → AreNumbers names (texts ++ text ∷ []) (ns ++ n ∷ [])
 
 -- a value spells one tree at most
 abbrev pub SpellsOneTree : Type 0

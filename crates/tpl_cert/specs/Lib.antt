@@ -1,4 +1,3 @@
-pub mod Members
 pub mod NamedTrees
 pub mod Reading
 pub mod Seen

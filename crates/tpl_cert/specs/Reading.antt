@@ -1,34 +1,10 @@
 -- Reading a certificate tree with names. `None` is a wrong shape.
-use Rattle.std.specs.Prelude.{ℕ, zero, suc, List, [], ◌∷◌, Option, Some, None, true, false, codes, is_some, if◌then◌else◌}
-use Rattle.std.specs.Str.{bytes_eq}
+use Rattle.std.specs.Prelude.{ℕ, zero, suc, [], ◌∷◌, Option, Some, None, codes, is_some, if◌then◌else◌}
 use Rattle.serde_json.specs.Data.{Data, depth}
-use Rattle.serde_json.specs.Find.{get, as_bool, as_str}
-use Rattle.tpl_words.specs.declared.finals.Final.{Final}
-use Rattle.tpl_words.specs.declared.finals.Final.TheVariants.{RanToCompletion, Canceled, Faulted}
-use Rattle.tpl_words.specs.declared.finals.Finals.{Finals}
-use Rattle.tpl_cert.specs.Members.{◌>>=◌, only_if, has_only, text_in, list_in, each, texts_in}
+use Rattle.serde_json.specs.Find.{get, as_bool}
+use Rattle.tpl_json.specs.Members.{◌>>=◌, only_if, has_only, text_in, list_in, each, texts_in}
+use Rattle.tpl_json.specs.Finals.{no_finals, finals_at}
 use Rattle.tpl_cert.specs.NamedTrees.{NamedRow, NamedTree, SplitInput, SplitEnd, Leaf}
-
-abbrev pub no_finals : Finals
-no_finals = record { ran = false; canceled = false; faulted = false }
-
-abbrev pub with_final : Final → Finals → Finals
-with_final RanToCompletion e = record e { ran = true }
-with_final Canceled e = record e { canceled = true }
-with_final Faulted e = record e { faulted = true }
-
-unfoldable pub final_word : List ℕ → Option Final
-final_word word = if bytes_eq word (codes "RanToCompletion") then Some RanToCompletion else (if bytes_eq word (codes "Canceled") then Some Canceled else (if bytes_eq word (codes "Faulted") then Some Faulted else None))
-
-unfoldable pub final_at : Data → Option Final
-final_at d = as_str d >>= final_word
-
--- the finals of a list, beside those that are known
-unfoldable pub finals_at : Finals → List Data → Option Finals
-finals_at e [] = Some e
-finals_at e (d ∷ ds) = do
-  f ← final_at d
-  finals_at (with_final f e) ds
 
 unfoldable pub row_at : Data → Option NamedRow
 row_at d = do

@@ -6,13 +6,13 @@ ghost use Rattle.tpl_cert.specs.Spelled.{ReadsAs, IsWrongTree};
 
 use crate::fault::TreeFault;
 use crate::limits::is_within_limits;
-use crate::miss::Miss;
 use crate::naming::tree_in;
 use crate::read::named_tree;
 use crate::tree::Tree;
 use serde_json::Value;
 use std::alloc::Global;
 use tpl_graph::Graph;
+use tpl_json::Miss;
 
 /// The certificate tree that the value spells with the names of the graph, where it is within the limits: at most 6
 /// splits on each path and at most 16 tasks in a chain. Else the least `TreeFault` that applies anywhere in the value,

@@ -1,76 +1,16 @@
 //! Reading a certificate tree with names.
 
-ghost use Rattle.std.specs.Prelude.{◌≡◌, map, option_and_then, IfErr};
-ghost use Rattle.serde_json.specs.Find.{get, as_str, as_bool};
+ghost use Rattle.std.specs.Prelude.{◌≡◌, map, option_and_then};
+ghost use Rattle.serde_json.specs.Find.{get};
 ghost use Rattle.serde_json.specs.View.{view};
 ghost use Rattle.tpl_cert.specs.Seen.{row_of, tree_of};
-ghost use Rattle.tpl_cert.specs.Members.{Gives, each, IsShape};
-ghost use Rattle.tpl_cert.specs.Reading.{with_final, no_finals, final_word, final_at, finals_at, row_at, leaf_at, input_at, end_at, node_at, whole_tree};
+ghost use Rattle.tpl_json.specs.Members.{Gives, each};
+ghost use Rattle.tpl_cert.specs.Reading.{row_at, leaf_at, input_at, end_at, node_at, whole_tree};
 
-use crate::members::{bool_in, has_only, list_of, member_in, text_in, text_of, texts_in};
-use crate::miss::Miss;
 use crate::named::{NamedRow, NamedTree};
 use serde_json::Value;
 use std::alloc::Global;
-use tpl_words::{Final, Finals};
-
-#[tactic(auto, unfolding(crate::specs::Reading::final_word))]
-fn final_word(word: &str) -> Result<Final, Miss>
-    ensures gives { Gives (λ f. f) result (final_word word.now) }
-    ensures shape { IfErr result IsShape }
-{
-    match word {
-        "RanToCompletion" => Ok(Final::RanToCompletion),
-        "Canceled" => Ok(Final::Canceled),
-        "Faulted" => Ok(Final::Faulted),
-        _ => Err(Miss::Shape),
-    }
-}
-
-#[tactic(auto, unfolding(crate::specs::Reading::final_at))]
-/// A final status, by its name.
-pub fn final_of(value: &Value) -> Result<Final, Miss>
-    ensures gives { Gives (λ f. f) result (final_at (view value.now)) }
-    ensures shape { IfErr result IsShape }
-{
-    let word = text_of(value)?;
-    final_word(word)
-}
-
-fn with_final(finals: Finals, ending: Final) -> Finals
-    ensures { result ≡ with_final ending finals }
-{
-    match ending {
-        Final::RanToCompletion => Finals {
-            ran: true,
-            ..finals
-        },
-        Final::Canceled => Finals {
-            canceled: true,
-            ..finals
-        },
-        Final::Faulted => Finals {
-            faulted: true,
-            ..finals
-        },
-    }
-}
-
-/// The set of the final statuses of an array.
-pub fn finals_of(values: &[Value]) -> Result<Finals, Miss>
-    ensures gives { Gives (λ f. f) result (finals_at no_finals (map view values.now)) }
-    ensures shape { IfErr result IsShape }
-{
-    let mut finals = Finals {
-        ran: false,
-        canceled: false,
-        faulted: false,
-    };
-    for value in values {
-        finals = with_final(finals, final_of(value)?);
-    }
-    Ok(finals)
-}
+use tpl_json::{Miss, bool_in, finals_of, has_only, list_of, member_in, text_in, texts_in};
 
 #[tactic(auto, unfolding(crate::specs::Reading::row_at))]
 fn row_of(alloc: Global, value: &Value) -> Result<NamedRow<'_>, Miss>

@@ -6,7 +6,7 @@ use Rattle.std.specs.declared.alloc.AllocError.{AllocError}
 use Rattle.std.proofs.lemmas.List.Elements.{All-nil, All-cons}
 use Rattle.tpl_cert.specs.Naming.{number_of, AreNumbers}
 use Rattle.tpl_cert.proofs.Names.{number_below}
-use Rattle.tpl_reader.proofs.Arrays.{head_is, tail_is}
+use Rattle.tpl_json.proofs.Arrays.{head_is, tail_is}
 use Rattle.tpl_graph.specs.Named.{Named}
 use Rattle.tpl_journal.specs.declared.counting.Counting.{Counting}
 use Rattle.tpl_reader.specs.Start.{NamedStart}

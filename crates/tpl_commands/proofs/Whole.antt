@@ -1,11 +1,11 @@
 -- A document with a certificate in its place: what is written for it is read back.
-use Rattle.std.proofs.Common.{◌≡◌, ℕ, suc, ◌≤◌, ◌<◌, List, [], ◌∷◌, ◌++◌, Some, Result, Ok, Err, IfOk, string_bytes, inl, inr, Ordering, Less, Equal, Greater, codes, map, arith, sym, subst}
+use Rattle.std.proofs.Common.{◌≡◌, ℕ, suc, ◌≤◌, ◌<◌, List, [], ◌∷◌, ◌++◌, Some, Result, Ok, Err, IfOk, string_bytes, inl, inr, codes, map, arith, sym, subst}
 use Rattle.std.specs.List.{All}
-use Rattle.std.specs.Ordering.{match_ordering}
-use Rattle.serde_json.specs.Data.{Data, Members, no_members, member, put, depth, items_depth, members_depth, object}
+use Rattle.serde_json.specs.Data.{Data, put, depth, items_depth, members_depth, object}
 use Rattle.serde_json.specs.Read.{read, max_depth}
 use Rattle.serde_json.specs.View.{items_of}
 use Rattle.serde_json.proofs.Nesting.{depth-read}
+use Rattle.tpl_json.proofs.Puts.{depth_put}
 use Rattle.tpl_model.specs.Certificate.{Tree}
 use Rattle.tpl_graph.specs.Named.{Names}
 use Rattle.tpl_cert.specs.Heights.{height}
@@ -21,16 +21,6 @@ use Rattle.tpl_commands.specs.Checking.{ClaimsHold}
 use Rattle.tpl_commands.specs.Finding.{written_tree, written_trees}
 use Rattle.tpl_commands.proofs.TakenBack.{taken_back}
 
-one_of_three : (o : Ordering) (a b c : Members) (n : ℕ) → members_depth a ≤ n → members_depth b ≤ n → members_depth c ≤ n → members_depth (match_ordering o a b c) ≤ n
-one_of_three Less a b c n p q r = p
-one_of_three Equal a b c n p q r = q
-one_of_three Greater a b c n p q r = r
-
-put_depth : (k : List ℕ) (d : Data) (ms : Members) (n : ℕ) → depth d ≤ n → members_depth ms ≤ n → members_depth (put k d ms) ≤ n
-put_depth k d no_members n p q = omega arith
-put_depth k d (member l e ms) n p q =
-    one_of_three _ (member k d (member l e ms)) (member l d ms) (member l e (put k d ms)) n (omega arith) (omega arith) (omega (arith, put_depth k d ms n p (omega arith)))
-
 trees_depth : (n : Names) (trees : List Tree) → All (λ t. height t ≤ 6) trees → items_depth (items_of (map (written_tree n) trees)) ≤ 10
 trees_depth n [] low = omega arith
 trees_depth n (t ∷ trees) low =
@@ -45,7 +35,7 @@ whole_depth n trees bytes d with low is has =
     let ms = has.0 in
     let below : depth (object ms) ≤ max_depth = subst (λ (x : Data). depth x ≤ max_depth) has.1 (depth-read bytes d is) in
     let shallow = trees_depth n trees low in
-    let le = put_depth (codes "certificate") (written_trees n trees) ms 126 (omega arith) (omega arith) in
+    let le = depth_put (codes "certificate") (written_trees n trees) ms 126 (omega arith) (omega arith) in
     subst (λ (x : Data). depth x ≤ max_depth) (sym has.2) (omega arith)
 
 -- the text of a document with a certificate in its place, read back or too long

@@ -5,9 +5,9 @@ use Rattle.std.proofs.lemmas.List.Elements.{All-cons}
 use Rattle.tpl_words.specs.declared.ids.TaskId.{TaskId}
 use Rattle.tpl_words.specs.declared.ids.TokenId.{TokenId}
 use Rattle.tpl_words.specs.declared.ids.InputId.{InputId}
-use Rattle.tpl_reader.proofs.Arrays.{some_is, head_is, tail_is}
-use Rattle.tpl_reader.proofs.Json.{some}
-use Rattle.tpl_reader.proofs.Names.{number_below}
+use Rattle.tpl_json.proofs.Arrays.{some_is, head_is, tail_is}
+use Rattle.tpl_json.proofs.Json.{some}
+use Rattle.tpl_cert.proofs.Names.{number_below}
 use Rattle.tpl_cert.specs.Naming.{number_of}
 use Rattle.tpl_graph.specs.Kept.{IsNamedGraph}
 use Rattle.tpl_model.specs.declared.claim.Given.TheVariants as givens

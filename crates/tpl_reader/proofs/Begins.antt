@@ -4,14 +4,14 @@ use Rattle.std.specs.Prelude.{slice_set, slice_index_or}
 use Rattle.std.proofs.lemmas.List.{get_or-set_same, get_or-set_other}
 use Rattle.serde_json.specs.Data.{Data}
 use Rattle.tpl_cert.specs.Written.{name_at}
-use Rattle.tpl_reader.proofs.Json.{some}
+use Rattle.tpl_json.proofs.Json.{some}
 use Rattle.std.specs.List.{All, list_all}
 use Rattle.std.proofs.lemmas.List.Elements.{All-cons}
 use Rattle.tpl_words.specs.declared.ids.SiteId.{SiteId}
 use Rattle.tpl_graph.specs.Ids.{site_number}
 use Rattle.tpl_cert.specs.Naming.{number_of, AreNumbers}
-use Rattle.tpl_reader.proofs.Arrays.{head_is, tail_is}
-use Rattle.tpl_reader.proofs.Names.{list_all_stops, number_below}
+use Rattle.tpl_json.proofs.Arrays.{head_is, tail_is}
+use Rattle.tpl_cert.proofs.Names.{list_all_stops, number_below}
 use Rattle.tpl_reader.specs.declared.fault.Stop.{Stop}
 use Rattle.tpl_reader.specs.declared.fault.Stop.TheVariants as stop
 use Rattle.tpl_reader.specs.declared.fault.StartFault.{StartFault}

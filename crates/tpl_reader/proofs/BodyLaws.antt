@@ -6,12 +6,12 @@ use Rattle.serde_json.specs.Find.{get}
 use Rattle.tpl_words.specs.declared.finals.Final.{Final}
 use Rattle.tpl_words.specs.Finals.{final_name}
 use Rattle.tpl_graph.specs.Draft.{Line, Lines, Return, Throw, Check, Cancel, Start, Observe, Work, If, When, Nothing, Then}
-use Rattle.tpl_cert.specs.Members.{◌>>=◌, only_if, has_only, text_in, list_in, each}
-use Rattle.tpl_cert.specs.Reading.{final_at}
-use Rattle.tpl_cert.specs.Grammar.{HasOnly, HasMember, HasText, IfThere, IsArray}
-use Rattle.tpl_reader.proofs.Arrays.{bind_some, some_is, each_cons, each_empty, each_nothing, each_parts}
-use Rattle.tpl_reader.proofs.Json.{some, only_is, text_is, bool_is, get_depth, list_within, no_list, other, Within}
-use Rattle.tpl_reader.proofs.Finals.{final_is, final_read}
+use Rattle.tpl_json.specs.Members.{◌>>=◌, only_if, has_only, text_in, list_in, each}
+use Rattle.tpl_json.specs.Finals.{final_at}
+use Rattle.tpl_json.specs.Grammar.{HasOnly, HasMember, HasText, IfThere, IsArray}
+use Rattle.tpl_json.proofs.Arrays.{bind_some, some_is, each_cons, each_empty, each_nothing, each_parts}
+use Rattle.tpl_json.proofs.Json.{some, only_is, text_is, bool_is, get_depth, list_within, no_list, other, Within}
+use Rattle.tpl_json.proofs.FinalLaws.{final_is, final_read}
 use Rattle.tpl_reader.specs.Statements.{body_of, word_at, name_at, throw_at, check_at, cancel_at, start_at, bool_or_false, work_at, else_at, if_at, when_at, branch_at, simple_at, is_branch, object_at, statement_at, list_at, body_at}
 use Rattle.tpl_reader.specs.BodyGrammar.{IsStatement, AreStatements, IsBody}
 

@@ -1,18 +1,14 @@
 -- A document with another certificate.
-use Rattle.std.proofs.Common.{◌≡◌, ℕ, suc, ◌≤◌, ◌&&◌, List, [], ◌∷◌, map, Bool, true, false, Option, Some, Ordering, Less, Equal, Greater, codes, refl, sym, ap, subst, ◌∙◌, length, arith, true≢false}
+use Rattle.std.proofs.Common.{◌≡◌, ℕ, suc, ◌≤◌, List, [], ◌∷◌, map, Option, Some, codes, refl, sym, ap, subst, ◌∙◌, length, arith}
 use Rattle.std.specs.List.{All}
-use Rattle.std.specs.Str.{bytes_eq}
-use Rattle.std.specs.Cmp.Lexicographic.{slice_cmp}
-use Rattle.std.specs.Ordering.{nat_cmp, match_ordering}
-use Rattle.std.proofs.lemmas.Slice.Eq.{bytes_eq-Decides}
-use Rattle.serde_json.specs.Data.{Data, Members, no_members, member, string, array, object, put}
+use Rattle.serde_json.specs.Data.{Data, Members, string, array, object, put}
 use Rattle.serde_json.specs.Find.{get}
 use Rattle.serde_json.specs.View.{items_of}
-use Rattle.serde_json.proofs.Views.{get_member-put, get_member-put_other}
+use Rattle.serde_json.proofs.Views.{get_member-put}
 use Rattle.tpl_model.specs.Certificate.{Tree}
 use Rattle.tpl_graph.specs.Named.{Names}
-use Rattle.tpl_cert.specs.Members.{is_one_of, members_within, has_only, elements, list_in}
-use Rattle.tpl_cert.specs.Grammar.{HasOnly, IfThere, IsArray}
+use Rattle.tpl_json.specs.Members.{list_in}
+use Rattle.tpl_json.specs.Grammar.{IfThere, IsArray}
 use Rattle.tpl_cert.specs.Spelled.{ReadsAs}
 use Rattle.tpl_cert.specs.Written.{tree_data, named, certificate_data}
 use Rattle.tpl_reader.specs.Passes.{AllRead}
@@ -21,49 +17,12 @@ use Rattle.tpl_reader.specs.Top as top
 use Rattle.tpl_reader.specs.TopGrammar.{IsTop}
 use Rattle.tpl_reader.specs.Document.{Spelled, IsSpelled, DocumentValue, IsDocument, Spells, longest}
 use Rattle.tpl_reader.specs.Laws.{IsReadBack, HoldsCertificate}
-use Rattle.tpl_reader.proofs.Json.{some}
+use Rattle.tpl_json.proofs.Arrays.{elements-items_of}
+use Rattle.tpl_json.proofs.Json.{some}
+use Rattle.tpl_json.proofs.Puts.{only_put, other}
 use Rattle.tpl_reader.proofs.OneDocument.{value_same}
 
 -- ---- the members
-
-and_both : (a b : Bool) → a ≡ true → b ≡ true → (a && b) ≡ true
-and_both a b e f = rw (e, f) refl
-
-and_first : (a b : Bool) → (a && b) ≡ true → a ≡ true
-and_first true b e = refl
-and_first false b e = absurd cc
-
-and_second : (a b : Bool) → (a && b) ≡ true → b ≡ true
-and_second true b e = e
-and_second false b e = absurd cc
-
-either_way : (o : Ordering) (names : List (List ℕ)) (a b c : Members) → members_within names a ≡ true → members_within names b ≡ true → members_within names c ≡ true → members_within names (match_ordering o a b c) ≡ true
-either_way Less names a b c x y z = x
-either_way Equal names a b c x y z = y
-either_way Greater names a b c x y z = z
-
-within_put : (names : List (List ℕ)) (k : List ℕ) (d : Data) (ms : Members) → is_one_of names k ≡ true → members_within names ms ≡ true → members_within names (put k d ms) ≡ true
-within_put names k d no_members one all = and_both (is_one_of names k) true one refl
-within_put names k d (member l e ms) one all =
-    let first = and_first (is_one_of names l) (members_within names ms) all in
-    let rest = and_second (is_one_of names l) (members_within names ms) all in
-    either_way (slice_cmp nat_cmp k l) names (member k d (member l e ms)) (member l d ms) (member l e (put k d ms))
-    (and_both (is_one_of names k) _ one all) (and_both (is_one_of names l) _ first rest) (and_both (is_one_of names l) _ first (within_put names k d ms one rest))
-
-only_put : (names : List (List ℕ)) (k : List ℕ) (d : Data) (ms : Members) → is_one_of names k ≡ true → HasOnly names (object ms) → HasOnly names (object (put k d ms))
-unfolding has_only
-only_put names k d ms one all = within_put names k d ms one all
-
-differ : (a b : List ℕ) → bytes_eq a b ≡ false → a ≡ b → ⊥
-differ a b apart same = true≢false (sym ((bytes_eq-Decides a b).1 same) ∙ apart)
-
--- another member is as it was
-other : (name : List ℕ) (d : Data) (ms : Members) → bytes_eq name (codes "certificate") ≡ false → get name (object ms) ≡ get name (object (put (codes "certificate") d ms))
-other name d ms apart = sym (get_member-put_other name (codes "certificate") d ms (differ name (codes "certificate") apart))
-
-elements-items_of : (ds : List Data) → elements (items_of ds) ≡ ds
-elements-items_of [] = refl
-elements-items_of (d ∷ ds) = ap (λ (xs : List Data). d ∷ xs) (elements-items_of ds)
 
 abbrev with_trees : top.Members → List Data → top.Members
 with_trees m ds = record { inputs = m.inputs; tokens = m.tokens; tasks = m.tasks; claims = m.claims; certificate = ds; journal = m.journal; start = m.start }
@@ -77,14 +36,14 @@ top_put ms m ds is =
     record {
       only = only_put _ (codes "certificate") c ms refl is.only;
       links = is.links;
-      version = sym (other (codes "version") c ms refl) ∙ is.version;
-      inputs = subst (λ (o : Option Data). IfThere o (λ x. list_in x ≡ Some (map string m.inputs)) (m.inputs ≡ [])) (other (codes "inputs") c ms refl) is.inputs;
-      tokens = subst (λ (o : Option Data). IfThere o (IsArray (λ ds. AllRead (IsToken is.links) ds m.tokens)) (m.tokens ≡ [])) (other (codes "tokens") c ms refl) is.tokens;
-      tasks = (is.tasks.0, sym (other (codes "tasks") c ms refl) ∙ is.tasks.1, is.tasks.2);
-      claims = subst (λ (o : Option Data). IfThere o (λ x. list_in x ≡ Some m.claims) (m.claims ≡ [])) (other (codes "claims") c ms refl) is.claims;
+      version = sym (other (codes "version") (codes "certificate") c ms refl) ∙ is.version;
+      inputs = subst (λ (o : Option Data). IfThere o (λ x. list_in x ≡ Some (map string m.inputs)) (m.inputs ≡ [])) (other (codes "inputs") (codes "certificate") c ms refl) is.inputs;
+      tokens = subst (λ (o : Option Data). IfThere o (IsArray (λ ds. AllRead (IsToken is.links) ds m.tokens)) (m.tokens ≡ [])) (other (codes "tokens") (codes "certificate") c ms refl) is.tokens;
+      tasks = (is.tasks.0, sym (other (codes "tasks") (codes "certificate") c ms refl) ∙ is.tasks.1, is.tasks.2);
+      claims = subst (λ (o : Option Data). IfThere o (λ x. list_in x ≡ Some m.claims) (m.claims ≡ [])) (other (codes "claims") (codes "certificate") c ms refl) is.claims;
       certificate = there ds (get (codes "certificate") (object (put (codes "certificate") c ms))) (get_member-put (codes "certificate") c ms);
-      journal = subst (λ (o : Option Data). IfThere o (λ x. x ≡ string m.journal) (m.journal ≡ [])) (other (codes "journal") c ms refl) is.journal;
-      start = is.start ∙ other (codes "start") c ms refl;
+      journal = subst (λ (o : Option Data). IfThere o (λ x. x ≡ string m.journal) (m.journal ≡ [])) (other (codes "journal") (codes "certificate") c ms refl) is.journal;
+      start = is.start ∙ other (codes "start") (codes "certificate") c ms refl;
     }
 
 -- ---- the document

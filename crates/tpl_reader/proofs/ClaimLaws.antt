@@ -3,11 +3,11 @@ use Rattle.std.proofs.Common.{◌≡◌, ℕ, List, [], ◌∷◌, map, Bool, tr
 use Rattle.serde_json.specs.Data.{Data, boolean, string}
 use Rattle.serde_json.specs.Find.{get, as_str, as_bool}
 use Rattle.tpl_words.specs.declared.finals.Finals.{Finals}
-use Rattle.tpl_cert.specs.Members.{◌>>=◌, only_if, has_only, text_in, list_in, list_or_none, each}
-use Rattle.tpl_cert.specs.Grammar.{HasMember, IfThere, IsArray, IsTexts}
-use Rattle.tpl_reader.proofs.Arrays.{bind_some, some_is, each_cons, each_empty, each_nothing, each_parts}
-use Rattle.tpl_reader.proofs.Json.{some, some_none, only_is, string_is, text_is, bool_is, other, cons_same}
-use Rattle.tpl_reader.proofs.Finals.{finals_sound, finals_complete}
+use Rattle.tpl_json.specs.Members.{◌>>=◌, only_if, has_only, text_in, list_in, list_or_none, each}
+use Rattle.tpl_json.specs.Grammar.{HasMember, IfThere, IsArray, IsTexts}
+use Rattle.tpl_json.proofs.Arrays.{bind_some, some_is, each_cons, each_empty, each_nothing, each_parts}
+use Rattle.tpl_json.proofs.Json.{some, some_none, only_is, string_is, text_is, bool_is, other, cons_same}
+use Rattle.tpl_json.proofs.FinalLaws.{finals_sound, finals_complete}
 use Rattle.tpl_reader.specs.NamedClaims.{NamedGiven, GivenInput, GivenQuiet, NamedProperty, EndsIn, After, Observed, Never, Excludes, NamedClaim}
 use Rattle.tpl_reader.specs.Claims.{input_at, quiet_at, given_at, some_finals, final_claim, two_texts, after_claim, observed_claim, never_claim, excludes_claim, property_at, claim_at}
 use Rattle.tpl_reader.specs.Passes.{AllRead}

@@ -1,7 +1,3 @@
-pub mod Arrays
-pub mod Json
-pub mod Names
-pub mod Finals
 pub mod Bodies
 pub mod OptionWords
 pub mod Lookups

@@ -23,8 +23,8 @@ use Rattle.tpl_reader.specs.StartGrammar.{IsStartIfAny}
 use Rattle.tpl_reader.specs.TopGrammar.{IsTop}
 use Rattle.tpl_reader.specs.Passes.{AllRead}
 use Rattle.tpl_reader.specs.Document.{Spelled, IsSpelled, DocumentValue, IsStarted, IsDocument, Reads, Spells}
-use Rattle.tpl_reader.proofs.Arrays.{some_is, head_is, tail_is}
-use Rattle.tpl_reader.proofs.Json.{cons_same, Within}
+use Rattle.tpl_json.proofs.Arrays.{some_is, head_is, tail_is}
+use Rattle.tpl_json.proofs.Json.{cons_same, Within}
 use Rattle.tpl_reader.proofs.Shallow.{tasks_within}
 use Rattle.tpl_reader.proofs.TopLaws.{top_read}
 use Rattle.tpl_reader.proofs.TaskLaws.{task_read}

@@ -4,9 +4,9 @@ use Rattle.std.specs.Int.RustNames.{bit_or}
 use Rattle.std.proofs.lemmas.List.{drop_all}
 use Rattle.serde_json.specs.View.{view}
 use Rattle.serde_json.specs.declared.value.Value.{Value}
-use Rattle.tpl_cert.specs.declared.miss.Miss.{Miss}
-use Rattle.tpl_cert.specs.declared.miss.Miss.TheVariants as misses
-use Rattle.tpl_cert.specs.Members.{Misses}
+use Rattle.tpl_json.specs.declared.miss.Miss.{Miss}
+use Rattle.tpl_json.specs.declared.miss.Miss.TheVariants as misses
+use Rattle.tpl_json.specs.Members.{Misses}
 use Rattle.tpl_reader.specs.Tasks.{option_at, options_at}
 
 pub options_step : (e : ℕ) (vs : List Value) (i : ℕ) (v : Value) (o : ℕ) → i < length vs → v ≡ get_or vs i v → option_at (view v) ≡ Some o → options_at e (map view (drop i vs)) ≡ options_at (bit_or e o) (map view (drop (i + 1) vs))

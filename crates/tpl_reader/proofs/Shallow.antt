@@ -7,7 +7,7 @@ use Rattle.serde_json.specs.declared.value.Value.{Value}
 use Rattle.tpl_reader.specs.TaskGrammar.{AreShallow}
 use Rattle.tpl_reader.specs.Top.{Members}
 use Rattle.tpl_reader.specs.TopGrammar.{IsTop}
-use Rattle.tpl_reader.proofs.Json.{Within, get_depth, list_within}
+use Rattle.tpl_json.proofs.Json.{Within, get_depth, list_within}
 
 pub shallow_at : (es : List Value) (i : ℕ) (e : Value) → i < length es → AreShallow (map view es) → depth (view (get_or es i e)) ≤ 127
 shallow_at [] i e lt all = absurd (omega arith)

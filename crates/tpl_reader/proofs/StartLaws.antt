@@ -2,20 +2,13 @@
 use Rattle.std.proofs.Common.{◌≡◌, ◌&&◌, [], ◌∷◌, Bool, true, false, cond, Option, Some, None, codes, is_some, refl, sym, subst}
 use Rattle.serde_json.specs.Data.{Data, Members, no_members, member, null, boolean, number, string, array, object}
 use Rattle.serde_json.specs.Find.{get, as_bool}
-use Rattle.tpl_cert.specs.Members.{only_if, has_only, texts_in}
-use Rattle.tpl_cert.specs.Grammar.{IfThere}
-use Rattle.tpl_reader.proofs.Arrays.{bind_some, some_is}
-use Rattle.tpl_reader.proofs.Json.{some_none, only_is, bool_is, texts_sound, texts_complete}
+use Rattle.tpl_json.specs.Members.{only_if, has_only, texts_in}
+use Rattle.tpl_json.specs.Grammar.{IfThere}
+use Rattle.tpl_json.proofs.Truths.{and_first, and_second}
+use Rattle.tpl_json.proofs.Arrays.{bind_some, some_is}
+use Rattle.tpl_json.proofs.Json.{some_none, only_is, bool_is, texts_sound, texts_complete}
 use Rattle.tpl_reader.specs.Start.{NamedStart, all_truths, has_truths, truths_or_none, start_at, start_or_none}
 use Rattle.tpl_reader.specs.StartGrammar.{AreTruths, IsTruths, IsStart, IsStartIfAny}
-
-and_first : (a b : Bool) → (a && b) ≡ true → a ≡ true
-and_first true b e = refl
-and_first false b e = absurd cc
-
-and_second : (a b : Bool) → (a && b) ≡ true → b ≡ true
-and_second true b e = e
-and_second false b e = absurd cc
 
 there : {A : Type 0} (o : Option A) → is_some o ≡ true → (x : A) × (o ≡ Some x)
 there None e = absurd cc

@@ -8,10 +8,10 @@ use Rattle.serde_json.specs.Data.{Data, null, boolean, number, string, array, ob
 use Rattle.serde_json.specs.Find.{get, as_str}
 use Rattle.tpl_words.specs.Options.{words}
 use Rattle.tpl_graph.specs.Draft.{Lines, Worked, Kind, Root, Child, Continues, WhenAll, WhenAny, Task, Token}
-use Rattle.tpl_cert.specs.Members.{◌>>=◌, only_if, has_only, text_in, list_in, list_or_none, each}
-use Rattle.tpl_cert.specs.Grammar.{HasOnly, HasMember, HasText, IfThere, IsArray, IsTexts}
-use Rattle.tpl_reader.proofs.Arrays.{bind_some, some_is, head_is, tail_is}
-use Rattle.tpl_reader.proofs.Json.{some, cons_same, some_none, only_is, string_is, text_is, get_depth, other, texts_are, texts_read}
+use Rattle.tpl_json.specs.Members.{◌>>=◌, only_if, has_only, text_in, list_in, list_or_none, each}
+use Rattle.tpl_json.specs.Grammar.{HasOnly, HasMember, HasText, IfThere, IsArray, IsTexts}
+use Rattle.tpl_json.proofs.Arrays.{bind_some, some_is, head_is, tail_is}
+use Rattle.tpl_json.proofs.Json.{some, cons_same, some_none, only_is, string_is, text_is, get_depth, other, texts_are, texts_read}
 use Rattle.tpl_reader.specs.Statements.{body_at}
 use Rattle.tpl_reader.specs.Tasks.{option_at, options_at, text_or_none, work_at, root_at, child_at, then_at, args_at, all_at, any_at, kind_at, task_at, linked_at, plain_at, token_at}
 use Rattle.tpl_reader.specs.BodyGrammar.{IsBody}

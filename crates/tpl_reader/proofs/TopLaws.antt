@@ -3,10 +3,10 @@ use Rattle.std.proofs.Common.{◌≡◌, ◌==◌, ℕ, List, [], map, Bool, tru
 use Rattle.std.proofs.lemmas.Bool.{eqb-true}
 use Rattle.serde_json.specs.Data.{Data, null, boolean, number, string, array, object, Num, unsigned, negative, float}
 use Rattle.serde_json.specs.Find.{get, as_str, as_number, as_u64}
-use Rattle.tpl_cert.specs.Members.{◌>>=◌, only_if, has_only, list_in, list_or_none, each}
-use Rattle.tpl_cert.specs.Grammar.{IfThere, IsTexts}
-use Rattle.tpl_reader.proofs.Arrays.{bind_some, some_is, each_empty, each_nothing}
-use Rattle.tpl_reader.proofs.Json.{some, some_none, only_is, string_is, texts_are, texts_read}
+use Rattle.tpl_json.specs.Members.{◌>>=◌, only_if, has_only, list_in, list_or_none, each}
+use Rattle.tpl_json.specs.Grammar.{IfThere, IsTexts}
+use Rattle.tpl_json.proofs.Arrays.{bind_some, some_is, each_empty, each_nothing}
+use Rattle.tpl_json.proofs.Json.{some, some_none, only_is, string_is, texts_are, texts_read}
 use Rattle.tpl_reader.specs.Tasks.{token_at}
 use Rattle.tpl_reader.specs.Top.{Members, links_in, version_at, text_or_empty, top_at}
 use Rattle.tpl_reader.specs.TaskGrammar.{IsToken}

@@ -10,7 +10,7 @@ use Rattle.std.proofs.Common.{ℕ, zero, suc, Bool, Some, string_bytes, false}
 use Rattle.std.specs.Prelude.{slice_get, slice_index_or}
 use Rattle.tpl_cert.specs.Naming.{is_declared}
 use Rattle.tpl_reader.specs.Begin.{declares}
-use Rattle.tpl_reader.proofs.Arrays.{some_is}
+use Rattle.tpl_json.proofs.Arrays.{some_is}
 use Rattle.tpl_reader.specs.Start.{all_truths}
 
 pub all_truths_of : (es : List (String Global × Value)) → all_truths (members_view es) ≡ list_all (λ v. is_some (as_bool (view v))) (values_of es)

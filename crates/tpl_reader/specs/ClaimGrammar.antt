@@ -3,7 +3,7 @@ use Rattle.std.specs.Prelude.{◌≡◌, ◌<◌, List, [], ◌∷◌, codes, le
 use Rattle.serde_json.specs.Data.{Data, boolean}
 use Rattle.serde_json.specs.Find.{get}
 use Rattle.tpl_words.specs.declared.finals.Finals.{Finals}
-use Rattle.tpl_cert.specs.Grammar.{HasOnly, HasMember, HasText, IfThere, IsArray, IsTexts, AreFinals}
+use Rattle.tpl_json.specs.Grammar.{HasOnly, HasMember, HasText, IfThere, IsArray, IsTexts, AreFinals}
 use Rattle.tpl_reader.specs.Passes.{AllRead}
 use Rattle.tpl_reader.specs.NamedClaims.{NamedGiven, GivenInput, GivenQuiet, NamedProperty, EndsIn, After, Observed, Never, Excludes, NamedClaim}
 

@@ -3,8 +3,8 @@ use Rattle.std.specs.Prelude.{ℕ, List, [], ◌∷◌, Option, Some, None, code
 use Rattle.serde_json.specs.Data.{Data}
 use Rattle.serde_json.specs.Find.{get, as_str, as_bool}
 use Rattle.tpl_words.specs.declared.finals.Finals.{Finals}
-use Rattle.tpl_cert.specs.Members.{◌>>=◌, only_if, has_only, text_in, list_in, list_or_none, each}
-use Rattle.tpl_cert.specs.Reading.{no_finals, finals_at}
+use Rattle.tpl_json.specs.Members.{◌>>=◌, only_if, has_only, text_in, list_in, list_or_none, each}
+use Rattle.tpl_json.specs.Finals.{no_finals, finals_at}
 use Rattle.tpl_reader.specs.NamedClaims.{NamedGiven, GivenInput, GivenQuiet, NamedProperty, EndsIn, After, Observed, Never, Excludes, NamedClaim}
 
 unfoldable pub input_at : Data → Option NamedGiven

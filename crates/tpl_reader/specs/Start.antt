@@ -2,7 +2,7 @@
 use Rattle.std.specs.Prelude.{◌&&◌, ℕ, List, [], ◌∷◌, Option, Some, None, Bool, true, false, codes, is_some, if◌then◌else◌}
 use Rattle.serde_json.specs.Data.{Data, Members, no_members, member, string, array, object, null, boolean, number}
 use Rattle.serde_json.specs.Find.{get, as_bool}
-use Rattle.tpl_cert.specs.Members.{◌>>=◌, only_if, has_only, texts_in}
+use Rattle.tpl_json.specs.Members.{◌>>=◌, only_if, has_only, texts_in}
 
 -- where a run starts, as it is spelled: an object of truth values by the inputs' names, the tokens that are requested first, and the sites whose jobs fail
 pub record NamedStart : Type 0 where

@@ -2,7 +2,7 @@
 use Rattle.std.specs.Prelude.{◌≡◌, [], ◌∷◌, Option, Some, None, Bool, codes}
 use Rattle.serde_json.specs.Data.{Data, Members, no_members, member, boolean, object}
 use Rattle.serde_json.specs.Find.{get}
-use Rattle.tpl_cert.specs.Grammar.{HasOnly, IfThere, HasTexts}
+use Rattle.tpl_json.specs.Grammar.{HasOnly, IfThere, HasTexts}
 use Rattle.tpl_reader.specs.Start.{NamedStart}
 
 -- each is true or false

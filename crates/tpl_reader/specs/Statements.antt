@@ -3,8 +3,8 @@ use Rattle.std.specs.Prelude.{ℕ, zero, suc, List, [], ◌∷◌, Option, Some,
 use Rattle.std.specs.Str.{bytes_eq}
 use Rattle.serde_json.specs.Data.{Data, string, array, object, null, boolean, number}
 use Rattle.serde_json.specs.Find.{get, as_bool}
-use Rattle.tpl_cert.specs.Members.{◌>>=◌, only_if, has_only, text_in, list_in, each}
-use Rattle.tpl_cert.specs.Reading.{final_at}
+use Rattle.tpl_json.specs.Members.{◌>>=◌, only_if, has_only, text_in, list_in, each}
+use Rattle.tpl_json.specs.Finals.{final_at}
 use Rattle.tpl_graph.specs.Draft.{Line, Lines, Return, Throw, Check, Cancel, Start, Observe, Work, If, When, Nothing, Then}
 
 -- a list of statements as a body

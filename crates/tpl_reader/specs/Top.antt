@@ -2,7 +2,7 @@
 use Rattle.std.specs.Prelude.{◌==◌, ℕ, List, [], ◌∷◌, Option, Some, None, Bool, true, false, codes, option_and_then, if◌then◌else◌}
 use Rattle.serde_json.specs.Data.{Data}
 use Rattle.serde_json.specs.Find.{get, as_str, as_number, as_u64}
-use Rattle.tpl_cert.specs.Members.{◌>>=◌, only_if, has_only, list_in, list_or_none, each}
+use Rattle.tpl_json.specs.Members.{◌>>=◌, only_if, has_only, list_in, list_or_none, each}
 use Rattle.tpl_graph.specs.Draft.{Token}
 use Rattle.tpl_reader.specs.Tasks.{token_at}
 

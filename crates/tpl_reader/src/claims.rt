@@ -3,15 +3,16 @@
 ghost use Rattle.std.specs.Prelude.{◌≡◌, map, codes, IfErr};
 ghost use Rattle.serde_json.specs.Find.{get};
 ghost use Rattle.serde_json.specs.View.{view};
-ghost use Rattle.tpl_cert.specs.Members.{Gives, each, IsShape};
+ghost use Rattle.tpl_json.specs.Members.{Gives, each, IsShape};
 ghost use Rattle.tpl_reader.specs.SeenClaims.{given_of, property_of, claim_of};
 ghost use Rattle.tpl_reader.specs.Claims.{input_at, quiet_at, given_at, some_finals, final_claim, two_texts, after_claim, observed_claim, never_claim, excludes_claim, property_at, claim_at};
 
 use crate::named::{NamedClaim, NamedGiven, NamedProperty};
 use serde_json::Value;
 use std::alloc::Global;
-use tpl_cert::members::{bool_in, has_only, list_of, list_or_none, member_in, text_in, text_of};
-use tpl_cert::{Miss, finals_of};
+use tpl_json::{
+    Miss, bool_in, finals_of, has_only, list_of, list_or_none, member_in, text_in, text_of,
+};
 use tpl_words::Finals;
 
 #[tactic(auto, unfolding(crate::specs::Claims::input_at))]

@@ -5,7 +5,7 @@ ghost use Rattle.std.specs.Option.{option_map};
 ghost use Rattle.serde_json.specs.Data.{depth};
 ghost use Rattle.serde_json.specs.View.{view};
 ghost use Rattle.tpl_graph.specs.SeenTasks.{task_of};
-ghost use Rattle.tpl_cert.specs.Members.{Gives};
+ghost use Rattle.tpl_json.specs.Members.{Gives};
 ghost use Rattle.tpl_reader.specs.SeenClaims.{claim_of};
 ghost use Rattle.tpl_reader.specs.SeenStart.{start_of};
 ghost use Rattle.tpl_reader.specs.SeenTop.{members_of};
@@ -25,7 +25,7 @@ use crate::start::start_of;
 use crate::top::{Members, claims_of, members_of, tasks_of};
 use serde_json::Value;
 use std::alloc::Global;
-use tpl_cert::Miss;
+use tpl_json::Miss;
 use tpl_graph::{Draft, DraftTask};
 
 /// A document with names.

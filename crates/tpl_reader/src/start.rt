@@ -6,15 +6,14 @@ ghost use Rattle.std.specs.List.{list_all};
 ghost use Rattle.std.specs.BTreeMap.{values};
 ghost use Rattle.serde_json.specs.Find.{get, as_bool};
 ghost use Rattle.serde_json.specs.View.{view};
-ghost use Rattle.tpl_cert.specs.Members.{Gives, IsShape};
+ghost use Rattle.tpl_json.specs.Members.{Gives, IsShape};
 ghost use Rattle.tpl_reader.specs.Start.{all_truths, has_truths, truths_or_none, start_at};
 ghost use Rattle.tpl_reader.specs.SeenStart.{start_of};
 
 use crate::named::NamedStart;
 use serde_json::{Map, Value};
 use std::alloc::Global;
-use tpl_cert::Miss;
-use tpl_cert::members::{has_only, texts_in};
+use tpl_json::{Miss, has_only, texts_in};
 
 fn all_truths(members: &Map<String, Value>) -> bool
     ensures { result ≡ list_all (λ v. is_some (as_bool (view v))) (values members.now) }

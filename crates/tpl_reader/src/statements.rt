@@ -4,14 +4,13 @@ ghost use Rattle.std.specs.Prelude.{◌≡◌, map, codes, string_bytes, option_
 ghost use Rattle.serde_json.specs.Find.{get};
 ghost use Rattle.serde_json.specs.View.{view};
 ghost use Rattle.tpl_graph.specs.SeenDraft.{line_of, lines_of};
-ghost use Rattle.tpl_cert.specs.Members.{Gives, each, IsShape};
+ghost use Rattle.tpl_json.specs.Members.{Gives, each, IsShape};
 ghost use Rattle.tpl_reader.specs.Statements.{body_of, word_at, name_at, throw_at, check_at, cancel_at, start_at, bool_or_false, work_at, else_at, if_at, when_at, branch_at, is_branch, simple_at, object_at, statement_at, list_at, body_at};
 
 use serde_json::Value;
 use std::alloc::Global;
-use tpl_cert::members::{bool_of, has_only, list_of, member_in, text_in};
-use tpl_cert::{Miss, final_of};
 use tpl_graph::{DraftBody, DraftStmt};
+use tpl_json::{Miss, bool_of, final_of, has_only, list_of, member_in, text_in};
 
 #[tactic(auto, unfolding(crate::specs::Statements::word_at))]
 fn word_of(word: &str) -> Result<DraftStmt, Miss>

@@ -5,28 +5,17 @@ ghost use Rattle.std.specs.Option.{option_map};
 ghost use Rattle.serde_json.specs.Find.{get, as_str};
 ghost use Rattle.serde_json.specs.View.{view};
 ghost use Rattle.tpl_graph.specs.SeenTasks.{work_of, kind_of, task_of, token_of};
-ghost use Rattle.tpl_cert.specs.Members.{Gives, each, IsShape};
+ghost use Rattle.tpl_json.specs.Members.{Gives, each, IsShape};
 ghost use Rattle.tpl_reader.specs.Tasks.{option_at, options_at, text_or_none, work_at, root_at, child_at, then_at, args_at, all_at, any_at, kind_at, task_at, linked_at, plain_at, token_at};
 
 use crate::statements::body_of;
 use serde_json::Value;
 use std::alloc::Global;
-use tpl_cert::Miss;
-use tpl_cert::members::{has_only, list_of, list_or_none, member_in, text_in, text_of};
 use tpl_graph::{DraftKind, DraftTask, DraftToken, DraftWork};
+use tpl_json::{
+    Miss, has_only, list_of, list_or_none, member_in, owned_texts, text_in, text_of,
+};
 use tpl_words::Options;
-
-/// The texts of an array, in memory of their own.
-pub(crate) fn owned_texts(alloc: Global, values: &[Value]) -> Result<Vec<String>, Miss>
-    ensures { Gives (λ v. map string_bytes v.items) result (each as_str (map view values.now)) }
-{
-    let mut texts = Vec::new(alloc);
-    for value in values {
-        let text = text_of(value)?;
-        texts.push(String::from_str(alloc, text)?)?;
-    }
-    Ok(texts)
-}
 
 #[tactic(auto, unfolding(crate::specs::Tasks::option_at))]
 fn option_of(value: &Value) -> Result<Options, Miss>

@@ -5,7 +5,7 @@ ghost use Rattle.std.specs.Option.{option_map};
 ghost use Rattle.serde_json.specs.Data.{depth};
 ghost use Rattle.serde_json.specs.Find.{get, as_number, as_u64};
 ghost use Rattle.serde_json.specs.View.{view};
-ghost use Rattle.tpl_cert.specs.Members.{Gives, each, IsShape};
+ghost use Rattle.tpl_json.specs.Members.{Gives, each, IsShape};
 ghost use Rattle.tpl_graph.specs.SeenTasks.{token_of, task_of};
 ghost use Rattle.tpl_reader.specs.SeenClaims.{claim_of};
 ghost use Rattle.tpl_reader.specs.SeenTop.{members_of};
@@ -18,11 +18,10 @@ ghost use Rattle.tpl_reader.specs.Passes.{Passes, Here};
 use crate::claims::claim_of;
 use crate::fault::Halt;
 use crate::named::NamedClaim;
-use crate::tasks::{owned_texts, task_of, token_of};
+use crate::tasks::{task_of, token_of};
 use serde_json::Value;
 use std::alloc::Global;
-use tpl_cert::Miss;
-use tpl_cert::members::{has_only, list_of, list_or_none, member_in, text_of};
+use tpl_json::{Miss, has_only, list_of, list_or_none, member_in, owned_texts, text_of};
 use tpl_graph::{DraftTask, DraftToken};
 
 /// The members of a document: its lists, of which those of tasks, claims and trees aren't read yet.

@@ -3,8 +3,8 @@ use Rattle.std.proofs.Common.{◌≡◌, ℕ, ◌≤◌, List, [], map, Bool, Op
 use Rattle.serde_json.specs.Data.{Data, Members, string, object, put, depth}
 use Rattle.serde_json.specs.Find.{get}
 use Rattle.serde_json.proofs.Views.{get_member-put}
-use Rattle.tpl_cert.specs.Members.{list_in}
-use Rattle.tpl_cert.specs.Grammar.{IfThere, IsArray}
+use Rattle.tpl_json.specs.Members.{list_in}
+use Rattle.tpl_json.specs.Grammar.{IfThere, IsArray}
 use Rattle.tpl_reader.specs.Passes.{AllRead}
 use Rattle.tpl_reader.specs.TaskGrammar.{IsToken}
 use Rattle.tpl_reader.specs.Top as top
@@ -12,10 +12,10 @@ use Rattle.tpl_reader.specs.TopGrammar.{IsTop}
 use Rattle.tpl_reader.specs.Start.{NamedStart}
 use Rattle.tpl_reader.specs.StartGrammar.{IsStart, IsStartIfAny}
 use Rattle.tpl_reader.specs.Document.{Spelled, IsSpelled, DocumentValue, IsDocument, Reads, Spells}
-use Rattle.tpl_reader.proofs.Json.{get_depth}
+use Rattle.tpl_json.proofs.Json.{get_depth}
 use Rattle.tpl_reader.proofs.OneDocument.{value_same}
 use Rattle.tpl_witness.specs.Filled.{IsStartWith, IsFilled, HasForm, IsTextOf, start_data, with_run}
-use Rattle.tpl_witness.proofs.Puts.{only_put, is_object, other, depth_put}
+use Rattle.tpl_json.proofs.Puts.{only_put, is_object, other, depth_put}
 use Rattle.tpl_witness.proofs.Starts.{named_with, named_start, start_object, start_value, start_depth}
 
 -- ---- a member of the top that is put

@@ -1,4 +1,3 @@
-pub mod Puts
 pub mod Truths
 pub mod Starts
 pub mod Filling

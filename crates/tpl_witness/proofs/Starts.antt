@@ -4,15 +4,16 @@ use Rattle.serde_json.specs.Data.{Data, Members, no_members, object, put, depth}
 use Rattle.serde_json.specs.Find.{get, as_bool}
 use Rattle.serde_json.proofs.Views.{get_member-put}
 use Rattle.tpl_graph.specs.Named.{Named}
-use Rattle.tpl_cert.specs.Members.{has_only}
+use Rattle.tpl_json.specs.Members.{has_only}
 use Rattle.tpl_cert.specs.Naming.{are_declared}
-use Rattle.tpl_cert.specs.Grammar.{IfThere, IsTexts}
+use Rattle.tpl_json.specs.Grammar.{IfThere, IsTexts}
 use Rattle.tpl_reader.specs.Start.{NamedStart}
 use Rattle.tpl_reader.specs.Begin.{StartValue, knows_members, truth_at, HasTruths, IsStartOf}
 use Rattle.tpl_reader.specs.StartGrammar.{AreTruths, IsTruths, IsStart, IsStartIfAny}
 use Rattle.tpl_reader.specs.Document.{IsStarted}
 use Rattle.tpl_witness.specs.Filled.{AreFirst, IsStartWith, start_data, started}
-use Rattle.tpl_witness.proofs.Puts.{and_both, and_second, only_put, is_object, other, depth_put}
+use Rattle.tpl_json.proofs.Truths.{and_both, and_second}
+use Rattle.tpl_json.proofs.Puts.{only_put, is_object, other, depth_put}
 
 -- ---- with names
 

@@ -14,7 +14,8 @@ use Rattle.tpl_cert.proofs.Unique.{number_of-name_at}
 use Rattle.tpl_reader.specs.Begin.{declares}
 use Rattle.tpl_reader.specs.StartGrammar.{AreTruths}
 use Rattle.tpl_witness.specs.Filled.{AreFirst}
-use Rattle.tpl_witness.proofs.Puts.{and_both, and_first, and_second, depth_put}
+use Rattle.tpl_json.proofs.Truths.{and_both, and_first, and_second}
+use Rattle.tpl_json.proofs.Puts.{depth_put}
 
 declares_either : (o : Ordering) (names : List (List ℕ)) (a b c : Members) → declares names a ≡ true → declares names b ≡ true → declares names c ≡ true → declares names (match_ordering o a b c) ≡ true
 declares_either Less names a b c x y z = x

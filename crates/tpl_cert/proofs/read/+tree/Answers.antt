@@ -4,9 +4,9 @@ use Rattle.serde_json.specs.View.{view}
 use Rattle.tpl_cert.specs.Seen.{tree_of}
 use Rattle.tpl_cert.specs.NamedTrees.{SplitInput}
 use Rattle.tpl_cert.specs.declared.named.NamedTree.{the_lemmas}
-use Rattle.tpl_cert.specs.Members.{has_only, Gives}
+use Rattle.tpl_json.specs.Members.{has_only, Gives}
 use Rattle.tpl_cert.specs.Reading.{input_at, whole_tree}
-use Rattle.tpl_cert.proofs.Json.{member_lower}
+use Rattle.tpl_json.proofs.Json.{member_lower}
 use Rattle.tpl_cert.proofs.Levels.{input_misses, input_is}
 use Rattle.tpl_cert.proofs.Trees.{whole_tree-node}
 use Rattle.tpl_cert.proofs.read.+tree.Goals as goal

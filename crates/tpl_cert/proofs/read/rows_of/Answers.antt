@@ -3,9 +3,9 @@ use Rattle.std.proofs.lemmas.Result.{err_from_is_err_and}
 use Rattle.std.proofs.lemmas.List.{map_push}
 use Rattle.serde_json.specs.View.{view}
 use Rattle.tpl_cert.specs.Seen.{row_of}
-use Rattle.tpl_cert.specs.Members.{each}
+use Rattle.tpl_json.specs.Members.{each}
 use Rattle.tpl_cert.specs.Reading.{row_at}
-use Rattle.tpl_cert.proofs.Arrays.{each_more, misses_each}
+use Rattle.tpl_json.proofs.Arrays.{each_more, misses_each}
 use Rattle.tpl_cert.proofs.read.rows_of.Goals as goal
 
 pub loop-value-init : goal.loop-value-init

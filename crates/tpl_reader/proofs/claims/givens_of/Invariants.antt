@@ -1,6 +1,6 @@
 use Rattle.std.proofs.Common.{◌≡◌, map, take, Some}
 use Rattle.serde_json.specs.View.{view}
-use Rattle.tpl_cert.specs.Members.{each}
+use Rattle.tpl_json.specs.Members.{each}
 use Rattle.tpl_reader.specs.SeenClaims.{given_of}
 use Rattle.tpl_reader.specs.Claims.{given_at}
 use Rattle.tpl_reader.proofs.claims.givens_of.Given as goal

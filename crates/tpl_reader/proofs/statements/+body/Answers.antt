@@ -3,9 +3,9 @@ use Rattle.std.proofs.lemmas.Result.{err_from_is_err_and}
 use Rattle.std.proofs.lemmas.List.{map_push}
 use Rattle.serde_json.specs.View.{view}
 use Rattle.tpl_graph.specs.SeenDraft.{line_of}
-use Rattle.tpl_cert.specs.Members.{each}
+use Rattle.tpl_json.specs.Members.{each}
 use Rattle.tpl_reader.specs.Statements.{statement_at, body_at}
-use Rattle.tpl_reader.proofs.Arrays.{each_more, misses_each}
+use Rattle.tpl_json.proofs.Arrays.{each_more, misses_each}
 use Rattle.tpl_reader.proofs.statements.+body.Goals as goal
 
 pub statements_of-loop-value-init : goal.statements_of-loop-value-init

@@ -3,7 +3,7 @@ use Rattle.serde_json.specs.Data.{Data, Members, object, put}
 use Rattle.serde_json.specs.View.{view, members_view}
 use Rattle.serde_json.specs.declared.value.Value.{Object}
 use Rattle.serde_json.proofs.Views.{view-Object, members_view-insert_entry}
-use Rattle.tpl_witness.proofs.Puts.{object_is, object_has}
+use Rattle.tpl_json.proofs.Puts.{object_is, object_has}
 use Rattle.tpl_witness.proofs.Filling.{form_start}
 use Rattle.tpl_witness.proofs.start.start_with.Goals.{in-Some+in_ok-from_str+in_ok-insert, in_default}
 use Rattle.tpl_witness.proofs.start.start_with.Goals as goal

@@ -3,7 +3,7 @@ use Rattle.serde_json.specs.Data.{Data, Members, object, string, put}
 use Rattle.serde_json.specs.View.{view, members_view}
 use Rattle.serde_json.specs.declared.value.Value.{String, the_lemmas}
 use Rattle.serde_json.proofs.Views.{view-Object, members_view-insert_entry}
-use Rattle.tpl_witness.proofs.Puts.{object_is, object_has}
+use Rattle.tpl_json.proofs.Puts.{object_is, object_has}
 use Rattle.tpl_witness.proofs.Filling.{form_object}
 use Rattle.tpl_witness.proofs.text.filled.Goals.{in-Some+in_ok-from_str+in_ok-insert+in_ok-from_str-2+in_ok-insert-2, in_default}
 use Rattle.tpl_witness.proofs.text.filled.Goals as goal

@@ -1,7 +1,0 @@
-use Rattle.std.proofs.Common.{◌≡◌, map, drop}
-use Rattle.serde_json.specs.View.{view}
-use Rattle.tpl_cert.specs.Reading.{finals_at, no_finals}
-use Rattle.tpl_cert.proofs.read.finals_of.Given as goal
-
-abbrev pub invariant-loop-value : goal.invariant-loop-value
-invariant-loop-value l = finals_at l.finals (map view (drop l.value-index l.values)) ≡ finals_at no_finals (map view l.values)

@@ -1,0 +1,13 @@
+-- Tests that hold together.
+use Rattle.std.proofs.Common.{◌≡◌, ◌&&◌, Bool, true, false, refl}
+
+pub and_first : (a b : Bool) → (a && b) ≡ true → a ≡ true
+and_first true b e = refl
+and_first false b e = absurd cc
+
+pub and_second : (a b : Bool) → (a && b) ≡ true → b ≡ true
+and_second true b e = e
+and_second false b e = absurd cc
+
+pub and_both : (a b : Bool) → a ≡ true → b ≡ true → (a && b) ≡ true
+and_both a b e f = rw (e, f) refl

@@ -1,0 +1,75 @@
+-- Reading JSON data part by part. `None` is a wrong shape.
+use Rattle.std.specs.Prelude.{◌≡◌, ℕ, List, [], ◌∷◌, Option, Some, None, Result, Ok, Err, Bool, true, false, ◌&&◌, ◌||◌, option_and_then, option_map, if◌then◌else◌}
+use Rattle.std.specs.Str.{bytes_eq}
+use Rattle.serde_json.specs.Data.{Data, Items, no_items, item, Members, no_members, member, string, array, object, null, boolean, number}
+use Rattle.serde_json.specs.Find.{get, as_str, as_array}
+use Rattle.tpl_json.specs.declared.miss.Miss.{Miss}
+use Rattle.tpl_json.specs.declared.miss.Miss.TheVariants as misses
+
+-- What a function returned, seen by view, is what reading gives, unless memory ran out.
+abbrev pub Misses : {Y : Type 0} → Miss → Option Y → Type 0
+Misses misses.Memory read = Unit {0}
+Misses misses.Shape read = read ≡ None
+
+abbrev pub Gives : {X Y : Type 0} → (X → Y) → Result X Miss → Option Y → Type 0
+Gives view (Ok x) read = read ≡ Some (view x)
+Gives view (Err e) read = Misses e read
+
+-- what a function gives that takes no memory: an error is a wrong shape
+abbrev pub IsShape : Miss → Type 0
+IsShape misses.Shape = Unit {0}
+IsShape misses.Memory = ⊥
+
+infixl 10 ◌>>=◌
+abbrev pub ◌>>=◌ : {A B : Type 0} → Option A → (A → Option B) → Option B
+o >>= f = option_and_then f o
+
+abbrev pub only_if : Bool → Option (Unit {0})
+only_if b = if b then Some tt else None
+
+-- ---- members
+
+abbrev pub is_one_of : List (List ℕ) → List ℕ → Bool
+is_one_of [] key = false
+is_one_of (name ∷ names) key = bytes_eq key name || is_one_of names key
+
+abbrev pub members_within : List (List ℕ) → Members → Bool
+members_within names no_members = true
+members_within names (member key d ms) = is_one_of names key && members_within names ms
+
+-- an object with no other members
+unfoldable pub has_only : List (List ℕ) → Data → Bool
+has_only names null = false
+has_only names (boolean b) = false
+has_only names (number n) = false
+has_only names (string s) = false
+has_only names (array ds) = false
+has_only names (object ms) = members_within names ms
+
+unfoldable pub text_in : List ℕ → Data → Option (List ℕ)
+text_in name d = get name d >>= as_str
+
+-- ---- arrays
+
+abbrev pub elements : Items → List Data
+elements no_items = []
+elements (item d ds) = d ∷ elements ds
+
+abbrev pub list_in : Data → Option (List Data)
+list_in d = option_map elements (as_array d)
+
+-- an array that may be left out
+unfoldable pub list_or_none : Option Data → Option (List Data)
+list_or_none None = Some []
+list_or_none (Some d) = list_in d
+
+unfoldable pub each : {A : Type 0} → (Data → Option A) → List Data → Option (List A)
+each f [] = Some []
+each f (d ∷ ds) = do
+  x ← f d
+  xs ← each f ds
+  Some (x ∷ xs)
+
+-- the texts of an array that may be left out
+unfoldable pub texts_in : List ℕ → Data → Option (List (List ℕ))
+texts_in name d = list_or_none (get name d) >>= each as_str

@@ -1,0 +1,69 @@
+//! Final statuses, by their names.
+
+ghost use Rattle.std.specs.Prelude.{◌≡◌, map, IfErr};
+ghost use Rattle.serde_json.specs.View.{view};
+ghost use Rattle.tpl_json.specs.Members.{Gives, IsShape};
+ghost use Rattle.tpl_json.specs.Finals.{with_final, no_finals, final_word, final_at, finals_at};
+
+use crate::members::text_of;
+use crate::miss::Miss;
+use serde_json::Value;
+use tpl_words::{Final, Finals};
+
+#[tactic(auto, unfolding(crate::specs::Finals::final_word))]
+fn final_word(word: &str) -> Result<Final, Miss>
+    ensures gives { Gives (λ f. f) result (final_word word.now) }
+    ensures shape { IfErr result IsShape }
+{
+    match word {
+        "RanToCompletion" => Ok(Final::RanToCompletion),
+        "Canceled" => Ok(Final::Canceled),
+        "Faulted" => Ok(Final::Faulted),
+        _ => Err(Miss::Shape),
+    }
+}
+
+/// A final status, by its name.
+#[tactic(auto, unfolding(crate::specs::Finals::final_at))]
+pub fn final_of(value: &Value) -> Result<Final, Miss>
+    ensures gives { Gives (λ f. f) result (final_at (view value.now)) }
+    ensures shape { IfErr result IsShape }
+{
+    let word = text_of(value)?;
+    final_word(word)
+}
+
+fn with_final(finals: Finals, ending: Final) -> Finals
+    ensures { result ≡ with_final ending finals }
+{
+    match ending {
+        Final::RanToCompletion => Finals {
+            ran: true,
+            ..finals
+        },
+        Final::Canceled => Finals {
+            canceled: true,
+            ..finals
+        },
+        Final::Faulted => Finals {
+            faulted: true,
+            ..finals
+        },
+    }
+}
+
+/// The set of the final statuses of an array.
+pub fn finals_of(values: &[Value]) -> Result<Finals, Miss>
+    ensures gives { Gives (λ f. f) result (finals_at no_finals (map view values.now)) }
+    ensures shape { IfErr result IsShape }
+{
+    let mut finals = Finals {
+        ran: false,
+        canceled: false,
+        faulted: false,
+    };
+    for value in values {
+        finals = with_final(finals, final_of(value)?);
+    }
+    Ok(finals)
+}

@@ -1,0 +1,13 @@
+//! Values of JSON, read part by part: members by their names, elements of arrays, texts, truths, and sets of final statuses.
+#![tactic(auto)]
+
+mod finals;
+mod members;
+mod miss;
+
+pub use finals::{final_of, finals_of};
+pub use members::{
+    bool_in, bool_of, has_only, list_of, list_or_none, member_in, owned_texts, text_in, text_of,
+    texts_in, texts_of,
+};
+pub use miss::Miss;
