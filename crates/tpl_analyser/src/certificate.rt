@@ -26,7 +26,7 @@ use crate::missed::{Missed, RanOut};
 use crate::question::Question;
 use crate::search::{Reach, split};
 use crate::split::{Split, all_splits};
-use crate::watch::{Nobody, Watch};
+use crate::watch::{Unwatched, Watch};
 use std::alloc::{AllocError, Global};
 use tpl_cert::{Certificate, Tree};
 use tpl_checker::Below;
@@ -74,7 +74,7 @@ pub fn analyse_in(
     ensures form { IfOk result (IsCertificateOf form claims.now) }
     ensures gap { IfErr result (IsGap graph.now.graph claims.now depth) }
 {
-    match analyse_watched(alloc, graph, claims, depth, form, Nobody) {
+    match analyse_watched(alloc, graph, claims, depth, form, Unwatched) {
         Ok(certificate) => Ok(certificate),
         Err(Missed::NotFound { claim, .. }) => Err(Gap::NotFound { claim }),
         Err(Missed::Memory) => Err(Gap::Memory),

@@ -21,4 +21,4 @@ pub use certificate::{analyse, analyse_in, analyse_watched};
 pub use form::Form;
 pub use gap::Gap;
 pub use missed::{Missed, RanOut};
-pub use watch::Watch;
+pub use watch::{Unwatched, Watch};

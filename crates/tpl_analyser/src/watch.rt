@@ -7,10 +7,10 @@ pub trait Watch: Drop {
     fn tries(&mut self, claim: usize, leaves: u32);
 }
 
-/// Who isn't interested.
-#[derive(Drop)]
-pub(crate) struct Nobody;
+/// Who isn't told.
+#[derive(Clone, Copy, Drop)]
+pub struct Unwatched;
 
-impl Watch for Nobody {
+impl Watch for Unwatched {
     fn tries(&mut self, _claim: usize, _leaves: u32) {}
 }

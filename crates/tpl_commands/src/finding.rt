@@ -37,14 +37,6 @@ pub struct Analyse<T> {
     ghost within: { depth ≤ 6 },
 }
 
-/// Who isn't told how far a search is.
-#[derive(Clone, Copy, Drop)]
-pub(crate) struct Unwatched;
-
-impl Watch for Unwatched {
-    fn tries(&mut self, _claim: usize, _leaves: u32) {}
-}
-
 impl<T: Watch + Copy> Command for Analyse<T> {
     ghost answers = { λ this. Finds this.depth this.form };
 

@@ -10,11 +10,11 @@ use crate::certifying::Certify;
 use crate::checking::Check;
 use crate::drawing::Draw;
 use crate::exit::Exit;
-use crate::finding::{Analyse, Unwatched};
+use crate::finding::Analyse;
 use crate::responding::respond;
 use std::alloc::Global;
 use std::io::{Read, Write};
-use tpl_analyser::{Form, Watch};
+use tpl_analyser::{Form, Unwatched, Watch};
 use tpl_draw::Language;
 use tpl_journal::Counting;
 

@@ -11,10 +11,13 @@ use crate::obstacle::obstacle_text;
 use crate::reason::Reason;
 use crate::words::{Said, claim_text, count_text};
 use std::alloc::{AllocError, Global};
-use tpl_analyser::{Gap, analyse};
+use tpl_analyser::{Form, Gap, Missed, RanOut, Unwatched, analyse, analyse_watched};
 use tpl_claims::Claim;
 use tpl_graph::Graph;
 use tpl_reader::Document;
+
+/// The most splits on each path that a search may be asked for.
+const MOST_SPLITS: u8 = 6;
 
 /// Why no certificate was found.
 pub(crate) fn search_reason(
@@ -38,22 +41,29 @@ pub(crate) fn search_reason(
     }
 }
 
-/// A certificate of the claim of this number alone is found.
-fn is_found(
+/// What ran out before a certificate of the claim at this place alone was found; none where one is.
+fn ran_out(
     alloc: Global,
     graph: &Graph,
     claims: &[Claim],
     at: usize,
     depth: u8,
-) -> Result<bool, AllocError>
+) -> Result<Option<RanOut>, AllocError>
     requires at { at < length claims.now }
     requires claims { All (Fits graph.now.graph) claims.now }
     requires depth { depth ≤ 6 }
 {
-    match analyse(alloc, graph, &claims[at..at + 1], depth) {
-        Ok(_) => Ok(true),
-        Err(Gap::NotFound { .. }) => Ok(false),
-        Err(Gap::Memory) => Err(AllocError),
+    match analyse_watched(
+        alloc,
+        graph,
+        &claims[at..at + 1],
+        depth,
+        Form::Slim,
+        Unwatched,
+    ) {
+        Err(Missed::NotFound { ran_out, .. }) => Ok(Some(ran_out)),
+        Err(Missed::Memory) => Err(AllocError),
+        Ok(_certificate) => Ok(None),
     }
 }
 
@@ -64,7 +74,7 @@ fn each_text(alloc: Global, document: &Document, depth: u8) -> Said
 {
     let mut lines = String::new(alloc);
     for at in 0..document.claims.len() {
-        let found = is_found(alloc, &document.graph, &document.claims, at, depth)?;
+        let found = ran_out(alloc, &document.graph, &document.claims, at, depth)?.is_none();
         lines.push_str(if found { "found: " } else { "not found: " })?;
         let claim = claim_text(alloc, &document.graph, &document.claims, at + 1)?;
         lines.push_str(claim.as_str())?;
@@ -73,13 +83,50 @@ fn each_text(alloc: Global, document: &Document, depth: u8) -> Said
     Ok(lines)
 }
 
-/// What was tried for a claim.
-fn tried_text(alloc: Global, depth: u8) -> Said {
+/// What was tried for a claim, and what ran out.
+fn tried_text(alloc: Global, depth: u8, ran_out: Option<RanOut>) -> Said {
     if depth == 0 {
         return String::from_str(alloc, "the one tree without a split doesn't prove it");
     }
     let splits = count_text(alloc, depth as usize, "split")?;
-    format!(in alloc; "no tree with at most {splits} on each path was found within 100,000 leaves")
+    match ran_out {
+        Some(RanOut::Trees) => {
+            String::from_str(alloc, "no tree proves it, however many splits it has")
+        }
+        Some(RanOut::Leaves) => format!(in alloc;
+            "no tree with at most {splits} on each path was found within the 100,000 leaves that are tried"
+        ),
+        _ => format!(in alloc; "no tree with at most {splits} on each path proves it"),
+    }
+}
+
+/// What may be tried next for a claim.
+fn next_text(ran_out: Option<RanOut>, depth: u8) -> &'static str {
+    match ran_out {
+        Some(RanOut::Depth) if depth < MOST_SPLITS => {
+            "a claim that isn't found may be true: try a greater `--depth`, at most 6, or `refute`, which looks for a run in which a claim fails\n"
+        }
+        _ => {
+            "a claim that isn't found may be true: `refute` looks for a run in which a claim fails\n"
+        }
+    }
+}
+
+/// What ran out for the claim of this number.
+fn ran_out_for(
+    alloc: Global,
+    document: &Document,
+    depth: u8,
+    number: usize,
+) -> Result<Option<RanOut>, AllocError>
+    requires claims { All (Fits document.now.graph.graph) document.now.claims.items }
+    requires depth { depth ≤ 6 }
+{
+    let at = number.saturating_sub(1);
+    if at >= document.claims.len() {
+        return Ok(None);
+    }
+    ran_out(alloc, &document.graph, &document.claims, at, depth)
 }
 
 /// Why no certificate was found.
@@ -89,13 +136,13 @@ pub(crate) fn not_found_text(alloc: Global, document: &Document, depth: u8, numb
 {
     let graph = &document.graph;
     let claim = claim_text(alloc, graph, &document.claims, number)?;
-    let tried = tried_text(alloc, depth)?;
+    let ran_out = ran_out_for(alloc, document, depth, number)?;
+    let tried = tried_text(alloc, depth, ran_out)?;
     let obstacle = match document.claims.get(number.saturating_sub(1)) {
         Some(claim) => obstacle_text(alloc, graph, claim)?,
         None => String::new(alloc),
     };
     let each = each_text(alloc, document, depth)?;
-    format!(in alloc;
-        "{claim}: {tried}\n{obstacle}{each}a claim that isn't found may be true: try a greater `--depth`, at most 6, or `refute`, which looks for a run in which a claim fails\n"
-    )
+    let next = next_text(ran_out, depth);
+    format!(in alloc; "{claim}: {tried}\n{obstacle}{each}{next}")
 }
