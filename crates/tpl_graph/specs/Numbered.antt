@@ -88,7 +88,7 @@ graph_in n d = record {
 abbrev pub numbered : Draft → Named
 numbered d = record { graph = graph_in (names_of d) d; names = names_of d }
 
--- as many names as ids can number
+-- there are no more names than ids can number
 pub record AreFew (n : Names) : Type 0 where
   pub inputs : length n.inputs ≤ 16
   pub tokens : length n.tokens ≤ 32

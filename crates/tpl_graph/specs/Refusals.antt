@@ -138,7 +138,7 @@ exceeds t x = (nat_eq t 1024 || nat_lt 256 (length (waits_for x.kind))) || (nat_
 abbrev pub site_total : List Task → ℕ
 site_total tasks = sum_by (λ (x : Task). site_count (worked x.kind).body) tasks
 
--- refusals of the lists of inputs and tokens
+-- a refusal applies to the lists of inputs and tokens
 abbrev pub in_lists : Draft → Why → Bool
 in_lists d why.TooMany = (nat_lt 16 (length d.inputs) || nat_lt 32 (length d.tokens)) || list_any (λ (k : Token). nat_lt 32 (length (linked_to k.linked))) d.tokens
 in_lists d why.BadName = list_any is_bad_name (names_of d).inputs || list_any is_bad_name (names_of d).tokens
@@ -147,7 +147,7 @@ in_lists d why.Unknown = list_any (λ (k : Token). list_any (lacks (names_of d).
 in_lists d why.LinkPlace = some_misplaced 0 (graph_in (names_of d) d).tokens
 in_lists d w = false
 
--- refusals of the t-th task
+-- a refusal applies to the t-th task
 abbrev pub in_task : Draft → Why → ℕ → Task → Bool
 in_task d why.TooMany t x = exceeds t x || nat_lt 256 (site_total (take (suc t) d.tasks))
 in_task d why.BadName t x = is_bad_name x.name || list_any says_bad_name (statements_in x)
@@ -218,6 +218,6 @@ pub record IsLeast (d : Draft) (f : GraphFault) : Type 0 where
   pub least : (w : Why) (at : ℕ) → number w < number f.why → applies d w at ≡ false
   pub earliest : (at : ℕ) → at < f.at → applies d f.why at ≡ false
 
--- want of memory, at 0, or else the least refusal
+-- the answer is out of memory, at 0, or else the least refusal
 abbrev pub Refuses : Draft → GraphFault → Type 0
 Refuses d f = ((f.why ≡ why.Memory) × (f.at ≡ 0)) ⊎ IsLeast d f

@@ -67,7 +67,7 @@ impl DraftBody {
         DraftBody { list }
     }
 
-    /// The statements of the list itself.
+    /// The statements, in the order of the text; those of a branch stand inside it.
     pub fn list(&self) -> &[DraftStmt]
         ensures { self.now ≡ lines_of result.now }
     {

@@ -29,12 +29,12 @@ abbrev pub is_outside : Actor → Bool
 is_outside (Outside seat) = true
 is_outside (Worker n) = false
 
--- it was this actor
+-- the first actor, if there is one, is the second
 abbrev pub is_by : Option Actor → Actor → Bool
 is_by None actor = false
 is_by (Some by) actor = same_actor by actor
 
--- where a task stands
+-- the status is WaitingForActivation
 abbrev pub is_inactive : Status → Bool
 is_inactive WaitingForActivation = true
 is_inactive status = false
@@ -68,7 +68,7 @@ begins_on (Worker n) (Some worker) = nat_eq n.0 worker
 abbrev pub runs_on : TaskGraph → List Bool → List Event → Actor → ℕ → Bool
 runs_on g v h actor t = has_task g t && (is_by (begun h t) actor && is_running (status g v h t))
 
--- the antecedent has ended in a way that the options allow, or don't
+-- the antecedent has ended in a way that the options allow
 abbrev pub allowed_end : ℕ → Option Final → Bool
 allowed_end options None = false
 allowed_end options (Some f) = allows options f
@@ -90,7 +90,7 @@ abbrev pub may_cancel : TaskGraph → List Bool → List Event → ℕ → TaskK
 may_cancel g v h c (Continues a) = not (lazy_cancellation (options g c)) || is_some (final g v h a)
 may_cancel g v h c kind = false
 
--- a task is canceled before it begins
+-- a task may be canceled before it begins
 abbrev pub may_drop : TaskGraph → List Bool → List Event → ℕ → Bool
 may_drop g v h t =
     (is_ready (status g v h t) && token_requested g v h t)
@@ -152,14 +152,14 @@ abbrev pub some_parent : Option ℕ → (ℕ → Bool) → Bool
 some_parent None test = false
 some_parent (Some p) test = test p
 
--- t has ended, or is a child that isn't started, and the same of its parent, n times at most
+-- t has ended, or is a child that isn't started and whose parent is settled; the walk looks at most n parents up
 abbrev pub settled_within : TaskGraph → List Bool → List Event → ℕ → ℕ → Bool
 settled_within g v h zero t = is_some (ending g v h t)
 settled_within g v h (suc n) t =
     is_some (ending g v h t)
     || (is_child (kind g t) && (not (started g v h t) && some_parent (parent_of g t) (settled_within g v h n)))
 
--- a parent is declared before its child, so there are no more than t steps up
+-- t is settled: a parent is declared before its child, so the walk takes no more than t steps up
 abbrev pub is_settled : TaskGraph → List Bool → List Event → ℕ → Bool
 is_settled g v h t = settled_within g v h t t
 
@@ -167,7 +167,7 @@ abbrev pub all_below : (ℕ → Bool) → ℕ → Bool
 all_below test zero = true
 all_below test (suc n) = test n && all_below test n
 
--- each task that is no child, and each started child, has ended
+-- the task has ended, or doesn't have to: it is a child that isn't started
 abbrev pub has_ended : TaskGraph → List Bool → List Event → ℕ → Bool
 has_ended g v h t = implies (to_end (kind g t) (started g v h t)) (is_some (ending g v h t))
 

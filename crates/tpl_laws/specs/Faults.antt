@@ -15,23 +15,23 @@ use Rattle.tpl_model.specs.declared.fault.CertFault.{CertFault}
 use Rattle.tpl_model.specs.declared.fault.CertFault.TheVariants.{Shape, NotClosed, ClaimNot}
 use Rattle.tpl_laws.specs.Verdict.{past_rule, LeafFault, Breaks, ProvesNot, verdict}
 
--- the rules for one row, each by itself
+-- the row of t keeps K1
 abbrev pub Runs : TaskGraph → Assumed → List Row → ℕ → Type 0
 Runs g l rows t = RunsRule g l rows t (kind g t)
 
--- the second rule
+-- the row of t keeps K2
 abbrev pub Ends : TaskGraph → Assumed → List Row → ℕ → Type 0
 Ends g l rows t = (f : Final) → l.cut t f ≡ true → MayEndAs g l rows t (kind g t) f → has (row rows t).ends f ≡ true
 
--- the third rule
+-- the row of t keeps K3
 abbrev pub Before : TaskGraph → Assumed → List Row → ℕ → Type 0
 Before g l rows t = (row rows t).runs ≡ true → (x : ℕ) → mem x (row rows t).before ≡ true → BeforeRule g rows t (kind g t) x
 
--- the fourth and the fifth rule
+-- the row of t keeps K4 and K5
 abbrev pub Past : TaskGraph → Assumed → List Row → ℕ → Type 0
 Past g l rows t = (x : ℕ) → mem x (row rows t).past ≡ true → PastRule g l rows t (kind g t) x
 
--- the sixth rule
+-- the row of t keeps K6
 abbrev pub Chain : TaskGraph → Assumed → List Row → ℕ → Type 0
 Chain g l rows t = ChainRule g l rows t (row rows t).chain
 
@@ -113,7 +113,7 @@ FirstMisfits g [] [] = ⊥
 FirstMisfits g (claim ∷ claims) (tree ∷ trees) = HasShape g tree → ⊥
 FirstMisfits g claims trees = Unit {0}
 
--- the same of one of these claims or trees, and those before it have their shape
+-- one of these claims has no tree of that shape, or one of these trees no claim, and those before it have their shape
 pub record Misfits (g : TaskGraph) (n : ℕ) (claims : List Claim) (trees : List Tree) (fault : CertFault) : Type 0 where
   pub earlier_claims : List Claim
   pub later_claims : List Claim

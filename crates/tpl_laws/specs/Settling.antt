@@ -1,4 +1,4 @@
--- Where a task begins, what was settled before, told by the whole run.
+-- What was settled where a task begins, found from the whole run.
 use Rattle.std.specs.Prelude.{◌≡◌, ℕ, suc, ◌<◌, ◌++◌, ◌↔◌, Bool, true, false, Some, None, List, ◌∷◌, length}
 use Rattle.tpl_model.specs.Graph.{TaskGraph, IsParent}
 use Rattle.tpl_model.specs.declared.event.Event.{Event}

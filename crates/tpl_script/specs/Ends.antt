@@ -39,7 +39,7 @@ only_if possible a = record {
   acknowledged = possible && a.acknowledged;
 }
 
--- an observation is avoided, unless paths may pass it
+-- the statement is avoided: it observes, and paths may not pass an observation
 abbrev pub avoided : Bool → Statement → Bool
 avoided past_observe s = is_observation s && not past_observe
 
@@ -51,7 +51,7 @@ ends_in past_observe w b = record {
   acknowledged = stops (avoided past_observe) is_acknowledgement w b;
 }
 
--- the same of one statement
+-- what the paths through one statement do: go on, return, throw, acknowledge
 abbrev pub ends_at : Bool → Known → Statement → Ends
 ends_at past_observe w s = let kept = not (avoided past_observe s) in record {
   goes_on = kept && passes_by (avoided past_observe) w s;

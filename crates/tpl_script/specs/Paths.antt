@@ -13,7 +13,7 @@ abbrev pub is_own : Option ℕ → ℕ → Bool
 is_own None k = false
 is_own (Some own) k = nat_eq own k
 
--- a check of a requested token: the own one acknowledges the cancellation, another one throws (guide: task cancellation)
+-- the outcome of a check of a requested token: the own one acknowledges the cancellation, another one throws (guide: task cancellation)
 abbrev pub cancellation : Option ℕ → ℕ → Outcome
 cancellation own k = if is_own own k then Acknowledged else Threw (OperationCanceled (record { 0 = k }))
 
@@ -92,6 +92,6 @@ MayThrow w body = (label : Label) × MayEnd w body (Threw label)
 abbrev pub MayStartChild : Known → Statements → ℕ → Type 0
 MayStartChild w body c = (passed : List Statement) × (outcome : Option Outcome) × Path w body passed outcome × (passes_start c passed ≡ true)
 
--- each path that ends with a outcome passes Observe
+-- each path that ends with an outcome passes Observe
 abbrev pub MustObserve : Known → Statements → Type 0
 MustObserve w body = (passed : List Statement) (outcome : Outcome) → Path w body passed (Some outcome) → passes_observe passed ≡ true

@@ -8,7 +8,7 @@ use Rattle.tpl_script.specs.declared.outcome.Outcome.TheVariants.{Returned, Thre
 use Rattle.tpl_script.specs.Statements.{Statement, Return, Throw, Check, Cancel, Start, Observe, Work, If, When, Statements, Nothing, ◌⨾◌}
 use Rattle.tpl_script.specs.Paths.{cancellation, Known, Path, is_observation, MayStartChild, MustObserve}
 
--- some end of the subject other than f is possible
+-- the subject may have ended in another way than f
 abbrev pub another : Known → Final → Bool
 another w RanToCompletion = w.subject Canceled || w.subject Faulted
 another w Canceled = w.subject RanToCompletion || w.subject Faulted

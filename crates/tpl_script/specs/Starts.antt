@@ -19,11 +19,11 @@ start_if possible a = record { goes_on = possible && a.goes_on; started = possib
 abbrev pub start_in : ℕ → Known → Statements → Starts
 start_in c w b = record { goes_on = gets_through none w b; started = reaches c w b }
 
--- the same of one statement
+-- what the paths through one statement do: go on, start the child
 abbrev pub start_at : ℕ → Known → Statement → Starts
 start_at c w s = record { goes_on = passes_by none w s; started = reaches_in c w s }
 
--- of the 1,024 tasks that a set can hold, those that pass the test are added to it
+-- the new set is the old one with those of the 1,024 tasks that pass the test
 pub record Adds (old new : List ℕ) (test : ℕ → Bool) : Type 0 where
   pub members : (x : ℕ) → mem x new ≡ (mem x old || (nat_lt x 1024 && test x))
   pub set : IsTaskSet old → IsTaskSet new

@@ -13,16 +13,16 @@ use crate::verdict::Verdicts;
 use crate::view::View;
 use tpl_words::TokenId;
 
-/// What the paths through some statements come to.
+/// What the paths through some statements do.
 #[derive(Clone, Copy)]
 struct Ends {
-    /// One goes on behind them.
+    /// Some path goes on behind them.
     goes_on: bool,
-    /// One returns in them.
+    /// Some path returns in them.
     returned: bool,
-    /// One throws in them.
+    /// Some path throws in them.
     thrown: bool,
-    /// One acknowledges a cancellation in them.
+    /// Some path acknowledges a cancellation in them.
     acknowledged: bool,
 }
 
