@@ -41,7 +41,7 @@ fn separator(number: usize) -> &'static str {
     if number == 0 { "" } else { "," }
 }
 
-/// The names of so many tasks from a first one on.
+/// The names of this many tasks from a first one on.
 fn push_names(
     alloc: Global,
     text: &mut String,

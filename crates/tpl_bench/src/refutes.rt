@@ -42,7 +42,7 @@ const TRUE: u8 = 0;
 
 const FALSE: u8 = 3;
 
-/// How many claims of a document are refuted by so many runs for each.
+/// How many claims of a document are refuted by this many runs for each.
 fn refuted(rt: &HostRuntime, read: &Document, runs: u32) -> io::Result<usize>
     requires { All (Fits read.now.graph.graph) read.now.claims.items }
 {

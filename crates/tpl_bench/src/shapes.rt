@@ -154,7 +154,7 @@ fn tokens(alloc: Global, shape: Shape) -> Result<Vec<DraftToken>, AllocError> {
     Ok(tokens)
 }
 
-/// A graph of so many tasks.
+/// A graph of this many tasks.
 pub fn of_tasks(alloc: Global, shape: Shape, count: usize) -> Result<Draft, AllocError> {
     let mut tasks = Vec::new(alloc);
     for number in 0..count {

@@ -51,7 +51,7 @@ impl Assumptions {
         }
     }
 
-    /// The same again.
+    /// A copy.
     pub fn copy(&self) -> Assumptions
         ensures { result ≡ self.now }
     {

@@ -19,7 +19,7 @@ pub(crate) fn row(rows: &[Row], task: TaskId) -> &Row
     &rows[task.0 as usize]
 }
 
-/// There is a way to end among these.
+/// The set of ways to end isn't empty.
 pub fn some_end(finals: Finals) -> bool
     ensures { result ≡ some_end (has finals) }
 {
@@ -48,7 +48,7 @@ pub fn excluded(finals: Finals, options: Options) -> Finals
     }
 }
 
-/// Where the condition holds, so does the other.
+/// Where the first is true, so is the second.
 pub(crate) fn implies(condition: bool, other: bool) -> bool
     ensures { result ≡ implies condition other }
 {

@@ -20,13 +20,13 @@ use tpl_report::Form;
 pub enum Line {
     /// Check the certificate of a document.
     Check,
-    /// Search a certificate of a document's claims with at most so many splits on each path, 0 to 6.
+    /// Search a certificate of a document's claims with at most this many splits on each path, 0 to 6.
     Analyse(u8),
     /// Search a certificate of this form.
     AnalyseIn(u8, Form),
     /// Search a certificate of this form, and write the document with it.
     Certify(u8, Form),
-    /// Make a run of a document by so many workers, 1 to 64.
+    /// Make a run of a document by this many workers, 1 to 64.
     Run(u16),
     /// Audit the journal of a document.
     Audit,
@@ -196,7 +196,7 @@ pub fn line_of<'a>(alloc: Global, words: &'a [&'a str]) -> Result<Line, LineFaul
     ensures named { IfOk result (Names (map (λ word. word.now) words.entry.now)) }
     ensures limit { IfOk result IsWithin }
 
-    // Words that the command line takes are refused for want of memory alone.
+    // Words that the command line takes are refused only where memory ran out.
     ensures taken { let texts = map (λ word. word.now) words.entry.now in
         takes taskgraph texts ≡ true → (line : Line) → Names texts line
         → MatchResult result (λ found. found ≡ line) (λ fault. fault ≡ LineFault.Memory) }

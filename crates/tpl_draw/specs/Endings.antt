@@ -29,7 +29,7 @@ abbrev pub ends : List Tree → ℕ → Finals
 ends [] t = no_ends
 ends (tree ∷ trees) t = either (tree_ends tree t) (ends trees t)
 
--- the same for each of so many tasks
+-- how each of the first n tasks may end by the trees
 abbrev pub endings : List Tree → ℕ → List Finals
 endings trees n = below (λ t. ends trees t ∷ []) n
 

@@ -17,7 +17,7 @@ mermaid_mark false true false = codes ":::canceled"
 mermaid_mark false false true = codes ":::faulted"
 mermaid_mark false false false = []
 
--- the same in DOT, as the colour of the class
+-- the colour of a task in DOT, by whether it may run to completion, be canceled, fault; that of its class in Mermaid
 abbrev pub dot_mark : (ran canceled faulted : Bool) → List ℕ
 dot_mark true true true = codes ", style=filled, fillcolor=\"#e0d0ec\""
 dot_mark true true false = codes ", style=filled, fillcolor=\"#fff8d0\""

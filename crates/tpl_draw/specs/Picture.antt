@@ -36,7 +36,7 @@ mermaid_node kinds.Then name mark = codes "  t_" ++ (name ++ (codes "([\"" ++ (n
 mermaid_node kinds.All name mark = codes "  t_" ++ (name ++ (codes "{{\"" ++ (name ++ (codes "<br/>all\"}}" ++ (mark ++ codes "\n")))))
 mermaid_node kinds.Any name mark = codes "  t_" ++ (name ++ (codes "{\"" ++ (name ++ (codes "<br/>any\"}" ++ (mark ++ codes "\n")))))
 
--- the same in DOT
+-- the node of a task in DOT, whose shape says its kind, and its mark how it may end
 abbrev pub dot_node : Kind → (name mark : List ℕ) → List ℕ
 dot_node kinds.Root name mark = codes "  t_" ++ (name ++ (codes " [label=\"" ++ (name ++ (codes "\\nroot\", shape=box" ++ (mark ++ codes "];\n")))))
 dot_node kinds.Child name mark = codes "  t_" ++ (name ++ (codes " [label=\"" ++ (name ++ (codes "\\nchild\", shape=Mrecord" ++ (mark ++ codes "];\n")))))
@@ -99,7 +99,7 @@ label_of Link from to = codes "linked"
 abbrev pub label : TaskGraph → Edge → List ℕ
 label g e = label_of e.tie (options g e.from) (options g e.to)
 
--- the picture's end of an edge is a token's node, or a task's
+-- an edge of this sort begins at a token's node, and not at a task's
 abbrev pub begins_at_token : Tie → Bool
 begins_at_token Own = true
 begins_at_token Link = true
@@ -110,7 +110,7 @@ ends_at_token Cancel = true
 ends_at_token Link = true
 ends_at_token tie = false
 
--- the node of a token or a task: its name, behind what tells tokens from tasks
+-- what stands before a name in its node: one text for tokens, another for tasks
 abbrev pub sort_word : Bool → List ℕ
 sort_word true = codes "k_"
 sort_word false = codes "t_"

@@ -7,7 +7,7 @@ pub enum Asked {
     Check,
     /// A run of the document.
     Run,
-    /// A certificate with at most so many splits on each path.
+    /// A certificate with at most this many splits on each path.
     Analyse(u8),
     /// Whether the document's journal is a run, whether it is complete, and which claim fails.
     Audit,

@@ -33,7 +33,7 @@ pub(crate) fn inputs_of(document: &Document) -> Option<Inputs>
     }
 }
 
-/// The reason of a verdict on the journal, if it has one. Want of memory has none.
+/// The reason of a verdict on the journal, if it has one. Out of memory has none.
 fn verdict_reason(document: &Document, verdict: Verdict) -> Result<Option<Reason>, AllocError>
     requires audited { IsAudited (doc_of document.now) verdict }
     ensures some { IfOk result (λ o. IfSome o (IsAuditReason (doc_of document.now))) }

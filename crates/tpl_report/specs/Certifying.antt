@@ -16,7 +16,7 @@ use Rattle.tpl_report.specs.Documents.{ToDocument}
 use Rattle.tpl_report.specs.Checking.{ClaimsHold}
 use Rattle.tpl_report.specs.Finding.{written_trees, IsTakenBack, IsNotFound}
 
--- The trees are a certificate of this form with at most so many splits on each path, which is accepted
+-- The trees are a certificate of this form with at most this many splits on each path, which is accepted
 -- for the document's claims.
 pub record AreFound (depth : ℕ) (form : Form) (doc : DocumentValue) (trees : List Tree) : Type 0 where
   pub accepted : Accepts doc.graph.graph doc.claims trees

@@ -23,7 +23,7 @@ refused_claim claim leaf = codes "refused: claim " ++ (decimal claim ++ (codes "
 abbrev pub not_found : ℕ → List ℕ
 not_found claim = codes "not found: claim " ++ (decimal claim ++ codes "\n")
 
--- whether each task has ended
+-- the line that says whether each task has ended
 abbrev pub ended : Bool → List ℕ
 ended true = codes "run complete\n"
 ended false = codes "run not complete\n"

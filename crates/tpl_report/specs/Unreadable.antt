@@ -1,4 +1,4 @@
--- The words for what is wrong with a document. Want of memory has none: it is told apart.
+-- The words for what is wrong with a document. Out of memory has none: it has a line and an exit of its own.
 use Rattle.std.specs.Prelude.{◌≡◌, ℕ, List, Option, Some, None, codes}
 use Rattle.tpl_graph.specs.declared.fault.OptionsFault.{OptionsFault}
 use Rattle.tpl_graph.specs.declared.fault.OptionsFault.TheVariants as options
@@ -53,7 +53,7 @@ start_word start.Unknown = codes "Unknown"
 start_word start.Missing = codes "Missing"
 start_word start.FailNot = codes "FailNot"
 
--- the line for a part that hasn't its form
+-- the line for a part of the wrong shape
 abbrev pub shape_text : Part → List ℕ
 shape_text part.Top = unreadable (codes "shape top")
 shape_text (part.Task n) = unreadable_at (codes "shape task") n

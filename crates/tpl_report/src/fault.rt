@@ -6,7 +6,7 @@ ghost use Rattle.tpl_report.specs.RunTexts.{fault_line};
 use std::alloc::AllocError;
 use tpl_runtime::{CloseWhy, OpenWhy, RunWhy, SeatFault};
 
-/// Why a run couldn't be opened, made or closed, want of memory aside.
+/// Why a run couldn't be opened, made or closed, out of memory aside.
 #[derive(Clone, Copy, PartialEq, Eq, Debug)]
 pub enum RunFault {
     /// A work statement has no item.

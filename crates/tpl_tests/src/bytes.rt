@@ -35,7 +35,7 @@ fn padded(alloc: Global, text: &str, length: usize) -> Result<Vec<u8>, AllocErro
     Ok(bytes)
 }
 
-/// A document of so many tasks.
+/// A document of this many tasks.
 fn tasks(alloc: Global, count: usize) -> Result<String, AllocError> {
     let mut text = String::from_str(alloc, "{\"version\":1,\"tasks\":[")?;
     for number in 0..count {
@@ -58,7 +58,7 @@ fn made_answer(alloc: Global, kind: &str, count: usize, text: &str) -> Result<St
     }
 }
 
-/// What is answered to a document of these bytes, to one with so many spaces behind it, or to one of so many tasks.
+/// What is answered to a document of these bytes, to one with this many spaces behind it, or to one of this many tasks.
 pub fn bytes_answer(alloc: Global, question: &str) -> Result<String, AllocError> {
     let (kind, rest) = question.split_once(' ').unwrap_or((question, ""));
     if kind == "bytes" {

@@ -74,7 +74,7 @@ fn changed(
     }
 }
 
-/// Compares what is found of so many texts with what is to be found.
+/// Compares what is found of this many texts with what is to be found.
 fn compare(
     alloc: Global,
     document: &Document,
@@ -115,7 +115,7 @@ fn of_text(alloc: Global, tally: Tally, texts: usize) -> Result<String, AllocErr
     String::from_str(alloc, "as the plain machine")
 }
 
-/// What comes of so many texts, made of the journal of a run by chance.
+/// What comes of this many texts, made of the journal of a random run.
 fn of_document(
     alloc: Global,
     document: &Document,

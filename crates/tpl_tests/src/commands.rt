@@ -274,7 +274,7 @@ fn fronts_answer<T: Threads + Wait + Sync>(
     format!(in alloc; "{} fronts, {wrong} wrong", bytes.len())
 }
 
-/// How the command ends where so many spaces come.
+/// How the command ends where this many spaces come.
 fn spaces_answer<T: Threads + Wait + Sync>(
     rt: &T,
     alloc: Global,

@@ -35,7 +35,7 @@ fn comes_back(
     }
 }
 
-/// How many of so many runs come back, and how many events the longest has.
+/// How many of this many runs come back, and how many events the longest has.
 fn count(
     alloc: Global,
     document: &Document,
@@ -55,7 +55,7 @@ fn count(
     Ok((back, longest))
 }
 
-/// How many of so many runs by chance come back.
+/// How many of this many random runs come back.
 fn of_document(
     alloc: Global,
     document: &Document,

@@ -153,7 +153,7 @@ pub enum Closing {
     OtherWatcher,
 }
 
-/// Whether a session was refused so, with a journal of so many events.
+/// Whether a session was refused so, with a journal of this many events.
 fn refused<K: Drop, W: Drop>(
     closed: Result<Report<K, W>, CloseFault<K, W>>,
     why: CloseWhy,

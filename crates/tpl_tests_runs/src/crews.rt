@@ -56,7 +56,7 @@ pub fn looks<'g, R: Wait, K: Drop, W: Item<K>>(
     Ok(list)
 }
 
-/// How a session is run: by so many workers, with these inputs, once these tokens are requested.
+/// How a session is run: by this many workers, with these inputs, once these tokens are requested.
 #[derive(Clone, Copy)]
 pub struct Play<'a> {
     pub workers: u16,
@@ -178,7 +178,7 @@ pub fn run_by<'g, R: Threads + Wait + Sync, K: Drop + Send, W: Item<K> + Send>(
     }
 }
 
-/// The run is complete, each task ran to its end, each item was called, and there are so many events.
+/// The run is complete, each task ran to its end, each item was called, and there are this many events.
 pub fn all_ran<K, W>(graph: &Graph, report: &Report<K, W>, events: Length) -> bool {
     let counted = match events {
         Some(events) => report.journal.len() == events,

@@ -218,7 +218,7 @@ fn tokens(alloc: Global) -> Result<Vec<DraftToken>, AllocError> {
     Ok(vec![in alloc; first, second, last]?)
 }
 
-/// A graph of so many tasks by chance. Not each one is valid.
+/// A graph of this many tasks by chance. Not each one is valid.
 pub fn draft(alloc: Global, dice: &mut Dice, count: usize) -> Result<Draft, AllocError> {
     let mut sorts = Vec::new(alloc);
     for _ in 0..count {

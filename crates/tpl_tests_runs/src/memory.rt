@@ -40,7 +40,7 @@ struct Crew<W> {
     ran: bool,
 }
 
-/// A seat outside after one that was refused for want of memory: its actor is free still.
+/// A seat outside after one that was refused since memory ran out: its actor is free still.
 fn seat_again<'g, R: Wait, K: Drop, W: Item<K>>(
     rt: &R,
     alloc: Global,
@@ -334,7 +334,7 @@ fn plays<R: Print + Threads + Wait + Sync, K: Drop + Send, W: Item<K> + Send>(
     closes(rt, alloc, graph, session, crew, watchers)
 }
 
-/// Whether a session wasn't opened for want of memory, and all items come back.
+/// Whether a session wasn't opened since memory ran out, and all items come back.
 fn is_refused<W>(graph: &Graph, fault: &OpenFault<W>) -> bool {
     fault.items.len() == graph.site_count() && fault.why == OpenWhy::Memory
 }

@@ -84,7 +84,7 @@ fn refuses_given(
     refuses(alloc, graph, items, given, why)
 }
 
-/// The session doesn't run so many workers, for this reason.
+/// The session doesn't run this many workers, for this reason.
 fn refuses_to_run<R: Threads + Wait + Sync, K: Drop + Send, W: Item<K> + Send>(
     rt: &R,
     alloc: Global,

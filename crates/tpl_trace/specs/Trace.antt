@@ -93,22 +93,22 @@ marks n (Drop t) track time past later =
 marks n (Settle t) track time past later =
     instant (codes "settle") (task_name n.names t) track time ∷ arrows n.graph t.0 track time (suc time) later
 
--- those of an event, on its actor's track and at its place; before the first one on a track stands the track's name
+-- the entries of an event, on its actor's track and at its place; before the first one on a track stands the track's name
 abbrev pub event_marks : Named → (past : List Event) → Event → (later : List Event) → List Data
 event_marks n past e later = new_track past e.actor ++ marks n e.act (track_of e.actor) (suc (length past)) past later
 
--- those of each of the later events
+-- the entries of each of the later events
 abbrev pub marks_from : Named → (past later : List Event) → List Data
 marks_from n past [] = []
 marks_from n past (e ∷ later) = event_marks n past e later ++ marks_from n (past ++ (e ∷ [])) later
 
--- the name of the process, and the entries of each event
+-- the whole trace: the name of the process, and the entries of each event
 abbrev pub entries : Named → List Event → List Data
 entries n h = process_mark (codes "taskgraph") ∷ marks_from n [] h
 
 abbrev pub trace_data : Named → List Event → Data
 trace_data n h = object (member (codes "traceEvents") (array (items_of (entries n h))) no_members)
 
--- one line
+-- the trace of these events as a text of one line
 abbrev pub trace_text : Named → List Event → List ℕ
 trace_text n h = compact_text (trace_data n h) ++ codes "\n"
