@@ -60,7 +60,7 @@ fn one_by_one<C: Core>(core: &mut C, statements: usize) {
     }
 }
 
-/// The same act of each task.
+/// Does the same act in each task.
 fn each_task<C: Core, F: Fn(TaskId) -> Act>(core: &mut C, act: F)
     requires { F.IsAlwaysCallable act }
 {

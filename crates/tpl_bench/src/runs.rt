@@ -91,7 +91,7 @@ fn quickest<R: Threads + Wait + Sync + Clock>(
     Ok(best)
 }
 
-/// This many in this time, in a second.
+/// How many in a second, where this many took this time.
 fn a_second(count: usize, time: Duration) -> u128 {
     (count as u128) * 1_000_000_000 / time.as_nanos().max(1)
 }

@@ -20,7 +20,7 @@ true_claim = claim (ends_in 0 any_end)
 abbrev pub true_given : List Given → List Claim
 true_given facts = given_that facts (ends_in 0 any_end)
 
--- what is said of one leaf for a graph
+-- the verdict on one leaf for a graph
 abbrev pub said : TaskGraph → List Row → Result (Unit {0}) CertFault
 said g rows = verdict g true_claim (leaf rows)
 
@@ -269,7 +269,7 @@ ProvingOwnFault =
     (verdict (plain (root starts_child ∷ child throws 4 ∷ [])) (claim (is_observed 0)) (leaf (ends ran_or_faulted ∷ ends faulted ∷ [])) ≡ Ok tt)
     × (verdict (plain (root starts_child ∷ child throws 4 ∷ [])) (claim (is_observed 1)) (leaf (ends ran_or_faulted ∷ ends faulted ∷ [])) ≡ Err (ClaimNot 1 1))
 
--- one tree for each claim, one row for each task, and no id that isn't the graph's; the first claim without is named
+-- one tree for each claim, one row for each task, and no id that isn't the graph's; the first claim without one is named
 abbrev pub one : TaskGraph
 one = plain (root ret ∷ [])
 

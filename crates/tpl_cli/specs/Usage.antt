@@ -11,7 +11,7 @@ no_command = on_top (λ s. record s { subcommand_required = true; has_version = 
 abbrev pub check_command : App
 check_command = with_rule (new_app (codes "check")) explain_rule
 
--- `analyse` with the options for which certificate is searched
+-- `analyse` with the options for which certificate is wanted
 abbrev pub searched : App
 searched = with_rule (with_rule (with_rule (new_app (codes "analyse")) depth_rule) slim_rule) whole_rule
 

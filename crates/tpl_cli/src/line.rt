@@ -20,18 +20,18 @@ use tpl_report::Form;
 pub enum Line {
     /// Check the certificate of a document.
     Check,
-    /// Search a certificate of a document's claims with at most this many splits on each path, 0 to 6.
+    /// Search for a certificate of a document's claims with at most this many splits on each path, 0 to 6.
     Analyse(u8),
-    /// Search a certificate of this form.
+    /// Search for a certificate of this form.
     AnalyseIn(u8, Form),
-    /// Search a certificate of this form, and write the document with it.
+    /// Search for a certificate of this form, and write the document with it.
     Certify(u8, Form),
     /// Make a run of a document by this many workers, 1 to 64.
     Run(u16),
     /// Audit the journal of a document.
     Audit,
-    /// Search a run in which a claim doesn't hold: the claim, 1 to 64, or each; how many runs are tried for it, at most
-    /// 1,000,000; where the random numbers begin; and whether lines are asked for on the standard error.
+    /// Search for a run in which a claim doesn't hold: the claim, 1 to 64, or each; how many runs are tried for it, at
+    /// most 1,000,000; where the random numbers begin; and whether lines are asked for on the standard error.
     Refute(Option<u8>, u32, u32, bool),
     /// Draw the graph of a document in this language.
     Draw(Language),

@@ -76,7 +76,7 @@ EmptyBody =
 abbrev pub nothing_happened : List Event
 nothing_happened = []
 
--- a root waits to run, and any worker begins it; the outside begins nothing, and nobody begins a task that the graph hasn't
+-- a root waits to run, and any worker begins it; the outside begins nothing, and nobody begins a task that the graph doesn't have
 abbrev pub RootOpensReady : Type 0
 RootOpensReady =
     (status empty_graph [] nothing_happened 0 ≡ WaitingToRun)

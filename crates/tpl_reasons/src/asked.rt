@@ -11,10 +11,10 @@ pub enum Asked {
     Analyse(u8),
     /// Whether the document's journal is a run, whether it is complete, and which claim fails.
     Audit,
-    /// A picture of the document's journal, where that is a run.
+    /// The trace of the document's journal, where that is a run.
     Trace,
     /// Whether anything is claimed.
     Claims,
-    /// Something that says more than a line, where the document can be read.
+    /// Something whose answer needs no reason, where the document can be read.
     Other,
 }

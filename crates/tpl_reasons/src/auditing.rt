@@ -71,7 +71,7 @@ pub(crate) fn audit_reason(alloc: Global, document: &Document) -> Result<Option<
     }
 }
 
-/// Why the journal isn't drawn.
+/// Why there is no trace of the journal.
 pub(crate) fn trace_reason(alloc: Global, document: &Document) -> Result<Option<Reason>, AllocError>
     requires claims { All (Fits document.now.graph.graph) document.now.claims.items }
     ensures some { IfOk result (λ o. IfSome o (IsTraceReason (doc_of document.now))) }

@@ -36,8 +36,8 @@ fn way_of(run: u32) -> (Way, usize) {
     }
 }
 
-/// Searches a run of the graph in which the claim fails, by random runs, and leaves out of it what isn't needed. Where
-/// none is found there may be one. Out of memory is the only error.
+/// Searches for a run of the graph in which the claim fails, by random runs, and leaves out of it what isn't needed.
+/// Where none is found there may be one. Out of memory is the only error.
 ///
 /// Each run is drawn in one of two ways in turn: whoever may act has a random priority, and the priority of who acts
 /// drops at up to four random places (probabilistic concurrency testing: Burckhardt, Kothari, Musuvathi, Nagarakatte,

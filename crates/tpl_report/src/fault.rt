@@ -15,7 +15,7 @@ pub enum RunFault {
     ItemStrange,
     /// A work statement has two items.
     ItemTwice,
-    /// An item says another thing of its failing than the graph.
+    /// An item may fail where its work statement may not, or the other way round.
     MayFailDiffers,
     /// A worker has a number that none can have.
     BadActor,

@@ -24,7 +24,7 @@ pub trait Command {
             answers self.now bytes.now given.exit (string_bytes given.text)) };
 }
 
-/// Reads a document whole. Where that can't be, its line is written and its exit answered.
+/// Reads a document whole. Where that fails, the line for it is written and its exit returned.
 pub fn read_input<R: Read, W: Write>(
     alloc: Global,
     from: &mut Counting<R>,

@@ -43,7 +43,7 @@ fn requests(document: &Document) -> &[TokenId]
     }
 }
 
-/// What is written of a session's report.
+/// The values of a session's report that are written.
 fn told<'a, K: Drop, W: Drop>(report: &'a Report<K, W>) -> Told<'a>
     ensures { said result ≡ told report.now }
 {

@@ -22,7 +22,7 @@ fn options_word(fault: OptionsFault) -> &'static str
     }
 }
 
-/// What is wrong with a graph. Out of memory has no word.
+/// The word for what is wrong with a graph. Out of memory has none.
 fn graph_word(why: Why) -> Option<&'static str>
     ensures { option_map (λ word. word.now) result ≡ graph_word why }
 {
@@ -54,7 +54,7 @@ fn claim_word(fault: ClaimFault) -> &'static str
     }
 }
 
-/// What is wrong with a tree. Out of memory has no word.
+/// The word for what is wrong with a tree. Out of memory has none.
 fn tree_word(fault: TreeFault) -> Option<&'static str>
     ensures { option_map (λ word. word.now) result ≡ tree_word fault }
 {

@@ -134,7 +134,7 @@ fn of_document(
     }
 }
 
-/// The question has a seed and how many texts are made of a run's journal by chance.
+/// The question has a seed and the number of random texts that are made of a run's journal.
 pub fn changes_answer(alloc: Global, context: &str, question: &str) -> Result<String, AllocError> {
     let Some((seed, texts)) = numbers_of(question) else {
         return String::from_str(alloc, "no numbers");

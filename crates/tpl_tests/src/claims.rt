@@ -14,7 +14,7 @@ enum Found {
     Holds,
     /// It fails after this many events.
     Fails(usize),
-    /// This many events go, and the next isn't allowed.
+    /// This many events are allowed, and the next isn't.
     Stops(usize),
     /// It can't be asked of the graph.
     DoesNotFit,

@@ -227,8 +227,8 @@ fn outcome_text(alloc: Global, left: &Outcome) -> Result<String, AllocError> {
     )
 }
 
-/// How the command ends where nothing goes wrong, how many calls there are then, and how many calls are told of
-/// otherwise than they must be where they fail, are interrupted or take nothing. The flush is the writer's last call,
+/// How the command ends where nothing goes wrong, how many calls there are then, and of how many calls the end is
+/// wrong where they fail, are interrupted or take nothing. The flush is the writer's last call,
 /// and the exit is decided only behind it.
 fn each_answer<T: Threads + Wait + Sync>(
     rt: &T,
@@ -274,7 +274,7 @@ fn fronts_answer<T: Threads + Wait + Sync>(
     format!(in alloc; "{} fronts, {wrong} wrong", bytes.len())
 }
 
-/// How the command ends where this many spaces come.
+/// How the command ends where the document is this many spaces.
 fn spaces_answer<T: Threads + Wait + Sync>(
     rt: &T,
     alloc: Global,

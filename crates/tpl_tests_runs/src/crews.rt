@@ -36,7 +36,7 @@ pub fn with_workers(
     Ok((seats, all))
 }
 
-/// What a seat is told of each task.
+/// What is reported to a seat of each task.
 pub fn looks<'g, R: Wait, K: Drop, W: Item<K>>(
     rt: &R,
     alloc: Global,
@@ -140,8 +140,8 @@ fn runs_watched<'g, R: Threads + Wait + Sync, K: Drop + Send, W: Item<K> + Send>
     Ok(Some(back))
 }
 
-/// Lets workers run. A seat outside is told of each task then what the report says, watchers saw the whole run, and the
-/// plain machine tells the same. None where it isn't so.
+/// Lets workers run. What is then reported of each task to a seat outside is what the report says, watchers saw the
+/// whole run, and the plain machine answers the same. None where it isn't so.
 pub fn run_by<'g, R: Threads + Wait + Sync, K: Drop + Send, W: Item<K> + Send>(
     rt: &R,
     alloc: Global,

@@ -25,7 +25,7 @@ const TURNS: usize = 20_000_000;
 /// The graphs whose boxes meet, each with as many workers as boxes.
 const MEETINGS: [(&str, u16); 2] = [("two_that_meet", 2), ("eight_that_meet", 8)];
 
-/// Whether the first flags, this many, are set.
+/// Whether this many flags, the first ones, are set.
 fn are_set(flags: &[AtomicU64], count: usize) -> bool {
     flags
         .iter()
@@ -33,7 +33,7 @@ fn are_set(flags: &[AtomicU64], count: usize) -> bool {
         .all(|flag| flag.load(Ordering::SeqCst) == 1)
 }
 
-/// Waits until the first flags, this many, are set, and says whether they are.
+/// Waits until this many flags, the first ones, are set, and says whether they are.
 pub fn all_come(flags: &[AtomicU64], count: usize) -> bool {
     for _ in 0..TURNS {
         if are_set(flags, count) {

@@ -115,7 +115,7 @@ fn halts<'g, R: Wait, K: Drop, W: Item<K>>(
     called && meet(flags, OUTSIDE, true) == Answer::Done
 }
 
-/// Whether a seat outside is told that the first task runs.
+/// Whether it is reported to a seat outside that the first task runs.
 fn sees_it_run<'g, R: Wait, K: Drop, W: Item<K>>(
     rt: &R,
     graph: &Graph,

@@ -112,7 +112,7 @@ fn inputs_of(document: &Document) -> Inputs {
     }
 }
 
-/// What differs in a text from what was told.
+/// What differs in a text from the one that is expected.
 fn difference<'t>(told: &'t str, text: &'t str) -> Option<(&'t str, &'t str)> {
     let mut lines = text.lines();
     lines.next();

@@ -43,7 +43,7 @@ fn answer_of(may_fail: bool, fails: bool) -> Answer
     }
 }
 
-/// Inputs by chance.
+/// Random inputs.
 fn inputs(graph: &Graph, dice: &mut Dice) -> Inputs {
     let mut inputs = Inputs::new(graph.input_count());
     if !inputs.is_empty() {

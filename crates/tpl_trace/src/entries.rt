@@ -121,7 +121,7 @@ fn add_end(
     add_arrows(entries, alloc, graph, task, track, events, time)
 }
 
-/// Adds those of each event.
+/// Adds the entries of each event.
 fn add_all(
     entries: &mut Vec<Value>,
     alloc: Global,
