@@ -1,5 +1,5 @@
-//! How many runs a second the search for runs in which claims fail makes, in graphs of 16, 192 and 992 tasks with a claim
-//! that holds for every 16 of them.
+//! How many runs a second the search for runs in which claims fail makes, in graphs of 16, 192 and 992 tasks with a
+//! claim that holds for every 16 of them.
 
 ghost use Rattle.std.specs.List.{All};
 ghost use Rattle.tpl_claims.specs.Fits.{Fits};

@@ -1,5 +1,5 @@
-//! How long `analyse` takes, and how that grows with the tasks, the splits on a path, and what bears on a claim: graphs of
-//! 128 to 1,024 tasks, with a claim for every 16 of them, and lines of 20 to 1,000 stages, with one claim.
+//! How long `analyse` takes, and how that grows with the tasks, the splits on a path, and what bears on a claim: graphs
+//! of 128 to 1,024 tasks, with a claim for every 16 of them, and lines of 20 to 1,000 stages, with one claim.
 
 ghost use Rattle.std.specs.Prelude.{◌≤◌};
 ghost use Rattle.std.specs.List.{All};

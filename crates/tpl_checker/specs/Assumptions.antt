@@ -21,7 +21,8 @@ excluded a RanToCompletion = a.not_ran
 excluded a Canceled = a.not_canceled
 excluded a Faulted = a.not_faulted
 
--- an input past the last entry may have both values, a token there may be requested, and a task there may end in each way
+-- an input past the last entry may have both values, a token there may be requested, and a task there may end in each
+-- way
 abbrev pub assumed_of : Assumptions → Assumed
 assumed_of a = record {
   possible = λ i value. may_have (slice_index_or a.inputs i both) value;

@@ -38,7 +38,8 @@ abbrev pub IsSomeGiven : TaskGraph → List Bool → List Event → List Claim �
 IsSomeGiven g v h [] = ⊥
 IsSomeGiven g v h (claim ∷ claims) = IsGiven g v h claim.given ⊎ IsSomeGiven g v h claims
 
--- where a certificate is accepted, a task ends as one of its rows says, in each run of which what one of the claims gives is true
+-- where a certificate is accepted, a task ends as one of its rows says, in each run of which what one of the claims
+-- gives is true
 abbrev pub EndingsAreTrue : Type 0
 EndingsAreTrue =
     (g : TaskGraph) (claims : List Claim) (certificate : List Tree) → IsGraph g → Accepts g claims certificate

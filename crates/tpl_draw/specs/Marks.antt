@@ -5,8 +5,8 @@ use Rattle.tpl_draw.specs.declared.language.Language.{Language}
 use Rattle.tpl_draw.specs.declared.language.Language.TheVariants.{Mermaid, Dot}
 use Rattle.tpl_draw.specs.Endings.{no_ends}
 
--- the class of a task by whether it may run to completion, be canceled, fault; none where it can only run to completion,
--- or nothing is said
+-- the class of a task by whether it may run to completion, be canceled, fault; none where it can only run to
+-- completion, or nothing is said
 abbrev pub mermaid_mark : (ran canceled faulted : Bool) → List ℕ
 mermaid_mark true true true = codes ":::any_end"
 mermaid_mark true true false = codes ":::ran_or_canceled"

@@ -76,7 +76,8 @@ EmptyBody =
 abbrev pub nothing_happened : List Event
 nothing_happened = []
 
--- a root waits to run, and any worker begins it; the outside begins nothing, and nobody begins a task that the graph doesn't have
+-- a root waits to run, and any worker begins it; the outside begins nothing, and nobody begins a task that the graph
+-- doesn't have
 abbrev pub RootOpensReady : Type 0
 RootOpensReady =
     (status empty_graph [] nothing_happened 0 ≡ WaitingToRun)

@@ -19,7 +19,8 @@ shared_journal = begin 1 0 ∷ request 1 1 ∷ begin 2 1 ∷ step 1 0 ∷ step 2
 abbrev pub stepped_too_early : List Event
 stepped_too_early = step 1 0 ∷ begin 1 0 ∷ []
 
--- a run is the list of its journal's events with the newest first, and not the journal itself; each event must be allowed after those before it
+-- a run is the list of its journal's events with the newest first, and not the journal itself; each event must be
+-- allowed after those before it
 abbrev pub JournalIsReadBackwards : Type 0
 JournalIsReadBackwards =
     IsGraph shared_graph

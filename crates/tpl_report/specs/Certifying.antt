@@ -41,7 +41,8 @@ pub record IsTooLong (depth : ℕ) (form : Form) (doc : DocumentValue) : Type 0 
   pub holds : HoldsCertificate input (written_trees doc.graph.names trees) text
   pub long : longest < length text
 
--- the document with a certificate; or the number of the first claim for which none was found, or that the document would be too long
+-- the document with a certificate; or the number of the first claim for which none was found, or that the document
+-- would be too long
 abbrev pub IsCertifying : ℕ → Form → DocumentValue → Exit → List ℕ → Type 0
 IsCertifying depth form doc Success text = IsCertified depth form doc text
 IsCertifying depth form doc Failure text =

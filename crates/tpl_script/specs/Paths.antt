@@ -13,11 +13,13 @@ abbrev pub is_own : Option ℕ → ℕ → Bool
 is_own None k = false
 is_own (Some own) k = nat_eq own k
 
--- the outcome of a check of a requested token: the own one acknowledges the cancellation, another one throws (guide: task cancellation)
+-- the outcome of a check of a requested token: the own one acknowledges the cancellation, another one throws (guide:
+-- task cancellation)
 abbrev pub cancellation : Option ℕ → ℕ → Outcome
 cancellation own k = if is_own own k then Acknowledged else Threw (OperationCanceled (record { 0 = k }))
 
--- what is known of the runs in which a body is read: the values that an input may have, the tokens that are never requested, the own token, and how the subject may have ended
+-- what is known of the runs in which a body is read: the values that an input may have, the tokens that are never
+-- requested, the own token, and how the subject may have ended
 pub record Known : Type 0 where
   pub possible : ℕ → Bool → Bool
   pub quiet : ℕ → Bool
@@ -60,7 +62,8 @@ abbrev pub EndsPassing : Known → Statements → List Statement → Outcome →
 EndsPassing w body [] outcome = ⊥
 EndsPassing w body (s ∷ passed) outcome = (more : Statements) × Passes w body passed (s ⨾ more) × EndsAt w s outcome
 
--- a path: the statements that it passes, the last one first, and its outcome; it may break off anywhere, without one. A cancel of a token that is never requested is not passed
+-- a path: the statements that it passes, the last one first, and its outcome; it may break off anywhere, without one. A
+-- cancel of a token that is never requested is not passed
 abbrev pub Path : Known → Statements → List Statement → Option Outcome → Type 0
 Path w body passed None = (left : Statements) × Passes w body passed left
 Path w body passed (Some outcome) = (Passes w body passed Nothing × (outcome ≡ Returned)) ⊎ EndsPassing w body passed outcome

@@ -194,8 +194,8 @@ fn wrong_reads<T: Threads + Wait + Sync>(
     wrong
 }
 
-/// How many of the first `calls` calls of the writer, going wrong in turn, are not the last one, or leave other than the
-/// bytes that the calls before took, or don't end the command as a failed device does.
+/// How many of the first `calls` calls of the writer, going wrong in turn, are not the last one, or leave other than
+/// the bytes that the calls before took, or don't end the command as a failed device does.
 fn wrong_writes<T: Threads + Wait + Sync>(
     rt: &T,
     alloc: Global,

@@ -59,16 +59,17 @@ abbrev pub releases : TaskGraph → ℕ → Act → Bool
 releases g t (Release c) = is_number t (antecedent_of (kind g c.0))
 releases g t act = false
 
--- The arrows from an act that ended the task, on this track at this time, to each later act that releases a continuation
--- of it; where a later act may end the task too, none starts here beyond that. The first later event is at `place`, and
--- each arrow is numbered by the place of its end.
+-- The arrows from an act that ended the task, on this track at this time, to each later act that releases a
+-- continuation of it; where a later act may end the task too, none starts here beyond that. The first later event is at
+-- `place`, and each arrow is numbered by the place of its end.
 abbrev pub arrows : TaskGraph → (task track time place : ℕ) → List Event → List Data
 arrows g t track time place [] = []
 arrows g t track time place (e ∷ later) =
     if may_end t e.act then []
     else ((if releases g t e.act then arrow_start place track time ∷ [] else []) ++ arrows g t track time (suc place) later)
 
--- the end of the arrow to the release of a continuation of the task, which starts at the last act before it that may end the task
+-- the end of the arrow to the release of a continuation of the task, which starts at the last act before it that may
+-- end the task
 abbrev pub arrow_to : Option ℕ → (track time : ℕ) → (past : List Event) → List Data
 arrow_to t track time past = if some_ends t past then arrow_end time track time ∷ [] else []
 
@@ -93,7 +94,8 @@ marks n (Drop t) track time past later =
 marks n (Settle t) track time past later =
     instant (codes "settle") (task_name n.names t) track time ∷ arrows n.graph t.0 track time (suc time) later
 
--- the entries of an event, on its actor's track and at its place; before the first one on a track stands the track's name
+-- the entries of an event, on its actor's track and at its place; before the first one on a track stands the track's
+-- name
 abbrev pub event_marks : Named → (past : List Event) → Event → (later : List Event) → List Data
 event_marks n past e later = new_track past e.actor ++ marks n e.act (track_of e.actor) (suc (length past)) past later
 

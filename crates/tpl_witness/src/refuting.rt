@@ -143,9 +143,9 @@ fn respond<I: Read, O: Write, P: Write>(
 /// JSON; or `not refuted`, where no such run was found. A claim that isn't there is answered by
 /// `unreadable: claim N Missing`, and a document that is too long with its journal by `unreadable: too long`.
 ///
-/// The text is made whole before its first byte is written. A failed read ends the reading, and then nothing is written;
-/// after a failed write no more is. The run itself is written aside, for people, with the place where the claim fails;
-/// a failed write there changes nothing.
+/// The text is made whole before its first byte is written. A failed read ends the reading, and then nothing is
+/// written; after a failed write no more is. The run itself is written aside, for people, with the place where the
+/// claim fails; a failed write there changes nothing.
 pub fn refute_document<I: Read, O: Write, P: Write>(
     alloc: Global,
     search: Search,
