@@ -27,7 +27,7 @@ impl Size {
         task % self.line.max(1)
     }
 
-    /// The same with one claim, whose tree doesn't split.
+    /// The size with one claim, whose tree doesn't split.
     pub(crate) fn with_one_leaf(self) -> Size {
         Size {
             claims: 1,

@@ -19,7 +19,7 @@ const TOKENS: usize = 32;
 /// How the tasks of a graph hang together.
 #[derive(Clone, Copy)]
 pub enum Shape {
-    /// They don't: all are roots with long bodies.
+    /// Not at all: they are roots with long bodies.
     Apart,
     /// Each continues the one before it. All have long bodies, and the graph has as many tokens as one can.
     Chained,

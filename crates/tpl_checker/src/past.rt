@@ -114,7 +114,7 @@ fn settled_after_some(rows: &[Row], tasks: &[TaskId]) -> TaskSet
     settled
 }
 
-/// Of the set what is settled after each of the tasks, of which WhenAny ends after one only.
+/// Of the set, those that are settled after each of the tasks, since WhenAny may end after any one of them.
 fn settled_after_each(rows: &[Row], tasks: &[TaskId], set: &TaskSet) -> TaskSet
     requires tasks { AreTasks (length rows.now) tasks.now }
     requires limit { length rows.now ≤ 1024 }

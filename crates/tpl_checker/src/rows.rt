@@ -26,7 +26,7 @@ pub fn some_end(finals: Finals) -> bool
     finals.ran || finals.canceled || finals.faulted
 }
 
-/// Those of the ways to end that a continuation with the options runs after.
+/// Of these ways to end, those after which a continuation with the options runs.
 pub fn allowed(finals: Finals, options: Options) -> Finals
     ensures { (f : Final) → has result f ≡ (has finals f && allows options f) }
 {
@@ -37,7 +37,7 @@ pub fn allowed(finals: Finals, options: Options) -> Finals
     }
 }
 
-/// Those of the ways to end that a continuation with the options doesn't run after.
+/// Of these ways to end, those after which a continuation with the options doesn't run.
 pub fn excluded(finals: Finals, options: Options) -> Finals
     ensures { (f : Final) → has result f ≡ (has finals f && not (allows options f)) }
 {

@@ -176,7 +176,7 @@ fn line_meant(subcommand: Subcommand, given: &ArgMatches<'_>) -> Option<Line>
     }
 }
 
-/// The line that the words meant which were read so.
+/// The line that is meant by the words that were read.
 fn line_in(matches: &ArgMatches<'_>) -> Option<Line>
     ensures { MatchOption result
         ((l : Line) → IsLineOf (subcommand_rows_of matches.now) l → ⊥)

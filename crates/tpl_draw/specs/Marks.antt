@@ -28,7 +28,7 @@ dot_mark false true false = codes ", style=filled, fillcolor=\"#f0c848\""
 dot_mark false false true = codes ", style=filled, fillcolor=\"#ee7560\""
 dot_mark false false false = []
 
--- what stands at the node of a task that may end so
+-- what stands at the node of a task that may end in these ways
 abbrev pub mark : Language → Finals → List ℕ
 mark Mermaid e = mermaid_mark e.ran e.canceled e.faulted
 mark Dot e = dot_mark e.ran e.canceled e.faulted

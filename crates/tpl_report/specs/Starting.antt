@@ -1,4 +1,4 @@
--- With which inputs a document's graph is run.
+-- The inputs with which a document's graph is run.
 use Rattle.std.specs.Prelude.{Bool, true, false, List, [], Option, Some, None, nat_eq}
 use Rattle.tpl_reader.specs.Begin.{StartValue}
 use Rattle.tpl_reader.specs.Document.{DocumentValue}

@@ -19,7 +19,7 @@ pub struct Answer {
     ghost verdict: { IsTrue (is_verdict exit) },
 }
 
-/// Writes the text, after which the program ends so, or with a failed write.
+/// Writes the text. The program then ends with this exit, or with that of a failed write.
 pub fn put<W: Write>(exit: Exit, text: &[u8], to: &mut Counting<W>) -> Exit
     requires { exit ≢ Exit.Device }
     ensures { Puts W.contents to.old to.new exit text.now result }

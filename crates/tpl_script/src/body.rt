@@ -27,7 +27,7 @@ pub enum Stmt {
     Work(SiteId, bool),
     /// The first list where the input is true, else the second.
     If(InputId, Body, Body),
-    /// The first list where the task that this one continues ended so, else the second.
+    /// The first list where the task that this one continues ended in this way, else the second.
     When(Final, Body, Body),
 }
 

@@ -44,7 +44,7 @@ impl Ends {
         }
     }
 
-    /// These statements, then the next ones.
+    /// What the paths do through these statements and then the next ones.
     fn then(self, next: Ends) -> Ends
         ensures { result ≡ then_ends self next }
     {
@@ -56,7 +56,7 @@ impl Ends {
         }
     }
 
-    /// These statements or the other ones.
+    /// What the paths do through these statements or the other ones.
     fn or(self, other: Ends) -> Ends
         ensures { result ≡ either_end self other }
     {
@@ -68,7 +68,7 @@ impl Ends {
         }
     }
 
-    /// These statements, if they may be taken.
+    /// What the paths do through these statements, if they may be taken.
     fn only_if(self, possible: bool) -> Ends
         ensures { result ≡ only_if possible self }
     {

@@ -24,7 +24,7 @@ struct Starts {
 }
 
 impl Starts {
-    /// These statements, then the next ones.
+    /// What the paths do through these statements and then the next ones.
     fn then(self, next: Starts) -> Starts
         ensures { result ≡ then_starts self next }
     {
@@ -34,7 +34,7 @@ impl Starts {
         }
     }
 
-    /// These statements or the other ones.
+    /// What the paths do through these statements or the other ones.
     fn or(self, other: Starts) -> Starts
         ensures { result ≡ either_start self other }
     {
@@ -44,7 +44,7 @@ impl Starts {
         }
     }
 
-    /// These statements, if they may be taken.
+    /// What the paths do through these statements, if they may be taken.
     fn only_if(self, possible: bool) -> Starts
         ensures { result ≡ start_if possible self }
     {

@@ -26,7 +26,7 @@ fn spelled(alloc: Global, text: &str) -> Result<Vec<u8>, AllocError> {
     Ok(bytes)
 }
 
-/// The text, with as many spaces after it as make it so long.
+/// The text, with enough spaces after it to make it this long.
 fn padded(alloc: Global, text: &str, length: usize) -> Result<Vec<u8>, AllocError> {
     let mut bytes = Vec::from_slice(alloc, text.as_bytes())?;
     for _ in text.len()..length {

@@ -24,7 +24,7 @@ struct Tally {
 }
 
 impl Tally {
-    /// With one text more, and what was found of it.
+    /// The counts, with one text more and what was found of it.
     fn with(self, found: Found, differs: bool) -> Tally {
         let mut next = self;
         next.texts = self.texts.saturating_add(1);

@@ -153,7 +153,7 @@ pub enum Closing {
     OtherWatcher,
 }
 
-/// Whether a session was refused so, with a journal of this many events.
+/// Whether closing a session was refused for this reason, with a journal of this many events.
 fn refused<K: Drop, W: Drop>(
     closed: Result<Report<K, W>, CloseFault<K, W>>,
     why: CloseWhy,

@@ -21,7 +21,7 @@ pub const RAN: Status = Status::Completed(Final::RanToCompletion);
 /// How many events a run has, where there is but one number.
 pub type Length = Option<usize>;
 
-/// The seats, with those of the workers that have come back, and whether each ended so.
+/// The seats, with those of the workers that have come back, and whether each ended as expected.
 pub fn with_workers(
     seats: Vec<Seat>,
     done: Vec<(Seat, Ended)>,

@@ -48,7 +48,7 @@ struct Tally {
 }
 
 impl Tally {
-    /// With these checks, of which those failed that don't hold.
+    /// The counts, with these checks added; those that don't hold have failed.
     fn with(self, checks: &[bool]) -> Tally {
         let mut tally = self;
         for holds in checks {

@@ -106,7 +106,7 @@ fn works_alone<'g, R: Wait, K: Drop, W: Item<K>>(
     })
 }
 
-/// Lets one work alone, if one is seated, and says whether the run ends so. `none` is reported where nobody is seated.
+/// Lets one work alone, if one is seated. Says whether `none` holds and, where one worked, whether the run ended.
 fn works_or_not<'g, R: Wait, K: Drop, W: Item<K>>(
     rt: &R,
     session: &Session<'g, K, W>,

@@ -69,7 +69,7 @@ fn refuses(
     }
 }
 
-/// A session isn't opened with items that are given so, for this reason.
+/// A session isn't opened with items like these, for this reason.
 fn refuses_given(
     alloc: Global,
     graph: &Graph,

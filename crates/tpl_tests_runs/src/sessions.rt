@@ -24,7 +24,7 @@ use tpl_words::{Answer, Inputs, SiteId};
 pub enum Trial {
     /// This many workers run it, to a journal of this many events.
     Run(u16, Length),
-    /// A token is requested twice, and the session is closed so.
+    /// A token is requested twice, and the session is closed in this way.
     Requests(Closing),
     /// A token is requested, and one that is linked to it.
     Link,
