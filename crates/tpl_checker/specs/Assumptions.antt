@@ -30,6 +30,7 @@ assumed_of a = record {
   cut = λ t f. not (mem t (excluded a f));
 }
 
+-- what is assumed where nothing is
 abbrev pub nothing_assumed : Assumed
 nothing_assumed = record { possible = λ i value. true; quiet = λ k. false; cut = λ t f. true }
 

@@ -9,6 +9,7 @@ use Rattle.tpl_draw.specs.declared.edge.Tie.TheVariants.{After, Argument, Child,
 use Rattle.tpl_draw.specs.declared.edge.Edge.{Edge}
 use Rattle.tpl_draw.specs.Below.{below}
 
+-- an edge of this sort, from one number to another
 abbrev pub edge : Tie → ℕ → ℕ → Edge
 edge tie from to = record { tie = tie; from = from; to = to }
 

@@ -11,6 +11,7 @@ use Rattle.tpl_model.specs.Claims.{Claim, IsGiven}
 use Rattle.tpl_model.specs.Certificate.{Tree, SplitInput, SplitEnd, Leaf, row, Accepts}
 use Rattle.tpl_draw.specs.Below.{below}
 
+-- no way to end
 abbrev pub no_ends : Finals
 no_ends = record { ran = false; canceled = false; faulted = false }
 

@@ -72,7 +72,7 @@ EmptyBody =
     × (status empty_graph [] empty_left 0 ≡ Completed RanToCompletion)
     × (ending empty_graph [] empty_left 0 ≡ Some (record { place = 2; actor = Some (worker 1); final = RanToCompletion; carried = []; winner = None }))
 
--- nothing has happened
+-- the list without events, before anything has happened
 abbrev pub nothing_happened : List Event
 nothing_happened = []
 

@@ -12,7 +12,7 @@ use Rattle.tpl_examples.specs.Words.{worker, outside, begin, step, leave, reques
 abbrev pub shared_graph : TaskGraph
 shared_graph = with_tokens (Plain ∷ Plain ∷ []) (graph (root (Cancel 0 ⨾ Nothing) ∷ with_token 0 (root returns) ∷ []))
 
--- the first event stands first
+-- a journal of that graph, whose first event stands first
 abbrev pub shared_journal : List Event
 shared_journal = begin 1 0 ∷ request 1 1 ∷ begin 2 1 ∷ step 1 0 ∷ step 2 1 ∷ leave 1 0 ∷ leave 2 1 ∷ []
 

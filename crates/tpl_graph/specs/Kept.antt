@@ -54,6 +54,7 @@ abbrev pub IsParentOf : TaskGraph → ℕ → Option TaskId → Type 0
 IsParentOf g c None = (p : ℕ) → IsParent g p c → ⊥
 IsParentOf g c (Some p) = IsParent g p.0 c
 
+-- these are the children that are attached to the p-th task
 abbrev pub AreAttached : TaskGraph → ℕ → Vec TaskId Global → Type 0
 AreAttached g p children = map task_number children.items ≡ attached g p
 

@@ -49,6 +49,7 @@ IsCertifying depth form doc Failure text =
     IsNotFound depth doc text ⊎ (IsTooLong depth form doc × (text ≡ codes "too long\n"))
 IsCertifying depth form doc exit text = ⊥
 
+-- the answer of `analyse --whole` to bytes
 abbrev pub Certifies : ℕ → Form → Answers
 Certifies depth form = ToDocument (IsCertifying depth form)
 

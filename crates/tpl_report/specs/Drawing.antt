@@ -28,5 +28,6 @@ abbrev pub IsDrawing : Language → DocumentValue → Exit → List ℕ → Type
 IsDrawing language doc exit text =
     (exit ≡ Success) × (text ≡ picture language doc.graph (shown_endings doc))
 
+-- the answer of `draw` to bytes
 abbrev pub Draws : Language → Answers
 Draws language = ToDocument (IsDrawing language)

@@ -78,5 +78,6 @@ IsFinding depth form doc Success text = IsCertificate depth form doc text
 IsFinding depth form doc Failure text = IsNotFound depth doc text
 IsFinding depth form doc exit text = ⊥
 
+-- the answer of `analyse` to bytes
 abbrev pub Finds : ℕ → Form → Answers
 Finds depth form = ToDocument (IsFinding depth form)

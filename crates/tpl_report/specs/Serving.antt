@@ -15,6 +15,7 @@ use Rattle.tpl_report.specs.Drawing.{Draws}
 use Rattle.tpl_report.specs.Auditing.{Audits, IsAudit, NamesNoFailure}
 use Rattle.tpl_report.specs.declared.exit.Exit.{Exit}
 
+-- the answer to what is asked of a document
 abbrev pub answers_of : Ask → Answers
 answers_of Check = Checks
 answers_of (Analyse depth) = Finds depth Full

@@ -8,6 +8,7 @@ abbrev pub no_inputs : Bool → Option (List Bool)
 no_inputs true = Some []
 no_inputs false = None
 
+-- the values that a start gives; without a start the other ones, if there are any
 abbrev pub values_of : Option StartValue → Option (List Bool) → Option (List Bool)
 values_of None otherwise = otherwise
 values_of (Some start) otherwise = Some start.inputs

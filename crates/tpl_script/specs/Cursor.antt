@@ -21,10 +21,12 @@ chosen (If i a b) first = if first then a else b
 chosen (When f a b) first = if first then a else b
 chosen _ first = Nothing
 
+-- what is left behind a choice: the list that it takes, then what follows it
 abbrev pub behind_choice : Statements → Bool → Statements
 behind_choice Nothing first = Nothing
 behind_choice (s ⨾ rest) first = followed_by (chosen s first) rest
 
+-- the statements of a list that is open; none where there is no such list
 abbrev pub level_list : Option (Bor (List Stmt)) → Statements
 level_list None = Nothing
 level_list (Some l) = statements_of l.now

@@ -58,6 +58,7 @@ abbrev pub Passes : Known → Statements → List Statement → Statements → T
 Passes w body [] left = body ≡ left
 Passes w body (s ∷ passed) left = (more : Statements) × Passes w body passed (s ⨾ more) × GoesOn w s more left
 
+-- passing these statements, the last one first, ends the body with the outcome at the last one
 abbrev pub EndsPassing : Known → Statements → List Statement → Outcome → Type 0
 EndsPassing w body [] outcome = ⊥
 EndsPassing w body (s ∷ passed) outcome = (more : Statements) × Passes w body passed (s ⨾ more) × EndsAt w s outcome
@@ -68,18 +69,22 @@ abbrev pub Path : Known → Statements → List Statement → Option Outcome →
 Path w body passed None = (left : Statements) × Passes w body passed left
 Path w body passed (Some outcome) = (Passes w body passed Nothing × (outcome ≡ Returned)) ⊎ EndsPassing w body passed outcome
 
+-- the statement starts the child
 abbrev pub is_start_of : ℕ → Statement → Bool
 is_start_of c (Start d) = nat_eq d c
 is_start_of c s = false
 
+-- one of the statements starts the child
 abbrev pub passes_start : ℕ → List Statement → Bool
 passes_start c [] = false
 passes_start c (s ∷ passed) = is_start_of c s || passes_start c passed
 
+-- the statement observes
 abbrev pub is_observation : Statement → Bool
 is_observation Observe = true
 is_observation s = false
 
+-- one of the statements observes
 abbrev pub passes_observe : List Statement → Bool
 passes_observe [] = false
 passes_observe (s ∷ passed) = is_observation s || passes_observe passed
@@ -88,6 +93,7 @@ passes_observe (s ∷ passed) = is_observation s || passes_observe passed
 abbrev pub MayEnd : Known → Statements → Outcome → Type 0
 MayEnd w body outcome = (passed : List Statement) × Path w body passed (Some outcome)
 
+-- some path ends with an exception
 abbrev pub MayThrow : Known → Statements → Type 0
 MayThrow w body = (label : Label) × MayEnd w body (Threw label)
 

@@ -7,15 +7,19 @@ use Rattle.tpl_script.specs.Statements.{Statement, Statements}
 use Rattle.tpl_script.specs.Paths.{Known}
 use Rattle.tpl_script.specs.Recursion.{gets_through, passes_by, none, reaches, reaches_in}
 
+-- what the paths through one part and then another do
 abbrev pub then_starts : Starts → Starts → Starts
 then_starts a b = record { goes_on = a.goes_on && b.goes_on; started = a.started || (a.goes_on && b.started) }
 
+-- what the paths through one part or another do
 abbrev pub either_start : Starts → Starts → Starts
 either_start a b = record { goes_on = a.goes_on || b.goes_on; started = a.started || b.started }
 
+-- what the paths through a part do, if it may be taken
 abbrev pub start_if : Bool → Starts → Starts
 start_if possible a = record { goes_on = possible && a.goes_on; started = possible && a.started }
 
+-- what the paths through a list of statements do: go on, start the child
 abbrev pub start_in : ℕ → Known → Statements → Starts
 start_in c w b = record { goes_on = gets_through none w b; started = reaches c w b }
 

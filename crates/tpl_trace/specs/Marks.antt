@@ -2,6 +2,7 @@
 use Rattle.std.specs.Prelude.{ℕ, List, codes}
 use Rattle.serde_json.specs.Data.{Data, string, number, unsigned, object, no_members, member}
 
+-- a number as a JSON value
 abbrev pub number_data : ℕ → Data
 number_data n = number (unsigned n)
 

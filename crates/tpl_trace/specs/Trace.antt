@@ -19,6 +19,7 @@ abbrev pub track_of : Actor → ℕ
 track_of (Worker n) = n.0
 track_of (Outside n) = 64 + n
 
+-- the name of an actor's track
 abbrev pub track_name : Actor → List ℕ
 track_name (Worker n) = codes "worker " ++ decimal n.0
 track_name (Outside n) = codes "outside " ++ decimal n
@@ -108,6 +109,7 @@ marks_from n past (e ∷ later) = event_marks n past e later ++ marks_from n (pa
 abbrev pub entries : Named → List Event → List Data
 entries n h = process_mark (codes "taskgraph") ∷ marks_from n [] h
 
+-- the trace of these events as a JSON value
 abbrev pub trace_data : Named → List Event → Data
 trace_data n h = object (member (codes "traceEvents") (array (items_of (entries n h))) no_members)
 

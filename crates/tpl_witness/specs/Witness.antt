@@ -84,5 +84,6 @@ IsSearched asked doc Memory text = ⊥
 IsSearched asked doc Device text = ⊥
 IsSearched asked doc Fault text = ⊥
 
+-- the answer of `refute` to bytes
 abbrev pub Searches : Option ℕ → Answers
 Searches asked = ToDocument (IsSearched asked)
