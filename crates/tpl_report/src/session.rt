@@ -20,7 +20,7 @@ use tpl_words::{Actor, Inputs, TokenId};
 /// The outside seat that makes the first requests.
 const ASKER: Actor = Actor::Outside(1);
 
-/// Makes a run of the graph: the tokens are requested first, and then this many workers call the items.
+/// Makes a run of the graph: the tokens are requested first, and then so many workers call the items.
 pub(crate) fn report_on<R: Threads + Wait + Sync, K: Drop + Send, W: Item<K> + Send>(
     rt: &R,
     alloc: Global,
