@@ -7,7 +7,7 @@ use Rattle.tpl_cert.specs.Heights.{height}
 use Rattle.tpl_analyser.specs.declared.gap.Gap.{Gap}
 use Rattle.tpl_analyser.specs.declared.gap.Gap.TheVariants.{NotFound, Memory}
 
--- the claim of this number, where the first has the number 1: those before it have a certificate with at most so many splits on each path
+-- the claim of this number is the one that is named (the first has the number 1): those before it have a certificate with at most this many splits on each path
 pub record IsFirstWithout (g : TaskGraph) (claims : List Claim) (depth number : ℕ) : Type 0 where
   pub before : List Claim
   pub claim : Claim

@@ -9,12 +9,12 @@ use Rattle.tpl_model.specs.Certificate.{Row, Tree, SplitInput, SplitEnd, Leaf}
 use Rattle.tpl_analyser.specs.declared.form.Form.{Form}
 use Rattle.tpl_analyser.specs.declared.form.Form.TheVariants.{Full, Slim}
 
--- the proof of the property uses where this task is settled: it is the first one of an `after`
+-- the proof of the property needs this task in `before` or `past`: it is the first one of an `after`
 abbrev pub IsUsed : Property → ℕ → Type 0
 IsUsed (After a b) x = x ≡ a.0
 IsUsed p x = ⊥
 
--- before and past have no task but those that are used
+-- `before` and `past` have no task but those that the proof needs
 pub record IsSlimRow (p : Property) (r : Row) : Type 0 where
   pub before : (x : ℕ) → mem x r.before ≡ true → IsUsed p x
   pub past : (x : ℕ) → mem x r.past ≡ true → IsUsed p x

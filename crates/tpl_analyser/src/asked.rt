@@ -3,7 +3,7 @@
 use tpl_script::{Body, Stmt};
 use tpl_words::InputId;
 
-/// The body asks for the input, on some path or on none.
+/// The body branches on the input, on some path or on none.
 #[cycle(asked)]
 pub(crate) fn asks_for(body: &Body, input: InputId) -> bool {
     for statement in body.list() {

@@ -26,7 +26,7 @@ pub(crate) struct Branch {
 }
 
 impl Branch {
-    /// Where no split is above.
+    /// The root branch.
     pub(crate) fn root(question: Question<'_>, given: &[Given]) -> Branch
         requires question { IsReady question }
         requires given { AreGivenOf question.graph.now.graph given.now }
@@ -47,7 +47,7 @@ impl Branch {
         }
     }
 
-    /// Where the input has this value.
+    /// The branch below this one on which the input has this value.
     pub(crate) fn with_input(&self, question: Question<'_>, input: InputId, value: bool) -> Branch
         requires question { IsReady question }
         requires input { input.0 < 16 }
@@ -60,7 +60,7 @@ impl Branch {
         branch
     }
 
-    /// Where the task, if it ends, does so in this way.
+    /// The branch below this one on which the task, if it ends, does so in this way.
     pub(crate) fn with_end(&self, question: Question<'_>, task: TaskId, status: Final) -> Branch
         requires question { IsReady question }
         requires task { is_task question.graph.now.graph task.0 }
@@ -73,8 +73,8 @@ impl Branch {
         branch
     }
 
-    /// Where all this is assumed: what is assumed here and more, but of inputs the same unless
-    /// `all` is true.
+    /// The branch with these assumptions: those of this one and more; unless `all` is true, those on
+    /// inputs are the same.
     pub(crate) fn under(&self, question: Question<'_>, assumed: Assumptions, all: bool) -> Branch
         requires question { IsReady question }
         ensures { result.assumed ≡ assumed }
@@ -93,7 +93,7 @@ impl Branch {
         }
     }
 
-    /// On this branch of a split, which isn't counted as one above it.
+    /// The branch on which this branch of a split is assumed too. The split isn't counted among those above.
     pub(crate) fn turned(&self, question: Question<'_>, turn: Turn) -> Branch
         requires { IsReady question }
     {
@@ -104,12 +104,12 @@ impl Branch {
         self.under(question, turn.assumed(&self.assumed), all)
     }
 
-    /// No split on this is above.
+    /// This split isn't among those above.
     pub(crate) fn may_split(&self, split: Split) -> bool {
         !self.above.contains(split)
     }
 
-    /// The split has a branch in which nothing that bears on the property is otherwise than without
+    /// The split changes nothing: on one of its branches all that bears on the property is as it is without
     /// the split.
     pub(crate) fn changes_nothing(&self, question: Question<'_>, split: Split) -> bool {
         let has_one_branch = match split {

@@ -56,7 +56,7 @@ impl<W: Watch> Budget<W> {
         self.renewed = true;
     }
 
-    /// One leaf less is left, if there is one.
+    /// Uses up one leaf. True where one was left.
     pub(crate) fn spend(&mut self) -> bool {
         if self.left == 0 {
             return false;

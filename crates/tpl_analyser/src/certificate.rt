@@ -34,9 +34,9 @@ use tpl_claims::Claim;
 use tpl_graph::Graph;
 use tpl_outline::{Stage, stages_of};
 
-/// Searches a certificate of the claims, each of which can be asked of the graph, with at most
+/// Searches for a certificate of the claims, each of which can be asked of the graph, with at most
 /// `depth` splits on each path, and at most 6, whose rows say all that the rules permit. For each
-/// claim, trees with 0 splits on a path are tried first, then such with 1, and so on.
+/// claim, trees with 0 splits on a path are tried first, then those with 1, and so on.
 ///
 /// The certificate that it gives is accepted, so each claim holds in every run. `NotFound` names
 /// the first claim for which no tree is found within 100,000 leaves, and then within 20,000 of a
@@ -58,7 +58,7 @@ pub fn analyse(
     analyse_in(alloc, graph, claims, depth, Form::Full)
 }
 
-/// Searches a certificate as `analyse` does, and gives it in this form. Which claim is `NotFound`
+/// Searches for a certificate as `analyse` does, and gives it in this form. Which claim is `NotFound`
 /// does not depend on the form.
 pub fn analyse_in(
     alloc: Global,
@@ -219,7 +219,7 @@ fn by_depth<W: Watch>(
     Ok(None)
 }
 
-/// A tree with a split at its top and so many on a path, if that many may be enough.
+/// A tree with a split at its top and this many on a path, if that many may be enough.
 fn at_depth<W: Watch>(
     alloc: Global,
     question: Question<'_>,

@@ -15,9 +15,9 @@ use std::alloc::{AllocError, Global};
 /// Which splits are tried at a node of the search.
 #[derive(Drop)]
 pub(crate) enum Choice {
-    /// Each.
+    /// Each split.
     Any,
-    /// These.
+    /// These splits.
     Only(Splits),
 }
 
@@ -39,7 +39,7 @@ pub(crate) struct Bound {
     needed: Splits,
 }
 
-/// What one way shows of the trees of a branch; nothing where there is no tree with at most so many
+/// What one way shows of the trees of a branch; nothing where there is no tree with at most this many
 /// splits on a path.
 pub(crate) fn bound_of<W: Watch>(
     alloc: Global,
@@ -92,9 +92,9 @@ impl Bound {
         self.needed.count()
     }
 
-    /// The splits that are tried where there may be so many on a path: if no more than the needed
-    /// ones have room, these; else each, or in a directed search those that were enough on the way.
-    /// None where they have no room.
+    /// The splits that are tried where there may be this many on a path: if there is room for the needed
+    /// ones alone, these; else each, or in a directed search those that were enough on the way. None
+    /// where there isn't room for the needed ones.
     pub(crate) fn choice<W: Watch>(
         &self,
         alloc: Global,

@@ -37,7 +37,7 @@ impl Cone {
     }
 }
 
-/// Whether a split bears on the property, on which these tasks do.
+/// Whether a split bears on a property on which these tasks bear.
 fn bears(graph: &Graph, property: Property, tasks: &TaskSet, split: Split) -> bool {
     match (split, property) {
         (Split::End(task), _) => tasks.contains(task),

@@ -46,7 +46,7 @@ fn slim(alloc: Global, property: Property, rows: &[Row]) -> Result<Vec<Row>, All
     Ok(slim)
 }
 
-/// The row, of whose tasks only these are left in `before` and `past`.
+/// The row with only these tasks left in `before` and `past`.
 fn with_used(alloc: Global, row: &Row, used: &TaskSet) -> Result<Row, AllocError>
     ensures before { IfOk result (λ slim. (x : ℕ)
         → mem x slim.before ≡ (mem x row.now.before && mem x used.now)) }
@@ -59,7 +59,7 @@ fn with_used(alloc: Global, row: &Row, used: &TaskSet) -> Result<Row, AllocError
     Ok(Row::new(row.ends(), row.runs(), before, past, chain))
 }
 
-/// The tasks of which the proof of the property uses where they are settled.
+/// The tasks that the proof of the property needs in `before` and `past`.
 fn used(property: Property) -> TaskSet
     ensures { (x : ℕ) → mem x result ≡ true → IsUsed property x }
 {

@@ -1,4 +1,4 @@
-//! The trying of a leaf.
+//! Builds and tests a leaf.
 
 ghost use Rattle.std.specs.Prelude.{◌≡◌, IfOk, IfSome};
 ghost use Rattle.tpl_checker.specs.Assumptions.{assumed_of};
@@ -17,8 +17,8 @@ use tpl_checker::accepts_leaf;
 use tpl_outline::{Setting, least_rows, reached};
 use tpl_words::TaskId;
 
-/// The leaf of a branch, if it is accepted; and one leaf less is left to be tried. Where none is
-/// left, none is given.
+/// Builds and tests the leaf of a branch: the leaf, if it is accepted. It uses up one of the leaves that
+/// may be tried; where none is left, there is no leaf.
 pub(crate) fn leaf<W: Watch>(
     alloc: Global,
     question: Question<'_>,
@@ -41,8 +41,8 @@ pub(crate) fn leaf<W: Watch>(
     }
 }
 
-/// Whether the least rows of the branch prove the property; and one leaf less is left to be tried.
-/// Where none is left, it answers that they do, so that whoever looks for what is still open ends.
+/// Whether the least rows of the branch prove the property. It uses up one of the leaves that may be
+/// tried; where none is left, it answers that they do, so that a search for what isn't proved ends.
 pub(crate) fn is_proved<W: Watch>(
     alloc: Global,
     question: Question<'_>,

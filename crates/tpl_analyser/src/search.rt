@@ -25,7 +25,7 @@ use tpl_words::{Final, InputId, TaskId};
 pub(crate) struct Reach {
     /// The most splits on a path from here on.
     pub(crate) splits: u8,
-    /// With one split less nothing was found, so a split that changes nothing needn't be tried.
+    /// No tree was found with one split less, so a split that changes nothing needn't be tried.
     pub(crate) failed: bool,
     /// At each node only such splits are tried as were enough on one way.
     pub(crate) directed: bool,
@@ -75,8 +75,8 @@ fn end_tree(
     Ok(Tree::new(Node::SplitEnd(task, ran, canceled, faulted)))
 }
 
-/// A tree with at most so many splits on each path, if one is found before no leaf is left to be
-/// tried.
+/// A tree with at most this many splits on each path, if one is found before the leaves that may be
+/// tried are used up.
 #[cycle(search)]
 fn find<W: Watch>(
     alloc: Global,

@@ -12,7 +12,7 @@ use tpl_words::{Final, InputId, MOST_INPUTS, MOST_TASKS, TaskId, TaskSet};
 /// The most branches of a split.
 const MOST_BRANCHES: usize = 3;
 
-/// What a split is on.
+/// A split of the runs: by an input, or by how a task ends.
 #[derive(Clone, Copy, PartialEq, Eq)]
 pub(crate) enum Split {
     /// The value of an input.
@@ -54,7 +54,7 @@ fn push_ends(splits: &mut Vec<Split>, graph: &Graph) -> Result<(), AllocError>
 }
 
 impl Split {
-    /// Its branches in order.
+    /// The branches of the split, in order.
     pub(crate) fn turns(self) -> [Option<Turn>; MOST_BRANCHES] {
         match self {
             Split::Input(input) => [
@@ -70,7 +70,7 @@ impl Split {
         }
     }
 
-    /// Its first branch.
+    /// The first branch of the split.
     pub(crate) fn first(self) -> Turn {
         match self {
             Split::Input(input) => Turn::Input(input, true),
@@ -80,7 +80,7 @@ impl Split {
 }
 
 impl Turn {
-    /// The split that it is a branch of.
+    /// The split of which this is a branch.
     pub(crate) fn split(self) -> Split {
         match self {
             Turn::Input(input, _) => Split::Input(input),
@@ -118,7 +118,7 @@ pub(crate) struct Splits {
 }
 
 impl Splits {
-    /// None.
+    /// The empty set.
     pub(crate) fn none() -> Splits {
         Splits {
             inputs: [false; MOST_INPUTS],
@@ -127,7 +127,7 @@ impl Splits {
         }
     }
 
-    /// The same again.
+    /// A copy.
     pub(crate) fn copy(&self) -> Splits {
         Splits {
             inputs: self.inputs,
@@ -136,12 +136,12 @@ impl Splits {
         }
     }
 
-    /// How many they are.
+    /// How many splits are members.
     pub(crate) fn count(&self) -> u32 {
         self.count
     }
 
-    /// The split is one of them.
+    /// The split is a member.
     pub(crate) fn contains(&self, split: Split) -> bool {
         match split {
             Split::Input(input) => {
@@ -152,7 +152,7 @@ impl Splits {
         }
     }
 
-    /// Makes the split one of them.
+    /// Makes the split a member.
     pub(crate) fn insert(&mut self, split: Split) {
         if !self.contains(split) {
             self.count = self.count.saturating_add(1);

@@ -18,7 +18,7 @@ pub(crate) struct Way {
     pub(crate) taken: Vec<Turn>,
     /// What is assumed on its branches of the other splits.
     pub(crate) passed: Assumptions,
-    /// Where all that it takes is assumed.
+    /// The branch on which all that the way takes is assumed.
     branch: Branch,
     /// The property is proved there. If it isn't, no tree proves it at all, however many splits it
     /// has: each has a leaf that assumes no more than all branches of this way.
@@ -50,7 +50,7 @@ pub(crate) fn way_from<W: Watch>(
 }
 
 impl Way {
-    /// Goes on by a branch of the split.
+    /// Takes a branch of the split.
     fn add<W: Watch>(
         &mut self,
         alloc: Global,
@@ -76,7 +76,7 @@ impl Way {
         self.go(question, first)
     }
 
-    /// Goes on by this branch, if it is open and the property isn't proved on it.
+    /// Takes this branch, if it is open and the property isn't proved on it.
     fn tries<W: Watch>(
         &mut self,
         alloc: Global,
@@ -98,7 +98,7 @@ impl Way {
         Ok(true)
     }
 
-    /// Goes on by this branch, on which the property is proved.
+    /// Takes this branch, on which the property is proved.
     fn go(&mut self, question: Question<'_>, turn: Turn) -> Result<(), AllocError>
         requires { IsReady question }
     {

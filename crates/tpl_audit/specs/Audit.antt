@@ -13,7 +13,7 @@ use Rattle.tpl_audit.specs.declared.verdict.Verdict.TheVariants.{Run as Ran, Not
 abbrev pub first_events : List Event → ℕ → List Event
 first_events events place = reverse (take place events)
 
--- each claim holds after so many events
+-- each claim holds after this many events
 abbrev pub AllHoldAt : TaskGraph → List Bool → List Event → List Claim → ℕ → Type 0
 AllHoldAt g v events claims place = All (λ claim. Holds g claim v (first_events events place)) claims
 

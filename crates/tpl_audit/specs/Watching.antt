@@ -18,7 +18,7 @@ may_request (Request k) = true
 may_request (Step t) = true
 may_request act = false
 
--- what is noted of a token after an act: by any other act none comes to be requested
+-- what is noted of a token after an act: an act that can't request a token leaves each as it was
 abbrev pub noted_after : Act → Option ℕ → Bool → ℕ → Option ℕ
 noted_after act noted now place = if may_request act then or_now noted now place else noted
 

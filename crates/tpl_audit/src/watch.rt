@@ -78,8 +78,8 @@ impl Watch {
         note_requests(&mut self.asked, core, place);
     }
 
-    /// Notes what is true for the first time at this place, which is right after the act. It looks at the tokens only where
-    /// the act may request one.
+    /// Notes what is true for the first time at this place, which is right after the act. It looks at the tokens only
+    /// where the act may request one.
     pub(crate) fn note_after<C: Core>(&mut self, core: &C, act: Act, place: usize)
         ensures complete { let j = C.journal core.now in self.new.complete
             ≡ or_now self.old.complete (is_complete j.graph j.inputs j.events) place }

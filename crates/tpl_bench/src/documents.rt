@@ -27,7 +27,7 @@ impl Size {
         task % self.line.max(1)
     }
 
-    /// The same with one claim, whose tree doesn't split.
+    /// The size with one claim, whose tree doesn't split.
     pub(crate) fn with_one_leaf(self) -> Size {
         Size {
             claims: 1,
@@ -41,7 +41,7 @@ fn separator(number: usize) -> &'static str {
     if number == 0 { "" } else { "," }
 }
 
-/// The names of so many tasks from a first one on.
+/// The names of this many tasks from a first one on.
 fn push_names(
     alloc: Global,
     text: &mut String,

@@ -51,7 +51,7 @@ fn kind(alloc: Global, task: usize) -> Result<DraftKind, AllocError> {
     }
 }
 
-/// The draft of so many tasks.
+/// The draft of this many tasks.
 pub(crate) fn draft(alloc: Global, tasks: usize) -> Result<Draft, AllocError> {
     let mut made = Draft {
         inputs: Vec::new(alloc),

@@ -52,7 +52,7 @@ fn tree(alloc: Global, size: Size, splits: u16) -> Result<Tree, AllocError> {
     Ok(Tree::new(Node::SplitEnd(task, ran, canceled, faulted)))
 }
 
-/// The certificate of one claim about the graph of a size, whose tree splits on the ends of so many tasks; none where
+/// The certificate of one claim about the graph of a size, whose tree splits on the ends of this many tasks; none where
 /// the tree is past the limits.
 pub(crate) fn certificate(
     alloc: Global,

@@ -9,9 +9,9 @@ use tpl_words::{Actor, TaskId, TokenId, Worker};
 /// In which order the tasks of a run act.
 #[derive(Clone, Copy)]
 pub enum Order {
-    /// One task after another. Their bodies have so many statements.
+    /// One task after another. Their bodies have this many statements.
     OneByOne(usize),
-    /// All tasks begin, then each passes a statement in turn, so many in all; after the last of its body it is left.
+    /// All tasks begin, then each passes a statement in turn, this many in all; after the last of its body it is left.
     SideBySide(usize),
     /// Parents start their children and are left, and then the children run, which closes the parent.
     FamilyByFamily,
@@ -60,7 +60,7 @@ fn one_by_one<C: Core>(core: &mut C, statements: usize) {
     }
 }
 
-/// The same act of each task.
+/// Does the same act in each task.
 fn each_task<C: Core, F: Fn(TaskId) -> Act>(core: &mut C, act: F)
     requires { F.IsAlwaysCallable act }
 {

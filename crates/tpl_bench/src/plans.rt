@@ -11,7 +11,7 @@ const FAN: usize = 32;
 /// How the tasks of a graph hang together.
 #[derive(Clone, Copy)]
 pub(crate) enum Plan {
-    /// They don't: all are roots.
+    /// Not at all: they are roots.
     Roots,
     /// Each continues the one before it.
     Chain,

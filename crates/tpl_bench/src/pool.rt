@@ -114,7 +114,7 @@ fn work<R: Wait>(rt: &R, load: Load, line: &Mutex<Line>, moved: &Condvar) {
     }
 }
 
-/// How long so many threads take to run all tasks.
+/// How long this many threads take to run all tasks.
 pub(crate) fn run_pool<R: Threads + Wait + Sync + Clock>(
     rt: &R,
     alloc: Global,

@@ -15,7 +15,7 @@ const FEW: usize = 2;
 /// The tasks of the documents that are measured.
 const SIZES: [usize; 3] = [64, 128, 256];
 
-/// A document of so many tasks, with 64 claims and trees.
+/// A document of this many tasks, with 64 claims and trees.
 fn size_of(tasks: usize) -> Size {
     Size {
         tasks,

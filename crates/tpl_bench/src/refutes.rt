@@ -1,5 +1,5 @@
-//! How many runs a second the search for runs in which claims fail makes, in graphs of 16, 192 and 992 tasks with a claim
-//! that holds for every 16 of them.
+//! How many runs a second the search for runs in which claims fail makes, in graphs of 16, 192 and 992 tasks with a
+//! claim that holds for every 16 of them.
 
 ghost use Rattle.std.specs.List.{All};
 ghost use Rattle.tpl_claims.specs.Fits.{Fits};
@@ -42,7 +42,7 @@ const TRUE: u8 = 0;
 
 const FALSE: u8 = 3;
 
-/// How many claims of a document are refuted by so many runs for each.
+/// How many claims of a document are refuted by this many runs for each.
 fn refuted(rt: &HostRuntime, read: &Document, runs: u32) -> io::Result<usize>
     requires { All (Fits read.now.graph.graph) read.now.claims.items }
 {

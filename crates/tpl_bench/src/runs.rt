@@ -42,7 +42,7 @@ enum By {
     Pool,
 }
 
-/// Runs the tasks of a graph once. Each job makes so many rounds a microsecond.
+/// Runs the tasks of a graph once. Each job makes this many rounds a microsecond.
 fn run_once<R: Threads + Wait + Sync + Clock>(
     rt: &R,
     alloc: Global,
@@ -91,7 +91,7 @@ fn quickest<R: Threads + Wait + Sync + Clock>(
     Ok(best)
 }
 
-/// So many in this time, in a second.
+/// How many in a second, where this many took this time.
 fn a_second(count: usize, time: Duration) -> u128 {
     (count as u128) * 1_000_000_000 / time.as_nanos().max(1)
 }
@@ -116,7 +116,7 @@ fn print_rates<R: Print>(rt: &R, load: Load, workers: u16, rates: Rates) -> io::
     )
 }
 
-/// Measures a load with so many workers.
+/// Measures a load with this many workers.
 fn measure_load<R: Threads + Wait + Sync + Clock>(
     rt: &R,
     alloc: Global,

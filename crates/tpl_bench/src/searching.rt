@@ -1,5 +1,5 @@
-//! How long `analyse` takes, and how that grows with the tasks, the splits on a path, and what bears on a claim: graphs of
-//! 128 to 1,024 tasks, with a claim for every 16 of them, and lines of 20 to 1,000 stages, with one claim.
+//! How long `analyse` takes, and how that grows with the tasks, the splits on a path, and what bears on a claim: graphs
+//! of 128 to 1,024 tasks, with a claim for every 16 of them, and lines of 20 to 1,000 stages, with one claim.
 
 ghost use Rattle.std.specs.Prelude.{◌≤◌};
 ghost use Rattle.std.specs.List.{All};
@@ -38,7 +38,7 @@ struct Searched {
     time: u128,
 }
 
-/// Searches a certificate for the claims of a document.
+/// Searches for a certificate of the claims of a document.
 fn search(rt: &HostRuntime, read: &Document, splits: u8) -> io::Result<Searched>
     requires claims { All (Fits read.now.graph.graph) read.now.claims.items }
     requires depth { splits ≤ 6 }
@@ -67,7 +67,7 @@ fn show(rt: &HostRuntime, groups: Groups, searched: Searched, measures: bool) ->
     Ok(())
 }
 
-/// Searches a certificate for the claims about groups.
+/// Searches for a certificate of the claims about groups.
 fn show_search(rt: &HostRuntime, groups: Groups, measures: bool) -> io::Result<()> {
     let text = document(rt.alloc(), groups)?;
     match read_document(rt.alloc(), text.as_bytes()) {
@@ -92,7 +92,7 @@ fn show_all(rt: &HostRuntime, count: usize, joined: bool, measures: bool) -> io:
     Ok(())
 }
 
-/// Searches a certificate for the claim about a line of stages, and prints what that gave.
+/// Searches for a certificate of the claim about a line of stages, and prints what that gave.
 fn show_stages(rt: &HostRuntime, stages: Stages, measures: bool) -> io::Result<()> {
     let text = stages::document(rt.alloc(), stages)?;
     match read_document(rt.alloc(), text.as_bytes()) {

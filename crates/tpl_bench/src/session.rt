@@ -24,7 +24,7 @@ fn refused() -> io::Error {
     io::Error::from(io::ErrorKind::OutOfMemory)
 }
 
-/// Runs the graph, whose jobs call these items, with so many workers.
+/// Runs the graph, whose jobs call these items, with this many workers.
 pub(crate) fn run_session<R: Threads + Wait + Sync + Clock, K: Drop + Send, W: Item<K> + Send>(
     rt: &R,
     alloc: Global,

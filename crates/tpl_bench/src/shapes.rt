@@ -19,7 +19,7 @@ const TOKENS: usize = 32;
 /// How the tasks of a graph hang together.
 #[derive(Clone, Copy)]
 pub enum Shape {
-    /// They don't: all are roots with long bodies.
+    /// Not at all: they are roots with long bodies.
     Apart,
     /// Each continues the one before it. All have long bodies, and the graph has as many tokens as one can.
     Chained,
@@ -154,7 +154,7 @@ fn tokens(alloc: Global, shape: Shape) -> Result<Vec<DraftToken>, AllocError> {
     Ok(tokens)
 }
 
-/// A graph of so many tasks.
+/// A graph of this many tasks.
 pub fn of_tasks(alloc: Global, shape: Shape, count: usize) -> Result<Draft, AllocError> {
     let mut tasks = Vec::new(alloc);
     for number in 0..count {

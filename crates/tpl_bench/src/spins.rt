@@ -10,7 +10,7 @@ const TIMED: u64 = 20_000_000;
 /// What a job begins with.
 const SEED: u64 = 0x9E37_79B9_7F4A_7C15;
 
-/// What so many rounds make of a number that isn't 0, by shifts alone: never 0.
+/// What this many rounds make of a number that isn't 0, by shifts alone: never 0.
 fn shifted(rounds: u64) -> u64 {
     let mut number = SEED;
     for _ in 0..rounds {
@@ -21,7 +21,7 @@ fn shifted(rounds: u64) -> u64 {
     number
 }
 
-/// What a job answers that makes so many rounds. It is always `Done`, but the rounds have to be made to know it.
+/// What a job answers that makes this many rounds. It is always `Done`, but the rounds have to be made to know it.
 pub(crate) fn answer_after(rounds: u64) -> Answer {
     if shifted(rounds) == 0 {
         Answer::Failed

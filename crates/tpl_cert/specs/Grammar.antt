@@ -19,7 +19,7 @@ AreRows [] (d ∷ ds) = ⊥
 AreRows (r ∷ rows) [] = ⊥
 AreRows (r ∷ rows) (d ∷ ds) = IsRow r d × AreRows rows ds
 
--- a tree with names
+-- the value spells the tree with names
 abbrev pub IsTree : NamedTree → Data → Type 0
 IsTree (SplitInput input a b) d =
     HasOnly (codes "split_input" ∷ codes "yes" ∷ codes "no" ∷ []) d × HasText d (codes "split_input") input

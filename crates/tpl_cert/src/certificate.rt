@@ -32,7 +32,7 @@ impl Model for Certificate {
 }
 
 impl Certificate {
-    /// The certificate of these trees, each of which is within the limits (`is_within_limits` tells).
+    /// The certificate of these trees, each of which is within the limits (`is_within_limits` tests that).
     pub fn new(trees: Vec<Tree>) -> Certificate
         requires { All IsWithinLimits trees.items }
         ensures { result ≡ trees.items }
@@ -54,7 +54,7 @@ impl Certificate {
         self.trees.as_slice()
     }
 
-    /// Gives the trees back.
+    /// Returns the trees.
     pub fn into_trees(self) -> Vec<Tree>
         ensures { result.items ≡ self }
     {

@@ -11,7 +11,7 @@ use thiserror::Error;
 /// order; `Memory` can come before any of them.
 #[derive(Clone, Copy, Debug, PartialEq, Eq, Error)]
 pub enum TreeFault {
-    /// It hasn't the form of a tree.
+    /// It has the wrong shape for a tree.
     #[error("Shape")]
     Shape,
     /// A name isn't the graph's.
@@ -44,7 +44,7 @@ impl<T: Drop> From<AllocFailed<T>> for TreeFault {
 /// Why a tree isn't written.
 #[derive(Clone, Copy, Debug, PartialEq, Eq, Error)]
 pub enum TreeToFault {
-    /// An id that the graph hasn't.
+    /// An id that isn't the graph's.
     #[error("Unknown")]
     Unknown,
     /// An allocation was refused.

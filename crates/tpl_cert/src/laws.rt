@@ -3,7 +3,7 @@
 
 ghost use Rattle.tpl_cert.specs.Laws.{CertificatesNestLittle, ReadHasNoFault, SpellsOneTree};
 
-/// A JSON value spells one tree at most, and where it is read as one, no fault is true of it but want of memory.
+/// A JSON value spells one tree at most, and where it is read as one, no fault is true of it but `Memory`.
 pub fn one_reading()
     ensures one { SpellsOneTree }
     ensures faultless { ReadHasNoFault }

@@ -38,8 +38,8 @@ impl Model for Row {
 
 impl Row {
     /// A row: how the task may end, whether it may begin, the tasks that are settled when it begins, those that are
-    /// settled when it has ended, and the tasks over which its exception comes to the last of them, which reads it (none
-    /// where that isn't shown).
+    /// settled when it has ended, and the tasks that take its exception over, one after another, the last of which
+    /// reads it (none where that isn't shown).
     pub fn new(ends: Finals, runs: bool, before: TaskSet, past: TaskSet, chain: Vec<TaskId>) -> Row
         ensures ends { result.ends ≡ ends }
         ensures runs { result.runs ≡ runs }
@@ -84,7 +84,7 @@ impl Row {
         &self.past
     }
 
-    /// The tasks over which its exception comes to the last of them, which reads it.
+    /// The tasks that take its exception over, one after another; the last of them reads it.
     pub fn chain(&self) -> &[TaskId]
         ensures { map task_number result.now ≡ self.now.chain }
     {

@@ -63,7 +63,7 @@ impl Tree {
         &self.node
     }
 
-    /// Gives the top back.
+    /// Returns the top.
     pub fn into_node(self) -> Node
         ensures { self ≡ node_of result }
     {

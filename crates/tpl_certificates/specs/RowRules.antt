@@ -20,7 +20,7 @@ true_claim = claim (ends_in 0 any_end)
 abbrev pub true_given : List Given → List Claim
 true_given facts = given_that facts (ends_in 0 any_end)
 
--- what is said of one leaf for a graph
+-- the verdict on one leaf for a graph
 abbrev pub said : TaskGraph → List Row → Result (Unit {0}) CertFault
 said g rows = verdict g true_claim (leaf rows)
 
@@ -94,7 +94,8 @@ CanceledBeforeItBegins =
     × (said_given (is_quiet 0 ∷ []) (with_one_token (with_token 0 (root ret) ∷ [])) (ends ran ∷ []) ≡ Ok tt)
     × (said (with_one_token (root starts_child ∷ with_token 0 (child ret 0) ∷ [])) (ends ran ∷ ends ran ∷ []) ≡ Err (not_closed 1 1 1 K2))
 
--- a continuation may be canceled: at once where it is eager; where it is lazy only once its antecedent may end; and where an end isn't allowed
+-- a continuation may be canceled: at once where it is eager; where it is lazy only once its antecedent may end; and
+-- where an end isn't allowed
 abbrev pub canceled_before : ℕ → TaskGraph
 canceled_before options = with_one_token (root ret ∷ with_token 0 (after 0 ret options) ∷ [])
 
@@ -146,7 +147,8 @@ AnyEnds =
     × (said_given (is_quiet 0 ∷ []) (any_of endless ret) (ends nothing ∷ ends ran ∷ not_run nothing ∷ []) ≡ Err (not_closed 1 1 2 K2))
     × (said_given (is_quiet 0 ∷ []) (any_of endless endless) (ends nothing ∷ ends nothing ∷ not_run nothing ∷ []) ≡ Ok tt)
 
--- what is before a root (nothing), a continuation (its antecedent and what is past that), a child (what is before its parent), a WhenAll task (anything)
+-- what is before a root (nothing), a continuation (its antecedent and what is past that), a child (what is before its
+-- parent), a WhenAll task (anything)
 abbrev pub before_child : TaskGraph
 before_child = plain (root ret ∷ after 0 (Start 2 ⨾ Nothing) 0 ∷ child ret 0 ∷ [])
 
@@ -176,7 +178,8 @@ PastChildren =
     × (said (grandchild 0 4) (ran_past (2 ∷ []) ∷ ends ran ∷ ends ran ∷ []) ≡ Err (not_closed 1 1 0 K4))
     × (said (grandchild 4 4) (ends ran ∷ ran_past (0 ∷ []) ∷ ends ran ∷ []) ≡ Err (not_closed 1 1 1 K4))
 
--- past a child is also what is before its parent; past a continuation its antecedent, what is past that, and its own children
+-- past a child is also what is before its parent; past a continuation its antecedent, what is past that, and its own
+-- children
 abbrev pub PastContinuation : Type 0
 PastContinuation =
     (said before_child (ends ran ∷ ran_before (0 ∷ []) ∷ ran_past (0 ∷ []) ∷ []) ≡ Ok tt)
@@ -206,7 +209,8 @@ PastCombinator =
     × (said (two_after_one when_any) (past_both (1 ∷ [])) ≡ Err (not_closed 1 1 3 K5))
     × (said (plain (root ret ∷ when_any (0 ∷ 0 ∷ []) ∷ [])) (ends ran ∷ record { ends = ran; runs = false; before = []; past = 0 ∷ []; chain = [] } ∷ []) ≡ Ok tt)
 
--- a chain goes from a task to the parent of which it is an attached child, or to a WhenAll task of it, and ends at a continuation
+-- a chain goes from a task to the parent of which it is an attached child, or to a WhenAll task of it, and ends at a
+-- continuation
 abbrev pub read_through_all : ℕ → List ℕ → List Row
 read_through_all options chain = runs faulted [] [] chain ∷ not_run faulted ∷ ends ran ∷ []
 
@@ -222,7 +226,8 @@ Chains =
     × (said (read_through_child 0) (ends ran ∷ runs faulted [] [] (0 ∷ 2 ∷ []) ∷ ends ran ∷ []) ≡ Err (not_closed 1 1 1 K6))
     × (said (plain (root starts_child ∷ child throws 4 ∷ when_all (0 ∷ []) ∷ after 2 observes 0 ∷ [])) (ends ran_or_faulted ∷ runs faulted [] [] (0 ∷ 2 ∷ 3 ∷ []) ∷ not_run ran_or_faulted ∷ ends ran ∷ []) ≡ Ok tt)
 
--- the reader observes on each path on which its subject is faulted, its options allow a fault, and it isn't canceled before
+-- the reader observes on each path on which its subject is faulted, its options allow a fault, and it isn't canceled
+-- before
 abbrev pub read_by : ℕ → Statements → Finals → List Given → Result (Unit {0}) CertFault
 read_by options body reader_ends facts =
     said_given facts (graph (Plain ∷ []) 1 (root throws ∷ after 0 body options ∷ [])) (runs faulted [] [] (1 ∷ []) ∷ runs reader_ends [] [] [] ∷ [])
@@ -269,7 +274,8 @@ ProvingOwnFault =
     (verdict (plain (root starts_child ∷ child throws 4 ∷ [])) (claim (is_observed 0)) (leaf (ends ran_or_faulted ∷ ends faulted ∷ [])) ≡ Ok tt)
     × (verdict (plain (root starts_child ∷ child throws 4 ∷ [])) (claim (is_observed 1)) (leaf (ends ran_or_faulted ∷ ends faulted ∷ [])) ≡ Err (ClaimNot 1 1))
 
--- one tree for each claim, one row for each task, and no id that isn't the graph's; the first claim without is named
+-- one tree for each claim, one row for each task, and no id that isn't the graph's; the first claim without one is
+-- named
 abbrev pub one : TaskGraph
 one = plain (root ret ∷ [])
 
@@ -303,7 +309,8 @@ Assumptions =
     × (verdict job true_claim (SplitEnd 0 (SplitEnd 0 (Leaf (ends ran ∷ [])) (Leaf (ends nothing ∷ [])) (Leaf (ends nothing ∷ []))) (Leaf (ends nothing ∷ [])) (Leaf (ends faulted ∷ [])) ∷ []) ≡ Ok tt)
     × (verdict job true_claim (SplitEnd 0 (Leaf (ends nothing ∷ [])) (Leaf (ends nothing ∷ [])) (Leaf (ends faulted ∷ [])) ∷ []) ≡ Err (not_closed 1 1 0 K2))
 
--- how the subject of a continuation may have ended: as its antecedent may and the options allow; behind WhenAny as any of its tasks may
+-- how the subject of a continuation may have ended: as its antecedent may and the options allow; behind WhenAny as any
+-- of its tasks may
 abbrev pub asks : Statements
 asks = When Faulted throws ret ⨾ Nothing
 

@@ -41,7 +41,7 @@ with_options word t = record { kind = t.kind; body = t.body; token = t.token; op
 abbrev pub graph : List Token → ℕ → List Task → TaskGraph
 graph tokens inputs tasks = record { tokens = tokens; inputs = inputs; tasks = tasks }
 
--- ways to end
+-- sets of ways to end
 abbrev pub nothing : Finals
 nothing = record { ran = false; canceled = false; faulted = false }
 
@@ -101,11 +101,11 @@ input_is i value = Input (record { 0 = i }) value
 abbrev pub is_quiet : ℕ → Given
 is_quiet k = Quiet (record { 0 = k })
 
--- the row of a task breaks a rule
+-- the fault of a row that breaks a rule
 abbrev pub not_closed : ℕ → ℕ → ℕ → Rule → CertFault
 not_closed claim leaf t rule = NotClosed claim leaf (id t) rule
 
--- one tree of one leaf
+-- a certificate of one tree, which is one leaf with these rows
 abbrev pub leaf : List Row → List Tree
 leaf rows = Leaf rows ∷ []
 

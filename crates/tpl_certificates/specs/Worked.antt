@@ -52,7 +52,8 @@ LazyContinuation = verdict (three (Plain ∷ []) 0 32) (a_before_c []) (three_ro
 abbrev pub QuietContinuation : Type 0
 QuietContinuation = verdict (three (Plain ∷ []) 0 0) (a_before_c (is_quiet 0 ∷ [])) (three_rows ran (0 ∷ []) (0 ∷ 1 ∷ [])) ≡ Ok tt
 
--- a job that may fail, X only where it does, Y only where it doesn't: they exclude each other, but one leaf doesn't show it
+-- a job that may fail, X only where it does, Y only where it doesn't: they exclude each other, but one leaf doesn't
+-- show it
 abbrev pub one_of_two : TaskGraph
 one_of_two = graph [] 0 (root (Work 0 true ⨾ Nothing) ∷ after 0 ret 0x50000 ∷ after 0 ret 0x60000 ∷ [])
 
@@ -171,7 +172,8 @@ ByInput =
     × (verdict on_input (given_that (input_is 0 true ∷ []) (ends_in 0 ran)) (leaf (ends ran ∷ [])) ≡ Ok tt)
     × (verdict on_input ends_ran (SplitInput 0 (Leaf (ends ran ∷ [])) (Leaf (ends faulted ∷ [])) ∷ []) ≡ Err (ClaimNot 1 2))
 
--- tokens `user` and `timeout`, and one linked to both: where that one is never requested, so are its sources; where a source isn't, it may be
+-- tokens `user` and `timeout`, and one linked to both: where that one is never requested, so are its sources; where a
+-- source isn't, it may be
 abbrev pub linked : List Token
 linked = Plain ∷ Plain ∷ Linked (0 ∷ 1 ∷ []) ∷ []
 

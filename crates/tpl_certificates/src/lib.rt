@@ -1,5 +1,5 @@
-//! Worked certificates of small task graphs: which are accepted, and at which place the others are refused. Each function's
-//! contract is one of them, proved by computing what the definitions say.
+//! Worked certificates of small task graphs: which are accepted, and at which place the others are refused. Each
+//! function's contract is one of them, proved by computing what the definitions say.
 #![tactic(auto)]
 
 pub mod row_rules;

@@ -92,7 +92,7 @@ pub fn proving_own_fault()
     ensures { ProvingOwnFault }
 {}
 
-/// The first claim whose tree has not the right shape.
+/// The first claim whose tree has the wrong shape.
 pub fn shapes()
     ensures { Shapes }
 {}

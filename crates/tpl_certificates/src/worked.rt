@@ -17,12 +17,12 @@ pub fn eager_continuation()
     ensures { EagerContinuation }
 {}
 
-/// A lazy one does.
+/// A lazy continuation keeps its antecedent past it.
 pub fn lazy_continuation()
     ensures { LazyContinuation }
 {}
 
-/// So does one whose token is never requested.
+/// An eager continuation whose token is never requested keeps its antecedent past it.
 pub fn quiet_continuation()
     ensures { QuietContinuation }
 {}

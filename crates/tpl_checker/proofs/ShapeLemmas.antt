@@ -59,7 +59,7 @@ tree_missing g claims trees i s a b = sym (s.same ∙ (ap (λ ts. misfit g (i + 
 pub claim_missing : (g : TaskGraph) (claims : List Claim) (trees : List Tree) (i : ℕ) → FitsSoFar g claims trees i → length claims ≤ i → i < length trees → Some (Shape (i + 1)) ≡ misfit g 1 claims trees
 claim_missing g claims trees i s a b = sym (s.same ∙ (ap (λ cs. misfit g (i + 1) cs (drop i trees)) (drop_all claims i a) ∙ no_claim g (i + 1) (drop i trees) (simp length-drop (omega arith))))
 
--- the most leaves of a tree with so many splits on a path
+-- the most leaves of a tree with this many splits on a path
 abbrev most_leaves : ℕ → ℕ
 most_leaves zero = 1
 most_leaves (suc n) = most_leaves n + most_leaves n + most_leaves n

@@ -11,7 +11,7 @@ use Rattle.tpl_model.specs.declared.claim.Given.TheVariants.{Input, Quiet}
 use Rattle.tpl_model.specs.Certificate.{Assumed, with_input}
 use Rattle.tpl_checker.specs.declared.assumptions.Assumptions.{Assumptions}
 
--- an input past the last entry
+-- the values of an input past the last entry: both
 abbrev pub both : Possible
 both = record { on_true = true; on_false = true }
 
@@ -21,7 +21,8 @@ excluded a RanToCompletion = a.not_ran
 excluded a Canceled = a.not_canceled
 excluded a Faulted = a.not_faulted
 
--- an input past the last entry may have both values, a token there may be requested, and a task there may end in each way
+-- an input past the last entry may have both values, a token there may be requested, and a task there may end in each
+-- way
 abbrev pub assumed_of : Assumptions → Assumed
 assumed_of a = record {
   possible = λ i value. may_have (slice_index_or a.inputs i both) value;
@@ -29,14 +30,15 @@ assumed_of a = record {
   cut = λ t f. not (mem t (excluded a f));
 }
 
+-- what is assumed where nothing is
 abbrev pub nothing_assumed : Assumed
 nothing_assumed = record { possible = λ i value. true; quiet = λ k. false; cut = λ t f. true }
 
--- where the token is never requested
+-- what is assumed where, besides, the token is never requested
 abbrev pub with_quiet : Assumed → ℕ → Assumed
 with_quiet l k = record { possible = l.possible; quiet = λ j. nat_eq j k || l.quiet j; cut = l.cut }
 
--- where this is given
+-- what is assumed where, besides, this is given
 abbrev pub with_given : Assumed → Given → Assumed
 with_given l (Input i value) = with_input l i.0 value
 with_given l (Quiet k) = with_quiet l k.0

@@ -6,6 +6,7 @@ use Rattle.tpl_checker.specs.declared.ready.Ready.{Ready}
 use Rattle.tpl_checker.specs.declared.ready.Ready.TheVariants.{Root, Child, Then, All, Any}
 use Rattle.tpl_checker.specs.Tasks.{AreTasks}
 
+-- what makes a task ready, without where it lies in memory
 abbrev pub kind_in : Ready → graph.TaskKind
 kind_in Root = graph.Root
 kind_in Child = graph.Child

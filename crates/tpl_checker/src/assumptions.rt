@@ -13,7 +13,7 @@ use tpl_graph::Graph;
 use tpl_script::{Possible, View};
 use tpl_words::{Final, Finals, InputId, TaskId, TaskSet, TokenId};
 
-/// Of these values this one.
+/// The one of these values that is `value`, if it is among them.
 fn narrowed(possible: Possible, value: bool) -> Possible
     ensures { (b : Bool) → may_have result b ≡ (may_have possible b && same value b) }
 {
@@ -51,7 +51,7 @@ impl Assumptions {
         }
     }
 
-    /// The same again.
+    /// A copy.
     pub fn copy(&self) -> Assumptions
         ensures { result ≡ self.now }
     {
@@ -64,7 +64,7 @@ impl Assumptions {
         }
     }
 
-    /// On the branch of a split where the input, one of the first 16, has this value.
+    /// The assumptions on the branch of a split where the input, one of the first 16, has this value.
     pub fn with_input(&self, input: InputId, value: bool) -> Assumptions
         requires { input.0 < 16 }
         ensures { assumed_of result ≡ with_input (assumed_of self.now) input.0 value }
@@ -74,7 +74,7 @@ impl Assumptions {
         assumed
     }
 
-    /// Where the token is never requested.
+    /// The assumptions, and that the token is never requested.
     pub(crate) fn with_quiet(&self, token: TokenId) -> Assumptions
         requires { token.0 < 32 }
         ensures { assumed_of result ≡ with_quiet (assumed_of self.now) token.0 }
@@ -84,8 +84,8 @@ impl Assumptions {
         assumed
     }
 
-    /// On the branch of a split where the task, one of the first 1,024, ends in this way if it
-    /// ends.
+    /// The assumptions on the branch of a split where the task, one of the first 1,024, ends in this way
+    /// if it ends.
     pub fn with_end(&self, task: TaskId, status: Final) -> Assumptions
         requires { task.0 < 1024 }
         ensures { assumed_of result ≡ with_end (assumed_of self.now) task.0 status }

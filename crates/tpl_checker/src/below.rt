@@ -20,7 +20,7 @@ pub struct Below {
 }
 
 impl Below {
-    /// Of each task of the graph.
+    /// The tasks below each task of the graph.
     pub fn of_graph(graph: &Graph) -> Below
         ensures { AreBelow graph.now.graph result }
     {

@@ -1,4 +1,4 @@
-//! What the paths of all bodies come to in the runs of a leaf.
+//! How the bodies may end in the runs of a leaf, and which children they may start.
 
 ghost use Rattle.std.specs.Prelude.{◌≡◌, ◌<◌, ◌&&◌, ◌||◌, ℕ, ◌+◌, [], nat_eq, length};
 ghost use Rattle.tpl_words.specs.Members.{mem};
@@ -13,9 +13,9 @@ use tpl_cert::Row;
 use tpl_graph::Graph;
 use tpl_words::{TaskId, TaskSet};
 
-/// What the paths of all bodies come to in the runs of a leaf: the tasks of which one returns,
-/// throws or acknowledges a cancellation, and the children that one starts. A child has one parent,
-/// so one set holds the children of all.
+/// How the bodies may end in the runs of a leaf, and which children they may start: the tasks of which
+/// some path returns, throws or acknowledges a cancellation, and the children that some path starts. A
+/// child has one parent, so one set holds the children of all.
 #[derive(Drop)]
 pub(crate) struct Bodies {
     pub(crate) returned: TaskSet,
@@ -25,7 +25,7 @@ pub(crate) struct Bodies {
 }
 
 impl Bodies {
-    /// Of no body.
+    /// Empty sets, before any body is read.
     fn none() -> Bodies
         ensures returned { result.returned ≡ [] }
         ensures thrown { result.thrown ≡ [] }
@@ -40,7 +40,7 @@ impl Bodies {
         }
     }
 
-    /// Of each body of the graph, read once in the runs of a leaf.
+    /// The sets for all bodies of the graph, each of which is read once.
     pub(crate) fn of_leaf(graph: &Graph, assumed: &Assumptions, rows: &[Row]) -> Bodies
         requires { length rows.now ≡ length graph.now.graph.tasks }
         ensures { AreBodies graph.now.graph (assumed_of assumed.now) rows.now result }
@@ -52,7 +52,7 @@ impl Bodies {
         bodies
     }
 
-    /// With the body of one more task.
+    /// The sets, with the body of one more task.
     fn with(self, graph: &Graph, assumed: &Assumptions, rows: &[Row], task: TaskId) -> Bodies
         requires task { is_task graph.now.graph task.0 }
         requires rows { length rows.now ≡ length graph.now.graph.tasks }

@@ -141,8 +141,8 @@ fn with_canceled(ends: Finals, canceled: bool) -> Finals
     }
 }
 
-/// A continuation may be canceled without its body: its token is requested, before its antecedent
-/// is final unless it is lazy, or the options exclude how the antecedent ends.
+/// A continuation may be canceled without its body: where its token is requested (if it is lazy, only
+/// after its antecedent has ended), or where the options exclude how the antecedent ends.
 fn may_be_canceled(
     graph: &Graph,
     assumed: &Assumptions,
@@ -163,7 +163,7 @@ fn may_be_canceled(
     by_token || some_end(excluded(ends, options))
 }
 
-/// A token that may be requested cancels at once, or once the antecedent is final.
+/// A token that may be requested cancels at once, or once the antecedent has ended.
 fn canceled_by_token(loud: bool, lazy: bool, may_be_final: bool) -> bool
     ensures { result ≡ ((loud && not lazy) || (loud && may_be_final)) }
 {

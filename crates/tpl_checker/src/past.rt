@@ -18,8 +18,8 @@ use tpl_cert::Row;
 use tpl_graph::Graph;
 use tpl_words::{TaskId, TaskSet};
 
-/// What stands past a task may be taken as settled when it has ended. For all kinds with a body
-/// that is what is below it, since a parent ends after its attached children.
+/// Whether each member of a row's `past` may be taken as settled when the task has ended. Where the
+/// task has a body that goes for what is below it, since a parent ends after its attached children.
 pub(crate) fn past(
     graph: &Graph,
     assumed: &Assumptions,
@@ -114,7 +114,7 @@ fn settled_after_some(rows: &[Row], tasks: &[TaskId]) -> TaskSet
     settled
 }
 
-/// Of the set what is settled after each of the tasks, of which WhenAny ends after one only.
+/// Of the set, those that are settled after each of the tasks, since WhenAny may end after any one of them.
 fn settled_after_each(rows: &[Row], tasks: &[TaskId], set: &TaskSet) -> TaskSet
     requires tasks { AreTasks (length rows.now) tasks.now }
     requires limit { length rows.now ≤ 1024 }

@@ -19,14 +19,14 @@ pub(crate) fn row(rows: &[Row], task: TaskId) -> &Row
     &rows[task.0 as usize]
 }
 
-/// There is a way to end among these.
+/// The set of ways to end isn't empty.
 pub fn some_end(finals: Finals) -> bool
     ensures { result ≡ some_end (has finals) }
 {
     finals.ran || finals.canceled || finals.faulted
 }
 
-/// Those of the ways to end that a continuation with the options runs after.
+/// Of these ways to end, those after which a continuation with the options runs.
 pub fn allowed(finals: Finals, options: Options) -> Finals
     ensures { (f : Final) → has result f ≡ (has finals f && allows options f) }
 {
@@ -37,7 +37,7 @@ pub fn allowed(finals: Finals, options: Options) -> Finals
     }
 }
 
-/// Those of the ways to end that a continuation with the options doesn't run after.
+/// Of these ways to end, those after which a continuation with the options doesn't run.
 pub fn excluded(finals: Finals, options: Options) -> Finals
     ensures { (f : Final) → has result f ≡ (has finals f && not (allows options f)) }
 {
@@ -48,7 +48,7 @@ pub fn excluded(finals: Finals, options: Options) -> Finals
     }
 }
 
-/// Where the condition holds, so does the other.
+/// Where the first is true, so is the second.
 pub(crate) fn implies(condition: bool, other: bool) -> bool
     ensures { result ≡ implies condition other }
 {

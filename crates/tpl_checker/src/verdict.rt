@@ -23,13 +23,13 @@ use tpl_model::CertFault;
 
 /// Checks that the certificate proves the claims of the graph, each of which can be asked of it.
 ///
-/// The first fault is told. `Shape` comes first, for the first claim that has it: it has no tree,
-/// or a tree has no claim, a leaf hasn't one row for each task, or an id isn't the graph's. Then
+/// The first fault is reported. `Shape` comes first, for the first claim that has it: it has no tree,
+/// or a tree has no claim, a leaf doesn't have one row for each task, or an id isn't the graph's. Then
 /// the claims are tested in order, the leaves of a tree in order (yes, no; ran, canceled, faulted),
 /// and the rows of a leaf in order: `NotClosed` names the first rule that the first row breaks.
 /// `ClaimNot` says that a leaf keeps the rules and doesn't prove the claim.
 ///
-/// Where there is none, each claim holds in every run, for all inputs and whatever comes from
+/// Where there is no fault, each claim holds in every run, for all inputs and whatever comes from
 /// outside. No memory is taken.
 pub fn check(graph: &Graph, claims: &[Claim], certificate: &Certificate) -> Result<(), CertFault>
     requires claims { All (Fits graph.now.graph) claims.now }

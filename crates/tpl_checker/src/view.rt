@@ -18,14 +18,14 @@ use tpl_graph::Graph;
 use tpl_script::View;
 use tpl_words::{Final, Finals, TaskId};
 
-/// How no task ends.
+/// No way to end.
 pub(crate) const NO_END: Finals = Finals {
     ran: false,
     canceled: false,
     faulted: false,
 };
 
-/// What a task's body sees in the runs of a leaf: how its subject ends is what the rows say of it.
+/// What a task's body sees in the runs of a leaf. How its subject may have ended is read off the rows.
 pub(crate) fn view(graph: &Graph, assumed: &Assumptions, rows: &[Row], task: TaskId) -> View
     requires task { is_task graph.now.graph task.0 }
     requires rows { length rows.now ≡ length graph.now.graph.tasks }

@@ -55,7 +55,8 @@ have_bodies g (Observed t) = has_body (kind g t.0)
 have_bodies g (Never t) = has_body (kind g t.0)
 have_bodies g (Excludes a b) = has_body (kind g a.0) && has_body (kind g b.0)
 
--- a claim that can be asked of a graph: its ids are the graph's, what it says of bodies is said of tasks with a body, and nothing is given twice
+-- a claim that can be asked of a graph: its ids are the graph's, what it says of bodies is said of tasks with a body,
+-- and nothing is given twice
 pub record Fits (g : TaskGraph) (claim : Claim) : Type 0 where
   pub given : AreGivenOf g claim.given
   pub tasks : TasksOf g claim.body

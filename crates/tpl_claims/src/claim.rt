@@ -29,7 +29,7 @@ impl Claim {
         Claim { given, body }
     }
 
-    /// What is given: values of inputs, and tokens that are never requested.
+    /// The givens: values of inputs, and tokens that are never requested.
     pub fn given(&self) -> &[Given]
         ensures { result.now ≡ self.now.given }
     {
@@ -43,7 +43,7 @@ impl Claim {
         self.body
     }
 
-    /// Gives the list of what is given back.
+    /// Returns the givens.
     pub fn into_given(self) -> Vec<Given>
         ensures { result.items ≡ self.given }
     {

@@ -35,7 +35,7 @@ abbrev pub IsExplained : List Row → Bool → Type 0
 IsExplained rows true = IsSet (codes "explain") rows
 IsExplained rows false = IsSet (codes "explain") rows → ⊥
 
--- a search for a certificate alone, in this form
+-- the line for a search whose answer is the certificate alone, in this form
 abbrev pub search : ℕ → Form → lines.Line
 search depth Full = line.Analyse depth
 search depth Slim = line.AnalyseIn depth Slim

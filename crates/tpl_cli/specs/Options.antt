@@ -26,30 +26,39 @@ valued name defaults = record (new_rule name) {
 abbrev pub numbered : Text → List Text → ℕ → ℕ → Rule
 numbered name defaults least most = record (valued name defaults) { parser = Some (vp.Signed (pos least) (pos most)) }
 
+-- the option `--depth`
 abbrev pub depth_rule : Rule
 depth_rule = numbered (codes "depth") (codes "2" ∷ []) 0 6
 
+-- the option `--slim`
 abbrev pub slim_rule : Rule
 slim_rule = flag (codes "slim")
 
+-- the option `--whole`
 abbrev pub whole_rule : Rule
 whole_rule = flag (codes "whole")
 
+-- the option `--workers`
 abbrev pub workers_rule : Rule
 workers_rule = numbered (codes "workers") (codes "4" ∷ []) 1 64
 
+-- the option `--claim`
 abbrev pub claim_rule : Rule
 claim_rule = numbered (codes "claim") [] 1 64
 
+-- the option `--runs`
 abbrev pub runs_rule : Rule
 runs_rule = numbered (codes "runs") (codes "100000" ∷ []) 0 1000000
 
+-- the option `--seed`
 abbrev pub seed_rule : Rule
 seed_rule = numbered (codes "seed") (codes "0" ∷ []) 0 4294967295
 
+-- the option `--explain`
 abbrev pub explain_rule : Rule
 explain_rule = flag (codes "explain")
 
+-- the option `--as`
 abbrev pub language_rule : Rule
 language_rule = valued (codes "as") (codes "mermaid" ∷ [])
 
@@ -71,5 +80,6 @@ abbrev pub language_word : Language → Text
 language_word Mermaid = codes "mermaid"
 language_word Dot = codes "dot"
 
+-- the option's text is the word for this language
 abbrev pub IsLanguage : List Row → Language → Type 0
 IsLanguage rows language = first_of (codes "as") rows ≡ Some (language_word language)

@@ -8,19 +8,23 @@ use Rattle.tpl_cli.specs.Options.{claim_rule, depth_rule, explain_rule, language
 abbrev pub no_command : App
 no_command = on_top (λ s. record s { subcommand_required = true; has_version = true }) (new_app (codes "taskgraph"))
 
+-- the subcommand `check`
 abbrev pub check_command : App
 check_command = with_rule (new_app (codes "check")) explain_rule
 
--- `analyse` with the options for which certificate is searched
+-- `analyse` with the options for which certificate is wanted
 abbrev pub searched : App
 searched = with_rule (with_rule (with_rule (new_app (codes "analyse")) depth_rule) slim_rule) whole_rule
 
+-- the subcommand `analyse`
 abbrev pub analyse_command : App
 analyse_command = with_rule searched explain_rule
 
+-- the subcommand `run`
 abbrev pub run_command : App
 run_command = with_rule (with_rule (new_app (codes "run")) workers_rule) explain_rule
 
+-- the subcommand `audit`
 abbrev pub audit_command : App
 audit_command = with_rule (new_app (codes "audit")) explain_rule
 
@@ -28,12 +32,15 @@ audit_command = with_rule (new_app (codes "audit")) explain_rule
 abbrev pub tried_runs : App
 tried_runs = with_rule (with_rule (with_rule (new_app (codes "refute")) claim_rule) runs_rule) seed_rule
 
+-- the subcommand `refute`
 abbrev pub refute_command : App
 refute_command = with_rule tried_runs explain_rule
 
+-- the subcommand `draw`
 abbrev pub draw_command : App
 draw_command = with_rule (with_rule (new_app (codes "draw")) language_rule) explain_rule
 
+-- the subcommand `trace`
 abbrev pub trace_command : App
 trace_command = with_rule (new_app (codes "trace")) explain_rule
 
@@ -41,5 +48,6 @@ trace_command = with_rule (new_app (codes "trace")) explain_rule
 abbrev pub first_commands : App
 first_commands = with_subcommand (with_subcommand (with_subcommand (with_subcommand no_command check_command.top) analyse_command.top) run_command.top) audit_command.top
 
+-- the whole command line
 abbrev pub taskgraph : App
 taskgraph = with_subcommand (with_subcommand (with_subcommand first_commands refute_command.top) draw_command.top) trace_command.top

@@ -20,18 +20,18 @@ use tpl_report::Form;
 pub enum Line {
     /// Check the certificate of a document.
     Check,
-    /// Search a certificate of a document's claims with at most so many splits on each path, 0 to 6.
+    /// Search for a certificate of a document's claims with at most this many splits on each path, 0 to 6.
     Analyse(u8),
-    /// Search a certificate of this form.
+    /// Search for a certificate of this form.
     AnalyseIn(u8, Form),
-    /// Search a certificate of this form, and write the document with it.
+    /// Search for a certificate of this form, and write the document with it.
     Certify(u8, Form),
-    /// Make a run of a document by so many workers, 1 to 64.
+    /// Make a run of a document by this many workers, 1 to 64.
     Run(u16),
     /// Audit the journal of a document.
     Audit,
-    /// Search a run in which a claim doesn't hold: the claim, 1 to 64, or each; how many runs are tried for it, at most
-    /// 1,000,000; where the random numbers begin; and whether lines are asked for on the standard error.
+    /// Search for a run in which a claim doesn't hold: the claim, 1 to 64, or each; how many runs are tried for it, at
+    /// most 1,000,000; where the random numbers begin; and whether lines are asked for on the standard error.
     Refute(Option<u8>, u32, u32, bool),
     /// Draw the graph of a document in this language.
     Draw(Language),
@@ -176,7 +176,7 @@ fn line_meant(subcommand: Subcommand, given: &ArgMatches<'_>) -> Option<Line>
     }
 }
 
-/// The line that the words meant which were read so.
+/// The line that is meant by the words that were read.
 fn line_in(matches: &ArgMatches<'_>) -> Option<Line>
     ensures { MatchOption result
         ((l : Line) → IsLineOf (subcommand_rows_of matches.now) l → ⊥)
@@ -196,7 +196,7 @@ pub fn line_of<'a>(alloc: Global, words: &'a [&'a str]) -> Result<Line, LineFaul
     ensures named { IfOk result (Names (map (λ word. word.now) words.entry.now)) }
     ensures limit { IfOk result IsWithin }
 
-    // Words that the command line takes are refused for want of memory alone.
+    // Words that the command line takes are refused only where memory ran out.
     ensures taken { let texts = map (λ word. word.now) words.entry.now in
         takes taskgraph texts ≡ true → (line : Line) → Names texts line
         → MatchResult result (λ found. found ≡ line) (λ fault. fault ≡ LineFault.Memory) }

@@ -35,7 +35,7 @@ fn with_check<'a>(alloc: Global, command: Command<'a>) -> Result<Command<'a>, Al
     )
 }
 
-/// The subcommand `analyse`, with the options for which certificate is searched.
+/// The subcommand `analyse`, with the options for which certificate is wanted.
 fn searched<'a>(alloc: Global) -> Result<Command<'a>, AllocError>
     ensures app { IfOk result (λ command. app_of command ≡ searched) }
     ensures own { IfOk result (λ command. (out-Command command).has_globals ≡ false) }
@@ -50,7 +50,7 @@ fn searched<'a>(alloc: Global) -> Result<Command<'a>, AllocError>
         .arg(whole(alloc))
 }
 
-/// The subcommand that searches a certificate.
+/// The subcommand that searches for a certificate.
 fn analyse<'a>(alloc: Global) -> Result<Command<'a>, AllocError>
     ensures app { IfOk result (λ command. app_of command ≡ analyse_command) }
     ensures own { IfOk result (λ command. (out-Command command).has_globals ≡ false) }
@@ -110,7 +110,7 @@ fn tried_runs<'a>(alloc: Global) -> Result<Command<'a>, AllocError>
         .arg(seed(alloc))
 }
 
-/// The subcommand that searches a run in which a claim fails.
+/// The subcommand that searches for a run in which a claim fails.
 fn refute<'a>(alloc: Global) -> Result<Command<'a>, AllocError>
     ensures app { IfOk result (λ command. app_of command ≡ refute_command) }
     ensures own { IfOk result (λ command. (out-Command command).has_globals ≡ false) }

@@ -31,7 +31,7 @@ fn asked_by(line: Line) -> Asked
     }
 }
 
-/// What the reasons are to go by, if there may be one to tell: the document wasn't read, or the answer is no, or it is
+/// What was asked for, where there may be a reason to report: the document wasn't read, or the answer is no, or it is
 /// yes, perhaps to no claim at all.
 fn told_of(line: Line, exit: Exit) -> Option<Asked>
     requires { IsWithin line }

@@ -26,7 +26,7 @@ verdict_only doc Fault text accepted is = absurd is
 unreadable_never : (fault : ReadFault) (text : List ℕ) → fault ≡ faults.Memory → IsUnreadable fault text → ⊥
 unreadable_never fault text e is = subst (λ (f : ReadFault). IsUnreadable f text) e is
 
--- a document that is accepted is answered so
+-- a document whose certificate is accepted is answered `accepted`
 only_accepted : SpellsOneDocument → SpelledHasNoFault → (bytes : List ℕ) (doc : DocumentValue) → Spells bytes doc → Accepts doc.graph.graph doc.claims doc.certificate → IsOnlyAccepted bytes
 only_accepted one faultless bytes doc spelled accepted exit text (inl found) =
     verdict_only doc exit text accepted (subst (λ (d : DocumentValue). IsVerdict d exit text) (one bytes doc found.0 spelled found.1) found.2)

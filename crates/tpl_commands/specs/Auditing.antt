@@ -22,6 +22,7 @@ abbrev pub run_text : Bool → Option Failure → List ℕ
 run_text complete None = ended complete
 run_text complete (Some failure) = ended complete ++ claim_fails failure.claim failure.place
 
+-- the text for a verdict
 abbrev pub verdict_text : Verdict → List ℕ
 verdict_text (ruled.Run complete fails) = run_text complete fails
 verdict_text (ruled.NotAllowed place) = not_allowed place
@@ -33,6 +34,7 @@ run_exit true None = Success
 run_exit false None = Failed
 run_exit complete (Some failure) = Failed
 
+-- the exit for a verdict
 abbrev pub verdict_exit : Verdict → Exit
 verdict_exit (ruled.Run complete fails) = run_exit complete fails
 verdict_exit (ruled.NotAllowed place) = Failed
@@ -67,9 +69,11 @@ abbrev pub IsAuditWith : DocumentValue → Option (List Bool) → Exit → List 
 IsAuditWith doc None exit text = (exit ≡ Unreadable) × (text ≡ unreadable_start (codes "Missing"))
 IsAuditWith doc (Some inputs) exit text = IsAudited doc inputs exit text ⊎ IsNoJournal doc exit text
 
+-- the answer of `audit` to a document
 abbrev pub IsAudit : DocumentValue → Exit → List ℕ → Type 0
 IsAudit doc exit text = IsAuditWith doc (inputs_of doc) exit text
 
+-- the answer of `audit` to bytes
 abbrev pub Audits : Answers
 Audits = ToDocument IsAudit
 

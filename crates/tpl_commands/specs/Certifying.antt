@@ -16,7 +16,7 @@ use Rattle.tpl_commands.specs.Documents.{ToDocument}
 use Rattle.tpl_commands.specs.Checking.{ClaimsHold}
 use Rattle.tpl_commands.specs.Finding.{written_trees, IsTakenBack, IsNotFound}
 
--- The trees are a certificate of this form with at most so many splits on each path, which is accepted
+-- The trees are a certificate of this form with at most this many splits on each path, which is accepted
 -- for the document's claims.
 pub record AreFound (depth : ℕ) (form : Form) (doc : DocumentValue) (trees : List Tree) : Type 0 where
   pub accepted : Accepts doc.graph.graph doc.claims trees
@@ -41,13 +41,15 @@ pub record IsTooLong (depth : ℕ) (form : Form) (doc : DocumentValue) : Type 0 
   pub holds : HoldsCertificate input (written_trees doc.graph.names trees) text
   pub long : longest < length text
 
--- the document with a certificate; or the number of the first claim for which none was found, or that the document would be too long
+-- the document with a certificate; or the number of the first claim for which none was found, or that the document
+-- would be too long
 abbrev pub IsCertifying : ℕ → Form → DocumentValue → Exit → List ℕ → Type 0
 IsCertifying depth form doc Success text = IsCertified depth form doc text
 IsCertifying depth form doc Failure text =
     IsNotFound depth doc text ⊎ (IsTooLong depth form doc × (text ≡ codes "too long\n"))
 IsCertifying depth form doc exit text = ⊥
 
+-- the answer of `analyse --whole` to bytes
 abbrev pub Certifies : ℕ → Form → Answers
 Certifies depth form = ToDocument (IsCertifying depth form)
 

@@ -49,6 +49,7 @@ IsVerdict doc Failure text =
     (fault : CertFault) × IsRefused doc fault × IsRefusal doc.graph.names.tasks fault text
 IsVerdict doc exit text = ⊥
 
+-- the answer of `check` to bytes
 abbrev pub Checks : Answers
 Checks = ToDocument IsVerdict
 

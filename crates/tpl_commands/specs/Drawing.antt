@@ -13,7 +13,7 @@ use Rattle.tpl_commands.specs.declared.exit.Exit.TheVariants.{Success}
 use Rattle.tpl_commands.specs.Responding.{Answers}
 use Rattle.tpl_commands.specs.Documents.{ToDocument}
 
--- how so many tasks may end, where nothing is wrong with the certificate
+-- how this many tasks may end, where nothing is wrong with the certificate
 abbrev pub endings_after : Result (Unit {0}) CertFault → List Tree → ℕ → List Finals
 endings_after (Ok x) certificate tasks = endings certificate tasks
 endings_after (Err fault) certificate tasks = []
@@ -23,10 +23,11 @@ abbrev pub shown_endings : DocumentValue → List Finals
 shown_endings doc =
     endings_after (verdict doc.graph.graph doc.claims doc.certificate) doc.certificate (length doc.graph.graph.tasks)
 
--- the picture of its graph, coloured so
+-- the answer is the picture of the document's graph, coloured by how its tasks may end
 abbrev pub IsDrawing : Language → DocumentValue → Exit → List ℕ → Type 0
 IsDrawing language doc exit text =
     (exit ≡ Success) × (text ≡ picture language doc.graph (shown_endings doc))
 
+-- the answer of `draw` to bytes
 abbrev pub Draws : Language → Answers
 Draws language = ToDocument (IsDrawing language)

@@ -3,7 +3,7 @@ use Rattle.std.specs.Prelude.{ℕ, Bool, true, false}
 use Rattle.tpl_commands.specs.declared.exit.Exit.{Exit}
 use Rattle.tpl_commands.specs.declared.exit.Exit.TheVariants.{Success, Failure, Usage, Unreadable, Memory, Device, Fault}
 
--- the status of the process
+-- the exit status of the process
 abbrev pub exit_code : Exit → ℕ
 exit_code Success = 0
 exit_code Failure = 1

@@ -52,7 +52,7 @@ CanBePut doc trees value =
     (input bytes : List ℕ) → Spells input doc → HoldsCertificate input value bytes → length bytes ≤ longest
     → IsTakenBack doc trees bytes
 
--- The text is that of a certificate of this form with at most so many splits on each path, which is
+-- The text is that of a certificate of this form with at most this many splits on each path, which is
 -- accepted for the document's claims, and so they hold. As the member `certificate` of the document it is read as
 -- these trees, and accepted.
 pub record IsCertificate (depth : ℕ) (form : Form) (doc : DocumentValue) (text : List ℕ) : Type 0 where
@@ -78,5 +78,6 @@ IsFinding depth form doc Success text = IsCertificate depth form doc text
 IsFinding depth form doc Failure text = IsNotFound depth doc text
 IsFinding depth form doc exit text = ⊥
 
+-- the answer of `analyse` to bytes
 abbrev pub Finds : ℕ → Form → Answers
 Finds depth form = ToDocument (IsFinding depth form)

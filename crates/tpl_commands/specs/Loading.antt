@@ -13,6 +13,7 @@ pub record Loads {R : Type 0} (remaining : R → Option (List ℕ)) (old new : C
   pub reads : Reads remaining old new input
   pub spelled : Spells input doc
 
+-- the tokens that a start requests first are the graph's
 abbrev pub AreTokens : TaskGraph → Option StartValue → Type 0
 AreTokens g None = Unit {0}
 AreTokens g (Some start) = All (is_token g) start.request

@@ -15,6 +15,7 @@ use Rattle.tpl_commands.specs.Drawing.{Draws}
 use Rattle.tpl_commands.specs.Auditing.{Audits, IsAudit, NamesNoFailure}
 use Rattle.tpl_commands.specs.declared.exit.Exit.{Exit}
 
+-- the answer to what is asked of a document
 abbrev pub answers_of : Ask → Answers
 answers_of Check = Checks
 answers_of (Analyse depth) = Finds depth Full
@@ -65,8 +66,8 @@ pub record Certified {R W : Type 0} (remaining : R → Option (List ℕ)) (from_
   pub certified : IsCertified depth form doc text
   pub writes : Writes contents to_old to_new text
 
--- What was read spells a document, and the audit of its journal was written, which ends so. Where its
--- certificate is accepted, no claim is named as failing.
+-- What was read spells a document, and the audit of its journal was written, which ends with this exit. Where
+-- its certificate is accepted, no claim is named as failing.
 pub record Audited {R W : Type 0} (remaining : R → Option (List ℕ)) (from_old from_new : Counting R) (contents : W → Option (List ℕ)) (to_old to_new : Counting W) (exit : Exit) : Type 0 where
   pub input : List ℕ
   pub reads : Reads remaining from_old from_new input

@@ -1,4 +1,4 @@
--- With which inputs a document's graph is run.
+-- The inputs with which a document's graph is run.
 use Rattle.std.specs.Prelude.{Bool, true, false, List, [], Option, Some, None, nat_eq}
 use Rattle.tpl_reader.specs.Begin.{StartValue}
 use Rattle.tpl_reader.specs.Document.{DocumentValue}
@@ -8,6 +8,7 @@ abbrev pub no_inputs : Bool → Option (List Bool)
 no_inputs true = Some []
 no_inputs false = None
 
+-- the values that a start gives; without a start the other ones, if there are any
 abbrev pub values_of : Option StartValue → Option (List Bool) → Option (List Bool)
 values_of None otherwise = otherwise
 values_of (Some start) otherwise = Some start.inputs

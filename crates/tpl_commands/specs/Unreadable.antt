@@ -1,4 +1,4 @@
--- The words for what is wrong with a document. Want of memory has none: it is told apart.
+-- The words for what is wrong with a document. Out of memory has none: it has a line and an exit of its own.
 use Rattle.std.specs.Prelude.{◌≡◌, ℕ, List, Option, Some, None, codes}
 use Rattle.tpl_graph.specs.declared.fault.OptionsFault.{OptionsFault}
 use Rattle.tpl_graph.specs.declared.fault.OptionsFault.TheVariants as options
@@ -16,11 +16,13 @@ use Rattle.tpl_reader.specs.declared.fault.ReadFault.{ReadFault}
 use Rattle.tpl_reader.specs.declared.fault.ReadFault.TheVariants as read
 use Rattle.tpl_commands.specs.Texts.{unreadable, unreadable_part, unreadable_at, unreadable_graph, unreadable_start}
 
+-- the word for what is wrong with options
 abbrev pub options_word : OptionsFault → List ℕ
 options_word options.ExcludesAll = codes "ExcludesAll"
 options_word options.LongAndSync = codes "LongAndSync"
 options_word options.WrongKind = codes "WrongKind"
 
+-- the word for what is wrong with a graph
 abbrev pub graph_word : Why → Option (List ℕ)
 graph_word graph.TooMany = Some (codes "TooMany")
 graph_word graph.BadName = Some (codes "BadName")
@@ -36,24 +38,27 @@ graph_word graph.ObserveNothing = Some (codes "ObserveNothing")
 graph_word graph.LinkPlace = Some (codes "LinkPlace")
 graph_word graph.Memory = None
 
+-- the word for what is wrong with a claim
 abbrev pub claim_word : ClaimFault → List ℕ
 claim_word claim.TooMany = codes "TooMany"
 claim_word claim.Unknown = codes "Unknown"
 claim_word claim.NoBody = codes "NoBody"
 claim_word claim.GivenTwice = codes "GivenTwice"
 
+-- the word for what is wrong with a tree
 abbrev pub tree_word : TreeFault → Option (List ℕ)
 tree_word tree.Shape = Some (codes "Shape")
 tree_word tree.Unknown = Some (codes "Unknown")
 tree_word tree.Limit = Some (codes "Limit")
 tree_word tree.Memory = None
 
+-- the word for what is wrong with a start
 abbrev pub start_word : StartFault → List ℕ
 start_word start.Unknown = codes "Unknown"
 start_word start.Missing = codes "Missing"
 start_word start.FailNot = codes "FailNot"
 
--- the line for a part that hasn't its form
+-- the line for a part of the wrong shape
 abbrev pub shape_text : Part → List ℕ
 shape_text part.Top = unreadable (codes "shape top")
 shape_text (part.Task n) = unreadable_at (codes "shape task") n

@@ -19,7 +19,7 @@ pub struct Answer {
     ghost verdict: { IsTrue (is_verdict exit) },
 }
 
-/// Writes the text, after which the program ends so, or with a failed write.
+/// Writes the text. The program then ends with this exit, or with that of a failed write.
 pub fn put<W: Write>(exit: Exit, text: &[u8], to: &mut Counting<W>) -> Exit
     requires { exit ≢ Exit.Device }
     ensures { Puts W.contents to.old to.new exit text.now result }
@@ -30,14 +30,14 @@ pub fn put<W: Write>(exit: Exit, text: &[u8], to: &mut Counting<W>) -> Exit
     }
 }
 
-/// Writes the line for want of memory.
+/// Writes the line `out of memory`.
 pub fn put_out_of_memory<W: Write>(to: &mut Counting<W>) -> Exit
     ensures { Puts W.contents to.old to.new Exit.Memory (codes "out of memory\n") result }
 {
     put(Exit::Memory, b"out of memory\n", to)
 }
 
-/// Writes the answer whole, or the line for want of memory.
+/// Writes the answer whole, or the line `out of memory`.
 pub fn put_answer<W: Write>(answer: Result<Answer, AllocError>, to: &mut Counting<W>) -> Exit
     ensures { MatchResult answer
         (λ given. Puts W.contents to.old to.new given.exit (string_bytes given.text) result)

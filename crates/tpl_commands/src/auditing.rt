@@ -87,7 +87,7 @@ fn audit_with(alloc: Global, document: &Document, inputs: Inputs) -> Result<Answ
     }
 }
 
-/// The line for a text that is no journal. Want of memory has none.
+/// The line for a text that is no journal. Out of memory has none.
 fn no_journal_text(alloc: Global, fault: JournalFault) -> Result<String, AllocError>
     ensures { IfOk result (λ text. IsNoJournalText fault (string_bytes text)) }
 {
@@ -98,7 +98,7 @@ fn no_journal_text(alloc: Global, fault: JournalFault) -> Result<String, AllocEr
     }
 }
 
-/// The answer for a verdict. Want of memory has none.
+/// The answer for a verdict. Out of memory has none.
 fn verdict_answer(alloc: Global, verdict: Verdict) -> Result<Answer, AllocError>
     ensures exit { IfOk result (λ given. given.exit ≡ verdict_exit verdict) }
     ensures text { IfOk result (λ given. string_bytes given.text ≡ verdict_text verdict) }

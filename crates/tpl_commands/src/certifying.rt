@@ -25,8 +25,8 @@ use tpl_cert::{Certificate, Tree};
 use tpl_graph::Graph;
 use tpl_reader::{Document, LONGEST, certificate_is_read_back, one_document, read_document};
 
-/// Searches a certificate of a document's claims, and answers the document with it in place of the one that it has, if
-/// any.
+/// Searches for a certificate of a document's claims, and answers the document with it in place of the one that it
+/// has, if any.
 #[derive(Drop)]
 pub struct Certify<T> {
     /// The most splits on each path.

@@ -19,7 +19,7 @@ use tpl_words::Finals;
 /// Draws the graph of a document.
 #[derive(Drop)]
 pub struct Draw {
-    /// In which language.
+    /// The language of the picture.
     pub language: Language,
 }
 

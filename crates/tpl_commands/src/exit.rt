@@ -8,7 +8,7 @@ ghost use Rattle.tpl_commands.specs.Exit.{exit_code};
 pub enum Exit {
     /// The certificate is accepted, a certificate was found, the run is complete and no claim fails, or help was given.
     Success,
-    /// It isn't.
+    /// Not accepted, not found, not complete, or a claim fails.
     Failure,
     /// The words of the command line name no command.
     Usage,
@@ -23,7 +23,7 @@ pub enum Exit {
 }
 
 impl Exit {
-    /// The status of the process.
+    /// The exit status of the process.
     pub fn code(self) -> u8
         ensures { result ≡ exit_code self }
     {

@@ -24,8 +24,8 @@ use tpl_cert::{Tree, TreeToFault, certificates_nest_little, tree_to};
 use tpl_graph::Graph;
 use tpl_reader::{Document, certificate_is_read_back, one_document, read_document};
 
-/// Searches a certificate of a document's claims. The certificate that the document has, if any, is read like the rest
-/// of it, and not used.
+/// Searches for a certificate of a document's claims. The certificate that the document has, if any, is read like the
+/// rest of it, and not used.
 #[derive(Drop)]
 pub struct Analyse<T> {
     /// The most splits on each path.

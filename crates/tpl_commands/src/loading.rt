@@ -19,9 +19,9 @@ use std::io::{Read, Write};
 use tpl_journal::Counting;
 use tpl_reader::{Document, read_document};
 
-/// Reads a document to its end, at most 16,777,216 bytes. Where that can't be, or they spell none, the line for it is
-/// written and its exit answered. It is made whole before its first byte is written, so the line for want of memory
-/// stands alone.
+/// Reads a document to its end, at most 16,777,216 bytes. Where reading fails, or the bytes spell no document, the
+/// line for that is written and its exit returned. The line is made whole before its first byte is written, so the
+/// line `out of memory` stands alone.
 pub fn load<R: Read, W: Write>(
     alloc: Global,
     from: &mut Counting<R>,

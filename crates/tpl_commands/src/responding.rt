@@ -18,13 +18,13 @@ pub trait Command {
     // The exit and the text for a document of these bytes.
     ghost answers: { Self → List ℕ → Exit → List ℕ → Type 0 };
 
-    /// Answers a document of these bytes; want of memory is the only error.
+    /// Answers a document of these bytes; out of memory is the only error.
     fn answer(&self, alloc: Global, bytes: &[u8]) -> Result<Answer, AllocError>
         ensures { IfOk result (λ given.
             answers self.now bytes.now given.exit (string_bytes given.text)) };
 }
 
-/// Reads a document whole. Where that can't be, its line is written and its exit answered.
+/// Reads a document whole. Where that fails, the line for it is written and its exit returned.
 pub fn read_input<R: Read, W: Write>(
     alloc: Global,
     from: &mut Counting<R>,
@@ -45,7 +45,7 @@ pub fn read_input<R: Read, W: Write>(
 }
 
 /// Reads a document whole and writes the command's answer to it. The answer is made whole before
-/// its first byte is written, so the line for want of memory stands alone.
+/// its first byte is written, so the line `out of memory` stands alone.
 pub fn respond<C: Command, R: Read, W: Write>(
     command: &C,
     alloc: Global,

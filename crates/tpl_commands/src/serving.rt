@@ -23,9 +23,9 @@ use tpl_journal::Counting;
 pub enum Ask {
     /// Is its certificate accepted?
     Check,
-    /// Which certificate do its claims have, with at most so many splits on each path (0 to 6)?
+    /// Which certificate do its claims have, with at most this many splits on each path (0 to 6)?
     Analyse(u8),
-    /// Which certificate of this form do its claims have, with at most so many splits on each path (0 to 6)?
+    /// Which certificate of this form do its claims have, with at most this many splits on each path (0 to 6)?
     AnalyseIn(u8, Form),
     /// What is the document with such a certificate in place of its own?
     Certify(u8, Form),

@@ -51,7 +51,7 @@ pub(crate) fn not_found(alloc: Global, claim: usize) -> Result<String, AllocErro
     format!(in alloc; "not found: claim {claim}\n")
 }
 
-/// Whether each task has ended.
+/// The line that says whether each task has ended.
 pub(crate) fn ended(complete: bool) -> &'static str
     ensures { result.now ≡ ended complete }
 {
@@ -62,7 +62,7 @@ pub(crate) fn ended(complete: bool) -> &'static str
     }
 }
 
-/// Whether each task has ended, and where a claim fails.
+/// The line that says whether each task has ended, and the one for a claim that fails.
 pub(crate) fn failing(
     alloc: Global,
     complete: bool,

@@ -22,7 +22,7 @@ fn options_word(fault: OptionsFault) -> &'static str
     }
 }
 
-/// What is wrong with a graph. Want of memory has no word.
+/// The word for what is wrong with a graph. Out of memory has none.
 fn graph_word(why: Why) -> Option<&'static str>
     ensures { option_map (λ word. word.now) result ≡ graph_word why }
 {
@@ -54,7 +54,7 @@ fn claim_word(fault: ClaimFault) -> &'static str
     }
 }
 
-/// What is wrong with a tree. Want of memory has no word.
+/// The word for what is wrong with a tree. Out of memory has none.
 fn tree_word(fault: TreeFault) -> Option<&'static str>
     ensures { option_map (λ word. word.now) result ≡ tree_word fault }
 {
@@ -87,7 +87,7 @@ fn shape_text(alloc: Global, part: Part) -> Result<String, AllocError>
     }
 }
 
-/// The line for a document that can't be read. Want of memory has none.
+/// The line for a document that can't be read. Out of memory has none.
 fn unreadable_text(alloc: Global, fault: ReadFault) -> Result<String, AllocError>
     ensures { IfOk result (λ text. IsUnreadable fault (string_bytes text)) }
 {

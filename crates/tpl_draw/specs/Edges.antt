@@ -9,10 +9,11 @@ use Rattle.tpl_draw.specs.declared.edge.Tie.TheVariants.{After, Argument, Child,
 use Rattle.tpl_draw.specs.declared.edge.Edge.{Edge}
 use Rattle.tpl_draw.specs.Below.{below}
 
+-- an edge of this sort, from one number to another
 abbrev pub edge : Tie → ℕ → ℕ → Edge
 edge tie from to = record { tie = tie; from = from; to = to }
 
--- an edge from each of them to one
+-- an edge from each of these tasks or tokens to one
 abbrev pub from_each : Tie → List ℕ → ℕ → List Edge
 from_each tie xs to = map (λ x. edge tie x to) xs
 
@@ -29,7 +30,7 @@ abbrev mutual
   acts_of t (When f first second) = acts t first ++ acts t second
   acts_of t s = []
 
--- of a task: its own token, what it continues, what it waits for, and what its body does
+-- the edges of a task: of its own token, what it continues, what it waits for, and what its body does
 abbrev pub task_edges : TaskGraph → ℕ → List Edge
 task_edges g t =
     from_each Own (option_to_list (task g t).token) t
@@ -37,7 +38,7 @@ task_edges g t =
     ++ from_each Argument (args_of (kind g t)) t
     ++ acts t (body g t)
 
--- of a token: those that it is linked to
+-- the edges of a token: one from each token to which it is linked
 abbrev pub token_edges : TaskGraph → ℕ → List Edge
 token_edges g k = from_each Link (sources g k) k
 

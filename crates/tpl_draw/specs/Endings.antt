@@ -11,6 +11,7 @@ use Rattle.tpl_model.specs.Claims.{Claim, IsGiven}
 use Rattle.tpl_model.specs.Certificate.{Tree, SplitInput, SplitEnd, Leaf, row, Accepts}
 use Rattle.tpl_draw.specs.Below.{below}
 
+-- no way to end
 abbrev pub no_ends : Finals
 no_ends = record { ran = false; canceled = false; faulted = false }
 
@@ -29,7 +30,7 @@ abbrev pub ends : List Tree → ℕ → Finals
 ends [] t = no_ends
 ends (tree ∷ trees) t = either (tree_ends tree t) (ends trees t)
 
--- the same for each of so many tasks
+-- how each of the first n tasks may end by the trees
 abbrev pub endings : List Tree → ℕ → List Finals
 endings trees n = below (λ t. ends trees t ∷ []) n
 
@@ -38,7 +39,8 @@ abbrev pub IsSomeGiven : TaskGraph → List Bool → List Event → List Claim �
 IsSomeGiven g v h [] = ⊥
 IsSomeGiven g v h (claim ∷ claims) = IsGiven g v h claim.given ⊎ IsSomeGiven g v h claims
 
--- where a certificate is accepted, a task ends as one of its rows says, in each run of which what one of the claims gives is true
+-- where a certificate is accepted, a task ends as one of its rows says, in each run of which what one of the claims
+-- gives is true
 abbrev pub EndingsAreTrue : Type 0
 EndingsAreTrue =
     (g : TaskGraph) (claims : List Claim) (certificate : List Tree) → IsGraph g → Accepts g claims certificate

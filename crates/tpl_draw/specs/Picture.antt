@@ -17,9 +17,11 @@ use Rattle.tpl_draw.specs.Below.{below}
 use Rattle.tpl_draw.specs.Edges.{edges}
 use Rattle.tpl_draw.specs.Marks.{mark_at}
 
+-- the name of the t-th task; empty past the last one
 abbrev pub task_name : Names → ℕ → List ℕ
 task_name names t = slice_index_or names.tasks t []
 
+-- the name of the k-th token; empty past the last one
 abbrev pub token_name : Names → ℕ → List ℕ
 token_name names k = slice_index_or names.tokens k []
 
@@ -36,7 +38,7 @@ mermaid_node kinds.Then name mark = codes "  t_" ++ (name ++ (codes "([\"" ++ (n
 mermaid_node kinds.All name mark = codes "  t_" ++ (name ++ (codes "{{\"" ++ (name ++ (codes "<br/>all\"}}" ++ (mark ++ codes "\n")))))
 mermaid_node kinds.Any name mark = codes "  t_" ++ (name ++ (codes "{\"" ++ (name ++ (codes "<br/>any\"}" ++ (mark ++ codes "\n")))))
 
--- the same in DOT
+-- the node of a task in DOT, whose shape says its kind, and its mark how it may end
 abbrev pub dot_node : Kind → (name mark : List ℕ) → List ℕ
 dot_node kinds.Root name mark = codes "  t_" ++ (name ++ (codes " [label=\"" ++ (name ++ (codes "\\nroot\", shape=box" ++ (mark ++ codes "];\n")))))
 dot_node kinds.Child name mark = codes "  t_" ++ (name ++ (codes " [label=\"" ++ (name ++ (codes "\\nchild\", shape=Mrecord" ++ (mark ++ codes "];\n")))))
@@ -44,6 +46,7 @@ dot_node kinds.Then name mark = codes "  t_" ++ (name ++ (codes " [label=\"" ++ 
 dot_node kinds.All name mark = codes "  t_" ++ (name ++ (codes " [label=\"" ++ (name ++ (codes "\\nall\", shape=hexagon" ++ (mark ++ codes "];\n")))))
 dot_node kinds.Any name mark = codes "  t_" ++ (name ++ (codes " [label=\"" ++ (name ++ (codes "\\nany\", shape=diamond" ++ (mark ++ codes "];\n")))))
 
+-- the node of a task, in either language
 abbrev pub task_node : Language → Kind → (name mark : List ℕ) → List ℕ
 task_node Mermaid k name mark = mermaid_node k name mark
 task_node Dot k name mark = dot_node k name mark
@@ -60,10 +63,12 @@ start_word false true false = codes "OnlyOnCanceled"
 start_word false false true = codes "OnlyOnFaulted"
 start_word false false false = codes "never"
 
+-- what is added for a lazy continuation
 abbrev pub lazy_word : Bool → List ℕ
 lazy_word true = codes " lazy"
 lazy_word false = []
 
+-- what is added for a synchronous continuation
 abbrev pub synchronous_word : Bool → List ℕ
 synchronous_word true = codes " synchronous"
 synchronous_word false = []
@@ -82,6 +87,7 @@ start_text o =
     ++ lazy_word (lazy_cancellation o)
     ++ synchronous_word (execute_synchronously o)
 
+-- the word at the edge to a child
 abbrev pub child_word : Bool → List ℕ
 child_word true = codes "attached"
 child_word false = codes "detached"
@@ -99,22 +105,24 @@ label_of Link from to = codes "linked"
 abbrev pub label : TaskGraph → Edge → List ℕ
 label g e = label_of e.tie (options g e.from) (options g e.to)
 
--- the picture's end of an edge is a token's node, or a task's
+-- an edge of this sort begins at a token's node, and not at a task's
 abbrev pub begins_at_token : Tie → Bool
 begins_at_token Own = true
 begins_at_token Link = true
 begins_at_token tie = false
 
+-- an edge of this sort ends at a token's node, and not at a task's
 abbrev pub ends_at_token : Tie → Bool
 ends_at_token Cancel = true
 ends_at_token Link = true
 ends_at_token tie = false
 
--- the node of a token or a task: its name, behind what tells tokens from tasks
+-- what stands before a name in its node: one text for tokens, another for tasks
 abbrev pub sort_word : Bool → List ℕ
 sort_word true = codes "k_"
 sort_word false = codes "t_"
 
+-- the name of a token or a task
 abbrev pub name_of : Names → Bool → ℕ → List ℕ
 name_of names true k = token_name names k
 name_of names false t = task_name names t
@@ -147,6 +155,7 @@ edge_text Mermaid from_sort from line label to_sort to =
 edge_text Dot from_sort from line label to_sort to =
     codes "  " ++ (from_sort ++ (from ++ (codes " -> " ++ (to_sort ++ (to ++ (codes " [style=" ++ (line ++ (label ++ codes "];\n"))))))))
 
+-- the line of an edge of the graph
 abbrev pub edge_line : Language → Named → Edge → List ℕ
 edge_line language n e =
     edge_text language
@@ -154,9 +163,11 @@ edge_line language n e =
     (line_word language e.tie) (quoted language (label n.graph e))
     (sort_word (ends_at_token e.tie)) (name_of n.names (ends_at_token e.tie) e.to)
 
+-- the line of the k-th token
 abbrev pub token_line : Language → Named → ℕ → List ℕ
 token_line language n k = token_node language (token_name n.names k)
 
+-- the line of the t-th task, coloured by how it may end
 abbrev pub task_line : Language → Named → List Finals → ℕ → List ℕ
 task_line language n ends t =
     task_node language (kind_of (kind n.graph t)) (task_name n.names t) (mark_at language ends t)

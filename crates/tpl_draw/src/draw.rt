@@ -94,7 +94,7 @@ fn add_edges(
 /// The picture of a graph: a node for each token and each task, then an edge for each link of a token, for each task's
 /// own token, for what it continues and what it waits for, and for each child that its body starts and each token
 /// that it requests. A task that may end otherwise than by running to completion is coloured by its place in `ends`;
-/// past the end of these none is. Want of memory is the only error.
+/// past the end of these none is. Out of memory is the only error.
 pub fn picture(
     alloc: Global,
     language: Language,

@@ -68,7 +68,7 @@ fn ends(trees: &[Tree], task: usize) -> Finals
     found
 }
 
-/// How each of so many tasks may end by the trees of a certificate.
+/// How each of this many tasks may end by the trees of a certificate.
 pub fn endings(alloc: Global, trees: &[Tree], tasks: usize) -> Result<Vec<Finals>, AllocError>
     ensures { IfOk result (λ found. found.items ≡ endings trees.now tasks) }
 {

@@ -39,7 +39,7 @@ fn mermaid_node(alloc: Global, kind: Kind, name: &str, mark: &str) -> Result<Str
     }
 }
 
-/// The same in DOT.
+/// The node of a task in DOT, whose shape says its kind, and its mark how it may end.
 fn dot_node(alloc: Global, kind: Kind, name: &str, mark: &str) -> Result<String, AllocError>
     ensures { IfOk result (λ line. string_bytes line ≡ dot_node kind name.now mark.now) }
 {
@@ -186,7 +186,7 @@ fn ends_at_token(tie: Tie) -> bool
     matches!(tie, Tie::Cancel | Tie::Link)
 }
 
-/// What tells the nodes of tokens from those of tasks.
+/// What stands before a name in its node: one text for tokens, another for tasks.
 fn sort_word(is_token: bool) -> &'static str
     ensures { result.now ≡ sort_word is_token }
 {

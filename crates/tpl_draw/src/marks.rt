@@ -24,7 +24,7 @@ fn mermaid_mark(ran: bool, canceled: bool, faulted: bool) -> &'static str
     }
 }
 
-/// The same in DOT, as the colour of the class.
+/// The colour of a task in DOT, by whether it may run to completion, be canceled, fault; that of its class in Mermaid.
 fn dot_mark(ran: bool, canceled: bool, faulted: bool) -> &'static str
     ensures { result.now ≡ dot_mark ran canceled faulted }
 {
@@ -40,7 +40,7 @@ fn dot_mark(ran: bool, canceled: bool, faulted: bool) -> &'static str
     }
 }
 
-/// What stands at the node of a task that may end so.
+/// What stands at the node of a task that may end in these ways.
 fn mark(language: Language, ends: Finals) -> &'static str
     ensures { result.now ≡ mark language ends }
 {

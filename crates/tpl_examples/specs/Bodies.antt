@@ -72,11 +72,12 @@ EmptyBody =
     × (status empty_graph [] empty_left 0 ≡ Completed RanToCompletion)
     × (ending empty_graph [] empty_left 0 ≡ Some (record { place = 2; actor = Some (worker 1); final = RanToCompletion; carried = []; winner = None }))
 
--- nothing has happened
+-- the list without events, before anything has happened
 abbrev pub nothing_happened : List Event
 nothing_happened = []
 
--- a root waits to run, and any worker begins it; the outside begins nothing, and nobody begins a task that the graph hasn't
+-- a root waits to run, and any worker begins it; the outside begins nothing, and nobody begins a task that the graph
+-- doesn't have
 abbrev pub RootOpensReady : Type 0
 RootOpensReady =
     (status empty_graph [] nothing_happened 0 ≡ WaitingToRun)

@@ -169,7 +169,8 @@ maybe_begun = played (begin 1 0 ∷ step 1 0 ∷ [])
 abbrev pub not_started : List Event
 not_started = played (begin 1 0 ∷ step 1 0 ∷ leave 1 0 ∷ [])
 
--- a child that is not started stays created; it is settled with its parent, and so is its own child, and the run is complete without them
+-- a child that is not started stays created; it is settled with its parent, and so is its own child, and the run is
+-- complete without them
 abbrev pub ChildThatIsNotStarted : Type 0
 ChildThatIsNotStarted =
     IsGraph maybe_graph
@@ -215,7 +216,8 @@ order_graph = graph (root (Start 2 ⨾ Start 1 ⨾ Throw 0 ⨾ Nothing) ∷ chil
 abbrev pub in_any_order : List Event
 in_any_order = played (begin 1 0 ∷ step 1 0 ∷ step 1 0 ∷ begin 2 1 ∷ step 2 1 ∷ leave 2 1 ∷ step 1 0 ∷ leave 1 0 ∷ begin 2 2 ∷ step 2 2 ∷ leave 2 2 ∷ close 2 0 ∷ [])
 
--- a parent carries its own exception, then its children's in the order of their start statements, not of their ids and not of their endings
+-- a parent carries its own exception, then its children's in the order of their start statements, not of their ids and
+-- not of their endings
 abbrev pub ExceptionsInTheOrderOfTheText : Type 0
 ExceptionsInTheOrderOfTheText =
     IsGraph order_graph

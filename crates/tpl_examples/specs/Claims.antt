@@ -125,7 +125,8 @@ ExceptionIsObserved =
     × Holds observing_graph (claim (observed 0)) [] unread_yet
     × Holds observing_graph (claim (observed 1)) [] observing_run
 
--- a claim that an exception is observed fails where the continuation's body ends before its observe, or the continuation never runs
+-- a claim that an exception is observed fails where the continuation's body ends before its observe, or the
+-- continuation never runs
 abbrev pub ExceptionIsNotObserved : Type 0
 ExceptionIsNotObserved =
     IsGraph checking_observer_graph
@@ -150,7 +151,8 @@ together = played (begin 1 0 ∷ step 1 0 ∷ leave 1 0 ∷ begin 1 1 ∷ step 1
 abbrev pub apart : List Event
 apart = played (begin 1 0 ∷ step 1 0 ∷ leave 1 0 ∷ release 1 2 ∷ begin 1 2 ∷ step 1 2 ∷ leave 1 2 ∷ begin 1 1 ∷ step 1 1 ∷ leave 1 1 ∷ [])
 
--- an attached child is settled before its parent's continuation begins, and its exception is observed there; a detached child's neither
+-- an attached child is settled before its parent's continuation begins, and its exception is observed there; a detached
+-- child's neither
 abbrev pub ClaimsOfAttachedAndDetachedChildren : Type 0
 ClaimsOfAttachedAndDetachedChildren =
     IsGraph family_graph

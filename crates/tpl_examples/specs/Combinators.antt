@@ -70,7 +70,8 @@ milder_run =
     (begin 1 0 ∷ step 1 0 ∷ leave 1 0 ∷ request 1 0 ∷ drop 1 1 ∷ begin 1 2 ∷ step 1 2 ∷ leave 1 2
     ∷ settle 1 3 ∷ settle 1 4 ∷ settle 1 5 ∷ [])
 
--- WhenAll of a canceled task and others that ran is canceled, in whatever order; of tasks that ran, also of one named twice, it ran
+-- WhenAll of a canceled task and others that ran is canceled, in whatever order; of tasks that ran, also of one named
+-- twice, it ran
 abbrev pub WhenAllWithoutAnException : Type 0
 WhenAllWithoutAnException =
     IsGraph milder_graph
@@ -104,7 +105,8 @@ WhenAllOfNothing =
     × Complete single_nothing_graph [] before_all
     × (IsGraph any_of_nothing_graph → ⊥)
 
--- three roots that throw, WhenAll of two of them, WhenAll of all three with one of them named twice, and an observing continuation
+-- three roots that throw, WhenAll of two of them, WhenAll of all three with one of them named twice, and an observing
+-- continuation
 abbrev pub nested_graph : TaskGraph
 nested_graph =
     graph
@@ -208,7 +210,8 @@ early_graph = graph (when_all [] ∷ when_all [] ∷ root returns ∷ when_any (
 abbrev pub early_settled : List Event
 early_settled = played (begin 1 2 ∷ step 1 2 ∷ leave 1 2 ∷ settle 1 3 ∷ settle 1 4 ∷ settle 1 5 ∷ [])
 
--- of the arguments that ended before the first event the earliest in the list wins, and it wins over one that ended by an event
+-- of the arguments that ended before the first event the earliest in the list wins, and it wins over one that ended by
+-- an event
 abbrev pub WinnerBeforeTheFirstEvent : Type 0
 WinnerBeforeTheFirstEvent =
     IsGraph early_graph
@@ -218,7 +221,8 @@ WinnerBeforeTheFirstEvent =
     × (winner_of (ending early_graph [] early_settled 4) ≡ Some 0)
     × (winner_of (ending early_graph [] early_settled 5) ≡ Some 1)
 
--- continuations of WhenAny whose winner is faulted: one that wants the antecedent to have run, one that wants it faulted, and one that branches
+-- continuations of WhenAny whose winner is faulted: one that wants the antecedent to have run, one that wants it
+-- faulted, and one that branches
 abbrev pub winner_options_graph : TaskGraph
 winner_options_graph =
     graph

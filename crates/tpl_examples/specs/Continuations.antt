@@ -257,7 +257,8 @@ dropped_outside = played (request 1 0 ∷ by (outside 1) (dropping 0) ∷ releas
 abbrev pub dropped_by_worker : List Event
 dropped_by_worker = played (request 1 0 ∷ drop 2 0 ∷ release 1 1 ∷ [])
 
--- a synchronous continuation begins on any worker where the outside ended its antecedent, and where a worker canceled that, on this one
+-- a synchronous continuation begins on any worker where the outside ended its antecedent, and where a worker canceled
+-- that, on this one
 abbrev pub SynchronousAfterACancellation : Type 0
 SynchronousAfterACancellation =
     IsGraph dropped_graph
@@ -278,7 +279,8 @@ closed_elsewhere = played (begin 1 0 ∷ step 1 0 ∷ leave 1 0 ∷ begin 2 1 �
 abbrev pub nothing_released : List Event
 nothing_released = played (release 1 4 ∷ [])
 
--- a synchronous continuation of a parent begins on the worker that closed it, and one of a task that no event ended on any
+-- a synchronous continuation of a parent begins on the worker that closed it, and one of a task that no event ended on
+-- any
 abbrev pub SynchronousAfterACloseOrNoEvent : Type 0
 SynchronousAfterACloseOrNoEvent =
     IsGraph closed_graph
@@ -338,7 +340,8 @@ ContinuationWaitsForAttachedChildren =
     × (status family_graph [] family_closed 2 ≡ WaitingToRun)
     × Complete family_graph [] family_observed
 
--- an observing continuation sees each exception that its antecedent carries, when it passes its observe; a detached child's stays unobserved
+-- an observing continuation sees each exception that its antecedent carries, when it passes its observe; a detached
+-- child's stays unobserved
 abbrev pub ObserveReadsWhatTheAntecedentCarries : Type 0
 ObserveReadsWhatTheAntecedentCarries =
     (seen family_graph [] about_to_observe 1 ≡ false)

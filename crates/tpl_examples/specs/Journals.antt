@@ -12,14 +12,15 @@ use Rattle.tpl_examples.specs.Words.{worker, outside, begin, step, leave, reques
 abbrev pub shared_graph : TaskGraph
 shared_graph = with_tokens (Plain ∷ Plain ∷ []) (graph (root (Cancel 0 ⨾ Nothing) ∷ with_token 0 (root returns) ∷ []))
 
--- the first event stands first
+-- a journal of that graph, whose first event stands first
 abbrev pub shared_journal : List Event
 shared_journal = begin 1 0 ∷ request 1 1 ∷ begin 2 1 ∷ step 1 0 ∷ step 2 1 ∷ leave 1 0 ∷ leave 2 1 ∷ []
 
 abbrev pub stepped_too_early : List Event
 stepped_too_early = step 1 0 ∷ begin 1 0 ∷ []
 
--- a run is the list of its journal's events with the newest first, and not the journal itself; each event must be allowed after those before it
+-- a run is the list of its journal's events with the newest first, and not the journal itself; each event must be
+-- allowed after those before it
 abbrev pub JournalIsReadBackwards : Type 0
 JournalIsReadBackwards =
     IsGraph shared_graph

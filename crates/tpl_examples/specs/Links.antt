@@ -129,7 +129,8 @@ about_to_cancel = played (begin 1 0 ∷ [])
 abbrev pub canceled_and_threw : List Event
 canceled_and_threw = played (begin 1 0 ∷ step 1 0 ∷ step 1 0 ∷ leave 1 0 ∷ [])
 
--- a body that cancels a source ends the runs in which the link is quiet, so a claim about these says nothing of what it does then
+-- a body that cancels a source ends the runs in which the link is quiet, so a claim about these says nothing of what it
+-- does then
 abbrev pub CancelOfASourceOfAQuietLink : Type 0
 CancelOfASourceOfAQuietLink =
     IsGraph canceling_graph

@@ -27,7 +27,8 @@ every_kind_graph =
     ∷ child returns
     ∷ [])))
 
--- tasks of every kind are a graph; no run of it is longer than its 2 tokens, 4 for each of its 10 tasks, and its 18 statements
+-- tasks of every kind are a graph; no run of it is longer than its 2 tokens, 4 for each of its 10 tasks, and its 18
+-- statements
 abbrev pub GraphOfEveryKind : Type 0
 GraphOfEveryKind = IsGraph every_kind_graph × (bound every_kind_graph ≡ 60)
 

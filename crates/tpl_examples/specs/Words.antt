@@ -17,14 +17,14 @@ use Rattle.tpl_model.specs.declared.claim.Property.{Property}
 use Rattle.tpl_model.specs.declared.claim.Property.TheVariants.{Final as EndsIn, After, Observed, Never, Excludes}
 use Rattle.tpl_model.specs.Claims.{Claim}
 
--- who does something
+-- an actor: a worker or a seat outside, by its number
 abbrev pub worker : ℕ → Actor
 worker n = Worker (record { 0 = n })
 
 abbrev pub outside : ℕ → Actor
 outside seat = Outside seat
 
--- what is done
+-- an act, by the number of its task or token
 abbrev pub requesting : ℕ → Act
 requesting k = Request (record { 0 = k })
 
@@ -55,7 +55,7 @@ dropping t = Drop (record { 0 = t })
 abbrev pub settling : ℕ → Act
 settling t = Settle (record { 0 = t })
 
--- the same as events: first the worker, then the task
+-- an event in which this actor does the act; those below are by a worker: first the worker, then the task
 abbrev pub by : Actor → Act → Event
 by actor act = record { actor = actor; act = act }
 
@@ -86,7 +86,7 @@ drop w t = by (worker w) (dropping t)
 abbrev pub settle : ℕ → ℕ → Event
 settle w t = by (worker w) (settling t)
 
--- first the outside seat, then the token
+-- an event from outside: first the seat, then the token
 abbrev pub request : ℕ → ℕ → Event
 request seat k = by (outside seat) (requesting k)
 

@@ -25,7 +25,8 @@ pub fn empty_body()
     tests_are_right();
 }
 
-/// A root waits to run, and any worker begins it; the outside begins nothing, and nobody begins a task that the graph hasn't.
+/// A root waits to run, and any worker begins it; the outside begins nothing, and nobody begins a task that the graph
+/// doesn't have.
 pub fn root_opens_ready()
     ensures { RootOpensReady }
 {

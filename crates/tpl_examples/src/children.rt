@@ -60,7 +60,8 @@ pub fn child_is_canceled_once_started()
     tests_are_right();
 }
 
-/// A child that is not started stays created; it is settled with its parent, and so is its own child, and the run is complete without them.
+/// A child that is not started stays created; it is settled with its parent, and so is its own child, and the run is
+/// complete without them.
 pub fn child_that_is_not_started()
     ensures { ChildThatIsNotStarted }
 {
@@ -81,7 +82,8 @@ pub fn detached_child_is_not_settled_with_its_parent()
     tests_are_right();
 }
 
-/// A parent carries its own exception, then its children's in the order of their start statements, not of their ids and not of their endings.
+/// A parent carries its own exception, then its children's in the order of their start statements, not of their ids and
+/// not of their endings.
 pub fn exceptions_in_the_order_of_the_text()
     ensures { ExceptionsInTheOrderOfTheText }
 {

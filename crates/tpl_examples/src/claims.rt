@@ -46,14 +46,16 @@ pub fn exception_is_observed()
     tests_are_right();
 }
 
-/// A claim that an exception is observed fails where the continuation's body ends before its observe, or the continuation never runs.
+/// A claim that an exception is observed fails where the continuation's body ends before its observe, or the
+/// continuation never runs.
 pub fn exception_is_not_observed()
     ensures { ExceptionIsNotObserved }
 {
     tests_are_right();
 }
 
-/// An attached child is settled before its parent's continuation begins, and its exception is observed there; a detached child's neither.
+/// An attached child is settled before its parent's continuation begins, and its exception is observed there; a
+/// detached child's neither.
 pub fn claims_of_attached_and_detached_children()
     ensures { ClaimsOfAttachedAndDetachedChildren }
 {

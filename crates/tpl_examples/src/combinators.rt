@@ -18,7 +18,8 @@ pub fn when_all_waits_for_all()
     tests_are_right();
 }
 
-/// WhenAll of a canceled task and others that ran is canceled, in whatever order; of tasks that ran, also of one named twice, it ran.
+/// WhenAll of a canceled task and others that ran is canceled, in whatever order; of tasks that ran, also of one named
+/// twice, it ran.
 pub fn when_all_without_an_exception()
     ensures { WhenAllWithoutAnException }
 {
@@ -67,7 +68,8 @@ pub fn when_any_waits_for_one()
     tests_are_right();
 }
 
-/// Of the arguments that ended before the first event the earliest in the list wins, and it wins over one that ended by an event.
+/// Of the arguments that ended before the first event the earliest in the list wins, and it wins over one that ended by
+/// an event.
 pub fn winner_before_the_first_event()
     ensures { WinnerBeforeTheFirstEvent }
 {

@@ -81,14 +81,16 @@ pub fn asynchronous_on_either_side()
     tests_are_right();
 }
 
-/// A synchronous continuation begins on any worker where the outside ended its antecedent, and where a worker canceled that, on this one.
+/// A synchronous continuation begins on any worker where the outside ended its antecedent, and where a worker canceled
+/// that, on this one.
 pub fn synchronous_after_a_cancellation()
     ensures { SynchronousAfterACancellation }
 {
     tests_are_right();
 }
 
-/// A synchronous continuation of a parent begins on the worker that closed it, and one of a task that no event ended on any.
+/// A synchronous continuation of a parent begins on the worker that closed it, and one of a task that no event ended on
+/// any.
 pub fn synchronous_after_a_close_or_no_event()
     ensures { SynchronousAfterACloseOrNoEvent }
 {
@@ -109,7 +111,8 @@ pub fn continuation_waits_for_attached_children()
     tests_are_right();
 }
 
-/// An observing continuation sees each exception that its antecedent carries, when it passes its observe; a detached child's stays unobserved.
+/// An observing continuation sees each exception that its antecedent carries, when it passes its observe; a detached
+/// child's stays unobserved.
 pub fn observe_reads_what_the_antecedent_carries()
     ensures { ObserveReadsWhatTheAntecedentCarries }
 {}

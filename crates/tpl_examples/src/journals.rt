@@ -4,7 +4,8 @@ ghost use Rattle.tpl_examples.specs.Journals.{JournalIsReadBackwards, OwnEventsO
 
 use tpl_laws::allowed::tests_are_right;
 
-/// A run is the list of its journal's events with the newest first, and not the journal itself; each event must be allowed after those before it.
+/// A run is the list of its journal's events with the newest first, and not the journal itself; each event must be
+/// allowed after those before it.
 pub fn journal_is_read_backwards()
     ensures { JournalIsReadBackwards }
 {

@@ -53,7 +53,8 @@ pub fn link_in_the_middle()
     tests_are_right();
 }
 
-/// A body that cancels a source ends the runs in which the link is quiet, so a claim about these says nothing of what it does then.
+/// A body that cancels a source ends the runs in which the link is quiet, so a claim about these says nothing of what
+/// it does then.
 pub fn cancel_of_a_source_of_a_quiet_link()
     ensures { CancelOfASourceOfAQuietLink }
 {

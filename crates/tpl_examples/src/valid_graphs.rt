@@ -4,7 +4,8 @@ ghost use Rattle.tpl_examples.specs.ValidGraphs.{GraphOfEveryKind, LengthOfBodie
 
 use tpl_laws::allowed::tests_are_right;
 
-/// Tasks of every kind are a graph; no run of it is longer than its 2 tokens, 4 for each of its 10 tasks, and its 18 statements.
+/// Tasks of every kind are a graph; no run of it is longer than its 2 tokens, 4 for each of its 10 tasks, and its 18
+/// statements.
 pub fn graph_of_every_kind()
     ensures { GraphOfEveryKind }
 {

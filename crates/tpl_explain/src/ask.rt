@@ -1,4 +1,4 @@
-//! What is asked of each value of a document.
+//! What is looked for in a document.
 
 use crate::grammar::{declaring, element, is_choice, is_object, lacks, most, stranger, words};
 use serde_json::Value;
@@ -6,7 +6,7 @@ use serde_json::Value;
 /// What is looked for.
 #[derive(Clone, Copy)]
 pub(crate) enum Ask<'v> {
-    /// A value that hasn't its form.
+    /// A value of the wrong shape.
     Misfit,
     /// Any value of this form.
     Form(&'v str),
@@ -122,7 +122,7 @@ fn has_truths(value: &Value) -> bool {
     }
 }
 
-/// Whether the value has its form, apart from what is in it.
+/// Whether the value itself has the right shape, whatever is in it.
 fn fits(form: &'static str, value: &Value) -> bool {
     match form {
         "anything" => true,

@@ -17,7 +17,7 @@ pub struct Explanation {
     pub text: String,
 }
 
-/// The part of the document that hasn't its form.
+/// The part of the document that has the wrong shape.
 fn area_of(part: Part) -> Area {
     match part {
         Part::Top => Area::Top,

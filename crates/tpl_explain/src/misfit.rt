@@ -1,4 +1,4 @@
-//! Lines about places, and about values that haven't their form.
+//! Lines about places, and about values of the wrong shape.
 
 use crate::ask::{Ask, list_in, text_in};
 use crate::grammar::{MEMBERS, is_choice, is_object, keys_of, names_of, noun, stranger, words};
@@ -124,7 +124,7 @@ impl<'v> Teller<'v> {
         format!(in self.alloc; "{text} is not {noun}{near}; it must be one of {all}")
     }
 
-    /// What is said of a value that hasn't its form.
+    /// What is said of a value of the wrong shape.
     fn says_misfit(self, found: Found<'v>) -> Result<String, AllocError> {
         match found.value {
             Value::Object(object) if is_object(found.form) => self.says_members(found, object),
@@ -141,7 +141,7 @@ impl<'v> Teller<'v> {
         }
     }
 
-    /// The line about the first value of a part that hasn't its form.
+    /// The line about the first value of a part that has the wrong shape.
     pub(crate) fn misfit_line(self, area: Area) -> Line {
         match self.find(area, Ask::Misfit, 0)? {
             Some(spot) => {

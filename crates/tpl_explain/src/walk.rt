@@ -47,11 +47,11 @@ pub(crate) struct Spot<'v> {
 struct Walk<'v> {
     document: &'v Value,
     ask: Ask<'v>,
-    /// So many places are passed over.
+    /// How many places are still to be passed over.
     skip: usize,
-    /// The texts at these.
+    /// The texts at the places that were passed over.
     passed: Vec<&'v str>,
-    /// From the place outwards.
+    /// The steps to the place, the innermost first.
     steps: Vec<Step>,
 }
 

@@ -1,4 +1,4 @@
--- Lists of those who are told, one task more.
+-- Lists of the tasks that an event may concern, one task more.
 use Rattle.std.proofs.Common.{◌≡◌, ◌≢◌, ℕ, ◌<◌, ◌++◌, inl, inr, true, List, [], ◌∷◌, length, map, Some, sym, ap, ◌∙◌, subst, arith}
 use Rattle.std.specs.Prelude.{slice_get, slice_set, slice_index_or}
 use Rattle.std.specs.declared.vec.Vec.{Vec}

@@ -1,4 +1,4 @@
--- What is due, what a task waits for, and who is told when that changes.
+-- What is due, what a task waits for, and which tasks are looked at again when that changes.
 use Rattle.std.specs.Prelude.{◌≡◌, ℕ, ◌≤◌, ◌||◌, Bool, true, false, Option, Some, None, List, length, map, slice_get, nat_eq, not}
 use Rattle.std.specs.declared.vec.Vec.{Vec}
 use Rattle.std.specs.declared.alloc.Global.{Global}
@@ -44,23 +44,23 @@ in_some (Some list) t = mem t (map task_number list.items)
 abbrev pub is_told : List (Vec TaskId Global) → ℕ → ℕ → Bool
 is_told lists x t = in_some (slice_get lists x) t
 
--- whoever was told still is
+-- whatever was in one of the lists still is
 abbrev pub Keep : (before now : List (Vec TaskId Global)) → Type 0
 Keep before now = (x t : ℕ) → is_told before x t ≡ true → is_told now x t ≡ true
 
--- each task is told of each task that it waits for, and of its own token
+-- each task is in the list of each task that it waits for, and in that of its own token
 pub record AreTold (g : TaskGraph) (waiters owners : List (Vec TaskId Global)) : Type 0 where
   pub waiting : (t x : ℕ) → is_task g t → is_task g x → waits g t x ≡ true → is_told waiters x t ≡ true
   pub owning : (t k : ℕ) → is_task g t → (task g t).token ≡ Some k → is_told owners k t ≡ true
 
--- the set says rightly whether t has something due, and whether t must still end
+-- t is in the set just where it has something due
 abbrev pub IsRight : Journal → List ℕ → ℕ → Type 0
 IsRight j due t = is_set due t ≡ is_due j.graph j.inputs j.events t
 
 abbrev pub IsOpenRight : Journal → List ℕ → ℕ → Type 0
 IsOpenRight j unended t = is_set unended t ≡ not (has_ended j.graph j.inputs j.events t)
 
--- what the set says rightly it still does, and nothing past the last task changes
+-- where the old set was right about a task the new one is, and nothing past the last task changes
 pub record Keeps (j : Journal) (right : ℕ → List ℕ → Type 0) (before now : List ℕ) : Type 0 where
   pub still : (t : ℕ) → right t before → right t now
   pub outside : (t : ℕ) → length j.graph.tasks ≤ t → is_set now t ≡ is_set before t

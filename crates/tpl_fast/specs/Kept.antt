@@ -22,17 +22,17 @@ abbrev pub all_pass : (ℕ → Bool) → List ℕ → Bool
 all_pass test [] = true
 all_pass test (x ∷ xs) = test x && all_pass test xs
 
--- each of n tasks has a list, of which so many of the first pass the test
+-- for each of n tasks a number: this many leading members of its list pass the test
 pub record AreHeads (n : ℕ) (lists : ℕ → List ℕ) (test : ℕ → Bool) (places : List ℕ) : Type 0 where
   pub count : length places ≡ n
   pub within : (t : ℕ) → t < n → slice_index_or places t 0 ≤ length (lists t)
   pub each : (t : ℕ) → t < n → all_pass test (take (slice_index_or places t 0) (lists t)) ≡ true
 
--- so many of the first arguments of each task have ended
+-- for each task a number: this many leading arguments have ended
 abbrev pub AreEnded : Journal → List ℕ → Type 0
 AreEnded j places = AreHeads (length j.graph.tasks) (λ t. args_of (kind j.graph t)) (has_ended j) places
 
--- so many of the first attached children of each task are over
+-- for each task a number: this many leading attached children have ended, or weren't started
 abbrev pub AreOver : Journal → List ℕ → Type 0
 AreOver j places = AreHeads (length j.graph.tasks) (attached j.graph) (is_over j) places
 

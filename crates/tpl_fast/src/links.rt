@@ -1,4 +1,4 @@
-//! Who is told of what.
+//! Which tasks an event of another task, or the request of a token, may concern.
 
 ghost use Rattle.std.specs.Prelude.{◌≡◌, ℕ, ◌<◌, true, Some, OnOk, IfOk, length, map};
 ghost use Rattle.tpl_words.specs.Members.{mem};
@@ -20,7 +20,7 @@ pub(crate) struct Links {
     owners: Vec<Vec<TaskId>>,
 }
 
-/// So many empty lists.
+/// This many empty lists.
 fn empty(alloc: Global, count: usize) -> Result<Vec<Vec<TaskId>>, AllocError>
     ensures { IfOk result (λ lists. length lists.items ≡ count) }
 {
@@ -62,7 +62,7 @@ fn tell_each(
     Ok(())
 }
 
-/// Tells a task of the one that it continues.
+/// Puts a task into the list of the one that it continues.
 fn tell_antecedent(
     lists: &mut Vec<Vec<TaskId>>,
     graph: &Graph,
@@ -80,7 +80,7 @@ fn tell_antecedent(
     }
 }
 
-/// Tells a task of each that it waits for: its antecedent, its arguments and its attached children.
+/// Puts a task into the list of each task that it waits for: its antecedent, its arguments and its attached children.
 fn tell_task(lists: &mut Vec<Vec<TaskId>>, graph: &Graph, task: TaskId) -> Result<(), AllocError>
     requires { is_task graph.now.graph task.0 }
     ensures count { OnOk result (length lists.new.items ≡ length lists.old.items) }
@@ -107,7 +107,7 @@ fn waiters(alloc: Global, graph: &Graph) -> Result<Vec<Vec<TaskId>>, AllocError>
     Ok(lists)
 }
 
-/// Tells a task of its own token.
+/// Puts a task into the list of its own token.
 fn tell_owner(lists: &mut Vec<Vec<TaskId>>, graph: &Graph, task: TaskId) -> Result<(), AllocError>
     requires task { is_task graph.now.graph task.0 }
     requires count { length lists.old.items ≡ MOST_TOKENS }

@@ -35,7 +35,7 @@ impl Mark {
     }
 }
 
-/// The marks of so many tasks before the first event.
+/// The marks of this many tasks before the first event.
 pub(crate) fn unmarked(alloc: Global, count: usize) -> Result<Vec<Mark>, AllocError>
     ensures { IfOk result (λ marks. AreMarks count [] marks.items) }
 {

@@ -1,4 +1,4 @@
-//! Who is told of an event: each task of which it may change what is due.
+//! Which tasks are looked at again after an event: each for which it may change what is due.
 
 ghost use Rattle.std.specs.Prelude.{◌≡◌, ℕ, ◌≤◌, length, map, slice_index_or, true, false, Some, None};
 ghost use Rattle.std.specs.Option.{option_map};
@@ -30,7 +30,7 @@ pub(crate) fn ender_of(act: Act) -> Option<TaskId>
     }
 }
 
-/// Notes whether the task has something due.
+/// Recomputes whether the task has something due.
 fn refresh(due: &mut Bits, state: &State, task: TaskId)
     ensures told { is_task state.now.graph task.0 → IsRight state.now due.new task.0 }
     ensures kept { Keeps state.now (λ t s. IsRight state.now s t) due.old due.new }
@@ -42,7 +42,7 @@ fn refresh(due: &mut Bits, state: &State, task: TaskId)
     }
 }
 
-/// Notes whether each of the tasks has something due.
+/// Recomputes for each of the tasks whether it has something due.
 fn refresh_each(due: &mut Bits, state: &State, tasks: &[TaskId])
     ensures told { (t : ℕ) → mem t (map task_number tasks.now) ≡ true → is_task state.now.graph t
         → IsRight state.now due.new t }
@@ -53,7 +53,7 @@ fn refresh_each(due: &mut Bits, state: &State, tasks: &[TaskId])
     }
 }
 
-/// Tells a task of itself, if there is one.
+/// Recomputes whether the task has something due, if there is one.
 pub(crate) fn tell(due: &mut Bits, state: &State, task: Option<TaskId>)
     ensures told { (t : ℕ) → option_map task_number task ≡ Some t → is_task state.now.graph t
         → IsRight state.now due.new t }
@@ -64,7 +64,7 @@ pub(crate) fn tell(due: &mut Bits, state: &State, task: Option<TaskId>)
     }
 }
 
-/// Tells of a task those that wait for it.
+/// Recomputes for those that wait for a task whether they have something due.
 pub(crate) fn tell_waiters(due: &mut Bits, state: &State, links: &Links, task: Option<TaskId>)
     requires { AreTold state.now.graph links.now.waiters.items links.now.owners.items }
     ensures told { (t x : ℕ) → option_map task_number task ≡ Some x
@@ -86,7 +86,7 @@ pub(crate) fn advance_waiters(state: &mut State, links: &Links, task: Option<Tas
     }
 }
 
-/// Tells of a token the tasks whose own it is, if it wasn't requested before.
+/// Recomputes what is due for the tasks with this own token, if it wasn't requested before.
 fn tell_owners(due: &mut Bits, state: &State, links: &Links, token: TokenId, before: bool)
     requires token { is_token state.now.graph token.0 }
     requires links { AreTold state.now.graph links.now.waiters.items links.now.owners.items }
@@ -100,7 +100,7 @@ fn tell_owners(due: &mut Bits, state: &State, links: &Links, token: TokenId, bef
     }
 }
 
-/// Tells of each token that wasn't requested before, and is now, the tasks whose own it is.
+/// Recomputes what is due for the tasks whose own token is requested now and wasn't before.
 fn tell_all_owners(due: &mut Bits, state: &State, links: &Links, before: &[bool; MOST_TOKENS])
     requires { AreTold state.now.graph links.now.waiters.items links.now.owners.items }
     ensures told { let j = state.now in (t k : ℕ) → (spec.task j.graph t).token ≡ Some k
@@ -113,8 +113,8 @@ fn tell_all_owners(due: &mut Bits, state: &State, links: &Links, before: &[bool;
     }
 }
 
-/// Tells of each token that an event requested, itself or through a link, the tasks whose own it is. `token` is the one
-/// that it requested itself, and without one there is none.
+/// Recomputes what is due for the tasks whose own token an event requested, itself or through a link. `token` is the
+/// one that it requested itself, if any.
 pub(crate) fn tell_requested(
     due: &mut Bits,
     state: &State,
@@ -136,7 +136,7 @@ pub(crate) fn tell_requested(
     }
 }
 
-/// Notes whether a task must still end, if there is one.
+/// Recomputes whether the task must still end, if there is one.
 pub(crate) fn note_open(unended: &mut Bits, state: &State, task: Option<TaskId>)
     ensures told { (t : ℕ) → option_map task_number task ≡ Some t → is_task state.now.graph t
         → IsOpenRight state.now unended.new t }

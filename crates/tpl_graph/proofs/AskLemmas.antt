@@ -1,4 +1,4 @@
--- The loop over a list of statements that asks each.
+-- The loop over a list of statements that tests each.
 use Rattle.std.proofs.Common.{◌≡◌, ℕ, zero, suc, ◌+◌, ◌<◌, ◌≤◌, Bool, true, false, ◌||◌, List, [], ◌∷◌, length, drop, get_or, sym, ap, ◌∙◌, arith, add-one, drop-cons}
 use Rattle.std.proofs.lemmas.List.{drop_all}
 use Rattle.std.proofs.lemmas.List.Folds.{list_any-append}
@@ -20,7 +20,7 @@ count_at (s ∷ rest) (suc i) x lt is = omega (arith, count_at rest i x (omega a
 pub falls_in : (body : Lines) (items : List DraftStmt) (i : ℕ) (x : DraftStmt) → lines_of items ≡ body → i < length items → x ≡ get_or items i x → count_line (line_of x) ≤ line_count body
 falls_in body items i x e lt is = omega (arith, ap line_count e, count_at items i x lt is)
 
--- no statement before an index is what is asked
+-- no statement before an index passes the test
 pub record NoneSoFar (p : Line → Bool) (body : Lines) (items : List DraftStmt) (i : ℕ) : Type 0 where
   pub whole : lines_of items ≡ body
   pub left : list_any p (each_of (lines_of (drop i items))) ≡ list_any p (each_of body)

@@ -15,7 +15,7 @@ use Rattle.tpl_graph.proofs.Bools.{or_left, or_right, not_false}
 use Rattle.tpl_graph.proofs.PlaceLaws.{place_within}
 use Rattle.tpl_graph.proofs.CollectLemmas.{flat_map_append}
 
--- none of the statements of two lists is what is asked, so none of either
+-- no statement of two lists passes the test, so none of either does
 any_left : (p : Line → Bool) (xs ys : List Line) → list_any p (xs ++ ys) ≡ false → list_any p xs ≡ false
 any_left p xs ys e = or_left (list_any p xs) (list_any p ys) (sym (list_any-append p xs ys) ∙ e)
 

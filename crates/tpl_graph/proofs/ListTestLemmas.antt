@@ -1,4 +1,4 @@
--- What is asked of the lists of inputs and tokens.
+-- What the lists of inputs and tokens are tested for.
 use Rattle.std.proofs.Common.{◌≡◌, ℕ, Bool, true, false, not, ◌||◌, nat_lt, List, length, map, sym, ap, ◌∙◌}
 use Rattle.std.specs.Prelude.{◌==◌, string_bytes}
 use Rattle.std.specs.List.{list_any}

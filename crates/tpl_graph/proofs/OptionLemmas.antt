@@ -1,4 +1,4 @@
--- The loop over the tasks that asks for their options.
+-- The loop over the tasks that tests their options.
 use Rattle.std.proofs.Common.{◌≡◌, ℕ, zero, suc, ◌+◌, ◌<◌, Bool, true, length, get_or, refl, sym, ap, ◌∙◌, subst, arith}
 use Rattle.std.specs.Prelude.{Some, None, is_some}
 use Rattle.tpl_graph.specs.declared.draft.DraftTask.{DraftTask}

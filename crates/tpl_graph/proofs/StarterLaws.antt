@@ -63,7 +63,7 @@ is_starter c q (suc p) (l ∷ lists) e =
     ∙ (ap (λ k. mem (q + suc p) (starters_in c q l) || mem k (starters_from c (suc q) lists)) at
     ∙ (ap (λ b. mem (q + suc p) (starters_in c q l) || b) (is_starter c (suc q) p lists e) ∙ or_true (mem (q + suc p) (starters_in c q l))))
 
--- and the other way round
+-- the body of a starter of c starts it
 pub of_starter : (c q p : ℕ) (lists : List (List ℕ)) → mem p (starters_from c q lists) ≡ true → (i : ℕ) × (p ≡ q + i) × (mem c (get_or lists i []) ≡ true)
 of_starter c q p [] e = absurd (cc)
 of_starter c q p (l ∷ lists) e = ⊎_elim

@@ -1,4 +1,4 @@
--- What a task is asked by a test is where the refusal applies to it.
+-- A test is true of a task just where the refusal applies to it.
 use Rattle.std.proofs.Common.{◌≡◌, ℕ, ◌<◌, ◌||◌, ◌&&◌, not, List, [], ◌∷◌, length, nat_lt, refl, ap, ◌∙◌}
 use Rattle.std.specs.Prelude.{slice_get}
 use Rattle.std.specs.List.{list_any}

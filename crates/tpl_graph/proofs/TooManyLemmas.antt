@@ -15,7 +15,7 @@ use Rattle.tpl_graph.proofs.FirstLemmas.{applies_at, NoneUpTo, none_at_first, no
 use Rattle.tpl_graph.specs.Refusals.{IsFirst, in_lists}
 use Rattle.std.specs.Prelude.{Some}
 
--- no limit is exceeded up to the t-th task, and so much room is left for sites
+-- no limit is exceeded up to the t-th task, and this much room is left for sites
 pub record WithinUpTo (d : declared.Draft) (t sites : ℕ) : Type 0 where
   pub before : NoneUpTo (applies (draft_of d) why.TooMany) t
   pub left : sites + site_total (take t (draft_of d).tasks) ≡ 256

@@ -1,4 +1,4 @@
--- What is asked of each statement of a body.
+-- What each statement of a body is tested for.
 use Rattle.std.specs.Prelude.{Bool, map}
 use Rattle.tpl_graph.specs.declared.ask.Ask.{Ask}
 use Rattle.tpl_graph.specs.declared.ask.Ask.TheVariants as ask

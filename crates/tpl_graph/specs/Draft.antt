@@ -112,6 +112,7 @@ waits_for (WhenAll args) = args
 waits_for (WhenAny args) = args
 waits_for kind = []
 
+-- the tokens to which a token is linked; none where it isn't
 abbrev pub linked_to : Option (List (List ℕ)) → List (List ℕ)
 linked_to None = []
 linked_to (Some sources) = sources

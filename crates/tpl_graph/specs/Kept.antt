@@ -28,7 +28,8 @@ abbrev mutual
 abbrev pub AreSpelled : List (List ℕ) → Type 0
 AreSpelled names = (i : ℕ) (name : List ℕ) → slice_get names i ≡ Some name → is_name name ≡ true
 
--- a task graph within its limits, whose tasks, tokens, inputs, labels and sites have names; no two of a sort have the same, and the sites are numbered in the order of the text
+-- a task graph within its limits, whose tasks, tokens, inputs, labels and sites have names; no two of a sort have the
+-- same, and the sites are numbered in the order of the text
 pub record IsNamedGraph (n : Named) : Type 0 where
   pub graph : IsGraph n.graph
   pub inputs : length n.names.inputs ≡ n.graph.inputs
@@ -53,6 +54,7 @@ abbrev pub IsParentOf : TaskGraph → ℕ → Option TaskId → Type 0
 IsParentOf g c None = (p : ℕ) → IsParent g p c → ⊥
 IsParentOf g c (Some p) = IsParent g p.0 c
 
+-- these are the children that are attached to the p-th task
 abbrev pub AreAttached : TaskGraph → ℕ → Vec TaskId Global → Type 0
 AreAttached g p children = map task_number children.items ≡ attached g p
 

@@ -1,4 +1,4 @@
--- A task graph with its names, and what its readers tell.
+-- A task graph with its names, and what its readers answer.
 use Rattle.std.specs.Prelude.{ℕ, suc, zero, ◌++◌, Bool, Option, Some, None, List, [], ◌∷◌, flat_map}
 use Rattle.tpl_script.specs.Statements.{Statement, Statements, Nothing, ◌⨾◌, Work, If, When}
 use Rattle.tpl_model.specs.Graph.{TaskGraph, TaskKind, Continues, WhenAll, WhenAny}
@@ -43,7 +43,7 @@ abbrev mutual
 abbrev pub all_may_fail : TaskGraph → List Bool
 all_may_fail g = flat_map (λ t. may_fails t.body) g.tasks
 
--- the numbers from n on, so many
+-- this many numbers, from n on
 abbrev pub numbers_from : ℕ → ℕ → List ℕ
 numbers_from n zero = []
 numbers_from n (suc more) = n ∷ numbers_from (suc n) more

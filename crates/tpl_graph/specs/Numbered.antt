@@ -27,10 +27,12 @@ abbrev mutual
   statement_in n (If i a b) = script.If (place n.inputs i) (script_in n a) (script_in n b)
   statement_in n (When f a b) = script.When f (script_in n a) (script_in n b)
 
+-- the name, where labels are collected
 abbrev pub label_names : Sort → List ℕ → List (List ℕ)
 label_names Labels name = name ∷ []
 label_names Sites name = []
 
+-- the name, where sites are collected
 abbrev pub site_names : Sort → List ℕ → List (List ℕ)
 site_names Labels name = []
 site_names Sites name = name ∷ []
@@ -45,6 +47,7 @@ names_in sort s = []
 abbrev pub all_named : Sort → List Task → List (List ℕ)
 all_named sort tasks = flat_map (λ t. flat_map (names_in sort) (statements_in t)) tasks
 
+-- the sites of these tasks, in the order of the text
 abbrev pub sites_of : List Task → List (List ℕ)
 sites_of tasks = all_named Sites tasks
 
@@ -58,6 +61,7 @@ names_of d = record {
   sites = sites_of d.tasks;
 }
 
+-- a kind with numbers in place of names
 abbrev pub kind_in : List (List ℕ) → Kind → graph.TaskKind
 kind_in tasks (Root w) = graph.Root
 kind_in tasks (Child w) = graph.Child
@@ -65,6 +69,7 @@ kind_in tasks (Continues a w) = graph.Continues (place tasks a)
 kind_in tasks (WhenAll args) = graph.WhenAll (map (place tasks) args)
 kind_in tasks (WhenAny args) = graph.WhenAny (map (place tasks) args)
 
+-- a task with numbers in place of names
 abbrev pub task_in : Names → Task → graph.Task
 task_in n t = record {
   kind = kind_in n.tasks t.kind;
@@ -73,10 +78,12 @@ task_in n t = record {
   options = (worked t.kind).options;
 }
 
+-- a token, by the tokens to which it is linked, if it is
 abbrev pub token_in : List (List ℕ) → Option (List (List ℕ)) → graph.Token
 token_in tokens None = graph.Plain
 token_in tokens (Some sources) = graph.Linked (map (place tokens) sources)
 
+-- the tokens, inputs and tasks of a draft with numbers in place of names
 abbrev pub graph_in : Names → Draft → graph.TaskGraph
 graph_in n d = record {
   tokens = map (λ (k : Token). token_in n.tokens k.linked) d.tokens;
@@ -88,7 +95,7 @@ graph_in n d = record {
 abbrev pub numbered : Draft → Named
 numbered d = record { graph = graph_in (names_of d) d; names = names_of d }
 
--- as many names as ids can number
+-- there are no more names than ids can number
 pub record AreFew (n : Names) : Type 0 where
   pub inputs : length n.inputs ≤ 16
   pub tokens : length n.tokens ≤ 32

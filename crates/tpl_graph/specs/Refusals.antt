@@ -18,9 +18,11 @@ use Rattle.tpl_graph.specs.Draft.{Line, Throw, Check, Cancel, Start, Observe, Wo
 abbrev pub is_digit : ℕ → Bool
 is_digit c = nat_le 48 c && nat_le c 57
 
+-- a letter, a digit or `_`
 abbrev pub is_word : ℕ → Bool
 is_word c = ((nat_le 65 c && nat_le c 90) || (nat_le 97 c && nat_le c 122)) || (is_digit c || nat_eq c 95)
 
+-- the text begins with a digit
 abbrev pub begins_with_digit : List ℕ → Bool
 begins_with_digit [] = false
 begins_with_digit (c ∷ cs) = is_digit c
@@ -29,6 +31,7 @@ begins_with_digit (c ∷ cs) = is_digit c
 abbrev pub is_name : List ℕ → Bool
 is_name t = ((nat_lt 0 (length t) && nat_le (length t) 32) && list_all is_word t) && not (begins_with_digit t)
 
+-- the text is no name
 abbrev pub is_bad_name : List ℕ → Bool
 is_bad_name t = not (is_name t)
 
@@ -50,14 +53,17 @@ says_unknown inputs tokens tasks (Start c) = lacks tasks c
 says_unknown inputs tokens tasks (If i a b) = lacks inputs i
 says_unknown inputs tokens tasks s = false
 
+-- there is a name, and it isn't declared
 abbrev pub is_missing : List (List ℕ) → Option (List ℕ) → Bool
 is_missing names None = false
 is_missing names (Some name) = lacks names name
 
+-- there is a task, and the property is true of it
 abbrev pub at_task : {A : Type 0} → (A → Bool) → Option A → Bool
 at_task p None = false
 at_task p (Some x) = p x
 
+-- the kind is that of a child
 abbrev pub is_child : Kind → Bool
 is_child (Child w) = true
 is_child kind = false
@@ -76,6 +82,7 @@ abbrev pub starters_in : ℕ → ℕ → List ℕ → List ℕ
 starters_in c p [] = []
 starters_in c p (s ∷ more) = if nat_eq c s then p ∷ starters_in c p more else starters_in c p more
 
+-- the tasks that start c, by the tasks that each task starts, from the p-th task on
 abbrev pub starters_from : ℕ → ℕ → List (List ℕ) → List ℕ
 starters_from c p [] = []
 starters_from c p (started ∷ more) = starters_in c p started ++ starters_from c (suc p) more
@@ -89,10 +96,12 @@ abbrev pub is_one_before : ℕ → List ℕ → Bool
 is_one_before t (p ∷ []) = nat_lt p t
 is_one_before t starters = false
 
+-- a WhenAny task has no argument
 abbrev pub is_empty_any : Kind → Bool
 is_empty_any (WhenAny []) = true
 is_empty_any kind = false
 
+-- the kind is that of a continuation
 abbrev pub is_continuation : Kind → Bool
 is_continuation (Continues a w) = true
 is_continuation kind = false
@@ -118,6 +127,7 @@ options_fault words options =
     else if not (has_bits words options) then Some WrongKind
     else None
 
+-- the first thing that is wrong with the options of a task, by the words of its kind
 abbrev pub options_fault_of : Task → Option OptionsFault
 options_fault_of x = options_fault (words_of x.kind) (worked x.kind).options
 
@@ -126,6 +136,7 @@ abbrev pub is_misplaced : ℕ → graph.Token → Bool
 is_misplaced k graph.Plain = false
 is_misplaced k (graph.Linked sources) = (length sources == 0) || list_any (λ s. not (nat_lt s k)) sources
 
+-- one of the tokens, numbered from k on, is misplaced
 abbrev pub some_misplaced : ℕ → List graph.Token → Bool
 some_misplaced k [] = false
 some_misplaced k (x ∷ more) = is_misplaced k x || some_misplaced (suc k) more
@@ -138,7 +149,7 @@ exceeds t x = (nat_eq t 1024 || nat_lt 256 (length (waits_for x.kind))) || (nat_
 abbrev pub site_total : List Task → ℕ
 site_total tasks = sum_by (λ (x : Task). site_count (worked x.kind).body) tasks
 
--- refusals of the lists of inputs and tokens
+-- a refusal applies to the lists of inputs and tokens
 abbrev pub in_lists : Draft → Why → Bool
 in_lists d why.TooMany = (nat_lt 16 (length d.inputs) || nat_lt 32 (length d.tokens)) || list_any (λ (k : Token). nat_lt 32 (length (linked_to k.linked))) d.tokens
 in_lists d why.BadName = list_any is_bad_name (names_of d).inputs || list_any is_bad_name (names_of d).tokens
@@ -147,7 +158,7 @@ in_lists d why.Unknown = list_any (λ (k : Token). list_any (lacks (names_of d).
 in_lists d why.LinkPlace = some_misplaced 0 (graph_in (names_of d) d).tokens
 in_lists d w = false
 
--- refusals of the t-th task
+-- a refusal applies to the t-th task
 abbrev pub in_task : Draft → Why → ℕ → Task → Bool
 in_task d why.TooMany t x = exceeds t x || nat_lt 256 (site_total (take (suc t) d.tasks))
 in_task d why.BadName t x = is_bad_name x.name || list_any says_bad_name (statements_in x)
@@ -171,6 +182,7 @@ abbrev pub applies : Draft → Why → ℕ → Bool
 applies d w zero = in_lists d w
 applies d w (suc t) = at_task (in_task d w t) (slice_get d.tasks t)
 
+-- the place of a refusal in the order in which refusals are named
 abbrev pub number : Why → ℕ
 number why.TooMany = 1
 number why.BadName = 2
@@ -199,6 +211,7 @@ abbrev pub IsFirst : (ℕ → Bool) → Option ℕ → Type 0
 IsFirst p None = (n : ℕ) → p n ≡ false
 IsFirst p (Some n) = (p n ≡ true) × ((m : ℕ) → m < n → p m ≡ false)
 
+-- the fault of the options is this one
 abbrev pub is_fault : OptionsFault → Option OptionsFault → Bool
 is_fault ExcludesAll (Some ExcludesAll) = true
 is_fault LongAndSync (Some LongAndSync) = true
@@ -218,6 +231,6 @@ pub record IsLeast (d : Draft) (f : GraphFault) : Type 0 where
   pub least : (w : Why) (at : ℕ) → number w < number f.why → applies d w at ≡ false
   pub earliest : (at : ℕ) → at < f.at → applies d f.why at ≡ false
 
--- want of memory, at 0, or else the least refusal
+-- the answer is out of memory, at 0, or else the least refusal
 abbrev pub Refuses : Draft → GraphFault → Type 0
 Refuses d f = ((f.why ≡ why.Memory) × (f.at ≡ 0)) ⊎ IsLeast d f

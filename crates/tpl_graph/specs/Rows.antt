@@ -19,6 +19,7 @@ kind_of (graph.Continues a) = kind.Then
 kind_of (graph.WhenAll args) = kind.All
 kind_of (graph.WhenAny args) = kind.Any
 
+-- a kind in memory, without where it lies
 abbrev pub role_of : Role → graph.TaskKind
 role_of role.Root = graph.Root
 role_of role.Child = graph.Child
@@ -26,12 +27,15 @@ role_of (role.Then a) = graph.Continues a.0
 role_of (role.All args) = graph.WhenAll (map task_number args.items)
 role_of (role.Any args) = graph.WhenAny (map task_number args.items)
 
+-- a task in memory, without where it lies
 abbrev pub task_of : Row → graph.Task
 task_of r = record { kind = role_of r.role; body = r.script; token = option_map token_number r.token; options = r.options }
 
+-- a token in memory, without where it lies
 abbrev pub token_of : Origin → graph.Token
 token_of origin.Plain = graph.Plain
 token_of (origin.Linked sources) = graph.Linked (map token_number sources.items)
 
+-- the graph of these rows
 abbrev pub graph_of : List Origin → ℕ → List Row → graph.TaskGraph
 graph_of origins inputs rows = record { tokens = map token_of origins; inputs = inputs; tasks = map task_of rows }

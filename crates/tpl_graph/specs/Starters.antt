@@ -14,7 +14,7 @@ use Rattle.tpl_graph.specs.Rows.{task_of}
 abbrev pub numbers : Vec TaskId Global → List ℕ
 numbers ids = map task_number ids.items
 
--- one more start statement, in the body of p
+-- who starts a task that has one more start statement, in the body of p
 abbrev pub more : Starter → ℕ → Starter
 more Nobody p = One (record { 0 = p })
 more starter p = Several

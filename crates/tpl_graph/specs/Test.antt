@@ -1,4 +1,4 @@
--- The refusals that each task is asked for by itself.
+-- The refusals that are tested for each task by itself.
 use Rattle.std.specs.Prelude.{◌≡◌, ◌||◌, ◌&&◌, ◌<◌, not, Bool, false, ℕ, suc, nat_lt, List, [], ◌∷◌, Option, Some, map, length, slice_get}
 use Rattle.std.specs.List.{list_any}
 use Rattle.tpl_graph.specs.declared.ask.Declared.{Declared}
@@ -26,7 +26,7 @@ why_of (test.ChildPlace n starters) = why.ChildPlace
 why_of test.ObserveNothing = why.ObserveNothing
 why_of (test.LinkPlace tokens) = why.LinkPlace
 
--- what a list of the tasks that start a task comes to
+-- who starts a task, by the list of the tasks that do: nobody, one task, or several
 abbrev pub starter_of : List ℕ → Starter
 starter_of [] = Nobody
 starter_of (p ∷ []) = One (record { 0 = p })
@@ -37,7 +37,7 @@ abbrev pub is_before : ℕ → Option Starter → Bool
 is_before t (Some (One p)) = nat_lt p.0 t
 is_before t o = false
 
--- what is asked of the lists of inputs and tokens, and of the t-th task
+-- the lists of inputs and tokens are refused by the test
 abbrev pub in_lists_of : Draft → Test → Bool
 in_lists_of d test.BadName = in_lists d why.BadName
 in_lists_of d (test.Unknown n) = list_any (λ (k : Token). list_any (lacks n.now.tokens) (linked_to k.linked)) d.tokens

@@ -1,4 +1,4 @@
-//! Questions that are asked of each statement of a body, nested ones too.
+//! Tests of the statements of a body, nested ones too.
 
 ghost use Rattle.std.specs.Prelude.{◌≡◌, ◌∷◌, map};
 ghost use Rattle.std.specs.List.{list_any};
@@ -19,7 +19,7 @@ pub(crate) struct Declared {
     pub(crate) tasks: Names,
 }
 
-/// What is asked.
+/// What a statement is tested for.
 #[derive(Clone, Copy)]
 pub(crate) enum Ask<'a> {
     /// Its label or site is no name.
@@ -96,7 +96,7 @@ fn asks(statement: &DraftStmt, ask: &Ask<'_>) -> bool
     }
 }
 
-/// Some statement of the body, nested ones too, is what is asked.
+/// Some statement of the body, nested ones too, passes the test.
 #[cycle(some)]
 pub(crate) fn some_statement(body: &DraftBody, ask: &Ask<'_>) -> bool
     ensures { result ≡ list_any (asks ask.now) (each_of body.now) }
@@ -125,7 +125,7 @@ fn some_within(statement: &DraftStmt, ask: &Ask<'_>) -> bool
     }
 }
 
-/// Some statement of the task is what is asked.
+/// Some statement of the task passes the test.
 pub(crate) fn some_in_task(task: &DraftTask, ask: &Ask<'_>) -> bool
     ensures { result ≡ list_any (asks ask.now) (statements_in (task_of task.now)) }
 {

@@ -155,7 +155,7 @@ fn pass_children(
     Ok((starts, table, sites))
 }
 
-/// Where the tokens come from, where each link is in its place.
+/// The rows of the tokens, where each link is in its place.
 fn pass_links(alloc: Global, draft: &Draft, names: &Names) -> Result<Vec<Origin>, GraphFault>
     requires names { names.now ≡ (names_of (draft_of draft.now)).tokens }
     requires before { NoneBelow (draft_of draft.now) 12 }
@@ -178,7 +178,7 @@ struct Found {
     sites: Vec<Site>,
 }
 
-/// The tests up to the places of children.
+/// The tests up to those of children.
 fn pass_first(alloc: Global, draft: &Draft) -> Result<Found, GraphFault>
     ensures found { IfOk result (IsFound (draft_of draft.now)) }
     ensures none { OnOk result (NoneBelow (draft_of draft.now) 9) }
@@ -204,7 +204,7 @@ fn labels_of(alloc: Global, draft: &Draft) -> Result<Names, GraphFault>
     Ok(labels)
 }
 
-/// The tests behind those of children: the sites, where the tokens come from, and the labels.
+/// The tests behind those of children. Gives the sites, the rows of the tokens, and the labels.
 fn pass_rest(
     alloc: Global,
     draft: &Draft,

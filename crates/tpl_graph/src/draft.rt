@@ -26,7 +26,7 @@ pub enum DraftStmt {
     Work(String, bool),
     /// The first list where the input is true, else the second.
     If(String, DraftBody, DraftBody),
-    /// The first list where the subject ended so, else the second.
+    /// The first list where the subject ended in this way, else the second.
     When(Final, DraftBody, DraftBody),
 }
 
@@ -67,7 +67,7 @@ impl DraftBody {
         DraftBody { list }
     }
 
-    /// The statements of the list itself.
+    /// The statements, in the order of the text; those of a branch stand inside it.
     pub fn list(&self) -> &[DraftStmt]
         ensures { self.now ≡ lines_of result.now }
     {

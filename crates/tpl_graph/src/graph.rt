@@ -277,7 +277,7 @@ impl Graph {
         }
     }
 
-    /// Its option words.
+    /// The option words of a task.
     pub fn options(&self, task: TaskId) -> Options
         requires { is_task self.now.graph task.0 }
         ensures { result ≡ spec.options self.now.graph task.0 }
@@ -285,7 +285,7 @@ impl Graph {
         self.tasks[task.0 as usize].options
     }
 
-    /// Its own token.
+    /// The own token of a task.
     pub fn own_token(&self, task: TaskId) -> Option<TokenId>
         requires { is_task self.now.graph task.0 }
         ensures { option_map token_number result ≡ (spec.task self.now.graph task.0).token }
@@ -293,7 +293,7 @@ impl Graph {
         self.tasks[task.0 as usize].token
     }
 
-    /// Its body; that of a WhenAll or WhenAny task is empty.
+    /// The body of a task; that of a WhenAll or WhenAny task is empty.
     pub fn body(&self, task: TaskId) -> &Script
         requires { is_task self.now.graph task.0 }
         ensures { result.now ≡ spec.body self.now.graph task.0 }

@@ -6,14 +6,14 @@ ghost use Rattle.tpl_graph.specs.Draft.{line_count, count_line, site_count, coun
 
 use crate::draft::{DraftBody, DraftStmt};
 
-/// The room for more statements and sites.
+/// How many more statements and sites there may be.
 #[derive(Clone, Copy)]
 pub(crate) struct Room {
     pub(crate) statements: u8,
     pub(crate) sites: u16,
 }
 
-/// The room that the body leaves, if there is room for it and for its levels.
+/// What is left of the room behind the body. None where the body has more, or nests deeper than `levels`.
 #[cycle(room)]
 pub(crate) fn room_behind(body: &DraftBody, room: Room, levels: u8) -> Option<Room>
     ensures statements { IfSome result (λ left. left.statements + line_count body.now

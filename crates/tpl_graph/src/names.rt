@@ -33,7 +33,7 @@ impl Names {
         }
     }
 
-    /// Adds a name behind the others, and says whether it is new. A name that is there stays where it is.
+    /// Adds a name behind the others. True where it is new; a name that is there stays where it is.
     pub(crate) fn add(&mut self, name: String) -> Result<bool, AllocError>
         ensures fresh { IfOk result (λ added. added ≡ not (has_name self.old (string_bytes name))) }
         ensures ok { IfOk result (λ added. self.new ≡ (if added

@@ -23,7 +23,7 @@ use crate::row::{Origin, Starter};
 use std::slice;
 use tpl_words::TokenId;
 
-/// The refusals that each task is asked for by itself.
+/// The refusals that are tested for each task by itself, with the tables that the tests read.
 #[derive(Clone, Copy)]
 pub(crate) enum Test<'a> {
     BadName,
@@ -135,7 +135,7 @@ fn lacks_waited(declared: &Declared, task: &DraftTask) -> bool
     lacks_some(&declared.tasks, waits_for(task))
 }
 
-/// Some name is not among those before a number.
+/// Some wanted name is not among the first `number` names.
 fn some_later(names: &Names, number: usize, wanted: &[String]) -> bool
     ensures { result ≡ list_any (λ name. not (nat_lt (place names.now (string_bytes name)) number))
         wanted.now }

@@ -156,7 +156,7 @@ fn token_ids(alloc: Global, names: &Names, list: &[String]) -> Result<Vec<TokenI
     Ok(ids)
 }
 
-/// Where a token comes from.
+/// The row of a token: of a source of its own, or linked to other tokens.
 fn origin(alloc: Global, names: &Names, token: &DraftToken) -> Result<Origin, AllocError>
     requires { length names.now ≤ 32 }
     ensures { IfOk result (λ o. rows.token_of o ≡ token_in names.now (token_of token.now).linked) }
@@ -167,7 +167,7 @@ fn origin(alloc: Global, names: &Names, token: &DraftToken) -> Result<Origin, Al
     }
 }
 
-/// Where the tokens come from.
+/// The rows of the tokens.
 pub(crate) fn origins(
     alloc: Global,
     names: &Names,

@@ -66,7 +66,7 @@ fn lists_exceed(draft: &Draft) -> bool
     counts_exceed(draft) || sources_exceed(draft)
 }
 
-/// The room that the task's body leaves, if there is room for it and for its levels.
+/// What is left of the room behind the task's body. None where the body has too much for it, or too many levels.
 fn room_behind_body(task: &DraftTask, room: Room) -> Option<Room>
     ensures statements { IfSome result (λ left. left.statements + line_count
         (worked (task_of task.now).kind).body ≡ room.statements) }
@@ -86,7 +86,7 @@ fn room_behind_body(task: &DraftTask, room: Room) -> Option<Room>
     }
 }
 
-/// The room for sites that the t-th task leaves, if it is within the limits.
+/// How many of `sites` are left behind the t-th task. None where it has more, or exceeds a limit of its own.
 fn sites_behind(t: usize, task: &DraftTask, sites: u16) -> Option<u16>
     ensures within { IfSome result (λ left. exceeds t (task_of task.now) ≡ false) }
     ensures sites { IfSome result (λ left. left + site_count (worked (task_of task.now).kind).body

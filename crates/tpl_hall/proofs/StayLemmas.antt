@@ -58,7 +58,7 @@ went : (n : ℕ) (graph : Named) (v : List Bool) (first seat : SeatView) (j : Jo
     → WorksOn graph.graph v first.mine seat.mine
 went n graph v first seat j f run g = inr (g.list, (j.events, run_of graph v seat j f run, f.stands))
 
--- a worker goes that was told nothing
+-- a worker goes to which nothing was reported
 pub leaves_halted : (n : ℕ) (graph : Named) (v : List Bool) (first seat : SeatView) (j : Journal) → Fits j graph v seat → Run j.graph j.inputs j.events → GoesOn n first seat
     → Leaves Halted graph.graph v first seat
 leaves_halted n graph v first seat j f run g = record { list = went n graph v first seat j f run g; last = g.last }
@@ -67,7 +67,7 @@ pub leaves_stray : (n : ℕ) (graph : Named) (v : List Bool) (first seat : SeatV
     → Leaves Stray graph.graph v first seat
 leaves_stray n graph v first seat j f run g = record { list = went n graph v first seat j f run g; last = g.last }
 
--- a worker goes that is told that the run is complete
+-- a worker goes to which it is reported that the run is complete
 pub leaves_complete : (graph : Named) (v : List Bool) (first seat seat' : SeatView) (j : Journal) (place : ℕ) → Fits j graph v seat → Run j.graph j.inputs j.events
     → GoesOn (length j.events) first seat → IsComplete j.graph j.inputs j.events → place ≡ length j.events → seat' ≡ record seat { last = Some (place, AllDone) }
     → Leaves Complete graph.graph v first seat'

@@ -13,7 +13,7 @@ use Rattle.tpl_hall.specs.Sights.{IsWithin}
 use Rattle.tpl_hall.specs.Growth.{WorksOn}
 use Rattle.tpl_hall.specs.Moves.{Fits, HasRoom, EndsAs}
 
--- the seat's list goes on from the one with which it came, it was told nothing more, and nothing that it has lies beyond the first n events
+-- the seat's list goes on from the one with which it came, nothing more was reported to it, and nothing that it has lies beyond the first n events
 pub record GoesOn (n : ℕ) (first seat : SeatView) : Type 0 where
   pub last : seat.last ≡ first.last
   pub list : Extends first.mine seat.mine

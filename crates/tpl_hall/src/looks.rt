@@ -1,4 +1,4 @@
-//! What the hall tells of a seat, and a seat of the run.
+//! Whether a seat fits the run, and what is reported to it.
 
 ghost use Rattle.std.specs.Prelude.{◌≡◌, ◌↔◌, length, Some, IsTrue, IsFalse};
 ghost use Rattle.tpl_model.specs.Facts.{requested};
@@ -77,8 +77,8 @@ impl<'g, K: Drop> Hall<'g, K> {
         }
     }
 
-    /// Lets a worker go whose work ends so, and tells it where the run is complete. Its seat has to fit once more; else
-    /// it goes as stray, with the events with which it came.
+    /// Lets a worker go whose work ends so, and reports to it where the run is complete. Its seat has to fit once more;
+    /// else it goes as stray, with the events with which it came.
     pub fn let_go(
         &self,
         graph: &Graph,
@@ -109,7 +109,7 @@ impl<'g, K: Drop> Hall<'g, K> {
         }
     }
 
-    /// Tells a seat that a token was requested, if it was, and says whether it was.
+    /// Reports to a seat that a token was requested, if it was. True where it was.
     pub fn tell_requested(&self, seat: &mut Seat, token: TokenId) -> bool
         requires { is_token self.now.core.graph token.0 }
         ensures exact { result ≡ requested self.now.core.graph self.now.core.inputs

@@ -1,4 +1,4 @@
-//! What a seat is told of a run.
+//! What is reported of a run to a seat.
 
 use tpl_words::{Status, TaskId, TokenId};
 

@@ -1,4 +1,4 @@
-//! Whether what seats were told last is true of a journal.
+//! Whether what was last reported to seats is true of a journal.
 
 ghost use Rattle.std.specs.Prelude.{◌≡◌, ◌↔◌, ◌+◌, [], length, reverse, IsTrue, IfOk};
 ghost use Rattle.tpl_model.specs.Rules.{Run};
@@ -42,7 +42,7 @@ fn same_status(a: Status, b: Status) -> bool
     }
 }
 
-/// What was told is of the graph, and true of this run.
+/// What was reported is of the graph, and true of this run.
 fn is_true(core: &Fast<'_>, sight: Sight) -> bool
     ensures { IsTrue result ↔ (IsOf core.now.graph sight
         × IsTrueOf core.now.graph core.now.inputs core.now.events sight) }
@@ -58,7 +58,7 @@ fn is_true(core: &Fast<'_>, sight: Sight) -> bool
     }
 }
 
-/// What was told at this place is true of this run.
+/// What was reported at this place is true of this run.
 fn holds_at(core: &Fast<'_>, place: usize, last: Option<(u32, Sight)>) -> bool
     ensures { IsTrue result ↔ HoldsAt core.now.graph core.now.inputs core.now.events place last }
 {
@@ -68,7 +68,7 @@ fn holds_at(core: &Fast<'_>, place: usize, last: Option<(u32, Sight)>) -> bool
     }
 }
 
-/// What each seat was told at this place is true of this run.
+/// What was reported to each seat at this place is true of this run.
 fn all_hold_at(core: &Fast<'_>, place: usize, seats: &[Seat]) -> bool
     ensures { IsTrue result ↔ AllHoldAt core.now.graph core.now.inputs core.now.events place
         seats.now }
@@ -81,7 +81,7 @@ fn all_hold_at(core: &Fast<'_>, place: usize, seats: &[Seat]) -> bool
     true
 }
 
-/// Plays a journal, as far as it is a run, and tests at each place what the seats were told there.
+/// Plays a journal, as far as it is a run, and tests at each place what was reported to the seats there.
 fn seats_hold(core: &mut Fast<'_>, journal: &[Event], seats: &[Seat]) -> bool
     requires { core.old.events ≡ [] }
     ensures { IsTrue result ↔ (Run core.old.graph core.old.inputs (reverse journal.now)
@@ -101,8 +101,8 @@ fn seats_hold(core: &mut Fast<'_>, journal: &[Event], seats: &[Seat]) -> bool
     all_hold_at(core, journal.len(), seats)
 }
 
-/// Plays the journal again, and tests at each place what the seats were told there: the journal is a run, and what each
-/// seat was told last is true of it. It fails where there is no memory.
+/// Plays the journal again, and tests at each place what was reported to the seats there: the journal is a run, and
+/// what was last reported to each seat is true of it. Out of memory is the only error.
 pub fn all_last(
     alloc: Global,
     graph: &Graph,

@@ -7,12 +7,12 @@ use Rattle.tpl_items.specs.declared.why.OpenWhy.TheVariants.{ItemMissing, ItemSt
 abbrev pub count_of : List ℕ → ℕ → ℕ
 count_of sites site = count_by (nat_eq site) sites
 
--- each item of the site says this of it
+-- each item of the site says this of whether it may fail
 abbrev pub SayAt : {W : Type 0} → (W → ℕ) → (W → Bool) → ℕ → Bool → List W → Type 0
 SayAt site may_fail s fails [] = Unit {0}
 SayAt site may_fail s fails (x ∷ xs) = (site x ≡ s → may_fail x ≡ fails) × SayAt site may_fail s fails xs
 
--- some item of the site doesn't
+-- some item of the site says otherwise of whether it may fail
 abbrev pub SomeDiffers : {W : Type 0} → (W → ℕ) → (W → Bool) → ℕ → Bool → List W → Type 0
 SomeDiffers {W} site may_fail s fails items = (place : ℕ) × (x : W) × (slice_get items place ≡ Some x) × (site x ≡ s) × (may_fail x ≡ fails → ⊥)
 

@@ -1,4 +1,4 @@
-//! Items that say another thing of their site than the graph.
+//! Items that may fail where the graph says that their site may not, or the other way round.
 
 ghost use Rattle.std.specs.Prelude.{◌≡◌, ◌↔◌, ◌<◌, ℕ, length, slice_index_or, false, IsTrue, IsFalse, IfSome, IfNone};
 ghost use Rattle.tpl_graph.specs.Named.{all_may_fail};
@@ -15,7 +15,7 @@ fn same_bool(a: bool, b: bool) -> bool
     if a { b } else { !b }
 }
 
-/// Each item of the site says this of it.
+/// Each item of the site says this of whether it may fail.
 fn says<K, W: Item<K>>(site: u16, may_fail: bool, items: &[W]) -> bool
     ensures yes { IsTrue result → SayAt W.site W.may_fail site may_fail items.now }
     ensures no { IsFalse result → SomeDiffers W.site W.may_fail site may_fail items.now }
@@ -28,7 +28,7 @@ fn says<K, W: Item<K>>(site: u16, may_fail: bool, items: &[W]) -> bool
     true
 }
 
-/// The least site of which an item says another thing than the graph.
+/// The least site whose item and graph don't agree on whether it may fail.
 pub(crate) fn first_differing<K, W: Item<K>>(graph: &Graph, items: &[W]) -> Option<u16>
     ensures some { IfSome result (λ s. (s < length graph.now.names.sites)
         × SomeDiffers W.site W.may_fail s (slice_index_or (all_may_fail graph.now.graph) s false)

@@ -3,7 +3,7 @@
 ghost use Rattle.std.specs.Prelude.{◌≡◌, ◌<◌, true, MatchOption};
 ghost use Rattle.tpl_journal.specs.Cuts.{lacks, IsCut};
 
-/// What stands before and behind the first such character.
+/// What stands before and behind the first such character; none where there is none.
 pub(crate) fn cut(text: &str, at: char) -> Option<(&str, &str)>
     requires { at < 128 }
     ensures { MatchOption result

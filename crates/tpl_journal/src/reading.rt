@@ -24,8 +24,8 @@ pub enum InputFault {
     Memory,
 }
 
-/// Reads to the end, where that takes no more than `limit` bytes. Each read gives a byte or the
-/// end, so there are at most `limit + 2` of them.
+/// Reads to the end, if that takes no more than `limit` bytes. Each read gives a byte at least, or the
+/// end, so there are at most `limit + 2` reads.
 pub fn read_limited<R: Read>(
     alloc: Global,
     limit: usize,

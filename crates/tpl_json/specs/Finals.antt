@@ -22,7 +22,7 @@ final_word word = if bytes_eq word (codes "RanToCompletion") then Some RanToComp
 unfoldable pub final_at : Data → Option Final
 final_at d = as_str d >>= final_word
 
--- the finals of a list, beside those that are known
+-- the final statuses of a list, with those that were read before
 unfoldable pub finals_at : Finals → List Data → Option Finals
 finals_at e [] = Some e
 finals_at e (d ∷ ds) = do

@@ -12,7 +12,7 @@ use Rattle.tpl_json.specs.Members.{has_only, list_in}
 abbrev pub HasOnly : List (List ℕ) → Data → Type 0
 HasOnly names d = has_only names d ≡ true
 
--- the member of this name is such a value
+-- the member of this name is there, and its value passes the test
 abbrev pub HasMember : Data → List ℕ → (Data → Type 0) → Type 0
 HasMember d name Is = (x : Data) × (get name d ≡ Some x) × Is x
 
@@ -25,7 +25,7 @@ abbrev pub IfThere : Option Data → (Data → Type 0) → Type 0 → Type 0
 IfThere None Is absent = absent
 IfThere (Some x) Is absent = Is x
 
--- an array of such elements
+-- the value is an array whose elements pass the test
 abbrev pub IsArray : (List Data → Type 0) → Data → Type 0
 IsArray Are d = (ds : List Data) × (list_in d ≡ Some ds) × Are ds
 

@@ -15,7 +15,7 @@ abbrev pub Gives : {X Y : Type 0} → (X → Y) → Result X Miss → Option Y �
 Gives view (Ok x) read = read ≡ Some (view x)
 Gives view (Err e) read = Misses e read
 
--- what a function gives that takes no memory: an error is a wrong shape
+-- the error is a wrong shape, the only one of a function that takes no memory
 abbrev pub IsShape : Miss → Type 0
 IsShape misses.Shape = Unit {0}
 IsShape misses.Memory = ⊥

@@ -8,7 +8,7 @@ use std::alloc::{AllocError, AllocFailed};
 /// Why one part was not read.
 #[derive(Clone, Copy, Debug, Drop, PartialEq, Eq)]
 pub enum Miss {
-    /// It hasn't the shape of that part.
+    /// It has the wrong shape.
     Shape,
     /// Memory ran out.
     Memory,

@@ -78,7 +78,7 @@ mem_filter f c (x ∷ xs) m = pick (λ n. mem_filter f c xs n) (f x) m
 pub attached_child : (g : TaskGraph) (p c : ℕ) → mem c (attached g p) ≡ true → IsParent g p c
 attached_child g p c m = mem_filter (λ d. attached_to_parent (options g d) && not (deny_child_attach (options g p))) c (starts (body g p)) m
 
--- what a running task has not: it isn't settled
+-- a running task isn't settled
 pub settled_idle : (g : TaskGraph) (v : List Bool) (h : List Event) (a : Actor) (t : ℕ) → Run g v h → Settled g v h t → IsRunning g v h a t → ⊥
 settled_idle g v h a t run (ended e) r = true_false (sym e ∙ ap is_some (running_facts g v h a t r).0)
 settled_idle g v h a t run (unstarted k s par sp) r =

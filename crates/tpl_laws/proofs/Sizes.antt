@@ -40,7 +40,7 @@ step_smaller g v t (Work site f ⨾ more) req en s = true_false (sym s)
 step_smaller g v t (If i a b ⨾ more) req en s = either_ahead (slice_index_or v i false) a b more
 step_smaller g v t (When f a b ⨾ more) req en s = either_ahead (has_final f en (subject_in g (kind g t) en)) a b more
 
--- so does a job
+-- a job leaves less
 work_smaller : (answer : Answer) (left : Statements) → works answer left ≡ true → statement_count (worked answer left).left < statement_count left
 work_smaller Done Nothing e = true_false (sym e)
 work_smaller Done (Return ⨾ more) e = true_false (sym e)

@@ -14,17 +14,17 @@ use Rattle.tpl_laws.specs.Soundness.{Each}
 use Rattle.tpl_laws.specs.RowTests.{parent_of, runs, ends, before, past, below_by, is_below, chain, proves}
 use Rattle.tpl_laws.specs.Verdict.{broken, first_broken, verdict}
 
--- the test of the first rule
+-- the test of K1 passes just where the rule holds
 abbrev pub RunsIsRight : Type 0
 RunsIsRight = (g : TaskGraph) (l : Assumed) (rows : List Row) (t : ℕ) → IsGraph g → (runs g l rows t ≡ true) ↔ RunsRule g l rows t (kind g t)
 
--- the test of the second rule
+-- the test of K2 passes just where the rule holds
 abbrev pub EndsIsRight : Type 0
 EndsIsRight =
     (g : TaskGraph) (l : Assumed) (rows : List Row) (t : ℕ)
     → (ends g l rows t ≡ true) ↔ ((f : Final) → l.cut t f ≡ true → MayEndAs g l rows t (kind g t) f → has (row rows t).ends f ≡ true)
 
--- the test of the third rule
+-- the test of K3 passes just where the rule holds
 abbrev pub BeforeIsRight : Type 0
 BeforeIsRight =
     (g : TaskGraph) (rows : List Row) (t : ℕ) → IsGraph g
@@ -34,33 +34,33 @@ BeforeIsRight =
 abbrev pub BelowIsRight : Type 0
 BelowIsRight = (g : TaskGraph) (t x : ℕ) → IsGraph g → (is_below g t x ≡ true) ↔ IsBelow g t x
 
--- so a list of the tasks below t is made in one pass over all tasks, upwards in number
+-- a list of the tasks below t is made in one pass over all tasks, upwards in number
 abbrev pub BelowInOnePass : Type 0
 BelowInOnePass = (g : TaskGraph) (t x : ℕ) → IsGraph g → is_below g t x ≡ below_by g t x (parent_of g x) (is_below g t)
 
--- the search for the parent of a child
+-- the search for a parent finds the task whose body starts the child
 abbrev pub ParentIsRight : Type 0
 ParentIsRight = (g : TaskGraph) (p t : ℕ) → IsGraph g → (parent_of g t ≡ Some p) ↔ IsParent g p t
 
--- the test of the fourth and the fifth rule
+-- the test of K4 and K5 passes just where the rules hold
 abbrev pub PastIsRight : Type 0
 PastIsRight =
     (g : TaskGraph) (l : Assumed) (rows : List Row) (t : ℕ) → IsGraph g
     → (past g l rows t ≡ true) ↔ ((x : ℕ) → mem x (row rows t).past ≡ true → PastRule g l rows t (kind g t) x)
 
--- the test of the sixth rule
+-- the test of K6 passes just where the rule holds
 abbrev pub ChainIsRight : Type 0
 ChainIsRight = (g : TaskGraph) (l : Assumed) (rows : List Row) (t : ℕ) → (chain g l rows t ≡ true) ↔ ChainRule g l rows t (row rows t).chain
 
--- the row of a task breaks no rule
+-- the row of a task breaks no rule just where it keeps them all
 abbrev pub BrokenIsRight : Type 0
 BrokenIsRight = (g : TaskGraph) (l : Assumed) (rows : List Row) (t : ℕ) → IsGraph g → (broken g l rows t ≡ None) ↔ IsClosed g l rows t
 
--- no row of a leaf does
+-- no row of a leaf breaks a rule just where the leaf is closed
 abbrev pub FirstBrokenIsRight : Type 0
 FirstBrokenIsRight = (g : TaskGraph) (l : Assumed) (rows : List Row) → IsGraph g → (first_broken g l rows 0 (length g.tasks) ≡ None) ↔ Closed g l rows
 
--- the test of what a closed leaf proves
+-- the test of what a closed leaf proves passes just where it proves the claim
 abbrev pub ProvesIsRight : Type 0
 ProvesIsRight = (g : TaskGraph) (l : Assumed) (rows : List Row) (p : Property) → (proves g l rows p ≡ true) ↔ Proves g l rows p
 
@@ -68,7 +68,7 @@ ProvesIsRight = (g : TaskGraph) (l : Assumed) (rows : List Row) (p : Property) �
 abbrev pub VerdictIsRight : Type 0
 VerdictIsRight = (g : TaskGraph) (claims : List Claim) (trees : List Tree) → IsGraph g → (verdict g claims trees ≡ Ok tt) ↔ Accepts g claims trees
 
--- and so, where there is none, each claim holds in every run
+-- where the verdict finds no fault, each claim holds in every run
 abbrev pub VerdictIsSound : Type 0
 VerdictIsSound =
     (g : TaskGraph) (claims : List Claim) (trees : List Tree) → IsGraph g → verdict g claims trees ≡ Ok tt

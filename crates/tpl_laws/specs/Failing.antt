@@ -1,4 +1,4 @@
--- From which place on a claim fails along a run, told by a few places of the whole run.
+-- From which place on a claim fails along a run, found from a few places of the whole run.
 use Rattle.std.specs.Prelude.{◌≡◌, ℕ, suc, ◌≤◌, ◌++◌, ◌||◌, not, Bool, true, false, if◌then◌else◌, Option, Some, None, IfSome, List, [], ◌∷◌, length, max, nat_le}
 use Rattle.tpl_model.specs.Graph.{TaskGraph}
 use Rattle.tpl_model.specs.declared.event.Act.{Act}
@@ -23,8 +23,7 @@ abbrev pub is_at : Option ℕ → ℕ → Bool
 is_at None n = false
 is_at (Some place) n = nat_le place n
 
--- Along a list of events the test is false before a place and true from it on; where there is none it is false
--- throughout.
+-- along a list of events the test is false before a place and true from it on; without a place it is false throughout
 pub record IsFrom (test : List Event → Bool) (h : List Event) (place : Option ℕ) : Type 0 where
   pub within : IfSome place (λ p. p ≤ length h)
   pub each : (later before : List Event) → later ++ before ≡ h → test before ≡ is_at place (length before)
@@ -44,12 +43,12 @@ abbrev pub later_of : Option ℕ → Option ℕ → Option ℕ
 later_of (Some p) (Some q) = Some (max p q)
 later_of p q = None
 
--- where the place is noted after the first event after which the test is true
+-- the place that is known already, else this one where the test is true now
 abbrev pub or_now : Option ℕ → Bool → ℕ → Option ℕ
 or_now None now n = if now then Some n else None
 or_now (Some p) now n = Some p
 
--- where a property that the run has lost was lost. A run is complete from its place `complete` on
+-- where a property that isn't true of the run was lost. A run is complete from its place `complete` on
 abbrev pub lost_at : TaskGraph → List Bool → List Event → Option ℕ → Property → Option ℕ
 lost_at g v h complete (EndsIn t ends) = place_of (ending g v h t.0)
 lost_at g v h complete (After a b) = began_at h b.0
@@ -82,8 +81,8 @@ pub record IsFirstFailure (g : TaskGraph) (v : List Bool) (h : List Event) (clai
   pub before : (later before : List Event) → later ++ before ≡ h → is_at place (length before) ≡ false → holds g claim v before ≡ true
   pub there : (later before : List Event) → later ++ before ≡ h → place ≡ Some (length before) → holds g claim v before ≡ false
 
--- Where a claim first fails in a run is told by the ends and begins of tasks, by the place from which the run is
--- complete, and by those from which tokens are requested.
+-- where a claim first fails in a run follows from the ends and begins of tasks, from the place from which the run is
+-- complete, and from those from which tokens are requested
 abbrev pub FailureIsTold : Type 0
 FailureIsTold =
     (g : TaskGraph) (v : List Bool) (h : List Event) (complete : Option ℕ) (asked : ℕ → Option ℕ) (claim : Claim)
@@ -96,7 +95,7 @@ OnlyRequests =
     (g : TaskGraph) (v : List Bool) (h : List Event) (a : Actor) (x : Act)
     → Run g v h → Complete g v h → Allows g v h a x → (k : TokenId) × (x ≡ Request k)
 
--- and stays complete
+-- a complete run stays complete
 abbrev pub StaysComplete : Type 0
 StaysComplete = (g : TaskGraph) (v : List Bool) (later h : List Event) → Run g v (later ++ h) → Complete g v h → Complete g v (later ++ h)
 
@@ -108,7 +107,7 @@ CompleteIsNoted =
     × ((h : List Event) (x : Event) (place : Option ℕ) → Run g v (x ∷ h) → IsFrom (is_complete g v) h place
     → IsFrom (is_complete g v) (x ∷ h) (or_now place (is_complete g v (x ∷ h)) (suc (length h))))
 
--- and so can that from which a token is requested
+-- along a run the place from which a token is requested can be noted, event by event
 abbrev pub RequestIsNoted : Type 0
 RequestIsNoted =
     (g : TaskGraph) (v : List Bool) (k : ℕ)

@@ -15,23 +15,23 @@ use Rattle.tpl_model.specs.declared.fault.CertFault.{CertFault}
 use Rattle.tpl_model.specs.declared.fault.CertFault.TheVariants.{Shape, NotClosed, ClaimNot}
 use Rattle.tpl_laws.specs.Verdict.{past_rule, LeafFault, Breaks, ProvesNot, verdict}
 
--- the rules for one row, each by itself
+-- the row of t keeps K1
 abbrev pub Runs : TaskGraph → Assumed → List Row → ℕ → Type 0
 Runs g l rows t = RunsRule g l rows t (kind g t)
 
--- the second rule
+-- the row of t keeps K2
 abbrev pub Ends : TaskGraph → Assumed → List Row → ℕ → Type 0
 Ends g l rows t = (f : Final) → l.cut t f ≡ true → MayEndAs g l rows t (kind g t) f → has (row rows t).ends f ≡ true
 
--- the third rule
+-- the row of t keeps K3
 abbrev pub Before : TaskGraph → Assumed → List Row → ℕ → Type 0
 Before g l rows t = (row rows t).runs ≡ true → (x : ℕ) → mem x (row rows t).before ≡ true → BeforeRule g rows t (kind g t) x
 
--- the fourth and the fifth rule
+-- the row of t keeps K4 and K5
 abbrev pub Past : TaskGraph → Assumed → List Row → ℕ → Type 0
 Past g l rows t = (x : ℕ) → mem x (row rows t).past ≡ true → PastRule g l rows t (kind g t) x
 
--- the sixth rule
+-- the row of t keeps K6
 abbrev pub Chain : TaskGraph → Assumed → List Row → ℕ → Type 0
 Chain g l rows t = ChainRule g l rows t (row rows t).chain
 
@@ -56,7 +56,8 @@ leaves_of l (SplitEnd t ran canceled faulted) =
     leaves_of (with_end l t RanToCompletion) ran ++ (leaves_of (with_end l t Canceled) canceled ++ leaves_of (with_end l t Faulted) faulted)
 leaves_of l (Leaf rows) = record { assumes = l; rows = rows } ∷ []
 
--- a leaf fails: the row of this task breaks this rule, and those of the tasks before it break none; or it is closed and doesn't prove the claim
+-- a leaf fails: the row of this task breaks this rule, and those of the tasks before it break none; or it is closed and
+-- doesn't prove the claim
 abbrev pub LeafFails : TaskGraph → Property → Branch → LeafFault → Type 0
 LeafFails g p b (Breaks t rule) = is_task g t × ((x : ℕ) → x < t → IsClosed g b.assumes b.rows x) × BreaksRule g b.assumes b.rows t rule
 LeafFails g p b ProvesNot = Closed g b.assumes b.rows × (Proves g b.assumes b.rows p → ⊥)
@@ -82,7 +83,8 @@ pub record LeavesFail (g : TaskGraph) (p : Property) (claim : ℕ) (n : ℕ) (bs
   pub fails : LeafFails g p branch why
   pub at : fault ≡ place claim (n + length earlier) why
 
--- the tree of one of these claims fails, and those of the claims before it are accepted; the first of them has the number n
+-- the tree of one of these claims fails, and those of the claims before it are accepted; the first of them has the
+-- number n
 pub record ClaimsFail (g : TaskGraph) (n : ℕ) (claims : List Claim) (trees : List Tree) (fault : CertFault) : Type 0 where
   pub earlier_claims : List Claim
   pub claim : Claim
@@ -113,7 +115,7 @@ FirstMisfits g [] [] = ⊥
 FirstMisfits g (claim ∷ claims) (tree ∷ trees) = HasShape g tree → ⊥
 FirstMisfits g claims trees = Unit {0}
 
--- the same of one of these claims or trees, and those before it have their shape
+-- one of these claims has no tree of that shape, or one of these trees no claim, and those before it have their shape
 pub record Misfits (g : TaskGraph) (n : ℕ) (claims : List Claim) (trees : List Tree) (fault : CertFault) : Type 0 where
   pub earlier_claims : List Claim
   pub later_claims : List Claim
@@ -125,7 +127,8 @@ pub record Misfits (g : TaskGraph) (n : ℕ) (claims : List Claim) (trees : List
   pub misfits : FirstMisfits g later_claims later_trees
   pub at : fault ≡ Shape (n + length earlier_claims)
 
--- a fault is the first one: a shape, or where all shapes are right the first leaf that fails of the first claim whose tree isn't accepted
+-- a fault is the first one: a shape, or where all shapes are right the first leaf that fails of the first claim whose
+-- tree isn't accepted
 abbrev pub IsFirstFault : TaskGraph → List Claim → List Tree → CertFault → Type 0
 IsFirstFault g claims trees fault = Misfits g 1 claims trees fault ⊎ (HaveShape g claims trees × ClaimsFail g 1 claims trees fault)
 

@@ -52,7 +52,7 @@ abbrev pub are_placed : TaskGraph → ℕ → List ℕ → Bool
 are_placed g t [] = true
 are_placed g t (x ∷ xs) = nat_lt x t && (not (is_child (kind g x)) && are_placed g t xs)
 
--- so are the tasks that a task of this kind waits for
+-- the tasks that a task of this kind waits for are placed in this way
 abbrev pub is_placed : TaskGraph → ℕ → TaskKind → Bool
 is_placed g t (Continues a) = are_placed g t (a ∷ [])
 is_placed g t (WhenAll args) = are_placed g t args && at_most (length args) 256
@@ -96,7 +96,7 @@ started_once g t = all_below (λ p. at_most (count_by (nat_eq t) (starts (body g
 abbrev pub same_parent : TaskGraph → ℕ → ℕ → Bool
 same_parent g t p = implies (is_parent g p t) (all_below (λ q. implies (is_parent g q t) (nat_eq p q)) (length g.tasks))
 
--- no two bodies start t
+-- no two tasks start t
 abbrev pub one_parent : TaskGraph → ℕ → Bool
 one_parent g t = all_below (same_parent g t) (length g.tasks)
 

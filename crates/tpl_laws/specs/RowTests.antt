@@ -24,7 +24,7 @@ abbrev pub all_in : (ℕ → Bool) → List ℕ → Bool
 all_in test [] = true
 all_in test (x ∷ xs) = test x && all_in test xs
 
--- of each, and of some way to end
+-- each way to end passes the test
 abbrev pub each_end : (Final → Bool) → Bool
 each_end test = test RanToCompletion && (test Canceled && test Faulted)
 
@@ -56,7 +56,7 @@ abbrev pub below_within : TaskGraph → ℕ → ℕ → ℕ → Bool
 below_within g t zero x = false
 below_within g t (suc n) x = below_by g t x (parent_of g x) (below_within g t n)
 
--- a parent is declared before its child, so there are no more than x steps up
+-- x is below t: a parent is declared before its child, so there are no more than x steps up
 abbrev pub is_below : TaskGraph → ℕ → ℕ → Bool
 is_below g t x = below_within g t x x
 
@@ -68,11 +68,11 @@ runs_by g l rows t Child =
     by_parent (parent_of g t) (λ p. implies (row rows p).runs (implies (reaches t (view g l rows p) (body g p)) (row rows t).runs))
 runs_by g l rows t kind = true
 
--- the first rule
+-- K1
 abbrev pub runs : TaskGraph → Assumed → List Row → ℕ → Bool
 runs g l rows t = runs_by g l rows t (kind g t)
 
--- how a body may end its task
+-- the body of t may throw
 abbrev pub may_throw : TaskGraph → Assumed → List Row → ℕ → Bool
 may_throw g l rows t = may none is_throw (view g l rows t) (body g t)
 
@@ -104,7 +104,7 @@ may_end_as g l rows t (Continues a) f = ((row rows t).runs && body_may_end g l r
 may_end_as g l rows t (WhenAll args) f = all_may_end rows args f
 may_end_as g l rows t (WhenAny args) f = is_final f RanToCompletion && some_in (λ x. some_end (has (row rows x).ends)) args
 
--- the second rule
+-- K2
 abbrev pub ends : TaskGraph → Assumed → List Row → ℕ → Bool
 ends g l rows t = each_end (λ f. implies (l.cut t f) (implies (may_end_as g l rows t (kind g t) f) (has (row rows t).ends f)))
 
@@ -115,7 +115,7 @@ before_by g rows t (Continues a) x = nat_eq x a || mem x (row rows a).past
 before_by g rows t Child x = by_parent (parent_of g t) (λ p. mem x (row rows p).before)
 before_by g rows t kind x = true
 
--- the third rule
+-- K3
 abbrev pub before : TaskGraph → List Row → ℕ → Bool
 before g rows t = implies (row rows t).runs (all_in (before_by g rows t (kind g t)) (row rows t).before)
 
@@ -127,16 +127,16 @@ past_by g l rows t (Continues a) x = (not (may_end_early g l rows t) && (nat_eq 
 past_by g l rows t (WhenAll args) x = some_in (λ y. nat_eq x y || mem x (row rows y).past) args
 past_by g l rows t (WhenAny args) x = all_in (λ y. nat_eq x y || mem x (row rows y).past) args
 
--- the fourth and the fifth rule
+-- K4 and K5
 abbrev pub past : TaskGraph → Assumed → List Row → ℕ → Bool
 past g l rows t = all_in (past_by g l rows t (kind g t)) (row rows t).past
 
--- x takes over what y carries: it is the parent of its attached child y, or a WhenAll task with the argument y
+-- a WhenAll task has the argument y
 abbrev pub is_argument : ℕ → TaskKind → Bool
 is_argument y (WhenAll args) = mem y args
 is_argument y kind = false
 
--- x takes over what y carries
+-- x takes over what y carries: it is the parent of its attached child y, or a WhenAll task with the argument y
 abbrev pub takes_over : TaskGraph → ℕ → ℕ → Bool
 takes_over g x y = mem y (attached g x) || is_argument y (kind g x)
 
@@ -164,11 +164,11 @@ abbrev pub chain_by : TaskGraph → Assumed → ℕ → List ℕ → Bool
 chain_by g l t [] = true
 chain_by g l t (x ∷ chain) = links g l t (x ∷ chain)
 
--- the sixth rule
+-- K6
 abbrev pub chain : TaskGraph → Assumed → List Row → ℕ → Bool
 chain g l rows t = chain_by g l t (row rows t).chain
 
--- a closed leaf proves a claim
+-- the list is empty
 abbrev pub is_none : List ℕ → Bool
 is_none [] = true
 is_none (x ∷ xs) = false

@@ -41,7 +41,7 @@ RequestedThroughSources =
     (g : TaskGraph) (v : List Bool) (h : List Event) (k : ℕ)
     → (requested g v h k ≡ true) ↔ ((s : ℕ) × IsSource g k s × (requested_itself g v h s ≡ true))
 
--- that is, just where it was requested itself or one of its sources is requested
+-- a token is requested just where it was requested itself or one of its sources is requested
 abbrev pub RequestedByASource : Type 0
 RequestedByASource =
     (g : TaskGraph) (v : List Bool) (h : List Event) (k : ℕ)
@@ -59,7 +59,7 @@ QuietWithSources =
     (g : TaskGraph) (given : List Given) (k : ℕ)
     → (given_quiet g given k ≡ true) ↔ ((j : ℕ) × (gives_quiet given j ≡ true) × IsSource g j k)
 
--- that is, the given's and the sources of each quiet token
+-- a leaf's quiet tokens are the given's and the sources of each quiet token
 abbrev pub QuietByALink : Type 0
 QuietByALink =
     (g : TaskGraph) (given : List Given) (k : ℕ)

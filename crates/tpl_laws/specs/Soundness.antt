@@ -22,7 +22,8 @@ HasLeaf l (SplitEnd t ran canceled faulted) m rows =
     ⊎ HasLeaf (with_end l t Faulted) faulted m rows
 HasLeaf l (Leaf leaf) m rows = (l ≡ m) × (leaf ≡ rows)
 
--- where a claim's given is true of a run so far, some leaf of its tree agrees with the run, also while a task on which the tree splits hasn't ended
+-- where a claim's given is true of a run so far, some leaf of its tree agrees with the run, also while a task on which
+-- the tree splits hasn't ended
 abbrev pub SomeLeafAgrees : Type 0
 SomeLeafAgrees =
     (g : TaskGraph) (claim : Claim) (tree : Tree) (v : List Bool) (h : List Event)

@@ -106,6 +106,7 @@ abbrev pub no_fault : Option CertFault → Result (Unit {0}) CertFault
 no_fault None = Ok tt
 no_fault (Some fault) = Err fault
 
--- what is said of a certificate: its first fault, if it has one. Shapes come first; then claim by claim and leaf by leaf, the first row that breaks a rule, before the claim
+-- what is said of a certificate: its first fault, if it has one. Shapes come first; then claim by claim and leaf by
+-- leaf, the first row that breaks a rule, before the claim
 abbrev pub verdict : TaskGraph → List Claim → List Tree → Result (Unit {0}) CertFault
 verdict g claims trees = no_fault (or_else (misfit g 1 claims trees) (claims_fault g 1 claims trees))

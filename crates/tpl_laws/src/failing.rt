@@ -7,12 +7,12 @@ pub fn only_requests()
     ensures { OnlyRequests }
 {}
 
-/// What is complete stays so.
+/// A complete run stays complete.
 pub fn stays_complete()
     ensures { StaysComplete }
 {}
 
-/// Where a claim first fails is told by a few places of the run.
+/// Where a claim first fails follows from a few places of the run.
 pub fn failure_is_told()
     ensures { FailureIsTold }
 {}
@@ -22,7 +22,7 @@ pub fn complete_is_noted()
     ensures { CompleteIsNoted }
 {}
 
-/// And so can the place from which a token is requested.
+/// Along a run the place from which a token is requested can be noted, event by event.
 pub fn request_is_noted()
     ensures { RequestIsNoted }
 {}

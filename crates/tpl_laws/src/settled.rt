@@ -7,7 +7,8 @@ pub fn settled_without_begin()
     ensures { SettledWithoutBegin }
 {}
 
-/// What was settled where a task began is told by the ends, and by what was never started, in the whole run.
+/// What was settled where a task began follows from the ends of tasks, and from what was never started, in the
+/// whole run.
 pub fn settled_before_its_begin()
     ensures { SettledBeforeItsBegin }
 {}

@@ -1,4 +1,4 @@
--- The event that tells where a task stands that hasn't ended.
+-- The event that says where a task stands that hasn't ended.
 use Rattle.std.specs.Prelude.{ℕ, Bool, false, Option, Some, None, List, [], ◌∷◌, if◌then◌else◌, nat_eq}
 use Rattle.tpl_words.specs.declared.finals.Final.{Final}
 use Rattle.tpl_words.specs.declared.status.Status.{Status}

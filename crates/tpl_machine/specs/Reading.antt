@@ -1,4 +1,4 @@
--- What the readers of a run tell.
+-- What the readers of a run answer.
 use Rattle.std.specs.Prelude.{◌≡◌, ℕ, suc, ◌<◌, Bool, List, [], ◌∷◌, Option, Some, None, length, if◌then◌else◌}
 use Rattle.tpl_words.specs.declared.status.Actor.{Actor}
 use Rattle.tpl_words.specs.declared.status.Status.{Status}
@@ -62,7 +62,7 @@ pub record IsDue (g : TaskGraph) (v : List Bool) (h : List Event) (t : ℕ) (act
   pub task : is_task g t
   pub allowed : (actor : Actor) → Allows g v h actor act
 
--- the task has none
+-- no such act of the task is allowed
 abbrev pub NoneDue : TaskGraph → List Bool → List Event → ℕ → Type 0
 NoneDue g v h t = (act : Act) → IsDue g v h t act → ⊥
 

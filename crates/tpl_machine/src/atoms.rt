@@ -19,7 +19,7 @@ fn has(tasks: &[TaskId], task: TaskId) -> bool
     false
 }
 
-/// Adds the task behind the others, if the list hasn't got it.
+/// Adds the task behind the others, if it isn't in the list.
 fn add(tasks: &mut Vec<TaskId>, task: TaskId)
     requires atoms { AreAtoms (vec_capacity tasks.old) (map task_number tasks.old.items) }
     requires below { task.0 < vec_capacity tasks.old }
@@ -33,7 +33,7 @@ fn add(tasks: &mut Vec<TaskId>, task: TaskId)
     }
 }
 
-/// Adds those of the tasks that the list hasn't got, in their order. The list has room for every task of the graph.
+/// Adds those of the tasks that aren't in the list, in their order. The list has room for every task of the graph.
 pub(crate) fn join(tasks: &mut Vec<TaskId>, more: &[TaskId])
     requires atoms { AreAtoms (vec_capacity tasks.old) (map task_number tasks.old.items) }
     requires below { (x : ℕ) → mem x (map task_number more.now) ≡ true

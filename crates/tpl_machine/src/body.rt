@@ -29,7 +29,7 @@ fn canceled(own: Option<TokenId>, token: TokenId) -> Outcome
     }
 }
 
-/// Passes the next statement, if it isn't a job, and gives the outcome that it ends the body with. `holds` is what the
+/// Passes the next statement, if it isn't a job, and returns the outcome, if it ends the body. `holds` is what the
 /// statement tests.
 pub(crate) fn pass(rest: &mut Cursor, own: Option<TokenId>, holds: bool) -> Option<Outcome>
     ensures { passed (option_map token_number own) holds rest.old
@@ -62,7 +62,7 @@ pub(crate) fn pass(rest: &mut Cursor, own: Option<TokenId>, holds: bool) -> Opti
     Some(outcome)
 }
 
-/// Passes a job that has answered, and gives the outcome that it ends the body with.
+/// Passes a job that has answered, and returns the outcome, if it ends the body.
 pub(crate) fn pass_job(rest: &mut Cursor, answer: Answer) -> Option<Outcome>
     ensures { worked answer rest.old ≡ record { left = rest.new; outcome = result } }
 {

@@ -8,7 +8,7 @@ ghost use Rattle.tpl_machine.specs.Reading.{began};
 use tpl_model::{Act, Event};
 use tpl_words::{Actor, TaskId};
 
-/// An event that tells where a task stands that hasn't ended.
+/// An event that says where a task stands that hasn't ended.
 #[derive(Clone, Copy, PartialEq, Eq, Debug)]
 pub enum Mark {
     /// It was released.

@@ -60,7 +60,7 @@ impl<'g> Model for Row<'g> {
 }
 
 impl<'g> Row<'g> {
-    /// The row of a task that hasn't begun, with room for the exceptions of so many tasks.
+    /// The row of a task that hasn't begun, with room for the exceptions of this many tasks.
     pub(crate) fn new(
         alloc: Global,
         script: &'g Script,

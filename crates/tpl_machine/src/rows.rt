@@ -76,7 +76,7 @@ pub fn work_row(rows: &mut Vec<Row>, task: TaskId, answer: Answer)
     row.work(answer);
 }
 
-/// A task ends, and takes over the list of exceptions for its own.
+/// A task ends, and keeps the list of exceptions as its own.
 pub fn end_row(rows: &mut Vec<Row>, task: TaskId, ended: Ended, atoms: &mut Vec<TaskId>)
     requires task { task.0 < vec_len rows.old }
     requires row { CanEnd rows.old.items task.0 (vec_capacity atoms.old) }

@@ -1,4 +1,4 @@
--- The steps of a leaf's making.
+-- The steps in the making of a leaf's rows.
 use Rattle.std.specs.Prelude.{ℕ}
 use Rattle.tpl_model.specs.Graph.{TaskGraph, is_task}
 use Rattle.tpl_outline.specs.declared.stages.Stage.{Stage}

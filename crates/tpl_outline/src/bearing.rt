@@ -41,7 +41,7 @@ fn named(property: Property) -> TaskSet
     }
 }
 
-/// With what bears on the tasks at once; most of it is declared before them.
+/// The tasks, with those that bear on them directly; most of these are declared before them.
 fn widened(graph: &Graph, tasks: &TaskSet) -> TaskSet
     ensures { (x : ℕ) → mem x tasks.now ≡ true → mem x result ≡ true }
 {
@@ -55,7 +55,7 @@ fn widened(graph: &Graph, tasks: &TaskSet) -> TaskSet
     wider
 }
 
-/// With what bears on the task at once.
+/// Adds the tasks that bear on the task directly.
 fn with_causes(graph: &Graph, tasks: TaskSet, task: TaskId) -> TaskSet
     requires { is_task graph.now.graph task.0 }
     ensures { (x : ℕ) → mem x tasks ≡ true → mem x result ≡ true }

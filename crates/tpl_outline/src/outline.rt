@@ -1,4 +1,4 @@
-//! How tasks begin and end under what is assumed: the least that the rules K1 and K2 force.
+//! Which tasks may begin and how they may end under what is assumed: the least that the rules K1 and K2 demand.
 
 ghost use Rattle.std.specs.Prelude.{◌≡◌, ◌≢◌, ℕ, ◌<◌, true};
 ghost use Rattle.tpl_words.specs.declared.finals.Final as finals;
@@ -12,14 +12,14 @@ use tpl_graph::Graph;
 use tpl_script::Verdicts;
 use tpl_words::{Final, Finals, TaskId};
 
-/// How no task ends.
+/// No way to end.
 pub const NO_END: Finals = Finals {
     ran: false,
     canceled: false,
     faulted: false,
 };
 
-/// What is known of a task of which nothing is settled yet.
+/// The fate of a task before a pass has found it: it neither begins nor ends.
 const UNSETTLED: Fate = Fate {
     runs: false,
     verdicts: Verdicts {
@@ -48,7 +48,7 @@ pub struct Outline {
 }
 
 impl Outline {
-    /// Nothing is settled.
+    /// Nothing is known of any task.
     pub fn unsettled() -> Outline
         ensures { (t : ℕ) → fate_of result t ≡ unsettled }
     {
@@ -57,7 +57,7 @@ impl Outline {
         }
     }
 
-    /// The same again.
+    /// A copy.
     pub(crate) fn copy(&self) -> Outline
         ensures { result ≡ self.now }
     {
@@ -72,7 +72,7 @@ impl Outline {
         if at < 1024 { self.fates[at] } else { UNSETTLED }
     }
 
-    /// Settles what may become of the task.
+    /// Sets what may become of the task.
     pub(crate) fn settle(&mut self, task: TaskId, fate: Fate)
         requires { task.0 < 1024 }
         ensures settled { fate_of self.new task.0 ≡ fate }
@@ -95,7 +95,7 @@ impl Outline {
         }
     }
 
-    /// How the task may end, but for the ways that are left out.
+    /// How the task may end, without the ways that the branch cuts off.
     pub(crate) fn ends(&self, graph: &Graph, assumed: &Assumptions, task: TaskId) -> Finals
         requires { is_task graph.now.graph task.0 }
         ensures { (f : Final) → has result f ≡ true → (assumed_of assumed.now).cut task.0 f ≡ true }

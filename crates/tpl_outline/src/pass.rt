@@ -15,7 +15,7 @@ use tpl_checker::{Assumptions, Ready, allowed, parent, ready_of, some_end};
 use tpl_graph::Graph;
 use tpl_words::{TaskId, TaskSet};
 
-/// A pass over the tasks that settles what may become of them.
+/// A pass over the tasks that finds what may become of them.
 #[derive(Drop)]
 struct Pass {
     outline: Outline,
@@ -84,7 +84,7 @@ impl Pass {
         }
     }
 
-    /// Settles whether the task may begin and how its body ends, if that may have changed.
+    /// Finds whether the task may begin and how its body ends, if that may have changed.
     fn begin(&mut self, graph: &Graph, assumed: &Assumptions, task: TaskId)
         requires { is_task graph.now.graph task.0 }
         ensures others { KeepsOthers task.0 self.old.outline self.new.outline }
@@ -113,7 +113,7 @@ impl Pass {
         self.started = self.started.union(&started);
     }
 
-    /// Settles how the task may end.
+    /// Finds how the task may end.
     fn end(&mut self, graph: &Graph, assumed: &Assumptions, task: TaskId)
         requires { is_task graph.now.graph task.0 }
         ensures others { KeepsOthers task.0 self.old.outline self.new.outline }

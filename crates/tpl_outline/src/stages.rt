@@ -10,12 +10,12 @@ use tpl_checker::Below;
 use tpl_graph::Graph;
 use tpl_words::{TaskId, TaskSet};
 
-/// A step of a leaf's making.
+/// A step in the making of a leaf's rows.
 #[derive(Clone, Copy)]
 pub enum Stage {
-    /// It is settled whether the task may begin.
+    /// Finds whether the task may begin.
     Begin(TaskId),
-    /// It is settled how the task may end.
+    /// Finds how the task may end.
     End(TaskId),
 }
 

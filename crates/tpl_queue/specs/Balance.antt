@@ -5,12 +5,12 @@ use lib.ListN.{get_elem?}
 use Rattle.tpl_queue.specs.declared.rule.Tally.{Tally}
 use Rattle.tpl_queue.specs.Tally.{weigh, IsUnsplit}
 
--- f of each, added up
+-- the sum of f over the list
 abbrev pub total : (Tally → ℕ) → List Tally → ℕ
 total f [] = 0
 total f (v ∷ vs) = f v + total f vs
 
--- each of them has it
+-- each of them has the property
 abbrev pub Each : (Tally → Type 0) → List Tally → Type 0
 Each P views = (place : ℕ) (v : Tally) → get_elem? views place ≡ some v → P v
 

@@ -59,7 +59,7 @@ HeldAtOnce n v = (tasks : List ℕ) × (length tasks ≡ n) × Accounts v tasks
 abbrev pub HeldFewer : ℕ → Tally → Type 0
 HeldFewer n v = (tasks : List ℕ) × (length tasks < n) × Accounts v tasks
 
--- the same, with the number that a witness tells
+-- at one moment of the call the queue held fewer tasks than a witness says that it has places, and the pass accounts for them
 abbrev pub HadRoom : List ℕ → Tally → Type 0
 HadRoom told v = (n : ℕ) → told ≡ n ∷ [] → HeldFewer n v
 

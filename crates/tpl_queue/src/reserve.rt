@@ -3,7 +3,7 @@
 //! It lies in a table that no thread changes. Threads share the queue and so the list, though jobs
 //! cannot be shared: a table may be, since what lies in it is only reached by who owns the table.
 //!
-//! The table is told for how many jobs it is made, and whoever shares it gets a witness of that number.
+//! The table knows for how many jobs it is made, and whoever shares it gets a witness of that number.
 ghost use Rattle.std.specs.Prelude.{◌≡◌, ◌≤◌, [], ◌∷◌, IfOk, vec_capacity};
 
 use atomic_table::{Badge, Play, Table, TableRule};
@@ -12,7 +12,7 @@ use std::alloc::{AllocError, Global};
 /// The table's one word, which is read and never written.
 const WORD: usize = 0;
 
-/// The rule of the table: its one place holds an empty list with room for so many values.
+/// The rule of the table: its one place holds an empty list with room for this many values.
 pub struct HasRoom;
 
 impl<T> TableRule<Vec<T>, usize, usize> for HasRoom {
@@ -27,7 +27,7 @@ impl<T> TableRule<Vec<T>, usize, usize> for HasRoom {
 /// A list that is kept until it is needed.
 pub type Reserve<T> = Table<Vec<T>, usize, usize, HasRoom, Global>;
 
-/// What a look at the table tells: the new seat knows what the first one knew, the number of places.
+/// What a look at the table shows: the new seat knows what the first one knew, the number of places.
 pub struct Told;
 
 impl<T> Play<Vec<T>, usize> for Told {

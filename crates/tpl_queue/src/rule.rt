@@ -16,8 +16,8 @@ pub struct Tally {
     pub taken: LinkedList<u16>,
 }
 
-/// A job in the queue, with a witness of how many places the queue has, so that what a push tells can name the number.
-/// The witness has no bytes.
+/// A job in the queue, with a witness of how many places the queue has, so that the contract of a push can name the
+/// number. The witness has no bytes.
 #[derive(Drop)]
 pub struct Placed<I> {
     pub job: Job<I>,

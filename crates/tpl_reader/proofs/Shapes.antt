@@ -1,4 +1,4 @@
--- From the parts of a document to the first that hasn't its form.
+-- From the parts of a document to the first of the wrong shape.
 use Rattle.std.proofs.Common.{List}
 use Rattle.serde_json.specs.Data.{Data}
 use Rattle.tpl_graph.specs.Draft.{Task}

@@ -64,7 +64,7 @@ IsWrongClaim g spelled faults.Unknown = knows_claim g.names spelled ≡ false
 IsWrongClaim g spelled faults.NoBody = (claim : Claim) × IsClaimOf g.names spelled claim × (have_bodies g.graph claim.body ≡ false)
 IsWrongClaim g spelled faults.GivenTwice = (claim : Claim) × IsClaimOf g.names spelled claim × (have_bodies g.graph claim.body ≡ true) × (given_twice claim.given ≡ true)
 
--- what taking over a claim gave, unless memory ran out
+-- the fault is one of these, unless memory ran out
 abbrev pub Refuses : {F : Type 0} → (F → Type 0) → Stop F → Type 0
 Refuses IsWrong (stop.Fault f) = IsWrong f
 Refuses IsWrong stop.Memory = Unit {0}

@@ -58,7 +58,7 @@ pub record IsStartOf (g : Named) (s : NamedStart) (start : StartValue) : Type 0 
   pub sites : AreNumbers g.names.sites s.fail start.fail
   pub may_fail : may_all_fail g.graph start.fail ≡ true
 
--- what is wrong with a start: a name that isn't the graph's, then an input without value, then a site to fail whose job may not fail
+-- what is wrong with a start: a name that isn't the graph's, then an input without value, then a job that is to fail and may not
 abbrev pub IsWrongStart : Named → NamedStart → StartFault → Type 0
 IsWrongStart g s faults.Unknown = knows_start g s ≡ false
 IsWrongStart g s faults.Missing = (knows_start g s ≡ true) × ((i : ℕ) × (i < length g.names.inputs) × (truth_at s.inputs (name_at g.names.inputs i) ≡ None))

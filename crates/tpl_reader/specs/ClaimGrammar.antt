@@ -28,6 +28,6 @@ pub record IsClaim (d : Data) (claim : NamedClaim) : Type 0 where
   pub property : IsProperty d claim.body
   pub given : IfThere (get (codes "given") d) (IsArray (λ ds. AllRead IsGiven ds claim.given)) (claim.given ≡ [])
 
--- no claim is such a value
+-- the value spells no claim
 abbrev pub IsNoClaim : Data → Unit {0} → Type 0
 IsNoClaim d u = (claim : NamedClaim) → IsClaim d claim → ⊥

@@ -37,7 +37,7 @@ pub record Spelled : Type 0 where
   pub journal : List ℕ
   pub start : Option NamedStart
 
--- the value has the form of the document
+-- the value spells the document with names
 pub record IsSpelled (d : Data) (s : Spelled) : Type 0 where
   pub members : Members
   pub top : IsTop d members
@@ -49,7 +49,7 @@ pub record IsSpelled (d : Data) (s : Spelled) : Type 0 where
   pub journal : s.journal ≡ members.journal
   pub start : IsStartIfAny members.start s.start
 
--- no top, and no start, is such a value
+-- the value spells no top of a document
 abbrev pub IsNoTop : Data → Type 0
 IsNoTop d = (m : Members) → IsTop d m → ⊥
 
@@ -72,7 +72,7 @@ abbrev pub WrongClaim : List Data → Part → Type 0
 WrongClaim ds (part.Claim n) = FirstWrong IsClaim IsNoClaim ds n tt
 WrongClaim ds p = ⊥
 
--- the first part that hasn't its form
+-- the first part of the wrong shape
 abbrev pub IsMisshapen : Data → Part → Type 0
 IsMisshapen d part.Top = IsNoTop d
 IsMisshapen d (part.Task n) = (m : Members) × IsTop d m × FirstWrong IsTask IsNoTask m.tasks n tt
@@ -122,7 +122,7 @@ ClaimFaults g ss (faults.Claim n f) = IsRefusedClaim g ss n f
 ClaimFaults g ss faults.Memory = Unit {0}
 ClaimFaults g ss e = ⊥
 
--- want of memory is no fault of a tree
+-- the fault isn't `Memory`
 abbrev pub IsNoMemory : TreeFault → Type 0
 IsNoMemory trees.Shape = Unit {0}
 IsNoMemory trees.Unknown = Unit {0}
@@ -146,7 +146,7 @@ StartFaults g s e = ⊥
 abbrev pub Trees : Named → List Data → Type 0
 Trees g ds = (ts : List Tree) × AllRead (ReadsAs g.names) ds ts
 
--- what is wrong with a document that has its form: the graph, then a claim, then a tree, then the start
+-- what is wrong with a document of the right shape: the graph, then a claim, then a tree, then the start
 abbrev pub IsRefused : Spelled → ReadFault → Type 0
 IsRefused s (faults.Graph f) = IsLeast s.draft f
 IsRefused s (faults.Claim n f) = IsValid s.draft × IsRefusedClaim (numbered s.draft) s.claims n f

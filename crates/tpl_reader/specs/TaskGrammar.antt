@@ -41,7 +41,7 @@ IsKind (WhenAny args) d =
 abbrev pub IsTask : Data → Task → Type 0
 IsTask d task = HasText d (codes "name") task.name × IsKind task.kind d
 
--- no task is such a value
+-- the value spells no task
 abbrev pub IsNoTask : Data → Unit {0} → Type 0
 IsNoTask d u = (task : Task) → IsTask d task → ⊥
 

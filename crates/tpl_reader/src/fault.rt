@@ -36,7 +36,7 @@ pub enum ClaimFault {
     /// A name isn't the graph's.
     #[error("Unknown")]
     Unknown,
-    /// What is said of a body is said of a WhenAll or WhenAny task, which has none.
+    /// It says of a WhenAll or WhenAny task, which has no body, what can only be said of a body.
     #[error("NoBody")]
     NoBody,
     /// An input or a token is given twice.
@@ -53,7 +53,7 @@ pub enum StartFault {
     /// An input has no value.
     #[error("Missing")]
     Missing,
-    /// A site that is to fail whose job may not fail.
+    /// The job of a site that is to fail may not fail.
     #[error("FailNot")]
     FailNot,
 }
@@ -68,7 +68,7 @@ pub enum ReadFault {
     /// The bytes are no JSON text that nests at most 127 deep.
     #[error("not JSON")]
     NotJson,
-    /// A part hasn't its form; the first in the order of `Part`.
+    /// A part has the wrong shape; the first in the order of `Part`.
     #[error("shape {0}")]
     Shape(Part),
     /// The tasks, tokens and inputs are no valid graph.
@@ -112,7 +112,7 @@ impl<F: Drop, T: Drop> From<AllocFailed<T>> for Halt<F> {
     }
 }
 
-/// Why one element isn't taken over.
+/// Why one element isn't read.
 #[derive(Clone, Copy, Debug, PartialEq, Eq)]
 pub(crate) enum Stop<F> {
     Fault(F),

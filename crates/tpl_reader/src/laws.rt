@@ -3,8 +3,8 @@
 
 ghost use Rattle.tpl_reader.specs.Laws.{CertificateIsReadBack, SpelledHasNoFault, SpellsOneDocument};
 
-/// Bytes spell one document at most, and where they spell one, no fault is true of them but want of memory. So what
-/// `read_document` answers is settled by the bytes, memory aside: the document where they spell one, else a fault.
+/// Bytes spell one document at most, and where they spell one, no fault is true of them but `Memory`. So the bytes
+/// determine what `read_document` answers, memory aside: the document where they spell one, else a fault.
 pub fn one_document()
     ensures one { SpellsOneDocument }
     ensures faultless { SpelledHasNoFault }

@@ -103,7 +103,7 @@ fn start_part<'v>(
     }
 }
 
-/// The document with names, or the first part that hasn't its form. The value nests at most 127 deep, as that of a text.
+/// The document with names, or the first part of the wrong shape. The value nests at most 127 deep, as that of a text.
 pub(crate) fn shape_of(alloc: Global, value: &Value) -> Result<Shaped<'_>, Stop<Part>>
     requires { depth (view value.now) ≤ 127 }
     ensures { Takes result (λ s. IsSpelled (view value.now) (spelled_of s))

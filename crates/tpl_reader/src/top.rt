@@ -137,7 +137,7 @@ fn numbered_task(alloc: Global, number: usize, value: &Value) -> Result<DraftTas
     }
 }
 
-/// The tasks with names, as far as the first that hasn't the form of one.
+/// The tasks with names, up to the first of the wrong shape.
 pub(crate) fn tasks_of(alloc: Global, values: &[Value]) -> Result<Vec<DraftTask>, Halt<()>>
     requires { AreShallow (map view values.now) }
     ensures { Passes IsTask IsNoTask (map view values.now) (λ v. map task_of v.items) result }
@@ -160,7 +160,7 @@ fn numbered_claim(alloc: Global, number: usize, value: &Value) -> Result<NamedCl
     }
 }
 
-/// The claims with names, as far as the first that hasn't the form of one.
+/// The claims with names, up to the first of the wrong shape.
 pub(crate) fn claims_of(alloc: Global, values: &[Value]) -> Result<Vec<NamedClaim<'_>>, Halt<()>>
     ensures { Passes IsClaim IsNoClaim (map view values.now) (λ v. map claim_of v.items) result }
 {

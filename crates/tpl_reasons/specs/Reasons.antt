@@ -31,7 +31,7 @@ IsWithinDepth asked = Unit {0}
 abbrev pub IsAccepted : DocumentValue → Type 0
 IsAccepted doc = Accepts doc.graph.graph doc.claims doc.certificate
 
--- this is the first fault of the certificate, the one that the check tells
+-- this is the first fault of the certificate, the one that the check names
 pub record IsRefused (doc : DocumentValue) (fault : CertFault) : Type 0 where
   pub verdict : verdict doc.graph.graph doc.claims doc.certificate ≡ Err fault
   pub first : IsFirstFault doc.graph.graph doc.claims doc.certificate fault
@@ -52,7 +52,7 @@ pub record IsAudited (doc : DocumentValue) (verdict : Verdict) : Type 0 where
   pub journal : IsJournal doc.graph doc.journal events
   pub audited : IsVerdict doc.graph.graph inputs events doc.claims verdict
 
--- the journal's text isn't one, and not for want of memory
+-- the journal's text is no journal, for this reason, which isn't that memory ran out
 abbrev pub IsBroken : DocumentValue → JournalFault → Type 0
 IsBroken doc fault = IsJournalFault doc.graph doc.journal fault × (fault ≡ broken.Memory → ⊥)
 
@@ -115,7 +115,7 @@ IsSilent doc Trace = (complete : Bool) × ((fails : Option Failure) × IsAudited
 IsSilent doc Claims = doc.claims ≡ [] → ⊥
 IsSilent doc Other = Unit {0}
 
--- the bytes spell no document, and not for want of memory
+-- the bytes spell no document, for this reason, which isn't that memory ran out
 abbrev pub IsUnreadable : List ℕ → Reason → Type 0
 IsUnreadable bytes reason = (fault : ReadFault) × (reason ≡ Unreadable fault) × IsFault bytes fault × (fault ≡ read.Memory → ⊥)
 

@@ -7,14 +7,14 @@ pub enum Asked {
     Check,
     /// A run of the document.
     Run,
-    /// A certificate with at most so many splits on each path.
+    /// A certificate with at most this many splits on each path.
     Analyse(u8),
     /// Whether the document's journal is a run, whether it is complete, and which claim fails.
     Audit,
-    /// A picture of the document's journal, where that is a run.
+    /// The trace of the document's journal, where that is a run.
     Trace,
     /// Whether anything is claimed.
     Claims,
-    /// Something that says more than a line, where the document can be read.
+    /// Something whose answer needs no reason, where the document can be read.
     Other,
 }

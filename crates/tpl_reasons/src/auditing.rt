@@ -33,7 +33,7 @@ pub(crate) fn inputs_of(document: &Document) -> Option<Inputs>
     }
 }
 
-/// The reason of a verdict on the journal, if it has one. Want of memory has none.
+/// The reason of a verdict on the journal, if it has one. Out of memory has none.
 fn verdict_reason(document: &Document, verdict: Verdict) -> Result<Option<Reason>, AllocError>
     requires audited { IsAudited (doc_of document.now) verdict }
     ensures some { IfOk result (λ o. IfSome o (IsAuditReason (doc_of document.now))) }
@@ -71,7 +71,7 @@ pub(crate) fn audit_reason(alloc: Global, document: &Document) -> Result<Option<
     }
 }
 
-/// Why the journal isn't drawn.
+/// Why there is no trace of the journal.
 pub(crate) fn trace_reason(alloc: Global, document: &Document) -> Result<Option<Reason>, AllocError>
     requires claims { All (Fits document.now.graph.graph) document.now.claims.items }
     ensures some { IfOk result (λ o. IfSome o (IsTraceReason (doc_of document.now))) }
@@ -83,7 +83,7 @@ pub(crate) fn trace_reason(alloc: Global, document: &Document) -> Result<Option<
     }
 }
 
-/// That the inputs have no values.
+/// Says that the inputs have no values.
 pub(crate) fn no_start_text(alloc: Global, document: &Document) -> Said {
     let mut text = String::from_str(alloc, "nothing says which values the inputs have:")?;
     for number in 0..document.graph.input_count() {
@@ -172,7 +172,7 @@ pub(crate) fn fails_text(alloc: Global, document: &Document, failure: Failure) -
     format!(in alloc; "{claim} fails at {line}\n")
 }
 
-/// Where a task stands without whose end the run isn't complete: it is no child, or was started.
+/// Where a task stands that has to end before the run is complete: it is no child, or was started.
 fn awaited_text<C: Core>(alloc: Global, run: &C, task: TaskId) -> Said {
     let graph = run.graph();
     if (task.0 as usize) >= graph.len() {

@@ -61,7 +61,7 @@ pub(crate) fn run_reason(document: &Document) -> Option<Reason>
     }
 }
 
-/// Which leaf of a claim's tree hasn't one row for each task.
+/// Which leaf of a claim's tree doesn't have one row for each task.
 fn rows_text(alloc: Global, document: &Document, claim: usize) -> Said {
     for before in 0..MOST_LEAVES {
         let leaf = before + 1;

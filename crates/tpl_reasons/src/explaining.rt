@@ -127,8 +127,8 @@ fn unreadable(
     }
 }
 
-/// Why the program's answer to a document of these bytes is what it is, in words; none where there is nothing to say: the
-/// answer says all, or it is that of another command. Want of memory is the only error.
+/// Why the program's answer to a document of these bytes is what it is, in words; none where there is nothing to say:
+/// the answer says all, or it is that of another command. Out of memory is the only error.
 pub fn explain(alloc: Global, asked: Asked, bytes: &[u8]) -> Result<Option<Reasoned>, AllocError>
     requires depth { IsWithinDepth asked }
     ensures some { IfOk result (λ o. IfSome o (λ r. IsReason bytes.now asked r.reason)) }

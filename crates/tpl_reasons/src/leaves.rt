@@ -6,7 +6,7 @@ use tpl_cert::{Node, Row, Tree};
 use tpl_graph::Graph;
 use tpl_words::TaskId;
 
-/// The rows of the leaf before which there are so many others. Each that is passed is counted down.
+/// The rows of the leaf before which there are this many others. Each that is passed is counted down.
 fn rows_behind<'t>(tree: &'t Tree, others: &mut usize) -> Option<&'t [Row]> {
     match tree.node() {
         Node::SplitInput(_, on_true, on_false) => match rows_behind(on_true, others) {

@@ -6,7 +6,7 @@ use tpl_graph::Graph;
 use tpl_model::{Given, Property};
 use tpl_words::{Actor, Final, Finals, InputId, TaskId, TaskSet, TokenId};
 
-/// A text, or want of memory.
+/// A text; out of memory is the only error.
 pub(crate) type Said = Result<String, AllocError>;
 
 /// The most tasks of a set that are named.
@@ -50,7 +50,7 @@ pub(crate) fn actor_text(alloc: Global, actor: Actor) -> Said {
     }
 }
 
-/// So many things.
+/// The count, with the word for one thing or for several.
 pub(crate) fn count_text(alloc: Global, count: usize, thing: &str) -> Said {
     if count == 1 {
         format!(in alloc; "1 {thing}")

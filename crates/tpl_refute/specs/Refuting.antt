@@ -8,8 +8,8 @@ use Rattle.tpl_model.specs.Rules.{Run}
 use Rattle.tpl_model.specs.Claims.{Claim, Holds}
 use Rattle.tpl_audit.specs.Audit.{first_events}
 
--- The events are a run of the graph with these inputs, one for each that it has. The claim doesn't hold of it, and holds
--- of each beginning of it. A journal can name whoever acts.
+-- The events are a run of the graph with these inputs, one for each that it has. The claim doesn't hold of it, and
+-- holds of each beginning of it. A journal can name whoever acts.
 pub record Refutes (g : TaskGraph) (claim : Claim) (v : List Bool) (events : List Event) : Type 0 where
   pub inputs : length v ≡ g.inputs
   pub run : Run g v (reverse events)

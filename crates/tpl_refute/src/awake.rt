@@ -9,7 +9,7 @@ use tpl_machine::Core;
 use tpl_model::Act;
 use tpl_words::{MOST_TOKENS, Status, TaskId, TokenId};
 
-/// All that may act, and perhaps some that may not: who was found to have nothing to do comes back when it may have.
+/// All that may act, and perhaps some that may not. Who was found to have nothing to do is added again when it may.
 #[derive(Drop)]
 pub(crate) struct Awake {
     movers: Vec<Mover>,
@@ -44,7 +44,7 @@ impl Awake {
         }
     }
 
-    /// Has a task try to act.
+    /// Lets a task try to act.
     fn wake(&mut self, task: TaskId) -> Result<(), AllocError> {
         let at = task.0 as usize;
         if at < self.marks.len() && !self.marks[at] {
@@ -133,7 +133,7 @@ impl Awake {
         Ok(())
     }
 
-    /// Has all try to act to whom the act may matter.
+    /// Lets all try to act to whom the act may matter.
     pub(crate) fn tell(
         &mut self,
         core: &Fast<'_>,

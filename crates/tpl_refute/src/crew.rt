@@ -8,7 +8,7 @@ use tpl_machine::Core;
 use tpl_model::{Act, Event};
 use tpl_words::{Actor, TaskId, Worker};
 
-/// The most workers that a run is told with.
+/// The most workers that the events of a run name.
 const MOST_WORKERS: usize = 64;
 
 /// The seat outside from which tokens are requested.

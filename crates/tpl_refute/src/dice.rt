@@ -1,4 +1,4 @@
-//! Numbers by chance.
+//! Random numbers.
 
 ghost use Rattle.std.specs.Prelude.{◌<◌};
 
@@ -18,7 +18,7 @@ impl Dice {
         }
     }
 
-    /// One of so many numbers from 0 on; 0 where there are none.
+    /// One of this many numbers from 0 on; 0 where there are none.
     pub(crate) fn roll(&mut self, count: u32) -> u32
         ensures { 0 < count → result < count }
     {
@@ -29,7 +29,7 @@ impl Dice {
         }
     }
 
-    /// It comes true in so many of ten times.
+    /// True in this many of ten cases.
     pub(crate) fn in_ten(&mut self, times: u32) -> bool {
         self.roll(10) < times
     }

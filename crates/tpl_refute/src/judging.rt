@@ -71,9 +71,9 @@ pub(crate) fn judge(
     }
 }
 
-/// Whether the events refute the claim: they are a run with these inputs, one for each that the graph has, after the last
-/// of them the claim doesn't hold for the first time, and a journal can name whoever acts. Want of memory is the only
-/// error.
+/// Whether the events refute the claim: they are a run with these inputs, one for each that the graph has, after the
+/// last of them the claim doesn't hold for the first time, and a journal can name whoever acts. Out of memory is the
+/// only error.
 pub fn refutes(
     alloc: Global,
     graph: &Graph,

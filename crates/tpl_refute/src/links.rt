@@ -11,7 +11,7 @@ pub(crate) struct Links {
     children: Vec<Vec<TaskId>>,
 }
 
-/// So many empty lists.
+/// This many empty lists.
 fn empty(alloc: Global, count: usize) -> Result<Vec<Vec<TaskId>>, AllocError> {
     let mut lists = Vec::with_capacity(alloc, count)?;
     for _ in 0..count {

@@ -69,7 +69,7 @@ fn set(inputs: &mut Inputs, input: InputId, value: bool) {
     }
 }
 
-/// Values of the inputs by chance, but what is given.
+/// Random values of the inputs; those that are given stay.
 fn inputs_of(graph: &Graph, given: &[Given], dice: &mut Dice) -> Inputs {
     let mut inputs = Inputs::new(graph.input_count());
     for number in 0..graph.input_count() {
@@ -92,7 +92,7 @@ fn tokens_of(graph: &Graph, quiet: &[bool; MOST_TOKENS], dice: &mut Dice) -> [bo
     tokens
 }
 
-/// Places by chance, the first so many of them within a run of this length.
+/// Random places within a run of this length, `count` of them; the others are 0.
 fn drops_of(dice: &mut Dice, count: usize, length: u32) -> [u32; MOST_DROPS] {
     let mut drops = [0; MOST_DROPS];
     for (at, one) in drops.iter_mut().enumerate() {
@@ -160,8 +160,8 @@ fn lead(weights: &mut Weights, graph: &Graph, body: Property) -> Option<(TaskId,
 }
 
 impl Plan {
-    /// Draws the weights of a run and all else of it. A run has so many drops of priority, and is expected to have this
-    /// length.
+    /// Draws the weights of a run and all else of it. A run has `drops` drops of priority, and is expected to have
+    /// this length.
     pub(crate) fn draw(
         graph: &Graph,
         claim: &Claim,

@@ -26,7 +26,7 @@ pub struct Effort {
     pub stream: u64,
 }
 
-/// How the weights of a run are meant, and how often a priority drops in it: one run by chances, then one by priorities
+/// How the weights of a run are read, and how often a priority drops in it: one run by chances, then one by priorities
 /// with no drop, and so on to four drops.
 fn way_of(run: u32) -> (Way, usize) {
     if run % 2 == 0 {
@@ -36,8 +36,8 @@ fn way_of(run: u32) -> (Way, usize) {
     }
 }
 
-/// Searches a run of the graph in which the claim fails, by random runs, and leaves out of it what isn't needed. Where
-/// none is found there may be one. Want of memory is the only error.
+/// Searches for a run of the graph in which the claim fails, by random runs, and leaves out of it what isn't needed.
+/// Where none is found there may be one. Out of memory is the only error.
 ///
 /// Each run is drawn in one of two ways in turn: whoever may act has a random priority, and the priority of who acts
 /// drops at up to four random places (probabilistic concurrency testing: Burckhardt, Kothari, Musuvathi, Nagarakatte,

@@ -43,7 +43,7 @@ fn without(
     }
 }
 
-/// Leaves out whole tasks, so many at once.
+/// Leaves out whole tasks, this many at once.
 fn without_tasks(
     alloc: Global,
     graph: &Graph,
@@ -69,7 +69,7 @@ fn without_tasks(
     Ok(shortest)
 }
 
-/// Leaves out events, so many at once, the last ones first.
+/// Leaves out events, this many at once, the last ones first.
 fn without_events(
     alloc: Global,
     graph: &Graph,

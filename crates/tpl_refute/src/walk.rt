@@ -1,4 +1,4 @@
-//! One run by chance.
+//! One random run.
 
 ghost use Rattle.std.specs.Prelude.{◌≡◌};
 ghost use Rattle.tpl_claims.specs.Fits.{Fits};
@@ -33,7 +33,7 @@ pub(crate) struct Tables {
 pub(crate) enum Walked {
     /// The claim fails after these events.
     Fails(Vec<Event>),
-    /// It held after each of so many events.
+    /// It held after each of this many events.
     Holds(usize),
 }
 
@@ -100,7 +100,7 @@ fn act(core: &mut Fast<'_>, crew: &mut Crew, mover: Mover, plan: &Plan, dice: &m
     }
 }
 
-/// Tells of the newest event, and drops a priority where the plan says so.
+/// Wakes those to whom the newest event may matter, and drops a priority where the plan says so.
 fn tell(tables: &mut Tables, core: &Fast<'_>, mover: Mover, plan: &Plan) -> Result<(), AllocError> {
     if let Some(event) = core.events().last() {
         tables.awake.tell(core, &tables.links, event.act)?;

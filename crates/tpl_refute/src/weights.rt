@@ -41,7 +41,7 @@ pub(crate) struct Weights {
     tokens: [u32; MOST_TOKENS],
 }
 
-/// A weight by chance.
+/// A random weight.
 fn weight(dice: &mut Dice, way: Way) -> u32 {
     match way {
         Way::Priorities => LEAST_PRIORITY.saturating_add(dice.roll(PRIORITIES)),
@@ -129,7 +129,7 @@ impl Weights {
         total
     }
 
-    /// A place by chance, as likely as what acts there is heavy.
+    /// A random place: the heavier what acts there, the likelier.
     fn drawn(&self, movers: &[Mover], dice: &mut Dice) -> usize {
         let mut left = dice.roll(self.total(movers));
         for (at, mover) in movers.iter().enumerate() {

@@ -8,7 +8,7 @@ use Rattle.tpl_hall.specs.Answers.{answers}
 use Rattle.tpl_runtime.specs.Reports.{each_below, those_below, is_unseen, AreOnce}
 use Rattle.tpl_runtime.specs.declared.closing.Report.{Report}
 
--- what is written of a session's report
+-- the values of a session's report that are written
 abbrev pub told : {K W : Type 0} → Report K W → ReportValue
 told r = record {
   complete = r.complete;

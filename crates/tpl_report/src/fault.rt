@@ -6,7 +6,7 @@ ghost use Rattle.tpl_report.specs.RunTexts.{fault_line};
 use std::alloc::AllocError;
 use tpl_runtime::{CloseWhy, OpenWhy, RunWhy, SeatFault};
 
-/// Why a run couldn't be opened, made or closed, want of memory aside.
+/// Why a run couldn't be opened, made or closed, out of memory aside.
 #[derive(Clone, Copy, PartialEq, Eq, Debug)]
 pub enum RunFault {
     /// A work statement has no item.
@@ -15,7 +15,7 @@ pub enum RunFault {
     ItemStrange,
     /// A work statement has two items.
     ItemTwice,
-    /// An item says another thing of its failing than the graph.
+    /// An item may fail where its work statement may not, or the other way round.
     MayFailDiffers,
     /// A worker has a number that none can have.
     BadActor,

@@ -43,7 +43,7 @@ fn requests(document: &Document) -> &[TokenId]
     }
 }
 
-/// What is written of a session's report.
+/// The values of a session's report that are written.
 fn told<'a, K: Drop, W: Drop>(report: &'a Report<K, W>) -> Told<'a>
     ensures { said result ≡ told report.now }
 {
@@ -128,11 +128,11 @@ fn check_and_run<R: Threads + Wait + Sync, K: Drop + Send, W: Item<K> + Send, O:
     }
 }
 
-/// Makes the run of a document by so many workers, 1 to 64, who call the items, one for each work statement; and writes
-/// the report on it. The certificate is checked first: where it is refused, the check's line is written, and nothing is
-/// run. The tokens of `start` are requested before the workers begin. Where there is no `start` and the graph has
+/// Makes the run of a document by this many workers, 1 to 64, who call the items, one for each work statement; and
+/// writes its report. The certificate is checked first: where it is refused, the check's line is written, and nothing
+/// is run. The tokens of `start` are requested before the workers begin. Where there is no `start` and the graph has
 /// inputs, the document can't be run. Nothing is written before the report is known, and writing it takes no memory, so
-/// the line for want of memory stands alone; after a failed write nothing more is written.
+/// the line `out of memory` stands alone; after a failed write nothing more is written.
 pub fn serve_run<R: Threads + Wait + Sync, K: Drop + Send, W: Item<K> + Send, O: Write>(
     rt: &R,
     alloc: Global,
@@ -150,7 +150,7 @@ pub fn serve_run<R: Threads + Wait + Sync, K: Drop + Send, W: Item<K> + Send, O:
     ensures complete { result ≡ Exit.Success
         → Completes (doc_of document.now) O.contents to.old to.new }
 
-    // The line for want of memory stands alone.
+    // The line `out of memory` stands alone.
     ensures memory { result ≡ Exit.Memory → Writes O.contents to.old to.new
         (codes "out of memory\n") }
 {

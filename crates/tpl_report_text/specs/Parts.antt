@@ -2,7 +2,7 @@
 use Rattle.std.specs.Prelude.{ℕ, List, [], ◌∷◌, ◌++◌}
 use denote.Bor.{Bor}
 
--- one after another
+-- the texts, one after another, as one text
 abbrev pub joined : List (Bor (List ℕ)) → List ℕ
 joined [] = []
 joined (part ∷ parts) = part.now ++ joined parts

@@ -53,7 +53,7 @@ pub struct CloseFault<K, W> {
     pub items: Vec<W>,
 }
 
-/// The two are one together.
+/// Exactly one of the two numbers is 1, and the other is 0.
 fn are_one(a: usize, b: usize) -> bool
     ensures { IsTrue result → a + b ≡ 1 }
 {
@@ -103,7 +103,7 @@ fn agrees<K: Drop, W: Item<K>>(
         && are_once::<K, W>(graph.site_count() as u16, hall.receipts(), items)
 }
 
-/// Compares the seats and items with the run, and tells of each task.
+/// Compares the seats and items with the run, and makes the report.
 fn judge<K: Drop, W: Item<K>>(
     alloc: Global,
     hall: &Hall<'_, K>,
@@ -155,7 +155,7 @@ fn judge<K: Drop, W: Item<K>>(
     }
 }
 
-/// Compares the seats and items with the run, and gives what the hall has.
+/// Compares the seats and items with the run, and returns the events and receipts of the hall.
 pub fn settle<K: Drop, W: Item<K>>(
     alloc: Global,
     hall: Hall<'_, K>,

@@ -11,8 +11,8 @@ use tpl_machine::Core;
 use tpl_model::{Act, Event};
 use tpl_words::{Status, TaskId};
 
-/// Puts the job of a task, if it is ready to run and wasn't put before. One that only a certain worker may begin is kept
-/// for it, and one for which the queue has no place is shelved.
+/// Puts the job of a task, if it is ready to run and wasn't put before. A job that only a certain worker may begin is
+/// kept for that worker, and one for which the queue has no place is shelved.
 fn put_one<K: Drop, W: Drop, R: Wait>(
     rt: &R,
     hall: &Hall<'_, K>,

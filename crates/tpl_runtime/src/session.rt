@@ -104,7 +104,7 @@ impl<'g, K: Drop, W: Item<K>> Session<'g, K, W> {
         asked
     }
 
-    /// Workers leave at their next section.
+    /// Halts the session: workers leave at their next section.
     pub fn halt<R: Wait>(&self, rt: &R) {
         let mut shared = self.shared.lock(rt);
         shared.halt();
@@ -199,7 +199,7 @@ impl<'g, K: Drop, W: Item<K>> Session<'g, K, W> {
         unreachable!()
     }
 
-    /// Takes the run out, and compares with it all seats, and what the pass, the receipts and the items tell. It is not
+    /// Takes the run out, and compares with it all seats, and what the pass, the receipts and the items say. It is not
     /// closed well where a seat is missing, or where what was handed in isn't what was done.
     pub fn close<R: Wait>(
         self,

@@ -27,7 +27,7 @@ pub enum Hand<K, W> {
     Taken(ItemJob<W>),
     /// The items of the task that it runs.
     Running(TaskId, Vec<W>),
-    /// The same, and the receipt of the item that it has called.
+    /// The items of the task that it runs, and the receipt of the one that it has called.
     Called(TaskId, Vec<W>, Receipt<K>),
 }
 
@@ -119,7 +119,7 @@ impl<'g, K: Drop, W: Item<K>> Shared<'g, K, W> {
         );
     }
 
-    /// Does an act, if it may be done, and what ends the section. It says whether the act was done.
+    /// Does an act, if it may be done, and what ends the section. True where the act was done.
     pub(crate) fn act<R: Wait>(
         &mut self,
         rt: &R,
@@ -143,7 +143,7 @@ impl<'g, K: Drop, W: Item<K>> Shared<'g, K, W> {
         }
     }
 
-    /// Does the Worked event of a receipt, if it may be done, and what ends the section. It says whether it was done.
+    /// Does the Worked event of a receipt, if it may be done, and what ends the section. True where it was done.
     pub(crate) fn answer<R: Wait>(
         &mut self,
         rt: &R,
@@ -212,7 +212,7 @@ impl<'g, K: Drop, W: Item<K>> Shared<'g, K, W> {
         None
     }
 
-    /// What a worker holds that has left its task: a job that was kept for it, if there is one.
+    /// What a worker holds once it has left its task: a job that was kept for it, if there is one.
     pub(crate) fn hand_on(&mut self, actor: Actor) -> Hand<K, W>
         ensures { self.new.hall.core ≡ self.old.hall.core }
     {

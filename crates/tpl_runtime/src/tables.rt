@@ -1,4 +1,4 @@
-//! What is told of each task when a session is closed.
+//! What is reported of each task when a session is closed.
 
 ghost use Rattle.std.specs.Prelude.{◌≡◌, ◌↔◌, true, length, map, reverse, IfOk};
 ghost use Rattle.tpl_model.specs.Graph.{is_task};
@@ -79,7 +79,7 @@ fn unseen(alloc: Global, core: &Fast<'_>) -> Result<Vec<TaskId>, AllocError>
     Ok(list)
 }
 
-/// What is told of each task.
+/// What is reported of each task.
 #[derive(Drop)]
 pub struct Told {
     pub statuses: Vec<Status>,
@@ -89,7 +89,7 @@ pub struct Told {
     pub complete: bool,
 }
 
-/// What is told of each task of this graph.
+/// What is reported of each task of this graph.
 pub fn tables<K: Drop>(
     alloc: Global,
     hall: &Hall<'_, K>,

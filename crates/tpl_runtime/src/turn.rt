@@ -15,8 +15,8 @@ use tpl_items::Item;
 use tpl_words::Inputs;
 
 impl<'g, K: Drop, W: Item<K>> Shared<'g, K, W> {
-    /// Does the Worked event of a receipt that a worker brings, and what is due where it comes for the first time. It
-    /// says what the worker holds then, and whether something was done; nothing where the receipt was refused.
+    /// Does the Worked event of a receipt that a worker brings, and what is due where it comes for the first time.
+    /// Returns what the worker holds then, and whether something was done; nothing where the receipt was refused.
     fn bring<R: Wait>(
         &mut self,
         rt: &R,

@@ -2,7 +2,7 @@
 use Rattle.std.specs.Prelude.{ℕ, ◌+◌, ◌≤◌, max}
 use Rattle.tpl_script.specs.Statements.{Statement, Statements, If, When, Nothing, ◌⨾◌}
 
--- the statements of a list, nested ones too
+-- the number of statements of a list, nested ones too
 abbrev mutual
   pub statement_count : Statements → ℕ
   statement_count Nothing = 0
@@ -13,7 +13,7 @@ abbrev mutual
   count_one (When f first second) = 1 + statement_count first + statement_count second
   count_one s = 1
 
--- the levels of a list: one without branches has 1
+-- how many levels a list has: one without branches has 1
 abbrev mutual
   pub level_count : Statements → ℕ
   level_count Nothing = 1

@@ -13,11 +13,13 @@ abbrev pub is_own : Option ℕ → ℕ → Bool
 is_own None k = false
 is_own (Some own) k = nat_eq own k
 
--- a check of a requested token: the own one acknowledges the cancellation, another one throws (guide: task cancellation)
+-- the outcome of a check of a requested token: the own one acknowledges the cancellation, another one throws (guide:
+-- task cancellation)
 abbrev pub cancellation : Option ℕ → ℕ → Outcome
 cancellation own k = if is_own own k then Acknowledged else Threw (OperationCanceled (record { 0 = k }))
 
--- what is known of the runs in which a body is read: the values that an input may have, the tokens that are never requested, the own token, and how the subject may have ended
+-- what is known of the runs in which a body is read: the values that an input may have, the tokens that are never
+-- requested, the own token, and how the subject may have ended
 pub record Known : Type 0 where
   pub possible : ℕ → Bool → Bool
   pub quiet : ℕ → Bool
@@ -56,27 +58,33 @@ abbrev pub Passes : Known → Statements → List Statement → Statements → T
 Passes w body [] left = body ≡ left
 Passes w body (s ∷ passed) left = (more : Statements) × Passes w body passed (s ⨾ more) × GoesOn w s more left
 
+-- passing these statements, the last one first, ends the body with the outcome at the last one
 abbrev pub EndsPassing : Known → Statements → List Statement → Outcome → Type 0
 EndsPassing w body [] outcome = ⊥
 EndsPassing w body (s ∷ passed) outcome = (more : Statements) × Passes w body passed (s ⨾ more) × EndsAt w s outcome
 
--- a path: the statements that it passes, the last one first, and its outcome; it may break off anywhere, without one. A cancel of a token that is never requested is not passed
+-- a path: the statements that it passes, the last one first, and its outcome; it may break off anywhere, without one. A
+-- cancel of a token that is never requested is not passed
 abbrev pub Path : Known → Statements → List Statement → Option Outcome → Type 0
 Path w body passed None = (left : Statements) × Passes w body passed left
 Path w body passed (Some outcome) = (Passes w body passed Nothing × (outcome ≡ Returned)) ⊎ EndsPassing w body passed outcome
 
+-- the statement starts the child
 abbrev pub is_start_of : ℕ → Statement → Bool
 is_start_of c (Start d) = nat_eq d c
 is_start_of c s = false
 
+-- one of the statements starts the child
 abbrev pub passes_start : ℕ → List Statement → Bool
 passes_start c [] = false
 passes_start c (s ∷ passed) = is_start_of c s || passes_start c passed
 
+-- the statement observes
 abbrev pub is_observation : Statement → Bool
 is_observation Observe = true
 is_observation s = false
 
+-- one of the statements observes
 abbrev pub passes_observe : List Statement → Bool
 passes_observe [] = false
 passes_observe (s ∷ passed) = is_observation s || passes_observe passed
@@ -85,6 +93,7 @@ passes_observe (s ∷ passed) = is_observation s || passes_observe passed
 abbrev pub MayEnd : Known → Statements → Outcome → Type 0
 MayEnd w body outcome = (passed : List Statement) × Path w body passed (Some outcome)
 
+-- some path ends with an exception
 abbrev pub MayThrow : Known → Statements → Type 0
 MayThrow w body = (label : Label) × MayEnd w body (Threw label)
 
@@ -92,6 +101,6 @@ MayThrow w body = (label : Label) × MayEnd w body (Threw label)
 abbrev pub MayStartChild : Known → Statements → ℕ → Type 0
 MayStartChild w body c = (passed : List Statement) × (outcome : Option Outcome) × Path w body passed outcome × (passes_start c passed ≡ true)
 
--- each path that ends with a outcome passes Observe
+-- each path that ends with an outcome passes Observe
 abbrev pub MustObserve : Known → Statements → Type 0
 MustObserve w body = (passed : List Statement) (outcome : Outcome) → Path w body passed (Some outcome) → passes_observe passed ≡ true

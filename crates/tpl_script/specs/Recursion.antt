@@ -8,7 +8,7 @@ use Rattle.tpl_script.specs.declared.outcome.Outcome.TheVariants.{Returned, Thre
 use Rattle.tpl_script.specs.Statements.{Statement, Return, Throw, Check, Cancel, Start, Observe, Work, If, When, Statements, Nothing, ◌⨾◌}
 use Rattle.tpl_script.specs.Paths.{cancellation, Known, Path, is_observation, MayStartChild, MustObserve}
 
--- some end of the subject other than f is possible
+-- the subject may have ended in another way than f
 abbrev pub another : Known → Final → Bool
 another w RanToCompletion = w.subject Canceled || w.subject Faulted
 another w Canceled = w.subject RanToCompletion || w.subject Faulted
@@ -52,16 +52,20 @@ abbrev mutual
 abbrev pub may : (Statement → Bool) → (Outcome → Bool) → Known → Statements → Bool
 may avoid test w script = stops avoid test w script || (gets_through avoid w script && test Returned)
 
+-- no statement is avoided
 abbrev pub none : Statement → Bool
 none s = false
 
+-- every outcome passes
 abbrev pub any : Outcome → Bool
 any verdict = true
 
+-- the outcome is an exception
 abbrev pub is_throw : Outcome → Bool
 is_throw (Threw label) = true
 is_throw verdict = false
 
+-- no path ends that passes no observation
 abbrev pub must_observe : Known → Statements → Bool
 must_observe w script = not (may is_observation any w script)
 
@@ -77,6 +81,7 @@ MayIsRight =
     → (may avoid test w body ≡ true)
     ↔ ((passed : List Statement) × (verdict : Outcome) × Path w body passed (Some verdict) × (test verdict ≡ true) × (clean avoid passed ≡ true))
 
+-- the recursion decides whether each path that ends passes an observation
 abbrev pub MustObserveIsRight : Type 0
 MustObserveIsRight = (w : Known) (body : Statements) → (must_observe w body ≡ true) ↔ MustObserve w body
 
@@ -92,5 +97,6 @@ abbrev mutual
   reaches_in c w (When f first second) = (w.subject f && reaches c w first) || (another w f && reaches c w second)
   reaches_in c w s = false
 
+-- the recursion finds a start statement just where a path passes it
 abbrev pub MayStartIsRight : Type 0
 MayStartIsRight = (c : ℕ) (w : Known) (body : Statements) → (reaches c w body ≡ true) ↔ MayStartChild w body c

@@ -4,6 +4,7 @@ use Rattle.tpl_script.specs.declared.verdict.Verdict.{Verdict}
 use Rattle.tpl_script.specs.declared.verdict.Verdict.TheVariants.{Returned, Thrown, Acknowledged}
 use Rattle.tpl_script.specs.declared.verdict.Verdicts.{Verdicts}
 
+-- the verdict is in the set
 abbrev pub has_verdict : Verdicts → Verdict → Bool
 has_verdict s Returned = s.returned
 has_verdict s Thrown = s.thrown

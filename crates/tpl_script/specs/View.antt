@@ -6,6 +6,7 @@ use Rattle.tpl_script.specs.declared.view.Possible.{Possible}
 use Rattle.tpl_script.specs.declared.view.View.{View}
 use Rattle.tpl_script.specs.Paths.{Known}
 
+-- the value is possible
 abbrev pub may_have : Possible → Bool → Bool
 may_have p true = p.on_true
 may_have p false = p.on_false

@@ -6,7 +6,7 @@ ghost use Rattle.tpl_script.specs.Seen.{statements_of};
 use std::marker::Model;
 use tpl_words::{Final, InputId, LabelId, SiteId, TaskId, TokenId};
 
-/// A statement of a body: what a task's delegate does, as far as other tasks can tell (Task Parallel
+/// A statement of a body: what a task's delegate does, as far as other tasks can notice (Task Parallel
 /// Library guide: task-based programming, child tasks, cancellation, exception handling).
 #[cycle(body)]
 #[derive(Drop)]
@@ -27,7 +27,7 @@ pub enum Stmt {
     Work(SiteId, bool),
     /// The first list where the input is true, else the second.
     If(InputId, Body, Body),
-    /// The first list where the task that this one continues ended so, else the second.
+    /// The first list where the task that this one continues ended in this way, else the second.
     When(Final, Body, Body),
 }
 
@@ -61,21 +61,21 @@ impl Model for Body {
 }
 
 impl Body {
-    /// The statements of a list, without limits and without taking memory.
+    /// A body of these statements. No limit is tested, and no memory is taken.
     pub fn new(list: Vec<Stmt>) -> Self
         ensures { result ≡ statements_of list.items }
     {
         Self { list }
     }
 
-    /// The statements of the list itself.
+    /// The statements, in the order of the text; those of a branch stand inside it.
     pub fn list(&self) -> &[Stmt]
         ensures { self.now ≡ statements_of result.now }
     {
         self.list.as_slice()
     }
 
-    /// Gives the list back, without taking memory.
+    /// Returns the list of statements. No memory is taken.
     pub fn into_list(self) -> Vec<Stmt>
         ensures { self ≡ statements_of result.items }
     {

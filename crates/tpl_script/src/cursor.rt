@@ -47,7 +47,7 @@ impl<'a> Cursor<'a> {
         }
     }
 
-    /// As much is left again.
+    /// A copy.
     pub fn copy(&self) -> Cursor<'a>
         ensures { result ≡ self.now }
     {
@@ -123,7 +123,7 @@ impl<'a> Cursor<'a> {
     }
 }
 
-/// The list that a choice takes, or none where the statement is no choice.
+/// The first or the second list of an `if` or a `when`; none where the statement is another one.
 fn chosen_list(statement: &Stmt, first: bool) -> Option<&Body>
     ensures list { MatchOption result (chosen (statement_of statement.now) first ≡ Nothing)
         (λ b. b.now ≡ chosen (statement_of statement.now) first) }

@@ -13,16 +13,16 @@ use crate::verdict::Verdicts;
 use crate::view::View;
 use tpl_words::TokenId;
 
-/// What the paths through some statements come to.
+/// What the paths through some statements do.
 #[derive(Clone, Copy)]
 struct Ends {
-    /// One goes on behind them.
+    /// Some path goes on behind them.
     goes_on: bool,
-    /// One returns in them.
+    /// Some path returns in them.
     returned: bool,
-    /// One throws in them.
+    /// Some path throws in them.
     thrown: bool,
-    /// One acknowledges a cancellation in them.
+    /// Some path acknowledges a cancellation in them.
     acknowledged: bool,
 }
 
@@ -44,7 +44,7 @@ impl Ends {
         }
     }
 
-    /// These statements, then the next ones.
+    /// What the paths do through these statements and then the next ones.
     fn then(self, next: Ends) -> Ends
         ensures { result ≡ then_ends self next }
     {
@@ -56,7 +56,7 @@ impl Ends {
         }
     }
 
-    /// These statements or the other ones.
+    /// What the paths do through these statements or the other ones.
     fn or(self, other: Ends) -> Ends
         ensures { result ≡ either_end self other }
     {
@@ -68,7 +68,7 @@ impl Ends {
         }
     }
 
-    /// These statements, if they may be taken.
+    /// What the paths do through these statements, if they may be taken.
     fn only_if(self, possible: bool) -> Ends
         ensures { result ≡ only_if possible self }
     {

@@ -34,7 +34,7 @@ pub fn may_start_is_right()
     ensures { MayStartIsRight }
 {}
 
-/// The recursion over a body tells whether each path that ends with an outcome passes an `observe`.
+/// The recursion over a body decides whether each path that ends with an outcome passes an `observe`.
 pub fn must_observe_is_right()
     ensures { MustObserveIsRight }
 {}

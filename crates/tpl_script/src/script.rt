@@ -54,7 +54,7 @@ impl Script {
         }
     }
 
-    /// Its statements.
+    /// The statements of the script.
     pub fn body(&self) -> &Body
         ensures body { result.now ≡ self.now }
         ensures limits { IsWithinLimits self.now }

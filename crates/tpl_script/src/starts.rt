@@ -14,17 +14,17 @@ use crate::script::Script;
 use crate::view::View;
 use tpl_words::{MOST_TASKS, TaskId, TaskSet};
 
-/// What the paths through some statements come to, where one child is looked for.
+/// What the paths through some statements do, where one child is looked for.
 #[derive(Clone, Copy)]
 struct Starts {
-    /// One goes on behind them.
+    /// Some path goes on behind them.
     goes_on: bool,
-    /// One passes the start of the child.
+    /// Some path passes the start of the child.
     started: bool,
 }
 
 impl Starts {
-    /// These statements, then the next ones.
+    /// What the paths do through these statements and then the next ones.
     fn then(self, next: Starts) -> Starts
         ensures { result ≡ then_starts self next }
     {
@@ -34,7 +34,7 @@ impl Starts {
         }
     }
 
-    /// These statements or the other ones.
+    /// What the paths do through these statements or the other ones.
     fn or(self, other: Starts) -> Starts
         ensures { result ≡ either_start self other }
     {
@@ -44,7 +44,7 @@ impl Starts {
         }
     }
 
-    /// These statements, if they may be taken.
+    /// What the paths do through these statements, if they may be taken.
     fn only_if(self, possible: bool) -> Starts
         ensures { result ≡ start_if possible self }
     {
@@ -105,7 +105,7 @@ fn start_at(statement: &Stmt, view: &View, child: TaskId) -> Starts
     }
 }
 
-/// Adds the children that paths through a list of statements start, and tells whether one goes on
+/// Adds the children that paths through a list of statements start. True where some path goes on
 /// behind it.
 #[cycle(starts)]
 fn add_starts_in(body: &Body, view: &View, found: &mut TaskSet) -> bool
@@ -120,7 +120,7 @@ fn add_starts_in(body: &Body, view: &View, found: &mut TaskSet) -> bool
     true
 }
 
-/// Adds the children that paths through one statement start, and tells whether one goes on behind
+/// Adds the children that paths through one statement start. True where some path goes on behind
 /// it.
 #[cycle(starts)]
 fn add_starts_at(statement: &Stmt, view: &View, found: &mut TaskSet) -> bool
@@ -149,7 +149,8 @@ fn add_starts_at(statement: &Stmt, view: &View, found: &mut TaskSet) -> bool
     }
 }
 
-/// The same of a list of statements, if it may be taken.
+/// Adds the children that paths through a list start, if the list may be taken. True where it may
+/// and some path goes on behind it.
 #[cycle(starts)]
 fn add_starts_if(possible: bool, body: &Body, view: &View, found: &mut TaskSet) -> bool
     ensures goes_on { result ≡ (possible && gets_through none (known view.now) body.now) }

@@ -26,7 +26,7 @@ fn spelled(alloc: Global, text: &str) -> Result<Vec<u8>, AllocError> {
     Ok(bytes)
 }
 
-/// The text, with as many spaces after it as make it so long.
+/// The text, with enough spaces after it to make it this long.
 fn padded(alloc: Global, text: &str, length: usize) -> Result<Vec<u8>, AllocError> {
     let mut bytes = Vec::from_slice(alloc, text.as_bytes())?;
     for _ in text.len()..length {
@@ -35,7 +35,7 @@ fn padded(alloc: Global, text: &str, length: usize) -> Result<Vec<u8>, AllocErro
     Ok(bytes)
 }
 
-/// A document of so many tasks.
+/// A document of this many tasks.
 fn tasks(alloc: Global, count: usize) -> Result<String, AllocError> {
     let mut text = String::from_str(alloc, "{\"version\":1,\"tasks\":[")?;
     for number in 0..count {
@@ -58,7 +58,7 @@ fn made_answer(alloc: Global, kind: &str, count: usize, text: &str) -> Result<St
     }
 }
 
-/// What is answered to a document of these bytes, to one with so many spaces behind it, or to one of so many tasks.
+/// What is answered to a document of these bytes, to one with this many spaces behind it, or to one of this many tasks.
 pub fn bytes_answer(alloc: Global, question: &str) -> Result<String, AllocError> {
     let (kind, rest) = question.split_once(' ').unwrap_or((question, ""));
     if kind == "bytes" {

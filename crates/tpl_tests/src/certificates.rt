@@ -36,7 +36,7 @@ fn once(alloc: Global, graph: &Graph, text: &str) -> Result<String, AllocError> 
     }
 }
 
-/// The same of what was written, if it isn't the same again.
+/// What is written of the tree that the text spells, and what is written of that, if it differs.
 fn twice(alloc: Global, graph: &Graph, text: &str) -> Result<String, AllocError> {
     let first = once(alloc, graph, text)?;
     if !first.starts_with('{') {
@@ -50,7 +50,7 @@ fn twice(alloc: Global, graph: &Graph, text: &str) -> Result<String, AllocError>
     }
 }
 
-/// A tree with a task that a graph of three tasks hasn't.
+/// A tree with a task that a graph of three tasks doesn't have.
 fn stranger(alloc: Global) -> Result<Tree, AllocError> {
     let ends = Finals {
         ran: false,
@@ -62,7 +62,7 @@ fn stranger(alloc: Global) -> Result<Tree, AllocError> {
     Ok(Tree::new(Node::Leaf(vec![in alloc; row]?)))
 }
 
-/// What is written of it.
+/// What is written of that tree, and whether it is within the limits.
 fn stranger_text(alloc: Global, graph: &Graph) -> Result<String, AllocError> {
     let tree = stranger(alloc)?;
     let within = is_within_limits(&tree);
@@ -70,7 +70,8 @@ fn stranger_text(alloc: Global, graph: &Graph) -> Result<String, AllocError> {
     format!(in alloc; "within the limits: {within}, {text}")
 }
 
-/// What is written of a tree over the graph of the document, or why it is refused; and the same of what was written.
+/// What is written of a tree over the graph of the document, or why it is refused; and what is written of that, if it
+/// differs.
 pub fn tree_answer(alloc: Global, document: &str, tree: &str) -> Result<String, AllocError> {
     match read_document(alloc, document.as_bytes()) {
         Err(fault) => fault_text(alloc, fault),

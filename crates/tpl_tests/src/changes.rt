@@ -24,7 +24,7 @@ struct Tally {
 }
 
 impl Tally {
-    /// With one text more, and what was found of it.
+    /// The counts, with one text more and what was found of it.
     fn with(self, found: Found, differs: bool) -> Tally {
         let mut next = self;
         next.texts = self.texts.saturating_add(1);
@@ -74,7 +74,7 @@ fn changed(
     }
 }
 
-/// Compares what is found of so many texts with what is to be found.
+/// Compares what is found of this many texts with what is to be found.
 fn compare(
     alloc: Global,
     document: &Document,
@@ -115,7 +115,7 @@ fn of_text(alloc: Global, tally: Tally, texts: usize) -> Result<String, AllocErr
     String::from_str(alloc, "as the plain machine")
 }
 
-/// What comes of so many texts, made of the journal of a run by chance.
+/// What comes of this many texts, made of the journal of a random run.
 fn of_document(
     alloc: Global,
     document: &Document,
@@ -134,7 +134,7 @@ fn of_document(
     }
 }
 
-/// The question has a seed and how many texts are made of a run's journal by chance.
+/// The question has a seed and the number of random texts that are made of a run's journal.
 pub fn changes_answer(alloc: Global, context: &str, question: &str) -> Result<String, AllocError> {
     let Some((seed, texts)) = numbers_of(question) else {
         return String::from_str(alloc, "no numbers");

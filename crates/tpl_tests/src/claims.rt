@@ -12,9 +12,9 @@ use tpl_reader::{Document, read_document};
 enum Found {
     /// It holds before the first event and after each.
     Holds,
-    /// It fails after so many events.
+    /// It fails after this many events.
     Fails(usize),
-    /// So many events go, and the next isn't allowed.
+    /// This many events are allowed, and the next isn't.
     Stops(usize),
     /// It can't be asked of the graph.
     DoesNotFit,

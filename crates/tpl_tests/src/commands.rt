@@ -194,8 +194,8 @@ fn wrong_reads<T: Threads + Wait + Sync>(
     wrong
 }
 
-/// How many of the first `calls` calls of the writer, going wrong in turn, are not the last one, or leave other than the
-/// bytes that the calls before took, or don't end the command as a failed device does.
+/// How many of the first `calls` calls of the writer, going wrong in turn, are not the last one, or leave other than
+/// the bytes that the calls before took, or don't end the command as a failed device does.
 fn wrong_writes<T: Threads + Wait + Sync>(
     rt: &T,
     alloc: Global,
@@ -227,8 +227,8 @@ fn outcome_text(alloc: Global, left: &Outcome) -> Result<String, AllocError> {
     )
 }
 
-/// How the command ends where nothing goes wrong, how many calls there are then, and how many calls are told of
-/// otherwise than they must be where they fail, are interrupted or take nothing. The flush is the writer's last call,
+/// How the command ends where nothing goes wrong, how many calls there are then, and of how many calls the end is
+/// wrong where they fail, are interrupted or take nothing. The flush is the writer's last call,
 /// and the exit is decided only behind it.
 fn each_answer<T: Threads + Wait + Sync>(
     rt: &T,
@@ -274,7 +274,7 @@ fn fronts_answer<T: Threads + Wait + Sync>(
     format!(in alloc; "{} fronts, {wrong} wrong", bytes.len())
 }
 
-/// How the command ends where so many spaces come.
+/// How the command ends where the document is this many spaces.
 fn spaces_answer<T: Threads + Wait + Sync>(
     rt: &T,
     alloc: Global,

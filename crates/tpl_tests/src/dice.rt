@@ -23,7 +23,7 @@ impl Dice {
         (self.state >> 33) as usize % sides
     }
 
-    /// Yes once in so many times.
+    /// True once in this many times.
     pub fn one_in(&mut self, times: usize) -> bool {
         self.roll(times) == 0
     }

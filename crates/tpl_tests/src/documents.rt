@@ -6,7 +6,7 @@ use tpl_model::Event;
 use tpl_reader::{Document, ReadFault, read_document};
 use tpl_words::Inputs;
 
-/// Why there is no document; want of memory is no answer.
+/// Why there is no document; out of memory is no answer.
 pub fn fault_text(alloc: Global, fault: ReadFault) -> Result<String, AllocError> {
     match fault {
         ReadFault::Memory => Err(AllocError),

@@ -7,7 +7,7 @@ use tpl_reader::{Document, read_document};
 /// How many bytes a long text has.
 const LONG: usize = 16_777_216;
 
-/// A line so often, and then what follows.
+/// A line, repeated, and then what follows.
 fn repeated(alloc: Global, line: &str, times: usize, last: &str) -> Result<String, AllocError> {
     let mut text = String::new(alloc);
     for _ in 0..times {
@@ -49,7 +49,7 @@ fn of_document(alloc: Global, document: &Document, question: &str) -> Result<Str
     answer_of(alloc, document, text.as_str())
 }
 
-/// The question has what is made of the line: `N LINE` is the line so often, `N LINE|LAST` with more text behind it, and
+/// The question says what is made of the line: `N LINE` is the line N times, `N LINE|LAST` with more text behind it;
 /// `long LINE` and `one LINE` are the line as often as a long text holds it, with and without line breaks.
 pub fn lengths_answer(alloc: Global, context: &str, question: &str) -> Result<String, AllocError> {
     match read_document(alloc, context.as_bytes()) {

@@ -35,7 +35,7 @@ fn comes_back(
     }
 }
 
-/// How many of so many runs come back, and how many events the longest has.
+/// How many of the runs are read back as they were written, and how many events the longest of them has.
 fn count(
     alloc: Global,
     document: &Document,
@@ -55,7 +55,7 @@ fn count(
     Ok((back, longest))
 }
 
-/// How many of so many runs by chance come back.
+/// How many of this many random runs are read back as they were written.
 fn of_document(
     alloc: Global,
     document: &Document,
@@ -69,7 +69,7 @@ fn of_document(
     format!(in alloc; "{back} of {runs} come back")
 }
 
-/// The question has a seed and how many runs are made by chance.
+/// The question has a seed and the number of random runs.
 pub fn rounds_answer(alloc: Global, context: &str, question: &str) -> Result<String, AllocError> {
     let Some((seed, runs)) = numbers_of(question) else {
         return String::from_str(alloc, "no numbers");

@@ -87,7 +87,7 @@ fn ends_answer(alloc: Global, left: &str, right: &str) -> Result<String, AllocEr
     Ok(text)
 }
 
-/// So many inputs, one of which is true.
+/// This many inputs, one of which is true.
 fn inputs_of(count: u8, set: u8) -> Inputs {
     let mut inputs = Inputs::new(count.min(16) as usize);
     if (set as usize) < inputs.len() {
@@ -96,7 +96,7 @@ fn inputs_of(count: u8, set: u8) -> Inputs {
     inputs
 }
 
-/// What is answered to so many inputs, of which the one of that number is true.
+/// What is answered to this many inputs, of which the one of that number is true.
 fn inputs_answer(alloc: Global, count: &str, set: &str) -> Result<String, AllocError> {
     let (Ok(count), Ok(set)) = (count.trim().parse::<u8>(), set.trim().parse::<u8>()) else {
         return String::from_str(alloc, "no numbers");

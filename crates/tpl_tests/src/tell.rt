@@ -32,7 +32,7 @@ pub fn tell_counts(text: &mut String, graph: &Graph) -> Result<(), AllocError> {
     write!(text, "{sites} sites, {labels} labels, {bound} events")
 }
 
-/// Tells a number that is found by its name.
+/// Adds the number that is found by a name.
 fn tell_found(text: &mut String, number: Option<usize>) -> Result<(), AllocError> {
     match number {
         Some(number) => write!(text, ", found at {number}"),
@@ -127,7 +127,7 @@ fn tell_labels(text: &mut String, graph: &Graph) -> Result<(), AllocError> {
     Ok(())
 }
 
-/// Tells one task, which is the graph's.
+/// Adds what the readers answer of a task.
 fn tell_task(text: &mut String, graph: &Graph, task: TaskId) -> Result<(), AllocError> {
     if task.0 as usize >= graph.len() {
         return write!(text, "\n  no task");

@@ -62,7 +62,7 @@ pub fn all_events(alloc: Global, graph: &Graph) -> Result<Vec<Event>, AllocError
     Ok(events)
 }
 
-/// Those of the events that a machine allows after a run. An event that is refused leaves the machine as it was, and
+/// Of these events, those that a machine allows after a run. An event that is refused leaves the machine as it was, and
 /// after one that is allowed it is opened anew.
 pub fn allowed<O: Opener>(
     alloc: Global,

@@ -1,4 +1,4 @@
-//! What seats and watchers outside a session's threads are told.
+//! What is reported to seats and watchers outside a session's threads.
 
 ghost use Rattle.std.specs.Prelude.{◌≡◌, IfOk, IfSome};
 
@@ -79,8 +79,8 @@ fn refuses_seats<'g, R: Wait, K: Drop, W: Item<K>>(
     session.seat(rt, alloc, taken).err() == Some(SeatFault::SeatTaken)
 }
 
-/// The token is requested at the first place, which drops the second task, and isn't requested again. So a seat and a
-/// watcher are told; None where they aren't.
+/// The token is requested at the first place, which drops the second task, and isn't requested again. That is reported
+/// to a seat and a watcher; None where it isn't.
 fn requested<'g, R: Wait, K: Drop, W: Item<K>>(
     rt: &R,
     alloc: Global,
@@ -120,7 +120,7 @@ fn requested<'g, R: Wait, K: Drop, W: Item<K>>(
 }
 
 /// A fresh session of a graph with no work statements, and a seat in it, where another session's seat is stray. None
-/// where that is told otherwise.
+/// where something else is reported.
 fn fresh_seat<R: Wait, K: Drop, W: Item<K>>(
     rt: &R,
     alloc: Global,
@@ -153,7 +153,7 @@ pub enum Closing {
     OtherWatcher,
 }
 
-/// Whether a session was refused so, with a journal of so many events.
+/// Whether closing a session was refused for this reason, with a journal of this many events.
 fn refused<K: Drop, W: Drop>(
     closed: Result<Report<K, W>, CloseFault<K, W>>,
     why: CloseWhy,
@@ -179,7 +179,7 @@ fn fresh<'g, K: Drop, W: Item<K>>(
 }
 
 /// A seat of a fresh session of the graph, which has no work statements, where another session's seat is stray. None
-/// where that is told otherwise.
+/// where something else is reported.
 fn other_seat<R: Wait, K: Drop, W: Item<K>>(
     rt: &R,
     alloc: Global,

@@ -32,7 +32,7 @@ const LAST: Actor = Actor::Outside(3);
 /// The site of the first task's first box.
 const FIRST_BOX: SiteId = SiteId(0);
 
-/// So many workers run the graph of a file, and who is beside them, how often.
+/// This many workers run the graph of a file, and who is beside them, how often.
 #[derive(Clone, Copy)]
 struct Case {
     title: &'static str,

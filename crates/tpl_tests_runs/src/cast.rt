@@ -33,7 +33,7 @@ const OTHER: Actor = Actor::Outside(2);
 /// Those in threads, and what they do.
 type Cast = Vec<(Actor, Role)>;
 
-/// So many workers, who end so.
+/// This many workers, and how they end.
 fn workers(alloc: Global, count: u16, how: Ended) -> Result<Cast, AllocError> {
     let mut cast = Vec::new(alloc);
     for number in 0..count {
@@ -65,7 +65,7 @@ fn others<'g, K: Drop, W: Item<K>>(
     Ok(cast)
 }
 
-/// So many workers and those beside them.
+/// This many workers and those beside them.
 pub fn cast<'g, K: Drop, W: Item<K>>(
     alloc: Global,
     session: &Session<'g, K, W>,

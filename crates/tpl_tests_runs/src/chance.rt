@@ -1,4 +1,4 @@
-//! Runs by chance, on both machines side by side.
+//! Random runs, on both machines side by side.
 
 use crate::allowed::{all_events, allowed};
 use crate::dice::Dice;
@@ -57,7 +57,7 @@ fn agree<O: Opener, P: Opener>(
     Ok(kept && kept_too && first == second)
 }
 
-/// Plays a run by chance to its end, and compares what both machines answer and allow after each event.
+/// Plays a random run to its end, and compares what both machines answer and allow after each event.
 fn play<O: Opener, P: Opener>(
     alloc: Global,
     left: &O,

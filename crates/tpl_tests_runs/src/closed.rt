@@ -34,8 +34,8 @@ fn closed<R: Wait, K: Drop, W: Item<K>>(
         .ok()
 }
 
-/// What a session leaves whose threads have come back. A seat outside is told of each task before what the report says
-/// then, and the plain machine tells the same. None where it isn't so.
+/// What a session leaves whose threads have come back. What is reported of each task to a seat outside is what the
+/// report says later, and the plain machine answers the same. None where it isn't so.
 pub fn closes_well<R: Wait, K: Drop, W: Item<K>>(
     rt: &R,
     alloc: Global,

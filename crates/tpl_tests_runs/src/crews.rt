@@ -21,7 +21,7 @@ pub const RAN: Status = Status::Completed(Final::RanToCompletion);
 /// How many events a run has, where there is but one number.
 pub type Length = Option<usize>;
 
-/// The seats, with those of the workers that have come back, and whether each ended so.
+/// The seats, with those of the workers that have come back, and whether each ended as expected.
 pub fn with_workers(
     seats: Vec<Seat>,
     done: Vec<(Seat, Ended)>,
@@ -36,7 +36,7 @@ pub fn with_workers(
     Ok((seats, all))
 }
 
-/// What a seat is told of each task.
+/// What is reported to a seat of each task.
 pub fn looks<'g, R: Wait, K: Drop, W: Item<K>>(
     rt: &R,
     alloc: Global,
@@ -56,7 +56,7 @@ pub fn looks<'g, R: Wait, K: Drop, W: Item<K>>(
     Ok(list)
 }
 
-/// How a session is run: by so many workers, with these inputs, once these tokens are requested.
+/// How a session is run: by this many workers, with these inputs, once these tokens are requested.
 #[derive(Clone, Copy)]
 pub struct Play<'a> {
     pub workers: u16,
@@ -140,8 +140,8 @@ fn runs_watched<'g, R: Threads + Wait + Sync, K: Drop + Send, W: Item<K> + Send>
     Ok(Some(back))
 }
 
-/// Lets workers run. A seat outside is told of each task then what the report says, watchers saw the whole run, and the
-/// plain machine tells the same. None where it isn't so.
+/// Lets workers run. What is then reported of each task to a seat outside is what the report says, watchers saw the
+/// whole run, and the plain machine answers the same. None where it isn't so.
 pub fn run_by<'g, R: Threads + Wait + Sync, K: Drop + Send, W: Item<K> + Send>(
     rt: &R,
     alloc: Global,
@@ -178,7 +178,7 @@ pub fn run_by<'g, R: Threads + Wait + Sync, K: Drop + Send, W: Item<K> + Send>(
     }
 }
 
-/// The run is complete, each task ran to its end, each item was called, and there are so many events.
+/// The run is complete, each task ran to its end, each item was called, and there are this many events.
 pub fn all_ran<K, W>(graph: &Graph, report: &Report<K, W>, events: Length) -> bool {
     let counted = match events {
         Some(events) => report.journal.len() == events,

@@ -28,7 +28,7 @@ fn token_name(alloc: Global, dice: &mut Dice) -> Result<String, AllocError> {
     name(alloc, "k", number)
 }
 
-/// One of the tasks so far that is no child, if the first one found by chance isn't.
+/// A random one of the tasks so far; none where it is a child.
 fn other(dice: &mut Dice, sorts: &[Sort]) -> Option<usize> {
     let at = dice.roll(sorts.len());
     match sorts.get(at) {
@@ -218,7 +218,7 @@ fn tokens(alloc: Global) -> Result<Vec<DraftToken>, AllocError> {
     Ok(vec![in alloc; first, second, last]?)
 }
 
-/// A graph of so many tasks by chance. Not each one is valid.
+/// A random graph of this many tasks. Not each one is valid.
 pub fn draft(alloc: Global, dice: &mut Dice, count: usize) -> Result<Draft, AllocError> {
     let mut sorts = Vec::new(alloc);
     for _ in 0..count {

@@ -1,4 +1,4 @@
-//! Runs: plays on both machines, runs by chance on both side by side, the queue between threads, and sessions.
+//! Runs: plays on both machines, random runs on both side by side, the queue between threads, and sessions.
 //!
 //! The file `files` names the plays. Each check is a line, and the last line counts them. With the word `memory`, the
 //! sessions of cases/session_memory.py alone.
@@ -48,7 +48,7 @@ struct Tally {
 }
 
 impl Tally {
-    /// With these checks, of which those failed that don't hold.
+    /// The counts, with these checks added; those that don't hold have failed.
     fn with(self, checks: &[bool]) -> Tally {
         let mut tally = self;
         for holds in checks {

@@ -25,7 +25,7 @@ const TURNS: usize = 20_000_000;
 /// The graphs whose boxes meet, each with as many workers as boxes.
 const MEETINGS: [(&str, u16); 2] = [("two_that_meet", 2), ("eight_that_meet", 8)];
 
-/// Whether the first flags, so many, are set.
+/// Whether this many flags, the first ones, are set.
 fn are_set(flags: &[AtomicU64], count: usize) -> bool {
     flags
         .iter()
@@ -33,7 +33,7 @@ fn are_set(flags: &[AtomicU64], count: usize) -> bool {
         .all(|flag| flag.load(Ordering::SeqCst) == 1)
 }
 
-/// Waits until the first flags, so many, are set, and says whether they are.
+/// Waits until this many flags, the first ones, are set, and says whether they are.
 pub fn all_come(flags: &[AtomicU64], count: usize) -> bool {
     for _ in 0..TURNS {
         if are_set(flags, count) {
@@ -58,7 +58,7 @@ pub fn meet(flags: &[AtomicU64], site: SiteId, may_fail: bool) -> Answer
     }
 }
 
-/// So many flags, none of which is set.
+/// This many flags, none of which is set.
 pub fn flags_of(alloc: Global, count: usize) -> Result<Arc<Vec<AtomicU64>, Global>, AllocError> {
     let mut flags = Vec::with_capacity(alloc, count)?;
     for _ in 0..count {
@@ -67,7 +67,7 @@ pub fn flags_of(alloc: Global, count: usize) -> Result<Arc<Vec<AtomicU64>, Globa
     Ok(Arc::new(alloc, flags)?)
 }
 
-/// So many workers run a session with these items to its end.
+/// This many workers run a session with these items to its end.
 fn run_to_the_end<R: Threads + Wait + Sync, K: Drop + Send, W: Item<K> + Send>(
     rt: &R,
     alloc: Global,
@@ -90,7 +90,7 @@ fn run_to_the_end<R: Threads + Wait + Sync, K: Drop + Send, W: Item<K> + Send>(
     }
 }
 
-/// The boxes of a graph meet, with so many workers.
+/// The boxes of a graph meet, with this many workers.
 fn all_meet<R: Threads + Wait + Sync>(
     rt: &R,
     alloc: Global,

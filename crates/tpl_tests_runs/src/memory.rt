@@ -29,7 +29,7 @@ const WORKERS: u16 = 2;
 /// There is room for a seat outside, those of the workers, and one more.
 const SEATS: usize = 4;
 
-/// What is told of a call, and whether it went as it must.
+/// What is reported of a call, and whether it went as it must.
 type Told = (&'static str, bool);
 
 /// The seats and the pass of a session, and whether its workers ended it.
@@ -40,7 +40,7 @@ struct Crew<W> {
     ran: bool,
 }
 
-/// A seat outside after one that was refused for want of memory: its actor is free still.
+/// A seat outside, after one was refused for lack of memory: its actor is still free.
 fn seat_again<'g, R: Wait, K: Drop, W: Item<K>>(
     rt: &R,
     alloc: Global,
@@ -106,7 +106,7 @@ fn works_alone<'g, R: Wait, K: Drop, W: Item<K>>(
     })
 }
 
-/// Lets one work alone, if one is seated, and says whether the run ends so. The second is what is told where none is.
+/// Lets one work alone, if one is seated. Says whether `none` holds and, where one worked, whether the run ended.
 fn works_or_not<'g, R: Wait, K: Drop, W: Item<K>>(
     rt: &R,
     session: &Session<'g, K, W>,
@@ -223,14 +223,14 @@ fn closed<R: Wait, K: Drop, W: Item<K>>(
     }
 }
 
-/// What is told of a session that is closed: each item was called, or comes back.
+/// What is reported of a session that is closed: each item was called, or comes back.
 fn told_closed<K, W>(graph: &Graph, report: &Report<K, W>, ran: bool) -> Told {
     let items = report.receipts.len().saturating_add(report.items.len());
     let all = items == graph.site_count() && report.statuses.len() == graph.len();
     ("closed", all && (report.complete || !ran))
 }
 
-/// What is told of a session that isn't closed: each item was called, or comes back.
+/// What is reported of a session that isn't closed: each item was called, or comes back.
 fn told_open<K, W>(graph: &Graph, fault: &CloseFault<K, W>) -> Told {
     let items = fault.receipts.len().saturating_add(fault.items.len());
     let memory = fault.why == CloseWhy::Memory;
@@ -334,7 +334,7 @@ fn plays<R: Print + Threads + Wait + Sync, K: Drop + Send, W: Item<K> + Send>(
     closes(rt, alloc, graph, session, crew, watchers)
 }
 
-/// Whether a session wasn't opened for want of memory, and all items come back.
+/// Whether a session wasn't opened for lack of memory, and all items come back.
 fn is_refused<W>(graph: &Graph, fault: &OpenFault<W>) -> bool {
     fault.items.len() == graph.site_count() && fault.why == OpenWhy::Memory
 }

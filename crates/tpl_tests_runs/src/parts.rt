@@ -30,7 +30,7 @@ const OUTSIDE: SiteId = SiteId(1);
 /// What one thread does.
 #[derive(Drop)]
 pub enum Role {
-    /// It works, and ends so.
+    /// It works, and ends in this way.
     Works(Ended),
     Requests(TokenId),
     Watches(Watcher),
@@ -69,7 +69,7 @@ fn watches(alloc: Global, watcher: &mut Watcher) -> Result<bool, AllocError> {
     Ok(true)
 }
 
-/// Works until it ends, and says whether it ends so.
+/// Works until it ends, and says whether it ends as expected.
 fn works<'g, R: Wait, K: Drop, W: Item<K>>(
     rt: &R,
     session: &Session<'g, K, W>,
@@ -115,7 +115,7 @@ fn halts<'g, R: Wait, K: Drop, W: Item<K>>(
     called && meet(flags, OUTSIDE, true) == Answer::Done
 }
 
-/// Whether a seat outside is told that the first task runs.
+/// Whether it is reported to a seat outside that the first task runs.
 fn sees_it_run<'g, R: Wait, K: Drop, W: Item<K>>(
     rt: &R,
     graph: &Graph,

@@ -112,7 +112,7 @@ fn inputs_of(document: &Document) -> Inputs {
     }
 }
 
-/// What differs in a text from what was told.
+/// What differs in a text from the one that is expected.
 fn difference<'t>(told: &'t str, text: &'t str) -> Option<(&'t str, &'t str)> {
     let mut lines = text.lines();
     lines.next();
@@ -149,7 +149,7 @@ fn compare<O: Opener>(
     }
 }
 
-/// Compares a play with how both machines go, and answers which of them goes so.
+/// Compares a play with how both machines go, and answers which of them goes as the play says.
 fn compare_both(
     rt: &HostRuntime,
     file: &str,
@@ -175,7 +175,7 @@ fn compare_both(
     Ok([first, second])
 }
 
-/// Compares the play of a file with how both machines go, and answers which of them goes so.
+/// Compares the play of a file with how both machines go, and answers which of them goes as the play says.
 pub fn check_play(rt: &HostRuntime, file: &str) -> io::Result<[bool; 2]> {
     let text = fs::read_to_string(rt, file)?;
     let (_title, rest) = text.as_str().split_once('\n').unwrap_or(("", ""));

@@ -49,7 +49,7 @@ fn receipt_at(alloc: Global, site: SiteId) -> Result<Option<Answer>, AllocError>
     }
 }
 
-/// The job is the task's, and its box answers so.
+/// The job is the task's, and its box gives this answer.
 fn answers(job: WorkJob<Stamp>, task: u16, answer: Answer) -> bool {
     let mut job = job;
     job.task == TaskId(task) && job.items.pop().map(|item| item.call().answer()) == Some(answer)

@@ -69,7 +69,7 @@ fn refuses(
     }
 }
 
-/// A session isn't opened with items that are given so, for this reason.
+/// A session isn't opened with items like these, for this reason.
 fn refuses_given(
     alloc: Global,
     graph: &Graph,
@@ -84,7 +84,7 @@ fn refuses_given(
     refuses(alloc, graph, items, given, why)
 }
 
-/// The session doesn't run so many workers, for this reason.
+/// The session doesn't run this many workers, for this reason.
 fn refuses_to_run<R: Threads + Wait + Sync, K: Drop + Send, W: Item<K> + Send>(
     rt: &R,
     alloc: Global,

@@ -1,4 +1,4 @@
-//! Sessions of graphs by chance, run by workers in threads.
+//! Sessions of random graphs, run by workers in threads.
 
 ghost use Rattle.std.specs.Prelude.{◌≡◌, false};
 ghost use Rattle.tpl_words.specs.declared.status.Answer.TheVariants.{Done};
@@ -43,7 +43,7 @@ fn answer_of(may_fail: bool, fails: bool) -> Answer
     }
 }
 
-/// Inputs by chance.
+/// Random inputs.
 fn inputs(graph: &Graph, dice: &mut Dice) -> Inputs {
     let mut inputs = Inputs::new(graph.input_count());
     if !inputs.is_empty() {
@@ -125,7 +125,7 @@ fn rounds<R: Threads + Wait + Sync>(rt: &R, alloc: Global) -> Result<usize, Allo
     Ok(went)
 }
 
-/// Runs graphs by chance, and answers whether all runs went as they must.
+/// Runs random graphs, and answers whether all runs went as they must.
 pub fn check_rounds<R: Print + Threads + Wait + Sync>(rt: &R, alloc: Global) -> io::Result<bool> {
     let went = rounds(rt, alloc)?;
     tell(rt, "a thousand graphs by chance", went == ROUNDS)

@@ -22,9 +22,9 @@ use tpl_words::{Answer, Inputs, SiteId};
 /// What is tried on a session.
 #[derive(Clone, Copy)]
 pub enum Trial {
-    /// So many workers run it, to a journal of so many events.
+    /// This many workers run it, to a journal of this many events.
     Run(u16, Length),
-    /// A token is requested twice, and the session is closed so.
+    /// A token is requested twice, and the session is closed in this way.
     Requests(Closing),
     /// A token is requested, and one that is linked to it.
     Link,
@@ -120,7 +120,7 @@ pub fn places(graph: &Graph) -> usize
     if graph.len() == 0 { 1 } else { graph.len() }
 }
 
-/// So many workers run a session to its end, to a journal of so many events.
+/// This many workers run a session to its end, to a journal of this many events.
 fn runs<R: Threads + Wait + Sync, K: Drop + Send, W: Item<K> + Send>(
     rt: &R,
     alloc: Global,

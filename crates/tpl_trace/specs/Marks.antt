@@ -2,6 +2,7 @@
 use Rattle.std.specs.Prelude.{ℕ, List, codes}
 use Rattle.serde_json.specs.Data.{Data, string, number, unsigned, object, no_members, member}
 
+-- a number as a JSON value
 abbrev pub number_data : ℕ → Data
 number_data n = number (unsigned n)
 
@@ -37,7 +38,7 @@ abbrev pub arrow_start : (id track time : ℕ) → Data
 arrow_start id track time =
     object (member (codes "cat") (string (codes "release")) (member (codes "id") (number_data id) (member (codes "name") (string (codes "release")) (member (codes "ph") (string (codes "s")) (member (codes "pid") process (member (codes "tid") (number_data track) (member (codes "ts") (number_data time) no_members)))))))
 
--- and ends here
+-- an arrow with this number ends here
 abbrev pub arrow_end : (id track time : ℕ) → Data
 arrow_end id track time =
     object (member (codes "bp") (string (codes "e")) (member (codes "cat") (string (codes "release")) (member (codes "id") (number_data id) (member (codes "name") (string (codes "release")) (member (codes "ph") (string (codes "f")) (member (codes "pid") process (member (codes "tid") (number_data track) (member (codes "ts") (number_data time) no_members))))))))

@@ -19,6 +19,7 @@ abbrev pub track_of : Actor → ℕ
 track_of (Worker n) = n.0
 track_of (Outside n) = 64 + n
 
+-- the name of an actor's track
 abbrev pub track_name : Actor → List ℕ
 track_name (Worker n) = codes "worker " ++ decimal n.0
 track_name (Outside n) = codes "outside " ++ decimal n
@@ -59,16 +60,17 @@ abbrev pub releases : TaskGraph → ℕ → Act → Bool
 releases g t (Release c) = is_number t (antecedent_of (kind g c.0))
 releases g t act = false
 
--- The arrows from an act that ended the task, on this track at this time, to each later act that releases a continuation
--- of it; where a later act may end the task too, none starts here beyond that. The first later event is at `place`, and
--- each arrow is numbered by the place of its end.
+-- The arrows from an act that ended the task, on this track at this time, to each later act that releases a
+-- continuation of it; where a later act may end the task too, none starts here beyond that. The first later event is at
+-- `place`, and each arrow is numbered by the place of its end.
 abbrev pub arrows : TaskGraph → (task track time place : ℕ) → List Event → List Data
 arrows g t track time place [] = []
 arrows g t track time place (e ∷ later) =
     if may_end t e.act then []
     else ((if releases g t e.act then arrow_start place track time ∷ [] else []) ++ arrows g t track time (suc place) later)
 
--- the end of the arrow to the release of a continuation of the task, which starts at the last act before it that may end the task
+-- the end of the arrow to the release of a continuation of the task, which starts at the last act before it that may
+-- end the task
 abbrev pub arrow_to : Option ℕ → (track time : ℕ) → (past : List Event) → List Data
 arrow_to t track time past = if some_ends t past then arrow_end time track time ∷ [] else []
 
@@ -93,22 +95,24 @@ marks n (Drop t) track time past later =
 marks n (Settle t) track time past later =
     instant (codes "settle") (task_name n.names t) track time ∷ arrows n.graph t.0 track time (suc time) later
 
--- those of an event, on its actor's track and at its place; before the first one on a track stands the track's name
+-- the entries of an event, on its actor's track and at its place; before the first one on a track stands the track's
+-- name
 abbrev pub event_marks : Named → (past : List Event) → Event → (later : List Event) → List Data
 event_marks n past e later = new_track past e.actor ++ marks n e.act (track_of e.actor) (suc (length past)) past later
 
--- those of each of the later events
+-- the entries of each of the later events
 abbrev pub marks_from : Named → (past later : List Event) → List Data
 marks_from n past [] = []
 marks_from n past (e ∷ later) = event_marks n past e later ++ marks_from n (past ++ (e ∷ [])) later
 
--- the name of the process, and the entries of each event
+-- the whole trace: the name of the process, and the entries of each event
 abbrev pub entries : Named → List Event → List Data
 entries n h = process_mark (codes "taskgraph") ∷ marks_from n [] h
 
+-- the trace of these events as a JSON value
 abbrev pub trace_data : Named → List Event → Data
 trace_data n h = object (member (codes "traceEvents") (array (items_of (entries n h))) no_members)
 
--- one line
+-- the trace of these events as a text of one line
 abbrev pub trace_text : Named → List Event → List ℕ
 trace_text n h = compact_text (trace_data n h) ++ codes "\n"

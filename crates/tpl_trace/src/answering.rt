@@ -62,7 +62,7 @@ fn run_of(alloc: Global, document: &Document) -> Result<Option<Vec<Event>>, Allo
     }
 }
 
-/// An error where the fault is want of memory.
+/// An error where memory ran out.
 fn unless_memory(fault: ReadFault) -> Result<(), AllocError>
     ensures { OnOk result (fault ≢ ReadFault.Memory) }
 {

@@ -33,7 +33,7 @@ fn token_name_of(graph: &Graph, token: TokenId) -> &str
     graph.token_name(token)
 }
 
-/// Adds the entries of the event behind so many others: those of its act, on this track and at its place.
+/// Adds the entries of the event behind this many others: those of its act, on this track and at its place.
 fn add_marks(
     entries: &mut Vec<Value>,
     alloc: Global,
@@ -121,7 +121,7 @@ fn add_end(
     add_arrows(entries, alloc, graph, task, track, events, time)
 }
 
-/// Adds those of each event.
+/// Adds the entries of each event.
 fn add_all(
     entries: &mut Vec<Value>,
     alloc: Global,

@@ -24,7 +24,7 @@ pub(crate) fn track_of(actor: Actor) -> u16
     }
 }
 
-/// Its name.
+/// The name of an actor's track.
 fn track_name(alloc: Global, actor: Actor) -> Result<String, AllocError>
     ensures { IfOk result (λ name. string_bytes name ≡ track_name actor) }
 {

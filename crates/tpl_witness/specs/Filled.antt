@@ -20,7 +20,7 @@ with_run doc inputs journal = record doc { journal = journal; start = Some (star
 abbrev pub IsTextOf : List ℕ → DocumentValue → Type 0
 IsTextOf bytes doc = (d : Data) × Reads bytes d × ((s : Spelled) × IsSpelled d s × IsDocument s doc)
 
--- the value has the form of a document
+-- the value has the shape of a document
 abbrev pub HasForm : Data → Type 0
 HasForm d = (s : Spelled) × IsSpelled d s
 

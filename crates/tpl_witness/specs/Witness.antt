@@ -18,7 +18,7 @@ use Rattle.tpl_commands.specs.Texts.{unreadable, unreadable_part}
 use Rattle.tpl_witness.specs.Asking.{IsAsked, IsKnown, IsNumbered}
 use Rattle.tpl_witness.specs.Filled.{with_run, IsTextOf}
 
--- a run in which a claim fails that is searched
+-- these inputs and events are a run in which a claim fails that is searched
 pub record IsFound (asked : Option ℕ) (doc : DocumentValue) (number : ℕ) (inputs : List Bool) (events : List Event) : Type 0 where
   pub asks : IsAsked asked number
   pub claim : Claim
@@ -84,5 +84,6 @@ IsSearched asked doc Memory text = ⊥
 IsSearched asked doc Device text = ⊥
 IsSearched asked doc Fault text = ⊥
 
+-- the answer of `refute` to bytes
 abbrev pub Searches : Option ℕ → Answers
 Searches asked = ToDocument (IsSearched asked)

@@ -138,14 +138,14 @@ fn respond<I: Read, O: Write, P: Write>(
     }
 }
 
-/// Reads a document to its end, at most 16,777,216 bytes, searches a run in which one of its claims fails, or the claim
-/// that is asked for, and writes the document itself with `start.inputs` and `journal` filled in, as one line of JSON; or
-/// `not refuted`, where no such run was found. A claim that isn't there is answered by `unreadable: claim N Missing`, and
-/// a document that is too long with its journal by `unreadable: too long`.
+/// Reads a document to its end, at most 16,777,216 bytes, and searches for a run in which one of its claims fails, or
+/// the claim that is asked for. Writes the document itself with `start.inputs` and `journal` filled in, as one line of
+/// JSON; or `not refuted`, where no such run was found. A claim that isn't there is answered by
+/// `unreadable: claim N Missing`, and a document that is too long with its journal by `unreadable: too long`.
 ///
-/// The text is made whole before its first byte is written. A failed read ends the reading, and then nothing is written;
-/// after a failed write no more is. The run itself is written aside, for people, with the place where the claim fails;
-/// whether that can be written changes nothing.
+/// The text is made whole before its first byte is written. A failed read ends the reading, and then nothing is
+/// written; after a failed write no more is. The run itself is written aside, for people, with the place where the
+/// claim fails; a failed write there changes nothing.
 pub fn refute_document<I: Read, O: Write, P: Write>(
     alloc: Global,
     search: Search,

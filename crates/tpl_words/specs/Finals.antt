@@ -4,11 +4,13 @@ use Rattle.tpl_words.specs.declared.finals.Final.{Final}
 use Rattle.tpl_words.specs.declared.finals.Final.TheVariants.{RanToCompletion, Canceled, Faulted}
 use Rattle.tpl_words.specs.declared.finals.Finals.{Finals}
 
+-- the status is in the set
 abbrev pub has : Finals → Final → Bool
 has s RanToCompletion = s.ran
 has s Canceled = s.canceled
 has s Faulted = s.faulted
 
+-- both statuses are the same
 abbrev pub is_final : Final → Final → Bool
 is_final RanToCompletion RanToCompletion = true
 is_final Canceled Canceled = true
@@ -19,6 +21,7 @@ is_final a b = false
 abbrev pub IsPart : Finals → Finals → Type 0
 IsPart s t = (f : Final) → has s f ≡ true → has t f ≡ true
 
+-- the word of a final status in the API documentation
 abbrev pub final_name : Final → List ℕ
 final_name RanToCompletion = codes "RanToCompletion"
 final_name Canceled = codes "Canceled"

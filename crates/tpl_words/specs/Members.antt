@@ -6,7 +6,7 @@ abbrev pub mem : ℕ → List ℕ → Bool
 mem x [] = false
 mem x (y ∷ ys) = nat_eq x y || mem x ys
 
--- the list with the others behind it, none twice
+-- the first list, then those of the second that aren't in it yet, none twice
 abbrev pub joined : List ℕ → List ℕ → List ℕ
 joined xs [] = xs
 joined xs (y ∷ ys) = joined (if mem y xs then xs else (xs ++ y ∷ [])) ys

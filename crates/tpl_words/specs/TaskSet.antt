@@ -3,12 +3,12 @@ use Rattle.std.specs.Prelude.{◌≡◌, ℕ, zero, suc, ◌*◌, ◌/◌, ◌%�
 use Rattle.std.specs.Int.{bit_at}
 use Rattle.tpl_words.specs.Members.{mem}
 
--- in ascending order, none twice, from low on and below high
+-- a list of numbers in ascending order, none twice, from low on and below high
 abbrev pub AscendsWithin : ℕ → ℕ → List ℕ → Type 0
 AscendsWithin low high [] = Unit {0}
 AscendsWithin low high (x ∷ xs) = (low ≤ x) × (x < high) × AscendsWithin (suc x) high xs
 
--- the members of a set of tasks, of which there are at most 1,024
+-- a list that can be the members of a set of tasks: its numbers ascend and are below 1,024
 abbrev pub IsTaskSet : List ℕ → Type 0
 IsTaskSet xs = AscendsWithin 0 1024 xs
 

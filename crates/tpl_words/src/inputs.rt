@@ -38,7 +38,7 @@ impl Inputs {
         }
     }
 
-    /// The same values again.
+    /// A copy.
     pub fn copy(&self) -> Inputs
         ensures { result ≡ self.now }
     {
@@ -80,7 +80,7 @@ impl Inputs {
         self.values[input.0 as usize] = value;
     }
 
-    /// The two have the same values for as many inputs.
+    /// Both have as many inputs, with the same values.
     pub fn same(&self, other: &Inputs) -> bool
         ensures { IsTrue result ↔ (self.now ≡ other.now) }
     {

@@ -36,7 +36,7 @@ impl TaskSet {
         TaskSet { words: [0; WORDS] }
     }
 
-    /// The same set again.
+    /// A copy.
     pub fn copy(&self) -> TaskSet
         ensures same { result ≡ self.now }
         ensures set { IsTaskSet result }
@@ -107,7 +107,7 @@ impl TaskSet {
         self.is_subset(other) && other.is_subset(self)
     }
 
-    /// Takes the least member out and gives it.
+    /// Takes the least member out, and returns it.
     pub fn pop_first(&mut self) -> Option<TaskId>
         ensures first { MatchOption result ((self.old ≡ [])
             × (self.new ≡ [])) (λ t. self.old ≡ t.0 ∷ self.new) }

@@ -13,7 +13,7 @@ use tpl_graph::Kind;
 use tpl_model::{Act, Event};
 use tpl_words::{Actor, Answer, Status, TaskId, TokenId};
 
-/// It was this actor.
+/// The first actor, if there is one, is the second.
 fn is_by(found: Option<Actor>, actor: Actor) -> bool
     ensures { result ≡ laws.is_by found actor }
 {

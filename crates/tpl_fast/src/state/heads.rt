@@ -1,4 +1,4 @@
-//! How far the arguments and the attached children of a task have ended, so that none that has is looked at again.
+//! How many leading arguments and attached children of a task are known to have ended, so that none is looked at twice.
 
 ghost use Rattle.std.specs.Prelude.{◌≡◌, ℕ, ◌≤◌, if◌then◌else◌, take, length, map, true, slice_index_or};
 ghost use Rattle.std.specs.Option.{option_map};
@@ -44,7 +44,7 @@ pub(crate) fn restart(over: &mut Vec<usize>, task: Option<TaskId>)
 }
 
 impl<'g> State<'g> {
-    /// So many of the first arguments of a task have ended.
+    /// How many leading arguments are known to have ended.
     fn args_head(&self, task: TaskId) -> usize
         requires { is_task self.now.graph task.0 }
         ensures within { result ≤ length (args_of (spec.kind self.now.graph task.0)) }
@@ -54,7 +54,7 @@ impl<'g> State<'g> {
         self.ended[task.0 as usize]
     }
 
-    /// So many of the first attached children of a task are over.
+    /// How many leading attached children are known to have ended, or not to have been started.
     fn children_head(&self, task: TaskId) -> usize
         requires { is_task self.now.graph task.0 }
         ensures within { result ≤ length (attached self.now.graph task.0) }
@@ -75,7 +75,7 @@ impl<'g> State<'g> {
         self.all_ended(&args[head..])
     }
 
-    /// An argument of the task was found that has ended.
+    /// Some argument of the task is known to have ended.
     fn has_found(&self, task: TaskId) -> bool
         requires { is_task self.now.graph task.0 }
         ensures { result ≡ true → some_ended (args_of (spec.kind self.now.graph task.0))
@@ -137,7 +137,7 @@ impl<'g> State<'g> {
         children.len()
     }
 
-    /// Notes how far the arguments of a task have ended.
+    /// Notes how many leading arguments of a task have ended.
     fn advance_args(&mut self, task: TaskId)
         requires { is_task self.old.graph task.0 }
         ensures { self.new ≡ self.old }
@@ -146,7 +146,7 @@ impl<'g> State<'g> {
         self.ended[task.0 as usize] = head;
     }
 
-    /// Notes how far the attached children of a task are over.
+    /// Notes how many leading attached children of a task have ended, or weren't started.
     fn advance_children(&mut self, task: TaskId)
         requires { is_task self.old.graph task.0 }
         ensures { self.new ≡ self.old }
@@ -164,7 +164,7 @@ impl<'g> State<'g> {
         self.found[task.0 as usize] = found;
     }
 
-    /// Notes how far those have ended that a task waits for. Its children count from when its body is left, as it
+    /// Notes how many of those that a task waits for have ended. Its children count from when its body is left, as it
     /// starts no more of them then.
     fn advance(&mut self, task: TaskId)
         ensures { self.new ≡ self.old }
@@ -183,7 +183,7 @@ impl<'g> State<'g> {
         }
     }
 
-    /// Notes how far those have ended that each of the tasks waits for.
+    /// Notes for each of the tasks how many of those that it waits for have ended.
     pub fn advance_each(&mut self, tasks: &[TaskId])
         ensures { self.new ≡ self.old }
     {

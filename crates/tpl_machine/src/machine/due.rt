@@ -51,7 +51,7 @@ impl<'g> Machine<'g> {
         None
     }
 
-    /// A task has ended, or is a child that wasn't started.
+    /// A task has ended, or doesn't have to: it is a child that wasn't started.
     fn is_done(&self, task: TaskId) -> bool
         requires { is_task self.now.graph task.0 }
         ensures { result ≡ laws.has_ended self.now.graph self.now.inputs self.now.events task.0 }

@@ -1,4 +1,4 @@
-//! How tasks ended, and what several of them come to.
+//! How tasks ended, one by one and several together.
 
 ghost use Rattle.std.specs.Prelude.{◌≡◌, map, is_some, None, IfSome, IfNone};
 ghost use Rattle.std.specs.Option.{option_map};
@@ -140,7 +140,7 @@ impl<'g> Machine<'g> {
         so_far
     }
 
-    /// Of a task and the best so far, the one that ended first.
+    /// The one that ended first, of this task and the first so far.
     fn earlier(&self, task: TaskId, best: Option<TaskId>) -> Option<TaskId>
         ensures { let e = ending self.now.graph self.now.inputs self.now.events in
             option_map task_number result ≡ earlier e task.0 (e task.0)

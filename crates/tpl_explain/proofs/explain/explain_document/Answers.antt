@@ -7,6 +7,6 @@ use Rattle.tpl_explain.proofs.explain.explain_document.Goals.{in-Ok, in-Err+else
 pub returns-clause-none : goal.returns-clause-none
 returns-clause-none c = elim c.match-read_document.branch [ in-Ok w ↦ rw w.result-is (doc_of w.in-Ok.field-0, w.in-Ok.ensures.ok) | in-Err+else-eq+in_ok-text-in-Err w ↦ rw w.result-is tt ]
 
--- the fault is the reader's, and the test before it says that it isn't want of memory
+-- the fault is the reader's, and the test before it says that memory didn't run out
 pub returns-clause-some : goal.returns-clause-some
 returns-clause-some c = elim c.match-read_document.branch [ in-Ok w ↦ rw w.result-is tt | in-Err+else-eq+in_ok-text-in-Err w ↦ rw w.result-is (w.in-Err.ensures.err, search rules) ]

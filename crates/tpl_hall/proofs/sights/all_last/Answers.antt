@@ -26,7 +26,7 @@ returns c =
       ),
     )
 
--- what a seat was told lies beyond the journal
+-- what was reported to a seat lies beyond the journal
 pub returns-then-not-are_within : goal.returns-then-not-are_within
 returns-then-not-are_within c = (
   λ no. absurd (cc),

@@ -50,7 +50,7 @@ returns c =
           (all_at_of first.graph first.inputs journal core.events (length journal) (length journal + 1) seats here (omega arith) holds.1)),
     )
 
--- what a seat was told here isn't true
+-- what was reported to a seat here isn't true
 pub returns-then-not-all_hold_at : goal.returns-then-not-all_hold_at
 returns-then-not-all_hold_at c =
     let was = c.loop-place.invariant in
