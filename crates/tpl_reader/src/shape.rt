@@ -25,8 +25,8 @@ use crate::start::start_of;
 use crate::top::{Members, claims_of, members_of, tasks_of};
 use serde_json::Value;
 use std::alloc::Global;
-use tpl_json::Miss;
 use tpl_graph::{Draft, DraftTask};
+use tpl_json::Miss;
 
 /// A document with names.
 #[derive(Drop)]

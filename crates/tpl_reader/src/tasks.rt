@@ -12,9 +12,7 @@ use crate::statements::body_of;
 use serde_json::Value;
 use std::alloc::Global;
 use tpl_graph::{DraftKind, DraftTask, DraftToken, DraftWork};
-use tpl_json::{
-    Miss, has_only, list_of, list_or_none, member_in, owned_texts, text_in, text_of,
-};
+use tpl_json::{Miss, has_only, list_of, list_or_none, member_in, owned_texts, text_in, text_of};
 use tpl_words::Options;
 
 #[tactic(auto, unfolding(crate::specs::Tasks::option_at))]

@@ -21,8 +21,8 @@ use crate::named::NamedClaim;
 use crate::tasks::{task_of, token_of};
 use serde_json::Value;
 use std::alloc::Global;
-use tpl_json::{Miss, has_only, list_of, list_or_none, member_in, owned_texts, text_of};
 use tpl_graph::{DraftTask, DraftToken};
+use tpl_json::{Miss, has_only, list_of, list_or_none, member_in, owned_texts, text_of};
 
 /// The members of a document: its lists, of which those of tasks, claims and trees aren't read yet.
 #[derive(Drop)]
