@@ -97,16 +97,14 @@ def each_command_has_an_example_that_works():
         assert ended.stdout and ended.returncode in (0, 1), (line, ended.returncode, ended.stderr)
 
 
-def on_terminal(line, which):
-    """What the program writes to a terminal that is its standard input or its standard error."""
+def on_terminal(line, which, document=os.devnull):
+    """What the program writes to a terminal that is its standard input, or its standard error while it reads a document."""
     leader, follower = pty.openpty()
     try:
         given = {which: follower, "stdout": subprocess.DEVNULL}
-        if which == "stderr":
-            given["stdin"] = subprocess.DEVNULL
-        else:
+        if which == "stdin":
             given["stderr"] = subprocess.PIPE
-        with subprocess.Popen([named(), *line], **given) as started:
+        with open(document, "rb") as read, subprocess.Popen([named(), *line], **({"stdin": read} | given)) as started:
             if which == "stdin":
                 os.write(leader, b"\x04")
                 return started.communicate(timeout=120)[1].decode()
@@ -127,6 +125,16 @@ def a_terminal_is_told_why_without_being_asked():
     text = on_terminal(["check"], "stderr")
     asked = subprocess.run([named(), "check", "--explain"], stdin=subprocess.DEVNULL, capture_output=True, timeout=120, check=False)
     assert asked.stderr and text.replace("\r\n", "\n") == asked.stderr.decode(), text
+
+
+def a_terminal_is_told_how_far_a_run_is():
+    text = on_terminal(["run"], "stderr", TOP / "examples/one-root.json")
+    assert re.fullmatch(r"(\r[01] of 1 tasks have ended\x1b\[K)+\r\x1b\[K", text), repr(text)
+
+
+def a_terminal_is_told_how_far_a_search_is():
+    text = on_terminal(["analyse"], "stderr", TOP / "examples/one-root.json")
+    assert re.fullmatch(r"(\rclaim \d+: 0 leaves tried\x1b\[K)+\r\x1b\[K", text), repr(text)
 
 
 # ---- examples/pipeline
@@ -228,7 +236,8 @@ TESTS = [
     ask_replaces_the_claims, ask_takes_a_journal, ask_reads_its_words,
     the_version_is_that_of_the_file,
     each_command_has_an_example_that_works, a_terminal_is_told_that_a_document_is_read,
-    a_terminal_is_told_why_without_being_asked,
+    a_terminal_is_told_why_without_being_asked, a_terminal_is_told_how_far_a_run_is,
+    a_terminal_is_told_how_far_a_search_is,
     pipelines_have_four_tasks_a_shard, pipelines_keep_the_limits, pipeline_refuses_other_numbers,
     pages_are_read_block_by_block, snippets_stand_behind_the_version, lines_of_the_output_page_stand_for_others,
     a_wrong_page_fails, each_word_of_a_refusal_has_its_line, each_line_in_the_code_is_on_the_page,
