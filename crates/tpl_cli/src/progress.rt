@@ -56,6 +56,7 @@ impl Watch for SearchProgress<'_> {
 }
 
 /// Tells how many tasks of a run have ended.
+#[derive(Drop)]
 pub(crate) struct RunProgress<'a> {
     rt: &'a HostRuntime,
     graph: &'a Graph,

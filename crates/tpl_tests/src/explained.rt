@@ -69,7 +69,7 @@ impl Tally {
 }
 
 /// What a command answers to what comes from a reader.
-fn answered<R: Read + Drop>(alloc: Global, command: Command, reader: R) -> Answered {
+fn answer_to<R: Read + Drop>(alloc: Global, command: Command, reader: R) -> Answered {
     let mut from = Counting::new(reader);
     let mut to: Counting<Vec<u8>> = Counting::new(Vec::new(alloc));
     let exit = match command {
@@ -155,13 +155,13 @@ fn changed(alloc: Global, text: &[u8], dice: &mut Dice) -> Result<Vec<u8>, Alloc
 /// Whether a command answers something else to these bytes where its reasons are told, or tells one that isn't its
 /// answer's; and how it ends.
 fn compared(alloc: Global, command: Command, bytes: &[u8]) -> Result<(Exit, bool), AllocError> {
-    let plain = answered(alloc, command, bytes);
+    let plain = answer_to(alloc, command, bytes);
     let mut from = Counting::new(bytes);
     let mut to: Counting<Vec<u8>> = Counting::new(Vec::new(alloc));
     let Ok(kept) = read_input(alloc, &mut from, &mut to) else {
         return Ok((plain.exit, true));
     };
-    let told = answered(alloc, command, kept.as_slice());
+    let told = answer_to(alloc, command, kept.as_slice());
     let reasoned = reason_of(alloc, command, kept.as_slice())?;
     let same = told.exit == plain.exit && told.text == plain.text;
     let belongs = belongs(alloc, &told, reasoned)?;
