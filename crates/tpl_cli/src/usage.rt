@@ -91,7 +91,7 @@ fn with_audit<'a>(alloc: Global, command: Command<'a>) -> Result<Command<'a>, Al
         Command::new(alloc, "audit")
             .about("Audits the document's journal")
             .after_help(
-                "Example: ./taskgraph refute < examples/blue-green-wrong.json | ./taskgraph audit",
+                "Example: examples/ask examples/one-root.json '{\"never\":\"A\"}' | ./taskgraph refute | ./taskgraph audit",
             )
             .arg(explain(alloc))?,
     )
@@ -104,7 +104,9 @@ fn tried_runs<'a>(alloc: Global) -> Result<Command<'a>, AllocError>
 {
     Command::new(alloc, "refute")
         .about("Searches a run of the document's graph in which a claim does not hold")
-        .after_help("Example: ./taskgraph refute --explain < examples/blue-green-wrong.json")
+        .after_help(
+            "Example: examples/ask examples/one-root.json '{\"never\":\"A\"}' | ./taskgraph refute --explain",
+        )
         .arg(claim(alloc))?
         .arg(runs(alloc))?
         .arg(seed(alloc))
@@ -151,7 +153,7 @@ fn with_trace<'a>(alloc: Global, command: Command<'a>) -> Result<Command<'a>, Al
         Command::new(alloc, "trace")
             .about("Writes the document's journal for a trace viewer")
             .after_help(
-                "Example: ./taskgraph refute < examples/blue-green-wrong.json | ./taskgraph trace",
+                "Example: examples/ask examples/one-root.json '{\"never\":\"A\"}' | ./taskgraph refute | ./taskgraph trace",
             )
             .arg(explain(alloc))?,
     )
