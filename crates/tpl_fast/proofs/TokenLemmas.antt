@@ -1,6 +1,6 @@
 -- The tables of requested tokens.
 use Rattle.std.proofs.Common.{◌≡◌, ℕ, zero, suc, ◌+◌, ◌<◌, ◌||◌, Bool, false, List, [], ◌∷◌, length, set, Option, None, refl, sym, ap, ◌∙◌, arith, subst, inl, inr}
-use Rattle.std.specs.Prelude.{slice_index_or, replicate}
+use Rattle.std.specs.Prelude.{slice_index_or}
 use Rattle.std.proofs.Math.Path.{fun_ext}
 use Rattle.std.proofs.lemmas.Bool.{cases_eq}
 use Rattle.std.proofs.lemmas.List.{get_or-set_same, get_or-set_other, length-set}
@@ -12,19 +12,14 @@ use Rattle.tpl_model.specs.Graph.{TaskGraph, Token, Plain, Linked, token, source
 use Rattle.tpl_model.specs.Facts.{Rest, requested, requested_itself, requests, is_cancel, rest}
 use Rattle.tpl_model.specs.Valid.{IsGraph, IsLinked, AreBefore}
 use Rattle.tpl_laws.specs.Runs.{RequestedByASource}
-use Rattle.tpl_machine.specs.Body.{cancel_of}
-use Rattle.tpl_machine.specs.Rows.{is_it}
+use Rattle.tpl_run.specs.Body.{cancel_of}
+use Rattle.tpl_run.specs.Rows.{is_it}
 use Rattle.tpl_graph.specs.Named.{Named}
-use Rattle.tpl_machine.specs.Journal.{Journal, opened, after}
+use Rattle.tpl_run.specs.Journal.{Journal, opened, after}
 use Rattle.tpl_fast.specs.declared.marks.Mark.{Mark}
 use Rattle.tpl_fast.specs.Marks.{AreMarks}
 use Rattle.tpl_fast.specs.Tokens.{asks, AreAsked, IsTable}
 use Rattle.tpl_fast.specs.Kept.{AreEnded, AreOver, AreFound, IsKept}
-
-pub all_false : (n k : ℕ) → slice_index_or (replicate n false) k false ≡ false
-all_false zero k = refl
-all_false (suc n) zero = refl
-all_false (suc n) (suc k) = all_false n k
 
 same_in : (f f' : ℕ → Bool) (i : ℕ) (xs : List ℕ) → AreBefore i xs → ((k : ℕ) → k < i → f k ≡ f' k) → some_in f xs ≡ some_in f' xs
 same_in f f' i [] before same = refl

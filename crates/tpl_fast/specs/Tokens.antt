@@ -5,7 +5,7 @@ use Rattle.tpl_model.specs.declared.event.Act.TheVariants.{Request, Step}
 use Rattle.tpl_model.specs.declared.event.Event.{Event}
 use Rattle.tpl_model.specs.Graph.{TaskGraph, is_token}
 use Rattle.tpl_model.specs.Facts.{Rest, requested, requested_itself}
-use Rattle.tpl_machine.specs.Body.{cancel_of, start_of}
+use Rattle.tpl_run.specs.Body.{cancel_of, start_of}
 use Rattle.std.specs.Prelude.{Some}
 
 -- the token that an act requests itself, and the child that it starts

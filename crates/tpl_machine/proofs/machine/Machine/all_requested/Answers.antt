@@ -2,7 +2,7 @@ use Rattle.std.proofs.Common.{◌≡◌, ◌<◌, length, map, subst, ap, arith}
 use Rattle.tpl_model.specs.Graph.{sources}
 use Rattle.tpl_model.specs.Valid.{IsGraph}
 use Rattle.tpl_graph.specs.Ids.{token_number}
-use Rattle.tpl_machine.specs.Journal.{Journal}
+use Rattle.tpl_run.specs.Journal.{Journal}
 use Rattle.tpl_machine.proofs.TokenLemmas.{table_step}
 use Rattle.tpl_machine.proofs.machine.Machine.all_requested.Goals as goal
 

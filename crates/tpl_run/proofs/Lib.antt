@@ -1,0 +1,5 @@
+pub mod AtomLemmas
+pub mod GraphLemmas
+pub mod DueLemmas
+pub mod TableLemmas
+pub mod OneDue
