@@ -16,7 +16,7 @@ use Rattle.tpl_script.specs.contracts.body.Body.TheKnot as knot
 use Rattle.tpl_script.specs.declared.body.Body.TheDeep.{the_members, member-Body}
 use Rattle.tpl_model.specs.contracts.event.Event as Event
 use Rattle.tpl_jobs.specs.contracts.receipt.Receipt as Receipt
-use Rattle.tpl_machine.specs.contracts.row.Row as Row
+use Rattle.tpl_run.specs.contracts.row.Row as Row
 use Rattle.tpl_machine.specs.contracts.machine.Machine as Machine
 use Rattle.tpl_fast.specs.contracts.state.State as State
 use Rattle.tpl_fast.specs.contracts.fast.Fast as Fast
