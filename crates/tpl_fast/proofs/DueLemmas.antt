@@ -31,9 +31,9 @@ module _ (g : TaskGraph) (v : List Bool) (h : List Event) (law : CanIsRight) (t 
       go false false true d p q r s on = none (Close t) (record { of_task = refl; task = lt; allowed = λ actor. (law g v h actor (Close t)).0 r })
       go false false false d p q r s on = none (Settle t) (record { of_task = refl; task = lt; allowed = λ actor. (law g v h actor (Settle t)).0 (s ∙ on) })
 
-  pub one_found : {A : Type 0} (o : Option Act) → is_due g v h t.0 ≡ true → IfNone o (NoneDue g v h t.0) → IfNone o A
-  one_found None due none = absurd (some_due due none)
-  one_found (Some act) due none = tt
+  pub one_found : (A : Type 0) (o : Option Act) → is_due g v h t.0 ≡ true → IfNone o (NoneDue g v h t.0) → IfNone o A
+  one_found A None due none = absurd (some_due due none)
+  one_found A (Some act) due none = tt
 
 pub first_found : (g : TaskGraph) (v : List Bool) (h : List Event) (o : Option Act) (t : ℕ) → IfSome o (λ act. IsDue g v h t act) → ((s : ℕ) → s < t → NoneDue g v h s) → IfSome o (λ act. IsFirstDue g v h act)
 first_found g v h None t due none = tt
