@@ -9,3 +9,4 @@ pub mod RecordLemmas
 pub mod DueLemmas
 pub mod MarkLemmas
 pub mod OneDue
+pub mod Crosses
