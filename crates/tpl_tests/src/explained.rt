@@ -12,9 +12,6 @@ use tpl_report::{Ask, Exit, read_input, serve};
 /// The most splits on each path of a certificate that is searched.
 const DEPTH: u8 = 1;
 
-/// The longest piece of a text that is taken out, and the longest that is put in its place.
-const LONGEST_PIECE: usize = 12;
-
 /// A command of the program.
 #[derive(Clone, Copy)]
 enum Command {
@@ -138,16 +135,44 @@ fn belongs(
     }
 }
 
-/// The text with a piece of itself in place of another piece.
+/// A letter, a digit or `_`.
+fn is_of_word(byte: u8) -> bool {
+    byte.is_ascii_alphanumeric() || byte == b'_'
+}
+
+/// How many of the first bytes are of a word.
+fn word_length(bytes: &[u8]) -> usize {
+    bytes.iter().take_while(|byte| is_of_word(**byte)).count()
+}
+
+/// How many of the last bytes are of a word.
+fn last_word_length(bytes: &[u8]) -> usize {
+    bytes
+        .iter()
+        .rev()
+        .take_while(|byte| is_of_word(**byte))
+        .count()
+}
+
+/// Where the word at this place begins, and where it ends; a byte that is of no word stands alone.
+fn word_at(text: &[u8], at: usize) -> (usize, usize) {
+    let before = text.get(..at).unwrap_or_default();
+    let behind = text.get(at..).unwrap_or_default();
+    match word_length(behind) {
+        0 => (at, at.saturating_add(1)),
+        length => (
+            at.saturating_sub(last_word_length(before)),
+            at.saturating_add(length),
+        ),
+    }
+}
+
+/// The text with a word of itself in place of another word.
 fn changed(alloc: Global, text: &[u8], dice: &mut Dice) -> Result<Vec<u8>, AllocError> {
-    let out = dice.roll(text.len());
-    let behind = out.saturating_add(dice.roll(LONGEST_PIECE)).min(text.len());
-    let piece = dice.roll(text.len());
-    let end = piece
-        .saturating_add(dice.roll(LONGEST_PIECE))
-        .min(text.len());
+    let (out, behind) = word_at(text, dice.roll(text.len()));
+    let (word, end) = word_at(text, dice.roll(text.len()));
     let mut bytes = Vec::from_slice(alloc, text.get(..out).unwrap_or_default())?;
-    bytes.extend_from_slice(text.get(piece..end).unwrap_or_default())?;
+    bytes.extend_from_slice(text.get(word..end).unwrap_or_default())?;
     bytes.extend_from_slice(text.get(behind..).unwrap_or_default())?;
     Ok(bytes)
 }
