@@ -11,7 +11,7 @@ use Rattle.tpl_model.specs.Rules.{Run}
 use Rattle.tpl_model.specs.Valid.{IsGraph}
 use Rattle.tpl_model.specs.Claims.{IsGiven, SettledAtBegin}
 use Rattle.tpl_graph.specs.Named.{Named}
-use Rattle.tpl_machine.specs.Reading.{began}
+use Rattle.tpl_run.specs.Reading.{began}
 use Rattle.tpl_laws.specs.Settling.{SettledBefore, ended_before, never_started, SettledBeforeItsBegin}
 
 -- what is given, one after the other: what is left decides all of it

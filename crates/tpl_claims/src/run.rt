@@ -8,8 +8,8 @@ ghost use Rattle.tpl_laws.specs.Settling.{SettledBefore};
 ghost use Rattle.tpl_claims.specs.Fits.{IsGivenOf, AreGivenOf, TasksOf, Fits};
 
 use crate::claim::Claim;
-use tpl_machine::Core;
 use tpl_model::{Given, Property};
+use tpl_run::Core;
 use tpl_words::{Finals, Status, TaskId};
 
 fn is_given<C: Core>(core: &C, given: Given) -> bool

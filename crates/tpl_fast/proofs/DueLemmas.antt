@@ -1,33 +1,43 @@
 -- What is due, and whether a run is complete, by the sets that are kept.
-use Rattle.std.proofs.Common.{◌≡◌, ℕ, zero, suc, ◌<◌, ◌≤◌, ◌&&◌, ◌||◌, inl, inr, Bool, true, false, List, length, refl, sym, ap, ◌∙◌, subst, not, arith}
+use Rattle.std.proofs.Common.{◌≡◌, ℕ, zero, suc, ◌<◌, ◌≤◌, ◌&&◌, ◌||◌, inl, inr, Bool, true, false, List, Option, Some, None, length, refl, sym, ap, ◌∙◌, subst, not, arith}
+use Rattle.std.specs.Prelude.{IfSome, IfNone}
 use Rattle.std.proofs.lemmas.Bool.{cases_lt, cases_eq}
 use Rattle.tpl_words.specs.TaskSet.{is_set}
 use Rattle.tpl_words.specs.declared.ids.TaskId.{TaskId}
-use Rattle.tpl_model.specs.declared.event.Act.TheVariants.{Settle}
+use Rattle.tpl_model.specs.declared.event.Act.{Act}
+use Rattle.tpl_model.specs.declared.event.Act.TheVariants.{Release, Drop, Close, Settle}
 use Rattle.tpl_model.specs.declared.event.Event.{Event}
 use Rattle.tpl_model.specs.Graph.{TaskGraph, is_task}
 use Rattle.tpl_laws.specs.Allowed.{CanIsRight, can_release, can_drop, can_close, can_settle_now, has_ended, all_below, is_complete}
-use Rattle.tpl_machine.specs.Journal.{Journal}
-use Rattle.tpl_machine.specs.Reading.{IsDue, NoneDue}
-use Rattle.tpl_fast.specs.Due.{is_due, AreSets}
+use Rattle.tpl_run.specs.Journal.{Journal}
+use Rattle.tpl_run.specs.Reading.{IsDue, NoneDue, IsFirstDue}
+use Rattle.tpl_run.specs.Due.{is_due}
+use Rattle.tpl_run.proofs.DueLemmas.{none_due}
+use Rattle.tpl_fast.specs.Due.{AreSets}
 use Rattle.tpl_fast.proofs.Basics.{true_false}
-use Rattle.tpl_fast.proofs.StateLemmas.{none_due}
 
 or_false : (b c : Bool) → (b || c) ≡ false → (b ≡ false) × (c ≡ false)
 or_false true c e = true_false e
 or_false false c e = (refl, e)
 
--- where nothing else of a task is allowed, its Settle is due
-pub last_due : (g : TaskGraph) (v : List Bool) (h : List Event) → CanIsRight → (t : TaskId) → is_task g t.0 → is_due g v h t.0 ≡ true → can_release g v h t.0 ≡ false → can_drop g v h t.0 ≡ false → can_close g v h t.0 ≡ false → IsDue g v h t.0 (Settle t)
-last_due g v h law t lt due r d c =
-    let settles : can_settle_now g v h t.0 ≡ true = right_of (can_release g v h t.0) (can_drop g v h t.0) (can_close g v h t.0) (can_settle_now g v h t.0) r d c due in
-    record { of_task = refl; task = lt; allowed = λ actor. (law g v h actor (Settle t)).0 settles }
-  where
-    right_of : (a b c d : Bool) → a ≡ false → b ≡ false → c ≡ false → (a || (b || (c || d))) ≡ true → d ≡ true
-    right_of true b c d ra rb rc e = true_false ra
-    right_of false true c d ra rb rc e = true_false rb
-    right_of false false true d ra rb rc e = true_false rc
-    right_of false false false d ra rb rc e = e
+-- a task that has something due isn't without
+module _ (g : TaskGraph) (v : List Bool) (h : List Event) (law : CanIsRight) (t : TaskId) (lt : is_task g t.0) where
+  some_due : is_due g v h t.0 ≡ true → NoneDue g v h t.0 → ⊥
+  some_due due none = go (can_release g v h t.0) (can_drop g v h t.0) (can_close g v h t.0) (can_settle_now g v h t.0) refl refl refl refl due
+    where
+      go : (a b c d : Bool) → can_release g v h t.0 ≡ a → can_drop g v h t.0 ≡ b → can_close g v h t.0 ≡ c → can_settle_now g v h t.0 ≡ d → (a || (b || (c || d))) ≡ true → ⊥
+      go true b c d p q r s on = none (Release t) (record { of_task = refl; task = lt; allowed = λ actor. (law g v h actor (Release t)).0 p })
+      go false true c d p q r s on = none (Drop t) (record { of_task = refl; task = lt; allowed = λ actor. (law g v h actor (Drop t)).0 q })
+      go false false true d p q r s on = none (Close t) (record { of_task = refl; task = lt; allowed = λ actor. (law g v h actor (Close t)).0 r })
+      go false false false d p q r s on = none (Settle t) (record { of_task = refl; task = lt; allowed = λ actor. (law g v h actor (Settle t)).0 (s ∙ on) })
+
+  pub one_found : (A : Type 0) (o : Option Act) → is_due g v h t.0 ≡ true → IfNone o (NoneDue g v h t.0) → IfNone o A
+  one_found A None due none = absurd (some_due due none)
+  one_found A (Some act) due none = tt
+
+pub first_found : (g : TaskGraph) (v : List Bool) (h : List Event) (o : Option Act) (t : ℕ) → IfSome o (λ act. IsDue g v h t act) → ((s : ℕ) → s < t → NoneDue g v h s) → IfSome o (λ act. IsFirstDue g v h act)
+first_found g v h None t due none = tt
+first_found g v h (Some act) t due none = (t, due, none)
 
 -- a task without anything due has no act that is
 pub nothing_due : (g : TaskGraph) (v : List Bool) (h : List Event) → CanIsRight → (t : ℕ) → is_due g v h t ≡ false → NoneDue g v h t

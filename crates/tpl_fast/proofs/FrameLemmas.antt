@@ -13,12 +13,13 @@ use Rattle.tpl_model.specs.Facts.{Rest, Ending, begun, released, left_body, endi
 use Rattle.tpl_model.specs.Rules.{status, status_by, opening, token_requested, token_requested_by, all_ended, some_ended, can_settle, to_end}
 use Rattle.tpl_laws.specs.Allowed.{has_task, is_inactive, is_ready, is_waiting, may_start, may_not_start, may_cancel, allowed_end, excluded_end, can_release, can_drop, can_close, can_settle_now, has_ended}
 use Rattle.tpl_laws.specs.RowTests.{implies}
-use Rattle.tpl_machine.specs.Body.{start_of}
-use Rattle.tpl_machine.specs.Rows.{is_it}
+use Rattle.tpl_run.specs.Body.{start_of}
+use Rattle.tpl_run.specs.Rows.{is_it}
 use Rattle.tpl_fast.specs.declared.marks.Mark.{Mark}
 use Rattle.tpl_fast.specs.Marks.{acting, mark_at, noted}
 use Rattle.tpl_fast.specs.Tokens.{starting}
-use Rattle.tpl_fast.specs.Due.{is_due, awaits, waits, ender}
+use Rattle.tpl_run.specs.Due.{is_due}
+use Rattle.tpl_fast.specs.Due.{awaits, waits, ender}
 use Rattle.tpl_fast.proofs.Basics.{true_false, same_number, mem_here, mem_there}
 use Rattle.tpl_fast.proofs.MarkLemmas.{mark_step}
 use Rattle.tpl_fast.proofs.StateLemmas.{ending_kept}

@@ -14,13 +14,14 @@ use Rattle.tpl_model.specs.Rules.{Run, all_ended, some_ended}
 use Rattle.tpl_laws.specs.Runs.{NothingGoesBack}
 use Rattle.tpl_graph.specs.Ids.{task_number}
 use Rattle.tpl_graph.specs.Named.{Named, args_of}
-use Rattle.tpl_machine.specs.Journal.{Journal, after}
-use Rattle.tpl_machine.specs.Rows.{is_it}
+use Rattle.tpl_run.specs.Journal.{Journal, after}
+use Rattle.tpl_run.specs.Rows.{is_it}
 use Rattle.tpl_fast.specs.Kept.{has_ended, is_over, all_pass, AreHeads, AreEnded, AreOver, AreFound}
 use Rattle.tpl_fast.specs.Tokens.{starting}
 use Rattle.tpl_fast.proofs.Basics.{true_false, decide, same_number, mem_here, mem_there}
-use Rattle.tpl_fast.proofs.TokenLemmas.{all_false}
-use Rattle.tpl_fast.proofs.StateLemmas.{attached_parent, attached_within}
+use Rattle.tpl_laws.proofs.Settling.{attached_child}
+use Rattle.tpl_run.proofs.TableLemmas.{all_false}
+use Rattle.tpl_run.proofs.GraphLemmas.{attached_within}
 use Rattle.tpl_fast.proofs.FrameLemmas.{started_same}
 
 pub ended_passes : (j : Journal) (xs : List ℕ) → all_ended xs (ending j.graph j.inputs j.events) ≡ all_pass (has_ended j) xs
@@ -153,7 +154,7 @@ over_after j e parent places places' law run valid parent_is restarted heads = r
 
     is_parent : (t : ℕ) → is_task j.graph t → (x : ℕ) → mem x (attached j.graph t) ≡ true → starting e.act (rest j.graph j.inputs j.events) ≡ Some x → is_it parent t ≡ false → ⊥
     is_parent t lt x m starts off =
-        let is = parent_is t x (attached_within j.graph t x valid lt m) starts (attached_parent j.graph t x m) in
+        let is = parent_is t x (attached_within j.graph t x valid m) starts (attached_child j.graph t x m) in
         true_false (sym (sym off ∙ (ap (λ o. is_it o t) is ∙ same_number t)))
 
 abbrev pub no_places : ℕ → List ℕ

@@ -8,3 +8,4 @@ pub mod HeadLemmas
 pub mod IndexLemmas
 pub mod LinkLemmas
 pub mod DueLemmas
+pub mod Crosses

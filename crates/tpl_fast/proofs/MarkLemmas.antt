@@ -7,8 +7,8 @@ use Rattle.tpl_model.specs.declared.event.Act.{Act}
 use Rattle.tpl_model.specs.declared.event.Act.TheVariants.{Request, Release, Begin, Step, Worked, Leave, Close, Drop, Settle}
 use Rattle.tpl_model.specs.declared.event.Event.{Event}
 use Rattle.tpl_model.specs.Facts.{begun, released, left_body}
-use Rattle.tpl_machine.specs.Reading.{began}
-use Rattle.tpl_machine.specs.Rows.{is_it}
+use Rattle.tpl_run.specs.Reading.{began}
+use Rattle.tpl_run.specs.Rows.{is_it}
 use Rattle.tpl_fast.specs.declared.marks.Mark.{Mark}
 use Rattle.tpl_fast.specs.Marks.{acting, mark_at, noted, AreMarks}
 use Rattle.tpl_fast.proofs.Basics.{same_number, other_number, table_set}

@@ -7,15 +7,11 @@ use Rattle.tpl_words.specs.Members.{mem}
 use Rattle.tpl_words.specs.TaskSet.{is_set}
 use Rattle.tpl_model.specs.declared.event.Act.{Act}
 use Rattle.tpl_model.specs.declared.event.Act.TheVariants.{Leave, Close, Drop, Settle}
-use Rattle.tpl_model.specs.declared.event.Event.{Event}
 use Rattle.tpl_model.specs.Graph.{TaskGraph, TaskKind, Continues, WhenAll, WhenAny, kind, task, attached, is_task}
 use Rattle.tpl_graph.specs.Ids.{task_number}
-use Rattle.tpl_laws.specs.Allowed.{can_release, can_drop, can_close, can_settle_now, has_ended}
-use Rattle.tpl_machine.specs.Journal.{Journal}
-
--- the task's Release, Drop, Close or Settle is allowed
-abbrev pub is_due : TaskGraph → List Bool → List Event → ℕ → Bool
-is_due g v h t = can_release g v h t || (can_drop g v h t || (can_close g v h t || can_settle_now g v h t))
+use Rattle.tpl_laws.specs.Allowed.{has_ended}
+use Rattle.tpl_run.specs.Due.{is_due}
+use Rattle.tpl_run.specs.Journal.{Journal}
 
 -- a task of this kind waits for x
 abbrev pub awaits : TaskKind → ℕ → Bool

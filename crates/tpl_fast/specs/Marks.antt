@@ -5,7 +5,7 @@ use Rattle.tpl_model.specs.declared.event.Act.{Act}
 use Rattle.tpl_model.specs.declared.event.Act.TheVariants.{Request, Release, Begin, Step, Worked, Leave, Close, Drop, Settle}
 use Rattle.tpl_model.specs.declared.event.Event.{Event}
 use Rattle.tpl_model.specs.Facts.{begun, released, left_body}
-use Rattle.tpl_machine.specs.Reading.{began}
+use Rattle.tpl_run.specs.Reading.{began}
 use Rattle.tpl_fast.specs.declared.marks.Mark.{Mark}
 
 -- the task of an act, if it has one

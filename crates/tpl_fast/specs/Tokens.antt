@@ -1,12 +1,11 @@
--- Which tokens are requested, by tables.
-use Rattle.std.specs.Prelude.{◌≡◌, ℕ, ◌<◌, ◌≤◌, Bool, false, Option, None, List, length, slice_index_or}
+-- Which tokens an event requests, and which are requested.
+use Rattle.std.specs.Prelude.{◌≡◌, ℕ, Bool, false, Option, Some, None, List, length, slice_index_or}
 use Rattle.tpl_model.specs.declared.event.Act.{Act}
 use Rattle.tpl_model.specs.declared.event.Act.TheVariants.{Request, Step}
 use Rattle.tpl_model.specs.declared.event.Event.{Event}
 use Rattle.tpl_model.specs.Graph.{TaskGraph, is_token}
 use Rattle.tpl_model.specs.Facts.{Rest, requested, requested_itself}
-use Rattle.tpl_machine.specs.Body.{cancel_of, start_of}
-use Rattle.std.specs.Prelude.{Some}
+use Rattle.tpl_run.specs.Body.{cancel_of, start_of}
 
 -- the token that an act requests itself, and the child that it starts
 abbrev pub asks : Act → (ℕ → Rest) → Option ℕ
@@ -24,9 +23,3 @@ pub record AreAsked (g : TaskGraph) (v : List Bool) (h : List Event) (itself clo
   pub each : (k : ℕ) → is_token g k → slice_index_or closed k false ≡ requested g v h k
   pub itself_count : length itself ≡ 32
   pub count : length closed ≡ 32
-
--- in the table the tokens below i are requested, and those from i on requested themselves
-pub record IsTable (g : TaskGraph) (v : List Bool) (h : List Event) (table : List Bool) (i : ℕ) : Type 0 where
-  pub below : (k : ℕ) → k < i → slice_index_or table k false ≡ requested g v h k
-  pub above : (k : ℕ) → i ≤ k → is_token g k → slice_index_or table k false ≡ requested_itself g v h k
-  pub count : length table ≡ 32

@@ -10,8 +10,7 @@ ghost use Rattle.tpl_fast.specs.Due.{is_told, waits, AreTold, Keep};
 
 use std::alloc::{AllocError, Global};
 use tpl_graph::Graph;
-use tpl_machine::MOST_TOKENS;
-use tpl_words::{TaskId, TokenId};
+use tpl_words::{MOST_TOKENS, TaskId, TokenId};
 
 /// For each task the tasks that wait for it, and for each token the tasks whose own it is.
 #[derive(Drop)]

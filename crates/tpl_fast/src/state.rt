@@ -1,10 +1,8 @@
 //! A run with the state of each task and token at hand.
 
 ghost use Rattle.std.specs.Prelude.{◌≡◌, ℕ, ◌<◌, IfOk};
-ghost use Rattle.tpl_machine.specs.Journal.{opened};
+ghost use Rattle.tpl_run.specs.Journal.{opened};
 
-mod allowed;
-mod due;
 mod heads;
 mod readers;
 mod record;
@@ -33,7 +31,7 @@ pub(crate) struct State<'g> {
 }
 
 impl<'g> Model for State<'g> {
-    ghost use Rattle.tpl_machine.specs.Journal.{Journal, journal_code};
+    ghost use Rattle.tpl_run.specs.Journal.{Journal, journal_code};
 
     ghost Value = { Journal };
 

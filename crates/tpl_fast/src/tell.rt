@@ -13,9 +13,12 @@ ghost use Rattle.tpl_fast.specs.Due.{IsRight, IsOpenRight, Keeps, AreTold, waits
 use crate::bits::Bits;
 use crate::links::Links;
 use crate::state::State;
-use tpl_machine::MOST_TOKENS;
 use tpl_model::Act;
-use tpl_words::{TaskId, TokenId};
+use tpl_run::Readers;
+use tpl_run::due::is_due;
+use tpl_run::ends::is_done;
+use tpl_run::graphs::has_task;
+use tpl_words::{MOST_TOKENS, TaskId, TokenId};
 
 /// The task that an act may end.
 pub(crate) fn ender_of(act: Act) -> Option<TaskId>
@@ -36,8 +39,8 @@ fn refresh(due: &mut Bits, state: &State, task: TaskId)
     ensures kept { Keeps state.now (λ t s. IsRight state.now s t) due.old due.new }
 {
     state.is_run();
-    if state.has_task(task) {
-        let is_due = state.is_due(task);
+    if has_task(state, task) {
+        let is_due = is_due(state, task);
         due.put(task, is_due);
     }
 }
@@ -144,9 +147,9 @@ pub(crate) fn note_open(unended: &mut Bits, state: &State, task: Option<TaskId>)
 {
     state.is_run();
     if let Some(task) = task
-        && state.has_task(task)
+        && has_task(state, task)
     {
-        let is_done = state.is_done(task);
+        let is_done = is_done(state, task);
         unended.put(task, !is_done);
     }
 }

@@ -1,71 +1,22 @@
 //! Which tokens are requested.
 
-ghost use Rattle.std.specs.Prelude.{◌≡◌, ℕ, ◌<◌, ◌||◌, Bool, List, length, map, slice_index_or, false};
+ghost use Rattle.std.specs.Prelude.{◌≡◌, ℕ, ◌<◌, ◌||◌, Bool, List, length, slice_index_or, false};
 ghost use Rattle.std.specs.Option.{option_map};
 ghost use Rattle.tpl_model.specs.declared.event.Event.{Event as SpecEvent};
-ghost use Rattle.tpl_model.specs.Graph.{some_in, is_token};
 ghost use Rattle.tpl_model.specs.Facts.{requested_itself};
 ghost use Rattle.tpl_graph.specs.Ids.{token_number};
-ghost use Rattle.tpl_machine.specs.Rows.{is_it};
-ghost use Rattle.tpl_fast.specs.Tokens.{AreAsked, IsTable};
+ghost use Rattle.tpl_run.specs.Rows.{is_it};
+ghost use Rattle.tpl_fast.specs.Tokens.{AreAsked};
 
 use tpl_graph::Graph;
-use tpl_laws::requested_by_a_source;
-use tpl_machine::MOST_TOKENS;
-use tpl_words::TokenId;
+use tpl_run::tokens::{close, none_requested};
+use tpl_words::{MOST_TOKENS, TokenId};
 
 /// The tokens that were requested themselves, and those that are requested, themselves or through their sources.
 #[derive(Clone, Copy)]
 pub(crate) struct Asked {
     itself: [bool; MOST_TOKENS],
     closed: [bool; MOST_TOKENS],
-}
-
-/// No token is requested.
-fn none() -> [bool; MOST_TOKENS]
-    ensures off { (k : ℕ) → slice_index_or result k false ≡ false }
-    ensures many { length result ≡ 32 }
-{
-    [false; MOST_TOKENS]
-}
-
-/// One of the tokens is marked in the table.
-fn some_in(table: &[bool; MOST_TOKENS], tokens: &[TokenId]) -> bool
-    ensures { result ≡ some_in (λ k. slice_index_or table.now k false)
-        (map token_number tokens.now) }
-{
-    for token in tokens {
-        let at = token.0 as usize;
-        if at < MOST_TOKENS && table[at] {
-            return true;
-        }
-    }
-    false
-}
-
-/// A token or one of its sources is marked in the table.
-fn is_marked(table: &[bool; MOST_TOKENS], token: TokenId, sources: &[TokenId]) -> bool
-    requires { token.0 < MOST_TOKENS }
-    ensures { result ≡ (slice_index_or table.now token.0 false
-        || some_in (λ k. slice_index_or table.now k false) (map token_number sources.now)) }
-{
-    table[token.0 as usize] || some_in(table, sources)
-}
-
-/// Which tokens are requested, by those that were requested themselves.
-fn close(itself: &[bool; MOST_TOKENS], graph: &Graph) -> [bool; MOST_TOKENS]
-    ensures { (v : List Bool) (h : List SpecEvent) → IsTable graph.now.graph v h itself.now 0
-        → IsTable graph.now.graph v h result (length graph.now.graph.tokens) }
-{
-    graph.valid();
-    requested_by_a_source();
-    let mut table = *itself;
-    for i in 0..graph.token_count() {
-        let token = TokenId(i as u8);
-        let marked = is_marked(&table, token, graph.sources(token));
-        table[i] = marked;
-    }
-    table
 }
 
 /// Marks the token.
@@ -89,8 +40,8 @@ impl Asked {
         ensures count { length result.closed ≡ 32 }
     {
         Asked {
-            itself: none(),
-            closed: none(),
+            itself: none_requested(),
+            closed: none_requested(),
         }
     }
 

@@ -1,23 +1,20 @@
 -- Lists of tasks, joined.
-use Rattle.std.proofs.Common.{◌≡◌, ℕ, ◌<◌, ◌≤◌, ◌++◌, true, false, ◌||◌, List, [], ◌∷◌, drop, length, map, nat_eq, refl, sym, ap, ◌∙◌, arith, subst}
+use Rattle.std.proofs.Common.{◌≡◌, ℕ, ◌<◌, ◌≤◌, ◌++◌, false, ◌||◌, List, [], ◌∷◌, drop, length, map, nat_eq, refl, sym, ap, ◌∙◌, arith, subst}
 use Rattle.std.specs.Prelude.{vec_capacity}
-use Rattle.std.specs.List.{IsDistinct, list_any}
+use Rattle.std.specs.List.{list_any}
 use Rattle.std.specs.declared.vec.Vec.{Vec}
 use Rattle.std.specs.declared.alloc.Global.{Global}
 use Rattle.std.proofs.lemmas.Map.Steps.{length-le_from_distinct_below}
 use Rattle.std.proofs.lemmas.Map.Keys.{IsDistinct-push}
 use Rattle.std.specs.Cmp.{nat_eq_equiv}
-use Rattle.std.proofs.Common.{zero, suc, get_or}
 use Rattle.std.proofs.lemmas.List.{length-append, length-map, map-append}
-use Rattle.tpl_machine.proofs.Basics.{mem_append, mem_split, mem_here, mem_there}
+use Rattle.tpl_machine.proofs.Basics.{mem_append, mem_split}
 use Rattle.std.proofs.Common.{inl, inr}
 use Rattle.tpl_words.specs.declared.ids.TaskId.{TaskId}
 use Rattle.tpl_words.specs.Members.{mem, joined}
 use Rattle.tpl_graph.specs.Ids.{task_number}
-use Rattle.tpl_machine.specs.Atoms.{AreAtoms}
-use Rattle.tpl_machine.specs.Rows.{AreKeptAtoms}
-use Rattle.tpl_machine.specs.declared.row.Ended.{Ended}
-use Rattle.std.proofs.Common.{Option}
+use Rattle.tpl_run.specs.Atoms.{AreAtoms}
+use Rattle.tpl_run.proofs.AtomLemmas.{empty_atoms}
 
 -- the first i of the others are in the list
 pub record JoinedSoFar (first now : Vec TaskId Global) (more : List TaskId) (i : ℕ) : Type 0 where
@@ -48,25 +45,6 @@ atoms_more n ts x a lt out =
 pub atoms_pushed : (n : ℕ) (ts ts' : List TaskId) (t : TaskId) → ts' ≡ ts ++ t ∷ [] → AreAtoms n (map task_number ts) → t.0 < n → mem t.0 (map task_number ts) ≡ false → AreAtoms n (map task_number ts')
 atoms_pushed n ts ts' t is a lt out =
     subst (λ xs. AreAtoms n xs) (sym (ap (map task_number) is ∙ map-append task_number ts (t ∷ []))) (atoms_push n (map task_number ts) t.0 a lt out)
-
--- an item of a list of tasks
-pub number_at : (ts : List TaskId) (i : ℕ) (d : TaskId) → i < length ts → mem (get_or ts i d).0 (map task_number ts) ≡ true
-number_at [] i d lt = absurd (omega arith)
-number_at (t ∷ ts) zero d lt = mem_here t.0 (map task_number ts)
-number_at (t ∷ ts) (suc i) d lt = mem_there (get_or ts i d).0 t.0 (map task_number ts) (number_at ts i d (omega arith))
-
-pub no_atoms : (n : ℕ) → AreAtoms n []
-unfolding IsDistinct
-no_atoms n = record { below = λ x e. cc; once = tt }
-
-pub kept_none : (ended : Option Ended) (ts : List TaskId) (n : ℕ) → ts ≡ [] → AreKeptAtoms ended ts n
-kept_none ended ts n e = record {
-  none = λ _. e;
-  atoms = subst (λ (xs : List TaskId). AreAtoms n (map task_number xs)) (sym e) (no_atoms n);
-}
-
-pub empty_atoms : (n : ℕ) (ts : List TaskId) → ts ≡ [] → AreAtoms n (map task_number ts)
-empty_atoms n ts e = subst (λ (xs : List TaskId). AreAtoms n (map task_number xs)) (sym e) (no_atoms n)
 
 pub one_atom : (n : ℕ) (ts ts' : List TaskId) (t : TaskId) → ts' ≡ ts ++ t ∷ [] → ts ≡ [] → t.0 < n → AreAtoms n (map task_number ts')
 one_atom n ts ts' t is none lt = atoms_pushed n ts ts' t is (empty_atoms n ts none) lt (ap (λ xs. mem t.0 (map task_number xs)) none)

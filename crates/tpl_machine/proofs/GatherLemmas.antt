@@ -9,8 +9,8 @@ use Rattle.tpl_words.specs.declared.ids.TaskId.{TaskId}
 use Rattle.tpl_words.specs.Members.{mem, joined}
 use Rattle.tpl_model.specs.Facts.{carried_in, gathered, those_started}
 use Rattle.tpl_graph.specs.Ids.{task_number}
-use Rattle.tpl_machine.specs.Atoms.{AreAtoms}
-use Rattle.tpl_machine.specs.Rows.{TaskRow, ending_in}
+use Rattle.tpl_run.specs.Atoms.{AreAtoms}
+use Rattle.tpl_run.specs.Rows.{TaskRow, ending_in}
 
 -- what the first i of the tasks carry is in the list
 pub record GatheredSoFar (first now : Vec TaskId Global) (rows : List TaskRow) (tasks : List TaskId) (i : ℕ) : Type 0 where

@@ -11,7 +11,7 @@ use Rattle.tpl_model.specs.declared.event.Event.{Event}
 use Rattle.tpl_model.specs.Graph.{TaskGraph, kind, body, task, through, is_task, is_token}
 use Rattle.tpl_model.specs.Facts.{Rest, Ending, on, over, stepped, worked, rest_after, rest, requested_itself, ending, subject_in, has_final}
 use Rattle.tpl_model.specs.Valid.{IdsOf}
-use Rattle.tpl_machine.specs.Body.{cancel_of, start_of}
+use Rattle.tpl_run.specs.Body.{cancel_of, start_of}
 
 ids_followed : (g : TaskGraph) (a b : Statements) → IdsOf g a → IdsOf g b → IdsOf g (followed_by a b)
 ids_followed g Nothing b p q = q

@@ -8,4 +8,4 @@ pub mod StepLemmas
 pub mod RecordLemmas
 pub mod DueLemmas
 pub mod MarkLemmas
-pub mod OneDue
+pub mod Crosses

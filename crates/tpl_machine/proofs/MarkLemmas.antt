@@ -16,7 +16,7 @@ use Rattle.tpl_graph.specs.declared.row.Kind.{Kind}
 use Rattle.tpl_graph.specs.Rows.{kind_of}
 use Rattle.tpl_machine.specs.declared.marks.Mark.{Mark}
 use Rattle.tpl_machine.specs.declared.marks.Mark.TheVariants.{Released, Begun, Left}
-use Rattle.tpl_machine.specs.Journal.{Journal}
+use Rattle.tpl_run.specs.Journal.{Journal}
 use Rattle.tpl_machine.specs.Marks.{mark_by, or_before, latest, status_marked}
 
 -- what a newest mark says of the marks before it

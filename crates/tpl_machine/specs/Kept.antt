@@ -9,7 +9,7 @@ use Rattle.tpl_model.specs.Graph.{TaskGraph}
 use Rattle.tpl_model.specs.Facts.{requested_itself, started, ending}
 use Rattle.tpl_model.specs.Rules.{Run, seen}
 use Rattle.tpl_model.specs.Valid.{IsGraph, bound}
-use Rattle.tpl_machine.specs.Rows.{TaskRow, row_at}
+use Rattle.tpl_run.specs.Rows.{TaskRow, row_at}
 
 -- one row per task, the children that were started, the tasks whose exceptions were observed, and the tokens that were requested themselves
 pub record IsKept (g : TaskGraph) (v : List Bool) (h : List Event) (rows : List TaskRow) (begun seen_tasks : List ℕ) (tokens : List Bool) : Type 0 where

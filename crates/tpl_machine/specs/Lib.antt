@@ -1,12 +1,5 @@
-pub mod EventCode
-pub mod Journal
-pub mod Reading
-pub mod Atoms
-pub mod Body
-pub mod Rows
+pub use Rattle.tpl_run.specs.Journal
+pub use Rattle.tpl_run.specs.Reading
 pub mod Kept
-pub mod Tests
-pub mod Tokens
 pub mod Settling
 pub mod Marks
-pub mod Due

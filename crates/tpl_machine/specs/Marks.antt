@@ -7,7 +7,7 @@ use Rattle.tpl_graph.specs.declared.row.Kind.{Kind}
 use Rattle.tpl_model.specs.declared.event.Act.{Act}
 use Rattle.tpl_model.specs.declared.event.Act.TheVariants.{Release, Begin, Leave}
 use Rattle.tpl_model.specs.declared.event.Event.{Event}
-use Rattle.tpl_machine.specs.Tests.{opening_of}
+use Rattle.tpl_run.specs.Tests.{opening_of}
 use Rattle.tpl_machine.specs.declared.marks.Mark.{Mark}
 use Rattle.tpl_machine.specs.declared.marks.Mark.TheVariants.{Released, Begun, Left}
 

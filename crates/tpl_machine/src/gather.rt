@@ -4,11 +4,11 @@ ghost use Rattle.std.specs.Prelude.{◌≡◌, ℕ, ◌<◌, ◌||◌, true, len
 ghost use Rattle.tpl_words.specs.Members.{mem, joined};
 ghost use Rattle.tpl_model.specs.Facts.{carried_in, gathered, those_started};
 ghost use Rattle.tpl_graph.specs.Ids.{task_number};
-ghost use Rattle.tpl_machine.specs.Atoms.{AreAtoms};
-ghost use Rattle.tpl_machine.specs.Rows.{ending_in, HaveRoom};
+ghost use Rattle.tpl_run.specs.Atoms.{AreAtoms};
+ghost use Rattle.tpl_run.specs.Rows.{ending_in, HaveRoom};
 
 use crate::atoms::join;
-use crate::row::Row;
+use tpl_run::row::Row;
 use tpl_words::{MOST_TASKS, TaskId, TaskSet};
 
 /// Adds what one task carries.

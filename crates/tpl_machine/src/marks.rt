@@ -2,11 +2,13 @@
 
 ghost use Rattle.std.specs.Prelude.{◌≡◌, ◌≤◌, Some, None, length, reverse, if◌then◌else◌};
 ghost use Rattle.tpl_model.specs.Facts.{begun, begun_by};
-ghost use Rattle.tpl_machine.specs.Marks.{mark_by, latest};
-ghost use Rattle.tpl_machine.specs.Reading.{began};
+ghost use Rattle.tpl_machine.specs.Marks.{mark_by, latest, status_marked};
+ghost use Rattle.tpl_run.specs.Reading.{began};
 
+use tpl_graph::Kind;
 use tpl_model::{Act, Event};
-use tpl_words::{Actor, TaskId};
+use tpl_run::status::opening;
+use tpl_words::{Actor, Status, TaskId};
 
 /// An event that says where a task stands that hasn't ended.
 #[derive(Clone, Copy, PartialEq, Eq, Debug)]
@@ -81,4 +83,16 @@ pub fn began(events: &[Event], task: TaskId) -> Option<u32>
         }
     }
     place
+}
+
+/// Where a task stands that hasn't ended, by its newest mark.
+pub fn status_open(mark: Option<Mark>, kind: Kind, started: bool) -> Status
+    ensures { result ≡ status_marked None mark kind started }
+{
+    match mark {
+        Some(Mark::Left) => Status::WaitingForChildrenToComplete,
+        Some(Mark::Begun) => Status::Running,
+        Some(Mark::Released) => Status::WaitingToRun,
+        None => opening(kind, started, false),
+    }
 }

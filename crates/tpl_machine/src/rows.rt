@@ -5,17 +5,16 @@ ghost use Rattle.std.specs.Option.{option_map};
 ghost use Rattle.tpl_words.specs.Members.{mem};
 ghost use Rattle.tpl_model.specs.Facts.{worked, own_atom, body_final, body_over, gathered, those_started};
 ghost use Rattle.tpl_graph.specs.Ids.{task_number, token_number};
-ghost use Rattle.tpl_machine.specs.Atoms.{AreAtoms};
-ghost use Rattle.tpl_machine.specs.Body.{passed};
-ghost use Rattle.tpl_machine.specs.Tests.{is_all};
-ghost use Rattle.tpl_machine.specs.Rows.{TaskRow, with_rest, with_ending, ending_of, ending_in, is_it, carries, HaveRoom, CanEnd};
+ghost use Rattle.tpl_run.specs.Atoms.{AreAtoms};
+ghost use Rattle.tpl_run.specs.Body.{passed};
+ghost use Rattle.tpl_run.specs.Tests.{is_all};
+ghost use Rattle.tpl_run.specs.Rows.{TaskRow, with_rest, with_ending, ending_of, ending_in, is_it, carries, HaveRoom, CanEnd};
 
 use crate::gather::{add_all, gather, gather_started};
-use crate::machine::MOST_TOKENS;
-use crate::row::{Ended, Row};
 use tpl_graph::Kind;
+use tpl_run::row::{Ended, Row};
 use tpl_script::Outcome;
-use tpl_words::{Actor, Answer, Final, MOST_TASKS, TaskId, TaskSet, TokenId};
+use tpl_words::{Actor, Answer, Final, MOST_TASKS, MOST_TOKENS, TaskId, TaskSet, TokenId};
 
 /// Marks a token as requested, if there is one.
 pub fn mark(requested: &mut [bool; MOST_TOKENS], token: Option<TokenId>)

@@ -3,8 +3,10 @@
 use crate::fast::Fast;
 use tpl_graph::Graph;
 use tpl_laws::allowed::{can_is_right, is_complete_is_right};
-use tpl_machine::{Core, Next, Refused};
 use tpl_model::{Act, Event};
+use tpl_run::allowed::allows;
+use tpl_run::due::next_of;
+use tpl_run::{Core, Next, Readers, Refused};
 use tpl_words::{InputId, Label, Status, TaskId, TokenId};
 
 impl<'g> Core for Fast<'g> {
@@ -12,7 +14,7 @@ impl<'g> Core for Fast<'g> {
 
     fn step(&mut self, event: Event) -> Result<(), Refused> {
         can_is_right();
-        if !self.state.allows(event) {
+        if !allows(&self.state, event) {
             return Err(Refused);
         }
         self.record(event);
@@ -48,10 +50,7 @@ impl<'g> Core for Fast<'g> {
     }
 
     fn next(&self, task: TaskId) -> Next {
-        match self.state.status_of(task) {
-            Status::Running => self.state.row(task).next(),
-            _ => Next::NotRunning,
-        }
+        next_of(&self.state, task)
     }
 
     fn label(&self, task: TaskId) -> Option<Label> {

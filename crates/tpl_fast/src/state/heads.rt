@@ -5,15 +5,18 @@ ghost use Rattle.std.specs.Option.{option_map};
 ghost use Rattle.tpl_words.specs.Members.{mem};
 ghost use Rattle.tpl_model.specs.Graph as spec;
 ghost use Rattle.tpl_model.specs.Graph.{is_task, attached, IsParent};
-ghost use Rattle.tpl_model.specs.Facts.{started, ending, all_over};
-ghost use Rattle.tpl_model.specs.Rules.{all_ended, some_ended};
+ghost use Rattle.tpl_model.specs.Facts.{ending};
+ghost use Rattle.tpl_model.specs.Rules.{some_ended};
 ghost use Rattle.tpl_graph.specs.Ids.{task_number};
 ghost use Rattle.tpl_graph.specs.Named.{args_of};
-ghost use Rattle.tpl_machine.specs.Rows.{is_it};
+ghost use Rattle.tpl_run.specs.Rows.{is_it};
 ghost use Rattle.tpl_fast.specs.Kept.{has_ended, is_over, all_pass};
 
 use crate::state::State;
 use tpl_graph::{Graph, Kind};
+use tpl_run::ends::{all_ended, all_over, has_ended, is_open, some_ended};
+use tpl_run::graphs::{args, children, has_task};
+use tpl_run::{Readers, Waits};
 use tpl_words::TaskId;
 
 /// The task whose body starts this child, if it is one.
@@ -64,17 +67,6 @@ impl<'g> State<'g> {
         self.over[task.0 as usize]
     }
 
-    /// All arguments of a task have ended.
-    pub fn args_ended(&self, task: TaskId) -> bool
-        requires { is_task self.now.graph task.0 }
-        ensures { result ≡ all_ended (args_of (spec.kind self.now.graph task.0))
-            (ending self.now.graph self.now.inputs self.now.events) }
-    {
-        let args = self.args(task);
-        let head = self.args_head(task);
-        self.all_ended(&args[head..])
-    }
-
     /// Some argument of the task is known to have ended.
     fn has_found(&self, task: TaskId) -> bool
         requires { is_task self.now.graph task.0 }
@@ -82,26 +74,6 @@ impl<'g> State<'g> {
             (ending self.now.graph self.now.inputs self.now.events) ≡ true }
     {
         self.found[task.0 as usize]
-    }
-
-    /// One of the arguments of a task has ended.
-    pub fn some_arg_ended(&self, task: TaskId) -> bool
-        requires { is_task self.now.graph task.0 }
-        ensures { result ≡ some_ended (args_of (spec.kind self.now.graph task.0))
-            (ending self.now.graph self.now.inputs self.now.events) }
-    {
-        self.has_found(task) || self.some_ended(self.args(task))
-    }
-
-    /// Each attached child of a task that was started has ended.
-    pub fn children_over(&self, task: TaskId) -> bool
-        requires { is_task self.now.graph task.0 }
-        ensures { let j = self.now in result ≡ all_over (attached j.graph task.0)
-            (started j.graph j.inputs j.events) (ending j.graph j.inputs j.events) }
-    {
-        let children = self.children(task);
-        let head = self.children_head(task);
-        self.all_over(&children[head..])
     }
 
     /// The place of the first of the tasks, from this one on, that hasn't ended; else how many they are.
@@ -112,7 +84,7 @@ impl<'g> State<'g> {
             → all_pass (has_ended self.now) (map task_number (take result tasks.now)) ≡ true }
     {
         for i in from..tasks.len() {
-            if !self.has_ended(tasks[i]) {
+            if !has_ended(self, tasks[i]) {
                 return i;
             }
         }
@@ -130,7 +102,7 @@ impl<'g> State<'g> {
             → all_pass (is_over self.now) (map task_number (take result children.now)) ≡ true }
     {
         for i in from..children.len() {
-            if self.is_open(children[i]) {
+            if is_open(self, children[i]) {
                 return i;
             }
         }
@@ -142,7 +114,7 @@ impl<'g> State<'g> {
         requires { is_task self.old.graph task.0 }
         ensures { self.new ≡ self.old }
     {
-        let head = self.first_unended(self.args(task), self.args_head(task));
+        let head = self.first_unended(args(self, task), self.args_head(task));
         self.ended[task.0 as usize] = head;
     }
 
@@ -151,7 +123,7 @@ impl<'g> State<'g> {
         requires { is_task self.old.graph task.0 }
         ensures { self.new ≡ self.old }
     {
-        let head = self.first_open(self.children(task), self.children_head(task));
+        let head = self.first_open(children(self, task), self.children_head(task));
         self.over[task.0 as usize] = head;
     }
 
@@ -169,10 +141,10 @@ impl<'g> State<'g> {
     fn advance(&mut self, task: TaskId)
         ensures { self.new ≡ self.old }
     {
-        if !self.has_task(task) {
+        if !has_task(self, task) {
             return;
         }
-        match self.kind(task) {
+        match self.graph().kind(task) {
             Kind::All => self.advance_args(task),
             Kind::Any => self.find_arg(task),
             _ => {
@@ -190,5 +162,23 @@ impl<'g> State<'g> {
         for task in tasks {
             self.advance(*task);
         }
+    }
+}
+
+impl<'g> Waits for State<'g> {
+    fn args_ended(&self, task: TaskId) -> bool {
+        let args = args(self, task);
+        let head = self.args_head(task);
+        all_ended(self, &args[head..])
+    }
+
+    fn some_arg_ended(&self, task: TaskId) -> bool {
+        self.has_found(task) || some_ended(self, args(self, task))
+    }
+
+    fn children_over(&self, task: TaskId) -> bool {
+        let children = children(self, task);
+        let head = self.children_head(task);
+        all_over(self, &children[head..])
     }
 }

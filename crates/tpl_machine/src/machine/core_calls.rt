@@ -2,11 +2,14 @@
 
 use crate::machine::Machine;
 use crate::marks::began;
-use crate::run::{Core, Next, Refused};
 use tpl_graph::Graph;
 use tpl_laws::allowed::{can_is_right, is_complete_is_right};
 use tpl_laws::is_bounded;
 use tpl_model::{Act, Event};
+use tpl_run::allowed::allows;
+use tpl_run::due::next_of;
+use tpl_run::graphs::is_short;
+use tpl_run::{Core, Next, Readers, Refused};
 use tpl_words::{InputId, Label, Status, TaskId, TokenId};
 
 impl<'g> Core for Machine<'g> {
@@ -14,7 +17,7 @@ impl<'g> Core for Machine<'g> {
 
     fn step(&mut self, event: Event) -> Result<(), Refused> {
         can_is_right();
-        if !self.allows(event) {
+        if !allows(self, event) {
             return Err(Refused);
         }
         self.record(event);
@@ -51,10 +54,7 @@ impl<'g> Core for Machine<'g> {
     }
 
     fn next(&self, task: TaskId) -> Next {
-        match self.status_of(task) {
-            Status::Running => self.row(task).next(),
-            _ => Next::NotRunning,
-        }
+        next_of(self, task)
     }
 
     fn label(&self, task: TaskId) -> Option<Label> {
@@ -78,7 +78,7 @@ impl<'g> Core for Machine<'g> {
     }
 
     fn began(&self, task: TaskId) -> Option<u32> {
-        self.is_short();
+        is_short(self);
         began(self.events(), task)
     }
 

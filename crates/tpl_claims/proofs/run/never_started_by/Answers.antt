@@ -1,5 +1,5 @@
 use Rattle.tpl_model.specs.Facts.{started}
-use Rattle.tpl_machine.specs.Journal.{named}
+use Rattle.tpl_run.specs.Journal.{named}
 use Rattle.tpl_claims.proofs.HoldsLemmas.{no_parent}
 use Rattle.tpl_claims.proofs.run.never_started_by.Goals as goal
 

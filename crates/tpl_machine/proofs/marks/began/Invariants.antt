@@ -1,5 +1,5 @@
 use Rattle.std.proofs.Common.{◌≡◌, reverse, take}
-use Rattle.tpl_machine.specs.Reading.{began}
+use Rattle.tpl_run.specs.Reading.{began}
 use Rattle.tpl_machine.proofs.marks.began.Given as goal
 
 abbrev pub invariant-loop-i : goal.invariant-loop-i

@@ -1,4 +1,5 @@
-use Rattle.tpl_machine.proofs.AtomLemmas.{one_atom, empty_atoms}
+use Rattle.tpl_run.proofs.AtomLemmas.{empty_atoms}
+use Rattle.tpl_machine.proofs.AtomLemmas.{one_atom}
 use Rattle.tpl_machine.proofs.rows.add_own.Goals as goal
 
 pub returns-in-Some-Threw-clause-atoms : goal.returns-in-Some-Threw-clause-atoms

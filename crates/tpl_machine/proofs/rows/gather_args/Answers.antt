@@ -1,4 +1,4 @@
-use Rattle.tpl_machine.proofs.AtomLemmas.{empty_atoms}
+use Rattle.tpl_run.proofs.AtomLemmas.{empty_atoms}
 use Rattle.tpl_machine.proofs.rows.gather_args.Goals as goal
 
 pub gather-requires-clause-atoms : goal.gather-requires-clause-atoms

@@ -4,7 +4,7 @@ use Rattle.std.proofs.lemmas.List.{length-map, take-map}
 use Rattle.tpl_model.specs.Graph.{kind}
 use Rattle.tpl_graph.specs.Ids.{task_number}
 use Rattle.tpl_graph.specs.Named.{args_of}
-use Rattle.tpl_machine.specs.Journal.{Journal}
+use Rattle.tpl_run.specs.Journal.{Journal}
 use Rattle.tpl_fast.specs.Kept.{has_ended, all_pass, AreEnded}
 use Rattle.tpl_fast.proofs.HeadLemmas.{heads_set}
 use Rattle.tpl_fast.proofs.state.State.advance_args.Goals as goal

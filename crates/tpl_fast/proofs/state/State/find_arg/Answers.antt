@@ -1,6 +1,6 @@
 use Rattle.std.proofs.Common.{sym, subst}
 use Rattle.std.specs.Prelude.{slice_set}
-use Rattle.tpl_machine.specs.Journal.{Journal}
+use Rattle.tpl_run.specs.Journal.{Journal}
 use Rattle.tpl_fast.specs.Kept.{AreFound}
 use Rattle.tpl_fast.proofs.HeadLemmas.{found_set}
 use Rattle.tpl_fast.proofs.state.State.find_arg.Goals as goal

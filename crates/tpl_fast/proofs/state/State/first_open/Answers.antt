@@ -1,6 +1,6 @@
 use Rattle.std.proofs.Common.{sym, ◌∙◌}
 use Rattle.tpl_fast.specs.Kept.{is_over}
-use Rattle.tpl_fast.proofs.StateLemmas.{mem_at}
+use Rattle.tpl_run.proofs.GraphLemmas.{mem_at}
 use Rattle.tpl_fast.proofs.HeadLemmas.{pass_more, not_open}
 use Rattle.tpl_fast.proofs.state.State.first_open.Goals as goal
 

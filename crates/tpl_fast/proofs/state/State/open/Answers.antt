@@ -1,5 +1,5 @@
 use Rattle.std.proofs.Common.{ap, ◌∙◌, sym, subst, [], length}
-use Rattle.tpl_machine.specs.Journal.{opened}
+use Rattle.tpl_run.specs.Journal.{opened}
 use Rattle.tpl_fast.specs.Kept.{AreEnded, AreOver, AreFound}
 use Rattle.tpl_fast.proofs.HeadLemmas.{heads_open, no_places, found_open, no_marks}
 use Rattle.tpl_fast.specs.Marks.{AreMarks}

@@ -1,5 +1,5 @@
 use Rattle.std.proofs.Common.{ℕ, ◌<◌}
-use Rattle.tpl_machine.specs.Reading.{NoneDue}
+use Rattle.tpl_run.specs.Reading.{NoneDue}
 use Rattle.tpl_machine.proofs.machine.Machine.first_due.Given as goal
 
 abbrev pub invariant-loop-i : goal.invariant-loop-i

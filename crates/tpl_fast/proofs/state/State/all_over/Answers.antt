@@ -1,5 +1,0 @@
-use Rattle.tpl_fast.proofs.StateLemmas.{mem_at}
-use Rattle.tpl_fast.proofs.state.State.all_over.Goals as goal
-
-pub is_open-requires : goal.is_open-requires
-is_open-requires c = c.requires _ (mem_at c.args.children.now c.loop-child.child-index (record { 0 = 0 }) c.loop-child-test.true)

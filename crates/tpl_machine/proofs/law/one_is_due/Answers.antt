@@ -1,5 +1,0 @@
-use Rattle.tpl_machine.proofs.OneDue.{one_due}
-use Rattle.tpl_machine.proofs.law.one_is_due.Goals as goal
-
-pub returns : goal.returns
-returns c = one_due

@@ -1,0 +1,11 @@
+use Rattle.std.proofs.Common.{◌≡◌, drop, map}
+use Rattle.tpl_model.specs.Facts.{ending}
+use Rattle.tpl_model.specs.Rules.{all_ended}
+use Rattle.tpl_graph.specs.Ids.{task_number}
+use Rattle.tpl_run.proofs.ends.all_ended.Given as goal
+
+abbrev pub invariant-loop-task : goal.invariant-loop-task
+invariant-loop-task g l =
+    let j = g.R.Readers.journal l.run in
+    all_ended (map task_number (drop l.task-index l.tasks)) (ending j.graph j.inputs j.events)
+    ≡ all_ended (map task_number l.tasks) (ending j.graph j.inputs j.events)

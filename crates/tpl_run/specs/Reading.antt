@@ -1,0 +1,71 @@
+-- What the readers of a run answer.
+use Rattle.std.specs.Prelude.{◌≡◌, ℕ, suc, ◌<◌, Bool, List, [], ◌∷◌, Option, Some, None, length, if◌then◌else◌}
+use Rattle.tpl_words.specs.declared.status.Actor.{Actor}
+use Rattle.tpl_words.specs.declared.status.Status.{Status}
+use Rattle.tpl_words.specs.declared.status.Status.TheVariants.{Running}
+use Rattle.tpl_script.specs.declared.outcome.Outcome.{Outcome}
+use Rattle.tpl_script.specs.Statements.{Statements, Work, Nothing, ◌⨾◌}
+use Rattle.tpl_model.specs.Graph.{TaskGraph, is_task}
+use Rattle.tpl_model.specs.declared.event.Act.{Act}
+use Rattle.tpl_model.specs.declared.event.Act.TheVariants.{Release, Close, Drop, Settle}
+use Rattle.tpl_model.specs.declared.event.Event.{Event}
+use Rattle.tpl_model.specs.Facts.{Rest, Ending, begun_by, winner_of, rest, ending}
+use Rattle.tpl_model.specs.Rules.{status, Allows}
+use Rattle.tpl_run.specs.declared.run.Next.{Next}
+use Rattle.tpl_run.specs.declared.run.Next.TheVariants.{NotRunning, Silent, Work as Job, Over}
+
+-- what comes next in a body
+abbrev pub next_left : Statements → Next
+next_left Nothing = Over
+next_left (Work site may_fail ⨾ more) = Job (record { 0 = site })
+next_left (s ⨾ more) = Silent
+
+abbrev pub next_in : Option Outcome → Statements → Next
+next_in (Some outcome) left = Over
+next_in None left = next_left left
+
+abbrev pub next_by : Status → Rest → Next
+next_by Running r = next_in r.outcome r.left
+next_by status r = NotRunning
+
+abbrev pub next : TaskGraph → List Bool → List Event → ℕ → Next
+next g v h t = next_by (status g v h t) (rest g v h t)
+
+-- the argument that ended a WhenAny task
+abbrev pub winner : TaskGraph → List Bool → List Event → ℕ → Option ℕ
+winner g v h t = winner_of (ending g v h t)
+
+-- the place at which the task began, counted from 1
+abbrev pub began : List Event → ℕ → Option ℕ
+began [] t = None
+began (e ∷ h) t = if begun_by e.act t then Some (suc (length h)) else began h t
+
+-- the place at which the task ended; 0 before the first event
+abbrev pub place_of : Option Ending → Option ℕ
+place_of None = None
+place_of (Some e) = Some e.place
+
+abbrev pub ended : TaskGraph → List Bool → List Event → ℕ → Option ℕ
+ended g v h t = place_of (ending g v h t)
+
+-- the task of an act that waits for nobody: it may be done as soon as it is allowed
+abbrev pub due_task : Act → Option ℕ
+due_task (Release t) = Some t.0
+due_task (Drop t) = Some t.0
+due_task (Close t) = Some t.0
+due_task (Settle t) = Some t.0
+due_task act = None
+
+-- such an act of this task is allowed, by whomever
+pub record IsDue (g : TaskGraph) (v : List Bool) (h : List Event) (t : ℕ) (act : Act) : Type 0 where
+  pub of_task : due_task act ≡ Some t
+  pub task : is_task g t
+  pub allowed : (actor : Actor) → Allows g v h actor act
+
+-- no such act of the task is allowed
+abbrev pub NoneDue : TaskGraph → List Bool → List Event → ℕ → Type 0
+NoneDue g v h t = (act : Act) → IsDue g v h t act → ⊥
+
+-- the act is due, and no earlier task has one that is
+abbrev pub IsFirstDue : TaskGraph → List Bool → List Event → Act → Type 0
+IsFirstDue g v h act = (t : ℕ) × IsDue g v h t act × ((s : ℕ) → s < t → NoneDue g v h s)

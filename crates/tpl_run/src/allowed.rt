@@ -1,0 +1,273 @@
+//! Which events are allowed next.
+
+ghost use Rattle.std.specs.Prelude.{◌≡◌, ◌&&◌, not};
+ghost use Rattle.tpl_words.specs.Options.{execute_synchronously, run_continuations_asynchronously};
+ghost use Rattle.tpl_model.specs.Graph.{is_task, kind, options};
+ghost use Rattle.tpl_model.specs.Facts.{ending};
+ghost use Rattle.tpl_model.specs.Rules.{status, token_requested, bound_worker, worker_of, can_settle};
+ghost use Rattle.tpl_laws.specs.Allowed as laws;
+
+use crate::ends::has_ended;
+use crate::graphs::{antecedent, has_task, has_token, own_token};
+use crate::readers::{Readers, Waits};
+use tpl_graph::Kind;
+use tpl_model::{Act, Event};
+use tpl_words::{Actor, Answer, Status, TaskId, TokenId};
+
+/// The first actor, if there is one, is the second.
+fn is_by(found: Option<Actor>, actor: Actor) -> bool
+    ensures { result ≡ laws.is_by found actor }
+{
+    match found {
+        None => false,
+        Some(Actor::Worker(number)) => match actor {
+            Actor::Worker(other) => number.0 == other.0,
+            Actor::Outside(_) => false,
+        },
+        Some(Actor::Outside(seat)) => match actor {
+            Actor::Outside(other) => seat == other,
+            Actor::Worker(_) => false,
+        },
+    }
+}
+
+/// The actor is not a worker.
+fn is_outside(actor: Actor) -> bool
+    ensures { result ≡ laws.is_outside actor }
+{
+    matches!(actor, Actor::Outside(_))
+}
+
+/// A worker begins tasks, and where a task is bound to a worker only that one.
+fn begins_on(actor: Actor, bound: Option<Actor>) -> bool
+    ensures { result ≡ laws.begins_on actor (worker_of bound) }
+{
+    match actor {
+        Actor::Outside(_) => false,
+        Actor::Worker(number) => match bound {
+            Some(Actor::Worker(other)) => number.0 == other.0,
+            _ => true,
+        },
+    }
+}
+
+/// The task's own token is requested.
+fn own_asked<R: Readers>(run: &R, task: TaskId) -> bool
+    requires { is_task (R.journal run.now).graph task.0 }
+    ensures { let j = R.journal run.now in result
+        ≡ token_requested j.graph j.inputs j.events task.0 }
+{
+    match own_token(run, task) {
+        None => false,
+        Some(token) => run.asked(token),
+    }
+}
+
+fn is_inactive<R: Readers>(run: &R, task: TaskId) -> bool
+    requires { is_task (R.journal run.now).graph task.0 }
+    ensures { let j = R.journal run.now in result
+        ≡ laws.is_inactive (status j.graph j.inputs j.events task.0) }
+{
+    matches!(run.status_of(task), Status::WaitingForActivation)
+}
+
+fn is_ready<R: Readers>(run: &R, task: TaskId) -> bool
+    requires { is_task (R.journal run.now).graph task.0 }
+    ensures { let j = R.journal run.now in result
+        ≡ laws.is_ready (status j.graph j.inputs j.events task.0) }
+{
+    matches!(run.status_of(task), Status::WaitingToRun)
+}
+
+fn is_waiting<R: Readers>(run: &R, task: TaskId) -> bool
+    requires { is_task (R.journal run.now).graph task.0 }
+    ensures { let j = R.journal run.now in result
+        ≡ laws.is_waiting (status j.graph j.inputs j.events task.0) }
+{
+    matches!(run.status_of(task), Status::WaitingForChildrenToComplete)
+}
+
+fn runs_on<R: Readers>(run: &R, actor: Actor, task: TaskId) -> bool
+    ensures { let j = R.journal run.now in result
+        ≡ laws.runs_on j.graph j.inputs j.events actor task.0 }
+{
+    has_task(run, task)
+        && is_by(run.begun(task), actor)
+        && matches!(run.status_of(task), Status::Running)
+}
+
+fn may_request<R: Readers>(run: &R, actor: Actor, token: TokenId) -> bool
+    ensures { let j = R.journal run.now in result
+        ≡ laws.can_request j.graph j.inputs j.events actor token.0 }
+{
+    is_outside(actor) && has_token(run, token) && !run.asked(token)
+}
+
+/// A continuation's antecedent has ended in a way that its options allow.
+fn may_start<R: Readers>(run: &R, task: TaskId) -> bool
+    requires { is_task (R.journal run.now).graph task.0 }
+    ensures { let j = R.journal run.now in result
+        ≡ laws.may_start j.graph j.inputs j.events task.0 (kind j.graph task.0) }
+{
+    match antecedent(run, task) {
+        None => false,
+        Some(antecedent) => match run.final_of(antecedent) {
+            None => false,
+            Some(status) => run.graph().options(task).allows(status),
+        },
+    }
+}
+
+/// A continuation's antecedent has ended in a way that its options don't allow.
+fn may_not_start<R: Readers>(run: &R, task: TaskId) -> bool
+    requires { is_task (R.journal run.now).graph task.0 }
+    ensures { let j = R.journal run.now in result
+        ≡ laws.may_not_start j.graph j.inputs j.events task.0 (kind j.graph task.0) }
+{
+    match antecedent(run, task) {
+        None => false,
+        Some(antecedent) => match run.final_of(antecedent) {
+            None => false,
+            Some(status) => !run.graph().options(task).allows(status),
+        },
+    }
+}
+
+/// A continuation isn't lazy, or its antecedent has ended (`TaskContinuationOptions.LazyCancellation`).
+fn may_cancel<R: Readers>(run: &R, task: TaskId) -> bool
+    requires { is_task (R.journal run.now).graph task.0 }
+    ensures { let j = R.journal run.now in result
+        ≡ laws.may_cancel j.graph j.inputs j.events task.0 (kind j.graph task.0) }
+{
+    match antecedent(run, task) {
+        None => false,
+        Some(antecedent) => {
+            !run.graph().options(task).lazy_cancellation() || has_ended(run, antecedent)
+        }
+    }
+}
+
+pub(crate) fn may_release<R: Readers>(run: &R, task: TaskId) -> bool
+    ensures { let j = R.journal run.now in result
+        ≡ laws.can_release j.graph j.inputs j.events task.0 }
+{
+    has_task(run, task) && is_inactive(run, task) && may_start(run, task) && !own_asked(run, task)
+}
+
+/// A continuation begins on the worker that ends its antecedent (`TaskContinuationOptions.ExecuteSynchronously`,
+/// `RunContinuationsAsynchronously`).
+fn is_synchronous<R: Readers>(run: &R, task: TaskId, antecedent: TaskId) -> bool
+    requires task { is_task (R.journal run.now).graph task.0 }
+    requires antecedent { is_task (R.journal run.now).graph antecedent.0 }
+    ensures { let g = (R.journal run.now).graph in result ≡ (execute_synchronously (options g task.0)
+        && not (run_continuations_asynchronously (options g task.0))
+        && not (run_continuations_asynchronously (options g antecedent.0))) }
+{
+    let options = run.graph().options(task);
+    options.execute_synchronously()
+        && !options.run_continuations_asynchronously()
+        && !run
+            .graph()
+            .options(antecedent)
+            .run_continuations_asynchronously()
+}
+
+/// Who ended the antecedent of a synchronous continuation, which is bound to that worker.
+fn bound_to<R: Readers>(run: &R, task: TaskId) -> Option<Actor>
+    requires { is_task (R.journal run.now).graph task.0 }
+    ensures { let j = R.journal run.now in worker_of result
+        ≡ bound_worker j.graph j.inputs j.events task.0 (kind j.graph task.0) }
+{
+    let antecedent = antecedent(run, task)?;
+    if is_synchronous(run, task, antecedent) {
+        run.ended_by(antecedent)
+    } else {
+        None
+    }
+}
+
+fn may_begin<R: Readers>(run: &R, actor: Actor, task: TaskId) -> bool
+    ensures { let j = R.journal run.now in result
+        ≡ laws.can_begin j.graph j.inputs j.events actor task.0 }
+{
+    has_task(run, task)
+        && is_ready(run, task)
+        && !own_asked(run, task)
+        && begins_on(actor, bound_to(run, task))
+}
+
+fn may_step<R: Readers>(run: &R, actor: Actor, task: TaskId) -> bool
+    ensures { let j = R.journal run.now in result
+        ≡ laws.can_step j.graph j.inputs j.events actor task.0 }
+{
+    runs_on(run, actor, task) && run.row(task).outcome().is_none() && run.row(task).steps()
+}
+
+fn may_work<R: Readers>(run: &R, actor: Actor, task: TaskId, answer: Answer) -> bool
+    ensures { let j = R.journal run.now in result
+        ≡ laws.can_work j.graph j.inputs j.events actor task.0 answer }
+{
+    runs_on(run, actor, task) && run.row(task).outcome().is_none() && run.row(task).works(answer)
+}
+
+fn may_leave<R: Readers>(run: &R, actor: Actor, task: TaskId) -> bool
+    ensures { let j = R.journal run.now in result
+        ≡ laws.can_leave j.graph j.inputs j.events actor task.0 }
+{
+    runs_on(run, actor, task) && run.row(task).outcome_now().is_some()
+}
+
+pub(crate) fn may_close<R: Waits>(run: &R, task: TaskId) -> bool
+    ensures { let j = R.journal run.now in result
+        ≡ laws.can_close j.graph j.inputs j.events task.0 }
+{
+    has_task(run, task) && is_waiting(run, task) && run.children_over(task)
+}
+
+pub(crate) fn may_drop<R: Readers>(run: &R, task: TaskId) -> bool
+    ensures { let j = R.journal run.now in result ≡ laws.can_drop j.graph j.inputs j.events task.0 }
+{
+    has_task(run, task)
+        && ((is_ready(run, task) && own_asked(run, task))
+            || (is_inactive(run, task) && own_asked(run, task) && may_cancel(run, task))
+            || (is_inactive(run, task) && may_not_start(run, task)))
+}
+
+/// The arguments of a WhenAll or WhenAny task have ended, as far as it waits for them.
+fn is_settling<R: Waits>(run: &R, task: TaskId) -> bool
+    requires { is_task (R.journal run.now).graph task.0 }
+    ensures { let j = R.journal run.now in result
+        ≡ can_settle (kind j.graph task.0) (ending j.graph j.inputs j.events) }
+{
+    match run.graph().kind(task) {
+        Kind::All => run.args_ended(task),
+        Kind::Any => run.some_arg_ended(task),
+        _ => false,
+    }
+}
+
+pub(crate) fn may_settle<R: Waits>(run: &R, task: TaskId) -> bool
+    ensures { let j = R.journal run.now in result
+        ≡ laws.can_settle_now j.graph j.inputs j.events task.0 }
+{
+    has_task(run, task) && !has_ended(run, task) && is_settling(run, task)
+}
+
+/// The event is allowed next.
+pub fn allows<R: Waits>(run: &R, event: Event) -> bool
+    ensures { let j = R.journal run.now in result
+        ≡ laws.can j.graph j.inputs j.events event.actor event.act }
+{
+    let actor = event.actor;
+    match event.act {
+        Act::Request(token) => may_request(run, actor, token),
+        Act::Release(task) => may_release(run, task),
+        Act::Begin(task) => may_begin(run, actor, task),
+        Act::Step(task) => may_step(run, actor, task),
+        Act::Worked(task, answer) => may_work(run, actor, task, answer),
+        Act::Leave(task) => may_leave(run, actor, task),
+        Act::Close(task) => may_close(run, task),
+        Act::Drop(task) => may_drop(run, task),
+        Act::Settle(task) => may_settle(run, task),
+    }
+}

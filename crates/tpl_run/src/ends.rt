@@ -1,0 +1,80 @@
+//! Whether tasks have ended.
+
+ghost use Rattle.std.specs.Prelude.{◌≡◌, ℕ, ◌&&◌, not, is_some, map, true};
+ghost use Rattle.tpl_words.specs.Members.{mem};
+ghost use Rattle.tpl_model.specs.Graph.{is_task};
+ghost use Rattle.tpl_model.specs.Facts.{started, ending, all_over};
+ghost use Rattle.tpl_model.specs.Rules.{all_ended, some_ended};
+ghost use Rattle.tpl_graph.specs.Ids.{task_number};
+ghost use Rattle.tpl_laws.specs.Allowed as laws;
+
+use crate::readers::Readers;
+use tpl_graph::Kind;
+use tpl_words::TaskId;
+
+/// A task has ended.
+pub fn has_ended<R: Readers>(run: &R, task: TaskId) -> bool
+    ensures { let j = R.journal run.now in result
+        ≡ is_some (ending j.graph j.inputs j.events task.0) }
+{
+    run.final_of(task).is_some()
+}
+
+/// All of the tasks have ended.
+pub fn all_ended<R: Readers>(run: &R, tasks: &[TaskId]) -> bool
+    ensures { let j = R.journal run.now in result
+        ≡ all_ended (map task_number tasks.now) (ending j.graph j.inputs j.events) }
+{
+    for task in tasks {
+        if !has_ended(run, *task) {
+            return false;
+        }
+    }
+    true
+}
+
+/// One of the tasks has ended.
+pub fn some_ended<R: Readers>(run: &R, tasks: &[TaskId]) -> bool
+    ensures { let j = R.journal run.now in result
+        ≡ some_ended (map task_number tasks.now) (ending j.graph j.inputs j.events) }
+{
+    for task in tasks {
+        if has_ended(run, *task) {
+            return true;
+        }
+    }
+    false
+}
+
+/// The child was started and hasn't ended.
+pub fn is_open<R: Readers>(run: &R, child: TaskId) -> bool
+    requires { is_task (R.journal run.now).graph child.0 }
+    ensures { let j = R.journal run.now in result ≡ (started j.graph j.inputs j.events child.0
+        && not (is_some (ending j.graph j.inputs j.events child.0))) }
+{
+    run.was_started(child) && !has_ended(run, child)
+}
+
+/// Each of the children that was started has ended.
+pub fn all_over<R: Readers>(run: &R, children: &[TaskId]) -> bool
+    requires { (c : ℕ) → mem c (map task_number children.now) ≡ true
+        → is_task (R.journal run.now).graph c }
+    ensures { let j = R.journal run.now in result ≡ all_over (map task_number children.now)
+        (started j.graph j.inputs j.events) (ending j.graph j.inputs j.events) }
+{
+    for child in children {
+        if is_open(run, *child) {
+            return false;
+        }
+    }
+    true
+}
+
+/// A task has ended, or doesn't have to: it is a child that wasn't started.
+pub fn is_done<R: Readers>(run: &R, task: TaskId) -> bool
+    requires { is_task (R.journal run.now).graph task.0 }
+    ensures { let j = R.journal run.now in result
+        ≡ laws.has_ended j.graph j.inputs j.events task.0 }
+{
+    has_ended(run, task) || (run.graph().kind(task) == Kind::Child && !run.was_started(task))
+}
