@@ -28,3 +28,4 @@ pub mod OwnerLemmas
 pub mod SiteReaders
 pub mod SameLemmas
 pub mod WorkLemmas
+pub mod Crosses
