@@ -1,2 +1,3 @@
 mod CountLemmas
+mod ChildLemmas
 pub mod Crosses

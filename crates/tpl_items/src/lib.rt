@@ -1,5 +1,5 @@
 //! What a session runs: items, each of them for one work statement, the test whether they are the items of a graph, and
-//! where they are while no worker has them; and the children that each task may start.
+//! where they are until they are called; and the children that each task may start.
 #![tactic(auto)]
 
 mod children;

@@ -1,194 +1,203 @@
-//! The jobs of a session that no worker has, and the items that came back.
+//! The items of a session that weren't called, and the jobs that no worker has.
 
-ghost use Rattle.std.specs.Prelude.{◌≡◌, IfErr};
+ghost use Rattle.std.specs.Prelude.{◌≡◌, ◌∷◌, ◌<◌, [], ◌++◌, ◌+◌, ℕ, false, length, map, slice_index_or, slice_set, IfOk, IfErr, IfSome, IfNone, IsTrue, IsFalse};
+ghost use Rattle.std.specs.Bool.{OnTrue, OnFalse};
+ghost use Rattle.tpl_words.specs.declared.ids.TaskId.{TaskId as TaskNumber};
+ghost use Rattle.tpl_words.specs.declared.ids.Worker.{Worker as WorkerNumber};
+ghost use Rattle.tpl_items.specs.Items.{count_of};
+ghost use Rattle.tpl_items.specs.Stock.{AreOthers, HasPlace, IfWorker, Takes, TakesKept, new_stock, unput_count};
 
 use crate::item::Item;
 use std::alloc::Global;
-use tpl_graph::Graph;
+use std::marker::Model;
 use tpl_jobs::Job;
-use tpl_words::{Actor, SiteId, Worker};
+use tpl_words::{Actor, SiteId, TaskId, Worker};
 
-/// A job of items.
+/// A job as the queue carries it. Its list is empty: items stay in the stock until they are called.
 pub type ItemJob<W> = Job<Vec<W>>;
 
-/// Where the items are that no worker has. It takes no memory once it is made: there is a place for each job in each of
-/// its lists, and for each item among those that came back.
+/// Where the items are that weren't called, and the jobs that no worker has. An item leaves it only to be called, so
+/// none ever needs a place to come back to, and it takes no memory once it is made: in each of its lists of jobs there
+/// is a place for every task.
 #[derive(Drop)]
 pub struct Stock<W> {
-    /// By task, what its body may call, until its job is put.
-    unput: Vec<Option<Vec<W>>>,
-    /// Jobs that only one worker may begin.
-    kept: Vec<(Worker, ItemJob<W>)>,
-    /// Jobs that the queue had no place for.
-    shelf: Vec<ItemJob<W>>,
-    /// Items that came back.
+    alloc: Global,
+    /// Items that weren't called.
     items: Vec<W>,
+    /// By task, whether its job wasn't put yet.
+    unput: Vec<bool>,
+    /// Tasks whose jobs only one worker may begin.
+    kept: Vec<(Worker, TaskId)>,
+    /// Tasks whose jobs the queue had no place for.
+    shelf: Vec<TaskId>,
 }
 
-/// An empty list for the items of each task.
-fn lists<W>(alloc: Global, graph: &Graph) -> Option<Vec<Option<Vec<W>>>>
-where
-    W: Drop,
+impl<W> Model for Stock<W> {
+    ghost use Rattle.std.specs.Prelude.{◌≤◌, ◌+◌, vec_len, vec_capacity};
+    ghost use Rattle.tpl_items.specs.Stock.{StockView, unput_count};
+
+    ghost Value = { StockView W };
+
+    ghost view = { λ s. record {
+      items = s.items.items;
+      unput = s.unput.items;
+      kept = s.kept.items;
+      shelf = s.shelf.items;
+      kept_room = vec_capacity s.kept;
+      shelf_room = vec_capacity s.shelf;
+    } };
+
+    ghost invariant = { λ s. (vec_len s.kept + unput_count s.unput.items ≤ vec_capacity s.kept)
+        × (vec_len s.shelf + unput_count s.unput.items ≤ vec_capacity s.shelf) };
+}
+
+/// The place of the first item of a site.
+fn place_of<K, W: Item<K>>(items: &[W], site: SiteId) -> Option<usize>
+    ensures place { IfSome result (λ place. place < length items.now) }
+    ensures site { IfSome result (λ place. (d : W) → W.site (slice_index_or items.now place d) ≡
+        site.0) }
+    ensures none { IfNone result (count_of (map W.site items.now) site.0 ≡ 0) }
 {
-    let mut counts = Vec::with_capacity(alloc, graph.len()).ok()?;
-    for _task in 0..graph.len() {
-        counts.push(0usize).ok()?;
-    }
-    for site in 0..graph.site_count() {
-        let owner = graph.site_owner(SiteId(site as u16)).0 as usize;
-        if owner < counts.len() && counts[owner] < 256 {
-            counts[owner] += 1;
+    for place in 0..items.len() {
+        if items[place].site().0 == site.0 {
+            return Some(place);
         }
     }
-    let mut lists = Vec::with_capacity(alloc, graph.len()).ok()?;
-    for count in counts {
-        lists
-            .push(Some(Vec::with_capacity(alloc, count).ok()?))
-            .ok()?;
+    None
+}
+
+/// The place of the first job that was kept for a worker.
+fn kept_for(kept: &[(Worker, TaskId)], worker: Worker) -> Option<usize>
+    ensures place { IfSome result (λ place. place < length kept.now) }
+    ensures worker { IfSome result (λ place. (d : WorkerNumber × TaskNumber) → (slice_index_or
+        kept.now place d).0 ≡ worker) }
+    ensures first { IfSome result (λ place. AreOthers kept.now place worker) }
+    ensures none { IfNone result (AreOthers kept.now (length kept.now) worker) }
+{
+    for place in 0..kept.len() {
+        if kept[place].0 == worker {
+            return Some(place);
+        }
     }
-    Some(lists)
+    None
 }
 
 impl<W: Drop> Stock<W> {
-    /// Gives an item to the job of its task.
-    fn hand_out<K>(&mut self, graph: &Graph, item: W)
-    where
-        W: Item<K>,
+    /// A stock of these items for so many tasks. They all come back where there is no memory.
+    pub fn open(alloc: Global, tasks: usize, items: Vec<W>) -> Result<Stock<W>, Vec<W>>
+        ensures stock { IfOk result (λ s. s ≡ new_stock tasks items.items) }
+        ensures back { IfErr result (λ back. back ≡ items) }
     {
-        let site = item.site();
-        if (site.0 as usize) < graph.site_count() {
-            let owner = graph.site_owner(site).0 as usize;
-            if owner < self.unput.len() {
-                if let Some(list) = &mut self.unput[owner] {
-                    if list.len() < list.capacity() {
-                        list.push_reserved(item);
-                        return;
-                    }
-                }
-            }
-        }
-        self.give_back(item);
-    }
-
-    /// The items, each with the job of its task. They all come back where there is no memory.
-    pub fn open<K>(alloc: Global, graph: &Graph, items: Vec<W>) -> Result<Stock<W>, Vec<W>>
-    where
-        W: Item<K>,
-        ensures { IfErr result (λ back. back ≡ items) }
-    {
-        let Some(unput) = lists(alloc, graph) else {
+        let Ok(unput) = vec![in alloc; true; tasks] else {
             return Err(items);
         };
-        let Ok(kept) = Vec::with_capacity(alloc, graph.len()) else {
+        let Ok(kept) = Vec::with_capacity(alloc, tasks) else {
             return Err(items);
         };
-        let Ok(shelf) = Vec::with_capacity(alloc, graph.len()) else {
+        let Ok(shelf) = Vec::with_capacity(alloc, tasks) else {
             return Err(items);
         };
-        let Ok(back) = Vec::with_capacity(alloc, items.len()) else {
-            return Err(items);
-        };
-        let mut stock = Stock {
+        Ok(Stock {
+            alloc,
+            items,
             unput,
             kept,
             shelf,
-            items: back,
-        };
-        for item in items {
-            stock.hand_out::<K>(graph, item);
-        }
-        Ok(stock)
+        })
     }
 
-    /// Takes an item back.
-    pub fn give_back(&mut self, item: W) {
-        if self.items.len() < self.items.capacity() {
-            self.items.push_reserved(item);
-        }
+    /// Takes out the item of a site, to call it.
+    pub fn take_item<K>(&mut self, site: SiteId) -> Option<W>
+    where
+        W: Item<K>,
+        ensures site { IfSome result (λ item. W.site item ≡ site.0) }
+        ensures taken { IfSome result (λ item. Takes self.old.items self.new.items item) }
+        ensures none { IfNone result ((count_of (map W.site self.old.items) site.0 ≡ 0)
+            × (self.new.items ≡ self.old.items)) }
+        ensures rest { self.new ≡ record self.old { items = self.new.items } }
+    {
+        let place = place_of::<K, W>(self.items.as_slice(), site)?;
+        Some(self.items.remove(place))
     }
 
-    /// Takes items back.
-    pub fn give_all_back(&mut self, items: Vec<W>) {
-        for item in items {
-            self.give_back(item);
+    /// Whether the job of a task wasn't put yet. It counts as put from now on.
+    pub fn take_unput(&mut self, task: usize) -> bool
+        ensures told { result ≡ slice_index_or self.old.unput task false }
+        ensures put { OnTrue result (self.new ≡ record self.old {
+          unput = slice_set self.old.unput task false;
+        }) }
+        ensures place { OnTrue result (HasPlace self.new) }
+        ensures same { OnFalse result (self.new ≡ self.old) }
+    {
+        if task >= self.unput.len() || !self.unput[task] {
+            return false;
         }
+        self.unput[task] = false;
+        true
     }
 
-    /// The oldest job that only this actor may begin.
-    pub fn take_kept(&mut self, actor: Actor) -> Option<ItemJob<W>> {
+    /// The job of a task, for the queue.
+    pub fn job(&self, task: TaskId) -> ItemJob<W>
+        ensures task { result.task ≡ task }
+        ensures empty { result.items.items ≡ [] }
+    {
+        let items = Vec::new(self.alloc);
+        Job { task, items }
+    }
+
+    /// Keeps a job for the one worker who may begin it.
+    pub fn keep(&mut self, worker: Worker, task: TaskId)
+        requires { length self.old.kept + unput_count self.old.unput < self.old.kept_room }
+        ensures { self.new ≡ record self.old { kept = self.old.kept ++ (worker, task) ∷ [] } }
+    {
+        self.kept.push_reserved((worker, task));
+    }
+
+    /// Shelves a job.
+    pub fn shelve(&mut self, task: TaskId)
+        requires { length self.old.shelf + unput_count self.old.unput < self.old.shelf_room }
+        ensures { self.new ≡ record self.old { shelf = self.old.shelf ++ task ∷ [] } }
+    {
+        self.shelf.push_reserved(task);
+    }
+
+    /// The oldest job that was kept for this actor; none where it is no worker.
+    pub fn take_kept(&mut self, actor: Actor) -> Option<TaskId>
+        ensures taken { IfSome result (λ task. TakesKept self.old.kept self.new.kept actor task) }
+        ensures none { IfNone result (IfWorker actor (AreOthers self.old.kept (length
+            self.old.kept)) × (self.new.kept ≡ self.old.kept)) }
+        ensures rest { self.new ≡ record self.old { kept = self.new.kept } }
+    {
         let Actor::Worker(worker) = actor else {
             return None;
         };
-        for place in 0..self.kept.len() {
-            if self.kept[place].0 == worker {
-                return Some(self.kept.remove(place).1);
-            }
-        }
-        None
+        let place = kept_for(self.kept.as_slice(), worker)?;
+        Some(self.kept.remove(place).1)
     }
 
     /// The oldest job that the queue had no place for.
-    pub fn take_shelved(&mut self) -> Option<ItemJob<W>> {
+    pub fn take_shelved(&mut self) -> Option<TaskId>
+        ensures taken { IfSome result (λ task. self.old.shelf ≡ task ∷ self.new.shelf) }
+        ensures none { IfNone result ((self.old.shelf ≡ []) × (self.new.shelf ≡ self.old.shelf)) }
+        ensures rest { self.new ≡ record self.old { shelf = self.new.shelf } }
+    {
         if self.shelf.is_empty() {
             return None;
         }
         Some(self.shelf.remove(0))
     }
 
-    /// The items of a task whose job wasn't put yet.
-    pub fn take_unput(&mut self, task: usize) -> Option<Vec<W>> {
-        if task >= self.unput.len() {
-            return None;
-        }
-        self.unput[task].take()
-    }
-
-    /// Keeps a job for the one worker who may begin it.
-    pub fn keep(&mut self, worker: Worker, job: ItemJob<W>) {
-        if self.kept.len() < self.kept.capacity() {
-            self.kept.push_reserved((worker, job));
-        }
-    }
-
-    /// Shelves a job.
-    pub fn shelve(&mut self, job: ItemJob<W>) {
-        if self.shelf.len() < self.shelf.capacity() {
-            self.shelf.push_reserved(job);
-        }
-    }
-
-    /// All items that are left, with those of the jobs that the queue had.
-    pub fn into_items(mut self, left: Vec<ItemJob<W>>) -> Vec<W> {
-        for job in left {
-            self.give_all_back(job.items);
-        }
+    /// All items that weren't called.
+    pub fn into_items(self) -> Vec<W>
+        ensures { result.items ≡ self.items }
+    {
         let Stock {
-            unput,
-            kept,
-            shelf,
+            alloc: _,
             items,
+            unput: _,
+            kept: _,
+            shelf: _,
         } = self;
-        let mut items = items;
-        for list in unput {
-            if let Some(list) = list {
-                gather(&mut items, list);
-            }
-        }
-        for (_worker, job) in kept {
-            gather(&mut items, job.items);
-        }
-        for job in shelf {
-            gather(&mut items, job.items);
-        }
         items
-    }
-}
-
-/// Adds items for which there is room.
-fn gather<W: Drop>(items: &mut Vec<W>, list: Vec<W>) {
-    for item in list {
-        if items.len() < items.capacity() {
-            items.push_reserved(item);
-        }
     }
 }

@@ -6,7 +6,9 @@ use Rattle.std.proofs.Crossing.{crosses}
 use Rattle.std.proofs.MapsCrossing.{crosses as text_crosses}
 use Rattle.core.proofs.once.Sent.{once_send, once_sync}
 use Rattle.std.specs.contracts.sync.Mutex as Mutex
-use Rattle.tpl_hall.proofs.Crosses.{graph_sync, event_send, event_sync, hall_send}
+use Rattle.tpl_graph.proofs.Crosses.{graph_sync}
+use Rattle.tpl_model.proofs.Crosses.{event_send, event_sync}
+use Rattle.tpl_hall.proofs.Crosses.{hall_send}
 use Rattle.tpl_items.proofs.Crosses.{stock_send, children_send}
 use Rattle.tpl_queue.proofs.Crosses.{queue_sync}
 use Rattle.tpl_runtime.specs.contracts.shared.Shared as Shared

@@ -7,7 +7,7 @@ use Rattle.tpl_runtime.specs.declared.shared.Turn.TheVariants.{Go, Call, Wait, O
 abbrev pub OnOver : {K W : Type 0} → Turn K W → (Ended → Type 0) → Type 0 → Type 0
 OnOver (Over ended) over on = over ended
 OnOver (Go hand) over on = on
-OnOver (Call task items item) over on = on
+OnOver (Call task item) over on = on
 OnOver Wait over on = on
 
 -- what is so of a turn that ends a worker's work

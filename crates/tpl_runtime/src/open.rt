@@ -72,7 +72,7 @@ impl<'g, K: Drop, W: Item<K>> Session<'g, K, W> {
                 items,
             });
         };
-        match Stock::open::<K>(alloc, graph, items) {
+        match Stock::open(alloc, graph.len(), items) {
             Ok(stock) => Ok(Session {
                 graph,
                 inputs,

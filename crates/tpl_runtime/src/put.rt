@@ -6,7 +6,6 @@ use crate::queue::{ItemPass, ItemQueue};
 use std::sync::Wait;
 use tpl_hall::Hall;
 use tpl_items::{Children, Stock};
-use tpl_jobs::Job;
 use tpl_machine::Core;
 use tpl_model::{Act, Event};
 use tpl_words::{Status, TaskId};
@@ -28,15 +27,14 @@ fn put_one<K: Drop, W: Drop, R: Wait>(
     if number >= hall.core().graph().len() || hall.core().status(task) != Status::WaitingToRun {
         return;
     }
-    let Some(items) = stock.take_unput(number) else {
+    if !stock.take_unput(number) {
         return;
-    };
-    let job = Job { task, items };
+    }
     match hall.bound_to(task) {
-        Some(worker) => stock.keep(worker, job),
+        Some(worker) => stock.keep(worker, task),
         None => {
-            if let Err(back) = queue.put(rt, pass, job) {
-                stock.shelve(back);
+            if queue.put(rt, pass, stock.job(task)).is_err() {
+                stock.shelve(task);
             }
         }
     }

@@ -1,12 +1,13 @@
 //! How a session runs its workers.
 
-ghost use Rattle.std.specs.Prelude.{◌≡◌, ◌≤◌, length, vec_len, IfOk, IfErr, IsTrue};
-ghost use Rattle.tpl_runtime.specs.Workers.{worker, AreWorkersFrom};
+ghost use Rattle.std.specs.Prelude.{◌≡◌, ◌≤◌, [], map, vec_len, vec_capacity, IfOk, IfErr, IfSome, IfNone};
+ghost use Rattle.tpl_runtime.specs.Workers.{workers};
+ghost use Rattle.tpl_runtime.specs.declared.run.RunWhy.TheVariants.{Spawn};
 
 use crate::queue::ItemPass;
 use crate::session::Session;
 use crate::threads::{Child, run_crew};
-use std::alloc::Global;
+use std::alloc::{AllocError, Global};
 use std::sync::Wait;
 use std::thread::Threads;
 use tpl_hall::{Ended, Seat, SeatFault};
@@ -37,34 +38,31 @@ pub struct RunFault<W> {
     pub pass: ItemPass<W>,
 }
 
-/// The actor is the worker of this number.
-fn is_worker(actor: Actor, number: u16) -> bool
-    ensures { IsTrue result → actor ≡ worker number }
+/// What `run` fills: the seats of its workers, those that are left, the workers that are done, and their threads.
+type Lists<L> = (Vec<Seat>, Vec<Seat>, Vec<(Seat, Ended)>, Vec<Child<L>>);
+
+/// Empty lists with room for so many workers.
+fn lists<L: Drop>(alloc: Global, count: usize) -> Result<Lists<L>, AllocError>
+    ensures empty { IfOk result (λ r. (r.0.items ≡ []) × (r.1.items ≡ []) × (r.2.items ≡ [])
+        × (r.3.items ≡ [])) }
+    ensures room { IfOk result (λ r. (vec_capacity r.0 ≡ count) × (vec_capacity r.1 ≡ count)
+        × (vec_capacity r.2 ≡ count) × (vec_capacity r.3 ≡ count)) }
 {
-    match actor {
-        Actor::Worker(there) => there.0 == number,
-        Actor::Outside(_) => false,
-    }
+    let seats = Vec::with_capacity(alloc, count)?;
+    let left = Vec::with_capacity(alloc, count)?;
+    let done = Vec::with_capacity(alloc, count)?;
+    let children = Vec::with_capacity(alloc, count)?;
+    Ok((seats, left, done, children))
 }
 
-/// These are the workers from 1 on, in order.
-fn are_workers(done: &[(Seat, Ended)]) -> bool
-    requires { length done.now ≤ 64 }
-    ensures { IsTrue result → AreWorkersFrom 1 done.now }
+/// The seats alone, in an empty list that has room for them.
+fn seats_of(done: Vec<(Seat, Ended)>, mut seats: Vec<Seat>) -> Vec<Seat>
+    requires empty { seats.items ≡ [] }
+    requires room { vec_len done ≤ vec_capacity seats }
+    ensures { result.items ≡ map (λ d. d.0) done.items }
 {
-    for place in 0..done.len() {
-        let (seat, _ended) = &done[place];
-        if !is_worker(seat.actor(), place as u16 + 1) {
-            return false;
-        }
-    }
-    true
-}
-
-/// The seats alone, in a list that has room for them.
-fn seats_of(done: Vec<(Seat, Ended)>, mut seats: Vec<Seat>) -> Vec<Seat> {
     for (seat, _ended) in done {
-        let _kept = seats.push(seat);
+        seats.push_reserved(seat);
     }
     seats
 }
@@ -82,36 +80,31 @@ impl<'g, K: Drop + Send, W: Item<K> + Send> Session<'g, K, W> {
         requires { pass.queue ≡ self.now.queue }
         ensures pass { IfOk result (λ r. r.1.queue ≡ self.now.queue) }
         ensures back { IfErr result (λ e. e.pass.queue ≡ self.now.queue) }
-        ensures workers { IfOk result (λ r. (vec_len r.0 ≡ n) × AreWorkersFrom 1 r.0.items) }
+        ensures workers { IfOk result (λ r. map (λ d. d.0.actor) r.0.items ≡ workers n) }
+        ensures count { IfOk result (λ r. vec_len r.0 ≡ n) }
+
+        // Where there was no thread for a worker, all seats come back.
+        ensures left { IfErr result (λ e. e.why ≡ Spawn → vec_len e.seats ≡ n) }
     {
-        let mut seats: Vec<Seat> = Vec::new(alloc);
-        let mut left: Vec<Seat> = Vec::new(alloc);
-        let mut done: Vec<(Seat, Ended)> = Vec::new(alloc);
-        let mut children: Vec<Child<Vec<W>>> = Vec::new(alloc);
         if n == 0 || n > MOST_WORKERS {
             return Err(RunFault {
                 why: RunWhy::BadCount,
-                seats,
+                seats: Vec::new(alloc),
                 pass,
             });
         }
-        let count = n as usize;
-        if seats.reserve(count).is_err()
-            || left.reserve(count).is_err()
-            || done.reserve(count).is_err()
-            || children.reserve(count).is_err()
-        {
+        let Ok((mut seats, left, done, children)) = lists(alloc, n as usize) else {
             return Err(RunFault {
                 why: RunWhy::Memory,
-                seats,
+                seats: Vec::new(alloc),
                 pass,
             });
-        }
+        };
         if let Some(why) = self.seat_workers(rt, alloc, n, &mut seats) {
             return Err(RunFault { why, seats, pass });
         }
-        let (pass, all) = run_crew(self, rt, seats, children, pass, &mut done);
-        if !all || done.len() != count || !are_workers(done.as_slice()) {
+        let (done, pass, all) = run_crew(self, rt, seats, children, done, pass);
+        if !all {
             return Err(RunFault {
                 why: RunWhy::Spawn,
                 seats: seats_of(done, left),
@@ -121,7 +114,7 @@ impl<'g, K: Drop + Send, W: Item<K> + Send> Session<'g, K, W> {
         Ok((done, pass))
     }
 
-    /// Seats the workers 1 to n, and says why it can't.
+    /// Seats the workers 1 to n in an empty list that has room for them, and says why it can't.
     fn seat_workers<R: Wait>(
         &self,
         rt: &R,
@@ -129,13 +122,16 @@ impl<'g, K: Drop + Send, W: Item<K> + Send> Session<'g, K, W> {
         n: u16,
         seats: &mut Vec<Seat>,
     ) -> Option<RunWhy>
-        requires { n ≤ 64 }
+        requires few { n ≤ 64 }
+        requires empty { seats.old.items ≡ [] }
+        requires room { n ≤ vec_capacity seats.old }
+        ensures seats { IfNone result (map (λ s. s.actor) seats.new.items ≡ workers n) }
+        ensures count { IfNone result (vec_len seats.new ≡ n) }
+        ensures threads { IfSome result (λ why. why ≡ Spawn → ⊥) }
     {
         for number in 0..n {
             match self.seat(rt, alloc, Actor::Worker(Worker(number + 1))) {
-                Ok(seat) => {
-                    let _kept = seats.push(seat);
-                }
+                Ok(seat) => seats.push_reserved(seat),
                 Err(SeatFault::Memory) => return Some(RunWhy::Memory),
                 Err(fault) => return Some(RunWhy::Seat(fault)),
             }

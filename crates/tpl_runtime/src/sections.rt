@@ -1,6 +1,6 @@
 //! What a worker does in a locked section: it begins a task, passes a statement, leaves a body, or looks for a job.
 
-ghost use Rattle.std.specs.Prelude.{◌≡◌, ◌<◌, length, IfSome};
+ghost use Rattle.std.specs.Prelude.{◌≡◌};
 ghost use Rattle.tpl_hall.specs.Moves.{Moves};
 ghost use Rattle.tpl_hall.specs.Stays.{MayEnd};
 ghost use Rattle.tpl_runtime.specs.Turns.{IfOver};
@@ -9,39 +9,20 @@ use crate::queue::{ItemPass, ItemQueue};
 use crate::shared::{Hand, Shared, Turn};
 use std::sync::Wait;
 use tpl_hall::{Ended, Seat};
-use tpl_items::{Item, ItemJob};
-use tpl_jobs::Job;
+use tpl_items::Item;
 use tpl_machine::{Core, Next};
 use tpl_model::Act;
-use tpl_words::{SiteId, TaskId};
-
-/// The place of the item of a site among these.
-fn place_of<K, W: Item<K>>(items: &[W], site: SiteId) -> Option<usize>
-    ensures { IfSome result (λ place. place < length items.now) }
-{
-    for place in 0..items.len() {
-        if items[place].site() == site {
-            return Some(place);
-        }
-    }
-    None
-}
-
-/// Takes the item of a site out of these.
-fn take_item<K, W: Item<K>>(items: &mut Vec<W>, site: SiteId) -> Option<W> {
-    let place = place_of::<K, W>(items.as_slice(), site)?;
-    Some(items.remove(place))
-}
+use tpl_words::TaskId;
 
 impl<'g, K: Drop, W: Item<K>> Shared<'g, K, W> {
-    /// Begins a job. Its items come back where it may not begin.
+    /// Begins a task, if it may begin.
     fn begin<R: Wait>(
         &mut self,
         rt: &R,
         queue: &ItemQueue<W>,
         pass: &mut ItemPass<W>,
         seat: &mut Seat,
-        job: ItemJob<W>,
+        task: TaskId,
     ) -> Turn<K, W>
         requires { pass.old.queue ≡ queue.now.id }
         ensures pass { pass.new.queue ≡ queue.now.id }
@@ -49,11 +30,9 @@ impl<'g, K: Drop, W: Item<K>> Shared<'g, K, W> {
         ensures last { seat.new.last ≡ seat.old.last }
         ensures over { IfOver result (λ ended. MayEnd ended self.new.hall.core) }
     {
-        let Job { task, items } = job;
         if self.act(rt, queue, pass, seat, Act::Begin(task)) {
-            return Turn::Go(Hand::Running(task, items));
+            return Turn::Go(Hand::Running(task));
         }
-        self.stock.give_all_back(items);
         Turn::Go(Hand::Free)
     }
 
@@ -65,7 +44,6 @@ impl<'g, K: Drop, W: Item<K>> Shared<'g, K, W> {
         pass: &mut ItemPass<W>,
         seat: &mut Seat,
         task: TaskId,
-        items: Vec<W>,
     ) -> Turn<K, W>
         requires { pass.old.queue ≡ queue.now.id }
         ensures pass { pass.new.queue ≡ queue.now.id }
@@ -74,13 +52,13 @@ impl<'g, K: Drop, W: Item<K>> Shared<'g, K, W> {
         ensures over { IfOver result (λ ended. MayEnd ended self.new.hall.core) }
     {
         if self.act(rt, queue, pass, seat, Act::Step(task)) {
-            return Turn::Go(Hand::Running(task, items));
+            return Turn::Go(Hand::Running(task));
         }
-        self.lose(items);
+        self.halt();
         Turn::Over(Ended::Stray)
     }
 
-    /// Leaves a body that is over. Items that it didn't call come back.
+    /// Leaves a body that is over.
     fn leave<R: Wait>(
         &mut self,
         rt: &R,
@@ -88,7 +66,6 @@ impl<'g, K: Drop, W: Item<K>> Shared<'g, K, W> {
         pass: &mut ItemPass<W>,
         seat: &mut Seat,
         task: TaskId,
-        items: Vec<W>,
     ) -> Turn<K, W>
         requires { pass.old.queue ≡ queue.now.id }
         ensures pass { pass.new.queue ≡ queue.now.id }
@@ -97,14 +74,13 @@ impl<'g, K: Drop, W: Item<K>> Shared<'g, K, W> {
         ensures over { IfOver result (λ ended. MayEnd ended self.new.hall.core) }
     {
         if self.act(rt, queue, pass, seat, Act::Leave(task)) {
-            self.stock.give_all_back(items);
             return Turn::Go(self.hand_on(seat.actor()));
         }
-        self.lose(items);
+        self.halt();
         Turn::Over(Ended::Stray)
     }
 
-    /// Goes on with the task that the worker runs.
+    /// Goes on with the task that the worker runs. The session is halted where the task went on without it.
     fn run_on<R: Wait>(
         &mut self,
         rt: &R,
@@ -112,7 +88,6 @@ impl<'g, K: Drop, W: Item<K>> Shared<'g, K, W> {
         pass: &mut ItemPass<W>,
         seat: &mut Seat,
         task: TaskId,
-        items: Vec<W>,
     ) -> Turn<K, W>
         requires { pass.old.queue ≡ queue.now.id }
         ensures pass { pass.new.queue ≡ queue.now.id }
@@ -122,24 +97,21 @@ impl<'g, K: Drop, W: Item<K>> Shared<'g, K, W> {
     {
         let core = self.hall.core();
         if task.0 as usize >= core.graph().len() {
-            self.lose(items);
+            self.halt();
             return Turn::Over(Ended::Stray);
         }
         match core.next(task) {
-            Next::Silent => self.pass_next(rt, queue, pass, seat, task, items),
-            Next::Work(site) => {
-                let mut items = items;
-                match take_item::<K, W>(&mut items, site) {
-                    Some(item) => Turn::Call(task, items, item),
-                    None => {
-                        self.lose(items);
-                        Turn::Over(Ended::Stray)
-                    }
+            Next::Silent => self.pass_next(rt, queue, pass, seat, task),
+            Next::Work(site) => match self.stock.take_item::<K>(site) {
+                Some(item) => Turn::Call(task, item),
+                None => {
+                    self.halt();
+                    Turn::Over(Ended::Stray)
                 }
-            }
-            Next::Over => self.leave(rt, queue, pass, seat, task, items),
+            },
+            Next::Over => self.leave(rt, queue, pass, seat, task),
             Next::NotRunning => {
-                self.lose(items);
+                self.halt();
                 Turn::Over(Ended::Stray)
             }
         }
@@ -152,7 +124,7 @@ impl<'g, K: Drop, W: Item<K>> Shared<'g, K, W> {
         queue: &ItemQueue<W>,
         pass: &mut ItemPass<W>,
         seat: &mut Seat,
-        hand: Hand<K, W>,
+        hand: Hand<K>,
     ) -> Turn<K, W>
         requires { pass.old.queue ≡ queue.now.id }
         ensures pass { pass.new.queue ≡ queue.now.id }
@@ -161,15 +133,15 @@ impl<'g, K: Drop, W: Item<K>> Shared<'g, K, W> {
         ensures over { IfOver result (λ ended. MayEnd ended self.new.hall.core) }
     {
         match hand {
-            Hand::Taken(job) => self.begin(rt, queue, pass, seat, job),
-            Hand::Running(task, items) => self.run_on(rt, queue, pass, seat, task, items),
-            Hand::Called(_task, items, _receipt) => {
-                self.lose(items);
+            Hand::Taken(task) => self.begin(rt, queue, pass, seat, task),
+            Hand::Running(task) => self.run_on(rt, queue, pass, seat, task),
+            Hand::Called(_task, _receipt) => {
+                self.halt();
                 Turn::Over(Ended::Stray)
             }
             Hand::New => Turn::Go(Hand::Free),
             Hand::Free => match self.find(rt, queue, pass, seat.actor()) {
-                Some(job) => Turn::Go(Hand::Taken(job)),
+                Some(task) => Turn::Go(Hand::Taken(task)),
                 None => Turn::Wait,
             },
         }

@@ -133,13 +133,13 @@ impl<'g, K: Drop, W: Item<K>> Session<'g, K, W> {
     }
 
     /// What a worker that has nothing takes from the queue, with no lock.
-    fn take<R: Wait>(&self, rt: &R, pass: &mut ItemPass<W>, hand: Hand<K, W>) -> Hand<K, W>
+    fn take<R: Wait>(&self, rt: &R, pass: &mut ItemPass<W>, hand: Hand<K>) -> Hand<K>
         requires { pass.old.queue ≡ self.now.queue }
         ensures { pass.new.queue ≡ self.now.queue }
     {
         match hand {
             Hand::Free => match self.queue.take(rt, pass) {
-                Some(job) => Hand::Taken(job),
+                Some(job) => Hand::Taken(job.task),
                 None => Hand::Free,
             },
             hand => hand,
@@ -180,10 +180,10 @@ impl<'g, K: Drop, W: Item<K>> Session<'g, K, W> {
                     self.moved.notify_all();
                     hand = next;
                 }
-                Turn::Call(task, items, item) => {
+                Turn::Call(task, item) => {
                     drop(shared);
                     self.moved.notify_all();
-                    hand = Hand::Called(task, items, item.call());
+                    hand = Hand::Called(task, item.call());
                 }
                 Turn::Wait => {
                     let _again = self.moved.wait(rt, shared);
@@ -250,7 +250,7 @@ impl<'g, K: Drop, W: Item<K>> Session<'g, K, W> {
         } = self;
         graph.valid();
         tpl_laws::soundness();
-        let left = queue.drain(rt, pass);
+        let _left = queue.drain(rt, pass);
         let Shared {
             hall,
             stock,
@@ -258,7 +258,7 @@ impl<'g, K: Drop, W: Item<K>> Session<'g, K, W> {
             seats: made,
             halted: _,
         } = shared.into_inner();
-        let items = stock.into_items(left);
+        let items = stock.into_items();
         settle(
             alloc,
             hall,

@@ -10,7 +10,7 @@ use crate::queue::{ItemPass, ItemQueue};
 use std::alloc::{AllocError, Global};
 use std::sync::Wait;
 use tpl_hall::{Ended, Hall, Seat, SeatFault, has_seat};
-use tpl_items::{Children, Item, ItemJob, Stock};
+use tpl_items::{Children, Item, Stock};
 use tpl_jobs::Receipt;
 use tpl_machine::Core;
 use tpl_model::Act;
@@ -18,34 +18,34 @@ use tpl_words::{Actor, TaskId};
 
 /// What a worker holds when it comes to the lock.
 #[derive(Drop)]
-pub enum Hand<K, W> {
+pub enum Hand<K> {
     /// It comes for the first time.
     New,
     /// Nothing.
     Free,
-    /// A job that hasn't begun.
-    Taken(ItemJob<W>),
-    /// The items of the task that it runs.
-    Running(TaskId, Vec<W>),
-    /// The items of the task that it runs, and the receipt of the one that it has called.
-    Called(TaskId, Vec<W>, Receipt<K>),
+    /// A task whose job it took, and that hasn't begun.
+    Taken(TaskId),
+    /// The task that it runs.
+    Running(TaskId),
+    /// The task that it runs, and the receipt of the item that it has called.
+    Called(TaskId, Receipt<K>),
 }
 
 /// What a worker does when it has left the lock.
 #[derive(Drop)]
 pub enum Turn<K, W> {
     /// It comes again.
-    Go(Hand<K, W>),
+    Go(Hand<K>),
     /// It calls this item of the task that it runs.
-    Call(TaskId, Vec<W>, W),
+    Call(TaskId, W),
     /// It waits until something has happened.
     Wait,
     /// Its work has come to its end.
     Over(Ended),
 }
 
-/// What lies under the lock: the run, the jobs that no worker has, the children of each task, who has a seat, and whether
-/// the session is halted.
+/// What lies under the lock: the run, the items that weren't called and the jobs that no worker has, the children of each
+/// task, who has a seat, and whether the session is halted.
 #[derive(Drop)]
 pub struct Shared<'g, K, W> {
     pub(crate) hall: Hall<'g, K>,
@@ -60,17 +60,6 @@ pub fn is_worker(actor: Actor) -> bool {
     match actor {
         Actor::Worker(_) => true,
         Actor::Outside(_) => false,
-    }
-}
-
-/// Takes back what a worker holds.
-pub(crate) fn give_hand_back<K: Drop, W: Drop>(stock: &mut Stock<W>, hand: Hand<K, W>) {
-    match hand {
-        Hand::New => {}
-        Hand::Free => {}
-        Hand::Taken(job) => stock.give_all_back(job.items),
-        Hand::Running(_task, items) => stock.give_all_back(items),
-        Hand::Called(_task, items, _receipt) => stock.give_all_back(items),
     }
 }
 
@@ -168,14 +157,15 @@ impl<'g, K: Drop, W: Item<K>> Shared<'g, K, W> {
         }
     }
 
-    /// A job for a worker that holds none: one that it alone may begin, one from the shelf, or one from the queue.
+    /// The task of a job for a worker that holds none: one that it alone may begin, one from the shelf, or one from the
+    /// queue.
     pub(crate) fn find<R: Wait>(
         &mut self,
         rt: &R,
         queue: &ItemQueue<W>,
         pass: &mut ItemPass<W>,
         actor: Actor,
-    ) -> Option<ItemJob<W>>
+    ) -> Option<TaskId>
         requires { pass.old.queue ≡ queue.now.id }
         ensures pass { pass.new.queue ≡ queue.now.id }
         ensures hall { self.new.hall.core ≡ self.old.hall.core }
@@ -188,15 +178,8 @@ impl<'g, K: Drop, W: Item<K>> Shared<'g, K, W> {
         if shelved.is_some() {
             return shelved;
         }
-        queue.take(rt, pass)
-    }
-
-    /// Halts the session, since the worker's task went on without it. The worker's items come back.
-    pub(crate) fn lose(&mut self, items: Vec<W>)
-        ensures { self.new.hall.core ≡ self.old.hall.core }
-    {
-        self.halted = true;
-        self.stock.give_all_back(items);
+        let job = queue.take(rt, pass)?;
+        Some(job.task)
     }
 
     /// Whether the worker's work ends here: where the session is halted, or the run complete.
@@ -213,17 +196,19 @@ impl<'g, K: Drop, W: Item<K>> Shared<'g, K, W> {
     }
 
     /// What a worker holds once it has left its task: a job that was kept for it, if there is one.
-    pub(crate) fn hand_on(&mut self, actor: Actor) -> Hand<K, W>
+    pub(crate) fn hand_on(&mut self, actor: Actor) -> Hand<K>
         ensures { self.new.hall.core ≡ self.old.hall.core }
     {
         match self.stock.take_kept(actor) {
-            Some(job) => Hand::Taken(job),
+            Some(task) => Hand::Taken(task),
             None => Hand::Free,
         }
     }
 
     /// Workers leave at their next section.
-    pub fn halt(&mut self) {
+    pub fn halt(&mut self)
+        ensures { self.new.hall.core ≡ self.old.hall.core }
+    {
         self.halted = true;
     }
 

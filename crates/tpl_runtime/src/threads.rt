@@ -1,6 +1,7 @@
 //! Workers in threads of their own.
 
-ghost use Rattle.std.specs.Prelude.{◌≡◌, All, IfOk, IfErr};
+ghost use Rattle.std.specs.Prelude.{◌≡◌, ◌+◌, ◌<◌, ◌≤◌, [], ◌∷◌, ◌++◌, map, vec_len, vec_capacity, All, IfOk, IfErr};
+ghost use Rattle.std.specs.Bool.{OnTrue};
 
 use crate::crew::Crew;
 use std::snapshot::Snapshot;
@@ -40,6 +41,7 @@ where
     C::Load: Send,
     requires { pass.queue ≡ C.queue crew.now }
     ensures child { IfOk result (λ h. h.promise.pass.value.queue ≡ C.queue crew.now) }
+    ensures actor { IfOk result (λ h. h.promise.actor ≡ seat.actor) }
     ensures back { IfErr result (λ b. b.1.queue ≡ C.queue crew.now) }
 {
     let promise = Same {
@@ -62,7 +64,8 @@ where
     }
 }
 
-/// Starts a worker with a part of the pass, and says whether there was a thread for it.
+/// Starts a worker with a part of the pass, and says whether there was a thread for it. It stands last among the children
+/// then, and otherwise among those that are done.
 fn start_one<'s, E, C: Crew + Sync + 's, R: Threads + Wait + Sync>(
     crew: &'s C,
     rt: &'s R,
@@ -77,24 +80,35 @@ where
     requires pass { pass.queue ≡ C.queue crew.now }
     requires children { All (λ h. h.promise.pass.value.queue ≡ C.queue crew.now)
         children.old.items }
+    requires child_room { vec_len children.old < vec_capacity children.old }
+    requires done_room { vec_len done.old < vec_capacity done.old }
     ensures pass { result.0.queue ≡ C.queue crew.now }
     ensures children { All (λ h. h.promise.pass.value.queue ≡ C.queue crew.now) children.new.items }
+    ensures started { OnTrue result.1 ((done.new ≡ done.old)
+        × (map (λ h. h.promise.actor) children.new.items
+        ≡ map (λ h. h.promise.actor) children.old.items ++ seat.actor ∷ [])) }
+    ensures count { vec_len children.new + vec_len done.new ≡ vec_len children.old + vec_len
+        done.old + 1 }
+    ensures longer { (vec_len children.old ≤ vec_len children.new)
+        × (vec_len done.old ≤ vec_len done.new) }
+    ensures capacity { (vec_capacity children.new ≡ vec_capacity children.old)
+        × (vec_capacity done.new ≡ vec_capacity done.old) }
 {
     let (rest, own) = crew.cut(pass);
     match start(crew, rt, scope, seat, own) {
         Ok(child) => {
-            let _kept = children.push(child);
+            children.push_reserved(child);
             (rest, true)
         }
         Err(back) => {
             let (seat, own, ended) = back;
-            let _kept = done.push((seat, ended));
+            done.push_reserved((seat, ended));
             (crew.mend(rest, own), false)
         }
     }
 }
 
-/// Starts the workers, and says whether there was a thread for each.
+/// Starts the workers, and says whether there was a thread for each: the children are theirs then, in the same order.
 fn start_all<'s, E, C: Crew + Sync + 's, R: Threads + Wait + Sync>(
     crew: &'s C,
     rt: &'s R,
@@ -107,10 +121,15 @@ fn start_all<'s, E, C: Crew + Sync + 's, R: Threads + Wait + Sync>(
 where
     C::Load: Send,
     requires pass { pass.queue ≡ C.queue crew.now }
-    requires children { All (λ h. h.promise.pass.value.queue ≡ C.queue crew.now)
-        children.old.items }
+    requires empty { (children.old.items ≡ []) × (done.old.items ≡ []) }
+    requires child_room { vec_len seats ≤ vec_capacity children.old }
+    requires done_room { vec_len seats ≤ vec_capacity done.old }
     ensures pass { result.0.queue ≡ C.queue crew.now }
     ensures children { All (λ h. h.promise.pass.value.queue ≡ C.queue crew.now) children.new.items }
+    ensures started { OnTrue result.1 ((done.new.items ≡ [])
+        × (map (λ h. h.promise.actor) children.new.items ≡ map (λ s. s.actor) seats.items)) }
+    ensures count { vec_len children.new + vec_len done.new ≡ vec_len seats }
+    ensures capacity { vec_capacity done.new ≡ vec_capacity done.old }
 {
     let mut pass = pass;
     let mut all = true;
@@ -122,7 +141,7 @@ where
     (pass, all)
 }
 
-/// Joins the workers, and their passes.
+/// Joins the workers, in their order, and their passes.
 fn join_all<C: Crew, R: Threads + Wait>(
     crew: &C,
     rt: &R,
@@ -132,44 +151,60 @@ fn join_all<C: Crew, R: Threads + Wait>(
 ) -> QueuePass<C::Load>
     requires pass { pass.queue ≡ C.queue crew.now }
     requires children { All (λ h. h.promise.pass.value.queue ≡ C.queue crew.now) children.items }
-    ensures { result.queue ≡ C.queue crew.now }
+    requires room { vec_len done.old + vec_len children ≤ vec_capacity done.old }
+    ensures pass { result.queue ≡ C.queue crew.now }
+    ensures joined { map (λ d. d.0.actor) done.new.items ≡ map (λ d. d.0.actor) done.old.items ++ map
+        (λ h. h.promise.actor) children.items }
+    ensures count { vec_len done.new ≡ vec_len done.old + vec_len children }
 {
     let mut pass = pass;
     for child in children {
         let (seat, own, ended) = child.join(rt);
         pass = crew.mend(pass, own);
-        let _kept = done.push((seat, ended));
+        done.push_reserved((seat, ended));
     }
     pass
 }
 
-/// Starts and joins the workers, and says whether there was a thread for each.
+/// Starts and joins the workers, and says whether there was a thread for each: they came back in the order of their seats
+/// then. `children` and `done` are empty lists with room for them.
 pub(crate) fn run_crew<C: Crew + Sync, R: Threads + Wait + Sync>(
     crew: &C,
     rt: &R,
     seats: Vec<Seat>,
     children: Vec<Child<C::Load>>,
+    done: Vec<(Seat, Ended)>,
     pass: QueuePass<C::Load>,
-    done: &mut Vec<(Seat, Ended)>,
-) -> (QueuePass<C::Load>, bool)
+) -> (Vec<(Seat, Ended)>, QueuePass<C::Load>, bool)
 where
     C::Load: Send,
     requires pass { pass.queue ≡ C.queue crew.now }
-    requires children { All (λ h. h.promise.pass.value.queue ≡ C.queue crew.now) children.items }
-    ensures { result.0.queue ≡ C.queue crew.now }
+    requires empty { (children.items ≡ []) × (done.items ≡ []) }
+    requires child_room { vec_len seats ≤ vec_capacity children }
+    requires done_room { vec_len seats ≤ vec_capacity done }
+    ensures pass { result.1.queue ≡ C.queue crew.now }
+    ensures all { OnTrue result.2 (map (λ d. d.0.actor) result.0.items ≡ map (λ s. s.actor)
+        seats.items) }
+    ensures count { vec_len result.0 ≡ vec_len seats }
 {
     thread::scope(
         thread::scope_env(),
         rt,
-        |scope| -> (QueuePass<C::Load>, bool)
+        |scope| -> (Vec<(Seat, Ended)>, QueuePass<C::Load>, bool)
             requires pass { pass.queue ≡ C.queue crew.now }
-            requires children { All (λ h. h.promise.pass.value.queue ≡ C.queue crew.now)
-                children.items }
-            ensures { result.0.queue ≡ C.queue crew.entry.now }
+            requires empty { (children.items ≡ []) × (done.items ≡ []) }
+            requires child_room { vec_len seats ≤ vec_capacity children }
+            requires done_room { vec_len seats ≤ vec_capacity done }
+            ensures pass { result.1.queue ≡ C.queue crew.entry.now }
+            ensures all { OnTrue result.2 (map (λ d. d.0.actor) result.0.items ≡ map (λ s. s.actor)
+                seats.items) }
+            ensures count { vec_len result.0 ≡ vec_len seats }
         {
             let mut children = children;
-            let (pass, all) = start_all(crew, rt, scope, seats, pass, &mut children, done);
-            (join_all(crew, rt, children, pass, done), all)
+            let mut done = done;
+            let (pass, all) = start_all(crew, rt, scope, seats, pass, &mut children, &mut done);
+            let pass = join_all(crew, rt, children, pass, &mut done);
+            (done, pass, all)
         },
     )
 }

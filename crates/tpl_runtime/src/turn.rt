@@ -7,7 +7,7 @@ ghost use Rattle.tpl_hall.specs.Views.{SeatView};
 ghost use Rattle.tpl_runtime.specs.Turns.{OnOver, IfOver};
 
 use crate::queue::{ItemPass, ItemQueue};
-use crate::shared::{Hand, Shared, Turn, give_hand_back, is_worker};
+use crate::shared::{Hand, Shared, Turn, is_worker};
 use std::sync::Wait;
 use tpl_graph::Graph;
 use tpl_hall::{Ended, Seat, Stint};
@@ -23,19 +23,19 @@ impl<'g, K: Drop, W: Item<K>> Shared<'g, K, W> {
         queue: &ItemQueue<W>,
         pass: &mut ItemPass<W>,
         seat: &mut Seat,
-        hand: Hand<K, W>,
-    ) -> Option<(Hand<K, W>, bool)>
+        hand: Hand<K>,
+    ) -> Option<(Hand<K>, bool)>
         requires { pass.old.queue ≡ queue.now.id }
         ensures pass { pass.new.queue ≡ queue.now.id }
         ensures moves { Moves seat.old seat.new self.old.hall.core self.new.hall.core }
         ensures last { seat.new.last ≡ seat.old.last }
     {
         match hand {
-            Hand::Called(task, items, receipt) => {
+            Hand::Called(task, receipt) => {
                 if self.answer(rt, queue, pass, seat, task, receipt) {
-                    return Some((Hand::Running(task, items), true));
+                    return Some((Hand::Running(task), true));
                 }
-                self.lose(items);
+                self.halt();
                 None
             }
             Hand::New => {
@@ -43,8 +43,8 @@ impl<'g, K: Drop, W: Item<K>> Shared<'g, K, W> {
                 Some((Hand::Free, true))
             }
             Hand::Free => Some((Hand::Free, false)),
-            Hand::Taken(job) => Some((Hand::Taken(job), false)),
-            Hand::Running(task, items) => Some((Hand::Running(task, items), false)),
+            Hand::Taken(task) => Some((Hand::Taken(task), false)),
+            Hand::Running(task) => Some((Hand::Running(task), false)),
         }
     }
 
@@ -56,7 +56,7 @@ impl<'g, K: Drop, W: Item<K>> Shared<'g, K, W> {
         queue: &ItemQueue<W>,
         pass: &mut ItemPass<W>,
         seat: &mut Seat,
-        hand: Hand<K, W>,
+        hand: Hand<K>,
     ) -> Turn<K, W>
         requires { pass.old.queue ≡ queue.now.id }
         ensures pass { pass.new.queue ≡ queue.now.id }
@@ -68,7 +68,6 @@ impl<'g, K: Drop, W: Item<K>> Shared<'g, K, W> {
             return Turn::Over(Ended::Stray);
         };
         if let Some(ended) = self.end_of() {
-            give_hand_back(&mut self.stock, held);
             return Turn::Over(ended);
         }
         if done {
@@ -88,7 +87,7 @@ impl<'g, K: Drop, W: Item<K>> Shared<'g, K, W> {
         pass: &mut ItemPass<W>,
         seat: &mut Seat,
         stint: &mut Stint,
-        hand: Hand<K, W>,
+        hand: Hand<K>,
     ) -> Turn<K, W>
         requires { pass.old.queue ≡ queue.now.id }
         ensures pass { pass.new.queue ≡ queue.now.id }
@@ -98,7 +97,6 @@ impl<'g, K: Drop, W: Item<K>> Shared<'g, K, W> {
             (Stays stint.new first seat.new) }
     {
         if !is_worker(seat.actor()) || !self.hall.goes_on(graph, inputs, seat, *stint) {
-            give_hand_back(&mut self.stock, hand);
             seat.stray(*stint);
             return Turn::Over(Ended::Stray);
         }
@@ -106,7 +104,7 @@ impl<'g, K: Drop, W: Item<K>> Shared<'g, K, W> {
         stint.seen = Some(self.hall.len());
         match turn {
             Turn::Go(hand) => Turn::Go(hand),
-            Turn::Call(task, items, item) => Turn::Call(task, items, item),
+            Turn::Call(task, item) => Turn::Call(task, item),
             Turn::Wait => Turn::Wait,
             Turn::Over(ended) => {
                 Turn::Over(self.hall.let_go(graph, inputs, seat, *stint, ended))

@@ -5,11 +5,12 @@ ghost use Rattle.std.specs.List.{All};
 ghost use Rattle.tpl_claims.specs.Fits.{Fits};
 
 use crate::documents::fault_text;
-use serde_json::Value;
+use json::Scratch;
 use std::alloc::{AllocError, Global};
 use tpl_analyser::{Gap, analyse};
 use tpl_cert::{Certificate, Node, Row, Tree, TreeToFault, is_within_limits, tree_from, tree_to};
 use tpl_graph::Graph;
+use tpl_json::value_from;
 use tpl_reader::{Document, read_document};
 use tpl_words::{Finals, TaskId, TaskSet};
 
@@ -27,7 +28,8 @@ fn written(alloc: Global, graph: &Graph, tree: &Tree) -> Result<String, AllocErr
 
 /// The text that is written of the tree that the text spells, or why it spells none.
 fn once(alloc: Global, graph: &Graph, text: &str) -> Result<String, AllocError> {
-    match Value::from_str(alloc, text) {
+    let mut scratch = Scratch::new(alloc);
+    match value_from(alloc, text.as_bytes(), &mut scratch) {
         Ok(value) => match tree_from(alloc, graph, &value) {
             Ok(tree) => written(alloc, graph, &tree),
             Err(fault) => format!(in alloc; "{fault}"),

@@ -1,5 +1,7 @@
-use Rattle.std.proofs.Common.{◌≡◌, ◌∙◌, suc, rules, arith, subst}
+use Rattle.std.proofs.Common.{◌≡◌, ◌∙◌, ◌++◌, suc, rules, arith, subst, map}
 use Rattle.std.specs.Prelude.{All}
+use Rattle.std.specs.Vec.Iter.{into_iter_items}
+use Rattle.tpl_runtime.proofs.OrderLemmas.{moved, all_moved}
 use Rattle.tpl_runtime.proofs.threads.join_all.Goals as goal
 
 pub mend-pass-requires-clause-second : goal.mend-pass-requires-clause-second
@@ -7,12 +9,22 @@ mend-pass-requires-clause-second g c =
     let all = subst (All (λ h. h.promise.pass.value.queue ≡ g.C.Crew.queue c.args.crew.now)) c.in-Some.ensures.steps.0 c.loop-child.invariant.children in
     c.join-seat.ensures.1 ∙ all 0 c.in-Some.child (omega arith)
 
-pub loop-child-preserved-in-Some : goal.loop-child-preserved-in-Some
-loop-child-preserved-in-Some g c =
-    let all = subst (All (λ h. h.promise.pass.value.queue ≡ g.C.Crew.queue c.args.crew.now)) c.in-Some.ensures.steps.0 c.loop-child.invariant.children in
-    record { pass = search rules; children = λ k d lt. all (suc k) d (omega (arith, lt)) }
-
 pub loop-child-preserved : goal.loop-child-preserved
 loop-child-preserved g c =
-    let all = subst (All (λ h. h.promise.pass.value.queue ≡ g.C.Crew.queue c.args.crew.now)) c.in-Some.ensures.steps.0 c.loop-child.invariant.children in
-    record { pass = search rules; children = λ k d lt. all (suc k) d (omega (arith, lt)) }
+    let was = c.loop-child.invariant in
+    let next = c.in-Some.ensures.steps.0 in
+    let all = subst (All (λ h. h.promise.pass.value.queue ≡ g.C.Crew.queue c.args.crew.now)) next was.children in
+    record {
+      pass = search rules;
+      children = λ k d lt. all (suc k) d (omega (arith, lt));
+      joined = moved (λ d. d.0.actor) (λ h. h.promise.actor) c.loop-child.done.items c.push_reserved.new.self.items (c.join-seat.result.0, c.join-seat.result.2) c.in-Some.child
+          (into_iter_items c.loop-child.child-iterator) (into_iter_items c.next.new.self)
+          (map (λ d. d.0.actor) c.args.done.now.items ++ map (λ h. h.promise.actor) c.args.children.items) c.join-seat.ensures.0 c.push_reserved.ensures.items next was.joined;
+      count = omega (arith, was.count, c.push_reserved.ensures.len, c.in-Some.ensures.steps);
+      capacity = search rules;
+    }
+
+pub returns-clause-joined : goal.returns-clause-joined
+returns-clause-joined g c =
+    all_moved (λ d. d.0.actor) (λ h. h.promise.actor) c.loop-child.done.items (into_iter_items c.loop-child.child-iterator)
+    (map (λ d. d.0.actor) c.args.done.now.items ++ map (λ h. h.promise.actor) c.args.children.items) (omega (arith, c.in-None.ensures.steps.0, c.loop-child.child-iterator.rest.ok.0)) c.loop-child.invariant.joined

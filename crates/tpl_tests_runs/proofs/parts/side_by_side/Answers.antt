@@ -1,6 +1,6 @@
 use denote.Param.Send.{sendable}
 use Rattle.std.proofs.Crossing.{crosses}
-use Rattle.tpl_hall.proofs.Crosses.{graph_sync}
+use Rattle.tpl_graph.proofs.Crosses.{graph_sync}
 use Rattle.tpl_runtime.proofs.Crosses.{session_sync}
 use Rattle.tpl_tests_runs.proofs.parts.side_by_side.Goals as goal
 

@@ -1,4 +1,4 @@
-use Rattle.std.proofs.Common.{◌≡◌, ◌∙◌, ap, refl, subst, length}
+use Rattle.std.proofs.Common.{subst}
 use Rattle.tpl_hall.specs.Stays.{Leaves}
 use Rattle.tpl_runtime.specs.Views.{SessionView}
 use Rattle.tpl_runtime.proofs.session.Session.work.Goals as goal

@@ -1,4 +1,3 @@
-use Rattle.std.proofs.Common.{refl}
 use Rattle.tpl_hall.proofs.MoveLemmas.{moves_trans}
 use Rattle.tpl_runtime.proofs.shared.Shared.play.Goals as goal
 
