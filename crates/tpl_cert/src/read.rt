@@ -2,18 +2,18 @@
 
 ghost use Rattle.std.specs.Prelude.{◌≡◌, map, option_and_then};
 ghost use Rattle.serde_json.specs.Find.{get};
-ghost use Rattle.serde_json.specs.View.{view};
+ghost use Rattle.tpl_json.specs.View.{view};
 ghost use Rattle.tpl_cert.specs.Seen.{row_of, tree_of};
 ghost use Rattle.tpl_json.specs.Members.{Gives, each};
 ghost use Rattle.tpl_cert.specs.Reading.{row_at, leaf_at, input_at, end_at, node_at, whole_tree};
 
 use crate::named::{NamedRow, NamedTree};
-use serde_json::Value;
+use json::Value;
 use std::alloc::Global;
-use tpl_json::{Miss, bool_in, finals_of, has_only, list_of, member_in, text_in, texts_in};
+use tpl_json::{Miss, bool_in, finals_of, find, has_only, list_of, member_in, text_in, texts_in};
 
 #[tactic(auto, unfolding(crate::specs::Reading::row_at))]
-fn row_of(alloc: Global, value: &Value) -> Result<NamedRow<'_>, Miss>
+fn row_of<'v, 't>(alloc: Global, value: &'v Value<'t>) -> Result<NamedRow<'v>, Miss>
     ensures { Gives row_of result (row_at (view value.now)) }
 {
     if !has_only(value, &["ends", "runs", "before", "past", "chain"]) {
@@ -34,7 +34,7 @@ fn row_of(alloc: Global, value: &Value) -> Result<NamedRow<'_>, Miss>
     })
 }
 
-fn rows_of(alloc: Global, values: &[Value]) -> Result<Vec<NamedRow<'_>>, Miss>
+fn rows_of<'v, 't>(alloc: Global, values: &'v [Value<'t>]) -> Result<Vec<NamedRow<'v>>, Miss>
     ensures { Gives (λ v. map row_of v.items) result (each row_at (map view values.now)) }
 {
     let mut rows = Vec::new(alloc);
@@ -46,7 +46,7 @@ fn rows_of(alloc: Global, values: &[Value]) -> Result<Vec<NamedRow<'_>>, Miss>
 }
 
 #[tactic(auto, unfolding(crate::specs::Reading::leaf_at))]
-fn leaf_of(alloc: Global, value: &Value) -> Result<NamedTree<'_>, Miss>
+fn leaf_of<'v, 't>(alloc: Global, value: &'v Value<'t>) -> Result<NamedTree<'v>, Miss>
     ensures { Gives tree_of result (leaf_at (view value.now)) }
 {
     if !has_only(value, &["rows"]) {
@@ -58,7 +58,11 @@ fn leaf_of(alloc: Global, value: &Value) -> Result<NamedTree<'_>, Miss>
 }
 
 #[cycle(tree)]
-fn branch_of<'v>(alloc: Global, value: &'v Value, name: &str) -> Result<Box<NamedTree<'v>>, Miss>
+fn branch_of<'v, 't>(
+    alloc: Global,
+    value: &'v Value<'t>,
+    name: &str,
+) -> Result<Box<NamedTree<'v>>, Miss>
     ensures { Gives (λ b. tree_of b.value) result
         (option_and_then whole_tree (get name.now (view value.now))) }
 {
@@ -70,7 +74,7 @@ fn branch_of<'v>(alloc: Global, value: &'v Value, name: &str) -> Result<Box<Name
 
 #[cycle(tree)]
 #[tactic(auto, unfolding(crate::specs::Reading::input_at))]
-fn input_of(alloc: Global, value: &Value) -> Result<NamedTree<'_>, Miss>
+fn input_of<'v, 't>(alloc: Global, value: &'v Value<'t>) -> Result<NamedTree<'v>, Miss>
     ensures { Gives tree_of result (input_at whole_tree (view value.now)) }
 {
     if !has_only(value, &["split_input", "yes", "no"]) {
@@ -84,7 +88,7 @@ fn input_of(alloc: Global, value: &Value) -> Result<NamedTree<'_>, Miss>
 
 #[cycle(tree)]
 #[tactic(auto, unfolding(crate::specs::Reading::end_at))]
-fn end_of(alloc: Global, value: &Value) -> Result<NamedTree<'_>, Miss>
+fn end_of<'v, 't>(alloc: Global, value: &'v Value<'t>) -> Result<NamedTree<'v>, Miss>
     ensures { Gives tree_of result (end_at whole_tree (view value.now)) }
 {
     if !has_only(value, &["split_end", "ran", "canceled", "faulted"]) {
@@ -99,13 +103,13 @@ fn end_of(alloc: Global, value: &Value) -> Result<NamedTree<'_>, Miss>
 
 #[cycle(tree)]
 #[tactic(auto, unfolding(crate::specs::Reading::node_at))]
-fn node_of(alloc: Global, value: &Value) -> Result<NamedTree<'_>, Miss>
+fn node_of<'v, 't>(alloc: Global, value: &'v Value<'t>) -> Result<NamedTree<'v>, Miss>
     ensures { Gives tree_of result (node_at whole_tree (view value.now)) }
 {
-    if value.get("split_input").is_some() {
+    if find(value, "split_input").is_some() {
         return input_of(alloc, value);
     }
-    if value.get("split_end").is_some() {
+    if find(value, "split_end").is_some() {
         return end_of(alloc, value);
     }
     leaf_of(alloc, value)
@@ -113,7 +117,7 @@ fn node_of(alloc: Global, value: &Value) -> Result<NamedTree<'_>, Miss>
 
 /// A tree, however deep the value nests.
 #[cycle(tree)]
-pub(crate) fn named_tree(alloc: Global, value: &Value) -> Result<NamedTree<'_>, Miss>
+pub(crate) fn named_tree<'v, 't>(alloc: Global, value: &'v Value<'t>) -> Result<NamedTree<'v>, Miss>
     ensures { Gives tree_of result (whole_tree (view value.now)) }
 {
     node_of(alloc, value)

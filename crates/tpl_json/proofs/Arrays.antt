@@ -1,22 +1,11 @@
 -- Reading the members of an object and the elements of an array one after another.
-use Rattle.std.proofs.Common.{◌≡◌, ℕ, zero, suc, ◌+◌, ◌<◌, List, [], ◌∷◌, ◌++◌, length, get_or, take, Option, Some, None, map, String, Global, string_bytes, refl, ap, ◌∙◌, arith}
-use Rattle.std.specs.List.{list_all}
-use Rattle.std.specs.Map.{keys_of}
+use Rattle.std.proofs.Common.{◌≡◌, ℕ, zero, suc, ◌+◌, ◌<◌, List, [], ◌∷◌, ◌++◌, length, get_or, take, Option, Some, None, map, refl, ap, ◌∙◌, arith}
 use Rattle.std.proofs.lemmas.List.{map_more}
 use Rattle.serde_json.specs.Data.{Data}
-use Rattle.serde_json.specs.View.{view, members_view, items_view, items_of}
-use Rattle.serde_json.specs.declared.value.Value.{Value}
-use Rattle.tpl_json.specs.Members.{is_one_of, members_within, elements, each, ◌>>=◌, Misses}
+use Rattle.serde_json.specs.View.{items_of}
+use Rattle.tpl_json.specs.Members.{elements, each, ◌>>=◌, Misses}
 use Rattle.tpl_json.specs.declared.miss.Miss.{Miss}
 use Rattle.tpl_json.specs.declared.miss.Miss.TheVariants as misses
-
-pub members_within_all : (names : List (List ℕ)) (es : List (String Global × Value)) → members_within names (members_view es) ≡ list_all (λ key. is_one_of names (string_bytes key)) (keys_of es)
-members_within_all names [] = refl
-members_within_all names (e ∷ es) = rw (members_within_all names es) refl
-
-pub elements_view : (vs : List Value) → elements (items_view vs) ≡ map view vs
-elements_view [] = refl
-elements_view (v ∷ vs) = ap (λ ds. view v ∷ ds) (elements_view vs)
 
 pub elements-items_of : (ds : List Data) → elements (items_of ds) ≡ ds
 elements-items_of [] = refl

@@ -1,8 +1,7 @@
 -- A set of endings, read one after another.
 use Rattle.std.proofs.Common.{◌≡◌, ℕ, ◌+◌, ◌<◌, ◌≤◌, List, length, get_or, drop, map, Some, refl, drop-cons, add-one}
 use Rattle.std.proofs.lemmas.List.{drop_all}
-use Rattle.serde_json.specs.View.{view}
-use Rattle.serde_json.specs.declared.value.Value.{Value}
+use Rattle.tpl_json.specs.View.{Value, view}
 use Rattle.tpl_words.specs.declared.finals.Final.{Final}
 use Rattle.tpl_words.specs.declared.finals.Finals.{Finals}
 use Rattle.tpl_json.specs.declared.miss.Miss.{Miss}

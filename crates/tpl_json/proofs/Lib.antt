@@ -1,5 +1,8 @@
 pub mod Truths
 pub mod Arrays
+pub mod DataOf
+pub mod Signs
+pub mod InRange
 pub mod Json
 pub mod FinalLaws
 pub mod Endings

@@ -1,3 +1,5 @@
+pub mod View
+pub mod Numbers
 pub mod Members
 pub mod Grammar
 pub mod Finals

@@ -33,9 +33,13 @@ abbrev pub is_one_of : List (List ℕ) → List ℕ → Bool
 is_one_of [] key = false
 is_one_of (name ∷ names) key = bytes_eq key name || is_one_of names key
 
+-- the name of each member passes the test
+abbrev pub names_all : (List ℕ → Bool) → Members → Bool
+names_all p no_members = true
+names_all p (member key d ms) = p key && names_all p ms
+
 abbrev pub members_within : List (List ℕ) → Members → Bool
-members_within names no_members = true
-members_within names (member key d ms) = is_one_of names key && members_within names ms
+members_within names ms = names_all (is_one_of names) ms
 
 -- an object with no other members
 unfoldable pub has_only : List (List ℕ) → Data → Bool

@@ -1,13 +1,13 @@
 //! Final statuses, by their names.
 
 ghost use Rattle.std.specs.Prelude.{◌≡◌, map, IfErr};
-ghost use Rattle.serde_json.specs.View.{view};
+ghost use Rattle.tpl_json.specs.View.{view};
 ghost use Rattle.tpl_json.specs.Members.{Gives, IsShape};
 ghost use Rattle.tpl_json.specs.Finals.{with_final, no_finals, final_word, final_at, finals_at};
 
 use crate::members::text_of;
 use crate::miss::Miss;
-use serde_json::Value;
+use json::Value;
 use tpl_words::{Final, Finals};
 
 #[tactic(auto, unfolding(crate::specs::Finals::final_word))]
@@ -25,7 +25,7 @@ fn final_word(word: &str) -> Result<Final, Miss>
 
 /// A final status, by its name.
 #[tactic(auto, unfolding(crate::specs::Finals::final_at))]
-pub fn final_of(value: &Value) -> Result<Final, Miss>
+pub fn final_of(value: &Value<'_>) -> Result<Final, Miss>
     ensures gives { Gives (λ f. f) result (final_at (view value.now)) }
     ensures shape { IfErr result IsShape }
 {
@@ -53,7 +53,7 @@ fn with_final(finals: Finals, ending: Final) -> Finals
 }
 
 /// The set of the final statuses of an array.
-pub fn finals_of(values: &[Value]) -> Result<Finals, Miss>
+pub fn finals_of(values: &[Value<'_>]) -> Result<Finals, Miss>
     ensures gives { Gives (λ f. f) result (finals_at no_finals (map view values.now)) }
     ensures shape { IfErr result IsShape }
 {

@@ -4,10 +4,13 @@
 mod finals;
 mod members;
 mod miss;
+mod number;
+mod read;
 
 pub use finals::{final_of, finals_of};
 pub use members::{
-    bool_in, bool_of, has_only, list_of, list_or_none, member_in, owned_texts, text_in, text_of,
-    texts_in, texts_of,
+    bool_in, bool_of, find, has_only, list_of, list_or_none, member_in, number_of, owned_texts,
+    text_in, text_of, texts_in, texts_of,
 };
 pub use miss::Miss;
+pub use read::{NotRead, value_from};

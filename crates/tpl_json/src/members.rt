@@ -1,14 +1,14 @@
 //! Members of an object by their names, and elements of an array.
 
-ghost use Rattle.std.specs.Prelude.{◌≡◌, map, option_map, option_and_then, string_bytes, IfErr};
+ghost use Rattle.std.specs.Prelude.{◌≡◌, [], map, option_map, option_and_then, string_bytes, IfErr};
 ghost use Rattle.std.specs.List.{list_all};
-ghost use Rattle.std.specs.BTreeMap.{keys};
-ghost use Rattle.serde_json.specs.Find.{get, as_array, as_str, as_bool};
-ghost use Rattle.serde_json.specs.View.{view, members_view};
+ghost use Rattle.serde_json.specs.Find.{get, as_str, as_bool, as_number, as_u64};
+ghost use Rattle.tpl_json.specs.View.{view};
 ghost use Rattle.tpl_json.specs.Members.{has_only, members_within, is_one_of, text_in, list_in, list_or_none, texts_in, each, Gives, IsShape};
 
 use crate::miss::Miss;
-use serde_json::{Map, Value};
+use crate::number::whole_of;
+use json::Value;
 use std::alloc::Global;
 
 fn is_one_of(names: &[&str], key: &str) -> bool
@@ -20,74 +20,87 @@ fn is_one_of(names: &[&str], key: &str) -> bool
     }
 }
 
-fn members_within(names: &[&str], members: &Map<String, Value>) -> bool
-    ensures { result ≡ list_all (λ key. is_one_of (map (λ s. s.now) names.now) (string_bytes key))
-        (keys members.now) }
+fn members_within(names: &[&str], members: &[(&str, Value<'_>)]) -> bool
+    ensures { result ≡ list_all (λ m. is_one_of (map (λ s. s.now) names.now) m.0.now) members.now }
 {
-    members.keys().all(|key| is_one_of(names, key.as_str()))
+    members.iter().all(|member| is_one_of(names, member.0))
 }
 
 /// Whether the value is an object with no other members.
-#[tactic(auto, using(crate::proofs::Arrays::members_within_all), unfolding(crate::specs::Members::has_only))]
-pub fn has_only(value: &Value, names: &[&str]) -> bool
+#[tactic(auto, unfolding(crate::specs::Members::has_only))]
+pub fn has_only(value: &Value<'_>, names: &[&str]) -> bool
     ensures { result ≡ has_only (map (λ s. s.now) names.now) (view value.now) }
 {
-    match value.as_object() {
-        None => false,
-        Some(members) => members_within(names, members),
+    match value {
+        Value::Object(members) => members_within(names, members.as_slice()),
+        _ => false,
     }
+}
+
+/// The member, where the value is an object that has it.
+#[tactic(auto, using(crate::proofs::DataOf::member_is))]
+pub fn find<'v, 't>(value: &'v Value<'t>, name: &str) -> Option<&'v Value<'t>>
+    ensures { option_map (λ v. view v.now) result ≡ get name.now (view value.now) }
+{
+    value.get(name)
 }
 
 /// The member's text.
 #[tactic(auto, unfolding(crate::specs::Members::text_in))]
-pub fn text_in<'v>(value: &'v Value, name: &str) -> Result<&'v str, Miss>
+pub fn text_in<'v, 't>(value: &'v Value<'t>, name: &str) -> Result<&'v str, Miss>
     ensures gives { Gives (λ s. s.now) result (text_in name.now (view value.now)) }
     ensures shape { IfErr result IsShape }
 {
-    match value.get(name).and_then(Value::as_str) {
-        None => Err(Miss::Shape),
-        Some(text) => Ok(text),
-    }
+    let text = text_of(member_in(value, name)?)?;
+    Ok(text)
 }
 
 /// The member.
-pub fn member_in<'v>(value: &'v Value, name: &str) -> Result<&'v Value, Miss>
+pub fn member_in<'v, 't>(value: &'v Value<'t>, name: &str) -> Result<&'v Value<'t>, Miss>
     ensures gives { Gives (λ v. view v.now) result (get name.now (view value.now)) }
     ensures shape { IfErr result IsShape }
 {
-    match value.get(name) {
+    match find(value, name) {
         None => Err(Miss::Shape),
         Some(found) => Ok(found),
     }
 }
 
 /// The elements of an array.
-#[tactic(auto, using(crate::proofs::Arrays::elements_view))]
-pub fn list_of(value: &Value) -> Result<&[Value], Miss>
+#[tactic(auto, using(crate::proofs::DataOf::elements_view))]
+pub fn list_of<'v, 't>(value: &'v Value<'t>) -> Result<&'v [Value<'t>], Miss>
     ensures gives { Gives (λ s. map view s.now) result (list_in (view value.now)) }
     ensures shape { IfErr result IsShape }
 {
-    match value.as_array() {
-        None => Err(Miss::Shape),
-        Some(list) => Ok(list.as_slice()),
+    match value {
+        Value::Array(list) => Ok(list.as_slice()),
+        _ => Err(Miss::Shape),
     }
+}
+
+/// An empty list, lent as the value is.
+fn no_elements<'v, 't>(_value: &'v Value<'t>) -> &'v [Value<'t>]
+    ensures { result.now ≡ [] }
+{
+    &[]
 }
 
 /// The elements of the member, an array, and none where it isn't there.
 #[tactic(auto, unfolding(crate::specs::Members::list_or_none))]
-pub fn list_or_none<'v>(value: &'v Value, name: &str) -> Result<&'v [Value], Miss>
+pub fn list_or_none<'v, 't>(value: &'v Value<'t>, name: &str) -> Result<&'v [Value<'t>], Miss>
     ensures gives { Gives (λ s. map view s.now) result (list_or_none
         (get name.now (view value.now))) }
     ensures shape { IfErr result IsShape }
 {
-    match value.get(name) {
-        None => Ok(&[]),
+    match find(value, name) {
+        None => Ok(no_elements(value)),
         Some(list) => list_of(list),
     }
 }
 
 /// The value's text.
-pub fn text_of(value: &Value) -> Result<&str, Miss>
+#[tactic(auto, using(crate::proofs::DataOf::text_is))]
+pub fn text_of<'v, 't>(value: &'v Value<'t>) -> Result<&'v str, Miss>
     ensures gives { Gives (λ s. s.now) result (as_str (view value.now)) }
     ensures shape { IfErr result IsShape }
 {
@@ -98,7 +111,8 @@ pub fn text_of(value: &Value) -> Result<&str, Miss>
 }
 
 /// The value, true or false.
-pub fn bool_of(value: &Value) -> Result<bool, Miss>
+#[tactic(auto, using(crate::proofs::DataOf::truth_is))]
+pub fn bool_of(value: &Value<'_>) -> Result<bool, Miss>
     ensures gives { Gives (λ b. b) result (as_bool (view value.now)) }
     ensures shape { IfErr result IsShape }
 {
@@ -108,20 +122,32 @@ pub fn bool_of(value: &Value) -> Result<bool, Miss>
     }
 }
 
+/// The value, a whole number of 64 bits, written with no sign, point or exponent.
+pub fn number_of(value: &Value<'_>) -> Result<u64, Miss>
+    ensures gives { Gives (λ n. n) result (option_and_then as_u64 (as_number (view value.now))) }
+    ensures shape { IfErr result IsShape }
+{
+    match value {
+        Value::Number(text) => match whole_of(text) {
+            None => Err(Miss::Shape),
+            Some(number) => Ok(number),
+        },
+        _ => Err(Miss::Shape),
+    }
+}
+
 /// The member, true or false.
-pub fn bool_in(value: &Value, name: &str) -> Result<bool, Miss>
+pub fn bool_in(value: &Value<'_>, name: &str) -> Result<bool, Miss>
     ensures gives { Gives (λ b. b) result (option_and_then as_bool
         (get name.now (view value.now))) }
     ensures shape { IfErr result IsShape }
 {
-    match value.get(name).and_then(Value::as_bool) {
-        None => Err(Miss::Shape),
-        Some(b) => Ok(b),
-    }
+    let truth = bool_of(member_in(value, name)?)?;
+    Ok(truth)
 }
 
 /// The texts of an array.
-pub fn texts_of(alloc: Global, values: &[Value]) -> Result<Vec<&str>, Miss>
+pub fn texts_of<'v, 't>(alloc: Global, values: &'v [Value<'t>]) -> Result<Vec<&'v str>, Miss>
     ensures { Gives (λ v. map (λ s. s.now) v.items) result (each as_str (map view values.now)) }
 {
     let mut texts = Vec::new(alloc);
@@ -133,7 +159,7 @@ pub fn texts_of(alloc: Global, values: &[Value]) -> Result<Vec<&str>, Miss>
 }
 
 /// The texts of an array, in memory of their own.
-pub fn owned_texts(alloc: Global, values: &[Value]) -> Result<Vec<String>, Miss>
+pub fn owned_texts(alloc: Global, values: &[Value<'_>]) -> Result<Vec<String>, Miss>
     ensures { Gives (λ v. map string_bytes v.items) result (each as_str (map view values.now)) }
 {
     let mut texts = Vec::new(alloc);
@@ -146,7 +172,11 @@ pub fn owned_texts(alloc: Global, values: &[Value]) -> Result<Vec<String>, Miss>
 
 /// The texts of the member, an array, and none where it isn't there.
 #[tactic(auto, unfolding(crate::specs::Members::texts_in))]
-pub fn texts_in<'v>(alloc: Global, value: &'v Value, name: &str) -> Result<Vec<&'v str>, Miss>
+pub fn texts_in<'v, 't>(
+    alloc: Global,
+    value: &'v Value<'t>,
+    name: &str,
+) -> Result<Vec<&'v str>, Miss>
     ensures { Gives (λ v. map (λ s. s.now) v.items) result (texts_in name.now (view value.now)) }
 {
     let list = list_or_none(value, name)?;

@@ -2,8 +2,7 @@
 use Rattle.std.proofs.Common.{ℕ, zero, suc, ◌<◌, ◌≤◌, List, [], ◌∷◌, length, get_or, map, codes, arith}
 use Rattle.std.proofs.lemmas.List.Elements.{All-cons}
 use Rattle.serde_json.specs.Data.{Data, depth}
-use Rattle.serde_json.specs.View.{view}
-use Rattle.serde_json.specs.declared.value.Value.{Value}
+use Rattle.tpl_json.specs.View.{Value, view}
 use Rattle.tpl_reader.specs.TaskGrammar.{AreShallow}
 use Rattle.tpl_reader.specs.Top.{Members}
 use Rattle.tpl_reader.specs.TopGrammar.{IsTop}

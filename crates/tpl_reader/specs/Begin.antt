@@ -1,10 +1,11 @@
 -- Where a run starts, with ids in place of names, and what is wrong with a start.
 use Rattle.std.specs.Prelude.{◌≡◌, ℕ, ◌<◌, ◌&&◌, Bool, true, false, List, Option, Some, None, length, option_and_then, slice_index_or}
 use Rattle.std.specs.List.{list_all}
-use Rattle.serde_json.specs.Data.{Data, Members, no_members, member, null, boolean, number, string, array, object}
+use Rattle.serde_json.specs.Data.{Data, Members, null, boolean, number, string, array, object}
 use Rattle.serde_json.specs.Find.{get, as_bool}
 use Rattle.tpl_model.specs.Graph.{TaskGraph}
 use Rattle.tpl_graph.specs.Named.{Named, all_may_fail}
+use Rattle.tpl_json.specs.Members.{names_all}
 use Rattle.tpl_cert.specs.Naming.{is_declared, are_declared, AreNumbers}
 use Rattle.tpl_cert.specs.Written.{name_at}
 use Rattle.tpl_reader.specs.Start.{NamedStart}
@@ -19,8 +20,7 @@ pub record StartValue : Type 0 where
 
 -- the names of the members are declared
 abbrev pub declares : List (List ℕ) → Members → Bool
-declares names no_members = true
-declares names (member key d ms) = is_declared names key && declares names ms
+declares names ms = names_all (is_declared names) ms
 
 unfoldable pub knows_members : List (List ℕ) → Option Data → Bool
 knows_members names None = true

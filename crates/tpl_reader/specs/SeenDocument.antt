@@ -1,7 +1,7 @@
 -- What a document in memory is seen as.
 use Rattle.std.specs.Prelude.{map, string_bytes}
 use Rattle.std.specs.Option.{option_map}
-use Rattle.serde_json.specs.View.{view}
+use Rattle.tpl_json.specs.View.{view}
 use Rattle.tpl_graph.specs.Ids.{token_number, site_number}
 use Rattle.tpl_graph.specs.SeenTasks.{draft_of}
 use Rattle.tpl_reader.specs.SeenClaims.{claim_of}

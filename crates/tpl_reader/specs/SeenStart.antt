@@ -1,7 +1,7 @@
 -- What a start with names in memory is seen as.
 use Rattle.std.specs.Prelude.{map}
 use Rattle.std.specs.Option.{option_map}
-use Rattle.serde_json.specs.View.{view}
+use Rattle.tpl_json.specs.View.{view}
 use Rattle.tpl_reader.specs.declared.named.NamedStart as declared
 use Rattle.tpl_reader.specs.Start.{NamedStart}
 

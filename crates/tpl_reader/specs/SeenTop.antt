@@ -1,7 +1,7 @@
 -- What the members of a document in memory are seen as.
 use Rattle.std.specs.Prelude.{map, string_bytes}
 use Rattle.std.specs.Option.{option_map}
-use Rattle.serde_json.specs.View.{view}
+use Rattle.tpl_json.specs.View.{view}
 use Rattle.tpl_graph.specs.SeenTasks.{token_of}
 use Rattle.tpl_reader.specs.declared.top.Members as declared
 use Rattle.tpl_reader.specs.Top.{Members}

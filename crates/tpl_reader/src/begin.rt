@@ -1,10 +1,9 @@
 //! Where a run starts, with ids in place of names.
 
-ghost use Rattle.std.specs.Prelude.{◌≡◌, ◌&&◌, ◌<◌, length, map, true, Some, is_some, string_bytes, MatchOption, IfErr};
+ghost use Rattle.std.specs.Prelude.{◌≡◌, ◌&&◌, ◌<◌, length, map, true, Some, is_some, MatchOption, IfErr};
 ghost use Rattle.std.specs.Option.{option_map};
 ghost use Rattle.std.specs.List.{All, list_all};
-ghost use Rattle.std.specs.BTreeMap.{keys};
-ghost use Rattle.serde_json.specs.View.{view};
+ghost use Rattle.tpl_json.specs.View.{view};
 ghost use Rattle.tpl_graph.specs.Ids.{token_number, site_number};
 ghost use Rattle.tpl_cert.specs.Naming.{number_of, is_declared, are_declared, AreNumbers};
 ghost use Rattle.tpl_reader.specs.SeenStart.{start_of};
@@ -15,47 +14,45 @@ ghost use Rattle.tpl_reader.specs.Begin.{knows_members, truth_at, HasTruths, Lac
 use crate::document::Start;
 use crate::fault::{StartFault, Stop};
 use crate::named::NamedStart;
-use serde_json::{Map, Value};
+use json::Value;
 use std::alloc::Global;
 use tpl_graph::Graph;
+use tpl_json::bool_in;
 use tpl_words::{InputId, Inputs, SiteId, TokenId};
 
-fn declares(graph: &Graph, members: &Map<String, Value>) -> bool
-    ensures { result ≡ list_all (λ key. is_declared graph.now.names.inputs (string_bytes key))
-        (keys members.now) }
+fn declares(graph: &Graph, members: &[(&str, Value<'_>)]) -> bool
+    ensures { result ≡ list_all (λ m. is_declared graph.now.names.inputs m.0.now) members.now }
 {
-    members
-        .keys()
-        .all(|key| graph.input(key.as_str()).is_some())
+    members.iter().all(|member| graph.input(member.0).is_some())
 }
 
 /// Whether the names of the members are inputs.
-#[tactic(auto, using(crate::proofs::Truths::declares_of), unfolding(crate::specs::Begin::knows_members))]
-fn knows_members(graph: &Graph, inputs: Option<&Value>) -> bool
+#[tactic(auto, unfolding(crate::specs::Begin::knows_members))]
+fn knows_members(graph: &Graph, inputs: Option<&Value<'_>>) -> bool
     ensures { result ≡ knows_members graph.now.names.inputs
         (option_map (λ v. view v.now) inputs.entry) }
 {
     match inputs {
         None => true,
-        Some(value) => match value.as_object() {
-            None => true,
-            Some(members) => declares(graph, members),
+        Some(value) => match value {
+            Value::Object(members) => declares(graph, members.as_slice()),
+            _ => true,
         },
     }
 }
 
 #[tactic(auto, unfolding(crate::specs::Begin::truth_at))]
-fn truth_at(inputs: Option<&Value>, name: &str) -> Option<bool>
+fn truth_at(inputs: Option<&Value<'_>>, name: &str) -> Option<bool>
     ensures { result ≡ truth_at (option_map (λ v. view v.now) inputs.entry) name.now }
 {
     match inputs {
         None => None,
-        Some(value) => value.get(name).and_then(Value::as_bool),
+        Some(value) => bool_in(value, name).ok(),
     }
 }
 
 /// The values of the inputs, if each has one.
-fn values_in(graph: &Graph, inputs: Option<&Value>) -> Option<Inputs>
+fn values_in(graph: &Graph, inputs: Option<&Value<'_>>) -> Option<Inputs>
     ensures { MatchOption result (LacksTruth graph.now.names.inputs
         (option_map (λ v. view v.now) inputs.entry)) (λ v. HasTruths graph.now.names.inputs
         (option_map (λ v. view v.now) inputs.entry) v) }

@@ -2,21 +2,21 @@
 
 ghost use Rattle.std.specs.Prelude.{◌≡◌, map, codes, IfErr};
 ghost use Rattle.serde_json.specs.Find.{get};
-ghost use Rattle.serde_json.specs.View.{view};
+ghost use Rattle.tpl_json.specs.View.{view};
 ghost use Rattle.tpl_json.specs.Members.{Gives, each, IsShape};
 ghost use Rattle.tpl_reader.specs.SeenClaims.{given_of, property_of, claim_of};
 ghost use Rattle.tpl_reader.specs.Claims.{input_at, quiet_at, given_at, some_finals, final_claim, two_texts, after_claim, observed_claim, never_claim, excludes_claim, property_at, claim_at};
 
 use crate::named::{NamedClaim, NamedGiven, NamedProperty};
-use serde_json::Value;
+use json::Value;
 use std::alloc::Global;
 use tpl_json::{
-    Miss, bool_in, finals_of, has_only, list_of, list_or_none, member_in, text_in, text_of,
+    Miss, bool_in, finals_of, find, has_only, list_of, list_or_none, member_in, text_in, text_of,
 };
 use tpl_words::Finals;
 
 #[tactic(auto, unfolding(crate::specs::Claims::input_at))]
-fn input_of(value: &Value) -> Result<NamedGiven<'_>, Miss>
+fn input_of<'v, 't>(value: &'v Value<'t>) -> Result<NamedGiven<'v>, Miss>
     ensures gives { Gives given_of result (input_at (view value.now)) }
     ensures shape { IfErr result IsShape }
 {
@@ -29,7 +29,7 @@ fn input_of(value: &Value) -> Result<NamedGiven<'_>, Miss>
 }
 
 #[tactic(auto, unfolding(crate::specs::Claims::quiet_at))]
-fn quiet_of(value: &Value) -> Result<NamedGiven<'_>, Miss>
+fn quiet_of<'v, 't>(value: &'v Value<'t>) -> Result<NamedGiven<'v>, Miss>
     ensures gives { Gives given_of result (quiet_at (view value.now)) }
     ensures shape { IfErr result IsShape }
 {
@@ -41,17 +41,17 @@ fn quiet_of(value: &Value) -> Result<NamedGiven<'_>, Miss>
 }
 
 #[tactic(auto, unfolding(crate::specs::Claims::given_at))]
-fn given_of(value: &Value) -> Result<NamedGiven<'_>, Miss>
+fn given_of<'v, 't>(value: &'v Value<'t>) -> Result<NamedGiven<'v>, Miss>
     ensures gives { Gives given_of result (given_at (view value.now)) }
     ensures shape { IfErr result IsShape }
 {
-    if value.get("input").is_some() {
+    if find(value, "input").is_some() {
         return input_of(value);
     }
     quiet_of(value)
 }
 
-fn givens_of(alloc: Global, values: &[Value]) -> Result<Vec<NamedGiven<'_>>, Miss>
+fn givens_of<'v, 't>(alloc: Global, values: &'v [Value<'t>]) -> Result<Vec<NamedGiven<'v>>, Miss>
     ensures { Gives (λ v. map given_of v.items) result (each given_at (map view values.now)) }
 {
     let mut given = Vec::new(alloc);
@@ -63,7 +63,7 @@ fn givens_of(alloc: Global, values: &[Value]) -> Result<Vec<NamedGiven<'_>>, Mis
 }
 
 #[tactic(auto, unfolding(crate::specs::Claims::some_finals))]
-fn some_finals(values: &[Value]) -> Result<Finals, Miss>
+fn some_finals(values: &[Value<'_>]) -> Result<Finals, Miss>
     ensures gives { Gives (λ f. f) result (some_finals (map view values.now)) }
     ensures shape { IfErr result IsShape }
 {
@@ -74,7 +74,7 @@ fn some_finals(values: &[Value]) -> Result<Finals, Miss>
 }
 
 #[tactic(auto, unfolding(crate::specs::Claims::final_claim))]
-fn final_claim(value: &Value) -> Result<NamedProperty<'_>, Miss>
+fn final_claim<'v, 't>(value: &'v Value<'t>) -> Result<NamedProperty<'v>, Miss>
     ensures gives { Gives property_of result (final_claim (view value.now)) }
     ensures shape { IfErr result IsShape }
 {
@@ -88,7 +88,7 @@ fn final_claim(value: &Value) -> Result<NamedProperty<'_>, Miss>
 }
 
 #[tactic(auto, unfolding(crate::specs::Claims::two_texts))]
-fn two_texts(values: &[Value]) -> Result<(&str, &str), Miss>
+fn two_texts<'v, 't>(values: &'v [Value<'t>]) -> Result<(&'v str, &'v str), Miss>
     ensures gives { Gives (λ p. (p.0.now, p.1.now)) result (two_texts (map view values.now)) }
     ensures shape { IfErr result IsShape }
 {
@@ -103,7 +103,7 @@ fn two_texts(values: &[Value]) -> Result<(&str, &str), Miss>
 }
 
 #[tactic(auto, unfolding(crate::specs::Claims::after_claim))]
-fn after_claim(value: &Value) -> Result<NamedProperty<'_>, Miss>
+fn after_claim<'v, 't>(value: &'v Value<'t>) -> Result<NamedProperty<'v>, Miss>
     ensures gives { Gives property_of result (after_claim (view value.now)) }
     ensures shape { IfErr result IsShape }
 {
@@ -116,7 +116,7 @@ fn after_claim(value: &Value) -> Result<NamedProperty<'_>, Miss>
 }
 
 #[tactic(auto, unfolding(crate::specs::Claims::observed_claim))]
-fn observed_claim(value: &Value) -> Result<NamedProperty<'_>, Miss>
+fn observed_claim<'v, 't>(value: &'v Value<'t>) -> Result<NamedProperty<'v>, Miss>
     ensures gives { Gives property_of result (observed_claim (view value.now)) }
     ensures shape { IfErr result IsShape }
 {
@@ -128,7 +128,7 @@ fn observed_claim(value: &Value) -> Result<NamedProperty<'_>, Miss>
 }
 
 #[tactic(auto, unfolding(crate::specs::Claims::never_claim))]
-fn never_claim(value: &Value) -> Result<NamedProperty<'_>, Miss>
+fn never_claim<'v, 't>(value: &'v Value<'t>) -> Result<NamedProperty<'v>, Miss>
     ensures gives { Gives property_of result (never_claim (view value.now)) }
     ensures shape { IfErr result IsShape }
 {
@@ -140,7 +140,7 @@ fn never_claim(value: &Value) -> Result<NamedProperty<'_>, Miss>
 }
 
 #[tactic(auto, unfolding(crate::specs::Claims::excludes_claim))]
-fn excludes_claim(value: &Value) -> Result<NamedProperty<'_>, Miss>
+fn excludes_claim<'v, 't>(value: &'v Value<'t>) -> Result<NamedProperty<'v>, Miss>
     ensures gives { Gives property_of result (excludes_claim (view value.now)) }
     ensures shape { IfErr result IsShape }
 {
@@ -153,20 +153,20 @@ fn excludes_claim(value: &Value) -> Result<NamedProperty<'_>, Miss>
 }
 
 #[tactic(auto, unfolding(crate::specs::Claims::property_at))]
-fn property_of(value: &Value) -> Result<NamedProperty<'_>, Miss>
+fn property_of<'v, 't>(value: &'v Value<'t>) -> Result<NamedProperty<'v>, Miss>
     ensures gives { Gives property_of result (property_at (view value.now)) }
     ensures shape { IfErr result IsShape }
 {
-    if value.get("final").is_some() {
+    if find(value, "final").is_some() {
         return final_claim(value);
     }
-    if value.get("after").is_some() {
+    if find(value, "after").is_some() {
         return after_claim(value);
     }
-    if value.get("observed").is_some() {
+    if find(value, "observed").is_some() {
         return observed_claim(value);
     }
-    if value.get("never").is_some() {
+    if find(value, "never").is_some() {
         return never_claim(value);
     }
     excludes_claim(value)
@@ -174,7 +174,7 @@ fn property_of(value: &Value) -> Result<NamedProperty<'_>, Miss>
 
 /// A claim with names.
 #[tactic(auto, unfolding(crate::specs::Claims::claim_at))]
-pub(crate) fn claim_of(alloc: Global, value: &Value) -> Result<NamedClaim<'_>, Miss>
+pub(crate) fn claim_of<'v, 't>(alloc: Global, value: &'v Value<'t>) -> Result<NamedClaim<'v>, Miss>
     ensures { Gives claim_of result (claim_at (view value.now)) }
 {
     let body = property_of(value)?;

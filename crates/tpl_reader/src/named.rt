@@ -1,6 +1,6 @@
 //! Claims as they are spelled, with names of the document.
 
-use serde_json::Value;
+use json::Value;
 use tpl_words::Finals;
 
 /// What a claim takes as given.
@@ -30,8 +30,8 @@ pub(crate) struct NamedClaim<'v> {
 /// Where a run starts: the object of the inputs' values, the tokens that are requested first, and the sites whose jobs
 /// fail.
 #[derive(Drop)]
-pub(crate) struct NamedStart<'v> {
-    pub(crate) inputs: Option<&'v Value>,
+pub(crate) struct NamedStart<'v, 't> {
+    pub(crate) inputs: Option<&'v Value<'t>>,
     pub(crate) request: Vec<&'v str>,
     pub(crate) fail: Vec<&'v str>,
 }

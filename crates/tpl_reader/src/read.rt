@@ -3,7 +3,7 @@
 ghost use Rattle.std.specs.Prelude.{◌≡◌, map, IfOk, IfErr};
 ghost use Rattle.std.specs.List.{All};
 ghost use Rattle.std.specs.Option.{option_map};
-ghost use Rattle.serde_json.specs.View.{view};
+ghost use Rattle.tpl_json.specs.View.{view};
 ghost use Rattle.tpl_graph.specs.Numbered.{numbered};
 ghost use Rattle.tpl_graph.specs.Refusals.{IsValid};
 ghost use Rattle.tpl_graph.specs.SeenTasks.{draft_of};
@@ -23,11 +23,12 @@ use crate::fault::{ClaimFault, Halt, ReadFault, Stop};
 use crate::named::{NamedClaim, NamedStart};
 use crate::shape::{Shaped, shape_of};
 use crate::trees::trees_in;
-use serde_json::Value;
+use json::{Scratch, Value};
 use std::alloc::Global;
 use tpl_cert::{Certificate, Tree, TreeFault};
 use tpl_claims::Claim;
 use tpl_graph::{Draft, Graph, Why};
+use tpl_json::{NotRead, value_from};
 
 /// The most bytes of a document (this program's own limit).
 pub const LONGEST: usize = 16_777_216;
@@ -65,7 +66,7 @@ fn claims_for(alloc: Global, graph: &Graph, claims: &[NamedClaim]) -> Result<Vec
     }
 }
 
-fn trees_for(alloc: Global, graph: &Graph, values: &[Value]) -> Result<Vec<Tree>, ReadFault>
+fn trees_for(alloc: Global, graph: &Graph, values: &[Value<'_>]) -> Result<Vec<Tree>, ReadFault>
     ensures ok { IfOk result (λ v. AllRead (ReadsAs graph.now.names) (map view values.now)
         v.items) }
     ensures err { IfErr result (TreeFaults graph.now (map view values.now)) }
@@ -129,14 +130,11 @@ pub fn read_document(alloc: Global, bytes: &[u8]) -> Result<Document, ReadFault>
     if bytes.len() > LONGEST {
         return Err(ReadFault::TooLong);
     }
-    let value = match Value::from_slice(alloc, bytes) {
+    let mut scratch = Scratch::new(alloc);
+    let value = match value_from(alloc, bytes, &mut scratch) {
         Ok(value) => value,
-        Err(e) => {
-            if e.is_memory() {
-                return Err(ReadFault::Memory);
-            }
-            return Err(ReadFault::NotJson);
-        }
+        Err(NotRead::Memory) => return Err(ReadFault::Memory),
+        Err(NotRead::NotJson) => return Err(ReadFault::NotJson),
     };
     match shape_of(alloc, &value) {
         Ok(shaped) => document_of(alloc, shaped),

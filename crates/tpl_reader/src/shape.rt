@@ -3,7 +3,7 @@
 ghost use Rattle.std.specs.Prelude.{◌≡◌, ◌≤◌, Some, map};
 ghost use Rattle.std.specs.Option.{option_map};
 ghost use Rattle.serde_json.specs.Data.{depth};
-ghost use Rattle.serde_json.specs.View.{view};
+ghost use Rattle.tpl_json.specs.View.{view};
 ghost use Rattle.tpl_graph.specs.SeenTasks.{task_of};
 ghost use Rattle.tpl_json.specs.Members.{Gives};
 ghost use Rattle.tpl_reader.specs.SeenClaims.{claim_of};
@@ -23,22 +23,22 @@ use crate::fault::{Halt, Part, Stop};
 use crate::named::{NamedClaim, NamedStart};
 use crate::start::start_of;
 use crate::top::{Members, claims_of, members_of, tasks_of};
-use serde_json::Value;
+use json::Value;
 use std::alloc::Global;
 use tpl_graph::{Draft, DraftTask};
 use tpl_json::Miss;
 
 /// A document with names.
 #[derive(Drop)]
-pub(crate) struct Shaped<'v> {
+pub(crate) struct Shaped<'v, 't> {
     pub(crate) draft: Draft,
     pub(crate) claims: Vec<NamedClaim<'v>>,
-    pub(crate) certificate: &'v [Value],
+    pub(crate) certificate: &'v [Value<'t>],
     pub(crate) journal: &'v str,
-    pub(crate) start: Option<NamedStart<'v>>,
+    pub(crate) start: Option<NamedStart<'v, 't>>,
 }
 
-fn top_part(alloc: Global, value: &Value) -> Result<Members<'_>, Stop<Part>>
+fn top_part<'v, 't>(alloc: Global, value: &'v Value<'t>) -> Result<Members<'v, 't>, Stop<Part>>
     ensures { Takes result (λ m. IsTop (view value.now) (members_of m))
         (WrongTop (view value.now)) }
 {
@@ -49,7 +49,7 @@ fn top_part(alloc: Global, value: &Value) -> Result<Members<'_>, Stop<Part>>
     }
 }
 
-fn task_part(alloc: Global, values: &[Value]) -> Result<Vec<DraftTask>, Stop<Part>>
+fn task_part(alloc: Global, values: &[Value<'_>]) -> Result<Vec<DraftTask>, Stop<Part>>
     requires { AreShallow (map view values.now) }
     ensures { Takes result (λ v. AllRead IsTask (map view values.now) (map task_of v.items))
         (WrongTask (map view values.now)) }
@@ -61,7 +61,10 @@ fn task_part(alloc: Global, values: &[Value]) -> Result<Vec<DraftTask>, Stop<Par
     }
 }
 
-fn claim_part(alloc: Global, values: &[Value]) -> Result<Vec<NamedClaim<'_>>, Stop<Part>>
+fn claim_part<'v, 't>(
+    alloc: Global,
+    values: &'v [Value<'t>],
+) -> Result<Vec<NamedClaim<'v>>, Stop<Part>>
     ensures { Takes result (λ v. AllRead IsClaim (map view values.now) (map claim_of v.items))
         (WrongClaim (map view values.now)) }
 {
@@ -73,10 +76,10 @@ fn claim_part(alloc: Global, values: &[Value]) -> Result<Vec<NamedClaim<'_>>, St
 }
 
 #[tactic(auto, unfolding(crate::specs::Start::start_or_none))]
-fn start_or_none<'v>(
+fn start_or_none<'v, 't>(
     alloc: Global,
-    value: Option<&'v Value>,
-) -> Result<Option<NamedStart<'v>>, Miss>
+    value: Option<&'v Value<'t>>,
+) -> Result<Option<NamedStart<'v, 't>>, Miss>
     ensures { Gives (λ o. option_map start_of o) result
         (start_or_none (option_map (λ v. view v.now) value.entry)) }
 {
@@ -89,10 +92,10 @@ fn start_or_none<'v>(
     }
 }
 
-fn start_part<'v>(
+fn start_part<'v, 't>(
     alloc: Global,
-    value: Option<&'v Value>,
-) -> Result<Option<NamedStart<'v>>, Stop<Part>>
+    value: Option<&'v Value<'t>>,
+) -> Result<Option<NamedStart<'v, 't>>, Stop<Part>>
     ensures { Takes result (λ o. IsStartIfAny (option_map (λ v. view v.now) value.entry)
         (option_map start_of o)) (WrongStart (option_map (λ v. view v.now) value.entry)) }
 {
@@ -104,7 +107,10 @@ fn start_part<'v>(
 }
 
 /// The document with names, or the first part of the wrong shape. The value nests at most 127 deep, as that of a text.
-pub(crate) fn shape_of(alloc: Global, value: &Value) -> Result<Shaped<'_>, Stop<Part>>
+pub(crate) fn shape_of<'v, 't>(
+    alloc: Global,
+    value: &'v Value<'t>,
+) -> Result<Shaped<'v, 't>, Stop<Part>>
     requires { depth (view value.now) ≤ 127 }
     ensures { Takes result (λ s. IsSpelled (view value.now) (spelled_of s))
         (IsMisshapen (view value.now)) }

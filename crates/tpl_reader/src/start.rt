@@ -1,47 +1,65 @@
 //! Reading where a run starts, with names.
 
-ghost use Rattle.std.specs.Prelude.{◌≡◌, map, is_some, IfErr};
+ghost use Rattle.std.specs.Prelude.{◌≡◌, Some};
 ghost use Rattle.std.specs.Option.{option_map};
 ghost use Rattle.std.specs.List.{list_all};
 ghost use Rattle.std.specs.BTreeMap.{values};
-ghost use Rattle.serde_json.specs.Find.{get, as_bool};
-ghost use Rattle.serde_json.specs.View.{view};
-ghost use Rattle.tpl_json.specs.Members.{Gives, IsShape};
+ghost use Rattle.json.specs.Value.{members_view};
+ghost use Rattle.serde_json.specs.Data.{no_members};
+ghost use Rattle.serde_json.specs.Find.{get};
+ghost use Rattle.tpl_json.specs.View.{members_from, view};
+ghost use Rattle.tpl_json.specs.Members.{Gives};
 ghost use Rattle.tpl_reader.specs.Start.{all_truths, has_truths, truths_or_none, start_at};
 ghost use Rattle.tpl_reader.specs.SeenStart.{start_of};
 
 use crate::named::NamedStart;
-use serde_json::{Map, Value};
+use json::Value;
 use std::alloc::Global;
-use tpl_json::{Miss, has_only, texts_in};
+use std::collections::BTreeMap;
+use tpl_json::{Miss, find, has_only, texts_in};
 
-fn all_truths(members: &Map<String, Value>) -> bool
-    ensures { result ≡ list_all (λ v. is_some (as_bool (view v))) (values members.now) }
+fn are_all(truths: &BTreeMap<&str, bool>) -> bool
+    ensures { result ≡ list_all (λ b. b) (values truths.now) }
 {
-    members.values().all(Value::is_boolean)
+    truths.values().all(|truth| *truth)
+}
+
+/// Whether the members are all true or false; of several of one name the last counts.
+fn all_truths(alloc: Global, members: &[(&str, Value<'_>)]) -> Result<bool, Miss>
+    ensures { Gives (λ b. b) result (Some (all_truths
+        (members_from (members_view members.now) no_members))) }
+{
+    let mut truths = BTreeMap::new(alloc);
+    for member in members {
+        drop(truths.insert(member.0, member.1.as_bool().is_some())?);
+    }
+    Ok(are_all(&truths))
 }
 
 /// Whether the value is an object whose members are all true or false.
-#[tactic(auto, using(crate::proofs::Truths::all_truths_of), unfolding(crate::specs::Start::has_truths))]
-fn has_truths(value: &Value) -> bool
-    ensures { result ≡ has_truths (view value.now) }
+#[tactic(auto, unfolding(crate::specs::Start::has_truths))]
+fn has_truths(alloc: Global, value: &Value<'_>) -> Result<bool, Miss>
+    ensures { Gives (λ b. b) result (Some (has_truths (view value.now))) }
 {
-    match value.as_object() {
-        None => false,
-        Some(members) => all_truths(members),
+    match value {
+        Value::Object(members) => all_truths(alloc, members.as_slice()),
+        _ => Ok(false),
     }
 }
 
 #[tactic(auto, unfolding(crate::specs::Start::truths_or_none))]
-fn truths_or_none<'v>(value: &'v Value, name: &str) -> Result<Option<&'v Value>, Miss>
-    ensures gives { Gives (λ o. option_map (λ v. view v.now) o) result
+fn truths_or_none<'v, 't>(
+    alloc: Global,
+    value: &'v Value<'t>,
+    name: &str,
+) -> Result<Option<&'v Value<'t>>, Miss>
+    ensures { Gives (λ o. option_map (λ v. view v.now) o) result
         (truths_or_none (get name.now (view value.now))) }
-    ensures shape { IfErr result IsShape }
 {
-    match value.get(name) {
+    match find(value, name) {
         None => Ok(None),
         Some(member) => {
-            if has_truths(member) {
+            if has_truths(alloc, member)? {
                 Ok(Some(member))
             } else {
                 Err(Miss::Shape)
@@ -52,13 +70,16 @@ fn truths_or_none<'v>(value: &'v Value, name: &str) -> Result<Option<&'v Value>,
 
 /// Where a run starts, with names.
 #[tactic(auto, unfolding(crate::specs::Start::start_at))]
-pub(crate) fn start_of(alloc: Global, value: &Value) -> Result<NamedStart<'_>, Miss>
+pub(crate) fn start_of<'v, 't>(
+    alloc: Global,
+    value: &'v Value<'t>,
+) -> Result<NamedStart<'v, 't>, Miss>
     ensures { Gives start_of result (start_at (view value.now)) }
 {
     if !has_only(value, &["inputs", "request", "fail"]) {
         return Err(Miss::Shape);
     }
-    let inputs = truths_or_none(value, "inputs")?;
+    let inputs = truths_or_none(alloc, value, "inputs")?;
     let request = texts_in(alloc, value, "request")?;
     let fail = texts_in(alloc, value, "fail")?;
     Ok(NamedStart {

@@ -2,15 +2,15 @@
 
 ghost use Rattle.std.specs.Prelude.{◌≡◌, map, codes, string_bytes, option_and_then, IfErr};
 ghost use Rattle.serde_json.specs.Find.{get};
-ghost use Rattle.serde_json.specs.View.{view};
+ghost use Rattle.tpl_json.specs.View.{view};
 ghost use Rattle.tpl_graph.specs.SeenDraft.{line_of, lines_of};
 ghost use Rattle.tpl_json.specs.Members.{Gives, each, IsShape};
 ghost use Rattle.tpl_reader.specs.Statements.{body_of, word_at, name_at, throw_at, check_at, cancel_at, start_at, bool_or_false, work_at, else_at, if_at, when_at, branch_at, is_branch, simple_at, object_at, statement_at, list_at, body_at};
 
-use serde_json::Value;
+use json::Value;
 use std::alloc::Global;
 use tpl_graph::{DraftBody, DraftStmt};
-use tpl_json::{Miss, bool_of, final_of, has_only, list_of, member_in, text_in};
+use tpl_json::{Miss, bool_of, final_of, find, has_only, list_of, member_in, text_in};
 
 #[tactic(auto, unfolding(crate::specs::Statements::word_at))]
 fn word_of(word: &str) -> Result<DraftStmt, Miss>
@@ -25,7 +25,7 @@ fn word_of(word: &str) -> Result<DraftStmt, Miss>
 }
 
 #[tactic(auto, unfolding(crate::specs::Statements::name_at))]
-fn name_of(alloc: Global, value: &Value, member: &str) -> Result<String, Miss>
+fn name_of(alloc: Global, value: &Value<'_>, member: &str) -> Result<String, Miss>
     ensures { Gives string_bytes result (name_at member.now (view value.now)) }
 {
     if !has_only(value, &[member]) {
@@ -36,7 +36,7 @@ fn name_of(alloc: Global, value: &Value, member: &str) -> Result<String, Miss>
 }
 
 #[tactic(auto, unfolding(crate::specs::Statements::throw_at))]
-fn throw_of(alloc: Global, value: &Value) -> Result<DraftStmt, Miss>
+fn throw_of(alloc: Global, value: &Value<'_>) -> Result<DraftStmt, Miss>
     ensures { Gives line_of result (throw_at (view value.now)) }
 {
     let name = name_of(alloc, value, "throw")?;
@@ -44,7 +44,7 @@ fn throw_of(alloc: Global, value: &Value) -> Result<DraftStmt, Miss>
 }
 
 #[tactic(auto, unfolding(crate::specs::Statements::check_at))]
-fn check_of(alloc: Global, value: &Value) -> Result<DraftStmt, Miss>
+fn check_of(alloc: Global, value: &Value<'_>) -> Result<DraftStmt, Miss>
     ensures { Gives line_of result (check_at (view value.now)) }
 {
     let name = name_of(alloc, value, "check")?;
@@ -52,7 +52,7 @@ fn check_of(alloc: Global, value: &Value) -> Result<DraftStmt, Miss>
 }
 
 #[tactic(auto, unfolding(crate::specs::Statements::cancel_at))]
-fn cancel_of(alloc: Global, value: &Value) -> Result<DraftStmt, Miss>
+fn cancel_of(alloc: Global, value: &Value<'_>) -> Result<DraftStmt, Miss>
     ensures { Gives line_of result (cancel_at (view value.now)) }
 {
     let name = name_of(alloc, value, "cancel")?;
@@ -60,7 +60,7 @@ fn cancel_of(alloc: Global, value: &Value) -> Result<DraftStmt, Miss>
 }
 
 #[tactic(auto, unfolding(crate::specs::Statements::start_at))]
-fn start_of(alloc: Global, value: &Value) -> Result<DraftStmt, Miss>
+fn start_of(alloc: Global, value: &Value<'_>) -> Result<DraftStmt, Miss>
     ensures { Gives line_of result (start_at (view value.now)) }
 {
     let name = name_of(alloc, value, "start")?;
@@ -68,18 +68,18 @@ fn start_of(alloc: Global, value: &Value) -> Result<DraftStmt, Miss>
 }
 
 #[tactic(auto, unfolding(crate::specs::Statements::bool_or_false))]
-fn bool_or_false(value: &Value, name: &str) -> Result<bool, Miss>
+fn bool_or_false(value: &Value<'_>, name: &str) -> Result<bool, Miss>
     ensures gives { Gives (λ b. b) result (bool_or_false (get name.now (view value.now))) }
     ensures shape { IfErr result IsShape }
 {
-    match value.get(name) {
+    match find(value, name) {
         None => Ok(false),
         Some(member) => bool_of(member),
     }
 }
 
 #[tactic(auto, unfolding(crate::specs::Statements::work_at))]
-fn work_of(alloc: Global, value: &Value) -> Result<DraftStmt, Miss>
+fn work_of(alloc: Global, value: &Value<'_>) -> Result<DraftStmt, Miss>
     ensures { Gives line_of result (work_at (view value.now)) }
 {
     if !has_only(value, &["work", "may_fail"]) {
@@ -93,33 +93,33 @@ fn work_of(alloc: Global, value: &Value) -> Result<DraftStmt, Miss>
 
 /// Statements without lists of their own.
 #[tactic(auto, unfolding(crate::specs::Statements::simple_at))]
-fn simple_of(alloc: Global, value: &Value) -> Result<DraftStmt, Miss>
+fn simple_of(alloc: Global, value: &Value<'_>) -> Result<DraftStmt, Miss>
     ensures { Gives line_of result (simple_at (view value.now)) }
 {
-    if value.get("throw").is_some() {
+    if find(value, "throw").is_some() {
         return throw_of(alloc, value);
     }
-    if value.get("check").is_some() {
+    if find(value, "check").is_some() {
         return check_of(alloc, value);
     }
-    if value.get("cancel").is_some() {
+    if find(value, "cancel").is_some() {
         return cancel_of(alloc, value);
     }
-    if value.get("start").is_some() {
+    if find(value, "start").is_some() {
         return start_of(alloc, value);
     }
     work_of(alloc, value)
 }
 
 #[tactic(auto, unfolding(crate::specs::Statements::is_branch))]
-fn is_branch(value: &Value) -> bool
+fn is_branch(value: &Value<'_>) -> bool
     ensures { result ≡ is_branch (view value.now) }
 {
-    value.get("then").is_some()
+    find(value, "then").is_some()
 }
 
 #[cycle(body)]
-fn first_of(alloc: Global, levels: u32, value: &Value) -> Result<DraftBody, Miss>
+fn first_of(alloc: Global, levels: u32, value: &Value<'_>) -> Result<DraftBody, Miss>
     ensures { Gives (λ b. b) result (option_and_then (body_at levels)
         (get (codes "then") (view value.now))) }
 {
@@ -129,11 +129,11 @@ fn first_of(alloc: Global, levels: u32, value: &Value) -> Result<DraftBody, Miss
 
 #[cycle(body)]
 #[tactic(auto, unfolding(crate::specs::Statements::else_at))]
-fn second_of(alloc: Global, levels: u32, value: &Value) -> Result<DraftBody, Miss>
+fn second_of(alloc: Global, levels: u32, value: &Value<'_>) -> Result<DraftBody, Miss>
     ensures { Gives (λ b. b) result (else_at (body_at levels)
         (get (codes "else") (view value.now))) }
 {
-    match value.get("else") {
+    match find(value, "else") {
         None => Ok(DraftBody::new(Vec::new(alloc))),
         Some(list) => body_of(alloc, levels, list),
     }
@@ -141,7 +141,7 @@ fn second_of(alloc: Global, levels: u32, value: &Value) -> Result<DraftBody, Mis
 
 #[cycle(body)]
 #[tactic(auto, unfolding(crate::specs::Statements::if_at))]
-fn if_of(alloc: Global, levels: u32, value: &Value) -> Result<DraftStmt, Miss>
+fn if_of(alloc: Global, levels: u32, value: &Value<'_>) -> Result<DraftStmt, Miss>
     ensures { Gives line_of result (if_at (body_at levels) (view value.now)) }
 {
     if !has_only(value, &["if", "then", "else"]) {
@@ -156,7 +156,7 @@ fn if_of(alloc: Global, levels: u32, value: &Value) -> Result<DraftStmt, Miss>
 
 #[cycle(body)]
 #[tactic(auto, unfolding(crate::specs::Statements::when_at))]
-fn when_of(alloc: Global, levels: u32, value: &Value) -> Result<DraftStmt, Miss>
+fn when_of(alloc: Global, levels: u32, value: &Value<'_>) -> Result<DraftStmt, Miss>
     ensures { Gives line_of result (when_at (body_at levels) (view value.now)) }
 {
     if !has_only(value, &["when", "then", "else"]) {
@@ -170,10 +170,10 @@ fn when_of(alloc: Global, levels: u32, value: &Value) -> Result<DraftStmt, Miss>
 
 #[cycle(body)]
 #[tactic(auto, unfolding(crate::specs::Statements::branch_at))]
-fn branch_of(alloc: Global, levels: u32, value: &Value) -> Result<DraftStmt, Miss>
+fn branch_of(alloc: Global, levels: u32, value: &Value<'_>) -> Result<DraftStmt, Miss>
     ensures { Gives line_of result (branch_at (body_at levels) (view value.now)) }
 {
-    if value.get("if").is_some() {
+    if find(value, "if").is_some() {
         return if_of(alloc, levels, value);
     }
     when_of(alloc, levels, value)
@@ -181,11 +181,11 @@ fn branch_of(alloc: Global, levels: u32, value: &Value) -> Result<DraftStmt, Mis
 
 #[cycle(body)]
 #[tactic(auto, unfolding(crate::specs::Statements::statement_at, crate::specs::Statements::object_at))]
-fn statement_of(alloc: Global, levels: u32, value: &Value) -> Result<DraftStmt, Miss>
+fn statement_of(alloc: Global, levels: u32, value: &Value<'_>) -> Result<DraftStmt, Miss>
     ensures { Gives line_of result (statement_at (body_at levels) (view value.now)) }
 {
     match value {
-        Value::String(word) => word_of(word.as_str()),
+        Value::String(word) => word_of(word),
         Value::Object(_) => {
             if is_branch(value) {
                 branch_of(alloc, levels, value)
@@ -198,7 +198,7 @@ fn statement_of(alloc: Global, levels: u32, value: &Value) -> Result<DraftStmt, 
 }
 
 #[cycle(body)]
-fn statements_of(alloc: Global, levels: u32, values: &[Value]) -> Result<Vec<DraftStmt>, Miss>
+fn statements_of(alloc: Global, levels: u32, values: &[Value<'_>]) -> Result<Vec<DraftStmt>, Miss>
     ensures { Gives (λ v. map line_of v.items) result (each (statement_at (body_at levels))
         (map view values.now)) }
 {
@@ -212,7 +212,7 @@ fn statements_of(alloc: Global, levels: u32, values: &[Value]) -> Result<Vec<Dra
 
 #[cycle(body)]
 #[tactic(auto, unfolding(crate::specs::Statements::list_at), using(crate::proofs::Bodies::lines_of_all))]
-fn list_of_statements(alloc: Global, levels: u32, value: &Value) -> Result<DraftBody, Miss>
+fn list_of_statements(alloc: Global, levels: u32, value: &Value<'_>) -> Result<DraftBody, Miss>
     ensures { Gives (λ b. b) result (list_at (body_at levels) (view value.now)) }
 {
     let list = list_of(value)?;
@@ -223,7 +223,7 @@ fn list_of_statements(alloc: Global, levels: u32, value: &Value) -> Result<Draft
 /// A list of statements, with lists in lists to this depth.
 #[cycle(body)]
 #[tactic(auto, using(crate::proofs::Bodies::levels))]
-pub(crate) fn body_of(alloc: Global, levels: u32, value: &Value) -> Result<DraftBody, Miss>
+pub(crate) fn body_of(alloc: Global, levels: u32, value: &Value<'_>) -> Result<DraftBody, Miss>
     ensures { Gives (λ b. b) result (body_at levels (view value.now)) }
 {
     if levels == 0 {

@@ -3,20 +3,22 @@
 ghost use Rattle.std.specs.Prelude.{◌≡◌, map, codes, string_bytes, option_and_then, IfErr};
 ghost use Rattle.std.specs.Option.{option_map};
 ghost use Rattle.serde_json.specs.Find.{get, as_str};
-ghost use Rattle.serde_json.specs.View.{view};
+ghost use Rattle.tpl_json.specs.View.{view};
 ghost use Rattle.tpl_graph.specs.SeenTasks.{work_of, kind_of, task_of, token_of};
 ghost use Rattle.tpl_json.specs.Members.{Gives, each, IsShape};
 ghost use Rattle.tpl_reader.specs.Tasks.{option_at, options_at, text_or_none, work_at, root_at, child_at, then_at, args_at, all_at, any_at, kind_at, task_at, linked_at, plain_at, token_at};
 
 use crate::statements::body_of;
-use serde_json::Value;
+use json::Value;
 use std::alloc::Global;
 use tpl_graph::{DraftKind, DraftTask, DraftToken, DraftWork};
-use tpl_json::{Miss, has_only, list_of, list_or_none, member_in, owned_texts, text_in, text_of};
+use tpl_json::{
+    Miss, find, has_only, list_of, list_or_none, member_in, owned_texts, text_in, text_of,
+};
 use tpl_words::Options;
 
 #[tactic(auto, unfolding(crate::specs::Tasks::option_at))]
-fn option_of(value: &Value) -> Result<Options, Miss>
+fn option_of(value: &Value<'_>) -> Result<Options, Miss>
     ensures gives { Gives (λ o. o) result (option_at (view value.now)) }
     ensures shape { IfErr result IsShape }
 {
@@ -27,7 +29,7 @@ fn option_of(value: &Value) -> Result<Options, Miss>
     }
 }
 
-fn options_of(values: &[Value]) -> Result<Options, Miss>
+fn options_of(values: &[Value<'_>]) -> Result<Options, Miss>
     ensures gives { Gives (λ o. o) result (options_at 0 (map view values.now)) }
     ensures shape { IfErr result IsShape }
 {
@@ -39,11 +41,11 @@ fn options_of(values: &[Value]) -> Result<Options, Miss>
 }
 
 #[tactic(auto, unfolding(crate::specs::Tasks::text_or_none))]
-fn text_or_none(alloc: Global, value: &Value, name: &str) -> Result<Option<String>, Miss>
+fn text_or_none(alloc: Global, value: &Value<'_>, name: &str) -> Result<Option<String>, Miss>
     ensures { Gives (λ o. option_map string_bytes o) result
         (text_or_none (get name.now (view value.now))) }
 {
-    match value.get(name) {
+    match find(value, name) {
         None => Ok(None),
         Some(member) => {
             let text = text_of(member)?;
@@ -53,7 +55,7 @@ fn text_or_none(alloc: Global, value: &Value, name: &str) -> Result<Option<Strin
 }
 
 #[tactic(auto, unfolding(crate::specs::Tasks::work_at))]
-fn work_of(alloc: Global, value: &Value) -> Result<DraftWork, Miss>
+fn work_of(alloc: Global, value: &Value<'_>) -> Result<DraftWork, Miss>
     ensures { Gives work_of result (work_at (view value.now)) }
 {
     let list = member_in(value, "body")?;
@@ -69,7 +71,7 @@ fn work_of(alloc: Global, value: &Value) -> Result<DraftWork, Miss>
 }
 
 #[tactic(auto, unfolding(crate::specs::Tasks::root_at))]
-fn root_of(alloc: Global, value: &Value) -> Result<DraftKind, Miss>
+fn root_of(alloc: Global, value: &Value<'_>) -> Result<DraftKind, Miss>
     ensures { Gives kind_of result (root_at (view value.now)) }
 {
     if !has_only(value, &["name", "kind", "body", "token", "options"]) {
@@ -80,7 +82,7 @@ fn root_of(alloc: Global, value: &Value) -> Result<DraftKind, Miss>
 }
 
 #[tactic(auto, unfolding(crate::specs::Tasks::child_at))]
-fn child_of(alloc: Global, value: &Value) -> Result<DraftKind, Miss>
+fn child_of(alloc: Global, value: &Value<'_>) -> Result<DraftKind, Miss>
     ensures { Gives kind_of result (child_at (view value.now)) }
 {
     if !has_only(value, &["name", "kind", "body", "token", "options"]) {
@@ -91,7 +93,7 @@ fn child_of(alloc: Global, value: &Value) -> Result<DraftKind, Miss>
 }
 
 #[tactic(auto, unfolding(crate::specs::Tasks::then_at))]
-fn then_of(alloc: Global, value: &Value) -> Result<DraftKind, Miss>
+fn then_of(alloc: Global, value: &Value<'_>) -> Result<DraftKind, Miss>
     ensures { Gives kind_of result (then_at (view value.now)) }
 {
     if !has_only(
@@ -107,7 +109,7 @@ fn then_of(alloc: Global, value: &Value) -> Result<DraftKind, Miss>
 }
 
 #[tactic(auto, unfolding(crate::specs::Tasks::args_at))]
-fn args_of(alloc: Global, value: &Value) -> Result<Vec<String>, Miss>
+fn args_of(alloc: Global, value: &Value<'_>) -> Result<Vec<String>, Miss>
     ensures { Gives (λ v. map string_bytes v.items) result (args_at (view value.now)) }
 {
     if !has_only(value, &["name", "kind", "of"]) {
@@ -118,7 +120,7 @@ fn args_of(alloc: Global, value: &Value) -> Result<Vec<String>, Miss>
 }
 
 #[tactic(auto, unfolding(crate::specs::Tasks::all_at))]
-fn all_of(alloc: Global, value: &Value) -> Result<DraftKind, Miss>
+fn all_of(alloc: Global, value: &Value<'_>) -> Result<DraftKind, Miss>
     ensures { Gives kind_of result (all_at (view value.now)) }
 {
     let args = args_of(alloc, value)?;
@@ -126,7 +128,7 @@ fn all_of(alloc: Global, value: &Value) -> Result<DraftKind, Miss>
 }
 
 #[tactic(auto, unfolding(crate::specs::Tasks::any_at))]
-fn any_of(alloc: Global, value: &Value) -> Result<DraftKind, Miss>
+fn any_of(alloc: Global, value: &Value<'_>) -> Result<DraftKind, Miss>
     ensures { Gives kind_of result (any_at (view value.now)) }
 {
     let args = args_of(alloc, value)?;
@@ -134,7 +136,7 @@ fn any_of(alloc: Global, value: &Value) -> Result<DraftKind, Miss>
 }
 
 #[tactic(auto, unfolding(crate::specs::Tasks::kind_at))]
-fn kind_of(alloc: Global, kind: &str, value: &Value) -> Result<DraftKind, Miss>
+fn kind_of(alloc: Global, kind: &str, value: &Value<'_>) -> Result<DraftKind, Miss>
     ensures { Gives kind_of result (kind_at kind.now (view value.now)) }
 {
     match kind {
@@ -149,7 +151,7 @@ fn kind_of(alloc: Global, kind: &str, value: &Value) -> Result<DraftKind, Miss>
 
 /// A task with names.
 #[tactic(auto, unfolding(crate::specs::Tasks::task_at))]
-pub(crate) fn task_of(alloc: Global, value: &Value) -> Result<DraftTask, Miss>
+pub(crate) fn task_of(alloc: Global, value: &Value<'_>) -> Result<DraftTask, Miss>
     ensures { Gives task_of result (task_at (view value.now)) }
 {
     let name = text_in(value, "name")?;
@@ -160,7 +162,7 @@ pub(crate) fn task_of(alloc: Global, value: &Value) -> Result<DraftTask, Miss>
 }
 
 #[tactic(auto, unfolding(crate::specs::Tasks::linked_at))]
-fn linked_of(alloc: Global, value: &Value) -> Result<DraftToken, Miss>
+fn linked_of(alloc: Global, value: &Value<'_>) -> Result<DraftToken, Miss>
     ensures { Gives token_of result (linked_at (view value.now)) }
 {
     if !has_only(value, &["name", "linked"]) {
@@ -186,11 +188,11 @@ fn plain_of(alloc: Global, name: &str) -> Result<DraftToken, Miss>
 
 /// A token: a name, or, where links are allowed, an object that links it to others.
 #[tactic(auto, unfolding(crate::specs::Tasks::token_at))]
-pub(crate) fn token_of(alloc: Global, links: bool, value: &Value) -> Result<DraftToken, Miss>
+pub(crate) fn token_of(alloc: Global, links: bool, value: &Value<'_>) -> Result<DraftToken, Miss>
     ensures { Gives token_of result (token_at links (view value.now)) }
 {
     match value {
-        Value::String(name) => plain_of(alloc, name.as_str()),
+        Value::String(name) => plain_of(alloc, name),
         Value::Object(_) => {
             if links {
                 linked_of(alloc, value)

@@ -4,7 +4,7 @@ ghost use Rattle.std.specs.Prelude.{◌≡◌, ◌≤◌, map, codes, string_byt
 ghost use Rattle.std.specs.Option.{option_map};
 ghost use Rattle.serde_json.specs.Data.{depth};
 ghost use Rattle.serde_json.specs.Find.{get, as_number, as_u64};
-ghost use Rattle.serde_json.specs.View.{view};
+ghost use Rattle.tpl_json.specs.View.{view};
 ghost use Rattle.tpl_json.specs.Members.{Gives, each, IsShape};
 ghost use Rattle.tpl_graph.specs.SeenTasks.{token_of, task_of};
 ghost use Rattle.tpl_reader.specs.SeenClaims.{claim_of};
@@ -19,21 +19,23 @@ use crate::claims::claim_of;
 use crate::fault::Halt;
 use crate::named::NamedClaim;
 use crate::tasks::{task_of, token_of};
-use serde_json::Value;
+use json::Value;
 use std::alloc::Global;
 use tpl_graph::{DraftTask, DraftToken};
-use tpl_json::{Miss, has_only, list_of, list_or_none, member_in, owned_texts, text_of};
+use tpl_json::{
+    Miss, find, has_only, list_of, list_or_none, member_in, number_of, owned_texts, text_of,
+};
 
 /// The members of a document: its lists, of which those of tasks, claims and trees aren't read yet.
 #[derive(Drop)]
-pub(crate) struct Members<'v> {
+pub(crate) struct Members<'v, 't> {
     pub(crate) inputs: Vec<String>,
     pub(crate) tokens: Vec<DraftToken>,
-    pub(crate) tasks: &'v [Value],
-    pub(crate) claims: &'v [Value],
-    pub(crate) certificate: &'v [Value],
+    pub(crate) tasks: &'v [Value<'t>],
+    pub(crate) claims: &'v [Value<'t>],
+    pub(crate) certificate: &'v [Value<'t>],
     pub(crate) journal: &'v str,
-    pub(crate) start: Option<&'v Value>,
+    pub(crate) start: Option<&'v Value<'t>>,
 }
 
 #[tactic(auto, unfolding(crate::specs::Top::links_in))]
@@ -52,17 +54,15 @@ fn links_in(version: u64) -> Result<bool, Miss>
 
 /// The version: whether tokens may be linked.
 #[tactic(auto, unfolding(crate::specs::Top::version_at))]
-fn version_of(value: &Value) -> Result<bool, Miss>
+fn version_of(value: &Value<'_>) -> Result<bool, Miss>
     ensures gives { Gives (λ b. b) result (version_at (view value.now)) }
     ensures shape { IfErr result IsShape }
 {
-    match value.get("version").and_then(Value::as_u64) {
-        None => Err(Miss::Shape),
-        Some(version) => links_in(version),
-    }
+    let version = number_of(member_in(value, "version")?)?;
+    links_in(version)
 }
 
-fn tokens_of(alloc: Global, links: bool, values: &[Value]) -> Result<Vec<DraftToken>, Miss>
+fn tokens_of(alloc: Global, links: bool, values: &[Value<'_>]) -> Result<Vec<DraftToken>, Miss>
     ensures { Gives (λ v. map token_of v.items) result (each (token_at links)
         (map view values.now)) }
 {
@@ -75,11 +75,11 @@ fn tokens_of(alloc: Global, links: bool, values: &[Value]) -> Result<Vec<DraftTo
 }
 
 #[tactic(auto, unfolding(crate::specs::Top::text_or_empty))]
-fn text_or_empty<'v>(value: &'v Value, name: &str) -> Result<&'v str, Miss>
+fn text_or_empty<'v, 't>(value: &'v Value<'t>, name: &str) -> Result<&'v str, Miss>
     ensures gives { Gives (λ s. s.now) result (text_or_empty (get name.now (view value.now))) }
     ensures shape { IfErr result IsShape }
 {
-    match value.get(name) {
+    match find(value, name) {
         None => Ok(""),
         Some(member) => text_of(member),
     }
@@ -87,7 +87,10 @@ fn text_or_empty<'v>(value: &'v Value, name: &str) -> Result<&'v str, Miss>
 
 /// The members of a document.
 #[tactic(auto, unfolding(crate::specs::Top::top_at))]
-pub(crate) fn members_of(alloc: Global, value: &Value) -> Result<Members<'_>, Miss>
+pub(crate) fn members_of<'v, 't>(
+    alloc: Global,
+    value: &'v Value<'t>,
+) -> Result<Members<'v, 't>, Miss>
     ensures { Gives members_of result (top_at (view value.now)) }
 {
     if !has_only(
@@ -114,7 +117,7 @@ pub(crate) fn members_of(alloc: Global, value: &Value) -> Result<Members<'_>, Mi
     let claims = list_or_none(value, "claims")?;
     let certificate = list_or_none(value, "certificate")?;
     let journal = text_or_empty(value, "journal")?;
-    let start = value.get("start");
+    let start = find(value, "start");
     Ok(Members {
         inputs,
         tokens,
@@ -126,7 +129,7 @@ pub(crate) fn members_of(alloc: Global, value: &Value) -> Result<Members<'_>, Mi
     })
 }
 
-fn numbered_task(alloc: Global, number: usize, value: &Value) -> Result<DraftTask, Halt<()>>
+fn numbered_task(alloc: Global, number: usize, value: &Value<'_>) -> Result<DraftTask, Halt<()>>
     requires { depth (view value.now) ≤ 127 }
     ensures { Here IsTask IsNoTask (view value.now) number task_of result }
 {
@@ -138,7 +141,7 @@ fn numbered_task(alloc: Global, number: usize, value: &Value) -> Result<DraftTas
 }
 
 /// The tasks with names, up to the first of the wrong shape.
-pub(crate) fn tasks_of(alloc: Global, values: &[Value]) -> Result<Vec<DraftTask>, Halt<()>>
+pub(crate) fn tasks_of(alloc: Global, values: &[Value<'_>]) -> Result<Vec<DraftTask>, Halt<()>>
     requires { AreShallow (map view values.now) }
     ensures { Passes IsTask IsNoTask (map view values.now) (λ v. map task_of v.items) result }
 {
@@ -150,7 +153,11 @@ pub(crate) fn tasks_of(alloc: Global, values: &[Value]) -> Result<Vec<DraftTask>
     Ok(tasks)
 }
 
-fn numbered_claim(alloc: Global, number: usize, value: &Value) -> Result<NamedClaim<'_>, Halt<()>>
+fn numbered_claim<'v, 't>(
+    alloc: Global,
+    number: usize,
+    value: &'v Value<'t>,
+) -> Result<NamedClaim<'v>, Halt<()>>
     ensures { Here IsClaim IsNoClaim (view value.now) number claim_of result }
 {
     match claim_of(alloc, value) {
@@ -161,7 +168,10 @@ fn numbered_claim(alloc: Global, number: usize, value: &Value) -> Result<NamedCl
 }
 
 /// The claims with names, up to the first of the wrong shape.
-pub(crate) fn claims_of(alloc: Global, values: &[Value]) -> Result<Vec<NamedClaim<'_>>, Halt<()>>
+pub(crate) fn claims_of<'v, 't>(
+    alloc: Global,
+    values: &'v [Value<'t>],
+) -> Result<Vec<NamedClaim<'v>>, Halt<()>>
     ensures { Passes IsClaim IsNoClaim (map view values.now) (λ v. map claim_of v.items) result }
 {
     let mut claims = Vec::new(alloc);

@@ -1,12 +1,12 @@
 //! The trees of a certificate.
 
 ghost use Rattle.std.specs.Prelude.{map};
-ghost use Rattle.serde_json.specs.View.{view};
+ghost use Rattle.tpl_json.specs.View.{view};
 ghost use Rattle.tpl_cert.specs.Spelled.{ReadsAs, IsWrongTree};
 ghost use Rattle.tpl_reader.specs.Passes.{Passes, Here};
 
 use crate::fault::Halt;
-use serde_json::Value;
+use json::Value;
 use std::alloc::Global;
 use tpl_cert::{Tree, TreeFault, tree_from};
 use tpl_graph::Graph;
@@ -15,7 +15,7 @@ fn numbered_tree(
     alloc: Global,
     graph: &Graph,
     number: usize,
-    value: &Value,
+    value: &Value<'_>,
 ) -> Result<Tree, Halt<TreeFault>>
     ensures { Here (ReadsAs graph.now.names) (IsWrongTree graph.now.names) (view value.now) number
         (λ t. t) result }
@@ -30,7 +30,7 @@ fn numbered_tree(
 pub(crate) fn trees_in(
     alloc: Global,
     graph: &Graph,
-    values: &[Value],
+    values: &[Value<'_>],
 ) -> Result<Vec<Tree>, Halt<TreeFault>>
     ensures { Passes (ReadsAs graph.now.names) (IsWrongTree graph.now.names) (map view values.now)
         (λ v. v.items) result }

@@ -1,6 +1,6 @@
 use Rattle.std.proofs.Common.{refl, sym, true≢false}
 use Rattle.std.proofs.lemmas.Result.{err_from_is_err_and}
-use Rattle.serde_json.specs.View.{view}
+use Rattle.tpl_json.specs.View.{view}
 use Rattle.tpl_cert.specs.Seen.{tree_of}
 use Rattle.tpl_cert.proofs.Whole.{no_spelling, wrong_names, spells}
 use Rattle.tpl_cert.proofs.from.tree_from.Goals as goal

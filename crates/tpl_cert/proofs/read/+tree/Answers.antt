@@ -1,6 +1,6 @@
 use Rattle.std.proofs.Common.{◌≡◌, arith, false, ◌∷◌, [], codes, refl, sym, subst, Some, rules}
 use Rattle.std.proofs.lemmas.Result.{err_from_is_err_and}
-use Rattle.serde_json.specs.View.{view}
+use Rattle.tpl_json.specs.View.{view}
 use Rattle.tpl_cert.specs.Seen.{tree_of}
 use Rattle.tpl_cert.specs.NamedTrees.{SplitInput}
 use Rattle.tpl_cert.specs.declared.named.NamedTree.{the_lemmas}

@@ -1,5 +1,5 @@
 use Rattle.std.proofs.Common.{◌≡◌, map, take, Some}
-use Rattle.serde_json.specs.View.{view}
+use Rattle.tpl_json.specs.View.{view}
 use Rattle.tpl_cert.specs.Reading.{row_at}
 use Rattle.tpl_cert.specs.Seen.{row_of}
 use Rattle.tpl_json.specs.Members.{each}

@@ -1,5 +1,5 @@
 use Rattle.std.proofs.Common.{◌≡◌, map, drop}
-use Rattle.serde_json.specs.View.{view}
+use Rattle.tpl_json.specs.View.{view}
 use Rattle.tpl_json.specs.Finals.{finals_at, no_finals}
 use Rattle.tpl_json.proofs.finals.finals_of.Given as goal
 

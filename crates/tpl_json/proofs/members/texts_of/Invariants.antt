@@ -1,5 +1,5 @@
 use Rattle.std.proofs.Common.{◌≡◌, map, take, Some}
-use Rattle.serde_json.specs.View.{view}
+use Rattle.tpl_json.specs.View.{view}
 use Rattle.serde_json.specs.Find.{as_str}
 use Rattle.tpl_json.specs.Members.{each}
 use Rattle.tpl_json.proofs.members.texts_of.Given as goal

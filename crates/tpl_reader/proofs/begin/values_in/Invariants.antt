@@ -1,5 +1,5 @@
 use Rattle.std.specs.Option.{option_map}
-use Rattle.serde_json.specs.View.{view}
+use Rattle.tpl_json.specs.View.{view}
 use Rattle.tpl_reader.proofs.Begins.{TruthsTo}
 use Rattle.tpl_reader.proofs.begin.values_in.Given as goal
 

@@ -1,6 +1,6 @@
 use Rattle.std.proofs.Common.{map}
 use Rattle.std.proofs.lemmas.Result.{err_from_is_err_and}
-use Rattle.serde_json.specs.View.{view}
+use Rattle.tpl_json.specs.View.{view}
 use Rattle.tpl_reader.specs.SeenDocument.{spelled_of}
 use Rattle.tpl_reader.proofs.Checkable.{all_fit, all_within}
 use Rattle.tpl_reader.proofs.Refusals.{claim_refused, tree_refused, start_refused}

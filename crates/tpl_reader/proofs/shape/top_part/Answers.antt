@@ -1,4 +1,4 @@
-use Rattle.serde_json.specs.View.{view}
+use Rattle.tpl_json.specs.View.{view}
 use Rattle.tpl_reader.specs.SeenTop.{members_of}
 use Rattle.tpl_reader.proofs.TopLaws.{top_sound, no_top}
 use Rattle.tpl_reader.proofs.shape.top_part.Goals as goal

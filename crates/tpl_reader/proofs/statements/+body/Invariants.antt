@@ -1,5 +1,5 @@
 use Rattle.std.proofs.Common.{◌≡◌, ◌+◌, ◌*◌, map, take, Some}
-use Rattle.serde_json.specs.View.{view}
+use Rattle.tpl_json.specs.View.{view}
 use Rattle.tpl_graph.specs.SeenDraft.{line_of}
 use Rattle.tpl_json.specs.Members.{each}
 use Rattle.tpl_reader.specs.Statements.{statement_at, body_at}

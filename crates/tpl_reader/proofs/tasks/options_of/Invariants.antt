@@ -1,5 +1,5 @@
 use Rattle.std.proofs.Common.{◌≡◌, map, drop}
-use Rattle.serde_json.specs.View.{view}
+use Rattle.tpl_json.specs.View.{view}
 use Rattle.tpl_reader.specs.Tasks.{options_at}
 use Rattle.tpl_reader.proofs.tasks.options_of.Given as goal
 

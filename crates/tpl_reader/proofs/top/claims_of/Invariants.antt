@@ -1,5 +1,5 @@
 use Rattle.std.proofs.Common.{map, take}
-use Rattle.serde_json.specs.View.{view}
+use Rattle.tpl_json.specs.View.{view}
 use Rattle.tpl_reader.specs.SeenClaims.{claim_of}
 use Rattle.tpl_reader.specs.ClaimGrammar.{IsClaim}
 use Rattle.tpl_reader.specs.Passes.{AllRead}

@@ -1,5 +1,5 @@
 use Rattle.std.proofs.Common.{refl}
-use Rattle.serde_json.specs.View.{view}
+use Rattle.tpl_json.specs.View.{view}
 use Rattle.tpl_reader.specs.SeenClaims.{claim_of}
 use Rattle.tpl_reader.proofs.ClaimLaws.{claim_sound, no_claim}
 use Rattle.tpl_reader.proofs.top.numbered_claim.Goals as goal

@@ -1,5 +1,5 @@
 use Rattle.std.proofs.Common.{map, take}
-use Rattle.serde_json.specs.View.{view}
+use Rattle.tpl_json.specs.View.{view}
 use Rattle.tpl_graph.specs.SeenTasks.{task_of}
 use Rattle.tpl_reader.specs.TaskGrammar.{IsTask}
 use Rattle.tpl_reader.specs.Passes.{AllRead}

@@ -1,5 +1,5 @@
 use Rattle.std.proofs.lemmas.Result.{err_from_is_err_and}
-use Rattle.serde_json.specs.View.{view}
+use Rattle.tpl_json.specs.View.{view}
 use Rattle.tpl_cert.specs.Spelled.{ReadsAs, IsWrongTree}
 use Rattle.tpl_reader.proofs.Passes.{read_more, halts_here}
 use Rattle.tpl_reader.proofs.trees.trees_in.Goals as goal

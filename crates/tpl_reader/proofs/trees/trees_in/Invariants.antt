@@ -1,5 +1,5 @@
 use Rattle.std.proofs.Common.{map, take}
-use Rattle.serde_json.specs.View.{view}
+use Rattle.tpl_json.specs.View.{view}
 use Rattle.tpl_cert.specs.Spelled.{ReadsAs}
 use Rattle.tpl_reader.specs.Passes.{AllRead}
 use Rattle.tpl_reader.proofs.trees.trees_in.Given as goal
