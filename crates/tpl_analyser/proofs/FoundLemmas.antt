@@ -1,5 +1,5 @@
 -- Trees of trees that are found.
-use Rattle.std.proofs.Common.{◌≡◌, ℕ, ◌+◌, ◌<◌, ◌≤◌, true, false, List, subst, sym, arith}
+use Rattle.std.proofs.Common.{◌≡◌, ℕ, ◌+◌, ◌<◌, ◌≤◌, true, false, List, Option, Some, None, Result, Ok, Err, IfOk, IfSome, subst, sym, arith}
 use Rattle.tpl_words.specs.declared.finals.Final.TheVariants.{RanToCompletion, Canceled, Faulted}
 use Rattle.tpl_model.specs.Graph.{TaskGraph, is_task}
 use Rattle.tpl_model.specs.declared.claim.Property.{Property}
@@ -11,6 +11,12 @@ use Rattle.tpl_analyser.specs.Slim.{AreOfForm, IsOfForm}
 
 pub found_deeper : (g : TaskGraph) (p : Property) (form : Form) (l : Assumed) (n m : ℕ) (t : Tree) → n ≤ m → IsFound g p form l n t → IsFound g p form l m t
 found_deeper g p form l n m t le f = record { accepted = f.accepted; splits = omega arith; chains = f.chains; of_form = f.of_form }
+
+-- what holds of a tree, if one is found
+pub if_found : {T E : Type 0} (P Q : T → Type 0) → ((t : T) → P t → Q t) → (r : Result (Option T) E) → IfOk r (λ found. IfSome found P) → IfOk r (λ found. IfSome found Q)
+if_found P Q f (Ok None) h = tt
+if_found P Q f (Ok (Some t)) h = f t h
+if_found P Q f (Err e) h = tt
 
 pub leaf_found : (g : TaskGraph) (p : Property) (form : Form) (l : Assumed) (rows others : List Row) (t : Tree) → t ≡ Leaf others → rows ≡ others → AcceptsTree g p l (Leaf rows) → HasShortChains t → AreOfForm form p rows → IsFound g p form l 0 t
 leaf_found g p form l rows others t e same a short of_form = record {

@@ -1,3 +1,4 @@
 pub mod FoundLemmas
+pub mod PlanLemmas
 pub mod GapLemmas
 pub mod SlimLemmas

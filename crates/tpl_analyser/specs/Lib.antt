@@ -4,3 +4,4 @@ pub mod Gaps
 pub mod Missed
 pub mod Questions
 pub mod Slim
+pub mod Plans

@@ -37,6 +37,7 @@ impl Branch {
             graph: question.graph,
             below: question.below,
             stages: question.stages,
+            followers: question.followers,
             assumed: &assumed,
         };
         let outline = outline_under(setting, &question.cone.tasks, &Outline::unsettled(), true);
@@ -83,6 +84,7 @@ impl Branch {
             graph: question.graph,
             below: question.below,
             stages: question.stages,
+            followers: question.followers,
             assumed: &assumed,
         };
         let outline = outline_under(setting, &question.cone.tasks, &self.outline, all);

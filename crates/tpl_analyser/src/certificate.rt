@@ -5,11 +5,11 @@ ghost use Rattle.std.specs.List.{All};
 ghost use Rattle.tpl_cert.specs.Heights.{height};
 ghost use Rattle.tpl_claims.specs.Fits.{Fits};
 ghost use Rattle.tpl_model.specs.Certificate.{Accepts, assumed};
-ghost use Rattle.tpl_checker.specs.Assumptions.{assumed_of};
 ghost use Rattle.tpl_checker.specs.Below.{AreBelow};
 ghost use Rattle.tpl_analyser.specs.Found.{IsFound};
 ghost use Rattle.tpl_analyser.specs.Gaps.{IsGap};
 ghost use Rattle.tpl_analyser.specs.Missed.{gap_of};
+ghost use Rattle.tpl_analyser.specs.Plans.{IsPlan};
 ghost use Rattle.tpl_analyser.specs.Questions.{IsReady};
 ghost use Rattle.tpl_analyser.specs.Slim.{IsCertificateOf};
 ghost use Rattle.tpl_analyser.specs.Splits.{IsSplitOf};
@@ -21,8 +21,9 @@ use crate::choice::{Bound, bound_of};
 use crate::cone::Cone;
 use crate::form::Form;
 use crate::gap::Gap;
-use crate::leaf::leaf;
+use crate::leaf::is_leaf;
 use crate::missed::{Missed, RanOut};
+use crate::plan::{grown, no_split};
 use crate::question::Question;
 use crate::search::{Reach, split};
 use crate::split::{Split, all_splits};
@@ -32,7 +33,7 @@ use tpl_cert::{Certificate, Tree};
 use tpl_checker::Below;
 use tpl_claims::Claim;
 use tpl_graph::Graph;
-use tpl_outline::{Stage, stages_of};
+use tpl_outline::{Followers, Stage, stages_of};
 
 /// Searches for a certificate of the claims, each of which can be asked of the graph, with at most
 /// `depth` splits on each path, and at most 6, whose rows say all that the rules permit. For each
@@ -100,6 +101,7 @@ pub fn analyse_watched<W: Watch>(
 {
     let below = Below::of_graph(graph);
     let stages = stages_of(alloc, graph, &below)?;
+    let followers = Followers::of_graph(alloc, graph)?;
     let splits = all_splits(alloc, graph)?;
     let mut budget = Budget::new(watch);
     let mut trees = Vec::new(alloc);
@@ -110,6 +112,7 @@ pub fn analyse_watched<W: Watch>(
             graph,
             &below,
             &stages,
+            &followers,
             &splits,
             &claims[at],
             form,
@@ -134,6 +137,7 @@ fn tree_for<W: Watch>(
     graph: &Graph,
     below: &Below,
     stages: &[Stage],
+    followers: &Followers,
     splits: &[Split],
     claim: &Claim,
     form: Form,
@@ -152,16 +156,20 @@ fn tree_for<W: Watch>(
         graph,
         below,
         stages,
+        followers,
         property: claim.body(),
         form,
         splits,
         cone: &cone,
     };
     let root = Branch::root(question, claim.given());
-    deepened(alloc, question, &root, depth, budget)
+    match deepened(alloc, question, &root, depth, budget)? {
+        None => Ok(None),
+        Some(plan) => grown(alloc, question, &root, &plan),
+    }
 }
 
-/// A tree with as few splits on a path as one is found with: in the order of the search, and where
+/// The plan of a tree with as few splits on a path as one is found with: in the order of the search, and where
 /// that uses its leaves up, by a directed search.
 fn deepened<W: Watch>(
     alloc: Global,
@@ -171,11 +179,11 @@ fn deepened<W: Watch>(
     budget: &mut Budget<W>,
 ) -> Result<Option<Tree>, AllocError>
     requires { IsReady question }
-    ensures { IfOk result (λ found. IfSome found (IsFound question.entry.graph.now.graph
-        question.entry.property question.entry.form (assumed_of root.now.assumed) depth)) }
+    ensures { IfOk result
+        (λ found. IfSome found (IsPlan question.entry.graph.now.graph depth)) }
 {
-    if let Some(tree) = leaf(alloc, question, root, budget)? {
-        return Ok(Some(tree));
+    if is_leaf(alloc, question, root, budget)? {
+        return Ok(Some(no_split(alloc)));
     }
     if depth == 0 {
         return Ok(None);
@@ -190,7 +198,7 @@ fn deepened<W: Watch>(
     by_depth(alloc, question, root, depth, true, budget)
 }
 
-/// A tree with a split at its top: one with few splits on a path before one with more.
+/// A plan with a split at its top: one with few splits on a path before one with more.
 fn by_depth<W: Watch>(
     alloc: Global,
     question: Question<'_>,
@@ -200,8 +208,8 @@ fn by_depth<W: Watch>(
     budget: &mut Budget<W>,
 ) -> Result<Option<Tree>, AllocError>
     requires { IsReady question }
-    ensures { IfOk result (λ found. IfSome found (IsFound question.entry.graph.now.graph
-        question.entry.property question.entry.form (assumed_of root.now.assumed) depth)) }
+    ensures { IfOk result
+        (λ found. IfSome found (IsPlan question.entry.graph.now.graph depth)) }
 {
     let Some(bound) = bound_of(alloc, question, root, depth, budget)? else {
         return Ok(None);
@@ -219,7 +227,7 @@ fn by_depth<W: Watch>(
     Ok(None)
 }
 
-/// A tree with a split at its top and this many on a path, if that many may be enough.
+/// A plan with a split at its top and this many on a path, if that many may be enough.
 fn at_depth<W: Watch>(
     alloc: Global,
     question: Question<'_>,
@@ -230,8 +238,8 @@ fn at_depth<W: Watch>(
 ) -> Result<Option<Tree>, AllocError>
     requires question { IsReady question }
     requires splits { 0 < reach.splits }
-    ensures { IfOk result (λ found. IfSome found (IsFound question.entry.graph.now.graph
-        question.entry.property question.entry.form (assumed_of root.now.assumed) reach.splits)) }
+    ensures { IfOk result
+        (λ found. IfSome found (IsPlan question.entry.graph.now.graph reach.splits)) }
 {
     if bound.least() > reach.splits as u32 {
         return Ok(None);

@@ -17,21 +17,16 @@ use tpl_checker::accepts_leaf;
 use tpl_outline::{Setting, least_rows, reached};
 use tpl_words::TaskId;
 
-/// Builds and tests the leaf of a branch: the leaf, if it is accepted. It uses up one of the leaves that
-/// may be tried; where none is left, there is no leaf.
-pub(crate) fn leaf<W: Watch>(
+/// Builds and tests the leaf of a branch: the leaf, if it is accepted.
+pub(crate) fn leaf(
     alloc: Global,
     question: Question<'_>,
     branch: &Branch,
-    budget: &mut Budget<W>,
 ) -> Result<Option<Tree>, AllocError>
     requires { IsReady question }
     ensures { IfOk result (λ found. IfSome found (IsFound question.entry.graph.now.graph
         question.entry.property question.entry.form (assumed_of branch.now.assumed) 0)) }
 {
-    if !budget.spend() {
-        return Ok(None);
-    }
     match chain_of(alloc, question, branch)? {
         None => Ok(None),
         Some(chain) => {
@@ -39,6 +34,21 @@ pub(crate) fn leaf<W: Watch>(
             Ok(tested(question, branch, rows))
         }
     }
+}
+
+/// Whether the least rows of the branch prove the property. It uses up one of the leaves that may be tried; where none is
+/// left, it answers that they don't.
+pub(crate) fn is_leaf<W: Watch>(
+    alloc: Global,
+    question: Question<'_>,
+    branch: &Branch,
+    budget: &mut Budget<W>,
+) -> Result<bool, AllocError> {
+    if !budget.spend() {
+        return Ok(false);
+    }
+    let chain = chain_of(alloc, question, branch)?;
+    Ok(chain.is_some())
 }
 
 /// Whether the least rows of the branch prove the property. It uses up one of the leaves that may be
@@ -66,6 +76,7 @@ fn chain_of(
         graph: question.graph,
         below: question.below,
         stages: question.stages,
+        followers: question.followers,
         assumed: &branch.assumed,
     };
     let tasks = &question.cone.tasks;
@@ -87,6 +98,7 @@ fn rows_of(
         graph: question.graph,
         below: question.below,
         stages: question.stages,
+        followers: question.followers,
         assumed: &branch.assumed,
     };
     let rows = least_rows(alloc, setting, question.property, chain)?;

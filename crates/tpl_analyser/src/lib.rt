@@ -11,6 +11,7 @@ mod form;
 mod gap;
 mod leaf;
 mod missed;
+mod plan;
 mod question;
 mod search;
 mod split;

@@ -6,7 +6,7 @@ use crate::split::Split;
 use tpl_checker::Below;
 use tpl_graph::Graph;
 use tpl_model::Property;
-use tpl_outline::Stage;
+use tpl_outline::{Followers, Stage};
 
 /// A claim's property and its graph, with what is made of the graph once.
 #[derive(Clone, Copy)]
@@ -14,6 +14,7 @@ pub(crate) struct Question<'s> {
     pub(crate) graph: &'s Graph,
     pub(crate) below: &'s Below,
     pub(crate) stages: &'s [Stage],
+    pub(crate) followers: &'s Followers,
     pub(crate) property: Property,
     /// How much the rows of a leaf are to say.
     pub(crate) form: Form,

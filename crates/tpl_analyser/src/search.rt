@@ -1,23 +1,22 @@
-//! The search for a tree: rows first, then splits on inputs in order, then on tasks in order, none
-//! twice on a path; only those that can lead to one.
+//! The search for the splits of a tree: none first, then splits on inputs in order, then on tasks in order, none twice on
+//! a path; only those that can lead to a tree. Rows are made once the splits are found.
 
 ghost use Rattle.std.specs.Prelude.{◌≡◌, ◌<◌, ◌+◌, IfOk, IfSome};
 ghost use Rattle.tpl_model.specs.Graph.{is_task};
-ghost use Rattle.tpl_model.specs.Certificate.{SplitEnd, SplitInput};
-ghost use Rattle.tpl_checker.specs.Assumptions.{assumed_of};
-ghost use Rattle.tpl_analyser.specs.Found.{IsFound};
+ghost use Rattle.tpl_analyser.specs.Plans.{IsPlan};
 ghost use Rattle.tpl_analyser.specs.Questions.{IsReady};
 ghost use Rattle.tpl_analyser.specs.Splits.{IsSplitOf};
 
 use crate::branch::Branch;
 use crate::budget::Budget;
 use crate::choice::{Choice, bound_of};
-use crate::leaf::leaf;
+use crate::leaf::is_leaf;
+use crate::plan::{end_tree, input_tree, no_split};
 use crate::question::Question;
 use crate::split::Split;
 use crate::watch::Watch;
 use std::alloc::{AllocError, Global};
-use tpl_cert::{Node, Tree};
+use tpl_cert::Tree;
 use tpl_words::{Final, InputId, TaskId};
 
 /// How far a search may go on.
@@ -45,38 +44,8 @@ impl Reach {
     }
 }
 
-/// The split on an input with these branches.
-fn input_tree(
-    alloc: Global,
-    input: InputId,
-    on_true: Tree,
-    on_false: Tree,
-) -> Result<Tree, AllocError>
-    ensures { IfOk result (λ tree. tree ≡ SplitInput input.0 on_true on_false) }
-{
-    let on_true = Box::new(alloc, on_true)?;
-    let on_false = Box::new(alloc, on_false)?;
-    Ok(Tree::new(Node::SplitInput(input, on_true, on_false)))
-}
-
-/// The split on how a task ends with these branches.
-fn end_tree(
-    alloc: Global,
-    task: TaskId,
-    ran: Tree,
-    canceled: Tree,
-    faulted: Tree,
-) -> Result<Tree, AllocError>
-    ensures { IfOk result (λ tree. tree ≡ SplitEnd task.0 ran canceled faulted) }
-{
-    let ran = Box::new(alloc, ran)?;
-    let canceled = Box::new(alloc, canceled)?;
-    let faulted = Box::new(alloc, faulted)?;
-    Ok(Tree::new(Node::SplitEnd(task, ran, canceled, faulted)))
-}
-
-/// A tree with at most this many splits on each path, if one is found before the leaves that may be
-/// tried are used up.
+/// The plan of a tree with at most this many splits on each path, if one is found before the leaves that may be tried are
+/// used up.
 #[cycle(search)]
 fn find<W: Watch>(
     alloc: Global,
@@ -86,11 +55,11 @@ fn find<W: Watch>(
     budget: &mut Budget<W>,
 ) -> Result<Option<Tree>, AllocError>
     requires { IsReady question }
-    ensures { IfOk result (λ found. IfSome found (IsFound question.entry.graph.now.graph
-        question.entry.property question.entry.form (assumed_of branch.now.assumed) reach.splits)) }
+    ensures { IfOk result
+        (λ found. IfSome found (IsPlan question.entry.graph.now.graph reach.splits)) }
 {
-    if let Some(tree) = leaf(alloc, question, branch, budget)? {
-        return Ok(Some(tree));
+    if is_leaf(alloc, question, branch, budget)? {
+        return Ok(Some(no_split(alloc)));
     }
     if reach.splits == 0 {
         return Ok(None);
@@ -121,7 +90,7 @@ fn choice<W: Watch>(
     }
 }
 
-/// A tree with one of these splits at its top. Once one of them has failed, none that changes
+/// A plan with one of these splits at its top. Once one of them has failed, none that changes
 /// nothing is tried: it would need a tree with a split less, and that split's branch would have had
 /// it too.
 #[cycle(search)]
@@ -135,8 +104,8 @@ pub(crate) fn split<W: Watch>(
 ) -> Result<Option<Tree>, AllocError>
     requires question { IsReady question }
     requires splits { 0 < reach.splits }
-    ensures { IfOk result (λ found. IfSome found (IsFound question.entry.graph.now.graph
-        question.entry.property question.entry.form (assumed_of branch.now.assumed) reach.splits)) }
+    ensures { IfOk result
+        (λ found. IfSome found (IsPlan question.entry.graph.now.graph reach.splits)) }
 {
     let mut failed = reach.failed;
     for split in question.splits {
@@ -151,7 +120,7 @@ pub(crate) fn split<W: Watch>(
     Ok(None)
 }
 
-/// A tree with this split at its top.
+/// A plan with this split at its top.
 #[cycle(search)]
 fn by_split<W: Watch>(
     alloc: Global,
@@ -164,8 +133,8 @@ fn by_split<W: Watch>(
     requires question { IsReady question }
     requires splits { 0 < reach.splits }
     requires split { IsSplitOf question.graph.now.graph split }
-    ensures { IfOk result (λ found. IfSome found (IsFound question.entry.graph.now.graph
-        question.entry.property question.entry.form (assumed_of branch.now.assumed) reach.splits)) }
+    ensures { IfOk result
+        (λ found. IfSome found (IsPlan question.entry.graph.now.graph reach.splits)) }
 {
     match split {
         Split::Input(input) => by_input(alloc, question, branch, reach, input, budget),
@@ -173,7 +142,7 @@ fn by_split<W: Watch>(
     }
 }
 
-/// A tree with a split on this input at its top.
+/// A plan with a split on this input at its top.
 #[cycle(search)]
 fn by_input<W: Watch>(
     alloc: Global,
@@ -186,8 +155,8 @@ fn by_input<W: Watch>(
     requires question { IsReady question }
     requires splits { 0 < reach.splits }
     requires input { input.0 < question.graph.now.graph.inputs }
-    ensures { IfOk result (λ found. IfSome found (IsFound question.entry.graph.now.graph
-        question.entry.property question.entry.form (assumed_of branch.now.assumed) reach.splits)) }
+    ensures { IfOk result
+        (λ found. IfSome found (IsPlan question.entry.graph.now.graph reach.splits)) }
 {
     question.graph.valid();
     let reach = reach.behind();
@@ -203,7 +172,7 @@ fn by_input<W: Watch>(
     Ok(Some(tree))
 }
 
-/// A tree with a split on how this task ends at its top.
+/// A plan with a split on how this task ends at its top.
 #[cycle(search)]
 fn by_end<W: Watch>(
     alloc: Global,
@@ -216,8 +185,8 @@ fn by_end<W: Watch>(
     requires question { IsReady question }
     requires splits { 0 < reach.splits }
     requires task { is_task question.graph.now.graph task.0 }
-    ensures { IfOk result (λ found. IfSome found (IsFound question.entry.graph.now.graph
-        question.entry.property question.entry.form (assumed_of branch.now.assumed) reach.splits)) }
+    ensures { IfOk result
+        (λ found. IfSome found (IsPlan question.entry.graph.now.graph reach.splits)) }
 {
     let reach = reach.behind();
     let ran = branch.with_end(question, task, Final::RanToCompletion);

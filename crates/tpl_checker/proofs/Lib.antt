@@ -5,6 +5,7 @@ pub mod GivenLemmas
 pub mod BodyLemmas
 pub mod BelowLemmas
 pub mod ChainLemmas
+pub mod LastLemmas
 pub mod LeafLemmas
 pub mod ShapeLemmas
 pub mod SettledLemmas

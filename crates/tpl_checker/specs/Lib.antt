@@ -3,4 +3,5 @@ pub mod Ready
 pub mod Assumptions
 pub mod Below
 pub mod Bodies
+pub mod Last
 pub mod Leaves

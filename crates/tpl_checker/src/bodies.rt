@@ -40,6 +40,18 @@ impl Bodies {
         }
     }
 
+    /// A copy.
+    pub(crate) fn copy(&self) -> Bodies
+        ensures { result ≡ self.now }
+    {
+        Bodies {
+            returned: self.returned.copy(),
+            thrown: self.thrown.copy(),
+            acknowledged: self.acknowledged.copy(),
+            started: self.started.copy(),
+        }
+    }
+
     /// The sets for all bodies of the graph, each of which is read once.
     pub(crate) fn of_leaf(graph: &Graph, assumed: &Assumptions, rows: &[Row]) -> Bodies
         requires { length rows.now ≡ length graph.now.graph.tasks }

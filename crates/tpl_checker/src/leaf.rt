@@ -59,7 +59,8 @@ pub fn accepts_leaf(
     if !rows_fit(graph, rows) {
         return false;
     }
-    match leaf_fault(graph, property, assumed, below, rows) {
+    let bodies = Bodies::of_leaf(graph, assumed, rows);
+    match leaf_fault(graph, property, assumed, below, rows, &bodies) {
         None => true,
         Some(_) => false,
     }
@@ -72,19 +73,20 @@ pub(crate) fn leaf_fault(
     assumed: &Assumptions,
     below: &Below,
     rows: &[Row],
+    bodies: &Bodies,
 ) -> Option<LeafFault>
     requires tasks { TasksOf graph.now.graph property }
     requires below { AreBelow graph.now.graph below.now }
     requires rows { length rows.now ≡ length graph.now.graph.tasks }
     requires ids { IsTrue (rows_fit graph.now.graph rows.now) }
+    requires bodies { AreBodies graph.now.graph (assumed_of assumed.now) rows.now bodies.now }
     ensures { fault_in result ≡ leaf_fault graph.now.graph property (assumed_of assumed.now)
         rows.now }
 {
-    let bodies = Bodies::of_leaf(graph, assumed, rows);
-    if let Some(fault) = first_broken(graph, assumed, below, rows, &bodies) {
+    if let Some(fault) = first_broken(graph, assumed, below, rows, bodies) {
         return Some(fault);
     }
-    if !proves(graph, rows, &bodies, property) {
+    if !proves(graph, rows, bodies, property) {
         return Some(LeafFault::ProvesNot);
     }
     None

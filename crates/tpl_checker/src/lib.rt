@@ -9,6 +9,7 @@ mod bodies;
 mod chain;
 mod ends;
 mod given;
+mod last;
 mod leaf;
 mod past;
 mod property;

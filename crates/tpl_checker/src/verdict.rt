@@ -68,10 +68,20 @@ fn claims_fault(graph: &Graph, claims: &[Claim], trees: &[Tree]) -> Result<(), C
     ensures { result ≡ no_fault (claims_fault graph.now.graph 1 claims.now trees.now) }
 {
     let below = Below::of_graph(graph);
+    let mut last = None;
     for at in 0..claims.len() {
         let claim = &claims[at];
         let given = assumed(graph, claim.given());
-        tree_fault(graph, claim.body(), at + 1, &below, &given, 1, &trees[at])?;
+        tree_fault(
+            graph,
+            claim.body(),
+            at + 1,
+            &below,
+            &given,
+            1,
+            &mut last,
+            &trees[at],
+        )?;
     }
     Ok(())
 }

@@ -58,7 +58,7 @@ pub(crate) fn faulted_view(graph: &Graph, assumed: &Assumptions, reader: TaskId)
 
 /// How the subject of a continuation ends: its antecedent in the ways in which the options let the
 /// continuation run, or one of the arguments of an antecedent that is a WhenAny task.
-fn subject(graph: &Graph, rows: &[Row], task: TaskId) -> Finals
+pub(crate) fn subject(graph: &Graph, rows: &[Row], task: TaskId) -> Finals
     requires task { is_task graph.now.graph task.0 }
     requires rows { length rows.now ≡ length graph.now.graph.tasks }
     ensures { (f : Final) → has result f ≡ subject_set graph.now.graph rows.now task.0

@@ -3,9 +3,8 @@
 ghost use Rattle.std.specs.Prelude.{◌<◌, ◌≤◌, length, IfOk};
 ghost use Rattle.tpl_model.specs.Graph.{is_task};
 
+use crate::setting::Setting;
 use std::alloc::{AllocError, Global};
-use tpl_checker::{Assumptions, Ready, ready_of};
-use tpl_graph::Graph;
 use tpl_words::{Final, Finals, MOST_TASKS, TaskId, TaskSet};
 
 /// The most tasks in a chain (this program's own limit).
@@ -25,8 +24,7 @@ struct Carrier {
 /// least task where they first differ. It is empty where there is none.
 pub(crate) fn chain(
     alloc: Global,
-    graph: &Graph,
-    assumed: &Assumptions,
+    setting: Setting<'_>,
     task: TaskId,
 ) -> Result<Vec<TaskId>, AllocError>
     ensures { IfOk result (λ chain. length chain.items ≤ 16) }
@@ -42,11 +40,11 @@ pub(crate) fn chain(
         let Some(carrier) = carrier_at(&carriers, place) else {
             return Ok(Vec::new(alloc));
         };
-        if let Some(reader) = reader_of(graph, assumed, carrier.task) {
+        if let Some(reader) = reader_of(setting, carrier.task) {
             return path(alloc, &carriers, place, reader);
         }
         if carrier.taken < MOST_IN_CHAIN - 1 {
-            push_takers(graph, &mut carriers, &mut seen, place, carrier)?;
+            push_takers(setting, &mut carriers, &mut seen, place, carrier)?;
         }
     }
     Ok(Vec::new(alloc))
@@ -61,7 +59,7 @@ fn carrier_at(carriers: &[Carrier], place: usize) -> Option<Carrier> {
 
 /// The tasks that take over what the carrier at the place carries, if they aren't seen yet.
 fn push_takers(
-    graph: &Graph,
+    setting: Setting<'_>,
     carriers: &mut Vec<Carrier>,
     seen: &mut TaskSet,
     place: usize,
@@ -69,12 +67,11 @@ fn push_takers(
 ) -> Result<(), AllocError>
     requires { carrier.taken < 16 }
 {
-    for task in 0..graph.len() {
-        let task = TaskId(task as u16);
-        if !seen.contains(task) && takes_over(graph, task, carrier.task) {
-            seen.insert(task);
+    for task in setting.followers.takers(carrier.task) {
+        if task.0 < MOST_TASKS && !seen.contains(*task) {
+            seen.insert(*task);
             carriers.push(Carrier {
-                task,
+                task: *task,
                 from: place,
                 taken: carrier.taken + 1,
             })?;
@@ -108,62 +105,36 @@ fn path(
     Ok(path)
 }
 
-/// The task takes over what the other carries: it is the parent of an attached child, or waits for
-/// an argument as WhenAll.
-fn takes_over(graph: &Graph, task: TaskId, other: TaskId) -> bool
-    requires { is_task graph.now.graph task.0 }
-{
-    match ready_of(graph, task) {
-        Ready::All(args) => is_one_of(other, args),
-        Ready::Any(_) => false,
-        _ => is_one_of(other, graph.attached(task)),
-    }
-}
-
-fn is_one_of(task: TaskId, tasks: &[TaskId]) -> bool {
-    for other in tasks {
-        if task == *other {
-            return true;
-        }
-    }
-    false
-}
-
 /// The least continuation that reads the task's exception.
-fn reader_of(graph: &Graph, assumed: &Assumptions, task: TaskId) -> Option<TaskId> {
-    for reader in 0..graph.len() {
-        let reader = TaskId(reader as u16);
-        if reads(graph, assumed, reader, task) {
-            return Some(reader);
+fn reader_of(setting: Setting<'_>, task: TaskId) -> Option<TaskId> {
+    for reader in setting.followers.continuations(task) {
+        if (reader.0 as usize) < setting.graph.len() && reads(setting, *reader) {
+            return Some(*reader);
         }
     }
     None
 }
 
-/// The reader continues the task where it is faulted, isn't canceled before, and observes the
-/// exception on each path.
-fn reads(graph: &Graph, assumed: &Assumptions, reader: TaskId, task: TaskId) -> bool
-    requires { is_task graph.now.graph reader.0 }
+/// The continuation runs where its antecedent is faulted, isn't canceled before, and observes the exception on each path.
+fn reads(setting: Setting<'_>, reader: TaskId) -> bool
+    requires { is_task setting.graph.now.graph reader.0 }
 {
-    match graph.antecedent(reader) {
-        Some(antecedent) if antecedent == task => {
-            graph.options(reader).allows(Final::Faulted)
-                && !assumed.is_loud(graph, reader)
-                && observes(graph, assumed, reader)
-        }
-        _ => false,
-    }
+    setting.graph.options(reader).allows(Final::Faulted)
+        && !setting.assumed.is_loud(setting.graph, reader)
+        && observes(setting, reader)
 }
 
 /// Each path of the reader's body passes an `observe`, where its antecedent is faulted.
-fn observes(graph: &Graph, assumed: &Assumptions, reader: TaskId) -> bool
-    requires { is_task graph.now.graph reader.0 }
+fn observes(setting: Setting<'_>, reader: TaskId) -> bool
+    requires { is_task setting.graph.now.graph reader.0 }
 {
     let faulted = Finals {
         ran: false,
         canceled: false,
         faulted: true,
     };
-    let view = assumed.view(graph.own_token(reader), faulted);
-    tpl_script::must_observe(graph.body(reader), &view)
+    let view = setting
+        .assumed
+        .view(setting.graph.own_token(reader), faulted);
+    tpl_script::must_observe(setting.graph.body(reader), &view)
 }

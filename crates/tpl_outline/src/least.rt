@@ -29,7 +29,7 @@ pub fn reached(
     ensures chain { IfOk result (λ o. IfSome o (λ chain. length chain.items ≤ 16)) }
 {
     let chain = match observed(property) {
-        Some(task) => chain(alloc, setting.graph, setting.assumed, task)?,
+        Some(task) => chain(alloc, setting, task)?,
         None => Vec::new(alloc),
     };
     let parts = Parts {

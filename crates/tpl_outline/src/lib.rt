@@ -3,6 +3,7 @@
 
 mod bearing;
 mod chain;
+mod followers;
 mod goal;
 mod least;
 mod outline;
@@ -12,6 +13,7 @@ mod setting;
 mod stages;
 
 pub use bearing::bearing_tasks;
+pub use followers::Followers;
 pub use least::{least_rows, reached};
 pub use outline::{Fate, NO_END, Outline};
 pub use pass::outline_under;

@@ -1,5 +1,6 @@
 //! A graph under what is assumed.
 
+use crate::followers::Followers;
 use crate::stages::Stage;
 use tpl_checker::{Assumptions, Below};
 use tpl_graph::Graph;
@@ -12,5 +13,7 @@ pub struct Setting<'s> {
     pub below: &'s Below,
     /// The order in which it is settled what becomes of the tasks.
     pub stages: &'s [Stage],
+    /// Who continues each task, and who takes its exceptions over.
+    pub followers: &'s Followers,
     pub assumed: &'s Assumptions,
 }

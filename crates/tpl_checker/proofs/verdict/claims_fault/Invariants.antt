@@ -1,5 +1,7 @@
+use Rattle.std.specs.Prelude.{IfSome}
+use Rattle.tpl_checker.specs.Last.{IsLast}
 use Rattle.tpl_checker.proofs.TreeLemmas.{ClaimsSoFar}
 use Rattle.tpl_checker.proofs.verdict.claims_fault.Given as goal
 
 abbrev pub invariant-loop-at : goal.invariant-loop-at
-invariant-loop-at l = ClaimsSoFar l.graph.graph l.claims l.trees l.at
+invariant-loop-at l = ClaimsSoFar l.graph.graph l.claims l.trees l.at × IfSome l.last (IsLast l.graph.graph)

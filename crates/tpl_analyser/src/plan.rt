@@ -1,0 +1,141 @@
+//! Plans of trees, and the trees that are made of them.
+
+ghost use Rattle.std.specs.Prelude.{◌≡◌, [], IfOk, IfSome};
+ghost use Rattle.tpl_model.specs.Certificate.{SplitEnd, SplitInput, Leaf};
+ghost use Rattle.tpl_cert.specs.Heights.{height};
+ghost use Rattle.tpl_checker.specs.Assumptions.{assumed_of};
+ghost use Rattle.tpl_analyser.specs.Found.{IsFound};
+ghost use Rattle.tpl_analyser.specs.Plans.{HasSplitsOf};
+ghost use Rattle.tpl_analyser.specs.Questions.{IsReady};
+
+use crate::branch::Branch;
+use crate::leaf::leaf;
+use crate::question::Question;
+use std::alloc::{AllocError, Global};
+use tpl_cert::{Node, Tree};
+use tpl_words::{Final, InputId, TaskId};
+
+/// The plan with no split.
+pub(crate) fn no_split(alloc: Global) -> Tree
+    ensures { result ≡ Leaf [] }
+{
+    Tree::new(Node::Leaf(Vec::new(alloc)))
+}
+
+/// The split on an input with these branches.
+pub(crate) fn input_tree(
+    alloc: Global,
+    input: InputId,
+    on_true: Tree,
+    on_false: Tree,
+) -> Result<Tree, AllocError>
+    ensures { IfOk result (λ tree. tree ≡ SplitInput input.0 on_true on_false) }
+{
+    let on_true = Box::new(alloc, on_true)?;
+    let on_false = Box::new(alloc, on_false)?;
+    Ok(Tree::new(Node::SplitInput(input, on_true, on_false)))
+}
+
+/// The split on how a task ends with these branches.
+pub(crate) fn end_tree(
+    alloc: Global,
+    task: TaskId,
+    ran: Tree,
+    canceled: Tree,
+    faulted: Tree,
+) -> Result<Tree, AllocError>
+    ensures { IfOk result (λ tree. tree ≡ SplitEnd task.0 ran canceled faulted) }
+{
+    let ran = Box::new(alloc, ran)?;
+    let canceled = Box::new(alloc, canceled)?;
+    let faulted = Box::new(alloc, faulted)?;
+    Ok(Tree::new(Node::SplitEnd(task, ran, canceled, faulted)))
+}
+
+/// The tree with the splits of the plan, whose leaves have the least rows.
+#[cycle(grown)]
+pub(crate) fn grown(
+    alloc: Global,
+    question: Question<'_>,
+    branch: &Branch,
+    plan: &Tree,
+) -> Result<Option<Tree>, AllocError>
+    requires question { IsReady question }
+    requires splits { HasSplitsOf question.graph.now.graph plan.now }
+    ensures { IfOk result (λ found. IfSome found (IsFound question.entry.graph.now.graph
+        question.entry.property question.entry.form (assumed_of branch.now.assumed)
+        (height plan.now))) }
+{
+    match plan.node() {
+        Node::Leaf(_) => leaf(alloc, question, branch),
+        Node::SplitInput(input, yes, no) => {
+            grown_by_input(alloc, question, branch, *input, yes, no)
+        }
+        Node::SplitEnd(task, ran, canceled, faulted) => {
+            grown_by_end(alloc, question, branch, *task, ran, canceled, faulted)
+        }
+    }
+}
+
+/// The tree of a plan with a split on this input at its top.
+#[cycle(grown)]
+fn grown_by_input(
+    alloc: Global,
+    question: Question<'_>,
+    branch: &Branch,
+    input: InputId,
+    yes: &Tree,
+    no: &Tree,
+) -> Result<Option<Tree>, AllocError>
+    requires question { IsReady question }
+    requires splits { HasSplitsOf question.graph.now.graph (SplitInput input.0 yes.now no.now) }
+    ensures { IfOk result (λ found. IfSome found (IsFound question.entry.graph.now.graph
+        question.entry.property question.entry.form (assumed_of branch.now.assumed)
+        (height (SplitInput input.0 yes.now no.now)))) }
+{
+    question.graph.valid();
+    let on_true = branch.with_input(question, input, true);
+    let Some(yes) = grown(alloc, question, &on_true, yes)? else {
+        return Ok(None);
+    };
+    let on_false = branch.with_input(question, input, false);
+    let Some(no) = grown(alloc, question, &on_false, no)? else {
+        return Ok(None);
+    };
+    let tree = input_tree(alloc, input, yes, no)?;
+    Ok(Some(tree))
+}
+
+/// The tree of a plan with a split on how this task ends at its top.
+#[cycle(grown)]
+fn grown_by_end(
+    alloc: Global,
+    question: Question<'_>,
+    branch: &Branch,
+    task: TaskId,
+    ran: &Tree,
+    canceled: &Tree,
+    faulted: &Tree,
+) -> Result<Option<Tree>, AllocError>
+    requires question { IsReady question }
+    requires splits { HasSplitsOf question.graph.now.graph
+        (SplitEnd task.0 ran.now canceled.now faulted.now) }
+    ensures { IfOk result (λ found. IfSome found (IsFound question.entry.graph.now.graph
+        question.entry.property question.entry.form (assumed_of branch.now.assumed)
+        (height (SplitEnd task.0 ran.now canceled.now faulted.now)))) }
+{
+    let on_ran = branch.with_end(question, task, Final::RanToCompletion);
+    let Some(ran) = grown(alloc, question, &on_ran, ran)? else {
+        return Ok(None);
+    };
+    let on_canceled = branch.with_end(question, task, Final::Canceled);
+    let Some(canceled) = grown(alloc, question, &on_canceled, canceled)? else {
+        return Ok(None);
+    };
+    let on_faulted = branch.with_end(question, task, Final::Faulted);
+    let Some(faulted) = grown(alloc, question, &on_faulted, faulted)? else {
+        return Ok(None);
+    };
+    let tree = end_tree(alloc, task, ran, canceled, faulted)?;
+    Ok(Some(tree))
+}
