@@ -25,6 +25,7 @@ fn size_of(tasks: usize) -> Size {
         line: 2,
         claims: 0,
         splits: 0,
+        ends: 0,
     }
 }
 

@@ -24,6 +24,7 @@ const SMALL: [Size; 1] = [Size {
     line: 3,
     claims: 2,
     splits: 1,
+    ends: 0,
 }];
 
 /// The documents that are measured: long rows, then short ones, then short ones of tasks with long bodies.
@@ -34,6 +35,7 @@ const LARGE: [Size; 3] = [
         line: 24,
         claims: 52,
         splits: 0,
+        ends: 0,
     },
     Size {
         tasks: 1_024,
@@ -41,6 +43,7 @@ const LARGE: [Size; 3] = [
         line: 1,
         claims: 38,
         splits: 3,
+        ends: 0,
     },
     Size {
         tasks: 1_024,
@@ -48,6 +51,7 @@ const LARGE: [Size; 3] = [
         line: 1,
         claims: 35,
         splits: 3,
+        ends: 0,
     },
 ];
 

@@ -17,8 +17,10 @@ pub(crate) struct Size {
     /// How many tasks stand in a line: a root, and continuations of which each continues the one before it.
     pub(crate) line: usize,
     pub(crate) claims: usize,
-    /// The splits on each path of a tree.
+    /// The splits on inputs on each path of a tree.
     pub(crate) splits: usize,
+    /// The splits on how a task ends on each path of a tree.
+    pub(crate) ends: usize,
 }
 
 impl Size {
@@ -32,6 +34,7 @@ impl Size {
         Size {
             claims: 1,
             splits: 0,
+            ends: 0,
             ..self
         }
     }
@@ -150,9 +153,20 @@ fn leaf(alloc: Global, size: Size) -> Result<String, AllocError> {
     Ok(text)
 }
 
+/// The text of a leaf, or of a tree that splits on how tasks end, whose leaves have the same rows.
+fn ends_tree(alloc: Global, size: Size) -> Result<String, AllocError> {
+    let mut text = leaf(alloc, size)?;
+    for task in 0..size.ends {
+        text = format!(in alloc;
+            "{{\"split_end\":\"Task{task}\",\"ran\":{text},\"canceled\":{text},\"faulted\":{text}}}"
+        )?;
+    }
+    Ok(text)
+}
+
 /// The text of a tree, whose leaves have the same rows.
 fn tree(alloc: Global, size: Size) -> Result<String, AllocError> {
-    let mut text = leaf(alloc, size)?;
+    let mut text = ends_tree(alloc, size)?;
     for input in 0..size.splits {
         text = format!(in alloc;
             "{{\"split_input\":\"Input{input}\",\"yes\":{text},\"no\":{text}}}"

@@ -2,12 +2,13 @@
 //! `refutes`.
 //!
 //! With one of these words as its argument the program prints what it measured. With none it does a little of each, and
-//! prints what came of it.
+//! prints what came of it. With `document` and a name it prints a document whose work is counted elsewhere.
 #![tactic(auto)]
 
 mod audits;
 mod building;
 mod checking;
+mod counts;
 mod courses;
 mod documents;
 mod drafts;
@@ -33,6 +34,7 @@ mod timing;
 use crate::audits::show_audits;
 use crate::building::{measure_graphs, show_graph};
 use crate::checking::show_checks;
+use crate::counts::show_document;
 use crate::machines::show_machines;
 use crate::queue::show_queue;
 use crate::reading::{measure_reading, show_reading};
@@ -69,7 +71,8 @@ fn measure(rt: &HostRuntime, word: &str) -> io::Result<()> {
 }
 
 fn main(rt: HostRuntime) -> io::Result<()> {
-    match env::args(&rt)?.nth(1) {
+    let mut words = env::args(&rt)?;
+    match words.nth(1) {
         None => {
             show_queue(&rt, rt.alloc(), false)?;
             show_runs(&rt, rt.alloc(), false)?;
@@ -77,6 +80,10 @@ fn main(rt: HostRuntime) -> io::Result<()> {
         }
         Some(word) if word.as_str() == "queue" => show_queue(&rt, rt.alloc(), true),
         Some(word) if word.as_str() == "runs" => show_runs(&rt, rt.alloc(), true),
+        Some(word) if word.as_str() == "document" => match words.next() {
+            None => show_document(&rt, ""),
+            Some(name) => show_document(&rt, name.as_str()),
+        },
         Some(word) => measure(&rt, word.as_str()),
     }
 }

@@ -23,6 +23,7 @@ fn size_of(tasks: usize) -> Size {
         line: 1,
         claims: tasks.min(64),
         splits: 0,
+        ends: 0,
     }
 }
 

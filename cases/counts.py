@@ -1,0 +1,93 @@
+#!/usr/bin/env python3
+"""Counts what `check` costs: instructions beside those of a plain program that only reads the same bytes by Rust's
+serde_json, and the most memory that it takes.
+
+usage: cases/counts.py [PROGRAM [BENCH]]    crates/tpl_cli/out/tpl_cli and crates/tpl_bench/out/tpl_bench, if none is named
+
+It wants Debian's packages valgrind and librust-serde-json-dev, and cargo. Instructions hardly differ from run to run, so one
+run is enough. It is a measurement and no test: nothing fails where a number is large.
+"""
+import json
+import os
+import pathlib
+import re
+import subprocess
+import sys
+import tempfile
+
+HERE = pathlib.Path(__file__).resolve().parent
+PROGRAM = "crates/tpl_cli/out/tpl_cli"
+BENCH = "crates/tpl_bench/out/tpl_bench"
+NAMES = ["roots", "chain", "leaves", "bodies"]
+# where Debian's packages put the sources of Rust's crates
+REGISTRY = "/usr/share/cargo/registry"
+# the most bytes of a document
+LONGEST = 16_777_216
+
+
+def plain_program(folder):
+    """Builds the plain program, and returns its path."""
+    words = ["cargo", "build", "--release", "--offline", "--quiet", "--target-dir", folder]
+    words += ["--config", 'source.crates-io.replace-with="debian"']
+    words += ["--config", f'source.debian.directory="{REGISTRY}"']
+    lock = HERE / "plain" / "Cargo.lock"
+    subprocess.run([*words, "--manifest-path", str(HERE / "plain" / "Cargo.toml")], check=True)
+    lock.unlink(missing_ok=True)
+    return f"{folder}/release/plain"
+
+
+def instructions(words, given):
+    """How many instructions a program needs with this file as its standard input."""
+    with open(given, "rb") as stdin:
+        done = subprocess.run(
+            ["valgrind", "--tool=callgrind", "--callgrind-out-file=/dev/null", *words],
+            stdin=stdin, stdout=subprocess.DEVNULL, stderr=subprocess.PIPE, text=True, check=False,
+        )
+    return int(re.search(r"Collected : (\d+)", done.stderr).group(1))
+
+
+def peak(words, given):
+    """The most memory that a program takes with this file as its standard input, in bytes."""
+    with open(given, "rb") as stdin:
+        child = subprocess.Popen(words, stdin=stdin, stdout=subprocess.DEVNULL)
+        usage = os.wait4(child.pid, 0)[2]
+    return usage.ru_maxrss * 1024
+
+
+def small_objects():
+    """Documents as long as may be that are all small objects."""
+    base = {"version": 1, "tasks": [{"name": "a", "kind": "root", "body": []}], "claims": [{"never": "a"}]}
+    row = {"ends": [], "runs": True}
+    yield "trees", {**base, "certificate": []}, '"certificate":[', {"rows": []}
+    yield "claims", {**base, "claims": []}, '"claims":[', {"never": "a"}
+    yield "rows", {**base, "certificate": [{"rows": []}]}, '"rows":[', row
+    yield "objects", {**base, "certificate": []}, '"certificate":[', {"": 0}
+
+
+def filled(document, place, element):
+    """The text of the document with as many of the element at the place as fit."""
+    text, one = (json.dumps(it, separators=(",", ":")) for it in (document, element))
+    at = text.index(place) + len(place)
+    return text[:at] + ",".join([one] * ((LONGEST - len(text)) // (len(one) + 1))) + text[at:]
+
+
+def main():
+    program, bench = (sys.argv[1:] + [PROGRAM, BENCH][len(sys.argv) - 1:])[:2]
+    with tempfile.TemporaryDirectory() as folder:
+        plain = plain_program(folder)
+        for name in NAMES:
+            file = f"{folder}/{name}.json"
+            with open(file, "wb") as out:
+                subprocess.run([bench, "document", name], stdout=out, check=True)
+            size = os.path.getsize(file)
+            least, ours = instructions([plain, file], file), instructions([program, "check"], file)
+            memory = peak([program, "check"], file)
+            print(f"{name}: {size} bytes, plain {least}, check {ours}, ratio {ours / least:.2f}, memory {memory}")
+        for name, document, place, element in small_objects():
+            file = f"{folder}/{name}.json"
+            pathlib.Path(file).write_text(filled(document, place, element), encoding="utf-8")
+            size, memory = os.path.getsize(file), peak([program, "check"], file)
+            print(f"{name}: {size} bytes, memory {memory}, {memory / size:.1f} for each byte")
+
+
+main()
