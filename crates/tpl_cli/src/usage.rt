@@ -10,7 +10,7 @@ use clap::Command;
 use std::alloc::{AllocError, Global};
 
 /// The version of the program, which the file `VERSION` says too.
-const VERSION: &str = "0.2.0";
+const VERSION: &str = "0.3.0";
 
 /// The command line without its subcommands. One of them has to stand there.
 fn no_command<'a>(alloc: Global) -> Command<'a>
