@@ -1,16 +1,13 @@
 -- Rows of which only some tasks are left.
-use Rattle.std.proofs.Common.{◌≡◌, ℕ, Bool, true, false, ◌&&◌, List, sym, ◌∙◌}
+use Rattle.std.proofs.Common.{◌≡◌, ℕ, true, ◌&&◌, List, sym, ◌∙◌}
+use Rattle.tpl_words.proofs.Truths.{and_second}
 use Rattle.tpl_words.specs.Members.{mem}
 use Rattle.tpl_model.specs.declared.claim.Property.{Property}
 use Rattle.tpl_model.specs.Certificate.{Row}
 use Rattle.tpl_analyser.specs.Slim.{IsUsed, IsSlimRow}
 
-second_holds : (a b : Bool) → (a && b) ≡ true → b ≡ true
-second_holds true b e = e
-second_holds false b e = absurd cc
-
 pub slim_row : (p : Property) (used : List ℕ) (row slim : Row) → ((x : ℕ) → mem x used ≡ true → IsUsed p x) → ((x : ℕ) → mem x slim.before ≡ (mem x row.before && mem x used)) → ((x : ℕ) → mem x slim.past ≡ (mem x row.past && mem x used)) → IsSlimRow p slim
 slim_row p used row slim are before past = record {
-  before = λ x m. are x (second_holds (mem x row.before) (mem x used) (sym (before x) ∙ m));
-  past = λ x m. are x (second_holds (mem x row.past) (mem x used) (sym (past x) ∙ m));
+  before = λ x m. are x (and_second (mem x row.before) (mem x used) (sym (before x) ∙ m));
+  past = λ x m. are x (and_second (mem x row.past) (mem x used) (sym (past x) ∙ m));
 }

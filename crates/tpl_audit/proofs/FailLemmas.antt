@@ -15,7 +15,7 @@ use Rattle.tpl_model.specs.Valid.{IsGraph}
 use Rattle.tpl_claims.specs.Fits.{IsGivenOf, AreGivenOf, Fits}
 use Rattle.tpl_laws.specs.Runs.{gives_quiet, PrefixIsRun}
 use Rattle.tpl_laws.specs.Allowed.{HoldsIsRight}
-use Rattle.tpl_laws.specs.Failing.{is_at, fails_from, is_broken, unless_broken, first_failure, FailureIsTold}
+use Rattle.tpl_laws.specs.Failing.{is_at, unless_broken, first_failure, FailureIsTold}
 use Rattle.tpl_laws.specs.Failing as law
 use Rattle.tpl_audit.specs.declared.verdict.Failure.{Failure}
 use Rattle.tpl_audit.specs.Audit.{first_events, AllHoldAt, FirstFails, better, IsVerdict, FindsNoFailure}
@@ -159,7 +159,7 @@ each_at P [] i claim all e = absurd (cc)
 each_at P (x ∷ claims) zero claim all e = let same : x ≡ claim = cc in subst P same all.0
 each_at P (x ∷ claims) (suc i) claim all e = each_at P claims i claim all.1 e
 
-front_run : (g : TaskGraph) (v : List Bool) (events : List Event) (p : ℕ) → PrefixIsRun → Run g v (reverse events) → Run g v (first_events events p)
+pub front_run : (g : TaskGraph) (v : List Bool) (events : List Event) (p : ℕ) → PrefixIsRun → Run g v (reverse events) → Run g v (first_events events p)
 front_run g v events p prefix run =
     let parts : reverse (drop p events) ++ first_events events p ≡ reverse events = sym (reverse-append (take p events) (drop p events)) ∙ ap reverse (take-append-drop p events) in
     prefix g v (reverse (drop p events)) (first_events events p) (subst (Run g v) (sym parts) run)

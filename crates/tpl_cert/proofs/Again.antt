@@ -1,6 +1,7 @@
 -- What is written for a tree spells the tree.
 use Rattle.std.proofs.Common.{◌≡◌, ℕ, List, [], ◌∷◌, map, Bool, true, false, refl, ap}
 use Rattle.std.specs.List.{list_all, list_any}
+use Rattle.tpl_words.proofs.Truths.{and_first, and_second}
 use Rattle.serde_json.specs.Data.{Data, string, array}
 use Rattle.serde_json.specs.View.{items_of}
 use Rattle.tpl_words.specs.declared.finals.Final.{Final}
@@ -19,7 +20,6 @@ use Rattle.tpl_cert.specs.Grammar.{IsRow, AreRows, IsTree}
 use Rattle.tpl_cert.specs.Naming.{are_declared, AreNumbers, does_name, IsSetOf, IsRowOf, AreRowsOf, IsTreeOf}
 use Rattle.tpl_cert.specs.Written.{texts_data, words_of, row_data, tree_data, name_at, is_id, named_row, named, has_row_ids, has_ids, AreTaskSets, HasTaskSets}
 use Rattle.tpl_cert.specs.Spelled.{SpellsTree}
-use Rattle.tpl_json.proofs.Truths.{and_first, and_second}
 use Rattle.tpl_json.proofs.Arrays.{elements-items_of}
 use Rattle.tpl_json.proofs.Json.{some}
 use Rattle.tpl_cert.proofs.Unique.{number_of-name_at}

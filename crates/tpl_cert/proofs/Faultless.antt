@@ -1,6 +1,7 @@
 -- Of a value that is read as a tree no fault is true.
 use Rattle.std.proofs.Common.{◌≡◌, ℕ, true, List, [], ◌∷◌, Option, Some, None, is_some, refl, sym, subst, ap, ◌∙◌, true≢false}
 use Rattle.std.specs.List.{list_all}
+use Rattle.std.proofs.lemmas.Bool.{and_from}
 use Rattle.serde_json.specs.Data.{Data}
 use Rattle.tpl_words.specs.TaskSet.{SetsAreTheirMembers}
 use Rattle.tpl_model.specs.Certificate.{Row, Tree}
@@ -8,7 +9,6 @@ use Rattle.tpl_model.specs.Certificate as tree
 use Rattle.tpl_graph.specs.Named.{Names}
 use Rattle.tpl_cert.specs.declared.fault.TreeFault.{TreeFault}
 use Rattle.tpl_cert.specs.declared.fault.TreeFault.TheVariants as faults
-use Rattle.tpl_json.proofs.Truths.{and_both}
 use Rattle.tpl_json.proofs.Arrays.{tail_is}
 use Rattle.tpl_cert.specs.NamedTrees.{NamedRow, NamedTree, SplitInput, SplitEnd, Leaf}
 use Rattle.tpl_cert.specs.Naming.{number_of, is_declared, are_declared, AreNumbers, IsRowOf, AreRowsOf, IsTreeOf, knows_row, knows}
@@ -27,26 +27,26 @@ chain_declared : (names texts : List (List ℕ)) (ns : List ℕ) → AreNumbers 
 chain_declared names [] ns e = refl
 chain_declared names (t ∷ texts) [] e = absurd cc
 chain_declared names (t ∷ texts) (n ∷ ns) e =
-    and_both (is_declared names t) (are_declared names texts) (first_some (number_of names t) _ n _ e) (chain_declared names texts ns (tail_is _ _ _ _ e))
+    and_from (is_declared names t) (are_declared names texts) (first_some (number_of names t) _ n _ e) (chain_declared names texts ns (tail_is _ _ _ _ e))
 
 row_known : (n : Names) (s : NamedRow) (r : Row) → IsRowOf n s r → knows_row n s ≡ true
 row_known n s r is =
-    and_both (are_declared n.tasks s.before) _ is.before.declared
-    (and_both (are_declared n.tasks s.past) (are_declared n.tasks s.chain) is.past.declared (chain_declared n.tasks s.chain r.chain is.chain))
+    and_from (are_declared n.tasks s.before) _ is.before.declared
+    (and_from (are_declared n.tasks s.past) (are_declared n.tasks s.chain) is.past.declared (chain_declared n.tasks s.chain r.chain is.chain))
 
 rows_known : (n : Names) (ss : List NamedRow) (rs : List Row) → AreRowsOf n ss rs → list_all (knows_row n) ss ≡ true
 rows_known n [] rs are = refl
 rows_known n (s ∷ ss) [] are = absurd are
-rows_known n (s ∷ ss) (r ∷ rs) are = and_both (knows_row n s) (list_all (knows_row n) ss) (row_known n s r are.0) (rows_known n ss rs are.1)
+rows_known n (s ∷ ss) (r ∷ rs) are = and_from (knows_row n s) (list_all (knows_row n) ss) (row_known n s r are.0) (rows_known n ss rs are.1)
 
 tree_known : (n : Names) (s : NamedTree) (t : Tree) → IsTreeOf n s t → knows n s ≡ true
 tree_known n (SplitInput name a b) (tree.SplitInput i x y) is =
-    and_both (is_declared n.inputs name) _ (declared n.inputs name i is.0) (and_both (knows n a) (knows n b) (tree_known n a x is.1) (tree_known n b y is.2))
+    and_from (is_declared n.inputs name) _ (declared n.inputs name i is.0) (and_from (knows n a) (knows n b) (tree_known n a x is.1) (tree_known n b y is.2))
 tree_known n (SplitInput name a b) (tree.SplitEnd i x y z) is = absurd is
 tree_known n (SplitInput name a b) (tree.Leaf rows) is = absurd is
 tree_known n (SplitEnd name a b c) (tree.SplitEnd i x y z) is =
-    and_both (is_declared n.tasks name) _ (declared n.tasks name i is.0)
-    (and_both (knows n a) _ (tree_known n a x is.1) (and_both (knows n b) (knows n c) (tree_known n b y is.2) (tree_known n c z is.3)))
+    and_from (is_declared n.tasks name) _ (declared n.tasks name i is.0)
+    (and_from (knows n a) _ (tree_known n a x is.1) (and_from (knows n b) (knows n c) (tree_known n b y is.2) (tree_known n c z is.3)))
 tree_known n (SplitEnd name a b c) (tree.SplitInput i x y) is = absurd is
 tree_known n (SplitEnd name a b c) (tree.Leaf rows) is = absurd is
 tree_known n (Leaf ss) (tree.Leaf rows) is = rows_known n ss rows is

@@ -24,7 +24,7 @@ numbers_same (n ∷ ns) [] e = absurd cc
 numbers_same (n ∷ ns) (m ∷ ms) e =
     cons_same n m ns ms (some_is n m (head_is (found n) (found m) (map found ns) (map found ms) e)) (numbers_same ns ms (tail_is (found n) (found m) (map found ns) (map found ms) e))
 
-chain_same : (names texts : List (List ℕ)) (ns ms : List ℕ) → AreNumbers names texts ns → AreNumbers names texts ms → ns ≡ ms
+pub chain_same : (names texts : List (List ℕ)) (ns ms : List ℕ) → AreNumbers names texts ns → AreNumbers names texts ms → ns ≡ ms
 chain_same names texts ns ms e f = numbers_same ns ms (sym e ∙ f)
 
 number_same : (names : List (List ℕ)) (name : List ℕ) (n m : ℕ) → number_of names name ≡ Some n → number_of names name ≡ Some m → n ≡ m

@@ -1,28 +1,15 @@
 -- Among names without repeats, a name's number is its place.
-use Rattle.std.proofs.Common.{◌≡◌, ℕ, zero, suc, ◌<◌, ◌||◌, List, [], ◌∷◌, ◌++◌, length, get_or, Bool, true, false, cond, Some, None, nat_lt, refl, sym, ◌∙◌, arith}
+use Rattle.std.proofs.Common.{◌≡◌, ℕ, zero, suc, ◌<◌, List, [], ◌∷◌, ◌++◌, length, get_or, Bool, true, false, cond, Some, None, nat_lt, refl, sym, ◌∙◌, arith}
 use Rattle.std.specs.List.{position, position_or_len}
 use Rattle.std.specs.Str.{bytes_eq}
 use Rattle.std.proofs.lemmas.List.Sums.{position_or_len_is}
 use Rattle.std.proofs.lemmas.List.Folds.{list_any-append}
-use Rattle.std.proofs.lemmas.Slice.Eq.{bytes_eq-Decides}
 use Rattle.std.proofs.lemmas.Bool.{ltb-true, lt-ltb}
+use Rattle.tpl_graph.proofs.PlaceLaws.{once_more, same_name}
+use Rattle.tpl_words.proofs.Truths.{or_first, or_second}
 use Rattle.tpl_graph.specs.Names.{has_name, with_name, twice_after, some_twice}
 use Rattle.tpl_cert.specs.Naming.{number_of}
 use Rattle.tpl_cert.specs.Written.{name_at, is_id}
-
-or_first : (a b : Bool) → (a || b) ≡ false → a ≡ false
-or_first true b e = absurd cc
-or_first false b e = refl
-
-or_second : (a b : Bool) → (a || b) ≡ false → b ≡ false
-or_second true b e = absurd cc
-or_second false b e = e
-
--- what is left when the first name isn't among those before
-rest_once : (before : List (List ℕ)) (x : List ℕ) (xs : List (List ℕ)) → twice_after before (x ∷ xs) ≡ false → twice_after (before ++ x ∷ []) xs ≡ false
-rest_once before x xs once =
-    let rest : twice_after (with_name before x) xs ≡ false = or_second (has_name before x) (twice_after (with_name before x) xs) once in
-    rw (or_first (has_name before x) (twice_after (with_name before x) xs) once) at rest
 
 -- a name behind others is none of them
 fresh : (before : List (List ℕ)) (xs : List (List ℕ)) (i : ℕ) → twice_after before xs ≡ false → i < length xs → has_name before (get_or xs i []) ≡ false
@@ -30,21 +17,18 @@ fresh before [] i once lt = absurd (omega arith)
 fresh before (x ∷ xs) zero once lt = or_first (has_name before x) (twice_after (with_name before x) xs) once
 fresh before (x ∷ xs) (suc i) once lt =
     or_first (has_name before (get_or xs i [])) (has_name (x ∷ []) (get_or xs i []))
-    (sym (list_any-append (bytes_eq (get_or xs i [])) before (x ∷ [])) ∙ fresh (before ++ x ∷ []) xs i (rest_once before x xs once) (omega arith))
+    (sym (list_any-append (bytes_eq (get_or xs i [])) before (x ∷ [])) ∙ fresh (before ++ x ∷ []) xs i (once_more before x xs once) (omega arith))
 
 -- two places have two names
 other_name : (before : List (List ℕ)) (xs : List (List ℕ)) (i k : ℕ) → twice_after before xs ≡ false → i < length xs → k < i → bytes_eq (get_or xs i []) (get_or xs k []) ≡ false
 other_name before [] i k once lt less = absurd (omega arith)
 other_name before (x ∷ xs) zero k once lt less = absurd (omega arith)
 other_name before (x ∷ xs) (suc i) zero once lt less =
-    let rest = rest_once before x xs once in
+    let rest = once_more before x xs once in
     let none : has_name (before ++ x ∷ []) (get_or xs i []) ≡ false = fresh (before ++ x ∷ []) xs i rest (omega arith) in
     or_first (bytes_eq (get_or xs i []) x) false (or_second (has_name before (get_or xs i [])) (has_name (x ∷ []) (get_or xs i [])) (sym (list_any-append (bytes_eq (get_or xs i [])) before (x ∷ [])) ∙ none))
 other_name before (x ∷ xs) (suc i) (suc k) once lt less =
-    other_name (before ++ x ∷ []) xs i k (rest_once before x xs once) (omega arith) (omega arith)
-
-itself : (x : List ℕ) → bytes_eq x x ≡ true
-itself x = (bytes_eq-Decides x x).1 refl
+    other_name (before ++ x ∷ []) xs i k (once_more before x xs once) (omega arith) (omega arith)
 
 cond_true : {A : Type 0} (b : Bool) (x y : A) → b ≡ true → cond b x y ≡ x
 cond_true true x y e = refl
@@ -52,7 +36,7 @@ cond_true false x y e = absurd cc
 
 found : (names : List (List ℕ)) (i : ℕ) → some_twice names ≡ false → i < length names → position_or_len (bytes_eq (get_or names i [])) names ≡ i
 found names i once lt =
-    position_or_len_is (bytes_eq (get_or names i [])) names i [] (omega arith) (λ k l. other_name [] names i k once lt l) (λ l. itself (get_or names i []))
+    position_or_len_is (bytes_eq (get_or names i [])) names i [] (omega arith) (λ k l. other_name [] names i k once lt l) (λ l. same_name (get_or names i []))
 
 at_place : (names : List (List ℕ)) (p : List ℕ → Bool) (i : ℕ) → position_or_len p names ≡ i → i < length names → position p names ≡ Some i
 at_place names p i e lt = rw e (cond_true (nat_lt i (length names)) (Some i) None (lt-ltb i (length names) lt))

@@ -1,5 +1,6 @@
 -- A leaf without a fault is accepted, and one that is accepted has none.
 use Rattle.std.proofs.Common.{◌≡◌, ℕ, ◌<◌, ◌&&◌, Bool, true, false, Option, Some, None, List, [], ◌∷◌, length, nat_lt, refl, arith}
+use Rattle.std.proofs.lemmas.Bool.{ltb-true, and_parts, and_from}
 use Rattle.tpl_model.specs.Graph.{TaskGraph}
 use Rattle.tpl_model.specs.Valid.{IsGraph}
 use Rattle.tpl_model.specs.declared.claim.Property.{Property}
@@ -7,10 +8,6 @@ use Rattle.tpl_model.specs.Certificate.{Row, Assumed, AcceptsTree, Leaf, AllTask
 use Rattle.tpl_laws.specs.RowTests.{proves}
 use Rattle.tpl_laws.specs.Decided.{FirstBrokenIsRight, ProvesIsRight}
 use Rattle.tpl_laws.specs.Verdict.{LeafFault, ProvesNot, or_else, unless, first_broken, leaf_fault, has_tasks, rows_fit}
-use Rattle.tpl_checker.proofs.Basics.{and_split, and_join}
-
-below : (a m : ℕ) → nat_lt a m ≡ true → a < m
-below a m h = grind arith
 
 is_below : (a m : ℕ) → a < m → nat_lt a m ≡ true
 is_below a m h = grind arith
@@ -18,27 +15,27 @@ is_below a m h = grind arith
 tasks_of : (g : TaskGraph) (xs : List ℕ) → has_tasks g xs ≡ true → AllTasks g xs
 tasks_of g [] e = tt
 tasks_of g (x ∷ xs) e =
-    let s = and_split (nat_lt x (length g.tasks)) (has_tasks g xs) e in
-    (below x (length g.tasks) s.0, tasks_of g xs s.1)
+    let s = and_parts (nat_lt x (length g.tasks)) (has_tasks g xs) e in
+    (ltb-true x (length g.tasks) s.0, tasks_of g xs s.1)
 
 of_tasks : (g : TaskGraph) (xs : List ℕ) → AllTasks g xs → has_tasks g xs ≡ true
 of_tasks g [] a = refl
-of_tasks g (x ∷ xs) a = and_join (nat_lt x (length g.tasks)) (has_tasks g xs) (is_below x (length g.tasks) a.0) (of_tasks g xs a.1)
+of_tasks g (x ∷ xs) a = and_from (nat_lt x (length g.tasks)) (has_tasks g xs) (is_below x (length g.tasks) a.0) (of_tasks g xs a.1)
 
 ids_of : (g : TaskGraph) (rows : List Row) → rows_fit g rows ≡ true → IdsOfRows g rows
 ids_of g [] e = tt
 ids_of g (r ∷ rows) e =
-    let s = and_split (has_tasks g r.before && (has_tasks g r.past && has_tasks g r.chain)) (rows_fit g rows) e in
-    let p = and_split (has_tasks g r.before) (has_tasks g r.past && has_tasks g r.chain) s.0 in
-    let q = and_split (has_tasks g r.past) (has_tasks g r.chain) p.1 in
+    let s = and_parts (has_tasks g r.before && (has_tasks g r.past && has_tasks g r.chain)) (rows_fit g rows) e in
+    let p = and_parts (has_tasks g r.before) (has_tasks g r.past && has_tasks g r.chain) s.0 in
+    let q = and_parts (has_tasks g r.past) (has_tasks g r.chain) p.1 in
     (tasks_of g r.before p.0, tasks_of g r.past q.0, tasks_of g r.chain q.1, ids_of g rows s.1)
 
 of_ids : (g : TaskGraph) (rows : List Row) → IdsOfRows g rows → rows_fit g rows ≡ true
 of_ids g [] a = refl
 of_ids g (r ∷ rows) a =
-    and_join (has_tasks g r.before && (has_tasks g r.past && has_tasks g r.chain)) (rows_fit g rows)
-    (and_join (has_tasks g r.before) (has_tasks g r.past && has_tasks g r.chain) (of_tasks g r.before a.0)
-    (and_join (has_tasks g r.past) (has_tasks g r.chain) (of_tasks g r.past a.1) (of_tasks g r.chain a.2)))
+    and_from (has_tasks g r.before && (has_tasks g r.past && has_tasks g r.chain)) (rows_fit g rows)
+    (and_from (has_tasks g r.before) (has_tasks g r.past && has_tasks g r.chain) (of_tasks g r.before a.0)
+    (and_from (has_tasks g r.past) (has_tasks g r.chain) (of_tasks g r.past a.1) (of_tasks g r.chain a.2)))
     (of_ids g rows a.3)
 
 neither : (a : Option LeafFault) (b : Bool) → or_else a (unless b ProvesNot None) ≡ None → (a ≡ None) × (b ≡ true)

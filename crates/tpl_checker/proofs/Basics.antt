@@ -1,8 +1,9 @@
 -- Tests, members and kinds.
-use Rattle.std.proofs.Common.{◌≡◌, ℕ, zero, suc, ◌≤◌, ◌++◌, ◌&&◌, ◌||◌, ◌⊎◌, inl, inr, Bool, true, false, Option, Some, None, List, [], ◌∷◌, refl, sym, ap, ◌∙◌, subst, nat_eq, length, drop, arith}
+use Rattle.std.proofs.Common.{◌≡◌, ℕ, zero, suc, ◌≤◌, ◌&&◌, ◌||◌, inl, inr, Bool, true, false, Option, Some, None, List, [], ◌∷◌, refl, sym, ap, ◌∙◌, subst, length, drop, arith}
 use Rattle.std.specs.Option.{option_map}
-use Rattle.std.proofs.lemmas.Bool.{eqb-true}
-use Rattle.std.proofs.Common.{eq-eqb}
+use Rattle.std.proofs.lemmas.Bool.{and_from}
+use Rattle.tpl_words.proofs.MemberLemmas.{mem_here, mem_split, mem_there}
+use Rattle.tpl_words.proofs.Truths.{same_tests, true_false}
 use Rattle.tpl_words.specs.declared.finals.Final.{Final}
 use Rattle.tpl_words.specs.declared.finals.Final.TheVariants.{RanToCompletion, Canceled, Faulted}
 use Rattle.tpl_words.specs.declared.ids.TaskId.{TaskId}
@@ -14,46 +15,9 @@ use Rattle.tpl_model.specs.Certificate.{Row, row, one_ends}
 use Rattle.tpl_graph.specs.Ids.{task_number}
 use Rattle.tpl_laws.specs.RowTests.{all_in, implies, each_end, some_end}
 
-pub true_false : {A : Type 0} → true ≡ false → A
-true_false e = absurd (cc)
-
-pub decide : (b : Bool) → (b ≡ true) ⊎ (b ≡ false)
-decide true = inl refl
-decide false = inr refl
-
--- two tests that hold together are equal
-pub same_test : (a b : Bool) → (a ≡ true → b ≡ true) → (b ≡ true → a ≡ true) → a ≡ b
-same_test true b f h = sym (f refl)
-same_test false true f h = h refl
-same_test false false f h = refl
-
-pub and_join : (a b : Bool) → a ≡ true → b ≡ true → a && b ≡ true
-and_join true b e f = f
-and_join false b e f = true_false (sym e)
-
-pub same_self : (x : ℕ) → nat_eq x x ≡ true
-same_self x = eq-eqb x x refl
-
-pub mem_split : (x y : ℕ) (xs : List ℕ) → mem x (y ∷ xs) ≡ true → (x ≡ y) ⊎ (mem x xs ≡ true)
-mem_split x y xs e = go (nat_eq x y) refl
-  where
-    go : (b : Bool) → nat_eq x y ≡ b → (x ≡ y) ⊎ (mem x xs ≡ true)
-    go true q = inl (eqb-true x y q)
-    go false q = inr (subst (λ b. (b || mem x xs) ≡ true) q e)
-
-pub mem_here : (x : ℕ) (xs : List ℕ) → mem x (x ∷ xs) ≡ true
-mem_here x xs = subst (λ b. (b || mem x xs) ≡ true) (sym (same_self x)) refl
-
-pub mem_there : (x y : ℕ) (xs : List ℕ) → mem x xs ≡ true → mem x (y ∷ xs) ≡ true
-mem_there x y xs e = go (nat_eq x y)
-  where
-    go : (b : Bool) → (b || mem x xs) ≡ true
-    go true = refl
-    go false = e
-
 all_here : (test : ℕ → Bool) (xs : List ℕ) → ((x : ℕ) → mem x xs ≡ true → test x ≡ true) → all_in test xs ≡ true
 all_here test [] h = refl
-all_here test (y ∷ ys) h = and_join (test y) (all_in test ys) (h y (mem_here y ys)) (all_here test ys (λ x m. h x (mem_there x y ys m)))
+all_here test (y ∷ ys) h = and_from (test y) (all_in test ys) (h y (mem_here y ys)) (all_here test ys (λ x m. h x (mem_there x y ys m)))
 
 each_here : (test : ℕ → Bool) (xs : List ℕ) → all_in test xs ≡ true → (x : ℕ) → mem x xs ≡ true → test x ≡ true
 each_here test [] e x m = true_false (sym m)
@@ -73,7 +37,7 @@ each_here test (y ∷ ys) e x m = elim (mem_split x y ys m) [
 -- a set is part of another just where its members pass the other's test
 pub subset_test : (r : Bool) (set allowed : List ℕ) (test : ℕ → Bool) → (r ≡ true → IsSubset set allowed) → (IsSubset set allowed → r ≡ true) → ((x : ℕ) → mem x allowed ≡ test x) → r ≡ all_in test set
 subset_test r set allowed test to back same =
-    same_test r (all_in test set)
+    same_tests r (all_in test set)
     (λ e. all_here test set (λ x m. sym (same x) ∙ to e x m))
     (λ e. back (λ x m. same x ∙ each_here test set e x m))
 
@@ -82,40 +46,6 @@ pub option_is : (P : ℕ → Type 0) (found : Option TaskId) (o : Option ℕ) �
 option_is P (Some t) o to back some none = sym (back t.0 (some t refl))
 option_is P None None to back some none = refl
 option_is P None (Some p) to back some none = absurd (none refl p (to p refl))
-
-pub mem_append : (x : ℕ) (xs ys : List ℕ) → mem x (xs ++ ys) ≡ true → (mem x xs ≡ true) ⊎ (mem x ys ≡ true)
-mem_append x [] ys e = inr e
-mem_append x (y ∷ xs) ys e = elim (mem_split x y (xs ++ ys) e) [
-  | inl q ↦ inl (subst (λ z. mem z (y ∷ xs) ≡ true) (sym q) (mem_here y xs))
-  | inr q ↦ elim (mem_append x xs ys q) [ inl p ↦ inl (mem_there x y xs p) | inr p ↦ inr p ]
-]
-
-pub mem_before : (x : ℕ) (xs ys : List ℕ) → mem x xs ≡ true → mem x (xs ++ ys) ≡ true
-mem_before x [] ys e = true_false (sym e)
-mem_before x (y ∷ xs) ys e = elim (mem_split x y xs e) [
-  | inl q ↦ subst (λ z. mem z (y ∷ (xs ++ ys)) ≡ true) (sym q) (mem_here y (xs ++ ys))
-  | inr q ↦ mem_there x y (xs ++ ys) (mem_before x xs ys q)
-]
-
-pub mem_behind : (x : ℕ) (xs ys : List ℕ) → mem x ys ≡ true → mem x (xs ++ ys) ≡ true
-mem_behind x [] ys e = e
-mem_behind x (y ∷ xs) ys e = mem_there x y (xs ++ ys) (mem_behind x xs ys e)
-
-pub or_split : (a b : Bool) → a || b ≡ true → (a ≡ true) ⊎ (b ≡ true)
-or_split true b e = inl refl
-or_split false b e = inr e
-
-pub or_left : (a b : Bool) → a ≡ true → a || b ≡ true
-or_left true b e = refl
-or_left false b e = true_false (sym e)
-
-pub or_right : (a b : Bool) → b ≡ true → a || b ≡ true
-or_right true b e = refl
-or_right false b e = e
-
-pub and_split : (a b : Bool) → a && b ≡ true → (a ≡ true) × (b ≡ true)
-and_split true b e = (refl, e)
-and_split false b e = true_false (sym e)
 
 -- tests that agree on the members of a list agree on the list
 pub some_in_same : (p q : ℕ → Bool) (xs : List ℕ) → ((x : ℕ) → mem x xs ≡ true → p x ≡ q x) → some_in p xs ≡ some_in q xs
@@ -156,9 +86,6 @@ some_end_same p q e = λ i. e RanToCompletion i || (e Canceled i || e Faulted i)
 
 pub each_end_same : (p q : Final → Bool) → ((f : Final) → p f ≡ q f) → each_end p ≡ each_end q
 each_end_same p q e = λ i. e RanToCompletion i && (e Canceled i && e Faulted i)
-
-pub same_either_way : (x y : ℕ) → nat_eq x y ≡ nat_eq y x
-same_either_way x y = same_test (nat_eq x y) (nat_eq y x) (λ e. eq-eqb y x (sym (eqb-true x y e))) (λ e. eq-eqb x y (sym (eqb-true y x e)))
 
 pub drop_all : {A : Type 0} (xs : List A) (i : ℕ) → length xs ≤ i → drop i xs ≡ []
 drop_all [] zero le = refl

@@ -1,10 +1,13 @@
 -- The tasks below one, found in one pass.
 use Rattle.std.proofs.Common.{◌≡◌, ℕ, suc, ◌+◌, ◌<◌, ◌&&◌, ◌||◌, Bool, true, false, Option, Some, None, List, [], ◌∷◌, refl, sym, ap, ◌∙◌, subst, nat_eq, nat_lt, arith, inl, inr, length, filter, not, ◌≤◌, slice_index_or, slice_set, map}
-use Rattle.std.proofs.lemmas.Bool.{cases_lt}
+use Rattle.std.proofs.lemmas.Bool.{cases_lt, cases_Bool}
 use Rattle.std.proofs.lemmas.Bool.Decides.{eqb_tells}
 use Rattle.std.proofs.lemmas.List.{get_or-set_same, get_or-set_other, length-set}
 use Rattle.tpl_words.specs.Members.{mem}
 use Rattle.std.specs.Prelude.{◌==◌}
+use Rattle.tpl_laws.proofs.Settling.{attached_child, child_task}
+use Rattle.tpl_words.proofs.Truths.{true_false}
+use Rattle.tpl_laws.proofs.Parents.{parent_before}
 use Rattle.tpl_words.specs.declared.ids.TaskId.{TaskId}
 use Rattle.tpl_graph.specs.Ids.{task_number}
 use Rattle.tpl_words.specs.Options.{attached_to_parent, deny_child_attach}
@@ -14,8 +17,7 @@ use Rattle.tpl_model.specs.Valid.{IsGraph}
 use Rattle.tpl_model.specs.Certificate.{IsBelow, child, deeper}
 use Rattle.tpl_laws.specs.RowTests.{below_by, is_below, parent_of}
 use Rattle.tpl_laws.specs.Decided.{BelowInOnePass, BelowIsRight, ParentIsRight}
-use Rattle.tpl_checker.proofs.Basics.{true_false, decide}
-use Rattle.tpl_checker.proofs.ReadyLemmas.{attached_is_child, child_is_task, no_body}
+use Rattle.tpl_checker.proofs.ReadyLemmas.{no_body}
 use Rattle.tpl_checker.proofs.BodyLemmas.{lt_next, lt_other, member_step}
 
 -- those of the first n tasks
@@ -27,12 +29,6 @@ none_below g t found e = record { members = λ x. ap (mem x) e ∙ ap (λ z. z &
   where
     no_lt : (x : ℕ) → nat_lt x 0 ≡ false
     no_lt x = grind arith
-
-parent_before : (g : TaskGraph) (p c : ℕ) → IsGraph g → IsParent g p c → p < c
-parent_before g p c valid m =
-    let rules = valid.each c (child_is_task g p c valid m) in
-    let q = rules.parent (rules.child p m) in
-    subst (λ z. z < c) (rules.one_parent q.0 p q.1 m) q.2
 
 module _ (g : TaskGraph) (t c : ℕ) (valid : IsGraph g) (law : BelowInOnePass) (parents : ParentIsRight) (found : List ℕ) (so_far : BelowSoFar g t c found) where
   by_option : (o : Option ℕ) → parent_of g c ≡ o → below_by g t c o (λ p. mem p found) ≡ below_by g t c o (is_below g t)
@@ -54,8 +50,8 @@ module _ (g : TaskGraph) (t c : ℕ) (valid : IsGraph g) (law : BelowInOnePass) 
   below_step flag found' e h = next found' (λ x. member_step (is_below g t) c x flag (mem x found) (mem x found') (is_right flag e) (so_far.members x) (h x))
 
 is_child : (g : TaskGraph) (t x : ℕ) → IsBelow g t x → (p : ℕ) × IsParent g p x
-is_child g t x (child m) = (t, attached_is_child g t x m)
-is_child g t x (deeper {p = p} b m) = (p, attached_is_child g p x m)
+is_child g t x (child m) = (t, attached_child g t x m)
+is_child g t x (deeper {p = p} b m) = (p, attached_child g p x m)
 
 -- all of them
 pub below_at_last : (g : TaskGraph) (t : ℕ) → IsGraph g → BelowIsRight → (found : List ℕ) → BelowSoFar g t (length g.tasks) found → (x : ℕ) → mem x found ≡ is_below g t x
@@ -71,7 +67,7 @@ below_at_last g t valid law found so_far x = so_far.members x ∙ go (is_below g
     go : (b : Bool) → is_below g t x ≡ b → (nat_lt x (length g.tasks) && is_below g t x) ≡ is_below g t x
     go true e =
         let p = is_child g t x ((law g t x valid).0 e) in
-        ap (λ z. z && is_below g t x) (yes x (length g.tasks) (child_is_task g p.0 x valid p.1))
+        ap (λ z. z && is_below g t x) (yes x (length g.tasks) (child_task g p.0 x valid p.1))
     go false e = ap (λ z. nat_lt x (length g.tasks) && z) e ∙ (and_false (nat_lt x (length g.tasks)) ∙ sym e)
 
 -- below a task without attached children there is none
@@ -80,7 +76,7 @@ nothing g t x e (child m) = true_false (sym m ∙ ap (mem x) e)
 nothing g t x e (deeper {p = p} b m) = nothing g t p e b
 
 pub nothing_below : (g : TaskGraph) (t : ℕ) → IsGraph g → BelowIsRight → attached g t ≡ [] → (x : ℕ) → is_below g t x ≡ false
-nothing_below g t valid law e x = elim (decide (is_below g t x)) [ inl q ↦ absurd (nothing g t x e ((law g t x valid).0 q)) | inr q ↦ q ]
+nothing_below g t valid law e x = elim (cases_Bool (is_below g t x)) [ inl q ↦ absurd (nothing g t x e ((law g t x valid).0 q)) | inr q ↦ q ]
 
 -- past the last task there is no child
 pub nothing_attached : (g : TaskGraph) (t : ℕ) → length g.tasks ≤ t → attached g t ≡ []

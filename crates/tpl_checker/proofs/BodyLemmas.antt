@@ -1,69 +1,51 @@
 -- How the bodies may end, and which children they may start, body by body.
 use Rattle.std.proofs.Common.{◌≡◌, ℕ, suc, ◌+◌, ◌<◌, ◌↔◌, ◌&&◌, ◌||◌, inl, inr, Bool, true, false, Some, List, [], ◌∷◌, length, refl, sym, ap, ◌∙◌, subst, nat_eq, nat_lt, arith}
 use Rattle.std.proofs.lemmas.Bool.Decides.{eqb_tells}
-use Rattle.std.proofs.lemmas.Bool.{eqb-true}
+use Rattle.std.proofs.lemmas.Bool.{eqb-true, cases_Bool, or_cases, and_parts}
+use Rattle.tpl_laws.proofs.Settling.{child_task}
+use Rattle.tpl_words.proofs.MemberLemmas.{mem_here, mem_left, mem_right}
+use Rattle.tpl_words.proofs.Truths.{true_false, same_tests}
+use Rattle.tpl_script.proofs.PathEnds.{is_acknowledged, is_returned, thrown_label}
+use Rattle.tpl_script.proofs.Through.{no_clean}
 use Rattle.tpl_words.specs.Members.{mem}
-use Rattle.tpl_words.specs.declared.status.Label.{Label}
-use Rattle.tpl_script.specs.declared.outcome.Outcome.{Outcome}
 use Rattle.tpl_script.specs.declared.outcome.Outcome.TheVariants.{Returned, Threw, Acknowledged}
 use Rattle.tpl_script.specs.Statements.{Statement, Statements, Return, Throw, Check, Cancel, Start, Observe, Work, If, When, Nothing, ◌⨾◌, starts, starts_of}
 use Rattle.tpl_script.specs.Paths.{Known, Path, MayEnd, MayThrow, MayStartChild}
-use Rattle.tpl_script.specs.Recursion.{may, none, clean, is_throw, passes_by, another, reaches, reaches_in, MayIsRight, MayStartIsRight}
+use Rattle.tpl_script.specs.Recursion.{may, none, is_throw, passes_by, another, reaches, reaches_in, MayIsRight, MayStartIsRight}
 use Rattle.tpl_model.specs.Graph.{TaskGraph, body, IsParent}
 use Rattle.tpl_model.specs.Valid.{IsGraph}
 use Rattle.tpl_model.specs.Certificate.{Row, Assumed, view}
 use Rattle.tpl_laws.specs.RowTests.{is_return, is_acknowledgement}
 use Rattle.tpl_checker.specs.declared.bodies.Bodies.{Bodies}
 use Rattle.tpl_checker.specs.Bodies.{AreFirstBodies}
-use Rattle.tpl_checker.proofs.Basics.{true_false, decide, same_test, or_split, and_split, mem_here, mem_before, mem_behind}
-use Rattle.tpl_checker.proofs.ReadyLemmas.{child_is_task, parent_is_task}
-
--- what a path ends with, as the recursion finds it
-none_clean : (ps : List Statement) → clean none ps ≡ true
-none_clean [] = refl
-none_clean (x ∷ ps) = none_clean ps
-
-return_is : (v : Outcome) → is_return v ≡ true → v ≡ Returned
-return_is Returned e = refl
-return_is (Threw label) e = true_false (sym e)
-return_is Acknowledged e = true_false (sym e)
-
-acknowledgement_is : (v : Outcome) → is_acknowledgement v ≡ true → v ≡ Acknowledged
-acknowledgement_is Returned e = true_false (sym e)
-acknowledgement_is (Threw label) e = true_false (sym e)
-acknowledgement_is Acknowledged e = refl
-
-throw_is : (v : Outcome) → is_throw v ≡ true → (label : Label) × (v ≡ Threw label)
-throw_is Returned e = true_false (sym e)
-throw_is (Threw label) e = (label, refl)
-throw_is Acknowledged e = true_false (sym e)
+use Rattle.tpl_checker.proofs.ReadyLemmas.{parent_is_task}
 
 module _ (law : MayIsRight) (w : Known) (script : Statements) (r : Bool) where
   pub returned_is : (r ≡ true) ↔ MayEnd w script Returned → r ≡ may none is_return w script
-  returned_is d = same_test r (may none is_return w script)
-      (λ e. let m = d.0 e in (law none is_return w script).1 (m.0, Returned, m.1, refl, none_clean m.0))
-      (λ e. let p = (law none is_return w script).0 e in d.1 (p.0, subst (λ z. Path w script p.0 (Some z)) (return_is p.1 p.3) p.2))
+  returned_is d = same_tests r (may none is_return w script)
+      (λ e. let m = d.0 e in (law none is_return w script).1 (m.0, Returned, m.1, refl, no_clean m.0))
+      (λ e. let p = (law none is_return w script).0 e in d.1 (p.0, subst (λ z. Path w script p.0 (Some z)) (is_returned p.1 p.3) p.2))
 
   pub acknowledged_is : (r ≡ true) ↔ MayEnd w script Acknowledged → r ≡ may none is_acknowledgement w script
-  acknowledged_is d = same_test r (may none is_acknowledgement w script)
-      (λ e. let m = d.0 e in (law none is_acknowledgement w script).1 (m.0, Acknowledged, m.1, refl, none_clean m.0))
-      (λ e. let p = (law none is_acknowledgement w script).0 e in d.1 (p.0, subst (λ z. Path w script p.0 (Some z)) (acknowledgement_is p.1 p.3) p.2))
+  acknowledged_is d = same_tests r (may none is_acknowledgement w script)
+      (λ e. let m = d.0 e in (law none is_acknowledgement w script).1 (m.0, Acknowledged, m.1, refl, no_clean m.0))
+      (λ e. let p = (law none is_acknowledgement w script).0 e in d.1 (p.0, subst (λ z. Path w script p.0 (Some z)) (is_acknowledged p.1 p.3) p.2))
 
   pub thrown_is : (r ≡ true) ↔ MayThrow w script → r ≡ may none is_throw w script
-  thrown_is d = same_test r (may none is_throw w script)
-      (λ e. let m = d.0 e in (law none is_throw w script).1 (m.1.0, Threw m.0, m.1.1, refl, none_clean m.1.0))
+  thrown_is d = same_tests r (may none is_throw w script)
+      (λ e. let m = d.0 e in (law none is_throw w script).1 (m.1.0, Threw m.0, m.1.1, refl, no_clean m.1.0))
       (λ e.
       let p = (law none is_throw w script).0 e in
-      let label = throw_is p.1 p.3 in
+      let label = thrown_label p.1 p.3 in
       d.1 (label.0, (p.0, subst (λ z. Path w script p.0 (Some z)) label.1 p.2)))
 
 -- a child that is reached is started in the text
 mutual
   reaches_starts : (c : ℕ) (w : Known) (b : Statements) → reaches c w b ≡ true → mem c (starts b) ≡ true
   reaches_starts c w Nothing e = true_false (sym e)
-  reaches_starts c w (s ⨾ rest) e = elim (or_split (reaches_in c w s) (passes_by none w s && reaches c w rest) e) [
-    | inl p ↦ mem_before c (starts_of s) (starts rest) (reaches_in_starts c w s p)
-    | inr p ↦ mem_behind c (starts_of s) (starts rest) (reaches_starts c w rest (and_split (passes_by none w s) (reaches c w rest) p).1)
+  reaches_starts c w (s ⨾ rest) e = elim (or_cases (reaches_in c w s) (passes_by none w s && reaches c w rest) e) [
+    | inl p ↦ mem_left c (starts_of s) (starts rest) (reaches_in_starts c w s p)
+    | inr p ↦ mem_right c (starts_of s) (starts rest) (reaches_starts c w rest (and_parts (passes_by none w s) (reaches c w rest) p).1)
   ]
 
   reaches_in_starts : (c : ℕ) (w : Known) (s : Statement) → reaches_in c w s ≡ true → mem c (starts_of s) ≡ true
@@ -74,13 +56,13 @@ mutual
   reaches_in_starts c w (Start d) e = subst (λ z. mem z (d ∷ []) ≡ true) (eqb-true d c e) (mem_here d [])
   reaches_in_starts c w Observe e = true_false (sym e)
   reaches_in_starts c w (Work site b) e = true_false (sym e)
-  reaches_in_starts c w (If i first second) e = elim (or_split (w.possible i true && reaches c w first) (w.possible i false && reaches c w second) e) [
-    | inl p ↦ mem_before c (starts first) (starts second) (reaches_starts c w first (and_split (w.possible i true) (reaches c w first) p).1)
-    | inr p ↦ mem_behind c (starts first) (starts second) (reaches_starts c w second (and_split (w.possible i false) (reaches c w second) p).1)
+  reaches_in_starts c w (If i first second) e = elim (or_cases (w.possible i true && reaches c w first) (w.possible i false && reaches c w second) e) [
+    | inl p ↦ mem_left c (starts first) (starts second) (reaches_starts c w first (and_parts (w.possible i true) (reaches c w first) p).1)
+    | inr p ↦ mem_right c (starts first) (starts second) (reaches_starts c w second (and_parts (w.possible i false) (reaches c w second) p).1)
   ]
-  reaches_in_starts c w (When f first second) e = elim (or_split (w.subject f && reaches c w first) (another w f && reaches c w second) e) [
-    | inl p ↦ mem_before c (starts first) (starts second) (reaches_starts c w first (and_split (w.subject f) (reaches c w first) p).1)
-    | inr p ↦ mem_behind c (starts first) (starts second) (reaches_starts c w second (and_split (another w f) (reaches c w second) p).1)
+  reaches_in_starts c w (When f first second) e = elim (or_cases (w.subject f && reaches c w first) (another w f && reaches c w second) e) [
+    | inl p ↦ mem_left c (starts first) (starts second) (reaches_starts c w first (and_parts (w.subject f) (reaches c w first) p).1)
+    | inr p ↦ mem_right c (starts first) (starts second) (reaches_starts c w second (and_parts (another w f) (reaches c w second) p).1)
   ]
 
 -- below one more
@@ -116,7 +98,7 @@ module _ (g : TaskGraph) (l : Assumed) (rows : List Row) (valid : IsGraph g) (la
   -- the children of all, with those of the task t
   pub started_step : (t p c : ℕ) (old fresh new : Bool) → IsParent g p c → (c < 1024 → (fresh ≡ true) ↔ MayStartChild (view g l rows t) (body g t) c) → old ≡ (nat_lt p t && reaches c (view g l rows p) (body g p)) → new ≡ (old || fresh) → new ≡ (nat_lt p (suc t) && reaches c (view g l rows p) (body g p))
   started_step t p c old fresh new parent d so_far e =
-      let is : fresh ≡ reaches c (view g l rows t) (body g t) = same_test fresh (reaches c (view g l rows t) (body g t)) (λ q. (law c (view g l rows t) (body g t)).1 ((d small).0 q)) (λ q. (d small).1 ((law c (view g l rows t) (body g t)).0 q)) in
+      let is : fresh ≡ reaches c (view g l rows t) (body g t) = same_tests fresh (reaches c (view g l rows t) (body g t)) (λ q. (law c (view g l rows t) (body g t)).1 ((d small).0 q)) (λ q. (d small).1 ((law c (view g l rows t) (body g t)).0 q)) in
       elim (eqb_tells p t) [
         | inl (q, same) ↦
             e ∙ (ap (λ z. z || fresh) (so_far ∙ (ap (λ z. nat_lt z t && reaches c (view g l rows z) (body g z)) same ∙ ap (λ z. z && reaches c (view g l rows t) (body g t)) (lt_self t)))
@@ -127,15 +109,15 @@ module _ (g : TaskGraph) (l : Assumed) (rows : List Row) (valid : IsGraph g) (la
       ]
     where
       small : c < 1024
-      small = omega (arith, child_is_task g p c valid parent, valid.tasks)
+      small = omega (arith, child_task g p c valid parent, valid.tasks)
 
       or_false : (b : Bool) → (b || false) ≡ b
       or_false true = refl
       or_false false = refl
 
       not_there : (p ≡ t → ⊥) → reaches c (view g l rows t) (body g t) ≡ false
-      not_there other = elim (decide (reaches c (view g l rows t) (body g t))) [
-        | inl q ↦ absurd (other ((valid.each c (child_is_task g p c valid parent)).one_parent p t parent (reaches_starts c (view g l rows t) (body g t) q)))
+      not_there other = elim (cases_Bool (reaches c (view g l rows t) (body g t))) [
+        | inl q ↦ absurd (other ((valid.each c (child_task g p c valid parent)).one_parent p t parent (reaches_starts c (view g l rows t) (body g t) q)))
         | inr q ↦ q
       ]
 

@@ -1,13 +1,14 @@
 -- Along a chain.
 use Rattle.std.proofs.Common.{◌≡◌, ℕ, ◌+◌, ◌<◌, ◌&&◌, true, false, List, [], ◌∷◌, drop, length, map, refl, sym, ap, ◌∙◌, subst, slice_index_or, nat_lt, arith}
 use Rattle.std.proofs.lemmas.List.{drop_more, length-drop}
+use Rattle.std.proofs.lemmas.Bool.{and_parts}
 use Rattle.tpl_words.specs.declared.ids.TaskId.{TaskId}
 use Rattle.tpl_model.specs.Graph.{TaskGraph}
 use Rattle.tpl_model.specs.Certificate.{Assumed}
 use Rattle.tpl_graph.specs.Ids.{task_number}
 use Rattle.tpl_laws.specs.RowTests.{all_in, chain_by, reads, takes_over}
 use Rattle.tpl_checker.specs.Tasks.{AreTasks}
-use Rattle.tpl_checker.proofs.Basics.{and_split, drop_all}
+use Rattle.tpl_checker.proofs.Basics.{drop_all}
 
 -- what is left of the chain from the i-th task on has to lead on from the carrier
 pub record ChainFrom (g : TaskGraph) (l : Assumed) (t : ℕ) (chain : List TaskId) (i carrier : ℕ) : Type 0 where
@@ -51,7 +52,7 @@ chain_start g l t chain tasks = record { left = tasks; same = refl }
 pub tasks_of_test : (n : ℕ) (ts : List TaskId) → all_in (λ x. nat_lt x n) (map task_number ts) ≡ true → AreTasks n ts
 tasks_of_test n [] e = tt
 tasks_of_test n (t ∷ ts) e =
-    let s = and_split (nat_lt t.0 n) (all_in (λ x. nat_lt x n) (map task_number ts)) e in
+    let s = and_parts (nat_lt t.0 n) (all_in (λ x. nat_lt x n) (map task_number ts)) e in
     (lt_of t.0 n s.0, tasks_of_test n ts s.1)
   where
     lt_of : (a m : ℕ) → nat_lt a m ≡ true → a < m

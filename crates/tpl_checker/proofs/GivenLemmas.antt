@@ -4,8 +4,10 @@ use Rattle.std.proofs.lemmas.List.{get_or-set_same, get_or-set_other, length-set
 use Rattle.std.proofs.lemmas.Bool.Decides.{eqb_tells}
 use Rattle.tpl_words.specs.declared.ids.TokenId.{TokenId}
 use Rattle.tpl_words.specs.Members.{mem}
-use Rattle.std.proofs.lemmas.Bool.{cases_lt}
+use Rattle.std.proofs.lemmas.Bool.{cases_lt, or_cases, or_left, or_right}
 use Rattle.std.proofs.lemmas.List.{drop_more, get_or_past}
+use Rattle.tpl_words.proofs.MemberLemmas.{mem_split, mem_here, mem_there, same_either_way}
+use Rattle.tpl_words.proofs.Truths.{and_assoc, and_true, or_false, true_false, same_tests}
 use Rattle.tpl_words.specs.declared.ids.InputId.{InputId}
 use Rattle.tpl_words.specs.declared.finals.Final.{Final}
 use Rattle.tpl_model.specs.declared.claim.Given.{Given}
@@ -17,7 +19,6 @@ use Rattle.tpl_graph.specs.Ids.{token_number}
 use Rattle.tpl_laws.specs.Runs.{QuietByALink, gives_quiet}
 use Rattle.tpl_checker.specs.declared.assumptions.Assumptions.{Assumptions}
 use Rattle.tpl_checker.specs.Assumptions.{AllTokens, assumed_of, nothing_assumed, with_given, with_quiet}
-use Rattle.tpl_checker.proofs.Basics.{true_false, mem_split, mem_here, mem_there, or_split, or_left, or_right, same_test, same_either_way}
 
 -- the first i of the tokens are marked
 pub record MarkedSoFar (first now : List Bool) (tokens : List TokenId) (i : ℕ) : Type 0 where
@@ -32,11 +33,6 @@ mark_set xs i k lt = elim (eqb_tells k i) [
   | inr (e, n) ↦ get_or-set_other xs i k true false n ∙ ap (λ z. z || slice_index_or xs k false) (sym e)
 ]
 
-swapped : (a b c : Bool) → ((a || b) || c) ≡ (b || (a || c))
-swapped true true c = refl
-swapped true false c = refl
-swapped false b c = refl
-
 pub marked_step : (first now : List Bool) (tokens : List TokenId) (i : ℕ) (t : TokenId) → drop i tokens ≡ t ∷ drop (i + 1) tokens → MarkedSoFar first now tokens i → MarkedSoFar first (slice_set now t.0 true) tokens (i + 1)
 marked_step first now tokens i t e m =
     let left : AllTokens 32 (t ∷ drop (i + 1) tokens) = subst (λ (ts : List TokenId). AllTokens 32 ts) e m.left in
@@ -46,7 +42,7 @@ marked_step first now tokens i t e m =
       left = left.1;
       marks = λ k.
           ap (λ z. z || mem k (map token_number (drop (i + 1) tokens))) (mark_set now t.0 k lt)
-          ∙ (swapped (nat_eq k t.0) (slice_index_or now k false) (mem k (map token_number (drop (i + 1) tokens)))
+          ∙ (or_moved (nat_eq k t.0) (slice_index_or now k false) (mem k (map token_number (drop (i + 1) tokens)))
           ∙ (ap (λ (ts : List TokenId). slice_index_or now k false || mem k (map token_number ts)) (sym e) ∙ m.marks k));
     }
 
@@ -116,7 +112,7 @@ module _ (g : TaskGraph) (valid : IsGraph g) (law : QuietByALink) (first now nex
   quiet_marked marked more = record { upto = omega (arith, so_far.upto); finds = to; found = back }
     where
       to : (given : List Given) → ((j : ℕ) → slice_index_or first j false ≡ gives_quiet given j) → (j : ℕ) → slice_index_or next j false ≡ true → QuietBy g given k j
-      to given same j q = elim (or_split (slice_index_or now j false) (mem j (sources g k)) (sym (more j) ∙ q)) [
+      to given same j q = elim (or_cases (slice_index_or now j false) (mem j (sources g k)) (sym (more j) ∙ q)) [
         | inl e ↦ elim (so_far.finds given same j e) [ inl p ↦ inl p | inr (m, le, is, p) ↦ inr (m, (omega arith), is, p) ]
         | inr e ↦ inr (k, (omega arith), e, is_quiet given same marked)
       ]
@@ -147,7 +143,7 @@ module _ (g : TaskGraph) (valid : IsGraph g) (law : QuietByALink) (first now nex
 
 pub quiet_at_last : (g : TaskGraph) (law : QuietByALink) (first now : List Bool) → QuietFrom g first now 0 → (given : List Given) → ((j : ℕ) → slice_index_or first j false ≡ gives_quiet given j) → (j : ℕ) → slice_index_or now j false ≡ given_quiet g given j
 quiet_at_last g law first now q given same j =
-    same_test (slice_index_or now j false) (given_quiet g given j)
+    same_tests (slice_index_or now j false) (given_quiet g given j)
     (λ e. elim (q.finds given same j e) [ inl p ↦ (law g given j).1 (inl p) | inr (m, le, is, p) ↦ (law g given j).1 (inr (m, is, p)) ])
     (λ e. q.found given same j (elim ((law g given j).0 e) [ inl p ↦ inl p | inr (m, is, p) ↦ inr (m, (omega arith), is, p) ]))
 
@@ -157,11 +153,7 @@ pub record GivenSoFar (given : List Given) (i : ℕ) (a : Assumed) : Type 0 wher
   pub quiet : (j : ℕ) → (a.quiet j || gives_quiet (drop i given) j) ≡ gives_quiet given j
   pub cut : (t : ℕ) (f : Final) → a.cut t f ≡ true
 
-and_assoc : (a b c : Bool) → ((a && b) && c) ≡ (a && (b && c))
-and_assoc true b c = refl
-and_assoc false b c = refl
-
-or_moved : (a b c : Bool) → ((a || b) || c) ≡ (b || (a || c))
+pub or_moved : (a b c : Bool) → ((a || b) || c) ≡ (b || (a || c))
 or_moved true true c = refl
 or_moved true false c = refl
 or_moved false b c = refl
@@ -192,14 +184,6 @@ given_step given i a next d lt e s = subst (λ n. GivenSoFar given (i + 1) n) (s
 -- none yet
 pub given_at_first : (given : List Given) (a : Assumed) → a ≡ nothing_assumed → GivenSoFar given 0 a
 given_at_first given a e = subst (λ z. GivenSoFar given 0 z) (sym e) (record { possible = λ j b. refl; quiet = λ j. refl; cut = λ t f. refl })
-
-and_true : (b : Bool) → b && true ≡ b
-and_true true = refl
-and_true false = refl
-
-or_false : (b : Bool) → b || false ≡ b
-or_false true = refl
-or_false false = refl
 
 -- all of them
 pub given_at_last : (g : TaskGraph) (given : List Given) (i : ℕ) (a : Assumptions) (marks : List Bool) → drop i given ≡ [] → GivenSoFar given i (assumed_of a) → (((k : ℕ) → slice_index_or a.quiet k false ≡ gives_quiet given k) → (k : ℕ) → slice_index_or marks k false ≡ given_quiet g given k) → assumed_of (record a { quiet = marks }) ≡ assumed g given

@@ -2,9 +2,9 @@
 use Rattle.std.proofs.Common.{◌≡◌, ℕ, ◌<◌, ◌&&◌, inl, inr, Bool, true, false, List, [], ◌∷◌, length, nat_lt, refl, sym, ap, ◌∙◌, slice_index_or, arith}
 use Rattle.std.proofs.lemmas.Bool.{and_parts, cases_lt}
 use Rattle.std.specs.Cmp.Lexicographic.{pointwise}
+use Rattle.tpl_words.proofs.Truths.{beq_same, true_false}
 use Rattle.tpl_words.specs.declared.finals.Final.{Final}
 use Rattle.tpl_words.specs.declared.finals.Finals.{Finals}
-use Rattle.tpl_checker.proofs.Basics.{true_false}
 use Rattle.tpl_script.specs.declared.view.Possible.{Possible}
 use Rattle.tpl_script.specs.View.{may_have}
 use Rattle.tpl_script.specs.Paths.{Known}
@@ -18,12 +18,6 @@ use Rattle.tpl_checker.specs.Assumptions.{assumed_of, both}
 use Rattle.tpl_checker.specs.Bodies.{AreBodies}
 use mathlib.Core.Bool.{beq}
 
-pub same_bit : (a b : Bool) → beq a b ≡ true → a ≡ b
-same_bit true true e = refl
-same_bit true false e = sym e
-same_bit false true e = e
-same_bit false false e = refl
-
 pub same_lists : {A : Type 0} (same : A → A → Bool) → ((x y : A) → same x y ≡ true → x ≡ y) → (xs ys : List A) → pointwise same xs ys ≡ true → xs ≡ ys
 same_lists same is [] [] e = refl
 same_lists same is [] (y ∷ ys) e = true_false (sym e)
@@ -35,13 +29,13 @@ same_lists same is (x ∷ xs) (y ∷ ys) e =
 pub same_possible : (p q : Possible) → (beq p.on_true q.on_true && beq p.on_false q.on_false) ≡ true → p ≡ q
 same_possible p q e =
     let s = and_parts (beq p.on_true q.on_true) (beq p.on_false q.on_false) e in
-    λ i. record { on_true = same_bit p.on_true q.on_true s.0 i; on_false = same_bit p.on_false q.on_false s.1 i }
+    λ i. record { on_true = beq_same p.on_true q.on_true s.0 i; on_false = beq_same p.on_false q.on_false s.1 i }
 
 pub same_finals : (a b : Finals) → (beq a.ran b.ran && (beq a.canceled b.canceled && beq a.faulted b.faulted)) ≡ true → a ≡ b
 same_finals a b e =
     let s = and_parts (beq a.ran b.ran) (beq a.canceled b.canceled && beq a.faulted b.faulted) e in
     let r = and_parts (beq a.canceled b.canceled) (beq a.faulted b.faulted) s.1 in
-    λ i. record { ran = same_bit a.ran b.ran s.0 i; canceled = same_bit a.canceled b.canceled r.0 i; faulted = same_bit a.faulted b.faulted r.1 i }
+    λ i. record { ran = beq_same a.ran b.ran s.0 i; canceled = beq_same a.canceled b.canceled r.0 i; faulted = beq_same a.faulted b.faulted r.1 i }
 
 pub same_view : (g : TaskGraph) (a b : Assumptions) (xs ys : List Row) (t : ℕ) → a.inputs ≡ b.inputs → a.quiet ≡ b.quiet → ((f : Final) → subject_set g xs t (kind g t) f ≡ subject_set g ys t (kind g t) f) → view g (assumed_of a) xs t ≡ view g (assumed_of b) ys t
 same_view g a b xs ys t inputs quiet subjects = λ i. record {

@@ -1,17 +1,18 @@
 -- The tasks that one waits for, and the children that a body starts.
-use Rattle.std.proofs.Common.{◌≡◌, ℕ, ◌<◌, ◌≤◌, ◌&&◌, inl, inr, Bool, true, false, if◌then◌else◌, not, None, List, [], ◌∷◌, filter, length, map, sym, ap, subst, arith}
+use Rattle.std.proofs.Common.{◌≡◌, ℕ, ◌<◌, ◌≤◌, inl, inr, Bool, true, false, if◌then◌else◌, None, List, [], ◌∷◌, filter, length, map, sym, ap, subst, arith}
 use Rattle.std.proofs.lemmas.Bool.{cases_lt}
 use Rattle.std.proofs.lemmas.List.{get_or_past}
+use Rattle.tpl_words.proofs.MemberLemmas.{mem_split, mem_here, mem_there, mem_append}
+use Rattle.tpl_words.proofs.Truths.{true_false}
+use Rattle.tpl_laws.proofs.Settling.{child_task, attached_child}
 use Rattle.tpl_words.specs.declared.ids.TaskId.{TaskId}
 use Rattle.tpl_words.specs.Members.{mem}
-use Rattle.tpl_words.specs.Options.{attached_to_parent, deny_child_attach}
 use Rattle.tpl_script.specs.Statements.{Statement, Statements, Return, Throw, Check, Cancel, Start, Observe, Work, If, When, Nothing, ◌⨾◌, starts, starts_of}
 use Rattle.tpl_model.specs.Graph.{TaskGraph, TaskKind, Root, Child, Continues, WhenAll, WhenAny, body, options, attached, is_task, IsParent}
 use Rattle.tpl_model.specs.Valid.{IsGraph, IdsOf, IdsWithin, ArePlaced, IsPlaced}
 use Rattle.tpl_graph.specs.Ids.{task_number}
 use Rattle.tpl_graph.specs.Named.{args_of}
 use Rattle.tpl_checker.specs.Tasks.{AreTasks}
-use Rattle.tpl_checker.proofs.Basics.{true_false, mem_split, mem_here, mem_there, mem_append}
 
 placed_within : (g : TaskGraph) (t n : ℕ) (ts : List TaskId) → t < n → ArePlaced g t (map task_number ts) → AreTasks n ts
 placed_within g t n [] lt p = tt
@@ -65,9 +66,6 @@ parent_is_task g p c m = elim (cases_lt p (length g.tasks)) [
   | inr le ↦ true_false (sym (subst (λ (b : Statements). mem c (starts b) ≡ true) (no_body g p le) m))
 ]
 
-pub child_is_task : (g : TaskGraph) (p c : ℕ) → IsGraph g → IsParent g p c → is_task g c
-child_is_task g p c valid m = starts_are_tasks g (body g p) c (valid.each p (parent_is_task g p c m)).ids m
-
 filtered : (test : ℕ → Bool) (xs : List ℕ) (c : ℕ) → mem c (filter test xs) ≡ true → mem c xs ≡ true
 filtered test [] c m = m
 filtered test (x ∷ xs) c m = go (λ q. filtered test xs c q) (test x) m
@@ -76,13 +74,9 @@ filtered test (x ∷ xs) c m = go (λ q. filtered test xs c q) (test x) m
     go later true e = elim (mem_split c x (filter test xs) e) [ inl q ↦ subst (λ z. mem z (x ∷ xs) ≡ true) (sym q) (mem_here x xs) | inr q ↦ mem_there c x xs (later q) ]
     go later false e = mem_there c x xs (later e)
 
--- an attached child is a child
-pub attached_is_child : (g : TaskGraph) (p c : ℕ) → mem c (attached g p) ≡ true → IsParent g p c
-attached_is_child g p c m = filtered (λ c. attached_to_parent (options g c) && not (deny_child_attach (options g p))) (starts (body g p)) c m
-
 pub tasks_within : (n : ℕ) (ts : List TaskId) → ((c : ℕ) → mem c (map task_number ts) ≡ true → c < n) → AreTasks n ts
 tasks_within n [] h = tt
 tasks_within n (t ∷ ts) h = (h t.0 (mem_here t.0 (map task_number ts)), tasks_within n ts (λ c m. h c (mem_there c t.0 (map task_number ts) m)))
 
 pub attached_within : (g : TaskGraph) (p : ℕ) (ts : List TaskId) → IsGraph g → map task_number ts ≡ attached g p → AreTasks (length g.tasks) ts
-attached_within g p ts valid e = tasks_within (length g.tasks) ts (λ c m. child_is_task g p c valid (attached_is_child g p c (subst (λ (xs : List ℕ). mem c xs ≡ true) e m)))
+attached_within g p ts valid e = tasks_within (length g.tasks) ts (λ c m. child_task g p c valid (attached_child g p c (subst (λ (xs : List ℕ). mem c xs ≡ true) e m)))

@@ -1,6 +1,7 @@
 -- What is settled after some of a list of tasks, or after each.
 use Rattle.std.proofs.Common.{◌≡◌, ℕ, ◌+◌, ◌<◌, ◌&&◌, ◌||◌, Bool, true, false, List, drop, length, map, refl, sym, ap, ◌∙◌, subst, nat_eq, slice_index_or}
 use Rattle.std.proofs.lemmas.List.{drop_more}
+use Rattle.tpl_words.proofs.Truths.{and_assoc}
 use Rattle.tpl_words.specs.declared.ids.TaskId.{TaskId}
 use Rattle.tpl_words.specs.Members.{mem}
 use Rattle.tpl_model.specs.Graph.{some_in}
@@ -26,10 +27,6 @@ pub record AfterEach (rows : List Row) (tasks : List TaskId) (set : List ℕ) (i
 or_assoc : (a b c : Bool) → ((a || b) || c) ≡ (a || (b || c))
 or_assoc true b c = refl
 or_assoc false b c = refl
-
-and_assoc : (a b c : Bool) → ((a && b) && c) ≡ (a && (b && c))
-and_assoc true b c = refl
-and_assoc false b c = refl
 
 pub some_step : (rows : List Row) (tasks : List TaskId) (i : ℕ) (settled next : List ℕ) (d : TaskId) → i < length tasks → AfterSome rows tasks i settled → ((x : ℕ) → mem x next ≡ (mem x settled || after rows x (slice_index_or tasks i d).0)) → AfterSome rows tasks (i + 1) next
 some_step rows tasks i settled next d lt s h = record {

@@ -1,16 +1,17 @@
 -- Leaf by leaf, and claim by claim.
-use Rattle.std.proofs.Common.{◌≡◌, ℕ, zero, suc, ◌+◌, ◌<◌, ◌≤◌, ◌&&◌, Bool, true, false, Option, Some, None, Result, Ok, Err, List, [], ◌∷◌, drop, length, refl, sym, ap, ◌∙◌, slice_index_or, nat_lt, inl, inr, arith}
+use Rattle.std.proofs.Common.{◌≡◌, ℕ, zero, suc, ◌+◌, ◌<◌, ◌≤◌, ◌&&◌, true, Option, Some, None, Result, Ok, Err, List, [], ◌∷◌, drop, length, refl, sym, ap, ◌∙◌, slice_index_or, nat_lt, inl, inr, arith}
 use Rattle.std.specs.Prelude.{IfOk}
-use Rattle.std.proofs.lemmas.Bool.{cases_lt}
+use Rattle.std.proofs.lemmas.Bool.{cases_lt, ltb-true, and_parts}
 use Rattle.std.proofs.lemmas.List.{drop_more}
+use Rattle.tpl_laws.proofs.FaultsDecided.{no_unless}
 use Rattle.tpl_model.specs.Graph.{TaskGraph}
 use Rattle.tpl_model.specs.Claims.{Claim}
 use Rattle.tpl_model.specs.Certificate.{Row, row, Tree, SplitInput, SplitEnd, assumed}
 use Rattle.tpl_model.specs.declared.fault.CertFault.{CertFault}
 use Rattle.tpl_model.specs.declared.fault.CertFault.TheVariants.{Shape}
-use Rattle.tpl_laws.specs.Verdict.{or_else, unless, has_tasks, rows_fit, fits, misfit, tree_fault, claims_fault, no_fault}
+use Rattle.tpl_laws.specs.Verdict.{or_else, has_tasks, rows_fit, fits, misfit, tree_fault, claims_fault, no_fault}
 use Rattle.tpl_checker.specs.Leaves.{Failing}
-use Rattle.tpl_checker.proofs.Basics.{and_split, drop_all}
+use Rattle.tpl_checker.proofs.Basics.{drop_all}
 use Rattle.tpl_checker.proofs.ShapeLemmas.{no_one}
 
 pub or_else_first : {A : Type 0} (a b : Option A) (x : A) → a ≡ Some x → or_else a b ≡ Some x
@@ -26,18 +27,14 @@ pub failing_second : (a b : Option CertFault) (n m : ℕ) (r : Result ℕ CertFa
 failing_second a b n m (Ok k) e same f = (or_else_second a b e ∙ f.0, f.1 ∙ same)
 failing_second a b n m (Err x) e same f = or_else_second a b e ∙ f
 
--- the ids in the row of a task are the graph's
-lt_of : (a m : ℕ) → nat_lt a m ≡ true → a < m
-lt_of a m h = grind arith
-
 pub chain_fits : (g : TaskGraph) (rows : List Row) (t : ℕ) → rows_fit g rows ≡ true → t < length rows → has_tasks g (row rows t).chain ≡ true
 chain_fits g [] t e lt = absurd (omega arith)
 chain_fits g (r ∷ rows) zero e lt =
-    let s = and_split (has_tasks g r.before && (has_tasks g r.past && has_tasks g r.chain)) (rows_fit g rows) e in
-    let p = and_split (has_tasks g r.before) (has_tasks g r.past && has_tasks g r.chain) s.0 in
-    (and_split (has_tasks g r.past) (has_tasks g r.chain) p.1).1
+    let s = and_parts (has_tasks g r.before && (has_tasks g r.past && has_tasks g r.chain)) (rows_fit g rows) e in
+    let p = and_parts (has_tasks g r.before) (has_tasks g r.past && has_tasks g r.chain) s.0 in
+    (and_parts (has_tasks g r.past) (has_tasks g r.chain) p.1).1
 chain_fits g (r ∷ rows) (suc t) e lt =
-    let s = and_split (has_tasks g r.before && (has_tasks g r.past && has_tasks g r.chain)) (rows_fit g rows) e in
+    let s = and_parts (has_tasks g r.before && (has_tasks g r.past && has_tasks g r.chain)) (rows_fit g rows) e in
     chain_fits g rows t s.1 (omega arith)
 
 -- the ids of a split are the graph's, and its branches fit
@@ -48,9 +45,9 @@ pub record InputFits (g : TaskGraph) (i : ℕ) (a b : Tree) : Type 0 where
 
 pub input_fits : (g : TaskGraph) (i : ℕ) (a b : Tree) → fits g (SplitInput i a b) ≡ true → InputFits g i a b
 input_fits g i a b e =
-    let s = and_split (nat_lt i g.inputs) (fits g a && fits g b) e in
-    let r = and_split (fits g a) (fits g b) s.1 in
-    record { input = lt_of i g.inputs s.0; on_true = r.0; on_false = r.1 }
+    let s = and_parts (nat_lt i g.inputs) (fits g a && fits g b) e in
+    let r = and_parts (fits g a) (fits g b) s.1 in
+    record { input = ltb-true i g.inputs s.0; on_true = r.0; on_false = r.1 }
 
 pub record EndFits (g : TaskGraph) (t : ℕ) (a b c : Tree) : Type 0 where
   pub task : t < length g.tasks
@@ -60,10 +57,10 @@ pub record EndFits (g : TaskGraph) (t : ℕ) (a b c : Tree) : Type 0 where
 
 pub end_fits : (g : TaskGraph) (t : ℕ) (a b c : Tree) → fits g (SplitEnd t a b c) ≡ true → EndFits g t a b c
 end_fits g t a b c e =
-    let s = and_split (nat_lt t (length g.tasks)) (fits g a && (fits g b && fits g c)) e in
-    let r = and_split (fits g a) (fits g b && fits g c) s.1 in
-    let q = and_split (fits g b) (fits g c) r.1 in
-    record { task = lt_of t (length g.tasks) s.0; ran = r.0; canceled = q.0; faulted = q.1 }
+    let s = and_parts (nat_lt t (length g.tasks)) (fits g a && (fits g b && fits g c)) e in
+    let r = and_parts (fits g a) (fits g b && fits g c) s.1 in
+    let q = and_parts (fits g b) (fits g c) r.1 in
+    record { task = ltb-true t (length g.tasks) s.0; ran = r.0; canceled = q.0; faulted = q.1 }
 
 -- the first i claims are proved, and the others have trees that fit
 pub record ClaimsSoFar (g : TaskGraph) (claims : List Claim) (trees : List Tree) (i : ℕ) : Type 0 where
@@ -72,10 +69,6 @@ pub record ClaimsSoFar (g : TaskGraph) (claims : List Claim) (trees : List Tree)
 
 pub no_claims_yet : (g : TaskGraph) (claims : List Claim) (trees : List Tree) → misfit g 1 claims trees ≡ None → ClaimsSoFar g claims trees 0
 no_claims_yet g claims trees e = record { same = refl; fit = e }
-
-unless_none : {A : Type 0} (b : Bool) (x : A) (later : Option A) → unless b x later ≡ None → (b ≡ true) × (later ≡ None)
-unless_none true x later e = (refl, e)
-unless_none false x later e = absurd (cc)
 
 some_none : {A : Type 0} (x : A) → Some x ≡ None → ⊥
 some_none x e = absurd (cc)
@@ -90,7 +83,7 @@ module _ (g : TaskGraph) (claims : List Claim) (trees : List Tree) (i : ℕ) (in
 module _ (g : TaskGraph) (claims : List Claim) (trees : List Tree) (i : ℕ) (c : Claim) (t : Tree) (in_claims : i < length claims) (in_trees : i < length trees) (so_far : ClaimsSoFar g claims trees i) where
   split : (fits g (slice_index_or trees i t) ≡ true) × (misfit g (suc (i + 1)) (drop (i + 1) claims) (drop (i + 1) trees) ≡ None)
   split =
-      unless_none (fits g (slice_index_or trees i t)) (Shape (i + 1)) (misfit g (suc (i + 1)) (drop (i + 1) claims) (drop (i + 1) trees))
+      no_unless (fits g (slice_index_or trees i t)) (Shape (i + 1)) (misfit g (suc (i + 1)) (drop (i + 1) claims) (drop (i + 1) trees))
       (sym (λ k. misfit g (i + 1) (drop_more claims i c in_claims k) (drop_more trees i t in_trees k)) ∙ so_far.fit)
 
   pub tree_fits : fits g (slice_index_or trees i t) ≡ true

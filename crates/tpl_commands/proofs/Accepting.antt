@@ -1,5 +1,5 @@
 -- From the verdict on a document to what was read and written.
-use Rattle.std.proofs.Common.{◌≡◌, ℕ, List, Option, Result, Ok, Err, IfOk, string_bytes, inl, inr, sym, ◌∙◌, subst, codes}
+use Rattle.std.proofs.Common.{◌≡◌, ℕ, List, Option, Result, Ok, Err, IfOk, string_bytes, inl, inr, sym, ◌∙◌, subst}
 use Rattle.std.specs.declared.alloc.AllocError.{AllocError}
 use Rattle.tpl_journal.specs.declared.counting.Counting.{Counting}
 use Rattle.tpl_reader.specs.Document.{DocumentValue, Spells}
@@ -38,7 +38,7 @@ says_success Is input Memory text e s = absurd cc
 says_success Is input Device text e s = absurd s
 says_success Is input Fault text e s = absurd s
 
-puts_success : {W : Type 0} (contents : W → Option (List ℕ)) (old new : Counting W) (exit : Exit) (text : List ℕ) (result : Exit) → Puts contents old new exit text result → result ≡ Success → (exit ≡ Success) × Writes contents old new text
+pub puts_success : {W : Type 0} (contents : W → Option (List ℕ)) (old new : Counting W) (exit : Exit) (text : List ℕ) (result : Exit) → Puts contents old new exit text result → result ≡ Success → (exit ≡ Success) × Writes contents old new text
 puts_success contents old new exit text result (inl w) e = (sym w.0 ∙ e, w.1)
 puts_success contents old new exit text result (inr f) e = let d = f.0 in absurd cc
 

@@ -23,7 +23,7 @@ verdict_only doc Memory text accepted is = absurd is
 verdict_only doc Device text accepted is = absurd is
 verdict_only doc Fault text accepted is = absurd is
 
-unreadable_never : (fault : ReadFault) (text : List ℕ) → fault ≡ faults.Memory → IsUnreadable fault text → ⊥
+pub unreadable_never : (fault : ReadFault) (text : List ℕ) → fault ≡ faults.Memory → IsUnreadable fault text → ⊥
 unreadable_never fault text e is = subst (λ (f : ReadFault). IsUnreadable f text) e is
 
 -- a document whose certificate is accepted is answered `accepted`

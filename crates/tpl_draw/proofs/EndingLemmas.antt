@@ -1,5 +1,6 @@
 -- How tasks end by the rows of a certificate.
 use Rattle.std.proofs.Common.{◌≡◌, ℕ, inl, inr, true, false, List, [], ◌∷◌, sym, subst}
+use Rattle.std.proofs.lemmas.Bool.{or_left, or_right}
 use Rattle.tpl_words.specs.declared.finals.Final.{Final}
 use Rattle.tpl_words.specs.declared.finals.Final.TheVariants.{RanToCompletion, Canceled, Faulted}
 use Rattle.tpl_words.specs.declared.finals.Finals.{Finals}
@@ -8,7 +9,6 @@ use Rattle.tpl_model.specs.Graph.{TaskGraph}
 use Rattle.tpl_model.specs.declared.claim.Property.{Property}
 use Rattle.tpl_model.specs.Certificate.{Row, row, Assumed, assumed, with_input, with_end, Closed, Tree, SplitInput, SplitEnd, Leaf, AcceptsTree}
 use Rattle.tpl_laws.specs.Soundness.{HasLeaf, RowsAreTrue, SomeLeafAgrees}
-use Rattle.tpl_laws.proofs.Basics.{or_left, or_right}
 use Rattle.tpl_draw.specs.Endings.{either, tree_ends, ends, EndingsAreTrue}
 
 -- each leaf of an accepted tree is closed

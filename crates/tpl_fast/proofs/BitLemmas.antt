@@ -2,36 +2,12 @@
 use Rattle.std.proofs.Common.{◌≡◌, ◌≢◌, ℕ, ◌+◌, ◌*◌, ◌/◌, ◌%◌, ◌^◌, ◌<◌, ◌≤◌, Bool, true, false, List, length, get_or, nat_eq, refl, sym, ap, ◌∙◌, ⊎_elim, arith, eq-eqb, bit_or, bit_and}
 use Rattle.std.specs.Prelude.{◌==◌, slice_set, if◌then◌else◌}
 use Rattle.std.specs.Int.{bit_at, bit_not, trailing_zeros, w64}
-use Rattle.std.proofs.lemmas.Bool.{eqb-true, cases_lt, cases_eq}
-use Rattle.std.proofs.lemmas.List.{get_or_past, get_or-set_same, get_or-set_other}
+use Rattle.std.proofs.lemmas.Bool.{cases_lt, cases_eq}
+use Rattle.std.proofs.lemmas.List.{get_or_past}
 use Rattle.std.proofs.lemmas.Nat.Bits.{bit_at-zero, bit_at_set_same, bit_at_set_other, bit_at_clear_same, bit_at_clear_other, bit_at-trailing_zeros}
+use Rattle.tpl_words.proofs.MemberLemmas.{not_same}
+use Rattle.tpl_words.proofs.BitSets.{this_bit, other_bit}
 use Rattle.tpl_words.specs.TaskSet.{is_set}
-
--- where one word changed at one bit, each other number is as it was
-other_bit : (words : List ℕ) (t word x : ℕ) → t / 64 < length words → ((i : ℕ) → i < 64 → i ≢ t % 64 → bit_at word i ≡ bit_at (get_or words (t / 64) 0) i) → x ≢ t → is_set (slice_set words (t / 64) word) x ≡ is_set words x
-other_bit words t word x place kept ne =
-    ⊎_elim
-    (λ same.
-    let bit : x % 64 ≢ t % 64 = λ e. ne (omega arith) in
-    ap (λ k. bit_at (get_or (slice_set words (t / 64) word) k 0) (x % 64) == 1) same
-    ∙ (ap (λ w. bit_at w (x % 64) == 1) (get_or-set_same words (t / 64) word 0 place)
-    ∙ (ap (λ b. b == 1) (kept (x % 64) (omega arith) bit)
-    ∙ ap (λ k. bit_at (get_or words k 0) (x % 64) == 1) (sym same))))
-    (λ apart. ap (λ w. bit_at w (x % 64) == 1) (get_or-set_other words (t / 64) (x / 64) word 0 apart))
-    (cases_eq (x / 64) (t / 64))
-
-this_bit : (words : List ℕ) (t word x b : ℕ) → t / 64 < length words → bit_at word (t % 64) ≡ b → x ≡ t → is_set (slice_set words (t / 64) word) x ≡ (b == 1)
-this_bit words t word x b place e same =
-    ap (is_set (slice_set words (t / 64) word)) same
-    ∙ (ap (λ w. bit_at w (t % 64) == 1) (get_or-set_same words (t / 64) word 0 place)
-    ∙ ap (λ c. c == 1) e)
-
-not_same : (x t : ℕ) → x ≢ t → nat_eq x t ≡ false
-not_same x t ne = go (nat_eq x t) refl
-  where
-    go : (b : Bool) → nat_eq x t ≡ b → b ≡ false
-    go true e = absurd (ne (eqb-true x t e))
-    go false e = refl
 
 -- one word with one bit changed
 changed : (words : List ℕ) (t word x : ℕ) (member : Bool) (b : ℕ) → t / 64 < length words → bit_at word (t % 64) ≡ b → (b == 1) ≡ member → ((i : ℕ) → i < 64 → i ≢ t % 64 → bit_at word i ≡ bit_at (get_or words (t / 64) 0) i) → is_set (slice_set words (t / 64) word) x ≡ (if nat_eq x t then member else is_set words x)

@@ -1,7 +1,8 @@
 -- What is due, and whether a run is complete, by the sets that are kept.
-use Rattle.std.proofs.Common.{◌≡◌, ℕ, zero, suc, ◌<◌, ◌≤◌, ◌&&◌, ◌||◌, inl, inr, Bool, true, false, List, Option, Some, None, length, refl, sym, ap, ◌∙◌, subst, not, arith}
+use Rattle.std.proofs.Common.{◌≡◌, ℕ, zero, suc, ◌<◌, ◌≤◌, ◌&&◌, ◌||◌, inl, inr, Bool, true, false, List, Option, Some, None, length, refl, sym, ap, ◌∙◌, subst, arith}
 use Rattle.std.specs.Prelude.{IfSome, IfNone}
-use Rattle.std.proofs.lemmas.Bool.{cases_lt, cases_eq}
+use Rattle.std.proofs.lemmas.Bool.{cases_lt, cases_eq, or_parts, not-false, not-true}
+use Rattle.tpl_words.proofs.Truths.{true_false}
 use Rattle.tpl_words.specs.TaskSet.{is_set}
 use Rattle.tpl_words.specs.declared.ids.TaskId.{TaskId}
 use Rattle.tpl_model.specs.declared.event.Act.{Act}
@@ -14,11 +15,6 @@ use Rattle.tpl_run.specs.Reading.{IsDue, NoneDue, IsFirstDue}
 use Rattle.tpl_run.specs.Due.{is_due}
 use Rattle.tpl_run.proofs.DueLemmas.{none_due}
 use Rattle.tpl_fast.specs.Due.{AreSets}
-use Rattle.tpl_fast.proofs.Basics.{true_false}
-
-or_false : (b c : Bool) → (b || c) ≡ false → (b ≡ false) × (c ≡ false)
-or_false true c e = true_false e
-or_false false c e = (refl, e)
 
 -- a task that has something due isn't without
 module _ (g : TaskGraph) (v : List Bool) (h : List Event) (law : CanIsRight) (t : TaskId) (lt : is_task g t.0) where
@@ -42,9 +38,9 @@ first_found g v h (Some act) t due none = (t, due, none)
 -- a task without anything due has no act that is
 pub nothing_due : (g : TaskGraph) (v : List Bool) (h : List Event) → CanIsRight → (t : ℕ) → is_due g v h t ≡ false → NoneDue g v h t
 nothing_due g v h law t off =
-    let a = or_false (can_release g v h t) (can_drop g v h t || (can_close g v h t || can_settle_now g v h t)) off in
-    let b = or_false (can_drop g v h t) (can_close g v h t || can_settle_now g v h t) a.1 in
-    let c = or_false (can_close g v h t) (can_settle_now g v h t) b.1 in
+    let a = or_parts (can_release g v h t) (can_drop g v h t || (can_close g v h t || can_settle_now g v h t)) off in
+    let b = or_parts (can_drop g v h t) (can_close g v h t || can_settle_now g v h t) a.1 in
+    let c = or_parts (can_close g v h t) (can_settle_now g v h t) b.1 in
     none_due g v h law t a.0 b.0 c.0 c.1
 
 -- a task past the last has nothing due
@@ -79,19 +75,11 @@ some_fails test (suc n) t lt off = elim (cases_eq t n) [
     and_false true = refl
     and_false false = refl
 
-not_true : (b : Bool) → not b ≡ true → b ≡ false
-not_true true e = true_false (sym e)
-not_true false e = refl
-
-not_false : (b : Bool) → not b ≡ false → b ≡ true
-not_false true e = refl
-not_false false e = true_false e
-
 pub complete_none : (j : Journal) (due unended : List ℕ) → AreSets j due unended → ((t : ℕ) → is_set unended t ≡ false) → is_complete j.graph j.inputs j.events ≡ true
-complete_none j due unended k off = all_pass (has_ended j.graph j.inputs j.events) (length j.graph.tasks) (λ t lt. not_false (has_ended j.graph j.inputs j.events t) (sym (k.each_open t lt) ∙ off t))
+complete_none j due unended k off = all_pass (has_ended j.graph j.inputs j.events) (length j.graph.tasks) (λ t lt. not-false (has_ended j.graph j.inputs j.events t) (sym (k.each_open t lt) ∙ off t))
 
 pub complete_some : (j : Journal) (due unended : List ℕ) → AreSets j due unended → (t : ℕ) → is_set unended t ≡ true → is_complete j.graph j.inputs j.events ≡ false
 complete_some j due unended k t on = elim (cases_lt t (length j.graph.tasks)) [
-  | inl lt ↦ some_fails (has_ended j.graph j.inputs j.events) (length j.graph.tasks) t lt (not_true (has_ended j.graph j.inputs j.events t) (sym (k.each_open t lt) ∙ on))
+  | inl lt ↦ some_fails (has_ended j.graph j.inputs j.events) (length j.graph.tasks) t lt (not-true (has_ended j.graph j.inputs j.events t) (sym (k.each_open t lt) ∙ on))
   | inr le ↦ true_false (sym on ∙ k.none_open t le)
 ]

@@ -2,6 +2,8 @@
 use Rattle.std.proofs.Common.{◌≡◌, ℕ, suc, ◌&&◌, ◌||◌, Bool, true, false, List, [], ◌∷◌, length, Option, Some, None, refl, sym, ap, ◌∙◌, not, nat_eq, is_some}
 use Rattle.std.specs.Prelude.{if◌then◌else◌}
 use Rattle.std.proofs.lemmas.Bool.{eqb-true}
+use Rattle.tpl_words.proofs.MemberLemmas.{same_self, mem_here, mem_there}
+use Rattle.tpl_words.proofs.Truths.{true_false}
 use Rattle.tpl_words.specs.Members.{mem}
 use Rattle.tpl_words.specs.Options.{lazy_cancellation}
 use Rattle.tpl_script.specs.Statements.{Statements, Return, Throw, Check, Cancel, Start, Observe, Work, If, When, Nothing, ◌⨾◌}
@@ -20,7 +22,6 @@ use Rattle.tpl_fast.specs.Marks.{acting, mark_at, noted}
 use Rattle.tpl_fast.specs.Tokens.{starting}
 use Rattle.tpl_run.specs.Due.{is_due}
 use Rattle.tpl_fast.specs.Due.{awaits, waits, ender}
-use Rattle.tpl_fast.proofs.Basics.{true_false, same_number, mem_here, mem_there}
 use Rattle.tpl_fast.proofs.MarkLemmas.{mark_step}
 use Rattle.tpl_fast.proofs.StateLemmas.{ending_kept}
 
@@ -149,21 +150,21 @@ module _ (g : TaskGraph) (v : List Bool) (h : List Event) (e : Event) where
     start_same : (k : TaskKind) → ((x : ℕ) → awaits k x ≡ true → ending g v (e ∷ h) x ≡ ending g v h x) → may_start g v (e ∷ h) t k ≡ may_start g v h t k
     start_same Root same = refl
     start_same Child same = refl
-    start_same (Continues a) same = ap (λ o. allowed_end (options g t) (final_in o)) (same a (same_number a))
+    start_same (Continues a) same = ap (λ o. allowed_end (options g t) (final_in o)) (same a (same_self a))
     start_same (WhenAll args) same = refl
     start_same (WhenAny args) same = refl
 
     not_start_same : (k : TaskKind) → ((x : ℕ) → awaits k x ≡ true → ending g v (e ∷ h) x ≡ ending g v h x) → may_not_start g v (e ∷ h) t k ≡ may_not_start g v h t k
     not_start_same Root same = refl
     not_start_same Child same = refl
-    not_start_same (Continues a) same = ap (λ o. excluded_end (options g t) (final_in o)) (same a (same_number a))
+    not_start_same (Continues a) same = ap (λ o. excluded_end (options g t) (final_in o)) (same a (same_self a))
     not_start_same (WhenAll args) same = refl
     not_start_same (WhenAny args) same = refl
 
     cancel_same : (k : TaskKind) → ((x : ℕ) → awaits k x ≡ true → ending g v (e ∷ h) x ≡ ending g v h x) → may_cancel g v (e ∷ h) t k ≡ may_cancel g v h t k
     cancel_same Root same = refl
     cancel_same Child same = refl
-    cancel_same (Continues a) same = ap (λ o. not (lazy_cancellation (options g t)) || is_some (final_in o)) (same a (same_number a))
+    cancel_same (Continues a) same = ap (λ o. not (lazy_cancellation (options g t)) || is_some (final_in o)) (same a (same_self a))
     cancel_same (WhenAll args) same = refl
     cancel_same (WhenAny args) same = refl
 

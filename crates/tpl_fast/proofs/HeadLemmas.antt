@@ -2,8 +2,10 @@
 use Rattle.std.proofs.Common.{◌≡◌, ℕ, zero, suc, ◌+◌, ◌<◌, ◌≤◌, ◌&&◌, ◌||◌, ◌++◌, Bool, true, false, List, [], ◌∷◌, length, map, take, drop, set, get_or, Option, Some, None, is_some, not, refl, sym, ap, ◌∙◌, subst, arith, inl, inr}
 use Rattle.std.specs.Prelude.{slice_index_or, replicate, if◌then◌else◌, IfSome, IfNone}
 use Rattle.std.specs.Option.{option_map}
-use Rattle.std.proofs.lemmas.Bool.{cases_eq}
+use Rattle.std.proofs.lemmas.Bool.{cases_eq, cases_Bool}
 use Rattle.std.proofs.lemmas.List.{get_or-set_same, get_or-set_other, length-set, map_more}
+use Rattle.tpl_words.proofs.MemberLemmas.{same_self, mem_here, mem_there}
+use Rattle.tpl_words.proofs.Truths.{true_false}
 use Rattle.tpl_words.specs.declared.ids.TaskId.{TaskId}
 use Rattle.tpl_words.specs.Members.{mem}
 use Rattle.tpl_model.specs.declared.event.Event.{Event}
@@ -18,7 +20,6 @@ use Rattle.tpl_run.specs.Journal.{Journal, after}
 use Rattle.tpl_run.specs.Rows.{is_it}
 use Rattle.tpl_fast.specs.Kept.{has_ended, is_over, all_pass, AreHeads, AreEnded, AreOver, AreFound}
 use Rattle.tpl_fast.specs.Tokens.{starting}
-use Rattle.tpl_fast.proofs.Basics.{true_false, decide, same_number, mem_here, mem_there}
 use Rattle.tpl_laws.proofs.Settling.{attached_child}
 use Rattle.tpl_run.proofs.TableLemmas.{all_false}
 use Rattle.tpl_run.proofs.GraphLemmas.{attached_within}
@@ -134,11 +135,11 @@ pub record IsRestarted (parent : Option ℕ) (places places' : List ℕ) : Type 
 pub over_after : (j : Journal) (e : Event) (parent : Option ℕ) (places places' : List ℕ) → NothingGoesBack → Run j.graph j.inputs (e ∷ j.events) → IsGraph j.graph → ((p c : ℕ) → is_task j.graph c → starting e.act (rest j.graph j.inputs j.events) ≡ Some c → IsParent j.graph p c → parent ≡ Some p) → IsRestarted parent places places' → AreOver j places → AreOver (after j e) places'
 over_after j e parent places places' law run valid parent_is restarted heads = record {
   count = restarted.count ∙ heads.count;
-  within = λ t lt. elim (decide (is_it parent t)) [
+  within = λ t lt. elim (cases_Bool (is_it parent t)) [
     | inl on ↦ (let now = at_first t on in omega arith)
     | inr off ↦ subst (λ k. k ≤ length (attached j.graph t)) (sym (as_before t off)) (heads.within t lt)
   ];
-  each = λ t lt. elim (decide (is_it parent t)) [
+  each = λ t lt. elim (cases_Bool (is_it parent t)) [
     | inl on ↦ ap (λ k. all_pass (is_over (after j e)) (take k (attached j.graph t))) (at_first t on)
     | inr off ↦ ap (λ k. all_pass (is_over (after j e)) (take k (attached j.graph t))) (as_before t off)
         ∙ pass_stays (is_over j) (is_over (after j e)) (slice_index_or places t 0) (attached j.graph t)
@@ -155,7 +156,7 @@ over_after j e parent places places' law run valid parent_is restarted heads = r
     is_parent : (t : ℕ) → is_task j.graph t → (x : ℕ) → mem x (attached j.graph t) ≡ true → starting e.act (rest j.graph j.inputs j.events) ≡ Some x → is_it parent t ≡ false → ⊥
     is_parent t lt x m starts off =
         let is = parent_is t x (attached_within j.graph t x valid m) starts (attached_child j.graph t x m) in
-        true_false (sym (sym off ∙ (ap (λ o. is_it o t) is ∙ same_number t)))
+        true_false (sym (sym off ∙ (ap (λ o. is_it o t) is ∙ same_self t)))
 
 abbrev pub no_places : ℕ → List ℕ
 no_places n = replicate n 0

@@ -1,4 +1,3 @@
-pub mod Basics
 pub mod BitLemmas
 pub mod MarkLemmas
 pub mod TokenLemmas

@@ -6,11 +6,12 @@ use Rattle.std.specs.declared.alloc.Global.{Global}
 use Rattle.std.proofs.lemmas.Bool.{cases_lt, cases_eq}
 use Rattle.std.proofs.lemmas.List.{length-set, get_or-set_same, get_or-set_other}
 use Rattle.std.proofs.lemmas.Option.{slice_get-get_or, slice_get_past}
+use Rattle.tpl_words.proofs.Truths.{true_false}
+use Rattle.tpl_words.proofs.MemberLemmas.{mem_here, mem_there, mem_split}
 use Rattle.tpl_words.specs.declared.ids.TaskId.{TaskId}
 use Rattle.tpl_words.specs.Members.{mem}
 use Rattle.tpl_graph.specs.Ids.{task_number}
 use Rattle.tpl_fast.specs.Due.{in_some, is_told, Keep}
-use Rattle.tpl_fast.proofs.Basics.{mem_here, mem_there, mem_split, true_false}
 
 set_same : {X : Type 0} (xs : List X) (i : ℕ) (x : X) → i < length xs → slice_get (slice_set xs i x) i ≡ Some x
 set_same xs i x lt = slice_get-get_or (slice_set xs i x) i x (let e = length-set xs i x in omega arith) ∙ ap Some (get_or-set_same xs i x x lt)

@@ -2,6 +2,8 @@
 use Rattle.std.proofs.Common.{◌≡◌, ℕ, suc, ◌<◌, Bool, true, false, ◌||◌, List, ◌∷◌, length, Some, None, refl, sym, ap, ◌∙◌, nat_eq, arith}
 use Rattle.std.specs.Prelude.{slice_get, slice_set, if◌then◌else◌}
 use Rattle.std.proofs.lemmas.List.{length-set}
+use Rattle.tpl_machine.proofs.StepLemmas.{table_set}
+use Rattle.tpl_words.proofs.MemberLemmas.{same_self, other_number}
 use Rattle.tpl_words.specs.declared.status.Actor.{Actor}
 use Rattle.tpl_model.specs.declared.event.Act.{Act}
 use Rattle.tpl_model.specs.declared.event.Act.TheVariants.{Request, Release, Begin, Step, Worked, Leave, Close, Drop, Settle}
@@ -11,7 +13,6 @@ use Rattle.tpl_run.specs.Reading.{began}
 use Rattle.tpl_run.specs.Rows.{is_it}
 use Rattle.tpl_fast.specs.declared.marks.Mark.{Mark}
 use Rattle.tpl_fast.specs.Marks.{acting, mark_at, noted, AreMarks}
-use Rattle.tpl_fast.proofs.Basics.{same_number, other_number, table_set}
 
 abbrev pub by : Actor → Act → Event
 by actor act = record { actor = actor; act = act }
@@ -78,7 +79,7 @@ module _ (n : ℕ) (h : List Event) (e : Event) (marks marks' : List Mark) (k : 
         each = λ s lt. ap (λ xs. slice_get xs s) all
             ∙ table_set (mark_at h) (mark_at (e ∷ h)) marks t n x k.count below k.each
             (ap (λ p. noted e.actor p e.act (mark_at h t)) place_is
-            ∙ (ap (λ (b : Bool). if b then noted e.actor (suc (length h)) e.act (mark_at h t) else mark_at h t) (sym (same_number t)) ∙ sym (step t)))
+            ∙ (ap (λ (b : Bool). if b then noted e.actor (suc (length h)) e.act (mark_at h t) else mark_at h t) (sym (same_self t)) ∙ sym (step t)))
             (λ s apart. ap (λ (b : Bool). if b then noted e.actor (suc (length h)) e.act (mark_at h s) else mark_at h s) (sym (other_number t s apart)) ∙ sym (step s))
             s lt;
       }

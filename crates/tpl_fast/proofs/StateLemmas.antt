@@ -2,6 +2,7 @@
 use Rattle.std.proofs.Common.{◌≡◌, ℕ, suc, ◌&&◌, Bool, true, false, List, ◌∷◌, length, Option, Some, refl, sym, ap, subst, nat_eq}
 use Rattle.std.specs.Prelude.{if◌then◌else◌}
 use Rattle.std.proofs.lemmas.Bool.{eqb-true}
+use Rattle.tpl_words.proofs.Truths.{true_false}
 use Rattle.tpl_words.specs.declared.status.Actor.{Actor}
 use Rattle.tpl_model.specs.declared.event.Act.{Act}
 use Rattle.tpl_model.specs.declared.event.Act.TheVariants.{Request, Release, Begin, Step, Worked, Leave, Close, Drop, Settle}
@@ -10,7 +11,6 @@ use Rattle.tpl_model.specs.Graph.{TaskGraph, attached, is_task}
 use Rattle.tpl_model.specs.Facts.{Ending, ending, ends_by, ending_by, started, rest, all_over}
 use Rattle.tpl_model.specs.Rules.{Allows}
 use Rattle.tpl_fast.specs.Marks.{acting}
-use Rattle.tpl_fast.proofs.Basics.{true_false}
 
 -- the task of an allowed act is the graph's
 pub acting_task : (g : TaskGraph) (v : List Bool) (h : List Event) (a : Actor) (act : Act) (t : ℕ) → Allows g v h a act → acting act ≡ Some t → is_task g t

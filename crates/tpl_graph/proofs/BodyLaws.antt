@@ -1,7 +1,9 @@
 -- What the statements of a body say of the body with ids.
-use Rattle.std.proofs.Common.{◌≡◌, ℕ, ◌<◌, Bool, true, false, ◌&&◌, ◌++◌, List, ◌∷◌, length, flat_map, refl, sym, ap, ◌∙◌, arith}
+use Rattle.std.proofs.Common.{◌≡◌, ℕ, ◌<◌, Bool, true, false, ◌++◌, List, ◌∷◌, length, flat_map, refl, sym, ap, ◌∙◌, arith}
 use Rattle.std.specs.List.{list_any}
 use Rattle.std.proofs.lemmas.List.Folds.{list_any-append}
+use Rattle.std.proofs.lemmas.Bool.{and_from, not-false}
+use Rattle.tpl_words.proofs.Truths.{or_first, or_second}
 use Rattle.tpl_script.specs.Statements.{starts, starts_of, reads_nothing, reads_nothing_in}
 use Rattle.tpl_model.specs.Graph.{TaskGraph}
 use Rattle.tpl_model.specs.Valid.{IdsOf, IdsWithin}
@@ -11,19 +13,18 @@ use Rattle.tpl_graph.specs.Names.{has_name, place}
 use Rattle.tpl_graph.specs.Numbered.{script_in, statement_in}
 use Rattle.tpl_graph.specs.Collected.{start_in}
 use Rattle.tpl_graph.specs.Refusals.{says_unknown, lacks, reads_subject}
-use Rattle.tpl_graph.proofs.Bools.{or_left, or_right, not_false}
 use Rattle.tpl_graph.proofs.PlaceLaws.{place_within}
 use Rattle.tpl_graph.proofs.CollectLemmas.{flat_map_append}
 
 -- no statement of two lists passes the test, so none of either does
 any_left : (p : Line → Bool) (xs ys : List Line) → list_any p (xs ++ ys) ≡ false → list_any p xs ≡ false
-any_left p xs ys e = or_left (list_any p xs) (list_any p ys) (sym (list_any-append p xs ys) ∙ e)
+any_left p xs ys e = or_first (list_any p xs) (list_any p ys) (sym (list_any-append p xs ys) ∙ e)
 
 any_right : (p : Line → Bool) (xs ys : List Line) → list_any p (xs ++ ys) ≡ false → list_any p ys ≡ false
-any_right p xs ys e = or_right (list_any p xs) (list_any p ys) (sym (list_any-append p xs ys) ∙ e)
+any_right p xs ys e = or_second (list_any p xs) (list_any p ys) (sym (list_any-append p xs ys) ∙ e)
 
 known : (names : List (List ℕ)) (x : List ℕ) → lacks names x ≡ false → place names x < length names
-known names x e = place_within names x (not_false (has_name names x) e)
+known names x e = place_within names x (not-false (has_name names x) e)
 
 -- the ids of a body are the graph's
 module _ (n : Names) (g : TaskGraph) (tokens : length n.tokens ≡ length g.tokens) (inputs : length n.inputs ≡ g.inputs) (tasks : length n.tasks ≡ length g.tasks) where
@@ -34,8 +35,8 @@ module _ (n : Names) (g : TaskGraph) (tokens : length n.tokens ≡ length g.toke
     pub ids_of : (b : Lines) → list_any unknown (each_of b) ≡ false → IdsOf g (script_in n b)
     ids_of Nothing e = tt
     ids_of (Then s rest) e =
-        let inside = or_right (unknown s) (list_any unknown (each_within s ++ each_of rest)) e in
-        (ids_within s (or_left (unknown s) (list_any unknown (each_within s ++ each_of rest)) e) (any_left unknown (each_within s) (each_of rest) inside), ids_of rest (any_right unknown (each_within s) (each_of rest) inside))
+        let inside = or_second (unknown s) (list_any unknown (each_within s ++ each_of rest)) e in
+        (ids_within s (or_first (unknown s) (list_any unknown (each_within s ++ each_of rest)) e) (any_left unknown (each_within s) (each_of rest) inside), ids_of rest (any_right unknown (each_within s) (each_of rest) inside))
 
     ids_within : (s : Line) → unknown s ≡ false → list_any unknown (each_within s) ≡ false → IdsWithin g (statement_in n s)
     ids_within Return e f = tt
@@ -50,17 +51,13 @@ module _ (n : Names) (g : TaskGraph) (tokens : length n.tokens ≡ length g.toke
     ids_within (When x a b) e f =
         (ids_of a (any_left unknown (each_of a) (each_of b) f), ids_of b (any_right unknown (each_of a) (each_of b) f))
 
--- a body without `observe` and `when` reads nothing
-both : (a b : Bool) → a ≡ true → b ≡ true → (a && b) ≡ true
-both a b e f = ap (λ x. x && b) e ∙ f
-
 mutual
   pub reads_none : (n : Names) (b : Lines) → list_any reads_subject (each_of b) ≡ false → reads_nothing (script_in n b) ≡ true
   reads_none n Nothing e = refl
   reads_none n (Then s rest) e =
-      let inside = or_right (reads_subject s) (list_any reads_subject (each_within s ++ each_of rest)) e in
-      both (reads_nothing_in (statement_in n s)) (reads_nothing (script_in n rest))
-      (reads_none_in n s (or_left (reads_subject s) (list_any reads_subject (each_within s ++ each_of rest)) e) (any_left reads_subject (each_within s) (each_of rest) inside))
+      let inside = or_second (reads_subject s) (list_any reads_subject (each_within s ++ each_of rest)) e in
+      and_from (reads_nothing_in (statement_in n s)) (reads_nothing (script_in n rest))
+      (reads_none_in n s (or_first (reads_subject s) (list_any reads_subject (each_within s ++ each_of rest)) e) (any_left reads_subject (each_within s) (each_of rest) inside))
       (reads_none n rest (any_right reads_subject (each_within s) (each_of rest) inside))
 
   reads_none_in : (n : Names) (s : Line) → reads_subject s ≡ false → list_any reads_subject (each_within s) ≡ false → reads_nothing_in (statement_in n s) ≡ true
@@ -72,11 +69,11 @@ mutual
   reads_none_in n Observe e f = absurd (cc)
   reads_none_in n (Work s may_fail) e f = refl
   reads_none_in n (If i a b) e f =
-      both (reads_nothing (script_in n a)) (reads_nothing (script_in n b)) (reads_none n a (any_left reads_subject (each_of a) (each_of b) f)) (reads_none n b (any_right reads_subject (each_of a) (each_of b) f))
+      and_from (reads_nothing (script_in n a)) (reads_nothing (script_in n b)) (reads_none n a (any_left reads_subject (each_of a) (each_of b) f)) (reads_none n b (any_right reads_subject (each_of a) (each_of b) f))
   reads_none_in n (When x a b) e f = absurd (cc)
 
 -- the tasks that a body starts
-append_both : (a b c d : List ℕ) → a ≡ c → b ≡ d → (a ++ b) ≡ (c ++ d)
+pub append_both : (a b c d : List ℕ) → a ≡ c → b ≡ d → (a ++ b) ≡ (c ++ d)
 append_both a b c d e f = ap (λ x. x ++ b) e ∙ ap (λ x. c ++ x) f
 
 mutual

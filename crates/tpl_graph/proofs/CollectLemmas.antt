@@ -1,6 +1,7 @@
 -- The loops over a list of statements that collect what they name.
 use Rattle.std.proofs.Common.{◌≡◌, ℕ, ◌+◌, ◌<◌, ◌≤◌, Bool, true, false, ◌||◌, ◌++◌, List, [], ◌∷◌, length, drop, get_or, flat_map, refl, sym, ap, ◌∙◌, append_assoc, append-nil}
 use Rattle.std.proofs.lemmas.List.{drop_all}
+use Rattle.tpl_words.proofs.Truths.{or_false}
 use Rattle.tpl_graph.specs.declared.draft.DraftStmt.{DraftStmt}
 use Rattle.tpl_graph.specs.Draft.{Line, Lines, each_of, each_within}
 use Rattle.tpl_graph.specs.SeenDraft.{line_of, lines_of}
@@ -64,10 +65,6 @@ one_added f body items i start now new twice again either x lt is at new_is agai
       ∙ (ap (λ b. twice || b) (sym (twice_after-append now (part_of f x) (rest_of f items (i + 1))))
       ∙ (ap (λ l. twice || twice_after now l) (sym (rest_split f items i x lt is)) ∙ at.again))));
 }
-
-or_false : (b : Bool) → (b || false) ≡ b
-or_false true = refl
-or_false false = refl
 
 pub all_added : (f : Line → List (List ℕ)) (body : Lines) (items : List DraftStmt) (i : ℕ) (start now : List (List ℕ)) (twice : Bool) → length items ≤ i → AddedTo f body items i start now twice → (now ≡ with_names start (flat_map f (each_of body))) × (twice ≡ twice_after start (flat_map f (each_of body)))
 all_added f body items i start now twice le at = (

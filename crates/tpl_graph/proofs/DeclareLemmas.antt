@@ -3,6 +3,7 @@ use Rattle.std.proofs.Common.{◌≡◌, subst, ℕ, zero, suc, ◌<◌, Bool, t
 use Rattle.std.proofs.lemmas.Option.{slice_get-map, slice_get_within}
 use Rattle.std.specs.Option.{option_map}
 use Rattle.std.specs.Prelude.{Option, Some, None, slice_get, take}
+use Rattle.tpl_words.proofs.Truths.{or_true}
 use Rattle.tpl_graph.specs.declared.fault.Why.TheVariants as why
 use Rattle.tpl_graph.specs.Draft.{Draft, Task}
 use Rattle.tpl_graph.specs.Names.{has_name, some_twice}
@@ -10,10 +11,6 @@ use Rattle.tpl_graph.specs.Twice.{IsTwiceAt, NoneTwiceBelow}
 use Rattle.tpl_graph.specs.Numbered.{names_of}
 use Rattle.tpl_graph.specs.Refusals.{applies, at_task, NoneBelow, Refuses}
 use Rattle.tpl_graph.proofs.LeastLemmas.{least, none_below_next}
-
-or_true : (b : Bool) → (b || true) ≡ true
-or_true true = refl
-or_true false = refl
 
 pub inputs_twice : (d : Draft) (names : List (List ℕ)) → names ≡ (names_of d).inputs → some_twice names ≡ true → NoneBelow d 3 → Refuses d (record { why = why.NameTwice; at = 0 })
 inputs_twice d names e twice before =

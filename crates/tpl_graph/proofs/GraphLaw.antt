@@ -3,12 +3,12 @@ use Rattle.std.proofs.Common.{◌≡◌, ℕ, zero, suc, ◌+◌, ◌<◌, ◌�
 use Rattle.std.specs.Prelude.{Option, Some, None, slice_get, slice_index_or, count_by, ◌==◌, is_some, if◌then◌else◌}
 use Rattle.std.specs.List.{list_any}
 use Rattle.std.specs.Option.{option_map}
-use Rattle.std.proofs.lemmas.Bool.{ltb-false, cases_lt}
+use Rattle.std.proofs.lemmas.Bool.{ltb-false, cases_lt, or_cases, not-false}
 use Rattle.std.proofs.lemmas.List.{length-map}
 use Rattle.std.proofs.lemmas.Option.{slice_get_past}
 use Rattle.tpl_words.specs.Members.{mem}
 use Rattle.tpl_words.specs.Options.{has_bits, excludes_all, long_and_sync}
-use Rattle.tpl_script.specs.Statements.{Statements, starts, sites, reads_nothing}
+use Rattle.tpl_script.specs.Statements.{Statements, starts}
 use Rattle.tpl_script.specs.Statements as script
 use Rattle.tpl_script.specs.Limits.{IsWithinLimits}
 use Rattle.tpl_model.specs.Graph as graph
@@ -23,11 +23,12 @@ use Rattle.tpl_graph.specs.Collected.{start_in}
 use Rattle.tpl_graph.specs.Draft as line
 use Rattle.std.proofs.lemmas.Bool.{eqb-true}
 use Rattle.std.proofs.Math.ListN.{get_or-map}
-use Rattle.tpl_graph.specs.Draft.{Line, Lines, Worked, Kind, Root, Child, Continues, WhenAll, WhenAny, Task, Token, Draft, worked, waits_for, linked_to, statements_in, each_of, line_count, levels, site_count}
+use Rattle.tpl_words.proofs.Truths.{or_first, or_second}
+use Rattle.tpl_graph.specs.Draft.{Line, Kind, Root, Child, Continues, WhenAll, WhenAny, Task, Token, Draft, worked, waits_for, linked_to, statements_in, each_of, line_count, levels}
 use Rattle.tpl_graph.specs.Numbered.{names_of, graph_in, task_in, kind_in, token_in, script_in}
 use Rattle.tpl_graph.specs.Refusals.{IsValid, applies, number, in_task, in_lists, at_task, exceeds, is_child, is_child_at, is_empty_any, is_continuation, is_missing, lacks, says_unknown, reads_subject, starts_no_child, starters_from, all_starts, is_one_before, options_fault, words_of, is_misplaced, some_misplaced, site_total}
 use Rattle.tpl_graph.specs.Small.{IsSmall, AreSmall}
-use Rattle.tpl_graph.proofs.Bools.{or_left, or_right, not_false, and_true, is_below}
+use Rattle.tpl_graph.proofs.Bools.{and_true, is_below}
 use Rattle.tpl_graph.proofs.PlaceLaws.{place_within}
 use Rattle.tpl_graph.proofs.BodyLaws.{ids_of, reads_none, starts_script}
 use Rattle.tpl_graph.proofs.MadeLemmas.{small_script}
@@ -63,7 +64,7 @@ is_child_kind names (WhenAny args) e = absurd (cc)
 
 own_token_of : (names : List (List ℕ)) (g : TaskGraph) (o : Option (List ℕ)) → length names ≡ length g.tokens → is_missing names o ≡ false → OwnToken g (option_map (place names) o)
 own_token_of names g None long e = tt
-own_token_of names g (Some k) long e = omega (arith, place_within names k (not_false (has_name names k) e), long)
+own_token_of names g (Some k) long e = omega (arith, place_within names k (not-false (has_name names k) e), long)
 
 body_or_none : (n : Names) (k : Kind) (x : Task) → x.kind ≡ k → HasBody (kind_in n.tasks k) (task_in n x)
 body_or_none n (Root w) x e = tt
@@ -101,7 +102,7 @@ subject_of_kind n (WhenAny args) e = refl
 
 are_before : (k : ℕ) (ys : List ℕ) → list_any (λ s. not (nat_lt s k)) ys ≡ false → AreBefore k ys
 are_before k [] e = tt
-are_before k (y ∷ ys) e = (is_below y k (or_left (not (nat_lt y k)) (list_any (λ s. not (nat_lt s k)) ys) e), are_before k ys (or_right (not (nat_lt y k)) (list_any (λ s. not (nat_lt s k)) ys) e))
+are_before k (y ∷ ys) e = (is_below y k (or_first (not (nat_lt y k)) (list_any (λ s. not (nat_lt s k)) ys) e), are_before k ys (or_second (not (nat_lt y k)) (list_any (λ s. not (nat_lt s k)) ys) e))
 
 some_of : (ys : List ℕ) → (length ys == 0) ≡ false → 0 < length ys
 some_of [] e = absurd (cc)
@@ -110,8 +111,8 @@ some_of (y ∷ ys) e = omega arith
 linked_one : (names : List (List ℕ)) (k : ℕ) (o : Option (List (List ℕ))) → is_misplaced k (token_in names o) ≡ false → nat_lt 32 (length (linked_to o)) ≡ false → IsLinked k (token_in names o)
 linked_one names k None e f = tt
 linked_one names k (Some l) e f = (
-  are_before k (map (place names) l) (or_right (length (map (place names) l) == 0) (list_any (λ s. not (nat_lt s k)) (map (place names) l)) e),
-  some_of (map (place names) l) (or_left (length (map (place names) l) == 0) (list_any (λ s. not (nat_lt s k)) (map (place names) l)) e),
+  are_before k (map (place names) l) (or_second (length (map (place names) l) == 0) (list_any (λ s. not (nat_lt s k)) (map (place names) l)) e),
+  some_of (map (place names) l) (or_first (length (map (place names) l) == 0) (list_any (λ s. not (nat_lt s k)) (map (place names) l)) e),
   omega (arith, ltb-false 32 (length l) f, length-map l (place names)),
 )
 
@@ -120,21 +121,17 @@ linked_at names k [] e f i j is lt = absurd (omega arith)
 linked_at names k (x ∷ ts) e f zero j is lt =
     let same : k ≡ j = omega arith in
     subst (λ m. IsLinked m (token_in names x.linked)) same
-    (linked_one names k x.linked (or_left (is_misplaced k (token_in names x.linked)) (some_misplaced (suc k) (map (λ (y : Token). token_in names y.linked) ts)) e) (or_left (nat_lt 32 (length (linked_to x.linked))) (list_any (λ (y : Token). nat_lt 32 (length (linked_to y.linked))) ts) f))
+    (linked_one names k x.linked (or_first (is_misplaced k (token_in names x.linked)) (some_misplaced (suc k) (map (λ (y : Token). token_in names y.linked) ts)) e) (or_first (nat_lt 32 (length (linked_to x.linked))) (list_any (λ (y : Token). nat_lt 32 (length (linked_to y.linked))) ts) f))
 linked_at names k (x ∷ ts) e f (suc i) j is lt =
-    linked_at names (suc k) ts (or_right (is_misplaced k (token_in names x.linked)) (some_misplaced (suc k) (map (λ (y : Token). token_in names y.linked) ts)) e) (or_right (nat_lt 32 (length (linked_to x.linked))) (list_any (λ (y : Token). nat_lt 32 (length (linked_to y.linked))) ts) f) i j (omega arith) (omega arith)
-
-or_split : (a b : Bool) → (a || b) ≡ true → (a ≡ true) ⊎ (b ≡ true)
-or_split true b e = inl refl
-or_split false b e = inr e
+    linked_at names (suc k) ts (or_second (is_misplaced k (token_in names x.linked)) (some_misplaced (suc k) (map (λ (y : Token). token_in names y.linked) ts)) e) (or_second (nat_lt 32 (length (linked_to x.linked))) (list_any (λ (y : Token). nat_lt 32 (length (linked_to y.linked))) ts) f) i j (omega arith) (omega arith)
 
 -- each task that the statements start is a child
 started_child : (tasks : List Task) (names : List (List ℕ)) (c : ℕ) (ss : List Line) → list_any (starts_no_child tasks names) ss ≡ false → mem c (flat_map (start_in names) ss) ≡ true → is_child_at tasks c ≡ true
 started_child tasks names c [] e is = absurd (cc)
 started_child tasks names c (line.Start a ∷ ss) e is = ⊎_elim
-    (λ same. ap (is_child_at tasks) (eqb-true c (place names a) same) ∙ not_false (is_child_at tasks (place names a)) (or_left (not (is_child_at tasks (place names a))) (list_any (starts_no_child tasks names) ss) e))
-    (λ more. started_child tasks names c ss (or_right (not (is_child_at tasks (place names a))) (list_any (starts_no_child tasks names) ss) e) more)
-    (or_split (nat_eq c (place names a)) (mem c (flat_map (start_in names) ss)) is)
+    (λ same. ap (is_child_at tasks) (eqb-true c (place names a) same) ∙ not-false (is_child_at tasks (place names a)) (or_first (not (is_child_at tasks (place names a))) (list_any (starts_no_child tasks names) ss) e))
+    (λ more. started_child tasks names c ss (or_second (not (is_child_at tasks (place names a))) (list_any (starts_no_child tasks names) ss) e) more)
+    (or_cases (nat_eq c (place names a)) (mem c (flat_map (start_in names) ss)) is)
 started_child tasks names c (line.Return ∷ ss) e is = started_child tasks names c ss e is
 started_child tasks names c (line.Throw l ∷ ss) e is = started_child tasks names c ss e is
 started_child tasks names c (line.Check k ∷ ss) e is = started_child tasks names c ss e is
@@ -148,8 +145,8 @@ pub few_tasks_from : (d : Draft) → ((at : ℕ) → applies d why.TooMany at �
 few_tasks_from d none = ⊎_elim
     (λ lt. ⊎_elim
     (λ r.
-    let over : exceeds 1024 r.0 ≡ false = or_left (exceeds 1024 r.0) (nat_lt 256 (site_total (take (suc 1024) d.tasks))) (sym (ap (at_task (in_task d why.TooMany 1024)) r.1) ∙ none (suc 1024)) in
-    let at : true ≡ false = or_left (nat_eq 1024 1024) (nat_lt 256 (length (waits_for r.0.kind))) (or_left (nat_eq 1024 1024 || nat_lt 256 (length (waits_for r.0.kind))) (nat_lt 64 (line_count (worked r.0.kind).body) || nat_lt 8 (levels (worked r.0.kind).body)) over) in
+    let over : exceeds 1024 r.0 ≡ false = or_first (exceeds 1024 r.0) (nat_lt 256 (site_total (take (suc 1024) d.tasks))) (sym (ap (at_task (in_task d why.TooMany 1024)) r.1) ∙ none (suc 1024)) in
+    let at : true ≡ false = or_first (nat_eq 1024 1024) (nat_lt 256 (length (waits_for r.0.kind))) (or_first (nat_eq 1024 1024 || nat_lt 256 (length (waits_for r.0.kind))) (nat_lt 64 (line_count (worked r.0.kind).body) || nat_lt 8 (levels (worked r.0.kind).body)) over) in
     absurd (cc))
     (λ r. absurd (omega (arith, r.0)))
     (find (λ (x : Task). x) (record { name = []; kind = WhenAll [] }) d.tasks 1024))
@@ -183,13 +180,13 @@ module _ (d : Draft) (valid : IsValid d) where
   tokens_long = length-map d.tokens (λ (k : Token). k.name) ∙ sym (length-map d.tokens (λ (k : Token). token_in n.tokens k.linked))
 
   not_exceeding : (t : ℕ) (x : Task) → slice_get d.tasks t ≡ Some x → exceeds t x ≡ false
-  not_exceeding t x e = or_left (exceeds t x) (nat_lt 256 (site_total (take (suc t) d.tasks))) (none_at why.TooMany t x (omega arith) e)
+  not_exceeding t x e = or_first (exceeds t x) (nat_lt 256 (site_total (take (suc t) d.tasks))) (none_at why.TooMany t x (omega arith) e)
 
   small_at : (t : ℕ) (x : Task) → slice_get d.tasks t ≡ Some x → IsSmall (worked x.kind).body
   small_at t x e =
-      let over = or_right (nat_eq t 1024 || nat_lt 256 (length (waits_for x.kind))) (nat_lt 64 (line_count (worked x.kind).body) || nat_lt 8 (levels (worked x.kind).body)) (not_exceeding t x e) in (
-        ltb-false 64 (line_count (worked x.kind).body) (or_left (nat_lt 64 (line_count (worked x.kind).body)) (nat_lt 8 (levels (worked x.kind).body)) over),
-        ltb-false 8 (levels (worked x.kind).body) (or_right (nat_lt 64 (line_count (worked x.kind).body)) (nat_lt 8 (levels (worked x.kind).body)) over),
+      let over = or_second (nat_eq t 1024 || nat_lt 256 (length (waits_for x.kind))) (nat_lt 64 (line_count (worked x.kind).body) || nat_lt 8 (levels (worked x.kind).body)) (not_exceeding t x e) in (
+        ltb-false 64 (line_count (worked x.kind).body) (or_first (nat_lt 64 (line_count (worked x.kind).body)) (nat_lt 8 (levels (worked x.kind).body)) over),
+        ltb-false 8 (levels (worked x.kind).body) (or_second (nat_lt 64 (line_count (worked x.kind).body)) (nat_lt 8 (levels (worked x.kind).body)) over),
       )
 
   pub are_small : AreSmall d.tasks
@@ -198,8 +195,8 @@ module _ (d : Draft) (valid : IsValid d) where
   few_waited : (t : ℕ) (x : Task) → slice_get d.tasks t ≡ Some x → length (waits_for x.kind) ≤ 256
   few_waited t x e =
       ltb-false 256 (length (waits_for x.kind))
-      (or_right (nat_eq t 1024) (nat_lt 256 (length (waits_for x.kind)))
-      (or_left (nat_eq t 1024 || nat_lt 256 (length (waits_for x.kind))) (nat_lt 64 (line_count (worked x.kind).body) || nat_lt 8 (levels (worked x.kind).body)) (not_exceeding t x e)))
+      (or_second (nat_eq t 1024) (nat_lt 256 (length (waits_for x.kind)))
+      (or_first (nat_eq t 1024 || nat_lt 256 (length (waits_for x.kind))) (nat_lt 64 (line_count (worked x.kind).body) || nat_lt 8 (levels (worked x.kind).body)) (not_exceeding t x e)))
 
   -- children
   no_child : (p : ℕ) → is_child_at d.tasks p ≡ false → kind g p ≡ graph.Child → ⊥
@@ -217,9 +214,9 @@ module _ (d : Draft) (valid : IsValid d) where
   are_placed : (t : ℕ) (xs : List (List ℕ)) → list_any (λ a. not (nat_lt (place n.tasks a) t)) xs ≡ false → list_any (λ a. is_child_at d.tasks (place n.tasks a)) xs ≡ false → ArePlaced g t (map (place n.tasks) xs)
   are_placed t [] e f = tt
   are_placed t (x ∷ xs) e f = (
-    is_below (place n.tasks x) t (or_left (not (nat_lt (place n.tasks x) t)) (list_any (λ a. not (nat_lt (place n.tasks a) t)) xs) e),
-    no_child (place n.tasks x) (or_left (is_child_at d.tasks (place n.tasks x)) (list_any (λ a. is_child_at d.tasks (place n.tasks a)) xs) f),
-    are_placed t xs (or_right (not (nat_lt (place n.tasks x) t)) (list_any (λ a. not (nat_lt (place n.tasks a) t)) xs) e) (or_right (is_child_at d.tasks (place n.tasks x)) (list_any (λ a. is_child_at d.tasks (place n.tasks a)) xs) f),
+    is_below (place n.tasks x) t (or_first (not (nat_lt (place n.tasks x) t)) (list_any (λ a. not (nat_lt (place n.tasks a) t)) xs) e),
+    no_child (place n.tasks x) (or_first (is_child_at d.tasks (place n.tasks x)) (list_any (λ a. is_child_at d.tasks (place n.tasks a)) xs) f),
+    are_placed t xs (or_second (not (nat_lt (place n.tasks x) t)) (list_any (λ a. not (nat_lt (place n.tasks a) t)) xs) e) (or_second (is_child_at d.tasks (place n.tasks x)) (list_any (λ a. is_child_at d.tasks (place n.tasks a)) xs) f),
   )
 
   placed_kind : (t : ℕ) (k : Kind) → list_any (λ a. not (nat_lt (place n.tasks a) t)) (waits_for k) ≡ false → list_any (λ a. is_child_at d.tasks (place n.tasks a)) (waits_for k) ≡ false → length (waits_for k) ≤ 256 → is_empty_any k ≡ false → IsPlaced g t (kind_in n.tasks k)
@@ -251,14 +248,14 @@ module _ (d : Draft) (valid : IsValid d) where
   pub one_of : (t : ℕ) (x : Task) → slice_get d.tasks t ≡ Some x → is_child x.kind ≡ true → (p : ℕ) × (starters_from t 0 lists ≡ p ∷ []) × (p < t)
   one_of t x here child =
       one_starter t (starters_from t 0 lists)
-      (not_false (is_one_before t (starters_from t 0 lists))
+      (not-false (is_one_before t (starters_from t 0 lists))
       (and_true (is_child x.kind) (not (is_one_before t (starters_from t 0 lists)))
-      (or_left (is_child x.kind && not (is_one_before t (starters_from t 0 lists))) (list_any (starts_no_child d.tasks n.tasks) (statements_in x)) (none_at why.ChildPlace t x (omega arith) here)) child))
+      (or_first (is_child x.kind && not (is_one_before t (starters_from t 0 lists))) (list_any (starts_no_child d.tasks n.tasks) (statements_in x)) (none_at why.ChildPlace t x (omega arith) here)) child))
 
   pub starts_child : (p c : ℕ) → IsParent g p c → is_child_at d.tasks c ≡ true
   starts_child p c is = ⊎_elim
       (λ r. started_child d.tasks n.tasks c (statements_in r.0)
-      (or_right (is_child r.0.kind && not (is_one_before p (starters_from p 0 lists))) (list_any (starts_no_child d.tasks n.tasks) (statements_in r.0)) (none_at why.ChildPlace p r.0 (omega arith) r.1))
+      (or_second (is_child r.0.kind && not (is_one_before p (starters_from p 0 lists))) (list_any (starts_no_child d.tasks n.tasks) (statements_in r.0)) (none_at why.ChildPlace p r.0 (omega arith) r.1))
       (ap (mem c) (sym (starts_script n (worked r.0.kind).body)) ∙ (ap (λ (y : graph.Task). mem c (starts y.body)) (sym r.2) ∙ is)))
       (λ r. let no_more : false ≡ true = ap (λ (y : graph.Task). mem c (starts y.body)) (sym r.1) ∙ is in absurd (cc))
       (find (task_in n) empty d.tasks p)
@@ -281,11 +278,11 @@ module _ (d : Draft) (valid : IsValid d) where
   task_law t x here is =
       let options = no_options_fault (words_of x.kind) (worked x.kind).options (none_at (why.Option ExcludesAll) t x (omega arith) here) in
       let unknown = none_at why.Unknown t x (omega arith) here in
-      let lacking = or_left (is_missing n.tokens (worked x.kind).token || list_any (lacks n.tasks) (waits_for x.kind)) (list_any (says_unknown n.inputs n.tokens n.tasks) (statements_in x)) unknown in
+      let lacking = or_first (is_missing n.tokens (worked x.kind).token || list_any (lacks n.tasks) (waits_for x.kind)) (list_any (says_unknown n.inputs n.tokens n.tasks) (statements_in x)) unknown in
       record {
         short = subst (λ (y : graph.Task). IsWithinLimits y.body) (sym is) (small_script n (worked x.kind).body (small_at t x here));
-        ids = subst (λ (y : graph.Task). IdsOf g y.body) (sym is) (ids_of n g tokens_long refl tasks_long (worked x.kind).body (or_right (is_missing n.tokens (worked x.kind).token || list_any (lacks n.tasks) (waits_for x.kind)) (list_any (says_unknown n.inputs n.tokens n.tasks) (statements_in x)) unknown));
-        own_token = subst (λ (y : graph.Task). OwnToken g y.token) (sym is) (own_token_of n.tokens g (worked x.kind).token tokens_long (or_left (is_missing n.tokens (worked x.kind).token) (list_any (lacks n.tasks) (waits_for x.kind)) lacking));
+        ids = subst (λ (y : graph.Task). IdsOf g y.body) (sym is) (ids_of n g tokens_long refl tasks_long (worked x.kind).body (or_second (is_missing n.tokens (worked x.kind).token || list_any (lacks n.tasks) (waits_for x.kind)) (list_any (says_unknown n.inputs n.tokens n.tasks) (statements_in x)) unknown));
+        own_token = subst (λ (y : graph.Task). OwnToken g y.token) (sym is) (own_token_of n.tokens g (worked x.kind).token tokens_long (or_first (is_missing n.tokens (worked x.kind).token) (list_any (lacks n.tasks) (waits_for x.kind)) lacking));
         placed = subst (λ (y : graph.Task). IsPlaced g t y.kind) (sym is) (placed_kind t x.kind (none_at why.NotEarlier t x (omega arith) here) (none_at why.OfChild t x (omega arith) here) (few_waited t x here) (none_at why.EmptyAny t x (omega arith) here));
         bodiless = subst (λ (y : graph.Task). HasBody y.kind y) (sym is) (body_or_none n x.kind x refl);
         words = subst (λ (y : graph.Task). has_bits (option_words y.kind) y.options ≡ true) (sym is) (ap (λ w. has_bits w (worked x.kind).options) (sym (words_same n.tasks x.kind)) ∙ options.2);
@@ -315,11 +312,11 @@ module _ (d : Draft) (valid : IsValid d) where
   lists_few = valid why.TooMany 0 (omega arith)
 
   pub few_inputs : length d.inputs ≤ 16
-  few_inputs = ltb-false 16 (length d.inputs) (or_left (nat_lt 16 (length d.inputs)) (nat_lt 32 (length d.tokens)) (or_left (nat_lt 16 (length d.inputs) || nat_lt 32 (length d.tokens)) (list_any (λ (k : Token). nat_lt 32 (length (linked_to k.linked))) d.tokens) lists_few))
+  few_inputs = ltb-false 16 (length d.inputs) (or_first (nat_lt 16 (length d.inputs)) (nat_lt 32 (length d.tokens)) (or_first (nat_lt 16 (length d.inputs) || nat_lt 32 (length d.tokens)) (list_any (λ (k : Token). nat_lt 32 (length (linked_to k.linked))) d.tokens) lists_few))
 
   pub few_tokens : length d.tokens ≤ 32
-  few_tokens = ltb-false 32 (length d.tokens) (or_right (nat_lt 16 (length d.inputs)) (nat_lt 32 (length d.tokens)) (or_left (nat_lt 16 (length d.inputs) || nat_lt 32 (length d.tokens)) (list_any (λ (k : Token). nat_lt 32 (length (linked_to k.linked))) d.tokens) lists_few))
+  few_tokens = ltb-false 32 (length d.tokens) (or_second (nat_lt 16 (length d.inputs)) (nat_lt 32 (length d.tokens)) (or_first (nat_lt 16 (length d.inputs) || nat_lt 32 (length d.tokens)) (list_any (λ (k : Token). nat_lt 32 (length (linked_to k.linked))) d.tokens) lists_few))
 
   pub links_law : (k : ℕ) → graph.is_token g k → IsLinked k (graph.token g k)
   links_law k lt =
-      linked_at n.tokens 0 d.tokens (valid why.LinkPlace 0 (omega arith)) (or_right (nat_lt 16 (length d.inputs) || nat_lt 32 (length d.tokens)) (list_any (λ (x : Token). nat_lt 32 (length (linked_to x.linked))) d.tokens) lists_few) k k (omega arith) lt
+      linked_at n.tokens 0 d.tokens (valid why.LinkPlace 0 (omega arith)) (or_second (nat_lt 16 (length d.inputs) || nat_lt 32 (length d.tokens)) (list_any (λ (x : Token). nat_lt 32 (length (linked_to x.linked))) d.tokens) lists_few) k k (omega arith) lt

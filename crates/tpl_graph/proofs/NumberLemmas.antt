@@ -1,7 +1,9 @@
 -- The loop over a list of statements that puts ids in place of names.
 use Rattle.std.proofs.Common.{◌≡◌, ℕ, ◌+◌, ◌<◌, ◌≤◌, ◌++◌, List, [], ◌∷◌, length, drop, get_or, refl, sym, ap, ◌∙◌}
 use Rattle.std.proofs.lemmas.List.{drop_all}
-use Rattle.tpl_script.specs.Statements.{Statements, Nothing, ◌⨾◌, followed_by}
+use Rattle.tpl_script.proofs.Levels.{followed_by-nothing}
+use Rattle.tpl_script.proofs.Fronts.{ahead_assoc}
+use Rattle.tpl_script.specs.Statements.{◌⨾◌, followed_by}
 use Rattle.tpl_script.specs.declared.body.Stmt.{Stmt}
 use Rattle.tpl_graph.specs.declared.draft.DraftStmt.{DraftStmt}
 use Rattle.tpl_graph.specs.Draft.{Lines}
@@ -14,14 +16,6 @@ use Rattle.tpl_graph.proofs.AskLemmas.{split_at}
 pub statements_of-append : (xs ys : List Stmt) → statements_of (xs ++ ys) ≡ followed_by (statements_of xs) (statements_of ys)
 statements_of-append [] ys = refl
 statements_of-append (x ∷ xs) ys = ap (λ r. statement_of x ⨾ r) (statements_of-append xs ys)
-
-followed_by-followed_by : (a b c : Statements) → followed_by (followed_by a b) c ≡ followed_by a (followed_by b c)
-followed_by-followed_by Nothing b c = refl
-followed_by-followed_by (s ⨾ a) b c = ap (λ r. s ⨾ r) (followed_by-followed_by a b c)
-
-pub followed_by-Nothing : (a : Statements) → followed_by a Nothing ≡ a
-followed_by-Nothing Nothing = refl
-followed_by-Nothing (s ⨾ a) = ap (λ r. s ⨾ r) (followed_by-Nothing a)
 
 -- the statements before an index stand with ids
 pub record NumberedTo (n : Names) (body : Lines) (items : List DraftStmt) (i : ℕ) (made : List Stmt) : Type 0 where
@@ -37,7 +31,7 @@ one_numbered n body items i x made new s lt is at s_is new_is = record {
   left =
       ap (λ l. followed_by (statements_of l) (script_in n (lines_of (drop (i + 1) items)))) new_is
       ∙ (ap (λ a. followed_by a (script_in n (lines_of (drop (i + 1) items)))) (statements_of-append made (s ∷ []))
-      ∙ (followed_by-followed_by (statements_of made) (statements_of (s ∷ [])) (script_in n (lines_of (drop (i + 1) items)))
+      ∙ (ahead_assoc (statements_of made) (statements_of (s ∷ [])) (script_in n (lines_of (drop (i + 1) items)))
       ∙ (ap (λ y. followed_by (statements_of made) (y ⨾ script_in n (lines_of (drop (i + 1) items)))) s_is
       ∙ (ap (λ b. followed_by (statements_of made) (script_in n b)) (sym (split_at items i x lt is))
       ∙ at.left))));
@@ -45,5 +39,5 @@ one_numbered n body items i x made new s lt is at s_is new_is = record {
 
 pub all_numbered : (n : Names) (body : Lines) (items : List DraftStmt) (i : ℕ) (made : List Stmt) → length items ≤ i → NumberedTo n body items i made → statements_of made ≡ script_in n body
 all_numbered n body items i made le at =
-    sym (followed_by-Nothing (statements_of made))
+    sym (followed_by-nothing (statements_of made))
     ∙ (ap (λ l. followed_by (statements_of made) (script_in n (lines_of l))) (sym (drop_all i items le)) ∙ at.left)

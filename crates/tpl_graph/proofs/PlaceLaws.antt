@@ -8,9 +8,9 @@ use Rattle.std.proofs.lemmas.List.Sums.{sum_by-cons}
 use Rattle.tpl_graph.proofs.CollectLemmas.{twice_after-append}
 use Rattle.std.proofs.lemmas.List.Folds.{list_any-append}
 use Rattle.std.proofs.lemmas.Slice.Eq.{bytes_eq-Decides}
+use Rattle.tpl_words.proofs.Truths.{or_true, or_first, or_second}
 use Rattle.tpl_graph.specs.Names.{has_name, place, or_zero, with_name, with_names, twice_after, some_twice}
 use Rattle.tpl_graph.specs.Named.{numbers_from}
-use Rattle.tpl_graph.proofs.Bools.{or_left, or_right}
 
 module _ {A : Type 0} (p : A → Bool) where
   found_within : (xs : List A) → list_any p xs ≡ true → position_or_len p xs < length xs
@@ -27,8 +27,8 @@ module _ {A : Type 0} (p : A → Bool) where
   found_after : (pre : List A) (x : A) (xs : List A) → list_any p pre ≡ false → p x ≡ true → position_or_len p (pre ++ x ∷ xs) ≡ length pre
   found_after [] x xs e is = ap (λ c. cond (not c) (1 + position_or_len p xs) 0) is
   found_after (y ∷ pre) x xs e is =
-      let first : p y ≡ false = or_left (p y) (list_any p pre) e in
-      let rest : list_any p pre ≡ false = or_right (p y) (list_any p pre) e in
+      let first : p y ≡ false = or_first (p y) (list_any p pre) e in
+      let rest : list_any p pre ≡ false = or_second (p y) (list_any p pre) e in
       ap (λ c. cond (not c) (1 + position_or_len p (pre ++ x ∷ xs)) 0) first ∙ (ap (λ n. 1 + n) (found_after pre x xs rest is) ∙ omega arith)
 
   position_is : (xs : List A) → position_or_len p xs < length xs → or_zero (position p xs) ≡ position_or_len p xs
@@ -46,16 +46,16 @@ same_name x = (bytes_eq-Decides x x).1 refl
 new_name : (pre : List (List ℕ)) (x : List ℕ) → has_name pre x ≡ false → with_name pre x ≡ pre ++ x ∷ []
 new_name pre x fresh = ap (λ b. if b then pre else (pre ++ x ∷ [])) fresh
 
-once_more : (pre : List (List ℕ)) (x : List ℕ) (xs : List (List ℕ)) → twice_after pre (x ∷ xs) ≡ false → twice_after (pre ++ x ∷ []) xs ≡ false
+pub once_more : (pre : List (List ℕ)) (x : List ℕ) (xs : List (List ℕ)) → twice_after pre (x ∷ xs) ≡ false → twice_after (pre ++ x ∷ []) xs ≡ false
 once_more pre x xs e =
-    sym (ap (λ l. twice_after l xs) (new_name pre x (or_left (has_name pre x) (twice_after (with_name pre x) xs) e)))
-    ∙ or_right (has_name pre x) (twice_after (with_name pre x) xs) e
+    sym (ap (λ l. twice_after l xs) (new_name pre x (or_first (has_name pre x) (twice_after (with_name pre x) xs) e)))
+    ∙ or_second (has_name pre x) (twice_after (with_name pre x) xs) e
 
 -- names that stand once are numbered in their order
 pub places_from : (pre xs : List (List ℕ)) → twice_after pre xs ≡ false → map (place (pre ++ xs)) xs ≡ numbers_from (length pre) (length xs)
 places_from pre [] e = refl
 places_from pre (x ∷ xs) e =
-    let fresh : has_name pre x ≡ false = or_left (has_name pre x) (twice_after (with_name pre x) xs) e in
+    let fresh : has_name pre x ≡ false = or_first (has_name pre x) (twice_after (with_name pre x) xs) e in
     let rest : map (place ((pre ++ x ∷ []) ++ xs)) xs ≡ numbers_from (length (pre ++ x ∷ [])) (length xs) = places_from (pre ++ x ∷ []) xs (once_more pre x xs e) in
     let at : position_or_len (bytes_eq x) (pre ++ x ∷ xs) ≡ length pre = found_after (bytes_eq x) pre x xs fresh (same_name x) in
     let within : position_or_len (bytes_eq x) (pre ++ x ∷ xs) < length (pre ++ x ∷ xs) = omega (arith, at, length-append pre (x ∷ xs)) in
@@ -67,7 +67,7 @@ places_from pre (x ∷ xs) e =
 pub with_names_once : (pre xs : List (List ℕ)) → twice_after pre xs ≡ false → with_names pre xs ≡ pre ++ xs
 with_names_once pre [] e = sym (append-nil pre)
 with_names_once pre (x ∷ xs) e =
-    ap (λ l. with_names l xs) (new_name pre x (or_left (has_name pre x) (twice_after (with_name pre x) xs) e))
+    ap (λ l. with_names l xs) (new_name pre x (or_first (has_name pre x) (twice_after (with_name pre x) xs) e))
     ∙ (with_names_once (pre ++ x ∷ []) xs (once_more pre x xs e) ∙ append_assoc pre (x ∷ []) xs)
 
 once_with : (n : List (List ℕ)) (x : List ℕ) → some_twice n ≡ false → some_twice (with_name n x) ≡ false
@@ -85,14 +85,10 @@ pub with_names-once : (n xs : List (List ℕ)) → some_twice n ≡ false → so
 with_names-once n [] e = e
 with_names-once n (x ∷ xs) e = with_names-once (with_name n x) xs (once_with n x e)
 
-or_true : (b : Bool) → (b || true) ≡ true
-or_true true = refl
-or_true false = refl
-
 has_more : (n : List (List ℕ)) (x y : List ℕ) → has_name (n ++ x ∷ []) y ≡ (has_name n y || (bytes_eq y x || false))
 has_more n x y = list_any-append (bytes_eq y) n (x ∷ [])
 
-keeps_name : (n : List (List ℕ)) (x y : List ℕ) → has_name n y ≡ true → has_name (with_name n x) y ≡ true
+pub keeps_name : (n : List (List ℕ)) (x y : List ℕ) → has_name n y ≡ true → has_name (with_name n x) y ≡ true
 keeps_name n x y e = by (has_name n x) refl
   where
     by : (b : Bool) → has_name n x ≡ b → has_name (with_name n x) y ≡ true

@@ -1,11 +1,13 @@
 -- The sites and labels of a graph with ids.
-use Rattle.std.proofs.Common.{◌≡◌, ℕ, zero, suc, ◌+◌, ◌*◌, ◌≤◌, Bool, true, false, ◌||◌, ◌++◌, List, [], ◌∷◌, length, map, flat_map, refl, sym, ap, ◌∙◌, arith, length-append, ◌⊎◌, inl, inr}
+use Rattle.std.proofs.Common.{◌≡◌, ℕ, zero, suc, ◌+◌, ◌*◌, ◌≤◌, Bool, true, false, ◌++◌, List, [], ◌∷◌, length, map, flat_map, refl, sym, ap, ◌∙◌, arith, length-append}
 use Rattle.std.specs.Prelude.{Some, slice_get, if◌then◌else◌}
 use Rattle.std.specs.List.{list_any}
 use Rattle.std.specs.Str.{bytes_eq}
 use Rattle.std.proofs.lemmas.List.{map-append}
 use Rattle.std.proofs.lemmas.List.Folds.{list_any-append}
 use Rattle.std.proofs.lemmas.List.Sums.{sum_by-cons}
+use Rattle.std.proofs.lemmas.Bool.{or_left, or_right}
+use Rattle.tpl_graph.proofs.BodyLaws.{append_both}
 use Rattle.tpl_script.specs.Statements.{sites, sites_of}
 use Rattle.tpl_model.specs.Graph as graph
 use Rattle.tpl_graph.specs.declared.collect.Sort.{Sort}
@@ -20,9 +22,6 @@ use Rattle.tpl_graph.specs.Refusals.{site_total}
 use Rattle.tpl_graph.proofs.CollectLemmas.{flat_map_append}
 use Rattle.tpl_graph.proofs.PlaceLaws.{place_within, same_name}
 
-both_lists : (a b c d : List ℕ) → a ≡ c → b ≡ d → (a ++ b) ≡ (c ++ d)
-both_lists a b c d e f = ap (λ x. x ++ b) e ∙ ap (λ x. c ++ x) f
-
 -- the names of two lists of statements, as numbers
 split_named : (n : Names) (xs ys : List Line) → map (place n.sites) (flat_map (names_in Sites) (xs ++ ys)) ≡ map (place n.sites) (flat_map (names_in Sites) xs) ++ map (place n.sites) (flat_map (names_in Sites) ys)
 split_named n xs ys = ap (map (place n.sites)) (flat_map_append (names_in Sites) xs ys) ∙ map-append (place n.sites) (flat_map (names_in Sites) xs) (flat_map (names_in Sites) ys)
@@ -31,7 +30,7 @@ mutual
   pub sites_script : (n : Names) (b : Lines) → sites (script_in n b) ≡ map (place n.sites) (flat_map (names_in Sites) (each_of b))
   sites_script n Nothing = refl
   sites_script n (Then s rest) =
-      both_lists (sites_of (statement_in n s)) (sites (script_in n rest)) (map (place n.sites) (flat_map (names_in Sites) (s ∷ each_within s))) (map (place n.sites) (flat_map (names_in Sites) (each_of rest))) (sites_statement n s) (sites_script n rest)
+      append_both (sites_of (statement_in n s)) (sites (script_in n rest)) (map (place n.sites) (flat_map (names_in Sites) (s ∷ each_within s))) (map (place n.sites) (flat_map (names_in Sites) (each_of rest))) (sites_statement n s) (sites_script n rest)
       ∙ sym (split_named n (s ∷ each_within s) (each_of rest))
 
   sites_statement : (n : Names) (s : Line) → sites_of (statement_in n s) ≡ map (place n.sites) (flat_map (names_in Sites) (s ∷ each_within s))
@@ -43,16 +42,16 @@ mutual
   sites_statement n Observe = refl
   sites_statement n (Work s may_fail) = refl
   sites_statement n (If i a b) =
-      both_lists (sites (script_in n a)) (sites (script_in n b)) (map (place n.sites) (flat_map (names_in Sites) (each_of a))) (map (place n.sites) (flat_map (names_in Sites) (each_of b))) (sites_script n a) (sites_script n b)
+      append_both (sites (script_in n a)) (sites (script_in n b)) (map (place n.sites) (flat_map (names_in Sites) (each_of a))) (map (place n.sites) (flat_map (names_in Sites) (each_of b))) (sites_script n a) (sites_script n b)
       ∙ sym (split_named n (each_of a) (each_of b))
   sites_statement n (When f a b) =
-      both_lists (sites (script_in n a)) (sites (script_in n b)) (map (place n.sites) (flat_map (names_in Sites) (each_of a))) (map (place n.sites) (flat_map (names_in Sites) (each_of b))) (sites_script n a) (sites_script n b)
+      append_both (sites (script_in n a)) (sites (script_in n b)) (map (place n.sites) (flat_map (names_in Sites) (each_of a))) (map (place n.sites) (flat_map (names_in Sites) (each_of b))) (sites_script n a) (sites_script n b)
       ∙ sym (split_named n (each_of a) (each_of b))
 
 pub sites_all : (n : Names) (ts : List Task) → flat_map (λ (t : graph.Task). sites t.body) (map (task_in n) ts) ≡ map (place n.sites) (all_named Sites ts)
 sites_all n [] = refl
 sites_all n (x ∷ ts) =
-    both_lists (sites (script_in n (worked x.kind).body)) (flat_map (λ (t : graph.Task). sites t.body) (map (task_in n) ts)) (map (place n.sites) (flat_map (names_in Sites) (statements_in x))) (map (place n.sites) (all_named Sites ts)) (sites_script n (worked x.kind).body) (sites_all n ts)
+    append_both (sites (script_in n (worked x.kind).body)) (flat_map (λ (t : graph.Task). sites t.body) (map (task_in n) ts)) (map (place n.sites) (flat_map (names_in Sites) (statements_in x))) (map (place n.sites) (all_named Sites ts)) (sites_script n (worked x.kind).body) (sites_all n ts)
     ∙ sym (map-append (place n.sites) (flat_map (names_in Sites) (statements_in x)) (all_named Sites ts))
 
 -- as many sites as work statements
@@ -112,32 +111,20 @@ length-with_names n (x ∷ xs) = omega (arith, length-with_names (with_name n x)
     one true is = let same : length (with_name n x) ≡ length n = ap (λ c. length (if c then n else (n ++ x ∷ []))) is in omega arith
     one false is = let same : length (with_name n x) ≡ length (n ++ x ∷ []) = ap (λ c. length (if c then n else (n ++ x ∷ []))) is in omega (arith, length-append n (x ∷ []))
 
--- labels and sites have names
-or_split : (a b : Bool) → (a || b) ≡ true → (a ≡ true) ⊎ (b ≡ true)
-or_split true b e = inl refl
-or_split false b e = inr e
-
-or_first : (a b : Bool) → a ≡ true → (a || b) ≡ true
-or_first a b e = ap (λ x. x || b) e
-
-or_second : (a b : Bool) → b ≡ true → (a || b) ≡ true
-or_second true b e = refl
-or_second false b e = e
-
 -- each name of a sort in these statements is among the names
 abbrev pub AreAmong : Sort → List (List ℕ) → List Line → Type 0
 AreAmong sort names ss = (y : List ℕ) → has_name (flat_map (names_in sort) ss) y ≡ true → has_name names y ≡ true
 
 among_left : (sort : Sort) (names : List (List ℕ)) (xs ys : List Line) → AreAmong sort names (xs ++ ys) → AreAmong sort names xs
 among_left sort names xs ys all y e =
-    all y (ap (λ l. has_name l y) (flat_map_append (names_in sort) xs ys) ∙ (list_any-append (bytes_eq y) (flat_map (names_in sort) xs) (flat_map (names_in sort) ys) ∙ or_first (has_name (flat_map (names_in sort) xs) y) (has_name (flat_map (names_in sort) ys) y) e))
+    all y (ap (λ l. has_name l y) (flat_map_append (names_in sort) xs ys) ∙ (list_any-append (bytes_eq y) (flat_map (names_in sort) xs) (flat_map (names_in sort) ys) ∙ or_left (has_name (flat_map (names_in sort) xs) y) (has_name (flat_map (names_in sort) ys) y) e))
 
 among_right : (sort : Sort) (names : List (List ℕ)) (xs ys : List Line) → AreAmong sort names (xs ++ ys) → AreAmong sort names ys
 among_right sort names xs ys all y e =
-    all y (ap (λ l. has_name l y) (flat_map_append (names_in sort) xs ys) ∙ (list_any-append (bytes_eq y) (flat_map (names_in sort) xs) (flat_map (names_in sort) ys) ∙ or_second (has_name (flat_map (names_in sort) xs) y) (has_name (flat_map (names_in sort) ys) y) e))
+    all y (ap (λ l. has_name l y) (flat_map_append (names_in sort) xs ys) ∙ (list_any-append (bytes_eq y) (flat_map (names_in sort) xs) (flat_map (names_in sort) ys) ∙ or_right (has_name (flat_map (names_in sort) xs) y) (has_name (flat_map (names_in sort) ys) y) e))
 
 alone : (x : List ℕ) → has_name (x ∷ []) x ≡ true
-alone x = or_first (bytes_eq x x) false (same_name x)
+alone x = or_left (bytes_eq x x) false (same_name x)
 
 module _ (n : Names) where
   mutual
@@ -164,5 +151,5 @@ pub any_flat : {A B : Type 0} (f : A → List B) (p : B → Bool) (xs : List A) 
 any_flat f p [] t x here e = absurd (cc)
 any_flat f p (z ∷ xs) zero x here e =
     let same : z ≡ x = cc in
-    list_any-append p (f z) (flat_map f xs) ∙ or_first (list_any p (f z)) (list_any p (flat_map f xs)) (ap (λ y. list_any p (f y)) same ∙ e)
-any_flat f p (z ∷ xs) (suc t) x here e = list_any-append p (f z) (flat_map f xs) ∙ or_second (list_any p (f z)) (list_any p (flat_map f xs)) (any_flat f p xs t x here e)
+    list_any-append p (f z) (flat_map f xs) ∙ or_left (list_any p (f z)) (list_any p (flat_map f xs)) (ap (λ y. list_any p (f y)) same ∙ e)
+any_flat f p (z ∷ xs) (suc t) x here e = list_any-append p (f z) (flat_map f xs) ∙ or_right (list_any p (f z)) (list_any p (flat_map f xs)) (any_flat f p xs t x here e)

@@ -1,7 +1,7 @@
 -- What the table of sites says to the readers of a graph.
-use Rattle.std.proofs.Common.{◌≡◌, ℕ, zero, suc, ◌+◌, ◌<◌, Bool, true, false, ◌++◌, List, [], ◌∷◌, length, map, flat_map, get_or, nat_eq, refl, sym, ap, ◌∙◌, arith, ◌⊎◌, inl, inr, ⊎_elim}
+use Rattle.std.proofs.Common.{◌≡◌, ℕ, zero, suc, ◌+◌, ◌<◌, true, ◌++◌, List, [], ◌∷◌, length, map, flat_map, get_or, nat_eq, sym, ap, ◌∙◌, arith, ◌⊎◌, inl, inr, ⊎_elim}
 use Rattle.std.specs.Prelude.{Some, None, slice_get, slice_index_or, ◌||◌}
-use Rattle.std.proofs.lemmas.Bool.{eq-eqb}
+use Rattle.std.proofs.lemmas.Bool.{eq-eqb, or_right}
 use Rattle.tpl_words.specs.Members.{mem}
 use Rattle.tpl_script.specs.Statements.{sites}
 use Rattle.tpl_script.specs.Statements as script
@@ -35,10 +35,6 @@ number_at n (suc count) (suc i) lt = let same : suc n + i ≡ n + suc i = omega 
 from_zero : (i : ℕ) → 0 + i ≡ i
 from_zero i = omega arith
 
-or_second : (a b : Bool) → b ≡ true → (a || b) ≡ true
-or_second true b e = refl
-or_second false b e = e
-
 -- a place in a list with more behind it
 in_first_or_rest : (n o s : ℕ) (ss : List ℕ) (owners more : List ℕ) (i : ℕ) → slice_get (map (λ _. n) ss ++ owners) i ≡ Some o → slice_get (ss ++ more) i ≡ Some s → ((o ≡ n) × (mem s ss ≡ true)) ⊎ ((j : ℕ) × (slice_get owners j ≡ Some o) × (slice_get more j ≡ Some s))
 in_first_or_rest n o s [] owners more i at_o at_s = inr (i, at_o, at_s)
@@ -47,7 +43,7 @@ in_first_or_rest n o s (y ∷ ys) owners more zero at_o at_s =
     let site : s ≡ y = cc in
     inl (owner, ap (λ b. b || mem s ys) (eq-eqb s y site))
 in_first_or_rest n o s (y ∷ ys) owners more (suc i) at_o at_s = ⊎_elim
-    (λ l. inl (l.0, or_second (nat_eq s y) (mem s ys) l.1))
+    (λ l. inl (l.0, or_right (nat_eq s y) (mem s ys) l.1))
     (λ r. inr r)
     (in_first_or_rest n o s ys owners more i at_o at_s)
 

@@ -1,22 +1,15 @@
 -- A loop over names that looks for one that stands before it too.
-use Rattle.std.proofs.Common.{◌≡◌, ℕ, suc, ◌+◌, ◌<◌, ◌≤◌, Bool, true, false, not, ◌||◌, ◌++◌, List, [], ◌∷◌, length, drop, get_or, refl, sym, ap, ◌∙◌, add-one, drop-cons}
+use Rattle.std.proofs.Common.{◌≡◌, ℕ, suc, ◌+◌, ◌<◌, ◌≤◌, Bool, true, false, not, ◌||◌, ◌++◌, List, [], ◌∷◌, length, drop, get_or, sym, ap, ◌∙◌, add-one, drop-cons}
 use Rattle.std.proofs.lemmas.List.{drop_all}
 use Rattle.std.proofs.lemmas.Option.{get_or_from_slice_get, slice_get_within}
 use Rattle.std.specs.Prelude.{slice_get, Some, if◌then◌else◌}
+use Rattle.std.proofs.lemmas.Bool.{not-false, not-true}
 use Rattle.tpl_graph.specs.Names.{has_name, with_name, twice_after, some_twice}
 use Rattle.tpl_graph.proofs.NamesLemmas.{NumberedSoFar, numbered_more}
 
 pub record NumberedTo (names numbered : List (List ℕ)) (i : ℕ) : Type 0 where
   pub so_far : NumberedSoFar names numbered i
   pub left : twice_after numbered (drop i names) ≡ some_twice names
-
-not_true : (b : Bool) → not b ≡ true → b ≡ false
-not_true true e = absurd (cc)
-not_true false e = refl
-
-not_false : (b : Bool) → not b ≡ false → b ≡ true
-not_false true e = refl
-not_false false e = absurd (cc)
 
 left_at : (names numbered : List (List ℕ)) (i : ℕ) (name : List ℕ) → slice_get names i ≡ Some name → NumberedTo names numbered i → (has_name numbered name || twice_after (with_name numbered name) (drop (i + 1) names)) ≡ some_twice names
 left_at names numbered i name here at =
@@ -29,7 +22,7 @@ pub one_more : (names numbered new : List (List ℕ)) (i : ℕ) (name : List ℕ
 one_more names numbered new i name added at here fresh made is = record {
   so_far = numbered_more names numbered new i name added at.so_far here fresh made is;
   left =
-      let none : has_name numbered name ≡ false = not_true (has_name numbered name) (sym fresh ∙ is) in
+      let none : has_name numbered name ≡ false = not-true (has_name numbered name) (sym fresh ∙ is) in
       let new_is : new ≡ with_name numbered name = made ∙ (ap (λ b. if b then numbered ++ name ∷ [] else numbered) is ∙ ap (λ b. if b then numbered else (numbered ++ name ∷ [])) (sym none)) in
       ap (λ l. twice_after l (drop (i + 1) names)) new_is
       ∙ (ap (λ b. b || twice_after (with_name numbered name) (drop (i + 1) names)) (sym none)
@@ -38,7 +31,7 @@ one_more names numbered new i name added at here fresh made is = record {
 
 pub is_twice : (names numbered : List (List ℕ)) (i : ℕ) (name : List ℕ) (added : Bool) → NumberedTo names numbered i → slice_get names i ≡ Some name → added ≡ not (has_name numbered name) → added ≡ false → some_twice names ≡ true
 is_twice names numbered i name added at here fresh is =
-    let some : has_name numbered name ≡ true = not_false (has_name numbered name) (sym fresh ∙ is) in
+    let some : has_name numbered name ≡ true = not-false (has_name numbered name) (sym fresh ∙ is) in
     sym (left_at names numbered i name here at)
     ∙ ap (λ b. b || twice_after (with_name numbered name) (drop (i + 1) names)) some
 

@@ -3,8 +3,9 @@ use Rattle.std.proofs.Common.{◌≡◌, ℕ, zero, suc, ◌-◌, ◌≤◌, tru
 use Rattle.std.specs.Prelude.{count_by, None, slice_get}
 use Rattle.std.specs.List.{list_any}
 use Rattle.std.specs.Str.{bytes_eq}
-use Rattle.std.proofs.lemmas.Bool.{ltb-false, cases_lt}
+use Rattle.std.proofs.lemmas.Bool.{ltb-false, cases_lt, not-false}
 use Rattle.std.proofs.lemmas.List.{length-map, take_all}
+use Rattle.tpl_words.proofs.Truths.{or_first, or_second}
 use Rattle.tpl_script.specs.Statements as script
 use Rattle.tpl_model.specs.Graph as graph
 use Rattle.tpl_model.specs.Graph.{is_task, body}
@@ -17,7 +18,6 @@ use Rattle.tpl_graph.specs.Kept.{AreNamed, AreSpelled, IsNamedGraph}
 use Rattle.tpl_graph.specs.Draft.{Draft, Task, Token, worked, statements_in}
 use Rattle.tpl_graph.specs.Numbered.{names_of, graph_in, task_in, token_in, numbered, names_in, all_named, sites_of, AreFew}
 use Rattle.tpl_graph.specs.Refusals.{IsValid, exceeds, site_total, is_name, is_bad_name, says_bad_name}
-use Rattle.tpl_graph.proofs.Bools.{or_left, or_right, not_false}
 use Rattle.tpl_graph.proofs.PlaceLaws.{places_from, with_names-once, adds_names, at_most_once}
 use Rattle.tpl_graph.proofs.ReaderLemmas.{length-numbers_from}
 use Rattle.tpl_graph.proofs.SiteLaws.{sites_all, site_total_is, label_total, length-with_names, are_named, any_flat}
@@ -27,8 +27,8 @@ none_bad : (names : List (List ℕ)) → list_any is_bad_name names ≡ false �
 none_bad [] none i name e = absurd (cc)
 none_bad (x ∷ names) none zero name e =
     let same : x ≡ name = cc in
-    subst (λ z. is_name z ≡ true) same (not_false (is_name x) (or_left (is_bad_name x) (list_any is_bad_name names) none))
-none_bad (x ∷ names) none (suc i) name e = none_bad names (or_right (is_bad_name x) (list_any is_bad_name names) none) i name e
+    subst (λ z. is_name z ≡ true) same (not-false (is_name x) (or_first (is_bad_name x) (list_any is_bad_name names) none))
+none_bad (x ∷ names) none (suc i) name e = none_bad names (or_second (is_bad_name x) (list_any is_bad_name names) none) i name e
 
 named_by : {A : Type 0} (f : A → List ℕ) (xs : List A) (i : ℕ) (name : List ℕ) → slice_get (map f xs) i ≡ Some name → (x : A) × (slice_get xs i ≡ Some x) × (f x ≡ name)
 named_by f [] i name e = absurd (cc)
@@ -40,7 +40,7 @@ module _ (d : Draft) (valid : IsValid d) where
   few_sites = ⊎_elim
       (λ some. ⊎_elim
       (λ r.
-      let last = ltb-false 256 (site_total (take (suc (length d.tasks - 1)) d.tasks)) (or_right (exceeds (length d.tasks - 1) r.0) (nat_lt 256 (site_total (take (suc (length d.tasks - 1)) d.tasks))) (none_at d valid why.TooMany (length d.tasks - 1) r.0 (omega arith) r.1)) in
+      let last = ltb-false 256 (site_total (take (suc (length d.tasks - 1)) d.tasks)) (or_second (exceeds (length d.tasks - 1) r.0) (nat_lt 256 (site_total (take (suc (length d.tasks - 1)) d.tasks))) (none_at d valid why.TooMany (length d.tasks - 1) r.0 (omega arith) r.1)) in
       subst (λ l. site_total l ≤ 256) (take_all (suc (length d.tasks - 1)) d.tasks (omega arith)) last)
       (λ r. absurd (omega (arith, r.0)))
       (find (task_in (names_of d)) (record { kind = graph.Root; body = script.Nothing; token = None; options = 0 }) d.tasks (length d.tasks - 1)))
@@ -86,12 +86,12 @@ module _ (d : Draft) (valid : IsValid d) where
       (find (task_in (names_of d)) (record { kind = graph.Root; body = script.Nothing; token = None; options = 0 }) d.tasks t)
 
   tokens_spelled : AreSpelled (names_of d).tokens
-  tokens_spelled = none_bad (names_of d).tokens (or_right (list_any is_bad_name (names_of d).inputs) (list_any is_bad_name (names_of d).tokens) (valid why.BadName 0 (omega arith)))
+  tokens_spelled = none_bad (names_of d).tokens (or_second (list_any is_bad_name (names_of d).inputs) (list_any is_bad_name (names_of d).tokens) (valid why.BadName 0 (omega arith)))
 
   tasks_spelled : AreSpelled (names_of d).tasks
   tasks_spelled t name e =
       let x = named_by (λ (x : Task). x.name) d.tasks t name e in
-      subst (λ z. is_name z ≡ true) x.2 (not_false (is_name x.0.name) (or_left (is_bad_name x.0.name) (list_any says_bad_name (statements_in x.0)) (none_at d valid why.BadName t x.0 (omega arith) x.1)))
+      subst (λ z. is_name z ≡ true) x.2 (not-false (is_name x.0.name) (or_first (is_bad_name x.0.name) (list_any says_bad_name (statements_in x.0)) (none_at d valid why.BadName t x.0 (omega arith) x.1)))
 
   pub is_named_graph : some_twice (names_of d).inputs ≡ false → some_twice (names_of d).tokens ≡ false → some_twice (names_of d).tasks ≡ false → some_twice (names_of d).sites ≡ false → IsNamedGraph (numbered d)
   is_named_graph inputs tokens tasks sites = record {

@@ -17,7 +17,7 @@ use Rattle.tpl_graph.proofs.SiteReaders.{number_at, empty}
 abbrev StandAt : (site : ℕ) → (may_fail : Bool) → List ℕ → List Bool → Type 0
 StandAt s m ss ms = (i : ℕ) × (slice_get ss i ≡ Some s) × (slice_get ms i ≡ Some m)
 
-at_left : {A : Type 0} (xs ys : List A) (i : ℕ) (x : A) → slice_get xs i ≡ Some x → slice_get (xs ++ ys) i ≡ Some x
+pub at_left : {A : Type 0} (xs ys : List A) (i : ℕ) (x : A) → slice_get xs i ≡ Some x → slice_get (xs ++ ys) i ≡ Some x
 at_left [] ys i x at = absurd (cc)
 at_left (z ∷ xs) ys zero x at = at
 at_left (z ∷ xs) ys (suc i) x at = at_left xs ys i x at

@@ -7,6 +7,7 @@ use Rattle.std.specs.Ordering.{nat_cmp, match_ordering}
 use Rattle.std.specs.Cmp.Lexicographic.{slice_cmp}
 use Rattle.std.proofs.lemmas.Map.Text.{is_eq-slice_cmp}
 use Rattle.std.proofs.lemmas.Slice.Eq.{bytes_eq-Decides}
+use Rattle.tpl_words.proofs.Truths.{and_true}
 use Rattle.json.specs.Token.{Token}
 use Rattle.json.specs.Lex.{tokens}
 use Rattle.json.specs.Json as json
@@ -149,10 +150,6 @@ names_from p (e ∷ es) found =
     names_from p es (put e.0.now (view e.1) found)
     ∙ ap (λ b. list_all (λ m. p m.0.now) es && b) (names_put p e.0.now (view e.1) found)
     ∙ and_moved (list_all (λ m. p m.0.now) es) (p e.0.now) (names_all p found)
-
-and_true : (a : Bool) → (a && true) ≡ a
-and_true true = refl
-and_true false = refl
 
 -- the names of an object are those of its members as they stand in the text
 pub names_are : (p : List ℕ → Bool) (es : List (Bor (List ℕ) × Value)) → names_all p (members_from (members_view es) no_members) ≡ list_all (λ m. p m.0.now) es

@@ -2,6 +2,7 @@
 use Rattle.std.proofs.Common.{◌≡◌, ℕ, ◌||◌, List, [], ◌∷◌, map, Bool, true, false, cond, Some, None, codes, refl, sym, ap, ◌∙◌}
 use Rattle.std.specs.List.{list_any}
 use Rattle.std.proofs.lemmas.Slice.Eq.{bytes_eq-Decides}
+use Rattle.tpl_words.proofs.Truths.{or_false}
 use Rattle.serde_json.specs.Data.{Data, string}
 use Rattle.serde_json.specs.Find.{as_str}
 use Rattle.tpl_words.specs.declared.finals.Final.{Final}
@@ -80,10 +81,6 @@ finals_are (d ∷ ds) e r h =
     let a = bind_some (final_at d) (λ f. finals_at (with_final f e) ds) r h in
     let b = finals_are ds (with_final a.0 e) r a.2 in
     (a.0 ∷ b.0, cons_same d (spelled a.0) ds (map spelled b.0) (final_is d a.0 a.1) b.1, b.2)
-
-or_false : (a : Bool) → (a || false) ≡ a
-or_false true = refl
-or_false false = refl
 
 has-no_finals : (f : Final) → has no_finals f ≡ false
 has-no_finals RanToCompletion = refl

@@ -4,11 +4,11 @@ use Rattle.std.specs.Cmp.Lexicographic.{slice_cmp}
 use Rattle.std.specs.Ordering.{match_ordering}
 use Rattle.std.proofs.lemmas.Map.Text.{is_eq-slice_cmp}
 use Rattle.std.proofs.lemmas.Slice.Eq.{bytes_eq-Decides}
+use Rattle.tpl_words.proofs.Truths.{and_first, and_second}
 use Rattle.serde_json.specs.Data.{Data, Items, no_items, item, Members, no_members, member, null, boolean, number, string, array, object, depth, items_depth, members_depth}
 use Rattle.serde_json.specs.Find.{get, get_member, as_str, as_bool}
 use Rattle.tpl_json.specs.Members.{◌>>=◌, only_if, has_only, is_one_of, members_within, text_in, elements, list_in, list_or_none, texts_in, each}
 use Rattle.tpl_json.specs.Grammar.{IfThere, IsTexts, HasTexts}
-use Rattle.tpl_json.proofs.Truths.{and_first, and_second}
 use Rattle.tpl_json.proofs.Arrays.{bind_some, some_is, each_cons, each_empty, each_nothing, each_parts}
 
 abbrev pub some : {A : Type 0} → A → Option A
@@ -23,22 +23,14 @@ some_none x o e f = absurd cc
 
 -- ---- values of one form
 
-str_of : (d : Data) (t : List ℕ) → as_str d ≡ Some t → d ≡ string t
-str_of null t e = absurd cc
-str_of (boolean b) t e = absurd cc
-str_of (number n) t e = absurd cc
-str_of (string s) t e = ap string (some_is s t e)
-str_of (array ds) t e = absurd cc
-str_of (object ms) t e = absurd cc
-
 pub string_is : (d : Data) (t : List ℕ) → as_str d ≡ Some t → d ≡ string t
-string_is = str_of
+string_is = string_is
 
 pub text_is : (name : List ℕ) (d : Data) (t : List ℕ) → text_in name d ≡ Some t → get name d ≡ Some (string t)
 unfolding text_in
 text_is name d t e =
     let a = bind_some (get name d) as_str t e in
-    a.1 ∙ ap (λ (x : Data). some x) (str_of a.0 t a.2)
+    a.1 ∙ ap (λ (x : Data). some x) (string_is a.0 t a.2)
 
 bool_of : (d : Data) (b : Bool) → as_bool d ≡ Some b → d ≡ boolean b
 bool_of null t e = absurd cc
@@ -62,7 +54,7 @@ pub texts_are : (ds : List Data) (ts : List (List ℕ)) → each as_str ds ≡ S
 texts_are [] ts e = ap (map string) (each_nothing as_str ts e)
 texts_are (d ∷ ds) ts e =
     let p = each_parts as_str d ds ts e in
-    cons_same d (string p.first) ds (map string p.rest) (str_of d p.first p.is_first) (texts_are ds p.rest p.is_rest) ∙ ap (map string) p.whole
+    cons_same d (string p.first) ds (map string p.rest) (string_is d p.first p.is_first) (texts_are ds p.rest p.is_rest) ∙ ap (map string) p.whole
 
 pub texts_read : (ts : List (List ℕ)) → each as_str (map string ts) ≡ Some ts
 texts_read [] = each_empty as_str

@@ -1,4 +1,3 @@
-pub mod Truths
 pub mod Arrays
 pub mod DataOf
 pub mod Signs

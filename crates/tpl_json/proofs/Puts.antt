@@ -4,12 +4,13 @@ use Rattle.std.specs.Str.{bytes_eq}
 use Rattle.std.specs.Cmp.Lexicographic.{slice_cmp}
 use Rattle.std.specs.Ordering.{nat_cmp, match_ordering}
 use Rattle.std.proofs.lemmas.Slice.Eq.{bytes_eq-Decides}
+use Rattle.std.proofs.lemmas.Bool.{and_from}
+use Rattle.tpl_words.proofs.Truths.{and_first, and_second}
 use Rattle.serde_json.specs.Data.{Data, Members, no_members, member, null, boolean, number, string, array, object, put, depth, members_depth}
 use Rattle.serde_json.specs.Find.{get, as_object}
 use Rattle.serde_json.proofs.Views.{get_member-put_other}
 use Rattle.tpl_json.specs.Members.{is_one_of, members_within, has_only}
 use Rattle.tpl_json.specs.Grammar.{HasOnly}
-use Rattle.tpl_json.proofs.Truths.{and_both, and_first, and_second}
 
 -- ---- its names
 
@@ -19,12 +20,12 @@ within_either Equal names a b c x y z = y
 within_either Greater names a b c x y z = z
 
 within_put : (names : List (List ℕ)) (k : List ℕ) (d : Data) (ms : Members) → is_one_of names k ≡ true → members_within names ms ≡ true → members_within names (put k d ms) ≡ true
-within_put names k d no_members one all = and_both (is_one_of names k) true one refl
+within_put names k d no_members one all = and_from (is_one_of names k) true one refl
 within_put names k d (member l e ms) one all =
     let first = and_first (is_one_of names l) (members_within names ms) all in
     let rest = and_second (is_one_of names l) (members_within names ms) all in
     within_either (slice_cmp nat_cmp k l) names (member k d (member l e ms)) (member l d ms) (member l e (put k d ms))
-    (and_both (is_one_of names k) _ one all) (and_both (is_one_of names l) _ first rest) (and_both (is_one_of names l) _ first (within_put names k d ms one rest))
+    (and_from (is_one_of names k) _ one all) (and_from (is_one_of names l) _ first rest) (and_from (is_one_of names l) _ first (within_put names k d ms one rest))
 
 pub only_put : (names : List (List ℕ)) (k : List ℕ) (d : Data) (ms : Members) → is_one_of names k ≡ true → HasOnly names (object ms) → HasOnly names (object (put k d ms))
 unfolding has_only

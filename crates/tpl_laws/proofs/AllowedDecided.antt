@@ -1,7 +1,7 @@
 -- The tests of events say what is allowed.
 use Rattle.std.proofs.Common.{◌≡◌, ℕ, ◌&&◌, ◌||◌, not, Bool, true, false, Option, Some, None, List, [], ◌∷◌, refl, ap, ◌∙◌, length, is_some}
 use Rattle.std.specs.Prelude.{Decides}
-use Rattle.std.proofs.lemmas.Bool.{eqb-true, eq-eqb}
+use Rattle.std.proofs.lemmas.Bool.{eqb-true, eq-eqb, and_parts, and_from}
 use Rattle.std.proofs.lemmas.Bool.Decides.{Decides-and, Decides-or, Decides-ltb, Decides-eqb}
 use Rattle.tpl_words.specs.declared.finals.Final.{Final}
 use Rattle.tpl_words.specs.declared.ids.Worker.{Worker as WorkerId}
@@ -27,24 +27,16 @@ pub denied : (b : Bool) → Decides (not b) (b ≡ false)
 denied true = (λ e. cc, λ e. cc)
 denied false = (λ e. refl, λ e. refl)
 
-pub both_of : (a b : Bool) → (a && b) ≡ true → (a ≡ true) × (b ≡ true)
-both_of true b e = (refl, e)
-both_of false b e = absurd (cc)
-
-pub joined_from : (a b : Bool) → a ≡ true → b ≡ true → (a && b) ≡ true
-joined_from true b a_true b_true = b_true
-joined_from false b a_true b_true = cc
-
 pub both3 : (P Q R : Type 0) (a b c : Bool) → Decides a P → Decides b Q → Decides c R → Decides (a && (b && c)) (P × Q × R)
 both3 P Q R a b c p q r = (
-  λ e. let x = both_of a (b && c) e in let y = both_of b c x.1 in (p.0 x.0, q.0 y.0, r.0 y.1),
-  λ d. joined_from a (b && c) (p.1 d.0) (joined_from b c (q.1 d.1) (r.1 d.2)),
+  λ e. let x = and_parts a (b && c) e in let y = and_parts b c x.1 in (p.0 x.0, q.0 y.0, r.0 y.1),
+  λ d. and_from a (b && c) (p.1 d.0) (and_from b c (q.1 d.1) (r.1 d.2)),
 )
 
 pub both4 : (P Q R S : Type 0) (a b c d : Bool) → Decides a P → Decides b Q → Decides c R → Decides d S → Decides (a && (b && (c && d))) (P × Q × R × S)
 both4 P Q R S a b c d p q r s = (
-  λ e. let x = both_of a (b && (c && d)) e in let y = both_of b (c && d) x.1 in let z = both_of c d y.1 in (p.0 x.0, q.0 y.0, r.0 z.0, s.0 z.1),
-  λ f. joined_from a (b && (c && d)) (p.1 f.0) (joined_from b (c && d) (q.1 f.1) (joined_from c d (r.1 f.2) (s.1 f.3))),
+  λ e. let x = and_parts a (b && (c && d)) e in let y = and_parts b (c && d) x.1 in let z = and_parts c d y.1 in (p.0 x.0, q.0 y.0, r.0 z.0, s.0 z.1),
+  λ f. and_from a (b && (c && d)) (p.1 f.0) (and_from b (c && d) (q.1 f.1) (and_from c d (r.1 f.2) (s.1 f.3))),
 )
 
 -- who acts

@@ -2,6 +2,8 @@
 use Rattle.std.proofs.Common.{◌≡◌, ℕ, zero, suc, ◌<◌, ◌≤◌, inl, inr, ◌&&◌, not, Bool, true, false, Option, Some, None, List, [], ◌∷◌, refl, sym, ap, ◌∙◌, arith, length, is_some}
 use Rattle.std.specs.Prelude.{Decides}
 use Rattle.std.proofs.lemmas.Bool.Decides.{Decides-and, Decides-below_and}
+use Rattle.std.proofs.lemmas.Bool.{or_cases, or_left, or_right, and_parts, and_from}
+use Rattle.tpl_laws.proofs.Deciding.{only_if}
 use Rattle.tpl_words.specs.declared.finals.Final.{Final}
 use Rattle.tpl_words.specs.declared.finals.Finals.{Finals}
 use Rattle.tpl_words.specs.Finals.{has}
@@ -18,9 +20,8 @@ use Rattle.tpl_model.specs.Certificate.{same}
 use Rattle.tpl_model.specs.Claims.{input, IsGiven, SettledAtBegin, HoldsOf}
 use Rattle.tpl_laws.specs.RowTests.{implies, parent_of}
 use Rattle.tpl_laws.specs.Allowed.{is_child, some_parent, settled_within, is_settled, all_below, has_ended, is_complete, is_given, settled_at_begin, ends_within, holds_of, IsSettledIsRight, IsCompleteIsRight, HoldsOfIsRight, HoldsIsRight}
-use Rattle.tpl_laws.proofs.Basics.{or_split, or_left, or_right}
 use Rattle.tpl_laws.proofs.Parents.{parent_is, the_parent, parent_before}
-use Rattle.tpl_laws.proofs.AllowedDecided.{itself, denied, both_of, joined_from}
+use Rattle.tpl_laws.proofs.AllowedDecided.{itself, denied}
 
 pub of_child : (k : TaskKind) → is_child k ≡ true → k ≡ Child
 of_child Root e = cc
@@ -32,11 +33,11 @@ of_child (WhenAny args) e = cc
 module _ (g : TaskGraph) (v : List Bool) (h : List Event) where
   settled_of : (n t : ℕ) → settled_within g v h n t ≡ true → Settled g v h t
   settled_of zero t e = ended e
-  settled_of (suc n) t e = elim (or_split (is_some (ending g v h t)) (is_child (kind g t) && (not (started g v h t) && some_parent (parent_of g t) (settled_within g v h n))) e) [
+  settled_of (suc n) t e = elim (or_cases (is_some (ending g v h t)) (is_child (kind g t) && (not (started g v h t) && some_parent (parent_of g t) (settled_within g v h n))) e) [
     | inl over ↦ ended over
     | inr child ↦
-        let a = both_of (is_child (kind g t)) (not (started g v h t) && some_parent (parent_of g t) (settled_within g v h n)) child in
-        let b = both_of (not (started g v h t)) (some_parent (parent_of g t) (settled_within g v h n)) a.1 in
+        let a = and_parts (is_child (kind g t)) (not (started g v h t) && some_parent (parent_of g t) (settled_within g v h n)) child in
+        let b = and_parts (not (started g v h t)) (some_parent (parent_of g t) (settled_within g v h n)) a.1 in
         by_parent (of_child (kind g t) a.0) ((denied (started g v h t)).0 b.0) (λ p s. settled_of n p s) (parent_of g t) refl b.1
   ]
     where
@@ -52,20 +53,16 @@ module _ (g : TaskGraph) (v : List Bool) (h : List Event) where
       let first : p < t = parent_before g p t valid m in
       let up : settled_within g v h n p ≡ true = of_settled valid above n (omega arith) in
       or_right (is_some (ending g v h t)) (is_child (kind g t) && (not (started g v h t) && some_parent (parent_of g t) (settled_within g v h n)))
-      (joined_from (is_child (kind g t)) (not (started g v h t) && some_parent (parent_of g t) (settled_within g v h n)) (ap is_child k)
-      (joined_from (not (started g v h t)) (some_parent (parent_of g t) (settled_within g v h n)) ((denied (started g v h t)).1 s)
+      (and_from (is_child (kind g t)) (not (started g v h t) && some_parent (parent_of g t) (settled_within g v h n)) (ap is_child k)
+      (and_from (not (started g v h t)) (some_parent (parent_of g t) (settled_within g v h n)) ((denied (started g v h t)).1 s)
       (ap (λ (o : Option ℕ). some_parent o (settled_within g v h n)) (the_parent g p t valid m) ∙ up)))
 
 pub settled_lem : IsSettledIsRight
 settled_lem g v h t valid = (settled_of g v h t t, λ s. of_settled g v h valid s t (omega arith))
 
-pub implied : (P Q : Type 0) (a b : Bool) → Decides a P → Decides b Q → Decides (implies a b) (P → Q)
-implied P Q true b p q = (λ e x. q.0 e, λ f. q.1 (f (p.0 refl)))
-implied P Q false b p q = (λ e x. let a : false ≡ true = p.1 x in absurd (cc), λ f. refl)
-
 pub complete_lem : IsCompleteIsRight
 complete_lem g v h =
-    let each = λ (t : ℕ). implied (to_end (kind g t) (started g v h t) ≡ true) (is_some (ending g v h t) ≡ true) (to_end (kind g t) (started g v h t)) (is_some (ending g v h t)) (itself (to_end (kind g t) (started g v h t))) (itself (is_some (ending g v h t))) in
+    let each = λ (t : ℕ). only_if (to_end (kind g t) (started g v h t) ≡ true) (is_some (ending g v h t) ≡ true) (to_end (kind g t) (started g v h t)) (is_some (ending g v h t)) (itself (to_end (kind g t) (started g v h t))) (itself (is_some (ending g v h t))) in
     Decides-below_and (has_ended g v h) (λ t. to_end (kind g t) (started g v h t) ≡ true → is_some (ending g v h t) ≡ true) (all_below (has_ended g v h)) each refl (λ _. refl) (length g.tasks)
 
 equal : (a b : Bool) → Decides (same a b) (a ≡ b)
@@ -90,17 +87,17 @@ begin_lem : (g : TaskGraph) → IsGraph g → (v : List Bool) (a b : ℕ) (h : L
 begin_lem g valid v a b [] = (λ e. tt, λ e. refl)
 begin_lem g valid v a b (e ∷ h) =
     Decides-and (implies (begun_by e.act b) (is_settled g v h a)) (settled_at_begin g v a b h)
-    (implied (begun_by e.act b ≡ true) (Settled g v h a) (begun_by e.act b) (is_settled g v h a) (itself (begun_by e.act b)) (settled_lem g v h a valid))
+    (only_if (begun_by e.act b ≡ true) (Settled g v h a) (begun_by e.act b) (is_settled g v h a) (itself (begun_by e.act b)) (settled_lem g v h a valid))
     (begin_lem g valid v a b h)
 
 pub holds_of_lem : HoldsOfIsRight
 holds_of_lem g v h (EndsIn t ends) valid = ends_in ends (final g v h t.0)
 holds_of_lem g v h (After a b) valid = begin_lem g valid v a.0 b.0 h
 holds_of_lem g v h (Observed t) valid =
-    implied (Complete g v h) ((l : Label) → label g v h t.0 ≡ Some l → seen g v h t.0 ≡ true) (is_complete g v h) (implies (is_some (label g v h t.0)) (seen g v h t.0))
+    only_if (Complete g v h) ((l : Label) → label g v h t.0 ≡ Some l → seen g v h t.0 ≡ true) (is_complete g v h) (implies (is_some (label g v h t.0)) (seen g v h t.0))
     (complete_lem g v h) (labelled (label g v h t.0) (seen g v h t.0))
 holds_of_lem g v h (Never t) valid = denied (is_some (begun h t.0))
 holds_of_lem g v h (Excludes a b) valid = denied (is_some (begun h a.0) && is_some (begun h b.0))
 
 pub holds_lem : HoldsIsRight
-holds_lem g claim v h valid = implied (IsGiven g v h claim.given) (HoldsOf g v h claim.body) (is_given g v h claim.given) (holds_of g v h claim.body) (given_lem g v h claim.given) (holds_of_lem g v h claim.body valid)
+holds_lem g claim v h valid = only_if (IsGiven g v h claim.given) (HoldsOf g v h claim.body) (is_given g v h claim.given) (holds_of g v h claim.body) (given_lem g v h claim.given) (holds_of_lem g v h claim.body valid)

@@ -1,45 +1,12 @@
 -- Tests, choices and members.
-use Rattle.std.proofs.Common.{◌≡◌, ℕ, ◌++◌, ◌&&◌, ◌||◌, ◌⊎◌, inl, inr, not, Bool, true, false, if◌then◌else◌, Option, Some, None, List, [], ◌∷◌, refl, sym, ap, subst, nat_eq, is_some, eqb→eq, T}
-use Rattle.std.proofs.Math.Dec.{eqb_refl}
+use Rattle.std.proofs.Common.{◌≡◌, ℕ, ◌++◌, ◌⊎◌, inl, inr, Bool, true, false, if◌then◌else◌, Option, Some, None, List, [], ◌∷◌, refl, sym, ap, subst, nat_eq, is_some, eqb→eq, T}
+use Rattle.std.proofs.lemmas.Bool.{or_left}
+use Rattle.tpl_words.proofs.Truths.{true_false}
+use Rattle.tpl_words.proofs.MemberLemmas.{mem_append, mem_left, mem_right, mem_split, mem_there, same_self}
 use Rattle.tpl_words.specs.declared.finals.Final.{Final}
 use Rattle.tpl_words.specs.declared.finals.Final.TheVariants.{RanToCompletion, Canceled, Faulted}
 use Rattle.tpl_words.specs.Finals.{is_final}
 use Rattle.tpl_words.specs.Members.{mem, joined}
-
-pub true_false : {A : Type 0} → true ≡ false → A
-true_false e = absurd (cc)
-
-pub decide : (b : Bool) → (b ≡ true) ⊎ (b ≡ false)
-decide true = inl refl
-decide false = inr refl
-
-pub and_split : (a b : Bool) → a && b ≡ true → (a ≡ true) × (b ≡ true)
-and_split true b e = (refl, e)
-and_split false b e = true_false (sym e)
-
-pub and_join : (a b : Bool) → a ≡ true → b ≡ true → a && b ≡ true
-and_join true b e f = f
-and_join false b e f = true_false (sym e)
-
-pub or_split : (a b : Bool) → a || b ≡ true → (a ≡ true) ⊎ (b ≡ true)
-or_split true b e = inl refl
-or_split false b e = inr e
-
-pub or_left : (a b : Bool) → a ≡ true → a || b ≡ true
-or_left true b e = refl
-or_left false b e = true_false (sym e)
-
-pub or_right : (a b : Bool) → b ≡ true → a || b ≡ true
-or_right true b e = refl
-or_right false b e = e
-
-pub not_true : (b : Bool) → not b ≡ true → b ≡ false
-not_true true e = true_false (sym e)
-not_true false e = refl
-
-pub not_false : (b : Bool) → not b ≡ false → b ≡ true
-not_false true e = refl
-not_false false e = true_false e
 
 pub if_true : {A : Type 0} (b : Bool) (x y : A) → b ≡ true → (if b then x else y) ≡ x
 if_true true x y e = refl
@@ -62,13 +29,6 @@ the_some None e = true_false (sym e)
 pub same_number : (x y : ℕ) → nat_eq x y ≡ true → x ≡ y
 same_number x y e = eqb→eq x y (subst T (sym e) tt)
 
-pub same_self : (x : ℕ) → nat_eq x x ≡ true
-same_self x = t_true (nat_eq x x) (eqb_refl x)
-  where
-    t_true : (b : Bool) → T b → b ≡ true
-    t_true true t = refl
-    t_true false t = absurd t
-
 pub final_same : (e f : Final) → is_final e f ≡ true → e ≡ f
 final_same RanToCompletion RanToCompletion h = refl
 final_same RanToCompletion Canceled h = true_false (sym h)
@@ -87,32 +47,6 @@ final_self Faulted = refl
 
 pub mem_here : (x y : ℕ) (xs : List ℕ) → x ≡ y → mem x (y ∷ xs) ≡ true
 mem_here x y xs e = or_left (nat_eq x y) (mem x xs) (subst (λ z. nat_eq x z ≡ true) e (same_self x))
-
-pub mem_there : (x y : ℕ) (xs : List ℕ) → mem x xs ≡ true → mem x (y ∷ xs) ≡ true
-mem_there x y xs e = or_right (nat_eq x y) (mem x xs) e
-
-pub mem_split : (x y : ℕ) (xs : List ℕ) → mem x (y ∷ xs) ≡ true → (x ≡ y) ⊎ (mem x xs ≡ true)
-mem_split x y xs e = elim (or_split (nat_eq x y) (mem x xs) e) [ inl a ↦ inl (same_number x y a) | inr b ↦ inr b ]
-
-pub mem_append : (x : ℕ) (xs ys : List ℕ) → mem x (xs ++ ys) ≡ true → (mem x xs ≡ true) ⊎ (mem x ys ≡ true)
-mem_append x [] ys e = inr e
-mem_append x (y ∷ xs) ys e =
-    elim (or_split (nat_eq x y) (mem x (xs ++ ys)) e) [
-      | inl a ↦ inl (or_left (nat_eq x y) (mem x xs) a)
-      | inr b ↦ elim (mem_append x xs ys b) [ inl c ↦ inl (or_right (nat_eq x y) (mem x xs) c) | inr d ↦ inr d ]
-    ]
-
-pub mem_left : (x : ℕ) (xs ys : List ℕ) → mem x xs ≡ true → mem x (xs ++ ys) ≡ true
-mem_left x [] ys e = true_false (sym e)
-mem_left x (y ∷ xs) ys e =
-    elim (or_split (nat_eq x y) (mem x xs) e) [
-      | inl a ↦ or_left (nat_eq x y) (mem x (xs ++ ys)) a
-      | inr b ↦ or_right (nat_eq x y) (mem x (xs ++ ys)) (mem_left x xs ys b)
-    ]
-
-pub mem_right : (x : ℕ) (xs ys : List ℕ) → mem x ys ≡ true → mem x (xs ++ ys) ≡ true
-mem_right x [] ys e = e
-mem_right x (y ∷ xs) ys e = or_right (nat_eq x y) (mem x (xs ++ ys)) (mem_right x xs ys e)
 
 -- what stands in a joined list
 pub joined_keeps : (x : ℕ) (xs ys : List ℕ) → mem x xs ≡ true → mem x (joined xs ys) ≡ true

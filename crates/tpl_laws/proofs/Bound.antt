@@ -2,6 +2,9 @@
 use Rattle.std.proofs.Common.{◌≡◌, ℕ, zero, suc, ◌+◌, ◌<◌, ◌≤◌, ◌⊎◌, inl, inr, Bool, true, false, Option, Some, None, List, [], ◌∷◌, refl, sym, ap, ◌∙◌, subst, arith, length, is_some, slice_index_or, nat_eq}
 use Rattle.std.specs.Prelude.{sum_by}
 use Rattle.std.proofs.lemmas.List.Sums.{sum_by-cons}
+use Rattle.std.proofs.lemmas.Bool.{cases_Bool, or_left, or_right}
+use Rattle.tpl_words.proofs.MemberLemmas.{same_self}
+use Rattle.tpl_words.proofs.Truths.{true_false}
 use Rattle.tpl_words.specs.declared.status.Status.TheVariants.{WaitingToRun, WaitingForActivation}
 use Rattle.tpl_script.specs.Statements.{Nothing}
 use Rattle.tpl_model.specs.Graph.{TaskGraph, TaskKind, Root, Child, Continues, WhenAll, WhenAny, kind, is_task, is_token}
@@ -13,7 +16,7 @@ use Rattle.tpl_model.specs.Facts.{Ending, begun, released, left_body, requests, 
 use Rattle.tpl_model.specs.Rules.{opening, Allows, Run, can_settle}
 use Rattle.tpl_script.specs.Limits.{statement_count}
 use Rattle.tpl_model.specs.Valid.{bound}
-use Rattle.tpl_laws.proofs.Basics.{true_false, decide, or_left, or_right, if_true, same_self}
+use Rattle.tpl_laws.proofs.Basics.{if_true}
 use Rattle.tpl_laws.proofs.Sources.{through_here}
 use Rattle.tpl_laws.proofs.Kept.{after, running_facts, waiting_facts, drop_facts, close_facts, ended_kept, begun_kept, left_kept, released_kept}
 use Rattle.tpl_laws.proofs.Sizes.{passed_smaller, rest_no_larger}
@@ -144,7 +147,7 @@ uses_up g v h a (Request k) al =
     inl (k.0, al.1, unused_lt (requested_itself g v h k.0) (requested_itself g v (after a (Request k) h) k.0) before (or_left (nat_eq k.0 k.0) (requested_itself g v h k.0) (same_self k.0)))
   where
     before : requested_itself g v h k.0 ≡ false
-    before = elim (decide (requested_itself g v h k.0)) [ inl e ↦ true_false (sym (through_here g (requested_itself g v h) k.0 e) ∙ al.2) | inr e ↦ e ]
+    before = elim (cases_Bool (requested_itself g v h k.0)) [ inl e ↦ true_false (sym (through_here g (requested_itself g v h) k.0 e) ∙ al.2) | inr e ↦ e ]
 uses_up g v h a (Release c) al =
     inr (
       c.0,

@@ -1,5 +1,8 @@
 -- What a task carries, and how that decides its status.
 use Rattle.std.proofs.Common.{◌≡◌, ℕ, suc, ◌⊎◌, inl, inr, Bool, true, false, if◌then◌else◌, Option, Some, None, List, [], ◌∷◌, refl, sym, ap, ◌∙◌, subst, nat_eq, is_some, length}
+use Rattle.std.proofs.lemmas.Bool.{cases_Bool, and_parts}
+use Rattle.tpl_words.proofs.MemberLemmas.{mem_split, mem_there}
+use Rattle.tpl_words.proofs.Truths.{true_false}
 use Rattle.tpl_words.specs.declared.finals.Final.{Final}
 use Rattle.tpl_words.specs.declared.finals.Final.TheVariants.{RanToCompletion, Canceled, Faulted}
 use Rattle.tpl_words.specs.declared.status.Status.TheVariants.{WaitingForChildrenToComplete}
@@ -12,7 +15,7 @@ use Rattle.tpl_model.specs.declared.event.Act.TheVariants.{Request, Release, Beg
 use Rattle.tpl_model.specs.declared.event.Event.{Event}
 use Rattle.tpl_model.specs.Facts.{Ending, begun, left_body, ends_by, ending_by, final_in, all_over, rest, started, ending, ended_at_once, carried_in, gathered, own_atom, those_started, outcome_in, body_final, all_final, worse, settled_as, body_over}
 use Rattle.tpl_model.specs.Rules.{status, IsRunning, MayDrop, Allows, Run, can_settle}
-use Rattle.tpl_laws.proofs.Basics.{true_false, decide, and_split, if_false, some_none, same_number, mem_split, mem_here, mem_there, joined_keeps, joined_adds, joined_from}
+use Rattle.tpl_laws.proofs.Basics.{if_false, some_none, same_number, mem_here, joined_keeps, joined_adds, joined_from}
 use Rattle.tpl_laws.proofs.Kept.{after, running_facts, close_facts, ending_new}
 use Rattle.tpl_laws.proofs.Ready.{left_begun}
 
@@ -72,7 +75,7 @@ all_faulted x (y ∷ args) en m f =
       | inr q ↦ ap (worse (final_in (en y))) (all_faulted x args en q f) ∙ worse_faulted (final_in (en y))
     ]
 
-carried_some : (x : ℕ) (o : Option Ending) → mem x (carried_in o) ≡ true → (r : Ending) × (o ≡ Some r) × (mem x r.carried ≡ true)
+pub carried_some : (x : ℕ) (o : Option Ending) → mem x (carried_in o) ≡ true → (r : Ending) × (o ≡ Some r) × (mem x r.carried ≡ true)
 carried_some x None m = true_false (sym m)
 carried_some x (Some r) m = (r, refl, m)
 
@@ -99,7 +102,7 @@ begun_task g v (e ∷ h) t run b = here (λ o. begun_task g v h t run.0 o) e.act
   where
     here : (is_some (begun h t) ≡ true → is_task g t) → (a : Actor) (x : Act) → Allows g v h a x → is_some (begun (after a x h) t) ≡ true → is_task g t
     here old a (Begin d) al n =
-        elim (decide (nat_eq d.0 t)) [
+        elim (cases_Bool (nat_eq d.0 t)) [
           | inl q ↦ subst (λ z. is_task g z) (same_number d.0 t q) al.0
           | inr q ↦ old (subst (λ z. is_some z ≡ true) (if_false (nat_eq d.0 t) (Some a) (begun h t) q) n)
         ]
@@ -121,7 +124,7 @@ how_ends g v h a (Drop s) t r run al e m =
     final_of_some None = Canceled
     final_of_some (Some q) = q.final
 how_ends g v h a (Leave s) t r run al e m =
-    let parts = and_split (nat_eq s.0 t) (all_over (attached g t) (started g v h) (ending g v h)) e in
+    let parts = and_parts (nat_eq s.0 t) (all_over (attached g t) (started g v h) (ending g v h)) e in
     let same = same_number s.0 t parts.0 in
     let running = subst (λ z. IsRunning g v h a z) same al.0 in
     leaves running.task (body_ends r m (running_facts g v h a t running).2 parts.1 (inr (subst (λ z. is_some (outcome_in (rest g v h z)) ≡ true) same al.1)))

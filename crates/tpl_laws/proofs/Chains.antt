@@ -1,5 +1,7 @@
 -- A chain leads to a task that observes the exception.
 use Rattle.std.proofs.Common.{◌≡◌, ℕ, ◌⊎◌, inl, inr, Bool, true, false, if◌then◌else◌, Option, Some, None, List, [], ◌∷◌, refl, sym, ap, ◌∙◌, subst, is_some}
+use Rattle.std.proofs.lemmas.Bool.{cases_Bool}
+use Rattle.tpl_words.proofs.Truths.{true_false}
 use Rattle.tpl_words.specs.declared.finals.Final.{Final}
 use Rattle.tpl_words.specs.Options.{allows}
 use Rattle.tpl_words.specs.declared.status.Label.{Label}
@@ -11,9 +13,9 @@ use Rattle.tpl_words.specs.declared.status.Actor.{Actor}
 use Rattle.tpl_model.specs.declared.event.Act.{Act}
 use Rattle.tpl_model.specs.declared.event.Act.TheVariants.{Request, Release, Begin, Step, Worked, Leave, Close, Drop, Settle}
 use Rattle.tpl_model.specs.declared.event.Event.{Event}
-use Rattle.tpl_model.specs.Facts.{Rest, Ending, on, over, begun, begun_by, released, released_by, left_body, left_by, requests, starts_by, ends_by, ending_by, rest_after, step_of, stepped, worked, final_in, winner_of, all_over, rest, requested, started, ending, is_start, is_cancel, subject_in, subject_of, has_final, first_ended, earlier, place_in, ended_at_once, carried_in, gathered, own_atom, those_started, outcome_in, outcome_of, body_final, all_final, worse, settled_as, body_over, is_observe}
+use Rattle.tpl_model.specs.Facts.{Ending, on, over, begun, begun_by, ends_by, rest, requested, started, ending, ended_at_once, carried_in, own_atom, those_started, outcome_in, settled_as}
 use Rattle.tpl_model.specs.Rules.{final, IsRunning, MayDrop, MayNotStart, MayCancel, Allows, Run, can_settle, all_ended, ended, token_requested, token_requested_by, Complete, to_end}
-use Rattle.tpl_laws.proofs.Basics.{true_false, decide, some_none, the_some, is_some_of, mem_here}
+use Rattle.tpl_laws.proofs.Basics.{some_none, the_some, is_some_of, mem_here}
 use Rattle.tpl_laws.proofs.Kept.{after, not_some, running_facts, drop_facts, ending_new, ending_kept, final_kept, requested_kept, started_kept, begun_kept}
 use Rattle.tpl_model.specs.Valid.{IsGraph}
 use Rattle.tpl_laws.proofs.Execution.{passed, started_parent}
@@ -47,7 +49,7 @@ none_of A (Some x) n = absurd (n refl)
 -- a body that threw had begun
 pub threw_begun : (g : TaskGraph) (v : List Bool) (h : List Event) (t : ℕ) (lb : Label) → Run g v h → outcome_in (rest g v h t) ≡ Some (Threw lb) → is_some (begun h t) ≡ true
 threw_begun g v h t lb run e =
-    elim (decide (is_some (begun h t))) [
+    elim (cases_Bool (is_some (begun h t))) [
       | inl b ↦ b
       | inr b ↦ absurd (whole (body g t) (sym (ap outcome_in (unbegun_rest g v h t run (not_some (begun h t) b)).0) ∙ e))
     ]

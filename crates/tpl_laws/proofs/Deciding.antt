@@ -1,24 +1,20 @@
 -- Tests that decide statements.
 use Rattle.std.proofs.Common.{◌≡◌, ℕ, ◌⊎◌, inl, inr, ◌&&◌, ◌||◌, not, Bool, true, false, List, [], ◌∷◌, refl, sym, subst, nat_eq}
+use Rattle.std.proofs.lemmas.Bool.{and_parts, and_from as and_join, or_cases as or_split, or_left, or_right}
+use Rattle.tpl_words.proofs.MemberLemmas.{same_self, mem_there, mem_split}
+use Rattle.tpl_words.proofs.Truths.{true_false}
 use Rattle.tpl_words.specs.declared.finals.Final.{Final}
 use Rattle.tpl_words.specs.declared.finals.Final.TheVariants.{RanToCompletion, Canceled, Faulted}
 use Rattle.tpl_words.specs.Finals.{is_final}
 use Rattle.tpl_words.specs.Members.{mem}
 use Rattle.tpl_model.specs.Graph.{some_in}
-use Rattle.tpl_laws.proofs.Basics.{true_false, and_split, and_join, or_split, or_left, or_right, same_number, same_self, final_same, final_self, mem_here, mem_there, mem_split}
+use Rattle.tpl_laws.proofs.Basics.{same_number, final_same, final_self, mem_here}
 use Rattle.tpl_laws.specs.RowTests.{implies, all_in, each_end, some_end}
 
 -- the test is true just where the statement is
 pub record Decides (b : Bool) (P : Type 0) : Type 0 where
   pub finds : b ≡ true → P
   pub found : P → b ≡ true
-
-pub itself : (b : Bool) → Decides b (b ≡ true)
-itself b = record { finds = λ e. e; found = λ e. e }
-
-pub opposite : (b : Bool) → Decides (not b) (b ≡ false)
-opposite true = record { finds = λ e. true_false (sym e); found = λ e. true_false e }
-opposite false = record { finds = λ e. refl; found = λ e. refl }
 
 pub denied : (P : Type 0) (b : Bool) → Decides b P → Decides (not b) (P → ⊥)
 denied P true d = record { finds = λ e. true_false (sym e); found = λ f. absurd (f (d.finds refl)) }
@@ -32,7 +28,7 @@ same_end e f = record { finds = final_same e f; found = λ q. subst (λ z. is_fi
 
 pub both : (P Q : Type 0) (a b : Bool) → Decides a P → Decides b Q → Decides (a && b) (P × Q)
 both P Q a b p q = record {
-  finds = λ e. let s = and_split a b e in (p.finds s.0, q.finds s.1);
+  finds = λ e. let s = and_parts a b e in (p.finds s.0, q.finds s.1);
   found = λ e. and_join a b (p.found e.0) (q.found e.1);
 }
 
@@ -59,8 +55,8 @@ by_end P a b c Faulted = c
 pub at_each_end : (P : Final → Type 0) (q : Final → Bool) → ((f : Final) → Decides (q f) (P f)) → Decides (each_end q) ((f : Final) → P f)
 at_each_end P q d = record {
   finds = λ e.
-      let s = and_split (q RanToCompletion) (q Canceled && q Faulted) e in
-      let r = and_split (q Canceled) (q Faulted) s.1 in
+      let s = and_parts (q RanToCompletion) (q Canceled && q Faulted) e in
+      let r = and_parts (q Canceled) (q Faulted) s.1 in
       by_end P ((d RanToCompletion).finds s.0) ((d Canceled).finds r.0) ((d Faulted).finds r.1);
   found = λ f.
       and_join (q RanToCompletion) (q Canceled && q Faulted) ((d RanToCompletion).found (f RanToCompletion))
@@ -92,7 +88,7 @@ of_all P q xs d = record { finds = to xs; found = from xs }
     to : (ys : List ℕ) → all_in q ys ≡ true → (x : ℕ) → mem x ys ≡ true → P x
     to [] e x m = true_false (sym m)
     to (y ∷ ys) e x m =
-        let s = and_split (q y) (all_in q ys) e in
+        let s = and_parts (q y) (all_in q ys) e in
         elim (mem_split x y ys m) [ inl a ↦ subst P (sym a) ((d y).finds s.0) | inr b ↦ to ys s.1 x b ]
 
     from : (ys : List ℕ) → ((x : ℕ) → mem x ys ≡ true → P x) → all_in q ys ≡ true

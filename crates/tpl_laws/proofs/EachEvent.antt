@@ -14,7 +14,7 @@ use Rattle.tpl_model.specs.declared.event.Event.{Event}
 use Rattle.tpl_model.specs.Facts.{Ending, begun, final_in, rest, started, ending, ended_at_once, carried_in, gathered, own_atom, those_started, outcome_in, body_final, all_final, worse, settled_as}
 use Rattle.tpl_model.specs.Rules.{final, MayDrop, MayNotStart, MayCancel, Allows, Run, some_ended, can_settle, all_ended, Settled, ended}
 use Rattle.tpl_script.specs.Paths.{Path, MayThrow}
-use Rattle.tpl_laws.proofs.Basics.{true_false, decide, and_split, or_split, if_false, some_none, the_some, is_some_of, same_number, mem_split, mem_here, mem_there}
+use Rattle.tpl_laws.proofs.Basics.{if_false, some_none, the_some, is_some_of, same_number, mem_here}
 use Rattle.tpl_laws.proofs.Kept.{after, ending_new, final_of}
 use Rattle.tpl_words.specs.Options.{lazy_cancellation}
 use Rattle.tpl_model.specs.Valid.{IsGraph}
@@ -23,9 +23,11 @@ use Rattle.tpl_laws.proofs.Execution.{passed, StartedBy, started_parent}
 use Rattle.tpl_laws.proofs.Ready.{Ready, begun_ready, waiting_ready, IsBody, begun_body}
 use Rattle.tpl_laws.proofs.Follows.{follows}
 use Rattle.tpl_laws.proofs.Settling.{no_task, child_rules, has_subject_of, attached_child, settled_kept, below_settled}
-use Rattle.tpl_laws.proofs.Carrying.{Ends, drops, leaves, settled, BodyEnds, how_ends, carries_faulted, gathered_from, those_mem, gathered_keeps}
+use Rattle.tpl_laws.proofs.Carrying.{Ends, drops, leaves, settled, BodyEnds, how_ends, carries_faulted, gathered_from, those_mem, gathered_keeps, carried_some}
 use Rattle.tpl_laws.proofs.RowsAreTrue.{Now, AreTrue, left_verdict, verdict_path, view_fits, starts_on_path, ready_runs, ready_before, requested_loud, agrees_before, some_eq}
-use Rattle.std.proofs.lemmas.Bool.{cases_lt}
+use Rattle.std.proofs.lemmas.Bool.{cases_lt, cases_Bool, and_parts, or_cases}
+use Rattle.tpl_words.proofs.MemberLemmas.{mem_split, mem_there}
+use Rattle.tpl_words.proofs.Truths.{true_false}
 
 -- what the ends of the arguments are, by the status of WhenAll
 abbrev pub AllIs : List ℕ → (ℕ → Option Ending) → Final → Type 0
@@ -42,13 +44,13 @@ end_of (Some r) e = (r.final, refl)
 pub all_ended_mem : (args : List ℕ) (en : ℕ → Option Ending) (x : ℕ) → all_ended args en ≡ true → mem x args ≡ true → is_some (en x) ≡ true
 all_ended_mem [] en x e m = true_false (sym m)
 all_ended_mem (y ∷ args) en x e m =
-    let both = and_split (is_some (en y)) (all_ended args en) e in
+    let both = and_parts (is_some (en y)) (all_ended args en) e in
     elim (mem_split x y args m) [ inl q ↦ subst (λ z. is_some (en z) ≡ true) (sym q) both.0 | inr q ↦ all_ended_mem args en x both.1 q ]
 
 pub some_ended_mem : (args : List ℕ) (en : ℕ → Option Ending) → some_ended args en ≡ true → (x : ℕ) × (mem x args ≡ true) × (is_some (en x) ≡ true)
 some_ended_mem [] en e = true_false (sym e)
 some_ended_mem (y ∷ args) en e =
-    elim (or_split (is_some (en y)) (some_ended args en) e) [
+    elim (or_cases (is_some (en y)) (some_ended args en) e) [
       | inl q ↦ (y, mem_here y y args refl, q)
       | inr q ↦ let w = some_ended_mem args en q in (w.0, mem_there w.0 y args w.1, w.2)
     ]
@@ -70,7 +72,7 @@ all_step y args en RanToCompletion Faulted p w = (w.0, mem_there w.0 y args w.1,
 all_is : (args : List ℕ) (en : ℕ → Option Ending) → all_ended args en ≡ true → AllIs args en (all_final args en)
 all_is [] en e = λ x m. true_false (sym m)
 all_is (y ∷ args) en e =
-    let both = and_split (is_some (en y)) (all_ended args en) e in
+    let both = and_parts (is_some (en y)) (all_ended args en) e in
     let o = end_of (en y) both.0 in
     subst (λ z. AllIs (y ∷ args) en (worse z (all_final args en))) (sym o.1) (all_step y args en o.0 (all_final args en) o.1 (all_is args en both.1))
 
@@ -115,10 +117,6 @@ drop_may g l rows v h t now i d =
     not_starts Child m = absurd m
     not_starts (WhenAll args) m = absurd m
     not_starts (WhenAny args) m = absurd m
-
-carried_some : (x : ℕ) (o : Option Ending) → mem x (carried_in o) ≡ true → (r : Ending) × (o ≡ Some r) × (mem x r.carried ≡ true)
-carried_some x None m = true_false (sym m)
-carried_some x (Some r) m = (r, refl, m)
 
 -- a body that is over may end its task so by its leaf
 body_may : (g : TaskGraph) (l : Assumed) (rows : List Row) (v : List Bool) (h : List Event) (t : ℕ) (r : Ending) → Now g l rows v h → BodyEnds g v h t r → BodyMayEnd g l rows t r.final
@@ -294,7 +292,7 @@ event_keeps g l rows v h a x now al ag = record {
 
     begins : (t : ℕ) (act : Act) → Allows g v h a act → is_some (begun (after a act h) t) ≡ true → ((is_some (begun h t) ≡ true) ⊎ (is_task g t × Ready g v h t (kind g t)))
     begins t (Begin s) al2 b =
-        elim (decide (nat_eq s.0 t)) [
+        elim (cases_Bool (nat_eq s.0 t)) [
           | inl q ↦ let same = same_number s.0 t q in inr (subst (λ z. is_task g z) same al2.0, subst (λ z. Ready g v h z (kind g z)) same (waiting_ready g v h s.0 now.run al2.1))
           | inr q ↦ inl (subst (λ z. is_some z ≡ true) (if_false (nat_eq s.0 t) (Some a) (begun h t) q) b)
         ]

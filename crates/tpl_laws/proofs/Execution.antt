@@ -1,5 +1,8 @@
 -- Each real execution of a body is one of its paths.
 use Rattle.std.proofs.Common.{◌≡◌, ℕ, ◌++◌, ◌&&◌, ◌⊎◌, inl, inr, Bool, true, false, if◌then◌else◌, Option, List, [], ◌∷◌, refl, sym, subst, nat_eq, is_some, slice_index_or}
+use Rattle.std.proofs.lemmas.Bool.{and_parts, and_from, or_cases, or_left, or_right}
+use Rattle.tpl_words.proofs.MemberLemmas.{same_self, mem_append, mem_left, mem_right}
+use Rattle.tpl_words.proofs.Truths.{true_false}
 use Rattle.tpl_words.specs.declared.finals.Final.{Final}
 use Rattle.tpl_words.specs.Members.{mem}
 use Rattle.tpl_script.specs.Statements.{Statement, Return, Throw, Check, Cancel, Start, Observe, Work, If, When, Statements, Nothing, ◌⨾◌, followed_by, starts, starts_of, reads_nothing}
@@ -14,7 +17,7 @@ use Rattle.tpl_model.specs.Facts.{Rest, Ending, on, over, begun, starts_by, rest
 use Rattle.tpl_script.specs.Paths.{cancellation, is_start_of, passes_start}
 use Rattle.tpl_model.specs.Rules.{Allows, Run}
 use Rattle.tpl_script.specs.Statements.{reads_nothing_in}
-use Rattle.tpl_laws.proofs.Basics.{true_false, and_split, and_join, or_split, or_left, or_right, if_true, same_number, same_self, mem_append, mem_left, mem_right}
+use Rattle.tpl_laws.proofs.Basics.{if_true, same_number}
 use Rattle.tpl_laws.proofs.Kept.{after, running_facts, begun_kept}
 
 -- the statements that t has passed, the last one first
@@ -113,15 +116,15 @@ starts_kept c whole = record {
 nothing_ahead : (a more : Statements) → reads_nothing a ≡ true → reads_nothing more ≡ true → reads_nothing (followed_by a more) ≡ true
 nothing_ahead Nothing more p q = q
 nothing_ahead (s ⨾ a) more p q =
-    let both = and_split (reads_nothing_in s) (reads_nothing a) p in
-    and_join (reads_nothing_in s) (reads_nothing (followed_by a more)) both.0 (nothing_ahead a more both.1 q)
+    let both = and_parts (reads_nothing_in s) (reads_nothing a) p in
+    and_from (reads_nothing_in s) (reads_nothing (followed_by a more)) both.0 (nothing_ahead a more both.1 q)
 
 nothing_kept : IsKept (λ left. reads_nothing left ≡ true)
 nothing_kept = record {
   empty = refl;
-  tail = λ s more q. (and_split (reads_nothing_in s) (reads_nothing more) q).1;
-  first_if = λ i a b more q. let p = and_split (reads_nothing a && reads_nothing b) (reads_nothing more) q in nothing_ahead a more (and_split (reads_nothing a) (reads_nothing b) p.0).0 p.1;
-  second_if = λ i a b more q. let p = and_split (reads_nothing a && reads_nothing b) (reads_nothing more) q in nothing_ahead b more (and_split (reads_nothing a) (reads_nothing b) p.0).1 p.1;
+  tail = λ s more q. (and_parts (reads_nothing_in s) (reads_nothing more) q).1;
+  first_if = λ i a b more q. let p = and_parts (reads_nothing a && reads_nothing b) (reads_nothing more) q in nothing_ahead a more (and_parts (reads_nothing a) (reads_nothing b) p.0).0 p.1;
+  second_if = λ i a b more q. let p = and_parts (reads_nothing a && reads_nothing b) (reads_nothing more) q in nothing_ahead b more (and_parts (reads_nothing a) (reads_nothing b) p.0).1 p.1;
   first_when = λ f a b more q. true_false (sym q);
   second_when = λ f a b more q. true_false (sym q);
 }
@@ -182,7 +185,7 @@ pub record StartedBy (g : TaskGraph) (v : List Bool) (h : List Event) (c p : ℕ
 pub started_parent : (g : TaskGraph) (v : List Bool) (h : List Event) (c : ℕ) → Run g v h → started g v h c ≡ true → (p : ℕ) × StartedBy g v h c p
 started_parent g v [] c run e = true_false (sym e)
 started_parent g v (e ∷ h) c run s =
-    elim (or_split (starts_by c e.act (rest g v h)) (started g v h c) s) [
+    elim (or_cases (starts_by c e.act (rest g v h)) (started g v h c) s) [
       | inl now ↦ here e.actor e.act run.1 now
       | inr old ↦ kept (started_parent g v h c run.0 old)
     ]

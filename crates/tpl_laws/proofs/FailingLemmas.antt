@@ -2,6 +2,9 @@
 use Rattle.std.proofs.Common.{◌≡◌, ℕ, suc, ◌<◌, ◌≤◌, ◌++◌, ◌&&◌, ◌||◌, inl, inr, not, Bool, true, false, if◌then◌else◌, Option, Some, None, List, [], ◌∷◌, refl, sym, ap, ◌∙◌, subst, nat_eq, is_some, length, arith}
 use Rattle.std.specs.Prelude.{IfSome, nat_le}
 use Rattle.std.proofs.lemmas.Bool.Decides.{nat_tests}
+use Rattle.std.proofs.lemmas.Bool.{and_parts, or_cases, or_left, or_right, not-true, not-false}
+use Rattle.tpl_words.proofs.MemberLemmas.{same_self}
+use Rattle.tpl_words.proofs.Truths.{true_false}
 use Rattle.tpl_words.specs.declared.ids.TokenId.{TokenId}
 use Rattle.tpl_words.specs.declared.finals.Finals.{Finals}
 use Rattle.tpl_words.specs.declared.status.Status.TheVariants.{WaitingToRun, WaitingForActivation}
@@ -22,7 +25,7 @@ use Rattle.tpl_laws.specs.RowTests.{implies}
 use Rattle.tpl_laws.specs.Allowed.{is_settled, is_complete, is_given, settled_at_begin, ends_within, holds_of}
 use Rattle.tpl_laws.specs.Failing.{is_at, IsFrom, began_at, place_of, later_of, or_now, lost_at, fails_from, is_broken, unless_broken, first_failure, FailureIsTold, OnlyRequests, StaysComplete, CompleteIsNoted, RequestIsNoted}
 use Rattle.tpl_laws.specs.Runs.{gives_quiet}
-use Rattle.tpl_laws.proofs.Basics.{true_false, and_split, or_split, or_left, or_right, same_self, the_some, not_true, not_false}
+use Rattle.tpl_laws.proofs.Basics.{the_some}
 use Rattle.tpl_laws.proofs.Kept.{after, running_facts, waiting_facts, close_facts, not_some}
 use Rattle.tpl_laws.proofs.Ready.{Ready, waiting_ready, begun_ready, left_begun}
 use Rattle.tpl_laws.proofs.Prefixes.{nothing_goes_back_lem}
@@ -327,7 +330,7 @@ module _ (g : TaskGraph) (v : List Bool) (later before : List Event) (run : Run 
 
   both_then : (a b : ℕ) → is_some (begun before a) && is_some (begun before b) ≡ true → is_some (begun (later ++ before) a) && is_some (begun (later ++ before) b) ≡ true
   both_then a b e =
-      let two = and_split (is_some (begun before a)) (is_some (begun before b)) e in
+      let two = and_parts (is_some (begun before a)) (is_some (begun before b)) e in
       ap (λ z. z && is_some (begun (later ++ before) b)) (begun_still g v later before a run two.0) ∙ begun_still g v later before b run two.1
 
   fails_both : (a b : ℕ) → not (not (is_some (begun before a) && is_some (begun before b))) ≡ is_at (if not (is_some (begun (later ++ before) a) && is_some (begun (later ++ before) b)) then None else later_of (began_at (later ++ before) a) (began_at (later ++ before) b)) (length before)
@@ -385,12 +388,12 @@ broken_each g v before asked (Quiet k ∷ given) each =
 still_broken : (v : List Bool) (asked : ℕ → Option ℕ) (given : List Given) (n m : ℕ) → n ≤ m → is_broken v asked given n ≡ true → is_broken v asked given m ≡ true
 still_broken v asked [] n m le e = e
 still_broken v asked (Input i value ∷ given) n m le e =
-    elim (or_split (not (same (input v i.0) value)) (is_broken v asked given n) e) [
+    elim (or_cases (not (same (input v i.0) value)) (is_broken v asked given n) e) [
       | inl now ↦ or_left (not (same (input v i.0) value)) (is_broken v asked given m) now
       | inr rest ↦ or_right (not (same (input v i.0) value)) (is_broken v asked given m) (still_broken v asked given n m le rest)
     ]
 still_broken v asked (Quiet k ∷ given) n m le e =
-    elim (or_split (is_at (asked k.0) n) (is_broken v asked given n) e) [
+    elim (or_cases (is_at (asked k.0) n) (is_broken v asked given n) e) [
       | inl now ↦ or_left (is_at (asked k.0) m) (is_broken v asked given m) (still_at (asked k.0) n m le now)
       | inr rest ↦ or_right (is_at (asked k.0) m) (is_broken v asked given m) (still_broken v asked given n m le rest)
     ]
@@ -402,7 +405,7 @@ record Told (first : Option ℕ) (n : ℕ) (given of_it : Bool) : Type 0 where
   fails : first ≡ Some n → implies given of_it ≡ false
 
 told : (fails : Option ℕ) (broken : ℕ → Bool) (n : ℕ) (given of_it : Bool) → ((p q : ℕ) → p ≤ q → broken p ≡ true → broken q ≡ true) → not of_it ≡ is_at fails n → given ≡ not (broken n) → Told (unless_broken fails broken) n given of_it
-told None broken n given of_it stays f b = record { holds = λ e. kept (not_false of_it f); fails = λ e. true_false (sym (ap is_some e)) }
+told None broken n given of_it stays f b = record { holds = λ e. kept (not-false of_it f); fails = λ e. true_false (sym (ap is_some e)) }
   where
     kept : of_it ≡ true → implies given of_it ≡ true
     kept e = here given
@@ -417,7 +420,7 @@ told (Some p) broken n given of_it stays f b = by_break (broken p) refl
     kept e false = refl
 
     not_there : nat_le p n ≡ false → implies given of_it ≡ true
-    not_there e = kept (not_false of_it (f ∙ e)) given
+    not_there e = kept (not-false of_it (f ∙ e)) given
 
     by_break : (z : Bool) → broken p ≡ z → Told (if z then None else Some p) n given of_it
     by_break true gone_there = record { holds = λ e. at_it (nat_le p n) refl; fails = λ e. true_false (sym (ap is_some e)) }
@@ -431,7 +434,7 @@ told (Some p) broken n given of_it stays f b = by_break (broken p) refl
       holds = not_there;
       fails = λ e.
           let same_place : p ≡ n = cc in
-          let lost_it : of_it ≡ false = not_true of_it (f ∙ reached p n (omega arith)) in
+          let lost_it : of_it ≡ false = not-true of_it (f ∙ reached p n (omega arith)) in
           let still : given ≡ true = b ∙ ap (λ z. not (broken z)) (sym same_place) ∙ ap not whole in
           ap (λ z. implies z of_it) still ∙ lost_it;
     }

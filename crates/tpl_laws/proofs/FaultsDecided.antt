@@ -1,13 +1,13 @@
 -- There is no fault just where a certificate is accepted.
 use Rattle.std.proofs.Common.{◌≡◌, ℕ, zero, suc, ◌+◌, ◌<◌, ◌≤◌, inl, inr, ◌&&◌, Bool, true, false, Option, Some, None, Ok, List, [], ◌∷◌, refl, sym, ap, subst, arith, length, nat_eq, nat_lt}
-use Rattle.std.proofs.lemmas.Bool.{cases_lt, ltb-true, lt-ltb}
+use Rattle.std.proofs.lemmas.Bool.{cases_lt, ltb-true, lt-ltb, and_parts, and_from}
+use Rattle.tpl_words.proofs.Truths.{true_false}
 use Rattle.tpl_words.specs.declared.finals.Final.TheVariants.{RanToCompletion, Canceled, Faulted}
 use Rattle.tpl_model.specs.Graph.{TaskGraph, kind, is_task}
 use Rattle.tpl_model.specs.Valid.{IsGraph}
 use Rattle.tpl_model.specs.declared.claim.Property.{Property}
 use Rattle.tpl_model.specs.Claims.{Claim}
 use Rattle.tpl_model.specs.Certificate.{Row, Tree, SplitInput, SplitEnd, Leaf, Assumed, assumed, with_input, with_end, IsClosed, Closed, Proves, AllTasks, IdsOfRows, AcceptsTree, Accepts}
-use Rattle.tpl_laws.proofs.Basics.{true_false, and_split, and_join}
 use Rattle.tpl_laws.specs.RowTests.{runs, ends, before, past, chain, proves}
 use Rattle.tpl_model.specs.declared.fault.Rule.{Rule}
 use Rattle.tpl_model.specs.declared.fault.Rule.TheVariants.{K1, K2, K3, K6}
@@ -150,32 +150,32 @@ module _ (paths : PathLaws) where
   -- a tree that fits and has no fault is accepted, and an accepted one fits and has none
   pub tree_accepted : (g : TaskGraph) (p : Property) (c : ℕ) → IsGraph g → (l : Assumed) (n : ℕ) (tree : Tree) → fits g tree ≡ true → tree_fault g p c l n tree ≡ None → AcceptsTree g p l tree
   tree_accepted g p c valid l n (SplitInput i a b) f e =
-      let s = and_split (nat_lt i g.inputs) (fits g a && fits g b) f in
-      let r = and_split (fits g a) (fits g b) s.1 in
+      let s = and_parts (nat_lt i g.inputs) (fits g a && fits g b) f in
+      let r = and_parts (fits g a) (fits g b) s.1 in
       let q = none_first (tree_fault g p c (with_input l i true) n a) (tree_fault g p c (with_input l i false) (n + leaves a) b) e in
       (ltb-true i g.inputs s.0, tree_accepted g p c valid (with_input l i true) n a r.0 q.0, tree_accepted g p c valid (with_input l i false) (n + leaves a) b r.1 q.1)
   tree_accepted g p c valid l n (SplitEnd t a b d) f e =
-      let s = and_split (nat_lt t (length g.tasks)) (fits g a && (fits g b && fits g d)) f in
-      let r = and_split (fits g a) (fits g b && fits g d) s.1 in
-      let u = and_split (fits g b) (fits g d) r.1 in
+      let s = and_parts (nat_lt t (length g.tasks)) (fits g a && (fits g b && fits g d)) f in
+      let r = and_parts (fits g a) (fits g b && fits g d) s.1 in
+      let u = and_parts (fits g b) (fits g d) r.1 in
       let q = none_first (tree_fault g p c (with_end l t RanToCompletion) n a) (or_else (tree_fault g p c (with_end l t Canceled) (n + leaves a) b) (tree_fault g p c (with_end l t Faulted) (n + leaves a + leaves b) d)) e in
       let w = none_first (tree_fault g p c (with_end l t Canceled) (n + leaves a) b) (tree_fault g p c (with_end l t Faulted) (n + leaves a + leaves b) d) q.1 in
       (ltb-true t (length g.tasks) s.0, tree_accepted g p c valid (with_end l t RanToCompletion) n a r.0 q.0, tree_accepted g p c valid (with_end l t Canceled) (n + leaves a) b u.0 w.0, tree_accepted g p c valid (with_end l t Faulted) (n + leaves a + leaves b) d u.1 w.1)
   tree_accepted g p c valid l n (Leaf rows) f e =
-      let s = and_split (nat_eq (length rows) (length g.tasks)) (rows_fit g rows) f in
+      let s = and_parts (nat_eq (length rows) (length g.tasks)) (rows_fit g rows) f in
       let q = (clear_leaf c n (Closed g l rows × (Proves g l rows p × Unit {0})) (leaf_fault g p l rows) (leaf_decided g p l rows valid)).finds e in
       ((same (length rows) (length g.tasks)).finds s.0, (rows_decided g rows).finds s.1, q.0, q.1.0)
 
   pub accepted_fits : (g : TaskGraph) (p : Property) (l : Assumed) (tree : Tree) → AcceptsTree g p l tree → fits g tree ≡ true
   accepted_fits g p l (SplitInput i a b) e =
-      and_join (nat_lt i g.inputs) (fits g a && fits g b) (lt-ltb i g.inputs e.0)
-      (and_join (fits g a) (fits g b) (accepted_fits g p (with_input l i true) a e.1) (accepted_fits g p (with_input l i false) b e.2))
+      and_from (nat_lt i g.inputs) (fits g a && fits g b) (lt-ltb i g.inputs e.0)
+      (and_from (fits g a) (fits g b) (accepted_fits g p (with_input l i true) a e.1) (accepted_fits g p (with_input l i false) b e.2))
   accepted_fits g p l (SplitEnd t a b d) e =
-      and_join (nat_lt t (length g.tasks)) (fits g a && (fits g b && fits g d)) (lt-ltb t (length g.tasks) e.0)
-      (and_join (fits g a) (fits g b && fits g d) (accepted_fits g p (with_end l t RanToCompletion) a e.1)
-      (and_join (fits g b) (fits g d) (accepted_fits g p (with_end l t Canceled) b e.2) (accepted_fits g p (with_end l t Faulted) d e.3)))
+      and_from (nat_lt t (length g.tasks)) (fits g a && (fits g b && fits g d)) (lt-ltb t (length g.tasks) e.0)
+      (and_from (fits g a) (fits g b && fits g d) (accepted_fits g p (with_end l t RanToCompletion) a e.1)
+      (and_from (fits g b) (fits g d) (accepted_fits g p (with_end l t Canceled) b e.2) (accepted_fits g p (with_end l t Faulted) d e.3)))
   accepted_fits g p l (Leaf rows) e =
-      and_join (nat_eq (length rows) (length g.tasks)) (rows_fit g rows) ((same (length rows) (length g.tasks)).found e.0) ((rows_decided g rows).found e.1)
+      and_from (nat_eq (length rows) (length g.tasks)) (rows_fit g rows) ((same (length rows) (length g.tasks)).found e.0) ((rows_decided g rows).found e.1)
 
   no_two : (x y : Option CertFault) → x ≡ None → y ≡ None → or_else x y ≡ None
   no_two None y p q = q

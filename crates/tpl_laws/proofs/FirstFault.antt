@@ -1,13 +1,13 @@
 -- The first fault is what it says.
 use Rattle.std.proofs.Common.{◌≡◌, ℕ, zero, suc, ◌+◌, ◌<◌, ◌≤◌, ◌⊎◌, inl, inr, ◌&&◌, ◌++◌, Bool, true, false, Option, Some, None, Err, List, [], ◌∷◌, refl, sym, ap, ◌∙◌, subst, arith, length, nat_eq, nat_lt, append_assoc, length-append}
-use Rattle.std.proofs.lemmas.Bool.{cases_lt}
+use Rattle.std.proofs.lemmas.Bool.{cases_lt, and_parts, and_from}
+use Rattle.tpl_words.proofs.Truths.{true_false}
 use Rattle.tpl_words.specs.declared.finals.Final.TheVariants.{RanToCompletion, Canceled, Faulted}
 use Rattle.tpl_model.specs.Graph.{TaskGraph, TaskKind, Root, Child, Continues, WhenAll, WhenAny, kind}
 use Rattle.tpl_model.specs.Valid.{IsGraph}
 use Rattle.tpl_model.specs.declared.claim.Property.{Property}
 use Rattle.tpl_model.specs.Claims.{Claim}
 use Rattle.tpl_model.specs.Certificate.{Row, Tree, SplitInput, SplitEnd, Leaf, Assumed, assumed, with_input, with_end, IsClosed, Closed, Proves, IdsOfRows}
-use Rattle.tpl_laws.proofs.Basics.{true_false, and_split, and_join}
 use Rattle.tpl_laws.specs.RowTests.{runs, ends, before, past, chain, proves}
 use Rattle.tpl_model.specs.declared.fault.Rule.{Rule}
 use Rattle.tpl_model.specs.declared.fault.Rule.TheVariants.{K1, K2, K3, K4, K5, K6}
@@ -260,8 +260,8 @@ module _ (paths : PathLaws) where
       let y = shape_decided g b in
       let z = below_decided paths i g.inputs in
       record {
-        finds = λ e. let s = and_split (nat_lt i g.inputs) (fits g a && fits g b) e in let r = and_split (fits g a) (fits g b) s.1 in (z.finds s.0, x.finds r.0, y.finds r.1);
-        found = λ e. and_join (nat_lt i g.inputs) (fits g a && fits g b) (z.found e.0) (and_join (fits g a) (fits g b) (x.found e.1) (y.found e.2));
+        finds = λ e. let s = and_parts (nat_lt i g.inputs) (fits g a && fits g b) e in let r = and_parts (fits g a) (fits g b) s.1 in (z.finds s.0, x.finds r.0, y.finds r.1);
+        found = λ e. and_from (nat_lt i g.inputs) (fits g a && fits g b) (z.found e.0) (and_from (fits g a) (fits g b) (x.found e.1) (y.found e.2));
       }
   shape_decided g (SplitEnd t a b d) =
       let x = shape_decided g a in
@@ -270,11 +270,11 @@ module _ (paths : PathLaws) where
       let z = below_decided paths t (length g.tasks) in
       record {
         finds = λ e.
-            let s = and_split (nat_lt t (length g.tasks)) (fits g a && (fits g b && fits g d)) e in
-            let r = and_split (fits g a) (fits g b && fits g d) s.1 in
-            let u = and_split (fits g b) (fits g d) r.1 in
+            let s = and_parts (nat_lt t (length g.tasks)) (fits g a && (fits g b && fits g d)) e in
+            let r = and_parts (fits g a) (fits g b && fits g d) s.1 in
+            let u = and_parts (fits g b) (fits g d) r.1 in
             (z.finds s.0, x.finds r.0, y.finds u.0, w.finds u.1);
-        found = λ e. and_join (nat_lt t (length g.tasks)) (fits g a && (fits g b && fits g d)) (z.found e.0) (and_join (fits g a) (fits g b && fits g d) (x.found e.1) (and_join (fits g b) (fits g d) (y.found e.2) (w.found e.3)));
+        found = λ e. and_from (nat_lt t (length g.tasks)) (fits g a && (fits g b && fits g d)) (z.found e.0) (and_from (fits g a) (fits g b && fits g d) (x.found e.1) (and_from (fits g b) (fits g d) (y.found e.2) (w.found e.3)));
       }
   shape_decided g (Leaf rows) =
       both (length rows ≡ length g.tasks) (IdsOfRows g rows) (nat_eq (length rows) (length g.tasks)) (rows_fit g rows) (same (length rows) (length g.tasks)) (rows_decided paths g rows)

@@ -16,11 +16,14 @@ use Rattle.tpl_script.specs.Paths.{cancellation, Known, Passes, EndsPassing}
 use Rattle.tpl_model.specs.Rules.{final, subject, MayStart, Allows, Run, steps, works}
 use Rattle.tpl_model.specs.Claims.{input}
 use Rattle.tpl_model.specs.Valid.{HasSubject}
-use Rattle.tpl_laws.proofs.Basics.{true_false, or_left, some_none, same_number, same_self, final_same}
+use Rattle.tpl_laws.proofs.Basics.{some_none, same_number, final_same}
 use Rattle.tpl_laws.proofs.Kept.{id, after, not_some, running_facts, ending_kept, final_kept, requested_kept, final_of}
 use Rattle.tpl_laws.proofs.Execution.{pushed, passed, reads_left}
 use Rattle.tpl_laws.proofs.Ready.{Ready, begun_ready, any_winner}
 use Rattle.std.proofs.Common.{◌≡◌, ℕ, ◌⊎◌, inl, inr, Bool, true, false, if◌then◌else◌, Option, Some, None, List, [], ◌∷◌, refl, sym, ap, ◌∙◌, subst, nat_eq, is_some, slice_index_or}
+use Rattle.std.proofs.lemmas.Bool.{or_left}
+use Rattle.tpl_words.proofs.MemberLemmas.{same_self}
+use Rattle.tpl_words.proofs.Truths.{true_false}
 
 -- the view's assumptions are true of a run so far
 pub record Fits (g : TaskGraph) (v : List Bool) (h : List Event) (t : ℕ) (w : Known) : Type 0 where

@@ -4,6 +4,7 @@ use Rattle.std.specs.Prelude.{Decides, count_by}
 use Rattle.std.proofs.lemmas.Bool.{cases_lt, eqb-true, eq-eqb}
 use Rattle.std.proofs.lemmas.Bool.Decides.{Decides-and, Decides-ltb, Decides-eqb, Decides-below_and, Decides-below_or, Decides-like}
 use Rattle.std.proofs.lemmas.List.Recursion.{is_count_by}
+use Rattle.tpl_laws.proofs.Deciding.{only_if}
 use Rattle.tpl_words.specs.Members.{mem}
 use Rattle.tpl_words.specs.Options.{has_bits, excludes_all, long_and_sync}
 use Rattle.tpl_script.specs.Statements.{Statement, Statements, Return, Throw, Check, Cancel, Start, Observe, Work, If, When, Nothing, ◌⨾◌, starts, reads_nothing}
@@ -14,7 +15,7 @@ use Rattle.tpl_laws.specs.RowTests.{implies, all_in}
 use Rattle.tpl_laws.specs.Allowed.{is_child, all_below}
 use Rattle.tpl_laws.proofs.AllowedDecided.{itself, denied, both3}
 use Rattle.tpl_laws.proofs.Settling.{beyond}
-use Rattle.tpl_laws.proofs.AllowedSettled.{of_child, implied}
+use Rattle.tpl_laws.proofs.AllowedSettled.{of_child}
 use Rattle.tpl_laws.specs.GraphTests.{at_most, some_below, has_ids, has_ids_within, has_own, are_before, is_linked, are_placed, is_placed, is_nothing, is_none, has_body, has_subject, is_parent, parent_before, started_once, same_parent, one_parent, starts_child, fits_body, fits_kind, fits_options, fits_children, is_right, once_each, within_limits, is_graph}
 
 -- the tests mean what the rules say
@@ -121,7 +122,7 @@ module _ (g : TaskGraph) (t : ℕ) where
   before_it : Decides (parent_before g t) (kind g t ≡ Child → (p : ℕ) × IsParent g p t × (p < t))
   before_it =
       let found = Decides-below_or (λ p. is_parent g p t) (λ p. IsParent g p t) (some_below (λ p. is_parent g p t)) (λ p. itself (is_parent g p t)) refl (λ _. refl) t in
-      implied (kind g t ≡ Child) ((p : ℕ) × IsParent g p t × (p < t)) (is_child (kind g t)) (some_below (λ p. is_parent g p t) t) (childhood (kind g t))
+      only_if (kind g t ≡ Child) ((p : ℕ) × IsParent g p t × (p < t)) (is_child (kind g t)) (some_below (λ p. is_parent g p t) t) (childhood (kind g t))
       (λ e. let x = found.0 e in (x.0, x.2, x.1), λ x. found.1 (x.0, x.2, x.1))
 
   once : Decides (started_once g t) ((p : ℕ) → count_by (nat_eq t) (starts (body g p)) ≤ 1)
@@ -131,9 +132,9 @@ module _ (g : TaskGraph) (t : ℕ) where
 
   others : (p : ℕ) → Decides (same_parent g t p) (IsParent g p t → (q : ℕ) → IsParent g q t → p ≡ q)
   others p =
-      implied (IsParent g p t) ((q : ℕ) → IsParent g q t → p ≡ q) (is_parent g p t) (all_below (λ q. implies (is_parent g q t) (nat_eq p q)) (length g.tasks)) (itself (is_parent g p t))
+      only_if (IsParent g p t) ((q : ℕ) → IsParent g q t → p ≡ q) (is_parent g p t) (all_below (λ q. implies (is_parent g q t) (nat_eq p q)) (length g.tasks)) (itself (is_parent g p t))
       (at_each g (λ q. IsParent g q t → p ≡ q) (λ q. implies (is_parent g q t) (nat_eq p q))
-      (λ q. implied (IsParent g q t) (p ≡ q) (is_parent g q t) (nat_eq p q) (itself (is_parent g q t)) (Decides-eqb p q))
+      (λ q. only_if (IsParent g q t) (p ≡ q) (is_parent g q t) (nat_eq p q) (itself (is_parent g q t)) (Decides-eqb p q))
       (λ q le m. absurd (no_parent g q t le m)))
 
   one : Decides (one_parent g t) ((p q : ℕ) → IsParent g p t → IsParent g q t → p ≡ q)
@@ -144,7 +145,7 @@ module _ (g : TaskGraph) (t : ℕ) where
   child_only : Decides (starts_child g t) ((p : ℕ) → IsParent g p t → kind g t ≡ Child)
   child_only =
       at_each g (λ p. IsParent g p t → kind g t ≡ Child) (λ p. implies (is_parent g p t) (is_child (kind g t)))
-      (λ p. implied (IsParent g p t) (kind g t ≡ Child) (is_parent g p t) (is_child (kind g t)) (itself (is_parent g p t)) (childhood (kind g t)))
+      (λ p. only_if (IsParent g p t) (kind g t ≡ Child) (is_parent g p t) (is_child (kind g t)) (itself (is_parent g p t)) (childhood (kind g t)))
       (λ p le m. absurd (no_parent g p t le m))
 
   right : Decides (is_right g t) (IsTask g t)

@@ -11,8 +11,10 @@ use Rattle.tpl_model.specs.declared.event.Act.TheVariants.{Request, Release, Beg
 use Rattle.tpl_model.specs.declared.event.Event.{Event}
 use Rattle.tpl_model.specs.Facts.{Ending, begun, begun_by, released, released_by, left_body, left_by, requests, starts_by, ends_by, ending_by, final_in, all_over, rest, requested, started, ending, requested_itself}
 use Rattle.tpl_model.specs.Rules.{final, status, status_by, opening, IsRunning, MayDrop, Allows}
-use Rattle.tpl_laws.proofs.Basics.{true_false, decide, and_split, or_right, if_true, if_false, some_none, the_some, same_number}
+use Rattle.tpl_laws.proofs.Basics.{if_true, if_false, some_none, the_some, same_number}
 use Rattle.std.proofs.Common.{◌≡◌, ℕ, suc, ◌⊎◌, inl, inr, Bool, true, false, if◌then◌else◌, Option, Some, None, List, ◌∷◌, refl, sym, ap, ◌∙◌, subst, nat_eq, is_some, length}
+use Rattle.std.proofs.lemmas.Bool.{cases_Bool, and_parts, or_right}
+use Rattle.tpl_words.proofs.Truths.{true_false}
 
 -- one more event
 abbrev pub after : Actor → Act → List Event → List Event
@@ -105,7 +107,7 @@ ends_open g v h a (Begin s) t al e = true_false (sym e)
 ends_open g v h a (Step s) t al e = true_false (sym e)
 ends_open g v h a (Worked s w) t al e = true_false (sym e)
 ends_open g v h a (Leave s) t al e =
-    subst (λ z. ending g v h z ≡ None) (same_number s.0 t (and_split (nat_eq s.0 t) (all_over (attached g t) (started g v h) (ending g v h)) e).0) (running_facts g v h a s.0 al.0).0
+    subst (λ z. ending g v h z ≡ None) (same_number s.0 t (and_parts (nat_eq s.0 t) (all_over (attached g t) (started g v h) (ending g v h)) e).0) (running_facts g v h a s.0 al.0).0
 ends_open g v h a (Close s) t al e = subst (λ z. ending g v h z ≡ None) (same_number s.0 t e) (close_facts g v h s.0 al.1).0
 ends_open g v h a (Drop s) t al e = subst (λ z. ending g v h z ≡ None) (same_number s.0 t e) (drop_facts g v h s.0 al.1).0
 ends_open g v h a (Settle s) t al e = subst (λ z. ending g v h z ≡ None) (same_number s.0 t e) (not_some (ending g v h s.0) al.1)
@@ -113,7 +115,7 @@ ends_open g v h a (Settle s) t al e = subst (λ z. ending g v h z ≡ None) (sam
 -- an ending stays
 pub ending_kept : (g : TaskGraph) (v : List Bool) (h : List Event) (a : Actor) (x : Act) (t : ℕ) (r : Ending) → Allows g v h a x → ending g v h t ≡ Some r → ending g v (after a x h) t ≡ Some r
 ending_kept g v h a x t r al e =
-    elim (decide (ends_by g t x (started g v h) (ending g v h))) [
+    elim (cases_Bool (ends_by g t x (started g v h) (ending g v h))) [
       | inl yes_it ↦ some_none r (sym e ∙ ends_open g v h a x t al yes_it)
       | inr not_it ↦ if_false (ends_by g t x (started g v h) (ending g v h)) (ending_by g t (suc (length h)) a x (rest g v h) (started g v h) (ending g v h)) (ending g v h t) not_it ∙ e
     ]
@@ -121,7 +123,7 @@ ending_kept g v h a x t r al e =
 -- a task that has ended after an event had ended before it, or the event ended it
 pub ending_new : (g : TaskGraph) (v : List Bool) (h : List Event) (a : Actor) (x : Act) (t : ℕ) (r : Ending) → ending g v (after a x h) t ≡ Some r → (ending g v h t ≡ Some r) ⊎ ((ends_by g t x (started g v h) (ending g v h) ≡ true) × (ending_by g t (suc (length h)) a x (rest g v h) (started g v h) (ending g v h) ≡ Some r))
 ending_new g v h a x t r e =
-    elim (decide (ends_by g t x (started g v h) (ending g v h))) [
+    elim (cases_Bool (ends_by g t x (started g v h) (ending g v h))) [
       | inl yes_it ↦ inr (yes_it, sym (if_true (ends_by g t x (started g v h) (ending g v h)) (ending_by g t (suc (length h)) a x (rest g v h) (started g v h) (ending g v h)) (ending g v h t) yes_it) ∙ e)
       | inr not_it ↦ inl (sym (if_false (ends_by g t x (started g v h) (ending g v h)) (ending_by g t (suc (length h)) a x (rest g v h) (started g v h) (ending g v h)) (ending g v h t) not_it) ∙ e)
     ]

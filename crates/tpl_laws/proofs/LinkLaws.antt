@@ -1,12 +1,15 @@
 -- The laws about links.
-use Rattle.std.proofs.Common.{◌⊎◌, ◌≡◌, ℕ, zero, suc, ◌||◌, inl, inr, Bool, true, false, List, [], ◌∷◌, refl, sym, ap, ◌∙◌, subst, nat_eq, length}
+use Rattle.std.proofs.Common.{◌⊎◌, ◌≡◌, ℕ, zero, suc, ◌||◌, inl, inr, Bool, true, List, [], ◌∷◌, refl, sym, ap, ◌∙◌, subst, nat_eq, length}
+use Rattle.std.proofs.lemmas.Bool.{or_cases, or_left, or_right}
+use Rattle.tpl_words.proofs.MemberLemmas.{same_either_way, same_self}
+use Rattle.tpl_words.proofs.Truths.{or_false, true_false}
 use Rattle.tpl_words.specs.Members.{mem}
 use Rattle.tpl_model.specs.Graph.{TaskGraph, Plain, token, sources, sources_of, some_in, within, through}
 use Rattle.tpl_model.specs.Facts.{requested_itself}
 use Rattle.tpl_model.specs.declared.claim.Given.{Given}
 use Rattle.tpl_model.specs.declared.claim.Given.TheVariants.{Input, Quiet}
 use Rattle.tpl_model.specs.Certificate.{given_quiet}
-use Rattle.tpl_laws.proofs.Basics.{true_false, or_split, or_left, or_right, same_number, same_self}
+use Rattle.tpl_laws.proofs.Basics.{same_number}
 use Rattle.tpl_laws.proofs.Sources.{some_one, through_here, through_source, through_is}
 use Rattle.tpl_laws.specs.Runs.{IsSource, RequestedThroughSources, RequestedByASource, QuietWithSources, QuietByALink, WithoutLinks, gives_quiet}
 use Rattle.tpl_laws.specs.Runs as law
@@ -14,7 +17,7 @@ use Rattle.tpl_laws.specs.Runs as law
 within_source : (g : TaskGraph) (p : ℕ → Bool) (n k : ℕ) → within g p n k ≡ true → (s : ℕ) × IsSource g k s × (p s ≡ true)
 within_source g p zero k e = (k, law.itself, e)
 within_source g p (suc n) k e =
-    elim (or_split (p k) (some_in (within g p n) (sources g k)) e) [
+    elim (or_cases (p k) (some_in (within g p n) (sources g k)) e) [
       | inl a ↦ (k, law.itself, a)
       | inr b ↦
           let j = some_one (within g p n) (sources g k) b in
@@ -37,7 +40,7 @@ quiet_source : (g : TaskGraph) (given : List Given) (k : ℕ) → given_quiet g 
 quiet_source g [] k e = true_false (sym e)
 quiet_source g (Input i value ∷ given) k e = quiet_source g given k e
 quiet_source g (Quiet n ∷ given) k e =
-    elim (or_split (through g (nat_eq k) n.0) (given_quiet g given k) e) [
+    elim (or_cases (through g (nat_eq k) n.0) (given_quiet g given k) e) [
       | inl a ↦
           let w = within_source g (nat_eq k) (length g.tokens) n.0 a in
           (n.0, or_left (nat_eq n.0 n.0) (gives_quiet given n.0) (same_self n.0), subst (λ z. IsSource g n.0 z) (sym (same_number k w.0 w.2)) w.1)
@@ -48,7 +51,7 @@ source_quiet : (g : TaskGraph) (given : List Given) (k j : ℕ) → gives_quiet 
 source_quiet g [] k j e i = true_false (sym e)
 source_quiet g (Input i value ∷ given) k j e s = source_quiet g given k j e s
 source_quiet g (Quiet n ∷ given) k j e s =
-    elim (or_split (nat_eq n.0 j) (gives_quiet given j) e) [
+    elim (or_cases (nat_eq n.0 j) (gives_quiet given j) e) [
       | inl a ↦ or_left (through g (nat_eq k) n.0) (given_quiet g given k) (source_through g (nat_eq k) n.0 k (subst (λ z. IsSource g z k) (sym (same_number n.0 j a)) s) (same_self k))
       | inr b ↦ or_right (through g (nat_eq k) n.0) (given_quiet g given k) (source_quiet g given k j b s)
     ]
@@ -84,29 +87,17 @@ quiet_by_a_link_lem g given k = (there, back)
     back (inl e) = source_quiet g given k k e (law.itself)
     back (inr w) = let q = quiet_source g given w.0 w.2 in source_quiet g given k q.0 q.1 (joins g q.0 w.0 k q.2 (law.by_link w.1 (law.itself)))
 
-or_false : (b : Bool) → b || false ≡ b
-or_false true = refl
-or_false false = refl
-
 plain_through : (g : TaskGraph) → ((k : ℕ) → token g k ≡ Plain) → (p : ℕ → Bool) (k : ℕ) → through g p k ≡ p k
 plain_through g plain p k = through_is g p k ∙ ap (λ z. p k || some_in (through g p) z) (ap sources_of (plain k)) ∙ or_false (p k)
 
-same_tests : (a b : Bool) → (a ≡ true → b ≡ true) → (b ≡ true → a ≡ true) → a ≡ b
-same_tests true b f i = sym (f refl)
-same_tests false true f i = i refl
-same_tests false false f i = refl
-
 turn : (x y : ℕ) → nat_eq x y ≡ true → nat_eq y x ≡ true
 turn x y e = subst (λ z. nat_eq z x ≡ true) (same_number x y e) (same_self x)
-
-nat_eq_sym : (a b : ℕ) → nat_eq a b ≡ nat_eq b a
-nat_eq_sym a b = same_tests (nat_eq a b) (nat_eq b a) (turn a b) (turn b a)
 
 plain_quiet : (g : TaskGraph) → ((k : ℕ) → token g k ≡ Plain) → (given : List Given) (k : ℕ) → given_quiet g given k ≡ gives_quiet given k
 plain_quiet g plain [] k = refl
 plain_quiet g plain (Input i value ∷ given) k = plain_quiet g plain given k
 plain_quiet g plain (Quiet n ∷ given) k =
-    ap (λ z. z || given_quiet g given k) (plain_through g plain (nat_eq k) n.0 ∙ nat_eq_sym k n.0) ∙ ap (λ z. nat_eq n.0 k || z) (plain_quiet g plain given k)
+    ap (λ z. z || given_quiet g given k) (plain_through g plain (nat_eq k) n.0 ∙ same_either_way k n.0) ∙ ap (λ z. nat_eq n.0 k || z) (plain_quiet g plain given k)
 
 pub without_links_lem : WithoutLinks
 without_links_lem g plain = ((λ v h k. plain_through g plain (requested_itself g v h) k), plain_quiet g plain)

@@ -14,7 +14,7 @@ use Rattle.tpl_model.specs.declared.event.Event.{Event}
 use Rattle.tpl_model.specs.Facts.{begun, begun_by, final_in, rest, requested, ending, requested_itself, outcome_in}
 use Rattle.tpl_model.specs.Rules.{final, Allows, Run, Settled, seen, label, Complete}
 use Rattle.tpl_model.specs.Claims.{input, Claim, IsGiven, SettledAtBegin, HoldsOf, Holds}
-use Rattle.tpl_laws.proofs.Basics.{true_false, decide, and_split, and_join, or_split, if_true, some_none, the_some, same_number}
+use Rattle.tpl_laws.proofs.Basics.{if_true, some_none, the_some, same_number}
 use Rattle.tpl_laws.proofs.Kept.{after, begun_kept}
 use Rattle.tpl_model.specs.Valid.{IsGraph}
 use Rattle.tpl_model.specs.Certificate.{Row, row, Assumed, Agrees, view, Closed, Tree, SplitInput, SplitEnd, Leaf, same, given_input, given_quiet, assumed, with_input, with_end, Proves, AcceptsTree}
@@ -33,6 +33,8 @@ use Rattle.tpl_laws.proofs.EachEvent.{rows_are_true}
 use Rattle.tpl_laws.proofs.Chains.{carries_own, threw_begun, begun_ends}
 use Rattle.tpl_laws.proofs.Observing.{label_verdict, chain_seen}
 use Rattle.std.proofs.Common.{◌≡◌, ℕ, ◌&&◌, ◌||◌, ◌⊎◌, inl, inr, not, Bool, true, false, Option, Some, None, List, [], ◌∷◌, refl, sym, ap, ◌∙◌, subst, nat_eq, is_some}
+use Rattle.std.proofs.lemmas.Bool.{cases_Bool, and_parts, and_from, or_cases}
+use Rattle.tpl_words.proofs.Truths.{true_false}
 
 -- what holds of a run that agrees with a closed leaf
 now_of : (g : TaskGraph) (l : Assumed) (rows : List Row) (v : List Bool) (h : List Event) → IsGraph g → Closed g l rows → Run g v h → Agrees g l v h → Now g l rows v h
@@ -75,7 +77,7 @@ rows_lem g l rows v h valid closed run agrees =
 given_inputs : (g : TaskGraph) (v : List Bool) (h : List Event) (given : List Given) (i : ℕ) → IsGiven g v h given → given_input given i (input v i) ≡ true
 given_inputs g v h [] i k = refl
 given_inputs g v h (Input j value ∷ given) i k =
-    and_join (not (nat_eq j.0 i) || same value (input v i)) (given_input given i (input v i)) (by_test (nat_eq j.0 i) refl) (given_inputs g v h given i k.1)
+    and_from (not (nat_eq j.0 i) || same value (input v i)) (given_input given i (input v i)) (by_test (nat_eq j.0 i) refl) (given_inputs g v h given i k.1)
   where
     same_values : (a b : Bool) → b ≡ a → same a b ≡ true
     same_values true b e = e
@@ -91,8 +93,8 @@ given_tokens : (g : TaskGraph) (v : List Bool) (h : List Event) (given : List Gi
 given_tokens g v h [] k i e = true_false (sym e)
 given_tokens g v h (Input j value ∷ given) k i e = given_tokens g v h given k i.1 e
 given_tokens g v h (Quiet n ∷ given) k i e =
-    elim (or_split (through g (nat_eq k) n.0) (given_quiet g given k) e) [
-      | inl q ↦ elim (decide (requested g v h k)) [
+    elim (or_cases (through g (nat_eq k) n.0) (given_quiet g given k) e) [
+      | inl q ↦ elim (cases_Bool (requested g v h k)) [
         | inl r ↦ true_false (sym (through_twice g (requested_itself g v h) n.0 (through_more g (nat_eq k) (requested g v h) (λ j m. subst (λ z. requested g v h z ≡ true) (same_number k j m) r) n.0 q)) ∙ i.0)
         | inr r ↦ r
       ]
@@ -109,7 +111,7 @@ given_agrees g v h given i = record {
 -- on the branch of an input's own value
 input_agrees : (g : TaskGraph) (l : Assumed) (v : List Bool) (h : List Event) (i : ℕ) (value : Bool) → input v i ≡ value → Agrees g l v h → Agrees g (with_input l i value) v h
 input_agrees g l v h i value e agrees = record {
-  inputs = λ j. and_join (l.possible j (input v j)) (not (nat_eq i j) || same value (input v j)) (agrees.inputs j) (by_test j (nat_eq i j) refl);
+  inputs = λ j. and_from (l.possible j (input v j)) (not (nat_eq i j) || same value (input v j)) (agrees.inputs j) (by_test j (nat_eq i j) refl);
   quiet = agrees.quiet;
   ends = agrees.ends;
 }
@@ -128,7 +130,7 @@ end_agrees : (g : TaskGraph) (l : Assumed) (v : List Bool) (h : List Event) (t :
 end_agrees g l v h t f ends agrees = record {
   inputs = agrees.inputs;
   quiet = agrees.quiet;
-  ends = λ s e q. and_join (l.cut s e) (not (nat_eq t s) || is_final f e) (agrees.ends s e q) (by_test s e q (nat_eq t s) refl);
+  ends = λ s e q. and_from (l.cut s e) (not (nat_eq t s) || is_final f e) (agrees.ends s e q) (by_test s e q (nat_eq t s) refl);
 }
   where
     by_test : (s : ℕ) (e : Final) → final g v h s ≡ Some e → (c : Bool) → nat_eq t s ≡ c → not c || is_final f e ≡ true
@@ -153,7 +155,7 @@ branch_of g v h t = by_end (final g v h t)
 
 leaf_agrees : (g : TaskGraph) (l : Assumed) (tree : Tree) (v : List Bool) (h : List Event) → Agrees g l v h → (m : Assumed) × (rows : List Row) × HasLeaf l tree m rows × Agrees g m v h
 leaf_agrees g l (SplitInput i a b) v h agrees =
-    elim (decide (input v i)) [
+    elim (cases_Bool (input v i)) [
       | inl e ↦ let w = leaf_agrees g (with_input l i true) a v h (input_agrees g l v h i true e agrees) in (w.0, w.1, inl w.2, w.3)
       | inr e ↦ let w = leaf_agrees g (with_input l i false) b v h (input_agrees g l v h i false e agrees) in (w.0, w.1, inr w.2, w.3)
     ]
@@ -215,14 +217,14 @@ leaf_proves g l rows v h (Observed t) valid closed run agrees pr = λ complete l
         let w = view g l rows t.0 in
         absurd (no_throw (lb, (passed g v h t.0, verdict_path w (body g t.0) (rest g v h t.0).outcome (rest g v h t.0).left (passed g v h t.0) (Threw lb) (threw lb e) (follows g v h t.0 w run (view_fits g v h l rows t.0 run agrees (rows_lem g l rows v h valid closed run agrees).0.ends (has_begun lb e)) (has_subject_of g t.0 valid)))))
 leaf_proves g l rows v h (Never t) valid closed run agrees pr =
-    elim (decide (is_some (begun h t.0))) [
+    elim (cases_Bool (is_some (begun h t.0))) [
       | inl b ↦ true_false (sym ((rows_lem g l rows v h valid closed run agrees).0.runs t.0 b) ∙ pr)
       | inr b ↦ b
     ]
 leaf_proves g l rows v h (Excludes a b) valid closed run agrees pr =
-    elim (decide (is_some (begun h a.0) && is_some (begun h b.0))) [
+    elim (cases_Bool (is_some (begun h a.0) && is_some (begun h b.0))) [
       | inl both ↦
-          let w = and_split (is_some (begun h a.0)) (is_some (begun h b.0)) both in
+          let w = and_parts (is_some (begun h a.0)) (is_some (begun h b.0)) both in
           elim pr [
             | inl q ↦ true_false (sym ((rows_lem g l rows v h valid closed run agrees).0.runs a.0 w.0) ∙ q)
             | inr q ↦ true_false (sym ((rows_lem g l rows v h valid closed run agrees).0.runs b.0 w.1) ∙ q)

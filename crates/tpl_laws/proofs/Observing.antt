@@ -19,7 +19,7 @@ use Rattle.tpl_model.specs.declared.event.Event.{Event}
 use Rattle.tpl_model.specs.Facts.{Ending, begun, final_in, rest, started, ending, subject_in, subject_of, carried_in, outcome_in, is_observe}
 use Rattle.tpl_model.specs.Rules.{final, subject, MayStart, Allows, Run, works, seen, sees, carried_by, label, label_in, Complete, to_end}
 use Rattle.tpl_script.specs.Paths.{Known, passes_observe}
-use Rattle.tpl_laws.proofs.Basics.{true_false, decide, and_join, or_left, or_right, if_true, if_false, some_none, the_some, same_number}
+use Rattle.tpl_laws.proofs.Basics.{if_true, if_false, some_none, the_some, same_number}
 use Rattle.tpl_laws.proofs.Kept.{id, after, running_facts, ending_kept, begun_kept, final_of}
 use Rattle.tpl_model.specs.Certificate.{Row, row, Assumed, TakesOver, Reads, Links, ChainRule}
 use Rattle.tpl_laws.proofs.Execution.{passed, pushed}
@@ -29,7 +29,8 @@ use Rattle.tpl_laws.proofs.Settling.{no_task, has_subject_of, attached_child}
 use Rattle.tpl_laws.proofs.Carrying.{begun_task, carries_faulted}
 use Rattle.tpl_laws.proofs.RowsAreTrue.{Now, verdict_path, view_fits, requested_loud, some_eq}
 use Rattle.tpl_laws.proofs.Chains.{carries_own, threw_begun, begun_ends, taken_over, any_carries, ended_as}
-use Rattle.std.proofs.lemmas.Bool.{cases_lt}
+use Rattle.std.proofs.lemmas.Bool.{cases_lt, cases_Bool, and_from, or_left, or_right}
+use Rattle.tpl_words.proofs.Truths.{true_false}
 
 -- only a task that has begun has passed anything
 pub passed_begun : (g : TaskGraph) (v : List Bool) (h : List Event) (t : ℕ) → Run g v h → passes_observe (passed g v h t) ≡ true → is_some (begun h t) ≡ true
@@ -38,12 +39,12 @@ passed_begun g v (ev ∷ h) t run e = begun_kept h ev.actor ev.act t (here (λ o
   where
     here : (passes_observe (passed g v h t) ≡ true → is_some (begun h t) ≡ true) → (a : Actor) (x : Act) → Allows g v h a x → passes_observe (passed g v (after a x h) t) ≡ true → is_some (begun h t) ≡ true
     here old a (Step s) al q =
-        elim (decide (nat_eq s.0 t)) [
+        elim (cases_Bool (nat_eq s.0 t)) [
           | inl same ↦ subst (λ z. is_some (begun h z) ≡ true) (same_number s.0 t same) (running_facts g v h a s.0 al.0).2
           | inr other ↦ old (subst (λ z. passes_observe z ≡ true) (if_false (nat_eq s.0 t) (pushed (rest g v h t).left (passed g v h t)) (passed g v h t) other) q)
         ]
     here old a (Worked s w) al q =
-        elim (decide (nat_eq s.0 t)) [
+        elim (cases_Bool (nat_eq s.0 t)) [
           | inl same ↦ subst (λ z. is_some (begun h z) ≡ true) (same_number s.0 t same) (running_facts g v h a s.0 al.0).2
           | inr other ↦ old (subst (λ z. passes_observe z ≡ true) (if_false (nat_eq s.0 t) (pushed (rest g v h t).left (passed g v h t)) (passed g v h t) other) q)
         ]
@@ -121,7 +122,7 @@ observed_by g v (ev ∷ h) r y a q run k e m p = here (λ o. λ q' e' m'. observ
 
     here : (passes_observe (passed g v h r) ≡ true → (q' : Ending) → ending g v h y ≡ Some q' → mem a q'.carried ≡ true → seen g v h a ≡ true) → (x : Actor) (act : Act) → Allows g v h x act → ending g v (after x act h) y ≡ Some q → passes_observe (passed g v (after x act h) r) ≡ true → seen g v (after x act h) a ≡ true
     here old x (Step s) al e2 o =
-        elim (decide (nat_eq s.0 r)) [
+        elim (cases_Bool (nat_eq s.0 r)) [
           | inl same ↦
               elim (pushed_observe (rest g v h r).left (passed g v h r) (subst (λ z. passes_observe z ≡ true) (if_true (nat_eq s.0 r) (pushed (rest g v h r).left (passed g v h r)) (passed g v h r) same) o)) [
                 | inl now ↦
@@ -131,14 +132,14 @@ observed_by g v (ev ∷ h) r y a q run k e m p = here (λ o. λ q' e' m'. observ
                     let sub = subject_is g v h r y a q run.0 k ended_before m in
                     or_left (sees g v h (Step s) a) (seen g v h a)
                     (subst (λ z. sees g v h (Step (id z)) a ≡ true) (sym s_is)
-                    (and_join (is_observe (rest g v h r).left) (carried_by g v h (subject g v h r) a) now
+                    (and_from (is_observe (rest g v h r).left) (carried_by g v h (subject g v h r) a) now
                     (subst (λ z. carried_by g v h z a ≡ true) (sym sub) (subst (λ z. mem a (carried_in z) ≡ true) (sym ended_before) m))))
                 | inr o2 ↦ older old x (Step s) al e2 o2
               ]
           | inr other ↦ older old x (Step s) al e2 (subst (λ z. passes_observe z ≡ true) (if_false (nat_eq s.0 r) (pushed (rest g v h r).left (passed g v h r)) (passed g v h r) other) o)
         ]
     here old x (Worked s w) al e2 o =
-        elim (decide (nat_eq s.0 r)) [
+        elim (cases_Bool (nat_eq s.0 r)) [
           | inl same ↦
               elim (pushed_observe (rest g v h r).left (passed g v h r) (subst (λ z. passes_observe z ≡ true) (if_true (nat_eq s.0 r) (pushed (rest g v h r).left (passed g v h r)) (passed g v h r) same) o)) [
                 | inl now ↦ absurd (work_no_observe w (rest g v h r).left (subst (λ z. works w (rest g v h z).left ≡ true) (same_number s.0 r same) al.2) now)

@@ -1,12 +1,14 @@
 -- The parent of a child, and the tasks below one.
-use Rattle.std.proofs.Common.{◌≡◌, ℕ, zero, suc, ◌+◌, ◌<◌, ◌≤◌, inl, inr, ◌||◌, Bool, true, false, Option, Some, None, refl, sym, ap, ◌∙◌, subst, arith, nat_eq, length}
-use Rattle.std.proofs.lemmas.Bool.{cases_lt}
+use Rattle.std.proofs.Common.{◌≡◌, ℕ, zero, suc, ◌+◌, ◌<◌, ◌≤◌, inl, inr, ◌||◌, Bool, true, Option, Some, None, refl, sym, ap, ◌∙◌, subst, arith, nat_eq, length}
+use Rattle.std.proofs.lemmas.Bool.{cases_lt, cases_Bool, and_parts, and_from, or_cases, or_left, or_right}
+use Rattle.tpl_words.proofs.MemberLemmas.{same_self}
+use Rattle.tpl_words.proofs.Truths.{same_tests, true_false}
 use Rattle.tpl_words.specs.Members.{mem}
 use Rattle.tpl_script.specs.Statements.{starts}
 use Rattle.tpl_model.specs.Graph.{TaskGraph, body, attached, IsParent}
 use Rattle.tpl_model.specs.Valid.{IsGraph}
 use Rattle.tpl_model.specs.Certificate.{IsBelow, child, deeper}
-use Rattle.tpl_laws.proofs.Basics.{true_false, decide, if_true, if_false, and_split, and_join, or_split, or_left, or_right, same_number, same_self}
+use Rattle.tpl_laws.proofs.Basics.{if_true, if_false, same_number}
 use Rattle.tpl_laws.proofs.Settling.{no_task, child_rules, attached_child}
 use Rattle.tpl_laws.specs.RowTests.{parent_from, parent_of, by_parent, below_by, below_within, is_below}
 use Rattle.tpl_laws.proofs.Deciding.{Decides}
@@ -15,7 +17,7 @@ use Rattle.tpl_laws.proofs.Deciding.{Decides}
 found_from : (g : TaskGraph) (t p n q : ℕ) → parent_from g t p n ≡ Some q → IsParent g q t
 found_from g t p zero q e = absurd (cc)
 found_from g t p (suc n) q e =
-    elim (decide (mem t (starts (body g p)))) [
+    elim (cases_Bool (mem t (starts (body g p)))) [
       | inl y ↦
           let s : Some p ≡ Some q = sym (if_true (mem t (starts (body g p))) (Some p) (parent_from g t (suc p) n) y) ∙ e in
           let same : p ≡ q = cc in
@@ -30,7 +32,7 @@ parent_is g t q e = found_from g t 0 (length g.tasks) q e
 finds_from : (g : TaskGraph) (t p n q : ℕ) → IsParent g q t → p ≤ q → q < p + n → (r : ℕ) × (parent_from g t p n ≡ Some r)
 finds_from g t p zero q m a b = absurd (omega arith)
 finds_from g t p (suc n) q m a b =
-    elim (decide (mem t (starts (body g p)))) [
+    elim (cases_Bool (mem t (starts (body g p)))) [
       | inl y ↦ (p, if_true (mem t (starts (body g p))) (Some p) (parent_from g t (suc p) n) y)
       | inr y ↦
           let later : suc p ≤ q = elim (cases_lt p q) [ inl lt ↦ (omega arith) | inr ge ↦ let same : p ≡ q = omega arith in true_false (sym (subst (λ z. IsParent g z t) (sym same) m) ∙ y) ] in
@@ -75,8 +77,8 @@ below_found g t (suc n) x e = by_option (λ p. below_found g t n p) (parent_of g
     by_option : ((p : ℕ) → below_within g t n p ≡ true → IsBelow g t p) → (o : Option ℕ) → below_by g t x o (below_within g t n) ≡ true → IsBelow g t x
     by_option up None b = true_false (sym b)
     by_option up (Some p) b =
-        let s = and_split (mem x (attached g p)) (nat_eq p t || below_within g t n p) b in
-        elim (or_split (nat_eq p t) (below_within g t n p) s.1) [
+        let s = and_parts (mem x (attached g p)) (nat_eq p t || below_within g t n p) b in
+        elim (or_cases (nat_eq p t) (below_within g t n p) s.1) [
           | inl a ↦ child (subst (λ z. mem x (attached g z) ≡ true) (same_number p t a) s.0)
           | inr a ↦ deeper (up p a) s.0
         ]
@@ -86,11 +88,11 @@ below_finds g t zero x valid (child m) a = let lt = parent_before g t x valid (a
 below_finds g t zero x valid (deeper {p = p} b m) a = let lt = parent_before g p x valid (attached_child g p x m) in absurd (omega arith)
 below_finds g t (suc n) x valid (child m) a =
     subst (λ z. below_by g t x z (below_within g t n) ≡ true) (sym (the_parent g t x valid (attached_child g t x m)))
-    (and_join (mem x (attached g t)) (nat_eq t t || below_within g t n t) m (or_left (nat_eq t t) (below_within g t n t) (same_self t)))
+    (and_from (mem x (attached g t)) (nat_eq t t || below_within g t n t) m (or_left (nat_eq t t) (below_within g t n t) (same_self t)))
 below_finds g t (suc n) x valid (deeper {p = p} b m) a =
     let lt = parent_before g p x valid (attached_child g p x m) in
     subst (λ z. below_by g t x z (below_within g t n) ≡ true) (sym (the_parent g p x valid (attached_child g p x m)))
-    (and_join (mem x (attached g p)) (nat_eq p t || below_within g t n p) m (or_right (nat_eq p t) (below_within g t n p) (below_finds g t n p valid b (omega arith))))
+    (and_from (mem x (attached g p)) (nat_eq p t || below_within g t n p) m (or_right (nat_eq p t) (below_within g t n p) (below_finds g t n p valid b (omega arith))))
 
 pub below : (g : TaskGraph) (t x : ℕ) → IsGraph g → Decides (is_below g t x) (IsBelow g t x)
 below g t x valid = record { finds = below_found g t x x; found = λ b. below_finds g t x x valid b (omega arith) }
@@ -99,8 +101,8 @@ below g t x valid = record { finds = below_found g t x x; found = λ b. below_fi
 step_found : (g : TaskGraph) (t x : ℕ) → IsGraph g → (o : Option ℕ) → below_by g t x o (is_below g t) ≡ true → IsBelow g t x
 step_found g t x valid None b = true_false (sym b)
 step_found g t x valid (Some p) b =
-    let s = and_split (mem x (attached g p)) (nat_eq p t || is_below g t p) b in
-    elim (or_split (nat_eq p t) (is_below g t p) s.1) [
+    let s = and_parts (mem x (attached g p)) (nat_eq p t || is_below g t p) b in
+    elim (or_cases (nat_eq p t) (is_below g t p) s.1) [
       | inl a ↦ child (subst (λ z. mem x (attached g z) ≡ true) (same_number p t a) s.0)
       | inr a ↦ deeper ((below g t p valid).finds a) s.0
     ]
@@ -108,17 +110,12 @@ step_found g t x valid (Some p) b =
 step_finds : (g : TaskGraph) (t x : ℕ) → IsGraph g → IsBelow g t x → below_by g t x (parent_of g x) (is_below g t) ≡ true
 step_finds g t x valid (child m) =
     subst (λ z. below_by g t x z (is_below g t) ≡ true) (sym (the_parent g t x valid (attached_child g t x m)))
-    (and_join (mem x (attached g t)) (nat_eq t t || is_below g t t) m (or_left (nat_eq t t) (is_below g t t) (same_self t)))
+    (and_from (mem x (attached g t)) (nat_eq t t || is_below g t t) m (or_left (nat_eq t t) (is_below g t t) (same_self t)))
 step_finds g t x valid (deeper {p = p} b m) =
     subst (λ z. below_by g t x z (is_below g t) ≡ true) (sym (the_parent g p x valid (attached_child g p x m)))
-    (and_join (mem x (attached g p)) (nat_eq p t || is_below g t p) m (or_right (nat_eq p t) (is_below g t p) ((below g t p valid).found b)))
-
-same_test : (a b : Bool) → (a ≡ true → b ≡ true) → (b ≡ true → a ≡ true) → a ≡ b
-same_test true b f h = sym (f refl)
-same_test false true f h = h refl
-same_test false false f h = refl
+    (and_from (mem x (attached g p)) (nat_eq p t || is_below g t p) m (or_right (nat_eq p t) (is_below g t p) ((below g t p valid).found b)))
 
 pub below_step : (g : TaskGraph) (t x : ℕ) → IsGraph g → is_below g t x ≡ below_by g t x (parent_of g x) (is_below g t)
 below_step g t x valid =
-    same_test (is_below g t x) (below_by g t x (parent_of g x) (is_below g t)) (λ e. step_finds g t x valid ((below g t x valid).finds e))
+    same_tests (is_below g t x) (below_by g t x (parent_of g x) (is_below g t)) (λ e. step_finds g t x valid ((below g t x valid).finds e))
     (λ e. (below g t x valid).found (step_found g t x valid (parent_of g x) e))

@@ -1,5 +1,6 @@
 -- What stays in a run.
 use Rattle.std.proofs.Common.{◌≡◌, ℕ, ◌++◌, inl, inr, Bool, Some, None, List, [], ◌∷◌, refl, sym, ◌∙◌, subst, nat_eq}
+use Rattle.std.proofs.lemmas.Bool.{cases_Bool}
 use Rattle.tpl_words.specs.declared.status.Status.TheVariants.{WaitingToRun}
 use Rattle.tpl_model.specs.Graph.{TaskGraph}
 use Rattle.tpl_words.specs.declared.status.Actor.{Actor}
@@ -8,7 +9,7 @@ use Rattle.tpl_model.specs.declared.event.Act.TheVariants.{Request, Release, Beg
 use Rattle.tpl_model.specs.declared.event.Event.{Event}
 use Rattle.tpl_model.specs.Facts.{begun}
 use Rattle.tpl_model.specs.Rules.{Allows}
-use Rattle.tpl_laws.proofs.Basics.{decide, if_false, some_none, same_number}
+use Rattle.tpl_laws.proofs.Basics.{if_false, some_none, same_number}
 use Rattle.tpl_laws.proofs.Kept.{after, waiting_facts, ending_kept, requested_kept, started_kept}
 use Rattle.tpl_laws.specs.Runs.{PrefixIsRun, NothingGoesBack}
 
@@ -19,7 +20,7 @@ prefix_is_run_lem g v (e ∷ later) h run = prefix_is_run_lem g v later h run.0
 -- the worker that began a task stays
 begun_stays : (g : TaskGraph) (v : List Bool) (h : List Event) (a b : Actor) (x : Act) (t : ℕ) → Allows g v h a x → begun h t ≡ Some b → begun (after a x h) t ≡ Some b
 begun_stays g v h a b (Begin s) t al e =
-    elim (decide (nat_eq s.0 t)) [
+    elim (cases_Bool (nat_eq s.0 t)) [
       | inl q ↦ some_none b (sym e ∙ subst (λ z. begun h z ≡ None) (same_number s.0 t q) (waiting_facts g v h s.0 WaitingToRun al.1 (inl refl)).2)
       | inr q ↦ if_false (nat_eq s.0 t) (Some a) (begun h t) q ∙ e
     ]

@@ -1,5 +1,8 @@
 -- What has happened before a task begins or ends.
 use Rattle.std.proofs.Common.{◌≡◌, ℕ, suc, ◌||◌, inl, inr, Bool, true, false, if◌then◌else◌, Option, Some, None, List, [], ◌∷◌, refl, sym, ap, ◌∙◌, subst, nat_eq, nat_lt, is_some, length}
+use Rattle.std.proofs.lemmas.Bool.{cases_Bool, and_parts, or_cases}
+use Rattle.tpl_words.proofs.MemberLemmas.{mem_there}
+use Rattle.tpl_words.proofs.Truths.{true_false}
 use Rattle.tpl_words.specs.declared.status.Status.TheVariants.{WaitingToRun}
 use Rattle.tpl_words.specs.Members.{mem}
 use Rattle.tpl_model.specs.Graph.{TaskGraph, TaskKind, Root, Child, Continues, WhenAll, WhenAny, kind, attached}
@@ -9,7 +12,7 @@ use Rattle.tpl_model.specs.declared.event.Act.TheVariants.{Request, Release, Beg
 use Rattle.tpl_model.specs.declared.event.Event.{Event}
 use Rattle.tpl_model.specs.Facts.{Ending, begun, released, released_by, left_body, left_by, ends_by, ending_by, all_over, rest, started, ending, first_ended, earlier, place_in, ended_at_once, settled_as}
 use Rattle.tpl_model.specs.Rules.{status, opening, MayDrop, MayStart, MayNotStart, MayCancel, Allows, Run, some_ended, can_settle}
-use Rattle.tpl_laws.proofs.Basics.{true_false, decide, and_split, or_split, if_false, some_none, the_some, same_number, mem_here, mem_there}
+use Rattle.tpl_laws.proofs.Basics.{if_false, some_none, the_some, same_number, mem_here}
 use Rattle.tpl_laws.proofs.Kept.{id, after, running_facts, waiting_facts, close_facts, ending_new, ending_kept, final_kept, started_kept, begun_kept}
 
 pub may_start_kept : (g : TaskGraph) (v : List Bool) (h : List Event) (a : Actor) (x : Act) (c : ℕ) (k : TaskKind) → Allows g v h a x → MayStart g v h c k → MayStart g v (after a x h) c k
@@ -24,7 +27,7 @@ pub released_ready : (g : TaskGraph) (v : List Bool) (h : List Event) (c : ℕ) 
 released_ready g v [] c run e = true_false (sym e)
 released_ready g v (e ∷ h) c run r =
     may_start_kept g v h e.actor e.act c (kind g c) run.1
-    (elim (or_split (released_by e.act c) (released h c) r) [ inl now ↦ here e.actor e.act run.1 now | inr old ↦ released_ready g v h c run.0 old ])
+    (elim (or_cases (released_by e.act c) (released h c) r) [ inl now ↦ here e.actor e.act run.1 now | inr old ↦ released_ready g v h c run.0 old ])
   where
     here : (a : Actor) (x : Act) → Allows g v h a x → released_by x c ≡ true → MayStart g v h c (kind g c)
     here a (Release d) al n = subst (λ z. MayStart g v h z (kind g z)) (same_number d.0 c n) al.2
@@ -88,7 +91,7 @@ begun_ready g v (e ∷ h) t run b = ready_kept g v h e.actor e.act t (kind g t) 
   where
     here : (is_some (begun h t) ≡ true → Ready g v h t (kind g t)) → (a : Actor) (x : Act) → Allows g v h a x → is_some (begun (after a x h) t) ≡ true → Ready g v h t (kind g t)
     here old a (Begin d) al n =
-        elim (decide (nat_eq d.0 t)) [
+        elim (cases_Bool (nat_eq d.0 t)) [
           | inl q ↦ subst (λ z. Ready g v h z (kind g z)) (same_number d.0 t q) (waiting_ready g v h d.0 run.0 al.1)
           | inr q ↦ old (subst (λ z. is_some z ≡ true) (if_false (nat_eq d.0 t) (Some a) (begun h t) q) n)
         ]
@@ -105,7 +108,7 @@ pub left_begun : (g : TaskGraph) (v : List Bool) (h : List Event) (t : ℕ) → 
 left_begun g v [] t run e = true_false (sym e)
 left_begun g v (e ∷ h) t run l =
     begun_kept h e.actor e.act t
-    (elim (or_split (left_by e.act t) (left_body h t) l) [ inl now ↦ here e.actor e.act run.1 now | inr old ↦ left_begun g v h t run.0 old ])
+    (elim (or_cases (left_by e.act t) (left_body h t) l) [ inl now ↦ here e.actor e.act run.1 now | inr old ↦ left_begun g v h t run.0 old ])
   where
     here : (a : Actor) (x : Act) → Allows g v h a x → left_by x t ≡ true → is_some (begun h t) ≡ true
     here a (Leave d) al n = subst (λ z. is_some (begun h z) ≡ true) (same_number d.0 t n) (running_facts g v h a d.0 al.0).2
@@ -148,7 +151,7 @@ pub settles : (g : TaskGraph) (v : List Bool) (h : List Event) (a : Actor) (x : 
 settles g v h a (Settle s) t run al nb e = (ap (λ z. Settle (id z)) (same_number s.0 t e), subst (λ z. can_settle (kind g z) (ending g v h) ≡ true) (same_number s.0 t e) al.2)
 settles g v h a (Drop s) t run al nb e = absurd (nb (subst (λ z. IsBody (kind g z)) (same_number s.0 t e) (drop_body g v h s.0 run al.1)))
 settles g v h a (Leave s) t run al nb e =
-    absurd (nb (subst (λ z. IsBody (kind g z)) (same_number s.0 t (and_split (nat_eq s.0 t) (all_over (attached g t) (started g v h) (ending g v h)) e).0) (begun_body g v h s.0 run (running_facts g v h a s.0 al.0).2)))
+    absurd (nb (subst (λ z. IsBody (kind g z)) (same_number s.0 t (and_parts (nat_eq s.0 t) (all_over (attached g t) (started g v h) (ending g v h)) e).0) (begun_body g v h s.0 run (running_facts g v h a s.0 al.0).2)))
 settles g v h a (Close s) t run al nb e =
     absurd (nb (subst (λ z. IsBody (kind g z)) (same_number s.0 t e) (begun_body g v h s.0 run (left_begun g v h s.0 run (close_facts g v h s.0 al.1).1))))
 settles g v h a (Request s) t run al nb e = true_false (sym e)

@@ -1,5 +1,8 @@
 -- The rows of a closed leaf are true of each run that agrees with it.
 use Rattle.std.proofs.Common.{◌≡◌, ℕ, ◌&&◌, inl, inr, not, Bool, true, false, Option, Some, None, List, [], ◌∷◌, refl, sym, ◌∙◌, subst, nat_eq, is_some}
+use Rattle.std.proofs.lemmas.Bool.{cases_Bool, and_from, or_cases, or_left, or_right}
+use Rattle.tpl_words.proofs.MemberLemmas.{mem_split}
+use Rattle.tpl_words.proofs.Truths.{true_false}
 use Rattle.tpl_words.specs.declared.finals.Final.{Final}
 use Rattle.tpl_words.specs.Options.{allows}
 use Rattle.tpl_script.specs.declared.outcome.Outcome.{Outcome}
@@ -14,7 +17,7 @@ use Rattle.tpl_model.specs.declared.event.Event.{Event}
 use Rattle.tpl_model.specs.Facts.{Ending, begun, left_body, stepped, worked, winner_of, rest, requested, ending, subject_in, subject_of, outcome_in, outcome_of}
 use Rattle.tpl_model.specs.Rules.{final, IsRunning, MayStart, Allows, Run, Settled, ended, token_requested, token_requested_by}
 use Rattle.tpl_script.specs.Paths.{Known, EndsPassing, Path, MayStartChild}
-use Rattle.tpl_laws.proofs.Basics.{true_false, decide, and_join, or_split, or_left, or_right, if_false, some_none, is_some_of, same_number, mem_split}
+use Rattle.tpl_laws.proofs.Basics.{if_false, some_none, is_some_of, same_number}
 use Rattle.tpl_laws.proofs.Kept.{after, running_facts, final_kept, requested_kept, final_of}
 use Rattle.tpl_words.specs.Finals.{has}
 use Rattle.tpl_model.specs.Valid.{IsGraph}
@@ -27,12 +30,12 @@ use Rattle.tpl_laws.proofs.Settling.{has_subject_of}
 -- a task that isn't running keeps what is left of its body
 pub rest_idle : (g : TaskGraph) (v : List Bool) (h : List Event) (a : Actor) (x : Act) (t : ℕ) → Allows g v h a x → (IsRunning g v h a t → ⊥) → (rest g v (after a x h) t ≡ rest g v h t) × (passed g v (after a x h) t ≡ passed g v h t)
 rest_idle g v h a (Step s) t al idle =
-    elim (decide (nat_eq s.0 t)) [
+    elim (cases_Bool (nat_eq s.0 t)) [
       | inl q ↦ absurd (idle (subst (λ z. IsRunning g v h a z) (same_number s.0 t q) al.0))
       | inr q ↦ (if_false (nat_eq s.0 t) (stepped g v t (rest g v h t).left (requested g v h) (ending g v h)) (rest g v h t) q, if_false (nat_eq s.0 t) _ (passed g v h t) q)
     ]
 rest_idle g v h a (Worked s w) t al idle =
-    elim (decide (nat_eq s.0 t)) [
+    elim (cases_Bool (nat_eq s.0 t)) [
       | inl q ↦ absurd (idle (subst (λ z. IsRunning g v h a z) (same_number s.0 t q) al.0))
       | inr q ↦ (if_false (nat_eq s.0 t) (worked w (rest g v h t).left) (rest g v h t) q, if_false (nat_eq s.0 t) _ (passed g v h t) q)
     ]
@@ -54,7 +57,7 @@ left_verdict g v (e ∷ h) t run l = here (λ o. left_verdict g v h t run.0 o) e
 
     here : (left_body h t ≡ true → is_some (outcome_in (rest g v h t)) ≡ true) → (a : Actor) (x : Act) → Allows g v h a x → left_body (after a x h) t ≡ true → is_some (outcome_in (rest g v (after a x h) t)) ≡ true
     here old a (Leave s) al n =
-        elim (or_split (nat_eq s.0 t) (left_body h t) n) [
+        elim (or_cases (nat_eq s.0 t) (left_body h t) n) [
           | inl q ↦ subst (λ z. is_some (outcome_in (rest g v h z)) ≡ true) (same_number s.0 t q) al.1
           | inr q ↦ old q
         ]
@@ -93,7 +96,7 @@ pub view_fits : (g : TaskGraph) (v : List Bool) (h : List Event) (l : Assumed) (
 view_fits g v h l rows t run agrees ends b = record {
   own = refl;
   inputs = agrees.inputs;
-  quiet = λ k r. elim (decide (l.quiet k)) [ inl q ↦ true_false (sym r ∙ agrees.quiet k q) | inr q ↦ q ];
+  quiet = λ k r. elim (cases_Bool (l.quiet k)) [ inl q ↦ true_false (sym r ∙ agrees.quiet k q) | inr q ↦ q ];
   subject = by_kind (kind g t) refl;
 }
   where
@@ -102,7 +105,7 @@ view_fits g v h l rows t run agrees ends b = record {
         let same = some_eq a s e in
         let p' = subst (λ z. final g v h z ≡ Some f) (sym same) p in
         let f' = some_eq m.0 f (sym m.1 ∙ p') in
-        and_join (has (row rows a).ends f) (allows (options g t) f) (ends a f p') (subst (λ z. allows (options g t) z ≡ true) f' m.2)
+        and_from (has (row rows a).ends f) (allows (options g t) f) (ends a f p') (subst (λ z. allows (options g t) z ≡ true) f' m.2)
 
     of_kind : (a : ℕ) (k : TaskKind) → kind g a ≡ k → MayStart g v h t (Continues a) → (s : ℕ) (f : Final) → subject_of k a (ending g v h a) ≡ Some s → final g v h s ≡ Some f → subject_ends k (options g t) a rows f ≡ true
     of_kind a (WhenAny args) k m s f e p =
@@ -129,7 +132,7 @@ view_fits g v h l rows t run agrees ends b = record {
 pub agrees_before : (g : TaskGraph) (v : List Bool) (h : List Event) (l : Assumed) (a : Actor) (x : Act) → Allows g v h a x → Agrees g l v (after a x h) → Agrees g l v h
 agrees_before g v h l a x al ag = record {
   inputs = ag.inputs;
-  quiet = λ k q. elim (decide (requested g v h k)) [ inl r ↦ true_false (sym (requested_kept g v h a x k r) ∙ ag.quiet k q) | inr r ↦ r ];
+  quiet = λ k q. elim (cases_Bool (requested g v h k)) [ inl r ↦ true_false (sym (requested_kept g v h a x k r) ∙ ag.quiet k q) | inr r ↦ r ];
   ends = λ t f e. ag.ends t f (final_kept g v h a x t f al e);
 }
 

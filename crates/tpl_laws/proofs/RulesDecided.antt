@@ -1,68 +1,49 @@
 -- The rules for a row are decided by their tests.
 use Rattle.std.proofs.Common.{◌≡◌, ℕ, ◌⊎◌, ◌&&◌, ◌||◌, not, Bool, true, false, Some, List, [], ◌∷◌, refl, sym, subst, nat_eq}
+use Rattle.tpl_laws.proofs.AllowedDecided.{itself, denied as opposite}
+use Rattle.tpl_words.proofs.Truths.{true_false}
+use Rattle.tpl_script.proofs.PathEnds.{is_acknowledged, is_returned, thrown_label}
+use Rattle.tpl_script.proofs.Through.{no_clean}
 use Rattle.tpl_words.specs.declared.finals.Final.{Final}
 use Rattle.tpl_words.specs.declared.finals.Final.TheVariants.{RanToCompletion, Canceled, Faulted}
 use Rattle.tpl_words.specs.Finals.{has, is_final}
 use Rattle.tpl_words.specs.Options.{allows, lazy_cancellation}
-use Rattle.tpl_words.specs.declared.status.Label.{Label}
-use Rattle.tpl_script.specs.declared.outcome.Outcome.{Outcome}
 use Rattle.tpl_script.specs.declared.outcome.Outcome.TheVariants.{Returned, Threw, Acknowledged}
 use Rattle.tpl_words.specs.Members.{mem}
-use Rattle.tpl_script.specs.Statements.{Statement, Statements}
+use Rattle.tpl_script.specs.Statements.{Statements}
 use Rattle.tpl_model.specs.Graph.{TaskGraph, TaskKind, Root, Child, Continues, WhenAll, WhenAny, kind, body, options, attached, some_in, IsParent}
 use Rattle.tpl_model.specs.Valid.{IsGraph}
 use Rattle.tpl_model.specs.declared.claim.Property.{Property}
 use Rattle.tpl_model.specs.declared.claim.Property.TheVariants.{Final as EndsIn, After, Observed, Never, Excludes}
 use Rattle.tpl_script.specs.Paths.{Known, Path, MayEnd, MayThrow, MayStartChild, MustObserve}
 use Rattle.tpl_model.specs.Certificate.{Row, row, Assumed, is_loud, view, IsBelow, RunsRule, BodyMayEnd, MayBeCanceled, AllMayEnd, MayEndAs, BeforeRule, may_end_early, PastRule, TakesOver, Reads, Links, ChainRule, Proves}
-use Rattle.tpl_script.specs.Recursion.{may, none, is_throw, must_observe, clean, reaches}
-use Rattle.tpl_laws.proofs.Basics.{true_false}
+use Rattle.tpl_script.specs.Recursion.{may, none, is_throw, must_observe, reaches}
 use Rattle.tpl_laws.specs.RowTests.{implies, all_in, some_end, parent_of, by_parent, is_below, runs_by, runs, is_return, is_acknowledgement, may_throw, body_may_end, may_be_canceled, all_may_end, may_end_as, ends, before_by, before, past_by, past, is_argument, takes_over, continues, faulted_view, reads, links, chain_by, chain, is_none, proves}
-use Rattle.tpl_laws.proofs.Deciding.{Decides, itself, opposite, denied, same, same_end, both, either, only_if, means, at_each_end, at_some_end, of_all, of_some}
+use Rattle.tpl_laws.proofs.Deciding.{Decides, denied, same, same_end, both, either, only_if, means, at_each_end, at_some_end, of_all, of_some}
 use Rattle.tpl_laws.proofs.Parents.{at_parent, below}
 use Rattle.tpl_laws.specs.PathLaws.{PathLaws}
-
--- paths
-none_clean : (ps : List Statement) → clean none ps ≡ true
-none_clean [] = refl
-none_clean (x ∷ ps) = none_clean ps
-
-return_is : (v : Outcome) → is_return v ≡ true → v ≡ Returned
-return_is Returned e = refl
-return_is (Threw label) e = true_false (sym e)
-return_is Acknowledged e = true_false (sym e)
-
-acknowledgement_is : (v : Outcome) → is_acknowledgement v ≡ true → v ≡ Acknowledged
-acknowledgement_is Returned e = true_false (sym e)
-acknowledgement_is (Threw label) e = true_false (sym e)
-acknowledgement_is Acknowledged e = refl
-
-throw_is : (v : Outcome) → is_throw v ≡ true → (label : Label) × (v ≡ Threw label)
-throw_is Returned e = true_false (sym e)
-throw_is (Threw label) e = (label, refl)
-throw_is Acknowledged e = true_false (sym e)
 
 -- from what the recursion over a body finds
 module _ (paths : PathLaws) where
   returns_it : (w : Known) (script : Statements) → Decides (may none is_return w script) (MayEnd w script Returned)
   returns_it w script = record {
-    finds = λ e. let r = (paths.may none is_return w script).0 e in (r.0, subst (λ z. Path w script r.0 (Some z)) (return_is r.1 r.3) r.2);
-    found = λ m. (paths.may none is_return w script).1 (m.0, Returned, m.1, refl, none_clean m.0);
+    finds = λ e. let r = (paths.may none is_return w script).0 e in (r.0, subst (λ z. Path w script r.0 (Some z)) (is_returned r.1 r.3) r.2);
+    found = λ m. (paths.may none is_return w script).1 (m.0, Returned, m.1, refl, no_clean m.0);
   }
 
   acknowledges_it : (w : Known) (script : Statements) → Decides (may none is_acknowledgement w script) (MayEnd w script Acknowledged)
   acknowledges_it w script = record {
-    finds = λ e. let r = (paths.may none is_acknowledgement w script).0 e in (r.0, subst (λ z. Path w script r.0 (Some z)) (acknowledgement_is r.1 r.3) r.2);
-    found = λ m. (paths.may none is_acknowledgement w script).1 (m.0, Acknowledged, m.1, refl, none_clean m.0);
+    finds = λ e. let r = (paths.may none is_acknowledgement w script).0 e in (r.0, subst (λ z. Path w script r.0 (Some z)) (is_acknowledged r.1 r.3) r.2);
+    found = λ m. (paths.may none is_acknowledgement w script).1 (m.0, Acknowledged, m.1, refl, no_clean m.0);
   }
 
   pub throws_it : (w : Known) (script : Statements) → Decides (may none is_throw w script) (MayThrow w script)
   throws_it w script = record {
     finds = λ e.
         let r = (paths.may none is_throw w script).0 e in
-        let l = throw_is r.1 r.3 in
+        let l = thrown_label r.1 r.3 in
         (l.0, (r.0, subst (λ z. Path w script r.0 (Some z)) l.1 r.2));
-    found = λ m. (paths.may none is_throw w script).1 (m.1.0, Threw m.0, m.1.1, refl, none_clean m.1.0);
+    found = λ m. (paths.may none is_throw w script).1 (m.1.0, Threw m.0, m.1.1, refl, no_clean m.1.0);
   }
 
   starts_it : (c : ℕ) (w : Known) (script : Statements) → Decides (reaches c w script) (MayStartChild w script c)

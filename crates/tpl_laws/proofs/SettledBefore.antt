@@ -1,5 +1,7 @@
 -- What is settled where a task begins.
 use Rattle.std.proofs.Common.{◌≡◌, ℕ, suc, ◌≤◌, ◌++◌, inl, inr, Bool, true, false, Option, Some, None, List, [], ◌∷◌, refl, sym, ap, ◌∙◌, subst, arith, length}
+use Rattle.std.proofs.lemmas.Bool.{cases_Bool}
+use Rattle.tpl_words.proofs.Truths.{true_false}
 use Rattle.tpl_words.specs.declared.status.Status.TheVariants.{WaitingToRun}
 use Rattle.tpl_model.specs.Graph.{TaskGraph, TaskKind, Root, Child, Continues, WhenAll, WhenAny, kind, IsParent}
 use Rattle.tpl_words.specs.declared.status.Actor.{Actor}
@@ -10,7 +12,7 @@ use Rattle.tpl_model.specs.Facts.{Ending, Rest, begun, begun_by, place_in, ended
 use Rattle.tpl_model.specs.Rules.{Allows, Run, Settled, ended, unstarted}
 use Rattle.tpl_model.specs.Valid.{IsGraph}
 use Rattle.tpl_model.specs.Claims.{SettledAtBegin}
-use Rattle.tpl_laws.proofs.Basics.{true_false, decide, if_true, if_false, some_none, the_some, is_some_of, same_number}
+use Rattle.tpl_laws.proofs.Basics.{if_true, if_false, some_none, the_some, is_some_of, same_number}
 use Rattle.tpl_laws.proofs.Kept.{waiting_facts, ending_new}
 use Rattle.tpl_laws.proofs.Prefixes.{nothing_goes_back_lem}
 use Rattle.tpl_laws.proofs.Settling.{child_rules, started_before, settled_kept}
@@ -76,7 +78,7 @@ settled_stays g v (x ∷ later) h t valid run s = settled_kept g v (later ++ h) 
 unstarted_stays : (g : TaskGraph) (v : List Bool) (later h : List Event) (t p : ℕ) → IsGraph g → Run g v (later ++ h) → IsParent g p t → Settled g v h p → started g v h t ≡ false → started g v (later ++ h) t ≡ false
 unstarted_stays g v [] h t p valid run par s n = n
 unstarted_stays g v (x ∷ later) h t p valid run par s n =
-    elim (decide (started g v (x ∷ later ++ h) t)) [
+    elim (cases_Bool (started g v (x ∷ later ++ h) t)) [
       | inl now ↦
           let old = started_before g v (later ++ h) x.actor x.act t p valid run.0 run.1 par (settled_stays g v later h p valid run.0 s) now in
           true_false (sym old ∙ unstarted_stays g v later h t p valid run.0 par s n)
@@ -95,7 +97,7 @@ seen_then : (g : TaskGraph) (v : List Bool) (later h : List Event) (t : ℕ) →
 seen_then g v later h t valid run (ended_before {e = r} e early) = ended (is_some_of (ending g v h t) r (ended_then g v later h t r e (omega arith)))
 seen_then g v later h t valid run (never_started {p = p} n par s) =
     unstarted {p = p} ((child_rules g p t valid par).child p par)
-    (elim (decide (started g v h t)) [ inl b ↦ true_false (sym ((nothing_goes_back_lem g v later h run).still_started t b) ∙ n) | inr b ↦ b ])
+    (elim (cases_Bool (started g v h t)) [ inl b ↦ true_false (sym ((nothing_goes_back_lem g v later h run).still_started t b) ∙ n) | inr b ↦ b ])
     par (seen_then g v later h p valid run s)
 
 -- nobody begins a task that has begun
@@ -112,7 +114,7 @@ begins_once g v h a (Settle s) b al e = true_false (sym e)
 
 pub begun_once : (x : Event) (h : List Event) (b : ℕ) → begun (x ∷ h) b ≡ None → (begun_by x.act b ≡ false) × (begun h b ≡ None)
 begun_once x h b e =
-    elim (decide (begun_by x.act b)) [
+    elim (cases_Bool (begun_by x.act b)) [
       | inl now ↦ some_none x.actor (sym (if_true (begun_by x.act b) (Some x.actor) (begun h b) now) ∙ e)
       | inr none ↦ (none, sym (if_false (begun_by x.act b) (Some x.actor) (begun h b) none) ∙ e)
     ]

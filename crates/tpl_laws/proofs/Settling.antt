@@ -10,14 +10,16 @@ use Rattle.tpl_model.specs.declared.event.Event.{Event}
 use Rattle.tpl_model.specs.Facts.{Ending, begun, starts_by, ends_by, all_over, rest, started, ending}
 use Rattle.tpl_model.specs.Rules.{IsRunning, Allows, Run, can_settle, Settled, ended, unstarted}
 use Rattle.tpl_model.specs.Valid.{HasSubject, IsGraph, IsTask, IdsOf, IdsWithin}
-use Rattle.tpl_laws.proofs.Basics.{true_false, decide, and_split, or_split, or_left, or_right, the_some, is_some_of, same_number, same_self, mem_append, mem_split}
+use Rattle.tpl_laws.proofs.Basics.{the_some, is_some_of, same_number}
 use Rattle.tpl_laws.proofs.Kept.{after, running_facts, drop_facts, ending_new, ended_kept}
 use Rattle.tpl_words.specs.Options.{attached_to_parent, deny_child_attach}
 use Rattle.tpl_model.specs.Certificate.{IsBelow, child, deeper}
 use Rattle.tpl_laws.proofs.Execution.{started_parent, next_start}
 use Rattle.tpl_laws.proofs.Ready.{Ready, begun_ready, IsBody, begun_body}
 use Rattle.std.proofs.Common.{◌≤◌, filter}
-use Rattle.std.proofs.lemmas.Bool.{cases_lt}
+use Rattle.std.proofs.lemmas.Bool.{cases_lt, cases_Bool, and_parts, or_cases, or_left, or_right}
+use Rattle.tpl_words.proofs.MemberLemmas.{same_self, mem_append, mem_split}
+use Rattle.tpl_words.proofs.Truths.{true_false}
 
 pub beyond : (xs : List Task) (t : ℕ) (d : Task) → length xs ≤ t → slice_index_or xs t d ≡ d
 beyond [] t d e = refl
@@ -102,7 +104,7 @@ still_unstarted g v h a (Settle q) c p valid run al par sp e = true_false (sym e
 -- a child of a settled task that is started had been started before
 pub started_before : (g : TaskGraph) (v : List Bool) (h : List Event) (a : Actor) (x : Act) (c p : ℕ) → IsGraph g → Run g v h → Allows g v h a x → IsParent g p c → Settled g v h p → started g v (after a x h) c ≡ true → started g v h c ≡ true
 started_before g v h a x c p valid run al par sp e =
-    elim (or_split (starts_by c x (rest g v h)) (started g v h c) e) [
+    elim (or_cases (starts_by c x (rest g v h)) (started g v h c) e) [
       | inl now ↦ absurd (still_unstarted g v h a x c p valid run al par sp now)
       | inr old ↦ old
     ]
@@ -111,15 +113,15 @@ pub settled_kept : (g : TaskGraph) (v : List Bool) (h : List Event) (a : Actor) 
 settled_kept g v h a x t valid run al (ended e) = ended (ended_kept g v h a x t al e)
 settled_kept g v h a x t valid run al (unstarted {p = p} k s par sp) =
     unstarted k
-    (elim (decide (started g v (after a x h) t)) [ inl b ↦ true_false (sym (started_before g v h a x t p valid run al par sp b) ∙ s) | inr b ↦ b ])
+    (elim (cases_Bool (started g v (after a x h) t)) [ inl b ↦ true_false (sym (started_before g v h a x t p valid run al par sp b) ∙ s) | inr b ↦ b ])
     par (settled_kept g v h a x p valid run al sp)
 
 pub all_over_mem : (cs : List ℕ) (st : ℕ → Bool) (en : ℕ → Option Ending) (c : ℕ) → all_over cs st en ≡ true → mem c cs ≡ true → st c ≡ true → is_some (en c) ≡ true
 all_over_mem [] st en c o m s = true_false (sym m)
 all_over_mem (d ∷ cs) st en c o m s =
-    let both = and_split (not (st d) || is_some (en d)) (all_over cs st en) o in
+    let both = and_parts (not (st d) || is_some (en d)) (all_over cs st en) o in
     elim (mem_split c d cs m) [
-      | inl q ↦ elim (or_split (not (st d)) (is_some (en d)) both.0) [
+      | inl q ↦ elim (or_cases (not (st d)) (is_some (en d)) both.0) [
         | inl n ↦ true_false (sym s ∙ ap st q ∙ not_true_false (st d) n)
         | inr i ↦ subst (λ z. is_some (en z) ≡ true) (sym q) i
       ]
@@ -142,7 +144,7 @@ children_over g v (e ∷ h) p c valid run n m s = ended_kept g v h e.actor e.act
     begun_parent t = let q = started_parent g v h c run.0 t in subst (λ z. is_some (begun h z) ≡ true) ((child_rules g p c valid par).one_parent q.0 p q.1.parent par) q.1.begun
 
     by_act : (a : Actor) (x : Act) → Allows g v h a x → ends_by g p x (started g v h) (ending g v h) ≡ true → started g v (after a x h) c ≡ true → is_some (ending g v h c) ≡ true
-    by_act a (Leave q) al en st = all_over_mem (attached g p) (started g v h) (ending g v h) c (and_split (nat_eq q.0 p) (all_over (attached g p) (started g v h) (ending g v h)) en).1 m st
+    by_act a (Leave q) al en st = all_over_mem (attached g p) (started g v h) (ending g v h) c (and_parts (nat_eq q.0 p) (all_over (attached g p) (started g v h) (ending g v h)) en).1 m st
     by_act a (Close q) al en st = all_over_mem (attached g p) (started g v h) (ending g v h) c (subst (λ z. all_over (attached g z) (started g v h) (ending g v h) ≡ true) (same_number q.0 p en) al.2) m st
     by_act a (Drop q) al en st =
         let d = drop_facts g v h q.0 al.1 in
@@ -173,7 +175,7 @@ children_over g v (e ∷ h) p c valid run n m s = ended_kept g v h e.actor e.act
 -- an attached child of a settled task is settled
 pub child_settled : (g : TaskGraph) (v : List Bool) (h : List Event) (p c : ℕ) → IsGraph g → Run g v h → mem c (attached g p) ≡ true → Settled g v h p → Settled g v h c
 child_settled g v h p c valid run m sp =
-    elim (decide (started g v h c)) [
+    elim (cases_Bool (started g v h c)) [
       | inl s ↦ by_started s sp
       | inr s ↦ unstarted ((child_rules g p c valid par).child p par) s par sp
     ]

@@ -1,5 +1,8 @@
 -- What is left of a body gets smaller.
 use Rattle.std.proofs.Common.{◌≡◌, ℕ, ◌+◌, ◌<◌, ◌≤◌, Bool, true, false, Option, List, sym, ap, subst, arith, if◌then◌else◌, slice_index_or, nat_eq, inl, inr, ◌⊎◌}
+use Rattle.std.proofs.lemmas.Bool.{cases_Bool}
+use Rattle.tpl_words.proofs.MemberLemmas.{same_self}
+use Rattle.tpl_words.proofs.Truths.{true_false}
 use Rattle.tpl_script.specs.Statements.{Return, Throw, Check, Cancel, Start, Observe, Work, If, When, Statements, Nothing, ◌⨾◌, followed_by}
 use Rattle.tpl_model.specs.Graph.{TaskGraph, task, kind}
 use Rattle.tpl_words.specs.declared.status.Actor.{Actor}
@@ -12,7 +15,7 @@ use Rattle.tpl_model.specs.Facts.{Rest, Ending, on, over, has_final, subject_in,
 use Rattle.tpl_script.specs.Paths.{cancellation}
 use Rattle.tpl_model.specs.Rules.{Allows, steps, works}
 use Rattle.tpl_script.specs.Limits.{statement_count}
-use Rattle.tpl_laws.proofs.Basics.{true_false, decide, if_true, if_false, same_number, same_self}
+use Rattle.tpl_laws.proofs.Basics.{if_true, if_false, same_number}
 use Rattle.tpl_laws.proofs.Kept.{id, after}
 
 size_ahead : (a more : Statements) → statement_count (followed_by a more) ≡ statement_count a + statement_count more
@@ -77,12 +80,12 @@ passed_smaller g v h a x t (inr (w, e)) al = subst (λ z. Allows g v h a z → s
 -- no act leaves more of a body
 pub rest_no_larger : (g : TaskGraph) (v : List Bool) (h : List Event) (a : Actor) (x : Act) (t : ℕ) → Allows g v h a x → statement_count (rest g v (after a x h) t).left ≤ statement_count (rest g v h t).left
 rest_no_larger g v h a (Step s) t al =
-    elim (decide (nat_eq s.0 t)) [
+    elim (cases_Bool (nat_eq s.0 t)) [
       | inl q ↦ let r = passed_smaller g v h a (Step s) t (inl (ap (λ z. Step (id z)) (same_number s.0 t q))) al in omega arith
       | inr q ↦ subst (λ z. statement_count z.left ≤ statement_count (rest g v h t).left) (sym (if_false (nat_eq s.0 t) (stepped g v t (rest g v h t).left (requested g v h) (ending g v h)) (rest g v h t) q)) (omega arith)
     ]
 rest_no_larger g v h a (Worked s w) t al =
-    elim (decide (nat_eq s.0 t)) [
+    elim (cases_Bool (nat_eq s.0 t)) [
       | inl q ↦ let r = passed_smaller g v h a (Worked s w) t (inr (w, ap (λ z. Worked (id z) w) (same_number s.0 t q))) al in omega arith
       | inr q ↦ subst (λ z. statement_count z.left ≤ statement_count (rest g v h t).left) (sym (if_false (nat_eq s.0 t) (worked w (rest g v h t).left) (rest g v h t) q)) (omega arith)
     ]

@@ -1,16 +1,18 @@
 -- Tokens that are reached through links.
 use Rattle.std.proofs.Common.{◌≡◌, ℕ, zero, suc, ◌+◌, ◌<◌, ◌≤◌, ◌||◌, ◌⊎◌, inl, inr, Bool, true, false, if◌then◌else◌, List, [], ◌∷◌, refl, sym, ap, ◌∙◌, subst, arith, length}
-use Rattle.std.proofs.lemmas.Bool.{cases_lt}
+use Rattle.std.proofs.lemmas.Bool.{cases_lt, or_cases, or_left, or_right}
 use Rattle.std.proofs.lemmas.List.{get_or_past}
+use Rattle.tpl_words.proofs.MemberLemmas.{mem_there, mem_split}
+use Rattle.tpl_words.proofs.Truths.{same_tests, true_false}
 use Rattle.tpl_words.specs.Members.{mem}
 use Rattle.tpl_model.specs.Graph.{TaskGraph, Plain, sources, sources_of, some_in, within, through}
-use Rattle.tpl_laws.proofs.Basics.{true_false, or_split, or_left, or_right, mem_here, mem_there, mem_split}
+use Rattle.tpl_laws.proofs.Basics.{mem_here}
 
 -- one of the list is in a larger set too
 pub some_more : (p q : ℕ → Bool) → ((k : ℕ) → p k ≡ true → q k ≡ true) → (ks : List ℕ) → some_in p ks ≡ true → some_in q ks ≡ true
 some_more p q f [] e = e
 some_more p q f (k ∷ ks) e =
-    elim (or_split (p k) (some_in p ks) e) [
+    elim (or_cases (p k) (some_in p ks) e) [
       | inl a ↦ or_left (q k) (some_in q ks) (f k a)
       | inr b ↦ or_right (q k) (some_in q ks) (some_more p q f ks b)
     ]
@@ -26,7 +28,7 @@ some_at p (j ∷ ks) k m e =
 pub some_one : (p : ℕ → Bool) (ks : List ℕ) → some_in p ks ≡ true → (k : ℕ) × (mem k ks ≡ true) × (p k ≡ true)
 some_one p [] e = true_false (sym e)
 some_one p (j ∷ ks) e =
-    elim (or_split (p j) (some_in p ks) e) [
+    elim (or_cases (p j) (some_in p ks) e) [
       | inl a ↦ (j, mem_here j j ks refl, a)
       | inr b ↦ let w = some_one p ks b in (w.0, mem_there w.0 j ks w.1, w.2)
     ]
@@ -34,7 +36,7 @@ some_one p (j ∷ ks) e =
 pub within_more : (g : TaskGraph) (p q : ℕ → Bool) → ((k : ℕ) → p k ≡ true → q k ≡ true) → (n k : ℕ) → within g p n k ≡ true → within g q n k ≡ true
 within_more g p q f zero k e = f k e
 within_more g p q f (suc n) k e =
-    elim (or_split (p k) (some_in (within g p n) (sources g k)) e) [
+    elim (or_cases (p k) (some_in (within g p n) (sources g k)) e) [
       | inl a ↦ or_left (q k) (some_in (within g q n) (sources g k)) (f k a)
       | inr b ↦ or_right (q k) (some_in (within g q n) (sources g k)) (some_more (within g p n) (within g q n) (within_more g p q f n) (sources g k) b)
     ]
@@ -57,7 +59,7 @@ Stops g p n = (k : ℕ) → within g p (suc n) k ≡ true → within g p n k ≡
 within_step : (g : TaskGraph) (p : ℕ → Bool) (n k : ℕ) → within g p n k ≡ true → within g p (suc n) k ≡ true
 within_step g p zero k e = or_left (p k) (some_in p (sources g k)) e
 within_step g p (suc n) k e =
-    elim (or_split (p k) (some_in (within g p n) (sources g k)) e) [
+    elim (or_cases (p k) (some_in (within g p n) (sources g k)) e) [
       | inl a ↦ or_left (p k) (some_in (within g p (suc n)) (sources g k)) a
       | inr b ↦ or_right (p k) (some_in (within g p (suc n)) (sources g k)) (some_more (within g p n) (within g p (suc n)) (within_step g p n) (sources g k) b)
     ]
@@ -118,7 +120,7 @@ no_sources g k le = ap sources_of (get_or_past g.tokens k Plain le)
 -- what reaches nothing new once stops
 stops_next : (g : TaskGraph) (p : ℕ → Bool) (n : ℕ) → Stops g p n → Stops g p (suc n)
 stops_next g p n s k e =
-    elim (or_split (p k) (some_in (within g p (suc n)) (sources g k)) e) [
+    elim (or_cases (p k) (some_in (within g p (suc n)) (sources g k)) e) [
       | inl a ↦ or_left (p k) (some_in (within g p n) (sources g k)) a
       | inr b ↦ or_right (p k) (some_in (within g p n) (sources g k)) (some_more (within g p (suc n)) (within g p n) s (sources g k) b)
     ]
@@ -128,7 +130,7 @@ stops_below g p n s k e =
     elim (cases_lt k (length g.tokens)) [
       | inl lt ↦ s k lt e
       | inr le ↦
-          elim (or_split (p k) (some_in (within g p n) (sources g k)) e) [
+          elim (or_cases (p k) (some_in (within g p n) (sources g k)) e) [
             | inl a ↦ within_here g p n k a
             | inr b ↦ true_false (sym (subst (λ z. some_in (within g p n) z ≡ true) (no_sources g k le) b))
           ]
@@ -158,19 +160,14 @@ stops g p =
 pub through_source : (g : TaskGraph) (p : ℕ → Bool) (k s : ℕ) → mem s (sources g k) ≡ true → through g p s ≡ true → through g p k ≡ true
 through_source g p k s m e = stops g p k (or_right (p k) (some_in (through g p) (sources g k)) (some_at (through g p) (sources g k) s m e))
 
-both_true : (a b : Bool) → (a ≡ true → b ≡ true) → (b ≡ true → a ≡ true) → a ≡ b
-both_true true b f i = sym (f refl)
-both_true false true f i = i refl
-both_true false false f i = refl
-
 -- a token reaches the set where it is in it or one of its sources reaches it
 pub through_is : (g : TaskGraph) (p : ℕ → Bool) (k : ℕ) → through g p k ≡ p k || some_in (through g p) (sources g k)
-through_is g p k = both_true (through g p k) (p k || some_in (through g p) (sources g k)) (within_step g p (length g.tokens) k) (stops g p k)
+through_is g p k = same_tests (through g p k) (p k || some_in (through g p) (sources g k)) (within_step g p (length g.tokens) k) (stops g p k)
 
 within_twice : (g : TaskGraph) (p : ℕ → Bool) (n k : ℕ) → within g (through g p) n k ≡ true → through g p k ≡ true
 within_twice g p zero k e = e
 within_twice g p (suc n) k e =
-    elim (or_split (through g p k) (some_in (within g (through g p) n) (sources g k)) e) [
+    elim (or_cases (through g p k) (some_in (within g (through g p) n) (sources g k)) e) [
       | inl a ↦ a
       | inr b ↦ let w = some_one (within g (through g p) n) (sources g k) b in through_source g p k w.0 w.1 (within_twice g p n w.0 w.2)
     ]

@@ -8,8 +8,8 @@ use Rattle.std.proofs.lemmas.Map.Steps.{length-le_from_distinct_below}
 use Rattle.std.proofs.lemmas.Map.Keys.{IsDistinct-push}
 use Rattle.std.specs.Cmp.{nat_eq_equiv}
 use Rattle.std.proofs.lemmas.List.{length-append, length-map, map-append}
-use Rattle.tpl_machine.proofs.Basics.{mem_append, mem_split}
 use Rattle.std.proofs.Common.{inl, inr}
+use Rattle.tpl_words.proofs.MemberLemmas.{mem_append, mem_split}
 use Rattle.tpl_words.specs.declared.ids.TaskId.{TaskId}
 use Rattle.tpl_words.specs.Members.{mem, joined}
 use Rattle.tpl_graph.specs.Ids.{task_number}

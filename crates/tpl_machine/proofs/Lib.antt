@@ -1,4 +1,3 @@
-pub mod Basics
 pub mod AtomLemmas
 pub mod GatherLemmas
 pub mod OpenLemmas

@@ -2,6 +2,7 @@
 use Rattle.std.proofs.Common.{◌≡◌, ℕ, zero, suc, ◌-◌, ◌<◌, inl, inr, List, [], ◌∷◌, map, Bool, true, Option, Some, None, is_some, refl, sym, ap, subst, ◌∙◌, arith, true≢false}
 use Rattle.std.specs.Prelude.{slice_get}
 use Rattle.std.specs.List.{list_all}
+use Rattle.tpl_cert.proofs.OneTree.{chain_same}
 use Rattle.serde_json.specs.Data.{Data}
 use Rattle.tpl_model.specs.Claims.{Claim}
 use Rattle.tpl_claims.specs.Fits.{have_bodies, given_twice}
@@ -33,7 +34,7 @@ use Rattle.tpl_reader.specs.declared.fault.StartFault.TheVariants as starts
 use Rattle.tpl_reader.specs.declared.fault.ReadFault.{ReadFault}
 use Rattle.tpl_reader.specs.declared.fault.ReadFault.TheVariants as faults
 use Rattle.tpl_reader.specs.Document.{Spelled, IsSpelled, IsMisshapen, IsNoStart, IsNoMemory, DocumentValue, IsStarted, AreAsked, IsRefusedClaim, IsWrongBegin, IsRefused, IsDocument, Reads, Spells, IsFault}
-use Rattle.tpl_reader.proofs.OneDocument.{top_same, spelled_same, claim_of_same, numbers_same, shallow, value_same}
+use Rattle.tpl_reader.proofs.OneDocument.{top_same, spelled_same, claim_of_same, shallow, value_same}
 
 -- ---- an element that is read isn't wrong
 
@@ -122,7 +123,7 @@ right_start g s start starts.Missing is wrong = some_none _ (sym (is.inputs.each
     some_none : (b : Bool) → Some b ≡ None → ⊥
     some_none b e = cc
 right_start g s start starts.FailNot is wrong =
-    let same = numbers_same g.names.sites s.fail start.fail wrong.2.0 is.sites wrong.2.1 in
+    let same = chain_same g.names.sites s.fail start.fail wrong.2.0 is.sites wrong.2.1 in
     true≢false (sym is.may_fail ∙ ap (may_all_fail g.graph) same ∙ wrong.2.2)
 
 right_begin : (g : Named) (s : Option NamedStart) (start : Option StartValue) (f : StartFault) → IsStarted g s start → IsWrongBegin g s f → ⊥

@@ -1,6 +1,7 @@
 -- Bytes spell one document at most.
 use Rattle.std.proofs.Common.{◌≡◌, ℕ, suc, ◌<◌, ◌≤◌, List, [], ◌∷◌, length, map, Bool, Option, Some, None, refl, sym, ap, subst, ◌∙◌, arith}
 use Rattle.std.specs.Prelude.{slice_index_or}
+use Rattle.tpl_cert.proofs.OneTree.{chain_same}
 use Rattle.serde_json.specs.Data.{Data, depth}
 use Rattle.serde_json.proofs.Nesting.{depth-read}
 use Rattle.tpl_model.specs.declared.claim.Given.{Given}
@@ -10,7 +11,6 @@ use Rattle.tpl_model.specs.Certificate.{Tree}
 use Rattle.tpl_graph.specs.Draft.{Task, Token}
 use Rattle.tpl_graph.specs.Named.{Names, Named}
 use Rattle.tpl_cert.specs.Laws.{SpellsOneTree}
-use Rattle.tpl_cert.specs.Naming.{AreNumbers}
 use Rattle.tpl_cert.specs.Spelled.{ReadsAs}
 use Rattle.tpl_reader.specs.NamedClaims.{NamedClaim}
 use Rattle.tpl_reader.specs.Start.{NamedStart}
@@ -108,9 +108,6 @@ bools_same (x ∷ xs) (y ∷ ys) e b f = cons_same x y xs ys (f 0 (omega arith))
 truths_same : (names : List (List ℕ)) (d : Option Data) (xs ys : List Bool) → HasTruths names d xs → HasTruths names d ys → xs ≡ ys
 truths_same names d xs ys p q = bools_same xs ys (p.count ∙ sym q.count) _ (λ i lt. let less : i < length names = omega (arith, p.count) in some_is _ _ (sym (p.each i less) ∙ q.each i less))
 
-pub numbers_same : (names texts : List (List ℕ)) (xs ys : List ℕ) → AreNumbers names texts xs → AreNumbers names texts ys → xs ≡ ys
-numbers_same names texts xs ys p q = somes_same xs ys (sym p ∙ q)
-
 abbrev start_with : List Bool → List ℕ → List ℕ → StartValue
 start_with inputs request fail = record { inputs = inputs; request = request; fail = fail }
 
@@ -121,8 +118,8 @@ start_of_same : (g : Named) (s : NamedStart) (x y : StartValue) → IsStartOf g 
 start_of_same g s x y p q =
     start_parts x.inputs y.inputs x.request y.request x.fail y.fail
     (truths_same g.names.inputs s.inputs x.inputs y.inputs p.inputs q.inputs)
-    (numbers_same g.names.tokens s.request x.request y.request p.request q.request)
-    (numbers_same g.names.sites s.fail x.fail y.fail p.sites q.sites)
+    (chain_same g.names.tokens s.request x.request y.request p.request q.request)
+    (chain_same g.names.sites s.fail x.fail y.fail p.sites q.sites)
 
 started_same : (g : Named) (s : Option NamedStart) (x y : Option StartValue) → IsStarted g s x → IsStarted g s y → x ≡ y
 started_same g None None None p q = refl

@@ -1,10 +1,10 @@
 -- The start of a run is read exactly where it is spelled.
 use Rattle.std.proofs.Common.{◌≡◌, [], ◌∷◌, Bool, true, false, cond, Option, Some, None, codes, is_some, refl, sym, subst}
+use Rattle.tpl_words.proofs.Truths.{and_first, and_second}
 use Rattle.serde_json.specs.Data.{Data, Members, no_members, member, null, boolean, number, string, array, object}
 use Rattle.serde_json.specs.Find.{get, as_bool}
 use Rattle.tpl_json.specs.Members.{only_if, has_only, texts_in}
 use Rattle.tpl_json.specs.Grammar.{IfThere}
-use Rattle.tpl_json.proofs.Truths.{and_first, and_second}
 use Rattle.tpl_json.proofs.Arrays.{bind_some, some_is}
 use Rattle.tpl_json.proofs.Json.{some_none, only_is, bool_is, texts_sound, texts_complete}
 use Rattle.tpl_reader.specs.Start.{NamedStart, all_truths, has_truths, truths_or_none, start_at, start_or_none}

@@ -5,6 +5,7 @@ use Rattle.std.specs.List.{All}
 use Rattle.std.proofs.lemmas.Bool.{ltb-true, ltb-false}
 use Rattle.std.proofs.lemmas.List.{take_all, reverse-append, take-append-drop, take-append-le}
 use Rattle.std.proofs.lemmas.List.Elements.{All-head}
+use Rattle.tpl_audit.proofs.FailLemmas.{front_run}
 use Rattle.tpl_model.specs.Graph.{TaskGraph}
 use Rattle.tpl_model.specs.declared.event.Event.{Event}
 use Rattle.tpl_model.specs.Claims.{Claim, Holds}
@@ -32,11 +33,6 @@ within (suc n) (e ∷ events) = let rest = within n events in omega arith
 first_of_first : (events : List Event) (n place : ℕ) → place < length (take n events) → first_events events place ≡ first_events (take n events) place
 first_of_first events n place lt =
     ap reverse (sym (ap (take place) (take-append-drop n events)) ∙ take-append-le place (take n events) (drop n events) (omega arith))
-
-front_run : (g : TaskGraph) (v : List Bool) (events : List Event) (place : ℕ) → PrefixIsRun → Run g v (reverse events) → Run g v (first_events events place)
-front_run g v events place prefix run =
-    let parts : reverse (drop place events) ++ first_events events place ≡ reverse events = sym (reverse-append (take place events) (drop place events)) ∙ ap reverse (take-append-drop place events) in
-    prefix g v (reverse (drop place events)) (first_events events place) (subst (Run g v) (sym parts) run)
 
 pub refutes : (g : TaskGraph) (claim : Claim) (v : List Bool) (events front : List Event) (complete : Bool) (failure : Failure)
     → PrefixIsRun → IsVerdict g v events (claim ∷ []) (Ran complete (Some failure)) → front ≡ take failure.place events → length v ≡ g.inputs → All (λ e. IsSeat e.actor) front → Refutes g claim v front

@@ -4,7 +4,7 @@ use Rattle.std.specs.Prelude.{Result, Ok, Err, OnOk, OnErr}
 use Rattle.std.specs.Io.KnownBytes.{Appends}
 use Rattle.std.proofs.lemmas.List.{take_more, take-append-drop}
 use Rattle.tpl_journal.specs.Writing.{AppendsFront}
-use Rattle.tpl_journal.proofs.WrittenLemmas.{appends_then, front_then}
+use Rattle.tpl_journal.proofs.WrittenLemmas.{appends_then, front_then, err_of}
 use Rattle.tpl_report_text.specs.Parts.{joined}
 
 pub joined-append : (xs ys : List (Bor (List ℕ))) → joined (xs ++ ys) ≡ joined xs ++ joined ys
@@ -27,10 +27,6 @@ part_more a b c parts i d lt p q = subst (Appends a c) (sym (joined_take parts i
 
 pub part_stops : (a b c : Option (List ℕ)) (parts : List (Bor (List ℕ))) (i : ℕ) (d : Bor (List ℕ)) → i < length parts → Appends a b (joined (take i parts)) → AppendsFront b c (get_or parts i d).now → AppendsFront a c (joined parts)
 part_stops a b c parts i d lt p q = subst (AppendsFront a c) (sym (joined_split parts i d lt)) (front_then a b c (joined (take i parts)) (get_or parts i d).now (joined (drop (i + 1) parts)) p q)
-
-pub err_of : {T E : Type 0} (r : Result T E) (P : Type 0) → P → OnErr r P
-err_of (Ok x) P p = tt
-err_of (Err e) P p = p
 
 -- one text after another
 

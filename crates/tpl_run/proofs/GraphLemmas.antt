@@ -1,11 +1,12 @@
 -- What a valid graph names it has.
 use Rattle.std.proofs.Common.{◌≡◌, ℕ, zero, suc, ◌<◌, true, List, [], ◌∷◌, length, map, get_or, refl, arith}
+use Rattle.tpl_words.proofs.MemberLemmas.{mem_there}
 use Rattle.tpl_words.specs.declared.ids.TaskId.{TaskId}
 use Rattle.tpl_words.specs.Members.{mem}
 use Rattle.tpl_model.specs.Graph.{TaskGraph, attached, is_task}
 use Rattle.tpl_model.specs.Valid.{IsGraph}
 use Rattle.tpl_graph.specs.Ids.{task_number}
-use Rattle.tpl_laws.proofs.Basics.{mem_here, mem_there}
+use Rattle.tpl_laws.proofs.Basics.{mem_here}
 use Rattle.tpl_laws.proofs.Settling.{child_task, attached_child}
 
 pub attached_within : (g : TaskGraph) (p c : ℕ) → IsGraph g → mem c (attached g p) ≡ true → is_task g c

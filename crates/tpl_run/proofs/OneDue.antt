@@ -1,7 +1,7 @@
 -- A task never has two acts that are due.
-use Rattle.std.proofs.Common.{◌≡◌, ℕ, ◌||◌, ◌⊎◌, inl, inr, Bool, true, false, List, [], ◌∷◌, Option, Some, None, refl, sym, ap, ◌∙◌, subst, nat_eq}
+use Rattle.std.proofs.Common.{◌≡◌, ℕ, ◌⊎◌, inl, inr, Bool, true, false, List, [], ◌∷◌, Option, Some, None, refl, sym, ap, ◌∙◌, subst, nat_eq}
 use Rattle.std.specs.Prelude.{if◌then◌else◌}
-use Rattle.std.proofs.lemmas.Bool.{eqb-true}
+use Rattle.std.proofs.lemmas.Bool.{eqb-true, or_from}
 use Rattle.tpl_words.specs.Options.{allows}
 use Rattle.tpl_words.specs.declared.ids.TaskId.{TaskId}
 use Rattle.tpl_words.specs.declared.status.Actor.{Actor}
@@ -16,10 +16,6 @@ use Rattle.tpl_model.specs.Facts.{Ending, begun_by, begun, released_by, released
 use Rattle.tpl_model.specs.Rules.{status, status_by, opening, MayStart, MayNotStart, MayCancel, can_settle, Allows, Run}
 use Rattle.tpl_run.specs.Reading.{IsDue}
 use Rattle.tpl_run.specs.Due.{OneIsDue}
-
-or_false : (a b : Bool) → a ≡ false → b ≡ false → (a || b) ≡ false
-or_false true b p q = absurd (cc)
-or_false false b p q = q
 
 if_none : (c : Bool) (x : Actor) (o : Option Actor) → c ≡ false → o ≡ None → (if c then Some x else o) ≡ None
 if_none true x o p q = absurd (cc)
@@ -148,9 +144,9 @@ module _ (g : TaskGraph) (v : List Bool) where
   idle [] r t b = (refl, refl, refl)
   idle (e ∷ h) r t b =
       let i = idle h r.0 t b in (
-        or_false (released_by e.act t) (released h t) (unreleased h e.actor e.act t b r.1) i.0,
+        or_from (released_by e.act t) (released h t) (unreleased h e.actor e.act t b r.1) i.0,
         if_none (begun_by e.act t) e.actor (begun h t) (unbegun h e.actor e.act t b i.0 r.1) i.1,
-        or_false (left_by e.act t) (left_body h t) (unleft h e.actor e.act t i.1 r.1) i.2,
+        or_from (left_by e.act t) (left_body h t) (unleft h e.actor e.act t i.1 r.1) i.2,
       )
 
   module _ (h : List Event) (t : ℕ) where

@@ -1,6 +1,7 @@
 -- The loop over a list of statements that joins how their paths end.
 use Rattle.std.proofs.Common.{◌≡◌, ℕ, ◌+◌, ◌<◌, ◌≤◌, Bool, true, false, not, ◌&&◌, ◌||◌, List, length, drop, get_or, refl, sym, ap, ◌∙◌}
 use Rattle.std.proofs.lemmas.List.{drop_all}
+use Rattle.tpl_words.proofs.Truths.{and_assoc, and_true}
 use Rattle.tpl_script.specs.declared.body.Stmt.{Stmt}
 use Rattle.tpl_script.specs.declared.ends.Ends.{Ends}
 use Rattle.tpl_script.specs.Statements.{Statement, Statements, ◌⨾◌}
@@ -23,18 +24,14 @@ made {a} {b} {c} {d} {x} {y} {z} {u} e f g h =
     ∙ (ap (λ v. let r : Ends = record { goes_on = x; returned = y; thrown = v; acknowledged = d } in r) g
     ∙ ap (λ v. let r : Ends = record { goes_on = x; returned = y; thrown = z; acknowledged = v } in r) h))
 
-and_with : (p q x : Bool) → ((p && q) && x) ≡ (p && (q && x))
-and_with true q x = refl
-and_with false q x = refl
-
-or_with : (f p g q x : Bool) → ((f || (p && g)) || ((p && q) && x)) ≡ (f || (p && (g || (q && x))))
+pub or_with : (f p g q x : Bool) → ((f || (p && g)) || ((p && q) && x)) ≡ (f || (p && (g || (q && x))))
 or_with true p g q x = refl
 or_with false true g q x = refl
 or_with false false g q x = refl
 
 then_ends_assoc : (a b c : Ends) → then_ends (then_ends a b) c ≡ then_ends a (then_ends b c)
 then_ends_assoc a b c = made
-    (and_with a.goes_on b.goes_on c.goes_on)
+    (and_assoc a.goes_on b.goes_on c.goes_on)
     (or_with a.returned a.goes_on b.returned b.goes_on c.returned)
     (or_with a.thrown a.goes_on b.thrown b.goes_on c.thrown)
     (or_with a.acknowledged a.goes_on b.acknowledged b.goes_on c.acknowledged)
@@ -69,11 +66,7 @@ step past w body items i so_far x lt is at = record {
       ∙ (ap (then_ends so_far) (sym (ap (ends_in past w) (split_at items i x lt is) ∙ ends_in_more past w (statement_of x) (statements_of (drop (i + 1) items)))) ∙ at.left);
 }
 
-and_true : (p : Bool) → (p && true) ≡ p
-and_true true = refl
-and_true false = refl
-
-or_nothing : (f p : Bool) → (f || (p && false)) ≡ f
+pub or_nothing : (f p : Bool) → (f || (p && false)) ≡ f
 or_nothing true p = refl
 or_nothing false true = refl
 or_nothing false false = refl

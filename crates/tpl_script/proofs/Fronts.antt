@@ -46,7 +46,7 @@ passes_of w body (s ∷ passed) left e =
     reverse_more : (x : Statement) (xs : List Statement) → reverse (x ∷ xs) ≡ reverse xs ++ x ∷ []
     reverse_more x xs = reverse-append (x ∷ []) xs
 
-ahead_assoc : (a b c : Statements) → followed_by (followed_by a b) c ≡ followed_by a (followed_by b c)
+pub ahead_assoc : (a b c : Statements) → followed_by (followed_by a b) c ≡ followed_by a (followed_by b c)
 ahead_assoc Nothing b c = refl
 ahead_assoc (s ⨾ a) b c = ap (λ z. s ⨾ z) (ahead_assoc a b c)
 

@@ -1,6 +1,8 @@
 -- The walk over a body finds how its paths end.
 use Rattle.std.proofs.Common.{◌≡◌, inl, inr, ◌&&◌, ◌||◌, not, Bool, true, false, Some, List, [], ◌∷◌, refl, sym, ◌∙◌, subst}
 use Rattle.std.specs.Prelude.{◌↔◌}
+use Rattle.std.proofs.lemmas.Bool.{and_from, or_cases, or_left, or_right, not-true, not_from_false, cases_Bool}
+use Rattle.tpl_words.proofs.Truths.{true_false}
 use Rattle.tpl_words.specs.declared.status.Label.{Label}
 use Rattle.tpl_script.specs.declared.outcome.Outcome.{Outcome}
 use Rattle.tpl_script.specs.declared.outcome.Outcome.TheVariants.{Returned, Threw, Acknowledged}
@@ -10,29 +12,28 @@ use Rattle.tpl_script.specs.Recursion.{is_throw, clean}
 use Rattle.tpl_script.specs.declared.ends.Ends.{Ends}
 use Rattle.tpl_script.specs.declared.verdict.Verdicts.{Verdicts}
 use Rattle.tpl_script.specs.Ends.{is_return, is_acknowledgement, avoided, ends_in}
-use Rattle.tpl_script.proofs.Truths.{true_false, and_join, or_split, or_left, or_right, not_of, of_not, decide}
 use Rattle.tpl_script.proofs.Through.{may_lem}
 
 -- where observations may be passed, nothing is avoided
 all_clean : (ps : List Statement) → clean (avoided true) ps ≡ true
 all_clean [] = refl
-all_clean (s ∷ ps) = and_join (not (avoided true s)) (clean (avoided true) ps) (kept (is_observation s)) (all_clean ps)
+all_clean (s ∷ ps) = and_from (not (avoided true s)) (clean (avoided true) ps) (kept (is_observation s)) (all_clean ps)
   where
     kept : (b : Bool) → not (b && false) ≡ true
     kept true = refl
     kept false = refl
 
-is_returned : (outcome : Outcome) → is_return outcome ≡ true → outcome ≡ Returned
+pub is_returned : (outcome : Outcome) → is_return outcome ≡ true → outcome ≡ Returned
 is_returned Returned e = refl
 is_returned (Threw l) e = true_false (sym e)
 is_returned Acknowledged e = true_false (sym e)
 
-is_acknowledged : (outcome : Outcome) → is_acknowledgement outcome ≡ true → outcome ≡ Acknowledged
+pub is_acknowledged : (outcome : Outcome) → is_acknowledgement outcome ≡ true → outcome ≡ Acknowledged
 is_acknowledged Returned e = true_false (sym e)
 is_acknowledged (Threw l) e = true_false (sym e)
 is_acknowledged Acknowledged e = refl
 
-thrown_label : (outcome : Outcome) → is_throw outcome ≡ true → (l : Label) × (outcome ≡ Threw l)
+pub thrown_label : (outcome : Outcome) → is_throw outcome ≡ true → (l : Label) × (outcome ≡ Threw l)
 thrown_label Returned e = true_false (sym e)
 thrown_label (Threw l) e = (l, refl)
 thrown_label Acknowledged e = true_false (sym e)
@@ -123,9 +124,9 @@ Unobserved w b = (passed : List Statement) × (outcome : Outcome) × Path w b pa
 
 unobserved_path : (w : Known) (b : Statements) → unobserved w b ≡ true → Unobserved w b
 unobserved_path w b e =
-    elim (or_split ((ends_in false w b).returned || (ends_in false w b).goes_on) ((ends_in false w b).thrown || (ends_in false w b).acknowledged) e) [
+    elim (or_cases ((ends_in false w b).returned || (ends_in false w b).goes_on) ((ends_in false w b).thrown || (ends_in false w b).acknowledged) e) [
       | inl q ↦ let r = (may_lem (avoided false) is_return w b).0 (at_end (ends_in false w b).returned (ends_in false w b).goes_on q) in (r.0, r.1, r.2, r.4)
-      | inr q ↦ elim (or_split (ends_in false w b).thrown (ends_in false w b).acknowledged q) [
+      | inr q ↦ elim (or_cases (ends_in false w b).thrown (ends_in false w b).acknowledged q) [
         | inl t ↦ let r = (may_lem (avoided false) is_throw w b).0 (or_left (ends_in false w b).thrown ((ends_in false w b).goes_on && false) t) in (r.0, r.1, r.2, r.4)
         | inr t ↦ let r = (may_lem (avoided false) is_acknowledgement w b).0 (or_left (ends_in false w b).acknowledged ((ends_in false w b).goes_on && false) t) in (r.0, r.1, r.2, r.4)
       ]
@@ -136,16 +137,16 @@ must_observe_lem w b = (found, made)
   where
     found : not (unobserved w b) ≡ true → MustObserve w b
     found e passed outcome p =
-        elim (decide (passes_observe passed)) [
+        elim (cases_Bool (passes_observe passed)) [
           | inl q ↦ q
-          | inr q ↦ true_false (sym (path_unobserved w b passed outcome p (unseen passed q)) ∙ not_of (unobserved w b) e)
+          | inr q ↦ true_false (sym (path_unobserved w b passed outcome p (unseen passed q)) ∙ not-true (unobserved w b) e)
         ]
 
     made : MustObserve w b → not (unobserved w b) ≡ true
     made m =
-        elim (decide (unobserved w b)) [
+        elim (cases_Bool (unobserved w b)) [
           | inl q ↦ let f = unobserved_path w b q in absurd (clean_unseen f.0 f.3 (m f.0 f.1 f.2))
-          | inr q ↦ of_not (unobserved w b) q
+          | inr q ↦ not_from_false (unobserved w b) q
         ]
 
 -- the verdicts of how paths end

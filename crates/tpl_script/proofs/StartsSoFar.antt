@@ -2,6 +2,8 @@
 use Rattle.std.proofs.Common.{◌≡◌, ℕ, ◌+◌, ◌<◌, ◌≤◌, Bool, true, false, ◌&&◌, ◌||◌, List, [], length, drop, get_or, nat_lt, refl, sym, ap, ◌∙◌}
 use Rattle.std.proofs.lemmas.List.{drop_all}
 use Rattle.std.specs.Prelude.{◌↔◌}
+use Rattle.tpl_words.proofs.Truths.{and_assoc, and_true}
+use Rattle.tpl_script.proofs.EndsSoFar.{or_with, or_nothing, or_nothing as nothing_found}
 use Rattle.tpl_words.specs.Members.{mem}
 use Rattle.tpl_words.specs.TaskSet.{IsTaskSet}
 use Rattle.tpl_script.specs.declared.body.Stmt.{Stmt}
@@ -24,17 +26,8 @@ made {a} {b} {x} {y} e f =
     ap (λ v. let r : Starts = record { goes_on = v; started = b } in r) e
     ∙ ap (λ v. let r : Starts = record { goes_on = x; started = v } in r) f
 
-and_with : (p q x : Bool) → ((p && q) && x) ≡ (p && (q && x))
-and_with true q x = refl
-and_with false q x = refl
-
-or_with : (f p g q x : Bool) → ((f || (p && g)) || ((p && q) && x)) ≡ (f || (p && (g || (q && x))))
-or_with true p g q x = refl
-or_with false true g q x = refl
-or_with false false g q x = refl
-
 then_starts_assoc : (a b c : Starts) → then_starts (then_starts a b) c ≡ then_starts a (then_starts b c)
-then_starts_assoc a b c = made (and_with a.goes_on b.goes_on c.goes_on) (or_with a.started a.goes_on b.started b.goes_on c.started)
+then_starts_assoc a b c = made (and_assoc a.goes_on b.goes_on c.goes_on) (or_with a.started a.goes_on b.started b.goes_on c.started)
 
 pub start : (c : ℕ) (w : Known) (body : Statements) (items : List Stmt) → statements_of items ≡ body → StartsSoFar c w body items 0 (record { goes_on = true; started = false })
 start c w body items e = record { whole = e; left = ap (start_in c w) e }
@@ -46,15 +39,6 @@ step c w body items i so_far x lt is at = record {
       then_starts_assoc so_far (start_at c w (statement_of x)) (start_in c w (statements_of (drop (i + 1) items)))
       ∙ (ap (λ b. then_starts so_far (start_in c w b)) (sym (split_at items i x lt is)) ∙ at.left);
 }
-
-and_true : (p : Bool) → (p && true) ≡ p
-and_true true = refl
-and_true false = refl
-
-or_nothing : (f p : Bool) → (f || (p && false)) ≡ f
-or_nothing true p = refl
-or_nothing false true = refl
-or_nothing false false = refl
 
 pub finish : (c : ℕ) (w : Known) (body : Statements) (items : List Stmt) (i : ℕ) (so_far : Starts) → length items ≤ i → StartsSoFar c w body items i so_far → so_far ≡ start_in c w body
 finish c w body items i so_far le at =
@@ -129,11 +113,6 @@ adds_stop w body items i old now new s lt is at on adds = (
 
     split : statements_of (drop i items) ≡ statement_of s ⨾ rest
     split = split_at items i s lt is
-
-nothing_found : (m t : Bool) → (m || (t && false)) ≡ m
-nothing_found true t = refl
-nothing_found false true = refl
-nothing_found false false = refl
 
 pub adds_finish : (w : Known) (body : Statements) (items : List Stmt) (i : ℕ) (old now : List ℕ) → length items ≤ i → AddsSoFar w body items i old now → (true ≡ gets_through none w body) × Adds old now (λ x. reaches x w body)
 adds_finish w body items i old now le at =

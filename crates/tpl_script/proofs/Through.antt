@@ -1,6 +1,8 @@
 -- The recursion over a body's text finds just its paths.
 use Rattle.std.proofs.Common.{◌≡◌, ℕ, ◌⊎◌, inl, inr, ◌&&◌, ◌||◌, not, Bool, true, false, Option, Some, None, List, [], ◌∷◌, ◌++◌, reverse, refl, sym, ap, ◌∙◌, subst}
 use Rattle.std.proofs.lemmas.List.{reverse-append}
+use Rattle.std.proofs.lemmas.Bool.{and_parts, and_from as and_join, or_cases, or_left, or_right, not-true as not_of, not_from_false, cases_Bool}
+use Rattle.tpl_words.proofs.Truths.{true_false}
 use Rattle.tpl_words.specs.declared.finals.Final.{Final}
 use Rattle.tpl_words.specs.declared.finals.Final.TheVariants.{RanToCompletion, Canceled, Faulted}
 use Rattle.tpl_words.specs.Finals.{is_final}
@@ -10,26 +12,25 @@ use Rattle.tpl_script.specs.declared.outcome.Outcome.TheVariants.{Returned, Thre
 use Rattle.tpl_script.specs.Statements.{Statement, Return, Throw, Check, Cancel, Start, Observe, Work, If, When, Statements, Nothing, ◌⨾◌, followed_by}
 use Rattle.tpl_script.specs.Paths.{cancellation, Known, GoesOn, EndsAt, Passes, Path, MayStartChild, MustObserve, is_start_of, passes_start, is_observation, passes_observe}
 use Rattle.tpl_script.specs.Recursion.{another, gets_through, passes_by, stops, stops_at, may, none, any, must_observe, clean, MayIsRight, MustObserveIsRight, reaches, reaches_in, MayStartIsRight}
-use Rattle.tpl_script.proofs.Truths.{true_false, and_split, and_join, or_split, or_left, or_right, not_of, of_not, decide}
 use Rattle.tpl_script.proofs.Fronts.{Walks, walks_of, passes_of, walks_within, walks_join, walks_split}
 
 clean_join : (avoid : Statement → Bool) (ps qs : List Statement) → clean avoid ps ≡ true → clean avoid qs ≡ true → clean avoid (ps ++ qs) ≡ true
 clean_join avoid [] qs p q = q
 clean_join avoid (s ∷ ps) qs p q =
-    let both = and_split (not (avoid s)) (clean avoid ps) p in
+    let both = and_parts (not (avoid s)) (clean avoid ps) p in
     and_join (not (avoid s)) (clean avoid (ps ++ qs)) both.0 (clean_join avoid ps qs both.1 q)
 
 clean_split : (avoid : Statement → Bool) (ps qs : List Statement) → clean avoid (ps ++ qs) ≡ true → (clean avoid ps ≡ true) × (clean avoid qs ≡ true)
 clean_split avoid [] qs e = (refl, e)
 clean_split avoid (s ∷ ps) qs e =
-    let both = and_split (not (avoid s)) (clean avoid (ps ++ qs)) e in
+    let both = and_parts (not (avoid s)) (clean avoid (ps ++ qs)) e in
     let rest = clean_split avoid ps qs both.1 in
     (and_join (not (avoid s)) (clean avoid ps) both.0 rest.0, rest.1)
 
 another_is : (w : Known) (f : Final) → another w f ≡ true → (e : Final) × (is_final f e ≡ false) × (w.subject e ≡ true)
-another_is w RanToCompletion q = elim (or_split (w.subject Canceled) (w.subject Faulted) q) [ inl a ↦ (Canceled, refl, a) | inr a ↦ (Faulted, refl, a) ]
-another_is w Canceled q = elim (or_split (w.subject RanToCompletion) (w.subject Faulted) q) [ inl a ↦ (RanToCompletion, refl, a) | inr a ↦ (Faulted, refl, a) ]
-another_is w Faulted q = elim (or_split (w.subject RanToCompletion) (w.subject Canceled) q) [ inl a ↦ (RanToCompletion, refl, a) | inr a ↦ (Canceled, refl, a) ]
+another_is w RanToCompletion q = elim (or_cases (w.subject Canceled) (w.subject Faulted) q) [ inl a ↦ (Canceled, refl, a) | inr a ↦ (Faulted, refl, a) ]
+another_is w Canceled q = elim (or_cases (w.subject RanToCompletion) (w.subject Faulted) q) [ inl a ↦ (RanToCompletion, refl, a) | inr a ↦ (Faulted, refl, a) ]
+another_is w Faulted q = elim (or_cases (w.subject RanToCompletion) (w.subject Canceled) q) [ inl a ↦ (RanToCompletion, refl, a) | inr a ↦ (Canceled, refl, a) ]
 
 is_another : (w : Known) (f e : Final) → is_final f e ≡ false → w.subject e ≡ true → another w f ≡ true
 is_another w RanToCompletion RanToCompletion d s = true_false d
@@ -68,8 +69,8 @@ mutual
   through_walk : (avoid : Statement → Bool) (w : Known) (script : Statements) → gets_through avoid w script ≡ true → Through avoid w script
   through_walk avoid w Nothing e = nothing_chosen avoid w
   through_walk avoid w (s ⨾ rest) e =
-      let a = and_split (not (avoid s)) (passes_by avoid w s && gets_through avoid w rest) e in
-      let b = and_split (passes_by avoid w s) (gets_through avoid w rest) a.1 in
+      let a = and_parts (not (avoid s)) (passes_by avoid w s && gets_through avoid w rest) e in
+      let b = and_parts (passes_by avoid w s) (gets_through avoid w rest) a.1 in
       then_through avoid w s rest a.0 (by_walk avoid w s b.0) (through_walk avoid w rest b.1)
 
   by_walk : (avoid : Statement → Bool) (w : Known) (s : Statement) → passes_by avoid w s ≡ true → By avoid w s
@@ -81,15 +82,15 @@ mutual
   by_walk avoid w Observe e = record { chosen = Nothing; goes = λ more. refl; through = nothing_chosen avoid w }
   by_walk avoid w (Work i f) e = record { chosen = Nothing; goes = λ more. refl; through = nothing_chosen avoid w }
   by_walk avoid w (If i x y) e =
-      elim (or_split (w.possible i true && gets_through avoid w x) (w.possible i false && gets_through avoid w y) e) [
-        | inl q ↦ let b = and_split (w.possible i true) (gets_through avoid w x) q in record { chosen = x; goes = λ more. inl (b.0, refl); through = through_walk avoid w x b.1 }
-        | inr q ↦ let b = and_split (w.possible i false) (gets_through avoid w y) q in record { chosen = y; goes = λ more. inr (b.0, refl); through = through_walk avoid w y b.1 }
+      elim (or_cases (w.possible i true && gets_through avoid w x) (w.possible i false && gets_through avoid w y) e) [
+        | inl q ↦ let b = and_parts (w.possible i true) (gets_through avoid w x) q in record { chosen = x; goes = λ more. inl (b.0, refl); through = through_walk avoid w x b.1 }
+        | inr q ↦ let b = and_parts (w.possible i false) (gets_through avoid w y) q in record { chosen = y; goes = λ more. inr (b.0, refl); through = through_walk avoid w y b.1 }
       ]
   by_walk avoid w (When f x y) e =
-      elim (or_split (w.subject f && gets_through avoid w x) (another w f && gets_through avoid w y) e) [
-        | inl q ↦ let b = and_split (w.subject f) (gets_through avoid w x) q in record { chosen = x; goes = λ more. inl (b.0, refl); through = through_walk avoid w x b.1 }
+      elim (or_cases (w.subject f && gets_through avoid w x) (another w f && gets_through avoid w y) e) [
+        | inl q ↦ let b = and_parts (w.subject f) (gets_through avoid w x) q in record { chosen = x; goes = λ more. inl (b.0, refl); through = through_walk avoid w x b.1 }
         | inr q ↦
-            let b = and_split (another w f) (gets_through avoid w y) q in
+            let b = and_parts (another w f) (gets_through avoid w y) q in
             let o = another_is w f b.0 in
             record { chosen = y; goes = λ more. inr (o.0, o.1, o.2, refl); through = through_walk avoid w y b.1 }
       ]
@@ -122,7 +123,7 @@ record First (avoid : Statement → Bool) (w : Known) (s : Statement) (rest : St
 first_of : (avoid : Statement → Bool) (w : Known) (s : Statement) (rest : Statements) (ps : List Statement) → Walks w (s ⨾ rest) ps Nothing → clean avoid ps ≡ true → First avoid w s rest
 first_of avoid w s rest [] e c = absurd (cc)
 first_of avoid w s rest (p ∷ ps) e c =
-    let both = and_split (not (avoid p)) (clean avoid ps) c in
+    let both = and_parts (not (avoid p)) (clean avoid ps) c in
     record { mid = e.1.0; later = ps; goes = e.1.1; walks = e.1.2; kept = subst (λ z. not (avoid z) ≡ true) (sym e.0) both.0; unavoided = both.1 }
 
 mutual
@@ -137,7 +138,7 @@ mutual
   walk_by avoid w Return rest mid ps g e c = absurd g
   walk_by avoid w (Throw l) rest mid ps g e c = absurd g
   walk_by avoid w (Check k) rest mid ps g e c = (refl, record { passed = ps; walks = subst (λ z. Walks w z ps Nothing) (sym g) e; clean = c })
-  walk_by avoid w (Cancel k) rest mid ps g e c = (of_not (w.quiet k) g.0, record { passed = ps; walks = subst (λ z. Walks w z ps Nothing) (sym g.1) e; clean = c })
+  walk_by avoid w (Cancel k) rest mid ps g e c = (not_from_false (w.quiet k) g.0, record { passed = ps; walks = subst (λ z. Walks w z ps Nothing) (sym g.1) e; clean = c })
   walk_by avoid w (Start d) rest mid ps g e c = (refl, record { passed = ps; walks = subst (λ z. Walks w z ps Nothing) (sym g) e; clean = c })
   walk_by avoid w Observe rest mid ps g e c = (refl, record { passed = ps; walks = subst (λ z. Walks w z ps Nothing) (sym g) e; clean = c })
   walk_by avoid w (Work i f) rest mid ps g e c = (refl, record { passed = ps; walks = subst (λ z. Walks w z ps Nothing) (sym g) e; clean = c })
@@ -208,32 +209,32 @@ mutual
   stop_found : (avoid : Statement → Bool) (test : Outcome → Bool) (w : Known) (script : Statements) → stops avoid test w script ≡ true → Stop avoid test w script
   stop_found avoid test w Nothing e = true_false (sym e)
   stop_found avoid test w (s ⨾ rest) e =
-      let a = and_split (not (avoid s)) (stops_at avoid test w s || (passes_by avoid w s && stops avoid test w rest)) e in
-      elim (or_split (stops_at avoid test w s) (passes_by avoid w s && stops avoid test w rest) a.1) [
+      let a = and_parts (not (avoid s)) (stops_at avoid test w s || (passes_by avoid w s && stops avoid test w rest)) e in
+      elim (or_cases (stops_at avoid test w s) (passes_by avoid w s && stops avoid test w rest) a.1) [
         | inl q ↦ stop_first avoid test w s rest a.0 (stop_at_found avoid test w s q)
         | inr q ↦
-            let b = and_split (passes_by avoid w s) (stops avoid test w rest) q in
+            let b = and_parts (passes_by avoid w s) (stops avoid test w rest) q in
             stop_later avoid test w s rest a.0 (by_walk avoid w s b.0) (stop_found avoid test w rest b.1)
       ]
 
   stop_at_found : (avoid : Statement → Bool) (test : Outcome → Bool) (w : Known) (s : Statement) → stops_at avoid test w s ≡ true → StopAt avoid test w s
   stop_at_found avoid test w Return e = itself Returned refl e
   stop_at_found avoid test w (Throw l) e = itself (Threw (Thrown (record { 0 = l }))) refl e
-  stop_at_found avoid test w (Check k) e = let b = and_split (not (w.quiet k)) (test (cancellation w.own k)) e in itself (cancellation w.own k) (not_of (w.quiet k) b.0, refl) b.1
+  stop_at_found avoid test w (Check k) e = let b = and_parts (not (w.quiet k)) (test (cancellation w.own k)) e in itself (cancellation w.own k) (not_of (w.quiet k) b.0, refl) b.1
   stop_at_found avoid test w (Cancel k) e = true_false (sym e)
   stop_at_found avoid test w (Start c) e = true_false (sym e)
   stop_at_found avoid test w Observe e = true_false (sym e)
-  stop_at_found avoid test w (Work i f) e = let b = and_split f (test (Threw (WorkFailed (record { 0 = i })))) e in itself (Threw (WorkFailed (record { 0 = i }))) (b.0, refl) b.1
+  stop_at_found avoid test w (Work i f) e = let b = and_parts f (test (Threw (WorkFailed (record { 0 = i })))) e in itself (Threw (WorkFailed (record { 0 = i }))) (b.0, refl) b.1
   stop_at_found avoid test w (If i x y) e =
-      elim (or_split (w.possible i true && stops avoid test w x) (w.possible i false && stops avoid test w y) e) [
-        | inl q ↦ let b = and_split (w.possible i true) (stops avoid test w x) q in inside x (λ more. inl (b.0, refl)) (stop_found avoid test w x b.1)
-        | inr q ↦ let b = and_split (w.possible i false) (stops avoid test w y) q in inside y (λ more. inr (b.0, refl)) (stop_found avoid test w y b.1)
+      elim (or_cases (w.possible i true && stops avoid test w x) (w.possible i false && stops avoid test w y) e) [
+        | inl q ↦ let b = and_parts (w.possible i true) (stops avoid test w x) q in inside x (λ more. inl (b.0, refl)) (stop_found avoid test w x b.1)
+        | inr q ↦ let b = and_parts (w.possible i false) (stops avoid test w y) q in inside y (λ more. inr (b.0, refl)) (stop_found avoid test w y b.1)
       ]
   stop_at_found avoid test w (When f x y) e =
-      elim (or_split (w.subject f && stops avoid test w x) (another w f && stops avoid test w y) e) [
-        | inl q ↦ let b = and_split (w.subject f) (stops avoid test w x) q in inside x (λ more. inl (b.0, refl)) (stop_found avoid test w x b.1)
+      elim (or_cases (w.subject f && stops avoid test w x) (another w f && stops avoid test w y) e) [
+        | inl q ↦ let b = and_parts (w.subject f) (stops avoid test w x) q in inside x (λ more. inl (b.0, refl)) (stop_found avoid test w x b.1)
         | inr q ↦
-            let b = and_split (another w f) (stops avoid test w y) q in
+            let b = and_parts (another w f) (stops avoid test w y) q in
             let o = another_is w f b.0 in
             inside y (λ more. inr (o.0, o.1, o.2, refl)) (stop_found avoid test w y b.1)
       ]
@@ -274,7 +275,7 @@ first_stop avoid test w s rest t = by_list t.passed t.walks t.unavoided
         let same : t.last ≡ s = cc in
         (subst (λ z. not (avoid z) ≡ true) same t.kept, here_it_ends t.verdict (subst (λ z. EndsAt w z t.verdict) same t.ends) t.passes)
     by_list (p ∷ ps) e c =
-        let both = and_split (not (avoid p)) (clean avoid ps) c in (
+        let both = and_parts (not (avoid p)) (clean avoid ps) c in (
           subst (λ z. not (avoid z) ≡ true) (sym e.0) both.0,
           it_goes_on e.1.0 e.1.1 (record { passed = ps; last = t.last; more = t.more; verdict = t.verdict; walks = e.1.2; ends = t.ends; passes = t.passes; unavoided = both.1; kept = t.kept }),
         )
@@ -283,7 +284,7 @@ first_stop avoid test w s rest t = by_list t.passed t.walks t.unavoided
 ends_at_test : (avoid : Statement → Bool) (test : Outcome → Bool) (w : Known) (s : Statement) (verdict : Outcome) → EndsAt w s verdict → test verdict ≡ true → stops_at avoid test w s ≡ true
 ends_at_test avoid test w Return verdict e t = subst (λ z. test z ≡ true) e t
 ends_at_test avoid test w (Throw l) verdict e t = subst (λ z. test z ≡ true) e t
-ends_at_test avoid test w (Check k) verdict e t = and_join (not (w.quiet k)) (test (cancellation w.own k)) (of_not (w.quiet k) e.0) (subst (λ z. test z ≡ true) e.1 t)
+ends_at_test avoid test w (Check k) verdict e t = and_join (not (w.quiet k)) (test (cancellation w.own k)) (not_from_false (w.quiet k) e.0) (subst (λ z. test z ≡ true) e.1 t)
 ends_at_test avoid test w (Cancel k) verdict e t = absurd e
 ends_at_test avoid test w (Start c) verdict e t = absurd e
 ends_at_test avoid test w Observe verdict e t = absurd e
@@ -314,7 +315,7 @@ mutual
   goes_complete avoid test w Return rest mid g t = absurd g
   goes_complete avoid test w (Throw l) rest mid g t = absurd g
   goes_complete avoid test w (Check k) rest mid g t = inr (refl, subst (λ z. Stop avoid test w z) (sym g) t)
-  goes_complete avoid test w (Cancel k) rest mid g t = inr (of_not (w.quiet k) g.0, subst (λ z. Stop avoid test w z) (sym g.1) t)
+  goes_complete avoid test w (Cancel k) rest mid g t = inr (not_from_false (w.quiet k) g.0, subst (λ z. Stop avoid test w z) (sym g.1) t)
   goes_complete avoid test w (Start c) rest mid g t = inr (refl, subst (λ z. Stop avoid test w z) (sym g) t)
   goes_complete avoid test w Observe rest mid g t = inr (refl, subst (λ z. Stop avoid test w z) (sym g) t)
   goes_complete avoid test w (Work i f) rest mid g t = inr (refl, subst (λ z. Stop avoid test w z) (sym g) t)
@@ -347,7 +348,7 @@ reverse_more x xs = reverse-append (x ∷ []) xs
 clean_reverse : (avoid : Statement → Bool) (ps : List Statement) → clean avoid ps ≡ true → clean avoid (reverse ps) ≡ true
 clean_reverse avoid [] e = refl
 clean_reverse avoid (s ∷ ps) e =
-    let both = and_split (not (avoid s)) (clean avoid ps) e in
+    let both = and_parts (not (avoid s)) (clean avoid ps) e in
     subst (λ z. clean avoid z ≡ true) (sym (reverse_more s ps)) (clean_join avoid (reverse ps) (s ∷ []) (clean_reverse avoid ps both.1) (and_join (not (avoid s)) true both.0 refl))
 
 twice : (ps : List Statement) → reverse (reverse ps) ≡ ps
@@ -359,12 +360,12 @@ passes_back w body ps left e = passes_of w body (reverse ps) left (subst (λ z. 
 
 may_found : (avoid : Statement → Bool) (test : Outcome → Bool) (w : Known) (body : Statements) → may avoid test w body ≡ true → (passed : List Statement) × (verdict : Outcome) × Path w body passed (Some verdict) × (test verdict ≡ true) × (clean avoid passed ≡ true)
 may_found avoid test w body e =
-    elim (or_split (stops avoid test w body) (gets_through avoid w body && test Returned) e) [
+    elim (or_cases (stops avoid test w body) (gets_through avoid w body && test Returned) e) [
       | inl q ↦
           let t = stop_found avoid test w body q in
           (t.last ∷ reverse t.passed, t.verdict, inr (t.more, passes_back w body t.passed (t.last ⨾ t.more) t.walks, t.ends), t.passes, and_join (not (avoid t.last)) (clean avoid (reverse t.passed)) t.kept (clean_reverse avoid t.passed t.unavoided))
       | inr q ↦
-          let b = and_split (gets_through avoid w body) (test Returned) q in
+          let b = and_parts (gets_through avoid w body) (test Returned) q in
           let t = through_walk avoid w body b.0 in
           (reverse t.passed, Returned, inl (passes_back w body t.passed Nothing t.walks, refl), b.1, clean_reverse avoid t.passed t.clean)
     ]
@@ -377,7 +378,7 @@ may_complete avoid test w body passed verdict (inl p) t c =
     (subst (λ z. test z ≡ true) p.1 t))
 may_complete avoid test w body [] verdict (inr p) t c = absurd p
 may_complete avoid test w body (s ∷ passed) verdict (inr p) t c =
-    let both = and_split (not (avoid s)) (clean avoid passed) c in
+    let both = and_parts (not (avoid s)) (clean avoid passed) c in
     or_left (stops avoid test w body) (gets_through avoid w body && test Returned)
     (stop_complete avoid test w body (record { passed = reverse passed; last = s; more = p.0; verdict = verdict; walks = walks_of w body passed (s ⨾ p.0) p.1; ends = p.2; passes = t; unavoided = clean_reverse avoid passed both.1; kept = both.0 }))
 
@@ -390,13 +391,13 @@ unseen (s ∷ ps) e = by_first (λ p. unseen ps p) (is_observation s) refl e
   where
     by_first : (passes_observe ps ≡ false → clean is_observation ps ≡ true) → (b : Bool) → is_observation s ≡ b → b || passes_observe ps ≡ false → not (is_observation s) && clean is_observation ps ≡ true
     by_first old true q x = true_false x
-    by_first old false q x = and_join (not (is_observation s)) (clean is_observation ps) (of_not (is_observation s) q) (old x)
+    by_first old false q x = and_join (not (is_observation s)) (clean is_observation ps) (not_from_false (is_observation s) q) (old x)
 
 clean_unseen : (ps : List Statement) → clean is_observation ps ≡ true → passes_observe ps ≡ true → ⊥
 clean_unseen [] e f = true_false (sym f)
 clean_unseen (s ∷ ps) e f =
-    let both = and_split (not (is_observation s)) (clean is_observation ps) e in
-    elim (or_split (is_observation s) (passes_observe ps) f) [
+    let both = and_parts (not (is_observation s)) (clean is_observation ps) e in
+    elim (or_cases (is_observation s) (passes_observe ps) f) [
       | inl q ↦ true_false (sym q ∙ not_of (is_observation s) both.0)
       | inr q ↦ clean_unseen ps both.1 q
     ]
@@ -406,16 +407,16 @@ must_lem w body = (must_found, must_complete)
   where
     must_found : must_observe w body ≡ true → MustObserve w body
     must_found m passed verdict p =
-        elim (decide (passes_observe passed)) [
+        elim (cases_Bool (passes_observe passed)) [
           | inl q ↦ q
           | inr q ↦ true_false (sym (may_complete is_observation any w body passed verdict p refl (unseen passed q)) ∙ not_of (may is_observation any w body) m)
         ]
 
     must_complete : MustObserve w body → must_observe w body ≡ true
     must_complete m =
-        elim (decide (may is_observation any w body)) [
+        elim (cases_Bool (may is_observation any w body)) [
           | inl q ↦ let f = may_found is_observation any w body q in absurd (clean_unseen f.0 f.4 (m f.0 f.1 f.2))
-          | inr q ↦ of_not (may is_observation any w body) q
+          | inr q ↦ not_from_false (may is_observation any w body) q
         ]
 
 -- a walk that passes the start statement of a child
@@ -436,7 +437,7 @@ starts_join c (s ∷ ps) qs e = or_right (is_start_of c s) (passes_start c (ps +
 starts_split : (c : ℕ) (ps qs : List Statement) → passes_start c (ps ++ qs) ≡ true → (passes_start c ps ≡ true) ⊎ (passes_start c qs ≡ true)
 starts_split c [] qs e = inr e
 starts_split c (s ∷ ps) qs e =
-    elim (or_split (is_start_of c s) (passes_start c (ps ++ qs)) e) [
+    elim (or_cases (is_start_of c s) (passes_start c (ps ++ qs)) e) [
       | inl q ↦ inl (or_left (is_start_of c s) (passes_start c ps) q)
       | inr q ↦ elim (starts_split c ps qs q) [ inl r ↦ inl (or_right (is_start_of c s) (passes_start c ps) r) | inr r ↦ inr r ]
     ]
@@ -445,7 +446,7 @@ starts_reverse : (c : ℕ) (ps : List Statement) → passes_start c ps ≡ true 
 starts_reverse c [] e = e
 starts_reverse c (s ∷ ps) e =
     subst (λ z. passes_start c z ≡ true) (sym (reverse_more s ps))
-    (elim (or_split (is_start_of c s) (passes_start c ps) e) [
+    (elim (or_cases (is_start_of c s) (passes_start c ps) e) [
       | inl q ↦ starts_join c (reverse ps) (s ∷ []) (or_left (is_start_of c s) false q)
       | inr q ↦ starts_left (reverse ps) (s ∷ []) (starts_reverse c ps q)
     ])
@@ -453,7 +454,7 @@ starts_reverse c (s ∷ ps) e =
     starts_left : (xs ys : List Statement) → passes_start c xs ≡ true → passes_start c (xs ++ ys) ≡ true
     starts_left [] ys q = true_false (sym q)
     starts_left (x ∷ xs) ys q =
-        elim (or_split (is_start_of c x) (passes_start c xs) q) [
+        elim (or_cases (is_start_of c x) (passes_start c xs) q) [
           | inl r ↦ or_left (is_start_of c x) (passes_start c (xs ++ ys)) r
           | inr r ↦ or_right (is_start_of c x) (passes_start c (xs ++ ys)) (starts_left xs ys r)
         ]
@@ -466,10 +467,10 @@ mutual
   reach_found : (c : ℕ) (w : Known) (script : Statements) → reaches c w script ≡ true → Reach c w script
   reach_found c w Nothing e = true_false (sym e)
   reach_found c w (s ⨾ rest) e =
-      elim (or_split (reaches_in c w s) (passes_by none w s && reaches c w rest) e) [
+      elim (or_cases (reaches_in c w s) (passes_by none w s && reaches c w rest) e) [
         | inl q ↦ reach_first c w s rest (reach_in_found c w s q)
         | inr q ↦
-            let b = and_split (passes_by none w s) (reaches c w rest) q in
+            let b = and_parts (passes_by none w s) (reaches c w rest) q in
             let by = by_walk none w s b.0 in
             let r = reach_found c w rest b.1 in
             record { passed = s ∷ (by.through.passed ++ r.passed); left = r.left; walks = (refl, (followed_by by.chosen rest, by.goes rest, walks_join w by.chosen rest by.through.passed r.passed r.left by.through.walks r.walks)); starts = or_right (is_start_of c s) (passes_start c (by.through.passed ++ r.passed)) (starts_join c by.through.passed r.passed r.starts) }
@@ -484,20 +485,20 @@ mutual
   reach_in_found c w Observe e = true_false (sym e)
   reach_in_found c w (Work i f) e = true_false (sym e)
   reach_in_found c w (If i x y) e =
-      elim (or_split (w.possible i true && reaches c w x) (w.possible i false && reaches c w y) e) [
-        | inl q ↦ let b = and_split (w.possible i true) (reaches c w x) q in within x (λ more. inl (b.0, refl)) (reach_found c w x b.1)
-        | inr q ↦ let b = and_split (w.possible i false) (reaches c w y) q in within y (λ more. inr (b.0, refl)) (reach_found c w y b.1)
+      elim (or_cases (w.possible i true && reaches c w x) (w.possible i false && reaches c w y) e) [
+        | inl q ↦ let b = and_parts (w.possible i true) (reaches c w x) q in within x (λ more. inl (b.0, refl)) (reach_found c w x b.1)
+        | inr q ↦ let b = and_parts (w.possible i false) (reaches c w y) q in within y (λ more. inr (b.0, refl)) (reach_found c w y b.1)
       ]
   reach_in_found c w (When f x y) e =
-      elim (or_split (w.subject f && reaches c w x) (another w f && reaches c w y) e) [
-        | inl q ↦ let b = and_split (w.subject f) (reaches c w x) q in within x (λ more. inl (b.0, refl)) (reach_found c w x b.1)
+      elim (or_cases (w.subject f && reaches c w x) (another w f && reaches c w y) e) [
+        | inl q ↦ let b = and_parts (w.subject f) (reaches c w x) q in within x (λ more. inl (b.0, refl)) (reach_found c w x b.1)
         | inr q ↦
-            let b = and_split (another w f) (reaches c w y) q in
+            let b = and_parts (another w f) (reaches c w y) q in
             let o = another_is w f b.0 in
             within y (λ more. inr (o.0, o.1, o.2, refl)) (reach_found c w y b.1)
       ]
 
-no_clean : (ps : List Statement) → clean none ps ≡ true
+pub no_clean : (ps : List Statement) → clean none ps ≡ true
 no_clean [] = refl
 no_clean (s ∷ ps) = no_clean ps
 
@@ -530,7 +531,7 @@ pub data Where (c : ℕ) (w : Known) (s : Statement) (rest : Statements) : Type 
 where_is : (c : ℕ) (w : Known) (s : Statement) (rest left : Statements) (ps : List Statement) → Walks w (s ⨾ rest) ps left → passes_start c ps ≡ true → Where c w s rest
 where_is c w s rest left [] e q = true_false (sym q)
 where_is c w s rest left (p ∷ ps) e q =
-    elim (or_split (is_start_of c p) (passes_start c ps) q) [
+    elim (or_cases (is_start_of c p) (passes_start c ps) q) [
       | inl r ↦ at_first (subst (λ z. is_start_of c z ≡ true) (sym e.0) r)
       | inr r ↦ at_later e.1.0 left ps e.1.1 e.1.2 r
     ]
@@ -556,7 +557,7 @@ mutual
   later_complete c w Return rest mid left ps g e q = absurd g
   later_complete c w (Throw l) rest mid left ps g e q = absurd g
   later_complete c w (Check k) rest mid left ps g e q = inr (refl, record { passed = ps; left = left; walks = subst (λ z. Walks w z ps left) (sym g) e; starts = q })
-  later_complete c w (Cancel k) rest mid left ps g e q = inr (of_not (w.quiet k) g.0, record { passed = ps; left = left; walks = subst (λ z. Walks w z ps left) (sym g.1) e; starts = q })
+  later_complete c w (Cancel k) rest mid left ps g e q = inr (not_from_false (w.quiet k) g.0, record { passed = ps; left = left; walks = subst (λ z. Walks w z ps left) (sym g.1) e; starts = q })
   later_complete c w (Start d) rest mid left ps g e q = inr (refl, record { passed = ps; left = left; walks = subst (λ z. Walks w z ps left) (sym g) e; starts = q })
   later_complete c w Observe rest mid left ps g e q = inr (refl, record { passed = ps; left = left; walks = subst (λ z. Walks w z ps left) (sym g) e; starts = q })
   later_complete c w (Work i f) rest mid left ps g e q = inr (refl, record { passed = ps; left = left; walks = subst (λ z. Walks w z ps left) (sym g) e; starts = q })
@@ -608,7 +609,7 @@ start_lem c w body = (found, complete)
     by_verdict passed (Some verdict) (inl p) s = by_passes passed Nothing p.0 s
     by_verdict [] (Some verdict) (inr p) s = absurd p
     by_verdict (x ∷ passed) (Some verdict) (inr p) s =
-        elim (or_split (is_start_of c x) (passes_start c passed) s) [
+        elim (or_cases (is_start_of c x) (passes_start c passed) s) [
           | inl q ↦ absurd (last_no_start x verdict p.2 q)
           | inr q ↦ by_passes passed (x ⨾ p.0) p.1 q
         ]

@@ -1,5 +1,6 @@
 -- From what is answered to what was read and written.
-use Rattle.std.proofs.Common.{◌≡◌, ◌∙◌, ℕ, List, Bool, Option, Some, None, refl, sym, inl, inr}
+use Rattle.std.proofs.Common.{◌≡◌, ℕ, List, Bool, Option, Some, None, refl, inl, inr}
+use Rattle.tpl_commands.proofs.Accepting.{puts_success}
 use Rattle.tpl_audit.specs.declared.verdict.Verdict.{Verdict}
 use Rattle.tpl_audit.specs.declared.verdict.Verdict.TheVariants as ruled
 use Rattle.tpl_audit.specs.Audit.{IsVerdict}
@@ -10,7 +11,7 @@ use Rattle.tpl_reader.specs.Document.{DocumentValue, Spells}
 use Rattle.tpl_commands.specs.declared.exit.Exit.{Exit}
 use Rattle.tpl_commands.specs.declared.exit.Exit.TheVariants.{Success, Failure, Usage, Unreadable, Memory, Device, Fault}
 use Rattle.tpl_commands.specs.Auditing.{Audits, IsAuditWith, verdict_exit}
-use Rattle.tpl_commands.specs.Responding.{Says, Puts, Writes, Responds}
+use Rattle.tpl_commands.specs.Responding.{Says, Responds}
 use Rattle.tpl_commands.specs.Starting.{inputs_of}
 use Rattle.tpl_trace.specs.Answer.{IsTraced, SpellsNoRun, Traces, Traced}
 
@@ -47,10 +48,6 @@ says_success input Unreadable text e s = absurd cc
 says_success input Memory text e s = absurd cc
 says_success input Device text e s = absurd s
 says_success input Fault text e s = absurd s
-
-puts_success : {W : Type 0} (contents : W → Option (List ℕ)) (old new : Counting W) (exit : Exit) (text : List ℕ) (result : Exit) → Puts contents old new exit text result → result ≡ Success → (exit ≡ Success) × Writes contents old new text
-puts_success contents old new exit text result (inl w) e = (sym w.0 ∙ e, w.1)
-puts_success contents old new exit text result (inr f) e = let d = f.0 in absurd cc
 
 pub success_traces : {R W : Type 0} (remaining : R → Option (List ℕ)) (from_old from_new : Counting R) (contents : W → Option (List ℕ)) (old new : Counting W) (result : Exit) → Responds Traces remaining from_old from_new contents old new result → result ≡ Success → Traced remaining from_old from_new contents old new
 unfolding IsDrawn

@@ -2,18 +2,11 @@
 use Rattle.std.proofs.Common.{◌≡◌, ◌∙◌, ℕ, ◌+◌, ◌-◌, ◌<◌, ◌≤◌, List, [], ◌∷◌, ◌++◌, length, take, get_or, slice_index_or, true, false, refl, sym, ap, Bool, arith}
 use Rattle.std.specs.Prelude.{◌||◌}
 use Rattle.std.proofs.lemmas.List.{take_more}
+use Rattle.tpl_words.proofs.Truths.{or_false, or_true}
 use Rattle.tpl_words.specs.declared.status.Actor.{Actor}
 use Rattle.tpl_model.specs.Journal.{same_actor}
 use Rattle.tpl_model.specs.declared.event.Event.{Event}
 use Rattle.tpl_trace.specs.Trace.{acts_in}
-
-or_false : (b : Bool) → b || false ≡ b
-or_false true = refl
-or_false false = refl
-
-or_true : (b : Bool) → b || true ≡ true
-or_true true = refl
-or_true false = refl
 
 or_last : (b c d : Bool) → b || (c || d) ≡ (b || c) || d
 or_last true c d = refl

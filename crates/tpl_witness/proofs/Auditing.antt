@@ -4,6 +4,7 @@ use Rattle.std.specs.Prelude.{slice_get}
 use Rattle.std.specs.List.{All}
 use Rattle.std.proofs.lemmas.List.{take_all}
 use Rattle.std.proofs.lemmas.Option.{get_or_from_slice_get, slice_get_within}
+use Rattle.tpl_commands.proofs.TakenBack.{unreadable_never}
 use Rattle.tpl_laws.specs.Runs.{PrefixIsRun}
 use Rattle.tpl_model.specs.Graph.{TaskGraph}
 use Rattle.tpl_model.specs.declared.event.Event.{Event}
@@ -25,7 +26,6 @@ use Rattle.tpl_reader.specs.Laws.{SpellsOneDocument, SpelledHasNoFault}
 use Rattle.tpl_commands.specs.declared.exit.Exit.{Exit}
 use Rattle.tpl_commands.specs.declared.exit.Exit.TheVariants.{Memory}
 use Rattle.tpl_commands.specs.Auditing.{IsAudit, IsAuditWith, IsAudited, IsNoJournal, IsNoJournalText, verdict_exit, verdict_text}
-use Rattle.tpl_commands.specs.Unreadable.{IsUnreadable}
 use Rattle.tpl_commands.specs.Starting.{inputs_of}
 use Rattle.tpl_witness.specs.Asking.{IsNumbered}
 use Rattle.tpl_witness.specs.Filled.{started}
@@ -53,9 +53,6 @@ module _ (g : TaskGraph) (claims : List Claim) (claim : Claim) (number : ℕ) (i
 
 -- ---- the audit of the document
 
-never_unreadable : (fault : ReadFault) (text : List ℕ) → fault ≡ faults.Memory → IsUnreadable fault text → ⊥
-never_unreadable fault text e is = subst (λ (f : ReadFault). IsUnreadable f text) e is
-
 has_text : (fault : JournalFault) (text : List ℕ) → IsNoJournalText fault text → fault ≡ broken.Memory → ⊥
 has_text fault text is e = subst (λ (f : JournalFault). IsNoJournalText f text) e is
 
@@ -81,4 +78,4 @@ module _ (doc : DocumentValue) (claim : Claim) (number : ℕ) (inputs : List Boo
       let known : inputs_of (refuted_by doc inputs events) ≡ Some inputs = ap (λ v. Some v) (started_inputs doc.start inputs) in
       of_audit exit text (subst (λ (v : Option (List Bool)). IsAuditWith (refuted_by doc inputs events) v exit text) known is)
   audited_so bytes one faultless spelled exit text (inr wrong) =
-      absurd (never_unreadable wrong.0 text (faultless bytes (refuted_by doc inputs events) wrong.0 spelled wrong.1) wrong.3)
+      absurd (unreadable_never wrong.0 text (faultless bytes (refuted_by doc inputs events) wrong.0 spelled wrong.1) wrong.3)

@@ -1,5 +1,7 @@
 -- The start with other inputs is read as that.
 use Rattle.std.proofs.Common.{◌≡◌, ℕ, ◌-◌, ◌≤◌, ◌&&◌, List, [], ◌∷◌, Bool, true, Option, Some, None, length, codes, option_and_then, refl, sym, ap, subst, arith}
+use Rattle.std.proofs.lemmas.Bool.{and_from}
+use Rattle.tpl_words.proofs.Truths.{and_second}
 use Rattle.serde_json.specs.Data.{Data, Members, no_members, object, put, depth}
 use Rattle.serde_json.specs.Find.{get, as_bool}
 use Rattle.serde_json.proofs.Views.{get_member-put}
@@ -12,7 +14,6 @@ use Rattle.tpl_reader.specs.Begin.{StartValue, knows_members, truth_at, HasTruth
 use Rattle.tpl_reader.specs.StartGrammar.{AreTruths, IsTruths, IsStart, IsStartIfAny}
 use Rattle.tpl_reader.specs.Document.{IsStarted}
 use Rattle.tpl_witness.specs.Filled.{AreFirst, IsStartWith, start_data, started}
-use Rattle.tpl_json.proofs.Truths.{and_both, and_second}
 use Rattle.tpl_json.proofs.Puts.{only_put, is_object, other, depth_put}
 
 -- ---- with names
@@ -82,7 +83,7 @@ has_truths names values ms count all = record {
 pub start_value : (g : Named) (values : List Bool) (ms : Members) (s : Option NamedStart) (start : Option StartValue) → length values ≡ length g.names.inputs → AreFirst g.names.inputs values (length g.names.inputs) ms
     → IsStarted g s start → IsStartOf g (named_with (object ms) s) (started start values)
 start_value g values ms None None count all is = record {
-  known = and_both _ _ (known_inputs g.names.inputs values ms all) refl;
+  known = and_from _ _ (known_inputs g.names.inputs values ms all) refl;
   inputs = has_truths g.names.inputs values ms count all;
   request = refl;
   sites = refl;
@@ -91,7 +92,7 @@ start_value g values ms None None count all is = record {
 start_value g values ms None (Some start) count all is = absurd is
 start_value g values ms (Some s) None count all is = absurd is
 start_value g values ms (Some s) (Some start) count all is = record {
-  known = and_both _ _ (known_inputs g.names.inputs values ms all) (and_second (knows_members g.names.inputs s.inputs) (are_declared g.names.tokens s.request && are_declared g.names.sites s.fail) is.known);
+  known = and_from _ _ (known_inputs g.names.inputs values ms all) (and_second (knows_members g.names.inputs s.inputs) (are_declared g.names.tokens s.request && are_declared g.names.sites s.fail) is.known);
   inputs = has_truths g.names.inputs values ms count all;
   request = is.request;
   sites = is.sites;

@@ -1,9 +1,10 @@
 -- A value for each input, put into an object one after another.
 use Rattle.std.proofs.Common.{◌≡◌, ℕ, ◌+◌, ◌<◌, ◌⊎◌, inl, inr, List, Bool, true, false, Some, Ordering, Less, Equal, Greater, length, is_some, refl, sym, ap, subst, ◌∙◌, arith}
-use Rattle.std.proofs.lemmas.Bool.{cases_eq, lt-ltb}
+use Rattle.std.proofs.lemmas.Bool.{cases_eq, lt-ltb, and_from}
 use Rattle.std.specs.Prelude.{slice_index_or}
 use Rattle.std.specs.Cmp.Lexicographic.{slice_cmp}
 use Rattle.std.specs.Ordering.{nat_cmp, match_ordering}
+use Rattle.tpl_words.proofs.Truths.{and_first, and_second}
 use Rattle.serde_json.specs.Data.{Data, Members, no_members, member, boolean, put}
 use Rattle.serde_json.specs.Find.{get_member}
 use Rattle.serde_json.proofs.Views.{get_member-put, get_member-put_other}
@@ -14,7 +15,6 @@ use Rattle.tpl_cert.proofs.Unique.{number_of-name_at}
 use Rattle.tpl_reader.specs.Begin.{declares}
 use Rattle.tpl_reader.specs.StartGrammar.{AreTruths}
 use Rattle.tpl_witness.specs.Filled.{AreFirst}
-use Rattle.tpl_json.proofs.Truths.{and_both, and_first, and_second}
 use Rattle.tpl_json.proofs.Puts.{depth_put}
 
 declares_either : (o : Ordering) (names : List (List ℕ)) (a b c : Members) → declares names a ≡ true → declares names b ≡ true → declares names c ≡ true → declares names (match_ordering o a b c) ≡ true
@@ -23,12 +23,12 @@ declares_either Equal names a b c x y z = y
 declares_either Greater names a b c x y z = z
 
 declares_put : (names : List (List ℕ)) (k : List ℕ) (d : Data) (ms : Members) → is_declared names k ≡ true → declares names ms ≡ true → declares names (put k d ms) ≡ true
-declares_put names k d no_members one all = and_both (is_declared names k) true one refl
+declares_put names k d no_members one all = and_from (is_declared names k) true one refl
 declares_put names k d (member l e ms) one all =
     let first = and_first (is_declared names l) (declares names ms) all in
     let rest = and_second (is_declared names l) (declares names ms) all in
     declares_either (slice_cmp nat_cmp k l) names (member k d (member l e ms)) (member l d ms) (member l e (put k d ms))
-    (and_both (is_declared names k) _ one all) (and_both (is_declared names l) _ first rest) (and_both (is_declared names l) _ first (declares_put names k d ms one rest))
+    (and_from (is_declared names k) _ one all) (and_from (is_declared names l) _ first rest) (and_from (is_declared names l) _ first (declares_put names k d ms one rest))
 
 truths_either : (o : Ordering) (a b c : Members) → AreTruths a → AreTruths b → AreTruths c → AreTruths (match_ordering o a b c)
 truths_either Less a b c x y z = x

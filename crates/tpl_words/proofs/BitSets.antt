@@ -1,14 +1,16 @@
 -- Words of 64 bits as sets of numbers.
-use Rattle.std.proofs.Common.{◌≡◌, ◌≢◌, ℕ, zero, suc, ◌+◌, ◌*◌, ◌/◌, ◌%◌, ◌^◌, ◌<◌, ◌≤◌, Bool, true, false, ◌&&◌, ◌||◌, List, [], ◌∷◌, length, get_or, nat_eq, nat_lt, refl, sym, ap, ◌∙◌, ⊎_elim, arith, eq-eqb, bit_or, bit_and}
+use Rattle.std.proofs.Common.{◌≡◌, ◌≢◌, ℕ, zero, suc, ◌+◌, ◌*◌, ◌/◌, ◌%◌, ◌^◌, ◌<◌, ◌≤◌, true, false, ◌&&◌, ◌||◌, List, [], ◌∷◌, length, get_or, nat_eq, nat_lt, refl, sym, ap, ◌∙◌, ⊎_elim, arith, eq-eqb, bit_or, bit_and}
 use Rattle.std.specs.Prelude.{◌==◌, max, min, slice_set}
 use Rattle.std.specs.Int.{bit_at, bit_not, trailing_zeros, w64}
 use Rattle.std.proofs.lemmas.Bool.{eqb-true, ltb-true, cases_lt, cases_eq}
 use Rattle.std.proofs.lemmas.List.{get_or_past, get_or-set_same, get_or-set_other, length-set}
 use Rattle.std.proofs.lemmas.Nat.{and_le_l}
 use Rattle.std.proofs.lemmas.Nat.Bits.{bit_at-zero, bit_at_or, bit_at_and, bit_at-lt, bit_at_set_same, bit_at_set_other, bit_at_clear_same, bit_at_clear_other, bit_at-trailing_zeros, same_from_bits_below}
+use Rattle.tpl_words.proofs.Truths.{same_tests}
+use Rattle.tpl_words.proofs.MemberLemmas.{not_same}
 use Rattle.tpl_words.specs.Members.{mem}
 use Rattle.tpl_words.specs.TaskSet.{AscendsWithin, IsTaskSet, IsSubset, is_set, members_of}
-use Rattle.tpl_words.proofs.SetLists.{same_tests, raised, same_members, mem-passing_from, passing_from-mem, passing_from-ascends}
+use Rattle.tpl_words.proofs.SetLists.{raised, same_members, mem-passing_from, passing_from-mem, passing_from-ascends}
 
 within : (words : List ℕ) (x : ℕ) → is_set words x ≡ true → x < 64 * length words
 within words x h =
@@ -105,7 +107,7 @@ members_of-and a b c i end la lb filled x =
     ∙ ap (λ t. mem x (members_of a) && t) (sym (mem-members_of b x))))))
 
 -- where one word changed at one bit, each other number is as it was
-other_bit : (words : List ℕ) (t word x : ℕ) → t / 64 < length words → ((i : ℕ) → i < 64 → i ≢ t % 64 → bit_at word i ≡ bit_at (get_or words (t / 64) 0) i) → x ≢ t → is_set (slice_set words (t / 64) word) x ≡ is_set words x
+pub other_bit : (words : List ℕ) (t word x : ℕ) → t / 64 < length words → ((i : ℕ) → i < 64 → i ≢ t % 64 → bit_at word i ≡ bit_at (get_or words (t / 64) 0) i) → x ≢ t → is_set (slice_set words (t / 64) word) x ≡ is_set words x
 other_bit words t word x place kept ne =
     ⊎_elim
     (λ same.
@@ -117,18 +119,11 @@ other_bit words t word x place kept ne =
     (λ apart. ap (λ w. bit_at w (x % 64) == 1) (get_or-set_other words (t / 64) (x / 64) word 0 apart))
     (cases_eq (x / 64) (t / 64))
 
-this_bit : (words : List ℕ) (t word x b : ℕ) → t / 64 < length words → bit_at word (t % 64) ≡ b → x ≡ t → is_set (slice_set words (t / 64) word) x ≡ (b == 1)
+pub this_bit : (words : List ℕ) (t word x b : ℕ) → t / 64 < length words → bit_at word (t % 64) ≡ b → x ≡ t → is_set (slice_set words (t / 64) word) x ≡ (b == 1)
 this_bit words t word x b place e same =
     ap (is_set (slice_set words (t / 64) word)) same
     ∙ (ap (λ w. bit_at w (t % 64) == 1) (get_or-set_same words (t / 64) word 0 place)
     ∙ ap (λ c. c == 1) e)
-
-not_same : (x t : ℕ) → x ≢ t → nat_eq x t ≡ false
-not_same x t ne = go (nat_eq x t) refl
-  where
-    go : (b : Bool) → nat_eq x t ≡ b → b ≡ false
-    go true e = absurd (ne (eqb-true x t e))
-    go false e = refl
 
 -- one more bit
 pub members_of-insert : (words : List ℕ) (t : ℕ) → t < 64 * length words → (x : ℕ) → mem x (members_of (slice_set words (t / 64) (bit_or (get_or words (t / 64) 0) (1 * 2 ^ (t % 64) % 2 ^ 64)))) ≡ (nat_eq x t || mem x (members_of words))

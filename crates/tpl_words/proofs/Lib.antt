@@ -1,2 +1,4 @@
+pub mod Truths
+pub mod MemberLemmas
 pub mod SetLists
 pub mod BitSets

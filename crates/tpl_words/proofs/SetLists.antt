@@ -1,31 +1,11 @@
 -- Lists in ascending order, as sets of their members.
-use Rattle.std.proofs.Common.{◌≡◌, ◌⊎◌, ℕ, zero, suc, ◌+◌, ◌<◌, ◌≤◌, Bool, true, false, ◌||◌, List, [], ◌∷◌, nat_eq, refl, sym, ap, ◌∙◌, subst, inl, inr, arith, eq-eqb}
+use Rattle.std.proofs.Common.{◌≡◌, ℕ, zero, suc, ◌+◌, ◌<◌, ◌≤◌, Bool, true, false, List, [], ◌∷◌, nat_eq, refl, sym, ap, ◌∙◌, subst, inl, inr, arith, eq-eqb}
 use Rattle.std.specs.Prelude.{if◌then◌else◌}
-use Rattle.std.proofs.lemmas.Bool.{eqb-true, cases_eq}
+use Rattle.std.proofs.lemmas.Bool.{eqb-true, cases_eq, or_cases, or_left, or_right}
+use Rattle.tpl_words.proofs.MemberLemmas.{mem_here}
+use Rattle.tpl_words.proofs.Truths.{same_tests}
 use Rattle.tpl_words.specs.Members.{mem}
 use Rattle.tpl_words.specs.TaskSet.{AscendsWithin, SetsAreTheirMembers, passing_from}
-
--- two tests that hold where the other does are equal
-pub same_tests : (a b : Bool) → (a ≡ true → b ≡ true) → (b ≡ true → a ≡ true) → a ≡ b
-same_tests true true f g = refl
-same_tests true false f g = sym (f refl)
-same_tests false true f g = g refl
-same_tests false false f g = refl
-
-pub or_cases : (a b : Bool) → a || b ≡ true → (a ≡ true) ⊎ (b ≡ true)
-or_cases true b e = inl refl
-or_cases false b e = inr e
-
-pub or_left : (a b : Bool) → a ≡ true → a || b ≡ true
-or_left true b e = refl
-or_left false b e = cc
-
-pub or_right : (a b : Bool) → b ≡ true → a || b ≡ true
-or_right true b e = refl
-or_right false b e = e
-
-mem_first : (x : ℕ) (xs : List ℕ) → mem x (x ∷ xs) ≡ true
-mem_first x xs = or_left (nat_eq x x) (mem x xs) (eq-eqb x x refl)
 
 pub mem_within : (low high : ℕ) (xs : List ℕ) (x : ℕ) → AscendsWithin low high xs → mem x xs ≡ true → (low ≤ x) × (x < high)
 mem_within low high [] x a m = cc
@@ -40,13 +20,13 @@ mem_within low high (y ∷ ys) x a m =
 -- another lower bound of the members
 pub raised : (low new high : ℕ) (xs : List ℕ) → AscendsWithin low high xs → ((x : ℕ) → mem x xs ≡ true → new ≤ x) → AscendsWithin new high xs
 raised low new high [] a h = tt
-raised low new high (x ∷ xs) a h = (h x (mem_first x xs), a.1, a.2)
+raised low new high (x ∷ xs) a h = (h x (mem_here x xs), a.1, a.2)
 
 -- ascending lists with the same members are equal
 pub same_members : (low high : ℕ) (xs ys : List ℕ) → AscendsWithin low high xs → AscendsWithin low high ys → ((x : ℕ) → mem x xs ≡ mem x ys) → xs ≡ ys
 same_members low high [] [] a b m = refl
-same_members low high [] (y ∷ ys) a b m = let e = m y ∙ mem_first y ys in cc
-same_members low high (x ∷ xs) [] a b m = let e = sym (m x) ∙ mem_first x xs in cc
+same_members low high [] (y ∷ ys) a b m = let e = m y ∙ mem_here y ys in cc
+same_members low high (x ∷ xs) [] a b m = let e = sym (m x) ∙ mem_here x xs in cc
 same_members low high (x ∷ xs) (y ∷ ys) a b m =
     let same : x ≡ y = first in
     ap (λ l. x ∷ l) (same_members (suc x) high xs ys a.2 (subst (λ z. AscendsWithin (suc z) high ys) (sym same) b.2) (λ z. same_tests (mem z xs) (mem z ys) (to same z) (of same z)))
@@ -54,8 +34,8 @@ same_members low high (x ∷ xs) (y ∷ ys) a b m =
   where
     first : x ≡ y
     first =
-        let le = (mem_within y high (y ∷ ys) x (omega arith, b.1, b.2) (sym (m x) ∙ mem_first x xs)).0 in
-        let ge = (mem_within x high (x ∷ xs) y (omega arith, a.1, a.2) (m y ∙ mem_first y ys)).0 in
+        let le = (mem_within y high (y ∷ ys) x (omega arith, b.1, b.2) (sym (m x) ∙ mem_here x xs)).0 in
+        let ge = (mem_within x high (x ∷ xs) y (omega arith, a.1, a.2) (m y ∙ mem_here y ys)).0 in
         omega arith
 
     to : x ≡ y → (z : ℕ) → mem z xs ≡ true → mem z ys ≡ true

@@ -1,4 +1,5 @@
 use Rattle.std.proofs.Common.{◌&&◌, ap, ◌∙◌, sym, subst}
+use Rattle.tpl_laws.proofs.Settling.{attached_child}
 use Rattle.tpl_words.specs.declared.finals.Final.TheVariants.{Faulted}
 use Rattle.tpl_words.specs.Finals.{has}
 use Rattle.tpl_words.specs.Members.{mem}
@@ -7,7 +8,7 @@ use Rattle.tpl_model.specs.Graph.{attached, body, some_in}
 use Rattle.tpl_model.specs.Certificate.{row, view}
 use Rattle.tpl_checker.specs.Tasks.{AreTasks}
 use Rattle.tpl_checker.proofs.Basics.{some_in_same}
-use Rattle.tpl_checker.proofs.ReadyLemmas.{attached_is_child, attached_within}
+use Rattle.tpl_checker.proofs.ReadyLemmas.{attached_within}
 use Rattle.tpl_checker.proofs.BodyLemmas.{started_of}
 use Rattle.tpl_checker.proofs.ends.child_may_fault.Goals as goal
 
@@ -23,4 +24,4 @@ returns c l b =
     c.some_faults.ensures
     ∙ (ap (λ xs. some_in (λ x. mem x c.args.bodies.now.started && has (row rows x).ends Faulted) xs) c.attached.ensures
     ∙ some_in_same (λ x. mem x c.args.bodies.now.started && has (row rows x).ends Faulted) (λ x. reaches x (view g l rows t) (body g t) && has (row rows x).ends Faulted) (attached g t)
-    (λ x m. ap (λ z. z && has (row rows x).ends Faulted) (started_of g l rows c.args.bodies.now b t x (attached_is_child g t x m))))
+    (λ x m. ap (λ z. z && has (row rows x).ends Faulted) (started_of g l rows c.args.bodies.now b t x (attached_child g t x m))))

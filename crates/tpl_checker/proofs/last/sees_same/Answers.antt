@@ -1,9 +1,10 @@
 use Rattle.std.proofs.Common.{◌≡◌, inl, inr, sym, ap, subst, ◌∙◌, arith}
 use Rattle.std.proofs.lemmas.Bool.{cases_eq, not-false}
+use Rattle.tpl_words.proofs.Truths.{beq_same}
 use Rattle.tpl_words.specs.Finals.{has}
 use Rattle.tpl_model.specs.Graph.{kind}
 use Rattle.tpl_model.specs.Certificate.{subject_set}
-use Rattle.tpl_checker.proofs.LastLemmas.{same_bit, same_lists, same_possible, same_finals, same_view}
+use Rattle.tpl_checker.proofs.LastLemmas.{same_lists, same_possible, same_finals, same_view}
 use Rattle.tpl_checker.proofs.last.sees_same.Goals as goal
 
 pub loop-number-preserved : goal.loop-number-preserved
@@ -22,5 +23,5 @@ pub returns : goal.returns
 returns c e t lt =
     same_view c.args.graph.now.graph c.args.last.now.assumed c.args.assumed.now c.args.last.now.rows.now c.args.rows.now t
     (same_lists _ same_possible c.args.last.now.assumed.inputs c.args.assumed.now.inputs (not-false _ (sym c.if-ne.ensures)))
-    (same_lists _ same_bit c.args.last.now.assumed.quiet c.args.assumed.now.quiet (not-false _ (sym c.if-ne-2.ensures)))
+    (same_lists _ beq_same c.args.last.now.assumed.quiet c.args.assumed.now.quiet (not-false _ (sym c.if-ne-2.ensures)))
     (c.loop-number.invariant t (omega (arith, lt, c.loop-number-test.false, c.len-number-end.ensures.count)))

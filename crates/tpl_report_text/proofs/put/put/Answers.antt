@@ -1,8 +1,9 @@
 use Rattle.std.proofs.Common.{◌∙◌, subst}
 use Rattle.std.specs.Io.KnownBytes.{Appends}
+use Rattle.tpl_journal.proofs.WrittenLemmas.{err_of}
 use Rattle.tpl_journal.specs.Counting.{contents_of}
 use Rattle.tpl_journal.specs.Writing.{AppendsFront}
-use Rattle.tpl_report_text.proofs.PartLemmas.{part_more, part_stops, err_of}
+use Rattle.tpl_report_text.proofs.PartLemmas.{part_more, part_stops}
 use Rattle.tpl_report_text.proofs.put.put.Goals as goal
 
 pub returns-in_err-write_all-clause-err : goal.returns-in_err-write_all-clause-err

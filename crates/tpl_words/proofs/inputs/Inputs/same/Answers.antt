@@ -1,24 +1,16 @@
 use Rattle.std.proofs.Common.{◌≡◌, Bool, true, false, ◌&&◌, List, [], ◌∷◌, take, refl, sym, ap, ◌∙◌}
 use Rattle.std.specs.Cmp.Lexicographic.{pointwise}
+use Rattle.std.proofs.lemmas.Bool.{and_parts}
+use Rattle.tpl_words.proofs.Truths.{beq_same}
 use mathlib.Core.Bool.{beq}
 use Rattle.tpl_words.proofs.inputs.Inputs.same.Goals as goal
-
-both : (a b : Bool) → a && b ≡ true → (a ≡ true) × (b ≡ true)
-both true b e = (refl, e)
-both false b e = cc
-
-beq_same : (a b : Bool) → beq a b ≡ true → a ≡ b
-beq_same true true e = refl
-beq_same true false e = cc
-beq_same false true e = cc
-beq_same false false e = refl
 
 same_lists : (xs ys : List Bool) → pointwise beq xs ys ≡ true → xs ≡ ys
 same_lists [] [] e = refl
 same_lists [] (y ∷ ys) e = cc
 same_lists (x ∷ xs) [] e = cc
 same_lists (x ∷ xs) (y ∷ ys) e =
-    let parts = both (beq x y) (pointwise beq xs ys) e in
+    let parts = and_parts (beq x y) (pointwise beq xs ys) e in
     ap (λ l. x ∷ l) (same_lists xs ys parts.1) ∙ ap (λ z. z ∷ ys) (beq_same x y parts.0)
 
 beq_refl : (a : Bool) → beq a a ≡ true
