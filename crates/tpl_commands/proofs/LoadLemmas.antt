@@ -9,7 +9,7 @@ use Rattle.tpl_cert.proofs.Names.{number_below}
 use Rattle.tpl_json.proofs.Arrays.{head_is, tail_is}
 use Rattle.tpl_graph.specs.Named.{Named}
 use Rattle.tpl_journal.specs.declared.counting.Counting.{Counting}
-use Rattle.tpl_reader.specs.Start.{NamedStart}
+use Rattle.tpl_parts.specs.Start.{NamedStart}
 use Rattle.tpl_reader.specs.Begin.{StartValue}
 use Rattle.tpl_reader.specs.Document.{DocumentValue, IsStarted, IsFault, Spells}
 use Rattle.tpl_reader.specs.declared.fault.ReadFault.{ReadFault}

@@ -1,5 +1,5 @@
 -- The pieces of which grammars of JSON values are made.
-use Rattle.std.specs.Prelude.{◌≡◌, ℕ, true, Option, Some, None, List, [], map}
+use Rattle.std.specs.Prelude.{◌≡◌, ℕ, true, Option, Some, None, List, [], ◌∷◌, map}
 use Rattle.std.specs.List.{list_any}
 use Rattle.serde_json.specs.Data.{Data, string}
 use Rattle.serde_json.specs.Find.{get}
@@ -40,3 +40,10 @@ HasTexts d name texts = IfThere (get name d) (IsTexts texts) (texts ≡ [])
 -- the names of final statuses, of which the set has each, and no other
 abbrev pub AreFinals : Finals → List Data → Type 0
 AreFinals finals ds = (fs : List Final) × (ds ≡ map (λ f. string (final_name f)) fs) × ((f : Final) → has finals f ≡ list_any (is_final f) fs)
+
+-- each element is read as one of these, one for one
+abbrev pub AllRead : {D A : Type 0} → (D → A → Type 0) → List D → List A → Type 0
+AllRead R [] [] = Unit {0}
+AllRead R [] (x ∷ xs) = ⊥
+AllRead R (d ∷ ds) [] = ⊥
+AllRead R (d ∷ ds) (x ∷ xs) = R d x × AllRead R ds xs

@@ -8,11 +8,10 @@ use Rattle.serde_json.proofs.Views.{get_member-put}
 use Rattle.tpl_model.specs.Certificate.{Tree}
 use Rattle.tpl_graph.specs.Named.{Names}
 use Rattle.tpl_json.specs.Members.{list_in}
-use Rattle.tpl_json.specs.Grammar.{IfThere, IsArray}
+use Rattle.tpl_json.specs.Grammar.{IfThere, IsArray, AllRead}
 use Rattle.tpl_cert.specs.Spelled.{ReadsAs}
 use Rattle.tpl_cert.specs.Written.{tree_data, named, certificate_data}
-use Rattle.tpl_reader.specs.Passes.{AllRead}
-use Rattle.tpl_reader.specs.TaskGrammar.{IsToken}
+use Rattle.tpl_parts.specs.TaskGrammar.{IsToken}
 use Rattle.tpl_reader.specs.Top as top
 use Rattle.tpl_reader.specs.TopGrammar.{IsTop}
 use Rattle.tpl_reader.specs.Document.{Spelled, IsSpelled, DocumentValue, IsDocument, Spells, longest}

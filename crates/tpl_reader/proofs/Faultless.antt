@@ -17,14 +17,15 @@ use Rattle.tpl_cert.specs.declared.fault.TreeFault.{TreeFault}
 use Rattle.tpl_cert.specs.declared.fault.TreeFault.TheVariants as trees
 use Rattle.tpl_cert.specs.Laws.{ReadHasNoFault}
 use Rattle.tpl_cert.specs.Spelled.{ReadsAs, IsWrongTree}
-use Rattle.tpl_reader.specs.NamedClaims.{NamedClaim}
-use Rattle.tpl_reader.specs.Start.{NamedStart}
+use Rattle.tpl_parts.specs.NamedClaims.{NamedClaim}
+use Rattle.tpl_parts.specs.Start.{NamedStart}
 use Rattle.tpl_reader.specs.Begin.{StartValue, may_all_fail, IsStartOf, IsWrongStart}
 use Rattle.tpl_reader.specs.Asked.{given_in, knows_claim, IsClaimOf, IsAsked, IsWrongClaim}
 use Rattle.tpl_reader.specs.Top.{Members}
-use Rattle.tpl_reader.specs.TaskGrammar.{IsTask, IsNoTask}
-use Rattle.tpl_reader.specs.ClaimGrammar.{IsClaim, IsNoClaim}
-use Rattle.tpl_reader.specs.Passes.{AllRead, FirstWrong}
+use Rattle.tpl_parts.specs.TaskGrammar.{IsTask, IsNoTask}
+use Rattle.tpl_parts.specs.ClaimGrammar.{IsClaim, IsNoClaim}
+use Rattle.tpl_json.specs.Grammar.{AllRead}
+use Rattle.tpl_reader.specs.Passes.{FirstWrong}
 use Rattle.tpl_reader.specs.declared.fault.Part.{Part}
 use Rattle.tpl_reader.specs.declared.fault.Part.TheVariants as part
 use Rattle.tpl_reader.specs.declared.fault.ClaimFault.{ClaimFault}

@@ -1,16 +1,9 @@
-pub mod Bodies
-pub mod OptionWords
 pub mod Lookups
 pub mod Passes
 pub mod Asking
-pub mod Truths
 pub mod Shapes
 pub mod Begins
 pub mod Refusals
-pub mod BodyLaws
-pub mod TaskLaws
-pub mod ClaimLaws
-pub mod StartLaws
 pub mod TopLaws
 pub mod Shallow
 pub mod Checkable

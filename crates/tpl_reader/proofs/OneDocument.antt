@@ -12,24 +12,24 @@ use Rattle.tpl_graph.specs.Draft.{Task, Token}
 use Rattle.tpl_graph.specs.Named.{Names, Named}
 use Rattle.tpl_cert.specs.Laws.{SpellsOneTree}
 use Rattle.tpl_cert.specs.Spelled.{ReadsAs}
-use Rattle.tpl_reader.specs.NamedClaims.{NamedClaim}
-use Rattle.tpl_reader.specs.Start.{NamedStart}
+use Rattle.tpl_parts.specs.NamedClaims.{NamedClaim}
+use Rattle.tpl_parts.specs.Start.{NamedStart}
 use Rattle.tpl_reader.specs.Begin.{StartValue, HasTruths, IsStartOf}
 use Rattle.tpl_reader.specs.Asked.{IsClaimOf, IsAsked}
 use Rattle.tpl_reader.specs.Top.{Members}
-use Rattle.tpl_reader.specs.TaskGrammar.{IsTask}
-use Rattle.tpl_reader.specs.ClaimGrammar.{IsClaim}
-use Rattle.tpl_reader.specs.StartGrammar.{IsStartIfAny}
+use Rattle.tpl_parts.specs.TaskGrammar.{IsTask}
+use Rattle.tpl_parts.specs.ClaimGrammar.{IsClaim}
+use Rattle.tpl_parts.specs.StartGrammar.{IsStartIfAny}
 use Rattle.tpl_reader.specs.TopGrammar.{IsTop}
-use Rattle.tpl_reader.specs.Passes.{AllRead}
+use Rattle.tpl_json.specs.Grammar.{AllRead}
 use Rattle.tpl_reader.specs.Document.{Spelled, IsSpelled, DocumentValue, IsStarted, IsDocument, Reads, Spells}
 use Rattle.tpl_json.proofs.Arrays.{some_is, head_is, tail_is}
 use Rattle.tpl_json.proofs.Json.{cons_same, Within}
 use Rattle.tpl_reader.proofs.Shallow.{tasks_within}
 use Rattle.tpl_reader.proofs.TopLaws.{top_read}
-use Rattle.tpl_reader.proofs.TaskLaws.{task_read}
-use Rattle.tpl_reader.proofs.ClaimLaws.{claim_read}
-use Rattle.tpl_reader.proofs.StartLaws.{if_any_read}
+use Rattle.tpl_parts.proofs.TaskLaws.{task_read}
+use Rattle.tpl_parts.proofs.ClaimLaws.{claim_read}
+use Rattle.tpl_parts.proofs.StartLaws.{if_any_read}
 
 all_same : {D A : Type 0} (R : D → A → Type 0) → ((d : D) (x y : A) → R d x → R d y → x ≡ y) → (ds : List D) (xs ys : List A) → AllRead R ds xs → AllRead R ds ys → xs ≡ ys
 all_same R f [] [] [] p q = refl

@@ -6,7 +6,7 @@ use Rattle.tpl_graph.specs.Named.{Named}
 use Rattle.tpl_graph.specs.Numbered.{numbered}
 use Rattle.tpl_graph.specs.Refusals.{IsValid}
 use Rattle.tpl_cert.specs.Spelled.{ReadsAs}
-use Rattle.tpl_reader.specs.Passes.{AllRead}
+use Rattle.tpl_json.specs.Grammar.{AllRead}
 use Rattle.tpl_reader.specs.declared.fault.ReadFault.{ReadFault}
 use Rattle.tpl_reader.specs.declared.fault.ReadFault.TheVariants as faults
 use Rattle.tpl_reader.specs.Document.{Spelled, AreAsked, GraphFaults, ClaimFaults, TreeFaults, StartFaults, IsRefused}

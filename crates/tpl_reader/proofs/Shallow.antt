@@ -3,7 +3,7 @@ use Rattle.std.proofs.Common.{ℕ, zero, suc, ◌<◌, ◌≤◌, List, [], ◌�
 use Rattle.std.proofs.lemmas.List.Elements.{All-cons}
 use Rattle.serde_json.specs.Data.{Data, depth}
 use Rattle.tpl_json.specs.View.{Value, view}
-use Rattle.tpl_reader.specs.TaskGrammar.{AreShallow}
+use Rattle.tpl_parts.specs.TaskGrammar.{AreShallow}
 use Rattle.tpl_reader.specs.Top.{Members}
 use Rattle.tpl_reader.specs.TopGrammar.{IsTop}
 use Rattle.tpl_json.proofs.Json.{Within, get_depth, list_within}

@@ -2,16 +2,16 @@
 use Rattle.std.proofs.Common.{List}
 use Rattle.serde_json.specs.Data.{Data}
 use Rattle.tpl_graph.specs.Draft.{Task}
-use Rattle.tpl_reader.specs.NamedClaims.{NamedClaim}
+use Rattle.tpl_parts.specs.NamedClaims.{NamedClaim}
 use Rattle.tpl_reader.specs.declared.fault.Stop.{Stop}
 use Rattle.tpl_reader.specs.declared.fault.Stop.TheVariants as stop
 use Rattle.tpl_reader.specs.declared.fault.Part.{Part}
 use Rattle.tpl_reader.specs.declared.fault.Part.TheVariants as part
 use Rattle.tpl_reader.specs.Top.{Members}
-use Rattle.tpl_reader.specs.TaskGrammar.{IsTask}
-use Rattle.tpl_reader.specs.ClaimGrammar.{IsClaim}
+use Rattle.tpl_parts.specs.TaskGrammar.{IsTask}
+use Rattle.tpl_parts.specs.ClaimGrammar.{IsClaim}
 use Rattle.tpl_reader.specs.TopGrammar.{IsTop}
-use Rattle.tpl_reader.specs.Passes.{AllRead}
+use Rattle.tpl_json.specs.Grammar.{AllRead}
 use Rattle.tpl_reader.specs.Asked.{Refuses}
 use Rattle.tpl_reader.specs.Document.{WrongTop, WrongTask, WrongClaim, WrongStart, IsMisshapen}
 

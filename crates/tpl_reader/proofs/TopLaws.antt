@@ -7,12 +7,12 @@ use Rattle.tpl_json.specs.Members.{◌>>=◌, only_if, has_only, list_in, list_o
 use Rattle.tpl_json.specs.Grammar.{IfThere, IsTexts}
 use Rattle.tpl_json.proofs.Arrays.{bind_some, some_is, each_empty, each_nothing}
 use Rattle.tpl_json.proofs.Json.{some, some_none, only_is, string_is, texts_are, texts_read}
-use Rattle.tpl_reader.specs.Tasks.{token_at}
+use Rattle.tpl_parts.specs.Tasks.{token_at}
 use Rattle.tpl_reader.specs.Top.{Members, links_in, version_at, text_or_empty, top_at}
-use Rattle.tpl_reader.specs.TaskGrammar.{IsToken}
+use Rattle.tpl_parts.specs.TaskGrammar.{IsToken}
 use Rattle.tpl_reader.specs.TopGrammar.{version_with, IsTop}
-use Rattle.tpl_reader.proofs.ClaimLaws.{list_sound, list_read}
-use Rattle.tpl_reader.proofs.TaskLaws.{token_sound, token_read}
+use Rattle.tpl_parts.proofs.ClaimLaws.{list_sound, list_read}
+use Rattle.tpl_parts.proofs.TaskLaws.{token_sound, token_read}
 
 -- ---- the version
 

@@ -12,7 +12,7 @@ use Rattle.tpl_model.specs.Claims.{Claim}
 use Rattle.tpl_claims.specs.Fits.{have_bodies, given_twice, Fits}
 use Rattle.tpl_graph.specs.Named.{Names, Named}
 use Rattle.tpl_cert.specs.Naming.{number_of}
-use Rattle.tpl_reader.specs.NamedClaims.{NamedGiven, GivenInput, GivenQuiet, NamedProperty, EndsIn, After, Observed, Never, Excludes, NamedClaim}
+use Rattle.tpl_parts.specs.NamedClaims.{NamedGiven, GivenInput, GivenQuiet, NamedProperty, EndsIn, After, Observed, Never, Excludes, NamedClaim}
 use Rattle.tpl_reader.specs.declared.fault.Stop.{Stop}
 use Rattle.tpl_reader.specs.declared.fault.Stop.TheVariants as stop
 use Rattle.tpl_reader.specs.declared.fault.ClaimFault.{ClaimFault}

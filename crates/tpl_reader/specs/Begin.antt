@@ -8,7 +8,7 @@ use Rattle.tpl_graph.specs.Named.{Named, all_may_fail}
 use Rattle.tpl_json.specs.Members.{names_all}
 use Rattle.tpl_cert.specs.Naming.{is_declared, are_declared, AreNumbers}
 use Rattle.tpl_cert.specs.Written.{name_at}
-use Rattle.tpl_reader.specs.Start.{NamedStart}
+use Rattle.tpl_parts.specs.Start.{NamedStart}
 use Rattle.tpl_reader.specs.declared.fault.StartFault.{StartFault}
 use Rattle.tpl_reader.specs.declared.fault.StartFault.TheVariants as faults
 

@@ -1,16 +1,5 @@
-pub mod Statements
-pub mod Tasks
-pub mod NamedClaims
-pub mod SeenClaims
-pub mod Claims
 pub mod Passes
 pub mod Asked
-pub mod Start
-pub mod SeenStart
-pub mod BodyGrammar
-pub mod TaskGrammar
-pub mod ClaimGrammar
-pub mod StartGrammar
 pub mod Top
 pub mod TopGrammar
 pub mod SeenTop

@@ -4,7 +4,7 @@ use Rattle.serde_json.specs.Data.{Data}
 use Rattle.serde_json.specs.Find.{get, as_str, as_number, as_u64}
 use Rattle.tpl_json.specs.Members.{◌>>=◌, only_if, has_only, list_in, list_or_none, each}
 use Rattle.tpl_graph.specs.Draft.{Token}
-use Rattle.tpl_reader.specs.Tasks.{token_at}
+use Rattle.tpl_parts.specs.Tasks.{token_at}
 
 -- the members of a document
 pub record Members : Type 0 where

@@ -3,9 +3,8 @@ use Rattle.std.specs.Prelude.{◌≡◌, ℕ, List, [], ◌∷◌, Some, Bool, t
 use Rattle.serde_json.specs.Data.{Data, string, number, unsigned}
 use Rattle.serde_json.specs.Find.{get}
 use Rattle.tpl_json.specs.Members.{list_in}
-use Rattle.tpl_json.specs.Grammar.{HasOnly, HasMember, IfThere, IsArray, HasTexts}
-use Rattle.tpl_reader.specs.Passes.{AllRead}
-use Rattle.tpl_reader.specs.TaskGrammar.{IsToken}
+use Rattle.tpl_json.specs.Grammar.{HasOnly, HasMember, IfThere, IsArray, HasTexts, AllRead}
+use Rattle.tpl_parts.specs.TaskGrammar.{IsToken}
 use Rattle.tpl_reader.specs.Top.{Members}
 
 -- version 2 has links

@@ -2,15 +2,15 @@
 
 ghost use Rattle.std.specs.Prelude.{◌≡◌, map, Some, is_some};
 ghost use Rattle.std.specs.List.{list_all};
-ghost use Rattle.tpl_reader.specs.SeenClaims.{given_of, property_of, claim_of};
+ghost use Rattle.tpl_parts.specs.SeenClaims.{given_of, property_of, claim_of};
 ghost use Rattle.tpl_reader.specs.Asked.{task_in, token_in, input_in, given_in, pair_in, property_in, IsClaimOf, knows_claim, IsAsked, IsWrongClaim, Takes, IsUnknown};
 ghost use Rattle.tpl_reader.specs.Passes.{Passes, Here};
 
 use crate::fault::{ClaimFault, Halt, Stop};
-use crate::named::{NamedClaim, NamedGiven, NamedProperty};
 use std::alloc::Global;
 use tpl_claims::{Claim, Given, Property, given_twice, have_bodies};
 use tpl_graph::Graph;
+use tpl_parts::{NamedClaim, NamedGiven, NamedProperty};
 use tpl_words::{InputId, TaskId, TokenId};
 
 #[tactic(auto, using(crate::proofs::Lookups::task_is))]

@@ -6,18 +6,18 @@ ghost use Rattle.std.specs.List.{All, list_all};
 ghost use Rattle.tpl_json.specs.View.{view};
 ghost use Rattle.tpl_graph.specs.Ids.{token_number, site_number};
 ghost use Rattle.tpl_cert.specs.Naming.{number_of, is_declared, are_declared, AreNumbers};
-ghost use Rattle.tpl_reader.specs.SeenStart.{start_of};
+ghost use Rattle.tpl_parts.specs.SeenStart.{start_of};
 ghost use Rattle.tpl_reader.specs.SeenDocument.{value_of};
 ghost use Rattle.tpl_reader.specs.Asked.{Takes};
 ghost use Rattle.tpl_reader.specs.Begin.{knows_members, truth_at, HasTruths, LacksTruth, may_fail, may_all_fail, IsStartOf, IsWrongStart, IsUnknownName};
 
 use crate::document::Start;
 use crate::fault::{StartFault, Stop};
-use crate::named::NamedStart;
 use json::Value;
 use std::alloc::Global;
 use tpl_graph::Graph;
 use tpl_json::bool_in;
+use tpl_parts::NamedStart;
 use tpl_words::{InputId, Inputs, SiteId, TokenId};
 
 fn declares(graph: &Graph, members: &[(&str, Value<'_>)]) -> bool

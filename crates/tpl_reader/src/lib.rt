@@ -3,16 +3,11 @@
 
 mod asked;
 mod begin;
-mod claims;
 mod document;
 mod fault;
 mod laws;
-mod named;
 mod read;
 mod shape;
-mod start;
-mod statements;
-mod tasks;
 mod top;
 mod trees;
 

@@ -10,17 +10,16 @@ ghost use Rattle.tpl_graph.specs.SeenTasks.{draft_of};
 ghost use Rattle.tpl_cert.specs.Heights.{IsWithinLimits};
 ghost use Rattle.tpl_cert.specs.Spelled.{ReadsAs};
 ghost use Rattle.tpl_claims.specs.Fits.{Fits};
-ghost use Rattle.tpl_reader.specs.SeenClaims.{claim_of};
-ghost use Rattle.tpl_reader.specs.SeenStart.{start_of};
+ghost use Rattle.tpl_parts.specs.SeenClaims.{claim_of};
+ghost use Rattle.tpl_parts.specs.SeenStart.{start_of};
 ghost use Rattle.tpl_reader.specs.SeenDocument.{value_of, doc_of, spelled_of};
-ghost use Rattle.tpl_reader.specs.Passes.{AllRead};
+ghost use Rattle.tpl_json.specs.Grammar.{AllRead};
 ghost use Rattle.tpl_reader.specs.Document.{AreAsked, IsStarted, GraphFaults, ClaimFaults, TreeFaults, StartFaults, IsDocument, IsRefused, Spells, IsFault};
 
 use crate::asked::claims_in;
 use crate::begin::start_in;
 use crate::document::{Document, Start};
 use crate::fault::{ClaimFault, Halt, ReadFault, Stop};
-use crate::named::{NamedClaim, NamedStart};
 use crate::shape::{Shaped, shape_of};
 use crate::trees::trees_in;
 use json::{Scratch, Value};
@@ -29,6 +28,7 @@ use tpl_cert::{Certificate, Tree, TreeFault};
 use tpl_claims::Claim;
 use tpl_graph::{Draft, Graph, Why};
 use tpl_json::{NotRead, value_from};
+use tpl_parts::{NamedClaim, NamedStart};
 
 /// The most bytes of a document (this program's own limit).
 pub const LONGEST: usize = 16_777_216;

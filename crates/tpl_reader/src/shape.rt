@@ -5,28 +5,25 @@ ghost use Rattle.std.specs.Option.{option_map};
 ghost use Rattle.serde_json.specs.Data.{depth};
 ghost use Rattle.tpl_json.specs.View.{view};
 ghost use Rattle.tpl_graph.specs.SeenTasks.{task_of};
-ghost use Rattle.tpl_json.specs.Members.{Gives};
-ghost use Rattle.tpl_reader.specs.SeenClaims.{claim_of};
-ghost use Rattle.tpl_reader.specs.SeenStart.{start_of};
+ghost use Rattle.tpl_parts.specs.SeenClaims.{claim_of};
+ghost use Rattle.tpl_parts.specs.SeenStart.{start_of};
 ghost use Rattle.tpl_reader.specs.SeenTop.{members_of};
 ghost use Rattle.tpl_reader.specs.SeenDocument.{spelled_of};
-ghost use Rattle.tpl_reader.specs.Start.{start_or_none};
-ghost use Rattle.tpl_reader.specs.TaskGrammar.{IsTask, AreShallow};
-ghost use Rattle.tpl_reader.specs.ClaimGrammar.{IsClaim};
-ghost use Rattle.tpl_reader.specs.StartGrammar.{IsStartIfAny};
+ghost use Rattle.tpl_parts.specs.TaskGrammar.{IsTask, AreShallow};
+ghost use Rattle.tpl_parts.specs.ClaimGrammar.{IsClaim};
+ghost use Rattle.tpl_parts.specs.StartGrammar.{IsStartIfAny};
 ghost use Rattle.tpl_reader.specs.TopGrammar.{IsTop};
-ghost use Rattle.tpl_reader.specs.Passes.{AllRead};
+ghost use Rattle.tpl_json.specs.Grammar.{AllRead};
 ghost use Rattle.tpl_reader.specs.Asked.{Takes};
 ghost use Rattle.tpl_reader.specs.Document.{WrongTop, WrongTask, WrongClaim, WrongStart, IsSpelled, IsMisshapen};
 
 use crate::fault::{Halt, Part, Stop};
-use crate::named::{NamedClaim, NamedStart};
-use crate::start::start_of;
 use crate::top::{Members, claims_of, members_of, tasks_of};
 use json::Value;
 use std::alloc::Global;
 use tpl_graph::{Draft, DraftTask};
 use tpl_json::Miss;
+use tpl_parts::{NamedClaim, NamedStart, start_or_none};
 
 /// A document with names.
 #[derive(Drop)]
@@ -72,23 +69,6 @@ fn claim_part<'v, 't>(
         Ok(claims) => Ok(claims),
         Err(Halt::At(number, _)) => Err(Stop::Fault(Part::Claim(number))),
         Err(Halt::Memory) => Err(Stop::Memory),
-    }
-}
-
-#[tactic(auto, unfolding(crate::specs::Start::start_or_none))]
-fn start_or_none<'v, 't>(
-    alloc: Global,
-    value: Option<&'v Value<'t>>,
-) -> Result<Option<NamedStart<'v, 't>>, Miss>
-    ensures { Gives (λ o. option_map start_of o) result
-        (start_or_none (option_map (λ v. view v.now) value.entry)) }
-{
-    match value {
-        None => Ok(None),
-        Some(value) => {
-            let start = start_of(alloc, value)?;
-            Ok(Some(start))
-        }
     }
 }
 

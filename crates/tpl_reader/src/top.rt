@@ -7,24 +7,22 @@ ghost use Rattle.serde_json.specs.Find.{get, as_number, as_u64};
 ghost use Rattle.tpl_json.specs.View.{view};
 ghost use Rattle.tpl_json.specs.Members.{Gives, each, IsShape};
 ghost use Rattle.tpl_graph.specs.SeenTasks.{token_of, task_of};
-ghost use Rattle.tpl_reader.specs.SeenClaims.{claim_of};
+ghost use Rattle.tpl_parts.specs.SeenClaims.{claim_of};
 ghost use Rattle.tpl_reader.specs.SeenTop.{members_of};
-ghost use Rattle.tpl_reader.specs.Tasks.{token_at};
+ghost use Rattle.tpl_parts.specs.Tasks.{token_at};
 ghost use Rattle.tpl_reader.specs.Top.{links_in, version_at, text_or_empty, top_at};
-ghost use Rattle.tpl_reader.specs.TaskGrammar.{IsTask, IsNoTask, AreShallow};
-ghost use Rattle.tpl_reader.specs.ClaimGrammar.{IsClaim, IsNoClaim};
+ghost use Rattle.tpl_parts.specs.TaskGrammar.{IsTask, IsNoTask, AreShallow};
+ghost use Rattle.tpl_parts.specs.ClaimGrammar.{IsClaim, IsNoClaim};
 ghost use Rattle.tpl_reader.specs.Passes.{Passes, Here};
 
-use crate::claims::claim_of;
 use crate::fault::Halt;
-use crate::named::NamedClaim;
-use crate::tasks::{task_of, token_of};
 use json::Value;
 use std::alloc::Global;
 use tpl_graph::{DraftTask, DraftToken};
 use tpl_json::{
     Miss, find, has_only, list_of, list_or_none, member_in, number_of, owned_texts, text_of,
 };
+use tpl_parts::{NamedClaim, claim_of, task_of, token_of};
 
 /// The members of a document: its lists, of which those of tasks, claims and trees aren't read yet.
 #[derive(Drop)]

@@ -4,13 +4,12 @@ use Rattle.serde_json.specs.Data.{Data, Members, string, object, put, depth}
 use Rattle.serde_json.specs.Find.{get}
 use Rattle.serde_json.proofs.Views.{get_member-put}
 use Rattle.tpl_json.specs.Members.{list_in}
-use Rattle.tpl_json.specs.Grammar.{IfThere, IsArray}
-use Rattle.tpl_reader.specs.Passes.{AllRead}
-use Rattle.tpl_reader.specs.TaskGrammar.{IsToken}
+use Rattle.tpl_json.specs.Grammar.{IfThere, IsArray, AllRead}
+use Rattle.tpl_parts.specs.TaskGrammar.{IsToken}
 use Rattle.tpl_reader.specs.Top as top
 use Rattle.tpl_reader.specs.TopGrammar.{IsTop}
-use Rattle.tpl_reader.specs.Start.{NamedStart}
-use Rattle.tpl_reader.specs.StartGrammar.{IsStart, IsStartIfAny}
+use Rattle.tpl_parts.specs.Start.{NamedStart}
+use Rattle.tpl_parts.specs.StartGrammar.{IsStart, IsStartIfAny}
 use Rattle.tpl_reader.specs.Document.{Spelled, IsSpelled, DocumentValue, IsDocument, Reads, Spells}
 use Rattle.tpl_json.proofs.Json.{get_depth}
 use Rattle.tpl_reader.proofs.OneDocument.{value_same}

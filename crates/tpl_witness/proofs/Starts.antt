@@ -9,9 +9,9 @@ use Rattle.tpl_graph.specs.Named.{Named}
 use Rattle.tpl_json.specs.Members.{has_only}
 use Rattle.tpl_cert.specs.Naming.{are_declared}
 use Rattle.tpl_json.specs.Grammar.{IfThere, IsTexts}
-use Rattle.tpl_reader.specs.Start.{NamedStart}
+use Rattle.tpl_parts.specs.Start.{NamedStart}
 use Rattle.tpl_reader.specs.Begin.{StartValue, knows_members, truth_at, HasTruths, IsStartOf}
-use Rattle.tpl_reader.specs.StartGrammar.{AreTruths, IsTruths, IsStart, IsStartIfAny}
+use Rattle.tpl_parts.specs.StartGrammar.{AreTruths, IsTruths, IsStart, IsStartIfAny}
 use Rattle.tpl_reader.specs.Document.{IsStarted}
 use Rattle.tpl_witness.specs.Filled.{AreFirst, IsStartWith, start_data, started}
 use Rattle.tpl_json.proofs.Puts.{only_put, is_object, other, depth_put}

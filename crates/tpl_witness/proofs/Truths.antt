@@ -13,7 +13,7 @@ use Rattle.tpl_cert.specs.Naming.{number_of, is_declared}
 use Rattle.tpl_cert.specs.Written.{name_at}
 use Rattle.tpl_cert.proofs.Unique.{number_of-name_at}
 use Rattle.tpl_reader.specs.Begin.{declares}
-use Rattle.tpl_reader.specs.StartGrammar.{AreTruths}
+use Rattle.tpl_parts.specs.StartGrammar.{AreTruths}
 use Rattle.tpl_witness.specs.Filled.{AreFirst}
 use Rattle.tpl_json.proofs.Puts.{depth_put}
 

@@ -4,7 +4,7 @@ use Rattle.serde_json.specs.Data.{Data, Members, no_members, boolean, string, ob
 use Rattle.serde_json.specs.Find.{get_member}
 use Rattle.tpl_cert.specs.Written.{name_at}
 use Rattle.tpl_reader.specs.Begin.{StartValue, declares}
-use Rattle.tpl_reader.specs.StartGrammar.{AreTruths}
+use Rattle.tpl_parts.specs.StartGrammar.{AreTruths}
 use Rattle.tpl_reader.specs.Document.{Spelled, IsSpelled, DocumentValue, IsDocument, Reads}
 
 -- the start with these inputs; nothing is requested first and no job is to fail, where the document has no start

@@ -1,5 +1,5 @@
 use Rattle.std.proofs.lemmas.Result.{err_from_is_err_and}
-use Rattle.tpl_reader.specs.SeenClaims.{claim_of}
+use Rattle.tpl_parts.specs.SeenClaims.{claim_of}
 use Rattle.tpl_reader.specs.Asked.{IsAsked, IsWrongClaim}
 use Rattle.tpl_reader.proofs.Passes.{read_more, halts_here}
 use Rattle.tpl_reader.proofs.asked.claims_in.Goals as goal

@@ -1,6 +1,6 @@
 use Rattle.std.proofs.Common.{ap, sym, is_some}
 use Rattle.tpl_cert.proofs.Names.{list_all_stops}
-use Rattle.tpl_reader.specs.SeenClaims.{given_of}
+use Rattle.tpl_parts.specs.SeenClaims.{given_of}
 use Rattle.tpl_reader.specs.Asked.{given_in}
 use Rattle.tpl_reader.proofs.asked.givens_in.Goals as goal
 

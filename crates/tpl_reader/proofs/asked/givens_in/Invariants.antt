@@ -1,5 +1,5 @@
 use Rattle.std.proofs.Common.{◌≡◌, map, take, Some}
-use Rattle.tpl_reader.specs.SeenClaims.{given_of}
+use Rattle.tpl_parts.specs.SeenClaims.{given_of}
 use Rattle.tpl_reader.specs.Asked.{given_in}
 use Rattle.tpl_reader.proofs.asked.givens_in.Given as goal
 

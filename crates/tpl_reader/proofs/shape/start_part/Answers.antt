@@ -1,7 +1,7 @@
 use Rattle.std.specs.Option.{option_map}
 use Rattle.tpl_json.specs.View.{view}
-use Rattle.tpl_reader.specs.SeenStart.{start_of}
-use Rattle.tpl_reader.proofs.StartLaws.{if_any_sound, no_start}
+use Rattle.tpl_parts.specs.SeenStart.{start_of}
+use Rattle.tpl_parts.proofs.StartLaws.{if_any_sound, no_start}
 use Rattle.tpl_reader.proofs.shape.start_part.Goals as goal
 
 pub returns-in-Ok : goal.returns-in-Ok

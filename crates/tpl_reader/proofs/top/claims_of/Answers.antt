@@ -2,8 +2,8 @@ use Rattle.std.proofs.Common.{map}
 use Rattle.std.proofs.lemmas.Result.{err_from_is_err_and}
 use Rattle.std.proofs.lemmas.List.{map_push}
 use Rattle.tpl_json.specs.View.{view}
-use Rattle.tpl_reader.specs.SeenClaims.{claim_of}
-use Rattle.tpl_reader.specs.ClaimGrammar.{IsClaim, IsNoClaim}
+use Rattle.tpl_parts.specs.SeenClaims.{claim_of}
+use Rattle.tpl_parts.specs.ClaimGrammar.{IsClaim, IsNoClaim}
 use Rattle.tpl_reader.proofs.Passes.{read_more, halts_here}
 use Rattle.tpl_reader.proofs.top.claims_of.Goals as goal
 

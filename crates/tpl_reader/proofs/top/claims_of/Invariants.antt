@@ -1,8 +1,8 @@
 use Rattle.std.proofs.Common.{map, take}
 use Rattle.tpl_json.specs.View.{view}
-use Rattle.tpl_reader.specs.SeenClaims.{claim_of}
-use Rattle.tpl_reader.specs.ClaimGrammar.{IsClaim}
-use Rattle.tpl_reader.specs.Passes.{AllRead}
+use Rattle.tpl_parts.specs.SeenClaims.{claim_of}
+use Rattle.tpl_parts.specs.ClaimGrammar.{IsClaim}
+use Rattle.tpl_json.specs.Grammar.{AllRead}
 use Rattle.tpl_reader.proofs.top.claims_of.Given as goal
 
 abbrev pub invariant-loop-index : goal.invariant-loop-index

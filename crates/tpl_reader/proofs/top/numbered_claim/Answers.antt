@@ -1,7 +1,7 @@
 use Rattle.std.proofs.Common.{refl}
 use Rattle.tpl_json.specs.View.{view}
-use Rattle.tpl_reader.specs.SeenClaims.{claim_of}
-use Rattle.tpl_reader.proofs.ClaimLaws.{claim_sound, no_claim}
+use Rattle.tpl_parts.specs.SeenClaims.{claim_of}
+use Rattle.tpl_parts.proofs.ClaimLaws.{claim_sound, no_claim}
 use Rattle.tpl_reader.proofs.top.numbered_claim.Goals as goal
 
 pub returns-in-Ok : goal.returns-in-Ok

@@ -5,7 +5,7 @@ use Rattle.tpl_json.specs.View.{view}
 use Rattle.tpl_json.specs.Members.{each}
 use Rattle.tpl_json.proofs.Arrays.{each_more, misses_each}
 use Rattle.tpl_graph.specs.SeenTasks.{token_of}
-use Rattle.tpl_reader.specs.Tasks.{token_at}
+use Rattle.tpl_parts.specs.Tasks.{token_at}
 use Rattle.tpl_reader.proofs.top.tokens_of.Goals as goal
 
 pub loop-value-init : goal.loop-value-init

@@ -1,0 +1,23 @@
+-- Bodies, one level at a time.
+use Rattle.std.proofs.Common.{◌≡◌, ℕ, zero, suc, ◌-◌, ◌<◌, List, [], ◌∷◌, map, None, refl, ap, arith}
+use Rattle.serde_json.specs.Data.{Data}
+use Rattle.tpl_graph.specs.declared.draft.DraftStmt.{DraftStmt}
+use Rattle.tpl_graph.specs.SeenDraft.{line_of, lines_of}
+use Rattle.tpl_graph.specs.Draft.{Then}
+use Rattle.tpl_parts.specs.Statements.{list_at, body_at, body_of}
+
+pub lines_of_all : (ss : List DraftStmt) → body_of (map line_of ss) ≡ lines_of ss
+lines_of_all [] = refl
+lines_of_all (s ∷ ss) = ap (Then (line_of s)) (lines_of_all ss)
+
+pub body_at-zero : (n : ℕ) (d : Data) → n ≡ 0 → body_at n d ≡ None
+unfolding body_at
+body_at-zero zero d e = refl
+body_at-zero (suc n) d e = absurd (omega arith)
+
+pub body_at-below : (n : ℕ) (d : Data) → 0 < n → body_at n d ≡ list_at (body_at (n - 1)) d
+unfolding body_at
+body_at-below zero d lt = absurd (omega arith)
+body_at-below (suc n) d lt = let e : suc n - 1 ≡ n = omega arith in rw e refl
+
+pub ruleset levels = (body_at-zero, body_at-below)

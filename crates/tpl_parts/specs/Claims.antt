@@ -1,0 +1,86 @@
+-- Reading claims with names. `None` is a wrong shape.
+use Rattle.std.specs.Prelude.{ℕ, List, [], ◌∷◌, Option, Some, None, codes, is_some, if◌then◌else◌}
+use Rattle.serde_json.specs.Data.{Data}
+use Rattle.serde_json.specs.Find.{get, as_str, as_bool}
+use Rattle.tpl_words.specs.declared.finals.Finals.{Finals}
+use Rattle.tpl_json.specs.Members.{◌>>=◌, only_if, has_only, text_in, list_in, list_or_none, each}
+use Rattle.tpl_json.specs.Finals.{no_finals, finals_at}
+use Rattle.tpl_parts.specs.NamedClaims.{NamedGiven, GivenInput, GivenQuiet, NamedProperty, EndsIn, After, Observed, Never, Excludes, NamedClaim}
+
+unfoldable pub input_at : Data → Option NamedGiven
+input_at d = do
+  only ← only_if (has_only (codes "input" ∷ codes "is" ∷ []) d)
+  name ← text_in (codes "input") d
+  value ← get (codes "is") d >>= as_bool
+  Some (GivenInput name value)
+
+unfoldable pub quiet_at : Data → Option NamedGiven
+quiet_at d = do
+  only ← only_if (has_only (codes "quiet" ∷ []) d)
+  name ← text_in (codes "quiet") d
+  Some (GivenQuiet name)
+
+unfoldable pub given_at : Data → Option NamedGiven
+given_at d = if is_some (get (codes "input") d) then input_at d else quiet_at d
+
+-- the statuses of a list that has one
+unfoldable pub some_finals : List Data → Option Finals
+some_finals [] = None
+some_finals (d ∷ ds) = finals_at no_finals (d ∷ ds)
+
+unfoldable pub final_claim : Data → Option NamedProperty
+final_claim d = do
+  only ← only_if (has_only (codes "given" ∷ codes "final" ∷ codes "in" ∷ []) d)
+  task ← text_in (codes "final") d
+  list ← get (codes "in") d >>= list_in
+  finals ← some_finals list
+  Some (EndsIn task finals)
+
+-- two texts
+unfoldable pub two_texts : List Data → Option (List ℕ × List ℕ)
+two_texts (a ∷ b ∷ []) = do
+  first ← as_str a
+  second ← as_str b
+  Some (first, second)
+two_texts ds = None
+
+unfoldable pub after_claim : Data → Option NamedProperty
+after_claim d = do
+  only ← only_if (has_only (codes "given" ∷ codes "after" ∷ []) d)
+  list ← get (codes "after") d >>= list_in
+  pair ← two_texts list
+  Some (After pair.0 pair.1)
+
+unfoldable pub observed_claim : Data → Option NamedProperty
+observed_claim d = do
+  only ← only_if (has_only (codes "given" ∷ codes "observed" ∷ []) d)
+  task ← text_in (codes "observed") d
+  Some (Observed task)
+
+unfoldable pub never_claim : Data → Option NamedProperty
+never_claim d = do
+  only ← only_if (has_only (codes "given" ∷ codes "never" ∷ []) d)
+  task ← text_in (codes "never") d
+  Some (Never task)
+
+unfoldable pub excludes_claim : Data → Option NamedProperty
+excludes_claim d = do
+  only ← only_if (has_only (codes "given" ∷ codes "excludes" ∷ []) d)
+  list ← get (codes "excludes") d >>= list_in
+  pair ← two_texts list
+  Some (Excludes pair.0 pair.1)
+
+unfoldable pub property_at : Data → Option NamedProperty
+property_at d =
+    if is_some (get (codes "final") d) then final_claim d
+    else if is_some (get (codes "after") d) then after_claim d
+    else if is_some (get (codes "observed") d) then observed_claim d
+    else if is_some (get (codes "never") d) then never_claim d
+    else excludes_claim d
+
+unfoldable pub claim_at : Data → Option NamedClaim
+claim_at d = do
+  body ← property_at d
+  list ← list_or_none (get (codes "given") d)
+  given ← each given_at list
+  Some (record { given = given; body = body })

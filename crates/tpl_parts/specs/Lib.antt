@@ -1,0 +1,11 @@
+pub mod NamedClaims
+pub mod SeenClaims
+pub mod Claims
+pub mod Statements
+pub mod Tasks
+pub mod Start
+pub mod SeenStart
+pub mod BodyGrammar
+pub mod TaskGrammar
+pub mod ClaimGrammar
+pub mod StartGrammar

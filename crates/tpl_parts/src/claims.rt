@@ -1,0 +1,184 @@
+//! Reading claims with names.
+
+ghost use Rattle.std.specs.Prelude.{◌≡◌, map, codes, IfErr};
+ghost use Rattle.serde_json.specs.Find.{get};
+ghost use Rattle.tpl_json.specs.View.{view};
+ghost use Rattle.tpl_json.specs.Members.{Gives, each, IsShape};
+ghost use Rattle.tpl_parts.specs.SeenClaims.{given_of, property_of, claim_of};
+ghost use Rattle.tpl_parts.specs.Claims.{input_at, quiet_at, given_at, some_finals, final_claim, two_texts, after_claim, observed_claim, never_claim, excludes_claim, property_at, claim_at};
+
+use crate::named::{NamedClaim, NamedGiven, NamedProperty};
+use json::Value;
+use std::alloc::Global;
+use tpl_json::{
+    Miss, bool_in, finals_of, find, has_only, list_of, list_or_none, member_in, text_in, text_of,
+};
+use tpl_words::Finals;
+
+#[tactic(auto, unfolding(crate::specs::Claims::input_at))]
+fn input_of<'v, 't>(value: &'v Value<'t>) -> Result<NamedGiven<'v>, Miss>
+    ensures gives { Gives given_of result (input_at (view value.now)) }
+    ensures shape { IfErr result IsShape }
+{
+    if !has_only(value, &["input", "is"]) {
+        return Err(Miss::Shape);
+    }
+    let name = text_in(value, "input")?;
+    let truth = bool_in(value, "is")?;
+    Ok(NamedGiven::Input(name, truth))
+}
+
+#[tactic(auto, unfolding(crate::specs::Claims::quiet_at))]
+fn quiet_of<'v, 't>(value: &'v Value<'t>) -> Result<NamedGiven<'v>, Miss>
+    ensures gives { Gives given_of result (quiet_at (view value.now)) }
+    ensures shape { IfErr result IsShape }
+{
+    if !has_only(value, &["quiet"]) {
+        return Err(Miss::Shape);
+    }
+    let name = text_in(value, "quiet")?;
+    Ok(NamedGiven::Quiet(name))
+}
+
+#[tactic(auto, unfolding(crate::specs::Claims::given_at))]
+fn given_of<'v, 't>(value: &'v Value<'t>) -> Result<NamedGiven<'v>, Miss>
+    ensures gives { Gives given_of result (given_at (view value.now)) }
+    ensures shape { IfErr result IsShape }
+{
+    if find(value, "input").is_some() {
+        return input_of(value);
+    }
+    quiet_of(value)
+}
+
+fn givens_of<'v, 't>(alloc: Global, values: &'v [Value<'t>]) -> Result<Vec<NamedGiven<'v>>, Miss>
+    ensures { Gives (λ v. map given_of v.items) result (each given_at (map view values.now)) }
+{
+    let mut given = Vec::new(alloc);
+    for value in values {
+        let one = given_of(value)?;
+        given.push(one)?;
+    }
+    Ok(given)
+}
+
+#[tactic(auto, unfolding(crate::specs::Claims::some_finals))]
+fn some_finals(values: &[Value<'_>]) -> Result<Finals, Miss>
+    ensures gives { Gives (λ f. f) result (some_finals (map view values.now)) }
+    ensures shape { IfErr result IsShape }
+{
+    match values {
+        [] => Err(Miss::Shape),
+        [_, ..] => finals_of(values),
+    }
+}
+
+#[tactic(auto, unfolding(crate::specs::Claims::final_claim))]
+fn final_claim<'v, 't>(value: &'v Value<'t>) -> Result<NamedProperty<'v>, Miss>
+    ensures gives { Gives property_of result (final_claim (view value.now)) }
+    ensures shape { IfErr result IsShape }
+{
+    if !has_only(value, &["given", "final", "in"]) {
+        return Err(Miss::Shape);
+    }
+    let task = text_in(value, "final")?;
+    let list = member_in(value, "in")?;
+    let finals = some_finals(list_of(list)?)?;
+    Ok(NamedProperty::Final(task, finals))
+}
+
+#[tactic(auto, unfolding(crate::specs::Claims::two_texts))]
+fn two_texts<'v, 't>(values: &'v [Value<'t>]) -> Result<(&'v str, &'v str), Miss>
+    ensures gives { Gives (λ p. (p.0.now, p.1.now)) result (two_texts (map view values.now)) }
+    ensures shape { IfErr result IsShape }
+{
+    match values {
+        [first, second] => {
+            let first = text_of(first)?;
+            let second = text_of(second)?;
+            Ok((first, second))
+        }
+        _ => Err(Miss::Shape),
+    }
+}
+
+#[tactic(auto, unfolding(crate::specs::Claims::after_claim))]
+fn after_claim<'v, 't>(value: &'v Value<'t>) -> Result<NamedProperty<'v>, Miss>
+    ensures gives { Gives property_of result (after_claim (view value.now)) }
+    ensures shape { IfErr result IsShape }
+{
+    if !has_only(value, &["given", "after"]) {
+        return Err(Miss::Shape);
+    }
+    let list = member_in(value, "after")?;
+    let (first, second) = two_texts(list_of(list)?)?;
+    Ok(NamedProperty::After(first, second))
+}
+
+#[tactic(auto, unfolding(crate::specs::Claims::observed_claim))]
+fn observed_claim<'v, 't>(value: &'v Value<'t>) -> Result<NamedProperty<'v>, Miss>
+    ensures gives { Gives property_of result (observed_claim (view value.now)) }
+    ensures shape { IfErr result IsShape }
+{
+    if !has_only(value, &["given", "observed"]) {
+        return Err(Miss::Shape);
+    }
+    let task = text_in(value, "observed")?;
+    Ok(NamedProperty::Observed(task))
+}
+
+#[tactic(auto, unfolding(crate::specs::Claims::never_claim))]
+fn never_claim<'v, 't>(value: &'v Value<'t>) -> Result<NamedProperty<'v>, Miss>
+    ensures gives { Gives property_of result (never_claim (view value.now)) }
+    ensures shape { IfErr result IsShape }
+{
+    if !has_only(value, &["given", "never"]) {
+        return Err(Miss::Shape);
+    }
+    let task = text_in(value, "never")?;
+    Ok(NamedProperty::Never(task))
+}
+
+#[tactic(auto, unfolding(crate::specs::Claims::excludes_claim))]
+fn excludes_claim<'v, 't>(value: &'v Value<'t>) -> Result<NamedProperty<'v>, Miss>
+    ensures gives { Gives property_of result (excludes_claim (view value.now)) }
+    ensures shape { IfErr result IsShape }
+{
+    if !has_only(value, &["given", "excludes"]) {
+        return Err(Miss::Shape);
+    }
+    let list = member_in(value, "excludes")?;
+    let (first, second) = two_texts(list_of(list)?)?;
+    Ok(NamedProperty::Excludes(first, second))
+}
+
+#[tactic(auto, unfolding(crate::specs::Claims::property_at))]
+fn property_of<'v, 't>(value: &'v Value<'t>) -> Result<NamedProperty<'v>, Miss>
+    ensures gives { Gives property_of result (property_at (view value.now)) }
+    ensures shape { IfErr result IsShape }
+{
+    if find(value, "final").is_some() {
+        return final_claim(value);
+    }
+    if find(value, "after").is_some() {
+        return after_claim(value);
+    }
+    if find(value, "observed").is_some() {
+        return observed_claim(value);
+    }
+    if find(value, "never").is_some() {
+        return never_claim(value);
+    }
+    excludes_claim(value)
+}
+
+/// A claim with names.
+#[tactic(auto, unfolding(crate::specs::Claims::claim_at))]
+pub fn claim_of<'v, 't>(alloc: Global, value: &'v Value<'t>) -> Result<NamedClaim<'v>, Miss>
+    ensures { Gives claim_of result (claim_at (view value.now)) }
+{
+    let body = property_of(value)?;
+    let list = list_or_none(value, "given")?;
+    let given = givens_of(alloc, list)?;
+    Ok(NamedClaim { given, body })
+}

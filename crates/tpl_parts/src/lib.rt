@@ -1,0 +1,13 @@
+//! The parts of a document, each read from its JSON value, with names as texts of the value.
+#![tactic(auto)]
+
+mod claims;
+mod named;
+mod start;
+mod statements;
+mod tasks;
+
+pub use claims::claim_of;
+pub use named::{NamedClaim, NamedGiven, NamedProperty, NamedStart};
+pub use start::start_or_none;
+pub use tasks::{task_of, token_of};

@@ -1,0 +1,105 @@
+//! Reading where a run starts, with names.
+
+ghost use Rattle.std.specs.Prelude.{◌≡◌, Some};
+ghost use Rattle.std.specs.Option.{option_map};
+ghost use Rattle.std.specs.List.{list_all};
+ghost use Rattle.std.specs.BTreeMap.{values};
+ghost use Rattle.json.specs.Value.{members_view};
+ghost use Rattle.serde_json.specs.Data.{no_members};
+ghost use Rattle.serde_json.specs.Find.{get};
+ghost use Rattle.tpl_json.specs.View.{members_from, view};
+ghost use Rattle.tpl_json.specs.Members.{Gives};
+ghost use Rattle.tpl_parts.specs.Start.{all_truths, has_truths, truths_or_none, start_at, start_or_none};
+ghost use Rattle.tpl_parts.specs.SeenStart.{start_of};
+
+use crate::named::NamedStart;
+use json::Value;
+use std::alloc::Global;
+use std::collections::BTreeMap;
+use tpl_json::{Miss, find, has_only, texts_in};
+
+fn are_all(truths: &BTreeMap<&str, bool>) -> bool
+    ensures { result ≡ list_all (λ b. b) (values truths.now) }
+{
+    truths.values().all(|truth| *truth)
+}
+
+/// Whether the members are all true or false; of several of one name the last counts.
+fn all_truths(alloc: Global, members: &[(&str, Value<'_>)]) -> Result<bool, Miss>
+    ensures { Gives (λ b. b) result (Some (all_truths
+        (members_from (members_view members.now) no_members))) }
+{
+    let mut truths = BTreeMap::new(alloc);
+    for member in members {
+        drop(truths.insert(member.0, member.1.as_bool().is_some())?);
+    }
+    Ok(are_all(&truths))
+}
+
+/// Whether the value is an object whose members are all true or false.
+#[tactic(auto, unfolding(crate::specs::Start::has_truths))]
+fn has_truths(alloc: Global, value: &Value<'_>) -> Result<bool, Miss>
+    ensures { Gives (λ b. b) result (Some (has_truths (view value.now))) }
+{
+    match value {
+        Value::Object(members) => all_truths(alloc, members.as_slice()),
+        _ => Ok(false),
+    }
+}
+
+#[tactic(auto, unfolding(crate::specs::Start::truths_or_none))]
+fn truths_or_none<'v, 't>(
+    alloc: Global,
+    value: &'v Value<'t>,
+    name: &str,
+) -> Result<Option<&'v Value<'t>>, Miss>
+    ensures { Gives (λ o. option_map (λ v. view v.now) o) result
+        (truths_or_none (get name.now (view value.now))) }
+{
+    match find(value, name) {
+        None => Ok(None),
+        Some(member) => {
+            if has_truths(alloc, member)? {
+                Ok(Some(member))
+            } else {
+                Err(Miss::Shape)
+            }
+        }
+    }
+}
+
+/// Where a run starts, with names.
+#[tactic(auto, unfolding(crate::specs::Start::start_at))]
+fn start_of<'v, 't>(alloc: Global, value: &'v Value<'t>) -> Result<NamedStart<'v, 't>, Miss>
+    ensures { Gives start_of result (start_at (view value.now)) }
+{
+    if !has_only(value, &["inputs", "request", "fail"]) {
+        return Err(Miss::Shape);
+    }
+    let inputs = truths_or_none(alloc, value, "inputs")?;
+    let request = texts_in(alloc, value, "request")?;
+    let fail = texts_in(alloc, value, "fail")?;
+    Ok(NamedStart {
+        inputs,
+        request,
+        fail,
+    })
+}
+
+/// Where a run starts, with names, if that is said. Errors: a wrong shape; out of memory.
+#[tactic(auto, unfolding(crate::specs::Start::start_or_none))]
+pub fn start_or_none<'v, 't>(
+    alloc: Global,
+    value: Option<&'v Value<'t>>,
+) -> Result<Option<NamedStart<'v, 't>>, Miss>
+    ensures { Gives (λ o. option_map start_of o) result
+        (start_or_none (option_map (λ v. view v.now) value.entry)) }
+{
+    match value {
+        None => Ok(None),
+        Some(value) => {
+            let start = start_of(alloc, value)?;
+            Ok(Some(start))
+        }
+    }
+}

@@ -1,0 +1,233 @@
+//! Reading bodies.
+
+ghost use Rattle.std.specs.Prelude.{◌≡◌, map, codes, string_bytes, option_and_then, IfErr};
+ghost use Rattle.serde_json.specs.Find.{get};
+ghost use Rattle.tpl_json.specs.View.{view};
+ghost use Rattle.tpl_graph.specs.SeenDraft.{line_of, lines_of};
+ghost use Rattle.tpl_json.specs.Members.{Gives, each, IsShape};
+ghost use Rattle.tpl_parts.specs.Statements.{body_of, word_at, name_at, throw_at, check_at, cancel_at, start_at, bool_or_false, work_at, else_at, if_at, when_at, branch_at, is_branch, simple_at, object_at, statement_at, list_at, body_at};
+
+use json::Value;
+use std::alloc::Global;
+use tpl_graph::{DraftBody, DraftStmt};
+use tpl_json::{Miss, bool_of, final_of, find, has_only, list_of, member_in, text_in};
+
+#[tactic(auto, unfolding(crate::specs::Statements::word_at))]
+fn word_of(word: &str) -> Result<DraftStmt, Miss>
+    ensures gives { Gives line_of result (word_at word.now) }
+    ensures shape { IfErr result IsShape }
+{
+    match word {
+        "return" => Ok(DraftStmt::Return),
+        "observe" => Ok(DraftStmt::Observe),
+        _ => Err(Miss::Shape),
+    }
+}
+
+#[tactic(auto, unfolding(crate::specs::Statements::name_at))]
+fn name_of(alloc: Global, value: &Value<'_>, member: &str) -> Result<String, Miss>
+    ensures { Gives string_bytes result (name_at member.now (view value.now)) }
+{
+    if !has_only(value, &[member]) {
+        return Err(Miss::Shape);
+    }
+    let name = text_in(value, member)?;
+    Ok(String::from_str(alloc, name)?)
+}
+
+#[tactic(auto, unfolding(crate::specs::Statements::throw_at))]
+fn throw_of(alloc: Global, value: &Value<'_>) -> Result<DraftStmt, Miss>
+    ensures { Gives line_of result (throw_at (view value.now)) }
+{
+    let name = name_of(alloc, value, "throw")?;
+    Ok(DraftStmt::Throw(name))
+}
+
+#[tactic(auto, unfolding(crate::specs::Statements::check_at))]
+fn check_of(alloc: Global, value: &Value<'_>) -> Result<DraftStmt, Miss>
+    ensures { Gives line_of result (check_at (view value.now)) }
+{
+    let name = name_of(alloc, value, "check")?;
+    Ok(DraftStmt::Check(name))
+}
+
+#[tactic(auto, unfolding(crate::specs::Statements::cancel_at))]
+fn cancel_of(alloc: Global, value: &Value<'_>) -> Result<DraftStmt, Miss>
+    ensures { Gives line_of result (cancel_at (view value.now)) }
+{
+    let name = name_of(alloc, value, "cancel")?;
+    Ok(DraftStmt::Cancel(name))
+}
+
+#[tactic(auto, unfolding(crate::specs::Statements::start_at))]
+fn start_of(alloc: Global, value: &Value<'_>) -> Result<DraftStmt, Miss>
+    ensures { Gives line_of result (start_at (view value.now)) }
+{
+    let name = name_of(alloc, value, "start")?;
+    Ok(DraftStmt::Start(name))
+}
+
+#[tactic(auto, unfolding(crate::specs::Statements::bool_or_false))]
+fn bool_or_false(value: &Value<'_>, name: &str) -> Result<bool, Miss>
+    ensures gives { Gives (λ b. b) result (bool_or_false (get name.now (view value.now))) }
+    ensures shape { IfErr result IsShape }
+{
+    match find(value, name) {
+        None => Ok(false),
+        Some(member) => bool_of(member),
+    }
+}
+
+#[tactic(auto, unfolding(crate::specs::Statements::work_at))]
+fn work_of(alloc: Global, value: &Value<'_>) -> Result<DraftStmt, Miss>
+    ensures { Gives line_of result (work_at (view value.now)) }
+{
+    if !has_only(value, &["work", "may_fail"]) {
+        return Err(Miss::Shape);
+    }
+    let site = text_in(value, "work")?;
+    let may_fail = bool_or_false(value, "may_fail")?;
+    let site = String::from_str(alloc, site)?;
+    Ok(DraftStmt::Work(site, may_fail))
+}
+
+/// Statements without lists of their own.
+#[tactic(auto, unfolding(crate::specs::Statements::simple_at))]
+fn simple_of(alloc: Global, value: &Value<'_>) -> Result<DraftStmt, Miss>
+    ensures { Gives line_of result (simple_at (view value.now)) }
+{
+    if find(value, "throw").is_some() {
+        return throw_of(alloc, value);
+    }
+    if find(value, "check").is_some() {
+        return check_of(alloc, value);
+    }
+    if find(value, "cancel").is_some() {
+        return cancel_of(alloc, value);
+    }
+    if find(value, "start").is_some() {
+        return start_of(alloc, value);
+    }
+    work_of(alloc, value)
+}
+
+#[tactic(auto, unfolding(crate::specs::Statements::is_branch))]
+fn is_branch(value: &Value<'_>) -> bool
+    ensures { result ≡ is_branch (view value.now) }
+{
+    find(value, "then").is_some()
+}
+
+#[cycle(body)]
+fn first_of(alloc: Global, levels: u32, value: &Value<'_>) -> Result<DraftBody, Miss>
+    ensures { Gives (λ b. b) result (option_and_then (body_at levels)
+        (get (codes "then") (view value.now))) }
+{
+    let list = member_in(value, "then")?;
+    body_of(alloc, levels, list)
+}
+
+#[cycle(body)]
+#[tactic(auto, unfolding(crate::specs::Statements::else_at))]
+fn second_of(alloc: Global, levels: u32, value: &Value<'_>) -> Result<DraftBody, Miss>
+    ensures { Gives (λ b. b) result (else_at (body_at levels)
+        (get (codes "else") (view value.now))) }
+{
+    match find(value, "else") {
+        None => Ok(DraftBody::new(Vec::new(alloc))),
+        Some(list) => body_of(alloc, levels, list),
+    }
+}
+
+#[cycle(body)]
+#[tactic(auto, unfolding(crate::specs::Statements::if_at))]
+fn if_of(alloc: Global, levels: u32, value: &Value<'_>) -> Result<DraftStmt, Miss>
+    ensures { Gives line_of result (if_at (body_at levels) (view value.now)) }
+{
+    if !has_only(value, &["if", "then", "else"]) {
+        return Err(Miss::Shape);
+    }
+    let input = text_in(value, "if")?;
+    let first = first_of(alloc, levels, value)?;
+    let second = second_of(alloc, levels, value)?;
+    let input = String::from_str(alloc, input)?;
+    Ok(DraftStmt::If(input, first, second))
+}
+
+#[cycle(body)]
+#[tactic(auto, unfolding(crate::specs::Statements::when_at))]
+fn when_of(alloc: Global, levels: u32, value: &Value<'_>) -> Result<DraftStmt, Miss>
+    ensures { Gives line_of result (when_at (body_at levels) (view value.now)) }
+{
+    if !has_only(value, &["when", "then", "else"]) {
+        return Err(Miss::Shape);
+    }
+    let status = final_of(member_in(value, "when")?)?;
+    let first = first_of(alloc, levels, value)?;
+    let second = second_of(alloc, levels, value)?;
+    Ok(DraftStmt::When(status, first, second))
+}
+
+#[cycle(body)]
+#[tactic(auto, unfolding(crate::specs::Statements::branch_at))]
+fn branch_of(alloc: Global, levels: u32, value: &Value<'_>) -> Result<DraftStmt, Miss>
+    ensures { Gives line_of result (branch_at (body_at levels) (view value.now)) }
+{
+    if find(value, "if").is_some() {
+        return if_of(alloc, levels, value);
+    }
+    when_of(alloc, levels, value)
+}
+
+#[cycle(body)]
+#[tactic(auto, unfolding(crate::specs::Statements::statement_at, crate::specs::Statements::object_at))]
+fn statement_of(alloc: Global, levels: u32, value: &Value<'_>) -> Result<DraftStmt, Miss>
+    ensures { Gives line_of result (statement_at (body_at levels) (view value.now)) }
+{
+    match value {
+        Value::String(word) => word_of(word),
+        Value::Object(_) => {
+            if is_branch(value) {
+                branch_of(alloc, levels, value)
+            } else {
+                simple_of(alloc, value)
+            }
+        }
+        _ => Err(Miss::Shape),
+    }
+}
+
+#[cycle(body)]
+fn statements_of(alloc: Global, levels: u32, values: &[Value<'_>]) -> Result<Vec<DraftStmt>, Miss>
+    ensures { Gives (λ v. map line_of v.items) result (each (statement_at (body_at levels))
+        (map view values.now)) }
+{
+    let mut statements = Vec::new(alloc);
+    for value in values {
+        let statement = statement_of(alloc, levels, value)?;
+        statements.push(statement)?;
+    }
+    Ok(statements)
+}
+
+#[cycle(body)]
+#[tactic(auto, unfolding(crate::specs::Statements::list_at), using(crate::proofs::Bodies::lines_of_all))]
+fn list_of_statements(alloc: Global, levels: u32, value: &Value<'_>) -> Result<DraftBody, Miss>
+    ensures { Gives (λ b. b) result (list_at (body_at levels) (view value.now)) }
+{
+    let list = list_of(value)?;
+    let statements = statements_of(alloc, levels, list)?;
+    Ok(DraftBody::new(statements))
+}
+
+/// A list of statements, with lists in lists to this depth.
+#[cycle(body)]
+#[tactic(auto, using(crate::proofs::Bodies::levels))]
+pub(crate) fn body_of(alloc: Global, levels: u32, value: &Value<'_>) -> Result<DraftBody, Miss>
+    ensures { Gives (λ b. b) result (body_at levels (view value.now)) }
+{
+    if levels == 0 {
+        return Err(Miss::Shape);
+    }
+    list_of_statements(alloc, levels - 1, value)
+}

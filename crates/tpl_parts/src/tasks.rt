@@ -1,0 +1,205 @@
+//! Reading tasks and tokens.
+
+ghost use Rattle.std.specs.Prelude.{◌≡◌, map, codes, string_bytes, option_and_then, IfErr};
+ghost use Rattle.std.specs.Option.{option_map};
+ghost use Rattle.serde_json.specs.Find.{get, as_str};
+ghost use Rattle.tpl_json.specs.View.{view};
+ghost use Rattle.tpl_graph.specs.SeenTasks.{work_of, kind_of, task_of, token_of};
+ghost use Rattle.tpl_json.specs.Members.{Gives, each, IsShape};
+ghost use Rattle.tpl_parts.specs.Tasks.{option_at, options_at, text_or_none, work_at, root_at, child_at, then_at, args_at, all_at, any_at, kind_at, task_at, linked_at, plain_at, token_at};
+
+use crate::statements::body_of;
+use json::Value;
+use std::alloc::Global;
+use tpl_graph::{DraftKind, DraftTask, DraftToken, DraftWork};
+use tpl_json::{
+    Miss, find, has_only, list_of, list_or_none, member_in, owned_texts, text_in, text_of,
+};
+use tpl_words::Options;
+
+#[tactic(auto, unfolding(crate::specs::Tasks::option_at))]
+fn option_of(value: &Value<'_>) -> Result<Options, Miss>
+    ensures gives { Gives (λ o. o) result (option_at (view value.now)) }
+    ensures shape { IfErr result IsShape }
+{
+    let word = text_of(value)?;
+    match Options::from_word(word) {
+        None => Err(Miss::Shape),
+        Some(options) => Ok(options),
+    }
+}
+
+fn options_of(values: &[Value<'_>]) -> Result<Options, Miss>
+    ensures gives { Gives (λ o. o) result (options_at 0 (map view values.now)) }
+    ensures shape { IfErr result IsShape }
+{
+    let mut options = Options::empty();
+    for value in values {
+        options = options.union(option_of(value)?);
+    }
+    Ok(options)
+}
+
+#[tactic(auto, unfolding(crate::specs::Tasks::text_or_none))]
+fn text_or_none(alloc: Global, value: &Value<'_>, name: &str) -> Result<Option<String>, Miss>
+    ensures { Gives (λ o. option_map string_bytes o) result
+        (text_or_none (get name.now (view value.now))) }
+{
+    match find(value, name) {
+        None => Ok(None),
+        Some(member) => {
+            let text = text_of(member)?;
+            Ok(Some(String::from_str(alloc, text)?))
+        }
+    }
+}
+
+#[tactic(auto, unfolding(crate::specs::Tasks::work_at))]
+fn work_of(alloc: Global, value: &Value<'_>) -> Result<DraftWork, Miss>
+    ensures { Gives work_of result (work_at (view value.now)) }
+{
+    let list = member_in(value, "body")?;
+    let body = body_of(alloc, 127, list)?;
+    let token = text_or_none(alloc, value, "token")?;
+    let words = list_or_none(value, "options")?;
+    let options = options_of(words)?;
+    Ok(DraftWork {
+        body,
+        token,
+        options,
+    })
+}
+
+#[tactic(auto, unfolding(crate::specs::Tasks::root_at))]
+fn root_of(alloc: Global, value: &Value<'_>) -> Result<DraftKind, Miss>
+    ensures { Gives kind_of result (root_at (view value.now)) }
+{
+    if !has_only(value, &["name", "kind", "body", "token", "options"]) {
+        return Err(Miss::Shape);
+    }
+    let work = work_of(alloc, value)?;
+    Ok(DraftKind::Root(work))
+}
+
+#[tactic(auto, unfolding(crate::specs::Tasks::child_at))]
+fn child_of(alloc: Global, value: &Value<'_>) -> Result<DraftKind, Miss>
+    ensures { Gives kind_of result (child_at (view value.now)) }
+{
+    if !has_only(value, &["name", "kind", "body", "token", "options"]) {
+        return Err(Miss::Shape);
+    }
+    let work = work_of(alloc, value)?;
+    Ok(DraftKind::Child(work))
+}
+
+#[tactic(auto, unfolding(crate::specs::Tasks::then_at))]
+fn then_of(alloc: Global, value: &Value<'_>) -> Result<DraftKind, Miss>
+    ensures { Gives kind_of result (then_at (view value.now)) }
+{
+    if !has_only(
+        value,
+        &["name", "kind", "after", "body", "token", "options"],
+    ) {
+        return Err(Miss::Shape);
+    }
+    let antecedent = text_in(value, "after")?;
+    let work = work_of(alloc, value)?;
+    let antecedent = String::from_str(alloc, antecedent)?;
+    Ok(DraftKind::Then(antecedent, work))
+}
+
+#[tactic(auto, unfolding(crate::specs::Tasks::args_at))]
+fn args_of(alloc: Global, value: &Value<'_>) -> Result<Vec<String>, Miss>
+    ensures { Gives (λ v. map string_bytes v.items) result (args_at (view value.now)) }
+{
+    if !has_only(value, &["name", "kind", "of"]) {
+        return Err(Miss::Shape);
+    }
+    let list = member_in(value, "of")?;
+    owned_texts(alloc, list_of(list)?)
+}
+
+#[tactic(auto, unfolding(crate::specs::Tasks::all_at))]
+fn all_of(alloc: Global, value: &Value<'_>) -> Result<DraftKind, Miss>
+    ensures { Gives kind_of result (all_at (view value.now)) }
+{
+    let args = args_of(alloc, value)?;
+    Ok(DraftKind::All(args))
+}
+
+#[tactic(auto, unfolding(crate::specs::Tasks::any_at))]
+fn any_of(alloc: Global, value: &Value<'_>) -> Result<DraftKind, Miss>
+    ensures { Gives kind_of result (any_at (view value.now)) }
+{
+    let args = args_of(alloc, value)?;
+    Ok(DraftKind::Any(args))
+}
+
+#[tactic(auto, unfolding(crate::specs::Tasks::kind_at))]
+fn kind_of(alloc: Global, kind: &str, value: &Value<'_>) -> Result<DraftKind, Miss>
+    ensures { Gives kind_of result (kind_at kind.now (view value.now)) }
+{
+    match kind {
+        "root" => root_of(alloc, value),
+        "child" => child_of(alloc, value),
+        "then" => then_of(alloc, value),
+        "all" => all_of(alloc, value),
+        "any" => any_of(alloc, value),
+        _ => Err(Miss::Shape),
+    }
+}
+
+/// A task with names.
+#[tactic(auto, unfolding(crate::specs::Tasks::task_at))]
+pub fn task_of(alloc: Global, value: &Value<'_>) -> Result<DraftTask, Miss>
+    ensures { Gives task_of result (task_at (view value.now)) }
+{
+    let name = text_in(value, "name")?;
+    let word = text_in(value, "kind")?;
+    let kind = kind_of(alloc, word, value)?;
+    let name = String::from_str(alloc, name)?;
+    Ok(DraftTask { name, kind })
+}
+
+#[tactic(auto, unfolding(crate::specs::Tasks::linked_at))]
+fn linked_of(alloc: Global, value: &Value<'_>) -> Result<DraftToken, Miss>
+    ensures { Gives token_of result (linked_at (view value.now)) }
+{
+    if !has_only(value, &["name", "linked"]) {
+        return Err(Miss::Shape);
+    }
+    let name = text_in(value, "name")?;
+    let list = member_in(value, "linked")?;
+    let linked = owned_texts(alloc, list_of(list)?)?;
+    let name = String::from_str(alloc, name)?;
+    Ok(DraftToken {
+        name,
+        linked: Some(linked),
+    })
+}
+
+#[tactic(auto, unfolding(crate::specs::Tasks::plain_at))]
+fn plain_of(alloc: Global, name: &str) -> Result<DraftToken, Miss>
+    ensures { Gives token_of result (Some (plain_at name.now)) }
+{
+    let name = String::from_str(alloc, name)?;
+    Ok(DraftToken { name, linked: None })
+}
+
+/// A token: a name, or, where links are allowed, an object that links it to others.
+#[tactic(auto, unfolding(crate::specs::Tasks::token_at))]
+pub fn token_of(alloc: Global, links: bool, value: &Value<'_>) -> Result<DraftToken, Miss>
+    ensures { Gives token_of result (token_at links (view value.now)) }
+{
+    match value {
+        Value::String(name) => plain_of(alloc, name),
+        Value::Object(_) => {
+            if links {
+                linked_of(alloc, value)
+            } else {
+                Err(Miss::Shape)
+            }
+        }
+        _ => Err(Miss::Shape),
+    }
+}

@@ -1,9 +1,0 @@
-use Rattle.std.proofs.Common.{◌≡◌, map, take}
-use Rattle.json.specs.Value.{members_view}
-use Rattle.serde_json.specs.Data.{no_members}
-use Rattle.tpl_json.specs.View.{members_from}
-use Rattle.tpl_reader.proofs.Truths.{seen, noted}
-use Rattle.tpl_reader.proofs.start.all_truths.Given as goal
-
-abbrev pub invariant-loop-member : goal.invariant-loop-member
-invariant-loop-member l = map seen l.truths.entries ≡ noted (members_from (members_view (take l.member-index l.members)) no_members)
