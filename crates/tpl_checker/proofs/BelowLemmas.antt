@@ -17,7 +17,7 @@ use Rattle.tpl_model.specs.Valid.{IsGraph}
 use Rattle.tpl_model.specs.Certificate.{IsBelow, child, deeper}
 use Rattle.tpl_laws.specs.RowTests.{below_by, is_below, parent_of}
 use Rattle.tpl_laws.specs.Decided.{BelowInOnePass, BelowIsRight, ParentIsRight}
-use Rattle.tpl_checker.proofs.ReadyLemmas.{no_body}
+use Rattle.tpl_checker.proofs.ChildLemmas.{no_body}
 use Rattle.tpl_checker.proofs.BodyLemmas.{lt_next, lt_other, member_step}
 
 -- those of the first n tasks

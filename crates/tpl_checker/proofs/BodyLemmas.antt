@@ -18,7 +18,7 @@ use Rattle.tpl_model.specs.Certificate.{Row, Assumed, view}
 use Rattle.tpl_laws.specs.RowTests.{is_return, is_acknowledgement}
 use Rattle.tpl_checker.specs.declared.bodies.Bodies.{Bodies}
 use Rattle.tpl_checker.specs.Bodies.{AreFirstBodies}
-use Rattle.tpl_checker.proofs.ReadyLemmas.{parent_is_task}
+use Rattle.tpl_checker.proofs.ChildLemmas.{parent_is_task}
 
 module _ (law : MayIsRight) (w : Known) (script : Statements) (r : Bool) where
   pub returned_is : (r ≡ true) ↔ MayEnd w script Returned → r ≡ may none is_return w script

@@ -7,7 +7,7 @@ use Rattle.tpl_model.specs.Graph.{TaskGraph}
 use Rattle.tpl_model.specs.Certificate.{Assumed}
 use Rattle.tpl_graph.specs.Ids.{task_number}
 use Rattle.tpl_laws.specs.RowTests.{all_in, chain_by, reads, takes_over}
-use Rattle.tpl_checker.specs.Tasks.{AreTasks}
+use Rattle.tpl_graph.specs.Roles.{AreTasks}
 use Rattle.tpl_checker.proofs.Basics.{drop_all}
 
 -- what is left of the chain from the i-th task on has to lead on from the carrier

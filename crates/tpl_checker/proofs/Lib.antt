@@ -1,6 +1,6 @@
 pub mod Basics
 pub mod Assuming
-pub mod ReadyLemmas
+pub mod ChildLemmas
 pub mod GivenLemmas
 pub mod BodyLemmas
 pub mod BelowLemmas

@@ -8,7 +8,7 @@ use Rattle.tpl_model.specs.Graph.{some_in}
 use Rattle.tpl_model.specs.Certificate.{Row, row}
 use Rattle.tpl_graph.specs.Ids.{task_number}
 use Rattle.tpl_laws.specs.RowTests.{all_in}
-use Rattle.tpl_checker.specs.Tasks.{AreTasks}
+use Rattle.tpl_graph.specs.Roles.{AreTasks}
 
 -- x is the task y or past it
 abbrev pub after : List Row → ℕ → ℕ → Bool

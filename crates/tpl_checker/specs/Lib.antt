@@ -1,5 +1,3 @@
-pub mod Tasks
-pub mod Ready
 pub mod Assumptions
 pub mod Below
 pub mod Bodies

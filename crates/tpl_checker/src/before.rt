@@ -5,10 +5,10 @@ ghost use Rattle.tpl_model.specs.Graph.{is_task, kind, Child};
 ghost use Rattle.tpl_model.specs.Certificate.{row};
 ghost use Rattle.tpl_laws.specs.RowTests.{all_in, before, before_by};
 
-use crate::ready::{Ready, parent, ready_of};
+use crate::parent::parent;
 use crate::rows::{implies, row, settled_after, within};
 use tpl_cert::Row;
-use tpl_graph::Graph;
+use tpl_graph::{Graph, Role};
 use tpl_words::{TaskId, TaskSet};
 
 /// What stands before a task whose row runs may be taken as settled when it begins.
@@ -30,12 +30,12 @@ fn is_settled(graph: &Graph, rows: &[Row], task: TaskId) -> bool
 {
     graph.valid();
     let before = row(rows, task).before();
-    match ready_of(graph, task) {
-        Ready::Root => within(before, &TaskSet::empty()),
-        Ready::Child => is_before_parent(graph, rows, task),
-        Ready::Then(antecedent) => within(before, &settled_after(rows, antecedent)),
-        Ready::All(_) => true,
-        Ready::Any(_) => true,
+    match graph.role(task) {
+        Role::Root => within(before, &TaskSet::empty()),
+        Role::Child => is_before_parent(graph, rows, task),
+        Role::Then(antecedent) => within(before, &settled_after(rows, antecedent)),
+        Role::All(_) => true,
+        Role::Any(_) => true,
     }
 }
 

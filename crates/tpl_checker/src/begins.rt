@@ -8,10 +8,10 @@ ghost use Rattle.tpl_laws.specs.RowTests.{runs, runs_by};
 ghost use Rattle.tpl_checker.specs.Bodies.{AreBodies};
 
 use crate::bodies::Bodies;
-use crate::ready::{Ready, parent, ready_of};
+use crate::parent::parent;
 use crate::rows::{allowed, implies, row, some_end};
 use tpl_cert::Row;
-use tpl_graph::Graph;
+use tpl_graph::{Graph, Role};
 use tpl_words::TaskId;
 
 /// The row runs, if it is a root's, or its antecedent may end in a way that the options let the
@@ -22,11 +22,11 @@ pub(crate) fn runs(graph: &Graph, rows: &[Row], bodies: &Bodies, task: TaskId) -
     ensures { (l : Assumed) → AreBodies graph.now.graph l rows.now bodies.now
         → result ≡ runs graph.now.graph l rows.now task.0 }
 {
-    match ready_of(graph, task) {
-        Ready::Root => row(rows, task).runs(),
-        Ready::Then(antecedent) => runs_after(graph, rows, task, antecedent),
-        Ready::Child => runs_if_started(graph, rows, bodies, task),
-        Ready::All(_) | Ready::Any(_) => true,
+    match graph.role(task) {
+        Role::Root => row(rows, task).runs(),
+        Role::Then(antecedent) => runs_after(graph, rows, task, antecedent),
+        Role::Child => runs_if_started(graph, rows, bodies, task),
+        Role::All(_) | Role::Any(_) => true,
     }
 }
 

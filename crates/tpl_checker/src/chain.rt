@@ -8,14 +8,13 @@ ghost use Rattle.tpl_graph.specs.Ids.{task_number};
 ghost use Rattle.tpl_laws.specs.RowTests.{chain, chain_by, continues, faulted_view, is_argument, reads, takes_over};
 ghost use Rattle.tpl_laws.specs.Verdict.{has_tasks};
 ghost use Rattle.tpl_checker.specs.Assumptions.{assumed_of};
-ghost use Rattle.tpl_checker.specs.Tasks.{AreTasks};
+ghost use Rattle.tpl_graph.specs.Roles.{AreTasks};
 
 use crate::assumptions::Assumptions;
-use crate::ready::{Ready, ready_of};
 use crate::rows::{is_member, row};
 use crate::view::faulted_view;
 use tpl_cert::Row;
-use tpl_graph::Graph;
+use tpl_graph::{Graph, Role};
 use tpl_words::{Final, TaskId};
 
 /// The chain of the row of the task, if it has one, leads to a reader.
@@ -65,8 +64,8 @@ fn continues(graph: &Graph, reader: TaskId, task: TaskId) -> bool
     requires { is_task graph.now.graph reader.0 }
     ensures { result ≡ continues task.0 (kind graph.now.graph reader.0) }
 {
-    match ready_of(graph, reader) {
-        Ready::Then(antecedent) => antecedent.0 == task.0,
+    match graph.role(reader) {
+        Role::Then(antecedent) => antecedent.0 == task.0,
         _ => false,
     }
 }
@@ -94,8 +93,8 @@ fn is_argument(graph: &Graph, task: TaskId, other: TaskId) -> bool
     requires { is_task graph.now.graph task.0 }
     ensures { result ≡ is_argument other.0 (kind graph.now.graph task.0) }
 {
-    match ready_of(graph, task) {
-        Ready::All(args) => is_member(other, args),
+    match graph.role(task) {
+        Role::All(args) => is_member(other, args),
         _ => false,
     }
 }

@@ -11,15 +11,14 @@ ghost use Rattle.tpl_graph.specs.Ids.{task_number};
 ghost use Rattle.tpl_laws.specs.RowTests.{implies, ends, body_may_end, may_be_canceled, may_end_as, all_may_end};
 ghost use Rattle.tpl_checker.specs.Assumptions.{assumed_of};
 ghost use Rattle.tpl_checker.specs.Bodies.{AreBodies};
-ghost use Rattle.tpl_checker.specs.Tasks.{AreTasks};
+ghost use Rattle.tpl_graph.specs.Roles.{AreTasks};
 
 use crate::assumptions::Assumptions;
 use crate::bodies::Bodies;
-use crate::ready::{Ready, ready_of};
 use crate::rows::{excluded, implies, row, some_end};
 use crate::view::{NO_END, ends_of_one};
 use tpl_cert::Row;
-use tpl_graph::Graph;
+use tpl_graph::{Graph, Role};
 use tpl_words::{Final, Finals, TaskId, TaskSet};
 
 /// Each way in which the task may end stands in its row, but for those that the leaf leaves out.
@@ -73,14 +72,12 @@ fn may_end(
         → (f : Final) → has result f ≡ may_end_as graph.now.graph (assumed_of assumed.now) rows.now
         task.0 (kind graph.now.graph task.0) f }
 {
-    match ready_of(graph, task) {
-        Ready::Root => ready_ends(graph, assumed, rows, bodies, task),
-        Ready::Child => ready_ends(graph, assumed, rows, bodies, task),
-        Ready::Then(antecedent) => {
-            continued_ends(graph, assumed, rows, bodies, task, antecedent)
-        }
-        Ready::All(args) => all_end(rows, args),
-        Ready::Any(args) => any_ends(rows, args),
+    match graph.role(task) {
+        Role::Root => ready_ends(graph, assumed, rows, bodies, task),
+        Role::Child => ready_ends(graph, assumed, rows, bodies, task),
+        Role::Then(antecedent) => { continued_ends(graph, assumed, rows, bodies, task, antecedent) }
+        Role::All(args) => all_end(rows, args),
+        Role::Any(args) => any_ends(rows, args),
     }
 }
 

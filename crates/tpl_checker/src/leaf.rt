@@ -19,10 +19,9 @@ use crate::chain::chain;
 use crate::ends::ends;
 use crate::past::past;
 use crate::property::proves;
-use crate::ready::{Ready, ready_of};
 use crate::shape::rows_fit;
 use tpl_cert::Row;
-use tpl_graph::Graph;
+use tpl_graph::{Graph, Role};
 use tpl_model::{Property, Rule};
 use tpl_words::TaskId;
 
@@ -155,9 +154,9 @@ fn past_rule(graph: &Graph, task: TaskId) -> Rule
     requires { is_task graph.now.graph task.0 }
     ensures { result ≡ past_rule (kind graph.now.graph task.0) }
 {
-    match ready_of(graph, task) {
-        Ready::All(_) => Rule::K5,
-        Ready::Any(_) => Rule::K5,
+    match graph.role(task) {
+        Role::All(_) => Rule::K5,
+        Role::Any(_) => Rule::K5,
         _ => Rule::K4,
     }
 }

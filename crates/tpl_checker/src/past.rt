@@ -8,14 +8,14 @@ ghost use Rattle.tpl_graph.specs.Ids.{task_number};
 ghost use Rattle.tpl_laws.specs.RowTests.{all_in, past, past_by};
 ghost use Rattle.tpl_checker.specs.Assumptions.{assumed_of};
 ghost use Rattle.tpl_checker.specs.Below.{AreBelow};
-ghost use Rattle.tpl_checker.specs.Tasks.{AreTasks};
+ghost use Rattle.tpl_graph.specs.Roles.{AreTasks};
 
 use crate::assumptions::Assumptions;
 use crate::below::Below;
-use crate::ready::{Ready, parent, ready_of};
+use crate::parent::parent;
 use crate::rows::{row, settled_after, within};
 use tpl_cert::Row;
-use tpl_graph::Graph;
+use tpl_graph::{Graph, Role};
 use tpl_words::{TaskId, TaskSet};
 
 /// Whether each member of a row's `past` may be taken as settled when the task has ended. Where the
@@ -34,14 +34,14 @@ pub(crate) fn past(
 {
     graph.valid();
     let past = row(rows, task).past();
-    match ready_of(graph, task) {
-        Ready::Root => within(past, below.of(task)),
-        Ready::Child => is_past_child(graph, below, rows, task),
-        Ready::Then(antecedent) => {
+    match graph.role(task) {
+        Role::Root => within(past, below.of(task)),
+        Role::Child => is_past_child(graph, below, rows, task),
+        Role::Then(antecedent) => {
             is_past_continuation(graph, assumed, below, rows, task, antecedent)
         }
-        Ready::All(args) => within(past, &settled_after_some(rows, args)),
-        Ready::Any(args) => within(past, &settled_after_each(rows, args, past)),
+        Role::All(args) => within(past, &settled_after_some(rows, args)),
+        Role::Any(args) => within(past, &settled_after_each(rows, args, past)),
     }
 }
 

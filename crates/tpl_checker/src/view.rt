@@ -8,13 +8,12 @@ ghost use Rattle.tpl_script.specs.View.{known};
 ghost use Rattle.tpl_graph.specs.Ids.{task_number};
 ghost use Rattle.tpl_laws.specs.RowTests.{faulted_view};
 ghost use Rattle.tpl_checker.specs.Assumptions.{assumed_of};
-ghost use Rattle.tpl_checker.specs.Tasks.{AreTasks};
+ghost use Rattle.tpl_graph.specs.Roles.{AreTasks};
 
 use crate::assumptions::Assumptions;
-use crate::ready::{Ready, ready_of};
 use crate::rows::{allowed, row};
 use tpl_cert::Row;
-use tpl_graph::Graph;
+use tpl_graph::{Graph, Role};
 use tpl_script::View;
 use tpl_words::{Final, Finals, TaskId};
 
@@ -64,9 +63,9 @@ pub(crate) fn subject(graph: &Graph, rows: &[Row], task: TaskId) -> Finals
     ensures { (f : Final) → has result f ≡ subject_set graph.now.graph rows.now task.0
         (kind graph.now.graph task.0) f }
 {
-    match ready_of(graph, task) {
-        Ready::Then(antecedent) => match ready_of(graph, antecedent) {
-            Ready::Any(args) => ends_of_one(rows, args),
+    match graph.role(task) {
+        Role::Then(antecedent) => match graph.role(antecedent) {
+            Role::Any(args) => ends_of_one(rows, args),
             _ => allowed(row(rows, antecedent).ends(), graph.options(task)),
         },
         _ => NO_END,

@@ -29,3 +29,4 @@ pub mod SiteReaders
 pub mod SameLemmas
 pub mod WorkLemmas
 pub mod Crosses
+pub mod RoleLemmas

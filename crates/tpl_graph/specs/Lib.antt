@@ -5,6 +5,7 @@ pub mod Named
 pub mod Coding
 pub mod Tables
 pub mod Rows
+pub mod Roles
 pub mod Kept
 pub mod Sites
 pub mod Draft

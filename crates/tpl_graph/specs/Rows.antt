@@ -5,8 +5,8 @@ use Rattle.tpl_model.specs.Graph as graph
 use Rattle.tpl_graph.specs.Ids.{task_number, token_number}
 use Rattle.tpl_graph.specs.declared.row.Kind.{Kind}
 use Rattle.tpl_graph.specs.declared.row.Kind.TheVariants as kind
-use Rattle.tpl_graph.specs.declared.row.Role.{Role}
-use Rattle.tpl_graph.specs.declared.row.Role.TheVariants as role
+use Rattle.tpl_graph.specs.declared.row.OwnRole.{OwnRole}
+use Rattle.tpl_graph.specs.declared.row.OwnRole.TheVariants as role
 use Rattle.tpl_graph.specs.declared.row.Row.{Row}
 use Rattle.tpl_graph.specs.declared.row.Origin.{Origin}
 use Rattle.tpl_graph.specs.declared.row.Origin.TheVariants as origin
@@ -20,7 +20,7 @@ kind_of (graph.WhenAll args) = kind.All
 kind_of (graph.WhenAny args) = kind.Any
 
 -- a kind in memory, without where it lies
-abbrev pub role_of : Role → graph.TaskKind
+abbrev pub role_of : OwnRole → graph.TaskKind
 role_of role.Root = graph.Root
 role_of role.Child = graph.Child
 role_of (role.Then a) = graph.Continues a.0

@@ -11,6 +11,7 @@ ghost use Rattle.tpl_model.specs.Valid as valid;
 ghost use Rattle.tpl_graph.specs.Ids.{task_number, token_number, input_number, site_number};
 ghost use Rattle.tpl_graph.specs.Named.{antecedent_of, args_of, all_may_fail};
 ghost use Rattle.tpl_graph.specs.Rows.{kind_of};
+ghost use Rattle.tpl_graph.specs.Roles.{kind_in, AreWithin};
 ghost use Rattle.tpl_graph.specs.Kept.{IsNamedGraph};
 ghost use Rattle.tpl_graph.specs.Sites.{HasWork};
 ghost use Rattle.tpl_graph.specs.Checked.{IsChecked};
@@ -22,7 +23,8 @@ use crate::check::{Checked, check};
 use crate::draft::Draft;
 use crate::fault::GraphFault;
 use crate::names::Tables;
-use crate::row::{Kind, Origin, Role, Row, Site};
+use crate::role::Role;
+use crate::row::{Kind, Origin, OwnRole, Row, Site};
 use crate::rows::number_tasks;
 use crate::same::{same_origins, same_rows, same_tables};
 use crate::starters::{attached, bound, parents};
@@ -246,11 +248,29 @@ impl Graph {
         ensures { result ≡ kind_of (spec.kind self.now.graph task.0) }
     {
         match &self.tasks[task.0 as usize].role {
-            Role::Root => Kind::Root,
-            Role::Child => Kind::Child,
-            Role::Then(_) => Kind::Then,
-            Role::All(_) => Kind::All,
-            Role::Any(_) => Kind::Any,
+            OwnRole::Root => Kind::Root,
+            OwnRole::Child => Kind::Child,
+            OwnRole::Then(_) => Kind::Then,
+            OwnRole::All(_) => Kind::All,
+            OwnRole::Any(_) => Kind::Any,
+        }
+    }
+
+    /// What makes the task ready, with the tasks that it waits for.
+    pub fn role(&self, task: TaskId) -> Role<'_>
+        requires { is_task self.now.graph task.0 }
+        ensures kind { kind_in result ≡ spec.kind self.now.graph task.0 }
+        ensures within { AreWithin (length self.now.graph.tasks) result }
+    {
+        self.valid();
+        if let Some(antecedent) = self.antecedent(task) {
+            return Role::Then(antecedent);
+        }
+        match self.kind(task) {
+            Kind::Root => Role::Root,
+            Kind::All => Role::All(self.args(task)),
+            Kind::Any => Role::Any(self.args(task)),
+            _ => Role::Child,
         }
     }
 
@@ -260,7 +280,7 @@ impl Graph {
         ensures { option_map task_number result ≡ antecedent_of (spec.kind self.now.graph task.0) }
     {
         match &self.tasks[task.0 as usize].role {
-            Role::Then(antecedent) => Some(*antecedent),
+            OwnRole::Then(antecedent) => Some(*antecedent),
             _ => None,
         }
     }
@@ -271,8 +291,8 @@ impl Graph {
         ensures { map task_number result.now ≡ args_of (spec.kind self.now.graph task.0) }
     {
         match &self.tasks[task.0 as usize].role {
-            Role::All(args) => args.as_slice(),
-            Role::Any(args) => args.as_slice(),
+            OwnRole::All(args) => args.as_slice(),
+            OwnRole::Any(args) => args.as_slice(),
             _ => &[],
         }
     }

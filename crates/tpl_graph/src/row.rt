@@ -19,9 +19,9 @@ pub enum Kind {
     Any,
 }
 
-/// A kind with the tasks that a task waits for.
+/// A kind with the tasks that a task waits for, as a graph keeps it.
 #[derive(Drop)]
-pub(crate) enum Role {
+pub(crate) enum OwnRole {
     Root,
     Child,
     Then(TaskId),
@@ -32,7 +32,7 @@ pub(crate) enum Role {
 /// A task.
 #[derive(Drop)]
 pub(crate) struct Row {
-    pub(crate) role: Role,
+    pub(crate) role: OwnRole,
     pub(crate) script: Script,
     pub(crate) token: Option<TokenId>,
     pub(crate) options: Options,

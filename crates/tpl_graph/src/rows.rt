@@ -16,7 +16,7 @@ ghost use Rattle.tpl_graph.specs.Tables.{seen};
 use crate::draft::{DraftBody, DraftKind, DraftTask, DraftToken, DraftWork};
 use crate::names::{Names, Tables};
 use crate::numbering::{number_body, task_id, token_id};
-use crate::row::{Origin, Role, Row};
+use crate::row::{Origin, OwnRole, Row};
 use std::alloc::{AllocError, Global};
 use tpl_script::{Body, Script};
 use tpl_words::{Options, TaskId, TokenId};
@@ -67,7 +67,7 @@ fn number_script(alloc: Global, tables: &Tables, body: &DraftBody) -> Result<Scr
 fn number_work(
     alloc: Global,
     tables: &Tables,
-    role: Role,
+    role: OwnRole,
     work: &DraftWork,
 ) -> Result<Row, AllocError>
     requires few { AreFew (seen tables.now) }
@@ -87,7 +87,7 @@ fn number_work(
 }
 
 /// A task without body, token and options.
-fn number_bare(alloc: Global, role: Role) -> Row
+fn number_bare(alloc: Global, role: OwnRole) -> Row
     ensures role { result.role ≡ role }
     ensures script { result.script ≡ Nothing }
     ensures token { result.token ≡ None }
@@ -108,19 +108,19 @@ fn number_task(alloc: Global, tables: &Tables, task: &DraftTask) -> Result<Row, 
     ensures { IfOk result (λ r. rows.task_of r ≡ task_in (seen tables.now) (task_of task.now)) }
 {
     match &task.kind {
-        DraftKind::Root(work) => number_work(alloc, tables, Role::Root, work),
-        DraftKind::Child(work) => number_work(alloc, tables, Role::Child, work),
+        DraftKind::Root(work) => number_work(alloc, tables, OwnRole::Root, work),
+        DraftKind::Child(work) => number_work(alloc, tables, OwnRole::Child, work),
         DraftKind::Then(after, work) => {
-            let role = Role::Then(task_id(tables, after.as_str()));
+            let role = OwnRole::Then(task_id(tables, after.as_str()));
             number_work(alloc, tables, role, work)
         }
         DraftKind::All(of) => {
             let args = task_ids(alloc, tables, of.as_slice())?;
-            Ok(number_bare(alloc, Role::All(args)))
+            Ok(number_bare(alloc, OwnRole::All(args)))
         }
         DraftKind::Any(of) => {
             let args = task_ids(alloc, tables, of.as_slice())?;
-            Ok(number_bare(alloc, Role::Any(args)))
+            Ok(number_bare(alloc, OwnRole::Any(args)))
         }
     }
 }

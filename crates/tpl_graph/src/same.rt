@@ -7,7 +7,7 @@ ghost use Rattle.tpl_graph.specs.Rows.{role_of, task_of, token_of};
 ghost use Rattle.tpl_graph.specs.Tables.{seen};
 
 use crate::names::{Names, Tables};
-use crate::row::{Origin, Role, Row};
+use crate::row::{Origin, OwnRole, Row};
 use tpl_words::{TaskId, TokenId};
 
 fn same_names(left: &Names, right: &Names) -> bool
@@ -90,22 +90,22 @@ pub(crate) fn same_origins(left: &[Origin], right: &[Origin]) -> bool
     true
 }
 
-fn same_role(left: &Role, right: &Role) -> bool
+fn same_role(left: &OwnRole, right: &OwnRole) -> bool
     ensures { IsTrue result ↔ (role_of left.now ≡ role_of right.now) }
 {
     match left {
-        Role::Root => matches!(right, Role::Root),
-        Role::Child => matches!(right, Role::Child),
-        Role::Then(antecedent) => match right {
-            Role::Then(other) => antecedent == other,
+        OwnRole::Root => matches!(right, OwnRole::Root),
+        OwnRole::Child => matches!(right, OwnRole::Child),
+        OwnRole::Then(antecedent) => match right {
+            OwnRole::Then(other) => antecedent == other,
             _ => false,
         },
-        Role::All(args) => match right {
-            Role::All(others) => same_tasks(args.as_slice(), others.as_slice()),
+        OwnRole::All(args) => match right {
+            OwnRole::All(others) => same_tasks(args.as_slice(), others.as_slice()),
             _ => false,
         },
-        Role::Any(args) => match right {
-            Role::Any(others) => same_tasks(args.as_slice(), others.as_slice()),
+        OwnRole::Any(args) => match right {
+            OwnRole::Any(others) => same_tasks(args.as_slice(), others.as_slice()),
             _ => false,
         },
     }

@@ -5,8 +5,8 @@ ghost use Rattle.tpl_words.specs.Members.{mem};
 ghost use Rattle.tpl_model.specs.Graph.{is_task};
 ghost use Rattle.tpl_outline.specs.Bearing.{Names};
 
-use tpl_checker::{Ready, parent, ready_of};
-use tpl_graph::Graph;
+use tpl_checker::parent;
+use tpl_graph::{Graph, Role};
 use tpl_model::Property;
 use tpl_words::{MOST_TASKS, TaskId, TaskSet};
 
@@ -61,14 +61,14 @@ fn with_causes(graph: &Graph, tasks: TaskSet, task: TaskId) -> TaskSet
     ensures { (x : ℕ) → mem x tasks ≡ true → mem x result ≡ true }
 {
     let tasks = with_all(tasks, graph.attached(task));
-    match ready_of(graph, task) {
-        Ready::Root => tasks,
-        Ready::Then(antecedent) => with(tasks, antecedent),
-        Ready::Child => match parent(graph, task) {
+    match graph.role(task) {
+        Role::Root => tasks,
+        Role::Then(antecedent) => with(tasks, antecedent),
+        Role::Child => match parent(graph, task) {
             None => tasks,
             Some(parent) => with(tasks, parent),
         },
-        Ready::All(args) | Ready::Any(args) => with_all(tasks, args),
+        Role::All(args) | Role::Any(args) => with_all(tasks, args),
     }
 }
 

@@ -3,8 +3,7 @@
 ghost use Rattle.tpl_model.specs.Graph.{is_task};
 
 use std::alloc::{AllocError, Global};
-use tpl_checker::{Ready, ready_of};
-use tpl_graph::Graph;
+use tpl_graph::{Graph, Role};
 use tpl_words::TaskId;
 
 /// The tasks that follow each task of a graph, each list in the order in which they are declared. They are found once for
@@ -65,9 +64,9 @@ impl Followers {
     fn add(&mut self, graph: &Graph, task: TaskId) -> Result<(), AllocError>
         requires { is_task graph.now.graph task.0 }
     {
-        match ready_of(graph, task) {
-            Ready::Then(antecedent) => push_to(&mut self.continuations, &[antecedent], task)?,
-            Ready::All(args) => push_to(&mut self.takers, args, task)?,
+        match graph.role(task) {
+            Role::Then(antecedent) => push_to(&mut self.continuations, &[antecedent], task)?,
+            Role::All(args) => push_to(&mut self.takers, args, task)?,
             _ => {}
         }
         push_to(&mut self.takers, graph.attached(task), task)

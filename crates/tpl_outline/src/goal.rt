@@ -4,7 +4,8 @@ ghost use Rattle.tpl_model.specs.Graph.{is_task};
 ghost use Rattle.tpl_outline.specs.Shown.{IsAnswer};
 
 use crate::rows::{Parts, may_end_early};
-use tpl_checker::{Ready, parent, ready_of};
+use tpl_checker::parent;
+use tpl_graph::Role;
 use tpl_model::Property;
 use tpl_words::{TaskId, TaskSet};
 
@@ -73,11 +74,11 @@ impl Places {
     fn is_before(&self, parts: Parts<'_>, first: TaskId, task: TaskId) -> bool
         requires { is_task parts.graph.now.graph task.0 }
     {
-        match ready_of(parts.graph, task) {
-            Ready::Then(antecedent) => {
+        match parts.graph.role(task) {
+            Role::Then(antecedent) => {
                 parts.outline.fate(task).runs && self.is_settled_after(first, antecedent)
             }
-            Ready::Child => parts.outline.fate(task).runs && self.is_before_parent(parts, task),
+            Role::Child => parts.outline.fate(task).runs && self.is_before_parent(parts, task),
             _ => false,
         }
     }
@@ -87,14 +88,14 @@ impl Places {
     {
         parts.graph.valid();
         let is_below = parts.below.of(task).contains(first);
-        match ready_of(parts.graph, task) {
-            Ready::Root => is_below,
-            Ready::Child => is_below || self.is_before_parent(parts, task),
-            Ready::Then(antecedent) => {
+        match parts.graph.role(task) {
+            Role::Root => is_below,
+            Role::Child => is_below || self.is_before_parent(parts, task),
+            Role::Then(antecedent) => {
                 is_below || !may_end_early(parts, task) && self.is_settled_after(first, antecedent)
             }
-            Ready::All(args) => self.is_settled_after_some(first, args),
-            Ready::Any(args) => self.is_settled_after_each(first, args),
+            Role::All(args) => self.is_settled_after_some(first, args),
+            Role::Any(args) => self.is_settled_after_each(first, args),
         }
     }
 

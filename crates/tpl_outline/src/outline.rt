@@ -7,8 +7,8 @@ ghost use Rattle.tpl_model.specs.Graph.{is_task};
 ghost use Rattle.tpl_checker.specs.Assumptions.{assumed_of};
 ghost use Rattle.tpl_outline.specs.Fates.{fate_of, unsettled};
 
-use tpl_checker::{Assumptions, Ready, allowed, excluded, ready_of, some_end};
-use tpl_graph::Graph;
+use tpl_checker::{Assumptions, allowed, excluded, some_end};
+use tpl_graph::{Graph, Role};
 use tpl_script::Verdicts;
 use tpl_words::{Final, Finals, TaskId};
 
@@ -86,9 +86,9 @@ impl Outline {
     pub(crate) fn subject(&self, graph: &Graph, task: TaskId) -> Finals
         requires { is_task graph.now.graph task.0 }
     {
-        match ready_of(graph, task) {
-            Ready::Then(antecedent) => match ready_of(graph, antecedent) {
-                Ready::Any(args) => self.ends_of_one(args),
+        match graph.role(task) {
+            Role::Then(antecedent) => match graph.role(antecedent) {
+                Role::Any(args) => self.ends_of_one(args),
                 _ => allowed(self.fate(antecedent).ends, graph.options(task)),
             },
             _ => NO_END,
@@ -100,12 +100,12 @@ impl Outline {
         requires { is_task graph.now.graph task.0 }
         ensures { (f : Final) → has result f ≡ true → (assumed_of assumed.now).cut task.0 f ≡ true }
     {
-        let found = match ready_of(graph, task) {
-            Ready::Root => self.ready_ends(graph, assumed, task),
-            Ready::Child => self.ready_ends(graph, assumed, task),
-            Ready::Then(antecedent) => self.continued_ends(graph, assumed, task, antecedent),
-            Ready::All(args) => self.all_end(args),
-            Ready::Any(args) => Finals {
+        let found = match graph.role(task) {
+            Role::Root => self.ready_ends(graph, assumed, task),
+            Role::Child => self.ready_ends(graph, assumed, task),
+            Role::Then(antecedent) => self.continued_ends(graph, assumed, task, antecedent),
+            Role::All(args) => self.all_end(args),
+            Role::Any(args) => Finals {
                 ran: some_end(self.ends_of_one(args)),
                 ..NO_END
             },

@@ -11,8 +11,8 @@ ghost use Rattle.tpl_outline.specs.Stages.{IsStageOf, task_of};
 use crate::outline::{Fate, Outline};
 use crate::setting::Setting;
 use crate::stages::Stage;
-use tpl_checker::{Assumptions, Ready, allowed, parent, ready_of, some_end};
-use tpl_graph::Graph;
+use tpl_checker::{Assumptions, allowed, parent, some_end};
+use tpl_graph::{Graph, Role};
 use tpl_words::{TaskId, TaskSet};
 
 /// A pass over the tasks that finds what may become of them.
@@ -135,11 +135,11 @@ impl Pass {
         if self.all {
             return true;
         }
-        match ready_of(graph, task) {
-            Ready::Then(antecedent) => {
+        match graph.role(task) {
+            Role::Then(antecedent) => {
                 self.moved.contains(antecedent) || self.winner_moved(graph, antecedent)
             }
-            Ready::Child => match parent(graph, task) {
+            Role::Child => match parent(graph, task) {
                 None => false,
                 Some(parent) => self.read.contains(parent),
             },
@@ -151,8 +151,8 @@ impl Pass {
     fn winner_moved(&self, graph: &Graph, task: TaskId) -> bool
         requires { is_task graph.now.graph task.0 }
     {
-        match ready_of(graph, task) {
-            Ready::Any(args) => args.iter().any(|arg| self.moved.contains(*arg)),
+        match graph.role(task) {
+            Role::Any(args) => args.iter().any(|arg| self.moved.contains(*arg)),
             _ => false,
         }
     }
@@ -162,17 +162,17 @@ impl Pass {
     fn may_begin(&self, graph: &Graph, task: TaskId) -> bool
         requires { is_task graph.now.graph task.0 }
     {
-        match ready_of(graph, task) {
-            Ready::Root => true,
-            Ready::Then(antecedent) => {
+        match graph.role(task) {
+            Role::Root => true,
+            Role::Then(antecedent) => {
                 let ends = self.outline.fate(antecedent).ends;
                 some_end(allowed(ends, graph.options(task)))
             }
-            Ready::Child => match parent(graph, task) {
+            Role::Child => match parent(graph, task) {
                 None => false,
                 Some(parent) => self.outline.fate(parent).runs && self.started.contains(task),
             },
-            Ready::All(_) | Ready::Any(_) => false,
+            Role::All(_) | Role::Any(_) => false,
         }
     }
 }

@@ -6,8 +6,8 @@ ghost use Rattle.tpl_model.specs.Graph.{is_task};
 use crate::outline::Outline;
 use std::alloc::{AllocError, Global};
 use tpl_cert::Row;
-use tpl_checker::{Assumptions, Below, Ready, parent, ready_of};
-use tpl_graph::Graph;
+use tpl_checker::{Assumptions, Below, parent};
+use tpl_graph::{Graph, Role};
 use tpl_words::{MOST_TASKS, TaskId, TaskSet};
 
 /// What the rows of a leaf are made of.
@@ -74,9 +74,9 @@ fn before(graph: &Graph, rows: &[Row], task: TaskId) -> TaskSet
     requires { is_task graph.now.graph task.0 }
 {
     graph.valid();
-    match ready_of(graph, task) {
-        Ready::Then(antecedent) => settled_after(rows, antecedent),
-        Ready::Child => before_parent(graph, rows, task),
+    match graph.role(task) {
+        Role::Then(antecedent) => settled_after(rows, antecedent),
+        Role::Child => before_parent(graph, rows, task),
         _ => TaskSet::empty(),
     }
 }
@@ -89,18 +89,18 @@ fn past(parts: Parts<'_>, rows: &[Row], task: TaskId) -> TaskSet
 {
     parts.graph.valid();
     let below = parts.below.of(task);
-    match ready_of(parts.graph, task) {
-        Ready::Root => below.copy(),
-        Ready::Child => before_parent(parts.graph, rows, task).union(below),
-        Ready::Then(antecedent) => {
+    match parts.graph.role(task) {
+        Role::Root => below.copy(),
+        Role::Child => before_parent(parts.graph, rows, task).union(below),
+        Role::Then(antecedent) => {
             if may_end_early(parts, task) {
                 below.copy()
             } else {
                 settled_after(rows, antecedent).union(below)
             }
         }
-        Ready::All(args) => settled_after_some(rows, args),
-        Ready::Any(args) => settled_after_each(rows, args),
+        Role::All(args) => settled_after_some(rows, args),
+        Role::Any(args) => settled_after_each(rows, args),
     }
 }
 

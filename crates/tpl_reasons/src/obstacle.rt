@@ -2,12 +2,12 @@
 
 ghost use Rattle.tpl_claims.specs.Fits.{Fits};
 
-use crate::rules::ready;
+use crate::rules::role;
 use crate::words::{Said, name, token_name};
 use std::alloc::{AllocError, Global};
-use tpl_checker::{Assumptions, Ready, assumed};
+use tpl_checker::{Assumptions, assumed};
 use tpl_claims::Claim;
-use tpl_graph::Graph;
+use tpl_graph::{Graph, Role};
 use tpl_model::Property;
 use tpl_words::{Final, TaskId};
 
@@ -31,8 +31,8 @@ fn early_text(
     if (task.0 as usize) < graph.len() && graph.options(task).lazy_cancellation() {
         return Ok(None);
     }
-    let text = match ready(graph, task) {
-        Some(Ready::Then(before)) => {
+    let text = match role(graph, task) {
+        Some(Role::Then(before)) => {
             let Some(token) = loud_token(graph, assumed, task) else {
                 return Ok(None);
             };
@@ -41,12 +41,12 @@ fn early_text(
                 "{label} may be canceled while {before} still runs: it has the token {token} and is not lazy\n"
             )?
         }
-        Some(Ready::Any(_)) => {
+        Some(Role::Any(_)) => {
             format!(in alloc;
                 "{label} ends as soon as one task of its list has, while the others may still run\n"
             )?
         }
-        Some(Ready::Root) => format!(in alloc; "{label} is a root: it waits for nothing\n")?,
+        Some(Role::Root) => format!(in alloc; "{label} is a root: it waits for nothing\n")?,
         _ => return Ok(None),
     };
     Ok(Some(text))
@@ -62,8 +62,8 @@ fn order_text(
 ) -> Said {
     let mut task = second;
     for _ in 0..graph.len() {
-        match ready(graph, task) {
-            Some(Ready::Then(before)) if before != first => task = before,
+        match role(graph, task) {
+            Some(Role::Then(before)) if before != first => task = before,
             _ => return Ok(String::new(alloc)),
         }
         if let Some(text) = early_text(alloc, graph, assumed, task)? {

@@ -2,15 +2,14 @@
 
 use crate::words::{Said, name};
 use std::alloc::Global;
-use tpl_checker::{Ready, ready_of};
-use tpl_graph::Graph;
+use tpl_graph::{Graph, Role};
 use tpl_model::Rule;
 use tpl_words::TaskId;
 
 /// What makes the task ready, if it is the graph's.
-pub(crate) fn ready(graph: &Graph, task: TaskId) -> Option<Ready<'_>> {
+pub(crate) fn role(graph: &Graph, task: TaskId) -> Option<Role<'_>> {
     if (task.0 as usize) < graph.len() {
-        Some(ready_of(graph, task))
+        Some(graph.role(task))
     } else {
         None
     }
@@ -58,32 +57,32 @@ const CHAIN: &str =
     "K6: its `chain` has to lead over tasks that take its exception over (a parent that of its attached child, a WhenAll task that of a task of its list) to a continuation that reads it: its options allow Faulted, its token is never requested, and its body observes on each path";
 
 /// What the rule asks of a task.
-fn sentence(rule: Rule, ready: Option<Ready<'_>>) -> &'static str {
-    match (rule, ready) {
+fn sentence(rule: Rule, role: Option<Role<'_>>) -> &'static str {
+    match (rule, role) {
         (Rule::K6, _) => CHAIN,
-        (Rule::K2, Some(Ready::All(_))) => ENDS_OF_ALL,
-        (Rule::K2, Some(Ready::Any(_))) => {
+        (Rule::K2, Some(Role::All(_))) => ENDS_OF_ALL,
+        (Rule::K2, Some(Role::Any(_))) => {
             "K2: the `ends` of WhenAny has to name RanToCompletion where a task of its list may end"
         }
         (Rule::K2, _) => ENDS,
-        (_, Some(Ready::All(_))) => {
+        (_, Some(Role::All(_))) => {
             "K5: `past` of WhenAll may have the tasks of its list and what is in their `past`"
         }
-        (_, Some(Ready::Any(_))) => {
+        (_, Some(Role::Any(_))) => {
             "K5: `past` of WhenAny may have only what is past each task of its list, since any of them may be the first to end"
         }
-        (_, Some(Ready::Root)) => root_rule(rule),
-        (_, Some(Ready::Then(_))) => then_rule(rule),
+        (_, Some(Role::Root)) => root_rule(rule),
+        (_, Some(Role::Then(_))) => then_rule(rule),
         _ => child_rule(rule),
     }
 }
 
 /// What the rule asks of a task, with its name.
 pub(crate) fn rule_text(alloc: Global, graph: &Graph, rule: Rule, task: TaskId) -> Said {
-    let ready = ready(graph, task);
-    let (task, rule) = (name(graph, task), sentence(rule, ready));
-    match ready {
-        Some(Ready::Then(antecedent)) => {
+    let role = role(graph, task);
+    let (task, rule) = (name(graph, task), sentence(rule, role));
+    match role {
+        Some(Role::Then(antecedent)) => {
             let antecedent = name(graph, antecedent);
             format!(in alloc; "{task}, which continues {antecedent}, breaks rule {rule}")
         }

@@ -5,7 +5,7 @@ use Rattle.tpl_model.specs.Graph.{some_in}
 use Rattle.tpl_model.specs.Certificate.{row}
 use Rattle.tpl_graph.specs.Ids.{task_number}
 use Rattle.tpl_laws.specs.RowTests.{all_in, some_end}
-use Rattle.tpl_checker.specs.Tasks.{AreTasks}
+use Rattle.tpl_graph.specs.Roles.{AreTasks}
 use Rattle.tpl_checker.proofs.ends.all_end.Given as goal
 
 abbrev pub invariant-loop-arg : goal.invariant-loop-arg

@@ -6,9 +6,9 @@ use Rattle.tpl_words.specs.Members.{mem}
 use Rattle.tpl_script.specs.Recursion.{reaches}
 use Rattle.tpl_model.specs.Graph.{attached, body, some_in}
 use Rattle.tpl_model.specs.Certificate.{row, view}
-use Rattle.tpl_checker.specs.Tasks.{AreTasks}
+use Rattle.tpl_graph.specs.Roles.{AreTasks}
 use Rattle.tpl_checker.proofs.Basics.{some_in_same}
-use Rattle.tpl_checker.proofs.ReadyLemmas.{attached_within}
+use Rattle.tpl_checker.proofs.ChildLemmas.{attached_within}
 use Rattle.tpl_checker.proofs.BodyLemmas.{started_of}
 use Rattle.tpl_checker.proofs.ends.child_may_fault.Goals as goal
 

@@ -1,5 +1,5 @@
--- The tasks that one waits for, and the children that a body starts.
-use Rattle.std.proofs.Common.{◌≡◌, ℕ, ◌<◌, ◌≤◌, inl, inr, Bool, true, false, if◌then◌else◌, None, List, [], ◌∷◌, filter, length, map, sym, ap, subst, arith}
+-- The children that a body starts.
+use Rattle.std.proofs.Common.{◌≡◌, ℕ, ◌<◌, ◌≤◌, inl, inr, Bool, true, false, if◌then◌else◌, None, List, [], ◌∷◌, filter, length, map, sym, ap, subst}
 use Rattle.std.proofs.lemmas.Bool.{cases_lt}
 use Rattle.std.proofs.lemmas.List.{get_or_past}
 use Rattle.tpl_words.proofs.MemberLemmas.{mem_split, mem_here, mem_there, mem_append}
@@ -8,27 +8,10 @@ use Rattle.tpl_laws.proofs.Settling.{child_task, attached_child}
 use Rattle.tpl_words.specs.declared.ids.TaskId.{TaskId}
 use Rattle.tpl_words.specs.Members.{mem}
 use Rattle.tpl_script.specs.Statements.{Statement, Statements, Return, Throw, Check, Cancel, Start, Observe, Work, If, When, Nothing, ◌⨾◌, starts, starts_of}
-use Rattle.tpl_model.specs.Graph.{TaskGraph, TaskKind, Root, Child, Continues, WhenAll, WhenAny, body, options, attached, is_task, IsParent}
-use Rattle.tpl_model.specs.Valid.{IsGraph, IdsOf, IdsWithin, ArePlaced, IsPlaced}
+use Rattle.tpl_model.specs.Graph.{TaskGraph, Root, body, options, attached, is_task, IsParent}
+use Rattle.tpl_model.specs.Valid.{IsGraph, IdsOf, IdsWithin}
 use Rattle.tpl_graph.specs.Ids.{task_number}
-use Rattle.tpl_graph.specs.Named.{args_of}
-use Rattle.tpl_checker.specs.Tasks.{AreTasks}
-
-placed_within : (g : TaskGraph) (t n : ℕ) (ts : List TaskId) → t < n → ArePlaced g t (map task_number ts) → AreTasks n ts
-placed_within g t n [] lt p = tt
-placed_within g t n (x ∷ xs) lt p = (omega (arith, p.0), placed_within g t n xs lt p.2)
-
-none_within : (n : ℕ) (ts : List TaskId) → map task_number ts ≡ [] → AreTasks n ts
-none_within n [] e = tt
-none_within n (x ∷ xs) e = absurd (cc)
-
--- the arguments of a task are tasks
-pub args_within : (g : TaskGraph) (t : ℕ) (k : TaskKind) (ts : List TaskId) → is_task g t → IsPlaced g t k → map task_number ts ≡ args_of k → AreTasks (length g.tasks) ts
-args_within g t Root ts lt p e = none_within (length g.tasks) ts e
-args_within g t Child ts lt p e = none_within (length g.tasks) ts e
-args_within g t (Continues a) ts lt p e = none_within (length g.tasks) ts e
-args_within g t (WhenAll args) ts lt p e = placed_within g t (length g.tasks) ts lt (subst (λ (xs : List ℕ). ArePlaced g t xs) (sym e) p.0)
-args_within g t (WhenAny args) ts lt p e = placed_within g t (length g.tasks) ts lt (subst (λ (xs : List ℕ). ArePlaced g t xs) (sym e) p.0)
+use Rattle.tpl_graph.specs.Roles.{AreTasks}
 
 -- past the last task there is no body
 pub no_body : (g : TaskGraph) (t : ℕ) → length g.tasks ≤ t → body g t ≡ Nothing
