@@ -7,6 +7,7 @@ mod budget;
 mod certificate;
 mod choice;
 mod cone;
+mod depth;
 mod form;
 mod gap;
 mod leaf;
@@ -19,6 +20,7 @@ mod watch;
 mod way;
 
 pub use certificate::{analyse, analyse_in, analyse_watched};
+pub use depth::Depth;
 pub use form::Form;
 pub use gap::Gap;
 pub use missed::{Missed, RanOut};

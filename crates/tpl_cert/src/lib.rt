@@ -17,7 +17,7 @@ pub use certificate::Certificate;
 pub use fault::{TreeFault, TreeToFault};
 pub use from::tree_from;
 pub use laws::{certificates_nest_little, one_reading};
-pub use limits::is_within_limits;
+pub use limits::{MOST_SPLITS, is_within_limits};
 pub use row::Row;
 pub use to::tree_to;
 pub use tree::{Node, Tree};

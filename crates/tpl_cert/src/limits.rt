@@ -8,12 +8,12 @@ use crate::row::Row;
 use crate::tree::{Node, Tree};
 
 /// The most splits on a path of a certificate tree (this program's own limit).
-pub const MOST_SPLITS: u32 = 6;
+pub const MOST_SPLITS: u8 = 6;
 
 /// The most tasks in a chain (this program's own limit).
 pub const MOST_IN_CHAIN: usize = 16;
 
-fn is_no_higher(tree: &Tree, splits: u32) -> bool
+fn is_no_higher(tree: &Tree, splits: u8) -> bool
     ensures { IsTrue result ↔ (height tree.now ≤ splits) }
 {
     match tree.node() {

@@ -1,5 +1,5 @@
 -- The line that words mean: one at most, and within its limits.
-use Rattle.std.proofs.Common.{◌≡◌, ◌∙◌, ◌==◌, ◌≤◌, ℕ, Bool, true, false, if◌then◌else◌, List, Option, Some, None, codes, sym, ap, subst, refl, inl, inr, slice_index, arith}
+use Rattle.std.proofs.Common.{◌≡◌, ◌∙◌, ◌==◌, ℕ, Bool, true, false, if◌then◌else◌, List, Option, Some, None, codes, sym, ap, subst, refl, inl, inr, slice_index, arith}
 use Rattle.std.specs.Prelude.{option_map, Box, MatchOption}
 use Rattle.std.specs.Box.{box_value}
 use Rattle.clap.specs.Words.{Row, Text, first_of, rows_of, subcommand_name_of, subcommand_rows_of}
@@ -99,14 +99,14 @@ meant o s rows (Some l) e m = (s, rows, e, m)
 
 -- ---- within the limits
 
-searches_within : (depth : ℕ) (form : Form) → depth ≤ 6 → IsWithin (search depth form)
-searches_within depth Full le = le
-searches_within depth Slim le = le
+searches_within : (depth : ℕ) (form : Form) → IsWithin (search depth form)
+searches_within depth Full = tt
+searches_within depth Slim = tt
 
 means_within : (s : Subcommand) (rows : List Row) (l : Line) → Means s rows l → IsWithin l
 means_within Check rows l m = subst IsWithin (sym m) tt
-means_within Analyse rows l (d, is_d, (f, is_f, inl m)) = subst IsWithin (sym m.1) is_d.limit
-means_within Analyse rows l (d, is_d, (f, is_f, inr m)) = subst IsWithin (sym m.1) (searches_within d f is_d.limit)
+means_within Analyse rows l (d, is_d, (f, is_f, inl m)) = subst IsWithin (sym m.1) tt
+means_within Analyse rows l (d, is_d, (f, is_f, inr m)) = subst IsWithin (sym m.1) (searches_within d f)
 means_within Run rows l m = subst IsWithin (sym m.2) (m.1.least_of, m.1.limit)
 means_within Audit rows l m = subst IsWithin (sym m) tt
 means_within Refute rows l (c, is_c, (r, is_r, (s, is_s, (x, is_x, m)))) = subst IsWithin (sym m) tt

@@ -67,8 +67,5 @@ Names words = IsLineOf (subcommand_of taskgraph words)
 
 -- what a line asks for is within the limits of the command
 abbrev pub IsWithin : lines.Line → Type 0
-IsWithin (line.Analyse depth) = depth ≤ 6
-IsWithin (line.AnalyseIn depth form) = depth ≤ 6
-IsWithin (line.Certify depth form) = depth ≤ 6
 IsWithin (line.Run workers) = (1 ≤ workers) × (workers ≤ 64)
 IsWithin l = Unit {0}

@@ -13,19 +13,19 @@ use clap::error::ErrorKind;
 use std::alloc::{AllocError, Global};
 use thiserror::Error;
 use tpl_draw::Language;
-use tpl_report::Form;
+use tpl_report::{Depth, Form};
 
 /// What the program is to do.
 #[derive(Clone, Copy, Debug, Drop, PartialEq, Eq)]
 pub enum Line {
     /// Check the certificate of a document.
     Check,
-    /// Search for a certificate of a document's claims with at most this many splits on each path, 0 to 6.
-    Analyse(u8),
+    /// Search for a certificate of a document's claims with at most this many splits on each path.
+    Analyse(Depth),
     /// Search for a certificate of this form.
-    AnalyseIn(u8, Form),
+    AnalyseIn(Depth, Form),
     /// Search for a certificate of this form, and write the document with it.
-    Certify(u8, Form),
+    Certify(Depth, Form),
     /// Make a run of a document by this many workers, 1 to 64.
     Run(u16),
     /// Audit the journal of a document.
@@ -90,7 +90,9 @@ fn analyse_line(given: &ArgMatches<'_>) -> Option<Line>
     let Some(depth) = number_in(given, "depth", 0, 6) else {
         return None;
     };
-    let depth = depth as u8;
+    let Some(depth) = Depth::new(depth as u8) else {
+        return None;
+    };
     let slim = is_set(given, "slim");
     if is_set(given, "whole") {
         Some(Line::Certify(depth, if slim { Form::Slim } else { Form::Full }))

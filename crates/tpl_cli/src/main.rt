@@ -11,7 +11,6 @@ mod why;
 
 ghost use Rattle.std.specs.Prelude.{IfOk};
 ghost use Rattle.tpl_cli.specs.Line.{IsWithin};
-ghost use Rattle.tpl_commands.specs.Serving.{IsWithinDepth};
 
 use crate::boxes::run_boxes;
 use crate::line::{Line, LineFault, line_of};
@@ -99,9 +98,7 @@ fn search<I: Read, O: Write>(
     ask: Ask,
     from: &mut Counting<I>,
     to: &mut Counting<O>,
-) -> Exit
-    requires { IsWithinDepth ask }
-{
+) -> Exit {
     let progress = SearchProgress::new(rt);
     let exit = serve_watched(rt.alloc(), ask, progress, from, to);
     progress.end();

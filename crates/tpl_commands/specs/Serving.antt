@@ -1,5 +1,5 @@
 -- What is asked of a document, and what is answered.
-use Rattle.std.specs.Prelude.{ℕ, ◌≤◌, List, Option, codes}
+use Rattle.std.specs.Prelude.{ℕ, List, Option, codes}
 use Rattle.tpl_journal.specs.declared.counting.Counting.{Counting}
 use Rattle.tpl_model.specs.Certificate.{Accepts}
 use Rattle.tpl_reader.specs.Document.{DocumentValue, Spells}
@@ -23,15 +23,6 @@ answers_of (AnalyseIn depth form) = Finds depth form
 answers_of (Certify depth form) = Certifies depth form
 answers_of Audit = Audits
 answers_of (Draw language) = Draws language
-
--- a search has at most 6 splits on a path
-abbrev pub IsWithinDepth : Ask → Type 0
-IsWithinDepth Check = Unit {0}
-IsWithinDepth (Analyse depth) = depth ≤ 6
-IsWithinDepth (AnalyseIn depth form) = depth ≤ 6
-IsWithinDepth (Certify depth form) = depth ≤ 6
-IsWithinDepth Audit = Unit {0}
-IsWithinDepth (Draw language) = Unit {0}
 
 -- What was read spells a document whose certificate is accepted, and each of its claims holds in
 -- each run of its graph; `accepted` was written.

@@ -20,7 +20,7 @@ use crate::text::not_found;
 use crate::unreadable::unreadable_answer;
 use serde_json::Value;
 use std::alloc::{AllocError, Global};
-use tpl_analyser::{Form, Missed, Watch, analyse_watched};
+use tpl_analyser::{Depth, Form, Missed, Watch, analyse_watched};
 use tpl_cert::{Certificate, Tree};
 use tpl_graph::Graph;
 use tpl_reader::{Document, LONGEST, certificate_is_read_back, one_document, read_document};
@@ -30,12 +30,11 @@ use tpl_reader::{Document, LONGEST, certificate_is_read_back, one_document, read
 #[derive(Drop)]
 pub struct Certify<T> {
     /// The most splits on each path.
-    pub depth: u8,
+    pub depth: Depth,
     /// What the rows are to say.
     pub form: Form,
     /// Who is told how far the search is.
     pub watch: T,
-    ghost within: { depth ≤ 6 },
 }
 
 impl<T: Watch + Copy> Command for Certify<T> {
@@ -56,13 +55,12 @@ fn certified<T: Watch>(
     alloc: Global,
     bytes: &[u8],
     document: &Document,
-    depth: u8,
+    depth: Depth,
     form: Form,
     watch: T,
 ) -> Result<Answer, AllocError>
     requires spelled { Spells bytes.now (doc_of document.now) }
     requires claims { All (Fits document.now.graph.graph) document.now.claims.items }
-    requires depth { depth ≤ 6 }
     ensures { IfOk result (λ given.
         IsCertifying depth form (doc_of document.now) given.exit (string_bytes given.text)) }
 {
@@ -70,7 +68,15 @@ fn certified<T: Watch>(
     tpl_laws::soundness();
     one_document();
     certificate_is_read_back();
-    match analyse_watched(alloc, &document.graph, &document.claims, depth, form, watch) {
+    let splits = depth.splits();
+    match analyse_watched(
+        alloc,
+        &document.graph,
+        &document.claims,
+        splits,
+        form,
+        watch,
+    ) {
         Ok(certificate) => {
             certificate.within_limits();
             let text = whole_text(alloc, bytes, &document.graph, certificate.trees())?;

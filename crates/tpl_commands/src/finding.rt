@@ -19,7 +19,7 @@ use crate::text::not_found;
 use crate::unreadable::unreadable_answer;
 use serde_json::Value;
 use std::alloc::{AllocError, Global};
-use tpl_analyser::{Form, Missed, Watch, analyse_watched};
+use tpl_analyser::{Depth, Form, Missed, Watch, analyse_watched};
 use tpl_cert::{Tree, TreeToFault, certificates_nest_little, tree_to};
 use tpl_graph::Graph;
 use tpl_reader::{Document, certificate_is_read_back, one_document, read_document};
@@ -29,12 +29,11 @@ use tpl_reader::{Document, certificate_is_read_back, one_document, read_document
 #[derive(Drop)]
 pub struct Analyse<T> {
     /// The most splits on each path.
-    pub depth: u8,
+    pub depth: Depth,
     /// What the rows are to say.
     pub form: Form,
     /// Who is told how far the search is.
     pub watch: T,
-    ghost within: { depth ≤ 6 },
 }
 
 impl<T: Watch + Copy> Command for Analyse<T> {
@@ -52,12 +51,11 @@ impl<T: Watch + Copy> Command for Analyse<T> {
 fn finding_for<T: Watch>(
     alloc: Global,
     document: &Document,
-    depth: u8,
+    depth: Depth,
     form: Form,
     watch: T,
 ) -> Result<Answer, AllocError>
     requires claims { All (Fits document.now.graph.graph) document.now.claims.items }
-    requires depth { depth ≤ 6 }
     ensures { IfOk result (λ given.
         IsFinding depth form (doc_of document.now) given.exit (string_bytes given.text)) }
 {
@@ -65,7 +63,15 @@ fn finding_for<T: Watch>(
     tpl_laws::soundness();
     one_document();
     certificate_is_read_back();
-    match analyse_watched(alloc, &document.graph, &document.claims, depth, form, watch) {
+    let splits = depth.splits();
+    match analyse_watched(
+        alloc,
+        &document.graph,
+        &document.claims,
+        splits,
+        form,
+        watch,
+    ) {
         Ok(certificate) => {
             certificate.within_limits();
             let text = certificate_text(alloc, &document.graph, certificate.trees())?;

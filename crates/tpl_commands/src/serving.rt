@@ -3,7 +3,7 @@
 ghost use Rattle.std.specs.Prelude.{◌≡◌, ◌⊎◌, ◌+◌, ◌≤◌, ℕ};
 ghost use Rattle.tpl_journal.specs.Counting.{calls_of};
 ghost use Rattle.tpl_commands.specs.Responding.{longest, Responds};
-ghost use Rattle.tpl_commands.specs.Serving.{answers_of, IsWithinDepth, Accepted, Found, Certified, Audited};
+ghost use Rattle.tpl_commands.specs.Serving.{answers_of, Accepted, Found, Certified, Audited};
 
 use crate::auditing::Audit;
 use crate::certifying::Certify;
@@ -14,7 +14,7 @@ use crate::finding::Analyse;
 use crate::responding::respond;
 use std::alloc::Global;
 use std::io::{Read, Write};
-use tpl_analyser::{Form, Unwatched, Watch};
+use tpl_analyser::{Depth, Form, Unwatched, Watch};
 use tpl_draw::Language;
 use tpl_journal::Counting;
 
@@ -23,12 +23,12 @@ use tpl_journal::Counting;
 pub enum Ask {
     /// Is its certificate accepted?
     Check,
-    /// Which certificate do its claims have, with at most this many splits on each path (0 to 6)?
-    Analyse(u8),
-    /// Which certificate of this form do its claims have, with at most this many splits on each path (0 to 6)?
-    AnalyseIn(u8, Form),
+    /// Which certificate do its claims have, with at most this many splits on each path?
+    Analyse(Depth),
+    /// Which certificate of this form do its claims have, with at most this many splits on each path?
+    AnalyseIn(Depth, Form),
     /// What is the document with such a certificate in place of its own?
-    Certify(u8, Form),
+    Certify(Depth, Form),
     /// Is its journal a run, is that complete, and where does a claim fail?
     Audit,
     /// What is the picture of its graph, in this language?
@@ -44,7 +44,6 @@ pub fn serve<R: Read, W: Write>(
     from: &mut Counting<R>,
     to: &mut Counting<W>,
 ) -> Exit
-    requires { IsWithinDepth ask }
     ensures responds { Responds (answers_of ask) R.remaining from.old from.new
         W.contents to.old to.new result }
     ensures reads { calls_of from.new ≤ calls_of from.old + (longest + 2) }
@@ -77,7 +76,6 @@ pub fn serve_watched<R: Read, W: Write, T: Watch + Copy>(
     from: &mut Counting<R>,
     to: &mut Counting<W>,
 ) -> Exit
-    requires { IsWithinDepth ask }
     ensures responds { Responds (answers_of ask) R.remaining from.old from.new
         W.contents to.old to.new result }
     ensures reads { calls_of from.new ≤ calls_of from.old + (longest + 2) }

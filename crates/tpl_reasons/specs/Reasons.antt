@@ -1,5 +1,5 @@
 -- The reasons of the program's answers.
-use Rattle.std.specs.Prelude.{◌≡◌, ◌⊎◌, ◌≤◌, ℕ, Bool, true, false, List, [], Option, Some, None, Err}
+use Rattle.std.specs.Prelude.{◌≡◌, ◌⊎◌, ℕ, Bool, true, false, List, [], Option, Some, None, Err}
 use Rattle.tpl_model.specs.Certificate.{Tree, Accepts}
 use Rattle.tpl_model.specs.declared.event.Event.{Event}
 use Rattle.tpl_model.specs.declared.fault.CertFault.{CertFault}
@@ -21,11 +21,6 @@ use Rattle.tpl_reasons.specs.declared.asked.Asked.{Asked}
 use Rattle.tpl_reasons.specs.declared.asked.Asked.TheVariants.{Check, Run, Analyse, Audit, Trace, Claims, Other}
 use Rattle.tpl_reasons.specs.declared.reason.Reason.{Reason}
 use Rattle.tpl_reasons.specs.declared.reason.Reason.TheVariants.{Unreadable, Unchecked, NotFound, NoStart, NoJournal, NotAllowed, Fails, NotComplete, NothingAsked}
-
--- a search has at most 6 splits on a path
-abbrev pub IsWithinDepth : Asked → Type 0
-IsWithinDepth (Analyse depth) = depth ≤ 6
-IsWithinDepth asked = Unit {0}
 
 -- the certificate is accepted
 abbrev pub IsAccepted : DocumentValue → Type 0

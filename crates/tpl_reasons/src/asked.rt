@@ -1,5 +1,7 @@
 //! What was asked of the program.
 
+use tpl_analyser::Depth;
+
 /// What was asked of the program.
 #[derive(Clone, Copy)]
 pub enum Asked {
@@ -8,7 +10,7 @@ pub enum Asked {
     /// A run of the document.
     Run,
     /// A certificate with at most this many splits on each path.
-    Analyse(u8),
+    Analyse(Depth),
     /// Whether the document's journal is a run, whether it is complete, and which claim fails.
     Audit,
     /// The trace of the document's journal, where that is a run.

@@ -5,7 +5,7 @@ ghost use Rattle.std.specs.List.{All};
 ghost use Rattle.tpl_claims.specs.Fits.{Fits};
 ghost use Rattle.tpl_reader.specs.Document.{IsFault, Spells};
 ghost use Rattle.tpl_reader.specs.SeenDocument.{doc_of};
-ghost use Rattle.tpl_reasons.specs.Reasons.{HasNoReason, IsReason, IsReasonOf, IsSilent, IsWithinDepth};
+ghost use Rattle.tpl_reasons.specs.Reasons.{HasNoReason, IsReason, IsReasonOf, IsSilent};
 
 use crate::asked::Asked;
 use crate::auditing::{
@@ -40,7 +40,6 @@ pub struct Reasoned {
 /// The reason of the answer to a document, if there is something to say.
 fn reason_of(alloc: Global, asked: Asked, document: &Document) -> Result<Option<Reason>, AllocError>
     requires claims { All (Fits document.now.graph.graph) document.now.claims.items }
-    requires depth { IsWithinDepth asked }
     ensures some { IfOk result (λ o. IfSome o (IsReasonOf (doc_of document.now) asked)) }
     ensures none { IfOk result (λ o. IfNone o (IsSilent (doc_of document.now) asked)) }
 {
@@ -58,7 +57,6 @@ fn reason_of(alloc: Global, asked: Asked, document: &Document) -> Result<Option<
 /// The reason in words.
 fn text_of(alloc: Global, asked: Asked, document: &Document, reason: Reason) -> Said
     requires claims { All (Fits document.now.graph.graph) document.now.claims.items }
-    requires depth { IsWithinDepth asked }
 {
     match reason {
         Reason::Unreadable(_) => String::from_str(alloc, UNREAD),
@@ -86,7 +84,6 @@ fn explain_in(
 ) -> Result<Option<Reasoned>, AllocError>
     requires spelled { Spells bytes.now (doc_of document.now) }
     requires claims { All (Fits document.now.graph.graph) document.now.claims.items }
-    requires depth { IsWithinDepth asked }
     ensures some { IfOk result (λ o. IfSome o (λ r. IsReason bytes.now asked r.reason)) }
     ensures none { IfOk result (λ o. IfNone o (HasNoReason bytes.now asked)) }
 {
@@ -130,7 +127,6 @@ fn unreadable(
 /// Why the program's answer to a document of these bytes is what it is, in words; none where there is nothing to say:
 /// the answer says all, or it is that of another command. Out of memory is the only error.
 pub fn explain(alloc: Global, asked: Asked, bytes: &[u8]) -> Result<Option<Reasoned>, AllocError>
-    requires depth { IsWithinDepth asked }
     ensures some { IfOk result (λ o. IfSome o (λ r. IsReason bytes.now asked r.reason)) }
     ensures none { IfOk result (λ o. IfNone o (HasNoReason bytes.now asked)) }
 {

@@ -1,6 +1,6 @@
 //! Why no certificate was found.
 
-ghost use Rattle.std.specs.Prelude.{◌<◌, ◌≤◌, length, IfOk, IfSome, IfNone};
+ghost use Rattle.std.specs.Prelude.{◌<◌, length, IfOk, IfSome, IfNone};
 ghost use Rattle.std.specs.List.{All};
 ghost use Rattle.tpl_claims.specs.Fits.{Fits};
 ghost use Rattle.tpl_reader.specs.SeenDocument.{doc_of};
@@ -11,22 +11,19 @@ use crate::obstacle::obstacle_text;
 use crate::reason::Reason;
 use crate::words::{Said, claim_text, count_text};
 use std::alloc::{AllocError, Global};
-use tpl_analyser::{Form, Gap, Missed, RanOut, Unwatched, analyse, analyse_watched};
+use tpl_analyser::{Depth, Form, Gap, Missed, RanOut, Unwatched, analyse, analyse_watched};
+use tpl_cert::MOST_SPLITS;
 use tpl_claims::Claim;
 use tpl_graph::Graph;
 use tpl_reader::Document;
-
-/// The most splits on each path that a search may be asked for.
-const MOST_SPLITS: u8 = 6;
 
 /// Why no certificate was found.
 pub(crate) fn search_reason(
     alloc: Global,
     document: &Document,
-    depth: u8,
+    depth: Depth,
 ) -> Result<Option<Reason>, AllocError>
     requires claims { All (Fits document.now.graph.graph) document.now.claims.items }
-    requires depth { depth ≤ 6 }
     ensures some { IfOk result (λ o. IfSome o (IsSearchReason depth (doc_of document.now))) }
     ensures none { IfOk result (λ o. IfNone o
         (IsSilent (doc_of document.now) (Asked.Analyse depth))) }
@@ -34,7 +31,7 @@ pub(crate) fn search_reason(
     if document.claims.is_empty() {
         return Ok(Some(Reason::NothingAsked));
     }
-    match analyse(alloc, &document.graph, &document.claims, depth) {
+    match analyse(alloc, &document.graph, &document.claims, depth.splits()) {
         Ok(_) => Ok(None),
         Err(Gap::NotFound { claim }) => Ok(Some(Reason::NotFound(claim))),
         Err(Gap::Memory) => Err(AllocError),
@@ -47,17 +44,16 @@ fn ran_out(
     graph: &Graph,
     claims: &[Claim],
     at: usize,
-    depth: u8,
+    depth: Depth,
 ) -> Result<Option<RanOut>, AllocError>
     requires at { at < length claims.now }
     requires claims { All (Fits graph.now.graph) claims.now }
-    requires depth { depth ≤ 6 }
 {
     match analyse_watched(
         alloc,
         graph,
         &claims[at..at + 1],
-        depth,
+        depth.splits(),
         Form::Slim,
         Unwatched,
     ) {
@@ -68,9 +64,8 @@ fn ran_out(
 }
 
 /// A line for each claim: whether it is found at this depth.
-fn each_text(alloc: Global, document: &Document, depth: u8) -> Said
+fn each_text(alloc: Global, document: &Document, depth: Depth) -> Said
     requires claims { All (Fits document.now.graph.graph) document.now.claims.items }
-    requires depth { depth ≤ 6 }
 {
     let mut lines = String::new(alloc);
     for at in 0..document.claims.len() {
@@ -84,11 +79,11 @@ fn each_text(alloc: Global, document: &Document, depth: u8) -> Said
 }
 
 /// What was tried for a claim, and what ran out.
-fn tried_text(alloc: Global, depth: u8, ran_out: Option<RanOut>) -> Said {
-    if depth == 0 {
+fn tried_text(alloc: Global, depth: Depth, ran_out: Option<RanOut>) -> Said {
+    if depth.splits() == 0 {
         return String::from_str(alloc, "the one tree without a split doesn't prove it");
     }
-    let splits = count_text(alloc, depth as usize, "split")?;
+    let splits = count_text(alloc, usize::from(depth.splits()), "split")?;
     match ran_out {
         Some(RanOut::Trees) => {
             String::from_str(alloc, "no tree proves it, however many splits it has")
@@ -101,9 +96,9 @@ fn tried_text(alloc: Global, depth: u8, ran_out: Option<RanOut>) -> Said {
 }
 
 /// What may be tried next for a claim.
-fn next_text(ran_out: Option<RanOut>, depth: u8) -> &'static str {
+fn next_text(ran_out: Option<RanOut>, depth: Depth) -> &'static str {
     match ran_out {
-        Some(RanOut::Depth) if depth < MOST_SPLITS => {
+        Some(RanOut::Depth) if depth.splits() < MOST_SPLITS => {
             "a claim that isn't found may be true: try a greater `--depth`, at most 6, or `refute`, which looks for a run in which a claim fails\n"
         }
         _ => {
@@ -116,11 +111,10 @@ fn next_text(ran_out: Option<RanOut>, depth: u8) -> &'static str {
 fn ran_out_for(
     alloc: Global,
     document: &Document,
-    depth: u8,
+    depth: Depth,
     number: usize,
 ) -> Result<Option<RanOut>, AllocError>
     requires claims { All (Fits document.now.graph.graph) document.now.claims.items }
-    requires depth { depth ≤ 6 }
 {
     let at = number.saturating_sub(1);
     if at >= document.claims.len() {
@@ -130,9 +124,13 @@ fn ran_out_for(
 }
 
 /// Why no certificate was found.
-pub(crate) fn not_found_text(alloc: Global, document: &Document, depth: u8, number: usize) -> Said
+pub(crate) fn not_found_text(
+    alloc: Global,
+    document: &Document,
+    depth: Depth,
+    number: usize,
+) -> Said
     requires claims { All (Fits document.now.graph.graph) document.now.claims.items }
-    requires depth { depth ≤ 6 }
 {
     let graph = &document.graph;
     let claim = claim_text(alloc, graph, &document.claims, number)?;

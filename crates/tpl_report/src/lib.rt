@@ -9,7 +9,7 @@ mod session;
 pub use fault::RunFault;
 pub use following::{Crew, Follow};
 pub use running::{serve_run, serve_run_followed};
-pub use tpl_analyser::Form;
+pub use tpl_analyser::{Depth, Form};
 pub use tpl_commands::{
     Answer, Ask, Exit, inputs_of, load, put_answer, put_out_of_memory, read_input, serve,
     serve_watched,

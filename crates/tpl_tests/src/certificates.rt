@@ -1,21 +1,17 @@
 //! What is answered to a certificate tree, and to the search for a certificate.
 
-ghost use Rattle.std.specs.Prelude.{◌≤◌};
 ghost use Rattle.std.specs.List.{All};
 ghost use Rattle.tpl_claims.specs.Fits.{Fits};
 
 use crate::documents::fault_text;
 use json::Scratch;
 use std::alloc::{AllocError, Global};
-use tpl_analyser::{Gap, analyse};
+use tpl_analyser::{Depth, Gap, analyse};
 use tpl_cert::{Certificate, Node, Row, Tree, TreeToFault, is_within_limits, tree_from, tree_to};
 use tpl_graph::Graph;
 use tpl_json::value_from;
 use tpl_reader::{Document, read_document};
 use tpl_words::{Finals, TaskId, TaskSet};
-
-/// The most splits on a path that may be asked for.
-const MOST_SPLITS: u8 = 6;
 
 /// The text that is written of a tree.
 fn written(alloc: Global, graph: &Graph, tree: &Tree) -> Result<String, AllocError> {
@@ -101,11 +97,10 @@ fn certificate_text(
 }
 
 /// The certificate for the document, or for which claim none was found.
-fn found(alloc: Global, document: &Document, depth: u8) -> Result<String, AllocError>
+fn found(alloc: Global, document: &Document, depth: Depth) -> Result<String, AllocError>
     requires claims { All (Fits document.now.graph.graph) document.now.claims.items }
-    requires depth { depth ≤ 6 }
 {
-    match analyse(alloc, &document.graph, &document.claims, depth) {
+    match analyse(alloc, &document.graph, &document.claims, depth.splits()) {
         Ok(certificate) => certificate_text(alloc, &document.graph, &certificate),
         Err(Gap::Memory) => Err(AllocError),
         Err(gap) => format!(in alloc; "{gap}"),
@@ -117,8 +112,11 @@ fn found(alloc: Global, document: &Document, depth: u8) -> Result<String, AllocE
 pub fn search_answer(alloc: Global, question: &str) -> Result<String, AllocError> {
     let (word, document) = question.split_once(' ').unwrap_or((question, ""));
     let depth = match word.parse::<u8>() {
-        Ok(depth) if depth <= MOST_SPLITS => depth,
-        _ => return format!(in alloc; "no number of splits"),
+        Ok(splits) => Depth::new(splits),
+        Err(_) => None,
+    };
+    let Some(depth) = depth else {
+        return format!(in alloc; "no number of splits");
     };
     match read_document(alloc, document.as_bytes()) {
         Ok(read) => found(alloc, &read, depth),

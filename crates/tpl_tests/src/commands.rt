@@ -15,7 +15,7 @@ use std::thread::Threads;
 use tpl_jobs::{Work, WorkItem};
 use tpl_journal::Counting;
 use tpl_reader::Document;
-use tpl_report::{Ask, Exit, load, put_out_of_memory, serve, serve_run};
+use tpl_report::{Ask, Depth, Exit, load, put_out_of_memory, serve, serve_run};
 use tpl_words::{Answer, SiteId};
 
 /// The most splits on each path of a certificate that is searched.
@@ -102,6 +102,11 @@ fn run_boxes<T: Threads + Wait + Sync, O: Write>(
     serve_run(rt, alloc, document, items, WORKERS, to)
 }
 
+/// How many splits a search may make on each path.
+fn depth() -> Depth {
+    Depth::new(DEPTH).unwrap()
+}
+
 /// What the command leaves behind.
 fn outcome_of<T: Threads + Wait + Sync, R: Read + Drop>(
     rt: &T,
@@ -114,7 +119,7 @@ fn outcome_of<T: Threads + Wait + Sync, R: Read + Drop>(
     let mut to = Counting::new(writer);
     let exit = match command {
         Command::Check => serve(alloc, Ask::Check, &mut from, &mut to),
-        Command::Analyse => serve(alloc, Ask::Analyse(DEPTH), &mut from, &mut to),
+        Command::Analyse => serve(alloc, Ask::Analyse(depth()), &mut from, &mut to),
         Command::Audit => serve(alloc, Ask::Audit, &mut from, &mut to),
         Command::Run => match load(alloc, &mut from, &mut to) {
             Ok(document) => run_boxes(rt, alloc, &document, &mut to),

@@ -7,7 +7,7 @@ use std::alloc::{AllocError, Global};
 use std::io::Read;
 use tpl_journal::Counting;
 use tpl_reasons::{Asked, Reason, Reasoned, explain};
-use tpl_report::{Ask, Exit, read_input, serve};
+use tpl_report::{Ask, Depth, Exit, read_input, serve};
 
 /// The most splits on each path of a certificate that is searched.
 const DEPTH: u8 = 1;
@@ -65,13 +65,18 @@ impl Tally {
     }
 }
 
+/// How many splits a search may make on each path.
+fn depth() -> Depth {
+    Depth::new(DEPTH).unwrap()
+}
+
 /// What a command answers to what comes from a reader.
 fn answer_to<R: Read + Drop>(alloc: Global, command: Command, reader: R) -> Answered {
     let mut from = Counting::new(reader);
     let mut to: Counting<Vec<u8>> = Counting::new(Vec::new(alloc));
     let exit = match command {
         Command::Check => serve(alloc, Ask::Check, &mut from, &mut to),
-        Command::Analyse => serve(alloc, Ask::Analyse(DEPTH), &mut from, &mut to),
+        Command::Analyse => serve(alloc, Ask::Analyse(depth()), &mut from, &mut to),
         Command::Audit => serve(alloc, Ask::Audit, &mut from, &mut to),
     };
     Answered {
@@ -88,7 +93,7 @@ fn reason_of(
 ) -> Result<Option<Reasoned>, AllocError> {
     match command {
         Command::Check => explain(alloc, Asked::Check, bytes),
-        Command::Analyse => explain(alloc, Asked::Analyse(DEPTH), bytes),
+        Command::Analyse => explain(alloc, Asked::Analyse(depth()), bytes),
         Command::Audit => explain(alloc, Asked::Audit, bytes),
     }
 }
