@@ -24,7 +24,12 @@ some_none x o e f = absurd cc
 -- ---- values of one form
 
 pub string_is : (d : Data) (t : List ℕ) → as_str d ≡ Some t → d ≡ string t
-string_is = string_is
+string_is null t e = absurd cc
+string_is (boolean b) t e = absurd cc
+string_is (number n) t e = absurd cc
+string_is (string s) t e = ap string (some_is s t e)
+string_is (array ds) t e = absurd cc
+string_is (object ms) t e = absurd cc
 
 pub text_is : (name : List ℕ) (d : Data) (t : List ℕ) → text_in name d ≡ Some t → get name d ≡ Some (string t)
 unfolding text_in

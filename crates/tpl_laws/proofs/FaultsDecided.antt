@@ -1,5 +1,6 @@
 -- There is no fault just where a certificate is accepted.
 use Rattle.std.proofs.Common.{◌≡◌, ℕ, zero, suc, ◌+◌, ◌<◌, ◌≤◌, inl, inr, ◌&&◌, Bool, true, false, Option, Some, None, Ok, List, [], ◌∷◌, refl, sym, ap, subst, arith, length, nat_eq, nat_lt}
+use Rattle.std.specs.Prelude.{Decides}
 use Rattle.std.proofs.lemmas.Bool.{cases_lt, ltb-true, lt-ltb, and_parts, and_from}
 use Rattle.tpl_words.proofs.Truths.{true_false}
 use Rattle.tpl_words.specs.declared.finals.Final.TheVariants.{RanToCompletion, Canceled, Faulted}
@@ -14,28 +15,27 @@ use Rattle.tpl_model.specs.declared.fault.Rule.TheVariants.{K1, K2, K3, K6}
 use Rattle.tpl_model.specs.declared.fault.CertFault.{CertFault}
 use Rattle.tpl_model.specs.declared.fault.CertFault.TheVariants.{Shape}
 use Rattle.tpl_laws.specs.Verdict.{or_else, unless, past_rule, broken, LeafFault, Breaks, ProvesNot, breaks, first_broken, leaf_fault, leaves, at_leaf, tree_fault, claims_fault, has_tasks, rows_fit, fits, misfit, no_fault, verdict}
-use Rattle.tpl_laws.proofs.Deciding.{Decides, same, both}
+use Rattle.tpl_laws.proofs.Deciding.{same, both}
 use Rattle.tpl_laws.proofs.RulesDecided.{runs_lem, ends_lem, before_lem, past_lem, chain_lem, proves_lem}
 use Rattle.tpl_laws.specs.PathLaws.{PathLaws}
 
 -- there is none just where the statement is
-pub record Clears {A : Type 0} (o : Option A) (P : Type 0) : Type 0 where
-  pub finds : o ≡ None → P
-  pub found : P → o ≡ None
+abbrev pub Clears : {A : Type 0} → Option A → Type 0 → Type 0
+Clears o P = (o ≡ None → P) × (P → o ≡ None)
 
 clear : {A : Type 0} → Clears {A = A} None (Unit {0})
-clear {A = A} = record { finds = λ e. tt; found = λ u. refl }
+clear {A = A} = (λ e. tt, λ u. refl)
 
 clear_unless : {A : Type 0} (P Q : Type 0) (b : Bool) (x : A) (o : Option A) → Decides b P → Clears o Q → Clears (unless b x o) (P × Q)
-clear_unless P Q true x o d c = record { finds = λ e. (d.finds refl, c.finds e); found = λ e. c.found e.1 }
-clear_unless P Q false x o d c = record { finds = λ e. absurd (cc); found = λ e. true_false (sym (d.found e.0)) }
+clear_unless P Q true x o d c = (λ e. (d.0 refl, c.0 e), λ e. c.1 e.1)
+clear_unless P Q false x o d c = (λ e. absurd (cc), λ e. true_false (sym (d.1 e.0)))
 
 clear_or_else : {A : Type 0} (P Q : Type 0) (a b : Option A) → Clears a P → Clears b Q → Clears (or_else a b) (P × Q)
-clear_or_else P Q None b c d = record { finds = λ e. (c.finds refl, d.finds e); found = λ e. d.found e.1 }
-clear_or_else P Q (Some x) b c d = record { finds = λ e. absurd (cc); found = λ e. c.found e.0 }
+clear_or_else P Q None b c d = (λ e. (c.0 refl, d.0 e), λ e. d.1 e.1)
+clear_or_else P Q (Some x) b c d = (λ e. absurd (cc), λ e. c.1 e.0)
 
 clear_means : {A : Type 0} (P Q : Type 0) (o : Option A) → Clears o P → (P → Q) → (Q → P) → Clears o Q
-clear_means P Q o c to back = record { finds = λ e. to (c.finds e); found = λ q. c.found (back q) }
+clear_means P Q o c to back = (λ e. to (c.0 e), λ q. c.1 (back q))
 
 -- a row
 pub no_unless : {A : Type 0} (b : Bool) (x : A) (o : Option A) → unless b x o ≡ None → (b ≡ true) × (o ≡ None)
@@ -60,38 +60,38 @@ from_ends g l rows t = unless (ends g l rows t) K2 (from_before g l rows t)
 
 module _ (paths : PathLaws) where
   pub broken_lem : (g : TaskGraph) (l : Assumed) (rows : List Row) (t : ℕ) → IsGraph g → Clears (broken g l rows t) (IsClosed g l rows t)
-  broken_lem g l rows t valid = record {
-    finds = λ e.
+  broken_lem g l rows t valid = (
+    λ e.
         let a = no_unless (runs g l rows t) K1 (from_ends g l rows t) e in
         let b = no_unless (ends g l rows t) K2 (from_before g l rows t) a.1 in
         let d = no_unless (before g rows t) K3 (from_past g l rows t) b.1 in
         let p = no_unless (past g l rows t) (past_rule (kind g t)) (from_chain g l rows t) d.1 in
         let q = no_unless (chain g l rows t) K6 None p.1 in
         record {
-          runs = (runs_lem paths g l rows t valid).finds a.0;
-          ends = (ends_lem paths g l rows t).finds b.0;
-          before = (before_lem paths g rows t valid).finds d.0;
-          past = (past_lem paths g l rows t valid).finds p.0;
-          chain = (chain_lem paths g l rows t).finds q.0;
-        };
-    found = λ c.
-        passes (runs g l rows t) K1 (from_ends g l rows t) ((runs_lem paths g l rows t valid).found c.runs)
-        (passes (ends g l rows t) K2 (from_before g l rows t) ((ends_lem paths g l rows t).found c.ends)
-        (passes (before g rows t) K3 (from_past g l rows t) ((before_lem paths g rows t valid).found c.before)
-        (passes (past g l rows t) (past_rule (kind g t)) (from_chain g l rows t) ((past_lem paths g l rows t valid).found c.past)
-        (passes (chain g l rows t) K6 None ((chain_lem paths g l rows t).found c.chain) refl))));
-  }
+          runs = (runs_lem paths g l rows t valid).0 a.0;
+          ends = (ends_lem paths g l rows t).0 b.0;
+          before = (before_lem paths g rows t valid).0 d.0;
+          past = (past_lem paths g l rows t valid).0 p.0;
+          chain = (chain_lem paths g l rows t).0 q.0;
+        },
+    λ c.
+        passes (runs g l rows t) K1 (from_ends g l rows t) ((runs_lem paths g l rows t valid).1 c.runs)
+        (passes (ends g l rows t) K2 (from_before g l rows t) ((ends_lem paths g l rows t).1 c.ends)
+        (passes (before g rows t) K3 (from_past g l rows t) ((before_lem paths g rows t valid).1 c.before)
+        (passes (past g l rows t) (past_rule (kind g t)) (from_chain g l rows t) ((past_lem paths g l rows t valid).1 c.past)
+        (passes (chain g l rows t) K6 None ((chain_lem paths g l rows t).1 c.chain) refl)))),
+  )
 
   -- the rows of a leaf
   clear_breaks : (t : ℕ) (P : Type 0) (o : Option Rule) → Clears o P → Clears (breaks t o) P
-  clear_breaks t P None c = record { finds = λ e. c.finds refl; found = λ p. refl }
-  clear_breaks t P (Some rule) c = record { finds = λ e. absurd (cc); found = λ p. some_not (c.found p) }
+  clear_breaks t P None c = (λ e. c.0 refl, λ p. refl)
+  clear_breaks t P (Some rule) c = (λ e. absurd (cc), λ p. some_not (c.1 p))
     where
       some_not : Some rule ≡ None → Some (Breaks t rule) ≡ None
       some_not e = absurd (cc)
 
   first_decided : (g : TaskGraph) (l : Assumed) (rows : List Row) → IsGraph g → (t n : ℕ) → Clears (first_broken g l rows t n) ((x : ℕ) → t ≤ x → x < t + n → IsClosed g l rows x)
-  first_decided g l rows valid t zero = record { finds = λ e x a b. absurd (omega arith); found = λ f. refl }
+  first_decided g l rows valid t zero = (λ e x a b. absurd (omega arith), λ f. refl)
   first_decided g l rows valid t (suc n) =
       clear_means (IsClosed g l rows t × ((x : ℕ) → suc t ≤ x → x < suc t + n → IsClosed g l rows x)) ((x : ℕ) → t ≤ x → x < t + suc n → IsClosed g l rows x) (first_broken g l rows t (suc n))
       (clear_or_else (IsClosed g l rows t) ((x : ℕ) → suc t ≤ x → x < suc t + n → IsClosed g l rows x) (breaks t (broken g l rows t)) (first_broken g l rows (suc t) n) (clear_breaks t (IsClosed g l rows t) (broken g l rows t) (broken_lem g l rows t valid)) (first_decided g l rows valid (suc t) n))
@@ -110,22 +110,22 @@ module _ (paths : PathLaws) where
       (clear_unless (Proves g l rows p) (Unit {0}) (proves g l rows p) ProvesNot None (proves_lem paths g l rows p) clear)
 
   pub clear_leaf : (c n : ℕ) (P : Type 0) (o : Option LeafFault) → Clears o P → Clears (at_leaf c n o) P
-  clear_leaf c n P None d = record { finds = λ e. d.finds refl; found = λ p. refl }
-  clear_leaf c n P (Some (Breaks t rule)) d = record { finds = λ e. absurd (cc); found = λ p. some_not (d.found p) }
+  clear_leaf c n P None d = (λ e. d.0 refl, λ p. refl)
+  clear_leaf c n P (Some (Breaks t rule)) d = (λ e. absurd (cc), λ p. some_not (d.1 p))
     where
       some_not : Some (Breaks t rule) ≡ None → at_leaf c n (Some (Breaks t rule)) ≡ None
       some_not e = absurd (cc)
-  clear_leaf c n P (Some ProvesNot) d = record { finds = λ e. absurd (cc); found = λ p. some_not (d.found p) }
+  clear_leaf c n P (Some ProvesNot) d = (λ e. absurd (cc), λ p. some_not (d.1 p))
     where
       some_not : Some ProvesNot ≡ None → at_leaf c n (Some ProvesNot) ≡ None
       some_not e = absurd (cc)
 
   -- shapes
   pub below_decided : (x n : ℕ) → Decides (nat_lt x n) (x < n)
-  below_decided x n = record { finds = ltb-true x n; found = lt-ltb x n }
+  below_decided x n = (ltb-true x n, lt-ltb x n)
 
   tasks_decided : (g : TaskGraph) (xs : List ℕ) → Decides (has_tasks g xs) (AllTasks g xs)
-  tasks_decided g [] = record { finds = λ e. tt; found = λ u. refl }
+  tasks_decided g [] = (λ e. tt, λ u. refl)
   tasks_decided g (x ∷ xs) = both (is_task g x) (AllTasks g xs) (nat_lt x (length g.tasks)) (has_tasks g xs) (below_decided x (length g.tasks)) (tasks_decided g xs)
 
   row_decided : (g : TaskGraph) (r : Row) (rows : List Row) → Decides (rows_fit g rows) (IdsOfRows g rows) → Decides (rows_fit g (r ∷ rows)) ((AllTasks g r.before × (AllTasks g r.past × AllTasks g r.chain)) × IdsOfRows g rows)
@@ -136,11 +136,11 @@ module _ (paths : PathLaws) where
       d
 
   pub rows_decided : (g : TaskGraph) (rows : List Row) → Decides (rows_fit g rows) (IdsOfRows g rows)
-  rows_decided g [] = record { finds = λ e. tt; found = λ u. refl }
-  rows_decided g (r ∷ rows) = record {
-    finds = λ e. let q = (row_decided g r rows (rows_decided g rows)).finds e in (q.0.0, q.0.1.0, q.0.1.1, q.1);
-    found = λ e. (row_decided g r rows (rows_decided g rows)).found ((e.0, (e.1, e.2)), e.3);
-  }
+  rows_decided g [] = (λ e. tt, λ u. refl)
+  rows_decided g (r ∷ rows) = (
+    λ e. let q = (row_decided g r rows (rows_decided g rows)).0 e in (q.0.0, q.0.1.0, q.0.1.1, q.1),
+    λ e. (row_decided g r rows (rows_decided g rows)).1 ((e.0, (e.1, e.2)), e.3),
+  )
 
   -- no fault of two
   pub none_first : (x y : Option CertFault) → or_else x y ≡ None → (x ≡ None) × (y ≡ None)
@@ -163,8 +163,8 @@ module _ (paths : PathLaws) where
       (ltb-true t (length g.tasks) s.0, tree_accepted g p c valid (with_end l t RanToCompletion) n a r.0 q.0, tree_accepted g p c valid (with_end l t Canceled) (n + leaves a) b u.0 w.0, tree_accepted g p c valid (with_end l t Faulted) (n + leaves a + leaves b) d u.1 w.1)
   tree_accepted g p c valid l n (Leaf rows) f e =
       let s = and_parts (nat_eq (length rows) (length g.tasks)) (rows_fit g rows) f in
-      let q = (clear_leaf c n (Closed g l rows × (Proves g l rows p × Unit {0})) (leaf_fault g p l rows) (leaf_decided g p l rows valid)).finds e in
-      ((same (length rows) (length g.tasks)).finds s.0, (rows_decided g rows).finds s.1, q.0, q.1.0)
+      let q = (clear_leaf c n (Closed g l rows × (Proves g l rows p × Unit {0})) (leaf_fault g p l rows) (leaf_decided g p l rows valid)).0 e in
+      ((same (length rows) (length g.tasks)).0 s.0, (rows_decided g rows).0 s.1, q.0, q.1.0)
 
   pub accepted_fits : (g : TaskGraph) (p : Property) (l : Assumed) (tree : Tree) → AcceptsTree g p l tree → fits g tree ≡ true
   accepted_fits g p l (SplitInput i a b) e =
@@ -175,7 +175,7 @@ module _ (paths : PathLaws) where
       (and_from (fits g a) (fits g b && fits g d) (accepted_fits g p (with_end l t RanToCompletion) a e.1)
       (and_from (fits g b) (fits g d) (accepted_fits g p (with_end l t Canceled) b e.2) (accepted_fits g p (with_end l t Faulted) d e.3)))
   accepted_fits g p l (Leaf rows) e =
-      and_from (nat_eq (length rows) (length g.tasks)) (rows_fit g rows) ((same (length rows) (length g.tasks)).found e.0) ((rows_decided g rows).found e.1)
+      and_from (nat_eq (length rows) (length g.tasks)) (rows_fit g rows) ((same (length rows) (length g.tasks)).1 e.0) ((rows_decided g rows).1 e.1)
 
   no_two : (x y : Option CertFault) → x ≡ None → y ≡ None → or_else x y ≡ None
   no_two None y p q = q
@@ -188,7 +188,7 @@ module _ (paths : PathLaws) where
       no_two (tree_fault g p c (with_end l t RanToCompletion) n a) (or_else (tree_fault g p c (with_end l t Canceled) (n + leaves a) b) (tree_fault g p c (with_end l t Faulted) (n + leaves a + leaves b) d)) (accepted_clear g p c valid (with_end l t RanToCompletion) n a e.1)
       (no_two (tree_fault g p c (with_end l t Canceled) (n + leaves a) b) (tree_fault g p c (with_end l t Faulted) (n + leaves a + leaves b) d) (accepted_clear g p c valid (with_end l t Canceled) (n + leaves a) b e.2) (accepted_clear g p c valid (with_end l t Faulted) (n + leaves a + leaves b) d e.3))
   accepted_clear g p c valid l n (Leaf rows) e =
-      (clear_leaf c n (Closed g l rows × (Proves g l rows p × Unit {0})) (leaf_fault g p l rows) (leaf_decided g p l rows valid)).found (e.2, (e.3, tt))
+      (clear_leaf c n (Closed g l rows × (Proves g l rows p × Unit {0})) (leaf_fault g p l rows) (leaf_decided g p l rows valid)).1 (e.2, (e.3, tt))
 
   -- a certificate
   all_accepted : (g : TaskGraph) → IsGraph g → (n m : ℕ) (claims : List Claim) (trees : List Tree) → misfit g n claims trees ≡ None → claims_fault g m claims trees ≡ None → Accepts g claims trees

@@ -1,5 +1,6 @@
 -- The first fault is what it says.
 use Rattle.std.proofs.Common.{◌≡◌, ℕ, zero, suc, ◌+◌, ◌<◌, ◌≤◌, ◌⊎◌, inl, inr, ◌&&◌, ◌++◌, Bool, true, false, Option, Some, None, Err, List, [], ◌∷◌, refl, sym, ap, ◌∙◌, subst, arith, length, nat_eq, nat_lt, append_assoc, length-append}
+use Rattle.std.specs.Prelude.{Decides}
 use Rattle.std.proofs.lemmas.Bool.{cases_lt, and_parts, and_from}
 use Rattle.tpl_words.proofs.Truths.{true_false}
 use Rattle.tpl_words.specs.declared.finals.Final.TheVariants.{RanToCompletion, Canceled, Faulted}
@@ -15,7 +16,7 @@ use Rattle.tpl_model.specs.declared.fault.CertFault.{CertFault}
 use Rattle.tpl_model.specs.declared.fault.CertFault.TheVariants.{Shape}
 use Rattle.tpl_laws.specs.Verdict.{or_else, unless, past_rule, broken, LeafFault, Breaks, ProvesNot, breaks, first_broken, leaf_fault, leaves, at_leaf, tree_fault, claims_fault, rows_fit, fits, misfit, no_fault}
 use Rattle.tpl_laws.specs.Faults.{Runs, Ends, Before, Past, Chain, BreaksRule, Branch, leaves_of, LeafFails, EachProves, place, LeavesFail, ClaimsFail, HasShape, HaveShape, FirstMisfits, Misfits, FaultIsFirst}
-use Rattle.tpl_laws.proofs.Deciding.{Decides, same, both}
+use Rattle.tpl_laws.proofs.Deciding.{same, both}
 use Rattle.tpl_laws.proofs.RulesDecided.{runs_lem, ends_lem, before_lem, past_lem, chain_lem, proves_lem}
 use Rattle.tpl_laws.proofs.FaultsDecided.{none_first, from_chain, from_past, from_before, from_ends, broken_lem, first_lem, leaf_decided, clear_leaf, below_decided, rows_decided, no_unless, tree_accepted}
 use Rattle.tpl_laws.specs.PathLaws.{PathLaws}
@@ -29,7 +30,7 @@ some_or_else None b y e = inr (refl, e)
 some_or_else (Some x) b y e = inl e
 
 fails : (P : Type 0) (b : Bool) → Decides b P → b ≡ false → P → ⊥
-fails P b d e p = true_false (sym (d.found p) ∙ e)
+fails P b d e p = true_false (sym (d.1 p) ∙ e)
 
 -- a rule
 past_rule_is : (k : TaskKind) → (past_rule k ≡ K4) ⊎ (past_rule k ≡ K5)
@@ -44,16 +45,16 @@ module _ (paths : PathLaws) where
   broken_breaks g l rows t r valid e =
       elim (some_unless (runs g l rows t) K1 r (from_ends g l rows t) e) [
         | inl q ↦ subst (BreaksRule g l rows t) q.1 (fails (Runs g l rows t) (runs g l rows t) (runs_lem paths g l rows t valid) q.0)
-        | inr q ↦ let k1 : Runs g l rows t = (runs_lem paths g l rows t valid).finds q.0 in elim (some_unless (ends g l rows t) K2 r (from_before g l rows t) q.1) [
+        | inr q ↦ let k1 : Runs g l rows t = (runs_lem paths g l rows t valid).0 q.0 in elim (some_unless (ends g l rows t) K2 r (from_before g l rows t) q.1) [
           | inl u ↦ subst (BreaksRule g l rows t) u.1 (k1, fails (Ends g l rows t) (ends g l rows t) (ends_lem paths g l rows t) u.0)
-          | inr u ↦ let k2 : Ends g l rows t = (ends_lem paths g l rows t).finds u.0 in elim (some_unless (before g rows t) K3 r (from_past g l rows t) u.1) [
+          | inr u ↦ let k2 : Ends g l rows t = (ends_lem paths g l rows t).0 u.0 in elim (some_unless (before g rows t) K3 r (from_past g l rows t) u.1) [
             | inl w ↦ subst (BreaksRule g l rows t) w.1 (k1, k2, fails (Before g l rows t) (before g rows t) (before_lem paths g rows t valid) w.0)
-            | inr w ↦ let k3 : Before g l rows t = (before_lem paths g rows t valid).finds w.0 in elim (some_unless (past g l rows t) (past_rule (kind g t)) r (from_chain g l rows t) w.1) [
+            | inr w ↦ let k3 : Before g l rows t = (before_lem paths g rows t valid).0 w.0 in elim (some_unless (past g l rows t) (past_rule (kind g t)) r (from_chain g l rows t) w.1) [
               | inl y ↦ let no : Past g l rows t → ⊥ = fails (Past g l rows t) (past g l rows t) (past_lem paths g l rows t valid) y.0 in elim (past_rule_is (kind g t)) [
                 | inl k ↦ subst (BreaksRule g l rows t) (sym k ∙ y.1) (k1, k2, k3, no, k)
                 | inr k ↦ subst (BreaksRule g l rows t) (sym k ∙ y.1) (k1, k2, k3, no, k)
               ]
-              | inr y ↦ let k4 : Past g l rows t = (past_lem paths g l rows t valid).finds y.0 in elim (some_unless (chain g l rows t) K6 r None y.1) [
+              | inr y ↦ let k4 : Past g l rows t = (past_lem paths g l rows t valid).0 y.0 in elim (some_unless (chain g l rows t) K6 r None y.1) [
                 | inl z ↦ subst (BreaksRule g l rows t) z.1 (k1, k2, k3, k4, fails (Chain g l rows t) (chain g l rows t) (chain_lem paths g l rows t) z.0)
                 | inr z ↦ absurd (none_some r z.1)
               ]
@@ -91,7 +92,7 @@ module _ (paths : PathLaws) where
             let s = some_breaks t (broken g l rows t) f q in
             record { number = t; rule = s.0; is = s.2; from = omega arith; to = omega arith; earlier = λ x a b. absurd (omega arith); breaks = broken_breaks g l rows t s.0 valid s.1 }
         | inr q ↦
-            let c : IsClosed g l rows t = (broken_lem paths g l rows t valid).finds (none_breaks t (broken g l rows t) q.0) in
+            let c : IsClosed g l rows t = (broken_lem paths g l rows t valid).0 (none_breaks t (broken g l rows t) q.0) in
             let r = first_breaks g l rows valid (suc t) n f q.1 in
             record {
               number = r.number;
@@ -112,7 +113,7 @@ module _ (paths : PathLaws) where
             let a : r.number < 0 + length g.tasks = r.to in
             subst (LeafFails g p (record { assumes = l; rows = rows })) r.is (omega arith, (λ x b. r.earlier x (omega arith) b), r.breaks)
         | inr q ↦ elim (some_unless (proves g l rows p) ProvesNot f None q.1) [
-          | inl u ↦ subst (LeafFails g p (record { assumes = l; rows = rows })) u.1 ((first_lem paths g l rows valid).finds q.0, fails (Proves g l rows p) (proves g l rows p) (proves_lem paths g l rows p) u.0)
+          | inl u ↦ subst (LeafFails g p (record { assumes = l; rows = rows })) u.1 ((first_lem paths g l rows valid).0 q.0, fails (Proves g l rows p) (proves g l rows p) (proves_lem paths g l rows p) u.0)
           | inr u ↦ absurd (none_some f u.1)
         ]
       ]
@@ -177,7 +178,7 @@ module _ (paths : PathLaws) where
       each_joined g p (leaves_of (with_end l t RanToCompletion) a) (leaves_of (with_end l t Canceled) b ++ leaves_of (with_end l t Faulted) d) (tree_clear g p c valid (with_end l t RanToCompletion) n a q.0)
       (each_joined g p (leaves_of (with_end l t Canceled) b) (leaves_of (with_end l t Faulted) d) (tree_clear g p c valid (with_end l t Canceled) (n + leaves a) b w.0) (tree_clear g p c valid (with_end l t Faulted) (n + leaves a + leaves b) d w.1))
   tree_clear g p c valid l n (Leaf rows) e =
-      let q = (clear_leaf paths c n (Closed g l rows × (Proves g l rows p × Unit {0})) (leaf_fault g p l rows) (leaf_decided paths g p l rows valid)).finds e in
+      let q = (clear_leaf paths c n (Closed g l rows × (Proves g l rows p × Unit {0})) (leaf_fault g p l rows) (leaf_decided paths g p l rows valid)).0 e in
       ((q.0, q.1.0), tt)
 
   some_leaf : (c n : ℕ) (o : Option LeafFault) (fault : CertFault) → at_leaf c n o ≡ Some fault → (f : LeafFault) × (o ≡ Some f) × (place c n f ≡ fault)
@@ -259,23 +260,23 @@ module _ (paths : PathLaws) where
       let x = shape_decided g a in
       let y = shape_decided g b in
       let z = below_decided paths i g.inputs in
-      record {
-        finds = λ e. let s = and_parts (nat_lt i g.inputs) (fits g a && fits g b) e in let r = and_parts (fits g a) (fits g b) s.1 in (z.finds s.0, x.finds r.0, y.finds r.1);
-        found = λ e. and_from (nat_lt i g.inputs) (fits g a && fits g b) (z.found e.0) (and_from (fits g a) (fits g b) (x.found e.1) (y.found e.2));
-      }
+      (
+        λ e. let s = and_parts (nat_lt i g.inputs) (fits g a && fits g b) e in let r = and_parts (fits g a) (fits g b) s.1 in (z.0 s.0, x.0 r.0, y.0 r.1),
+        λ e. and_from (nat_lt i g.inputs) (fits g a && fits g b) (z.1 e.0) (and_from (fits g a) (fits g b) (x.1 e.1) (y.1 e.2)),
+      )
   shape_decided g (SplitEnd t a b d) =
       let x = shape_decided g a in
       let y = shape_decided g b in
       let w = shape_decided g d in
       let z = below_decided paths t (length g.tasks) in
-      record {
-        finds = λ e.
+      (
+        λ e.
             let s = and_parts (nat_lt t (length g.tasks)) (fits g a && (fits g b && fits g d)) e in
             let r = and_parts (fits g a) (fits g b && fits g d) s.1 in
             let u = and_parts (fits g b) (fits g d) r.1 in
-            (z.finds s.0, x.finds r.0, y.finds u.0, w.finds u.1);
-        found = λ e. and_from (nat_lt t (length g.tasks)) (fits g a && (fits g b && fits g d)) (z.found e.0) (and_from (fits g a) (fits g b && fits g d) (x.found e.1) (and_from (fits g b) (fits g d) (y.found e.2) (w.found e.3)));
-      }
+            (z.0 s.0, x.0 r.0, y.0 u.0, w.0 u.1),
+        λ e. and_from (nat_lt t (length g.tasks)) (fits g a && (fits g b && fits g d)) (z.1 e.0) (and_from (fits g a) (fits g b && fits g d) (x.1 e.1) (and_from (fits g b) (fits g d) (y.1 e.2) (w.1 e.3))),
+      )
   shape_decided g (Leaf rows) =
       both (length rows ≡ length g.tasks) (IdsOfRows g rows) (nat_eq (length rows) (length g.tasks)) (rows_fit g rows) (same (length rows) (length g.tasks)) (rows_decided paths g rows)
 
@@ -285,7 +286,7 @@ module _ (paths : PathLaws) where
   have_shape g n (claim ∷ claims) [] e = absurd (cc)
   have_shape g n (claim ∷ claims) (tree ∷ trees) e =
       let s = no_unless (fits g tree) (Shape n) (misfit g (suc n) claims trees) e in
-      ((shape_decided g tree).finds s.0, have_shape g (suc n) claims trees s.1)
+      ((shape_decided g tree).0 s.0, have_shape g (suc n) claims trees s.1)
 
   misfits_here : (g : TaskGraph) (n : ℕ) (claims : List Claim) (trees : List Tree) (fault : CertFault) → FirstMisfits g claims trees → Shape n ≡ fault → Misfits g n claims trees fault
   misfits_here g n claims trees fault f e =
@@ -309,7 +310,7 @@ module _ (paths : PathLaws) where
               later_trees = r.later_trees;
               claims_are = ap (λ z. claim ∷ z) r.claims_are;
               trees_are = ap (λ z. tree ∷ z) r.trees_are;
-              shaped = ((shape_decided g tree).finds q.0, r.shaped);
+              shaped = ((shape_decided g tree).0 q.0, r.shaped);
               misfits = r.misfits;
               at = r.at ∙ ap Shape number;
             }

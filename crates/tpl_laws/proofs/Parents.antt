@@ -1,5 +1,6 @@
 -- The parent of a child, and the tasks below one.
 use Rattle.std.proofs.Common.{◌≡◌, ℕ, zero, suc, ◌+◌, ◌<◌, ◌≤◌, inl, inr, ◌||◌, Bool, true, Option, Some, None, refl, sym, ap, ◌∙◌, subst, arith, nat_eq, length}
+use Rattle.std.specs.Prelude.{Decides}
 use Rattle.std.proofs.lemmas.Bool.{cases_lt, cases_Bool, and_parts, and_from, or_cases, or_left, or_right}
 use Rattle.tpl_words.proofs.MemberLemmas.{same_self}
 use Rattle.tpl_words.proofs.Truths.{same_tests, true_false}
@@ -11,7 +12,6 @@ use Rattle.tpl_model.specs.Certificate.{IsBelow, child, deeper}
 use Rattle.tpl_laws.proofs.Basics.{if_true, if_false, same_number}
 use Rattle.tpl_laws.proofs.Settling.{no_task, child_rules, attached_child}
 use Rattle.tpl_laws.specs.RowTests.{parent_from, parent_of, by_parent, below_by, below_within, is_below}
-use Rattle.tpl_laws.proofs.Deciding.{Decides}
 
 -- what is found is a parent
 found_from : (g : TaskGraph) (t p n q : ℕ) → parent_from g t p n ≡ Some q → IsParent g q t
@@ -57,14 +57,14 @@ pub at_parent : (g : TaskGraph) (t : ℕ) (P : ℕ → Type 0) (q : ℕ → Bool
 at_parent g t P q valid d = by_option (parent_of g t) refl
   where
     by_option : (o : Option ℕ) → parent_of g t ≡ o → Decides (by_parent o q) ((p : ℕ) → IsParent g p t → P p)
-    by_option None e = record { finds = λ b p m. none_here p (sym (the_parent g p t valid m) ∙ e); found = λ f. refl }
+    by_option None e = (λ b p m. none_here p (sym (the_parent g p t valid m) ∙ e), λ f. refl)
       where
         none_here : (p : ℕ) → Some p ≡ None → P p
         none_here p s = absurd (cc)
-    by_option (Some r) e = record {
-      finds = λ b p m. subst P (same_parent p (sym e ∙ the_parent g p t valid m)) ((d r).finds b);
-      found = λ f. (d r).found (f r (parent_is g t r e));
-    }
+    by_option (Some r) e = (
+      λ b p m. subst P (same_parent p (sym e ∙ the_parent g p t valid m)) ((d r).0 b),
+      λ f. (d r).1 (f r (parent_is g t r e)),
+    )
       where
         same_parent : (p : ℕ) → Some r ≡ Some p → r ≡ p
         same_parent p s = cc
@@ -95,7 +95,7 @@ below_finds g t (suc n) x valid (deeper {p = p} b m) a =
     (and_from (mem x (attached g p)) (nat_eq p t || below_within g t n p) m (or_right (nat_eq p t) (below_within g t n p) (below_finds g t n p valid b (omega arith))))
 
 pub below : (g : TaskGraph) (t x : ℕ) → IsGraph g → Decides (is_below g t x) (IsBelow g t x)
-below g t x valid = record { finds = below_found g t x x; found = λ b. below_finds g t x x valid b (omega arith) }
+below g t x valid = (below_found g t x x, λ b. below_finds g t x x valid b (omega arith))
 
 -- one step up decides the same
 step_found : (g : TaskGraph) (t x : ℕ) → IsGraph g → (o : Option ℕ) → below_by g t x o (is_below g t) ≡ true → IsBelow g t x
@@ -104,7 +104,7 @@ step_found g t x valid (Some p) b =
     let s = and_parts (mem x (attached g p)) (nat_eq p t || is_below g t p) b in
     elim (or_cases (nat_eq p t) (is_below g t p) s.1) [
       | inl a ↦ child (subst (λ z. mem x (attached g z) ≡ true) (same_number p t a) s.0)
-      | inr a ↦ deeper ((below g t p valid).finds a) s.0
+      | inr a ↦ deeper ((below g t p valid).0 a) s.0
     ]
 
 step_finds : (g : TaskGraph) (t x : ℕ) → IsGraph g → IsBelow g t x → below_by g t x (parent_of g x) (is_below g t) ≡ true
@@ -113,9 +113,9 @@ step_finds g t x valid (child m) =
     (and_from (mem x (attached g t)) (nat_eq t t || is_below g t t) m (or_left (nat_eq t t) (is_below g t t) (same_self t)))
 step_finds g t x valid (deeper {p = p} b m) =
     subst (λ z. below_by g t x z (is_below g t) ≡ true) (sym (the_parent g p x valid (attached_child g p x m)))
-    (and_from (mem x (attached g p)) (nat_eq p t || is_below g t p) m (or_right (nat_eq p t) (is_below g t p) ((below g t p valid).found b)))
+    (and_from (mem x (attached g p)) (nat_eq p t || is_below g t p) m (or_right (nat_eq p t) (is_below g t p) ((below g t p valid).1 b)))
 
 pub below_step : (g : TaskGraph) (t x : ℕ) → IsGraph g → is_below g t x ≡ below_by g t x (parent_of g x) (is_below g t)
 below_step g t x valid =
-    same_tests (is_below g t x) (below_by g t x (parent_of g x) (is_below g t)) (λ e. step_finds g t x valid ((below g t x valid).finds e))
-    (λ e. (below g t x valid).found (step_found g t x valid (parent_of g x) e))
+    same_tests (is_below g t x) (below_by g t x (parent_of g x) (is_below g t)) (λ e. step_finds g t x valid ((below g t x valid).0 e))
+    (λ e. (below g t x valid).1 (step_found g t x valid (parent_of g x) e))

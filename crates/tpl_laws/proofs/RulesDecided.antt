@@ -1,5 +1,6 @@
 -- The rules for a row are decided by their tests.
 use Rattle.std.proofs.Common.{◌≡◌, ℕ, ◌⊎◌, ◌&&◌, ◌||◌, not, Bool, true, false, Some, List, [], ◌∷◌, refl, sym, subst, nat_eq}
+use Rattle.std.specs.Prelude.{Decides}
 use Rattle.tpl_laws.proofs.AllowedDecided.{itself, denied as opposite}
 use Rattle.tpl_words.proofs.Truths.{true_false}
 use Rattle.tpl_script.proofs.PathEnds.{is_acknowledged, is_returned, thrown_label}
@@ -19,42 +20,42 @@ use Rattle.tpl_script.specs.Paths.{Known, Path, MayEnd, MayThrow, MayStartChild,
 use Rattle.tpl_model.specs.Certificate.{Row, row, Assumed, is_loud, view, IsBelow, RunsRule, BodyMayEnd, MayBeCanceled, AllMayEnd, MayEndAs, BeforeRule, may_end_early, PastRule, TakesOver, Reads, Links, ChainRule, Proves}
 use Rattle.tpl_script.specs.Recursion.{may, none, is_throw, must_observe, reaches}
 use Rattle.tpl_laws.specs.RowTests.{implies, all_in, some_end, parent_of, by_parent, is_below, runs_by, runs, is_return, is_acknowledgement, may_throw, body_may_end, may_be_canceled, all_may_end, may_end_as, ends, before_by, before, past_by, past, is_argument, takes_over, continues, faulted_view, reads, links, chain_by, chain, is_none, proves}
-use Rattle.tpl_laws.proofs.Deciding.{Decides, denied, same, same_end, both, either, only_if, means, at_each_end, at_some_end, of_all, of_some}
+use Rattle.tpl_laws.proofs.Deciding.{denied, same, same_end, both, either, only_if, means, at_each_end, at_some_end, of_all, of_some}
 use Rattle.tpl_laws.proofs.Parents.{at_parent, below}
 use Rattle.tpl_laws.specs.PathLaws.{PathLaws}
 
 -- from what the recursion over a body finds
 module _ (paths : PathLaws) where
   returns_it : (w : Known) (script : Statements) → Decides (may none is_return w script) (MayEnd w script Returned)
-  returns_it w script = record {
-    finds = λ e. let r = (paths.may none is_return w script).0 e in (r.0, subst (λ z. Path w script r.0 (Some z)) (is_returned r.1 r.3) r.2);
-    found = λ m. (paths.may none is_return w script).1 (m.0, Returned, m.1, refl, no_clean m.0);
-  }
+  returns_it w script = (
+    λ e. let r = (paths.may none is_return w script).0 e in (r.0, subst (λ z. Path w script r.0 (Some z)) (is_returned r.1 r.3) r.2),
+    λ m. (paths.may none is_return w script).1 (m.0, Returned, m.1, refl, no_clean m.0),
+  )
 
   acknowledges_it : (w : Known) (script : Statements) → Decides (may none is_acknowledgement w script) (MayEnd w script Acknowledged)
-  acknowledges_it w script = record {
-    finds = λ e. let r = (paths.may none is_acknowledgement w script).0 e in (r.0, subst (λ z. Path w script r.0 (Some z)) (is_acknowledged r.1 r.3) r.2);
-    found = λ m. (paths.may none is_acknowledgement w script).1 (m.0, Acknowledged, m.1, refl, no_clean m.0);
-  }
+  acknowledges_it w script = (
+    λ e. let r = (paths.may none is_acknowledgement w script).0 e in (r.0, subst (λ z. Path w script r.0 (Some z)) (is_acknowledged r.1 r.3) r.2),
+    λ m. (paths.may none is_acknowledgement w script).1 (m.0, Acknowledged, m.1, refl, no_clean m.0),
+  )
 
   pub throws_it : (w : Known) (script : Statements) → Decides (may none is_throw w script) (MayThrow w script)
-  throws_it w script = record {
-    finds = λ e.
+  throws_it w script = (
+    λ e.
         let r = (paths.may none is_throw w script).0 e in
         let l = thrown_label r.1 r.3 in
-        (l.0, (r.0, subst (λ z. Path w script r.0 (Some z)) l.1 r.2));
-    found = λ m. (paths.may none is_throw w script).1 (m.1.0, Threw m.0, m.1.1, refl, no_clean m.1.0);
-  }
+        (l.0, (r.0, subst (λ z. Path w script r.0 (Some z)) l.1 r.2)),
+    λ m. (paths.may none is_throw w script).1 (m.1.0, Threw m.0, m.1.1, refl, no_clean m.1.0),
+  )
 
   starts_it : (c : ℕ) (w : Known) (script : Statements) → Decides (reaches c w script) (MayStartChild w script c)
-  starts_it c w script = record { finds = (paths.may_start c w script).0; found = (paths.may_start c w script).1 }
+  starts_it c w script = ((paths.may_start c w script).0, (paths.may_start c w script).1)
 
   observes_it : (w : Known) (script : Statements) → Decides (must_observe w script) (MustObserve w script)
-  observes_it w script = record { finds = (paths.must_observe w script).0; found = (paths.must_observe w script).1 }
+  observes_it w script = ((paths.must_observe w script).0, (paths.must_observe w script).1)
 
   -- it runs
   nothing_asked : Decides true (Unit {0})
-  nothing_asked = record { finds = λ e. tt; found = λ u. refl }
+  nothing_asked = (λ e. tt, λ u. refl)
 
   runs_decided : (g : TaskGraph) (l : Assumed) (rows : List Row) (t : ℕ) → IsGraph g → (k : TaskKind) → Decides (runs_by g l rows t k) (RunsRule g l rows t k)
   runs_decided g l rows t valid Root = itself (row rows t).runs
@@ -167,7 +168,7 @@ module _ (paths : PathLaws) where
 
   -- what is before it
   nothing_there : Decides false ⊥
-  nothing_there = record { finds = λ e. true_false (sym e); found = λ z. absurd z }
+  nothing_there = (λ e. true_false (sym e), λ z. absurd z)
 
   or_past : (rows : List Row) (x y : ℕ) → Decides (nat_eq x y || mem x (row rows y).past) ((x ≡ y) ⊎ (mem x (row rows y).past ≡ true))
   or_past rows x y = either (x ≡ y) (mem x (row rows y).past ≡ true) (nat_eq x y) (mem x (row rows y).past) (same x y) (itself (mem x (row rows y).past))
@@ -201,23 +202,23 @@ module _ (paths : PathLaws) where
 
   -- who reads its exception
   argument_decided : (y : ℕ) (k : TaskKind) → Decides (is_argument y k) ((args : List ℕ) × (k ≡ WhenAll args) × (mem y args ≡ true))
-  argument_decided y Root = record { finds = λ e. true_false (sym e); found = λ e. absurd (let q = e.1 in (cc)) }
-  argument_decided y Child = record { finds = λ e. true_false (sym e); found = λ e. absurd (let q = e.1 in (cc)) }
-  argument_decided y (Continues a) = record { finds = λ e. true_false (sym e); found = λ e. absurd (let q = e.1 in (cc)) }
-  argument_decided y (WhenAll args) = record { finds = λ e. (args, refl, e); found = λ e. subst (λ z. is_argument y z ≡ true) (sym e.1) e.2 }
-  argument_decided y (WhenAny args) = record { finds = λ e. true_false (sym e); found = λ e. absurd (let q = e.1 in (cc)) }
+  argument_decided y Root = (λ e. true_false (sym e), λ e. absurd (let q = e.1 in (cc)))
+  argument_decided y Child = (λ e. true_false (sym e), λ e. absurd (let q = e.1 in (cc)))
+  argument_decided y (Continues a) = (λ e. true_false (sym e), λ e. absurd (let q = e.1 in (cc)))
+  argument_decided y (WhenAll args) = (λ e. (args, refl, e), λ e. subst (λ z. is_argument y z ≡ true) (sym e.1) e.2)
+  argument_decided y (WhenAny args) = (λ e. true_false (sym e), λ e. absurd (let q = e.1 in (cc)))
 
   takes_decided : (g : TaskGraph) (x y : ℕ) → Decides (takes_over g x y) (TakesOver g x y)
   takes_decided g x y =
       either (mem y (attached g x) ≡ true) ((args : List ℕ) × (kind g x ≡ WhenAll args) × (mem y args ≡ true)) (mem y (attached g x)) (is_argument y (kind g x)) (itself (mem y (attached g x))) (argument_decided y (kind g x))
 
   continues_decided : (y : ℕ) (k : TaskKind) → Decides (continues y k) (k ≡ Continues y)
-  continues_decided y Root = record { finds = λ e. true_false (sym e); found = λ e. absurd (cc) }
-  continues_decided y Child = record { finds = λ e. true_false (sym e); found = λ e. absurd (cc) }
+  continues_decided y Root = (λ e. true_false (sym e), λ e. absurd (cc))
+  continues_decided y Child = (λ e. true_false (sym e), λ e. absurd (cc))
   continues_decided y (Continues a) =
       means (a ≡ y) (Continues a ≡ Continues y) (nat_eq a y) (same a y) (λ e. subst (λ z. Continues a ≡ Continues z) e refl) (λ e. cc)
-  continues_decided y (WhenAll args) = record { finds = λ e. true_false (sym e); found = λ e. absurd (cc) }
-  continues_decided y (WhenAny args) = record { finds = λ e. true_false (sym e); found = λ e. absurd (cc) }
+  continues_decided y (WhenAll args) = (λ e. true_false (sym e), λ e. absurd (cc))
+  continues_decided y (WhenAny args) = (λ e. true_false (sym e), λ e. absurd (cc))
 
   reads_decided : (g : TaskGraph) (l : Assumed) (rows : List Row) (r y : ℕ) → Decides (reads g l r y) (Reads g l rows r y)
   reads_decided g l rows r y =
@@ -242,8 +243,8 @@ module _ (paths : PathLaws) where
 
   -- it proves a claim
   none_decided : (xs : List ℕ) → Decides (is_none xs) (xs ≡ [])
-  none_decided [] = record { finds = λ e. refl; found = λ e. refl }
-  none_decided (x ∷ xs) = record { finds = λ e. true_false (sym e); found = λ e. absurd (cc) }
+  none_decided [] = (λ e. refl, λ e. refl)
+  none_decided (x ∷ xs) = (λ e. true_false (sym e), λ e. absurd (cc))
 
   pub proves_lem : (g : TaskGraph) (l : Assumed) (rows : List Row) (p : Property) → Decides (proves g l rows p) (Proves g l rows p)
   proves_lem g l rows (EndsIn t fs) =

@@ -2,4 +2,4 @@ use Rattle.tpl_laws.proofs.RulesDecided.{chain_lem}
 use Rattle.tpl_laws.proofs.closed.chain_is_right.Goals as goal
 
 pub returns : goal.returns
-returns c g l rows t = let d = chain_lem c.path_laws.ensures g l rows t in (d.finds, d.found)
+returns c g l rows t = let d = chain_lem c.path_laws.ensures g l rows t in (d.0, d.1)
