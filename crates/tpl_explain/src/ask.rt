@@ -1,7 +1,7 @@
 //! What is looked for in a document.
 
-use crate::grammar::{declaring, element, is_choice, is_object, lacks, most, stranger, words};
 use serde_json::Value;
+use tpl_grammar::{declaring, element, is_choice, is_object, lacks, most, stranger, words};
 
 /// What is looked for.
 #[derive(Clone, Copy)]

@@ -1,12 +1,12 @@
 //! What is wrong with tasks, tokens and inputs.
 
 use crate::ask::{Ask, declared_name, list_in, place};
-use crate::grammar::{declaring, most};
 use crate::misfit::Line;
 use crate::say::{listed, question, quoted};
 use crate::walk::{Area, Spot, Teller};
 use serde_json::Value;
 use std::alloc::AllocError;
+use tpl_grammar::{declaring, most};
 use tpl_graph::{GraphFault, OptionsFault, Why};
 
 /// The most tasks of a graph.

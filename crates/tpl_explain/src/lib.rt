@@ -4,7 +4,6 @@
 mod ask;
 mod bytes;
 mod explain;
-mod grammar;
 mod graph;
 mod misfit;
 mod others;

@@ -1,11 +1,11 @@
 //! Lines about places, and about values of the wrong shape.
 
 use crate::ask::{Ask, list_in, text_in};
-use crate::grammar::{MEMBERS, is_choice, is_object, keys_of, names_of, noun, stranger, words};
 use crate::say::{listed, question, quoted, shown};
 use crate::walk::{Area, Found, Spot, Teller};
 use serde_json::{Map, Value};
 use std::alloc::AllocError;
+use tpl_grammar::{MEMBERS, is_choice, is_object, keys_of, names_of, noun, stranger, words};
 
 /// A line, if there is a place that it speaks of.
 pub(crate) type Line = Result<Option<String>, AllocError>;

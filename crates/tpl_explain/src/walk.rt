@@ -1,9 +1,9 @@
 //! The walk over a document, which looks for the place that a fault speaks of.
 
 use crate::ask::{Ask, is_asked, list_in};
-use crate::grammar::{MEMBERS, chosen, element};
 use serde_json::Value;
 use std::alloc::{AllocError, Global};
+use tpl_grammar::{MEMBERS, chosen, element};
 
 /// More levels than a document has.
 const LEVELS: u32 = 128;

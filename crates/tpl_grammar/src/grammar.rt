@@ -4,21 +4,18 @@ use serde_json::{Map, Value};
 use std::alloc::{AllocError, Global};
 
 /// A member of an object: the object's form, the member's name, whether it has to be there, and its form.
-pub(crate) struct Member(
-    pub(crate) &'static str,
-    pub(crate) &'static str,
-    pub(crate) bool,
-    pub(crate) &'static str,
+pub struct Member(
+    pub &'static str,
+    pub &'static str,
+    pub bool,
+    pub &'static str,
 );
 
 /// A member by which an object has one of several forms: these, the member's name, and the form.
-pub(crate) struct Key(
-    pub(crate) &'static str,
-    pub(crate) &'static str,
-    pub(crate) &'static str,
-);
+struct Key(&'static str, &'static str, &'static str);
 
-pub(crate) const MEMBERS: [Member; 76] = [
+/// The members of each object that has members of its own.
+pub const MEMBERS: [Member; 76] = [
     Member("top", "version", true, "version"),
     Member("top", "inputs", false, "[new input]"),
     Member("top", "tokens", false, "[token]"),
@@ -97,7 +94,8 @@ pub(crate) const MEMBERS: [Member; 76] = [
     Member("start", "fail", false, "[failing site]"),
 ];
 
-pub(crate) const KEYS: [Key; 17] = [
+/// The members that say which form an object of several has.
+const KEYS: [Key; 17] = [
     Key("statement", "throw", "throw"),
     Key("statement", "check", "check"),
     Key("statement", "cancel", "cancel"),
@@ -140,7 +138,7 @@ const OPTIONS: [&str; 15] = [
 ];
 
 /// The words that may stand there.
-pub(crate) fn words(form: &str) -> &'static [&'static str] {
+pub fn words(form: &str) -> &'static [&'static str] {
     match form {
         "kind" => &KINDS,
         "final" | "end" | "subject" => &FINALS,
@@ -151,7 +149,7 @@ pub(crate) fn words(form: &str) -> &'static [&'static str] {
 }
 
 /// The form of a list's element.
-pub(crate) fn element(form: &'static str, index: usize) -> Option<&'static str> {
+pub fn element(form: &'static str, index: usize) -> Option<&'static str> {
     match form {
         "after pair" if index == 0 => Some("task's name"),
         "after pair" | "pair" => Some("begun"),
@@ -161,7 +159,7 @@ pub(crate) fn element(form: &'static str, index: usize) -> Option<&'static str> 
 }
 
 /// The most elements of a list, where that is limited.
-pub(crate) fn most(form: &str) -> Option<usize> {
+pub fn most(form: &str) -> Option<usize> {
     match form {
         "[new input]" | "[link]" => Some(16),
         "[token]" | "[source]" => Some(32),
@@ -171,7 +169,7 @@ pub(crate) fn most(form: &str) -> Option<usize> {
 }
 
 /// The list of the document that declares what a text of the form names; empty where none does.
-pub(crate) fn declaring(form: &str) -> &'static str {
+pub fn declaring(form: &str) -> &'static str {
     match form {
         "input's name" | "given input's name" => "inputs",
         "token's name" | "given token's name" | "source" => "tokens",
@@ -201,7 +199,7 @@ fn keyed(form: &'static str, value: &Value) -> &'static str {
 }
 
 /// Whether the object lacks a member that has to be there.
-pub(crate) fn lacks(form: &str, value: &Value) -> bool {
+pub fn lacks(form: &str, value: &Value) -> bool {
     for slot in &MEMBERS {
         if slot.0 == form && slot.2 && value.get(slot.1).is_none() {
             return true;
@@ -211,7 +209,7 @@ pub(crate) fn lacks(form: &str, value: &Value) -> bool {
 }
 
 /// The names of the members that an object of the form may have.
-pub(crate) fn names_of(alloc: Global, form: &str) -> Result<Vec<&'static str>, AllocError> {
+pub fn names_of(alloc: Global, form: &str) -> Result<Vec<&'static str>, AllocError> {
     let mut names = Vec::new(alloc);
     for slot in &MEMBERS {
         if slot.0 == form {
@@ -222,7 +220,7 @@ pub(crate) fn names_of(alloc: Global, form: &str) -> Result<Vec<&'static str>, A
 }
 
 /// The names of the members of which an object has one that says its form.
-pub(crate) fn keys_of(alloc: Global, form: &str) -> Result<Vec<&'static str>, AllocError> {
+pub fn keys_of(alloc: Global, form: &str) -> Result<Vec<&'static str>, AllocError> {
     let mut names = Vec::new(alloc);
     for key in &KEYS {
         if key.0 == form {
@@ -243,7 +241,7 @@ fn has_slot<'a>(form: &'a str, name: &'a str) -> bool {
 }
 
 /// The first member that an object of the form may not have.
-pub(crate) fn stranger<'v>(form: &str, object: &'v Map<String, Value>) -> Option<&'v str> {
+pub fn stranger<'v>(form: &str, object: &'v Map<String, Value>) -> Option<&'v str> {
     for key in object.keys() {
         if !has_slot(form, key.as_str()) {
             return Some(key.as_str());
@@ -253,7 +251,7 @@ pub(crate) fn stranger<'v>(form: &str, object: &'v Map<String, Value>) -> Option
 }
 
 /// Whether it is the form of an object with members of its own.
-pub(crate) fn is_object(form: &str) -> bool {
+pub fn is_object(form: &str) -> bool {
     for slot in &MEMBERS {
         if slot.0 == form {
             return true;
@@ -263,12 +261,12 @@ pub(crate) fn is_object(form: &str) -> bool {
 }
 
 /// Whether it is a form of several, which a member of the object says.
-pub(crate) fn is_choice(form: &str) -> bool {
+pub fn is_choice(form: &str) -> bool {
     matches!(form, "statement" | "claim" | "given" | "tree")
 }
 
 /// The form that the value has, where there are several; the same form, where it has none of them.
-pub(crate) fn chosen(form: &'static str, value: &Value) -> &'static str {
+pub fn chosen(form: &'static str, value: &Value) -> &'static str {
     match (form, value) {
         ("task", _) => task_form(value),
         ("token", Value::Object(_)) => "linked token",
@@ -318,7 +316,7 @@ fn list_noun(form: &str) -> &'static str {
 }
 
 /// What may stand there.
-pub(crate) fn noun(form: &str) -> &'static str {
+pub fn noun(form: &str) -> &'static str {
     match form {
         "top" => "a document, which is an object",
         "token" => "a token's name, or {\"name\": .., \"linked\": [..]}",

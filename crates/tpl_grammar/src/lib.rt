@@ -1,0 +1,9 @@
+//! What may stand where in a document, as tables, for those who explain it.
+#![tactic(auto)]
+
+mod grammar;
+
+pub use grammar::{
+    MEMBERS, chosen, declaring, element, is_choice, is_object, keys_of, lacks, most, names_of,
+    noun, stranger, words,
+};
