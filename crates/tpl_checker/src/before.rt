@@ -5,7 +5,7 @@ ghost use Rattle.tpl_model.specs.Graph.{is_task, kind, Child};
 ghost use Rattle.tpl_model.specs.Certificate.{row};
 ghost use Rattle.tpl_laws.specs.RowTests.{all_in, before, before_by};
 
-use crate::parent::parent;
+use crate::parents::parent;
 use crate::rows::{implies, row, settled_after, within};
 use tpl_cert::Row;
 use tpl_graph::{Graph, Role};

@@ -8,7 +8,7 @@ ghost use Rattle.tpl_laws.specs.RowTests.{runs, runs_by};
 ghost use Rattle.tpl_checker.specs.Bodies.{AreBodies};
 
 use crate::bodies::Bodies;
-use crate::parent::parent;
+use crate::parents::parent;
 use crate::rows::{allowed, implies, row, some_end};
 use tpl_cert::Row;
 use tpl_graph::{Graph, Role};

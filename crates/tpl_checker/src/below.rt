@@ -6,7 +6,7 @@ ghost use Rattle.tpl_model.specs.Graph.{is_task};
 ghost use Rattle.tpl_laws.specs.RowTests.{below_by, is_below, parent_of};
 ghost use Rattle.tpl_checker.specs.Below.{AreBelow};
 
-use crate::parent::parent;
+use crate::parents::parent;
 use crate::rows::{is_member, with_if};
 use std::array;
 use tpl_graph::Graph;

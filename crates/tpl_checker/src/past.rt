@@ -12,7 +12,7 @@ ghost use Rattle.tpl_graph.specs.Roles.{AreTasks};
 
 use crate::assumptions::Assumptions;
 use crate::below::Below;
-use crate::parent::parent;
+use crate::parents::parent;
 use crate::rows::{row, settled_after, within};
 use tpl_cert::Row;
 use tpl_graph::{Graph, Role};

@@ -1,7 +1,7 @@
 use Rattle.tpl_model.specs.Graph.{IsParent}
 use Rattle.tpl_laws.specs.RowTests.{parent_of}
 use Rattle.tpl_checker.proofs.Basics.{option_is}
-use Rattle.tpl_checker.proofs.parent.parent.Goals as goal
+use Rattle.tpl_checker.proofs.parents.parent.Goals as goal
 
 pub returns-clause-parent : goal.returns-clause-parent
 returns-clause-parent c =
