@@ -26,6 +26,11 @@ pub record MarkedSoFar (first now : List Bool) (tokens : List TokenId) (i : ℕ)
   pub left : AllTokens 32 (drop i tokens)
   pub marks : (k : ℕ) → (slice_index_or now k false || mem k (map token_number (drop i tokens))) ≡ (slice_index_or first k false || mem k (map token_number tokens))
 
+pub or_moved : (a b c : Bool) → ((a || b) || c) ≡ (b || (a || c))
+or_moved true true c = refl
+or_moved true false c = refl
+or_moved false b c = refl
+
 -- one more mark
 pub mark_set : (xs : List Bool) (i k : ℕ) → i < length xs → slice_index_or (slice_set xs i true) k false ≡ (nat_eq k i || slice_index_or xs k false)
 mark_set xs i k lt = elim (eqb_tells k i) [
@@ -152,11 +157,6 @@ pub record GivenSoFar (given : List Given) (i : ℕ) (a : Assumed) : Type 0 wher
   pub possible : (j : ℕ) (b : Bool) → (a.possible j b && given_input (drop i given) j b) ≡ given_input given j b
   pub quiet : (j : ℕ) → (a.quiet j || gives_quiet (drop i given) j) ≡ gives_quiet given j
   pub cut : (t : ℕ) (f : Final) → a.cut t f ≡ true
-
-pub or_moved : (a b c : Bool) → ((a || b) || c) ≡ (b || (a || c))
-or_moved true true c = refl
-or_moved true false c = refl
-or_moved false b c = refl
 
 step_input : (given : List Given) (i : ℕ) (a : Assumed) (k : InputId) (value : Bool) → drop i given ≡ Input k value ∷ drop (i + 1) given → GivenSoFar given i a → GivenSoFar given (i + 1) (with_input a k.0 value)
 step_input given i a k value e s = record {

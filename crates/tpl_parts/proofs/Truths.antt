@@ -1,6 +1,5 @@
 -- The members of an object, all true or false.
-use Rattle.std.proofs.Common.{◌≡◌, ℕ, zero, suc, ◌&&◌, List, [], ◌∷◌, ◌++◌, map, Bool, false, Some, Ordering, Less, Equal, Greater, is_some, refl, ap, ◌∙◌}
-use Rattle.std.specs.Prelude.{slice_get, slice_index_or}
+use Rattle.std.proofs.Common.{◌≡◌, ℕ, ◌&&◌, List, [], ◌∷◌, ◌++◌, map, Bool, false, Ordering, Less, Equal, Greater, is_some, refl, ap, ◌∙◌}
 use Rattle.std.specs.Borrow.{Bor}
 use Rattle.std.specs.BTreeMap.{insert_entry}
 use Rattle.std.specs.List.{list_all}
@@ -11,7 +10,6 @@ use Rattle.json.specs.Value.{members_view}
 use Rattle.serde_json.specs.Data.{Data, Members, no_members, member, put}
 use Rattle.serde_json.specs.Find.{as_bool}
 use Rattle.tpl_json.specs.View.{Value, view, members_from}
-use Rattle.tpl_json.proofs.Arrays.{some_is}
 use Rattle.tpl_json.proofs.DataOf.{members_more}
 use Rattle.tpl_parts.specs.Start.{all_truths}
 
@@ -72,10 +70,3 @@ all_seen (e ∷ es) = ap (λ b. e.1 && b) (all_seen es)
 -- and after the last
 pub all_truths_of : (es : List Entry) (ms : Members) → map seen es ≡ noted ms → list_all (λ b. b) (values_of es) ≡ all_truths ms
 all_truths_of es ms e = all_seen es ∙ ap (list_all (λ p. p.1)) e ∙ all_noted ms
-
--- ---- whether a job may fail
-
-pub fails : (bs : List Bool) (i : ℕ) (b : Bool) → slice_get bs i ≡ Some b → slice_index_or bs i false ≡ b
-fails [] i b e = absurd cc
-fails (x ∷ bs) zero b e = some_is x b e
-fails (x ∷ bs) (suc i) b e = fails bs i b e

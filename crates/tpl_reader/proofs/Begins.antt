@@ -1,6 +1,6 @@
 -- The names of a start, one after another.
 use Rattle.std.proofs.Common.{◌≡◌, ℕ, zero, suc, ◌+◌, ◌<◌, ◌≤◌, ◌⊎◌, inl, inr, List, [], ◌∷◌, length, get_or, set, map, Bool, false, Option, Some, refl, sym, ap, ◌∙◌, arith}
-use Rattle.std.specs.Prelude.{slice_set, slice_index_or}
+use Rattle.std.specs.Prelude.{slice_get, slice_set, slice_index_or}
 use Rattle.std.proofs.lemmas.List.{get_or-set_same, get_or-set_other}
 use Rattle.serde_json.specs.Data.{Data}
 use Rattle.tpl_cert.specs.Written.{name_at}
@@ -10,7 +10,7 @@ use Rattle.std.proofs.lemmas.List.Elements.{All-cons}
 use Rattle.tpl_words.specs.declared.ids.SiteId.{SiteId}
 use Rattle.tpl_graph.specs.Ids.{site_number}
 use Rattle.tpl_cert.specs.Naming.{number_of, AreNumbers}
-use Rattle.tpl_json.proofs.Arrays.{head_is, tail_is}
+use Rattle.tpl_json.proofs.Arrays.{head_is, some_is, tail_is}
 use Rattle.tpl_cert.proofs.Names.{list_all_stops, number_below}
 use Rattle.tpl_reader.specs.declared.fault.Stop.{Stop}
 use Rattle.tpl_reader.specs.declared.fault.Stop.TheVariants as stop
@@ -69,3 +69,10 @@ truths_more names d values n b lt so_far h = record {
 
 pub truths_all : (names : List (List ℕ)) (d : Option Data) (values : List Bool) (n : ℕ) → length names ≤ n → TruthsTo names d values n → HasTruths names d values
 truths_all names d values n le so_far = record { count = so_far.count; each = λ i lt. so_far.each i (omega arith) }
+
+-- ---- whether a job may fail
+
+pub fails : (bs : List Bool) (i : ℕ) (b : Bool) → slice_get bs i ≡ Some b → slice_index_or bs i false ≡ b
+fails [] i b e = absurd cc
+fails (x ∷ bs) zero b e = some_is x b e
+fails (x ∷ bs) (suc i) b e = fails bs i b e

@@ -121,7 +121,7 @@ fn sites_in(alloc: Global, graph: &Graph, names: &[&str]) -> Result<Vec<SiteId>,
     Ok(sites)
 }
 
-#[tactic(auto, using(crate::proofs::Truths::fails))]
+#[tactic(auto, using(crate::proofs::Begins::fails))]
 fn may_fail(graph: &Graph, site: SiteId) -> bool
     requires { site.0 < length graph.now.names.sites }
     ensures { result ≡ may_fail graph.now.graph site.0 }
