@@ -38,15 +38,19 @@ pub struct Reasoned {
 }
 
 /// The reason of the answer to a document, if there is something to say.
-fn reason_of(alloc: Global, asked: Asked, document: &Document) -> Result<Option<Reason>, AllocError>
+fn reason_of(
+    alloc: Global,
+    asked: &Asked,
+    document: &Document,
+) -> Result<Option<Reason>, AllocError>
     requires claims { All (Fits document.now.graph.graph) document.now.claims.items }
-    ensures some { IfOk result (λ o. IfSome o (IsReasonOf (doc_of document.now) asked)) }
-    ensures none { IfOk result (λ o. IfNone o (IsSilent (doc_of document.now) asked)) }
+    ensures some { IfOk result (λ o. IfSome o (IsReasonOf (doc_of document.now) asked.now)) }
+    ensures none { IfOk result (λ o. IfNone o (IsSilent (doc_of document.now) asked.now)) }
 {
     match asked {
         Asked::Check => Ok(check_reason(document)),
         Asked::Run => Ok(run_reason(document)),
-        Asked::Analyse(depth) => search_reason(alloc, document, depth),
+        Asked::Analyse(depth) => search_reason(alloc, document, *depth),
         Asked::Audit => audit_reason(alloc, document),
         Asked::Trace => trace_reason(alloc, document),
         Asked::Claims => Ok(claims_reason(document)),
@@ -55,14 +59,14 @@ fn reason_of(alloc: Global, asked: Asked, document: &Document) -> Result<Option<
 }
 
 /// The reason in words.
-fn text_of(alloc: Global, asked: Asked, document: &Document, reason: Reason) -> Said
+fn text_of(alloc: Global, asked: &Asked, document: &Document, reason: Reason) -> Said
     requires claims { All (Fits document.now.graph.graph) document.now.claims.items }
 {
     match reason {
         Reason::Unreadable(_) => String::from_str(alloc, UNREAD),
         Reason::Unchecked(fault) => fault_text(alloc, document, fault),
         Reason::NotFound(claim) => match asked {
-            Asked::Analyse(depth) => not_found_text(alloc, document, depth, claim),
+            Asked::Analyse(depth) => not_found_text(alloc, document, *depth, claim),
             _ => Ok(String::new(alloc)),
         },
         Reason::NoStart => no_start_text(alloc, document),
@@ -88,9 +92,9 @@ fn explain_in(
     ensures none { IfOk result (λ o. IfNone o (HasNoReason bytes.now asked)) }
 {
     let _ = bytes;
-    match reason_of(alloc, asked, document)? {
+    match reason_of(alloc, &asked, document)? {
         Some(reason) => {
-            let text = text_of(alloc, asked, document, reason)?;
+            let text = text_of(alloc, &asked, document, reason)?;
             Ok(Some(Reasoned { reason, text }))
         }
         None => Ok(None),

@@ -28,6 +28,6 @@ returns-in_ok-text-in-Ok over c =
     let spelled : All (IsRead names) trees = rw c.trees.ensures at c.in_ok-text-in-Ok.ensures.read in
     let back = within names trees spelled c.within_limits.ensures in
     certifying c.one_document.ensures.one c.one_document.ensures.faultless c.certificate_is_read_back.ensures c.args.depth c.args.form doc trees c.args.bytes.now (string_bytes c.in_ok-text-in-Ok.text)
-    (record { accepted = accepted; splits = rw c.splits.ensures.value at c.in-Ok.ensures.splits; of_form = form })
+    (record { accepted = accepted; splits = rw c.splits-splits.ensures.value at c.in-Ok.ensures.splits; of_form = form })
     (λ inputs events run. c.soundness.ensures g c.args.document.now.claims.items trees c.valid.ensures.graph accepted inputs events run)
     back c.requires.spelled (rw c.trees.ensures at c.in_ok-text-in-Ok.ensures.holds) c.sized.result c.sized.ensures
