@@ -109,25 +109,25 @@ fn search<I: Read, O: Write>(
 fn answer<R: Threads + Wait + Sync, I: Read, O: Write>(
     rt: &HostRuntime,
     threads: &R,
-    line: Line,
+    line: &Line,
     from: &mut Counting<I>,
     to: &mut Counting<O>,
 ) -> Exit
-    requires { IsWithin line }
+    requires { IsWithin line.now }
 {
     match line {
         Line::Check => serve(rt.alloc(), Ask::Check, from, to),
-        Line::Analyse(depth) => search(rt, Ask::Analyse(depth), from, to),
-        Line::AnalyseIn(depth, form) => search(rt, Ask::AnalyseIn(depth, form), from, to),
-        Line::Certify(depth, form) => search(rt, Ask::Certify(depth, form), from, to),
-        Line::Run(workers) => run(rt, threads, workers, from, to),
+        Line::Analyse(depth) => search(rt, Ask::Analyse(*depth), from, to),
+        Line::AnalyseIn(depth, form) => search(rt, Ask::AnalyseIn(*depth, *form), from, to),
+        Line::Certify(depth, form) => search(rt, Ask::Certify(*depth, *form), from, to),
+        Line::Run(workers) => run(rt, threads, *workers, from, to),
         Line::Audit => serve(rt.alloc(), Ask::Audit, from, to),
         Line::Refute(claim, runs, seed, explain) => {
-            let search = search_of(claim, runs, seed, explain);
+            let search = search_of(*claim, *runs, *seed, *explain);
             let mut aside = Counting::new(rt.stderr());
             refute_document(rt.alloc(), search, from, to, &mut aside)
         }
-        Line::Draw(language) => serve(rt.alloc(), Ask::Draw(language), from, to),
+        Line::Draw(language) => serve(rt.alloc(), Ask::Draw(*language), from, to),
         Line::Trace => trace_document(rt.alloc(), from, to),
     }
 }
@@ -136,11 +136,11 @@ fn answer<R: Threads + Wait + Sync, I: Read, O: Write>(
 fn answer_and_explain<R: Threads + Wait + Sync, I: Read, O: Write>(
     rt: &HostRuntime,
     threads: &R,
-    line: Line,
+    line: &Line,
     from: &mut Counting<I>,
     to: &mut Counting<O>,
 ) -> Exit
-    requires { IsWithin line }
+    requires { IsWithin line.now }
 {
     match read_input(rt.alloc(), from, to) {
         Ok(bytes) => {
@@ -168,9 +168,9 @@ fn perform<R: Threads + Wait + Sync>(rt: &HostRuntime, threads: &R, order: Order
     };
     let mut to = Counting::new(out);
     if order.explains {
-        answer_and_explain(rt, threads, order.line, &mut from, &mut to)
+        answer_and_explain(rt, threads, &order.line, &mut from, &mut to)
     } else {
-        answer(rt, threads, order.line, &mut from, &mut to)
+        answer(rt, threads, &order.line, &mut from, &mut to)
     }
 }
 

@@ -11,11 +11,11 @@ pub(crate) fn asks_why(words: &[&str]) -> bool {
 }
 
 /// What a line asks of the document, as far as the reasons of its answer go.
-fn asked_by(line: Line) -> Asked {
+fn asked_by(line: &Line) -> Asked {
     match line {
         Line::Check => Asked::Check,
         Line::Analyse(depth) | Line::AnalyseIn(depth, _) | Line::Certify(depth, _) => {
-            Asked::Analyse(depth)
+            Asked::Analyse(*depth)
         }
         Line::Run(_) => Asked::Run,
         Line::Audit => Asked::Audit,
@@ -26,7 +26,7 @@ fn asked_by(line: Line) -> Asked {
 
 /// What was asked for, where there may be a reason to report: the document wasn't read, or the answer is no, or it is
 /// yes, perhaps to no claim at all.
-fn told_of(line: Line, exit: Exit) -> Option<Asked> {
+fn told_of(line: &Line, exit: Exit) -> Option<Asked> {
     match exit {
         Exit::Failure | Exit::Unreadable => Some(asked_by(line)),
         Exit::Success => match line {
@@ -41,7 +41,7 @@ fn told_of(line: Line, exit: Exit) -> Option<Asked> {
 
 /// Says why the answer to a document of these bytes was what it was. Where there is no memory for it, or the standard
 /// error takes nothing, it isn't said.
-pub(crate) fn tell_why(rt: &HostRuntime, line: Line, exit: Exit, bytes: &[u8]) {
+pub(crate) fn tell_why(rt: &HostRuntime, line: &Line, exit: Exit, bytes: &[u8]) {
     let Some(asked) = told_of(line, exit) else {
         return;
     };
