@@ -259,8 +259,7 @@ module _ (paths : PathLaws) where
   shape_decided g (SplitInput i a b) =
       let x = shape_decided g a in
       let y = shape_decided g b in
-      let z = below_decided paths i g.inputs in
-      (
+      let z = below_decided paths i g.inputs in (
         λ e. let s = and_parts (nat_lt i g.inputs) (fits g a && fits g b) e in let r = and_parts (fits g a) (fits g b) s.1 in (z.0 s.0, x.0 r.0, y.0 r.1),
         λ e. and_from (nat_lt i g.inputs) (fits g a && fits g b) (z.1 e.0) (and_from (fits g a) (fits g b) (x.1 e.1) (y.1 e.2)),
       )
@@ -268,8 +267,7 @@ module _ (paths : PathLaws) where
       let x = shape_decided g a in
       let y = shape_decided g b in
       let w = shape_decided g d in
-      let z = below_decided paths t (length g.tasks) in
-      (
+      let z = below_decided paths t (length g.tasks) in (
         λ e.
             let s = and_parts (nat_lt t (length g.tasks)) (fits g a && (fits g b && fits g d)) e in
             let r = and_parts (fits g a) (fits g b && fits g d) s.1 in
