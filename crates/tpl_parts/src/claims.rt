@@ -172,7 +172,7 @@ fn property_of<'v, 't>(value: &'v Value<'t>) -> Result<NamedProperty<'v>, Miss>
     excludes_claim(value)
 }
 
-/// A claim with names.
+/// A claim with names. Errors: a wrong shape; out of memory.
 #[tactic(auto, unfolding(crate::specs::Claims::claim_at))]
 pub fn claim_of<'v, 't>(alloc: Global, value: &'v Value<'t>) -> Result<NamedClaim<'v>, Miss>
     ensures { Gives claim_of result (claim_at (view value.now)) }

@@ -149,7 +149,7 @@ fn kind_of(alloc: Global, kind: &str, value: &Value<'_>) -> Result<DraftKind, Mi
     }
 }
 
-/// A task with names.
+/// A task with names. Errors: a wrong shape, and bodies past 127 levels have one; out of memory.
 #[tactic(auto, unfolding(crate::specs::Tasks::task_at))]
 pub fn task_of(alloc: Global, value: &Value<'_>) -> Result<DraftTask, Miss>
     ensures { Gives task_of result (task_at (view value.now)) }
@@ -186,7 +186,8 @@ fn plain_of(alloc: Global, name: &str) -> Result<DraftToken, Miss>
     Ok(DraftToken { name, linked: None })
 }
 
-/// A token: a name, or, where links are allowed, an object that links it to others.
+/// A token: a name, or, where links are allowed, an object that links it to others. Errors: a wrong shape; out of
+/// memory.
 #[tactic(auto, unfolding(crate::specs::Tasks::token_at))]
 pub fn token_of(alloc: Global, links: bool, value: &Value<'_>) -> Result<DraftToken, Miss>
     ensures { Gives token_of result (token_at links (view value.now)) }
