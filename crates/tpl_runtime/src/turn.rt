@@ -76,7 +76,7 @@ impl<'g, K: Drop, W: Item<K>> Shared<'g, K, W> {
         self.next(rt, queue, pass, seat, held)
     }
 
-    /// One section of a worker's work. Its seat is compared with the run where it comes for the first time and where its
+    /// One turn of a worker's work. Its seat is compared with the run where it comes for the first time and where its
     /// work ends; between them it is enough that the run has not become shorter.
     pub fn turn<R: Wait>(
         &mut self,
@@ -109,6 +109,35 @@ impl<'g, K: Drop, W: Item<K>> Shared<'g, K, W> {
             Turn::Over(ended) => {
                 Turn::Over(self.hall.let_go(graph, inputs, seat, *stint, ended))
             }
+        }
+    }
+
+    /// One locked section of a worker's work: a turn, and where that leaves the worker in a task, the next one too. So a
+    /// task takes a section before each of its jobs and one after the last, and not one for each event.
+    pub fn section<R: Wait>(
+        &mut self,
+        rt: &R,
+        graph: &Graph,
+        inputs: &Inputs,
+        queue: &ItemQueue<W>,
+        pass: &mut ItemPass<W>,
+        seat: &mut Seat,
+        stint: &mut Stint,
+        hand: Hand<K>,
+    ) -> Turn<K, W>
+        requires { pass.old.queue ≡ queue.now.id }
+        ensures pass { pass.new.queue ≡ queue.now.id }
+        ensures actor { seat.new.actor ≡ seat.old.actor }
+        ensures stays { (first : SeatView) → Stays stint.old first seat.old
+            → OnOver result (λ ended. Leaves ended graph.now.graph inputs.now first seat.new)
+            (Stays stint.new first seat.new) }
+    {
+        match self.turn(rt, graph, inputs, queue, pass, seat, stint, hand) {
+            Turn::Go(Hand::Running(task)) => {
+                let held = Hand::Running(task);
+                self.turn(rt, graph, inputs, queue, pass, seat, stint, held)
+            }
+            other => other,
         }
     }
 }
