@@ -1,6 +1,6 @@
 //! How a session runs its workers.
 
-ghost use Rattle.std.specs.Prelude.{◌≡◌, ◌≤◌, [], map, vec_len, vec_capacity, IfOk, IfErr, IfSome, IfNone};
+ghost use Rattle.std.specs.Prelude.{◌≡◌, ◌≤◌, [], map, vec_len, vec_capacity, IfOk, IfErr, IfSome, IfNone, true};
 ghost use Rattle.tpl_runtime.specs.Workers.{workers};
 ghost use Rattle.tpl_runtime.specs.declared.run.RunWhy.TheVariants.{Spawn};
 
@@ -67,6 +67,30 @@ fn seats_of(done: Vec<(Seat, Ended)>, mut seats: Vec<Seat>) -> Vec<Seat>
     seats
 }
 
+/// What a run gives: the workers that are done, with the pass; or their seats, in the empty list `left`, where one of them
+/// had no thread.
+fn answer_of<W>(
+    done: Vec<(Seat, Ended)>,
+    left: Vec<Seat>,
+    pass: ItemPass<W>,
+    all: bool,
+) -> Result<(Vec<(Seat, Ended)>, ItemPass<W>), RunFault<W>>
+    requires empty { left.items ≡ [] }
+    requires room { vec_len done ≤ vec_capacity left }
+    ensures done { IfOk result (λ r. (all ≡ true) × (r.0 ≡ done) × (r.1 ≡ pass)) }
+    ensures left { IfErr result (λ e. (e.why ≡ Spawn) × (vec_len e.seats ≡ vec_len done)
+        × (e.pass ≡ pass)) }
+{
+    if !all {
+        return Err(RunFault {
+            why: RunWhy::Spawn,
+            seats: seats_of(done, left),
+            pass,
+        });
+    }
+    Ok((done, pass))
+}
+
 impl<'g, K: Drop + Send, W: Item<K> + Send> Session<'g, K, W> {
     /// Seats the workers 1 to n and lets each work in a thread of its own, until all have come back. It takes all memory
     /// before the first starts.
@@ -104,14 +128,7 @@ impl<'g, K: Drop + Send, W: Item<K> + Send> Session<'g, K, W> {
             return Err(RunFault { why, seats, pass });
         }
         let (done, pass, all) = run_crew(self, rt, seats, children, done, pass);
-        if !all {
-            return Err(RunFault {
-                why: RunWhy::Spawn,
-                seats: seats_of(done, left),
-                pass,
-            });
-        }
-        Ok((done, pass))
+        answer_of(done, left, pass, all)
     }
 
     /// Seats the workers 1 to n in an empty list that has room for them, and says why it can't.
