@@ -165,7 +165,7 @@ impl<'g, K: Drop, W: Item<K>> Session<'g, K, W> {
         for _ in rt.forever() {
             let held = self.take(rt, &mut pass, hand);
             let mut shared = self.shared.lock(rt);
-            match shared.section(
+            match shared.turn(
                 rt,
                 self.graph,
                 &self.inputs,

@@ -14,9 +14,6 @@ use tpl_hall::{Ended, Seat, Stint};
 use tpl_items::Item;
 use tpl_words::Inputs;
 
-/// The most turns in one section: a Worked event, a Leave, a Begin, and the job that comes then.
-const MOST_TURNS: u8 = 4;
-
 impl<'g, K: Drop, W: Item<K>> Shared<'g, K, W> {
     /// Does the Worked event of a receipt that a worker brings, and what is due where it comes for the first time.
     /// Returns what the worker holds then, and whether something was done; nothing where the receipt was refused.
@@ -79,7 +76,7 @@ impl<'g, K: Drop, W: Item<K>> Shared<'g, K, W> {
         self.next(rt, queue, pass, seat, held)
     }
 
-    /// One turn of a worker's work. Its seat is compared with the run where it comes for the first time and where its
+    /// One section of a worker's work. Its seat is compared with the run where it comes for the first time and where its
     /// work ends; between them it is enough that the run has not become shorter.
     pub fn turn<R: Wait>(
         &mut self,
@@ -113,35 +110,5 @@ impl<'g, K: Drop, W: Item<K>> Shared<'g, K, W> {
                 Turn::Over(self.hall.let_go(graph, inputs, seat, *stint, ended))
             }
         }
-    }
-
-    /// One locked section of a worker's work: its turns, as far as a job that it has to call, or a few of them. So a task
-    /// takes about one section for each of its jobs, and not one for each event.
-    pub fn section<R: Wait>(
-        &mut self,
-        rt: &R,
-        graph: &Graph,
-        inputs: &Inputs,
-        queue: &ItemQueue<W>,
-        pass: &mut ItemPass<W>,
-        seat: &mut Seat,
-        stint: &mut Stint,
-        hand: Hand<K>,
-    ) -> Turn<K, W>
-        requires { pass.old.queue ≡ queue.now.id }
-        ensures pass { pass.new.queue ≡ queue.now.id }
-        ensures actor { seat.new.actor ≡ seat.old.actor }
-        ensures stays { (first : SeatView) → Stays stint.old first seat.old
-            → OnOver result (λ ended. Leaves ended graph.now.graph inputs.now first seat.new)
-            (Stays stint.new first seat.new) }
-    {
-        let mut hand = hand;
-        for _ in 0..MOST_TURNS {
-            match self.turn(rt, graph, inputs, queue, pass, seat, stint, hand) {
-                Turn::Go(next) => hand = next,
-                other => return other,
-            }
-        }
-        Turn::Go(hand)
     }
 }
