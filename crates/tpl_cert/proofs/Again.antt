@@ -11,8 +11,8 @@ use Rattle.tpl_words.specs.Members.{mem}
 use Rattle.tpl_words.specs.TaskSet.{IsTaskSet}
 use Rattle.tpl_model.specs.Certificate.{Row, Tree}
 use Rattle.tpl_model.specs.Certificate as tree
-use Rattle.tpl_graph.specs.Named.{Names}
-use Rattle.tpl_graph.specs.Names.{some_twice}
+use Rattle.tpl_draft.specs.Named.{Names}
+use Rattle.tpl_draft.specs.Names.{some_twice}
 use Rattle.tpl_json.specs.Members.{has_only}
 use Rattle.tpl_cert.specs.NamedTrees.{NamedRow, NamedTree, SplitInput, SplitEnd, Leaf}
 use Rattle.tpl_json.specs.Grammar.{IsArray, IsTexts, AreFinals}

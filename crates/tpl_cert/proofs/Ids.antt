@@ -6,7 +6,7 @@ use Rattle.std.proofs.lemmas.List.Folds.{list_all-append}
 use Rattle.serde_json.specs.Data.{Data}
 use Rattle.tpl_words.specs.TaskSet.{IsTaskSet}
 use Rattle.tpl_model.specs.Certificate.{Row}
-use Rattle.tpl_graph.specs.Named.{Names}
+use Rattle.tpl_draft.specs.Named.{Names}
 use Rattle.tpl_cert.specs.declared.fault.TreeToFault.{TreeToFault}
 use Rattle.tpl_cert.specs.declared.fault.TreeToFault.TheVariants as faults
 use Rattle.tpl_cert.specs.Written.{has_row_ids, named_row, row_data, AreTaskSets, Unwritten}

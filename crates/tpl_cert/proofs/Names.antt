@@ -10,7 +10,7 @@ use Rattle.tpl_words.specs.TaskSet.{IsTaskSet}
 use Rattle.tpl_cert.specs.declared.fault.TreeFault.{TreeFault}
 use Rattle.tpl_cert.specs.declared.fault.TreeFault.TheVariants as faults
 use Rattle.tpl_model.specs.Certificate.{Row}
-use Rattle.tpl_graph.specs.Named.{Names}
+use Rattle.tpl_draft.specs.Named.{Names}
 use Rattle.tpl_cert.specs.NamedTrees.{NamedRow}
 use Rattle.tpl_cert.specs.Naming.{number_of, is_declared, are_declared, AreNumbers, does_name, IsSetOf, IsRowOf, AreRowsOf, Loses}
 

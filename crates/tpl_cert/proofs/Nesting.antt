@@ -5,7 +5,7 @@ use Rattle.serde_json.specs.Data.{string, depth, items_depth}
 use Rattle.serde_json.specs.Read.{max_depth}
 use Rattle.serde_json.specs.View.{items_of}
 use Rattle.tpl_model.specs.Certificate.{Row, Tree, SplitInput, SplitEnd, Leaf}
-use Rattle.tpl_graph.specs.Named.{Names}
+use Rattle.tpl_draft.specs.Named.{Names}
 use Rattle.tpl_cert.specs.NamedTrees.{NamedRow}
 use Rattle.tpl_cert.specs.Heights.{height}
 use Rattle.tpl_cert.specs.Written.{words_of, row_data, tree_data, named_row, named, certificate_data}

@@ -7,7 +7,7 @@ use Rattle.tpl_words.specs.declared.finals.Finals.{Finals}
 use Rattle.tpl_words.specs.TaskSet.{IsTaskSet}
 use Rattle.tpl_model.specs.Certificate.{Row, Tree}
 use Rattle.tpl_model.specs.Certificate as tree
-use Rattle.tpl_graph.specs.Named.{Names}
+use Rattle.tpl_draft.specs.Named.{Names}
 use Rattle.tpl_cert.specs.NamedTrees.{NamedRow, NamedTree, SplitInput, SplitEnd, Leaf}
 use Rattle.tpl_cert.specs.declared.fault.TreeToFault.{TreeToFault}
 use Rattle.tpl_cert.specs.declared.fault.TreeToFault.TheVariants as faults

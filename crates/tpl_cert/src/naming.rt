@@ -2,7 +2,7 @@
 
 ghost use Rattle.std.specs.Prelude.{◌≡◌, Some, map, IfErr};
 ghost use Rattle.std.specs.List.{list_all};
-ghost use Rattle.tpl_graph.specs.Ids.{task_number};
+ghost use Rattle.tpl_draft.specs.Ids.{task_number};
 ghost use Rattle.tpl_cert.specs.Seen.{row_of, tree_of};
 ghost use Rattle.tpl_cert.specs.Naming.{number_of, is_declared, are_declared, AreNumbers, IsSetOf, IsRowOf, AreRowsOf, IsTreeOf, knows_row, knows, Finds};
 

@@ -1,7 +1,7 @@
 //! Rows of certificate trees.
 
 ghost use Rattle.std.specs.Prelude.{◌≡◌, map};
-ghost use Rattle.tpl_graph.specs.Ids.{task_number};
+ghost use Rattle.tpl_draft.specs.Ids.{task_number};
 
 use std::marker::Model;
 use tpl_words::{Finals, TaskId, TaskSet};
@@ -25,7 +25,7 @@ impl Model for Row {
 
     ghost coded = { row_code };
 
-    ghost use Rattle.tpl_graph.specs.Ids.{task_number};
+    ghost use Rattle.tpl_draft.specs.Ids.{task_number};
 
     ghost view = { λ r. record {
       ends = r.ends;

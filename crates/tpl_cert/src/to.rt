@@ -4,7 +4,7 @@ ghost use Rattle.std.specs.Prelude.{◌≡◌, ◌≤◌, ◌+◌, ◌++◌, ◌
 ghost use Rattle.std.specs.List.{list_all};
 ghost use Rattle.serde_json.specs.Data.{array, string, boolean, depth};
 ghost use Rattle.serde_json.specs.View.{view, items_of};
-ghost use Rattle.tpl_graph.specs.Ids.{task_number};
+ghost use Rattle.tpl_draft.specs.Ids.{task_number};
 ghost use Rattle.tpl_words.specs.TaskSet.{IsTaskSet};
 ghost use Rattle.tpl_model.specs.Certificate as certificate;
 ghost use Rattle.tpl_cert.specs.Heights.{height};

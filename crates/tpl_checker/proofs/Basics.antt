@@ -12,7 +12,7 @@ use Rattle.tpl_words.specs.TaskSet.{IsSubset}
 use Rattle.tpl_words.specs.Finals.{has, is_final}
 use Rattle.tpl_model.specs.Graph.{some_in}
 use Rattle.tpl_model.specs.Certificate.{Row, row, one_ends}
-use Rattle.tpl_graph.specs.Ids.{task_number}
+use Rattle.tpl_draft.specs.Ids.{task_number}
 use Rattle.tpl_laws.specs.RowTests.{all_in, implies, each_end, some_end}
 
 all_here : (test : ℕ → Bool) (xs : List ℕ) → ((x : ℕ) → mem x xs ≡ true → test x ≡ true) → all_in test xs ≡ true

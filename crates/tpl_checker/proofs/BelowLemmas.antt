@@ -9,7 +9,7 @@ use Rattle.tpl_laws.proofs.Settling.{attached_child, child_task}
 use Rattle.tpl_words.proofs.Truths.{true_false}
 use Rattle.tpl_laws.proofs.Parents.{parent_before}
 use Rattle.tpl_words.specs.declared.ids.TaskId.{TaskId}
-use Rattle.tpl_graph.specs.Ids.{task_number}
+use Rattle.tpl_draft.specs.Ids.{task_number}
 use Rattle.tpl_words.specs.Options.{attached_to_parent, deny_child_attach}
 use Rattle.tpl_script.specs.Statements.{Statements, starts}
 use Rattle.tpl_model.specs.Graph.{TaskGraph, attached, options, IsParent}

@@ -10,7 +10,7 @@ use Rattle.tpl_words.specs.Members.{mem}
 use Rattle.tpl_script.specs.Statements.{Statement, Statements, Return, Throw, Check, Cancel, Start, Observe, Work, If, When, Nothing, ◌⨾◌, starts, starts_of}
 use Rattle.tpl_model.specs.Graph.{TaskGraph, Root, body, options, attached, is_task, IsParent}
 use Rattle.tpl_model.specs.Valid.{IsGraph, IdsOf, IdsWithin}
-use Rattle.tpl_graph.specs.Ids.{task_number}
+use Rattle.tpl_draft.specs.Ids.{task_number}
 use Rattle.tpl_graph.specs.Roles.{AreTasks}
 
 -- past the last task there is no body

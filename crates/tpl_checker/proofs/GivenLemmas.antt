@@ -15,7 +15,7 @@ use Rattle.tpl_model.specs.declared.claim.Given.TheVariants.{Input, Quiet}
 use Rattle.tpl_model.specs.Graph.{TaskGraph, Token, Plain, Linked, token, sources, sources_of, is_token}
 use Rattle.tpl_model.specs.Valid.{IsGraph, AreBefore, IsLinked}
 use Rattle.tpl_model.specs.Certificate.{Assumed, assumed, same, given_input, given_quiet, with_input}
-use Rattle.tpl_graph.specs.Ids.{token_number}
+use Rattle.tpl_draft.specs.Ids.{token_number}
 use Rattle.tpl_laws.specs.Runs.{QuietByALink, gives_quiet}
 use Rattle.tpl_checker.specs.declared.assumptions.Assumptions.{Assumptions}
 use Rattle.tpl_checker.specs.Assumptions.{AllTokens, assumed_of, nothing_assumed, with_given, with_quiet}

@@ -3,7 +3,7 @@
 ghost use Rattle.std.specs.Prelude.{◌≡◌, ◌<◌, ℕ, ◌&&◌, Bool, true};
 ghost use Rattle.std.specs.Option.{option_map};
 ghost use Rattle.tpl_words.specs.Finals.{has};
-ghost use Rattle.tpl_graph.specs.Ids.{token_number};
+ghost use Rattle.tpl_draft.specs.Ids.{token_number};
 ghost use Rattle.tpl_script.specs.View.{known, may_have};
 ghost use Rattle.tpl_model.specs.Certificate.{same, with_input, with_end, is_loud};
 ghost use Rattle.tpl_model.specs.Graph.{is_task};

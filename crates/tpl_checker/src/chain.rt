@@ -4,7 +4,7 @@ ghost use Rattle.std.specs.Prelude.{◌≡◌, IsTrue, length, map};
 ghost use Rattle.tpl_script.specs.Recursion.{must_observe};
 ghost use Rattle.tpl_model.specs.Graph.{is_task, attached, body, kind};
 ghost use Rattle.tpl_model.specs.Certificate.{row};
-ghost use Rattle.tpl_graph.specs.Ids.{task_number};
+ghost use Rattle.tpl_draft.specs.Ids.{task_number};
 ghost use Rattle.tpl_laws.specs.RowTests.{chain, chain_by, continues, faulted_view, is_argument, reads, takes_over};
 ghost use Rattle.tpl_laws.specs.Verdict.{has_tasks};
 ghost use Rattle.tpl_checker.specs.Assumptions.{assumed_of};

@@ -4,7 +4,7 @@ ghost use Rattle.std.specs.Prelude.{◌≡◌, ◌&&◌, ◌||◌, ◌≤◌, �
 ghost use Rattle.tpl_words.specs.Members.{mem};
 ghost use Rattle.tpl_model.specs.Graph.{is_task, some_in, Child, Continues};
 ghost use Rattle.tpl_model.specs.Certificate.{Assumed, may_end_early, row};
-ghost use Rattle.tpl_graph.specs.Ids.{task_number};
+ghost use Rattle.tpl_draft.specs.Ids.{task_number};
 ghost use Rattle.tpl_laws.specs.RowTests.{all_in, past, past_by};
 ghost use Rattle.tpl_checker.specs.Assumptions.{assumed_of};
 ghost use Rattle.tpl_checker.specs.Below.{AreBelow};

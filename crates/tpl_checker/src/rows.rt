@@ -5,7 +5,7 @@ ghost use Rattle.tpl_words.specs.Finals.{has};
 ghost use Rattle.tpl_words.specs.Members.{mem};
 ghost use Rattle.tpl_words.specs.Options.{allows};
 ghost use Rattle.tpl_model.specs.Certificate.{row};
-ghost use Rattle.tpl_graph.specs.Ids.{task_number};
+ghost use Rattle.tpl_draft.specs.Ids.{task_number};
 ghost use Rattle.tpl_laws.specs.RowTests.{all_in, implies, some_end};
 
 use tpl_cert::Row;

@@ -2,7 +2,7 @@
 
 ghost use Rattle.std.specs.Prelude.{◌≡◌, ◌&&◌, ℕ, length, map, nat_lt};
 ghost use Rattle.tpl_words.specs.Members.{mem};
-ghost use Rattle.tpl_graph.specs.Ids.{task_number};
+ghost use Rattle.tpl_draft.specs.Ids.{task_number};
 ghost use Rattle.tpl_laws.specs.Verdict.{fits, has_tasks, misfit, rows_fit};
 
 use crate::rows::within;

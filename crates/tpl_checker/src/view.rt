@@ -5,7 +5,7 @@ ghost use Rattle.tpl_words.specs.Finals.{has, is_final};
 ghost use Rattle.tpl_model.specs.Graph.{is_task, kind};
 ghost use Rattle.tpl_model.specs.Certificate.{subject_set, one_ends, view};
 ghost use Rattle.tpl_script.specs.View.{known};
-ghost use Rattle.tpl_graph.specs.Ids.{task_number};
+ghost use Rattle.tpl_draft.specs.Ids.{task_number};
 ghost use Rattle.tpl_laws.specs.RowTests.{faulted_view};
 ghost use Rattle.tpl_checker.specs.Assumptions.{assumed_of};
 ghost use Rattle.tpl_graph.specs.Roles.{AreTasks};

@@ -10,7 +10,7 @@ use Rattle.tpl_model.specs.Facts.{Ending, begun, begun_by, started, ending}
 use Rattle.tpl_model.specs.Rules.{Run}
 use Rattle.tpl_model.specs.Valid.{IsGraph}
 use Rattle.tpl_model.specs.Claims.{IsGiven, SettledAtBegin}
-use Rattle.tpl_graph.specs.Named.{Named}
+use Rattle.tpl_draft.specs.Named.{Named}
 use Rattle.tpl_run.specs.Reading.{began}
 use Rattle.tpl_laws.specs.Settling.{SettledBefore, ended_before, never_started, SettledBeforeItsBegin}
 

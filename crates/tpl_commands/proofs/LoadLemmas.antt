@@ -7,7 +7,7 @@ use Rattle.std.proofs.lemmas.List.Elements.{All-nil, All-cons}
 use Rattle.tpl_cert.specs.Naming.{number_of, AreNumbers}
 use Rattle.tpl_cert.proofs.Names.{number_below}
 use Rattle.tpl_json.proofs.Arrays.{head_is, tail_is}
-use Rattle.tpl_graph.specs.Named.{Named}
+use Rattle.tpl_draft.specs.Named.{Named}
 use Rattle.tpl_journal.specs.declared.counting.Counting.{Counting}
 use Rattle.tpl_parts.specs.Start.{NamedStart}
 use Rattle.tpl_reader.specs.Begin.{StartValue}

@@ -3,7 +3,7 @@ use Rattle.std.proofs.Common.{◌≡◌, ℕ, List, inl, inr, codes, refl, subst
 use Rattle.std.specs.List.{All}
 use Rattle.tpl_model.specs.Certificate.{Tree, Accepts}
 use Rattle.tpl_cert.specs.Heights.{IsWithinLimits}
-use Rattle.tpl_graph.specs.Named.{Names}
+use Rattle.tpl_draft.specs.Named.{Names}
 use Rattle.tpl_reader.specs.declared.fault.ReadFault.{ReadFault}
 use Rattle.tpl_reader.specs.declared.fault.ReadFault.TheVariants as faults
 use Rattle.tpl_reader.specs.Document.{DocumentValue, Spells}

@@ -7,7 +7,7 @@ use Rattle.serde_json.specs.View.{items_of}
 use Rattle.serde_json.proofs.Nesting.{depth-read}
 use Rattle.tpl_json.proofs.Puts.{depth_put}
 use Rattle.tpl_model.specs.Certificate.{Tree}
-use Rattle.tpl_graph.specs.Named.{Names}
+use Rattle.tpl_draft.specs.Named.{Names}
 use Rattle.tpl_cert.specs.Heights.{height}
 use Rattle.tpl_cert.proofs.Nesting.{tree_depth}
 use Rattle.std.specs.declared.alloc.AllocError.{AllocError}

@@ -12,7 +12,7 @@ use Rattle.tpl_model.specs.Claims.{Claim}
 use Rattle.tpl_model.specs.declared.claim.Property.{Property}
 use Rattle.tpl_model.specs.Certificate.{Row, Tree, Assumed, assumed, AllTasks, IdsOfRows, AcceptsTree, Accepts}
 use Rattle.tpl_model.specs.Certificate as tree
-use Rattle.tpl_graph.specs.Named.{Names}
+use Rattle.tpl_draft.specs.Named.{Names}
 use Rattle.tpl_cert.specs.NamedTrees.{NamedRow, NamedTree, SplitInput, SplitEnd, Leaf}
 use Rattle.tpl_cert.specs.Written.{words_of, row_data, tree_data, named, is_id, has_row_ids, has_ids}
 use Rattle.tpl_commands.specs.Finding.{IsRead, written_tree, written_trees}

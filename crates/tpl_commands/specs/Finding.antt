@@ -6,7 +6,7 @@ use Rattle.serde_json.specs.Read.{read}
 use Rattle.serde_json.specs.View.{items_of}
 use Rattle.serde_json.specs.Written.{compact_text}
 use Rattle.tpl_model.specs.Certificate.{Tree, Accepts}
-use Rattle.tpl_graph.specs.Named.{Names}
+use Rattle.tpl_draft.specs.Named.{Names}
 use Rattle.tpl_cert.specs.Heights.{height}
 use Rattle.tpl_cert.specs.Spelled.{SpellsTree}
 use Rattle.tpl_cert.specs.Written.{tree_data, named}

@@ -1,9 +1,9 @@
 -- The words for what is wrong with a document. Out of memory has none: it has a line and an exit of its own.
 use Rattle.std.specs.Prelude.{◌≡◌, ℕ, List, Option, Some, None, codes}
-use Rattle.tpl_graph.specs.declared.fault.OptionsFault.{OptionsFault}
-use Rattle.tpl_graph.specs.declared.fault.OptionsFault.TheVariants as options
-use Rattle.tpl_graph.specs.declared.fault.Why.{Why}
-use Rattle.tpl_graph.specs.declared.fault.Why.TheVariants as graph
+use Rattle.tpl_draft.specs.declared.fault.OptionsFault.{OptionsFault}
+use Rattle.tpl_draft.specs.declared.fault.OptionsFault.TheVariants as options
+use Rattle.tpl_draft.specs.declared.fault.Why.{Why}
+use Rattle.tpl_draft.specs.declared.fault.Why.TheVariants as graph
 use Rattle.tpl_cert.specs.declared.fault.TreeFault.{TreeFault}
 use Rattle.tpl_cert.specs.declared.fault.TreeFault.TheVariants as tree
 use Rattle.tpl_reader.specs.declared.fault.Part.{Part}

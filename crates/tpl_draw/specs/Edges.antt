@@ -3,7 +3,7 @@ use Rattle.std.specs.Prelude.{ℕ, List, [], ◌∷◌, ◌++◌, length, map}
 use Rattle.std.specs.Option.{option_to_list}
 use Rattle.tpl_script.specs.Statements.{Statement, Statements, Nothing, ◌⨾◌, Start, Cancel as Request, If, When}
 use Rattle.tpl_model.specs.Graph.{TaskGraph, task, kind, body, sources}
-use Rattle.tpl_graph.specs.Named.{antecedent_of, args_of}
+use Rattle.tpl_draft.specs.Named.{antecedent_of, args_of}
 use Rattle.tpl_draw.specs.declared.edge.Tie.{Tie}
 use Rattle.tpl_draw.specs.declared.edge.Tie.TheVariants.{After, Argument, Child, Cancel, Own, Link}
 use Rattle.tpl_draw.specs.declared.edge.Edge.{Edge}

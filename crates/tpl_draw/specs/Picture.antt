@@ -4,7 +4,7 @@ use Rattle.tpl_words.specs.declared.finals.Final.TheVariants.{RanToCompletion, C
 use Rattle.tpl_words.specs.declared.finals.Finals.{Finals}
 use Rattle.tpl_words.specs.Options.{allows, attached_to_parent, deny_child_attach, lazy_cancellation, execute_synchronously}
 use Rattle.tpl_model.specs.Graph.{TaskGraph, kind, options}
-use Rattle.tpl_graph.specs.Named.{Names, Named}
+use Rattle.tpl_draft.specs.Named.{Names, Named}
 use Rattle.tpl_graph.specs.Rows.{kind_of}
 use Rattle.tpl_graph.specs.declared.row.Kind.{Kind}
 use Rattle.tpl_graph.specs.declared.row.Kind.TheVariants as kinds

@@ -4,7 +4,7 @@ ghost use Rattle.std.specs.Prelude.{◌≡◌, ◌++◌, length, map, IfOk, OnOk
 ghost use Rattle.std.specs.Option.{option_to_list};
 ghost use Rattle.tpl_script.specs.Seen.{statement_of};
 ghost use Rattle.tpl_model.specs.Graph.{is_task, is_token};
-ghost use Rattle.tpl_graph.specs.Ids.{task_number, token_number};
+ghost use Rattle.tpl_draft.specs.Ids.{task_number, token_number};
 ghost use Rattle.tpl_draw.specs.Below.{below};
 ghost use Rattle.tpl_draw.specs.Edges.{acts, acts_of, edges, from_each, task_edges, token_edges};
 

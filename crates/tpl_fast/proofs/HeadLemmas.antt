@@ -14,8 +14,8 @@ use Rattle.tpl_model.specs.Valid.{IsGraph}
 use Rattle.tpl_model.specs.Facts.{Ending, rest, started, ending, all_over}
 use Rattle.tpl_model.specs.Rules.{Run, all_ended, some_ended}
 use Rattle.tpl_laws.specs.Runs.{NothingGoesBack}
-use Rattle.tpl_graph.specs.Ids.{task_number}
-use Rattle.tpl_graph.specs.Named.{Named, args_of}
+use Rattle.tpl_draft.specs.Ids.{task_number}
+use Rattle.tpl_draft.specs.Named.{Named, args_of}
 use Rattle.tpl_run.specs.Journal.{Journal, after}
 use Rattle.tpl_run.specs.Rows.{is_it}
 use Rattle.tpl_fast.specs.Kept.{has_ended, is_over, all_pass, AreHeads, AreEnded, AreOver, AreFound}

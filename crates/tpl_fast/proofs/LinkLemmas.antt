@@ -10,7 +10,7 @@ use Rattle.tpl_words.proofs.Truths.{true_false}
 use Rattle.tpl_words.proofs.MemberLemmas.{mem_here, mem_there, mem_split}
 use Rattle.tpl_words.specs.declared.ids.TaskId.{TaskId}
 use Rattle.tpl_words.specs.Members.{mem}
-use Rattle.tpl_graph.specs.Ids.{task_number}
+use Rattle.tpl_draft.specs.Ids.{task_number}
 use Rattle.tpl_fast.specs.Due.{in_some, is_told, Keep}
 
 set_same : {X : Type 0} (xs : List X) (i : ℕ) (x : X) → i < length xs → slice_get (slice_set xs i x) i ≡ Some x

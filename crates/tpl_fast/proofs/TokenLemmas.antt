@@ -11,7 +11,7 @@ use Rattle.tpl_model.specs.Facts.{Rest, requested, requested_itself, requests, i
 use Rattle.tpl_model.specs.Valid.{IsGraph}
 use Rattle.tpl_run.specs.Body.{cancel_of}
 use Rattle.tpl_run.specs.Rows.{is_it}
-use Rattle.tpl_graph.specs.Named.{Named}
+use Rattle.tpl_draft.specs.Named.{Named}
 use Rattle.tpl_run.specs.Journal.{Journal, opened, after}
 use Rattle.tpl_fast.specs.declared.marks.Mark.{Mark}
 use Rattle.tpl_fast.specs.Marks.{AreMarks}

@@ -8,7 +8,7 @@ use Rattle.tpl_words.specs.TaskSet.{is_set}
 use Rattle.tpl_model.specs.declared.event.Act.{Act}
 use Rattle.tpl_model.specs.declared.event.Act.TheVariants.{Leave, Close, Drop, Settle}
 use Rattle.tpl_model.specs.Graph.{TaskGraph, TaskKind, Continues, WhenAll, WhenAny, kind, task, attached, is_task}
-use Rattle.tpl_graph.specs.Ids.{task_number}
+use Rattle.tpl_draft.specs.Ids.{task_number}
 use Rattle.tpl_laws.specs.Allowed.{has_ended}
 use Rattle.tpl_run.specs.Due.{is_due}
 use Rattle.tpl_run.specs.Journal.{Journal}

@@ -3,7 +3,7 @@ use Rattle.std.specs.Prelude.{◌≡◌, ℕ, ◌<◌, ◌≤◌, ◌&&◌, ◌|
 use Rattle.tpl_model.specs.Graph.{kind, attached, is_task}
 use Rattle.tpl_model.specs.Facts.{started, ending}
 use Rattle.tpl_model.specs.Rules.{some_ended}
-use Rattle.tpl_graph.specs.Named.{Named, args_of}
+use Rattle.tpl_draft.specs.Named.{Named, args_of}
 use Rattle.tpl_run.specs.Journal.{Journal}
 use Rattle.tpl_fast.specs.declared.marks.Mark.{Mark}
 use Rattle.tpl_fast.specs.Marks.{AreMarks}

@@ -4,8 +4,8 @@ ghost use Rattle.std.specs.Prelude.{◌≡◌, ℕ, ◌<◌, true, Some, OnOk, I
 ghost use Rattle.tpl_words.specs.Members.{mem};
 ghost use Rattle.tpl_model.specs.Graph as spec;
 ghost use Rattle.tpl_model.specs.Graph.{is_task, kind};
-ghost use Rattle.tpl_graph.specs.Ids.{task_number};
-ghost use Rattle.tpl_graph.specs.Named.{antecedent_of};
+ghost use Rattle.tpl_draft.specs.Ids.{task_number};
+ghost use Rattle.tpl_draft.specs.Named.{antecedent_of};
 ghost use Rattle.tpl_fast.specs.Due.{is_told, waits, AreTold, Keep};
 
 use std::alloc::{AllocError, Global};

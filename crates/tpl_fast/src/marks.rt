@@ -2,7 +2,7 @@
 
 ghost use Rattle.std.specs.Prelude.{◌≡◌, ℕ, ◌<◌, suc, List, [], ◌∷◌, Some, length, slice_get, slice_set, vec_len, IfOk};
 ghost use Rattle.std.specs.Option.{option_map};
-ghost use Rattle.tpl_graph.specs.Ids.{task_number};
+ghost use Rattle.tpl_draft.specs.Ids.{task_number};
 ghost use Rattle.tpl_fast.specs.Marks.{acting, noted, AreMarks};
 
 use std::alloc::{AllocError, Global};

@@ -4,7 +4,7 @@ ghost use Rattle.std.specs.Prelude.{◌≡◌, ℕ, ◌<◌, ◌||◌, Bool, Lis
 ghost use Rattle.std.specs.Option.{option_map};
 ghost use Rattle.tpl_model.specs.declared.event.Event.{Event as SpecEvent};
 ghost use Rattle.tpl_model.specs.Facts.{requested_itself};
-ghost use Rattle.tpl_graph.specs.Ids.{token_number};
+ghost use Rattle.tpl_draft.specs.Ids.{token_number};
 ghost use Rattle.tpl_run.specs.Rows.{is_it};
 ghost use Rattle.tpl_fast.specs.Tokens.{AreAsked};
 

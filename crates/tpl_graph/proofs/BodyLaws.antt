@@ -7,12 +7,12 @@ use Rattle.tpl_words.proofs.Truths.{or_first, or_second}
 use Rattle.tpl_script.specs.Statements.{starts, starts_of, reads_nothing, reads_nothing_in}
 use Rattle.tpl_model.specs.Graph.{TaskGraph}
 use Rattle.tpl_model.specs.Valid.{IdsOf, IdsWithin}
-use Rattle.tpl_graph.specs.Draft.{Line, Lines, Return, Throw, Check, Cancel, Start, Observe, Work, If, When, Nothing, Then, each_of, each_within}
-use Rattle.tpl_graph.specs.Named.{Names}
-use Rattle.tpl_graph.specs.Names.{has_name, place}
-use Rattle.tpl_graph.specs.Numbered.{script_in, statement_in}
+use Rattle.tpl_draft.specs.Draft.{Line, Lines, Return, Throw, Check, Cancel, Start, Observe, Work, If, When, Nothing, Then, each_of, each_within}
+use Rattle.tpl_draft.specs.Named.{Names}
+use Rattle.tpl_draft.specs.Names.{has_name, place}
+use Rattle.tpl_draft.specs.Numbered.{script_in, statement_in}
 use Rattle.tpl_graph.specs.Collected.{start_in}
-use Rattle.tpl_graph.specs.Refusals.{says_unknown, lacks, reads_subject}
+use Rattle.tpl_draft.specs.Refusals.{says_unknown, lacks, reads_subject}
 use Rattle.tpl_graph.proofs.PlaceLaws.{place_within}
 use Rattle.tpl_graph.proofs.CollectLemmas.{flat_map_append}
 

@@ -8,18 +8,18 @@ use Rattle.std.specs.declared.alloc.Global.{Global}
 use Rattle.tpl_words.specs.declared.ids.TaskId.{TaskId}
 use Rattle.tpl_script.specs.Statements.{starts}
 use Rattle.tpl_model.specs.Graph as graph
-use Rattle.tpl_graph.specs.declared.draft.DraftTask.{DraftTask}
-use Rattle.tpl_graph.specs.declared.draft.Draft as declared
-use Rattle.tpl_graph.specs.declared.row.Starter.{Starter}
-use Rattle.tpl_graph.specs.declared.row.Starter.TheVariants.{Nobody}
+use Rattle.tpl_draft.specs.declared.draft.DraftTask.{DraftTask}
+use Rattle.tpl_draft.specs.declared.draft.Draft as declared
+use Rattle.tpl_draft.specs.declared.starter.Starter.{Starter}
+use Rattle.tpl_draft.specs.declared.starter.Starter.TheVariants.{Nobody}
 use Rattle.tpl_graph.specs.Collected.{started}
-use Rattle.tpl_graph.specs.Draft.{Draft, Task, worked}
-use Rattle.tpl_graph.specs.Named.{Names}
-use Rattle.tpl_graph.specs.Numbered.{names_of, graph_in, task_in, script_in}
-use Rattle.tpl_graph.specs.Refusals.{all_starts, starters_from}
-use Rattle.tpl_graph.specs.SeenTasks.{draft_of, task_of}
+use Rattle.tpl_draft.specs.Draft.{Draft, Task, worked}
+use Rattle.tpl_draft.specs.Named.{Names}
+use Rattle.tpl_draft.specs.Numbered.{names_of, graph_in, task_in, script_in}
+use Rattle.tpl_draft.specs.Refusals.{all_starts, starters_from}
+use Rattle.tpl_draft.specs.SeenTasks.{draft_of, task_of}
 use Rattle.tpl_graph.specs.Starters.{numbers}
-use Rattle.tpl_graph.specs.Test.{starter_of, AreStarters}
+use Rattle.tpl_draft.specs.Test.{starter_of, AreStarters}
 use Rattle.tpl_graph.proofs.BodyLaws.{starts_script}
 
 lists_are : (n : Names) (ts : List Task) → map (λ (x : Task). started n.tasks (worked x.kind).body) ts ≡ map (λ (y : graph.Task). starts y.body) (map (task_in n) ts)

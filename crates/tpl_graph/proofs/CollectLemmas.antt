@@ -2,11 +2,11 @@
 use Rattle.std.proofs.Common.{◌≡◌, ℕ, ◌+◌, ◌<◌, ◌≤◌, Bool, true, false, ◌||◌, ◌++◌, List, [], ◌∷◌, length, drop, get_or, flat_map, refl, sym, ap, ◌∙◌, append_assoc, append-nil}
 use Rattle.std.proofs.lemmas.List.{drop_all}
 use Rattle.tpl_words.proofs.Truths.{or_false}
-use Rattle.tpl_graph.specs.declared.draft.DraftStmt.{DraftStmt}
-use Rattle.tpl_graph.specs.Draft.{Line, Lines, each_of, each_within}
-use Rattle.tpl_graph.specs.SeenDraft.{line_of, lines_of}
-use Rattle.tpl_graph.specs.Names.{has_name, with_name, with_names, twice_after}
-use Rattle.tpl_graph.proofs.AskLemmas.{split_at}
+use Rattle.tpl_draft.specs.declared.draft.DraftStmt.{DraftStmt}
+use Rattle.tpl_draft.specs.Draft.{Line, Lines, each_of, each_within}
+use Rattle.tpl_draft.specs.SeenDraft.{line_of, lines_of}
+use Rattle.tpl_draft.specs.Names.{has_name, with_name, with_names, twice_after}
+use Rattle.tpl_draft.proofs.AskLemmas.{split_at}
 
 pub flat_map_append : {A B : Type 0} (f : A → List B) (xs ys : List A) → flat_map f (xs ++ ys) ≡ flat_map f xs ++ flat_map f ys
 flat_map_append f [] ys = refl

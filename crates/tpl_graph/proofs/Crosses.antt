@@ -4,7 +4,7 @@ use Rattle.std.proofs.Crossing.{crosses}
 use Rattle.std.proofs.MapsCrossing.{crosses as text_crosses}
 use Rattle.tpl_script.proofs.Crosses.{script_sync}
 use Rattle.tpl_graph.specs.contracts.graph.Graph as Graph
-use Rattle.tpl_graph.specs.contracts.names.Tables as Tables
+use Rattle.tpl_draft.specs.contracts.names.Tables as Tables
 use Rattle.tpl_graph.specs.contracts.row.Row as Row
 
 tables_sync : IsSync Tables.the_field.row

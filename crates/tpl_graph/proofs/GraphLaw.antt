@@ -14,21 +14,21 @@ use Rattle.tpl_script.specs.Limits.{IsWithinLimits}
 use Rattle.tpl_model.specs.Graph as graph
 use Rattle.tpl_model.specs.Graph.{TaskGraph, task, kind, body, is_task, IsParent}
 use Rattle.tpl_model.specs.Valid.{IdsOf, OwnToken, AreBefore, IsLinked, ArePlaced, IsPlaced, option_words, HasBody, HasSubject, IsTask}
-use Rattle.tpl_graph.specs.declared.fault.OptionsFault.TheVariants.{ExcludesAll, LongAndSync, WrongKind}
-use Rattle.tpl_graph.specs.declared.fault.Why.{Why}
-use Rattle.tpl_graph.specs.declared.fault.Why.TheVariants as why
-use Rattle.tpl_graph.specs.Names.{has_name, place}
-use Rattle.tpl_graph.specs.Named.{Names}
+use Rattle.tpl_draft.specs.declared.fault.OptionsFault.TheVariants.{ExcludesAll, LongAndSync, WrongKind}
+use Rattle.tpl_draft.specs.declared.fault.Why.{Why}
+use Rattle.tpl_draft.specs.declared.fault.Why.TheVariants as why
+use Rattle.tpl_draft.specs.Names.{has_name, place}
+use Rattle.tpl_draft.specs.Named.{Names}
 use Rattle.tpl_graph.specs.Collected.{start_in}
-use Rattle.tpl_graph.specs.Draft as line
+use Rattle.tpl_draft.specs.Draft as line
 use Rattle.std.proofs.lemmas.Bool.{eqb-true}
 use Rattle.std.proofs.Math.ListN.{get_or-map}
 use Rattle.tpl_words.proofs.Truths.{or_first, or_second}
-use Rattle.tpl_graph.specs.Draft.{Line, Kind, Root, Child, Continues, WhenAll, WhenAny, Task, Token, Draft, worked, waits_for, linked_to, statements_in, each_of, line_count, levels}
-use Rattle.tpl_graph.specs.Numbered.{names_of, graph_in, task_in, kind_in, token_in, script_in}
-use Rattle.tpl_graph.specs.Refusals.{IsValid, applies, number, in_task, in_lists, at_task, exceeds, is_child, is_child_at, is_empty_any, is_continuation, is_missing, lacks, says_unknown, reads_subject, starts_no_child, starters_from, all_starts, is_one_before, options_fault, words_of, is_misplaced, some_misplaced, site_total}
+use Rattle.tpl_draft.specs.Draft.{Line, Kind, Root, Child, Continues, WhenAll, WhenAny, Task, Token, Draft, worked, waits_for, linked_to, statements_in, each_of, line_count, levels}
+use Rattle.tpl_draft.specs.Numbered.{names_of, graph_in, task_in, kind_in, token_in, script_in}
+use Rattle.tpl_draft.specs.Refusals.{IsValid, applies, number, in_task, in_lists, at_task, exceeds, is_child, is_child_at, is_empty_any, is_continuation, is_missing, lacks, says_unknown, reads_subject, starts_no_child, starters_from, all_starts, is_one_before, options_fault, words_of, is_misplaced, some_misplaced, site_total}
 use Rattle.tpl_graph.specs.Small.{IsSmall, AreSmall}
-use Rattle.tpl_graph.proofs.Bools.{and_true, is_below}
+use Rattle.tpl_draft.proofs.Bools.{and_true, is_below}
 use Rattle.tpl_graph.proofs.PlaceLaws.{place_within}
 use Rattle.tpl_graph.proofs.BodyLaws.{ids_of, reads_none, starts_script}
 use Rattle.tpl_graph.proofs.MadeLemmas.{small_script}

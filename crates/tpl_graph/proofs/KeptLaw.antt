@@ -16,19 +16,20 @@ use Rattle.tpl_script.specs.Limits.{statement_count}
 use Rattle.tpl_model.specs.Graph as graph
 use Rattle.tpl_model.specs.Graph.{TaskGraph, task, body, attached, IsParent}
 use Rattle.tpl_graph.specs.declared.row.Row.{Row}
-use Rattle.tpl_graph.specs.declared.row.Origin.{Origin}
-use Rattle.tpl_graph.specs.declared.row.Starter.{Starter}
-use Rattle.tpl_graph.specs.Named.{Names, Named}
-use Rattle.tpl_graph.specs.Draft.{Draft}
-use Rattle.tpl_graph.specs.Numbered.{names_of, graph_in, task_in, numbered}
-use Rattle.tpl_graph.specs.Rows.{task_of, token_of, graph_of}
-use Rattle.tpl_graph.specs.Refusals.{IsValid, all_starts, starters_from}
+use Rattle.tpl_draft.specs.declared.origin.Origin.{Origin}
+use Rattle.tpl_draft.specs.declared.starter.Starter.{Starter}
+use Rattle.tpl_draft.specs.Named.{Names, Named}
+use Rattle.tpl_draft.specs.Draft.{Draft}
+use Rattle.tpl_draft.specs.Numbered.{names_of, graph_in, task_in, numbered}
+use Rattle.tpl_draft.specs.Origins.{token_of}
+use Rattle.tpl_graph.specs.Rows.{task_of, graph_of}
+use Rattle.tpl_draft.specs.Refusals.{IsValid, all_starts, starters_from}
 use Rattle.tpl_graph.specs.Starters.{numbers, parent_in, attached_of}
-use Rattle.tpl_graph.specs.Test.{starter_of, AreStarters}
+use Rattle.tpl_draft.specs.Test.{starter_of, AreStarters}
 use Rattle.tpl_graph.specs.Kept.{EachAt, IsParentOf, AreAttached, AreKept}
 use Rattle.tpl_graph.proofs.GraphLaw as law
 use Rattle.tpl_graph.proofs.GraphLaw.{find}
-use Rattle.tpl_graph.proofs.NamesLemmas.{map_here}
+use Rattle.tpl_draft.proofs.NamesLemmas.{map_here}
 use Rattle.tpl_graph.proofs.StarterLaws.{one_in}
 
 sum_by-map : {A B : Type 0} (f : A → B) (h : B → ℕ) (xs : List A) → sum_by h (map f xs) ≡ sum_by (λ x. h (f x)) xs

@@ -1,19 +1,7 @@
-pub mod NamesLemmas
 pub mod ReaderLemmas
-pub mod AskLemmas
-pub mod LimitLemmas
-pub mod FirstLemmas
-pub mod TestLemmas
-pub mod ListTestLemmas
-pub mod LeastLemmas
-pub mod TooManyLemmas
-pub mod TwiceLemmas
-pub mod DeclareLemmas
 pub mod CollectLemmas
 pub mod TableLemmas
-pub mod NumberLemmas
 pub mod MadeLemmas
-pub mod Bools
 pub mod PlaceLaws
 pub mod BodyLaws
 pub mod StarterLaws
@@ -23,7 +11,6 @@ pub mod WholeLaw
 pub mod StarterTables
 pub mod KeptLaw
 pub mod ChildrenLemmas
-pub mod OptionLemmas
 pub mod OwnerLemmas
 pub mod SiteReaders
 pub mod SameLemmas

@@ -6,13 +6,13 @@ use Rattle.tpl_script.specs.Statements as script
 use Rattle.tpl_model.specs.Graph as graph
 use Rattle.tpl_model.specs.Graph.{TaskGraph}
 use Rattle.tpl_model.specs.Valid.{all_sites}
-use Rattle.tpl_graph.specs.declared.draft.DraftTask.{DraftTask}
+use Rattle.tpl_draft.specs.declared.draft.DraftTask.{DraftTask}
 use Rattle.tpl_graph.specs.declared.row.Site.{Site}
 use Rattle.tpl_graph.specs.Collected.{owned_in, owned, all_owned}
-use Rattle.tpl_graph.specs.Draft.{Line, Lines, Return, Throw, Check, Cancel, Start, Observe, Work, If, When, Nothing, Then, each_of, each_within, Task, Draft, worked}
-use Rattle.tpl_graph.specs.Named.{Names, may_fails, may_fails_of}
-use Rattle.tpl_graph.specs.Numbered.{script_in, statement_in, task_in, names_of, graph_in}
-use Rattle.tpl_graph.specs.SeenTasks.{task_of}
+use Rattle.tpl_draft.specs.Draft.{Line, Lines, Return, Throw, Check, Cancel, Start, Observe, Work, If, When, Nothing, Then, each_of, each_within, Task, Draft, worked}
+use Rattle.tpl_draft.specs.Named.{Names, may_fails, may_fails_of}
+use Rattle.tpl_draft.specs.Numbered.{script_in, statement_in, task_in, names_of, graph_in}
+use Rattle.tpl_draft.specs.SeenTasks.{task_of}
 use Rattle.tpl_graph.specs.Sites.{owners_from, AreSites}
 use Rattle.tpl_graph.proofs.CollectLemmas.{flat_map_append}
 

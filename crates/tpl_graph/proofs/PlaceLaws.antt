@@ -9,8 +9,8 @@ use Rattle.tpl_graph.proofs.CollectLemmas.{twice_after-append}
 use Rattle.std.proofs.lemmas.List.Folds.{list_any-append}
 use Rattle.std.proofs.lemmas.Slice.Eq.{bytes_eq-Decides}
 use Rattle.tpl_words.proofs.Truths.{or_true, or_first, or_second}
-use Rattle.tpl_graph.specs.Names.{has_name, place, or_zero, with_name, with_names, twice_after, some_twice}
-use Rattle.tpl_graph.specs.Named.{numbers_from}
+use Rattle.tpl_draft.specs.Names.{has_name, place, or_zero, with_name, with_names, twice_after, some_twice}
+use Rattle.tpl_draft.specs.Named.{numbers_from}
 
 module _ {A : Type 0} (p : A → Bool) where
   found_within : (xs : List A) → list_any p xs ≡ true → position_or_len p xs < length xs

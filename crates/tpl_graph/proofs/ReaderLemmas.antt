@@ -9,7 +9,7 @@ use Rattle.tpl_script.specs.Limits.{statement_count}
 use Rattle.tpl_model.specs.Graph.{TaskGraph, Task, Root, IsParent}
 use Rattle.tpl_script.specs.Statements.{Nothing}
 use Rattle.tpl_model.specs.Valid.{IsGraph, bound}
-use Rattle.tpl_graph.specs.Named.{Named, numbers_from}
+use Rattle.tpl_draft.specs.Named.{Named, numbers_from}
 use Rattle.tpl_graph.specs.Kept.{IsNamedGraph, IsParentOf, EachAt}
 
 sum_at_most : {A : Type 0} (f : A → ℕ) (d : A) (xs : List A) → ((t : ℕ) → t < length xs → f (slice_index_or xs t d) ≤ 68) → sum_by f xs ≤ 68 * length xs

@@ -3,8 +3,8 @@ use Rattle.std.proofs.Common.{◌≡◌, ℕ, ◌<◌, List, [], ◌∷◌, leng
 use Rattle.tpl_words.specs.declared.ids.TaskId.{TaskId}
 use Rattle.tpl_model.specs.Graph.{TaskGraph, TaskKind, Root, Child, Continues, WhenAll, WhenAny, is_task}
 use Rattle.tpl_model.specs.Valid.{ArePlaced, IsPlaced}
-use Rattle.tpl_graph.specs.Ids.{task_number}
-use Rattle.tpl_graph.specs.Named.{args_of}
+use Rattle.tpl_draft.specs.Ids.{task_number}
+use Rattle.tpl_draft.specs.Named.{args_of}
 use Rattle.tpl_graph.specs.Roles.{AreTasks}
 
 placed_within : (g : TaskGraph) (t n : ℕ) (ts : List TaskId) → t < n → ArePlaced g t (map task_number ts) → AreTasks n ts

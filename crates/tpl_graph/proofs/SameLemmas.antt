@@ -5,7 +5,7 @@ use Rattle.std.proofs.lemmas.Bool.{cases_eq}
 use Rattle.std.proofs.lemmas.List.{length-map}
 use Rattle.std.proofs.lemmas.Option.{slice_get-map, slice_get-get_or}
 use Rattle.std.specs.Option.{option_map}
-use Rattle.tpl_graph.proofs.NamesLemmas.{map_here}
+use Rattle.tpl_draft.proofs.NamesLemmas.{map_here}
 
 -- the lists are as long, and equal below the index
 pub record SameSoFar {A : Type 0} (xs ys : List A) (i : ℕ) : Type 0 where

@@ -10,15 +10,15 @@ use Rattle.std.proofs.lemmas.Bool.{or_left, or_right}
 use Rattle.tpl_graph.proofs.BodyLaws.{append_both}
 use Rattle.tpl_script.specs.Statements.{sites, sites_of}
 use Rattle.tpl_model.specs.Graph as graph
-use Rattle.tpl_graph.specs.declared.collect.Sort.{Sort}
-use Rattle.tpl_graph.specs.declared.collect.Sort.TheVariants.{Labels, Sites}
-use Rattle.tpl_graph.specs.Draft.{Line, Lines, Return, Throw, Check, Cancel, Start, Observe, Work, If, When, Nothing, Then, each_of, each_within, Task, worked, statements_in, site_count, count_site, line_count, count_line}
-use Rattle.tpl_graph.specs.Named.{Names}
-use Rattle.tpl_graph.specs.Names.{has_name, place, with_name, with_names}
-use Rattle.tpl_graph.specs.Numbered.{script_in, statement_in, task_in, names_in, all_named}
+use Rattle.tpl_draft.specs.declared.sort.Sort.{Sort}
+use Rattle.tpl_draft.specs.declared.sort.Sort.TheVariants.{Labels, Sites}
+use Rattle.tpl_draft.specs.Draft.{Line, Lines, Return, Throw, Check, Cancel, Start, Observe, Work, If, When, Nothing, Then, each_of, each_within, Task, worked, statements_in, site_count, count_site, line_count, count_line}
+use Rattle.tpl_draft.specs.Named.{Names}
+use Rattle.tpl_draft.specs.Names.{has_name, place, with_name, with_names}
+use Rattle.tpl_draft.specs.Numbered.{script_in, statement_in, task_in, names_in, all_named}
 use Rattle.tpl_graph.specs.Kept.{AreNamed, IsNamed}
 use Rattle.tpl_graph.specs.Small.{AreSmall}
-use Rattle.tpl_graph.specs.Refusals.{site_total}
+use Rattle.tpl_draft.specs.Refusals.{site_total}
 use Rattle.tpl_graph.proofs.CollectLemmas.{flat_map_append}
 use Rattle.tpl_graph.proofs.PlaceLaws.{place_within, same_name}
 

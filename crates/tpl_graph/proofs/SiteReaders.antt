@@ -10,9 +10,9 @@ use Rattle.tpl_model.specs.Graph.{TaskGraph, body, is_task}
 use Rattle.tpl_model.specs.Valid.{all_sites}
 use Rattle.tpl_graph.specs.declared.row.Site.{Site}
 use Rattle.tpl_graph.specs.Kept.{IsNamedGraph}
-use Rattle.tpl_graph.specs.Named.{Named, all_may_fail, numbers_from}
+use Rattle.tpl_draft.specs.Named.{Named, all_may_fail, numbers_from}
 use Rattle.tpl_graph.specs.Sites.{owners_from, all_owners, AreSites}
-use Rattle.tpl_graph.proofs.NamesLemmas.{map_here}
+use Rattle.tpl_draft.proofs.NamesLemmas.{map_here}
 use Rattle.tpl_graph.proofs.OwnerLemmas.{sites_long}
 use Rattle.tpl_graph.proofs.ReaderLemmas.{length-numbers_from}
 

@@ -5,7 +5,7 @@ use Rattle.std.proofs.lemmas.Bool.{eqb-true, eq-eqb, ltb-true, or_cases}
 use Rattle.std.proofs.lemmas.List.Sums.{sum_by-cons}
 use Rattle.tpl_words.proofs.Truths.{or_true}
 use Rattle.tpl_words.specs.Members.{mem}
-use Rattle.tpl_graph.specs.Refusals.{starters_in, starters_from, is_one_before}
+use Rattle.tpl_draft.specs.Refusals.{starters_in, starters_from, is_one_before}
 
 abbrev one_if : Bool → ℕ
 one_if b = cond b 1 0

@@ -6,14 +6,14 @@ use Rattle.std.proofs.lemmas.List.{drop_all, take_more, take_all, map-append, le
 use Rattle.std.specs.declared.vec.Vec.{Vec}
 use Rattle.std.specs.declared.alloc.Global.{Global}
 use Rattle.tpl_words.specs.declared.ids.TaskId.{TaskId}
-use Rattle.tpl_graph.specs.declared.row.Starter.{Starter}
-use Rattle.tpl_graph.specs.declared.row.Starter.TheVariants.{Nobody}
-use Rattle.tpl_graph.specs.Ids.{task_number}
-use Rattle.tpl_graph.specs.Refusals.{starters_in, starters_from}
+use Rattle.tpl_draft.specs.declared.starter.Starter.{Starter}
+use Rattle.tpl_draft.specs.declared.starter.Starter.TheVariants.{Nobody}
+use Rattle.tpl_draft.specs.Ids.{task_number}
+use Rattle.tpl_draft.specs.Refusals.{starters_in, starters_from}
 use Rattle.tpl_graph.specs.Kept.{EachAt}
 use Rattle.std.specs.Prelude.{Option}
 use Rattle.tpl_graph.specs.Starters.{numbers, more, noted, parent_in}
-use Rattle.tpl_graph.specs.Test.{starter_of}
+use Rattle.tpl_draft.specs.Test.{starter_of}
 
 noted-append : (c p : ℕ) (s : Starter) (xs ys : List ℕ) → noted c p s (xs ++ ys) ≡ noted c p (noted c p s xs) ys
 noted-append c p s [] ys = refl

@@ -2,18 +2,18 @@
 use Rattle.std.proofs.Common.{◌≡◌, ℕ, suc, ◌+◌, ◌<◌, ◌≤◌, Bool, true, false, ◌||◌, ◌++◌, List, [], ◌∷◌, length, take, get_or, map, flat_map, refl, sym, ap, ◌∙◌, append-nil, add-one, arith}
 use Rattle.std.proofs.lemmas.List.{take_more, take_all, length-map, get_or-map}
 use Rattle.std.specs.Prelude.{Some}
-use Rattle.tpl_graph.specs.declared.collect.Sort.{Sort}
-use Rattle.tpl_graph.specs.declared.collect.Sort.TheVariants.{Sites}
-use Rattle.tpl_graph.specs.declared.draft.DraftTask.{DraftTask}
-use Rattle.tpl_graph.specs.declared.draft.Draft as declared
-use Rattle.tpl_graph.specs.declared.fault.Why.TheVariants as why
-use Rattle.tpl_graph.specs.Draft.{Task, statements_in}
-use Rattle.tpl_graph.specs.SeenTasks.{task_of, draft_of}
-use Rattle.tpl_graph.specs.Names.{with_names, twice_after, some_twice}
-use Rattle.tpl_graph.specs.Numbered.{names_in, all_named, sites_of}
-use Rattle.tpl_graph.specs.Refusals.{applies, IsFirst}
+use Rattle.tpl_draft.specs.declared.sort.Sort.{Sort}
+use Rattle.tpl_draft.specs.declared.sort.Sort.TheVariants.{Sites}
+use Rattle.tpl_draft.specs.declared.draft.DraftTask.{DraftTask}
+use Rattle.tpl_draft.specs.declared.draft.Draft as declared
+use Rattle.tpl_draft.specs.declared.fault.Why.TheVariants as why
+use Rattle.tpl_draft.specs.Draft.{Task, statements_in}
+use Rattle.tpl_draft.specs.SeenTasks.{task_of, draft_of}
+use Rattle.tpl_draft.specs.Names.{with_names, twice_after, some_twice}
+use Rattle.tpl_draft.specs.Numbered.{names_in, all_named, sites_of}
+use Rattle.tpl_draft.specs.Refusals.{applies, IsFirst}
 use Rattle.tpl_graph.proofs.CollectLemmas.{flat_map_append, with_names-append, twice_after-append}
-use Rattle.tpl_graph.proofs.FirstLemmas.{NoneUpTo, none_at_first, none_at_next, applies_at}
+use Rattle.tpl_draft.proofs.FirstLemmas.{NoneUpTo, none_at_first, none_at_next, applies_at}
 
 -- a flat list of parts, one task further
 pub flat_next : {B : Type 0} (f : Task → List B) (items : List DraftTask) (t : ℕ) (x : DraftTask) → t < length items → x ≡ get_or items t x → flat_map f (take (suc t) (map task_of items)) ≡ flat_map f (take t (map task_of items)) ++ f (task_of x)

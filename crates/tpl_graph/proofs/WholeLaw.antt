@@ -10,14 +10,14 @@ use Rattle.tpl_script.specs.Statements as script
 use Rattle.tpl_model.specs.Graph as graph
 use Rattle.tpl_model.specs.Graph.{is_task, body}
 use Rattle.tpl_model.specs.Valid.{IsGraph, all_sites}
-use Rattle.tpl_graph.specs.declared.collect.Sort.TheVariants.{Labels, Sites}
-use Rattle.tpl_graph.specs.declared.fault.Why.TheVariants as why
-use Rattle.tpl_graph.specs.Names.{some_twice}
-use Rattle.tpl_graph.specs.Named.{numbers_from}
+use Rattle.tpl_draft.specs.declared.sort.Sort.TheVariants.{Labels, Sites}
+use Rattle.tpl_draft.specs.declared.fault.Why.TheVariants as why
+use Rattle.tpl_draft.specs.Names.{some_twice}
+use Rattle.tpl_draft.specs.Named.{numbers_from}
 use Rattle.tpl_graph.specs.Kept.{AreNamed, AreSpelled, IsNamedGraph}
-use Rattle.tpl_graph.specs.Draft.{Draft, Task, Token, worked, statements_in}
-use Rattle.tpl_graph.specs.Numbered.{names_of, graph_in, task_in, token_in, numbered, names_in, all_named, sites_of, AreFew}
-use Rattle.tpl_graph.specs.Refusals.{IsValid, exceeds, site_total, is_name, is_bad_name, says_bad_name}
+use Rattle.tpl_draft.specs.Draft.{Draft, Task, Token, worked, statements_in}
+use Rattle.tpl_draft.specs.Numbered.{names_of, graph_in, task_in, token_in, numbered, names_in, all_named, sites_of, AreFew}
+use Rattle.tpl_draft.specs.Refusals.{IsValid, exceeds, site_total, is_name, is_bad_name, says_bad_name}
 use Rattle.tpl_graph.proofs.PlaceLaws.{places_from, with_names-once, adds_names, at_most_once}
 use Rattle.tpl_graph.proofs.ReaderLemmas.{length-numbers_from}
 use Rattle.tpl_graph.proofs.SiteLaws.{sites_all, site_total_is, label_total, length-with_names, are_named, any_flat}

@@ -7,7 +7,7 @@ use Rattle.tpl_script.specs.Statements as script
 use Rattle.tpl_model.specs.Graph as graph
 use Rattle.tpl_model.specs.Graph.{body}
 use Rattle.tpl_graph.specs.Kept.{IsNamedGraph}
-use Rattle.tpl_graph.specs.Named.{Named, may_fails, may_fails_of, all_may_fail, numbers_from}
+use Rattle.tpl_draft.specs.Named.{Named, may_fails, may_fails_of, all_may_fail, numbers_from}
 use Rattle.tpl_graph.specs.Sites.{HasWork, IsWork}
 use Rattle.tpl_graph.proofs.OwnerLemmas.{as_many, as_many_in}
 use Rattle.tpl_graph.proofs.ReaderLemmas.{length-numbers_from}

@@ -3,14 +3,14 @@ use Rattle.std.specs.Prelude.{◌≡◌, false, length, map}
 use Rattle.tpl_graph.specs.declared.check.Checked.{Checked}
 use Rattle.tpl_graph.specs.declared.check.Found.{Found}
 use Rattle.tpl_graph.specs.Collected.{all_owned}
-use Rattle.tpl_graph.specs.Names.{some_twice}
-use Rattle.tpl_graph.specs.Numbered.{names_of, graph_in}
-use Rattle.tpl_graph.specs.Draft.{Draft}
-use Rattle.tpl_graph.specs.Refusals.{all_starts}
-use Rattle.tpl_graph.specs.Rows.{token_of}
+use Rattle.tpl_draft.specs.Names.{some_twice}
+use Rattle.tpl_draft.specs.Numbered.{names_of, graph_in}
+use Rattle.tpl_draft.specs.Draft.{Draft}
+use Rattle.tpl_draft.specs.Refusals.{all_starts}
+use Rattle.tpl_draft.specs.Origins.{token_of}
 use Rattle.tpl_graph.specs.Starters.{numbers}
-use Rattle.tpl_graph.specs.Tables.{seen}
-use Rattle.tpl_graph.specs.Test.{AreDeclared, AreStarters}
+use Rattle.tpl_draft.specs.Tables.{seen}
+use Rattle.tpl_draft.specs.Test.{AreDeclared, AreStarters}
 
 pub record IsFound (d : Draft) (f : Found) : Type 0 where
   pub names : AreDeclared d f.declared

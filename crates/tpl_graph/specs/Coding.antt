@@ -4,7 +4,7 @@ use Rattle.std.specs.Coded.{Coded, code_by, coded×, coded_ℕ, coded_list, code
 use Rattle.tpl_script.specs.Statements.{Statements}
 use Rattle.tpl_script.specs.Coding.{statements_code}
 use Rattle.tpl_model.specs.Graph.{TaskGraph, Task, TaskKind, Root, Child, Continues, WhenAll, WhenAny, Token, Plain, Linked}
-use Rattle.tpl_graph.specs.Named.{Names, Named}
+use Rattle.tpl_draft.specs.Named.{Names, Named}
 
 abbrev pub kind_number : TaskKind → ℕ × List ℕ
 kind_number Root = (0, [])

@@ -1,10 +1,10 @@
 -- What the statements of a body name: labels, sites, and the tasks that they start.
 use Rattle.std.specs.Prelude.{ℕ, suc, Bool, List, [], ◌∷◌, ◌++◌, flat_map}
-use Rattle.tpl_graph.specs.declared.collect.Sort.{Sort}
+use Rattle.tpl_draft.specs.declared.sort.Sort.{Sort}
 use Rattle.tpl_graph.specs.declared.row.Site.{Site}
-use Rattle.tpl_graph.specs.Names.{place}
-use Rattle.tpl_graph.specs.Numbered.{names_in}
-use Rattle.tpl_graph.specs.Draft.{Line, Lines, Start, Work, each_of, Task, worked}
+use Rattle.tpl_draft.specs.Names.{place}
+use Rattle.tpl_draft.specs.Numbered.{names_in}
+use Rattle.tpl_draft.specs.Draft.{Line, Lines, Start, Work, each_of, Task, worked}
 
 -- the names of a sort in a body, in the order of its text
 abbrev pub named : Sort → Lines → List (List ℕ)

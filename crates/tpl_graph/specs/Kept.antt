@@ -6,10 +6,10 @@ use Rattle.tpl_model.specs.Graph.{TaskGraph, body, attached, is_task, IsParent}
 use Rattle.tpl_model.specs.Valid.{IsGraph, all_sites, bound}
 use Rattle.std.specs.declared.vec.Vec.{Vec}
 use Rattle.std.specs.declared.alloc.Global.{Global}
-use Rattle.tpl_graph.specs.Ids.{task_number}
-use Rattle.tpl_graph.specs.Names.{some_twice}
-use Rattle.tpl_graph.specs.Named.{Named, numbers_from}
-use Rattle.tpl_graph.specs.Refusals.{is_name}
+use Rattle.tpl_draft.specs.Ids.{task_number}
+use Rattle.tpl_draft.specs.Names.{some_twice}
+use Rattle.tpl_draft.specs.Named.{Named, numbers_from}
+use Rattle.tpl_draft.specs.Refusals.{is_name}
 
 -- the labels and sites of a body have names
 abbrev mutual

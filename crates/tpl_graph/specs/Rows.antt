@@ -2,14 +2,14 @@
 use Rattle.std.specs.Prelude.{ℕ, List, map}
 use Rattle.std.specs.Option.{option_map}
 use Rattle.tpl_model.specs.Graph as graph
-use Rattle.tpl_graph.specs.Ids.{task_number, token_number}
+use Rattle.tpl_draft.specs.Ids.{task_number, token_number}
 use Rattle.tpl_graph.specs.declared.row.Kind.{Kind}
 use Rattle.tpl_graph.specs.declared.row.Kind.TheVariants as kind
 use Rattle.tpl_graph.specs.declared.row.OwnRole.{OwnRole}
 use Rattle.tpl_graph.specs.declared.row.OwnRole.TheVariants as role
 use Rattle.tpl_graph.specs.declared.row.Row.{Row}
-use Rattle.tpl_graph.specs.declared.row.Origin.{Origin}
-use Rattle.tpl_graph.specs.declared.row.Origin.TheVariants as origin
+use Rattle.tpl_draft.specs.declared.origin.Origin.{Origin}
+use Rattle.tpl_draft.specs.Origins.{token_of}
 
 -- the kind without the tasks that it waits for
 abbrev pub kind_of : graph.TaskKind → Kind
@@ -30,11 +30,6 @@ role_of (role.Any args) = graph.WhenAny (map task_number args.items)
 -- a task in memory, without where it lies
 abbrev pub task_of : Row → graph.Task
 task_of r = record { kind = role_of r.role; body = r.script; token = option_map token_number r.token; options = r.options }
-
--- a token in memory, without where it lies
-abbrev pub token_of : Origin → graph.Token
-token_of origin.Plain = graph.Plain
-token_of (origin.Linked sources) = graph.Linked (map token_number sources.items)
 
 -- the graph of these rows
 abbrev pub graph_of : List Origin → ℕ → List Row → graph.TaskGraph

@@ -3,7 +3,7 @@ use Rattle.std.specs.Prelude.{◌≡◌, ◌⊎◌, ℕ, suc, ◌++◌, Bool, Li
 use Rattle.tpl_script.specs.Statements.{Statement, Statements, Nothing, ◌⨾◌, Work, If, When, sites}
 use Rattle.tpl_model.specs.Graph.{TaskGraph, Task}
 use Rattle.tpl_graph.specs.declared.row.Site.{Site}
-use Rattle.tpl_graph.specs.Named.{all_may_fail}
+use Rattle.tpl_draft.specs.Named.{all_may_fail}
 
 -- the task of each site of tasks numbered from n on, in the order of the text
 abbrev pub owners_from : ℕ → List Task → List ℕ

@@ -1,6 +1,6 @@
 -- Bodies within the limits.
 use Rattle.std.specs.Prelude.{◌≡◌, ℕ, ◌≤◌, List, Some, slice_get}
-use Rattle.tpl_graph.specs.Draft.{Lines, Task, worked, line_count, levels}
+use Rattle.tpl_draft.specs.Draft.{Lines, Task, worked, line_count, levels}
 
 -- at most 64 statements, nested ones too, and at most 8 levels
 abbrev pub IsSmall : Lines → Type 0

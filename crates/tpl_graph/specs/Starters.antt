@@ -5,9 +5,9 @@ use Rattle.std.specs.declared.alloc.Global.{Global}
 use Rattle.tpl_words.specs.declared.ids.TaskId.{TaskId}
 use Rattle.tpl_words.specs.Options.{attached_to_parent, deny_child_attach}
 use Rattle.tpl_model.specs.Graph.{TaskGraph, options}
-use Rattle.tpl_graph.specs.Ids.{task_number}
-use Rattle.tpl_graph.specs.declared.row.Starter.{Starter}
-use Rattle.tpl_graph.specs.declared.row.Starter.TheVariants.{Nobody, One, Several}
+use Rattle.tpl_draft.specs.Ids.{task_number}
+use Rattle.tpl_draft.specs.declared.starter.Starter.{Starter}
+use Rattle.tpl_draft.specs.declared.starter.Starter.TheVariants.{Nobody, One, Several}
 use Rattle.tpl_graph.specs.declared.row.Row.{Row}
 use Rattle.tpl_graph.specs.Rows.{task_of}
 

@@ -2,28 +2,24 @@
 
 ghost use Rattle.std.specs.Prelude.{◌≡◌, false, length, map, suc, IfOk, OnOk, IfErr};
 ghost use Rattle.tpl_graph.specs.Collected.{all_owned};
-ghost use Rattle.tpl_graph.specs.Names.{some_twice};
-ghost use Rattle.tpl_graph.specs.Numbered.{names_of, graph_in};
-ghost use Rattle.tpl_graph.specs.Refusals.{number, IsValid, NoneBelow, Refuses, all_starts};
-ghost use Rattle.tpl_graph.specs.Rows.{token_of};
-ghost use Rattle.tpl_graph.specs.SeenTasks.{draft_of};
+ghost use Rattle.tpl_draft.specs.Names.{some_twice};
+ghost use Rattle.tpl_draft.specs.Numbered.{names_of, graph_in};
+ghost use Rattle.tpl_draft.specs.Refusals.{number, IsValid, NoneBelow, Refuses, all_starts};
+ghost use Rattle.tpl_draft.specs.Origins.{token_of};
+ghost use Rattle.tpl_draft.specs.SeenTasks.{draft_of};
 ghost use Rattle.tpl_graph.specs.Starters.{numbers};
-ghost use Rattle.tpl_graph.specs.Test.{why_of, IsTestOf, AreDeclared, AreStarters};
+ghost use Rattle.tpl_draft.specs.Test.{why_of, IsTestOf, AreDeclared, AreStarters};
 ghost use Rattle.tpl_graph.specs.Checked.{IsFound, IsChecked};
 
-use crate::ask::Declared;
-use crate::declare::declare;
-use crate::draft::Draft;
-use crate::fault::{GraphFault, Why};
-use crate::names::{Names, NamesFault, Tables};
-use crate::refusals::{Test, first_where, why_of};
-use crate::row::{Origin, Site, Starter};
+use crate::row::Site;
 use crate::rows::origins;
 use crate::starters::{all_starts, starters};
 use crate::tables::{label_table, site_table};
-use crate::task_options::options_fault;
-use crate::too_many::first_too_many;
 use std::alloc::Global;
+use tpl_draft::{
+    Declared, Draft, GraphFault, Names, NamesFault, Origin, Starter, Tables, Test, Why, declare,
+    first_too_many, first_where, options_fault, why_of,
+};
 use tpl_words::TaskId;
 
 /// The test's refusal applies nowhere.

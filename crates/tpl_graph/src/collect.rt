@@ -1,25 +1,17 @@
 //! What the statements of a body name: labels, sites, and the tasks that they start.
 
 ghost use Rattle.std.specs.Prelude.{◌≡◌, ◌≤◌, ◌++◌, ◌∷◌, ◌||◌, length, map, flat_map, string_bytes, IfOk, OnOk};
-ghost use Rattle.tpl_graph.specs.Numbered.{names_in};
+ghost use Rattle.tpl_draft.specs.Numbered.{names_in};
 ghost use Rattle.tpl_graph.specs.Collected.{named, start_in, started, owned_in, owned};
-ghost use Rattle.tpl_graph.specs.Draft.{each_within};
-ghost use Rattle.tpl_graph.specs.Ids.{task_number};
-ghost use Rattle.tpl_graph.specs.Names.{with_name, with_names, twice_after, has_name};
-ghost use Rattle.tpl_graph.specs.SeenDraft.{line_of};
+ghost use Rattle.tpl_draft.specs.Draft.{each_within};
+ghost use Rattle.tpl_draft.specs.Ids.{task_number};
+ghost use Rattle.tpl_draft.specs.Names.{with_name, with_names, twice_after, has_name};
+ghost use Rattle.tpl_draft.specs.SeenDraft.{line_of};
 
-use crate::draft::{DraftBody, DraftStmt};
-use crate::names::Names;
 use crate::row::Site;
 use std::alloc::AllocError;
+use tpl_draft::{DraftBody, DraftStmt, Names, Sort};
 use tpl_words::TaskId;
-
-/// Which names of statements.
-#[derive(Clone, Copy)]
-pub(crate) enum Sort {
-    Labels,
-    Sites,
-}
 
 fn either(first: bool, second: bool) -> bool
     ensures { result ≡ (first || second) }

@@ -8,28 +8,26 @@ ghost use Rattle.tpl_script.specs.Statements.{sites};
 ghost use Rattle.tpl_model.specs.Graph as spec;
 ghost use Rattle.tpl_model.specs.Graph.{is_task, is_token, IsParent};
 ghost use Rattle.tpl_model.specs.Valid as valid;
-ghost use Rattle.tpl_graph.specs.Ids.{task_number, token_number, input_number, site_number};
-ghost use Rattle.tpl_graph.specs.Named.{antecedent_of, args_of, all_may_fail};
+ghost use Rattle.tpl_draft.specs.Ids.{task_number, token_number, input_number, site_number};
+ghost use Rattle.tpl_draft.specs.Named.{antecedent_of, args_of, all_may_fail};
 ghost use Rattle.tpl_graph.specs.Rows.{kind_of};
 ghost use Rattle.tpl_graph.specs.Roles.{kind_in, AreWithin};
 ghost use Rattle.tpl_graph.specs.Kept.{IsNamedGraph};
 ghost use Rattle.tpl_graph.specs.Sites.{HasWork};
 ghost use Rattle.tpl_graph.specs.Checked.{IsChecked};
-ghost use Rattle.tpl_graph.specs.Numbered.{numbered};
-ghost use Rattle.tpl_graph.specs.Refusals.{IsValid, Refuses};
-ghost use Rattle.tpl_graph.specs.SeenTasks.{draft_of};
+ghost use Rattle.tpl_draft.specs.Numbered.{numbered};
+ghost use Rattle.tpl_draft.specs.Refusals.{IsValid, Refuses};
+ghost use Rattle.tpl_draft.specs.SeenTasks.{draft_of};
 
 use crate::check::{Checked, check};
-use crate::draft::Draft;
-use crate::fault::GraphFault;
-use crate::names::Tables;
 use crate::role::Role;
-use crate::row::{Kind, Origin, OwnRole, Row, Site};
+use crate::row::{Kind, OwnRole, Row, Site};
 use crate::rows::number_tasks;
 use crate::same::{same_origins, same_rows, same_tables};
 use crate::starters::{attached, bound, parents};
 use std::alloc::{AllocError, Global};
 use std::marker::Model;
+use tpl_draft::{Draft, GraphFault, Origin, Tables};
 use tpl_script::Script;
 use tpl_words::{InputId, LabelId, Options, SiteId, TaskId, TokenId};
 
@@ -48,7 +46,7 @@ pub struct Graph {
 
 impl Model for Graph {
     ghost use Rattle.std.specs.Prelude.{length};
-    ghost use Rattle.tpl_graph.specs.Named.{Named};
+    ghost use Rattle.tpl_draft.specs.Named.{Named};
     ghost use Rattle.tpl_graph.specs.Coding.{named_code};
 
     ghost Value = { Named };
@@ -56,7 +54,7 @@ impl Model for Graph {
     ghost coded = { named_code };
 
     ghost use Rattle.tpl_graph.specs.Rows.{graph_of};
-    ghost use Rattle.tpl_graph.specs.Tables.{seen};
+    ghost use Rattle.tpl_draft.specs.Tables.{seen};
     ghost use Rattle.tpl_graph.specs.Kept.{IsNamedGraph, AreKept};
     ghost use Rattle.tpl_graph.specs.Sites.{AreSites};
 

@@ -38,25 +38,9 @@ pub(crate) struct Row {
     pub(crate) options: Options,
 }
 
-/// A token, of a source of its own or of one that is linked to other tokens.
-#[derive(Drop)]
-pub(crate) enum Origin {
-    Plain,
-    Linked(Vec<TokenId>),
-}
-
 /// A site: the task whose body has it, and whether its job may fail.
 #[derive(Clone, Copy)]
 pub(crate) struct Site {
     pub(crate) owner: TaskId,
     pub(crate) may_fail: bool,
-}
-
-/// Which start statements name a task.
-#[derive(Clone, Copy)]
-pub(crate) enum Starter {
-    Nobody,
-    /// One, in the body of this task.
-    One(TaskId),
-    Several,
 }

@@ -4,20 +4,21 @@ ghost use Rattle.std.specs.Prelude.{◌≡◌, ◌≤◌, None, length, map, str
 ghost use Rattle.std.specs.Option.{option_map};
 ghost use Rattle.tpl_script.specs.Limits.{IsWithinLimits};
 ghost use Rattle.tpl_script.specs.Statements.{Nothing};
-ghost use Rattle.tpl_graph.specs.Draft as meaning;
-ghost use Rattle.tpl_graph.specs.Ids.{task_number, token_number};
-ghost use Rattle.tpl_graph.specs.Names.{place};
-ghost use Rattle.tpl_graph.specs.Numbered.{script_in, task_in, token_in, AreFew};
+ghost use Rattle.tpl_draft.specs.Draft as meaning;
+ghost use Rattle.tpl_draft.specs.Ids.{task_number, token_number};
+ghost use Rattle.tpl_draft.specs.Names.{place};
+ghost use Rattle.tpl_draft.specs.Numbered.{script_in, task_in, token_in, AreFew};
 ghost use Rattle.tpl_graph.specs.Rows as rows;
-ghost use Rattle.tpl_graph.specs.SeenTasks.{task_of, token_of};
+ghost use Rattle.tpl_draft.specs.SeenTasks.{task_of, token_of};
 ghost use Rattle.tpl_graph.specs.Small.{IsSmall, AreSmall};
-ghost use Rattle.tpl_graph.specs.Tables.{seen};
+ghost use Rattle.tpl_draft.specs.Tables.{seen};
 
-use crate::draft::{DraftBody, DraftKind, DraftTask, DraftToken, DraftWork};
-use crate::names::{Names, Tables};
-use crate::numbering::{number_body, task_id, token_id};
-use crate::row::{Origin, OwnRole, Row};
+use crate::row::{OwnRole, Row};
 use std::alloc::{AllocError, Global};
+use tpl_draft::{
+    DraftBody, DraftKind, DraftTask, DraftToken, DraftWork, Names, Origin, Tables, number_body,
+    task_id, token_id,
+};
 use tpl_script::{Body, Script};
 use tpl_words::{Options, TaskId, TokenId};
 

@@ -2,12 +2,13 @@
 
 ghost use Rattle.std.specs.Prelude.{◌≡◌, ◌↔◌, IsTrue, map};
 ghost use Rattle.std.specs.Option.{option_map};
-ghost use Rattle.tpl_graph.specs.Ids.{task_number, token_number};
-ghost use Rattle.tpl_graph.specs.Rows.{role_of, task_of, token_of};
-ghost use Rattle.tpl_graph.specs.Tables.{seen};
+ghost use Rattle.tpl_draft.specs.Ids.{task_number, token_number};
+ghost use Rattle.tpl_draft.specs.Origins.{token_of};
+ghost use Rattle.tpl_graph.specs.Rows.{role_of, task_of};
+ghost use Rattle.tpl_draft.specs.Tables.{seen};
 
-use crate::names::{Names, Tables};
-use crate::row::{Origin, OwnRole, Row};
+use crate::row::{OwnRole, Row};
+use tpl_draft::{Names, Origin, Tables};
 use tpl_words::{TaskId, TokenId};
 
 fn same_names(left: &Names, right: &Names) -> bool

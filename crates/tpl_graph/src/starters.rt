@@ -4,21 +4,20 @@ ghost use Rattle.std.specs.Prelude.{◌≡◌, ◌≤◌, ◌<◌, ◌&&◌, ◌
 ghost use Rattle.tpl_words.specs.Options.{attached_to_parent, deny_child_attach};
 ghost use Rattle.tpl_script.specs.Limits.{statement_count};
 ghost use Rattle.tpl_model.specs.Graph as spec;
-ghost use Rattle.tpl_graph.specs.declared.row.Starter.TheVariants.{Nobody};
+ghost use Rattle.tpl_draft.specs.declared.starter.Starter.TheVariants.{Nobody};
 ghost use Rattle.tpl_graph.specs.Collected.{started, owned, all_owned};
-ghost use Rattle.tpl_graph.specs.Draft.{worked};
-ghost use Rattle.tpl_graph.specs.Ids.{task_number};
+ghost use Rattle.tpl_draft.specs.Draft.{worked};
+ghost use Rattle.tpl_draft.specs.Ids.{task_number};
 ghost use Rattle.tpl_graph.specs.Kept.{EachAt};
-ghost use Rattle.tpl_graph.specs.Refusals.{starters_from};
-ghost use Rattle.tpl_graph.specs.SeenTasks.{task_of};
+ghost use Rattle.tpl_draft.specs.Refusals.{starters_from};
+ghost use Rattle.tpl_draft.specs.SeenTasks.{task_of};
 ghost use Rattle.tpl_graph.specs.Starters.{numbers, noted, more as one_more, parent_in, rows_graph, attached_of};
-ghost use Rattle.tpl_graph.specs.Test.{starter_of};
+ghost use Rattle.tpl_draft.specs.Test.{starter_of};
 
 use crate::collect::collect;
-use crate::draft::{DraftKind, DraftTask};
-use crate::names::Names;
-use crate::row::{Row, Site, Starter};
+use crate::row::{Row, Site};
 use std::alloc::{AllocError, Global};
+use tpl_draft::{DraftKind, DraftTask, Names, Starter};
 use tpl_words::TaskId;
 
 /// The tasks that a task starts; its sites are added.

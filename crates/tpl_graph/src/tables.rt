@@ -1,19 +1,18 @@
 //! The tables of labels and sites.
 
 ghost use Rattle.std.specs.Prelude.{◌≡◌, [], map, flat_map, None, IfOk, IfErr, OnOk, false};
-ghost use Rattle.tpl_graph.specs.declared.collect.Sort.TheVariants.{Labels, Sites};
-ghost use Rattle.tpl_graph.specs.declared.fault.Why.TheVariants.{SiteTwice};
-ghost use Rattle.tpl_graph.specs.Draft.{statements_in};
-ghost use Rattle.tpl_graph.specs.Names.{with_names, twice_after, some_twice};
-ghost use Rattle.tpl_graph.specs.Numbered.{names_in, all_named, sites_of};
-ghost use Rattle.tpl_graph.specs.Refusals.{applies, IsFirst};
-ghost use Rattle.tpl_graph.specs.SeenTasks.{draft_of, task_of};
-ghost use Rattle.tpl_graph.specs.Test.{FaultIsTwice};
+ghost use Rattle.tpl_draft.specs.declared.sort.Sort.TheVariants.{Labels, Sites};
+ghost use Rattle.tpl_draft.specs.declared.fault.Why.TheVariants.{SiteTwice};
+ghost use Rattle.tpl_draft.specs.Draft.{statements_in};
+ghost use Rattle.tpl_draft.specs.Names.{with_names, twice_after, some_twice};
+ghost use Rattle.tpl_draft.specs.Numbered.{names_in, all_named, sites_of};
+ghost use Rattle.tpl_draft.specs.Refusals.{applies, IsFirst};
+ghost use Rattle.tpl_draft.specs.SeenTasks.{draft_of, task_of};
+ghost use Rattle.tpl_draft.specs.Test.{FaultIsTwice};
 
-use crate::collect::{Sort, add_names};
-use crate::draft::{Draft, DraftKind, DraftTask};
-use crate::names::{Names, NamesFault};
+use crate::collect::add_names;
 use std::alloc::{AllocError, Global};
+use tpl_draft::{Draft, DraftKind, DraftTask, Names, NamesFault, Sort};
 
 /// Adds the names of a sort in a task, and says whether one of them stood there before.
 fn add_task(names: &mut Names, task: &DraftTask, sort: Sort) -> Result<bool, AllocError>

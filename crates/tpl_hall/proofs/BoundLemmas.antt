@@ -11,7 +11,7 @@ use Rattle.tpl_model.specs.declared.event.Event.{Event}
 use Rattle.tpl_model.specs.Facts.{Ending, Rest, place_in, ended_at_once, settled_as, ending_by, rest, started, ending}
 use Rattle.tpl_model.specs.Graph.{TaskGraph, TaskKind, Root, Child, Continues, WhenAll, WhenAny, kind, options}
 use Rattle.tpl_model.specs.Rules.{worker_of, actor_in, bound_worker}
-use Rattle.tpl_graph.specs.Named.{antecedent_of}
+use Rattle.tpl_draft.specs.Named.{antecedent_of}
 use Rattle.tpl_machine.specs.Reading.{place_of, ended}
 use Rattle.tpl_laws.proofs.Basics.{if_true}
 use Rattle.tpl_laws.proofs.Kept.{ending_new}

@@ -4,7 +4,7 @@ use Rattle.std.specs.Prelude.{reverse, take, Option, Some, None}
 use Rattle.std.proofs.lemmas.List.{append-nil, length-reverse}
 use Rattle.tpl_model.specs.Graph.{TaskGraph}
 use Rattle.tpl_model.specs.Rules.{Run, Complete as IsComplete}
-use Rattle.tpl_graph.specs.Named.{Named}
+use Rattle.tpl_draft.specs.Named.{Named}
 use Rattle.tpl_machine.specs.Journal.{Journal}
 use Rattle.tpl_hall.specs.declared.sight.Ended.TheVariants.{Complete, Halted, Stray}
 use Rattle.tpl_hall.specs.declared.sight.Sight.TheVariants.{Complete as AllDone}

@@ -2,7 +2,7 @@
 use Rattle.std.specs.Prelude.{◌≡◌, ℕ, ◌≤◌, Bool, List, length, Option, Some, None}
 use Rattle.tpl_model.specs.Graph.{TaskGraph}
 use Rattle.tpl_model.specs.Rules.{Complete as IsComplete}
-use Rattle.tpl_graph.specs.Named.{Named}
+use Rattle.tpl_draft.specs.Named.{Named}
 use Rattle.tpl_machine.specs.Journal.{Journal}
 use Rattle.tpl_hall.specs.declared.sight.Ended.{Ended}
 use Rattle.tpl_hall.specs.declared.sight.Ended.TheVariants.{Complete, Halted, Stray}

@@ -2,7 +2,7 @@
 
 ghost use Rattle.std.specs.Prelude.{◌≡◌, ◌+◌, ◌<◌, [], replicate, length, map, slice_index_or, IfOk, OnOk};
 ghost use Rattle.tpl_model.specs.Graph.{is_task};
-ghost use Rattle.tpl_graph.specs.Ids.{task_number};
+ghost use Rattle.tpl_draft.specs.Ids.{task_number};
 ghost use Rattle.tpl_items.specs.Children.{AreChildren, AreChildrenBelow};
 
 use std::alloc::{AllocError, Global};
@@ -18,7 +18,7 @@ pub struct Children {
 
 impl Model for Children {
     ghost use Rattle.std.specs.Prelude.{ℕ, List, map};
-    ghost use Rattle.tpl_graph.specs.Ids.{task_number};
+    ghost use Rattle.tpl_draft.specs.Ids.{task_number};
 
     ghost Value = { List (List ℕ) };
 

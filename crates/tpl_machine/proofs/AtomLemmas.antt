@@ -12,7 +12,7 @@ use Rattle.std.proofs.Common.{inl, inr}
 use Rattle.tpl_words.proofs.MemberLemmas.{mem_append, mem_split}
 use Rattle.tpl_words.specs.declared.ids.TaskId.{TaskId}
 use Rattle.tpl_words.specs.Members.{mem, joined}
-use Rattle.tpl_graph.specs.Ids.{task_number}
+use Rattle.tpl_draft.specs.Ids.{task_number}
 use Rattle.tpl_run.specs.Atoms.{AreAtoms}
 use Rattle.tpl_run.proofs.AtomLemmas.{empty_atoms}
 

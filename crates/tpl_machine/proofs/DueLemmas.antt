@@ -10,7 +10,7 @@ use Rattle.tpl_model.specs.declared.event.Event.{Event}
 use Rattle.tpl_model.specs.Graph.{TaskGraph, is_task, is_token}
 use Rattle.tpl_model.specs.Facts.{rest}
 use Rattle.tpl_model.specs.Valid.{IdsOf, IsGraph}
-use Rattle.tpl_graph.specs.Ids.{task_number, token_number}
+use Rattle.tpl_draft.specs.Ids.{task_number, token_number}
 use Rattle.tpl_run.specs.Body.{cancel_of, start_of}
 use Rattle.tpl_machine.proofs.IdLemmas.{ids_rest, cancel_within, start_within}
 use Rattle.std.proofs.Common.{arith}

@@ -2,7 +2,7 @@
 
 ghost use Rattle.std.specs.Prelude.{◌≡◌, ℕ, ◌++◌, ◌<◌, [], ◌∷◌, map, true, vec_capacity, vec_len, if◌then◌else◌};
 ghost use Rattle.tpl_words.specs.Members.{mem, joined};
-ghost use Rattle.tpl_graph.specs.Ids.{task_number};
+ghost use Rattle.tpl_draft.specs.Ids.{task_number};
 ghost use Rattle.tpl_run.specs.Atoms.{AreAtoms};
 
 use tpl_words::TaskId;

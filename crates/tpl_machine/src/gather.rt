@@ -3,7 +3,7 @@
 ghost use Rattle.std.specs.Prelude.{◌≡◌, ℕ, ◌<◌, ◌||◌, true, length, map, slice_get, Some, vec_capacity, if◌then◌else◌};
 ghost use Rattle.tpl_words.specs.Members.{mem, joined};
 ghost use Rattle.tpl_model.specs.Facts.{carried_in, gathered, those_started};
-ghost use Rattle.tpl_graph.specs.Ids.{task_number};
+ghost use Rattle.tpl_draft.specs.Ids.{task_number};
 ghost use Rattle.tpl_run.specs.Atoms.{AreAtoms};
 ghost use Rattle.tpl_run.specs.Rows.{ending_in, HaveRoom};
 

@@ -4,7 +4,7 @@ ghost use Rattle.std.specs.Prelude.{◌≡◌, ℕ, ◌<◌, ◌≤◌, ◌||◌
 ghost use Rattle.std.specs.Option.{option_map};
 ghost use Rattle.tpl_words.specs.Members.{mem};
 ghost use Rattle.tpl_model.specs.Facts.{worked, own_atom, body_final, body_over, gathered, those_started};
-ghost use Rattle.tpl_graph.specs.Ids.{task_number, token_number};
+ghost use Rattle.tpl_draft.specs.Ids.{task_number, token_number};
 ghost use Rattle.tpl_run.specs.Atoms.{AreAtoms};
 ghost use Rattle.tpl_run.specs.Body.{passed};
 ghost use Rattle.tpl_run.specs.Tests.{is_all};

@@ -1,9 +1,9 @@
 -- Bodies, one level at a time.
 use Rattle.std.proofs.Common.{◌≡◌, ℕ, zero, suc, ◌-◌, ◌<◌, List, [], ◌∷◌, map, None, refl, ap, arith}
 use Rattle.serde_json.specs.Data.{Data}
-use Rattle.tpl_graph.specs.declared.draft.DraftStmt.{DraftStmt}
-use Rattle.tpl_graph.specs.SeenDraft.{line_of, lines_of}
-use Rattle.tpl_graph.specs.Draft.{Then}
+use Rattle.tpl_draft.specs.declared.draft.DraftStmt.{DraftStmt}
+use Rattle.tpl_draft.specs.SeenDraft.{line_of, lines_of}
+use Rattle.tpl_draft.specs.Draft.{Then}
 use Rattle.tpl_parts.specs.Statements.{list_at, body_at, body_of}
 
 pub lines_of_all : (ss : List DraftStmt) → body_of (map line_of ss) ≡ lines_of ss

@@ -5,7 +5,7 @@ use Rattle.serde_json.specs.Data.{Data, string, array, object, null, boolean, nu
 use Rattle.serde_json.specs.Find.{get, as_bool}
 use Rattle.tpl_json.specs.Members.{◌>>=◌, only_if, has_only, text_in, list_in, each}
 use Rattle.tpl_json.specs.Finals.{final_at}
-use Rattle.tpl_graph.specs.Draft.{Line, Lines, Return, Throw, Check, Cancel, Start, Observe, Work, If, When, Nothing, Then}
+use Rattle.tpl_draft.specs.Draft.{Line, Lines, Return, Throw, Check, Cancel, Start, Observe, Work, If, When, Nothing, Then}
 
 -- a list of statements as a body
 abbrev pub body_of : List Line → Lines

@@ -7,7 +7,7 @@ use Rattle.serde_json.specs.Data.{Data, string, array, object, null, boolean, nu
 use Rattle.serde_json.specs.Find.{get, as_str}
 use Rattle.tpl_words.specs.Options.{words}
 use Rattle.tpl_json.specs.Members.{◌>>=◌, only_if, has_only, text_in, list_in, list_or_none, each}
-use Rattle.tpl_graph.specs.Draft.{Worked, Kind, Root, Child, Continues, WhenAll, WhenAny, Task, Token}
+use Rattle.tpl_draft.specs.Draft.{Worked, Kind, Root, Child, Continues, WhenAll, WhenAny, Task, Token}
 use Rattle.tpl_parts.specs.Statements.{body_at}
 
 -- the bits of an option word

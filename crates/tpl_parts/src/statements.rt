@@ -3,7 +3,7 @@
 ghost use Rattle.std.specs.Prelude.{◌≡◌, map, codes, string_bytes, option_and_then, IfErr};
 ghost use Rattle.serde_json.specs.Find.{get};
 ghost use Rattle.tpl_json.specs.View.{view};
-ghost use Rattle.tpl_graph.specs.SeenDraft.{line_of, lines_of};
+ghost use Rattle.tpl_draft.specs.SeenDraft.{line_of, lines_of};
 ghost use Rattle.tpl_json.specs.Members.{Gives, each, IsShape};
 ghost use Rattle.tpl_parts.specs.Statements.{body_of, word_at, name_at, throw_at, check_at, cancel_at, start_at, bool_or_false, work_at, else_at, if_at, when_at, branch_at, is_branch, simple_at, object_at, statement_at, list_at, body_at};
 

@@ -4,7 +4,7 @@ ghost use Rattle.std.specs.Prelude.{◌≡◌, map, codes, string_bytes, option_
 ghost use Rattle.std.specs.Option.{option_map};
 ghost use Rattle.serde_json.specs.Find.{get, as_str};
 ghost use Rattle.tpl_json.specs.View.{view};
-ghost use Rattle.tpl_graph.specs.SeenTasks.{work_of, kind_of, task_of, token_of};
+ghost use Rattle.tpl_draft.specs.SeenTasks.{work_of, kind_of, task_of, token_of};
 ghost use Rattle.tpl_json.specs.Members.{Gives, each, IsShape};
 ghost use Rattle.tpl_parts.specs.Tasks.{option_at, options_at, text_or_none, work_at, root_at, child_at, then_at, args_at, all_at, any_at, kind_at, task_at, linked_at, plain_at, token_at};
 

@@ -6,7 +6,7 @@ use Rattle.serde_json.specs.Find.{get}
 use Rattle.serde_json.specs.View.{items_of}
 use Rattle.serde_json.proofs.Views.{get_member-put}
 use Rattle.tpl_model.specs.Certificate.{Tree}
-use Rattle.tpl_graph.specs.Named.{Names}
+use Rattle.tpl_draft.specs.Named.{Names}
 use Rattle.tpl_json.specs.Members.{list_in}
 use Rattle.tpl_json.specs.Grammar.{IfThere, IsArray, AllRead}
 use Rattle.tpl_cert.specs.Spelled.{ReadsAs}

@@ -8,7 +8,7 @@ use Rattle.tpl_model.specs.Certificate.{Tree}
 use Rattle.tpl_claims.specs.Fits.{Fits}
 use Rattle.tpl_cert.specs.Heights.{IsWithinLimits}
 use Rattle.tpl_cert.specs.Spelled.{ReadsAs}
-use Rattle.tpl_graph.specs.Named.{Names, Named}
+use Rattle.tpl_draft.specs.Named.{Names, Named}
 use Rattle.tpl_parts.specs.NamedClaims.{NamedClaim}
 use Rattle.tpl_reader.specs.Asked.{IsAsked}
 use Rattle.tpl_json.specs.Grammar.{AllRead}

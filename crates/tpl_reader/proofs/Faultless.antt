@@ -6,13 +6,13 @@ use Rattle.tpl_cert.proofs.OneTree.{chain_same}
 use Rattle.serde_json.specs.Data.{Data}
 use Rattle.tpl_model.specs.Claims.{Claim}
 use Rattle.tpl_claims.specs.Fits.{have_bodies, given_twice}
-use Rattle.tpl_graph.specs.declared.fault.Why.{Why}
-use Rattle.tpl_graph.specs.declared.fault.Why.TheVariants as why
-use Rattle.tpl_graph.specs.declared.fault.GraphFault.{GraphFault}
-use Rattle.tpl_graph.specs.Draft.{Draft}
-use Rattle.tpl_graph.specs.Named.{Names, Named}
-use Rattle.tpl_graph.specs.Numbered.{numbered}
-use Rattle.tpl_graph.specs.Refusals.{number, IsValid, IsLeast}
+use Rattle.tpl_draft.specs.declared.fault.Why.{Why}
+use Rattle.tpl_draft.specs.declared.fault.Why.TheVariants as why
+use Rattle.tpl_draft.specs.declared.fault.GraphFault.{GraphFault}
+use Rattle.tpl_draft.specs.Draft.{Draft}
+use Rattle.tpl_draft.specs.Named.{Names, Named}
+use Rattle.tpl_draft.specs.Numbered.{numbered}
+use Rattle.tpl_draft.specs.Refusals.{number, IsValid, IsLeast}
 use Rattle.tpl_cert.specs.declared.fault.TreeFault.{TreeFault}
 use Rattle.tpl_cert.specs.declared.fault.TreeFault.TheVariants as trees
 use Rattle.tpl_cert.specs.Laws.{ReadHasNoFault}

@@ -8,8 +8,8 @@ use Rattle.tpl_model.specs.declared.claim.Given.{Given}
 use Rattle.tpl_model.specs.declared.claim.Property.{Property}
 use Rattle.tpl_model.specs.Claims.{Claim}
 use Rattle.tpl_model.specs.Certificate.{Tree}
-use Rattle.tpl_graph.specs.Draft.{Task, Token}
-use Rattle.tpl_graph.specs.Named.{Names, Named}
+use Rattle.tpl_draft.specs.Draft.{Task, Token}
+use Rattle.tpl_draft.specs.Named.{Names, Named}
 use Rattle.tpl_cert.specs.Laws.{SpellsOneTree}
 use Rattle.tpl_cert.specs.Spelled.{ReadsAs}
 use Rattle.tpl_parts.specs.NamedClaims.{NamedClaim}

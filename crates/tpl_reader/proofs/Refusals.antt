@@ -2,9 +2,9 @@
 use Rattle.std.proofs.Common.{◌≡◌, List}
 use Rattle.tpl_model.specs.Claims.{Claim}
 use Rattle.tpl_model.specs.Certificate.{Tree}
-use Rattle.tpl_graph.specs.Named.{Named}
-use Rattle.tpl_graph.specs.Numbered.{numbered}
-use Rattle.tpl_graph.specs.Refusals.{IsValid}
+use Rattle.tpl_draft.specs.Named.{Named}
+use Rattle.tpl_draft.specs.Numbered.{numbered}
+use Rattle.tpl_draft.specs.Refusals.{IsValid}
 use Rattle.tpl_cert.specs.Spelled.{ReadsAs}
 use Rattle.tpl_json.specs.Grammar.{AllRead}
 use Rattle.tpl_reader.specs.declared.fault.ReadFault.{ReadFault}

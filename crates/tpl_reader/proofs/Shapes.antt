@@ -1,7 +1,7 @@
 -- From the parts of a document to the first of the wrong shape.
 use Rattle.std.proofs.Common.{List}
 use Rattle.serde_json.specs.Data.{Data}
-use Rattle.tpl_graph.specs.Draft.{Task}
+use Rattle.tpl_draft.specs.Draft.{Task}
 use Rattle.tpl_parts.specs.NamedClaims.{NamedClaim}
 use Rattle.tpl_reader.specs.declared.fault.Stop.{Stop}
 use Rattle.tpl_reader.specs.declared.fault.Stop.TheVariants as stop

@@ -4,7 +4,7 @@ use Rattle.std.specs.List.{list_all}
 use Rattle.serde_json.specs.Data.{Data, Members, null, boolean, number, string, array, object}
 use Rattle.serde_json.specs.Find.{get, as_bool}
 use Rattle.tpl_model.specs.Graph.{TaskGraph}
-use Rattle.tpl_graph.specs.Named.{Named, all_may_fail}
+use Rattle.tpl_draft.specs.Named.{Named, all_may_fail}
 use Rattle.tpl_json.specs.Members.{names_all}
 use Rattle.tpl_cert.specs.Naming.{is_declared, are_declared, AreNumbers}
 use Rattle.tpl_cert.specs.Written.{name_at}

@@ -4,10 +4,10 @@ use Rattle.serde_json.specs.Data.{Data}
 use Rattle.serde_json.specs.Read.{read}
 use Rattle.tpl_model.specs.Claims.{Claim}
 use Rattle.tpl_model.specs.Certificate.{Tree}
-use Rattle.tpl_graph.specs.Draft.{Task, Draft}
-use Rattle.tpl_graph.specs.Named.{Named}
-use Rattle.tpl_graph.specs.Numbered.{numbered}
-use Rattle.tpl_graph.specs.Refusals.{IsValid, IsLeast}
+use Rattle.tpl_draft.specs.Draft.{Task, Draft}
+use Rattle.tpl_draft.specs.Named.{Named}
+use Rattle.tpl_draft.specs.Numbered.{numbered}
+use Rattle.tpl_draft.specs.Refusals.{IsValid, IsLeast}
 use Rattle.tpl_cert.specs.declared.fault.TreeFault.{TreeFault}
 use Rattle.tpl_cert.specs.declared.fault.TreeFault.TheVariants as trees
 use Rattle.tpl_cert.specs.Spelled.{ReadsAs, IsWrongTree}

@@ -3,7 +3,7 @@ use Rattle.std.specs.Prelude.{◌≡◌, ◌≤◌, ℕ, List, codes, length}
 use Rattle.std.specs.List.{All}
 use Rattle.serde_json.specs.Data.{Data, Members, object, put}
 use Rattle.tpl_model.specs.Certificate.{Tree}
-use Rattle.tpl_graph.specs.Named.{Names}
+use Rattle.tpl_draft.specs.Named.{Names}
 use Rattle.tpl_cert.specs.Spelled.{ReadsAs}
 use Rattle.tpl_cert.specs.Written.{tree_data, named, certificate_data}
 use Rattle.tpl_reader.specs.declared.fault.ReadFault.{ReadFault}

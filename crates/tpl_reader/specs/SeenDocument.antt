@@ -2,8 +2,8 @@
 use Rattle.std.specs.Prelude.{map, string_bytes}
 use Rattle.std.specs.Option.{option_map}
 use Rattle.tpl_json.specs.View.{view}
-use Rattle.tpl_graph.specs.Ids.{token_number, site_number}
-use Rattle.tpl_graph.specs.SeenTasks.{draft_of}
+use Rattle.tpl_draft.specs.Ids.{token_number, site_number}
+use Rattle.tpl_draft.specs.SeenTasks.{draft_of}
 use Rattle.tpl_parts.specs.SeenClaims.{claim_of}
 use Rattle.tpl_parts.specs.SeenStart.{start_of}
 use Rattle.tpl_reader.specs.declared.document.Start as start

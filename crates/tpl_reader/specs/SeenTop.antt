@@ -2,7 +2,7 @@
 use Rattle.std.specs.Prelude.{map, string_bytes}
 use Rattle.std.specs.Option.{option_map}
 use Rattle.tpl_json.specs.View.{view}
-use Rattle.tpl_graph.specs.SeenTasks.{token_of}
+use Rattle.tpl_draft.specs.SeenTasks.{token_of}
 use Rattle.tpl_reader.specs.declared.top.Members as declared
 use Rattle.tpl_reader.specs.Top.{Members}
 

@@ -3,7 +3,7 @@ use Rattle.std.specs.Prelude.{◌==◌, ℕ, List, [], ◌∷◌, Option, Some, 
 use Rattle.serde_json.specs.Data.{Data}
 use Rattle.serde_json.specs.Find.{get, as_str, as_number, as_u64}
 use Rattle.tpl_json.specs.Members.{◌>>=◌, only_if, has_only, list_in, list_or_none, each}
-use Rattle.tpl_graph.specs.Draft.{Token}
+use Rattle.tpl_draft.specs.Draft.{Token}
 use Rattle.tpl_parts.specs.Tasks.{token_at}
 
 -- the members of a document

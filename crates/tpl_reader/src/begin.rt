@@ -4,7 +4,7 @@ ghost use Rattle.std.specs.Prelude.{◌≡◌, ◌&&◌, ◌<◌, length, map, t
 ghost use Rattle.std.specs.Option.{option_map};
 ghost use Rattle.std.specs.List.{All, list_all};
 ghost use Rattle.tpl_json.specs.View.{view};
-ghost use Rattle.tpl_graph.specs.Ids.{token_number, site_number};
+ghost use Rattle.tpl_draft.specs.Ids.{token_number, site_number};
 ghost use Rattle.tpl_cert.specs.Naming.{number_of, is_declared, are_declared, AreNumbers};
 ghost use Rattle.tpl_parts.specs.SeenStart.{start_of};
 ghost use Rattle.tpl_reader.specs.SeenDocument.{value_of};

@@ -4,7 +4,7 @@ ghost use Rattle.std.specs.Prelude.{◌≡◌, ◌≤◌, Some, map};
 ghost use Rattle.std.specs.Option.{option_map};
 ghost use Rattle.serde_json.specs.Data.{depth};
 ghost use Rattle.tpl_json.specs.View.{view};
-ghost use Rattle.tpl_graph.specs.SeenTasks.{task_of};
+ghost use Rattle.tpl_draft.specs.SeenTasks.{task_of};
 ghost use Rattle.tpl_parts.specs.SeenClaims.{claim_of};
 ghost use Rattle.tpl_parts.specs.SeenStart.{start_of};
 ghost use Rattle.tpl_reader.specs.SeenTop.{members_of};

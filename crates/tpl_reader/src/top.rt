@@ -6,7 +6,7 @@ ghost use Rattle.serde_json.specs.Data.{depth};
 ghost use Rattle.serde_json.specs.Find.{get, as_number, as_u64};
 ghost use Rattle.tpl_json.specs.View.{view};
 ghost use Rattle.tpl_json.specs.Members.{Gives, each, IsShape};
-ghost use Rattle.tpl_graph.specs.SeenTasks.{token_of, task_of};
+ghost use Rattle.tpl_draft.specs.SeenTasks.{token_of, task_of};
 ghost use Rattle.tpl_parts.specs.SeenClaims.{claim_of};
 ghost use Rattle.tpl_reader.specs.SeenTop.{members_of};
 ghost use Rattle.tpl_parts.specs.Tasks.{token_at};

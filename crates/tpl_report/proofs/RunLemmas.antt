@@ -6,7 +6,7 @@ use Rattle.tpl_model.specs.declared.fault.CertFault.{CertFault}
 use Rattle.tpl_commands.specs.declared.answer.Answer.{Answer}
 use Rattle.std.specs.List.{All}
 use Rattle.std.proofs.lemmas.List.{get_or-map, length-map}
-use Rattle.tpl_graph.specs.Named.{Named}
+use Rattle.tpl_draft.specs.Named.{Named}
 use Rattle.tpl_journal.specs.declared.counting.Counting.{Counting}
 use Rattle.tpl_journal.specs.Lines.{CanSpell}
 use Rattle.tpl_reader.specs.Document.{DocumentValue}

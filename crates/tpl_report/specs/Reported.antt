@@ -1,7 +1,7 @@
 -- What a report says of a run.
 use Rattle.std.specs.Prelude.{◌≡◌, ◌↔◌, ℕ, Bool, true, List, length, map, reverse}
 use Rattle.tpl_model.specs.Rules.{Run, Complete, status, label, carried}
-use Rattle.tpl_graph.specs.Named.{Named}
+use Rattle.tpl_draft.specs.Named.{Named}
 use Rattle.tpl_report_text.specs.Carried.{numbers, numbers_of}
 use Rattle.tpl_report_text.specs.ReportText.{ReportValue}
 use Rattle.tpl_hall.specs.Answers.{answers}

@@ -2,7 +2,7 @@
 use Rattle.std.proofs.Common.{◌≡◌, ℕ, List, [], map, Option, sym, subst}
 use Rattle.std.specs.List.{IsDistinct}
 use Rattle.tpl_words.specs.declared.ids.TaskId.{TaskId}
-use Rattle.tpl_graph.specs.Ids.{task_number}
+use Rattle.tpl_draft.specs.Ids.{task_number}
 use Rattle.tpl_run.specs.Atoms.{AreAtoms}
 use Rattle.tpl_run.specs.Rows.{AreKeptAtoms}
 use Rattle.tpl_run.specs.declared.row.Ended.{Ended}

@@ -5,7 +5,7 @@ use Rattle.tpl_words.specs.declared.ids.TaskId.{TaskId}
 use Rattle.tpl_words.specs.Members.{mem}
 use Rattle.tpl_model.specs.Graph.{TaskGraph, attached, is_task}
 use Rattle.tpl_model.specs.Valid.{IsGraph}
-use Rattle.tpl_graph.specs.Ids.{task_number}
+use Rattle.tpl_draft.specs.Ids.{task_number}
 use Rattle.tpl_laws.proofs.Basics.{mem_here}
 use Rattle.tpl_laws.proofs.Settling.{child_task, attached_child}
 

@@ -14,7 +14,7 @@ use Rattle.tpl_script.specs.Coding.{statements_code}
 use Rattle.tpl_model.specs.Graph.{TaskGraph, body, kind}
 use Rattle.tpl_model.specs.declared.event.Event.{Event}
 use Rattle.tpl_model.specs.Facts.{Rest, Ending, on, ended_at_once, carried_in, rest, ending}
-use Rattle.tpl_graph.specs.Ids.{task_number}
+use Rattle.tpl_draft.specs.Ids.{task_number}
 use Rattle.tpl_run.specs.EventCode.{actor_code}
 use Rattle.tpl_words.specs.Members.{mem}
 use Rattle.tpl_run.specs.Atoms.{AreAtoms}

@@ -5,7 +5,7 @@ ghost use Rattle.std.specs.Option.{option_map};
 ghost use Rattle.tpl_script.specs.Paths.{cancellation};
 ghost use Rattle.tpl_model.specs.Facts.{worked, outcome_of, is_observe};
 ghost use Rattle.tpl_model.specs.Rules.{steps, works};
-ghost use Rattle.tpl_graph.specs.Ids.{task_number, token_number};
+ghost use Rattle.tpl_draft.specs.Ids.{task_number, token_number};
 ghost use Rattle.tpl_run.specs.Body.{passed, cancel_of, start_of};
 ghost use Rattle.tpl_run.specs.Reading.{next_in};
 

@@ -5,8 +5,8 @@ ghost use Rattle.std.specs.Option.{option_map};
 ghost use Rattle.tpl_words.specs.Members.{mem};
 ghost use Rattle.tpl_model.specs.Graph as spec;
 ghost use Rattle.tpl_model.specs.Graph.{is_task, is_token, attached};
-ghost use Rattle.tpl_graph.specs.Ids.{task_number, token_number};
-ghost use Rattle.tpl_graph.specs.Named.{antecedent_of, args_of};
+ghost use Rattle.tpl_draft.specs.Ids.{task_number, token_number};
+ghost use Rattle.tpl_draft.specs.Named.{antecedent_of, args_of};
 ghost use Rattle.tpl_laws.specs.Allowed as laws;
 
 use crate::readers::Readers;

@@ -68,7 +68,7 @@ pub trait Waits: Readers {
     ghost use Rattle.tpl_model.specs.Graph.{is_task, attached};
     ghost use Rattle.tpl_model.specs.Facts.{started, ending, all_over};
     ghost use Rattle.tpl_model.specs.Rules.{all_ended, some_ended};
-    ghost use Rattle.tpl_graph.specs.Named.{args_of};
+    ghost use Rattle.tpl_draft.specs.Named.{args_of};
 
     /// All arguments of a task have ended.
     fn args_ended(&self, task: TaskId) -> bool

@@ -7,7 +7,7 @@ ghost use Rattle.tpl_script.specs.Seen.{statement_of};
 ghost use Rattle.tpl_script.specs.Cursor.{BeginsWith};
 ghost use Rattle.tpl_model.specs.Facts.{on, worked, final_in, carried_in, winner_of, outcome_in, is_observe};
 ghost use Rattle.tpl_model.specs.Rules.{actor_in, label_in, steps, works};
-ghost use Rattle.tpl_graph.specs.Ids.{task_number, token_number};
+ghost use Rattle.tpl_draft.specs.Ids.{task_number, token_number};
 ghost use Rattle.tpl_run.specs.Atoms.{AreAtoms};
 ghost use Rattle.tpl_run.specs.Body.{passed, cancel_of, start_of};
 ghost use Rattle.tpl_run.specs.Reading.{next_in, place_of};

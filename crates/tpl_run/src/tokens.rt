@@ -3,7 +3,7 @@
 ghost use Rattle.std.specs.Prelude.{◌≡◌, ℕ, ◌<◌, ◌||◌, Bool, List, length, map, slice_index_or, false};
 ghost use Rattle.tpl_model.specs.declared.event.Event.{Event as SpecEvent};
 ghost use Rattle.tpl_model.specs.Graph.{some_in};
-ghost use Rattle.tpl_graph.specs.Ids.{token_number};
+ghost use Rattle.tpl_draft.specs.Ids.{token_number};
 ghost use Rattle.tpl_run.specs.Tokens.{IsTable};
 
 use tpl_graph::Graph;

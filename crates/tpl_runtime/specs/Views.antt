@@ -2,7 +2,7 @@
 use Rattle.std.specs.Prelude.{Bool, List, refl}
 use Rattle.std.specs.Coded.{Coded, code_by, coded×, coded_list, coded_bool}
 use Rattle.atomic_table.specs.Seated.{TableId, table_id_coded}
-use Rattle.tpl_graph.specs.Named.{Named}
+use Rattle.tpl_draft.specs.Named.{Named}
 use Rattle.tpl_graph.specs.Coding.{named_code}
 
 -- a session: the graph and the inputs with which it was opened, and the name of its queue

@@ -2,7 +2,7 @@
 
 ghost use Rattle.std.specs.Prelude.{◌≡◌, ◌↔◌, ◌+◌, true, length, map, reverse, All, IsTrue, IfOk, OnOk};
 ghost use Rattle.tpl_model.specs.Rules.{Run, Complete, status, label, carried};
-ghost use Rattle.tpl_graph.specs.Ids.{task_number};
+ghost use Rattle.tpl_draft.specs.Ids.{task_number};
 ghost use Rattle.tpl_machine.specs.Journal.{named};
 ghost use Rattle.tpl_hall.specs.Answers.{answers, shown};
 ghost use Rattle.tpl_hall.specs.Closes.{AllOwn, AllLast};

@@ -3,7 +3,7 @@
 ghost use Rattle.std.specs.Prelude.{◌≡◌, ◌↔◌, true, length, map, reverse, IfOk};
 ghost use Rattle.tpl_model.specs.Graph.{is_task};
 ghost use Rattle.tpl_model.specs.Rules.{Complete, status, label, carried};
-ghost use Rattle.tpl_graph.specs.Ids.{task_number};
+ghost use Rattle.tpl_draft.specs.Ids.{task_number};
 ghost use Rattle.tpl_machine.specs.Journal.{named};
 ghost use Rattle.tpl_runtime.specs.Reports.{each_below, those_below, is_unseen};
 

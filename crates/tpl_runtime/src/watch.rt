@@ -5,7 +5,7 @@ ghost use Rattle.tpl_model.specs.Rules.{Run, Complete, status, label, carried};
 ghost use Rattle.tpl_model.specs.Certificate.{Accepts, Tree};
 ghost use Rattle.tpl_model.specs.Claims.{Claim, Holds};
 ghost use Rattle.tpl_laws.specs.Soundness.{Each};
-ghost use Rattle.tpl_graph.specs.Ids.{task_number};
+ghost use Rattle.tpl_draft.specs.Ids.{task_number};
 ghost use Rattle.tpl_hall.specs.Answers.{answers, shown};
 ghost use Rattle.tpl_hall.specs.Closes.{AllOwn, AllLast};
 ghost use Rattle.tpl_hall.specs.Lists.{IsSeat, all_seated};

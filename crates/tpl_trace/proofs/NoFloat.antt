@@ -9,7 +9,7 @@ use Rattle.tpl_model.specs.Graph.{TaskGraph, kind}
 use Rattle.tpl_model.specs.declared.event.Act.{Act}
 use Rattle.tpl_model.specs.declared.event.Act.TheVariants.{Request, Release, Begin, Step, Worked, Leave, Close, Drop, Settle}
 use Rattle.tpl_model.specs.declared.event.Event.{Event}
-use Rattle.tpl_graph.specs.Named.{Named, antecedent_of}
+use Rattle.tpl_draft.specs.Named.{Named, antecedent_of}
 use Rattle.tpl_journal.specs.Lines.{task_name}
 use Rattle.tpl_trace.specs.Marks.{slice_mark, arrow_start, arrow_end, track_mark}
 use Rattle.tpl_trace.specs.Trace.{may_end, releases, some_ends, acts_in, track_of, track_name, new_track, arrows, arrow_to, marks, event_marks, marks_from, trace_data}

@@ -10,7 +10,7 @@ use Rattle.tpl_model.specs.Journal.{same_actor}
 use Rattle.tpl_model.specs.declared.event.Act.{Act}
 use Rattle.tpl_model.specs.declared.event.Act.TheVariants.{Request, Release, Begin, Step, Worked, Leave, Close, Drop, Settle}
 use Rattle.tpl_model.specs.declared.event.Event.{Event}
-use Rattle.tpl_graph.specs.Named.{Named, antecedent_of}
+use Rattle.tpl_draft.specs.Named.{Named, antecedent_of}
 use Rattle.tpl_journal.specs.Lines.{task_name, token_name}
 use Rattle.tpl_trace.specs.Marks.{process_mark, track_mark, slice_mark, instant_mark, arrow_start, arrow_end}
 

@@ -5,7 +5,7 @@ ghost use Rattle.std.specs.List.{All};
 ghost use Rattle.serde_json.specs.View.{view};
 ghost use Rattle.tpl_journal.specs.Lines.{CanSpell, HasId};
 ghost use Rattle.tpl_model.specs.Graph.{is_task, kind};
-ghost use Rattle.tpl_graph.specs.Named.{antecedent_of};
+ghost use Rattle.tpl_draft.specs.Named.{antecedent_of};
 ghost use Rattle.tpl_trace.specs.Trace.{arrow_to, arrows, may_end, releases, some_may_end};
 
 use crate::marks::{arrow_end, arrow_start};

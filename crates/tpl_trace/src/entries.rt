@@ -3,7 +3,7 @@
 ghost use Rattle.std.specs.Prelude.{◌≡◌, ◌++◌, ◌<◌, ◌≤◌, ◌∷◌, [], codes, drop, length, map, suc, take, IfOk, OnOk};
 ghost use Rattle.std.specs.List.{All};
 ghost use Rattle.serde_json.specs.View.{view};
-ghost use Rattle.tpl_graph.specs.Named.{antecedent_of};
+ghost use Rattle.tpl_draft.specs.Named.{antecedent_of};
 ghost use Rattle.tpl_journal.specs.Lines.{CanSpell, HasId, task_name, token_name};
 ghost use Rattle.tpl_model.specs.Graph.{is_task, is_token, kind};
 ghost use Rattle.tpl_trace.specs.Trace.{arrow_to, arrows, entries, instant, marks, marks_from};

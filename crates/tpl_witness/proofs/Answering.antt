@@ -10,7 +10,7 @@ use Rattle.tpl_laws.specs.Soundness.{Each, Soundness}
 use Rattle.tpl_model.specs.declared.event.Event.{Event}
 use Rattle.tpl_model.specs.Claims.{Claim, Holds}
 use Rattle.tpl_graph.specs.Kept.{IsNamedGraph}
-use Rattle.tpl_graph.specs.Named.{Named}
+use Rattle.tpl_draft.specs.Named.{Named}
 use Rattle.tpl_journal.specs.declared.counting.Counting.{Counting}
 use Rattle.tpl_journal.specs.Lines.{IsJournal, lines, TextIsUnambiguous, FaultIsNoJournal, SpellsRun}
 use Rattle.tpl_refute.specs.Refuting.{Refutes}

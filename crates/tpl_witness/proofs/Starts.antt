@@ -5,7 +5,7 @@ use Rattle.tpl_words.proofs.Truths.{and_second}
 use Rattle.serde_json.specs.Data.{Data, Members, no_members, object, put, depth}
 use Rattle.serde_json.specs.Find.{get, as_bool}
 use Rattle.serde_json.proofs.Views.{get_member-put}
-use Rattle.tpl_graph.specs.Named.{Named}
+use Rattle.tpl_draft.specs.Named.{Named}
 use Rattle.tpl_json.specs.Members.{has_only}
 use Rattle.tpl_cert.specs.Naming.{are_declared}
 use Rattle.tpl_json.specs.Grammar.{IfThere, IsTexts}

@@ -8,7 +8,7 @@ use Rattle.tpl_words.proofs.Truths.{and_first, and_second}
 use Rattle.serde_json.specs.Data.{Data, Members, no_members, member, boolean, put}
 use Rattle.serde_json.specs.Find.{get_member}
 use Rattle.serde_json.proofs.Views.{get_member-put, get_member-put_other}
-use Rattle.tpl_graph.specs.Names.{some_twice}
+use Rattle.tpl_draft.specs.Names.{some_twice}
 use Rattle.tpl_cert.specs.Naming.{number_of, is_declared}
 use Rattle.tpl_cert.specs.Written.{name_at}
 use Rattle.tpl_cert.proofs.Unique.{number_of-name_at}

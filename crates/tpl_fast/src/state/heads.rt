@@ -7,8 +7,8 @@ ghost use Rattle.tpl_model.specs.Graph as spec;
 ghost use Rattle.tpl_model.specs.Graph.{is_task, attached, IsParent};
 ghost use Rattle.tpl_model.specs.Facts.{ending};
 ghost use Rattle.tpl_model.specs.Rules.{some_ended};
-ghost use Rattle.tpl_graph.specs.Ids.{task_number};
-ghost use Rattle.tpl_graph.specs.Named.{args_of};
+ghost use Rattle.tpl_draft.specs.Ids.{task_number};
+ghost use Rattle.tpl_draft.specs.Named.{args_of};
 ghost use Rattle.tpl_run.specs.Rows.{is_it};
 ghost use Rattle.tpl_fast.specs.Kept.{has_ended, is_over, all_pass};
 

@@ -5,7 +5,7 @@ ghost use Rattle.std.specs.Option.{option_map};
 ghost use Rattle.tpl_model.specs.Graph.{is_task, kind};
 ghost use Rattle.tpl_model.specs.Facts.{ending, rest, requested, subject_in, has_final};
 ghost use Rattle.tpl_model.specs.Rules.{subject};
-ghost use Rattle.tpl_graph.specs.Ids.{task_number};
+ghost use Rattle.tpl_draft.specs.Ids.{task_number};
 ghost use Rattle.tpl_run.specs.Body.{decision};
 
 use crate::machine::Machine;

@@ -3,7 +3,7 @@
 ghost use Rattle.std.specs.Prelude.{◌≡◌, map};
 ghost use Rattle.std.specs.Option.{option_map};
 ghost use Rattle.tpl_model.specs.Facts.{ending, all_final, first_ended, worse, earlier};
-ghost use Rattle.tpl_graph.specs.Ids.{task_number};
+ghost use Rattle.tpl_draft.specs.Ids.{task_number};
 
 use crate::machine::Machine;
 use tpl_run::Readers;

@@ -1,5 +1,5 @@
 use Rattle.std.proofs.Common.{◌≡◌, map, take, true}
-use Rattle.tpl_graph.specs.Ids.{task_number}
+use Rattle.tpl_draft.specs.Ids.{task_number}
 use Rattle.tpl_cert.specs.Naming.{are_declared, AreNumbers}
 use Rattle.tpl_cert.proofs.naming.chain_in.Given as goal
 

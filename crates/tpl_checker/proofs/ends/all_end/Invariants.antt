@@ -3,7 +3,7 @@ use Rattle.tpl_words.specs.declared.finals.Final.TheVariants.{RanToCompletion, C
 use Rattle.tpl_words.specs.Finals.{has, is_final}
 use Rattle.tpl_model.specs.Graph.{some_in}
 use Rattle.tpl_model.specs.Certificate.{row}
-use Rattle.tpl_graph.specs.Ids.{task_number}
+use Rattle.tpl_draft.specs.Ids.{task_number}
 use Rattle.tpl_laws.specs.RowTests.{all_in, some_end}
 use Rattle.tpl_graph.specs.Roles.{AreTasks}
 use Rattle.tpl_checker.proofs.ends.all_end.Given as goal

@@ -2,7 +2,7 @@ use Rattle.std.proofs.Common.{map, ◌∙◌}
 use Rattle.tpl_words.specs.Finals.{has}
 use Rattle.tpl_model.specs.Graph.{some_in}
 use Rattle.tpl_model.specs.Certificate.{one_ends, row}
-use Rattle.tpl_graph.specs.Ids.{task_number}
+use Rattle.tpl_draft.specs.Ids.{task_number}
 use Rattle.tpl_laws.specs.RowTests.{some_end}
 use Rattle.tpl_checker.proofs.Basics.{only_ran, some_end_of_one, some_end_same}
 use Rattle.tpl_checker.proofs.ends.any_ends.Goals as goal

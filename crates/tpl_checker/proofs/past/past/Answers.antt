@@ -2,7 +2,7 @@ use Rattle.std.proofs.Common.{◌≡◌, ◌<◌, ◌&&◌, ℕ, Bool, map, ap, 
 use Rattle.tpl_words.specs.Members.{mem}
 use Rattle.tpl_model.specs.Graph.{Root, WhenAll, WhenAny}
 use Rattle.tpl_model.specs.Certificate.{row}
-use Rattle.tpl_graph.specs.Ids.{task_number}
+use Rattle.tpl_draft.specs.Ids.{task_number}
 use Rattle.tpl_laws.specs.RowTests.{all_in, past_by}
 use Rattle.tpl_checker.specs.Assumptions.{assumed_of}
 use Rattle.tpl_checker.proofs.Basics.{members_of_it}

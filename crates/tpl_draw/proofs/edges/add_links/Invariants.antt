@@ -1,5 +1,5 @@
 use Rattle.std.proofs.Common.{◌≡◌, ◌++◌, map, take}
-use Rattle.tpl_graph.specs.Ids.{token_number}
+use Rattle.tpl_draft.specs.Ids.{token_number}
 use Rattle.tpl_draw.specs.declared.edge.Tie.TheVariants.{Link}
 use Rattle.tpl_draw.specs.Edges.{from_each}
 use Rattle.tpl_draw.proofs.edges.add_links.Given as goal

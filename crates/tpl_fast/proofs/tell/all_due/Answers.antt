@@ -1,6 +1,6 @@
 use Rattle.std.proofs.Common.{length, sym, ap, ◌∙◌, subst, inl, inr, arith}
 use Rattle.std.proofs.lemmas.Bool.{cases_eq}
-use Rattle.tpl_graph.specs.Named.{Named}
+use Rattle.tpl_draft.specs.Named.{Named}
 use Rattle.tpl_fast.specs.Due.{IsRight}
 use Rattle.tpl_fast.proofs.tell.all_due.Goals as goal
 

@@ -2,7 +2,7 @@ use Rattle.std.proofs.Common.{◌≡◌, Some, false, length, ap, ◌∙◌, sub
 use Rattle.std.specs.Prelude.{slice_index_or}
 use Rattle.std.proofs.lemmas.Bool.{cases_eq}
 use Rattle.tpl_model.specs.Facts.{requested}
-use Rattle.tpl_graph.specs.Named.{Named}
+use Rattle.tpl_draft.specs.Named.{Named}
 use Rattle.tpl_fast.specs.Due.{IsRight}
 use Rattle.tpl_fast.proofs.IndexLemmas.{keeps_both}
 use Rattle.tpl_fast.proofs.tell.tell_all_owners.Goals as goal

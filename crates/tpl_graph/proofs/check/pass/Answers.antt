@@ -1,7 +1,7 @@
 use Rattle.std.proofs.Common.{refl}
-use Rattle.tpl_graph.specs.SeenTasks.{draft_of}
-use Rattle.tpl_graph.specs.Test.{why_of}
-use Rattle.tpl_graph.proofs.LeastLemmas.{none_below_next, least, test_named}
+use Rattle.tpl_draft.specs.SeenTasks.{draft_of}
+use Rattle.tpl_draft.specs.Test.{why_of}
+use Rattle.tpl_draft.proofs.LeastLemmas.{none_below_next, least, test_named}
 use Rattle.tpl_graph.proofs.check.pass.Goals as goal
 
 pub returns-in-Some : goal.returns-in-Some

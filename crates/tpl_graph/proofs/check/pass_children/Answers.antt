@@ -1,11 +1,11 @@
 use Rattle.std.proofs.Common.{List, ◌++◌, length, map, ap, ◌∙◌, arith}
 use Rattle.std.proofs.lemmas.List.{length-map}
-use Rattle.tpl_graph.specs.declared.fault.Why.TheVariants as why
-use Rattle.tpl_graph.specs.declared.draft.DraftTask.{DraftTask}
+use Rattle.tpl_draft.specs.declared.fault.Why.TheVariants as why
+use Rattle.tpl_draft.specs.declared.draft.DraftTask.{DraftTask}
 use Rattle.tpl_graph.specs.declared.row.Site.{Site}
 use Rattle.tpl_graph.specs.Collected.{all_owned}
-use Rattle.tpl_graph.specs.Draft.{Task}
-use Rattle.tpl_graph.specs.SeenTasks.{draft_of, task_of}
+use Rattle.tpl_draft.specs.Draft.{Task}
+use Rattle.tpl_draft.specs.SeenTasks.{draft_of, task_of}
 use Rattle.tpl_graph.proofs.ChildrenLemmas.{starts_are, starters_are, as_many_starts}
 use Rattle.tpl_graph.proofs.GraphLaw.{few_tasks_from}
 use Rattle.tpl_graph.proofs.check.pass_children.Goals as goal

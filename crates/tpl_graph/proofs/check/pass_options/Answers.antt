@@ -1,10 +1,10 @@
 use Rattle.std.proofs.Common.{refl}
-use Rattle.tpl_graph.specs.declared.fault.OptionsFault.TheVariants.{ExcludesAll}
-use Rattle.tpl_graph.specs.declared.fault.Why.TheVariants as why
-use Rattle.tpl_graph.specs.SeenTasks.{draft_of}
-use Rattle.tpl_graph.proofs.FirstLemmas.{none_at_first, none_applies}
-use Rattle.tpl_graph.proofs.LeastLemmas.{none_below_next}
-use Rattle.tpl_graph.proofs.OptionLemmas.{some_fault, fault_at_next, no_fault_next}
+use Rattle.tpl_draft.specs.declared.fault.OptionsFault.TheVariants.{ExcludesAll}
+use Rattle.tpl_draft.specs.declared.fault.Why.TheVariants as why
+use Rattle.tpl_draft.specs.SeenTasks.{draft_of}
+use Rattle.tpl_draft.proofs.FirstLemmas.{none_at_first, none_applies}
+use Rattle.tpl_draft.proofs.LeastLemmas.{none_below_next}
+use Rattle.tpl_draft.proofs.OptionLemmas.{some_fault, fault_at_next, no_fault_next}
 use Rattle.tpl_graph.proofs.check.pass_options.Goals as goal
 
 pub loop-t-init : goal.loop-t-init

@@ -1,10 +1,10 @@
 use Rattle.std.proofs.Common.{◌≡◌, [], suc, ◌+◌, ◌∙◌, refl, subst, arith}
 use Rattle.std.specs.Prelude.{Some}
-use Rattle.tpl_graph.specs.declared.fault.Why.TheVariants as why
-use Rattle.tpl_graph.specs.Numbered.{sites_of}
-use Rattle.tpl_graph.specs.Refusals.{applies, IsFirst}
-use Rattle.tpl_graph.specs.SeenTasks.{draft_of}
-use Rattle.tpl_graph.proofs.LeastLemmas.{least}
+use Rattle.tpl_draft.specs.declared.fault.Why.TheVariants as why
+use Rattle.tpl_draft.specs.Numbered.{sites_of}
+use Rattle.tpl_draft.specs.Refusals.{applies, IsFirst}
+use Rattle.tpl_draft.specs.SeenTasks.{draft_of}
+use Rattle.tpl_draft.proofs.LeastLemmas.{least}
 use Rattle.tpl_graph.proofs.PlaceLaws.{with_names_once}
 use Rattle.tpl_graph.proofs.check.pass_sites.Goals as goal
 

@@ -1,6 +1,6 @@
 use Rattle.std.proofs.Common.{arith, ◌∙◌}
-use Rattle.tpl_graph.specs.Numbered.{names_in}
-use Rattle.tpl_graph.proofs.AskLemmas.{falls_in}
+use Rattle.tpl_draft.specs.Numbered.{names_in}
+use Rattle.tpl_draft.proofs.AskLemmas.{falls_in}
 use Rattle.tpl_graph.proofs.CollectLemmas.{one_added, both_added, both_again}
 use Rattle.tpl_graph.proofs.collect.+add.Goals as goal
 

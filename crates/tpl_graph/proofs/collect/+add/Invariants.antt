@@ -1,7 +1,7 @@
 use Rattle.std.proofs.Common.{◌+◌, ◌*◌}
-use Rattle.tpl_graph.specs.Numbered.{names_in}
-use Rattle.tpl_graph.specs.SeenDraft.{line_of}
-use Rattle.tpl_graph.specs.Draft.{line_count, count_line}
+use Rattle.tpl_draft.specs.Numbered.{names_in}
+use Rattle.tpl_draft.specs.SeenDraft.{line_of}
+use Rattle.tpl_draft.specs.Draft.{line_count, count_line}
 use Rattle.tpl_graph.proofs.CollectLemmas.{AddedTo}
 use Rattle.tpl_graph.proofs.collect.+add.Given as goal
 

@@ -1,5 +1,5 @@
 use Rattle.std.proofs.Common.{arith}
-use Rattle.tpl_graph.proofs.AskLemmas.{falls_in}
+use Rattle.tpl_draft.proofs.AskLemmas.{falls_in}
 use Rattle.tpl_graph.proofs.collect.+collect.Goals as goal
 
 pub collect-collect_within-requires : goal.collect-collect_within-requires

@@ -1,8 +1,8 @@
 use Rattle.std.proofs.Common.{◌+◌, ◌*◌, ◌≤◌, length, map}
 use Rattle.tpl_graph.specs.Collected.{start_in, owned_in}
-use Rattle.tpl_graph.specs.Ids.{task_number}
-use Rattle.tpl_graph.specs.SeenDraft.{line_of}
-use Rattle.tpl_graph.specs.Draft.{line_count, count_line}
+use Rattle.tpl_draft.specs.Ids.{task_number}
+use Rattle.tpl_draft.specs.SeenDraft.{line_of}
+use Rattle.tpl_draft.specs.Draft.{line_count, count_line}
 use Rattle.tpl_graph.proofs.CollectLemmas.{CollectedTo}
 use Rattle.tpl_graph.proofs.collect.+collect.Given as goal
 

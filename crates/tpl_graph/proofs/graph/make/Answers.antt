@@ -1,14 +1,14 @@
 use Rattle.std.proofs.Common.{◌≡◌, length, map, ap, sym, ◌∙◌, subst, arith, List}
 use Rattle.std.proofs.lemmas.List.{length-map}
-use Rattle.tpl_graph.specs.declared.draft.DraftTask.{DraftTask}
-use Rattle.tpl_graph.specs.Draft.{Token}
-use Rattle.tpl_graph.specs.Named.{Names, Named}
-use Rattle.tpl_graph.specs.Numbered.{names_of, task_in, token_in, AreFew}
+use Rattle.tpl_draft.specs.declared.draft.DraftTask.{DraftTask}
+use Rattle.tpl_draft.specs.Draft.{Token}
+use Rattle.tpl_draft.specs.Named.{Names, Named}
+use Rattle.tpl_draft.specs.Numbered.{names_of, task_in, token_in, AreFew}
 use Rattle.tpl_graph.specs.Kept.{IsNamedGraph, AreKept}
 use Rattle.tpl_graph.specs.Rows as rows
-use Rattle.tpl_graph.specs.SeenTasks.{draft_of, task_of}
+use Rattle.tpl_draft.specs.SeenTasks.{draft_of, task_of}
 use Rattle.tpl_graph.specs.Sites.{AreSites}
-use Rattle.tpl_graph.specs.Tables.{seen}
+use Rattle.tpl_draft.specs.Tables.{seen}
 use Rattle.tpl_graph.proofs.GraphLaw.{are_small, few_tasks, few_tokens}
 use Rattle.tpl_graph.proofs.KeptLaw.{is_numbered, are_kept}
 use Rattle.tpl_graph.proofs.OwnerLemmas.{are_sites}

@@ -1,4 +1,4 @@
-use Rattle.tpl_graph.specs.Tables.{seen}
+use Rattle.tpl_draft.specs.Tables.{seen}
 use Rattle.tpl_graph.proofs.MadeLemmas.{small_script}
 use Rattle.tpl_graph.proofs.rows.number_script.Goals as goal
 

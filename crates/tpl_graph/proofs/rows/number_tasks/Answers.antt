@@ -1,7 +1,7 @@
-use Rattle.tpl_graph.specs.Numbered.{task_in}
-use Rattle.tpl_graph.specs.SeenTasks.{task_of}
-use Rattle.tpl_graph.specs.Tables.{seen}
-use Rattle.tpl_graph.proofs.NamesLemmas.{all_named, map_here}
+use Rattle.tpl_draft.specs.Numbered.{task_in}
+use Rattle.tpl_draft.specs.SeenTasks.{task_of}
+use Rattle.tpl_draft.specs.Tables.{seen}
+use Rattle.tpl_draft.proofs.NamesLemmas.{all_named, map_here}
 use Rattle.tpl_graph.proofs.rows.number_tasks.Goals as goal
 
 pub number_task-requires-clause-small : goal.number_task-requires-clause-small

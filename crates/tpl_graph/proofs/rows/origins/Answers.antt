@@ -1,7 +1,7 @@
-use Rattle.tpl_graph.specs.Draft.{Token}
-use Rattle.tpl_graph.specs.Numbered.{token_in}
-use Rattle.tpl_graph.specs.SeenTasks.{token_of}
-use Rattle.tpl_graph.proofs.NamesLemmas.{all_named}
+use Rattle.tpl_draft.specs.Draft.{Token}
+use Rattle.tpl_draft.specs.Numbered.{token_in}
+use Rattle.tpl_draft.specs.SeenTasks.{token_of}
+use Rattle.tpl_draft.proofs.NamesLemmas.{all_named}
 use Rattle.tpl_graph.proofs.rows.origins.Goals as goal
 
 pub returns : goal.returns

@@ -1,7 +1,7 @@
 use Rattle.std.proofs.Common.{◌≡◌, ◌≤◌, length, map, take}
-use Rattle.tpl_graph.specs.Numbered.{token_in}
+use Rattle.tpl_draft.specs.Numbered.{token_in}
 use Rattle.tpl_graph.specs.Rows as rows
-use Rattle.tpl_graph.specs.SeenTasks.{token_of}
+use Rattle.tpl_draft.specs.SeenTasks.{token_of}
 use Rattle.tpl_graph.proofs.rows.origins.Given as goal
 
 abbrev pub invariant-loop-token : goal.invariant-loop-token

@@ -1,9 +1,9 @@
 use Rattle.std.proofs.Common.{◌≡◌, map, take}
 use Rattle.std.specs.Prelude.{string_bytes}
-use Rattle.tpl_graph.specs.Ids.{task_number}
-use Rattle.tpl_graph.specs.Names.{place}
-use Rattle.tpl_graph.specs.Numbered.{AreFew}
-use Rattle.tpl_graph.specs.Tables.{seen}
+use Rattle.tpl_draft.specs.Ids.{task_number}
+use Rattle.tpl_draft.specs.Names.{place}
+use Rattle.tpl_draft.specs.Numbered.{AreFew}
+use Rattle.tpl_draft.specs.Tables.{seen}
 use Rattle.tpl_graph.proofs.rows.task_ids.Given as goal
 
 abbrev pub invariant-loop-name : goal.invariant-loop-name

@@ -1,6 +1,6 @@
 use Rattle.std.specs.Prelude.{string_bytes}
-use Rattle.tpl_graph.specs.Names.{place}
-use Rattle.tpl_graph.proofs.NamesLemmas.{all_named}
+use Rattle.tpl_draft.specs.Names.{place}
+use Rattle.tpl_draft.proofs.NamesLemmas.{all_named}
 use Rattle.tpl_graph.proofs.rows.token_ids.Goals as goal
 
 pub returns : goal.returns

@@ -1,7 +1,7 @@
 use Rattle.std.proofs.Common.{◌≡◌, ◌≤◌, length, map, take}
 use Rattle.std.specs.Prelude.{string_bytes}
-use Rattle.tpl_graph.specs.Ids.{token_number}
-use Rattle.tpl_graph.specs.Names.{place}
+use Rattle.tpl_draft.specs.Ids.{token_number}
+use Rattle.tpl_draft.specs.Names.{place}
 use Rattle.tpl_graph.proofs.rows.token_ids.Given as goal
 
 abbrev pub invariant-loop-name : goal.invariant-loop-name

@@ -1,5 +1,5 @@
 use Rattle.std.proofs.Common.{arith, refl}
-use Rattle.tpl_graph.specs.Rows.{token_of}
+use Rattle.tpl_draft.specs.Origins.{token_of}
 use Rattle.tpl_graph.proofs.SameLemmas.{one_mapped, all_mapped, differ_mapped}
 use Rattle.tpl_graph.proofs.same.same_origins.Goals as goal
 

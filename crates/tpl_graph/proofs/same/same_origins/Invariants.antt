@@ -1,5 +1,5 @@
 use Rattle.std.proofs.Common.{map}
-use Rattle.tpl_graph.specs.Rows.{token_of}
+use Rattle.tpl_draft.specs.Origins.{token_of}
 use Rattle.tpl_graph.proofs.SameLemmas.{SameSoFar}
 use Rattle.tpl_graph.proofs.same.same_origins.Given as goal
 

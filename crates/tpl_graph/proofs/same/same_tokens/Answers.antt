@@ -1,5 +1,5 @@
 use Rattle.std.proofs.Common.{arith, refl}
-use Rattle.tpl_graph.specs.Ids.{token_number}
+use Rattle.tpl_draft.specs.Ids.{token_number}
 use Rattle.tpl_graph.proofs.SameLemmas.{all_mapped, one_read, differ_read}
 use Rattle.tpl_graph.proofs.same.same_tokens.Goals as goal
 

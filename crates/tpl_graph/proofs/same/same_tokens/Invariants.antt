@@ -1,5 +1,5 @@
 use Rattle.std.proofs.Common.{map}
-use Rattle.tpl_graph.specs.Ids.{token_number}
+use Rattle.tpl_draft.specs.Ids.{token_number}
 use Rattle.tpl_graph.proofs.SameLemmas.{SameSoFar}
 use Rattle.tpl_graph.proofs.same.same_tokens.Given as goal
 

@@ -1,9 +1,9 @@
 use Rattle.std.proofs.Common.{arith}
 use Rattle.std.proofs.lemmas.Grind.{common_steps}
 use Rattle.tpl_graph.specs.Collected.{started}
-use Rattle.tpl_graph.specs.Draft.{Task, worked}
-use Rattle.tpl_graph.specs.SeenTasks.{task_of}
-use Rattle.tpl_graph.proofs.NamesLemmas.{all_named}
+use Rattle.tpl_draft.specs.Draft.{Task, worked}
+use Rattle.tpl_draft.specs.SeenTasks.{task_of}
+use Rattle.tpl_draft.proofs.NamesLemmas.{all_named}
 use Rattle.tpl_graph.proofs.OwnerLemmas.{one_added, all_added}
 use Rattle.tpl_graph.proofs.starters.all_starts.Goals as goal
 

@@ -1,7 +1,7 @@
 use Rattle.std.proofs.Common.{◌≡◌, ◌≤◌, length, map, take}
 use Rattle.tpl_graph.specs.Collected.{started}
-use Rattle.tpl_graph.specs.Draft.{worked}
-use Rattle.tpl_graph.specs.SeenTasks.{task_of}
+use Rattle.tpl_draft.specs.Draft.{worked}
+use Rattle.tpl_draft.specs.SeenTasks.{task_of}
 use Rattle.tpl_graph.specs.Starters.{numbers}
 use Rattle.tpl_graph.proofs.OwnerLemmas.{AddedUpTo}
 use Rattle.tpl_graph.proofs.starters.all_starts.Given as goal

@@ -1,5 +1,5 @@
 use Rattle.std.proofs.Common.{◌≡◌, map, take}
-use Rattle.tpl_graph.specs.Ids.{task_number}
+use Rattle.tpl_draft.specs.Ids.{task_number}
 use Rattle.tpl_graph.specs.Starters.{numbers, attached_of}
 use Rattle.tpl_graph.proofs.starters.attached_children.Given as goal
 

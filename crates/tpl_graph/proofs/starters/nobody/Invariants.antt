@@ -1,5 +1,5 @@
 use Rattle.std.proofs.Common.{◌≡◌, ℕ, length, get_or}
-use Rattle.tpl_graph.specs.declared.row.Starter.TheVariants.{Nobody}
+use Rattle.tpl_draft.specs.declared.starter.Starter.TheVariants.{Nobody}
 use Rattle.tpl_graph.proofs.starters.nobody.Given as goal
 
 abbrev pub invariant-loop : goal.invariant-loop

@@ -1,4 +1,4 @@
-use Rattle.tpl_graph.specs.declared.collect.Sort.TheVariants.{Labels}
+use Rattle.tpl_draft.specs.declared.sort.Sort.TheVariants.{Labels}
 use Rattle.tpl_graph.proofs.TableLemmas.{none_made, one_made, all_made}
 use Rattle.tpl_graph.proofs.tables.label_table.Goals as goal
 

@@ -1,5 +1,5 @@
 use Rattle.std.proofs.Common.{◌≡◌, [], map, replicate}
-use Rattle.tpl_graph.specs.Ids.{task_number}
+use Rattle.tpl_draft.specs.Ids.{task_number}
 use Rattle.tpl_items.proofs.children.empty_lists.Given as goal
 
 abbrev pub invariant-loop-task : goal.invariant-loop-task

@@ -1,7 +1,7 @@
 use Rattle.std.proofs.Common.{sym, subst, below_more}
 use Rattle.std.specs.Prelude.{slice_index_or, false}
 use Rattle.std.proofs.lemmas.Option.{get_or_from_slice_get}
-use Rattle.tpl_graph.specs.Named.{all_may_fail}
+use Rattle.tpl_draft.specs.Named.{all_may_fail}
 use Rattle.tpl_items.specs.Items.{SayAt}
 use Rattle.tpl_items.proofs.differs.first_differing.Goals as goal
 

@@ -1,6 +1,6 @@
 use Rattle.std.proofs.Common.{◌<◌, ℕ}
 use Rattle.std.specs.Prelude.{slice_index_or, false}
-use Rattle.tpl_graph.specs.Named.{all_may_fail}
+use Rattle.tpl_draft.specs.Named.{all_may_fail}
 use Rattle.tpl_items.specs.Items.{SayAt}
 use Rattle.tpl_items.proofs.differs.first_differing.Given as goal
 

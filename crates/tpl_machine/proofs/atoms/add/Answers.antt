@@ -1,6 +1,6 @@
 use Rattle.std.proofs.Common.{sym, ◌∙◌, ap, map, arith}
 use Rattle.tpl_words.specs.Members.{mem}
-use Rattle.tpl_graph.specs.Ids.{task_number}
+use Rattle.tpl_draft.specs.Ids.{task_number}
 use Rattle.tpl_machine.proofs.AtomLemmas.{atoms_more, atoms_pushed}
 use Rattle.tpl_machine.proofs.atoms.add.Goals as goal
 

@@ -1,6 +1,6 @@
 use Rattle.std.proofs.Common.{◌≡◌, drop, map}
 use Rattle.tpl_words.specs.Members.{mem}
-use Rattle.tpl_graph.specs.Ids.{task_number}
+use Rattle.tpl_draft.specs.Ids.{task_number}
 use Rattle.tpl_machine.proofs.atoms.has.Given as goal
 
 abbrev pub invariant-loop-other : goal.invariant-loop-other

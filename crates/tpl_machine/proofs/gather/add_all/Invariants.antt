@@ -1,6 +1,6 @@
 use Rattle.std.proofs.Common.{◌≡◌, ℕ, ◌||◌, drop, map}
 use Rattle.tpl_words.specs.Members.{mem}
-use Rattle.tpl_graph.specs.Ids.{task_number}
+use Rattle.tpl_draft.specs.Ids.{task_number}
 use Rattle.tpl_machine.proofs.gather.add_all.Given as goal
 
 abbrev pub invariant-loop-task : goal.invariant-loop-task

@@ -2,7 +2,7 @@ use Rattle.std.proofs.Common.{◌≡◌, ◌++◌, ◌∷◌, [], map, refl}
 use Rattle.std.proofs.lemmas.Result.{err_from_is_err_and}
 use Rattle.std.proofs.lemmas.List.{map_push}
 use Rattle.tpl_json.specs.View.{view}
-use Rattle.tpl_graph.specs.SeenDraft.{line_of}
+use Rattle.tpl_draft.specs.SeenDraft.{line_of}
 use Rattle.tpl_json.specs.Members.{each}
 use Rattle.tpl_parts.specs.Statements.{statement_at, body_at}
 use Rattle.tpl_json.proofs.Arrays.{each_more, misses_each}

@@ -1,6 +1,6 @@
 use Rattle.std.proofs.Common.{◌≡◌, ◌+◌, ◌*◌, map, take, Some}
 use Rattle.tpl_json.specs.View.{view}
-use Rattle.tpl_graph.specs.SeenDraft.{line_of}
+use Rattle.tpl_draft.specs.SeenDraft.{line_of}
 use Rattle.tpl_json.specs.Members.{each}
 use Rattle.tpl_parts.specs.Statements.{statement_at, body_at}
 use Rattle.tpl_parts.proofs.statements.+body.Given as goal

@@ -1,5 +1,5 @@
 use Rattle.std.proofs.Common.{sym}
-use Rattle.tpl_graph.specs.Ids.{site_number}
+use Rattle.tpl_draft.specs.Ids.{site_number}
 use Rattle.tpl_reader.specs.Begin.{may_fail}
 use Rattle.tpl_cert.proofs.Names.{list_all_stops}
 use Rattle.tpl_reader.proofs.begin.may_all_fail.Goals as goal

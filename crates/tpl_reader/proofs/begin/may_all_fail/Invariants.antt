@@ -1,5 +1,5 @@
 use Rattle.std.proofs.Common.{◌≡◌, map, take, true}
-use Rattle.tpl_graph.specs.Ids.{site_number}
+use Rattle.tpl_draft.specs.Ids.{site_number}
 use Rattle.tpl_reader.specs.Begin.{may_all_fail}
 use Rattle.tpl_reader.proofs.begin.may_all_fail.Given as goal
 

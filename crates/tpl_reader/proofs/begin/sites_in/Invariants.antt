@@ -1,5 +1,5 @@
 use Rattle.std.proofs.Common.{◌≡◌, map, take, true}
-use Rattle.tpl_graph.specs.Ids.{site_number}
+use Rattle.tpl_draft.specs.Ids.{site_number}
 use Rattle.tpl_cert.specs.Naming.{are_declared, AreNumbers}
 use Rattle.tpl_reader.proofs.begin.sites_in.Given as goal
 

@@ -1,7 +1,7 @@
 use Rattle.std.proofs.Common.{map}
 use Rattle.std.proofs.lemmas.Result.{err_from_is_err_and}
 use Rattle.std.proofs.lemmas.List.{map_push}
-use Rattle.tpl_graph.specs.Ids.{token_number}
+use Rattle.tpl_draft.specs.Ids.{token_number}
 use Rattle.tpl_cert.specs.Naming.{is_declared}
 use Rattle.tpl_cert.proofs.Names.{list_all_more, numbers_more}
 use Rattle.tpl_reader.proofs.Begins.{unknown_all}

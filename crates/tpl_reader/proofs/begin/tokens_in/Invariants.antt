@@ -1,5 +1,5 @@
 use Rattle.std.proofs.Common.{◌≡◌, map, take, true}
-use Rattle.tpl_graph.specs.Ids.{token_number}
+use Rattle.tpl_draft.specs.Ids.{token_number}
 use Rattle.tpl_cert.specs.Naming.{are_declared, AreNumbers}
 use Rattle.tpl_reader.proofs.begin.tokens_in.Given as goal
 

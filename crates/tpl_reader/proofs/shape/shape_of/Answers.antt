@@ -1,7 +1,7 @@
 use Rattle.std.proofs.Common.{map, refl}
 use Rattle.std.proofs.lemmas.Result.{err_from_is_err_and}
 use Rattle.tpl_json.specs.View.{view}
-use Rattle.tpl_graph.specs.SeenTasks.{task_of}
+use Rattle.tpl_draft.specs.SeenTasks.{task_of}
 use Rattle.tpl_parts.specs.SeenClaims.{claim_of}
 use Rattle.tpl_reader.specs.SeenTop.{members_of}
 use Rattle.tpl_reader.proofs.Shallow.{tasks_shallow}

@@ -1,6 +1,6 @@
 use Rattle.std.proofs.Common.{refl}
 use Rattle.tpl_json.specs.View.{view}
-use Rattle.tpl_graph.specs.SeenTasks.{task_of}
+use Rattle.tpl_draft.specs.SeenTasks.{task_of}
 use Rattle.tpl_parts.proofs.TaskLaws.{task_sound, no_task}
 use Rattle.tpl_reader.proofs.top.numbered_task.Goals as goal
 

@@ -2,7 +2,7 @@ use Rattle.std.proofs.Common.{map}
 use Rattle.std.proofs.lemmas.Result.{err_from_is_err_and}
 use Rattle.std.proofs.lemmas.List.{map_push}
 use Rattle.tpl_json.specs.View.{view}
-use Rattle.tpl_graph.specs.SeenTasks.{task_of}
+use Rattle.tpl_draft.specs.SeenTasks.{task_of}
 use Rattle.tpl_parts.specs.TaskGrammar.{IsTask, IsNoTask}
 use Rattle.tpl_reader.proofs.Shallow.{shallow_at}
 use Rattle.tpl_reader.proofs.Passes.{read_more, halts_here}

@@ -4,7 +4,7 @@ use Rattle.std.proofs.lemmas.List.{map_push}
 use Rattle.tpl_json.specs.View.{view}
 use Rattle.tpl_json.specs.Members.{each}
 use Rattle.tpl_json.proofs.Arrays.{each_more, misses_each}
-use Rattle.tpl_graph.specs.SeenTasks.{token_of}
+use Rattle.tpl_draft.specs.SeenTasks.{token_of}
 use Rattle.tpl_parts.specs.Tasks.{token_at}
 use Rattle.tpl_reader.proofs.top.tokens_of.Goals as goal
 

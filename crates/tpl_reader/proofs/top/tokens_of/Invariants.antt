@@ -1,7 +1,7 @@
 use Rattle.std.proofs.Common.{◌≡◌, map, take, Some}
 use Rattle.tpl_json.specs.View.{view}
 use Rattle.tpl_json.specs.Members.{each}
-use Rattle.tpl_graph.specs.SeenTasks.{token_of}
+use Rattle.tpl_draft.specs.SeenTasks.{token_of}
 use Rattle.tpl_parts.specs.Tasks.{token_at}
 use Rattle.tpl_reader.proofs.top.tokens_of.Given as goal
 

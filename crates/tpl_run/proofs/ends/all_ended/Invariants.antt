@@ -1,7 +1,7 @@
 use Rattle.std.proofs.Common.{◌≡◌, drop, map}
 use Rattle.tpl_model.specs.Facts.{ending}
 use Rattle.tpl_model.specs.Rules.{all_ended}
-use Rattle.tpl_graph.specs.Ids.{task_number}
+use Rattle.tpl_draft.specs.Ids.{task_number}
 use Rattle.tpl_run.proofs.ends.all_ended.Given as goal
 
 abbrev pub invariant-loop-task : goal.invariant-loop-task

@@ -1,6 +1,6 @@
 use Rattle.std.proofs.Common.{◌≡◌, length, map, ◌∙◌, subst, arith}
 use Rattle.std.proofs.lemmas.List.{length-set}
-use Rattle.tpl_graph.specs.Ids.{token_number}
+use Rattle.tpl_draft.specs.Ids.{token_number}
 use Rattle.tpl_run.specs.Tokens.{IsTable}
 use Rattle.tpl_run.proofs.TokenLemmas.{table_step}
 use Rattle.tpl_run.proofs.tokens.close.Goals as goal

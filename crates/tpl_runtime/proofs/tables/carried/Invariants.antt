@@ -1,6 +1,6 @@
 use Rattle.std.proofs.Common.{◌≡◌, map}
 use Rattle.tpl_model.specs.Rules.{carried}
-use Rattle.tpl_graph.specs.Ids.{task_number}
+use Rattle.tpl_draft.specs.Ids.{task_number}
 use Rattle.tpl_runtime.specs.Reports.{each_below}
 use Rattle.tpl_runtime.proofs.tables.carried.Given as goal
 

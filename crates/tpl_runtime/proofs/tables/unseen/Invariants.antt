@@ -1,5 +1,5 @@
 use Rattle.std.proofs.Common.{◌≡◌, map}
-use Rattle.tpl_graph.specs.Ids.{task_number}
+use Rattle.tpl_draft.specs.Ids.{task_number}
 use Rattle.tpl_runtime.specs.Reports.{those_below, is_unseen}
 use Rattle.tpl_runtime.proofs.tables.unseen.Given as goal
 

@@ -2,7 +2,7 @@ use Rattle.std.proofs.Common.{◌≡◌, ◌≤◌, ℕ, ap, sym, subst, ◌∙�
 use Rattle.std.specs.Prelude.{slice_set}
 use Rattle.std.proofs.lemmas.List.{length-map, take-map}
 use Rattle.tpl_model.specs.Graph.{attached}
-use Rattle.tpl_graph.specs.Ids.{task_number}
+use Rattle.tpl_draft.specs.Ids.{task_number}
 use Rattle.tpl_run.specs.Journal.{Journal}
 use Rattle.tpl_fast.specs.Kept.{is_over, all_pass, AreOver}
 use Rattle.tpl_fast.proofs.HeadLemmas.{heads_set}

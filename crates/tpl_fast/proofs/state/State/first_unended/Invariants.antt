@@ -1,5 +1,5 @@
 use Rattle.std.proofs.Common.{◌≡◌, true, map, take}
-use Rattle.tpl_graph.specs.Ids.{task_number}
+use Rattle.tpl_draft.specs.Ids.{task_number}
 use Rattle.tpl_fast.specs.Kept.{has_ended, all_pass}
 use Rattle.tpl_fast.proofs.state.State.first_unended.Given as goal
 

@@ -1,7 +1,7 @@
 use Rattle.std.proofs.Common.{◌||◌, ap, ◌∙◌, Some}
 use Rattle.std.specs.Option.{option_map}
 use Rattle.tpl_model.specs.Facts.{requested_itself}
-use Rattle.tpl_graph.specs.Ids.{token_number}
+use Rattle.tpl_draft.specs.Ids.{token_number}
 use Rattle.tpl_run.specs.Rows.{is_it}
 use Rattle.tpl_fast.proofs.TokenLemmas.{asked_also}
 use Rattle.tpl_fast.proofs.tokens.Asked.request.Goals as goal

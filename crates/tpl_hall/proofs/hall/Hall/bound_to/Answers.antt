@@ -1,6 +1,6 @@
 use Rattle.std.proofs.Common.{◌∙◌, sym, ap}
 use Rattle.tpl_model.specs.Graph.{kind}
-use Rattle.tpl_graph.specs.Named.{Named, antecedent_of}
+use Rattle.tpl_draft.specs.Named.{Named, antecedent_of}
 use Rattle.tpl_hall.proofs.BoundLemmas.{bound_at, is_bound}
 use Rattle.tpl_hall.proofs.hall.Hall.bound_to.Goals as goal
 

@@ -1,5 +1,5 @@
 use Rattle.std.proofs.Common.{map}
-use Rattle.tpl_graph.specs.Ids.{task_number}
+use Rattle.tpl_draft.specs.Ids.{task_number}
 use Rattle.tpl_items.specs.Children.{AreChildrenBelow}
 use Rattle.tpl_items.proofs.children.Children.open.Given as goal
 

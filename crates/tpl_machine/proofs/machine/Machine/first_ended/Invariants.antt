@@ -1,7 +1,7 @@
 use Rattle.std.proofs.Common.{◌≡◌, drop, map}
 use Rattle.std.specs.Option.{option_map}
 use Rattle.tpl_model.specs.Facts.{ending, first_ended}
-use Rattle.tpl_graph.specs.Ids.{task_number}
+use Rattle.tpl_draft.specs.Ids.{task_number}
 use Rattle.tpl_machine.proofs.machine.Machine.first_ended.Given as goal
 
 abbrev pub invariant-loop-i : goal.invariant-loop-i

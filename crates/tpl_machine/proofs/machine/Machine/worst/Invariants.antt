@@ -1,6 +1,6 @@
 use Rattle.std.proofs.Common.{◌≡◌, drop, map}
 use Rattle.tpl_model.specs.Facts.{ending, all_final}
-use Rattle.tpl_graph.specs.Ids.{task_number}
+use Rattle.tpl_draft.specs.Ids.{task_number}
 use Rattle.tpl_machine.proofs.machine.Machine.worst.Given as goal
 
 abbrev pub invariant-loop-i : goal.invariant-loop-i

@@ -1,6 +1,6 @@
 use Rattle.std.proofs.Common.{length, subst, false}
 use Rattle.std.specs.Prelude.{slice_index_or}
-use Rattle.tpl_graph.specs.Named.{all_may_fail}
+use Rattle.tpl_draft.specs.Named.{all_may_fail}
 use Rattle.tpl_items.specs.Items.{AreItems, RefusesItems}
 use Rattle.tpl_runtime.proofs.session.Session.open.Goals as goal
 

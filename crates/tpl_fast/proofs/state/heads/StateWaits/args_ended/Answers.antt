@@ -1,8 +1,8 @@
 use Rattle.std.proofs.Common.{ap, sym, ◌∙◌, map, drop}
 use Rattle.std.proofs.lemmas.List.{take_rest, drop-map}
 use Rattle.tpl_model.specs.Graph.{kind}
-use Rattle.tpl_graph.specs.Ids.{task_number}
-use Rattle.tpl_graph.specs.Named.{args_of}
+use Rattle.tpl_draft.specs.Ids.{task_number}
+use Rattle.tpl_draft.specs.Named.{args_of}
 use Rattle.tpl_fast.specs.Kept.{has_ended, all_pass}
 use Rattle.tpl_fast.proofs.HeadLemmas.{ended_passes, pass_rest}
 use Rattle.tpl_fast.proofs.state.heads.StateWaits.args_ended.Goals as goal

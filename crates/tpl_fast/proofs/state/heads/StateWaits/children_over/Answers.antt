@@ -2,7 +2,7 @@ use Rattle.std.proofs.Common.{ap, sym, ◌∙◌, map, drop}
 use Rattle.std.proofs.lemmas.List.{take_rest, drop-map}
 use Rattle.tpl_words.specs.Members.{mem}
 use Rattle.tpl_model.specs.Graph.{attached}
-use Rattle.tpl_graph.specs.Ids.{task_number}
+use Rattle.tpl_draft.specs.Ids.{task_number}
 use Rattle.tpl_fast.specs.Kept.{is_over, all_pass}
 use Rattle.tpl_fast.proofs.HeadLemmas.{over_passes, pass_rest, mem_dropped}
 use Rattle.tpl_fast.proofs.state.heads.StateWaits.children_over.Goals as goal

@@ -1,0 +1,82 @@
+-- From the first place of each refusal to the least refusal.
+use Rattle.std.proofs.Common.{◌≡◌, ℕ, zero, suc, ◌<◌, true, false, refl, sym, ap, ◌∙◌, arith, ⊎_elim, inr}
+use Rattle.std.proofs.lemmas.Bool.{cases_eq}
+use Rattle.std.specs.Prelude.{Some}
+use Rattle.tpl_draft.specs.declared.fault.OptionsFault.TheVariants.{ExcludesAll}
+use Rattle.tpl_draft.specs.declared.fault.Why.{Why}
+use Rattle.tpl_draft.specs.declared.fault.Why.TheVariants as why
+use Rattle.tpl_draft.specs.declared.refusals.Test.{Test}
+use Rattle.tpl_draft.specs.declared.refusals.Test.TheVariants as test
+use Rattle.tpl_draft.specs.Draft.{Draft}
+use Rattle.tpl_draft.specs.Test.{why_of}
+use Rattle.tpl_draft.specs.Refusals.{applies, number, names_fault, NoneBelow, IsFirst, Refuses}
+
+abbrev why_at : ℕ → Why
+why_at (suc zero) = why.TooMany
+why_at (suc (suc zero)) = why.BadName
+why_at (suc (suc (suc zero))) = why.NameTwice
+why_at (suc (suc (suc (suc zero)))) = why.Unknown
+why_at (suc (suc (suc (suc (suc zero))))) = why.NotEarlier
+why_at (suc (suc (suc (suc (suc (suc zero)))))) = why.OfChild
+why_at (suc (suc (suc (suc (suc (suc (suc zero))))))) = why.EmptyAny
+why_at (suc (suc (suc (suc (suc (suc (suc (suc zero)))))))) = why.ChildPlace
+why_at (suc (suc (suc (suc (suc (suc (suc (suc (suc zero))))))))) = why.SiteTwice
+why_at (suc (suc (suc (suc (suc (suc (suc (suc (suc (suc zero)))))))))) = why.Option ExcludesAll
+why_at (suc (suc (suc (suc (suc (suc (suc (suc (suc (suc (suc zero))))))))))) = why.ObserveNothing
+why_at (suc (suc (suc (suc (suc (suc (suc (suc (suc (suc (suc (suc (suc n))))))))))))) = why.LinkPlace
+why_at n = why.Memory
+
+-- which fault of options is named makes no difference to where one applies
+applies_at_number : (d : Draft) (w : Why) (at : ℕ) → applies d w at ≡ applies d (why_at (number w)) at
+applies_at_number d why.TooMany at = refl
+applies_at_number d why.BadName at = refl
+applies_at_number d why.NameTwice at = refl
+applies_at_number d why.Unknown at = refl
+applies_at_number d why.NotEarlier at = refl
+applies_at_number d why.OfChild at = refl
+applies_at_number d why.EmptyAny at = refl
+applies_at_number d why.ChildPlace at = refl
+applies_at_number d why.SiteTwice at = refl
+applies_at_number d (why.Option f) zero = refl
+applies_at_number d (why.Option f) (suc t) = refl
+applies_at_number d why.ObserveNothing at = refl
+applies_at_number d why.Memory at = refl
+applies_at_number d why.LinkPlace at = refl
+
+pub none_below_next : (d : Draft) (w : Why) (n : ℕ) → n ≡ suc (number w) → NoneBelow d (number w) → ((at : ℕ) → applies d w at ≡ false) → NoneBelow d n
+none_below_next d w n e before here v at lt = ⊎_elim
+    (λ same. applies_at_number d v at ∙ (ap (λ k. applies d (why_at k) at) same ∙ (sym (applies_at_number d w at) ∙ here at)))
+    (λ apart. before v at (omega arith))
+    (cases_eq (number v) (number w))
+
+pub least : (d : Draft) (w : Why) (at : ℕ) → names_fault d w at ≡ true → NoneBelow d (number w) → IsFirst (applies d w) (Some at) → Refuses d (record { why = w; at = at })
+least d w at named before first =
+    inr (record { here = first.0; fault = named; least = λ v n lt. before v n lt; earliest = first.1 })
+
+pub test_named : (d : Draft) (test : Test) (at : ℕ) → names_fault d (why_of test) at ≡ true
+test_named d test.BadName at = refl
+test_named d (test.Unknown n) at = refl
+test_named d (test.NotEarlier n) at = refl
+test_named d (test.OfChild n) at = refl
+test_named d test.EmptyAny at = refl
+test_named d (test.ChildPlace n starters) at = refl
+test_named d test.ObserveNothing at = refl
+test_named d (test.LinkPlace tokens) at = refl
+
+pub nothing_below_one : (d : Draft) → NoneBelow d 1
+nothing_below_one d w at lt = absurd (none w lt)
+  where
+    none : (w : Why) → number w < 1 → ⊥
+    none why.TooMany lt = omega arith
+    none why.BadName lt = omega arith
+    none why.NameTwice lt = omega arith
+    none why.Unknown lt = omega arith
+    none why.NotEarlier lt = omega arith
+    none why.OfChild lt = omega arith
+    none why.EmptyAny lt = omega arith
+    none why.ChildPlace lt = omega arith
+    none why.SiteTwice lt = omega arith
+    none (why.Option f) lt = omega arith
+    none why.ObserveNothing lt = omega arith
+    none why.Memory lt = omega arith
+    none why.LinkPlace lt = omega arith

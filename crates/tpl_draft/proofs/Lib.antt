@@ -1,0 +1,13 @@
+pub mod NamesLemmas
+pub mod AskLemmas
+pub mod LimitLemmas
+pub mod FirstLemmas
+pub mod TestLemmas
+pub mod ListTestLemmas
+pub mod LeastLemmas
+pub mod TooManyLemmas
+pub mod TwiceLemmas
+pub mod DeclareLemmas
+pub mod NumberLemmas
+pub mod Bools
+pub mod OptionLemmas

@@ -1,0 +1,15 @@
+pub mod Names
+pub mod Twice
+pub mod Ids
+pub mod Origins
+pub mod Named
+pub mod Tables
+pub mod Draft
+pub mod LineCoding
+pub mod SeenDraft
+pub mod FallsDraft
+pub mod SeenTasks
+pub mod Numbered
+pub mod Refusals
+pub mod Ask
+pub mod Test

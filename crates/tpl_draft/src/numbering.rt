@@ -1,0 +1,97 @@
+//! Bodies with ids in place of names.
+
+ghost use Rattle.std.specs.Prelude.{◌≡◌, IfOk};
+ghost use Rattle.tpl_script.specs.Seen.{statement_of};
+ghost use Rattle.tpl_draft.specs.Names.{place};
+ghost use Rattle.tpl_draft.specs.Numbered.{script_in, statement_in, AreFew};
+ghost use Rattle.tpl_draft.specs.SeenDraft.{line_of};
+ghost use Rattle.tpl_draft.specs.Tables.{seen};
+
+use crate::draft::{DraftBody, DraftStmt};
+use crate::names::Tables;
+use std::alloc::{AllocError, Global};
+use tpl_script::{Body, Stmt};
+use tpl_words::{InputId, LabelId, SiteId, TaskId, TokenId};
+
+/// The task of a name.
+pub fn task_id(tables: &Tables, name: &str) -> TaskId
+    requires { AreFew (seen tables.now) }
+    ensures { result.0 ≡ place tables.now.tasks name.now }
+{
+    TaskId(tables.tasks.place(name) as u16)
+}
+
+/// The token of a name.
+pub fn token_id(tables: &Tables, name: &str) -> TokenId
+    requires { AreFew (seen tables.now) }
+    ensures { result.0 ≡ place tables.now.tokens name.now }
+{
+    TokenId(tables.tokens.place(name) as u8)
+}
+
+fn input_id(tables: &Tables, name: &str) -> InputId
+    requires { AreFew (seen tables.now) }
+    ensures { result.0 ≡ place tables.now.inputs name.now }
+{
+    InputId(tables.inputs.place(name) as u8)
+}
+
+fn label_id(tables: &Tables, name: &str) -> LabelId
+    requires { AreFew (seen tables.now) }
+    ensures { result.0 ≡ place tables.now.labels name.now }
+{
+    LabelId(tables.labels.place(name) as u16)
+}
+
+fn site_id(tables: &Tables, name: &str) -> SiteId
+    requires { AreFew (seen tables.now) }
+    ensures { result.0 ≡ place tables.now.sites name.now }
+{
+    SiteId(tables.sites.place(name) as u16)
+}
+
+/// The body with ids.
+#[cycle(number)]
+pub fn number_body(alloc: Global, tables: &Tables, body: &DraftBody) -> Result<Body, AllocError>
+    requires { AreFew (seen tables.now) }
+    ensures { IfOk result (λ b. b ≡ script_in (seen tables.now) body.now) }
+{
+    let mut list = Vec::new(alloc);
+    for statement in body.list() {
+        list.push(number_statement(alloc, tables, statement)?)?;
+    }
+    Ok(Body::new(list))
+}
+
+#[cycle(number)]
+fn number_statement(
+    alloc: Global,
+    tables: &Tables,
+    statement: &DraftStmt,
+) -> Result<Stmt, AllocError>
+    requires { AreFew (seen tables.now) }
+    ensures { IfOk result (λ s. statement_of s ≡ statement_in (seen tables.now)
+        (line_of statement.now)) }
+{
+    match statement {
+        DraftStmt::Return => Ok(Stmt::Return),
+        DraftStmt::Throw(label) => Ok(Stmt::Throw(label_id(tables, label.as_str()))),
+        DraftStmt::Check(token) => Ok(Stmt::Check(token_id(tables, token.as_str()))),
+        DraftStmt::Cancel(token) => Ok(Stmt::Cancel(token_id(tables, token.as_str()))),
+        DraftStmt::Start(task) => Ok(Stmt::Start(task_id(tables, task.as_str()))),
+        DraftStmt::Observe => Ok(Stmt::Observe),
+        DraftStmt::Work(site, may_fail) => {
+            Ok(Stmt::Work(site_id(tables, site.as_str()), *may_fail))
+        }
+        DraftStmt::If(input, yes, no) => {
+            let yes = number_body(alloc, tables, yes)?;
+            let no = number_body(alloc, tables, no)?;
+            Ok(Stmt::If(input_id(tables, input.as_str()), yes, no))
+        }
+        DraftStmt::When(status, yes, no) => {
+            let yes = number_body(alloc, tables, yes)?;
+            let no = number_body(alloc, tables, no)?;
+            Ok(Stmt::When(*status, yes, no))
+        }
+    }
+}

@@ -1,0 +1,12 @@
+//! Who starts a task.
+
+use tpl_words::TaskId;
+
+/// Which start statements name a task.
+#[derive(Clone, Copy)]
+pub enum Starter {
+    Nobody,
+    /// One, in the body of this task.
+    One(TaskId),
+    Several,
+}

@@ -1,0 +1,124 @@
+//! Where a limit is exceeded first.
+
+ghost use Rattle.std.specs.Prelude.{◌≡◌, ◌+◌, ◌<◌, ◌≤◌, ◌⊎◌, ◌||◌, false, true, IfSome, IfNone, length, map, nat_lt};
+ghost use Rattle.std.specs.List.{list_any};
+ghost use Rattle.tpl_draft.specs.declared.fault.Why.TheVariants as why;
+ghost use Rattle.tpl_draft.specs.Draft.{Token, worked, line_count, site_count, levels as level_count};
+ghost use Rattle.tpl_draft.specs.Draft as meaning;
+ghost use Rattle.tpl_draft.specs.Refusals.{applies, exceeds, in_lists, IsFirst};
+ghost use Rattle.tpl_draft.specs.SeenTasks.{draft_of, task_of, token_of};
+
+use crate::draft::{Draft, DraftKind, DraftTask, DraftToken};
+use crate::limits::{Room, room_behind};
+use crate::refusals::{linked_to, waits_for};
+use tpl_words::{MOST_INPUTS, MOST_TOKENS};
+
+/// The most statements of a body, nested ones counted.
+const MOST_STATEMENTS: u8 = 64;
+
+/// The most levels of a body. One without branches has one.
+const MOST_LEVELS: u8 = 8;
+
+/// The most sites of a graph.
+const MOST_SITES: u16 = 256;
+
+/// The most tasks.
+const MOST_TASKS: usize = 1024;
+
+/// The most arguments of a task.
+const MOST_ARGUMENTS: usize = 256;
+
+/// The most sources of a linked token.
+const MOST_SOURCES: usize = 32;
+
+fn linked_to_many(token: &DraftToken) -> bool
+    ensures { result ≡ nat_lt 32 (length (meaning.linked_to (token_of token.now).linked)) }
+{
+    linked_to(token).len() > MOST_SOURCES
+}
+
+/// Some token is linked to more than 32 tokens.
+fn some_linked_to_many(tokens: &[DraftToken]) -> bool
+    ensures { result ≡ list_any (λ token. nat_lt 32 (length
+        (meaning.linked_to (token_of token).linked))) tokens.now }
+{
+    tokens.iter().any(|token| linked_to_many(token))
+}
+
+fn sources_exceed(draft: &Draft) -> bool
+    ensures { result ≡ list_any (λ (k : Token). nat_lt 32 (length (meaning.linked_to k.linked)))
+        (draft_of draft.now).tokens }
+{
+    some_linked_to_many(&draft.tokens)
+}
+
+fn counts_exceed(draft: &Draft) -> bool
+    ensures { result ≡ (nat_lt 16 (length (draft_of draft.now).inputs)
+        || nat_lt 32 (length (draft_of draft.now).tokens)) }
+{
+    draft.inputs.len() > MOST_INPUTS || draft.tokens.len() > MOST_TOKENS
+}
+
+/// There are too many inputs, tokens, or sources of a token.
+fn lists_exceed(draft: &Draft) -> bool
+    ensures { result ≡ in_lists (draft_of draft.now) why.TooMany }
+{
+    counts_exceed(draft) || sources_exceed(draft)
+}
+
+/// What is left of the room behind the task's body. None where the body has too much for it, or too many levels.
+fn room_behind_body(task: &DraftTask, room: Room) -> Option<Room>
+    ensures statements { IfSome result (λ left. left.statements + line_count
+        (worked (task_of task.now).kind).body ≡ room.statements) }
+    ensures sites { IfSome result (λ left. left.sites + site_count
+        (worked (task_of task.now).kind).body ≡ room.sites) }
+    ensures levels { IfSome result (λ left. level_count (worked (task_of task.now).kind).body ≤ 8) }
+    ensures exceeds { IfNone result ((room.statements < line_count
+        (worked (task_of task.now).kind).body) ⊎ ((8 < level_count
+        (worked (task_of task.now).kind).body) ⊎ (room.sites < site_count
+        (worked (task_of task.now).kind).body))) }
+{
+    match &task.kind {
+        DraftKind::Root(work) | DraftKind::Child(work) | DraftKind::Then(_, work) => {
+            room_behind(&work.body, room, MOST_LEVELS)
+        }
+        _ => Some(room),
+    }
+}
+
+/// How many of `sites` are left behind the t-th task. None where it has more, or exceeds a limit of its own.
+fn sites_behind(t: usize, task: &DraftTask, sites: u16) -> Option<u16>
+    ensures within { IfSome result (λ left. exceeds t (task_of task.now) ≡ false) }
+    ensures sites { IfSome result (λ left. left + site_count (worked (task_of task.now).kind).body
+        ≡ sites) }
+    ensures exceeds { IfNone result ((exceeds t (task_of task.now)
+        || nat_lt sites (site_count (worked (task_of task.now).kind).body)) ≡ true) }
+{
+    let arguments = waits_for(task).len();
+    if t == MOST_TASKS || arguments > MOST_ARGUMENTS {
+        return None;
+    }
+    let room = Room {
+        statements: MOST_STATEMENTS,
+        sites,
+    };
+    let left = room_behind_body(task, room)?;
+    Some(left.sites)
+}
+
+/// Where a limit is exceeded first.
+pub fn first_too_many(draft: &Draft) -> Option<usize>
+    ensures { IsFirst (applies (draft_of draft.now) why.TooMany) result }
+{
+    if lists_exceed(draft) {
+        return Some(0);
+    }
+    let mut sites = MOST_SITES;
+    for (t, task) in draft.tasks.iter().enumerate() {
+        match sites_behind(t, task, sites) {
+            Some(left) => sites = left,
+            None => return Some(t + 1),
+        }
+    }
+    None
+}
