@@ -23,9 +23,7 @@ use std::sync::Wait;
 use std::thread::Threads;
 use std::{env, iter};
 use tpl_journal::Counting;
-use tpl_report::{
-    Ask, Crew, Exit, inputs_of, load, put_out_of_memory, read_input, serve, serve_watched,
-};
+use tpl_report::{Ask, Crew, Exit, load, put_out_of_memory, read_input, serve, serve_watched};
 use tpl_trace::trace_document;
 use tpl_witness::{Search, refute_document};
 use tpl_words::Inputs;
@@ -72,7 +70,7 @@ fn run<R: Threads + Wait + Sync, I: Read, O: Write>(
 ) -> Exit {
     match load(rt.alloc(), from, to) {
         Ok(document) => {
-            let inputs = inputs_of(&document).unwrap_or(Inputs::new(0));
+            let inputs = document.inputs().unwrap_or(Inputs::new(0));
             let progress = RunProgress::new(rt, &document.graph, inputs);
             let follower = rt.stderr().is_terminal().then_some(&progress);
             let crew = Crew { workers, follower };

@@ -13,7 +13,7 @@ use Rattle.tpl_commands.specs.declared.exit.Exit.TheVariants.{Success, Failure a
 use Rattle.tpl_commands.specs.Auditing.{Audits, IsAudit, IsAuditWith, NamesNoFailure, run_text, verdict_text}
 use Rattle.tpl_commands.specs.Responding.{Says, Puts, Responds}
 use Rattle.tpl_commands.specs.Serving.{Audited}
-use Rattle.tpl_commands.specs.Starting.{inputs_of}
+use Rattle.tpl_reader.specs.Starting.{inputs_of}
 
 -- a text of a run in which no claim fails is none that names one
 

@@ -15,7 +15,7 @@ use Rattle.tpl_commands.specs.declared.exit.Exit.TheVariants.{Success, Failure a
 use Rattle.tpl_commands.specs.Texts.{ended, claim_fails, not_allowed, unreadable, unreadable_at, unreadable_start}
 use Rattle.tpl_commands.specs.Responding.{Answers}
 use Rattle.tpl_commands.specs.Documents.{ToDocument}
-use Rattle.tpl_commands.specs.Starting.{inputs_of}
+use Rattle.tpl_reader.specs.Starting.{inputs_of}
 
 -- what is said of a run: whether it is complete, and where a claim fails
 abbrev pub run_text : Bool → Option Failure → List ℕ

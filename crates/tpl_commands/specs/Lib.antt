@@ -8,6 +8,5 @@ pub mod Finding
 pub mod Loading
 pub mod Responding
 pub mod Serving
-pub mod Starting
 pub mod Texts
 pub mod Unreadable

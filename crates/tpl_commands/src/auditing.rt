@@ -5,7 +5,7 @@ ghost use Rattle.std.specs.List.{All};
 ghost use Rattle.tpl_claims.specs.Fits.{Fits};
 ghost use Rattle.tpl_reader.specs.SeenDocument.{doc_of};
 ghost use Rattle.tpl_commands.specs.Auditing.{Audits, IsAudit, IsAuditWith, IsNoJournalText, run_exit, run_text, verdict_exit, verdict_text};
-ghost use Rattle.tpl_commands.specs.Starting.{inputs_of};
+ghost use Rattle.tpl_reader.specs.Starting.{inputs_of};
 
 use crate::answer::Answer;
 use crate::exit::Exit;
@@ -32,29 +32,13 @@ impl Command for Audit {
     }
 }
 
-/// The values of the inputs, where they are known: the start gives them, or there are none.
-pub fn inputs_of(document: &Document) -> Option<Inputs>
-    ensures { result ≡ inputs_of (doc_of document.now) }
-{
-    match &document.start {
-        Some(start) => Some(start.inputs.copy()),
-        None => {
-            if document.graph.input_count() == 0 {
-                Some(Inputs::new(0))
-            } else {
-                None
-            }
-        }
-    }
-}
-
 /// The audit, where the values of the inputs are known.
 fn audit_for(alloc: Global, document: &Document) -> Result<Answer, AllocError>
     requires { All (Fits document.now.graph.graph) document.now.claims.items }
     ensures { IfOk result (λ given.
         IsAudit (doc_of document.now) given.exit (string_bytes given.text)) }
 {
-    match inputs_of(document) {
+    match document.inputs() {
         Some(inputs) => audit_with(alloc, document, inputs),
         None => Ok(Answer {
             exit: Exit::Unreadable,

@@ -15,7 +15,7 @@ mod text;
 mod unreadable;
 
 pub use answer::{Answer, put, put_answer, put_out_of_memory};
-pub use auditing::{Audit, inputs_of};
+pub use auditing::Audit;
 pub use certifying::Certify;
 pub use checking::{Check, check_document, refused_answer};
 pub use drawing::Draw;

@@ -6,4 +6,5 @@ pub mod SeenTop
 pub mod Begin
 pub mod Document
 pub mod SeenDocument
+pub mod Starting
 pub mod Laws

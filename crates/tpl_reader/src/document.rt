@@ -1,5 +1,9 @@
 //! Documents.
 
+ghost use Rattle.std.specs.Prelude.{◌≡◌};
+ghost use Rattle.tpl_reader.specs.SeenDocument.{doc_of};
+ghost use Rattle.tpl_reader.specs.Starting.{inputs_of};
+
 use tpl_cert::Certificate;
 use tpl_claims::Claim;
 use tpl_graph::Graph;
@@ -29,4 +33,22 @@ pub struct Document {
     pub journal: String,
     /// Where a run starts, if that is said.
     pub start: Option<Start>,
+}
+
+impl Document {
+    /// The values of the inputs, where they are known: the start gives them, or there are none.
+    pub fn inputs(&self) -> Option<Inputs>
+        ensures { result ≡ inputs_of (doc_of self.now) }
+    {
+        match &self.start {
+            Some(start) => Some(start.inputs.copy()),
+            None => {
+                if self.graph.input_count() == 0 {
+                    Some(Inputs::new(0))
+                } else {
+                    None
+                }
+            }
+        }
+    }
 }

@@ -13,7 +13,7 @@ use Rattle.tpl_audit.specs.Audit.{IsVerdict}
 use Rattle.tpl_audit.specs.declared.verdict.Failure.{Failure}
 use Rattle.tpl_audit.specs.declared.verdict.Verdict.{Verdict}
 use Rattle.tpl_audit.specs.declared.verdict.Verdict.TheVariants as ruled
-use Rattle.tpl_reader.specs.Begin.{StartValue}
+use Rattle.tpl_reader.specs.Starting.{inputs_of}
 use Rattle.tpl_reader.specs.Document.{DocumentValue, Spells, IsFault}
 use Rattle.tpl_reader.specs.declared.fault.ReadFault.{ReadFault}
 use Rattle.tpl_reader.specs.declared.fault.ReadFault.TheVariants as read
@@ -31,18 +31,10 @@ pub record IsRefused (doc : DocumentValue) (fault : CertFault) : Type 0 where
   pub verdict : verdict doc.graph.graph doc.claims doc.certificate ≡ Err fault
   pub first : IsFirstFault doc.graph.graph doc.claims doc.certificate fault
 
--- these values are those of the start, or there is no input
-abbrev pub AreInputs : DocumentValue → List Bool → Type 0
-AreInputs doc inputs = ((start : StartValue) × (doc.start ≡ Some start) × (inputs ≡ start.inputs)) ⊎ ((doc.start ≡ None) × (doc.graph.graph.inputs ≡ 0) × (inputs ≡ []))
-
--- there is an input and no start
-abbrev pub HasNoInputs : DocumentValue → Type 0
-HasNoInputs doc = (doc.start ≡ None) × (doc.graph.graph.inputs ≡ 0 → ⊥)
-
 -- the verdict on the journal
 pub record IsAudited (doc : DocumentValue) (verdict : Verdict) : Type 0 where
   pub inputs : List Bool
-  pub known : AreInputs doc inputs
+  pub known : inputs_of doc ≡ Some inputs
   pub events : List Event
   pub journal : IsJournal doc.graph doc.journal events
   pub audited : IsVerdict doc.graph.graph inputs events doc.claims verdict
@@ -59,7 +51,7 @@ IsCheckReason doc reason = ⊥
 
 -- why no run is made
 abbrev pub IsRunReason : DocumentValue → Reason → Type 0
-IsRunReason doc NoStart = HasNoInputs doc
+IsRunReason doc NoStart = inputs_of doc ≡ None
 IsRunReason doc (Unchecked fault) = IsRefused doc fault
 IsRunReason doc reason = ⊥
 
@@ -71,7 +63,7 @@ IsSearchReason depth doc reason = ⊥
 
 -- why the journal isn't a complete run in which each claim holds
 abbrev pub IsAuditReason : DocumentValue → Reason → Type 0
-IsAuditReason doc NoStart = HasNoInputs doc
+IsAuditReason doc NoStart = inputs_of doc ≡ None
 IsAuditReason doc (NoJournal fault) = IsBroken doc fault
 IsAuditReason doc (NotAllowed place) = IsAudited doc (ruled.NotAllowed place)
 IsAuditReason doc (Fails failure) = (complete : Bool) × IsAudited doc (ruled.Run complete (Some failure))
@@ -80,7 +72,7 @@ IsAuditReason doc reason = ⊥
 
 -- why the journal isn't a run
 abbrev pub IsTraceReason : DocumentValue → Reason → Type 0
-IsTraceReason doc NoStart = HasNoInputs doc
+IsTraceReason doc NoStart = inputs_of doc ≡ None
 IsTraceReason doc (NoJournal fault) = IsBroken doc fault
 IsTraceReason doc (NotAllowed place) = IsAudited doc (ruled.NotAllowed place)
 IsTraceReason doc reason = ⊥

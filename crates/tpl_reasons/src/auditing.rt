@@ -4,7 +4,7 @@ ghost use Rattle.std.specs.Prelude.{◌≡◌, Some, IfOk, IfSome, IfNone};
 ghost use Rattle.std.specs.List.{All};
 ghost use Rattle.tpl_claims.specs.Fits.{Fits};
 ghost use Rattle.tpl_reader.specs.SeenDocument.{doc_of};
-ghost use Rattle.tpl_reasons.specs.Reasons.{AreInputs, HasNoInputs, IsAudited, IsAuditReason, IsTraceReason, IsSilent};
+ghost use Rattle.tpl_reasons.specs.Reasons.{IsAudited, IsAuditReason, IsTraceReason, IsSilent};
 
 use crate::asked::Asked;
 use crate::journal::line_text;
@@ -20,18 +20,6 @@ use tpl_machine::Core;
 use tpl_model::Event;
 use tpl_reader::Document;
 use tpl_words::{InputId, Inputs, Status, TaskId};
-
-/// The values of the inputs, where they are known: the start gives them, or there are none.
-pub(crate) fn inputs_of(document: &Document) -> Option<Inputs>
-    ensures some { IfSome result (AreInputs (doc_of document.now)) }
-    ensures none { IfNone result (HasNoInputs (doc_of document.now)) }
-{
-    match &document.start {
-        Some(start) => Some(start.inputs.copy()),
-        None if document.graph.input_count() == 0 => Some(Inputs::new(0)),
-        None => None,
-    }
-}
 
 /// The reason of a verdict on the journal, if it has one. Out of memory has none.
 fn verdict_reason(document: &Document, verdict: Verdict) -> Result<Option<Reason>, AllocError>
@@ -57,7 +45,7 @@ pub(crate) fn audit_reason(alloc: Global, document: &Document) -> Result<Option<
     ensures some { IfOk result (λ o. IfSome o (IsAuditReason (doc_of document.now))) }
     ensures none { IfOk result (λ o. IfNone o (IsSilent (doc_of document.now) Asked.Audit)) }
 {
-    let Some(inputs) = inputs_of(document) else {
+    let Some(inputs) = document.inputs() else {
         return Ok(Some(Reason::NoStart));
     };
     match read_journal(alloc, &document.graph, document.journal.as_str()) {
@@ -126,7 +114,7 @@ fn played<'g>(
     document: &'g Document,
     events: &[Event],
 ) -> Result<Option<Replay<'g>>, AllocError> {
-    let Some(inputs) = inputs_of(document) else {
+    let Some(inputs) = document.inputs() else {
         return Ok(None);
     };
     let mut run = Fast::open(alloc, &document.graph, inputs)?;

@@ -7,7 +7,6 @@ ghost use Rattle.tpl_reader.specs.SeenDocument.{doc_of};
 ghost use Rattle.tpl_reasons.specs.Reasons.{IsCheckReason, IsClaimsReason, IsRunReason, IsSilent};
 
 use crate::asked::Asked;
-use crate::auditing::inputs_of;
 use crate::leaves::{row_text, rows_of};
 use crate::reason::Reason;
 use crate::rules::rule_text;
@@ -52,7 +51,7 @@ pub(crate) fn run_reason(document: &Document) -> Option<Reason>
     ensures some { IfSome result (IsRunReason (doc_of document.now)) }
     ensures none { IfNone result (IsSilent (doc_of document.now) Asked.Run) }
 {
-    if inputs_of(document).is_none() {
+    if document.inputs().is_none() {
         return Some(Reason::NoStart);
     }
     match check_reason(document) {

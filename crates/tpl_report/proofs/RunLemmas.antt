@@ -18,7 +18,7 @@ use Rattle.tpl_commands.specs.Checking.{IsAccepted, IsRefused, IsRefusal}
 use Rattle.tpl_report.specs.Reported.{IsReport}
 use Rattle.tpl_commands.specs.Responding.{Puts, Writes}
 use Rattle.tpl_report.specs.Running.{report_exit, IsReported, RunsFrom, RunsWith, Runs, Completes}
-use Rattle.tpl_commands.specs.Starting.{inputs_of}
+use Rattle.tpl_reader.specs.Starting.{inputs_of}
 
 -- what holds of each number holds of what it is the number of
 pub all_mapped : {X Y : Type 0} (f : X → Y) (P : Y → Type 0) (xs : List X) → All P (map f xs) → All (λ x. P (f x)) xs

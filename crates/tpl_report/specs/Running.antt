@@ -13,7 +13,7 @@ use Rattle.tpl_commands.specs.Checking.{IsAccepted, IsRefused, IsRefusal}
 use Rattle.tpl_report.specs.Reported.{IsReport}
 use Rattle.tpl_commands.specs.Responding.{Puts, Writes}
 use Rattle.tpl_report.specs.RunTexts.{fault_line}
-use Rattle.tpl_commands.specs.Starting.{inputs_of}
+use Rattle.tpl_reader.specs.Starting.{inputs_of}
 use Rattle.tpl_commands.specs.Texts.{unreadable_start}
 
 -- success, where the report says that the run is complete

@@ -11,8 +11,7 @@ pub use following::{Crew, Follow};
 pub use running::{serve_run, serve_run_followed};
 pub use tpl_analyser::{Depth, Form};
 pub use tpl_commands::{
-    Answer, Ask, Exit, inputs_of, load, put_answer, put_out_of_memory, read_input, serve,
-    serve_watched,
+    Answer, Ask, Exit, load, put_answer, put_out_of_memory, read_input, serve, serve_watched,
 };
 pub use tpl_report_text::write_report;
 pub use tpl_runtime::Watcher;

@@ -12,7 +12,7 @@ ghost use Rattle.tpl_commands.specs.Loading.{RequestsTokens};
 ghost use Rattle.tpl_commands.specs.Responding.{Puts, Writes};
 ghost use Rattle.tpl_report.specs.Reported.{told};
 ghost use Rattle.tpl_report.specs.Running.{report_exit, Completes, Runs};
-ghost use Rattle.tpl_commands.specs.Starting.{inputs_of};
+ghost use Rattle.tpl_reader.specs.Starting.{inputs_of};
 ghost use Rattle.tpl_words.specs.declared.ids.TokenId.{TokenId};
 
 use crate::fault::Stop;
@@ -22,9 +22,7 @@ use std::alloc::Global;
 use std::io::Write;
 use std::sync::Wait;
 use std::thread::Threads;
-use tpl_commands::{
-    Exit, check_document, inputs_of, put, put_answer, put_out_of_memory, refused_answer,
-};
+use tpl_commands::{Exit, check_document, put, put_answer, put_out_of_memory, refused_answer};
 use tpl_graph::Graph;
 use tpl_journal::Counting;
 use tpl_reader::Document;
@@ -189,7 +187,7 @@ pub fn serve_run_followed<
     ensures memory { result ≡ Exit.Memory → Writes O.contents to.old to.new
         (codes "out of memory\n") }
 {
-    match inputs_of(document) {
+    match document.inputs() {
         Some(inputs) => check_and_run(rt, alloc, document, inputs, items, crew, to),
         None => put(Exit::Unreadable, b"unreadable: start Missing\n", to),
     }

@@ -10,7 +10,7 @@ use Rattle.tpl_model.specs.declared.event.Event.{Event}
 use Rattle.tpl_model.specs.Graph.{TaskGraph}
 use Rattle.tpl_model.specs.Rules.{Run}
 use Rattle.tpl_reader.specs.Document.{DocumentValue}
-use Rattle.tpl_commands.specs.Starting.{inputs_of}
+use Rattle.tpl_reader.specs.Starting.{inputs_of}
 use Rattle.tpl_trace.specs.Answer.{HasRun}
 
 -- events of which one isn't allowed are no run

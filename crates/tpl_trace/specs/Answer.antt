@@ -8,7 +8,7 @@ use Rattle.tpl_reader.specs.Document.{DocumentValue, Spells}
 use Rattle.tpl_commands.specs.declared.exit.Exit.TheVariants.{Success}
 use Rattle.tpl_commands.specs.Auditing.{Audits}
 use Rattle.tpl_commands.specs.Responding.{Answers, Reads, Writes}
-use Rattle.tpl_commands.specs.Starting.{inputs_of}
+use Rattle.tpl_reader.specs.Starting.{inputs_of}
 use Rattle.tpl_trace.specs.Trace.{trace_text}
 
 -- the journal's text is that of these events, and they are a run with the document's inputs

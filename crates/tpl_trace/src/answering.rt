@@ -6,7 +6,7 @@ ghost use Rattle.tpl_journal.specs.Lines.{CanSpell};
 ghost use Rattle.std.specs.List.{All};
 ghost use Rattle.tpl_model.specs.declared.event.Event as events;
 ghost use Rattle.tpl_reader.specs.SeenDocument.{doc_of};
-ghost use Rattle.tpl_commands.specs.Starting.{inputs_of};
+ghost use Rattle.tpl_reader.specs.Starting.{inputs_of};
 ghost use Rattle.tpl_commands.specs.Responding.{longest, Responds};
 ghost use Rattle.tpl_trace.specs.Answer.{HasRun, SpellsNoRun, Traced, Traces};
 
@@ -14,7 +14,7 @@ use crate::text::trace_text;
 use std::alloc::{AllocError, Global};
 use std::io::{Read, Write};
 use tpl_audit::{Verdict, audit};
-use tpl_commands::{Answer, Audit, Command, Exit, inputs_of, respond};
+use tpl_commands::{Answer, Audit, Command, Exit, respond};
 use tpl_journal::{Counting, JournalFault, fault_is_no_journal, read_journal, text_is_unambiguous};
 use tpl_model::Event;
 use tpl_reader::{Document, ReadFault, one_document, read_document};
@@ -56,7 +56,7 @@ fn run_of(alloc: Global, document: &Document) -> Result<Option<Vec<Event>>, Allo
     ensures none { IfOk result (λ run. IfNone run ((h : List events.Event)
         → HasRun (doc_of document.now) h → ⊥)) }
 {
-    match inputs_of(document) {
+    match document.inputs() {
         Some(inputs) => run_with(alloc, document, inputs),
         None => Ok(None),
     }

@@ -26,7 +26,7 @@ use Rattle.tpl_reader.specs.Laws.{SpellsOneDocument, SpelledHasNoFault}
 use Rattle.tpl_commands.specs.declared.exit.Exit.{Exit}
 use Rattle.tpl_commands.specs.declared.exit.Exit.TheVariants.{Memory}
 use Rattle.tpl_commands.specs.Auditing.{IsAudit, IsAuditWith, IsAudited, IsNoJournal, IsNoJournalText, verdict_exit, verdict_text}
-use Rattle.tpl_commands.specs.Starting.{inputs_of}
+use Rattle.tpl_reader.specs.Starting.{inputs_of}
 use Rattle.tpl_witness.specs.Asking.{IsNumbered}
 use Rattle.tpl_witness.specs.Filled.{started}
 use Rattle.tpl_witness.specs.Witness.{refuted_by, NamesFailure, IsAuditedSo}
