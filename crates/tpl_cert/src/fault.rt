@@ -6,6 +6,7 @@ ghost use Rattle.tpl_cert.specs.declared.fault.TreeToFault.TheVariants as writin
 
 use std::alloc::{AllocError, AllocFailed};
 use thiserror::Error;
+use tpl_json::Shape;
 
 /// Why a JSON value isn't read as a certificate tree. The least that applies anywhere in the tree is named, in this
 /// order; `Memory` can come before any of them.

@@ -12,7 +12,7 @@ use crate::tree::Tree;
 use json::Value;
 use std::alloc::Global;
 use tpl_graph::Graph;
-use tpl_json::Miss;
+use tpl_json::{Miss, Shape};
 
 /// The certificate tree that the value spells with the names of the graph, where it is within the limits: at most 6
 /// splits on each path and at most 16 tasks in a chain. Else the least `TreeFault` that applies anywhere in the value,
@@ -23,7 +23,7 @@ pub fn tree_from(alloc: Global, graph: &Graph, value: &Value<'_>) -> Result<Tree
 {
     let named = match named_tree(alloc, value) {
         Ok(named) => named,
-        Err(Miss::Shape) => return Err(TreeFault::Shape),
+        Err(Miss::Wrong(Shape)) => return Err(TreeFault::Shape),
         Err(Miss::Memory) => return Err(TreeFault::Memory),
     };
     let tree = tree_in(alloc, graph, &named)?;

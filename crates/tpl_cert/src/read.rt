@@ -10,14 +10,16 @@ ghost use Rattle.tpl_cert.specs.Reading.{row_at, leaf_at, input_at, end_at, node
 use crate::named::{NamedRow, NamedTree};
 use json::Value;
 use std::alloc::Global;
-use tpl_json::{Miss, bool_in, finals_of, find, has_only, list_of, member_in, text_in, texts_in};
+use tpl_json::{
+    Miss, Shape, bool_in, finals_of, find, has_only, list_of, member_in, text_in, texts_in,
+};
 
 #[tactic(auto, unfolding(crate::specs::Reading::row_at))]
-fn row_of<'v, 't>(alloc: Global, value: &'v Value<'t>) -> Result<NamedRow<'v>, Miss>
+fn row_of<'v, 't>(alloc: Global, value: &'v Value<'t>) -> Result<NamedRow<'v>, Miss<Shape>>
     ensures { Gives row_of result (row_at (view value.now)) }
 {
     if !has_only(value, &["ends", "runs", "before", "past", "chain"]) {
-        return Err(Miss::Shape);
+        return Err(Miss::Wrong(Shape));
     }
     let list = member_in(value, "ends")?;
     let ends = finals_of(list_of(list)?)?;
@@ -34,7 +36,7 @@ fn row_of<'v, 't>(alloc: Global, value: &'v Value<'t>) -> Result<NamedRow<'v>, M
     })
 }
 
-fn rows_of<'v, 't>(alloc: Global, values: &'v [Value<'t>]) -> Result<Vec<NamedRow<'v>>, Miss>
+fn rows_of<'v, 't>(alloc: Global, values: &'v [Value<'t>]) -> Result<Vec<NamedRow<'v>>, Miss<Shape>>
     ensures { Gives (λ v. map row_of v.items) result (each row_at (map view values.now)) }
 {
     let mut rows = Vec::new(alloc);
@@ -46,11 +48,11 @@ fn rows_of<'v, 't>(alloc: Global, values: &'v [Value<'t>]) -> Result<Vec<NamedRo
 }
 
 #[tactic(auto, unfolding(crate::specs::Reading::leaf_at))]
-fn leaf_of<'v, 't>(alloc: Global, value: &'v Value<'t>) -> Result<NamedTree<'v>, Miss>
+fn leaf_of<'v, 't>(alloc: Global, value: &'v Value<'t>) -> Result<NamedTree<'v>, Miss<Shape>>
     ensures { Gives tree_of result (leaf_at (view value.now)) }
 {
     if !has_only(value, &["rows"]) {
-        return Err(Miss::Shape);
+        return Err(Miss::Wrong(Shape));
     }
     let list = member_in(value, "rows")?;
     let rows = rows_of(alloc, list_of(list)?)?;
@@ -62,7 +64,7 @@ fn branch_of<'v, 't>(
     alloc: Global,
     value: &'v Value<'t>,
     name: &str,
-) -> Result<Box<NamedTree<'v>>, Miss>
+) -> Result<Box<NamedTree<'v>>, Miss<Shape>>
     ensures { Gives (λ b. tree_of b.value) result
         (option_and_then whole_tree (get name.now (view value.now))) }
 {
@@ -74,11 +76,11 @@ fn branch_of<'v, 't>(
 
 #[cycle(tree)]
 #[tactic(auto, unfolding(crate::specs::Reading::input_at))]
-fn input_of<'v, 't>(alloc: Global, value: &'v Value<'t>) -> Result<NamedTree<'v>, Miss>
+fn input_of<'v, 't>(alloc: Global, value: &'v Value<'t>) -> Result<NamedTree<'v>, Miss<Shape>>
     ensures { Gives tree_of result (input_at whole_tree (view value.now)) }
 {
     if !has_only(value, &["split_input", "yes", "no"]) {
-        return Err(Miss::Shape);
+        return Err(Miss::Wrong(Shape));
     }
     let name = text_in(value, "split_input")?;
     let first = branch_of(alloc, value, "yes")?;
@@ -88,11 +90,11 @@ fn input_of<'v, 't>(alloc: Global, value: &'v Value<'t>) -> Result<NamedTree<'v>
 
 #[cycle(tree)]
 #[tactic(auto, unfolding(crate::specs::Reading::end_at))]
-fn end_of<'v, 't>(alloc: Global, value: &'v Value<'t>) -> Result<NamedTree<'v>, Miss>
+fn end_of<'v, 't>(alloc: Global, value: &'v Value<'t>) -> Result<NamedTree<'v>, Miss<Shape>>
     ensures { Gives tree_of result (end_at whole_tree (view value.now)) }
 {
     if !has_only(value, &["split_end", "ran", "canceled", "faulted"]) {
-        return Err(Miss::Shape);
+        return Err(Miss::Wrong(Shape));
     }
     let name = text_in(value, "split_end")?;
     let ran = branch_of(alloc, value, "ran")?;
@@ -103,7 +105,7 @@ fn end_of<'v, 't>(alloc: Global, value: &'v Value<'t>) -> Result<NamedTree<'v>, 
 
 #[cycle(tree)]
 #[tactic(auto, unfolding(crate::specs::Reading::node_at))]
-fn node_of<'v, 't>(alloc: Global, value: &'v Value<'t>) -> Result<NamedTree<'v>, Miss>
+fn node_of<'v, 't>(alloc: Global, value: &'v Value<'t>) -> Result<NamedTree<'v>, Miss<Shape>>
     ensures { Gives tree_of result (node_at whole_tree (view value.now)) }
 {
     if find(value, "split_input").is_some() {
@@ -117,7 +119,10 @@ fn node_of<'v, 't>(alloc: Global, value: &'v Value<'t>) -> Result<NamedTree<'v>,
 
 /// A tree, however deep the value nests.
 #[cycle(tree)]
-pub(crate) fn named_tree<'v, 't>(alloc: Global, value: &'v Value<'t>) -> Result<NamedTree<'v>, Miss>
+pub(crate) fn named_tree<'v, 't>(
+    alloc: Global,
+    value: &'v Value<'t>,
+) -> Result<NamedTree<'v>, Miss<Shape>>
     ensures { Gives tree_of result (whole_tree (view value.now)) }
 {
     node_of(alloc, value)

@@ -5,6 +5,7 @@ use Rattle.serde_json.specs.Data.{Data}
 use Rattle.serde_json.specs.View.{items_of}
 use Rattle.tpl_json.specs.Members.{elements, each, ◌>>=◌, Misses}
 use Rattle.tpl_json.specs.declared.miss.Miss.{Miss}
+use Rattle.tpl_json.specs.declared.miss.Shape.{Shape}
 use Rattle.tpl_json.specs.declared.miss.Miss.TheVariants as misses
 
 pub elements-items_of : (ds : List Data) → elements (items_of ds) ≡ ds
@@ -72,9 +73,9 @@ each_stops g f (c ∷ ds) zero d lt h = rw h refl
 each_stops g f (c ∷ ds) (suc i) d lt h = bind_none (f (g c)) (λ y. each f (map g ds) >>= λ ys. Some (y ∷ ys)) (λ y. rw (each_stops g f ds i d (omega arith) h) refl)
 
 -- the exit of a loop at such an element
-pub misses_each : {X A : Type 0} (g : X → Data) (f : Data → Option A) (ds : List X) (i : ℕ) (x : X) (e : Miss) → i < length ds → x ≡ get_or ds i x → Misses e (f (g x)) → Misses e (each f (map g ds))
+pub misses_each : {X A : Type 0} (g : X → Data) (f : Data → Option A) (ds : List X) (i : ℕ) (x : X) (e : Miss Shape) → i < length ds → x ≡ get_or ds i x → Misses e (f (g x)) → Misses e (each f (map g ds))
 misses_each g f ds i x misses.Memory lt is h = tt
-misses_each g f ds i x misses.Shape lt is h = each_stops g f ds i x lt (rw (← is) h)
+misses_each g f ds i x (misses.Wrong shape) lt is h = each_stops g f ds i x lt (rw (← is) h)
 
 -- what two lists that are the same begin with, and go on with
 pub head_is : {A : Type 0} (x y : A) (xs ys : List A) → x ∷ xs ≡ y ∷ ys → x ≡ y

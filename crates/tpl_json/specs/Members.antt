@@ -4,20 +4,21 @@ use Rattle.std.specs.Str.{bytes_eq}
 use Rattle.serde_json.specs.Data.{Data, Items, no_items, item, Members, no_members, member, string, array, object, null, boolean, number}
 use Rattle.serde_json.specs.Find.{get, as_str, as_array}
 use Rattle.tpl_json.specs.declared.miss.Miss.{Miss}
+use Rattle.tpl_json.specs.declared.miss.Shape.{Shape}
 use Rattle.tpl_json.specs.declared.miss.Miss.TheVariants as misses
 
 -- What a function returned, seen by view, is what reading gives, unless memory ran out.
-abbrev pub Misses : {Y : Type 0} → Miss → Option Y → Type 0
+abbrev pub Misses : {Y : Type 0} → Miss Shape → Option Y → Type 0
 Misses misses.Memory read = Unit {0}
-Misses misses.Shape read = read ≡ None
+Misses (misses.Wrong u) read = read ≡ None
 
-abbrev pub Gives : {X Y : Type 0} → (X → Y) → Result X Miss → Option Y → Type 0
+abbrev pub Gives : {X Y : Type 0} → (X → Y) → Result X (Miss Shape) → Option Y → Type 0
 Gives view (Ok x) read = read ≡ Some (view x)
 Gives view (Err e) read = Misses e read
 
 -- the error is a wrong shape, the only one of a function that takes no memory
-abbrev pub IsShape : Miss → Type 0
-IsShape misses.Shape = Unit {0}
+abbrev pub IsShape : Miss Shape → Type 0
+IsShape (misses.Wrong u) = Unit {0}
 IsShape misses.Memory = ⊥
 
 infixl 10 ◌>>=◌

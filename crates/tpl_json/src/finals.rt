@@ -6,12 +6,12 @@ ghost use Rattle.tpl_json.specs.Members.{Gives, IsShape};
 ghost use Rattle.tpl_json.specs.Finals.{with_final, no_finals, final_word, final_at, finals_at};
 
 use crate::members::text_of;
-use crate::miss::Miss;
+use crate::miss::{Miss, Shape};
 use json::Value;
 use tpl_words::{Final, Finals};
 
 #[tactic(auto, unfolding(crate::specs::Finals::final_word))]
-fn final_word(word: &str) -> Result<Final, Miss>
+fn final_word(word: &str) -> Result<Final, Miss<Shape>>
     ensures gives { Gives (λ f. f) result (final_word word.now) }
     ensures shape { IfErr result IsShape }
 {
@@ -19,13 +19,13 @@ fn final_word(word: &str) -> Result<Final, Miss>
         "RanToCompletion" => Ok(Final::RanToCompletion),
         "Canceled" => Ok(Final::Canceled),
         "Faulted" => Ok(Final::Faulted),
-        _ => Err(Miss::Shape),
+        _ => Err(Miss::Wrong(Shape)),
     }
 }
 
 /// A final status, by its name.
 #[tactic(auto, unfolding(crate::specs::Finals::final_at))]
-pub fn final_of(value: &Value<'_>) -> Result<Final, Miss>
+pub fn final_of(value: &Value<'_>) -> Result<Final, Miss<Shape>>
     ensures gives { Gives (λ f. f) result (final_at (view value.now)) }
     ensures shape { IfErr result IsShape }
 {
@@ -53,7 +53,7 @@ fn with_final(finals: Finals, ending: Final) -> Finals
 }
 
 /// The set of the final statuses of an array.
-pub fn finals_of(values: &[Value<'_>]) -> Result<Finals, Miss>
+pub fn finals_of(values: &[Value<'_>]) -> Result<Finals, Miss<Shape>>
     ensures gives { Gives (λ f. f) result (finals_at no_finals (map view values.now)) }
     ensures shape { IfErr result IsShape }
 {

@@ -12,5 +12,5 @@ pub use members::{
     bool_in, bool_of, find, has_only, list_of, list_or_none, member_in, number_of, owned_texts,
     text_in, text_of, texts_in, texts_of,
 };
-pub use miss::Miss;
+pub use miss::{Miss, Shape};
 pub use read::{NotRead, value_from};

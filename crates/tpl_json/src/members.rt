@@ -6,7 +6,7 @@ ghost use Rattle.serde_json.specs.Find.{get, as_str, as_bool, as_number, as_u64}
 ghost use Rattle.tpl_json.specs.View.{view};
 ghost use Rattle.tpl_json.specs.Members.{has_only, members_within, is_one_of, text_in, list_in, list_or_none, texts_in, each, Gives, IsShape};
 
-use crate::miss::Miss;
+use crate::miss::{Miss, Shape};
 use crate::number::whole_of;
 use json::Value;
 use std::alloc::Global;
@@ -47,7 +47,7 @@ pub fn find<'v, 't>(value: &'v Value<'t>, name: &str) -> Option<&'v Value<'t>>
 
 /// The member's text.
 #[tactic(auto, unfolding(crate::specs::Members::text_in))]
-pub fn text_in<'v, 't>(value: &'v Value<'t>, name: &str) -> Result<&'v str, Miss>
+pub fn text_in<'v, 't>(value: &'v Value<'t>, name: &str) -> Result<&'v str, Miss<Shape>>
     ensures gives { Gives (λ s. s.now) result (text_in name.now (view value.now)) }
     ensures shape { IfErr result IsShape }
 {
@@ -56,25 +56,25 @@ pub fn text_in<'v, 't>(value: &'v Value<'t>, name: &str) -> Result<&'v str, Miss
 }
 
 /// The member.
-pub fn member_in<'v, 't>(value: &'v Value<'t>, name: &str) -> Result<&'v Value<'t>, Miss>
+pub fn member_in<'v, 't>(value: &'v Value<'t>, name: &str) -> Result<&'v Value<'t>, Miss<Shape>>
     ensures gives { Gives (λ v. view v.now) result (get name.now (view value.now)) }
     ensures shape { IfErr result IsShape }
 {
     match find(value, name) {
-        None => Err(Miss::Shape),
+        None => Err(Miss::Wrong(Shape)),
         Some(found) => Ok(found),
     }
 }
 
 /// The elements of an array.
 #[tactic(auto, using(crate::proofs::DataOf::elements_view))]
-pub fn list_of<'v, 't>(value: &'v Value<'t>) -> Result<&'v [Value<'t>], Miss>
+pub fn list_of<'v, 't>(value: &'v Value<'t>) -> Result<&'v [Value<'t>], Miss<Shape>>
     ensures gives { Gives (λ s. map view s.now) result (list_in (view value.now)) }
     ensures shape { IfErr result IsShape }
 {
     match value {
         Value::Array(list) => Ok(list.as_slice()),
-        _ => Err(Miss::Shape),
+        _ => Err(Miss::Wrong(Shape)),
     }
 }
 
@@ -87,7 +87,10 @@ fn no_elements<'v, 't>(_value: &'v Value<'t>) -> &'v [Value<'t>]
 
 /// The elements of the member, an array, and none where it isn't there.
 #[tactic(auto, unfolding(crate::specs::Members::list_or_none))]
-pub fn list_or_none<'v, 't>(value: &'v Value<'t>, name: &str) -> Result<&'v [Value<'t>], Miss>
+pub fn list_or_none<'v, 't>(
+    value: &'v Value<'t>,
+    name: &str,
+) -> Result<&'v [Value<'t>], Miss<Shape>>
     ensures gives { Gives (λ s. map view s.now) result (list_or_none
         (get name.now (view value.now))) }
     ensures shape { IfErr result IsShape }
@@ -100,44 +103,44 @@ pub fn list_or_none<'v, 't>(value: &'v Value<'t>, name: &str) -> Result<&'v [Val
 
 /// The value's text.
 #[tactic(auto, using(crate::proofs::DataOf::text_is))]
-pub fn text_of<'v, 't>(value: &'v Value<'t>) -> Result<&'v str, Miss>
+pub fn text_of<'v, 't>(value: &'v Value<'t>) -> Result<&'v str, Miss<Shape>>
     ensures gives { Gives (λ s. s.now) result (as_str (view value.now)) }
     ensures shape { IfErr result IsShape }
 {
     match value.as_str() {
-        None => Err(Miss::Shape),
+        None => Err(Miss::Wrong(Shape)),
         Some(text) => Ok(text),
     }
 }
 
 /// The value, true or false.
 #[tactic(auto, using(crate::proofs::DataOf::truth_is))]
-pub fn bool_of(value: &Value<'_>) -> Result<bool, Miss>
+pub fn bool_of(value: &Value<'_>) -> Result<bool, Miss<Shape>>
     ensures gives { Gives (λ b. b) result (as_bool (view value.now)) }
     ensures shape { IfErr result IsShape }
 {
     match value.as_bool() {
-        None => Err(Miss::Shape),
+        None => Err(Miss::Wrong(Shape)),
         Some(truth) => Ok(truth),
     }
 }
 
 /// The value, a whole number of 64 bits, written with no sign, point or exponent.
-pub fn number_of(value: &Value<'_>) -> Result<u64, Miss>
+pub fn number_of(value: &Value<'_>) -> Result<u64, Miss<Shape>>
     ensures gives { Gives (λ n. n) result (option_and_then as_u64 (as_number (view value.now))) }
     ensures shape { IfErr result IsShape }
 {
     match value {
         Value::Number(text) => match whole_of(text) {
-            None => Err(Miss::Shape),
+            None => Err(Miss::Wrong(Shape)),
             Some(number) => Ok(number),
         },
-        _ => Err(Miss::Shape),
+        _ => Err(Miss::Wrong(Shape)),
     }
 }
 
 /// The member, true or false.
-pub fn bool_in(value: &Value<'_>, name: &str) -> Result<bool, Miss>
+pub fn bool_in(value: &Value<'_>, name: &str) -> Result<bool, Miss<Shape>>
     ensures gives { Gives (λ b. b) result (option_and_then as_bool
         (get name.now (view value.now))) }
     ensures shape { IfErr result IsShape }
@@ -147,7 +150,7 @@ pub fn bool_in(value: &Value<'_>, name: &str) -> Result<bool, Miss>
 }
 
 /// The texts of an array.
-pub fn texts_of<'v, 't>(alloc: Global, values: &'v [Value<'t>]) -> Result<Vec<&'v str>, Miss>
+pub fn texts_of<'v, 't>(alloc: Global, values: &'v [Value<'t>]) -> Result<Vec<&'v str>, Miss<Shape>>
     ensures { Gives (λ v. map (λ s. s.now) v.items) result (each as_str (map view values.now)) }
 {
     let mut texts = Vec::new(alloc);
@@ -159,7 +162,7 @@ pub fn texts_of<'v, 't>(alloc: Global, values: &'v [Value<'t>]) -> Result<Vec<&'
 }
 
 /// The texts of an array, in memory of their own.
-pub fn owned_texts(alloc: Global, values: &[Value<'_>]) -> Result<Vec<String>, Miss>
+pub fn owned_texts(alloc: Global, values: &[Value<'_>]) -> Result<Vec<String>, Miss<Shape>>
     ensures { Gives (λ v. map string_bytes v.items) result (each as_str (map view values.now)) }
 {
     let mut texts = Vec::new(alloc);
@@ -176,7 +179,7 @@ pub fn texts_in<'v, 't>(
     alloc: Global,
     value: &'v Value<'t>,
     name: &str,
-) -> Result<Vec<&'v str>, Miss>
+) -> Result<Vec<&'v str>, Miss<Shape>>
     ensures { Gives (λ v. map (λ s. s.now) v.items) result (texts_in name.now (view value.now)) }
 {
     let list = list_or_none(value, name)?;

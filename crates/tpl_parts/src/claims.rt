@@ -11,17 +11,18 @@ use crate::named::{NamedClaim, NamedGiven, NamedProperty};
 use json::Value;
 use std::alloc::Global;
 use tpl_json::{
-    Miss, bool_in, finals_of, find, has_only, list_of, list_or_none, member_in, text_in, text_of,
+    Miss, Shape, bool_in, finals_of, find, has_only, list_of, list_or_none, member_in, text_in,
+    text_of,
 };
 use tpl_words::Finals;
 
 #[tactic(auto, unfolding(crate::specs::Claims::input_at))]
-fn input_of<'v, 't>(value: &'v Value<'t>) -> Result<NamedGiven<'v>, Miss>
+fn input_of<'v, 't>(value: &'v Value<'t>) -> Result<NamedGiven<'v>, Miss<Shape>>
     ensures gives { Gives given_of result (input_at (view value.now)) }
     ensures shape { IfErr result IsShape }
 {
     if !has_only(value, &["input", "is"]) {
-        return Err(Miss::Shape);
+        return Err(Miss::Wrong(Shape));
     }
     let name = text_in(value, "input")?;
     let truth = bool_in(value, "is")?;
@@ -29,19 +30,19 @@ fn input_of<'v, 't>(value: &'v Value<'t>) -> Result<NamedGiven<'v>, Miss>
 }
 
 #[tactic(auto, unfolding(crate::specs::Claims::quiet_at))]
-fn quiet_of<'v, 't>(value: &'v Value<'t>) -> Result<NamedGiven<'v>, Miss>
+fn quiet_of<'v, 't>(value: &'v Value<'t>) -> Result<NamedGiven<'v>, Miss<Shape>>
     ensures gives { Gives given_of result (quiet_at (view value.now)) }
     ensures shape { IfErr result IsShape }
 {
     if !has_only(value, &["quiet"]) {
-        return Err(Miss::Shape);
+        return Err(Miss::Wrong(Shape));
     }
     let name = text_in(value, "quiet")?;
     Ok(NamedGiven::Quiet(name))
 }
 
 #[tactic(auto, unfolding(crate::specs::Claims::given_at))]
-fn given_of<'v, 't>(value: &'v Value<'t>) -> Result<NamedGiven<'v>, Miss>
+fn given_of<'v, 't>(value: &'v Value<'t>) -> Result<NamedGiven<'v>, Miss<Shape>>
     ensures gives { Gives given_of result (given_at (view value.now)) }
     ensures shape { IfErr result IsShape }
 {
@@ -51,7 +52,10 @@ fn given_of<'v, 't>(value: &'v Value<'t>) -> Result<NamedGiven<'v>, Miss>
     quiet_of(value)
 }
 
-fn givens_of<'v, 't>(alloc: Global, values: &'v [Value<'t>]) -> Result<Vec<NamedGiven<'v>>, Miss>
+fn givens_of<'v, 't>(
+    alloc: Global,
+    values: &'v [Value<'t>],
+) -> Result<Vec<NamedGiven<'v>>, Miss<Shape>>
     ensures { Gives (λ v. map given_of v.items) result (each given_at (map view values.now)) }
 {
     let mut given = Vec::new(alloc);
@@ -63,23 +67,23 @@ fn givens_of<'v, 't>(alloc: Global, values: &'v [Value<'t>]) -> Result<Vec<Named
 }
 
 #[tactic(auto, unfolding(crate::specs::Claims::some_finals))]
-fn some_finals(values: &[Value<'_>]) -> Result<Finals, Miss>
+fn some_finals(values: &[Value<'_>]) -> Result<Finals, Miss<Shape>>
     ensures gives { Gives (λ f. f) result (some_finals (map view values.now)) }
     ensures shape { IfErr result IsShape }
 {
     match values {
-        [] => Err(Miss::Shape),
+        [] => Err(Miss::Wrong(Shape)),
         [_, ..] => finals_of(values),
     }
 }
 
 #[tactic(auto, unfolding(crate::specs::Claims::final_claim))]
-fn final_claim<'v, 't>(value: &'v Value<'t>) -> Result<NamedProperty<'v>, Miss>
+fn final_claim<'v, 't>(value: &'v Value<'t>) -> Result<NamedProperty<'v>, Miss<Shape>>
     ensures gives { Gives property_of result (final_claim (view value.now)) }
     ensures shape { IfErr result IsShape }
 {
     if !has_only(value, &["given", "final", "in"]) {
-        return Err(Miss::Shape);
+        return Err(Miss::Wrong(Shape));
     }
     let task = text_in(value, "final")?;
     let list = member_in(value, "in")?;
@@ -88,7 +92,7 @@ fn final_claim<'v, 't>(value: &'v Value<'t>) -> Result<NamedProperty<'v>, Miss>
 }
 
 #[tactic(auto, unfolding(crate::specs::Claims::two_texts))]
-fn two_texts<'v, 't>(values: &'v [Value<'t>]) -> Result<(&'v str, &'v str), Miss>
+fn two_texts<'v, 't>(values: &'v [Value<'t>]) -> Result<(&'v str, &'v str), Miss<Shape>>
     ensures gives { Gives (λ p. (p.0.now, p.1.now)) result (two_texts (map view values.now)) }
     ensures shape { IfErr result IsShape }
 {
@@ -98,17 +102,17 @@ fn two_texts<'v, 't>(values: &'v [Value<'t>]) -> Result<(&'v str, &'v str), Miss
             let second = text_of(second)?;
             Ok((first, second))
         }
-        _ => Err(Miss::Shape),
+        _ => Err(Miss::Wrong(Shape)),
     }
 }
 
 #[tactic(auto, unfolding(crate::specs::Claims::after_claim))]
-fn after_claim<'v, 't>(value: &'v Value<'t>) -> Result<NamedProperty<'v>, Miss>
+fn after_claim<'v, 't>(value: &'v Value<'t>) -> Result<NamedProperty<'v>, Miss<Shape>>
     ensures gives { Gives property_of result (after_claim (view value.now)) }
     ensures shape { IfErr result IsShape }
 {
     if !has_only(value, &["given", "after"]) {
-        return Err(Miss::Shape);
+        return Err(Miss::Wrong(Shape));
     }
     let list = member_in(value, "after")?;
     let (first, second) = two_texts(list_of(list)?)?;
@@ -116,36 +120,36 @@ fn after_claim<'v, 't>(value: &'v Value<'t>) -> Result<NamedProperty<'v>, Miss>
 }
 
 #[tactic(auto, unfolding(crate::specs::Claims::observed_claim))]
-fn observed_claim<'v, 't>(value: &'v Value<'t>) -> Result<NamedProperty<'v>, Miss>
+fn observed_claim<'v, 't>(value: &'v Value<'t>) -> Result<NamedProperty<'v>, Miss<Shape>>
     ensures gives { Gives property_of result (observed_claim (view value.now)) }
     ensures shape { IfErr result IsShape }
 {
     if !has_only(value, &["given", "observed"]) {
-        return Err(Miss::Shape);
+        return Err(Miss::Wrong(Shape));
     }
     let task = text_in(value, "observed")?;
     Ok(NamedProperty::Observed(task))
 }
 
 #[tactic(auto, unfolding(crate::specs::Claims::never_claim))]
-fn never_claim<'v, 't>(value: &'v Value<'t>) -> Result<NamedProperty<'v>, Miss>
+fn never_claim<'v, 't>(value: &'v Value<'t>) -> Result<NamedProperty<'v>, Miss<Shape>>
     ensures gives { Gives property_of result (never_claim (view value.now)) }
     ensures shape { IfErr result IsShape }
 {
     if !has_only(value, &["given", "never"]) {
-        return Err(Miss::Shape);
+        return Err(Miss::Wrong(Shape));
     }
     let task = text_in(value, "never")?;
     Ok(NamedProperty::Never(task))
 }
 
 #[tactic(auto, unfolding(crate::specs::Claims::excludes_claim))]
-fn excludes_claim<'v, 't>(value: &'v Value<'t>) -> Result<NamedProperty<'v>, Miss>
+fn excludes_claim<'v, 't>(value: &'v Value<'t>) -> Result<NamedProperty<'v>, Miss<Shape>>
     ensures gives { Gives property_of result (excludes_claim (view value.now)) }
     ensures shape { IfErr result IsShape }
 {
     if !has_only(value, &["given", "excludes"]) {
-        return Err(Miss::Shape);
+        return Err(Miss::Wrong(Shape));
     }
     let list = member_in(value, "excludes")?;
     let (first, second) = two_texts(list_of(list)?)?;
@@ -153,7 +157,7 @@ fn excludes_claim<'v, 't>(value: &'v Value<'t>) -> Result<NamedProperty<'v>, Mis
 }
 
 #[tactic(auto, unfolding(crate::specs::Claims::property_at))]
-fn property_of<'v, 't>(value: &'v Value<'t>) -> Result<NamedProperty<'v>, Miss>
+fn property_of<'v, 't>(value: &'v Value<'t>) -> Result<NamedProperty<'v>, Miss<Shape>>
     ensures gives { Gives property_of result (property_at (view value.now)) }
     ensures shape { IfErr result IsShape }
 {
@@ -174,7 +178,7 @@ fn property_of<'v, 't>(value: &'v Value<'t>) -> Result<NamedProperty<'v>, Miss>
 
 /// A claim with names. Errors: a wrong shape; out of memory.
 #[tactic(auto, unfolding(crate::specs::Claims::claim_at))]
-pub fn claim_of<'v, 't>(alloc: Global, value: &'v Value<'t>) -> Result<NamedClaim<'v>, Miss>
+pub fn claim_of<'v, 't>(alloc: Global, value: &'v Value<'t>) -> Result<NamedClaim<'v>, Miss<Shape>>
     ensures { Gives claim_of result (claim_at (view value.now)) }
 {
     let body = property_of(value)?;

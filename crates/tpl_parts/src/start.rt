@@ -16,7 +16,7 @@ use crate::named::NamedStart;
 use json::Value;
 use std::alloc::Global;
 use std::collections::BTreeMap;
-use tpl_json::{Miss, find, has_only, texts_in};
+use tpl_json::{Miss, Shape, find, has_only, texts_in};
 
 fn are_all(truths: &BTreeMap<&str, bool>) -> bool
     ensures { result ≡ list_all (λ b. b) (values truths.now) }
@@ -25,7 +25,7 @@ fn are_all(truths: &BTreeMap<&str, bool>) -> bool
 }
 
 /// Whether the members are all true or false; of several of one name the last counts.
-fn all_truths(alloc: Global, members: &[(&str, Value<'_>)]) -> Result<bool, Miss>
+fn all_truths(alloc: Global, members: &[(&str, Value<'_>)]) -> Result<bool, Miss<Shape>>
     ensures { Gives (λ b. b) result (Some (all_truths
         (members_from (members_view members.now) no_members))) }
 {
@@ -38,7 +38,7 @@ fn all_truths(alloc: Global, members: &[(&str, Value<'_>)]) -> Result<bool, Miss
 
 /// Whether the value is an object whose members are all true or false.
 #[tactic(auto, unfolding(crate::specs::Start::has_truths))]
-fn has_truths(alloc: Global, value: &Value<'_>) -> Result<bool, Miss>
+fn has_truths(alloc: Global, value: &Value<'_>) -> Result<bool, Miss<Shape>>
     ensures { Gives (λ b. b) result (Some (has_truths (view value.now))) }
 {
     match value {
@@ -52,7 +52,7 @@ fn truths_or_none<'v, 't>(
     alloc: Global,
     value: &'v Value<'t>,
     name: &str,
-) -> Result<Option<&'v Value<'t>>, Miss>
+) -> Result<Option<&'v Value<'t>>, Miss<Shape>>
     ensures { Gives (λ o. option_map (λ v. view v.now) o) result
         (truths_or_none (get name.now (view value.now))) }
 {
@@ -62,7 +62,7 @@ fn truths_or_none<'v, 't>(
             if has_truths(alloc, member)? {
                 Ok(Some(member))
             } else {
-                Err(Miss::Shape)
+                Err(Miss::Wrong(Shape))
             }
         }
     }
@@ -70,11 +70,11 @@ fn truths_or_none<'v, 't>(
 
 /// Where a run starts, with names.
 #[tactic(auto, unfolding(crate::specs::Start::start_at))]
-fn start_of<'v, 't>(alloc: Global, value: &'v Value<'t>) -> Result<NamedStart<'v, 't>, Miss>
+fn start_of<'v, 't>(alloc: Global, value: &'v Value<'t>) -> Result<NamedStart<'v, 't>, Miss<Shape>>
     ensures { Gives start_of result (start_at (view value.now)) }
 {
     if !has_only(value, &["inputs", "request", "fail"]) {
-        return Err(Miss::Shape);
+        return Err(Miss::Wrong(Shape));
     }
     let inputs = truths_or_none(alloc, value, "inputs")?;
     let request = texts_in(alloc, value, "request")?;
@@ -91,7 +91,7 @@ fn start_of<'v, 't>(alloc: Global, value: &'v Value<'t>) -> Result<NamedStart<'v
 pub fn start_or_none<'v, 't>(
     alloc: Global,
     value: Option<&'v Value<'t>>,
-) -> Result<Option<NamedStart<'v, 't>>, Miss>
+) -> Result<Option<NamedStart<'v, 't>>, Miss<Shape>>
     ensures { Gives (λ o. option_map start_of o) result
         (start_or_none (option_map (λ v. view v.now) value.entry)) }
 {

@@ -10,33 +10,33 @@ ghost use Rattle.tpl_parts.specs.Statements.{body_of, word_at, name_at, throw_at
 use json::Value;
 use std::alloc::Global;
 use tpl_graph::{DraftBody, DraftStmt};
-use tpl_json::{Miss, bool_of, final_of, find, has_only, list_of, member_in, text_in};
+use tpl_json::{Miss, Shape, bool_of, final_of, find, has_only, list_of, member_in, text_in};
 
 #[tactic(auto, unfolding(crate::specs::Statements::word_at))]
-fn word_of(word: &str) -> Result<DraftStmt, Miss>
+fn word_of(word: &str) -> Result<DraftStmt, Miss<Shape>>
     ensures gives { Gives line_of result (word_at word.now) }
     ensures shape { IfErr result IsShape }
 {
     match word {
         "return" => Ok(DraftStmt::Return),
         "observe" => Ok(DraftStmt::Observe),
-        _ => Err(Miss::Shape),
+        _ => Err(Miss::Wrong(Shape)),
     }
 }
 
 #[tactic(auto, unfolding(crate::specs::Statements::name_at))]
-fn name_of(alloc: Global, value: &Value<'_>, member: &str) -> Result<String, Miss>
+fn name_of(alloc: Global, value: &Value<'_>, member: &str) -> Result<String, Miss<Shape>>
     ensures { Gives string_bytes result (name_at member.now (view value.now)) }
 {
     if !has_only(value, &[member]) {
-        return Err(Miss::Shape);
+        return Err(Miss::Wrong(Shape));
     }
     let name = text_in(value, member)?;
     Ok(String::from_str(alloc, name)?)
 }
 
 #[tactic(auto, unfolding(crate::specs::Statements::throw_at))]
-fn throw_of(alloc: Global, value: &Value<'_>) -> Result<DraftStmt, Miss>
+fn throw_of(alloc: Global, value: &Value<'_>) -> Result<DraftStmt, Miss<Shape>>
     ensures { Gives line_of result (throw_at (view value.now)) }
 {
     let name = name_of(alloc, value, "throw")?;
@@ -44,7 +44,7 @@ fn throw_of(alloc: Global, value: &Value<'_>) -> Result<DraftStmt, Miss>
 }
 
 #[tactic(auto, unfolding(crate::specs::Statements::check_at))]
-fn check_of(alloc: Global, value: &Value<'_>) -> Result<DraftStmt, Miss>
+fn check_of(alloc: Global, value: &Value<'_>) -> Result<DraftStmt, Miss<Shape>>
     ensures { Gives line_of result (check_at (view value.now)) }
 {
     let name = name_of(alloc, value, "check")?;
@@ -52,7 +52,7 @@ fn check_of(alloc: Global, value: &Value<'_>) -> Result<DraftStmt, Miss>
 }
 
 #[tactic(auto, unfolding(crate::specs::Statements::cancel_at))]
-fn cancel_of(alloc: Global, value: &Value<'_>) -> Result<DraftStmt, Miss>
+fn cancel_of(alloc: Global, value: &Value<'_>) -> Result<DraftStmt, Miss<Shape>>
     ensures { Gives line_of result (cancel_at (view value.now)) }
 {
     let name = name_of(alloc, value, "cancel")?;
@@ -60,7 +60,7 @@ fn cancel_of(alloc: Global, value: &Value<'_>) -> Result<DraftStmt, Miss>
 }
 
 #[tactic(auto, unfolding(crate::specs::Statements::start_at))]
-fn start_of(alloc: Global, value: &Value<'_>) -> Result<DraftStmt, Miss>
+fn start_of(alloc: Global, value: &Value<'_>) -> Result<DraftStmt, Miss<Shape>>
     ensures { Gives line_of result (start_at (view value.now)) }
 {
     let name = name_of(alloc, value, "start")?;
@@ -68,7 +68,7 @@ fn start_of(alloc: Global, value: &Value<'_>) -> Result<DraftStmt, Miss>
 }
 
 #[tactic(auto, unfolding(crate::specs::Statements::bool_or_false))]
-fn bool_or_false(value: &Value<'_>, name: &str) -> Result<bool, Miss>
+fn bool_or_false(value: &Value<'_>, name: &str) -> Result<bool, Miss<Shape>>
     ensures gives { Gives (λ b. b) result (bool_or_false (get name.now (view value.now))) }
     ensures shape { IfErr result IsShape }
 {
@@ -79,11 +79,11 @@ fn bool_or_false(value: &Value<'_>, name: &str) -> Result<bool, Miss>
 }
 
 #[tactic(auto, unfolding(crate::specs::Statements::work_at))]
-fn work_of(alloc: Global, value: &Value<'_>) -> Result<DraftStmt, Miss>
+fn work_of(alloc: Global, value: &Value<'_>) -> Result<DraftStmt, Miss<Shape>>
     ensures { Gives line_of result (work_at (view value.now)) }
 {
     if !has_only(value, &["work", "may_fail"]) {
-        return Err(Miss::Shape);
+        return Err(Miss::Wrong(Shape));
     }
     let site = text_in(value, "work")?;
     let may_fail = bool_or_false(value, "may_fail")?;
@@ -93,7 +93,7 @@ fn work_of(alloc: Global, value: &Value<'_>) -> Result<DraftStmt, Miss>
 
 /// Statements without lists of their own.
 #[tactic(auto, unfolding(crate::specs::Statements::simple_at))]
-fn simple_of(alloc: Global, value: &Value<'_>) -> Result<DraftStmt, Miss>
+fn simple_of(alloc: Global, value: &Value<'_>) -> Result<DraftStmt, Miss<Shape>>
     ensures { Gives line_of result (simple_at (view value.now)) }
 {
     if find(value, "throw").is_some() {
@@ -119,7 +119,7 @@ fn is_branch(value: &Value<'_>) -> bool
 }
 
 #[cycle(body)]
-fn first_of(alloc: Global, levels: u32, value: &Value<'_>) -> Result<DraftBody, Miss>
+fn first_of(alloc: Global, levels: u32, value: &Value<'_>) -> Result<DraftBody, Miss<Shape>>
     ensures { Gives (λ b. b) result (option_and_then (body_at levels)
         (get (codes "then") (view value.now))) }
 {
@@ -129,7 +129,7 @@ fn first_of(alloc: Global, levels: u32, value: &Value<'_>) -> Result<DraftBody, 
 
 #[cycle(body)]
 #[tactic(auto, unfolding(crate::specs::Statements::else_at))]
-fn second_of(alloc: Global, levels: u32, value: &Value<'_>) -> Result<DraftBody, Miss>
+fn second_of(alloc: Global, levels: u32, value: &Value<'_>) -> Result<DraftBody, Miss<Shape>>
     ensures { Gives (λ b. b) result (else_at (body_at levels)
         (get (codes "else") (view value.now))) }
 {
@@ -141,11 +141,11 @@ fn second_of(alloc: Global, levels: u32, value: &Value<'_>) -> Result<DraftBody,
 
 #[cycle(body)]
 #[tactic(auto, unfolding(crate::specs::Statements::if_at))]
-fn if_of(alloc: Global, levels: u32, value: &Value<'_>) -> Result<DraftStmt, Miss>
+fn if_of(alloc: Global, levels: u32, value: &Value<'_>) -> Result<DraftStmt, Miss<Shape>>
     ensures { Gives line_of result (if_at (body_at levels) (view value.now)) }
 {
     if !has_only(value, &["if", "then", "else"]) {
-        return Err(Miss::Shape);
+        return Err(Miss::Wrong(Shape));
     }
     let input = text_in(value, "if")?;
     let first = first_of(alloc, levels, value)?;
@@ -156,11 +156,11 @@ fn if_of(alloc: Global, levels: u32, value: &Value<'_>) -> Result<DraftStmt, Mis
 
 #[cycle(body)]
 #[tactic(auto, unfolding(crate::specs::Statements::when_at))]
-fn when_of(alloc: Global, levels: u32, value: &Value<'_>) -> Result<DraftStmt, Miss>
+fn when_of(alloc: Global, levels: u32, value: &Value<'_>) -> Result<DraftStmt, Miss<Shape>>
     ensures { Gives line_of result (when_at (body_at levels) (view value.now)) }
 {
     if !has_only(value, &["when", "then", "else"]) {
-        return Err(Miss::Shape);
+        return Err(Miss::Wrong(Shape));
     }
     let status = final_of(member_in(value, "when")?)?;
     let first = first_of(alloc, levels, value)?;
@@ -170,7 +170,7 @@ fn when_of(alloc: Global, levels: u32, value: &Value<'_>) -> Result<DraftStmt, M
 
 #[cycle(body)]
 #[tactic(auto, unfolding(crate::specs::Statements::branch_at))]
-fn branch_of(alloc: Global, levels: u32, value: &Value<'_>) -> Result<DraftStmt, Miss>
+fn branch_of(alloc: Global, levels: u32, value: &Value<'_>) -> Result<DraftStmt, Miss<Shape>>
     ensures { Gives line_of result (branch_at (body_at levels) (view value.now)) }
 {
     if find(value, "if").is_some() {
@@ -181,7 +181,7 @@ fn branch_of(alloc: Global, levels: u32, value: &Value<'_>) -> Result<DraftStmt,
 
 #[cycle(body)]
 #[tactic(auto, unfolding(crate::specs::Statements::statement_at, crate::specs::Statements::object_at))]
-fn statement_of(alloc: Global, levels: u32, value: &Value<'_>) -> Result<DraftStmt, Miss>
+fn statement_of(alloc: Global, levels: u32, value: &Value<'_>) -> Result<DraftStmt, Miss<Shape>>
     ensures { Gives line_of result (statement_at (body_at levels) (view value.now)) }
 {
     match value {
@@ -193,12 +193,16 @@ fn statement_of(alloc: Global, levels: u32, value: &Value<'_>) -> Result<DraftSt
                 simple_of(alloc, value)
             }
         }
-        _ => Err(Miss::Shape),
+        _ => Err(Miss::Wrong(Shape)),
     }
 }
 
 #[cycle(body)]
-fn statements_of(alloc: Global, levels: u32, values: &[Value<'_>]) -> Result<Vec<DraftStmt>, Miss>
+fn statements_of(
+    alloc: Global,
+    levels: u32,
+    values: &[Value<'_>],
+) -> Result<Vec<DraftStmt>, Miss<Shape>>
     ensures { Gives (λ v. map line_of v.items) result (each (statement_at (body_at levels))
         (map view values.now)) }
 {
@@ -212,7 +216,11 @@ fn statements_of(alloc: Global, levels: u32, values: &[Value<'_>]) -> Result<Vec
 
 #[cycle(body)]
 #[tactic(auto, unfolding(crate::specs::Statements::list_at), using(crate::proofs::Bodies::lines_of_all))]
-fn list_of_statements(alloc: Global, levels: u32, value: &Value<'_>) -> Result<DraftBody, Miss>
+fn list_of_statements(
+    alloc: Global,
+    levels: u32,
+    value: &Value<'_>,
+) -> Result<DraftBody, Miss<Shape>>
     ensures { Gives (λ b. b) result (list_at (body_at levels) (view value.now)) }
 {
     let list = list_of(value)?;
@@ -223,11 +231,15 @@ fn list_of_statements(alloc: Global, levels: u32, value: &Value<'_>) -> Result<D
 /// A list of statements, with lists in lists to this depth.
 #[cycle(body)]
 #[tactic(auto, using(crate::proofs::Bodies::levels))]
-pub(crate) fn body_of(alloc: Global, levels: u32, value: &Value<'_>) -> Result<DraftBody, Miss>
+pub(crate) fn body_of(
+    alloc: Global,
+    levels: u32,
+    value: &Value<'_>,
+) -> Result<DraftBody, Miss<Shape>>
     ensures { Gives (λ b. b) result (body_at levels (view value.now)) }
 {
     if levels == 0 {
-        return Err(Miss::Shape);
+        return Err(Miss::Wrong(Shape));
     }
     list_of_statements(alloc, levels - 1, value)
 }

@@ -13,23 +13,23 @@ use json::Value;
 use std::alloc::Global;
 use tpl_graph::{DraftKind, DraftTask, DraftToken, DraftWork};
 use tpl_json::{
-    Miss, find, has_only, list_of, list_or_none, member_in, owned_texts, text_in, text_of,
+    Miss, Shape, find, has_only, list_of, list_or_none, member_in, owned_texts, text_in, text_of,
 };
 use tpl_words::Options;
 
 #[tactic(auto, unfolding(crate::specs::Tasks::option_at))]
-fn option_of(value: &Value<'_>) -> Result<Options, Miss>
+fn option_of(value: &Value<'_>) -> Result<Options, Miss<Shape>>
     ensures gives { Gives (λ o. o) result (option_at (view value.now)) }
     ensures shape { IfErr result IsShape }
 {
     let word = text_of(value)?;
     match Options::from_word(word) {
-        None => Err(Miss::Shape),
+        None => Err(Miss::Wrong(Shape)),
         Some(options) => Ok(options),
     }
 }
 
-fn options_of(values: &[Value<'_>]) -> Result<Options, Miss>
+fn options_of(values: &[Value<'_>]) -> Result<Options, Miss<Shape>>
     ensures gives { Gives (λ o. o) result (options_at 0 (map view values.now)) }
     ensures shape { IfErr result IsShape }
 {
@@ -41,7 +41,7 @@ fn options_of(values: &[Value<'_>]) -> Result<Options, Miss>
 }
 
 #[tactic(auto, unfolding(crate::specs::Tasks::text_or_none))]
-fn text_or_none(alloc: Global, value: &Value<'_>, name: &str) -> Result<Option<String>, Miss>
+fn text_or_none(alloc: Global, value: &Value<'_>, name: &str) -> Result<Option<String>, Miss<Shape>>
     ensures { Gives (λ o. option_map string_bytes o) result
         (text_or_none (get name.now (view value.now))) }
 {
@@ -55,7 +55,7 @@ fn text_or_none(alloc: Global, value: &Value<'_>, name: &str) -> Result<Option<S
 }
 
 #[tactic(auto, unfolding(crate::specs::Tasks::work_at))]
-fn work_of(alloc: Global, value: &Value<'_>) -> Result<DraftWork, Miss>
+fn work_of(alloc: Global, value: &Value<'_>) -> Result<DraftWork, Miss<Shape>>
     ensures { Gives work_of result (work_at (view value.now)) }
 {
     let list = member_in(value, "body")?;
@@ -71,36 +71,36 @@ fn work_of(alloc: Global, value: &Value<'_>) -> Result<DraftWork, Miss>
 }
 
 #[tactic(auto, unfolding(crate::specs::Tasks::root_at))]
-fn root_of(alloc: Global, value: &Value<'_>) -> Result<DraftKind, Miss>
+fn root_of(alloc: Global, value: &Value<'_>) -> Result<DraftKind, Miss<Shape>>
     ensures { Gives kind_of result (root_at (view value.now)) }
 {
     if !has_only(value, &["name", "kind", "body", "token", "options"]) {
-        return Err(Miss::Shape);
+        return Err(Miss::Wrong(Shape));
     }
     let work = work_of(alloc, value)?;
     Ok(DraftKind::Root(work))
 }
 
 #[tactic(auto, unfolding(crate::specs::Tasks::child_at))]
-fn child_of(alloc: Global, value: &Value<'_>) -> Result<DraftKind, Miss>
+fn child_of(alloc: Global, value: &Value<'_>) -> Result<DraftKind, Miss<Shape>>
     ensures { Gives kind_of result (child_at (view value.now)) }
 {
     if !has_only(value, &["name", "kind", "body", "token", "options"]) {
-        return Err(Miss::Shape);
+        return Err(Miss::Wrong(Shape));
     }
     let work = work_of(alloc, value)?;
     Ok(DraftKind::Child(work))
 }
 
 #[tactic(auto, unfolding(crate::specs::Tasks::then_at))]
-fn then_of(alloc: Global, value: &Value<'_>) -> Result<DraftKind, Miss>
+fn then_of(alloc: Global, value: &Value<'_>) -> Result<DraftKind, Miss<Shape>>
     ensures { Gives kind_of result (then_at (view value.now)) }
 {
     if !has_only(
         value,
         &["name", "kind", "after", "body", "token", "options"],
     ) {
-        return Err(Miss::Shape);
+        return Err(Miss::Wrong(Shape));
     }
     let antecedent = text_in(value, "after")?;
     let work = work_of(alloc, value)?;
@@ -109,18 +109,18 @@ fn then_of(alloc: Global, value: &Value<'_>) -> Result<DraftKind, Miss>
 }
 
 #[tactic(auto, unfolding(crate::specs::Tasks::args_at))]
-fn args_of(alloc: Global, value: &Value<'_>) -> Result<Vec<String>, Miss>
+fn args_of(alloc: Global, value: &Value<'_>) -> Result<Vec<String>, Miss<Shape>>
     ensures { Gives (λ v. map string_bytes v.items) result (args_at (view value.now)) }
 {
     if !has_only(value, &["name", "kind", "of"]) {
-        return Err(Miss::Shape);
+        return Err(Miss::Wrong(Shape));
     }
     let list = member_in(value, "of")?;
     owned_texts(alloc, list_of(list)?)
 }
 
 #[tactic(auto, unfolding(crate::specs::Tasks::all_at))]
-fn all_of(alloc: Global, value: &Value<'_>) -> Result<DraftKind, Miss>
+fn all_of(alloc: Global, value: &Value<'_>) -> Result<DraftKind, Miss<Shape>>
     ensures { Gives kind_of result (all_at (view value.now)) }
 {
     let args = args_of(alloc, value)?;
@@ -128,7 +128,7 @@ fn all_of(alloc: Global, value: &Value<'_>) -> Result<DraftKind, Miss>
 }
 
 #[tactic(auto, unfolding(crate::specs::Tasks::any_at))]
-fn any_of(alloc: Global, value: &Value<'_>) -> Result<DraftKind, Miss>
+fn any_of(alloc: Global, value: &Value<'_>) -> Result<DraftKind, Miss<Shape>>
     ensures { Gives kind_of result (any_at (view value.now)) }
 {
     let args = args_of(alloc, value)?;
@@ -136,7 +136,7 @@ fn any_of(alloc: Global, value: &Value<'_>) -> Result<DraftKind, Miss>
 }
 
 #[tactic(auto, unfolding(crate::specs::Tasks::kind_at))]
-fn kind_of(alloc: Global, kind: &str, value: &Value<'_>) -> Result<DraftKind, Miss>
+fn kind_of(alloc: Global, kind: &str, value: &Value<'_>) -> Result<DraftKind, Miss<Shape>>
     ensures { Gives kind_of result (kind_at kind.now (view value.now)) }
 {
     match kind {
@@ -145,13 +145,13 @@ fn kind_of(alloc: Global, kind: &str, value: &Value<'_>) -> Result<DraftKind, Mi
         "then" => then_of(alloc, value),
         "all" => all_of(alloc, value),
         "any" => any_of(alloc, value),
-        _ => Err(Miss::Shape),
+        _ => Err(Miss::Wrong(Shape)),
     }
 }
 
 /// A task with names. Errors: a wrong shape, and bodies past 127 levels have one; out of memory.
 #[tactic(auto, unfolding(crate::specs::Tasks::task_at))]
-pub fn task_of(alloc: Global, value: &Value<'_>) -> Result<DraftTask, Miss>
+pub fn task_of(alloc: Global, value: &Value<'_>) -> Result<DraftTask, Miss<Shape>>
     ensures { Gives task_of result (task_at (view value.now)) }
 {
     let name = text_in(value, "name")?;
@@ -162,11 +162,11 @@ pub fn task_of(alloc: Global, value: &Value<'_>) -> Result<DraftTask, Miss>
 }
 
 #[tactic(auto, unfolding(crate::specs::Tasks::linked_at))]
-fn linked_of(alloc: Global, value: &Value<'_>) -> Result<DraftToken, Miss>
+fn linked_of(alloc: Global, value: &Value<'_>) -> Result<DraftToken, Miss<Shape>>
     ensures { Gives token_of result (linked_at (view value.now)) }
 {
     if !has_only(value, &["name", "linked"]) {
-        return Err(Miss::Shape);
+        return Err(Miss::Wrong(Shape));
     }
     let name = text_in(value, "name")?;
     let list = member_in(value, "linked")?;
@@ -179,7 +179,7 @@ fn linked_of(alloc: Global, value: &Value<'_>) -> Result<DraftToken, Miss>
 }
 
 #[tactic(auto, unfolding(crate::specs::Tasks::plain_at))]
-fn plain_of(alloc: Global, name: &str) -> Result<DraftToken, Miss>
+fn plain_of(alloc: Global, name: &str) -> Result<DraftToken, Miss<Shape>>
     ensures { Gives token_of result (Some (plain_at name.now)) }
 {
     let name = String::from_str(alloc, name)?;
@@ -189,7 +189,7 @@ fn plain_of(alloc: Global, name: &str) -> Result<DraftToken, Miss>
 /// A token: a name, or, where links are allowed, an object that links it to others. Errors: a wrong shape; out of
 /// memory.
 #[tactic(auto, unfolding(crate::specs::Tasks::token_at))]
-pub fn token_of(alloc: Global, links: bool, value: &Value<'_>) -> Result<DraftToken, Miss>
+pub fn token_of(alloc: Global, links: bool, value: &Value<'_>) -> Result<DraftToken, Miss<Shape>>
     ensures { Gives token_of result (token_at links (view value.now)) }
 {
     match value {
@@ -198,9 +198,9 @@ pub fn token_of(alloc: Global, links: bool, value: &Value<'_>) -> Result<DraftTo
             if links {
                 linked_of(alloc, value)
             } else {
-                Err(Miss::Shape)
+                Err(Miss::Wrong(Shape))
             }
         }
-        _ => Err(Miss::Shape),
+        _ => Err(Miss::Wrong(Shape)),
     }
 }

@@ -19,8 +19,8 @@ use Rattle.tpl_model.specs.Claims.{Claim}
 use Rattle.tpl_draft.specs.Named.{Names, Named}
 use Rattle.tpl_claims.specs.Fits.{IsGivenOf, TasksOf, have_bodies, given_twice}
 use Rattle.tpl_parts.specs.NamedClaims.{NamedGiven, GivenInput, GivenQuiet, NamedProperty, EndsIn, After, Observed, Never, Excludes, NamedClaim}
-use Rattle.tpl_reader.specs.declared.fault.Stop.{Stop}
-use Rattle.tpl_reader.specs.declared.fault.Stop.TheVariants as stop
+use Rattle.tpl_json.specs.declared.miss.Miss.{Miss}
+use Rattle.tpl_json.specs.declared.miss.Miss.TheVariants as miss
 use Rattle.tpl_reader.specs.declared.fault.ClaimFault.{ClaimFault}
 use Rattle.tpl_reader.specs.declared.fault.ClaimFault.TheVariants as faults
 use Rattle.tpl_reader.specs.Asked.{task_in, token_in, input_in, pair_in, given_in, property_in, IsClaimOf, IsAsked, IsWrongClaim, Refuses, IsUnknown}
@@ -31,9 +31,9 @@ unknown_given g s faults.Unknown h = rw h refl
 unknown_given g s faults.NoBody h = absurd h
 unknown_given g s faults.GivenTwice h = absurd h
 
-pub refuses_given : (g : Named) (s : NamedClaim) (e : Stop ClaimFault) → Refuses (IsUnknown (list_all (λ x. is_some (given_in g.names x)) s.given)) e → Refuses (IsWrongClaim g s) e
-refuses_given g s (stop.Fault f) h = unknown_given g s f h
-refuses_given g s stop.Memory h = tt
+pub refuses_given : (g : Named) (s : NamedClaim) (e : Miss ClaimFault) → Refuses (IsUnknown (list_all (λ x. is_some (given_in g.names x)) s.given)) e → Refuses (IsWrongClaim g s) e
+refuses_given g s (miss.Wrong f) h = unknown_given g s f h
+refuses_given g s miss.Memory h = tt
 
 pub named_claim : (n : Names) (s : NamedClaim) (given : List Given) (body : Property) → map (given_in n) s.given ≡ map (λ x. Some x) given → property_in n s.body ≡ Some body → IsClaimOf n s (record { given = given; body = body })
 named_claim n s given body e f = record { given = e; body = f }

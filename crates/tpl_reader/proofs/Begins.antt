@@ -12,8 +12,8 @@ use Rattle.tpl_draft.specs.Ids.{site_number}
 use Rattle.tpl_cert.specs.Naming.{number_of, AreNumbers}
 use Rattle.tpl_json.proofs.Arrays.{head_is, some_is, tail_is}
 use Rattle.tpl_cert.proofs.Names.{list_all_stops, number_below}
-use Rattle.tpl_reader.specs.declared.fault.Stop.{Stop}
-use Rattle.tpl_reader.specs.declared.fault.Stop.TheVariants as stop
+use Rattle.tpl_json.specs.declared.miss.Miss.{Miss}
+use Rattle.tpl_json.specs.declared.miss.Miss.TheVariants as miss
 use Rattle.tpl_reader.specs.declared.fault.StartFault.{StartFault}
 use Rattle.tpl_reader.specs.declared.fault.StartFault.TheVariants as faults
 use Rattle.tpl_reader.specs.Asked.{Refuses}
@@ -24,9 +24,9 @@ unknown_one p g xs i d faults.Unknown lt h = list_all_stops p g xs i d lt h
 unknown_one p g xs i d faults.Missing lt h = absurd h
 unknown_one p g xs i d faults.FailNot lt h = absurd h
 
-pub unknown_all : {X Y : Type 0} (p : Y → Bool) (g : X → Y) (xs : List X) (i : ℕ) (d : X) (e : Stop StartFault) → i < length xs → Refuses (IsUnknownName (p (g (get_or xs i d)))) e → Refuses (IsUnknownName (list_all p (map g xs))) e
-unknown_all p g xs i d (stop.Fault f) lt h = unknown_one p g xs i d f lt h
-unknown_all p g xs i d stop.Memory lt h = tt
+pub unknown_all : {X Y : Type 0} (p : Y → Bool) (g : X → Y) (xs : List X) (i : ℕ) (d : X) (e : Miss StartFault) → i < length xs → Refuses (IsUnknownName (p (g (get_or xs i d)))) e → Refuses (IsUnknownName (list_all p (map g xs))) e
+unknown_all p g xs i d (miss.Wrong f) lt h = unknown_one p g xs i d f lt h
+unknown_all p g xs i d miss.Memory lt h = tt
 
 -- the numbers of names are below their count
 pub sites_below : (names texts : List (List ℕ)) (sites : List SiteId) → AreNumbers names texts (map site_number sites) → All (λ (s : SiteId). s.0 < length names) sites

@@ -2,8 +2,8 @@
 use Rattle.std.proofs.Common.{◌≡◌, ℕ, zero, suc, ◌+◌, ◌-◌, ◌<◌, ◌≤◌, List, [], ◌∷◌, ◌++◌, length, get_or, take, map, Some, refl, ap, arith}
 use Rattle.std.specs.Prelude.{slice_get}
 use Rattle.std.proofs.lemmas.List.{map_more, take_all}
-use Rattle.tpl_reader.specs.declared.fault.Halt.{Halt}
-use Rattle.tpl_reader.specs.declared.fault.Halt.TheVariants as halt
+use Rattle.tpl_json.specs.declared.miss.Miss.{Miss}
+use Rattle.tpl_json.specs.declared.miss.Miss.TheVariants as miss
 use Rattle.tpl_json.specs.Grammar.{AllRead}
 use Rattle.tpl_reader.specs.Passes.{FirstWrong, Halts, IsHere}
 
@@ -42,6 +42,6 @@ first_wrong R W g es i n e xs f at lt all w =
     }
 
 -- the exit of a loop at the element
-pub halts_here : {X D A F : Type 0} (R : D → A → Type 0) (W : D → F → Type 0) (g : X → D) (es : List X) (i : ℕ) (e : X) (xs : List A) (h : Halt F) → i < length es → AllRead R (map g (take i es)) xs → IsHere W (g (get_or es i e)) (i + 1) h → Halts R W (map g es) h
-halts_here R W g es i e xs (halt.At n f) lt all here = first_wrong R W g es i n e xs f here.0 lt all here.1
-halts_here R W g es i e xs halt.Memory lt all here = tt
+pub halts_here : {X D A F : Type 0} (R : D → A → Type 0) (W : D → F → Type 0) (g : X → D) (es : List X) (i : ℕ) (e : X) (xs : List A) (h : Miss (ℕ × F)) → i < length es → AllRead R (map g (take i es)) xs → IsHere W (g (get_or es i e)) (i + 1) h → Halts R W (map g es) h
+halts_here R W g es i e xs (miss.Wrong (n, f)) lt all here = first_wrong R W g es i n e xs f here.0 lt all here.1
+halts_here R W g es i e xs miss.Memory lt all here = tt

@@ -3,8 +3,8 @@ use Rattle.std.proofs.Common.{List}
 use Rattle.serde_json.specs.Data.{Data}
 use Rattle.tpl_draft.specs.Draft.{Task}
 use Rattle.tpl_parts.specs.NamedClaims.{NamedClaim}
-use Rattle.tpl_reader.specs.declared.fault.Stop.{Stop}
-use Rattle.tpl_reader.specs.declared.fault.Stop.TheVariants as stop
+use Rattle.tpl_json.specs.declared.miss.Miss.{Miss}
+use Rattle.tpl_json.specs.declared.miss.Miss.TheVariants as miss
 use Rattle.tpl_reader.specs.declared.fault.Part.{Part}
 use Rattle.tpl_reader.specs.declared.fault.Part.TheVariants as part
 use Rattle.tpl_reader.specs.Top.{Members}
@@ -39,18 +39,18 @@ start_wrong d m ts cs (part.Task n) e t c h = absurd h
 start_wrong d m ts cs (part.Claim n) e t c h = absurd h
 start_wrong d m ts cs part.Start e t c h = (m, e, (ts, t), (cs, c), h)
 
-pub top_refused : (d : Data) (e : Stop Part) → Refuses (WrongTop d) e → Refuses (IsMisshapen d) e
-top_refused d (stop.Fault p) h = top_wrong d p h
-top_refused d stop.Memory h = tt
+pub top_refused : (d : Data) (e : Miss Part) → Refuses (WrongTop d) e → Refuses (IsMisshapen d) e
+top_refused d (miss.Wrong p) h = top_wrong d p h
+top_refused d miss.Memory h = tt
 
-pub task_refused : (d : Data) (m : Members) (e : Stop Part) → IsTop d m → Refuses (WrongTask m.tasks) e → Refuses (IsMisshapen d) e
-task_refused d m (stop.Fault p) t h = task_wrong d m p t h
-task_refused d m stop.Memory t h = tt
+pub task_refused : (d : Data) (m : Members) (e : Miss Part) → IsTop d m → Refuses (WrongTask m.tasks) e → Refuses (IsMisshapen d) e
+task_refused d m (miss.Wrong p) t h = task_wrong d m p t h
+task_refused d m miss.Memory t h = tt
 
-pub claim_refused : (d : Data) (m : Members) (ts : List Task) (e : Stop Part) → IsTop d m → AllRead IsTask m.tasks ts → Refuses (WrongClaim m.claims) e → Refuses (IsMisshapen d) e
-claim_refused d m ts (stop.Fault p) t a h = claim_wrong d m ts p t a h
-claim_refused d m ts stop.Memory t a h = tt
+pub claim_refused : (d : Data) (m : Members) (ts : List Task) (e : Miss Part) → IsTop d m → AllRead IsTask m.tasks ts → Refuses (WrongClaim m.claims) e → Refuses (IsMisshapen d) e
+claim_refused d m ts (miss.Wrong p) t a h = claim_wrong d m ts p t a h
+claim_refused d m ts miss.Memory t a h = tt
 
-pub start_refused : (d : Data) (m : Members) (ts : List Task) (cs : List NamedClaim) (e : Stop Part) → IsTop d m → AllRead IsTask m.tasks ts → AllRead IsClaim m.claims cs → Refuses (WrongStart m.start) e → Refuses (IsMisshapen d) e
-start_refused d m ts cs (stop.Fault p) t a c h = start_wrong d m ts cs p t a c h
-start_refused d m ts cs stop.Memory t a c h = tt
+pub start_refused : (d : Data) (m : Members) (ts : List Task) (cs : List NamedClaim) (e : Miss Part) → IsTop d m → AllRead IsTask m.tasks ts → AllRead IsClaim m.claims cs → Refuses (WrongStart m.start) e → Refuses (IsMisshapen d) e
+start_refused d m ts cs (miss.Wrong p) t a c h = start_wrong d m ts cs p t a c h
+start_refused d m ts cs miss.Memory t a c h = tt

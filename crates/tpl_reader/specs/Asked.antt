@@ -13,8 +13,8 @@ use Rattle.tpl_claims.specs.Fits.{have_bodies, given_twice, Fits}
 use Rattle.tpl_draft.specs.Named.{Names, Named}
 use Rattle.tpl_cert.specs.Naming.{number_of}
 use Rattle.tpl_parts.specs.NamedClaims.{NamedGiven, GivenInput, GivenQuiet, NamedProperty, EndsIn, After, Observed, Never, Excludes, NamedClaim}
-use Rattle.tpl_reader.specs.declared.fault.Stop.{Stop}
-use Rattle.tpl_reader.specs.declared.fault.Stop.TheVariants as stop
+use Rattle.tpl_json.specs.declared.miss.Miss.{Miss}
+use Rattle.tpl_json.specs.declared.miss.Miss.TheVariants as miss
 use Rattle.tpl_reader.specs.declared.fault.ClaimFault.{ClaimFault}
 use Rattle.tpl_reader.specs.declared.fault.ClaimFault.TheVariants as faults
 
@@ -65,11 +65,11 @@ IsWrongClaim g spelled faults.NoBody = (claim : Claim) × IsClaimOf g.names spel
 IsWrongClaim g spelled faults.GivenTwice = (claim : Claim) × IsClaimOf g.names spelled claim × (have_bodies g.graph claim.body ≡ true) × (given_twice claim.given ≡ true)
 
 -- the fault is one of these, unless memory ran out
-abbrev pub Refuses : {F : Type 0} → (F → Type 0) → Stop F → Type 0
-Refuses IsWrong (stop.Fault f) = IsWrong f
-Refuses IsWrong stop.Memory = Unit {0}
+abbrev pub Refuses : {F : Type 0} → (F → Type 0) → Miss F → Type 0
+Refuses IsWrong (miss.Wrong f) = IsWrong f
+Refuses IsWrong miss.Memory = Unit {0}
 
-abbrev pub Takes : {X F : Type 0} → Result X (Stop F) → (X → Type 0) → (F → Type 0) → Type 0
+abbrev pub Takes : {X F : Type 0} → Result X (Miss F) → (X → Type 0) → (F → Type 0) → Type 0
 Takes (Ok x) IsTaken IsWrong = IsTaken x
 Takes (Err e) IsTaken IsWrong = Refuses IsWrong e
 

@@ -6,10 +6,11 @@ ghost use Rattle.tpl_parts.specs.SeenClaims.{given_of, property_of, claim_of};
 ghost use Rattle.tpl_reader.specs.Asked.{task_in, token_in, input_in, given_in, pair_in, property_in, IsClaimOf, knows_claim, IsAsked, IsWrongClaim, Takes, IsUnknown};
 ghost use Rattle.tpl_reader.specs.Passes.{Passes, Here};
 
-use crate::fault::{ClaimFault, Halt, Stop};
+use crate::fault::ClaimFault;
 use std::alloc::Global;
 use tpl_claims::{Claim, Given, Property, given_twice, have_bodies};
 use tpl_graph::Graph;
+use tpl_json::Miss;
 use tpl_parts::{NamedClaim, NamedGiven, NamedProperty};
 use tpl_words::{InputId, TaskId, TokenId};
 
@@ -90,7 +91,7 @@ fn givens_in(
     alloc: Global,
     graph: &Graph,
     given: &[NamedGiven],
-) -> Result<Vec<Given>, Stop<ClaimFault>>
+) -> Result<Vec<Given>, Miss<ClaimFault>>
     ensures { Takes result (λ v. map (given_in graph.now.names) (map given_of given.now)
         ≡ map (λ x. Some x) v.items) (IsUnknown (list_all
         (λ x. is_some (given_in graph.now.names x)) (map given_of given.now))) }
@@ -98,28 +99,28 @@ fn givens_in(
     let mut found = Vec::new(alloc);
     for one in given {
         match given_in(graph, one) {
-            None => return Err(Stop::Fault(ClaimFault::Unknown)),
+            None => return Err(Miss::Wrong(ClaimFault::Unknown)),
             Some(one) => found.push(one)?,
         }
     }
     Ok(found)
 }
 
-fn claim_in(alloc: Global, graph: &Graph, claim: &NamedClaim) -> Result<Claim, Stop<ClaimFault>>
+fn claim_in(alloc: Global, graph: &Graph, claim: &NamedClaim) -> Result<Claim, Miss<ClaimFault>>
     ensures { Takes result (IsAsked graph.now (claim_of claim.now))
         (IsWrongClaim graph.now (claim_of claim.now)) }
 {
     graph.valid();
     let given = givens_in(alloc, graph, &claim.given)?;
     let body = match property_in(graph, &claim.body) {
-        None => return Err(Stop::Fault(ClaimFault::Unknown)),
+        None => return Err(Miss::Wrong(ClaimFault::Unknown)),
         Some(body) => body,
     };
     if !have_bodies(graph, body) {
-        return Err(Stop::Fault(ClaimFault::NoBody));
+        return Err(Miss::Wrong(ClaimFault::NoBody));
     }
     if given_twice(&given) {
-        return Err(Stop::Fault(ClaimFault::GivenTwice));
+        return Err(Miss::Wrong(ClaimFault::GivenTwice));
     }
     Ok(Claim::new(given, body))
 }
@@ -129,14 +130,14 @@ fn numbered_claim(
     graph: &Graph,
     number: usize,
     claim: &NamedClaim,
-) -> Result<Claim, Halt<ClaimFault>>
+) -> Result<Claim, Miss<(usize, ClaimFault)>>
     ensures { Here (IsAsked graph.now) (IsWrongClaim graph.now) (claim_of claim.now) number (λ c. c)
         result }
 {
     match claim_in(alloc, graph, claim) {
         Ok(claim) => Ok(claim),
-        Err(Stop::Fault(fault)) => Err(Halt::At(number, fault)),
-        Err(Stop::Memory) => Err(Halt::Memory),
+        Err(Miss::Wrong(fault)) => Err(Miss::Wrong((number, fault))),
+        Err(Miss::Memory) => Err(Miss::Memory),
     }
 }
 
@@ -145,7 +146,7 @@ pub(crate) fn claims_in(
     alloc: Global,
     graph: &Graph,
     claims: &[NamedClaim],
-) -> Result<Vec<Claim>, Halt<ClaimFault>>
+) -> Result<Vec<Claim>, Miss<(usize, ClaimFault)>>
     ensures { Passes (IsAsked graph.now) (IsWrongClaim graph.now) (map claim_of claims.now)
         (λ v. v.items) result }
 {

@@ -12,11 +12,11 @@ ghost use Rattle.tpl_reader.specs.Asked.{Takes};
 ghost use Rattle.tpl_reader.specs.Begin.{knows_members, truth_at, HasTruths, LacksTruth, may_fail, may_all_fail, IsStartOf, IsWrongStart, IsUnknownName};
 
 use crate::document::Start;
-use crate::fault::{StartFault, Stop};
+use crate::fault::StartFault;
 use json::Value;
 use std::alloc::Global;
 use tpl_graph::Graph;
-use tpl_json::bool_in;
+use tpl_json::{Miss, bool_in};
 use tpl_parts::NamedStart;
 use tpl_words::{InputId, Inputs, SiteId, TokenId};
 
@@ -69,19 +69,19 @@ fn values_in(graph: &Graph, inputs: Option<&Value<'_>>) -> Option<Inputs>
     Some(values)
 }
 
-fn token_in(graph: &Graph, name: &str) -> Result<TokenId, Stop<StartFault>>
+fn token_in(graph: &Graph, name: &str) -> Result<TokenId, Miss<StartFault>>
     ensures takes { Takes result (λ t. (is_declared graph.now.names.tokens name.now ≡ true)
         × (number_of graph.now.names.tokens name.now ≡ Some t.0))
         (IsUnknownName (is_declared graph.now.names.tokens name.now)) }
-    ensures unknown { IfErr result (λ e. e ≡ Stop.Fault StartFault.Unknown) }
+    ensures unknown { IfErr result (λ e. e ≡ Miss.Wrong StartFault.Unknown) }
 {
     match graph.token(name) {
-        None => Err(Stop::Fault(StartFault::Unknown)),
+        None => Err(Miss::Wrong(StartFault::Unknown)),
         Some(token) => Ok(token),
     }
 }
 
-fn tokens_in(alloc: Global, graph: &Graph, names: &[&str]) -> Result<Vec<TokenId>, Stop<StartFault>>
+fn tokens_in(alloc: Global, graph: &Graph, names: &[&str]) -> Result<Vec<TokenId>, Miss<StartFault>>
     ensures { Takes result (λ v. (are_declared graph.now.names.tokens (map (λ s. s.now) names.now)
         ≡ true) × AreNumbers graph.now.names.tokens (map (λ s. s.now) names.now)
         (map token_number v.items)) (IsUnknownName (are_declared graph.now.names.tokens
@@ -95,19 +95,19 @@ fn tokens_in(alloc: Global, graph: &Graph, names: &[&str]) -> Result<Vec<TokenId
     Ok(tokens)
 }
 
-fn site_in(graph: &Graph, name: &str) -> Result<SiteId, Stop<StartFault>>
+fn site_in(graph: &Graph, name: &str) -> Result<SiteId, Miss<StartFault>>
     ensures takes { Takes result (λ t. (is_declared graph.now.names.sites name.now ≡ true)
         × (number_of graph.now.names.sites name.now ≡ Some t.0))
         (IsUnknownName (is_declared graph.now.names.sites name.now)) }
-    ensures unknown { IfErr result (λ e. e ≡ Stop.Fault StartFault.Unknown) }
+    ensures unknown { IfErr result (λ e. e ≡ Miss.Wrong StartFault.Unknown) }
 {
     match graph.site(name) {
-        None => Err(Stop::Fault(StartFault::Unknown)),
+        None => Err(Miss::Wrong(StartFault::Unknown)),
         Some(site) => Ok(site),
     }
 }
 
-fn sites_in(alloc: Global, graph: &Graph, names: &[&str]) -> Result<Vec<SiteId>, Stop<StartFault>>
+fn sites_in(alloc: Global, graph: &Graph, names: &[&str]) -> Result<Vec<SiteId>, Miss<StartFault>>
     ensures { Takes result (λ v. (are_declared graph.now.names.sites (map (λ s. s.now) names.now)
         ≡ true) × AreNumbers graph.now.names.sites (map (λ s. s.now) names.now)
         (map site_number v.items)) (IsUnknownName (are_declared graph.now.names.sites
@@ -147,21 +147,21 @@ pub(crate) fn start_in(
     alloc: Global,
     graph: &Graph,
     start: &NamedStart,
-) -> Result<Start, Stop<StartFault>>
+) -> Result<Start, Miss<StartFault>>
     ensures { Takes result (λ s. IsStartOf graph.now (start_of start.now) (value_of s))
         (IsWrongStart graph.now (start_of start.now)) }
 {
     if !knows_members(graph, start.inputs) {
-        return Err(Stop::Fault(StartFault::Unknown));
+        return Err(Miss::Wrong(StartFault::Unknown));
     }
     let request = tokens_in(alloc, graph, &start.request)?;
     let fail = sites_in(alloc, graph, &start.fail)?;
     let inputs = match values_in(graph, start.inputs) {
-        None => return Err(Stop::Fault(StartFault::Missing)),
+        None => return Err(Miss::Wrong(StartFault::Missing)),
         Some(inputs) => inputs,
     };
     if !may_all_fail(graph, &fail) {
-        return Err(Stop::Fault(StartFault::FailNot));
+        return Err(Miss::Wrong(StartFault::FailNot));
     }
     Ok(Start {
         inputs,

@@ -1,14 +1,13 @@
 //! Why a document isn't read.
 
 ghost use Rattle.std.specs.Prelude.{◌≡◌};
-ghost use Rattle.tpl_reader.specs.declared.fault.Halt.TheVariants.{Memory as OutOfMemory};
-ghost use Rattle.tpl_reader.specs.declared.fault.Stop.TheVariants.{Memory as StopMemory};
 ghost use Rattle.tpl_reader.specs.declared.fault.ReadFault.TheVariants.{Memory as ReadMemory};
 
 use std::alloc::{AllocError, AllocFailed};
 use thiserror::Error;
 use tpl_cert::TreeFault;
 use tpl_graph::GraphFault;
+use tpl_json::Shape;
 
 /// A part of a document. Tasks and claims count from 1.
 #[derive(Clone, Copy, Debug, PartialEq, Eq, Error)]
@@ -86,53 +85,6 @@ pub enum ReadFault {
     /// An allocation was refused.
     #[error("out of memory")]
     Memory,
-}
-
-/// Why a pass over a list stopped.
-#[derive(Clone, Copy, Debug, PartialEq, Eq)]
-pub(crate) enum Halt<F> {
-    /// The element of this number, counted from 1, isn't read.
-    At(usize, F),
-    Memory,
-}
-
-impl<F: Drop> From<AllocError> for Halt<F> {
-    ghost from_gives = { λ _ e. e ≡ OutOfMemory };
-
-    fn from(_e: AllocError) -> Halt<F> {
-        Halt::Memory
-    }
-}
-
-impl<F: Drop, T: Drop> From<AllocFailed<T>> for Halt<F> {
-    ghost from_gives = { λ _ e. e ≡ OutOfMemory };
-
-    fn from(_e: AllocFailed<T>) -> Halt<F> {
-        Halt::Memory
-    }
-}
-
-/// Why one element isn't read.
-#[derive(Clone, Copy, Debug, PartialEq, Eq)]
-pub(crate) enum Stop<F> {
-    Fault(F),
-    Memory,
-}
-
-impl<F: Drop> From<AllocError> for Stop<F> {
-    ghost from_gives = { λ _ e. e ≡ StopMemory };
-
-    fn from(_e: AllocError) -> Stop<F> {
-        Stop::Memory
-    }
-}
-
-impl<F: Drop, T: Drop> From<AllocFailed<T>> for Stop<F> {
-    ghost from_gives = { λ _ e. e ≡ StopMemory };
-
-    fn from(_e: AllocFailed<T>) -> Stop<F> {
-        Stop::Memory
-    }
 }
 
 impl From<AllocError> for ReadFault {

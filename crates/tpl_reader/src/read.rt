@@ -19,7 +19,7 @@ ghost use Rattle.tpl_reader.specs.Document.{AreAsked, IsStarted, GraphFaults, Cl
 use crate::asked::claims_in;
 use crate::begin::start_in;
 use crate::document::{Document, Start};
-use crate::fault::{ClaimFault, Halt, ReadFault, Stop};
+use crate::fault::{ClaimFault, ReadFault};
 use crate::shape::{Shaped, shape_of};
 use crate::trees::trees_in;
 use json::{Scratch, Value};
@@ -27,7 +27,7 @@ use std::alloc::Global;
 use tpl_cert::{Certificate, Tree, TreeFault};
 use tpl_claims::Claim;
 use tpl_graph::{Draft, Graph, Why};
-use tpl_json::{NotRead, value_from};
+use tpl_json::{Miss, NotRead, value_from};
 use tpl_parts::{NamedClaim, NamedStart};
 
 /// The most bytes of a document (this program's own limit).
@@ -61,8 +61,8 @@ fn claims_for(alloc: Global, graph: &Graph, claims: &[NamedClaim]) -> Result<Vec
     }
     match claims_in(alloc, graph, claims) {
         Ok(claims) => Ok(claims),
-        Err(Halt::At(number, fault)) => Err(ReadFault::Claim(number, fault)),
-        Err(Halt::Memory) => Err(ReadFault::Memory),
+        Err(Miss::Wrong((number, fault))) => Err(ReadFault::Claim(number, fault)),
+        Err(Miss::Memory) => Err(ReadFault::Memory),
     }
 }
 
@@ -73,9 +73,9 @@ fn trees_for(alloc: Global, graph: &Graph, values: &[Value<'_>]) -> Result<Vec<T
 {
     match trees_in(alloc, graph, values) {
         Ok(trees) => Ok(trees),
-        Err(Halt::At(_, TreeFault::Memory)) => Err(ReadFault::Memory),
-        Err(Halt::At(number, fault)) => Err(ReadFault::Certificate(number, fault)),
-        Err(Halt::Memory) => Err(ReadFault::Memory),
+        Err(Miss::Wrong((_, TreeFault::Memory))) => Err(ReadFault::Memory),
+        Err(Miss::Wrong((number, fault))) => Err(ReadFault::Certificate(number, fault)),
+        Err(Miss::Memory) => Err(ReadFault::Memory),
     }
 }
 
@@ -92,8 +92,8 @@ fn start_for(
         None => Ok(None),
         Some(start) => match start_in(alloc, graph, start) {
             Ok(start) => Ok(Some(start)),
-            Err(Stop::Fault(fault)) => Err(ReadFault::Start(fault)),
-            Err(Stop::Memory) => Err(ReadFault::Memory),
+            Err(Miss::Wrong(fault)) => Err(ReadFault::Start(fault)),
+            Err(Miss::Memory) => Err(ReadFault::Memory),
         },
     }
 }
@@ -138,7 +138,7 @@ pub fn read_document(alloc: Global, bytes: &[u8]) -> Result<Document, ReadFault>
     };
     match shape_of(alloc, &value) {
         Ok(shaped) => document_of(alloc, shaped),
-        Err(Stop::Fault(part)) => Err(ReadFault::Shape(part)),
-        Err(Stop::Memory) => Err(ReadFault::Memory),
+        Err(Miss::Wrong(part)) => Err(ReadFault::Shape(part)),
+        Err(Miss::Memory) => Err(ReadFault::Memory),
     }
 }

@@ -17,12 +17,12 @@ ghost use Rattle.tpl_json.specs.Grammar.{AllRead};
 ghost use Rattle.tpl_reader.specs.Asked.{Takes};
 ghost use Rattle.tpl_reader.specs.Document.{WrongTop, WrongTask, WrongClaim, WrongStart, IsSpelled, IsMisshapen};
 
-use crate::fault::{Halt, Part, Stop};
+use crate::fault::Part;
 use crate::top::{Members, claims_of, members_of, tasks_of};
 use json::Value;
 use std::alloc::Global;
 use tpl_graph::{Draft, DraftTask};
-use tpl_json::Miss;
+use tpl_json::{Miss, Shape};
 use tpl_parts::{NamedClaim, NamedStart, start_or_none};
 
 /// A document with names.
@@ -35,54 +35,54 @@ pub(crate) struct Shaped<'v, 't> {
     pub(crate) start: Option<NamedStart<'v, 't>>,
 }
 
-fn top_part<'v, 't>(alloc: Global, value: &'v Value<'t>) -> Result<Members<'v, 't>, Stop<Part>>
+fn top_part<'v, 't>(alloc: Global, value: &'v Value<'t>) -> Result<Members<'v, 't>, Miss<Part>>
     ensures { Takes result (λ m. IsTop (view value.now) (members_of m))
         (WrongTop (view value.now)) }
 {
     match members_of(alloc, value) {
         Ok(members) => Ok(members),
-        Err(Miss::Shape) => Err(Stop::Fault(Part::Top)),
-        Err(Miss::Memory) => Err(Stop::Memory),
+        Err(Miss::Wrong(Shape)) => Err(Miss::Wrong(Part::Top)),
+        Err(Miss::Memory) => Err(Miss::Memory),
     }
 }
 
-fn task_part(alloc: Global, values: &[Value<'_>]) -> Result<Vec<DraftTask>, Stop<Part>>
+fn task_part(alloc: Global, values: &[Value<'_>]) -> Result<Vec<DraftTask>, Miss<Part>>
     requires { AreShallow (map view values.now) }
     ensures { Takes result (λ v. AllRead IsTask (map view values.now) (map task_of v.items))
         (WrongTask (map view values.now)) }
 {
     match tasks_of(alloc, values) {
         Ok(tasks) => Ok(tasks),
-        Err(Halt::At(number, _)) => Err(Stop::Fault(Part::Task(number))),
-        Err(Halt::Memory) => Err(Stop::Memory),
+        Err(Miss::Wrong((number, _))) => Err(Miss::Wrong(Part::Task(number))),
+        Err(Miss::Memory) => Err(Miss::Memory),
     }
 }
 
 fn claim_part<'v, 't>(
     alloc: Global,
     values: &'v [Value<'t>],
-) -> Result<Vec<NamedClaim<'v>>, Stop<Part>>
+) -> Result<Vec<NamedClaim<'v>>, Miss<Part>>
     ensures { Takes result (λ v. AllRead IsClaim (map view values.now) (map claim_of v.items))
         (WrongClaim (map view values.now)) }
 {
     match claims_of(alloc, values) {
         Ok(claims) => Ok(claims),
-        Err(Halt::At(number, _)) => Err(Stop::Fault(Part::Claim(number))),
-        Err(Halt::Memory) => Err(Stop::Memory),
+        Err(Miss::Wrong((number, _))) => Err(Miss::Wrong(Part::Claim(number))),
+        Err(Miss::Memory) => Err(Miss::Memory),
     }
 }
 
 fn start_part<'v, 't>(
     alloc: Global,
     value: Option<&'v Value<'t>>,
-) -> Result<Option<NamedStart<'v, 't>>, Stop<Part>>
+) -> Result<Option<NamedStart<'v, 't>>, Miss<Part>>
     ensures { Takes result (λ o. IsStartIfAny (option_map (λ v. view v.now) value.entry)
         (option_map start_of o)) (WrongStart (option_map (λ v. view v.now) value.entry)) }
 {
     match start_or_none(alloc, value) {
         Ok(start) => Ok(start),
-        Err(Miss::Shape) => Err(Stop::Fault(Part::Start)),
-        Err(Miss::Memory) => Err(Stop::Memory),
+        Err(Miss::Wrong(Shape)) => Err(Miss::Wrong(Part::Start)),
+        Err(Miss::Memory) => Err(Miss::Memory),
     }
 }
 
@@ -90,7 +90,7 @@ fn start_part<'v, 't>(
 pub(crate) fn shape_of<'v, 't>(
     alloc: Global,
     value: &'v Value<'t>,
-) -> Result<Shaped<'v, 't>, Stop<Part>>
+) -> Result<Shaped<'v, 't>, Miss<Part>>
     requires { depth (view value.now) ≤ 127 }
     ensures { Takes result (λ s. IsSpelled (view value.now) (spelled_of s))
         (IsMisshapen (view value.now)) }

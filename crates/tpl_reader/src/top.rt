@@ -15,12 +15,11 @@ ghost use Rattle.tpl_parts.specs.TaskGrammar.{IsTask, IsNoTask, AreShallow};
 ghost use Rattle.tpl_parts.specs.ClaimGrammar.{IsClaim, IsNoClaim};
 ghost use Rattle.tpl_reader.specs.Passes.{Passes, Here};
 
-use crate::fault::Halt;
 use json::Value;
 use std::alloc::Global;
 use tpl_graph::{DraftTask, DraftToken};
 use tpl_json::{
-    Miss, find, has_only, list_of, list_or_none, member_in, number_of, owned_texts, text_of,
+    Miss, Shape, find, has_only, list_of, list_or_none, member_in, number_of, owned_texts, text_of,
 };
 use tpl_parts::{NamedClaim, claim_of, task_of, token_of};
 
@@ -37,7 +36,7 @@ pub(crate) struct Members<'v, 't> {
 }
 
 #[tactic(auto, unfolding(crate::specs::Top::links_in))]
-fn links_in(version: u64) -> Result<bool, Miss>
+fn links_in(version: u64) -> Result<bool, Miss<Shape>>
     ensures gives { Gives (λ b. b) result (links_in version) }
     ensures shape { IfErr result IsShape }
 {
@@ -47,12 +46,12 @@ fn links_in(version: u64) -> Result<bool, Miss>
     if version == 2 {
         return Ok(true);
     }
-    Err(Miss::Shape)
+    Err(Miss::Wrong(Shape))
 }
 
 /// The version: whether tokens may be linked.
 #[tactic(auto, unfolding(crate::specs::Top::version_at))]
-fn version_of(value: &Value<'_>) -> Result<bool, Miss>
+fn version_of(value: &Value<'_>) -> Result<bool, Miss<Shape>>
     ensures gives { Gives (λ b. b) result (version_at (view value.now)) }
     ensures shape { IfErr result IsShape }
 {
@@ -60,7 +59,11 @@ fn version_of(value: &Value<'_>) -> Result<bool, Miss>
     links_in(version)
 }
 
-fn tokens_of(alloc: Global, links: bool, values: &[Value<'_>]) -> Result<Vec<DraftToken>, Miss>
+fn tokens_of(
+    alloc: Global,
+    links: bool,
+    values: &[Value<'_>],
+) -> Result<Vec<DraftToken>, Miss<Shape>>
     ensures { Gives (λ v. map token_of v.items) result (each (token_at links)
         (map view values.now)) }
 {
@@ -73,7 +76,7 @@ fn tokens_of(alloc: Global, links: bool, values: &[Value<'_>]) -> Result<Vec<Dra
 }
 
 #[tactic(auto, unfolding(crate::specs::Top::text_or_empty))]
-fn text_or_empty<'v, 't>(value: &'v Value<'t>, name: &str) -> Result<&'v str, Miss>
+fn text_or_empty<'v, 't>(value: &'v Value<'t>, name: &str) -> Result<&'v str, Miss<Shape>>
     ensures gives { Gives (λ s. s.now) result (text_or_empty (get name.now (view value.now))) }
     ensures shape { IfErr result IsShape }
 {
@@ -88,7 +91,7 @@ fn text_or_empty<'v, 't>(value: &'v Value<'t>, name: &str) -> Result<&'v str, Mi
 pub(crate) fn members_of<'v, 't>(
     alloc: Global,
     value: &'v Value<'t>,
-) -> Result<Members<'v, 't>, Miss>
+) -> Result<Members<'v, 't>, Miss<Shape>>
     ensures { Gives members_of result (top_at (view value.now)) }
 {
     if !has_only(
@@ -104,7 +107,7 @@ pub(crate) fn members_of<'v, 't>(
             "start",
         ],
     ) {
-        return Err(Miss::Shape);
+        return Err(Miss::Wrong(Shape));
     }
     let links = version_of(value)?;
     let names = list_or_none(value, "inputs")?;
@@ -127,19 +130,26 @@ pub(crate) fn members_of<'v, 't>(
     })
 }
 
-fn numbered_task(alloc: Global, number: usize, value: &Value<'_>) -> Result<DraftTask, Halt<()>>
+fn numbered_task(
+    alloc: Global,
+    number: usize,
+    value: &Value<'_>,
+) -> Result<DraftTask, Miss<(usize, ())>>
     requires { depth (view value.now) ≤ 127 }
     ensures { Here IsTask IsNoTask (view value.now) number task_of result }
 {
     match task_of(alloc, value) {
         Ok(task) => Ok(task),
-        Err(Miss::Shape) => Err(Halt::At(number, ())),
-        Err(Miss::Memory) => Err(Halt::Memory),
+        Err(Miss::Wrong(Shape)) => Err(Miss::Wrong((number, ()))),
+        Err(Miss::Memory) => Err(Miss::Memory),
     }
 }
 
 /// The tasks with names, up to the first of the wrong shape.
-pub(crate) fn tasks_of(alloc: Global, values: &[Value<'_>]) -> Result<Vec<DraftTask>, Halt<()>>
+pub(crate) fn tasks_of(
+    alloc: Global,
+    values: &[Value<'_>],
+) -> Result<Vec<DraftTask>, Miss<(usize, ())>>
     requires { AreShallow (map view values.now) }
     ensures { Passes IsTask IsNoTask (map view values.now) (λ v. map task_of v.items) result }
 {
@@ -155,13 +165,13 @@ fn numbered_claim<'v, 't>(
     alloc: Global,
     number: usize,
     value: &'v Value<'t>,
-) -> Result<NamedClaim<'v>, Halt<()>>
+) -> Result<NamedClaim<'v>, Miss<(usize, ())>>
     ensures { Here IsClaim IsNoClaim (view value.now) number claim_of result }
 {
     match claim_of(alloc, value) {
         Ok(claim) => Ok(claim),
-        Err(Miss::Shape) => Err(Halt::At(number, ())),
-        Err(Miss::Memory) => Err(Halt::Memory),
+        Err(Miss::Wrong(Shape)) => Err(Miss::Wrong((number, ()))),
+        Err(Miss::Memory) => Err(Miss::Memory),
     }
 }
 
@@ -169,7 +179,7 @@ fn numbered_claim<'v, 't>(
 pub(crate) fn claims_of<'v, 't>(
     alloc: Global,
     values: &'v [Value<'t>],
-) -> Result<Vec<NamedClaim<'v>>, Halt<()>>
+) -> Result<Vec<NamedClaim<'v>>, Miss<(usize, ())>>
     ensures { Passes IsClaim IsNoClaim (map view values.now) (λ v. map claim_of v.items) result }
 {
     let mut claims = Vec::new(alloc);

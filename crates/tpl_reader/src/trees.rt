@@ -5,24 +5,24 @@ ghost use Rattle.tpl_json.specs.View.{view};
 ghost use Rattle.tpl_cert.specs.Spelled.{ReadsAs, IsWrongTree};
 ghost use Rattle.tpl_reader.specs.Passes.{Passes, Here};
 
-use crate::fault::Halt;
 use json::Value;
 use std::alloc::Global;
 use tpl_cert::{Tree, TreeFault, tree_from};
 use tpl_graph::Graph;
+use tpl_json::Miss;
 
 fn numbered_tree(
     alloc: Global,
     graph: &Graph,
     number: usize,
     value: &Value<'_>,
-) -> Result<Tree, Halt<TreeFault>>
+) -> Result<Tree, Miss<(usize, TreeFault)>>
     ensures { Here (ReadsAs graph.now.names) (IsWrongTree graph.now.names) (view value.now) number
         (λ t. t) result }
 {
     match tree_from(alloc, graph, value) {
         Ok(tree) => Ok(tree),
-        Err(fault) => Err(Halt::At(number, fault)),
+        Err(fault) => Err(Miss::Wrong((number, fault))),
     }
 }
 
@@ -31,7 +31,7 @@ pub(crate) fn trees_in(
     alloc: Global,
     graph: &Graph,
     values: &[Value<'_>],
-) -> Result<Vec<Tree>, Halt<TreeFault>>
+) -> Result<Vec<Tree>, Miss<(usize, TreeFault)>>
     ensures { Passes (ReadsAs graph.now.names) (IsWrongTree graph.now.names) (map view values.now)
         (λ v. v.items) result }
 {

@@ -7,5 +7,5 @@ use Rattle.tpl_reader.proofs.shape.start_part.Goals as goal
 pub returns-in-Ok : goal.returns-in-Ok
 returns-in-Ok c = if_any_sound (option_map (λ v. view v.now) c.args.value) (option_map start_of c.in-Ok.start) c.in-Ok.ensures
 
-pub returns-in-Err-Shape : goal.returns-in-Err-Shape
-returns-in-Err-Shape c = no_start (option_map (λ v. view v.now) c.args.value) (rw c.in-Err-Shape.field-0-is at c.in-Err-Shape.ensures)
+pub returns-in-Err-Wrong : goal.returns-in-Err-Wrong
+returns-in-Err-Wrong c = no_start (option_map (λ v. view v.now) c.args.value) (rw c.in-Err-Wrong.field-0-is at c.in-Err-Wrong.ensures)

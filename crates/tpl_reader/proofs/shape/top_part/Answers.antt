@@ -6,5 +6,5 @@ use Rattle.tpl_reader.proofs.shape.top_part.Goals as goal
 pub returns-in-Ok : goal.returns-in-Ok
 returns-in-Ok c = top_sound (view c.args.value.now) (members_of c.in-Ok.members) c.in-Ok.ensures
 
-pub returns-in-Err-Shape : goal.returns-in-Err-Shape
-returns-in-Err-Shape c = no_top (view c.args.value.now) (rw c.in-Err-Shape.field-0-is at c.in-Err-Shape.ensures)
+pub returns-in-Err-Wrong : goal.returns-in-Err-Wrong
+returns-in-Err-Wrong c = no_top (view c.args.value.now) (rw c.in-Err-Wrong.field-0-is at c.in-Err-Wrong.ensures)

@@ -7,5 +7,5 @@ use Rattle.tpl_reader.proofs.top.numbered_claim.Goals as goal
 pub returns-in-Ok : goal.returns-in-Ok
 returns-in-Ok c = claim_sound (view c.args.value.now) (claim_of c.in-Ok.claim) c.in-Ok.ensures
 
-pub returns-in-Err-Shape : goal.returns-in-Err-Shape
-returns-in-Err-Shape c = (refl, no_claim (view c.args.value.now) (rw c.in-Err-Shape.field-0-is at c.in-Err-Shape.ensures))
+pub returns-in-Err-Wrong : goal.returns-in-Err-Wrong
+returns-in-Err-Wrong c = (refl, no_claim (view c.args.value.now) (rw c.in-Err-Wrong.field-0-is at c.in-Err-Wrong.ensures))
