@@ -67,7 +67,7 @@ impl Branch {
         requires task { is_task question.graph.now.graph task.0 }
         ensures { assumed_of result.assumed ≡ with_end (assumed_of self.now.assumed) task.0 status }
     {
-        question.graph.valid();
+        question.graph.valid_law();
         let assumed = self.assumed.with_end(task, status);
         let mut branch = self.under(question, assumed, false);
         branch.above.insert(Split::End(task));

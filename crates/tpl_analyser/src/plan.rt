@@ -93,7 +93,7 @@ fn grown_by_input(
         question.entry.property question.entry.form (assumed_of branch.now.assumed)
         (height (SplitInput input.0 yes.now no.now)))) }
 {
-    question.graph.valid();
+    question.graph.valid_law();
     let on_true = branch.with_input(question, input, true);
     let Some(yes) = grown(alloc, question, &on_true, yes)? else {
         return Ok(None);

@@ -158,7 +158,7 @@ fn by_input<W: Watch>(
     ensures { IfOk result
         (λ found. IfSome found (IsPlan question.entry.graph.now.graph reach.splits)) }
 {
-    question.graph.valid();
+    question.graph.valid_law();
     let reach = reach.behind();
     let yes = branch.with_input(question, input, true);
     let Some(on_true) = find(alloc, question, &yes, reach, budget)? else {

@@ -48,7 +48,7 @@ fn fails_from<C: Core>(core: &C, complete: Option<usize>, body: Property) -> Opt
     ensures { let j = C.journal core.now in
         result ≡ law.fails_from j.graph j.inputs j.events complete body }
 {
-    core.is_run();
+    core.run_law();
     tpl_laws::allowed::holds_of_is_right();
     if is_true_of(core, body) {
         return None;
@@ -68,7 +68,7 @@ fn is_broken<C: Core>(core: &C, watch: &Watch, given: &[Given], place: usize) ->
     ensures { let j = C.journal core.now in
         result ≡ law.is_broken j.inputs (asked_at watch.now.asked) given.now place }
 {
-    core.is_run();
+    core.run_law();
     for one in given {
         let broken = match one {
             Given::Input(input, value) => core.input(*input) != *value,
@@ -89,7 +89,7 @@ fn failure_of<C: Core>(core: &C, watch: &Watch, claim: &Claim) -> Option<usize>
     ensures { let j = C.journal core.now in
         law.IsFirstFailure j.graph j.inputs j.events claim.now result }
 {
-    core.is_run();
+    core.run_law();
     tpl_laws::failure_is_told();
     match fails_from(core, watch.complete, claim.body()) {
         Some(place) => {
@@ -130,7 +130,7 @@ pub(crate) fn first_failure<C: Core>(core: &C, watch: &Watch, claims: &[Claim]) 
     ensures { let j = C.journal core.now in (events : List Event) → j.events ≡ reverse events
         → FirstFails j.graph j.inputs events claims.now result }
 {
-    core.is_run();
+    core.run_law();
     tpl_laws::allowed::holds_is_right();
     let mut found = None;
     for (i, claim) in claims.iter().enumerate() {

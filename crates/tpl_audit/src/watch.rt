@@ -45,7 +45,7 @@ fn note_requests<C: Core>(asked: &mut [Option<usize>; MOST_TOKENS], core: &C, pl
         → asked_at asked.new k
         ≡ or_now (asked_at asked.old k) (requested j.graph j.inputs j.events k) place }
 {
-    core.is_run();
+    core.run_law();
     for i in 0..core.graph().token_count() {
         if asked[i].is_none() && core.requested(TokenId(i as u8)) {
             asked[i] = Some(place);

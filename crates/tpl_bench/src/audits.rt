@@ -63,7 +63,7 @@ fn are_seats(events: &[Event]) -> bool
 
 /// The text of a run.
 fn text_of<C: Core>(alloc: Global, core: &C) -> io::Result<String> {
-    core.is_run();
+    core.run_law();
     spells_run();
     let events = core.events();
     if !are_seats(events) {

@@ -41,7 +41,7 @@ impl Certificate {
     }
 
     /// Each tree is within the limits: a caller that needs it calls this, which does nothing.
-    pub fn within_limits(&self)
+    pub fn limits_law(&self)
         ensures { All IsWithinLimits self.now }
     {
         let _ = &self.trees;

@@ -41,7 +41,7 @@ fn set_in(graph: &Graph, names: &[&str]) -> Result<TaskSet, TreeFault>
         (λ s. IsSetOf graph.now.names.tasks (map (λ s. s.now) names.now) s) }
     ensures unknown { IfErr result (λ e. e ≡ TreeFault.Unknown) }
 {
-    graph.valid();
+    graph.valid_law();
     let mut set = TaskSet::empty();
     for name in names {
         let task = task_in(graph, name)?;

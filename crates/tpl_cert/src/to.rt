@@ -53,7 +53,7 @@ fn input_name(graph: &Graph, input: InputId) -> Result<&str, TreeToFault>
         (λ s. s.now ≡ name_at graph.now.names.inputs input.0) }
     ensures unknown { IfErr result (λ e. e ≡ TreeToFault.Unknown) }
 {
-    graph.valid();
+    graph.valid_law();
     if (input.0 as usize) < graph.input_count() {
         Ok(graph.input_name(input))
     } else {
@@ -66,7 +66,7 @@ fn task_name(graph: &Graph, task: TaskId) -> Result<&str, TreeToFault>
         (λ s. s.now ≡ name_at graph.now.names.tasks task.0) }
     ensures unknown { IfErr result (λ e. e ≡ TreeToFault.Unknown) }
 {
-    graph.valid();
+    graph.valid_law();
     if (task.0 as usize) < graph.len() {
         Ok(graph.name(task))
     } else {
@@ -214,7 +214,7 @@ pub fn tree_to(alloc: Global, graph: &Graph, tree: &Tree) -> Result<Value, TreeT
     ensures known { IfOk result (λ _. has_ids graph.now.names tree.now ≡ true) }
     ensures unknown { result ≡ Err TreeToFault.Unknown → has_ids graph.now.names tree.now ≡ false }
 {
-    graph.valid();
+    graph.valid_law();
     tpl_words::sets_are_their_members();
     let value = tree_value(alloc, graph, tree)?;
     Ok(value)

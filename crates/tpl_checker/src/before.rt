@@ -28,7 +28,7 @@ fn is_settled(graph: &Graph, rows: &[Row], task: TaskId) -> bool
     ensures { result ≡ all_in (before_by graph.now.graph rows.now task.0
         (kind graph.now.graph task.0)) (row rows.now task.0).before }
 {
-    graph.valid();
+    graph.valid_law();
     let before = row(rows, task).before();
     match graph.role(task) {
         Role::Root => within(before, &TaskSet::empty()),

@@ -24,7 +24,7 @@ impl Below {
     pub fn of_graph(graph: &Graph) -> Below
         ensures { AreBelow graph.now.graph result }
     {
-        graph.valid();
+        graph.valid_law();
         tpl_laws::below_is_right();
         let mut sets = no_sets();
         for task in 0..graph.len() {
@@ -52,7 +52,7 @@ fn no_sets() -> [TaskSet; 1024]
 fn tasks_below(graph: &Graph, task: TaskId) -> TaskSet
     ensures { (x : ℕ) → mem x result ≡ is_below graph.now.graph task.0 x }
 {
-    graph.valid();
+    graph.valid_law();
     tpl_laws::below_in_one_pass();
     tpl_laws::below_is_right();
     tpl_laws::parent_is_right();
@@ -71,7 +71,7 @@ fn tasks_below(graph: &Graph, task: TaskId) -> TaskSet
 fn has_attached(graph: &Graph, task: TaskId) -> bool
     ensures { result ≡ false → (x : ℕ) → is_below graph.now.graph task.0 x ≡ false }
 {
-    graph.valid();
+    graph.valid_law();
     tpl_laws::below_is_right();
     (task.0 as usize) < graph.len() && !graph.attached(task).is_empty()
 }

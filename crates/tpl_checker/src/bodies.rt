@@ -71,7 +71,7 @@ impl Bodies {
         ensures { AreFirstBodies graph.now.graph (assumed_of assumed.now) rows.now task.0 self
             → AreFirstBodies graph.now.graph (assumed_of assumed.now) rows.now (task.0 + 1) result }
     {
-        graph.valid();
+        graph.valid_law();
         tpl_script::may_is_right();
         tpl_script::may_start_is_right();
         let view = view(graph, assumed, rows, task);

@@ -196,7 +196,7 @@ fn child_may_fault(graph: &Graph, rows: &[Row], bodies: &Bodies, task: TaskId) -
         (body graph.now.graph task.0) && has (row rows.now c).ends finals.Faulted)
         (attached graph.now.graph task.0) }
 {
-    graph.valid();
+    graph.valid_law();
     some_faults(rows, &bodies.started, graph.attached(task))
 }
 

@@ -32,7 +32,7 @@ fn with_given(graph: &Graph, assumed: &Assumptions, one: Given) -> Assumptions
     requires { IsGivenOf graph.now.graph one }
     ensures { assumed_of result ≡ with_given (assumed_of assumed.now) one }
 {
-    graph.valid();
+    graph.valid_law();
     match one {
         Given::Input(input, value) => assumed.with_input(input, value),
         Given::Quiet(token) => assumed.with_quiet(token),
@@ -45,7 +45,7 @@ fn with_sources(graph: &Graph, quiet: [bool; 32]) -> [bool; 32]
     ensures { (given : List Given) → ((k : ℕ) → slice_index_or quiet k false ≡ gives_quiet given k)
         → (k : ℕ) → slice_index_or result k false ≡ given_quiet graph.now.graph given k }
 {
-    graph.valid();
+    graph.valid_law();
     tpl_laws::quiet_by_a_link();
     let mut quiet = quiet;
     for token in (0..graph.token_count()).rev() {

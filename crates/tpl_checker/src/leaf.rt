@@ -49,7 +49,7 @@ pub fn accepts_leaf(
     ensures { IsTrue result ↔ AcceptsTree graph.now.graph property (assumed_of assumed.now)
         (Leaf rows.now) }
 {
-    graph.valid();
+    graph.valid_law();
     tpl_laws::first_broken_is_right();
     tpl_laws::proves_is_right();
     if rows.len() != graph.len() {

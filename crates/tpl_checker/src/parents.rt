@@ -16,7 +16,7 @@ pub fn parent(graph: &Graph, task: TaskId) -> Option<TaskId>
     ensures child { IfSome result (λ p. IsParent graph.now.graph p.0 task.0) }
     ensures within { IfSome result (λ p. is_task graph.now.graph p.0) }
 {
-    graph.valid();
+    graph.valid_law();
     tpl_laws::parent_is_right();
     graph.parent_of(task)
 }

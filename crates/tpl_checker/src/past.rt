@@ -32,7 +32,7 @@ pub(crate) fn past(
     requires below { AreBelow graph.now.graph below.now }
     ensures { result ≡ past graph.now.graph (assumed_of assumed.now) rows.now task.0 }
 {
-    graph.valid();
+    graph.valid_law();
     let past = row(rows, task).past();
     match graph.role(task) {
         Role::Root => within(past, below.of(task)),
@@ -53,7 +53,7 @@ fn is_past_child(graph: &Graph, below: &Below, rows: &[Row], task: TaskId) -> bo
     ensures { (l : Assumed) → result ≡ all_in (past_by graph.now.graph l rows.now task.0 Child)
         (row rows.now task.0).past }
 {
-    graph.valid();
+    graph.valid_law();
     match parent(graph, task) {
         None => true,
         Some(parent) => {
@@ -80,7 +80,7 @@ fn is_past_continuation(
     ensures { result ≡ all_in (past_by graph.now.graph (assumed_of assumed.now) rows.now task.0
         (Continues antecedent.0)) (row rows.now task.0).past }
 {
-    graph.valid();
+    graph.valid_law();
     let past = row(rows, task).past();
     if may_end_early(graph, assumed, rows, task) {
         return within(past, below.of(task));

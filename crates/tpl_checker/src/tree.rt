@@ -40,7 +40,7 @@ pub(crate) fn tree_fault<'c>(
         tree.now) (first + leaves tree.now) result }
     ensures last { IfSome last.new (IsLast graph.now.graph) }
 {
-    graph.valid();
+    graph.valid_law();
     match tree.node() {
         Node::SplitInput(input, on_true, on_false) => {
             let yes = assumed.with_input(*input, true);

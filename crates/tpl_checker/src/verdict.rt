@@ -40,11 +40,11 @@ pub fn check(graph: &Graph, claims: &[Claim], certificate: &Certificate) -> Resu
     ensures first { IfErr result (λ fault. IsFirstFault graph.now.graph claims.now certificate.now
         fault) }
 {
-    graph.valid();
+    graph.valid_law();
     tpl_laws::verdict_is_right();
     tpl_laws::verdict_is_sound();
     tpl_laws::fault_is_first();
-    certificate.within_limits();
+    certificate.limits_law();
     verdict(graph, claims, certificate.trees())
 }
 

@@ -86,7 +86,7 @@ fn settled_before<C: Core>(core: &C, task: TaskId, place: u32) -> bool
     ensures { let j = C.journal core.now in IsTrue result
         ↔ SettledBefore j.graph j.inputs j.events place task.0 }
 {
-    core.is_run();
+    core.run_law();
     let mut at = task;
     while !ended_before(core, at, place) {
         match never_started_by(core, at) {
@@ -103,7 +103,7 @@ fn settled_at_begin<C: Core>(core: &C, first: TaskId, second: TaskId) -> bool
     ensures { let j = C.journal core.now in IsTrue result
         ↔ SettledAtBegin j.graph j.inputs first.0 second.0 j.events }
 {
-    core.is_run();
+    core.run_law();
     tpl_laws::settled_without_begin();
     tpl_laws::settled_before_its_begin();
     match core.began(second) {

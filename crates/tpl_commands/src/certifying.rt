@@ -64,7 +64,7 @@ fn certified<T: Watch>(
     ensures { IfOk result (λ given.
         IsCertifying depth form (doc_of document.now) given.exit (string_bytes given.text)) }
 {
-    document.graph.valid();
+    document.graph.valid_law();
     tpl_laws::soundness();
     one_document();
     certificate_is_read_back();
@@ -78,7 +78,7 @@ fn certified<T: Watch>(
         watch,
     ) {
         Ok(certificate) => {
-            certificate.within_limits();
+            certificate.limits_law();
             let text = whole_text(alloc, bytes, &document.graph, certificate.trees())?;
             sized(alloc, text)
         }

@@ -59,7 +59,7 @@ fn finding_for<T: Watch>(
     ensures { IfOk result (λ given.
         IsFinding depth form (doc_of document.now) given.exit (string_bytes given.text)) }
 {
-    document.graph.valid();
+    document.graph.valid_law();
     tpl_laws::soundness();
     one_document();
     certificate_is_read_back();
@@ -73,7 +73,7 @@ fn finding_for<T: Watch>(
         watch,
     ) {
         Ok(certificate) => {
-            certificate.within_limits();
+            certificate.limits_law();
             let text = certificate_text(alloc, &document.graph, certificate.trees())?;
             Ok(Answer {
                 exit: Exit::Success,

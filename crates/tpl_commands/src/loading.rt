@@ -39,7 +39,7 @@ pub fn load<R: Read, W: Write>(
     match read_input(alloc, from, to) {
         Ok(bytes) => match read_document(alloc, &bytes) {
             Ok(document) => {
-                document.graph.valid();
+                document.graph.valid_law();
                 Ok(document)
             }
             Err(fault) => Err(put_answer(unreadable_answer(alloc, fault), to)),

@@ -197,7 +197,7 @@ fn sort_word(is_token: bool) -> &'static str
 pub(crate) fn name_of(graph: &Graph, is_token: bool, number: u16) -> &str
     ensures { result.now ≡ name_of graph.now.names is_token number }
 {
-    graph.valid();
+    graph.valid_law();
     if is_token && (number as usize) < graph.token_count() {
         graph.token_name(TokenId(number as u8))
     } else if !is_token && (number as usize) < graph.len() {

@@ -115,7 +115,7 @@ fn tell_owner(lists: &mut Vec<Vec<TaskId>>, graph: &Graph, task: TaskId) -> Resu
         → is_told lists.new.items k task.0 ≡ true) }
     ensures kept { OnOk result (Keep lists.old.items lists.new.items) }
 {
-    graph.valid();
+    graph.valid_law();
     match graph.own_token(task) {
         None => Ok(()),
         Some(token) => tell(lists, token.0 as usize, task),

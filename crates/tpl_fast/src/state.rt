@@ -50,7 +50,7 @@ impl<'g> State<'g> {
     pub fn open(alloc: Global, graph: &'g Graph, inputs: Inputs) -> Result<State<'g>, AllocError>
         ensures { IfOk result (λ s. s ≡ opened graph.now inputs) }
     {
-        graph.valid();
+        graph.valid_law();
         let marks = unmarked(alloc, graph.len())?;
         let ended = vec![in alloc; 0; graph.len()]?;
         let over = vec![in alloc; 0; graph.len()]?;

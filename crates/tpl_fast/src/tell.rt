@@ -38,7 +38,7 @@ fn refresh(due: &mut Bits, state: &State, task: TaskId)
     ensures told { is_task state.now.graph task.0 → IsRight state.now due.new task.0 }
     ensures kept { Keeps state.now (λ t s. IsRight state.now s t) due.old due.new }
 {
-    state.is_run();
+    state.run_law();
     if has_task(state, task) {
         let is_due = is_due(state, task);
         due.put(task, is_due);
@@ -145,7 +145,7 @@ pub(crate) fn note_open(unended: &mut Bits, state: &State, task: Option<TaskId>)
         → IsOpenRight state.now unended.new t }
     ensures kept { Keeps state.now (λ t s. IsOpenRight state.now s t) unended.old unended.new }
 {
-    state.is_run();
+    state.run_law();
     if let Some(task) = task
         && has_task(state, task)
     {

@@ -68,7 +68,7 @@ impl Asked {
             ≡ (is_it (option_map token_number token) k || requested_itself graph.now.graph v h k))
             → AreAsked graph.now.graph v later self.new.itself self.new.closed }
     {
-        graph.valid();
+        graph.valid_law();
         if let Some(token) = token {
             mark(&mut self.itself, token);
             self.closed = close(&self.itself, graph);

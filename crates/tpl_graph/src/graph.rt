@@ -111,7 +111,7 @@ impl Graph {
     }
 
     /// Each rule of a valid graph holds: a caller that needs one calls this, which does nothing.
-    pub fn valid(&self)
+    pub fn valid_law(&self)
         ensures { IsNamedGraph self.now }
     {
         let _ = &self.tasks;
@@ -260,7 +260,7 @@ impl Graph {
         ensures kind { kind_in result ≡ spec.kind self.now.graph task.0 }
         ensures within { AreWithin (length self.now.graph.tasks) result }
     {
-        self.valid();
+        self.valid_law();
         if let Some(antecedent) = self.antecedent(task) {
             return Role::Then(antecedent);
         }
@@ -340,7 +340,7 @@ impl Graph {
 
     /// Each work statement says of its site what `site_may_fail` says: a caller that needs this calls it, which does
     /// nothing.
-    pub fn work_is_listed(&self)
+    pub fn work_law(&self)
         ensures { (t site : ℕ) (may_fail : Bool) → HasWork site may_fail
             (spec.body self.now.graph t) → slice_get (all_may_fail self.now.graph) site
             ≡ Some may_fail }

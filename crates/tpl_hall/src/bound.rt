@@ -49,7 +49,7 @@ impl<'g, K: Drop> Hall<'g, K> {
         ensures { let j = self.now.core in option_map worker_number result ≡ bound_worker j.graph
             j.inputs j.events task.0 (kind j.graph task.0) }
     {
-        self.core.is_run();
+        self.core.run_law();
         let antecedent = self.core.graph().antecedent(task)?;
         if !self.is_synchronous(task, antecedent) {
             return None;

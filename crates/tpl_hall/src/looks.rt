@@ -49,7 +49,7 @@ impl<'g, K: Drop> Hall<'g, K> {
         if !self.fits(graph, inputs, seat) {
             return Looked::Stray;
         }
-        self.core.is_run();
+        self.core.run_law();
         let place = self.len();
         let status = self.core.status(task);
         seat.tell(place, Sight::At(task, status));
@@ -97,7 +97,7 @@ impl<'g, K: Drop> Hall<'g, K> {
             seat.stray(stint);
             return Ended::Stray;
         }
-        self.core.is_run();
+        self.core.run_law();
         match ended {
             Ended::Complete => {
                 let place = self.len();

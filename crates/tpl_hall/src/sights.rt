@@ -97,7 +97,7 @@ fn seats_hold(core: &mut Fast<'_>, journal: &[Event], seats: &[Seat]) -> bool
             Err(_) => return false,
         }
     }
-    core.is_run();
+    core.run_law();
     all_hold_at(core, journal.len(), seats)
 }
 

@@ -45,7 +45,7 @@ fn add_child(graph: &Graph, lists: &mut Vec<Vec<TaskId>>, number: u16) -> Result
     ensures { OnOk result (AreChildrenBelow graph.now.graph (number + 1) (map (λ l. map task_number
         l.items) lists.new.items)) }
 {
-    graph.valid();
+    graph.valid_law();
     let Some(parent) = graph.parent_of(TaskId(number)) else {
         return Ok(());
     };

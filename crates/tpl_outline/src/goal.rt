@@ -62,7 +62,7 @@ impl Places {
     fn add(&mut self, parts: Parts<'_>, first: TaskId, task: TaskId)
         requires { is_task parts.graph.now.graph task.0 }
     {
-        parts.graph.valid();
+        parts.graph.valid_law();
         if self.is_before(parts, first, task) {
             self.before.insert(task);
         }
@@ -86,7 +86,7 @@ impl Places {
     fn is_past(&self, parts: Parts<'_>, first: TaskId, task: TaskId) -> bool
         requires { is_task parts.graph.now.graph task.0 }
     {
-        parts.graph.valid();
+        parts.graph.valid_law();
         let is_below = parts.below.of(task).contains(first);
         match parts.graph.role(task) {
             Role::Root => is_below,

@@ -90,7 +90,7 @@ impl Pass {
         ensures others { KeepsOthers task.0 self.old.outline self.new.outline }
         ensures ends { IsOpen (assumed_of assumed.now) self.old.outline self.new.outline }
     {
-        graph.valid();
+        graph.valid_law();
         if !self.sees_change(graph, task) {
             return;
         }
@@ -119,7 +119,7 @@ impl Pass {
         ensures others { KeepsOthers task.0 self.old.outline self.new.outline }
         ensures ends { IsOpen (assumed_of assumed.now) self.old.outline self.new.outline }
     {
-        graph.valid();
+        graph.valid_law();
         let fate = self.outline.fate(task);
         let ends = self.outline.ends(graph, assumed, task);
         if ends != fate.ends {

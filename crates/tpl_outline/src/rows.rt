@@ -73,7 +73,7 @@ fn row(
 fn before(graph: &Graph, rows: &[Row], task: TaskId) -> TaskSet
     requires { is_task graph.now.graph task.0 }
 {
-    graph.valid();
+    graph.valid_law();
     match graph.role(task) {
         Role::Then(antecedent) => settled_after(rows, antecedent),
         Role::Child => before_parent(graph, rows, task),
@@ -87,7 +87,7 @@ fn before(graph: &Graph, rows: &[Row], task: TaskId) -> TaskSet
 fn past(parts: Parts<'_>, rows: &[Row], task: TaskId) -> TaskSet
     requires { is_task parts.graph.now.graph task.0 }
 {
-    parts.graph.valid();
+    parts.graph.valid_law();
     let below = parts.below.of(task);
     match parts.graph.role(task) {
         Role::Root => below.copy(),

@@ -67,7 +67,7 @@ fn push_family(
     requires stages { All (IsStageOf graph.now.graph) stages.old.items }
     ensures { OnOk result (All (IsStageOf graph.now.graph) stages.new.items) }
 {
-    graph.valid();
+    graph.valid_law();
     let family = below.of(task);
     stages.push(Stage::Begin(task))?;
     if !graph.attached(task).is_empty() {

@@ -110,7 +110,7 @@ fn claim_in(alloc: Global, graph: &Graph, claim: &NamedClaim) -> Result<Claim, M
     ensures { Takes result (IsAsked graph.now (claim_of claim.now))
         (IsWrongClaim graph.now (claim_of claim.now)) }
 {
-    graph.valid();
+    graph.valid_law();
     let given = givens_in(alloc, graph, &claim.given)?;
     let body = match property_in(graph, &claim.body) {
         None => return Err(Miss::Wrong(ClaimFault::Unknown)),

@@ -57,7 +57,7 @@ fn values_in(graph: &Graph, inputs: Option<&Value<'_>>) -> Option<Inputs>
         (option_map (λ v. view v.now) inputs.entry)) (λ v. HasTruths graph.now.names.inputs
         (option_map (λ v. view v.now) inputs.entry) v) }
 {
-    graph.valid();
+    graph.valid_law();
     let mut values = Inputs::new(graph.input_count());
     for index in 0..graph.input_count() {
         let input = InputId(index as u8);

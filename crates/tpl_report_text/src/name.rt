@@ -9,7 +9,7 @@ use tpl_words::{Label, LabelId, SiteId, TaskId, TokenId};
 pub(crate) fn name_of(graph: &Graph, task: TaskId) -> &str
     ensures { result.now ≡ task_name graph.now.names task.0 }
 {
-    graph.valid();
+    graph.valid_law();
     if (task.0 as usize) < graph.len() {
         graph.name(task)
     } else {
@@ -20,7 +20,7 @@ pub(crate) fn name_of(graph: &Graph, task: TaskId) -> &str
 pub(crate) fn token_name(graph: &Graph, token: TokenId) -> &str
     ensures { result.now ≡ slice_index_or graph.now.names.tokens token.0 [] }
 {
-    graph.valid();
+    graph.valid_law();
     if (token.0 as usize) < graph.token_count() {
         graph.token_name(token)
     } else {

@@ -19,6 +19,7 @@ use Rattle.tpl_run.specs.EventCode.{actor_code}
 use Rattle.tpl_words.specs.Members.{mem}
 use Rattle.tpl_run.specs.Atoms.{AreAtoms}
 use Rattle.tpl_run.specs.declared.row.Ended.{Ended}
+use Rattle.tpl_script.specs.Coding.{final_number, final_at, final_at-number}
 
 -- what is left of a task's body, how it ended, and for how many tasks its list of exceptions has room
 pub record TaskRow : Type 0 where
@@ -78,21 +79,6 @@ outcome_at-number (Threw (WorkFailed s)) = refl
 
 abbrev pub outcome_code : Coded Outcome
 outcome_code = code_by (ℕ × ℕ) (coded× coded_ℕ coded_ℕ) outcome_number (λ p. outcome_at p.0 p.1) outcome_at-number
-
-abbrev pub final_number : Final → ℕ
-final_number RanToCompletion = 0
-final_number Canceled = 1
-final_number Faulted = 2
-
-abbrev pub final_at : ℕ → Final
-final_at zero = RanToCompletion
-final_at (suc zero) = Canceled
-final_at (suc (suc n)) = Faulted
-
-pub final_at-number : (f : Final) → final_at (final_number f) ≡ f
-final_at-number RanToCompletion = refl
-final_at-number Canceled = refl
-final_at-number Faulted = refl
 
 abbrev pub ending_code : Coded Ending
 ending_code =

@@ -34,7 +34,7 @@ pub(crate) fn antecedent<R: Readers>(run: &R, task: TaskId) -> Option<TaskId>
         ≡ antecedent_of (spec.kind (R.journal run.now).graph task.0) }
     ensures within { IfSome result (λ a. is_task (R.journal run.now).graph a.0) }
 {
-    run.is_run();
+    run.run_law();
     run.graph().antecedent(task)
 }
 
@@ -54,7 +54,7 @@ pub(crate) fn own_token<R: Readers>(run: &R, task: TaskId) -> Option<TokenId>
         ≡ (spec.task (R.journal run.now).graph task.0).token }
     ensures within { IfSome result (λ k. is_token (R.journal run.now).graph k.0) }
 {
-    run.is_run();
+    run.run_law();
     run.graph().own_token(task)
 }
 
@@ -65,7 +65,7 @@ pub fn children<R: Readers>(run: &R, task: TaskId) -> &[TaskId]
     ensures within { (c : ℕ) → mem c (map task_number result.now) ≡ true
         → is_task (R.journal run.now).graph c }
 {
-    run.is_run();
+    run.run_law();
     run.graph().attached(task)
 }
 
@@ -74,6 +74,6 @@ pub fn is_short<R: Readers>(run: &R)
     ensures { length (R.journal run.now).events ≤ 69664 }
 {
     is_bounded();
-    run.is_run();
+    run.run_law();
     let _ = run.graph().bound();
 }

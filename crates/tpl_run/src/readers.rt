@@ -21,7 +21,7 @@ pub trait Readers {
         ensures { result.now ≡ named (journal self.now) };
 
     /// Each event so far was allowed after those before it, and the graph is valid.
-    fn is_run(&self)
+    fn run_law(&self)
         ensures { IsRunOfGraph (journal self.now) };
 
     /// Where a task stands.

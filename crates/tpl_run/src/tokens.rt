@@ -46,7 +46,7 @@ pub fn close(itself: &[bool; MOST_TOKENS], graph: &Graph) -> [bool; MOST_TOKENS]
     ensures { (v : List Bool) (h : List SpecEvent) → IsTable graph.now.graph v h itself.now 0
         → IsTable graph.now.graph v h result (length graph.now.graph.tokens) }
 {
-    graph.valid();
+    graph.valid_law();
     requested_by_a_source();
     let mut table = *itself;
     for i in 0..graph.token_count() {

@@ -45,7 +45,7 @@ impl<'g, K: Drop, W: Item<K>> Shared<'g, K, W> {
         if self.halted {
             return Asked::Halted;
         }
-        self.hall.is_run();
+        self.hall.run_law();
         if self.hall.tell_requested(seat, token) {
             return Asked::Already;
         }
@@ -53,7 +53,7 @@ impl<'g, K: Drop, W: Item<K>> Shared<'g, K, W> {
         match self.hall.step(seat, Act::Request(token)) {
             Ok(place) => {
                 self.hall.sweep(seat);
-                self.hall.is_run();
+                self.hall.run_law();
                 put_after(
                     rt,
                     &self.hall,

@@ -148,7 +148,7 @@ fn judge<K: Drop, W: Item<K>>(
         Ok(false) => return Err(CloseWhy::Mismatch),
         Err(AllocError) => return Err(CloseWhy::Memory),
     }
-    hall.is_run();
+    hall.run_law();
     match tables(alloc, hall, graph, inputs) {
         Ok(tables) => Ok(tables),
         Err(AllocError) => Err(CloseWhy::Memory),

@@ -248,7 +248,7 @@ impl<'g, K: Drop, W: Item<K>> Session<'g, K, W> {
             queue,
             cells: _,
         } = self;
-        graph.valid();
+        graph.valid_law();
         tpl_laws::soundness();
         let _left = queue.drain(rt, pass);
         let Shared {

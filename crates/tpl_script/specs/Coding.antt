@@ -28,7 +28,7 @@ final_at zero = RanToCompletion
 final_at (suc zero) = Canceled
 final_at (suc (suc n)) = Faulted
 
-final_at-number : (f : Final) → final_at (final_number f) ≡ f
+pub final_at-number : (f : Final) → final_at (final_number f) ≡ f
 final_at-number RanToCompletion = refl
 final_at-number Canceled = refl
 final_at-number Faulted = refl

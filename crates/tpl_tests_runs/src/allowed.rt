@@ -54,7 +54,7 @@ fn push_requests(events: &mut Vec<Event>, count: usize) -> Result<(), AllocError
 /// Each act for each task and token, and for one past the last, by the workers 1 and 2 and by the outside 1.
 pub fn all_events(alloc: Global, graph: &Graph) -> Result<Vec<Event>, AllocError> {
     let mut events = Vec::new(alloc);
-    graph.valid();
+    graph.valid_law();
     for i in 0..graph.len() + 1 {
         push_acts(&mut events, TaskId(i as u16))?;
     }

@@ -33,7 +33,7 @@ fn run_with(
     ensures none { IfOk result (λ run. IfNone run ((h : List events.Event)
         → HasRun (doc_of document.now) h → ⊥)) }
 {
-    document.graph.valid();
+    document.graph.valid_law();
     text_is_unambiguous();
     fault_is_no_journal();
     tpl_laws::prefix_is_run();

@@ -21,7 +21,7 @@ fn name_of(graph: &Graph, task: TaskId) -> &str
     requires { is_task graph.now.graph task.0 }
     ensures { result.now ≡ task_name graph.now.names task }
 {
-    graph.valid();
+    graph.valid_law();
     graph.name(task)
 }
 
@@ -29,7 +29,7 @@ fn token_name_of(graph: &Graph, token: TokenId) -> &str
     requires { is_token graph.now.graph token.0 }
     ensures { result.now ≡ token_name graph.now.names token }
 {
-    graph.valid();
+    graph.valid_law();
     graph.token_name(token)
 }
 

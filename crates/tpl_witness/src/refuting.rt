@@ -37,7 +37,7 @@ fn refutation<P: Write>(
     ensures { IfOk result (λ given.
         IsSearched search.claim (doc_of document.now) given.exit (string_bytes given.text)) }
 {
-    document.graph.valid();
+    document.graph.valid_law();
     one_document();
     spells_run();
     text_is_unambiguous();

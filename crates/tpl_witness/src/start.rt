@@ -19,7 +19,7 @@ fn input_members(
     ensures { IfOk result (λ m. AreFirst graph.now.names.inputs inputs.now
         (length graph.now.names.inputs) (members_view m.entries)) }
 {
-    graph.valid();
+    graph.valid_law();
     let mut members = Map::new(alloc);
     for number in 0..graph.input_count() {
         let input = InputId(number as u8);

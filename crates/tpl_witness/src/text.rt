@@ -68,7 +68,7 @@ pub(crate) fn text_with(
     ensures compact { IfOk result (λ text. (json : List ℕ) × (json ≡ print (tokens json))
         × (string_bytes text ≡ json ++ codes "\n")) }
 {
-    document.graph.valid();
+    document.graph.valid_law();
     let value = value_of(alloc, bytes, document)?;
     let start = start_with(alloc, &value, &document.graph, inputs)?;
     let mut text = filled(alloc, value, start, journal)?.to_string(alloc)?;

@@ -29,8 +29,8 @@ impl<'g> Core for Fast<'g> {
         self.state.graph()
     }
 
-    fn is_run(&self) {
-        self.state.is_run();
+    fn run_law(&self) {
+        self.state.run_law();
     }
 
     fn room(&self) -> u32 {

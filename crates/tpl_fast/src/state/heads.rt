@@ -24,7 +24,7 @@ pub(crate) fn parent_of(graph: &Graph, child: Option<TaskId>) -> Option<TaskId>
     ensures { (p c : ℕ) → is_task graph.now.graph c → option_map task_number child ≡ Some c
         → IsParent graph.now.graph p c → option_map task_number result ≡ Some p }
 {
-    graph.valid();
+    graph.valid_law();
     let child = child?;
     if (child.0 as usize) < graph.len() {
         graph.parent_of(child)

@@ -62,8 +62,8 @@ impl<'g> Readers for State<'g> {
         self.machine.graph()
     }
 
-    fn is_run(&self) {
-        self.machine.is_run();
+    fn run_law(&self) {
+        self.machine.run_law();
     }
 
     fn status_of(&self, task: TaskId) -> Status {

@@ -32,8 +32,8 @@ impl<'g> Core for Machine<'g> {
         self.graph
     }
 
-    fn is_run(&self) {
-        self.graph.valid();
+    fn run_law(&self) {
+        self.graph.valid_law();
     }
 
     fn room(&self) -> u32 {

@@ -59,8 +59,8 @@ impl<'g> Readers for Machine<'g> {
         self.graph
     }
 
-    fn is_run(&self) {
-        self.graph.valid();
+    fn run_law(&self) {
+        self.graph.valid_law();
     }
 
     fn status_of(&self, task: TaskId) -> Status {

@@ -11,7 +11,7 @@ loop-i-preserved g c events e =
     let o = c.failure_of.result in
     let lt : i < length c.args.claims.now = c.loop-i-test.true in
     let told = subst (λ h. law.IsFirstFailure j.graph j.inputs h x o) e c.failure_of.ensures in
-    let here = by_places j.graph j.inputs events x o c.holds_is_right.ensures c.is_run.ensures.graph.graph told in
+    let here = by_places j.graph j.inputs events x o c.holds_is_right.ensures c.run_law.ensures.graph.graph told in
     subst (Found j.graph j.inputs events c.args.claims.now (i + 1)) (sym c.better-found.ensures)
     (found_more j.graph j.inputs events c.args.claims.now i x lt c.loop-i.found o (c.loop-i.invariant events e)
     (subst (λ z. FailsAt j.graph j.inputs events z o) c.index-claims-i.is here))

@@ -11,7 +11,7 @@ use Rattle.tpl_cert.proofs.to.tree_to.Goals as goal
 pub returns-clause-spells : goal.returns-clause-spells
 returns-clause-spells c =
     let e = c.in_ok-value.ensures in
-    subst (λ (d : Data). SpellsTree c.args.graph.now.names d c.args.tree.now) (sym e.1.0) (reads_again c.args.graph.now.names c.valid.ensures.inputs_once c.valid.ensures.tasks_once c.args.tree.now e.0 e.1.1)
+    subst (λ (d : Data). SpellsTree c.args.graph.now.names d c.args.tree.now) (sym e.1.0) (reads_again c.args.graph.now.names c.valid_law.ensures.inputs_once c.valid_law.ensures.tasks_once c.args.tree.now e.0 e.1.1)
 
 pub returns-clause-only : goal.returns-clause-only
 returns-clause-only c other spelled =
@@ -19,7 +19,7 @@ returns-clause-only c other spelled =
     let n = c.args.graph.now.names in
     let d = view c.in_ok-value.value in
     one_tree c.sets_are_their_members.ensures n d other c.args.tree.now spelled
-    (subst (λ (d : Data). SpellsTree n d c.args.tree.now) (sym e.1.0) (reads_again n c.valid.ensures.inputs_once c.valid.ensures.tasks_once c.args.tree.now e.0 e.1.1))
+    (subst (λ (d : Data). SpellsTree n d c.args.tree.now) (sym e.1.0) (reads_again n c.valid_law.ensures.inputs_once c.valid_law.ensures.tasks_once c.args.tree.now e.0 e.1.1))
 
 pub returns-clause-nests : goal.returns-clause-nests
 returns-clause-nests c =

@@ -14,7 +14,7 @@ use Rattle.tpl_checker.proofs.ends.child_may_fault.Goals as goal
 
 pub some_faults-requires : goal.some_faults-requires
 some_faults-requires c =
-    subst (λ n. AreTasks n c.attached.result.now) (sym c.requires.rows) (attached_within c.args.graph.now.graph c.args.task.0 c.attached.result.now c.valid.ensures.graph c.attached.ensures)
+    subst (λ n. AreTasks n c.attached.result.now) (sym c.requires.rows) (attached_within c.args.graph.now.graph c.args.task.0 c.attached.result.now c.valid_law.ensures.graph c.attached.ensures)
 
 pub returns : goal.returns
 returns c l b =

@@ -12,13 +12,13 @@ returns-then-not-rows_fit c =
     let g = c.args.graph.now.graph in
     let l = assumed_of c.args.assumed.now in (
       λ f. true_false (sym f),
-      λ a. true_false (sym (c.rows_fit.ensures ∙ fitting g c.args.property l c.args.rows.now c.valid.ensures.graph c.first_broken_is_right.ensures c.proves_is_right.ensures a) ∙ c.if-not-rows_fit.true),
+      λ a. true_false (sym (c.rows_fit.ensures ∙ fitting g c.args.property l c.args.rows.now c.valid_law.ensures.graph c.first_broken_is_right.ensures c.proves_is_right.ensures a) ∙ c.if-not-rows_fit.true),
     )
 
 pub returns-in-None : goal.returns-in-None
 returns-in-None c =
     let g = c.args.graph.now.graph in
     let l = assumed_of c.args.assumed.now in (
-      λ t. accepted g c.args.property l c.args.rows.now c.valid.ensures.graph c.first_broken_is_right.ensures c.proves_is_right.ensures (c.if-rows-len.false ∙ c.len.ensures.count) (sym c.rows_fit.ensures ∙ c.if-not-rows_fit.false) (sym c.in-None.ensures),
+      λ t. accepted g c.args.property l c.args.rows.now c.valid_law.ensures.graph c.first_broken_is_right.ensures c.proves_is_right.ensures (c.if-rows-len.false ∙ c.len.ensures.count) (sym c.rows_fit.ensures ∙ c.if-not-rows_fit.false) (sym c.in-None.ensures),
       λ a. refl,
     )

@@ -18,7 +18,7 @@ returns-in-Some c l =
     let g = c.args.graph.now.graph in
     let rows = c.args.rows.now in
     let t = c.args.task.0 in
-    let small : t < 1024 = omega (arith, c.valid.ensures.graph.tasks) in
+    let small : t < 1024 = omega (arith, c.valid_law.ensures.graph.tasks) in
     let set : c.past.result.now ≡ (row rows t).past = c.past.ensures ∙ ap (λ r. r.past) c.row-in-Some.ensures in
     let over : c.before-before.result.now ≡ (row rows c.in-Some.parent.0).before = c.before-before.ensures ∙ ap (λ r. r.before) c.row.ensures in
     c.within.ensures (past_by g l rows t Child)

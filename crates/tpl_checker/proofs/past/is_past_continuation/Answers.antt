@@ -13,7 +13,7 @@ returns-then-may_end_early c =
     let rows = c.args.rows.now in
     let t = c.args.task.0 in
     let a = c.args.antecedent.0 in
-    let small : t < 1024 = omega (arith, c.valid.ensures.graph.tasks) in
+    let small : t < 1024 = omega (arith, c.valid_law.ensures.graph.tasks) in
     let set : c.past-past.result.now ≡ (row rows t).past = c.past-past.ensures ∙ ap (λ r. r.past) c.row.ensures in
     c.within.ensures (past_by g l rows t (Continues a))
     (λ x. ap (mem x) c.of.ensures ∙ (c.requires.below.members t x small ∙ ap (λ z. (not z && (nat_eq x a || mem x (row rows a).past)) || is_below g t x) (sym c.if-may_end_early.true ∙ c.may_end_early.ensures)))
@@ -26,7 +26,7 @@ returns c =
     let rows = c.args.rows.now in
     let t = c.args.task.0 in
     let a = c.args.antecedent.0 in
-    let small : t < 1024 = omega (arith, c.valid.ensures.graph.tasks) in
+    let small : t < 1024 = omega (arith, c.valid_law.ensures.graph.tasks) in
     let set : c.past-past.result.now ≡ (row rows t).past = c.past-past.ensures ∙ ap (λ r. r.past) c.row.ensures in
     c.within-2.ensures (past_by g l rows t (Continues a))
     (λ x. c.union.ensures.members x

@@ -14,7 +14,7 @@ returns-in-Root c =
     let l = assumed_of c.args.assumed.now in
     let rows = c.args.rows.now in
     let t = c.args.task.0 in
-    let small : t < 1024 = omega (arith, c.valid.ensures.graph.tasks) in
+    let small : t < 1024 = omega (arith, c.valid_law.ensures.graph.tasks) in
     let set : c.past-past.result.now ≡ (row rows t).past = c.past-past.ensures ∙ ap (λ r. r.past) c.row.ensures in
     c.within.ensures (past_by g l rows t Root) (λ x. ap (mem x) c.of.ensures ∙ c.requires.below.members t x small) ∙ (λ i. all_in (past_by g l rows t (c.in-Root.ensures.kind i)) (set i))
 

@@ -5,14 +5,14 @@ use Rattle.tpl_claims.proofs.run.settled_before.Goals as goal
 pub loop-at-smaller : goal.loop-at-smaller
 loop-at-smaller g c =
     let j = g.C.Core.journal c.args.core.now in
-    parent_before j.graph c.loop-at.at.0 c.in-Some.parent.0 c.is_run.ensures.graph.graph c.loop-at.invariant.task c.in-Some.ensures.some.1
+    parent_before j.graph c.loop-at.at.0 c.in-Some.parent.0 c.run_law.ensures.graph.graph c.loop-at.invariant.task c.in-Some.ensures.some.1
 
 pub loop-at-preserved : goal.loop-at-preserved
 loop-at-preserved g c =
     let j = g.C.Core.journal c.args.core.now in
     let test = c.loop-at-test.true in
     let late : EndedBefore j.graph j.inputs j.events c.args.place c.loop-at.at.0 → ⊥ = λ e. let yes : c.ended_before.result ≡ true = c.ended_before.ensures.1 e in first_of (cc, grind arith) in
-    walk_on j.graph j.inputs j.events c.args.place c.args.task.0 c.loop-at.at.0 c.in-Some.parent.0 c.is_run.ensures.graph.graph late c.in-Some.ensures.some.0 c.in-Some.ensures.some.1 c.loop-at.invariant
+    walk_on j.graph j.inputs j.events c.args.place c.args.task.0 c.loop-at.at.0 c.in-Some.parent.0 c.run_law.ensures.graph.graph late c.in-Some.ensures.some.0 c.in-Some.ensures.some.1 c.loop-at.invariant
 
 pub returns-in-None : goal.returns-in-None
 returns-in-None g c =

@@ -15,7 +15,7 @@ pub whole_text-requires-clause-ids : goal.whole_text-requires-clause-ids
 whole_text-requires-clause-ids over c =
     let names = c.args.document.now.graph.names in
     subst (All (λ t. has_ids names t ≡ true)) (sym c.trees.ensures)
-    (trees_known names c.args.document.now.graph.graph c.valid.ensures.tasks c.valid.ensures.inputs _ _ c.in-Ok.ensures.accepted)
+    (trees_known names c.args.document.now.graph.graph c.valid_law.ensures.tasks c.valid_law.ensures.inputs _ _ c.in-Ok.ensures.accepted)
 
 pub returns-in_ok-text-in-Ok : goal.returns-in_ok-text-in-Ok
 returns-in_ok-text-in-Ok over c =
@@ -26,8 +26,8 @@ returns-in_ok-text-in-Ok over c =
     let accepted = subst (λ (claims : List Claim). Accepts g claims trees) c.deref.ensures.value c.in-Ok.ensures.accepted in
     let form = subst (λ (claims : List Claim). IsCertificateOf c.args.form claims trees) c.deref.ensures.value c.in-Ok.ensures.form in
     let spelled : All (IsRead names) trees = rw c.trees.ensures at c.in_ok-text-in-Ok.ensures.read in
-    let back = within names trees spelled c.within_limits.ensures in
+    let back = within names trees spelled c.limits_law.ensures in
     certifying c.one_document.ensures.one c.one_document.ensures.faultless c.certificate_is_read_back.ensures c.args.depth c.args.form doc trees c.args.bytes.now (string_bytes c.in_ok-text-in-Ok.text)
     (record { accepted = accepted; splits = rw c.splits-splits.ensures.value at c.in-Ok.ensures.splits; of_form = form })
-    (λ inputs events run. c.soundness.ensures g c.args.document.now.claims.items trees c.valid.ensures.graph accepted inputs events run)
+    (λ inputs events run. c.soundness.ensures g c.args.document.now.claims.items trees c.valid_law.ensures.graph accepted inputs events run)
     back c.requires.spelled (rw c.trees.ensures at c.in_ok-text-in-Ok.ensures.holds) c.sized.result c.sized.ensures

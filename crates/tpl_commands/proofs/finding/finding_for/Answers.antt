@@ -15,10 +15,10 @@ pub certificate_text-requires-clause-ids : goal.certificate_text-requires-clause
 certificate_text-requires-clause-ids over c =
     let names = c.args.document.now.graph.names in
     subst (All (λ t. has_ids names t ≡ true)) (sym c.trees.ensures)
-    (trees_known names c.args.document.now.graph.graph c.valid.ensures.tasks c.valid.ensures.inputs _ _ c.in-Ok.ensures.accepted)
+    (trees_known names c.args.document.now.graph.graph c.valid_law.ensures.tasks c.valid_law.ensures.inputs _ _ c.in-Ok.ensures.accepted)
 
 pub certificate_text-requires-clause-limits : goal.certificate_text-requires-clause-limits
-certificate_text-requires-clause-limits over c = rw c.trees.ensures (λ k t lt. (c.within_limits.ensures k t lt).0)
+certificate_text-requires-clause-limits over c = rw c.trees.ensures (λ k t lt. (c.limits_law.ensures k t lt).0)
 
 pub returns-in_ok-text-in-Ok : goal.returns-in_ok-text-in-Ok
 returns-in_ok-text-in-Ok over c =
@@ -28,11 +28,11 @@ returns-in_ok-text-in-Ok over c =
     let trees = c.in-Ok.certificate in
     let accepted = subst (λ (claims : List Claim). Accepts g claims trees) c.deref.ensures.value c.in-Ok.ensures.accepted in
     let spelled : All (IsRead names) trees = rw c.trees.ensures at c.in_ok-text-in-Ok.ensures.read in
-    let back : All (IsReadBack names) trees = within names trees spelled c.within_limits.ensures in
+    let back : All (IsReadBack names) trees = within names trees spelled c.limits_law.ensures in
     record {
       trees = trees;
       accepted = accepted;
-      hold = λ inputs events run. c.soundness.ensures g c.args.document.now.claims.items trees c.valid.ensures.graph accepted inputs events run;
+      hold = λ inputs events run. c.soundness.ensures g c.args.document.now.claims.items trees c.valid_law.ensures.graph accepted inputs events run;
       splits = rw c.splits-splits.ensures.value at c.in-Ok.ensures.splits;
       of_form = subst (λ (claims : List Claim). IsCertificateOf c.args.form claims trees) c.deref.ensures.value c.in-Ok.ensures.form;
       read = back;

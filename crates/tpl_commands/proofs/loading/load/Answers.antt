@@ -14,7 +14,7 @@ returns-in-Ok-read_document-clause-document g c = (
 
 pub returns-in-Ok-read_document-clause-tokens : goal.returns-in-Ok-read_document-clause-tokens
 returns-in-Ok-read_document-clause-tokens g c =
-    tokens_spelled c.deref.result.now (doc_of c.in-Ok-read_document.document) c.valid.ensures.tokens c.in-Ok-read_document.ensures.ok
+    tokens_spelled c.deref.result.now (doc_of c.in-Ok-read_document.document) c.valid_law.ensures.tokens c.in-Ok-read_document.ensures.ok
 
 pub returns-in-Ok-clause-err : goal.returns-in-Ok-clause-err
 returns-in-Ok-clause-err g c =

@@ -40,7 +40,7 @@ returns c =
     let whole : core ≡ record first { events = reverse journal } =
     was.run ∙ ap (λ n. record first { events = reverse (take n journal) }) same ∙ ap (λ l. record first { events = reverse l }) (take_all (length journal) journal (omega arith)) in (
       λ true. (
-        subst (λ (j : Journal). Run j.graph j.inputs j.events) whole c.is_run.ensures.run,
+        subst (λ (j : Journal). Run j.graph j.inputs j.events) whole c.run_law.ensures.run,
         below_more_at first.graph first.inputs journal core.events (length journal) seats here
             (subst (λ n. AllHoldBelow first.graph first.inputs journal n seats) same was.below)
             (subst (λ (j : Journal). AllHoldAt j.graph j.inputs core.events (length journal) seats) was.run (c.all_hold_at-2.ensures.0 true)),

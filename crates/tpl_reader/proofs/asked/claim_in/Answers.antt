@@ -19,4 +19,4 @@ returns-then-given_twice c =
     (record { given = c.in_ok-given.given.items; body = c.in-Some.body }, named_claim c.args.graph.now.names (claim_of c.args.claim.now) c.in_ok-given.given.items c.in-Some.body (rw c.deref.ensures.value at c.in_ok-given.ensures) (sym c.in-Some.ensures), sym c.if-not-have_bodies.ensures, ap given_twice (sym c.deref-2.ensures.value) ∙ sym c.if-given_twice.ensures)
 
 pub returns : goal.returns
-returns c = asked c.args.graph.now (claim_of c.args.claim.now) c.new.result c.in_ok-given.given.items c.in-Some.body c.valid.ensures (rw c.deref.ensures.value at c.in_ok-given.ensures) (sym c.in-Some.ensures) (sym c.if-not-have_bodies.ensures) (ap given_twice (sym c.deref-2.ensures.value) ∙ sym c.if-given_twice.ensures) c.new.ensures.given c.new.ensures.body
+returns c = asked c.args.graph.now (claim_of c.args.claim.now) c.new.result c.in_ok-given.given.items c.in-Some.body c.valid_law.ensures (rw c.deref.ensures.value at c.in_ok-given.ensures) (sym c.in-Some.ensures) (sym c.if-not-have_bodies.ensures) (ap given_twice (sym c.deref-2.ensures.value) ∙ sym c.if-given_twice.ensures) c.new.ensures.given c.new.ensures.body

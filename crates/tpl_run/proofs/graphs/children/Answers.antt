@@ -8,5 +8,5 @@ use Rattle.tpl_run.proofs.graphs.children.Goals as goal
 pub returns-clause-within : goal.returns-clause-within
 returns-clause-within g c = λ x m.
     let j = g.R.Readers.journal c.args.run.now in
-    attached_within j.graph c.args.task.0 x c.is_run.ensures.graph.graph
+    attached_within j.graph c.args.task.0 x c.run_law.ensures.graph.graph
     (ap (mem x) (sym (c.attached.ensures ∙ ap (λ (n : Named). attached n.graph c.args.task.0) c.graph.ensures)) ∙ m)

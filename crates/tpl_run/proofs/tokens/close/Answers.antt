@@ -7,7 +7,7 @@ use Rattle.tpl_run.proofs.tokens.close.Goals as goal
 
 pub loop-i-preserved : goal.loop-i-preserved
 loop-i-preserved c = record {
-  closed = λ v h t. table_step c.args.graph.now.graph v h c.loop-i.table c.loop-i.i (map token_number c.sources.result.now) c.is_marked-marked.result c.requested_by_a_source.ensures c.valid.ensures.graph
+  closed = λ v h t. table_step c.args.graph.now.graph v h c.loop-i.table c.loop-i.i (map token_number c.sources.result.now) c.is_marked-marked.result c.requested_by_a_source.ensures c.valid_law.ensures.graph
       (let a = c.loop-i-test.true in let b = c.token_count-i-end.ensures.count in omega arith)
       c.sources.ensures c.is_marked-marked.ensures (c.loop-i.invariant.closed v h t);
   count = length-set c.loop-i.table c.loop-i.i c.is_marked-marked.result ∙ c.loop-i.invariant.count;

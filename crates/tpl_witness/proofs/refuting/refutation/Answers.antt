@@ -54,4 +54,4 @@ returns g c =
       sound = c.soundness.ensures;
     } in
     let short : length text ≤ longest = let le = c.if-len-gt-LONGEST.false in omega (arith, c.len.ensures) in
-    refuted laws c.args.search.claim doc c.args.found.number inputs events text c.valid.ensures c.requires.found is short c.in_ok-text.ensures.compact
+    refuted laws c.args.search.claim doc c.args.found.number inputs events text c.valid_law.ensures c.requires.found is short c.in_ok-text.ensures.compact

@@ -21,4 +21,4 @@ returns-clause-text c =
     let broken : read text ≡ Some new = ap read c.in_ok-push_str.ensures.bytes ∙ read_with_line_break json new c.in_ok-text.ensures.compact (c.in_ok-text.ensures.reads_back shallow) in
     let reads : Reads text new = (IsUtf8-had text c.push_str.new.self.ok, broken) in
     text_of c.args.bytes.now text (doc_of c.args.document.now) c.args.inputs.now journal old new start c.requires.spelled c.in_ok-value.ensures.reads reads
-    (c.requires.inputs ∙ sym c.valid.ensures.inputs) c.in_ok-start.ensures c.in_ok-filled.ensures
+    (c.requires.inputs ∙ sym c.valid_law.ensures.inputs) c.in_ok-start.ensures c.in_ok-filled.ensures

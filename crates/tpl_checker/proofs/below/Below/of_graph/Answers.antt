@@ -6,4 +6,4 @@ pub returns : goal.returns
 returns c =
     let g = c.args.graph.now.graph in
     let all : c.loop-task.task ≡ length g.tasks = omega arith in
-    record { members = λ t x lt. sets_at_last g c.loop-task.sets c.valid.ensures.graph c.below_is_right.ensures (subst (λ n. SetsSoFar g c.loop-task.sets n) all c.loop-task.invariant) t x }
+    record { members = λ t x lt. sets_at_last g c.loop-task.sets c.valid_law.ensures.graph c.below_is_right.ensures (subst (λ n. SetsSoFar g c.loop-task.sets n) all c.loop-task.invariant) t x }

@@ -27,7 +27,7 @@ returns c first =
           (thrown_is law w script found.thrown c.may-verdicts.ensures.thrown ∙ (λ i. may none is_throw (c.view-view.ensures i) (c.body-body.ensures i))) (first.thrown x) (c.with_if-2.ensures x);
       acknowledged = λ x. member_step (λ t. may none is_acknowledgement (view g l rows t) (body g t)) t x found.acknowledged (mem x c.args.self.acknowledged) (mem x c.with_if-3.result)
           (acknowledged_is law w script found.acknowledged c.may-verdicts.ensures.acknowledged ∙ (λ i. may none is_acknowledgement (c.view-view.ensures i) (c.body-body.ensures i))) (first.acknowledged x) (c.with_if-3.ensures x);
-      started = λ p x m. started_step g l rows c.valid.ensures.graph c.may_start_is_right.ensures t p x (mem x c.args.self.started) (mem x c.may_start_all-started.result) (mem x c.union.result) m
+      started = λ p x m. started_step g l rows c.valid_law.ensures.graph c.may_start_is_right.ensures t p x (mem x c.args.self.started) (mem x c.may_start_all-started.result) (mem x c.union.result) m
           (λ small. subst (λ b. (mem x c.may_start_all-started.result ≡ true) ↔ MayStartChild (view g l rows t) b x) c.body-body.ensures (subst (λ v. (mem x c.may_start_all-started.result ≡ true) ↔ MayStartChild v script x) c.view-view.ensures (c.may_start_all-started.ensures.members x small)))
           (first.started p x m) (c.union.ensures.members x);
     })

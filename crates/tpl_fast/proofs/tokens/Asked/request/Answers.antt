@@ -8,6 +8,6 @@ use Rattle.tpl_fast.proofs.tokens.Asked.request.Goals as goal
 
 pub returns-in-Some : goal.returns-in-Some
 returns-in-Some c = λ v h later a more.
-    asked_also c.args.graph.now.graph v h later c.args.self.now.itself _ c.args.self.now.closed c.close-self.result (Some c.in-Some.token.0) c.valid.ensures.graph a
+    asked_also c.args.graph.now.graph v h later c.args.self.now.itself _ c.args.self.now.closed c.close-self.result (Some c.in-Some.token.0) c.valid_law.ensures.graph a
     (λ k. more k ∙ ap (λ o. is_it (option_map token_number o) k || requested_itself c.args.graph.now.graph v h k) c.in-Some.is)
     c.mark.ensures.marks c.mark.ensures.count (c.close-self.ensures v later)

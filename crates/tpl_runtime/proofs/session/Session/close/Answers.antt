@@ -21,5 +21,5 @@ returns-clause-claims g c =
     c.self.view_is
     (IfOk-weaker c.settle.result (λ r. Run n.graph v (reverse r.journal.items))
     (λ r. (claims : List Claim) (certificate : List Tree) → Accepts n.graph claims certificate → Each (λ claim. Holds n.graph claim v (reverse r.journal.items)) claims)
-    (λ r run claims certificate accepts. c.soundness.ensures n.graph claims certificate c.valid.ensures.graph accepts v (reverse r.journal.items) run)
+    (λ r run claims certificate accepts. c.soundness.ensures n.graph claims certificate c.valid_law.ensures.graph accepts v (reverse r.journal.items) run)
     c.settle.ensures.run)

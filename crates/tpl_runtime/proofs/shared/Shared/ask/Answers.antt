@@ -15,6 +15,6 @@ returns-in-Ok-clause-asked g c =
     let fits : Fits core c.args.graph.now c.args.inputs.now first = subst (Fits core c.args.graph.now c.args.inputs.now) (sym same) (c.fits.ensures.fits c.if-not-fits.false) in
     subst (λ (s : SeatView). Requests c.args.graph.now.graph c.args.inputs.now s c.sweep.new.seat c.args.token c.in-Ok.place × (c.sweep.new.seat.last ≡ s.last)) same (
       requests_of c.args.graph.now c.args.inputs.now first c.step.new.seat c.sweep.new.seat core c.step.new.self.core c.sweep.new.self.core c.args.token c.in-Ok.place
-          fits ok.run ok.place ok.seat swept.grown swept.graph.0 swept.graph.1 c.is_run-in-Ok.ensures swept.swept,
+          fits ok.run ok.place ok.seat swept.grown swept.graph.0 swept.graph.1 c.run_law-in-Ok.ensures swept.swept,
       swept.seat.1 ∙ ap (λ (s : SeatView). s.last) ok.seat,
     )
