@@ -4,7 +4,6 @@ use Rattle.std.specs.Option.{option_map}
 use Rattle.std.specs.Coded.{Coded, code_by, coded×, coded_ℕ, coded_list, coded_option}
 use Rattle.tpl_words.specs.declared.ids.TaskId.{TaskId}
 use Rattle.tpl_words.specs.declared.finals.Final.{Final}
-use Rattle.tpl_words.specs.declared.finals.Final.TheVariants.{RanToCompletion, Canceled, Faulted}
 use Rattle.tpl_words.specs.declared.status.Actor.{Actor}
 use Rattle.tpl_words.specs.declared.status.Label.TheVariants.{Thrown, OperationCanceled, WorkFailed}
 use Rattle.tpl_script.specs.declared.outcome.Outcome.{Outcome}
