@@ -305,15 +305,15 @@ def twin(crate, path, number, edit=None):
     return Edit(edit.name if edit else name, (change,), tuple(files)), f"{path}_twin_{number}"
 
 
-def next_round(crate, left, places):
+def next_round(crate, left, places, first=frozenset()):
     """Chooses from the edits that are left those of one round: at most one a function and a cycle, none in a function that
-    comes by calls to another one that is edited, as far as names tell; and each applies beside the others. Returns them
-    and the crate's texts with all of them."""
+    comes by calls to another one that is edited, as far as names tell; and each applies beside the others. Those in the
+    functions `first` are chosen before others. Returns them and the crate's texts with all of them."""
     many = {}
     for it in left:
         for path in places[it.name]:
             many[path] = many.get(path, 0) + 1
-    order = sorted(left, key=lambda it: -max(many[path] for path in places[it.name]))
+    order = sorted(left, key=lambda it: (not places[it.name] <= first, -max(many[path] for path in places[it.name])))
     chosen, texts, taken, cycles, reached = [], dict(crate.texts), set(), set(), set()
     for it in order:
         own = places[it.name]

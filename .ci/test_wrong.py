@@ -308,6 +308,30 @@ class FirstRound(unittest.TestCase):
         trial, _ = self.trial({"pair::odd": "not proved"})
         self.assertIn("pair::odd is not proved unedited", trial.begin(self.GIVEN)[1])
 
+    def test_beside_rt_ci_a_copy_of_a_proved_function_needs_no_control(self):
+        trial, asked = self.trial({"pair::alone_twin_1": self.OPEN, "pair::alone_twin_2": self.OPEN, "pair::odd": self.OPEN})
+        WRONG.BESIDE.file = "log"
+        try:
+            left, why, _ = trial.begin(self.GIVEN)
+        finally:
+            WRONG.BESIDE.file = None
+        self.assertEqual((asked, why, left), ([{"pair::alone_twin_1", "pair::alone_twin_2", "pair::odd"}], None, []))
+        self.assertEqual(trial.said, dict.fromkeys("abc", "refused"))
+
+    def test_beside_rt_ci_a_twin_with_proof_files_needs_one(self):
+        given = [edit("a", "        self.first", "        self.second"), self.GIVEN[1]]
+        trial, asked = self.trial({"pair::Pair::first_twin_0": "not proved", "pair::alone_twin_1": self.OPEN}, {})
+        trial.texts["proofs/pair/Pair/first/Proof.antt"] = Twins.PROOF
+        WRONG.BESIDE.file = "log"
+        try:
+            left, why, _ = trial.begin(given)
+        finally:
+            WRONG.BESIDE.file = None
+        self.assertIn("pair::Pair::first_twin_0", asked[0])
+        self.assertNotIn("pair::alone_twin_0", asked[0])
+        # the copy is not proved unedited, so that the function is edited itself
+        self.assertEqual((why, trial.said, asked[1]), (None, {"b": "refused"}, {"pair::Pair::first"}))
+
     def test_edits_that_are_not_read_are_left_for_later(self):
         trial, asked = self.trial(None, {})
         left, why, _ = trial.begin(self.GIVEN)
