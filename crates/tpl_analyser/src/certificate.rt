@@ -21,7 +21,7 @@ use crate::choice::{Bound, bound_of};
 use crate::cone::Cone;
 use crate::form::Form;
 use crate::gap::Gap;
-use crate::leaf::is_leaf;
+use crate::leaf::try_leaf;
 use crate::missed::{Missed, RanOut};
 use crate::plan::{grown, no_split};
 use crate::question::Question;
@@ -182,7 +182,7 @@ fn deepened<W: Watch>(
     ensures { IfOk result
         (λ found. IfSome found (IsPlan question.entry.graph.now.graph depth)) }
 {
-    if is_leaf(alloc, question, root, budget)? {
+    if try_leaf(alloc, question, root, budget)?.unwrap_or(false) {
         return Ok(Some(no_split(alloc)));
     }
     if depth == 0 {

@@ -4,7 +4,7 @@ ghost use Rattle.tpl_analyser.specs.Questions.{IsReady};
 
 use crate::branch::Branch;
 use crate::budget::Budget;
-use crate::leaf::is_proved;
+use crate::leaf::try_leaf;
 use crate::question::Question;
 use crate::search::Reach;
 use crate::split::{Split, Splits, assumed_on};
@@ -79,7 +79,9 @@ fn needed<W: Watch>(
         let others = assumed_on(&way.passed, &way.taken[..at]);
         let others = assumed_on(&others, &way.taken[at + 1..]);
         let without = branch.under(question, others, true);
-        if needed.count() <= most as u32 && !is_proved(alloc, question, &without, budget)? {
+        if needed.count() <= most as u32
+            && !try_leaf(alloc, question, &without, budget)?.unwrap_or(true)
+        {
             needed.insert(way.taken[at].split());
         }
     }
@@ -137,7 +139,7 @@ fn enough<W: Watch>(
         let others = assumed_on(&branch.assumed, &way.taken[..at]);
         let others = assumed_on(&others, &kept);
         let without = branch.under(question, others, true);
-        if !is_proved(alloc, question, &without, budget)? {
+        if !try_leaf(alloc, question, &without, budget)?.unwrap_or(true) {
             kept.push(way.taken[at])?;
             enough.insert(way.taken[at].split());
         }

@@ -37,33 +37,18 @@ pub(crate) fn leaf(
 }
 
 /// Whether the least rows of the branch prove the property. It uses up one of the leaves that may be tried; where none is
-/// left, it answers that they don't.
-pub(crate) fn is_leaf<W: Watch>(
+/// left, there is no answer.
+pub(crate) fn try_leaf<W: Watch>(
     alloc: Global,
     question: Question<'_>,
     branch: &Branch,
     budget: &mut Budget<W>,
-) -> Result<bool, AllocError> {
+) -> Result<Option<bool>, AllocError> {
     if !budget.spend() {
-        return Ok(false);
+        return Ok(None);
     }
     let chain = chain_of(alloc, question, branch)?;
-    Ok(chain.is_some())
-}
-
-/// Whether the least rows of the branch prove the property. It uses up one of the leaves that may be
-/// tried; where none is left, it answers that they do, so that a search for what isn't proved ends.
-pub(crate) fn is_proved<W: Watch>(
-    alloc: Global,
-    question: Question<'_>,
-    branch: &Branch,
-    budget: &mut Budget<W>,
-) -> Result<bool, AllocError> {
-    if !budget.spend() {
-        return Ok(true);
-    }
-    let chain = chain_of(alloc, question, branch)?;
-    Ok(chain.is_some())
+    Ok(Some(chain.is_some()))
 }
 
 /// The chain with which the least rows of the branch prove the property, if they do.

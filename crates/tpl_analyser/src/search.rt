@@ -10,7 +10,7 @@ ghost use Rattle.tpl_analyser.specs.Splits.{IsSplitOf};
 use crate::branch::Branch;
 use crate::budget::Budget;
 use crate::choice::{Choice, bound_of};
-use crate::leaf::is_leaf;
+use crate::leaf::try_leaf;
 use crate::plan::{end_tree, input_tree, no_split};
 use crate::question::Question;
 use crate::split::Split;
@@ -58,7 +58,7 @@ fn find<W: Watch>(
     ensures { IfOk result
         (λ found. IfSome found (IsPlan question.entry.graph.now.graph reach.splits)) }
 {
-    if is_leaf(alloc, question, branch, budget)? {
+    if try_leaf(alloc, question, branch, budget)?.unwrap_or(false) {
         return Ok(Some(no_split(alloc)));
     }
     if reach.splits == 0 {

@@ -4,7 +4,7 @@ ghost use Rattle.tpl_analyser.specs.Questions.{IsReady};
 
 use crate::branch::Branch;
 use crate::budget::Budget;
-use crate::leaf::is_proved;
+use crate::leaf::try_leaf;
 use crate::question::Question;
 use crate::split::{Split, Turn};
 use crate::watch::Watch;
@@ -90,7 +90,7 @@ impl Way {
             return Ok(false);
         }
         let branch = self.branch.turned(question, turn);
-        if is_proved(alloc, question, &branch, budget)? {
+        if try_leaf(alloc, question, &branch, budget)?.unwrap_or(true) {
             return Ok(false);
         }
         self.branch = branch;

@@ -36,8 +36,9 @@ pub(crate) fn tree_fault<'c>(
     requires fits { IsTrue (fits graph.now.graph tree.now) }
     requires room { first + leaves tree.now < 2 ^ 64 }
     requires last { IfSome last.old (IsLast graph.now.graph) }
-    ensures fault { Failing (tree_fault graph.now.graph property claim (assumed_of assumed.now) first
-        tree.now) (first + leaves tree.now) result }
+    ensures fault { Failing
+        (tree_fault graph.now.graph property claim (assumed_of assumed.now) first tree.now)
+        (first + leaves tree.now) result }
     ensures last { IfSome last.new (IsLast graph.now.graph) }
 {
     graph.valid_law();

@@ -159,7 +159,8 @@ pub(crate) fn may_release<R: Readers>(run: &R, task: TaskId) -> bool
 fn is_synchronous<R: Readers>(run: &R, task: TaskId, antecedent: TaskId) -> bool
     requires task { is_task (R.journal run.now).graph task.0 }
     requires antecedent { is_task (R.journal run.now).graph antecedent.0 }
-    ensures { let g = (R.journal run.now).graph in result ≡ (execute_synchronously (options g task.0)
+    ensures { let g = (R.journal run.now).graph in result
+        ≡ (execute_synchronously (options g task.0)
         && not (run_continuations_asynchronously (options g task.0))
         && not (run_continuations_asynchronously (options g antecedent.0))) }
 {

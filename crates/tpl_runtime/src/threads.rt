@@ -153,8 +153,8 @@ fn join_all<C: Crew, R: Threads + Wait>(
     requires children { All (λ h. h.promise.pass.value.queue ≡ C.queue crew.now) children.items }
     requires room { vec_len done.old + vec_len children ≤ vec_capacity done.old }
     ensures pass { result.queue ≡ C.queue crew.now }
-    ensures joined { map (λ d. d.0.actor) done.new.items ≡ map (λ d. d.0.actor) done.old.items ++ map
-        (λ h. h.promise.actor) children.items }
+    ensures joined { map (λ d. d.0.actor) done.new.items
+        ≡ map (λ d. d.0.actor) done.old.items ++ map (λ h. h.promise.actor) children.items }
     ensures count { vec_len done.new ≡ vec_len done.old + vec_len children }
 {
     let mut pass = pass;
