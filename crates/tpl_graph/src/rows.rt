@@ -8,6 +8,7 @@ ghost use Rattle.tpl_draft.specs.Draft as meaning;
 ghost use Rattle.tpl_draft.specs.Ids.{task_number, token_number};
 ghost use Rattle.tpl_draft.specs.Names.{place};
 ghost use Rattle.tpl_draft.specs.Numbered.{script_in, task_in, token_in, AreFew};
+ghost use Rattle.tpl_draft.specs.Origins as origins;
 ghost use Rattle.tpl_graph.specs.Rows as rows;
 ghost use Rattle.tpl_draft.specs.SeenTasks.{task_of, token_of};
 ghost use Rattle.tpl_graph.specs.Small.{IsSmall, AreSmall};
@@ -160,7 +161,7 @@ fn token_ids(alloc: Global, names: &Names, list: &[String]) -> Result<Vec<TokenI
 /// The row of a token: of a source of its own, or linked to other tokens.
 fn origin(alloc: Global, names: &Names, token: &DraftToken) -> Result<Origin, AllocError>
     requires { length names.now ≤ 32 }
-    ensures { IfOk result (λ o. rows.token_of o ≡ token_in names.now (token_of token.now).linked) }
+    ensures { IfOk result (λ o. origins.token_of o ≡ token_in names.now (token_of token.now).linked) }
 {
     match &token.linked {
         Some(sources) => Ok(Origin::Linked(token_ids(alloc, names, sources.as_slice())?)),
@@ -175,7 +176,7 @@ pub(crate) fn origins(
     tokens: &[DraftToken],
 ) -> Result<Vec<Origin>, AllocError>
     requires { length names.now ≤ 32 }
-    ensures { IfOk result (λ v. map rows.token_of v.items
+    ensures { IfOk result (λ v. map origins.token_of v.items
         ≡ map (λ (k : meaning.Token). token_in names.now k.linked) (map token_of tokens.now)) }
 {
     let mut made = Vec::new(alloc);

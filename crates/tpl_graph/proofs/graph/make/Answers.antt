@@ -5,6 +5,7 @@ use Rattle.tpl_draft.specs.Draft.{Token}
 use Rattle.tpl_draft.specs.Named.{Names, Named}
 use Rattle.tpl_draft.specs.Numbered.{names_of, task_in, token_in, AreFew}
 use Rattle.tpl_graph.specs.Kept.{IsNamedGraph, AreKept}
+use Rattle.tpl_draft.specs.Origins as origins
 use Rattle.tpl_graph.specs.Rows as rows
 use Rattle.tpl_draft.specs.SeenTasks.{draft_of, task_of}
 use Rattle.tpl_graph.specs.Sites.{AreSites}
@@ -27,7 +28,7 @@ bound-bound-requires-clause-rows c =
 
 pub bound-bound-requires-clause-tokens : goal.bound-bound-requires-clause-tokens
 bound-bound-requires-clause-tokens c =
-    omega (arith, few_tokens (draft_of c.args.draft.now) c.requires.valid, c.len.ensures, ap length c.requires.checked.tokens, length-map c.args.checked.tokens.items rows.token_of, length-map (draft_of c.args.draft.now).tokens (λ (k : Token). token_in (names_of (draft_of c.args.draft.now)).tokens k.linked))
+    omega (arith, few_tokens (draft_of c.args.draft.now) c.requires.valid, c.len.ensures, ap length c.requires.checked.tokens, length-map c.args.checked.tokens.items origins.token_of, length-map (draft_of c.args.draft.now).tokens (λ (k : Token). token_in (names_of (draft_of c.args.draft.now)).tokens k.linked))
 
 pub invariant_of-result : goal.invariant_of-result
 invariant_of-result c =
@@ -40,7 +41,7 @@ invariant_of-result c =
           (rw c.deref-4.ensures.value at c.in_ok-parents.ensures)
           (rw c.deref-3.ensures.value at c.in_ok-attached.ensures.long)
           (rw c.deref-2.ensures.value at (rw c.deref-3.ensures.value at c.in_ok-attached.ensures.each))
-          (c.len.ensures ∙ (c.args.checked.tokens.ok.0 ∙ (sym (length-map c.args.checked.tokens.items rows.token_of) ∙ ap length c.requires.checked.tokens)))
+          (c.len.ensures ∙ (c.args.checked.tokens.ok.0 ∙ (sym (length-map c.args.checked.tokens.items origins.token_of) ∙ ap length c.requires.checked.tokens)))
           (rw c.deref-5.ensures.value at c.bound-bound.ensures),
       are_sites (draft_of c.args.draft.now) c.args.checked.sites.items c.requires.checked.sites,
     )
