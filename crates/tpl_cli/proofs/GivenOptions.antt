@@ -1,10 +1,10 @@
 -- The numbers and the words that are given for options.
-use Rattle.std.proofs.Common.{◌≡◌, ◌∙◌, ◌<◌, ◌≤◌, ℕ, Bool, true, false, List, Option, Some, None, Result, Ok, Err, codes, sym, ap, subst, refl, arith}
+use Rattle.std.proofs.Common.{◌≡◌, ◌∙◌, ◌<◌, ◌≤◌, ℕ, true, List, Option, Some, None, Result, Ok, Err, codes, sym, ap, subst, refl, arith}
 use Rattle.std.specs.Prelude.{MatchOption}
 use Rattle.std.specs.Str.Parse.{ParsesUnsigned, digits_value, without_leading_plus}
 use Rattle.tpl_draw.specs.declared.language.Language.{Language}
 use Rattle.tpl_draw.specs.declared.language.Language.TheVariants.{Mermaid, Dot}
-use Rattle.clap.specs.Words.{Row, Text, ReadsOne, first_of, first_value, one_of, one_text, rows_of}
+use Rattle.clap.specs.Words.{Row, Text, ReadsOne, first_of, first_value, one_text, rows_of}
 use Rattle.clap.specs.declared.parser.matches.Found.{Found}
 use Rattle.clap.proofs.WalkLemmas.{first_value-rows, one_text-rows}
 use Rattle.tpl_cli.specs.Options.{language_word, IsGiven, IsLanguage, IsSet}

@@ -1,8 +1,8 @@
 -- The line that words mean: one at most, and within its limits.
-use Rattle.std.proofs.Common.{◌≡◌, ◌∙◌, ◌==◌, ℕ, Bool, true, false, if◌then◌else◌, List, Option, Some, None, codes, sym, ap, subst, refl, inl, inr, slice_index, arith}
+use Rattle.std.proofs.Common.{◌≡◌, ◌∙◌, ◌==◌, ℕ, Bool, true, false, if◌then◌else◌, List, Option, Some, None, codes, sym, ap, subst, refl, inl, inr, slice_index}
 use Rattle.std.specs.Prelude.{option_map, Box, MatchOption}
 use Rattle.std.specs.Box.{box_value}
-use Rattle.clap.specs.Words.{Row, Text, first_of, rows_of, subcommand_name_of, subcommand_rows_of}
+use Rattle.clap.specs.Words.{Row, Text, subcommand_name_of, subcommand_rows_of}
 use Rattle.clap.specs.Simple.{subcommand_rows}
 use Rattle.clap.specs.declared.parser.matches.ArgMatches.{ArgMatches}
 use Rattle.clap.specs.declared.parser.matches.ArgMatches.TheViews.{out-ArgMatches, out-SubCommand}
@@ -10,10 +10,8 @@ use Rattle.clap.specs.declared.parser.matches.SubCommand.{SubCommand}
 use Rattle.tpl_analyser.specs.declared.form.Form.{Form}
 use Rattle.tpl_analyser.specs.declared.form.Form.TheVariants.{Full, Slim}
 use Rattle.tpl_cli.specs.declared.line.Line.{Line}
-use Rattle.tpl_cli.specs.declared.line.Line.TheVariants as line
 use Rattle.tpl_cli.specs.declared.subcommand.Subcommand.{Subcommand}
 use Rattle.tpl_cli.specs.declared.subcommand.Subcommand.TheVariants.{Check, Analyse, Run, Audit, Refute, Draw, Trace}
-use Rattle.tpl_cli.specs.Options.{IsGiven, IsSet}
 use Rattle.tpl_cli.specs.Line.{subcommand_word, search, IsClaim, IsExplained, IsForm, IsLineOf, IsWithin, Means}
 use Rattle.tpl_cli.proofs.GivenOptions.{some_same, same_language, same_number}
 

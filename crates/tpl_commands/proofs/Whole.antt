@@ -1,7 +1,7 @@
 -- A document with a certificate in its place: what is written for it is read back.
-use Rattle.std.proofs.Common.{◌≡◌, ℕ, suc, ◌≤◌, ◌<◌, List, [], ◌∷◌, ◌++◌, Some, Result, Ok, Err, IfOk, string_bytes, inl, inr, codes, map, arith, sym, subst}
+use Rattle.std.proofs.Common.{◌≡◌, ℕ, suc, ◌≤◌, List, [], ◌∷◌, Some, Result, Ok, Err, IfOk, string_bytes, inl, inr, codes, map, arith, sym, subst}
 use Rattle.std.specs.List.{All}
-use Rattle.serde_json.specs.Data.{Data, put, depth, items_depth, members_depth, object}
+use Rattle.serde_json.specs.Data.{Data, put, depth, items_depth, object}
 use Rattle.serde_json.specs.Read.{read, max_depth}
 use Rattle.serde_json.specs.View.{items_of}
 use Rattle.serde_json.proofs.Nesting.{depth-read}

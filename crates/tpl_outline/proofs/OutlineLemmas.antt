@@ -1,5 +1,5 @@
 -- What the stages of some tasks leave of an outline.
-use Rattle.std.proofs.Common.{◌≡◌, ℕ, ◌⊎◌, inl, inr, true, false, List, sym, ◌∙◌, subst}
+use Rattle.std.proofs.Common.{◌≡◌, ℕ, inl, inr, true, false, List, sym, ◌∙◌, subst}
 use Rattle.tpl_words.specs.Members.{mem}
 use Rattle.tpl_model.specs.Certificate.{Assumed}
 use Rattle.tpl_outline.specs.declared.outline.Outline.{Outline}

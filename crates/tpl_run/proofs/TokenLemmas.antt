@@ -4,7 +4,7 @@ use Rattle.std.specs.Prelude.{slice_index_or}
 use Rattle.std.proofs.lemmas.Bool.{cases_eq}
 use Rattle.std.proofs.lemmas.List.{get_or-set_same, get_or-set_other, length-set}
 use Rattle.tpl_model.specs.declared.event.Event.{Event}
-use Rattle.tpl_model.specs.Graph.{TaskGraph, Token, Plain, Linked, token, sources, sources_of, some_in, is_token}
+use Rattle.tpl_model.specs.Graph.{TaskGraph, Token, Plain, Linked, token, sources, sources_of, some_in}
 use Rattle.tpl_model.specs.Facts.{requested, requested_itself}
 use Rattle.tpl_model.specs.Valid.{IsGraph, IsLinked, AreBefore}
 use Rattle.tpl_laws.specs.Runs.{RequestedByASource}

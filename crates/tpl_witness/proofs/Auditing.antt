@@ -18,8 +18,6 @@ use Rattle.tpl_audit.specs.declared.verdict.Verdict.TheVariants as ruled
 use Rattle.tpl_audit.specs.Audit.{first_events, AllHoldAt, FirstFails, IsVerdict}
 use Rattle.tpl_refute.specs.Refuting.{Refutes}
 use Rattle.tpl_refute.proofs.JudgeLemmas.{is_allowed}
-use Rattle.tpl_reader.specs.declared.fault.ReadFault.{ReadFault}
-use Rattle.tpl_reader.specs.declared.fault.ReadFault.TheVariants as faults
 use Rattle.tpl_reader.specs.Begin.{StartValue}
 use Rattle.tpl_reader.specs.Document.{DocumentValue, Spells}
 use Rattle.tpl_reader.specs.Laws.{SpellsOneDocument, SpelledHasNoFault}

@@ -1,8 +1,8 @@
 use Rattle.std.proofs.Common.{◌≡◌, ap, subst, sym, ◌∙◌, map, List, Option}
 use Rattle.clap.specs.Words.{App, Row, Text, is_simple, subcommand_of, subcommand_rows_of, takes}
-use Rattle.tpl_cli.specs.Line.{IsLineOf, Names}
+use Rattle.tpl_cli.specs.Line.{IsLineOf}
 use Rattle.tpl_cli.specs.Usage.{taskgraph}
-use Rattle.tpl_cli.proofs.Lines.{line_within, one_line}
+use Rattle.tpl_cli.proofs.Lines.{one_line}
 use Rattle.tpl_cli.proofs.line.line_of.Goals as goal
 
 pub returns-in-Err-clause-taken : goal.returns-in-Err-clause-taken

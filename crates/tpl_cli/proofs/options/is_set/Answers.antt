@@ -1,4 +1,4 @@
-use Rattle.std.proofs.Common.{Some, ap, refl, sym, ◌∙◌}
+use Rattle.std.proofs.Common.{ap, refl, sym, ◌∙◌}
 use Rattle.std.specs.Option.{option_map}
 use Rattle.core.specs.Cmp.Lexicographic.{same_text, other_text}
 use Rattle.clap.specs.Words.{found_of}

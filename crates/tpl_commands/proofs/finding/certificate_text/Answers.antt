@@ -1,7 +1,4 @@
-use Rattle.std.proofs.Common.{◌≡◌, ◌++◌, ◌∙◌, ap, codes}
-use Rattle.serde_json.specs.Data.{array}
-use Rattle.serde_json.specs.View.{view, items_of}
-use Rattle.tpl_commands.specs.Finding.{written_trees}
+use Rattle.std.proofs.Common.{◌++◌, ◌∙◌, ap, codes}
 use Rattle.tpl_commands.proofs.WrittenTrees.{no_float}
 use Rattle.tpl_commands.proofs.finding.certificate_text.Goals as goal
 
