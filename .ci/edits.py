@@ -189,6 +189,8 @@ class Crate:
                 self.functions[it.path] = None if it.path in self.functions else it
         # functions for whose proofs rattle takes no hole
         self.whole = set()
+        # a function whose proof is a hole may have no body either: then a hole can stand for each function of a cycle too
+        self.has_stubs = True
         self.calls = {}
         for file, functions in self.of_file.items():
             for it in functions:
@@ -230,9 +232,22 @@ class Crate:
         return found
 
     def takes_hole(self, path):
-        """A hole can stand for the function's proof: not where it calls itself, or is proved together with others."""
+        """A hole can stand for the function's proof: not where its body destructures a value that is dropped, nor, where
+        it keeps its body, where it calls itself or is proved together with others."""
         function = self.functions.get(path)
-        return bool(function) and not function.cycle and path not in self.calls[path] and path not in self.whole
+        if not function or path in self.whole or (function.owner.endswith("Drop") and function.name == "drop"):
+            return False
+        return self.has_stubs or not function.cycle and path not in self.calls[path]
+
+    def cycles(self):
+        """The functions of each cycle of calls, by the folder of its proof files."""
+        found = {}
+        for it in self.functions.values():
+            if it and it.cycle:
+                module, _, name = it.cycle.rpartition("+")
+                folder = "/".join(["proofs", *filter(None, module.split("::")), f"+{name}"])
+                found.setdefault(folder, set()).add(it.path)
+        return found
 
     def places(self, edit):
         """The functions into whose bodies the edit falls, or None where a part of it falls outside of bodies."""

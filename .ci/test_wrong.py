@@ -531,9 +531,28 @@ class Told(unittest.TestCase):
 
     def test_no_hole_where_a_function_calls_itself(self):
         text = "fn again(n: u8) -> u8 {\n    again(n)\n}\n\nfn once(n: u8) -> u8 {\n    again(n)\n}\n"
-        made = edits.Crate("two", {"src/lib.rt": text})
+        made, of_cycle = edits.Crate("two", {"src/lib.rt": text}), crate()
+        made.has_stubs = of_cycle.has_stubs = False
         self.assertEqual([made.takes_hole(it) for it in ("again", "once", "none")], [False, True, False])
-        self.assertFalse(crate().takes_hole("pair::even"))
+        self.assertFalse(of_cycle.takes_hole("pair::even"))
+
+    def test_a_hole_for_each_that_has_no_body(self):
+        made = edits.Crate("two", {"src/lib.rt": "impl Drop for Pair {\n    fn drop(self) {\n        let Pair(_) = self;\n    }\n}\n"})
+        self.assertEqual([crate().takes_hole(f"pair::{it}") for it in ("even", "Pair::first", "nowhere")], [True, True, False])
+        self.assertFalse(made.takes_hole("PairDrop::drop"))
+
+    def test_proofs_of_a_cycle_go_with_all_its_functions(self):
+        made, proofs = crate(), {"proofs/pair/+parity/Proof.antt": "both"}
+        self.assertEqual(made.cycles(), {"proofs/pair/+parity": {"pair::even", "pair::odd"}})
+        for holes, is_there in (({"pair::even"}, True), ({"pair::even", "pair::odd"}, False)):
+            self.assertEqual("proofs/pair/+parity/Proof.antt" in WRONG.with_holes(made, {**made.texts, **proofs}, holes), is_there)
+
+    def test_bodies_that_are_left_out(self):
+        text = "/// It.\n#[cycle(a)]\nfn f(\n    n: u8,\n) -> u8 {\n    fn g() {}\n    f(n)\n}\n\nfn g() {\n    f(1);\n}\n"
+        made = edits.Crate("two", {"src/lib.rt": text})
+        left = WRONG.stubbed(made, made.texts, {"f"})["src/lib.rt"]
+        self.assertEqual(left, "/// It.\nfn f(\n    n: u8,\n) -> u8 { unreachable!() }\n\nfn g() {\n    f(1);\n}\n")
+        self.assertEqual(WRONG.stubbed(made, made.texts, set()), made.texts)
 
     def test_lanes(self):
         words = ["--jobs", "3", "tpl_words"]
