@@ -5,8 +5,8 @@ use Rattle.tpl_cert.specs.Seen.{tree_of}
 use Rattle.tpl_cert.proofs.Whole.{no_spelling, wrong_names, spells}
 use Rattle.tpl_cert.proofs.from.tree_from.Goals as goal
 
-pub returns-in-Err-Shape-clause-err : goal.returns-in-Err-Shape-clause-err
-returns-in-Err-Shape-clause-err c = no_spelling (view c.args.value.now) (rw c.in-Err-Shape.field-0-is at c.in-Err-Shape.ensures)
+pub returns-in-Err-Wrong-clause-err : goal.returns-in-Err-Wrong-clause-err
+returns-in-Err-Wrong-clause-err c = no_spelling (view c.args.value.now) (rw c.in-Err-Wrong.field-0-is at c.in-Err-Wrong.ensures)
 
 pub returns-in_err-tree-clause-err : goal.returns-in_err-tree-clause-err
 returns-in_err-tree-clause-err c =
