@@ -221,15 +221,22 @@ class Crate:
         return self._named
 
     def reach(self, path):
-        """The functions on whose proofs a function's may rest: those that it calls, and what is behind one of them that
-        keeps its proof."""
+        """The functions on whose proofs a function's may rest: those that it calls, all of a cycle that it calls, which have
+        one proof, and what is behind one of them that keeps its proof."""
         found, left = set(), [path]
         while left:
             for it in self.calls.get(left.pop(), ()):
-                if it not in found:
-                    found.add(it)
-                    left += [] if self.takes_hole(it) else [it]
+                for each in self.together(it) - found:
+                    found.add(each)
+                    left += [] if self.takes_hole(each) else [each]
         return found
+
+    def together(self, path):
+        """The function, and those that are in a cycle of calls with it."""
+        function = self.functions.get(path)
+        if not function or not function.cycle:
+            return {path}
+        return {it.path for it in self.functions.values() if it and it.cycle == function.cycle}
 
     def takes_hole(self, path):
         """A hole can stand for the function's proof: not where its body destructures a value that is dropped, nor, where
@@ -320,16 +327,18 @@ def twin(crate, path, number, edit=None):
     return Edit(edit.name if edit else name, (change,), tuple(files)), f"{path}_twin_{number}"
 
 
-def next_round(crate, left, places, first=frozenset()):
+def next_round(crate, left, places, first=frozenset(), unedited=()):
     """Chooses from the edits that are left those of one round: at most one a function and a cycle, none in a function that
     comes by calls to another one that is edited, as far as names tell; and each applies beside the others. Those in the
-    functions `first` are chosen before others. Returns them and the crate's texts with all of them."""
+    functions `first` are chosen before others, and none in one to which those that are tried `unedited` come. Returns them
+    and the crate's texts with all of them."""
     many = {}
     for it in left:
         for path in places[it.name]:
             many[path] = many.get(path, 0) + 1
     order = sorted(left, key=lambda it: (not places[it.name] <= first, -max(many[path] for path in places[it.name])))
-    chosen, texts, taken, cycles, reached = [], dict(crate.texts), set(), set(), set()
+    chosen, texts, taken, cycles = [], dict(crate.texts), set(), set()
+    reached = set().union(*(crate.reach(path) for path in unedited))
     for it in order:
         own = places[it.name]
         own_cycles = {crate.functions[path].cycle for path in own} - {""}

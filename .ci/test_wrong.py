@@ -263,6 +263,33 @@ class Twins(unittest.TestCase):
         self.assertEqual([sorted(it) for it in trial.places.values()], [["pair::alone"], ["pair::alone"], ["pair::odd"]])
 
 
+class Cycles(unittest.TestCase):
+    TEXT = """#[cycle(parity)]
+fn even(n: u8) -> bool {
+    n == 0 || odd(n - 1)
+}
+
+#[cycle(parity)]
+fn odd(n: u8) -> bool {
+    n != 0 && even(n - 2)
+}
+
+fn asks(n: u8) -> bool {
+    odd(n)
+}
+"""
+
+    def test_one_proof_is_no_place_for_two_edits(self):
+        made = edits.Crate("two", {"src/lib.rt": self.TEXT})
+        given = [edit("a", "n == 0", "n == 1", "src/lib.rt"), edit("b", "    odd(n)", "    !odd(n)", "src/lib.rt")]
+        places = {it.name: made.places(it) for it in given}
+        self.assertEqual(places, {"a": {"even"}, "b": {"asks"}})
+        # what asks calls is proved together with what is edited
+        self.assertEqual(made.reach("asks"), {"even", "odd"})
+        self.assertEqual(len(edits.next_round(made, given, places)[0]), 1)
+        self.assertEqual(edits.next_round(made, given[:1], places, unedited=["asks"])[0], [])
+
+
 class FirstRound(unittest.TestCase):
     """The first round, where a prover that is made up answers."""
 
