@@ -372,7 +372,7 @@ class Beside(unittest.TestCase):
             beside = WRONG.Beside()
             beside.file = f"{folder}/log"
             with open(beside.file, "w", encoding="utf-8") as it:
-                it.write("rt: tpl_one proved\nrt: tpl_two proved\nrt: tpl_three not proved\n")
+                it.write("rt: tpl_one proved\nrt: tpl_two is kept: an earlier run proved the same files\nrt: tpl_three not proved\n")
             self.assertEqual((beside.is_over(), beside.wait_for(["tpl_one", "tpl_two"])), (False, set()))
             with open(beside.file, "a", encoding="utf-8") as it:
                 it.write(f"2 passed, 1 failed\n{WRONG.ENDED}\n")
