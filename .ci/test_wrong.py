@@ -578,7 +578,8 @@ class Told(unittest.TestCase):
         text = "/// It.\n#[cycle(a)]\nfn f(\n    n: u8,\n) -> u8 {\n    fn g() {}\n    f(n)\n}\n\nfn g() {\n    f(1);\n}\n"
         made = edits.Crate("two", {"src/lib.rt": text})
         left = WRONG.stubbed(made, made.texts, {"f"})["src/lib.rt"]
-        self.assertEqual(left, "/// It.\nfn f(\n    n: u8,\n) -> u8 { unreachable!() }\n\nfn g() {\n    f(1);\n}\n")
+        self.assertEqual(left, "/// It.\n\nfn f(\n    n: u8,\n) -> u8 { unreachable!()\n\n\n }\n\nfn g() {\n    f(1);\n}\n")
+        self.assertEqual(left.count("\n"), text.count("\n"))
         self.assertEqual(WRONG.stubbed(made, made.texts, set()), made.texts)
 
     def test_lanes(self):
