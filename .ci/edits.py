@@ -247,13 +247,14 @@ class Crate:
         return self.has_stubs or not function.cycle and path not in self.calls[path]
 
     def cycles(self):
-        """The functions of each cycle of calls, by the folder of its proof files."""
+        """The functions of each cycle of calls, by the folder of its proof files: that of their module, or of their type."""
         found = {}
         for it in self.functions.values():
             if it and it.cycle:
                 module, _, name = it.cycle.rpartition("+")
-                folder = "/".join(["proofs", *filter(None, module.split("::")), f"+{name}"])
-                found.setdefault(folder, set()).add(it.path)
+                for home in {module, it.path.rpartition("::")[0]}:
+                    folder = "/".join(["proofs", *filter(None, home.split("::")), f"+{name}"])
+                    found.setdefault(folder, set()).update(self.together(it.path))
         return found
 
     def places(self, edit):

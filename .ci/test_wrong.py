@@ -571,6 +571,9 @@ class Told(unittest.TestCase):
     def test_proofs_of_a_cycle_go_with_all_its_functions(self):
         made, proofs = crate(), {"proofs/pair/+parity/Proof.antt": "both"}
         self.assertEqual(made.cycles(), {"proofs/pair/+parity": {"pair::even", "pair::odd"}})
+        text = "impl Walk {\n    #[cycle(walk)]\n    fn on(&self) {\n        self.on()\n    }\n}\n"
+        walk = edits.Crate("two", {"src/lib.rt": "struct Walk;\n" + text}).cycles()
+        self.assertEqual(walk["proofs/Walk/+walk"], {"Walk::on"})
         for holes, is_there in (({"pair::even"}, True), ({"pair::even", "pair::odd"}, False)):
             self.assertEqual("proofs/pair/+parity/Proof.antt" in WRONG.with_holes(made, {**made.texts, **proofs}, holes), is_there)
 
