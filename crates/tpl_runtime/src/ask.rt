@@ -38,6 +38,7 @@ impl<'g, K: Drop, W: Item<K>> Shared<'g, K, W> {
             × (seat.new ≡ record seat.old { last = Some (n, Already token) })
             × IsSeen graph.now.graph inputs.now seat.old.mine seat.old.last (Already token) n)
             (seat.new ≡ seat.old) }
+        ensures halted { self.new.halted ≡ self.old.halted }
     {
         if is_worker(seat.actor()) || !self.hall.fits(graph, inputs, seat) {
             return Asked::Stray;

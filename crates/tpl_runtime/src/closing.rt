@@ -1,12 +1,13 @@
 //! What a session leaves, and what is compared when it is closed.
 
-ghost use Rattle.std.specs.Prelude.{◌≡◌, ◌↔◌, ◌+◌, true, length, map, reverse, All, IsTrue, IfOk, OnOk};
+ghost use Rattle.std.specs.Prelude.{◌≡◌, ◌↔◌, ◌+◌, Err, true, length, map, reverse, All, IsTrue, IfOk, IfErr, OnOk};
 ghost use Rattle.tpl_model.specs.Rules.{Run, Complete, status, label, carried};
 ghost use Rattle.tpl_draft.specs.Ids.{task_number};
 ghost use Rattle.tpl_machine.specs.Journal.{named};
 ghost use Rattle.tpl_hall.specs.Answers.{answers, shown};
 ghost use Rattle.tpl_hall.specs.Closes.{AllOwn, AllLast};
 ghost use Rattle.tpl_hall.specs.Lists.{IsSeat, all_seated};
+ghost use Rattle.tpl_runtime.specs.declared.closing.CloseWhy.TheVariants.{SeatsMissing};
 ghost use Rattle.tpl_runtime.specs.Reports.{each_below, those_below, is_unseen, AreOnce};
 
 use crate::tables::{Told, tables};
@@ -113,6 +114,7 @@ fn judge<K: Drop, W: Item<K>>(
     made: usize,
     items: &[W],
 ) -> Result<Told, CloseWhy>
+    ensures missing { (result ≡ Err SeatsMissing) ↔ (length seats.now ≡ made → ⊥) }
     ensures run { OnOk result (Run graph.now.graph inputs.now (reverse hall.now.journal.items)) }
     ensures own { OnOk result (AllOwn seats.now hall.now.journal.items) }
     ensures last { OnOk result (AllLast graph.now.graph inputs.now seats.now
@@ -165,6 +167,14 @@ pub fn settle<K: Drop, W: Item<K>>(
     made: usize,
     items: Vec<W>,
 ) -> Result<Report<K, W>, CloseFault<K, W>>
+    ensures missing { IfErr result (λ e. (e.why ≡ SeatsMissing) ↔ (length seats.now ≡ made → ⊥)) }
+    ensures made { OnOk result (length seats.now ≡ made) }
+    ensures back { IfErr result (λ e. (e.journal ≡ hall.entry.journal)
+        × (e.receipts ≡ hall.entry.receipts)
+        × (e.items ≡ items)) }
+    ensures given { IfOk result (λ r. (r.journal ≡ hall.entry.journal)
+        × (r.receipts ≡ hall.entry.receipts)
+        × (r.items ≡ items)) }
     ensures run { IfOk result (λ r. Run graph.now.graph inputs.now (reverse r.journal.items)) }
     ensures own { IfOk result (λ r. AllOwn seats.now r.journal.items) }
     ensures last { IfOk result (λ r. AllLast graph.now.graph inputs.now seats.now r.journal.items) }

@@ -1,6 +1,7 @@
 //! What workers share, seen without its items.
 
 ghost use Rattle.std.specs.Prelude.{◌≡◌};
+ghost use Rattle.tpl_queue.specs.Tally.{first_half, second_half, both};
 
 use crate::session::Session;
 use std::sync::Wait;
@@ -15,6 +16,7 @@ pub(crate) trait Crew {
 
     ghost use Rattle.std.specs.Prelude.{◌≡◌};
     ghost use Rattle.atomic_table.specs.Seated.{TableId};
+    ghost use Rattle.tpl_queue.specs.Tally.{first_half, second_half, both};
 
     ghost queue: { Self → TableId };
 
@@ -35,8 +37,9 @@ pub(crate) trait Crew {
     /// Cuts a pass in two.
     fn cut(&self, pass: QueuePass<Self::Load>) -> (QueuePass<Self::Load>, QueuePass<Self::Load>)
         requires { pass.queue ≡ queue self.now }
-        ensures first { result.0.queue ≡ queue self.now }
-        ensures second { result.1.queue ≡ queue self.now };
+        ensures queue { (result.0.queue ≡ queue self.now) × (result.1.queue ≡ queue self.now) }
+        ensures first { result.0.tally ≡ first_half pass.tally }
+        ensures second { result.1.tally ≡ second_half pass.tally };
 
     /// Makes one pass of two.
     fn mend(
@@ -46,7 +49,8 @@ pub(crate) trait Crew {
     ) -> QueuePass<Self::Load>
         requires first { first.queue ≡ queue self.now }
         requires second { second.queue ≡ queue self.now }
-        ensures { result.queue ≡ queue self.now };
+        ensures queue { result.queue ≡ queue self.now }
+        ensures both { result.tally ≡ both first.tally second.tally };
 }
 
 impl<'g, K: Drop, W: Item<K>> Crew for Session<'g, K, W> {
@@ -73,8 +77,9 @@ impl<'g, K: Drop, W: Item<K>> Crew for Session<'g, K, W> {
 
     fn cut(&self, pass: QueuePass<Vec<W>>) -> (QueuePass<Vec<W>>, QueuePass<Vec<W>>)
         requires { pass.queue ≡ self.now.queue }
-        ensures first { result.0.queue ≡ self.now.queue }
-        ensures second { result.1.queue ≡ self.now.queue }
+        ensures queue { (result.0.queue ≡ self.now.queue) × (result.1.queue ≡ self.now.queue) }
+        ensures first { result.0.tally ≡ first_half pass.tally }
+        ensures second { result.1.tally ≡ second_half pass.tally }
     {
         self.split(pass)
     }
@@ -82,7 +87,8 @@ impl<'g, K: Drop, W: Item<K>> Crew for Session<'g, K, W> {
     fn mend(&self, first: QueuePass<Vec<W>>, second: QueuePass<Vec<W>>) -> QueuePass<Vec<W>>
         requires first { first.queue ≡ self.now.queue }
         requires second { second.queue ≡ self.now.queue }
-        ensures { result.queue ≡ self.now.queue }
+        ensures queue { result.queue ≡ self.now.queue }
+        ensures both { result.tally ≡ both first.tally second.tally }
     {
         self.join(first, second)
     }

@@ -1,9 +1,10 @@
 //! What the session's lock guards.
 
-ghost use Rattle.std.specs.Prelude.{◌≡◌, [], None, IfOk, IfErr, IfSome};
+ghost use Rattle.std.specs.Prelude.{◌≡◌, ◌↔◌, ◌≤◌, ◌⊎◌, ◌++◌, ◌∷◌, [], Err, None, true, IfOk, IfErr, IfSome, OnOk, OnErr, vec_capacity, vec_len};
 ghost use Rattle.tpl_hall.specs.Moves.{Moves};
 ghost use Rattle.tpl_hall.specs.Stays.{MayEnd};
-ghost use Rattle.tpl_hall.specs.declared.seat.SeatFault.TheVariants.{BadActor};
+ghost use Rattle.tpl_hall.specs.Lists.{is_seated};
+ghost use Rattle.tpl_hall.specs.declared.seat.SeatFault.TheVariants.{BadActor, SeatTaken};
 
 use crate::put::{put_after, put_all};
 use crate::queue::{ItemPass, ItemQueue};
@@ -207,7 +208,8 @@ impl<'g, K: Drop, W: Item<K>> Shared<'g, K, W> {
 
     /// Workers leave at their next section.
     pub fn halt(&mut self)
-        ensures { self.new.hall.core ≡ self.old.hall.core }
+        ensures halted { self.new.halted ≡ true }
+        ensures hall { self.new.hall.core ≡ self.old.hall.core }
     {
         self.halted = true;
     }
@@ -216,6 +218,11 @@ impl<'g, K: Drop, W: Item<K>> Shared<'g, K, W> {
     pub fn seat(&mut self, alloc: Global, actor: Actor) -> Result<Seat, SeatFault>
         ensures seat { IfOk result (λ s. (s.actor ≡ actor) × (s.mine ≡ []) × (s.last ≡ None)) }
         ensures fault { IfErr result (λ fault. fault ≡ BadActor → ⊥) }
+        ensures taken { (result ≡ Err SeatTaken) ↔ ((is_seated actor self.old.seats.items ≡ true)
+            ⊎ (vec_capacity self.old.seats ≤ vec_len self.old.seats)) }
+        ensures ok { OnOk result (self.new.seats.items ≡ self.old.seats.items ++ actor ∷ []) }
+        ensures err { OnErr result (self.new.seats.items ≡ self.old.seats.items) }
+        ensures halted { self.new.halted ≡ self.old.halted }
     {
         if has_seat(actor, self.seats.as_slice()) || self.seats.len() >= self.seats.capacity() {
             return Err(SeatFault::SeatTaken);
