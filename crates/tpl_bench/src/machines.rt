@@ -1,105 +1,85 @@
-//! How long the steps of the indexed machine take in long runs, beside those of the plain one: for seven courses of 770
-//! to 68,639 events the nanoseconds an event on both, the quickest of 20 runs on the indexed one, and one run on the
-//! plain one.
+//! How long the steps of the indexed machine take, beside those of the plain one: the nanoseconds an event of the
+//! quickest of 20 runs on the indexed one, and of one run on the plain one.
 
-use crate::courses::{COURSES, Course, LENGTHS, Length};
-use crate::orders::{Order, play};
+use crate::extent::Extent;
+use crate::fault::refused;
+use crate::timing::for_each;
 use std::alloc::Global;
 use std::io;
 use std::time::{Clock, Duration, Instant};
 use tpl_fast::Fast;
 use tpl_graph::Graph;
+use tpl_journal::read_journal;
 use tpl_machine::{Core, Machine};
+use tpl_model::Event;
+use tpl_reader::Document;
 use tpl_words::Inputs;
 
 /// How often a run is measured on the indexed machine.
 const TIMES: u32 = 20;
 
-/// The length of a run, and the time of its steps.
-#[derive(Clone, Copy)]
-struct Played {
-    events: usize,
-    time: Duration,
-}
-
-impl Played {
-    /// Nanoseconds an event.
-    fn rate(self) -> u128 {
-        self.time.as_nanos() / (self.events as u128).max(1)
+/// The events of a document's journal.
+pub(crate) fn events_of(alloc: Global, read: &Document) -> io::Result<Vec<Event>> {
+    match read_journal(alloc, &read.graph, read.journal.as_str()) {
+        Ok(events) => Ok(events),
+        Err(_) => Err(refused()),
     }
 }
 
-fn measured<C: Core + Drop>(clock: &impl Clock, mut core: C, order: Order) -> io::Result<Played> {
-    let start = Instant::now(clock)?;
-    play(&mut core, order);
-    let time = start.elapsed(clock)?;
-    Ok(Played {
-        events: core.events().len(),
-        time,
-    })
+/// The values of a document's inputs.
+pub(crate) fn inputs_of(read: &Document) -> Inputs {
+    read.inputs().unwrap_or(Inputs::new(0))
 }
 
-fn on_plain(clock: &impl Clock, alloc: Global, graph: &Graph, order: Order) -> io::Result<Played> {
-    let machine = Machine::open(alloc, graph, Inputs::new(0))?;
-    measured(clock, machine, order)
-}
-
-fn on_fast(clock: &impl Clock, alloc: Global, graph: &Graph, order: Order) -> io::Result<Played> {
-    let fast = Fast::open(alloc, graph, Inputs::new(0))?;
-    measured(clock, fast, order)
-}
-
-/// The quickest of several runs on the indexed machine.
-fn quickest(clock: &impl Clock, alloc: Global, graph: &Graph, order: Order) -> io::Result<Played> {
-    let mut best = on_fast(clock, alloc, graph, order)?;
-    for _ in 1..TIMES {
-        let played = on_fast(clock, alloc, graph, order)?;
-        if played.time < best.time {
-            best = played;
+/// Does the events on a machine, which all have to be allowed.
+pub(crate) fn step_all<C: Core>(core: &mut C, events: &[Event]) -> io::Result<()> {
+    for event in events {
+        if core.step(*event).is_err() {
+            return Err(refused());
         }
-    }
-    Ok(best)
-}
-
-fn both(clock: &impl Clock, alloc: Global, length: Length) -> io::Result<(Played, Played)> {
-    let graph = length.graph(alloc)?;
-    let fast = quickest(clock, alloc, &graph, length.order)?;
-    let plain = on_plain(clock, alloc, &graph, length.order)?;
-    Ok((plain, fast))
-}
-
-fn show_lengths(rt: &HostRuntime, course: Course) -> io::Result<()> {
-    let (plain, fast) = both(rt, rt.alloc(), course.length(0))?;
-    println!(rt;
-        "machines, {}: {} events on the plain machine, {} on the indexed one",
-        course.name(),
-        plain.events,
-        fast.events
-    )
-}
-
-fn show_rates(rt: &HostRuntime, course: Course) -> io::Result<()> {
-    for length in 0..LENGTHS {
-        let (plain, fast) = both(rt, rt.alloc(), course.length(length))?;
-        println!(rt;
-            "{}, {} events: {} ns an event on the plain machine, {} on the indexed one",
-            course.name(),
-            fast.events,
-            plain.rate(),
-            fast.rate()
-        )?;
     }
     Ok(())
 }
 
-/// Plays the shortest run of each course on both machines, or measures all.
-pub(crate) fn show_machines(rt: &HostRuntime, measures: bool) -> io::Result<()> {
-    for course in COURSES {
-        if measures {
-            show_rates(rt, course)?;
-        } else {
-            show_lengths(rt, course)?;
-        }
+/// How long the events take on a machine.
+fn step_time<C: Core + Drop>(
+    clock: &impl Clock,
+    mut core: C,
+    events: &[Event],
+) -> io::Result<Duration> {
+    let start = Instant::now(clock)?;
+    step_all(&mut core, events)?;
+    start.elapsed(clock)
+}
+
+/// The shortest time of the events on the indexed machine.
+fn fast_time(
+    rt: &HostRuntime,
+    graph: &Graph,
+    inputs: Inputs,
+    events: &[Event],
+    extent: Extent,
+) -> io::Result<Duration> {
+    let mut least = Duration::MAX;
+    for _ in 0..extent.times(TIMES) {
+        let fast = Fast::open(rt.alloc(), graph, inputs.copy())?;
+        least = least.min(step_time(rt, fast, events)?);
+    }
+    Ok(least)
+}
+
+/// Prints how many events a document's journal has, and how long each takes on both machines.
+pub(crate) fn show_machines(rt: &HostRuntime, read: &Document, extent: Extent) -> io::Result<()> {
+    let events = events_of(rt.alloc(), read)?;
+    let machine = Machine::open(rt.alloc(), &read.graph, inputs_of(read))?;
+    let plain = step_time(rt, machine, &events)?;
+    let fast = fast_time(rt, &read.graph, inputs_of(read), &events, extent)?;
+    let count = events.len();
+    println!(rt; "{count} events on both machines")?;
+    if extent.has_times() {
+        let plain = for_each(plain, count);
+        let fast = for_each(fast, count);
+        println!(rt; "{plain} ns an event on the plain machine, {fast} on the indexed one")?;
     }
     Ok(())
 }

@@ -1,72 +1,117 @@
-//! Measurements, a word for each: `queue`, `runs`, `graph`, `reader`, `checker`, `machines`, `analyser`, `audits` and
-//! `refutes`.
+//! Measurements of a document, a word for each, and of the queue between threads.
 //!
-//! With one of these words as its argument the program prints what it measured. With none it does a little of each, and
-//! prints what came of it. With `document` and a name it prints a document whose work is counted elsewhere.
+//! The words are `read`, `check`, `analyse DEPTH`, `machines`, `audit`, `refute RUNS` and `run WORKERS [MICROSECONDS]` for
+//! the document that comes on standard input, and `queue`, which needs none. The program prints what came of it and how
+//! long it took. With no word it does a little of each, over the documents that lie in the folder in which it is run, and
+//! prints what came of it.
 #![tactic(auto)]
 
-mod audits;
-mod building;
+mod analysing;
+mod asked;
+mod auditing;
 mod checking;
-mod counts;
-mod courses;
-mod documents;
-mod drafts;
-mod groups;
-mod leaves;
+mod extent;
+mod fault;
+mod input;
 mod locked;
 mod machines;
-mod orders;
-mod plans;
 mod pool;
 mod queue;
 mod reading;
-mod refutes;
-mod runs;
-mod searching;
+mod refuting;
+mod running;
 mod session;
-mod shapes;
 mod shared;
 mod spins;
-mod stages;
 mod timing;
 
-use crate::audits::show_audits;
-use crate::building::{measure_graphs, show_graph};
-use crate::checking::show_checks;
-use crate::counts::show_document;
+use crate::analysing::show_analysis;
+use crate::asked::{Asked, asked_by};
+use crate::auditing::show_audit;
+use crate::checking::show_check;
+use crate::extent::Extent;
+use crate::input::read_input;
 use crate::machines::show_machines;
 use crate::queue::show_queue;
-use crate::reading::{measure_reading, show_reading};
-use crate::refutes::{measure_refutes, show_refutes};
-use crate::runs::show_runs;
-use crate::searching::show_searches;
-use std::{env, io};
+use crate::reading::show_reading;
+use crate::refuting::show_refutation;
+use crate::running::show_run;
+use std::sync::Wait;
+use std::thread::Threads;
+use std::time::Clock;
+use std::{env, fs, io};
+use tpl_reader::read_document;
 
-/// A little of each but the queue and the runs.
-fn show_all(rt: &HostRuntime) -> io::Result<()> {
-    show_graph(rt)?;
-    show_reading(rt)?;
-    show_checks(rt, false)?;
-    show_machines(rt, false)?;
-    show_searches(rt, false)?;
-    show_audits(rt, false)?;
-    show_refutes(rt)
+/// What is printed where the words ask for nothing that can be measured.
+const USAGE: &str =
+    "queue, read, check, analyse DEPTH, machines, audit, refute RUNS or run WORKERS [MICROSECONDS]";
+
+/// The file whose lines have a document's name, and the words for what is done with it.
+const LIST: &str = "list";
+
+/// Does what is asked with the document that the bytes spell.
+fn show<R: Threads + Wait + Sync + Clock>(
+    rt: &HostRuntime,
+    threads: &R,
+    asked: Asked,
+    bytes: &[u8],
+    extent: Extent,
+) -> io::Result<()> {
+    match read_document(rt.alloc(), bytes) {
+        Ok(document) => match asked {
+            Asked::Read => show_reading(rt, &document, bytes, extent),
+            Asked::Check => show_check(rt, &document, bytes, extent),
+            Asked::Analyse(depth) => show_analysis(rt, &document, depth, extent),
+            Asked::Machines => show_machines(rt, &document, extent),
+            Asked::Audit => show_audit(rt, &document, extent),
+            Asked::Refute(runs) => show_refutation(rt, &document, runs, extent),
+            Asked::Run(crew) => show_run(rt, threads, &document.graph, crew, extent),
+        },
+        Err(fault) => println!(rt; "no document: {fault}"),
+    }
 }
 
-/// What the word asks for, but the queue and the runs.
-fn measure(rt: &HostRuntime, word: &str) -> io::Result<()> {
-    match word {
-        "graph" => measure_graphs(rt),
-        "reader" => measure_reading(rt),
-        "checker" => show_checks(rt, true),
-        "machines" => show_machines(rt, true),
-        "analyser" => show_searches(rt, true),
-        "audits" => show_audits(rt, true),
-        "refutes" => measure_refutes(rt),
-        _ => println!(rt;
-            "queue, runs, graph, reader, checker, machines, analyser, audits or refutes"
-        ),
+/// Does a little of what a line of the list asks for.
+fn show_line<R: Threads + Wait + Sync + Clock>(
+    rt: &HostRuntime,
+    threads: &R,
+    line: &str,
+) -> io::Result<()> {
+    let mut words = line.split(' ');
+    let text = fs::read_to_string(rt, words.next().unwrap_or(""))?;
+    let word = words.next().unwrap_or("");
+    let number = words.next();
+    print!(rt; "{line}: ")?;
+    match asked_by(word, number, words.next()) {
+        Some(asked) => show(rt, threads, asked, text.as_bytes(), Extent::Little),
+        None => println!(rt; "{USAGE}"),
+    }
+}
+
+/// Does a little of what each line of the list asks for.
+fn show_list<R: Threads + Wait + Sync + Clock>(rt: &HostRuntime, threads: &R) -> io::Result<()> {
+    let list = fs::read_to_string(rt, LIST)?;
+    for line in list.lines() {
+        show_line(rt, threads, line)?;
+    }
+    Ok(())
+}
+
+/// Measures the document on standard input.
+fn measure<R: Threads + Wait + Sync + Clock>(
+    rt: &HostRuntime,
+    threads: &R,
+    word: &str,
+    numbers: (Option<String>, Option<String>),
+) -> io::Result<()> {
+    let first = numbers.0.as_ref().map(|number| number.as_str());
+    let second = numbers.1.as_ref().map(|number| number.as_str());
+    match asked_by(word, first, second) {
+        Some(asked) => {
+            let bytes = read_input(rt)?;
+            show(rt, threads, asked, &bytes, Extent::Whole)
+        }
+        None => println!(rt; "{USAGE}"),
     }
 }
 
@@ -74,16 +119,13 @@ fn main(rt: HostRuntime) -> io::Result<()> {
     let mut words = env::args(&rt)?;
     match words.nth(1) {
         None => {
-            show_queue(&rt, rt.alloc(), false)?;
-            show_runs(&rt, rt.alloc(), false)?;
-            show_all(&rt)
+            show_queue(&rt, rt.alloc(), Extent::Little)?;
+            show_list(&rt, &rt)
         }
-        Some(word) if word.as_str() == "queue" => show_queue(&rt, rt.alloc(), true),
-        Some(word) if word.as_str() == "runs" => show_runs(&rt, rt.alloc(), true),
-        Some(word) if word.as_str() == "document" => match words.next() {
-            None => show_document(&rt, ""),
-            Some(name) => show_document(&rt, name.as_str()),
-        },
-        Some(word) => measure(&rt, word.as_str()),
+        Some(word) if word.as_str() == "queue" => show_queue(&rt, rt.alloc(), Extent::Whole),
+        Some(word) => {
+            let number = words.next();
+            measure(&rt, &rt, word.as_str(), (number, words.next()))
+        }
     }
 }

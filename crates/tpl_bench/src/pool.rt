@@ -1,15 +1,18 @@
-//! The jobs of a graph on a bare pool of threads: a list under a lock, and nothing that is written of them.
+//! The jobs of a graph of roots and continuations on a bare pool of threads: a list under a lock, and nothing that is
+//! written of them.
 
-use crate::plans::Load;
+use crate::session::Ran;
 use std::alloc::{AllocError, Global};
 use std::collections::VecDeque;
 use std::sync::{Condvar, Mutex, Wait};
 use std::thread::Threads;
-use std::time::{Clock, Duration, Instant};
+use std::time::{Clock, Instant};
 use std::{io, thread};
+use tpl_graph::Graph;
 use tpl_jobs::WorkItem;
+use tpl_words::{SiteId, TaskId};
 
-/// The item of a task, if it has one.
+/// The job of a task, if it has one.
 type Item = Option<WorkItem<()>>;
 
 /// What the pool's lock guards.
@@ -17,7 +20,7 @@ type Item = Option<WorkItem<()>>;
 struct Line {
     /// The tasks that may be run.
     ready: VecDeque<usize>,
-    /// By task, its item, until it is taken.
+    /// By task, its job, until it is taken.
     items: Vec<Item>,
     /// How many tasks aren't done.
     left: usize,
@@ -46,40 +49,79 @@ impl Line {
         }
     }
 
-    /// Makes those tasks ready that continue one which is done.
-    fn finish(&mut self, load: Load, task: usize) {
+    /// Makes the followers of a task ready, which is done.
+    fn finish(&mut self, followers: &[usize]) {
         self.left = self.left.saturating_sub(1);
-        let first = task.saturating_add(1);
-        let end = first.saturating_add(load.plan.followers(task));
-        for follower in first..end.min(load.tasks) {
-            let _room = self.ready.push_back(follower);
+        for follower in followers {
+            let _room = self.ready.push_back(*follower);
         }
     }
 }
 
-/// A pool's line, with those tasks ready that continue none.
-fn line_of(alloc: Global, load: Load, items: Vec<WorkItem<()>>) -> Result<Line, AllocError> {
-    let mut ready = VecDeque::with_capacity(alloc, load.tasks)?;
-    let mut places = Vec::with_capacity(alloc, load.tasks)?;
+/// The task that one continues.
+fn antecedent_of(graph: &Graph, task: usize) -> Option<usize> {
+    if task < graph.len() {
+        let antecedent = graph.antecedent(TaskId(task as u16))?;
+        Some(antecedent.0 as usize)
+    } else {
+        None
+    }
+}
+
+/// By task, those that continue it.
+fn followers_of(alloc: Global, graph: &Graph) -> Result<Vec<Vec<usize>>, AllocError> {
+    let mut followers: Vec<Vec<usize>> = Vec::with_capacity(alloc, graph.len())?;
+    for task in 0..graph.len() {
+        followers.push(Vec::new(alloc))?;
+        if let Some(antecedent) = antecedent_of(graph, task) {
+            if let Some(list) = followers.get_mut(antecedent) {
+                list.push(task)?;
+            }
+        }
+    }
+    Ok(followers)
+}
+
+/// The tasks that continue none.
+fn ready_first(alloc: Global, graph: &Graph) -> Result<VecDeque<usize>, AllocError> {
+    let mut ready = VecDeque::with_capacity(alloc, graph.len())?;
+    for task in 0..graph.len() {
+        if antecedent_of(graph, task).is_none() {
+            ready.push_back(task)?;
+        }
+    }
+    Ok(ready)
+}
+
+/// A place for a job of each task.
+fn empty_places(alloc: Global, count: usize) -> Result<Vec<Item>, AllocError> {
+    let mut places = Vec::with_capacity(alloc, count)?;
+    for _ in 0..count {
+        places.push(None)?;
+    }
+    Ok(places)
+}
+
+/// By task, its job. The last one counts where a task has several.
+fn by_task(
+    alloc: Global,
+    graph: &Graph,
+    items: Vec<WorkItem<()>>,
+) -> Result<Vec<Item>, AllocError> {
+    let mut places = empty_places(alloc, graph.len())?;
     for item in items {
-        places.push(Some(item))?;
-    }
-    for number in 0..load.tasks {
-        if load.plan.antecedent(number).is_none() {
-            ready.push_back(number)?;
-        }
-        if places.len() <= number {
-            places.push(None)?;
+        let site = item.site();
+        if (site.0 as usize) < graph.site_count() {
+            let owner = graph.site_owner(site);
+            if let Some(place) = places.get_mut(owner.0 as usize) {
+                *place = Some(item);
+            }
         }
     }
-    Ok(Line {
-        ready,
-        items: places,
-        left: load.tasks,
-    })
+    Ok(places)
 }
 
-/// Calls an item, if there is one.
+/// Calls a job, if there is one.
 fn call(item: Item) {
     if let Some(item) = item {
         let _receipt = item.call();
@@ -87,12 +129,14 @@ fn call(item: Item) {
 }
 
 /// Runs tasks until all are done.
-fn work<R: Wait>(rt: &R, load: Load, line: &Mutex<Line>, moved: &Condvar) {
-    let mut done = None;
+fn work<R: Wait>(rt: &R, followers: &[Vec<usize>], line: &Mutex<Line>, moved: &Condvar) {
+    let mut done: Option<usize> = None;
     for _ in rt.forever() {
         let mut held = line.lock(rt);
-        if let Some(task) = done {
-            held.finish(load, task);
+        if let Some(task) = done
+            && let Some(ready) = followers.get(task)
+        {
+            held.finish(ready.as_slice());
         }
         match held.next() {
             Next::Run(task, item) => {
@@ -114,23 +158,37 @@ fn work<R: Wait>(rt: &R, load: Load, line: &Mutex<Line>, moved: &Condvar) {
     }
 }
 
-/// How long this many threads take to run all tasks.
+/// Runs all tasks by this many threads.
 pub(crate) fn run_pool<R: Threads + Wait + Sync + Clock>(
     rt: &R,
     alloc: Global,
-    load: Load,
+    graph: &Graph,
     items: Vec<WorkItem<()>>,
     workers: u16,
-) -> io::Result<Duration> {
-    let line = Mutex::new(line_of(alloc, load, items)?);
+) -> io::Result<Ran> {
+    let followers = followers_of(alloc, graph)?;
+    let line = Mutex::new(Line {
+        ready: ready_first(alloc, graph)?,
+        items: by_task(alloc, graph, items)?,
+        left: graph.len(),
+    });
     let moved = Condvar::new();
-    let line = &line;
-    let moved = &moved;
+    let (line, moved) = (&line, &moved);
+    let followers: &[Vec<usize>] = &followers;
     let mut threads = Vec::new(alloc);
     for number in 0..workers {
         threads.push(number)?;
     }
     let start = Instant::now(rt)?;
-    let _done = thread::map_vec(rt, threads, &|_number: u16| work(rt, load, line, moved))?;
-    start.elapsed(rt)
+    let _done = thread::map_vec(
+        rt,
+        threads,
+        &|_number: u16| work(rt, followers, line, moved),
+    )?;
+    let time = start.elapsed(rt)?;
+    Ok(Ran {
+        events: 0,
+        complete: true,
+        time,
+    })
 }

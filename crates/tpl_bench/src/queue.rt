@@ -1,6 +1,8 @@
 //! How many jobs a second go from four producers to four consumers: through the queue of `tpl_queue`, and through a
 //! `VecDeque` under a `Mutex`.
 
+use crate::extent::Extent;
+use crate::timing::a_second;
 use crate::{locked, shared};
 use std::alloc::Global;
 use std::io;
@@ -19,22 +21,17 @@ const FEW: u64 = 250;
 
 const MANY: u64 = 250_000;
 
-/// Jobs a second.
-fn rate(jobs: u64, time: Duration) -> u128 {
-    u128::from(jobs) * 1_000_000 / time.as_micros().max(1)
-}
-
 /// Prints how many jobs came, and how many in a second where that is measured.
 fn print_rate<R: Print>(
     rt: &R,
     way: &str,
     jobs: u64,
     time: Duration,
-    measures: bool,
+    extent: Extent,
 ) -> io::Result<()> {
     println!(rt; "queue, {way}: {jobs} jobs")?;
-    if measures {
-        println!(rt; "{} jobs a second", rate(jobs, time))?;
+    if extent.has_times() {
+        println!(rt; "{} jobs a second", a_second(jobs as usize, time))?;
     }
     Ok(())
 }
@@ -43,19 +40,16 @@ fn print_rate<R: Print>(
 pub(crate) fn show_queue<R: Print + Clock + Threads + Wait + Sync>(
     rt: &R,
     alloc: Global,
-    measures: bool,
+    extent: Extent,
 ) -> io::Result<()> {
-    let each = if measures { MANY } else { FEW };
+    let each = match extent {
+        Extent::Little => FEW,
+        Extent::Whole => MANY,
+    };
     let start = Instant::now(rt)?;
     let jobs = shared::exchange(rt, alloc, each)?;
-    print_rate(rt, "between workers", jobs, start.elapsed(rt)?, measures)?;
+    print_rate(rt, "between workers", jobs, start.elapsed(rt)?, extent)?;
     let start = Instant::now(rt)?;
     let jobs = locked::exchange(rt, alloc, each)?;
-    print_rate(
-        rt,
-        "a list under a lock",
-        jobs,
-        start.elapsed(rt)?,
-        measures,
-    )
+    print_rate(rt, "a list under a lock", jobs, start.elapsed(rt)?, extent)
 }

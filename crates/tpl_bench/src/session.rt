@@ -2,6 +2,7 @@
 
 ghost use Rattle.std.specs.Prelude.{◌≡◌};
 
+use crate::fault::refused;
 use std::alloc::Global;
 use std::io;
 use std::sync::Wait;
@@ -18,10 +19,6 @@ pub(crate) struct Ran {
     pub(crate) events: usize,
     pub(crate) complete: bool,
     pub(crate) time: Duration,
-}
-
-fn refused() -> io::Error {
-    io::Error::from(io::ErrorKind::OutOfMemory)
 }
 
 /// Runs the graph, whose jobs call these items, with this many workers.
