@@ -2,7 +2,7 @@
 """Counts what `check` costs: instructions beside those of a plain program that only reads the same bytes by Rust's
 serde_json, and the most memory that it takes.
 
-usage: cases/counts.py [PROGRAM [BENCH]]    crates/tpl_cli/out/tpl_cli and crates/tpl_bench/out/tpl_bench, if none is named
+usage: cases/counts.py [PROGRAM]    crates/tpl_cli/out/tpl_cli, if none is named
 
 It wants Debian's packages valgrind and librust-serde-json-dev, and cargo. Instructions hardly differ from run to run, so one
 run is enough. It is a measurement and no test: nothing fails where a number is large.
@@ -15,14 +15,12 @@ import subprocess
 import sys
 import tempfile
 
+from documents import COUNTED, LONGEST, sized, text_of
+
 HERE = pathlib.Path(__file__).resolve().parent
 PROGRAM = "crates/tpl_cli/out/tpl_cli"
-BENCH = "crates/tpl_bench/out/tpl_bench"
-NAMES = ["roots", "chain", "leaves", "bodies"]
 # where Debian's packages put the sources of Rust's crates
 REGISTRY = "/usr/share/cargo/registry"
-# the most bytes of a document
-LONGEST = 16_777_216
 
 
 def plain_program(folder):
@@ -72,13 +70,12 @@ def filled(document, place, element):
 
 
 def main():
-    program, bench = (sys.argv[1:] + [PROGRAM, BENCH][len(sys.argv) - 1:])[:2]
+    program = sys.argv[1] if len(sys.argv) > 1 else PROGRAM
     with tempfile.TemporaryDirectory() as folder:
         plain = plain_program(folder)
-        for name in NAMES:
+        for name, counted in COUNTED.items():
             file = f"{folder}/{name}.json"
-            with open(file, "wb") as out:
-                subprocess.run([bench, "document", name], stdout=out, check=True)
+            pathlib.Path(file).write_text(text_of(sized(counted)), encoding="utf-8")
             size = os.path.getsize(file)
             least, ours = instructions([plain, file], file), instructions([program, "check"], file)
             memory = peak([program, "check"], file)

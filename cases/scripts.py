@@ -16,6 +16,7 @@ import sys
 import tempfile
 from importlib.machinery import SourceFileLoader
 
+import measure
 import pages
 from suite import HERE, program, tell
 
@@ -232,6 +233,14 @@ def imports_lead_to_files():
     assert foreign == {"std"}
 
 
+# ---- the documents that are measured
+
+
+def the_small_documents_are_those_of_the_script():
+    written = {file.name: file.read_text(encoding="utf-8") for file in measure.DATA.iterdir()}
+    assert written == dict(measure.small_files())
+
+
 TESTS = [
     ask_replaces_the_claims, ask_takes_a_journal, ask_reads_its_words,
     the_version_is_that_of_the_file,
@@ -242,6 +251,7 @@ TESTS = [
     pages_are_read_block_by_block, snippets_stand_behind_the_version, lines_of_the_output_page_stand_for_others,
     a_wrong_page_fails, each_word_of_a_refusal_has_its_line, each_line_in_the_code_is_on_the_page,
     the_page_on_what_is_trusted_is_current, imports_lead_to_files,
+    the_small_documents_are_those_of_the_script,
 ]
 
 
