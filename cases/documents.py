@@ -13,8 +13,6 @@ MOST_SITES = 256
 MOST_CLAIMS = 64
 MOST_SPLITS = 6
 
-FINALS = ["RanToCompletion", "Canceled", "Faulted"]
-
 
 def text_of(document):
     """The text of a document, in one line."""

@@ -34,7 +34,7 @@ DATA = TOP / "crates/tpl_bench/data"
 
 WORKERS = (1, 2, 4)
 FAN = 32
-# as many splits as the claims of groups that hold need
+# the most splits on a path that are searched for in groups
 GROUP_SPLITS = 2
 
 
@@ -183,10 +183,14 @@ def write():
         (DATA / name).write_text(text, encoding="utf-8")
 
 
+def given():
+    """The program, and the words."""
+    words = sys.argv[1:]
+    return (words[-1], words[:-2]) if words[-2:-1] == ["--program"] else (PROGRAM, words)
+
+
 def main():
-    given = sys.argv[1:]
-    program = given[given.index("--program") + 1] if "--program" in given[:-1] else PROGRAM
-    words = given[: given.index("--program")] if "--program" in given else given
+    program, words = given()
     if words == ["--write"]:
         return write()
     if not words or not set(words) <= set(WORDS):
