@@ -6,7 +6,7 @@ ghost use Rattle.tpl_claims.specs.Fits.{Fits};
 
 use crate::extent::Extent;
 use crate::machines::{events_of, inputs_of, step_all};
-use crate::timing::for_each;
+use crate::timing::nanoseconds_each;
 use std::io;
 use std::time::{Duration, Instant};
 use tpl_audit::{Verdict, audit};
@@ -75,6 +75,7 @@ fn audit_time(rt: &HostRuntime, read: &Document, events: &[Event]) -> io::Result
     start.elapsed(rt)
 }
 
+/// Each time once.
 fn measured(rt: &HostRuntime, read: &Document, events: &[Event]) -> io::Result<Times>
     requires { All (Fits read.now.graph.graph) read.now.claims.items }
 {
@@ -111,9 +112,9 @@ pub(crate) fn show_audit(rt: &HostRuntime, read: &Document, extent: Extent) -> i
         println!(rt;
             "{} claims: step {}, read_journal {}, audit {} ns an event",
             read.claims.len(),
-            for_each(best.steps, count),
-            for_each(best.reading, count),
-            for_each(best.audit, count)
+            nanoseconds_each(best.steps, count),
+            nanoseconds_each(best.reading, count),
+            nanoseconds_each(best.audit, count)
         )?;
     }
     Ok(())

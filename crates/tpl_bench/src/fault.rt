@@ -2,7 +2,7 @@
 
 use std::io::{Error, ErrorKind};
 
-/// What can't be measured in the document: its journal is no run of its graph, or a session refuses its graph.
+/// What is said of input that can't be measured: it is too long, its journal is no run of its graph, or no session runs it.
 pub(crate) fn refused() -> Error {
     Error::from(ErrorKind::InvalidData)
 }

@@ -3,7 +3,7 @@
 
 use crate::extent::Extent;
 use crate::fault::refused;
-use crate::timing::for_each;
+use crate::timing::nanoseconds_each;
 use std::alloc::Global;
 use std::io;
 use std::time::{Clock, Duration, Instant};
@@ -77,8 +77,8 @@ pub(crate) fn show_machines(rt: &HostRuntime, read: &Document, extent: Extent) -
     let count = events.len();
     println!(rt; "{count} events on both machines")?;
     if extent.has_times() {
-        let plain = for_each(plain, count);
-        let fast = for_each(fast, count);
+        let plain = nanoseconds_each(plain, count);
+        let fast = nanoseconds_each(fast, count);
         println!(rt; "{plain} ns an event on the plain machine, {fast} on the indexed one")?;
     }
     Ok(())

@@ -20,7 +20,7 @@ pub(crate) fn value_time(rt: &HostRuntime, bytes: &[u8]) -> io::Result<Duration>
 }
 
 /// Nanoseconds for each of this many.
-pub(crate) fn for_each(time: Duration, count: usize) -> u128 {
+pub(crate) fn nanoseconds_each(time: Duration, count: usize) -> u128 {
     time.as_nanos() / (count as u128).max(1)
 }
 
