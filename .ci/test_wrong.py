@@ -346,7 +346,7 @@ class FirstRound(unittest.TestCase):
         self.assertEqual(trial.said, dict.fromkeys("abc", "refused"))
 
     def test_beside_rt_ci_a_twin_with_proof_files_needs_one(self):
-        given = [edit("a", "        self.first", "        self.second"), self.GIVEN[1]]
+        given = [edit(it, "        self.first", f"        self.{it}") for it in ("second", "third")] + [self.GIVEN[1]]
         trial, asked = self.trial({"pair::Pair::first_twin_0": "not proved", "pair::alone_twin_1": self.OPEN}, {})
         trial.texts["proofs/pair/Pair/first/Proof.antt"] = Twins.PROOF
         WRONG.BESIDE.file = "log"
@@ -358,6 +358,19 @@ class FirstRound(unittest.TestCase):
         self.assertNotIn("pair::alone_twin_0", asked[0])
         # the copy is not proved unedited, so that the function is edited itself
         self.assertEqual((why, trial.said, asked[1]), (None, {"b": "refused"}, {"pair::Pair::first"}))
+
+    def test_beside_rt_ci_a_function_with_proof_files_and_one_edit_is_edited_itself(self):
+        given = [edit("a", "        self.first", "        self.second"), self.GIVEN[1]]
+        told = {"pair::Pair::first": self.OPEN, "pair::alone_twin_1": self.OPEN}
+        trial, asked = self.trial(told)
+        trial.texts["proofs/pair/Pair/first/Proof.antt"] = Twins.PROOF
+        WRONG.BESIDE.file = "log"
+        try:
+            left, why, _ = trial.begin(given)
+        finally:
+            WRONG.BESIDE.file = None
+        self.assertEqual((asked, why, left), ([set(told)], None, []))
+        self.assertEqual(trial.said, {"a": "refused", "b": "refused"})
 
     def test_edits_that_are_not_read_are_left_for_later(self):
         trial, asked = self.trial(None, {})
