@@ -10,12 +10,12 @@ ghost use Rattle.tpl_model.specs.Graph.{is_task, is_token, IsParent};
 ghost use Rattle.tpl_model.specs.Valid as valid;
 ghost use Rattle.tpl_draft.specs.Ids.{task_number, token_number, input_number, site_number};
 ghost use Rattle.tpl_draft.specs.Named.{antecedent_of, args_of, all_may_fail};
-ghost use Rattle.tpl_graph.specs.Rows.{kind_of};
+ghost use Rattle.tpl_graph.specs.Rows.{kind_of, task_of};
 ghost use Rattle.tpl_graph.specs.Roles.{kind_in, AreWithin};
-ghost use Rattle.tpl_graph.specs.Kept.{IsNamedGraph};
+ghost use Rattle.tpl_graph.specs.Kept.{IsNamedGraph, AreKept};
 ghost use Rattle.tpl_graph.specs.Sites.{HasWork};
 ghost use Rattle.tpl_graph.specs.Checked.{IsChecked};
-ghost use Rattle.tpl_draft.specs.Numbered.{numbered};
+ghost use Rattle.tpl_draft.specs.Numbered.{numbered, names_of, task_in};
 ghost use Rattle.tpl_draft.specs.Refusals.{IsValid, Refuses};
 ghost use Rattle.tpl_draft.specs.SeenTasks.{draft_of};
 
@@ -73,26 +73,51 @@ impl Model for Graph {
         × AreSites n.graph g.sites.items };
 }
 
+/// What a graph has beside the tables that were checked.
+#[derive(Drop)]
+struct Kept {
+    tasks: Vec<Row>,
+    parents: Vec<Option<TaskId>>,
+    attached: Vec<Vec<TaskId>>,
+    bound: u32,
+}
+
+/// The rows of the tasks, their parents and attached children, and the longest run.
+fn keep(alloc: Global, draft: &Draft, checked: &Checked) -> Result<Kept, AllocError>
+    requires checked { IsChecked (draft_of draft.now) checked.now }
+    requires valid { IsValid (draft_of draft.now) }
+    ensures tasks { IfOk result (λ k. map task_of k.tasks.items
+        ≡ map (task_in (names_of (draft_of draft.now))) (draft_of draft.now).tasks) }
+    ensures kept { IfOk result (λ k. AreKept (numbered (draft_of draft.now))
+        k.parents.items k.attached.items k.bound) }
+{
+    let tasks = number_tasks(alloc, &checked.names, &draft.tasks)?;
+    let attached = attached(alloc, &tasks, &checked.starts)?;
+    let parents = parents(alloc, &checked.starters)?;
+    let bound = bound(&tasks, checked.tokens.len());
+    Ok(Kept {
+        tasks,
+        parents,
+        attached,
+        bound,
+    })
+}
+
 /// The graph of a checked draft.
 fn make(alloc: Global, draft: &Draft, checked: Checked) -> Result<Graph, AllocError>
     requires checked { IsChecked (draft_of draft.now) checked }
     requires valid { IsValid (draft_of draft.now) }
     ensures { IfOk result (λ g. g ≡ numbered (draft_of draft.now)) }
 {
-    let names = checked.names;
-    let tokens = checked.tokens;
-    let tasks = number_tasks(alloc, &names, &draft.tasks)?;
-    let attached = attached(alloc, &tasks, &checked.starts)?;
-    let parents = parents(alloc, &checked.starters)?;
-    let bound = bound(&tasks, tokens.len());
+    let kept = keep(alloc, draft, &checked)?;
     Ok(Graph {
-        names,
-        tokens,
-        tasks,
-        parents,
-        attached,
+        names: checked.names,
+        tokens: checked.tokens,
+        tasks: kept.tasks,
+        parents: kept.parents,
+        attached: kept.attached,
         sites: checked.sites,
-        bound,
+        bound: kept.bound,
     })
 }
 
