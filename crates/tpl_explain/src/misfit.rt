@@ -5,7 +5,7 @@ use crate::say::{listed, question, quoted, shown};
 use crate::walk::{Area, Found, Spot, Teller};
 use serde_json::{Map, Value};
 use std::alloc::AllocError;
-use tpl_grammar::{MEMBERS, is_choice, is_object, keys_of, names_of, noun, stranger, words};
+use tpl_grammar::{is_choice, is_object, keys_of, members, names_of, noun, stranger, words};
 
 /// A line, if there is a place that it speaks of.
 pub(crate) type Line = Result<Option<String>, AllocError>;
@@ -82,7 +82,7 @@ impl<'v> Teller<'v> {
         object: &Map<String, Value>,
     ) -> Result<String, AllocError> {
         let mut text = self.says_stranger(found.form, object)?;
-        for slot in &MEMBERS {
+        for slot in members() {
             if slot.0 == found.form && slot.2 && found.value.get(slot.1).is_none() {
                 let and = if text.is_empty() { "" } else { "; " };
                 write!(

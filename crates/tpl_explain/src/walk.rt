@@ -3,7 +3,7 @@
 use crate::ask::{Ask, is_asked, list_in};
 use serde_json::Value;
 use std::alloc::{AllocError, Global};
-use tpl_grammar::{MEMBERS, chosen, element};
+use tpl_grammar::{chosen, element, members};
 
 /// More levels than a document has.
 const LEVELS: u32 = 128;
@@ -103,7 +103,7 @@ impl<'v> Walk<'v> {
 
     #[cycle(walk)]
     fn visit_members(&mut self, levels: u32, form: &'static str, value: &'v Value) -> Search<'v> {
-        for slot in &MEMBERS {
+        for slot in members() {
             if slot.0 == form {
                 if let Some(inner) = value.get(slot.1) {
                     if let Some(found) = self.visit(levels, slot.3, inner)? {

@@ -14,8 +14,7 @@ pub struct Member(
 /// A member by which an object has one of several forms: these, the member's name, and the form.
 struct Key(&'static str, &'static str, &'static str);
 
-/// The members of each object that has members of its own.
-pub const MEMBERS: [Member; 76] = [
+const MEMBERS: [Member; 76] = [
     Member("top", "version", true, "version"),
     Member("top", "inputs", false, "[new input]"),
     Member("top", "tokens", false, "[token]"),
@@ -94,7 +93,6 @@ pub const MEMBERS: [Member; 76] = [
     Member("start", "fail", false, "[failing site]"),
 ];
 
-/// The members that say which form an object of several has.
 const KEYS: [Key; 17] = [
     Key("statement", "throw", "throw"),
     Key("statement", "check", "check"),
@@ -113,6 +111,74 @@ const KEYS: [Key; 17] = [
     Key("tree", "split_input", "split input"),
     Key("tree", "split_end", "split end"),
     Key("tree", "rows", "leaf"),
+];
+
+/// A form, and what may stand there.
+struct Phrase(&'static str, &'static str);
+
+const PHRASES: [Phrase; 47] = [
+    Phrase("top", "a document, which is an object"),
+    Phrase(
+        "token",
+        "a token's name, or {\"name\": .., \"linked\": [..]}",
+    ),
+    Phrase("task", "a task, which is an object"),
+    Phrase("started", "a task of kind \"root\" or \"child\""),
+    Phrase("then", "a task of kind \"then\""),
+    Phrase("join", "a task of kind \"all\" or \"any\""),
+    Phrase("statement", "\"return\", \"observe\" or an object"),
+    Phrase("claim", "an object"),
+    Phrase("tree", "an object"),
+    Phrase("row", "an object"),
+    Phrase("final claim", "this claim (each says one thing)"),
+    Phrase("after claim", "this claim (each says one thing)"),
+    Phrase("observed claim", "this claim (each says one thing)"),
+    Phrase("never claim", "this claim (each says one thing)"),
+    Phrase("excludes claim", "this claim (each says one thing)"),
+    Phrase(
+        "given",
+        "{\"input\": name, \"is\": true or false} or {\"quiet\": token}",
+    ),
+    Phrase(
+        "start",
+        "the start, an object with \"inputs\", \"request\" and \"fail\"",
+    ),
+    Phrase("tasks", "a list of tasks"),
+    Phrase("claims", "a list of claims"),
+    Phrase("trees", "a list of trees, one for each claim"),
+    Phrase("[new input]", "a list of names"),
+    Phrase("[token]", "a list of tokens"),
+    Phrase("[argument]", "a list of tasks' names"),
+    Phrase("[task's name]", "a list of tasks' names"),
+    Phrase("[link]", "a list of tasks' names"),
+    Phrase("[source]", "a list of tokens' names"),
+    Phrase("[token's name]", "a list of tokens' names"),
+    Phrase("[option]", "a list of option words"),
+    Phrase("[statement]", "a list of statements, [] for an empty one"),
+    Phrase("[given]", "a list of givens"),
+    Phrase("[final]", "a list of one final status or more"),
+    Phrase("[end]", "a list of final statuses"),
+    Phrase("after pair", "a list of two tasks' names"),
+    Phrase("pair", "a list of two tasks' names"),
+    Phrase("[row]", "a list of rows, one for each task"),
+    Phrase("[failing site]", "a list of sites' names"),
+    Phrase("version", "1 or 2, written as an integer"),
+    Phrase("journal", "the journal, one text"),
+    Phrase(
+        "argument",
+        "one task's name (for several tasks, name a task of kind \"all\" or \"any\")",
+    ),
+    Phrase(
+        "subject",
+        "how the antecedent ended (to choose by an input, write \"if\" for \"when\")",
+    ),
+    Phrase("kind", "a kind"),
+    Phrase("end", "a final status"),
+    Phrase("final", "a final status"),
+    Phrase("option", "an option word"),
+    Phrase("word", "a statement of one word"),
+    Phrase("truth", "true or false"),
+    Phrase("truths", "an object with true or false for each input"),
 ];
 
 const KINDS: [&str; 5] = ["root", "child", "then", "all", "any"];
@@ -136,6 +202,16 @@ const OPTIONS: [&str; 15] = [
     "OnlyOnRanToCompletion",
     "ExecuteSynchronously",
 ];
+
+/// The members of each object that has members of its own.
+pub fn members() -> &'static [Member] {
+    &MEMBERS
+}
+
+/// The members that say which form an object of several has.
+fn keys() -> &'static [Key] {
+    &KEYS
+}
 
 /// The words that may stand there.
 pub fn words(form: &str) -> &'static [&'static str] {
@@ -190,7 +266,7 @@ fn task_form(value: &Value) -> &'static str {
 
 /// The form that the value has by one of its members.
 fn keyed(form: &'static str, value: &Value) -> &'static str {
-    for key in &KEYS {
+    for key in keys() {
         if key.0 == form && value.get(key.1).is_some() {
             return key.2;
         }
@@ -200,7 +276,7 @@ fn keyed(form: &'static str, value: &Value) -> &'static str {
 
 /// Whether the object lacks a member that has to be there.
 pub fn lacks(form: &str, value: &Value) -> bool {
-    for slot in &MEMBERS {
+    for slot in members() {
         if slot.0 == form && slot.2 && value.get(slot.1).is_none() {
             return true;
         }
@@ -211,7 +287,7 @@ pub fn lacks(form: &str, value: &Value) -> bool {
 /// The names of the members that an object of the form may have.
 pub fn names_of(alloc: Global, form: &str) -> Result<Vec<&'static str>, AllocError> {
     let mut names = Vec::new(alloc);
-    for slot in &MEMBERS {
+    for slot in members() {
         if slot.0 == form {
             names.push(slot.1)?;
         }
@@ -222,7 +298,7 @@ pub fn names_of(alloc: Global, form: &str) -> Result<Vec<&'static str>, AllocErr
 /// The names of the members of which an object has one that says its form.
 pub fn keys_of(alloc: Global, form: &str) -> Result<Vec<&'static str>, AllocError> {
     let mut names = Vec::new(alloc);
-    for key in &KEYS {
+    for key in keys() {
         if key.0 == form {
             names.push(key.1)?;
         }
@@ -232,7 +308,7 @@ pub fn keys_of(alloc: Global, form: &str) -> Result<Vec<&'static str>, AllocErro
 
 /// Whether an object of the form may have the member.
 fn has_slot<'a>(form: &'a str, name: &'a str) -> bool {
-    for slot in &MEMBERS {
+    for slot in members() {
         if slot.0 == form && slot.1 == name {
             return true;
         }
@@ -252,7 +328,7 @@ pub fn stranger<'v>(form: &str, object: &'v Map<String, Value>) -> Option<&'v st
 
 /// Whether it is the form of an object with members of its own.
 pub fn is_object(form: &str) -> bool {
-    for slot in &MEMBERS {
+    for slot in members() {
         if slot.0 == form {
             return true;
         }
@@ -276,61 +352,16 @@ pub fn chosen(form: &'static str, value: &Value) -> &'static str {
     }
 }
 
-/// What a text, a word or a truth of the form is.
-fn plain_noun(form: &str) -> &'static str {
-    match form {
-        "version" => "1 or 2, written as an integer",
-        "journal" => "the journal, one text",
-        "argument" => "one task's name (for several tasks, name a task of kind \"all\" or \"any\")",
-        "subject" => "how the antecedent ended (to choose by an input, write \"if\" for \"when\")",
-        "kind" => "a kind",
-        "end" | "final" => "a final status",
-        "option" => "an option word",
-        "word" => "a statement of one word",
-        "truth" => "true or false",
-        "truths" => "an object with true or false for each input",
-        _ => "a name",
-    }
-}
-
-/// What a list of the form is.
-fn list_noun(form: &str) -> &'static str {
-    match form {
-        "tasks" => "a list of tasks",
-        "claims" => "a list of claims",
-        "trees" => "a list of trees, one for each claim",
-        "[new input]" => "a list of names",
-        "[token]" => "a list of tokens",
-        "[argument]" | "[task's name]" | "[link]" => "a list of tasks' names",
-        "[source]" | "[token's name]" => "a list of tokens' names",
-        "[option]" => "a list of option words",
-        "[statement]" => "a list of statements, [] for an empty one",
-        "[given]" => "a list of givens",
-        "[final]" => "a list of one final status or more",
-        "[end]" => "a list of final statuses",
-        "after pair" | "pair" => "a list of two tasks' names",
-        "[row]" => "a list of rows, one for each task",
-        "[failing site]" => "a list of sites' names",
-        _ => plain_noun(form),
-    }
-}
-
 /// What may stand there.
 pub fn noun(form: &str) -> &'static str {
-    match form {
-        "top" => "a document, which is an object",
-        "token" => "a token's name, or {\"name\": .., \"linked\": [..]}",
-        "task" => "a task, which is an object",
-        "started" => "a task of kind \"root\" or \"child\"",
-        "then" => "a task of kind \"then\"",
-        "join" => "a task of kind \"all\" or \"any\"",
-        "statement" => "\"return\", \"observe\" or an object",
-        "claim" | "tree" | "row" => "an object",
-        "final claim" | "after claim" | "observed claim" => "this claim (each says one thing)",
-        "never claim" | "excludes claim" => "this claim (each says one thing)",
-        "given" => "{\"input\": name, \"is\": true or false} or {\"quiet\": token}",
-        "start" => "the start, an object with \"inputs\", \"request\" and \"fail\"",
-        _ if is_object(form) => "this object",
-        _ => list_noun(form),
+    for phrase in &PHRASES {
+        if phrase.0 == form {
+            return phrase.1;
+        }
+    }
+    if is_object(form) {
+        "this object"
+    } else {
+        "a name"
     }
 }

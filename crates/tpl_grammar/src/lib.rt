@@ -4,6 +4,6 @@
 mod grammar;
 
 pub use grammar::{
-    MEMBERS, chosen, declaring, element, is_choice, is_object, keys_of, lacks, most, names_of,
+    chosen, declaring, element, is_choice, is_object, keys_of, lacks, members, most, names_of,
     noun, stranger, words,
 };
