@@ -1,12 +1,19 @@
 -- What the pass that drains a queue knows in the end.
-use Rattle.std.proofs.Common.{◌≡◌, ℕ, ◌+◌, ◌^◌, List, [], ◌∷◌, ◌++◌, length, sym, arith, refl, append-nil, ap, ◌∙◌}
+use Rattle.std.proofs.Common.{◌≡◌, ℕ, ◌+◌, ◌^◌, List, [], ◌∷◌, ◌++◌, length, sym, arith, refl, append-nil, append_assoc, ap, ◌∙◌}
 use Rattle.tpl_queue.specs.declared.rule.Tally.{Tally}
-use Rattle.tpl_queue.specs.Tally.{weigh, tally, IsWhole, IsUnsplit, Accounts}
+use Rattle.tpl_queue.specs.Tally.{weigh, tally, after_take, IsWhole, IsUnsplit, Accounts}
 use Rattle.tpl_queue.proofs.Shares.{weigh-append}
 
 -- the pass, once it took the tasks `drained` as well
 abbrev pub after_all : Tally → List ℕ → Tally
 after_all v drained = tally v.parts v.halvings v.put (v.taken ++ drained)
+
+-- the pass, once it took one more
+pub one_drained : (v w new : Tally) (drained : List ℕ) (t : ℕ) → w ≡ after_all v drained → new ≡ after_take w t → new ≡ after_all v (drained ++ t ∷ [])
+one_drained v w new drained t so_far taken =
+    taken
+    ∙ (ap (λ u. after_take u t) so_far
+    ∙ ap (λ l. tally v.parts v.halvings v.put l) (append_assoc v.taken drained (t ∷ [])))
 
 weigh-ones : (xs : List ℕ) → weigh (λ _. 1) xs ≡ length xs
 weigh-ones [] = refl

@@ -1,9 +1,10 @@
-use Rattle.std.proofs.Common.{◌≡◌, ◌∷◌, map, refl, length, sym, ◌∙◌, arith, if◌then◌else◌, ◌==◌}
-use Rattle.std.proofs.lemmas.List.{length-map}
+use Rattle.std.proofs.Common.{◌≡◌, ◌∷◌, map, refl, length, sym, ap, ◌∙◌, arith, if◌then◌else◌, ◌==◌}
+use Rattle.std.proofs.lemmas.List.{length-map, map-append}
 use Rattle.crossbeam_queue.specs.Passes.{view}
+use Rattle.tpl_queue.specs.Pass.{PassView, QueueView}
 use Rattle.tpl_queue.specs.Tally.{after_take}
 use Rattle.tpl_queue.proofs.Steps.{takes, knows}
-use Rattle.tpl_queue.proofs.Drained.{all_drained, as_many_drained}
+use Rattle.tpl_queue.proofs.Drained.{one_drained, all_drained, as_many_drained}
 use Rattle.tpl_queue.proofs.queue.JobQueue.drain.Goals as goal
 
 pub len_as-count-requires-clause-rule : goal.len_as-count-requires-clause-rule
@@ -49,3 +50,28 @@ returns-clause-accounts g c =
 
 pub returns-clause-each_once : goal.returns-clause-each_once
 returns-clause-each_once g c whole t = (returns-clause-accounts g c).counted whole (λ u. if u == t then 1 else 0)
+
+pub len_as-count-requires-clause-queue : goal.len_as-count-requires-clause-queue
+len_as-count-requires-clause-queue g c =
+    (ap (λ (p : PassView). p.queue) c.pass.view_is ∙ (c.requires ∙ sym (ap (λ (q : QueueView). q.id) c.self.view_is)), c.pass.invariant.0)
+
+pub pop_as-requires-clause-queue : goal.pop_as-requires-clause-queue
+pop_as-requires-clause-queue g c = c.loop-turn.invariant.queue
+
+pub learn_as-requires-clause-queue : goal.learn_as-requires-clause-queue
+learn_as-requires-clause-queue g c = c.loop-turn.invariant.queue
+
+pub loop-turn-preserved : goal.loop-turn-preserved
+loop-turn-preserved g c =
+    let so_far = c.loop-turn.invariant in
+    let taken = c.in-Some.ensures in
+    let pushed = c.push_reserved.ensures in
+    record {
+      queue = (taken.queue.0 ∙ so_far.queue.0, taken.queue.2 ∙ so_far.queue.1);
+      drained =
+          rw (pushed.items, map-append, c.into_job.ensures)
+          (one_drained c.args.pass.tally (view c.loop-turn.seat) (view c.pop_as.new.pass) (map (λ j. j.task.0) c.loop-turn.list.items) c.in-Some.placed.job.task.0 so_far.drained taken.rule.0);
+      live = rw taken.rule.0 so_far.live;
+      len = rw (pushed.len, so_far.len);
+      room = rw pushed.capacity so_far.room;
+    }
