@@ -58,10 +58,6 @@ numbered_more names numbered new i name added so_far here fresh made added_true 
       (cases_eq j i);
 }
 
-pub name_at : {A : Type 0} (f : A → List ℕ) (xs : List A) (i : ℕ) (x : A) (name : List ℕ) → i < length xs → x ≡ get_or xs i x → name ≡ f x → slice_get (map f xs) i ≡ Some name
-name_at f xs i x name lt is e =
-    slice_get-map f xs i ∙ (ap (option_map f) (slice_get-get_or xs i x lt) ∙ ap Some (ap f (sym is) ∙ sym e))
-
 map-map : {A B C : Type 0} (g : A → B) (h : B → C) (xs : List A) → map (λ x. h (g x)) xs ≡ map h (map g xs)
 map-map g h [] = refl
 map-map g h (x ∷ xs) = ap (λ l. h (g x) ∷ l) (map-map g h xs)

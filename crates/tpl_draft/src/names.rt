@@ -103,6 +103,16 @@ impl From<AllocError> for NamesFault {
     }
 }
 
+/// Adds a copy of a name behind the others. True where it is new.
+fn add_copy(names: &mut Names, name: &String) -> Result<bool, AllocError>
+    ensures fresh { IfOk result (λ added. added
+        ≡ not (has_name names.old (string_bytes name.now))) }
+    ensures ok { IfOk result (λ added. names.new ≡ (if added
+        then names.old ++ string_bytes name.now ∷ [] else names.old)) }
+{
+    names.add(name.clone()?)
+}
+
 /// Numbers names in order. The first name that stands twice is refused.
 pub fn number_names(alloc: Global, names: &[String]) -> Result<Names, NamesFault>
     ensures ok { IfOk result (λ n. n ≡ map string_bytes names.now) }
@@ -114,7 +124,7 @@ pub fn number_names(alloc: Global, names: &[String]) -> Result<Names, NamesFault
 {
     let mut numbered = Names::new(alloc);
     for (i, name) in names.iter().enumerate() {
-        if !numbered.add(name.clone()?)? {
+        if !add_copy(&mut numbered, name)? {
             return Err(NamesFault::Twice(i));
         }
     }
