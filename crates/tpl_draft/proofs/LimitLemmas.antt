@@ -1,9 +1,10 @@
 -- The loop over a list of statements that counts them, their sites and their levels.
-use Rattle.std.proofs.Common.{◌≡◌, ℕ, ◌+◌, ◌<◌, ◌≤◌, List, drop, ap, arith}
+use Rattle.std.proofs.Common.{◌≡◌, ℕ, ◌+◌, ◌<◌, ◌≤◌, List, drop, length, get_or, ap, arith}
 use Rattle.tpl_draft.specs.declared.draft.DraftStmt.{DraftStmt}
 use Rattle.tpl_draft.specs.declared.limits.Room.{Room}
-use Rattle.tpl_draft.specs.Draft.{Lines, line_count, site_count, levels as level_count}
-use Rattle.tpl_draft.specs.SeenDraft.{lines_of}
+use Rattle.tpl_draft.specs.Draft.{Lines, line_count, count_line, site_count, count_site, levels as level_count, levels_in}
+use Rattle.tpl_draft.specs.SeenDraft.{line_of, lines_of}
+use Rattle.tpl_draft.proofs.AskLemmas.{split_at}
 
 -- the statements before an index fit, and took this much of the room
 pub record FitsSoFar (body : Lines) (items : List DraftStmt) (index levels : ℕ) (room left : Room) : Type 0 where
@@ -23,3 +24,15 @@ begins body items levels room e some = record {
   below = omega (arith, ap level_count e);
   deep = λ h. omega (arith, ap level_count e, h);
 }
+
+pub one_fits : (body : Lines) (items : List DraftStmt) (index levels : ℕ) (room left new : Room) (x : DraftStmt) → index < length items → x ≡ get_or items index x → FitsSoFar body items index levels room left → new.statements + count_line (line_of x) ≡ left.statements → new.sites + count_site (line_of x) ≡ left.sites → levels_in (line_of x) ≤ levels → FitsSoFar body items (index + 1) levels room new
+one_fits body items index levels room left new x lt is so_far statements sites nests =
+    let here = split_at items index x lt is in
+    record {
+      whole = so_far.whole;
+      some = so_far.some;
+      taken = let k = ap line_count here in let s = so_far.taken in omega arith;
+      held = let k = ap site_count here in let s = so_far.held in omega arith;
+      below = let k = ap level_count here in let s = so_far.below in omega arith;
+      deep = λ h. so_far.deep (let k = ap level_count here in omega arith);
+    }
