@@ -1,6 +1,7 @@
 -- The data of JSON, part by part.
 use Rattle.std.proofs.Common.{◌≡◌, ℕ, ◌&&◌, List, [], ◌∷◌, ◌++◌, map, Bool, true, false, cond, Option, Some, None, option_map, option_and_then, is_some, Ordering, Less, Equal, Greater, refl, sym, ap, ◌∙◌, true≢false}
 use Rattle.std.specs.List.{list_all}
+use Rattle.std.specs.Prelude.{MatchOption}
 use Rattle.std.specs.Borrow.{Bor}
 use Rattle.std.specs.Str.{bytes_eq}
 use Rattle.std.specs.Ordering.{nat_cmp, match_ordering}
@@ -215,6 +216,15 @@ mutual
 
 pub read_more : (text : List ℕ) (j : json.Json) (t : Token) (r : List Token) → json.value 127 (tokens text) ≡ Some (j, t ∷ r) → read text ≡ None
 read_more text j t r e = rw e
+
+-- what a next token, or none, says of the tokens that were left
+pub token_behind : {T : Type 0} (token : T → Token) (next : Option T) (ts rest : List Token) → MatchOption next ((ts ≡ []) × (rest ≡ [])) (λ t. ts ≡ token t ∷ rest) → true ≡ is_some next → (t : Token) × (r : List Token) × (ts ≡ t ∷ r)
+token_behind token None ts rest e is = absurd (cc)
+token_behind token (Some t) ts rest e is = (token t, rest, e)
+
+pub none_behind : {T : Type 0} (token : T → Token) (next : Option T) (ts rest : List Token) → MatchOption next ((ts ≡ []) × (rest ≡ [])) (λ t. ts ≡ token t ∷ rest) → false ≡ is_some next → ts ≡ []
+none_behind token None ts rest e is = e.0
+none_behind token (Some t) ts rest e is = absurd (cc)
 
 pub read_last : (text : List ℕ) (j : json.Json) → json.value 127 (tokens text) ≡ Some (j, []) → in_range j ≡ true → read text ≡ Some (data_of j)
 read_last text j e f = rw e (read_is j ∙ rw f)

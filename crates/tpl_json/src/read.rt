@@ -60,7 +60,6 @@ fn members_in_range(members: &[(&str, Value<'_>)]) -> bool
     true
 }
 
-#[tactic(auto, using(crate::proofs::DataOf::read_more, crate::proofs::DataOf::read_last, crate::proofs::DataOf::read_out))]
 fn text_read<'t>(
     alloc: Global,
     text: &'t str,
