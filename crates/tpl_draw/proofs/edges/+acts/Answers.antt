@@ -1,7 +1,25 @@
 use Rattle.std.proofs.Common.{arith}
+use Rattle.std.proofs.lemmas.Result.{on_ok_weaker}
 use Rattle.tpl_script.proofs.Lists.{falls_in}
+use Rattle.tpl_draw.proofs.ActLemmas.{acts_step, acts_end}
+use Rattle.tpl_draw.proofs.AddedLemmas.{both_added}
 use Rattle.tpl_draw.proofs.edges.+acts.Goals as goal
 
 pub add_acts-add_act-requires : goal.add_acts-add_act-requires
 add_acts-add_act-requires t c =
     omega (arith, c.decreases, falls_in _ _ _ _ c.loop-statement.invariant.whole c.loop-statement-test.true c.statement-item.is)
+
+pub add_acts-loop-statement-preserved : goal.add_acts-loop-statement-preserved
+add_acts-loop-statement-preserved t c =
+    acts_step _ _ _ _ _ _ _ _ c.loop-statement-test.true c.statement-item.is c.loop-statement.invariant c.in_ok-add_act.ensures
+
+pub add_acts-returns : goal.add_acts-returns
+add_acts-returns t c = acts_end _ _ _ _ _ _ c.loop-statement-test.false c.loop-statement.invariant
+
+pub add_act-returns-in_ok-add_acts-in-If : goal.add_act-returns-in_ok-add_acts-in-If
+add_act-returns-in_ok-add_acts-in-If t c =
+    rw c.in-If.is (on_ok_weaker c.add_acts-in-If.result (both_added _ _ _ _ _ c.in_ok-add_acts-in-If.ensures) c.add_acts-in-If.ensures)
+
+pub add_act-returns-in_ok-add_acts-in-When : goal.add_act-returns-in_ok-add_acts-in-When
+add_act-returns-in_ok-add_acts-in-When t c =
+    rw c.in-When.is (on_ok_weaker c.add_acts-in-When-2.result (both_added _ _ _ _ _ c.in_ok-add_acts-in-When.ensures) c.add_acts-in-When-2.ensures)

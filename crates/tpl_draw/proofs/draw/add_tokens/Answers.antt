@@ -1,0 +1,14 @@
+use Rattle.std.proofs.Common.{◌≡◌, length, refl, arith}
+use Rattle.tpl_draw.specs.Picture.{token_line}
+use Rattle.tpl_draw.proofs.AddedLemmas.{below_added}
+use Rattle.tpl_draw.proofs.draw.add_tokens.Goals as goal
+
+pub loop-number-preserved : goal.loop-number-preserved
+loop-number-preserved c =
+    below_added (token_line c.args.language c.args.graph.now) c.loop-number.number _ _ _ c.loop-number.invariant
+    (rw c.in_ok-push_str.ensures.bytes (rw c.as_str.ensures.value (rw c.in_ok-token_node.ensures (rw c.name_of-name.ensures refl))))
+
+pub returns : goal.returns
+returns c =
+    let e : c.loop-number.number ≡ length c.args.graph.now.graph.tokens = omega arith in
+    rw (← e) c.loop-number.invariant
