@@ -3,3 +3,4 @@ pub mod Edges
 pub mod Endings
 pub mod Marks
 pub mod Picture
+pub mod Shapes

@@ -3,6 +3,7 @@
 ghost use Rattle.std.specs.Prelude.{◌≡◌, IfOk, string_bytes};
 ghost use Rattle.tpl_model.specs.Graph.{options};
 ghost use Rattle.tpl_draw.specs.Picture.{begins_at_token, dot_node, edge_line, ends_at_token, is_plain, label, label_of, lazy_word, line_word, mermaid_node, name_of, quoted, sort_word, start_text, start_word, synchronous_word, task_node, token_node};
+ghost use Rattle.tpl_draw.specs.Shapes.{dot_shape, kind_word, mermaid_closing, mermaid_opening};
 
 use crate::edge::{Edge, Tie};
 use crate::language::Language;
@@ -26,16 +27,65 @@ pub(crate) fn token_node(
     }
 }
 
+/// The word for a kind of task.
+fn kind_word(kind: Kind) -> &'static str
+    ensures { result.now ≡ kind_word kind }
+{
+    match kind {
+        Kind::Root => "root",
+        Kind::Child => "child",
+        Kind::Then => "then",
+        Kind::All => "all",
+        Kind::Any => "any",
+    }
+}
+
+/// What begins the shape in Mermaid that says a task's kind.
+fn mermaid_opening(kind: Kind) -> &'static str
+    ensures { result.now ≡ mermaid_opening kind }
+{
+    match kind {
+        Kind::Root => "[",
+        Kind::Child => "(",
+        Kind::Then => "([",
+        Kind::All => "{{",
+        Kind::Any => "{",
+    }
+}
+
+/// What ends the shape in Mermaid that says a task's kind.
+fn mermaid_closing(kind: Kind) -> &'static str
+    ensures { result.now ≡ mermaid_closing kind }
+{
+    match kind {
+        Kind::Root => "]",
+        Kind::Child => ")",
+        Kind::Then => "])",
+        Kind::All => "}}",
+        Kind::Any => "}",
+    }
+}
+
 /// The node of a task in Mermaid, whose shape says its kind, and its mark how it may end.
 fn mermaid_node(alloc: Global, kind: Kind, name: &str, mark: &str) -> Result<String, AllocError>
     ensures { IfOk result (λ line. string_bytes line ≡ mermaid_node kind name.now mark.now) }
 {
+    let opening = mermaid_opening(kind);
+    let word = kind_word(kind);
+    let closing = mermaid_closing(kind);
+    format!(in alloc; "  t_{name}{opening}\"{name}<br/>{word}\"{closing}{mark}\n")
+}
+
+/// The shape in DOT that says a task's kind.
+fn dot_shape(kind: Kind) -> &'static str
+    ensures { result.now ≡ dot_shape kind }
+{
     match kind {
-        Kind::Root => format!(in alloc; "  t_{name}[\"{name}<br/>root\"]{mark}\n"),
-        Kind::Child => format!(in alloc; "  t_{name}(\"{name}<br/>child\"){mark}\n"),
-        Kind::Then => format!(in alloc; "  t_{name}([\"{name}<br/>then\"]){mark}\n"),
-        Kind::All => format!(in alloc; "  t_{name}{{{{\"{name}<br/>all\"}}}}{mark}\n"),
-        Kind::Any => format!(in alloc; "  t_{name}{{\"{name}<br/>any\"}}{mark}\n"),
+        Kind::Root => "box",
+        Kind::Child => "Mrecord",
+        Kind::Then => "ellipse",
+        Kind::All => "hexagon",
+        Kind::Any => "diamond",
     }
 }
 
@@ -43,21 +93,9 @@ fn mermaid_node(alloc: Global, kind: Kind, name: &str, mark: &str) -> Result<Str
 fn dot_node(alloc: Global, kind: Kind, name: &str, mark: &str) -> Result<String, AllocError>
     ensures { IfOk result (λ line. string_bytes line ≡ dot_node kind name.now mark.now) }
 {
-    match kind {
-        Kind::Root => format!(in alloc; "  t_{name} [label=\"{name}\\nroot\", shape=box{mark}];\n"),
-        Kind::Child => {
-            format!(in alloc; "  t_{name} [label=\"{name}\\nchild\", shape=Mrecord{mark}];\n")
-        }
-        Kind::Then => {
-            format!(in alloc; "  t_{name} [label=\"{name}\\nthen\", shape=ellipse{mark}];\n")
-        }
-        Kind::All => {
-            format!(in alloc; "  t_{name} [label=\"{name}\\nall\", shape=hexagon{mark}];\n")
-        }
-        Kind::Any => {
-            format!(in alloc; "  t_{name} [label=\"{name}\\nany\", shape=diamond{mark}];\n")
-        }
-    }
+    let word = kind_word(kind);
+    let shape = dot_shape(kind);
+    format!(in alloc; "  t_{name} [label=\"{name}\\n{word}\", shape={shape}{mark}];\n")
 }
 
 /// The node of a task.
