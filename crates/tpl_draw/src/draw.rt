@@ -2,6 +2,7 @@
 
 ghost use Rattle.std.specs.Prelude.{◌≡◌, ◌++◌, length, flat_map, IfOk, OnOk, string_bytes};
 ghost use Rattle.tpl_draw.specs.Below.{below};
+ghost use Rattle.tpl_draw.specs.Edges.{edges};
 ghost use Rattle.tpl_draw.specs.Picture.{closing, edge_line, opening, picture, task_line, token_line};
 
 use crate::edge::Edge;
@@ -91,6 +92,27 @@ fn add_edges(
     Ok(())
 }
 
+/// Adds the nodes, the edges, and what stands after the last edge.
+fn add_lines(
+    text: &mut String,
+    alloc: Global,
+    language: Language,
+    graph: &Graph,
+    ends: &[Finals],
+) -> Result<(), AllocError>
+    ensures { OnOk result (string_bytes text.new ≡ string_bytes text.old
+        ++ below (token_line language graph.now) (length graph.now.graph.tokens)
+        ++ below (task_line language graph.now ends.now) (length graph.now.graph.tasks)
+        ++ flat_map (edge_line language graph.now) (edges graph.now.graph)
+        ++ closing language) }
+{
+    let edges = edges(alloc, graph)?;
+    add_tokens(text, alloc, language, graph)?;
+    add_tasks(text, alloc, language, graph, ends)?;
+    add_edges(text, alloc, language, graph, &edges)?;
+    text.push_str(closing(language))
+}
+
 /// The picture of a graph: a node for each token and each task, then an edge for each link of a token, for each task's
 /// own token, for what it continues and what it waits for, and for each child that its body starts and each token
 /// that it requests. A task that may end otherwise than by running to completion is coloured by its place in `ends`;
@@ -103,11 +125,7 @@ pub fn picture(
 ) -> Result<String, AllocError>
     ensures { IfOk result (λ text. string_bytes text ≡ picture language graph.now ends.now) }
 {
-    let edges = edges(alloc, graph)?;
     let mut text = String::from_str(alloc, opening(language))?;
-    add_tokens(&mut text, alloc, language, graph)?;
-    add_tasks(&mut text, alloc, language, graph, ends)?;
-    add_edges(&mut text, alloc, language, graph, &edges)?;
-    text.push_str(closing(language))?;
+    add_lines(&mut text, alloc, language, graph, ends)?;
     Ok(text)
 }
