@@ -1,5 +1,6 @@
 -- What is added to the end of a list, step by step.
-use Rattle.std.proofs.Common.{◌≡◌, ℕ, ◌+◌, List, ◌++◌, Option, Some, None, map, refl, ap, ◌∙◌, add-one, append_assoc}
+use Rattle.std.proofs.Common.{◌≡◌, ℕ, ◌+◌, List, ◌++◌, Option, Some, None, Result, Ok, Err, OnOk, map, refl, ap, ◌∙◌, add-one, append_assoc}
+use Rattle.std.specs.Prelude.{is_ok, if◌then◌else◌}
 use Rattle.std.specs.Option.{option_map, option_to_list}
 use Rattle.tpl_words.specs.declared.ids.TaskId.{TaskId}
 use Rattle.tpl_words.specs.declared.ids.TokenId.{TokenId}
@@ -19,6 +20,11 @@ both_added old now new first second e f = f ∙ (ap (λ l. l ++ second) e ∙ ap
 -- what f gives for one number more is added
 pub below_added : {A : Type 0} (f : ℕ → List A) (n : ℕ) (old now new : List A) → now ≡ old ++ below f n → new ≡ now ++ f n → new ≡ old ++ below f (n + 1)
 below_added f n old now new e h = rw add-one (both_added old now new (below f n) (f n) e h)
+
+-- what is there after a call that may fail
+pub added_on_ok : {T E A : Type 0} (r : Result T E) (more old new : List A) → new ≡ (if is_ok r then more else old) → OnOk r (new ≡ more)
+added_on_ok (Ok x) more old new e = e
+added_on_ok (Err x) more old new e = tt
 
 -- the numbers of what there is, listed
 numbers_listed : {A : Type 0} (number : A → ℕ) (o : Option A) → map number (option_to_list o) ≡ option_to_list (option_map number o)
