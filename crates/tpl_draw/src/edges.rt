@@ -1,12 +1,12 @@
 //! The edges of a graph.
 
-ghost use Rattle.std.specs.Prelude.{◌≡◌, ◌++◌, length, map, IfOk, OnOk};
+ghost use Rattle.std.specs.Prelude.{◌≡◌, ◌∷◌, ◌++◌, [], length, map, IfOk, OnOk};
 ghost use Rattle.std.specs.Option.{option_to_list};
 ghost use Rattle.tpl_script.specs.Seen.{statement_of};
 ghost use Rattle.tpl_model.specs.Graph.{is_task, is_token};
 ghost use Rattle.tpl_draft.specs.Ids.{task_number, token_number};
 ghost use Rattle.tpl_draw.specs.Below.{below};
-ghost use Rattle.tpl_draw.specs.Edges.{acts, acts_of, edges, from_each, task_edges, token_edges};
+ghost use Rattle.tpl_draw.specs.Edges.{acts, acts_of, edge, edges, from_each, task_edges, token_edges};
 
 use crate::edge::{Edge, Tie};
 use std::alloc::{AllocError, Global};
@@ -14,17 +14,21 @@ use tpl_graph::Graph;
 use tpl_script::{Body, Stmt};
 use tpl_words::{TaskId, TokenId};
 
+/// Adds an edge.
+fn add_edge(found: &mut Vec<Edge>, tie: Tie, from: u16, to: u16) -> Result<(), AllocError>
+    ensures { OnOk result (found.new.items ≡ found.old.items ++ edge tie from to ∷ []) }
+{
+    found.push(Edge { tie, from, to })?;
+    Ok(())
+}
+
 /// Adds an edge from each of the tokens to one of them.
 fn add_links(found: &mut Vec<Edge>, sources: &[TokenId], to: TokenId) -> Result<(), AllocError>
     ensures { OnOk result (found.new.items ≡ found.old.items
         ++ from_each Tie.Link (map token_number sources.now) to.0) }
 {
     for source in sources {
-        found.push(Edge {
-            tie: Tie::Link,
-            from: u16::from(source.0),
-            to: u16::from(to.0),
-        })?;
+        add_edge(found, Tie::Link, u16::from(source.0), u16::from(to.0))?;
     }
     Ok(())
 }
@@ -35,11 +39,7 @@ fn add_arguments(found: &mut Vec<Edge>, arguments: &[TaskId], to: TaskId) -> Res
         ++ from_each Tie.Argument (map task_number arguments.now) to.0) }
 {
     for argument in arguments {
-        found.push(Edge {
-            tie: Tie::Argument,
-            from: argument.0,
-            to: to.0,
-        })?;
+        add_edge(found, Tie::Argument, argument.0, to.0)?;
     }
     Ok(())
 }
@@ -55,6 +55,21 @@ fn add_acts(found: &mut Vec<Edge>, task: TaskId, body: &Body) -> Result<(), Allo
     Ok(())
 }
 
+/// Adds what two bodies do, one after the other.
+#[cycle(acts)]
+fn add_both(
+    found: &mut Vec<Edge>,
+    task: TaskId,
+    first: &Body,
+    second: &Body,
+) -> Result<(), AllocError>
+    ensures { OnOk result (found.new.items ≡ found.old.items
+        ++ (acts task.0 first.now ++ acts task.0 second.now)) }
+{
+    add_acts(found, task, first)?;
+    add_acts(found, task, second)
+}
+
 /// Adds what a statement does to other tasks and to tokens.
 #[cycle(acts)]
 fn add_act(found: &mut Vec<Edge>, task: TaskId, statement: &Stmt) -> Result<(), AllocError>
@@ -62,30 +77,10 @@ fn add_act(found: &mut Vec<Edge>, task: TaskId, statement: &Stmt) -> Result<(), 
         ++ acts_of task.0 (statement_of statement.now)) }
 {
     match statement {
-        Stmt::Start(child) => {
-            found.push(Edge {
-                tie: Tie::Child,
-                from: task.0,
-                to: child.0,
-            })?;
-            Ok(())
-        }
-        Stmt::Cancel(token) => {
-            found.push(Edge {
-                tie: Tie::Cancel,
-                from: task.0,
-                to: u16::from(token.0),
-            })?;
-            Ok(())
-        }
-        Stmt::If(_, first, second) => {
-            add_acts(found, task, first)?;
-            add_acts(found, task, second)
-        }
-        Stmt::When(_, first, second) => {
-            add_acts(found, task, first)?;
-            add_acts(found, task, second)
-        }
+        Stmt::Start(child) => add_edge(found, Tie::Child, task.0, child.0),
+        Stmt::Cancel(token) => add_edge(found, Tie::Cancel, task.0, u16::from(token.0)),
+        Stmt::If(_, first, second) => add_both(found, task, first, second),
+        Stmt::When(_, first, second) => add_both(found, task, first, second),
         _ => Ok(()),
     }
 }
@@ -96,11 +91,7 @@ fn add_own(found: &mut Vec<Edge>, token: Option<TokenId>, to: TaskId) -> Result<
         ++ from_each Tie.Own (map token_number (option_to_list token)) to.0) }
 {
     if let Some(token) = token {
-        found.push(Edge {
-            tie: Tie::Own,
-            from: u16::from(token.0),
-            to: to.0,
-        })?;
+        add_edge(found, Tie::Own, u16::from(token.0), to.0)?;
     }
     Ok(())
 }
@@ -111,11 +102,7 @@ fn add_after(found: &mut Vec<Edge>, before: Option<TaskId>, to: TaskId) -> Resul
         ++ from_each Tie.After (map task_number (option_to_list before)) to.0) }
 {
     if let Some(before) = before {
-        found.push(Edge {
-            tie: Tie::After,
-            from: before.0,
-            to: to.0,
-        })?;
+        add_edge(found, Tie::After, before.0, to.0)?;
     }
     Ok(())
 }

@@ -16,10 +16,14 @@ add_acts-loop-statement-preserved t c =
 pub add_acts-returns : goal.add_acts-returns
 add_acts-returns t c = acts_end _ _ _ _ _ _ c.loop-statement-test.false c.loop-statement.invariant
 
-pub add_act-returns-in_ok-add_acts-in-If : goal.add_act-returns-in_ok-add_acts-in-If
-add_act-returns-in_ok-add_acts-in-If t c =
-    rw c.in-If.is (on_ok_weaker c.add_acts-in-If.result (both_added _ _ _ _ _ c.in_ok-add_acts-in-If.ensures) c.add_acts-in-If.ensures)
+pub add_both-returns : goal.add_both-returns
+add_both-returns t c = on_ok_weaker c.add_acts-2.result (both_added _ _ _ _ _ c.in_ok-add_acts.ensures) c.add_acts-2.ensures
 
-pub add_act-returns-in_ok-add_acts-in-When : goal.add_act-returns-in_ok-add_acts-in-When
-add_act-returns-in_ok-add_acts-in-When t c =
-    rw c.in-When.is (on_ok_weaker c.add_acts-in-When-2.result (both_added _ _ _ _ _ c.in_ok-add_acts-in-When.ensures) c.add_acts-in-When-2.ensures)
+pub add_act-returns-in-If : goal.add_act-returns-in-If
+add_act-returns-in-If t c = rw c.in-If.is c.add_both.ensures
+
+pub add_act-returns-in-When : goal.add_act-returns-in-When
+add_act-returns-in-When t c = rw c.in-When.is c.add_both-in-When.ensures
+
+pub add_act-returns-in-Start : goal.add_act-returns-in-Start
+add_act-returns-in-Start t c = rw c.in-Start.is c.add_edge.ensures
