@@ -7,13 +7,11 @@ ghost use Rattle.tpl_json.specs.Members.{Gives, each, IsShape};
 ghost use Rattle.tpl_parts.specs.SeenClaims.{given_of, property_of, claim_of};
 ghost use Rattle.tpl_parts.specs.Claims.{input_at, quiet_at, given_at, some_finals, final_claim, two_texts, after_claim, observed_claim, never_claim, excludes_claim, property_at, claim_at};
 
+use crate::lists::list_in;
 use crate::named::{NamedClaim, NamedGiven, NamedProperty};
 use json::Value;
 use std::alloc::Global;
-use tpl_json::{
-    Miss, Shape, bool_in, finals_of, find, has_only, list_of, list_or_none, member_in, text_in,
-    text_of,
-};
+use tpl_json::{Miss, Shape, bool_in, finals_of, find, has_only, list_or_none, text_in, text_of};
 use tpl_words::Finals;
 
 #[tactic(auto, unfolding(crate::specs::Claims::input_at))]
@@ -86,8 +84,8 @@ fn final_claim<'v, 't>(value: &'v Value<'t>) -> Result<NamedProperty<'v>, Miss<S
         return Err(Miss::Wrong(Shape));
     }
     let task = text_in(value, "final")?;
-    let list = member_in(value, "in")?;
-    let finals = some_finals(list_of(list)?)?;
+    let list = list_in(value, "in")?;
+    let finals = some_finals(list)?;
     Ok(NamedProperty::Final(task, finals))
 }
 
@@ -114,8 +112,8 @@ fn after_claim<'v, 't>(value: &'v Value<'t>) -> Result<NamedProperty<'v>, Miss<S
     if !has_only(value, &["given", "after"]) {
         return Err(Miss::Wrong(Shape));
     }
-    let list = member_in(value, "after")?;
-    let (first, second) = two_texts(list_of(list)?)?;
+    let list = list_in(value, "after")?;
+    let (first, second) = two_texts(list)?;
     Ok(NamedProperty::After(first, second))
 }
 
@@ -151,8 +149,8 @@ fn excludes_claim<'v, 't>(value: &'v Value<'t>) -> Result<NamedProperty<'v>, Mis
     if !has_only(value, &["given", "excludes"]) {
         return Err(Miss::Wrong(Shape));
     }
-    let list = member_in(value, "excludes")?;
-    let (first, second) = two_texts(list_of(list)?)?;
+    let list = list_in(value, "excludes")?;
+    let (first, second) = two_texts(list)?;
     Ok(NamedProperty::Excludes(first, second))
 }
 

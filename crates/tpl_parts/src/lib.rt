@@ -2,6 +2,7 @@
 #![tactic(auto)]
 
 mod claims;
+mod lists;
 mod named;
 mod start;
 mod statements;

@@ -8,12 +8,13 @@ ghost use Rattle.tpl_draft.specs.SeenTasks.{work_of, kind_of, task_of, token_of}
 ghost use Rattle.tpl_json.specs.Members.{Gives, each, IsShape};
 ghost use Rattle.tpl_parts.specs.Tasks.{option_at, options_at, text_or_none, work_at, root_at, child_at, then_at, args_at, all_at, any_at, kind_at, task_at, linked_at, plain_at, token_at};
 
+use crate::lists::list_in;
 use crate::statements::body_of;
 use json::Value;
 use std::alloc::Global;
 use tpl_graph::{DraftKind, DraftTask, DraftToken, DraftWork};
 use tpl_json::{
-    Miss, Shape, find, has_only, list_of, list_or_none, member_in, owned_texts, text_in, text_of,
+    Miss, Shape, find, has_only, list_or_none, member_in, owned_texts, text_in, text_of,
 };
 use tpl_words::Options;
 
@@ -115,8 +116,8 @@ fn args_of(alloc: Global, value: &Value<'_>) -> Result<Vec<String>, Miss<Shape>>
     if !has_only(value, &["name", "kind", "of"]) {
         return Err(Miss::Wrong(Shape));
     }
-    let list = member_in(value, "of")?;
-    owned_texts(alloc, list_of(list)?)
+    let list = list_in(value, "of")?;
+    owned_texts(alloc, list)
 }
 
 #[tactic(auto, unfolding(crate::specs::Tasks::all_at))]
@@ -169,8 +170,8 @@ fn linked_of(alloc: Global, value: &Value<'_>) -> Result<DraftToken, Miss<Shape>
         return Err(Miss::Wrong(Shape));
     }
     let name = text_in(value, "name")?;
-    let list = member_in(value, "linked")?;
-    let linked = owned_texts(alloc, list_of(list)?)?;
+    let list = list_in(value, "linked")?;
+    let linked = owned_texts(alloc, list)?;
     let name = String::from_str(alloc, name)?;
     Ok(DraftToken {
         name,
