@@ -1,5 +1,5 @@
 -- From the parts of a reading to the whole.
-use Rattle.std.proofs.Common.{◌≡◌, Some, None}
+use Rattle.std.proofs.Common.{◌≡◌, Some, None, Result, Ok, Err, IfOk, IfErr}
 use Rattle.serde_json.specs.Data.{Data}
 use Rattle.tpl_model.specs.Certificate.{Tree}
 use Rattle.tpl_draft.specs.Named.{Names}
@@ -8,7 +8,7 @@ use Rattle.tpl_cert.specs.declared.fault.TreeFault.TheVariants as faults
 use Rattle.tpl_cert.specs.NamedTrees.{NamedTree}
 use Rattle.tpl_cert.specs.Reading.{whole_tree}
 use Rattle.tpl_cert.specs.Grammar.{IsTree}
-use Rattle.tpl_cert.specs.Naming.{IsTreeOf, knows, Loses}
+use Rattle.tpl_cert.specs.Naming.{IsTreeOf, knows, Loses, Finds}
 use Rattle.tpl_cert.specs.Spelled.{SpellsTree, IsWrongTree}
 use Rattle.tpl_json.proofs.Json.{some_none}
 use Rattle.tpl_cert.proofs.Trees.{whole_sound, whole_complete}
@@ -24,3 +24,11 @@ wrong_names n d s faults.Limit reads h = absurd h
 
 pub spells : (n : Names) (d : Data) (s : NamedTree) (t : Tree) → whole_tree d ≡ Some s → IsTreeOf n s t → SpellsTree n d t
 spells n d s t reads is = (s, whole_sound d s reads, is)
+
+pub found_is : (n : Names) (d : Data) (s : NamedTree) (r : Result Tree TreeFault) → whole_tree d ≡ Some s → Finds r (knows n s) (λ t. IsTreeOf n s t) → IfOk r (λ t. SpellsTree n d t)
+found_is n d s (Ok t) reads h = spells n d s t reads h.1
+found_is n d s (Err e) reads h = tt
+
+pub unfound_is : (n : Names) (d : Data) (s : NamedTree) (r : Result Tree TreeFault) → whole_tree d ≡ Some s → Finds r (knows n s) (λ t. IsTreeOf n s t) → IfErr r (λ e. IsWrongTree n d e)
+unfound_is n d s (Ok t) reads h = tt
+unfound_is n d s (Err e) reads h = wrong_names n d s e reads h
