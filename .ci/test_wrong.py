@@ -28,7 +28,7 @@ def script(name):
     return made
 
 
-WRONG, MINUTES = script("wrong"), script("minutes")
+WRONG, MINUTES, DEAR = script("wrong"), script("minutes"), script("dear")
 
 SOURCE = """//! A pair of numbers.
 
@@ -625,6 +625,30 @@ class Minutes(unittest.TestCase):
         told = MINUTES.table(spent)
         self.assertIn("  all                         6.0", told)
         self.assertEqual(told[-1], "the slowest crates: b 3.0, a 2.0")
+
+
+class Dear(unittest.TestCase):
+    def test_a_file_is_its_function_s(self):
+        names = [
+            "Rattle-two-proofs.pair.Pair.both.Lts.oantt",
+            "Rattle-two-proofs.pair.Pair.both.Lts.View.decls.oantt",
+            "Rattle-two-proofs.pair.Pair.both.Proof.decls.oantt",
+            "Rattle-two-proofs.pair.+parity.Lts-even.oantt",
+            "Rattle-other-proofs.pair.Pair.both.Lts.oantt",
+            "rattle-last-used",
+        ]
+        files = [(0.0, "judged"), *((float(2**at), it) for at, it in enumerate(names))]
+        whole, code = DEAR.costs("two", files)
+        self.assertEqual(dict(whole), {"pair.Pair.both": 4.0, "pair.+parity": 4.0})
+        self.assertEqual(dict(code), {"pair.Pair.both": 2.0, "pair.+parity": 4.0})
+
+    def test_files_come_in_the_order_of_their_times(self):
+        with tempfile.TemporaryDirectory() as folder:
+            os.mkdir(f"{folder}/inner")
+            for at, name in enumerate(["inner/b", "a", "inner/c"]):
+                open(f"{folder}/{name}", "w", encoding="utf-8").close()
+                os.utime(f"{folder}/{name}", (at, at))
+            self.assertEqual(DEAR.written(folder), [(0.0, "b"), (1.0, "a"), (2.0, "c")])
 
 
 if __name__ == "__main__":
