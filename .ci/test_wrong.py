@@ -372,6 +372,14 @@ class FirstRound(unittest.TestCase):
         self.assertEqual((asked, why, left), ([set(told)], None, []))
         self.assertEqual(trial.said, {"a": "refused", "b": "refused"})
 
+    def test_where_a_cycle_of_calls_is_cut_bodies_are_kept_whole(self):
+        trial, asked = self.trial({"pair::alone": self.OPEN})
+        check, cut = trial.check, ["rattle: error[misplaced-cycle-name]: parity\n"]
+        trial.check = lambda texts, words: (cut.pop(), 1) if cut else check(texts, words)
+        ended, _ = trial.check_functions(trial.texts, {"pair::alone"})
+        self.assertIn("fn two::pair::alone: no proof", ended)
+        self.assertEqual((asked, trial.crate.has_stubs), ([{"pair::alone"}], False))
+
     def test_edits_that_are_not_read_are_left_for_later(self):
         trial, asked = self.trial(None, {})
         left, why, _ = trial.begin(self.GIVEN)
