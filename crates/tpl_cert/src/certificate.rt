@@ -53,11 +53,4 @@ impl Certificate {
     {
         self.trees.as_slice()
     }
-
-    /// Returns the trees.
-    pub fn into_trees(self) -> Vec<Tree>
-        ensures { result.items ≡ self }
-    {
-        self.trees
-    }
 }

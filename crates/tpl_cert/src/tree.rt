@@ -62,11 +62,4 @@ impl Tree {
     {
         &self.node
     }
-
-    /// Returns the top.
-    pub fn into_node(self) -> Node
-        ensures { self ≡ node_of result }
-    {
-        self.node
-    }
 }

@@ -42,11 +42,4 @@ impl Claim {
     {
         self.body
     }
-
-    /// Returns the givens.
-    pub fn into_given(self) -> Vec<Given>
-        ensures { result.items ≡ self.given }
-    {
-        self.given
-    }
 }

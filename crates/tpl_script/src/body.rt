@@ -74,12 +74,4 @@ impl Body {
     {
         self.list.as_slice()
     }
-
-    /// Returns the list of statements. No memory is taken.
-    pub fn into_list(self) -> Vec<Stmt>
-        ensures { self ≡ statements_of result.items }
-    {
-        let Body { list } = self;
-        list
-    }
 }
