@@ -1,8 +1,8 @@
 //! How a session runs its workers.
 
-ghost use Rattle.std.specs.Prelude.{◌≡◌, ◌≤◌, [], map, vec_len, vec_capacity, IfOk, IfErr, IfSome, IfNone, true};
+ghost use Rattle.std.specs.Prelude.{◌≡◌, ◌≤◌, [], map, vec_len, vec_capacity, IfOk, IfErr, IfSome, IfNone, All, true};
 ghost use Rattle.tpl_runtime.specs.Workers.{workers};
-ghost use Rattle.tpl_runtime.specs.declared.run.RunWhy.TheVariants.{Spawn};
+ghost use Rattle.tpl_runtime.specs.declared.run.RunWhy.TheVariants.{Spawn, Memory};
 
 use crate::queue::ItemPass;
 use crate::session::Session;
@@ -30,7 +30,7 @@ pub enum RunWhy {
     Memory,
 }
 
-/// The seats that are left, and the pass.
+/// Why the workers didn't all run, the seats that were made, and the pass.
 #[derive(Drop)]
 pub struct RunFault<W> {
     pub why: RunWhy,
@@ -109,6 +109,9 @@ impl<'g, K: Drop + Send, W: Item<K> + Send> Session<'g, K, W> {
 
         // Where there was no thread for a worker, all seats come back.
         ensures left { IfErr result (λ e. e.why ≡ Spawn → vec_len e.seats ≡ n) }
+
+        // Where there was no memory, the seats that were made come back as they were made.
+        ensures fresh { IfErr result (λ e. e.why ≡ Memory → All (λ s. s.mine ≡ []) e.seats.items) }
     {
         if n == 0 || n > MOST_WORKERS {
             return Err(RunFault {
@@ -145,6 +148,7 @@ impl<'g, K: Drop + Send, W: Item<K> + Send> Session<'g, K, W> {
         ensures seats { IfNone result (map (λ s. s.actor) seats.new.items ≡ workers n) }
         ensures count { IfNone result (vec_len seats.new ≡ n) }
         ensures threads { IfSome result (λ why. why ≡ Spawn → ⊥) }
+        ensures fresh { All (λ s. s.mine ≡ []) seats.new.items }
     {
         for number in 0..n {
             match self.seat(rt, alloc, Actor::Worker(Worker(number + 1))) {

@@ -4,6 +4,7 @@ ghost use Rattle.std.specs.Prelude.{◌≡◌, ◌↔◌, ℕ, [], Some, None, t
 ghost use Rattle.tpl_model.specs.Rules.{Run, Complete, status, label, carried};
 ghost use Rattle.tpl_model.specs.Certificate.{Accepts, Tree};
 ghost use Rattle.tpl_model.specs.Claims.{Claim, Holds};
+ghost use Rattle.tpl_model.specs.Valid.{bound};
 ghost use Rattle.tpl_laws.specs.Soundness.{Each};
 ghost use Rattle.tpl_draft.specs.Ids.{task_number};
 ghost use Rattle.tpl_hall.specs.Answers.{answers, shown};
@@ -53,10 +54,11 @@ impl<'g, K, W> Model for Session<'g, K, W> {
 }
 
 impl<'g, K: Drop, W: Item<K>> Session<'g, K, W> {
-    /// A seat for an actor that has none yet.
+    /// A seat for an actor that has none yet. It has room for all events of a run.
     pub fn seat<R: Wait>(&self, rt: &R, alloc: Global, actor: Actor) -> Result<Seat, SeatFault>
         ensures seat { IfOk result (λ seat. (seat.actor ≡ actor) × (seat.mine ≡ [])
             × (seat.last ≡ None)) }
+        ensures room { IfOk result (λ seat. seat.room ≡ bound self.now.graph.graph) }
         ensures actor { OnOk result (IsSeat actor) }
         ensures bad_actor { IfErr result (λ fault. (fault ≡ BadActor) ↔ (IsSeat actor → ⊥)) }
     {
@@ -64,7 +66,7 @@ impl<'g, K: Drop, W: Item<K>> Session<'g, K, W> {
             return Err(SeatFault::BadActor);
         }
         let mut shared = self.shared.lock(rt);
-        shared.seat(alloc, actor)
+        shared.seat(alloc, actor, self.graph)
     }
 
     /// Where a task stands at one moment of the call.

@@ -1,6 +1,7 @@
 //! What the session's lock guards.
 
 ghost use Rattle.std.specs.Prelude.{◌≡◌, ◌↔◌, ◌≤◌, ◌⊎◌, ◌++◌, ◌∷◌, [], Err, None, true, IfOk, IfErr, IfSome, OnOk, OnErr, vec_capacity, vec_len};
+ghost use Rattle.tpl_model.specs.Valid.{bound};
 ghost use Rattle.tpl_hall.specs.Moves.{Moves};
 ghost use Rattle.tpl_hall.specs.Stays.{MayEnd};
 ghost use Rattle.tpl_hall.specs.Lists.{is_seated};
@@ -10,6 +11,7 @@ use crate::put::{put_after, put_all};
 use crate::queue::{ItemPass, ItemQueue};
 use std::alloc::{AllocError, Global};
 use std::sync::Wait;
+use tpl_graph::Graph;
 use tpl_hall::{Ended, Hall, Seat, SeatFault, has_seat};
 use tpl_items::{Children, Item, Stock};
 use tpl_jobs::Receipt;
@@ -214,9 +216,10 @@ impl<'g, K: Drop, W: Item<K>> Shared<'g, K, W> {
         self.halted = true;
     }
 
-    /// A seat for an actor that has none.
-    pub fn seat(&mut self, alloc: Global, actor: Actor) -> Result<Seat, SeatFault>
+    /// A seat for an actor that has none, with room for all events of a run of the graph.
+    pub fn seat(&mut self, alloc: Global, actor: Actor, graph: &Graph) -> Result<Seat, SeatFault>
         ensures seat { IfOk result (λ s. (s.actor ≡ actor) × (s.mine ≡ []) × (s.last ≡ None)) }
+        ensures room { IfOk result (λ s. s.room ≡ bound graph.now.graph) }
         ensures fault { IfErr result (λ fault. fault ≡ BadActor → ⊥) }
         ensures taken { (result ≡ Err SeatTaken) ↔ ((is_seated actor self.old.seats.items ≡ true)
             ⊎ (vec_capacity self.old.seats ≤ vec_len self.old.seats)) }
@@ -227,7 +230,7 @@ impl<'g, K: Drop, W: Item<K>> Shared<'g, K, W> {
         if has_seat(actor, self.seats.as_slice()) || self.seats.len() >= self.seats.capacity() {
             return Err(SeatFault::SeatTaken);
         }
-        match Seat::empty(alloc, actor, self.hall.core().graph()) {
+        match Seat::empty(alloc, actor, graph) {
             Ok(seat) => {
                 self.seats.push_reserved(actor);
                 Ok(seat)

@@ -1,5 +1,5 @@
 use Rattle.std.proofs.Common.{◌≡◌, map}
-use Rattle.std.specs.Prelude.{vec_len, vec_capacity}
+use Rattle.std.specs.Prelude.{All, [], vec_len, vec_capacity}
 use Rattle.tpl_runtime.specs.Workers.{workers}
 use Rattle.tpl_runtime.proofs.session.Session.seat_workers.Given as goal
 
@@ -9,4 +9,5 @@ invariant-loop-number g l =
       seats : map (λ s. s.actor) l.seats.items ≡ workers l.number;
       count : vec_len l.seats ≡ l.number;
       capacity : vec_capacity l.seats ≡ vec_capacity l.initial.seats;
+      fresh : All (λ s. s.mine ≡ []) l.seats.items;
     }
