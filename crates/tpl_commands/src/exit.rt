@@ -6,9 +6,9 @@ ghost use Rattle.tpl_commands.specs.Exit.{exit_code};
 /// How the program ends.
 #[derive(Clone, Copy, Debug, Drop, PartialEq, Eq)]
 pub enum Exit {
-    /// The certificate is accepted, a certificate was found, the run is complete and no claim fails, or help was given.
+    /// The answer is yes, the picture or the trace was written, no run was found in which a claim fails, or help was given.
     Success,
-    /// Not accepted, not found, not complete, or a claim fails.
+    /// The answer is no: not accepted, not found, not complete, not allowed, or a claim fails; or what was found is too long.
     Failure,
     /// The words of the command line name no command.
     Usage,

@@ -44,6 +44,7 @@ impl Names {
         Ok(added)
     }
 
+    /// How many names there are.
     pub fn len(&self) -> usize
         ensures { result ≡ length self.now }
     {
@@ -66,6 +67,7 @@ impl Names {
         self.set.get_index_of(name)
     }
 
+    /// Whether one of the names is this.
     pub fn has(&self, name: &str) -> bool
         ensures { result ≡ has_name self.now name.now }
     {

@@ -100,7 +100,7 @@ fn shape_text(alloc: Global, document: &Document, claim: usize) -> Said {
     rows_text(alloc, document, claim)
 }
 
-/// The tasks of which a property speaks: one, or the same twice, or two.
+/// The tasks of which a property speaks: two, or one twice.
 fn tasks_of(property: Property) -> (TaskId, TaskId) {
     match property {
         Property::Final(task, _) | Property::Observed(task) | Property::Never(task) => (task, task),

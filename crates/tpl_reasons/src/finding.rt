@@ -89,7 +89,7 @@ fn tried_text(alloc: Global, depth: Depth, ran_out: Option<RanOut>) -> Said {
             String::from_str(alloc, "no tree proves it, however many splits it has")
         }
         Some(RanOut::Leaves) => format!(in alloc;
-            "no tree with at most {splits} on each path was found within the 100,000 leaves that are tried"
+            "no tree with at most {splits} on each path was found within 100,000 leaves in order and 20,000 in a directed search"
         ),
         _ => format!(in alloc; "no tree with at most {splits} on each path proves it"),
     }
