@@ -16,9 +16,8 @@ import sys
 import tempfile
 
 from documents import COUNTED, LONGEST, sized, text_of
+from suite import HERE, PROGRAM, program
 
-HERE = pathlib.Path(__file__).resolve().parent
-PROGRAM = "crates/tpl_cli/out/tpl_cli"
 # where Debian's packages put the sources of Rust's crates
 REGISTRY = "/usr/share/cargo/registry"
 
@@ -28,9 +27,10 @@ def plain_program(folder):
     words = ["cargo", "build", "--release", "--offline", "--quiet", "--target-dir", folder]
     words += ["--config", 'source.crates-io.replace-with="debian"']
     words += ["--config", f'source.debian.directory="{REGISTRY}"']
-    lock = HERE / "plain" / "Cargo.lock"
-    subprocess.run([*words, "--manifest-path", str(HERE / "plain" / "Cargo.toml")], check=True)
-    lock.unlink(missing_ok=True)
+    try:
+        subprocess.run([*words, "--manifest-path", str(HERE / "plain" / "Cargo.toml")], check=True)
+    finally:
+        (HERE / "plain" / "Cargo.lock").unlink(missing_ok=True)
     return f"{folder}/release/plain"
 
 
@@ -70,21 +70,22 @@ def filled(document, place, element):
 
 
 def main():
-    program = sys.argv[1] if len(sys.argv) > 1 else PROGRAM
+    named = program(PROGRAM)
     with tempfile.TemporaryDirectory() as folder:
         plain = plain_program(folder)
         for name, counted in COUNTED.items():
             file = f"{folder}/{name}.json"
             pathlib.Path(file).write_text(text_of(sized(counted)), encoding="utf-8")
             size = os.path.getsize(file)
-            least, ours = instructions([plain, file], file), instructions([program, "check"], file)
-            memory = peak([program, "check"], file)
+            least, ours = instructions([plain, file], file), instructions([named, "check"], file)
+            memory = peak([named, "check"], file)
             print(f"{name}: {size} bytes, plain {least}, check {ours}, ratio {ours / least:.2f}, memory {memory}")
         for name, document, place, element in small_objects():
             file = f"{folder}/{name}.json"
             pathlib.Path(file).write_text(filled(document, place, element), encoding="utf-8")
-            size, memory = os.path.getsize(file), peak([program, "check"], file)
+            size, memory = os.path.getsize(file), peak([named, "check"], file)
             print(f"{name}: {size} bytes, memory {memory}, {memory / size:.1f} for each byte")
 
 
-main()
+if __name__ == "__main__":
+    main()

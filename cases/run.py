@@ -33,7 +33,11 @@ def difference(case, line):
     if missing:
         return f"no line {missing[0]!r} in {wrote[:200]!r}"
     said = ended.stderr.decode(errors="replace")
-    unsaid = [it for it in case.get("stderr") or [] if it not in said] if EXPLAIN in line else []
+    if EXPLAIN not in line or "stderr" not in case:
+        return None
+    if not case["stderr"]:
+        return f"says {said[:200]!r} on standard error" if said else None
+    unsaid = [it for it in case["stderr"] if it not in said]
     return f"no {unsaid[0]!r} in {said[:200]!r} on standard error" if unsaid else None
 
 

@@ -34,10 +34,12 @@ def called(words, document):
 
 
 def reported(named, document, workers):
-    """The journal of a run that the program makes, or None where it makes none."""
+    """The journal of a run that the program makes, or None where the document is refused."""
     report, _ = called([named, "run", "--workers", str(workers)], document)
     lines = report.split("\n")
     heads = [at for at, line in enumerate(lines) if line.startswith("journal ")]
+    if not heads and not report.startswith(("refused:", "unreadable:")):
+        raise ValueError(f"no journal in {report[:200]!r}")
     return "\n".join(lines[heads[0] + 1 :]) if heads else None
 
 
