@@ -155,7 +155,7 @@ fn answer_and_explain<R: Threads + Wait + Sync, I: Read, O: Write>(
 }
 
 /// Does what the command line says. What is written is kept together, and all of it is written out before the end is
-/// known.
+/// known. What a failed write left is not written later.
 fn perform<R: Threads + Wait + Sync>(rt: &HostRuntime, threads: &R, order: Order) -> Exit
     requires { IsWithin order.line }
 {
@@ -165,11 +165,13 @@ fn perform<R: Threads + Wait + Sync>(rt: &HostRuntime, threads: &R, order: Order
         return put_out_of_memory(&mut Counting::new(rt.stdout()));
     };
     let mut to = Counting::new(out);
-    if order.explains {
+    let exit = if order.explains {
         answer_and_explain(rt, threads, &order.line, &mut from, &mut to)
     } else {
         answer(rt, threads, &order.line, &mut from, &mut to)
-    }
+    };
+    let _left = to.into_inner().into_parts();
+    exit
 }
 
 /// Writes why there is nothing to do.
