@@ -13,12 +13,19 @@ import subprocess
 import sys
 import tempfile
 
-from suite import HERE, PROGRAM, cases, files, given, program, tell
+from preload import shared
+from suite import PROGRAM, cases, files, given, program, tell
 
 # beside the first case of each file
 MORE = {
-    "analyse.json": ["the whole document with a slim certificate"],
+    "analyse.json": [
+        "one root that returns; the certificate of the document is not used",
+        "a continuation that may be canceled early: no certificate",
+        "the whole document with a slim certificate",
+    ],
+    "audits.json": ["a synchronous continuation on another worker"],
     "first-examples.json": [
+        "a row without what the claim needs before",
         "LazyCancellation lets a continuation keep what is past its antecedent",
         "two continuations on opposite ends, split on the end",
     ],
@@ -36,17 +43,6 @@ def chosen(file):
     more = [case for case in every if case["name"] in MORE.get(pathlib.Path(file).name, ())]
     assert len(more) == len(MORE.get(pathlib.Path(file).name, ())), f"{file} lacks a case that is named here"
     return [every[0], *more]
-
-
-def shared(folder):
-    """Builds refuse.c in the folder, by the compiler beside `rt`."""
-    guide = subprocess.run(["rt", "doc"], stdout=subprocess.PIPE, check=True, text=True)
-    tools = pathlib.Path(guide.stdout.strip()).parent / "toolchain/bin"
-    target = ["--target=x86_64-unknown-linux-gnu", "-O1", "-fPIC"]
-    made, library = f"{folder}/refuse.o", f"{folder}/refuse.so"
-    subprocess.run([tools / "clang", *target, "-c", HERE / "refuse.c", "-o", made], check=True)
-    subprocess.run([tools / "ld.lld", "-shared", made, "-o", library], check=True)
-    return library
 
 
 def answer(program, case, library, **refusing):
@@ -78,7 +74,7 @@ def differs(program, case, library):
 
 def compared():
     with tempfile.TemporaryDirectory() as folder:
-        named, library = program(PROGRAM), shared(folder)
+        named, library = program(PROGRAM), shared(folder, "refuse.c")
         for file in files():
             for case in chosen(file):
                 yield file, case, differs(named, case, library)

@@ -1,9 +1,7 @@
 /* For memory.py, which has the program load it before the C library: refuses the allocation whose number, from 1, is in
    REFUSED, and all after it where REFUSE_REST is set. With no REFUSED it says at the end how many were asked for. */
-extern char *getenv(const char *);
-extern long atol(const char *);
-extern int dprintf(int, const char *, ...);
-extern long syscall(long, ...);
+#include "ending.h"
+
 extern void *__libc_malloc(unsigned long);
 extern void *__libc_realloc(void *, unsigned long);
 
@@ -20,14 +18,7 @@ void *malloc(unsigned long bytes) { return refuses() ? 0 : __libc_malloc(bytes);
 
 void *realloc(void *old, unsigned long bytes) { return refuses() ? 0 : __libc_realloc(old, bytes); }
 
-__attribute__((destructor)) static void tell(void) {
+static void tell(void) {
     if (refused <= 0)
         dprintf(2, "%ld", asked);
-}
-
-/* A program that may start threads ends so, and then no destructor runs; 231 is exit_group. */
-void _exit(int status) {
-    tell();
-    for (;;)
-        syscall(231, status);
 }

@@ -1,5 +1,6 @@
 #!/usr/bin/env python3
-"""Tests of the scripts: those of examples/, of this folder, and .ci/trusted.
+"""Tests of the scripts: those of examples/, of this folder, and .ci/trusted; and of the program's version, help and
+progress on a terminal.
 
 usage: cases/scripts.py [PROGRAM]    the script `taskgraph` at the top, if none is named
 
@@ -16,6 +17,7 @@ import sys
 import tempfile
 from importlib.machinery import SourceFileLoader
 
+import chance
 import measure
 import pages
 from suite import HERE, program, tell
@@ -230,6 +232,8 @@ def imports_lead_to_files():
     files, types, foreign = TRUSTED.imports(TOP / "crates/tpl_model/specs/Claims.antt")
     assert TOP / "crates/tpl_model/specs/Rules.antt" in files
     assert ("tpl_model", "Property") in types
+    _, types, _ = TRUSTED.imports(TOP / "crates/tpl_reader/specs/SeenDocument.antt")
+    assert ("tpl_reader", "Document") in types
     assert foreign == {"std"}
 
 
@@ -239,6 +243,29 @@ def imports_lead_to_files():
 def the_small_documents_are_those_of_the_script():
     written = {file.name: file.read_text(encoding="utf-8") for file in measure.DATA.iterdir()}
     assert written == dict(measure.small_files())
+
+
+# ---- cases/chance.py
+
+
+def the_documents_that_are_played_are_those_of_the_script():
+    assert chance.PLAYED.read_text(encoding="utf-8") == chance.played()
+
+
+def lines_of_journals_are_told_from_others():
+    events = ["w1 begin A", "w64 worked A failed", "o8 request k", "o1 drop A", "w10 settle A"]
+    others = ["w0 begin A", "w65 begin A", "w01 begin A", "o9 request k", "w1 request k", "o1 begin A", "w1 begin k"]
+    others += ["o1 request A", "w1 worked A", "w1 begin A done", "w1  begin A", "w1 begin A ", "W1 begin A", "w1 start A", ""]
+    assert [line for line in events if not chance.is_event(line, {"A"}, {"k"})] == []
+    assert [line for line in others if chance.is_event(line, {"A"}, {"k"})] == []
+    assert chance.first_fault("w1 begin A\nw1 step A", {"A"}, set()) == 2
+    assert chance.first_fault("w1 begin A\nw1 step A\n", {"A"}, set()) is None
+
+
+def reports_are_read():
+    report = chance.Report("complete\ntask A Faulted A:x\ntask K Created\nunobserved A:x\ncalled 0\nreturned 0\njournal 1\nw1 begin A\n")
+    assert (report.first, report.count, report.journal) == ("complete", 1, "w1 begin A\n")
+    assert (report.ends, report.unobserved) == ({"A": "Faulted", "K": "Created"}, ["A"])
 
 
 TESTS = [
@@ -252,6 +279,7 @@ TESTS = [
     a_wrong_page_fails, each_word_of_a_refusal_has_its_line, each_line_in_the_code_is_on_the_page,
     the_page_on_what_is_trusted_is_current, imports_lead_to_files,
     the_small_documents_are_those_of_the_script,
+    the_documents_that_are_played_are_those_of_the_script, lines_of_journals_are_told_from_others, reports_are_read,
 ]
 
 

@@ -13,7 +13,7 @@ import subprocess
 import sys
 import tempfile
 
-from memory import shared
+from preload import shared
 from suite import HERE, program, tell
 
 PROGRAM = "crates/tpl_tests_runs/out/tpl_tests_runs"
@@ -24,6 +24,7 @@ SOURCE = HERE.parent / "crates/tpl_tests_runs/src/memory.rt"
 FULL = ["run", "closed", "requested", "closed"]
 # what each call says where it has no memory; each has to be met
 WITHOUT = {
+    "no memory for the document",
     "no memory to open",
     "no memory for a watcher",
     "no memory for a seat",
@@ -32,6 +33,8 @@ WITHOUT = {
     "no memory to run, and one works alone",
     "no memory to close",
 }
+# what the last call of a session says
+LAST = {"closed", "no memory for the document", "no memory to open", "no memory to close"}
 # and where no thread can be made
 ALSO = {*FULL, "no thread to run"}
 
@@ -60,6 +63,8 @@ def wrong(lines, status, error, met):
         return f"unknown lines: {lines}"
     if status != 0 and "OutOfMemory" not in error:
         return f"it ends with status {status}: {error}"
+    if status == 0 and sum(line in LAST for line in said) != FULL.count("closed"):
+        return f"a session says nothing at its end: {lines}"
     met.update(said)
     return None
 
@@ -81,7 +86,7 @@ def compared():
     named = pathlib.Path(program(PROGRAM)).resolve()
     met = set()
     with tempfile.TemporaryDirectory() as folder:
-        library = shared(folder)
+        library = shared(folder, "refuse.c")
         yield SOURCE, {"name": "one allocation refused"}, differs(named, library, {}, met)
         yield SOURCE, {"name": "all from one on refused"}, differs(named, library, {"REFUSE_REST": "1"}, met)
     missing = sorted(WITHOUT - met)

@@ -1,6 +1,6 @@
 //! Documents that are no text, and documents that are too long to be kept.
 
-use crate::documents::document_answer;
+use crate::answers::document_answer;
 use std::alloc::{AllocError, Global};
 
 /// The value of a hexadecimal digit; 0 of anything else.
@@ -49,11 +49,16 @@ fn tasks(alloc: Global, count: usize) -> Result<String, AllocError> {
     Ok(text)
 }
 
+/// The parts of the document that the bytes spell, or why they spell none.
+fn parts_of_bytes(alloc: Global, bytes: &[u8]) -> Result<String, AllocError> {
+    document_answer(alloc, "document", bytes, "")
+}
+
 /// What is answered to the document that is made.
 fn made_answer(alloc: Global, kind: &str, count: usize, text: &str) -> Result<String, AllocError> {
     match kind {
-        "padded" | "spaces" => document_answer(alloc, &padded(alloc, text, count)?),
-        "tasks" => document_answer(alloc, tasks(alloc, count)?.as_bytes()),
+        "padded" | "spaces" => parts_of_bytes(alloc, &padded(alloc, text, count)?),
+        "tasks" => parts_of_bytes(alloc, tasks(alloc, count)?.as_bytes()),
         _ => String::from_str(alloc, "nothing is made"),
     }
 }
@@ -62,7 +67,7 @@ fn made_answer(alloc: Global, kind: &str, count: usize, text: &str) -> Result<St
 pub fn bytes_answer(alloc: Global, question: &str) -> Result<String, AllocError> {
     let (kind, rest) = question.split_once(' ').unwrap_or((question, ""));
     if kind == "bytes" {
-        return document_answer(alloc, &spelled(alloc, rest)?);
+        return parts_of_bytes(alloc, &spelled(alloc, rest)?);
     }
     let (count, text) = rest.split_once(' ').unwrap_or((rest, ""));
     match count.parse::<usize>() {

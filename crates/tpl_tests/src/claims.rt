@@ -1,11 +1,11 @@
 //! What is answered to the claims of a document about its journal.
 
-use crate::documents::{events_of, fault_text, inputs_of};
+use crate::documents::{events_of, inputs_of};
 use std::alloc::{AllocError, Global};
 use tpl_claims::{Claim, holds};
 use tpl_machine::{Core, Machine};
 use tpl_model::Event;
-use tpl_reader::{Document, read_document};
+use tpl_reader::Document;
 
 /// What is found of a claim.
 #[derive(Clone, Copy)]
@@ -21,7 +21,7 @@ enum Found {
 }
 
 /// The claim can be asked of the graph, and holds now.
-pub fn holds_now<C: Core>(core: &C, claim: &Claim) -> bool {
+fn holds_now<C: Core>(core: &C, claim: &Claim) -> bool {
     claim.fits(core.graph()) && holds(core, claim)
 }
 
@@ -69,13 +69,9 @@ fn found_text(alloc: Global, document: &Document, events: &[Event]) -> Result<St
 }
 
 /// For each claim of the document whether it holds throughout its journal, or the place at which it fails.
-pub fn claims_answer(alloc: Global, document: &str) -> Result<String, AllocError> {
-    let document = match read_document(alloc, document.as_bytes()) {
-        Ok(document) => document,
-        Err(fault) => return fault_text(alloc, fault),
-    };
-    match events_of(alloc, &document)? {
-        Ok(events) => found_text(alloc, &document, events.as_slice()),
+pub fn claims_answer(alloc: Global, document: &Document) -> Result<String, AllocError> {
+    match events_of(alloc, document)? {
+        Ok(events) => found_text(alloc, document, events.as_slice()),
         Err(fault) => Ok(fault),
     }
 }

@@ -3,7 +3,7 @@
 use std::alloc::{AllocError, Global};
 use tpl_journal::{JournalFault, read_journal};
 use tpl_model::Event;
-use tpl_reader::{Document, ReadFault, read_document};
+use tpl_reader::{Document, ReadFault};
 use tpl_words::Inputs;
 
 /// Why there is no document; out of memory is no answer.
@@ -15,7 +15,7 @@ pub fn fault_text(alloc: Global, fault: ReadFault) -> Result<String, AllocError>
 }
 
 /// How many there are of each part of a document.
-fn parts_of(alloc: Global, document: &Document) -> Result<String, AllocError> {
+pub fn parts_of(alloc: Global, document: &Document) -> Result<String, AllocError> {
     let graph = &document.graph;
     format!(in alloc;
         "tasks {}, tokens {}, inputs {}, claims {}, trees {}, journal {}, start {}",
@@ -27,14 +27,6 @@ fn parts_of(alloc: Global, document: &Document) -> Result<String, AllocError> {
         document.journal.len(),
         document.start.is_some()
     )
-}
-
-/// The parts of the document that the bytes spell, or why they spell none.
-pub fn document_answer(alloc: Global, bytes: &[u8]) -> Result<String, AllocError> {
-    match read_document(alloc, bytes) {
-        Err(fault) => fault_text(alloc, fault),
-        Ok(document) => parts_of(alloc, &document),
-    }
 }
 
 /// The inputs of the runs of a document.

@@ -1,8 +1,8 @@
 //! Long texts.
 
-use crate::journals::{found_text, read};
 use std::alloc::{AllocError, Global};
-use tpl_reader::{Document, read_document};
+use tpl_journal::{JournalFault, read_journal};
+use tpl_reader::Document;
 
 /// How many bytes a long text has.
 const LONG: usize = 16_777_216;
@@ -18,11 +18,12 @@ fn repeated(alloc: Global, line: &str, times: usize, last: &str) -> Result<Strin
     Ok(text)
 }
 
-/// How many events are read, or what is found instead.
+/// How many events are read, or why none are.
 fn answer_of(alloc: Global, document: &Document, text: &str) -> Result<String, AllocError> {
-    match read(alloc, document, text)? {
+    match read_journal(alloc, &document.graph, text) {
         Ok(events) => format!(in alloc; "{} events", events.len()),
-        Err(found) => found_text(alloc, found),
+        Err(JournalFault::Memory) => Err(AllocError),
+        Err(fault) => format!(in alloc; "{fault}"),
     }
 }
 
@@ -37,7 +38,13 @@ fn text_of(alloc: Global, times: &str, line: &str, last: &str) -> Result<String,
     }
 }
 
-fn of_document(alloc: Global, document: &Document, question: &str) -> Result<String, AllocError> {
+/// The question says what is made of the line: `N LINE` is the line N times, `N LINE|LAST` with more text behind it;
+/// `long LINE` and `one LINE` are the line as often as a long text holds it, with and without line breaks.
+pub fn lengths_answer(
+    alloc: Global,
+    document: &Document,
+    question: &str,
+) -> Result<String, AllocError> {
     let Some((times, rest)) = question.split_once(' ') else {
         return String::from_str(alloc, "no length");
     };
@@ -47,13 +54,4 @@ fn of_document(alloc: Global, document: &Document, question: &str) -> Result<Str
     };
     let text = text_of(alloc, times, line, last)?;
     answer_of(alloc, document, text.as_str())
-}
-
-/// The question says what is made of the line: `N LINE` is the line N times, `N LINE|LAST` with more text behind it;
-/// `long LINE` and `one LINE` are the line as often as a long text holds it, with and without line breaks.
-pub fn lengths_answer(alloc: Global, context: &str, question: &str) -> Result<String, AllocError> {
-    match read_document(alloc, context.as_bytes()) {
-        Err(_) => String::from_str(alloc, "no document"),
-        Ok(document) => of_document(alloc, &document, question),
-    }
 }

@@ -7,43 +7,22 @@
 #![tactic(auto)]
 
 mod answers;
-mod audits;
 mod bytes;
 mod cases;
 mod certificates;
-mod changes;
 mod claims;
-mod commands;
-mod cuts;
-mod devices;
-mod dice;
 mod documents;
-mod explained;
-mod faulty;
 mod graphs;
-mod journals;
 mod lengths;
 mod names;
-mod reports;
-mod rounds;
-mod runs;
 mod scripts;
 mod sets;
-mod spelled;
 mod tell;
-mod walk;
 mod words;
 
 use crate::answers::answer;
 use crate::cases::{Case, cases_of};
-use crate::commands::commands_answer;
-use std::alloc::Global;
-use std::sync::Wait;
-use std::thread::Threads;
 use std::{fs, io};
-
-/// The kind of question whose answer waits for threads.
-const COMMANDS: &str = "commands";
 
 /// How many answers were compared, and how many of them were others.
 #[derive(Clone, Copy)]
@@ -53,18 +32,8 @@ struct Tally {
 }
 
 /// Compares one answer.
-fn check<R: Print + Threads + Wait + Sync>(
-    rt: &R,
-    alloc: Global,
-    kind: &str,
-    file: &str,
-    case: &Case,
-) -> io::Result<bool> {
-    let given = if kind == COMMANDS {
-        commands_answer(rt, alloc, case.question)?
-    } else {
-        answer(alloc, kind, case.context.as_str(), case.question)?
-    };
+fn check(rt: &HostRuntime, kind: &str, file: &str, case: &Case) -> io::Result<bool> {
+    let given = answer(rt.alloc(), kind, case.context.as_str(), case.question)?;
     let line = case.line;
     if given == case.answer {
         println!(rt; "{file}, line {line}: as expected")?;
@@ -77,18 +46,17 @@ fn check<R: Print + Threads + Wait + Sync>(
 }
 
 /// Compares the answers of a file, whose text is given.
-fn check_file<R: Print + Threads + Wait + Sync>(
-    rt: &R,
-    alloc: Global,
+fn check_file(
+    rt: &HostRuntime,
     kind: &str,
     file: &str,
     text: &str,
     so_far: Tally,
 ) -> io::Result<Tally> {
     let mut tally = so_far;
-    for case in cases_of(alloc, text)?.iter() {
+    for case in cases_of(rt.alloc(), text)?.iter() {
         tally.checks = tally.checks.saturating_add(1);
-        if !check(rt, alloc, kind, file, case)? {
+        if !check(rt, kind, file, case)? {
             tally.failed = tally.failed.saturating_add(1);
         }
     }
@@ -104,7 +72,7 @@ fn main(rt: HostRuntime) -> io::Result<()> {
     for line in files.lines() {
         if let Some((kind, file)) = line.split_once(' ') {
             let text = fs::read_to_string(&rt, file)?;
-            tally = check_file(&rt, rt.alloc(), kind, file, text.as_str(), tally)?;
+            tally = check_file(&rt, kind, file, text.as_str(), tally)?;
         }
     }
     println!(&rt; "{} checks, {} failed", tally.checks, tally.failed)

@@ -1,9 +1,7 @@
 //! What is answered to the body of a task.
 
-use crate::documents::fault_text;
 use std::alloc::{AllocError, Global};
 use tpl_graph::Graph;
-use tpl_reader::read_document;
 use tpl_script::{
     Cursor, Possible, Script, Stmt, Verdict, Verdicts, View, may, may_start, may_start_all,
     must_observe,
@@ -188,15 +186,11 @@ fn body_text(
     Ok(text)
 }
 
-/// How the body of the document's task `X` may end, whether it must observe, what it may start, and which statements a
-/// path passes, where the words exclude something.
-pub fn script_answer(alloc: Global, document: &str, words: &str) -> Result<String, AllocError> {
-    let read = match read_document(alloc, document.as_bytes()) {
-        Ok(read) => read,
-        Err(fault) => return fault_text(alloc, fault),
-    };
-    match read.graph.task(SUBJECT) {
-        Some(task) => body_text(alloc, &read.graph, task, words),
+/// How the body of the graph's task `X` may end, whether it must observe, what it may start, and which statements a path
+/// passes, where the words exclude something.
+pub fn script_answer(alloc: Global, graph: &Graph, words: &str) -> Result<String, AllocError> {
+    match graph.task(SUBJECT) {
+        Some(task) => body_text(alloc, graph, task, words),
         None => String::from_str(alloc, "no task X"),
     }
 }

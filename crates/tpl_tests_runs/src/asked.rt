@@ -12,7 +12,7 @@ use tpl_runtime::{
     Asked, CloseFault, CloseWhy, Ended, Item, Looked, Report, Seat, SeatFault, Session, Sight,
     Watcher,
 };
-use tpl_words::{Actor, Final, Inputs, Status, TaskId, TokenId, Worker};
+use tpl_words::{Actor, Final, Status, TaskId, TokenId, Worker};
 
 /// Actors for whom there is no seat.
 const STRANGE: [Actor; 4] = [
@@ -173,9 +173,8 @@ fn fresh<'g, K: Drop, W: Item<K>>(
     ensures graph { IfOk result (λ found. IfSome found (λ s. s.0.graph ≡ graph.now)) }
     ensures pass { IfOk result (λ found. IfSome found (λ s. s.1.queue ≡ s.0.queue)) }
 {
-    let inputs = Inputs::new(graph.input_count());
     let items: Vec<W> = Vec::new(alloc);
-    opened::<K, W>(alloc, graph, inputs, items)
+    opened::<K, W>(alloc, graph, items)
 }
 
 /// A seat of a fresh session of the graph, which has no work statements, where another session's seat is stray. None

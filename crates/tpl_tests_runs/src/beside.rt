@@ -8,11 +8,10 @@ use crate::cast::{Beside, cast, gathered, seated};
 use crate::closed::{Back, closes_well};
 use crate::crews::{RAN, all_ran};
 use crate::exchange::Stamp;
-use crate::graphs::graph_of;
+use crate::graphs::{Attempt, check_on};
 use crate::meeting::{flags_of, meet};
 use crate::opened::opened;
 use crate::parts::{FIRST, side_by_side};
-use crate::sessions::tell;
 use std::alloc::{AllocError, Global};
 use std::fs::Files;
 use std::io;
@@ -24,7 +23,7 @@ use tpl_jobs::{Receipt, Work, WorkItem};
 use tpl_model::{Act, Event};
 use tpl_queue::QueuePass;
 use tpl_runtime::{Item, Report, Session};
-use tpl_words::{Actor, Answer, Inputs, SiteId, Status};
+use tpl_words::{Actor, Answer, SiteId, Status};
 
 /// The seat outside that looks at each task in the end. Those beside the workers have the first two.
 const LAST: Actor = Actor::Outside(3);
@@ -32,13 +31,19 @@ const LAST: Actor = Actor::Outside(3);
 /// The site of the first task's first box.
 const FIRST_BOX: SiteId = SiteId(0);
 
-/// This many workers run the graph of a file, and who is beside them, how often.
+/// How many workers run a graph, and who is beside them.
+#[derive(Clone, Copy)]
+pub struct Company {
+    workers: u16,
+    beside: Beside,
+}
+
+/// Who runs the graph of a file, how often.
 #[derive(Clone, Copy)]
 struct Case {
     title: &'static str,
     file: &'static str,
-    workers: u16,
-    beside: Beside,
+    company: Company,
     rounds: usize,
 }
 
@@ -49,57 +54,73 @@ const CASES: [Case; COUNT] = [
     Case {
         title: "two seats that work in threads of their own",
         file: "two_that_meet",
-        workers: 2,
-        beside: Beside::Nobody,
+        company: Company {
+            workers: 2,
+            beside: Beside::Nobody,
+        },
         rounds: 1,
     },
     Case {
         title: "eight seats that work in threads of their own",
         file: "eight_that_meet",
-        workers: 8,
-        beside: Beside::Nobody,
+        company: Company {
+            workers: 8,
+            beside: Beside::Nobody,
+        },
         rounds: 1,
     },
     Case {
         title: "two seats that request beside four that work, a hundred times",
         file: "seven_with_two_tokens",
-        workers: 4,
-        beside: Beside::Requests,
+        company: Company {
+            workers: 4,
+            beside: Beside::Requests,
+        },
         rounds: 100,
     },
     Case {
         title: "a watcher that looks a thousand times",
         file: "seven",
-        workers: 2,
-        beside: Beside::Watcher,
+        company: Company {
+            workers: 2,
+            beside: Beside::Watcher,
+        },
         rounds: 20,
     },
     Case {
         title: "a look at a task while its box is called",
         file: "one_that_waits",
-        workers: 2,
-        beside: Beside::Look,
+        company: Company {
+            workers: 2,
+            beside: Beside::Look,
+        },
         rounds: 20,
     },
     Case {
         title: "halted between two boxes",
         file: "two_in_turn_that_wait",
-        workers: 1,
-        beside: Beside::Halt,
+        company: Company {
+            workers: 1,
+            beside: Beside::Halt,
+        },
         rounds: 20,
     },
     Case {
         title: "halted while seven of eight wait",
         file: "two_in_turn_that_wait",
-        workers: 8,
-        beside: Beside::Halt,
+        company: Company {
+            workers: 8,
+            beside: Beside::Halt,
+        },
         rounds: 20,
     },
     Case {
         title: "halted while 63 of 64 wait",
         file: "two_in_turn_that_wait",
-        workers: 64,
-        beside: Beside::Halt,
+        company: Company {
+            workers: 64,
+            beside: Beside::Halt,
+        },
         rounds: 5,
     },
 ];
@@ -158,13 +179,13 @@ fn acted<'g, R: Threads + Wait + Sync, K: Drop + Send, W: Item<K> + Send>(
     session: &Session<'g, K, W>,
     pass: QueuePass<Vec<W>>,
     flags: &[AtomicU64],
-    case: Case,
+    company: Company,
 ) -> Result<Option<Back<W>>, AllocError>
     requires graph { session.now.graph ≡ graph.now }
     requires pass { pass.queue ≡ session.now.queue }
     ensures { IfOk result (λ found. IfSome found (λ b. b.pass.queue ≡ session.now.queue)) }
 {
-    let cast = cast(alloc, session, case.workers, case.beside)?;
+    let cast = cast(alloc, session, company.workers, company.beside)?;
     let Some((pass, parts)) = seated(rt, alloc, session, pass, cast)? else {
         return Ok(None);
     };
@@ -181,7 +202,7 @@ fn together<R: Threads + Wait + Sync, K: Drop + Send, W: Item<K> + Send>(
     session: Session<'_, K, W>,
     pass: QueuePass<Vec<W>>,
     flags: &[AtomicU64],
-    case: Case,
+    company: Company,
 ) -> Result<bool, AllocError>
     requires graph { session.graph ≡ graph.now }
     requires pass { pass.queue ≡ session.queue }
@@ -189,12 +210,11 @@ fn together<R: Threads + Wait + Sync, K: Drop + Send, W: Item<K> + Send>(
     let Ok(looker) = session.seat(rt, alloc, LAST) else {
         return Ok(false);
     };
-    let Some(back) = acted(rt, alloc, graph, &session, pass, flags, case)? else {
+    let Some(back) = acted(rt, alloc, graph, &session, pass, flags, company)? else {
         return Ok(false);
     };
-    let inputs = Inputs::new(graph.input_count());
-    match closes_well(rt, alloc, graph, inputs, session, back, looker)? {
-        Some(report) => Ok(ends(graph, &report, case.beside)),
+    match closes_well(rt, alloc, graph, session, back, looker)? {
+        Some(report) => Ok(ends(graph, &report, company.beside)),
         None => Ok(false),
     }
 }
@@ -206,11 +226,10 @@ fn tries<R: Threads + Wait + Sync, K: Drop + Send, W: Item<K> + Send>(
     graph: &Graph,
     items: Vec<W>,
     flags: &[AtomicU64],
-    case: Case,
+    company: Company,
 ) -> Result<bool, AllocError> {
-    let inputs = Inputs::new(graph.input_count());
-    match opened(alloc, graph, inputs, items)? {
-        Some((session, pass)) => together(rt, alloc, graph, session, pass, flags, case),
+    match opened(alloc, graph, items)? {
+        Some((session, pass)) => together(rt, alloc, graph, session, pass, flags, company),
         None => Ok(false),
     }
 }
@@ -229,9 +248,9 @@ fn tried<R: Threads + Wait + Sync>(
     rt: &R,
     alloc: Global,
     graph: &Graph,
-    case: Case,
+    company: Company,
 ) -> Result<bool, AllocError> {
-    let flags = flags_of(alloc, flag_count(graph, case.beside))?;
+    let flags = flags_of(alloc, flag_count(graph, company.beside))?;
     let mut items: Vec<WorkItem<Stamp>> = Vec::new(alloc);
     for number in 0..graph.site_count() {
         let site = SiteId(number as u16);
@@ -245,35 +264,23 @@ fn tried<R: Threads + Wait + Sync>(
         )?;
         items.push(WorkItem::new(Stamp(0), site, may_fail, work))?;
     }
-    tries(rt, alloc, graph, items, flags.as_slice(), case)
+    tries(rt, alloc, graph, items, flags.as_slice(), company)
 }
 
-/// Tries each round of a case.
-fn tried_each<R: Threads + Wait + Sync>(
+/// Tries it so often.
+pub fn tried_beside<R: Threads + Wait + Sync>(
     rt: &R,
     alloc: Global,
     graph: &Graph,
-    case: Case,
+    company: Company,
+    rounds: usize,
 ) -> Result<bool, AllocError> {
-    for _ in 0..case.rounds {
-        if !tried(rt, alloc, graph, case)? {
+    for _ in 0..rounds {
+        if !tried(rt, alloc, graph, company)? {
             return Ok(false);
         }
     }
     Ok(true)
-}
-
-/// Tries a case.
-fn check_case<R: Files + Alloc + Print + Threads + Wait + Sync>(
-    rt: &R,
-    alloc: Global,
-    case: Case,
-) -> io::Result<bool> {
-    let holds = match graph_of(rt, alloc, case.file)? {
-        Some(document) => tried_each(rt, alloc, &document.graph, case)?,
-        None => false,
-    };
-    tell(rt, case.title, holds)
 }
 
 /// Tries each case, and answers which of them hold.
@@ -283,7 +290,8 @@ pub fn check_beside<R: Files + Alloc + Print + Threads + Wait + Sync>(
 ) -> io::Result<[bool; COUNT]> {
     let mut all = [false; COUNT];
     for (holds, case) in all.iter_mut().zip(CASES) {
-        *holds = check_case(rt, alloc, case)?;
+        let attempt = Attempt::Beside(case.company, case.rounds);
+        *holds = check_on(rt, alloc, case.title, case.file, attempt)?;
     }
     Ok(all)
 }

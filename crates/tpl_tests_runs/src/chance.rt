@@ -2,37 +2,25 @@
 
 use crate::allowed::{all_events, allowed};
 use crate::dice::Dice;
-use crate::generate::draft;
-use crate::machines::{Indexed, Opener, Plain, replayed};
+use crate::machines::{Indexed, Opener, Plain, inputs_of, replayed};
 use crate::seen::seen;
 use std::alloc::{AllocError, Global};
-use std::io;
-use tpl_graph::Graph;
+use std::{fs, io};
 use tpl_machine::Core;
 use tpl_model::Event;
-use tpl_words::{InputId, Inputs};
+use tpl_reader::{Document, read_document};
 
-/// How many seeds there are, how many drafts of graphs are made of each, and how many of those are valid at least.
-const SEEDS: usize = 6;
+/// The documents whose graphs are run, a line each, as cases/chance.py wrote them.
+const FILE: &str = "graphs/by_chance";
 
-const DRAFTS: usize = 60;
+/// How many there are.
+const COUNT: usize = 120;
 
-const LEAST: usize = 15;
-
-/// How many tasks a graph has.
-const TASKS: usize = 10;
+/// Each run is the seed's.
+const SEED: u64 = 1;
 
 /// No run of such a graph is longer.
 const MOST_EVENTS: usize = 1_000;
-
-/// Inputs of which the first has this value.
-fn inputs(graph: &Graph, value: bool) -> Inputs {
-    let mut inputs = Inputs::new(graph.input_count());
-    if !inputs.is_empty() {
-        inputs.set(InputId(0), value);
-    }
-    inputs
-}
 
 /// What the readers of a machine answer after a run, and whether the run is its journal.
 fn told<O: Opener>(
@@ -82,54 +70,41 @@ fn play<O: Opener, P: Opener>(
     Ok(false)
 }
 
-/// Plays a run of a graph on both machines.
-fn play_graph(alloc: Global, graph: &Graph, dice: &mut Dice) -> Result<bool, AllocError> {
-    let value = dice.one_in(2);
+/// Plays a run of a document's graph on both machines.
+fn play_graph(alloc: Global, document: &Document, dice: &mut Dice) -> Result<bool, AllocError> {
+    let graph = &document.graph;
     let plain = Plain {
         alloc,
         graph,
-        inputs: inputs(graph, value),
+        inputs: inputs_of(document),
     };
     let indexed = Indexed {
         alloc,
         graph,
-        inputs: inputs(graph, value),
+        inputs: inputs_of(document),
     };
     let events = all_events(alloc, graph)?;
     play(alloc, &plain, &indexed, events.as_slice(), dice)
 }
 
-/// Plays a run of each valid draft, and answers how many there are; none where the machines differ.
-fn play_drafts(alloc: Global, dice: &mut Dice) -> Result<Option<usize>, AllocError> {
-    let mut valid: usize = 0;
-    for _ in 0..DRAFTS {
-        if let Ok(graph) = Graph::build(alloc, draft(alloc, dice, TASKS)?) {
-            if !play_graph(alloc, &graph, dice)? {
-                return Ok(None);
+/// Plays a run of each document, and answers in how many of them the machines go alike.
+fn play_all(alloc: Global, documents: &str) -> Result<usize, AllocError> {
+    let mut dice = Dice::new(SEED);
+    let mut alike: usize = 0;
+    for text in documents.lines() {
+        if let Ok(document) = read_document(alloc, text.as_bytes()) {
+            if play_graph(alloc, &document, &mut dice)? {
+                alike = alike.saturating_add(1);
             }
-            valid = valid.saturating_add(1);
         }
     }
-    Ok(Some(valid))
-}
-
-/// Plays the runs of a seed, and answers whether the machines go alike.
-fn check_seed(rt: &HostRuntime, seed: u64) -> io::Result<bool> {
-    let mut dice = Dice::new(seed);
-    let holds = match play_drafts(rt.alloc(), &mut dice)? {
-        None => false,
-        Some(valid) => valid >= LEAST,
-    };
-    let word = if holds { "alike" } else { "FAILED" };
-    println!(rt; "runs by chance, seed {seed}: {word}")?;
-    Ok(holds)
-}
-
-/// Plays the runs of each seed, and answers whether the machines go alike in each.
-pub fn check_chance(rt: &HostRuntime) -> io::Result<[bool; SEEDS]> {
-    let mut alike = [false; SEEDS];
-    for (seed, holds) in alike.iter_mut().enumerate() {
-        *holds = check_seed(rt, seed.saturating_add(1) as u64)?;
-    }
     Ok(alike)
+}
+
+/// Plays a run of each document, and answers whether the machines go alike in each.
+pub fn check_chance(rt: &HostRuntime) -> io::Result<bool> {
+    let documents = fs::read_to_string(rt, FILE)?;
+    let alike = play_all(rt.alloc(), documents.as_str())?;
+    println!(rt; "runs by chance: {alike} of {COUNT} alike")?;
+    Ok(alike == COUNT)
 }

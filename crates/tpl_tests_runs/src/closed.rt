@@ -9,7 +9,6 @@ use std::sync::Wait;
 use tpl_graph::Graph;
 use tpl_queue::QueuePass;
 use tpl_runtime::{Item, Report, Seat, Session, Watcher};
-use tpl_words::Inputs;
 
 /// What threads come back with, and whether each went as it must.
 #[derive(Drop)]
@@ -40,7 +39,6 @@ pub fn closes_well<R: Wait, K: Drop, W: Item<K>>(
     rt: &R,
     alloc: Global,
     graph: &Graph,
-    inputs: Inputs,
     session: Session<'_, K, W>,
     back: Back<W>,
     looker: Seat,
@@ -56,7 +54,7 @@ pub fn closes_well<R: Wait, K: Drop, W: Item<K>>(
     let Some(report) = closed(rt, alloc, session, back) else {
         return Ok(None);
     };
-    let told = is_retold(alloc, graph, inputs, &report)?;
+    let told = is_retold(alloc, graph, &report)?;
     if well && told && looked.as_slice() == report.statuses.as_slice() {
         Ok(Some(report))
     } else {

@@ -2,15 +2,14 @@
 
 ghost use Rattle.std.specs.Prelude.{◌≡◌, IfOk, IfSome};
 
-use crate::asked::ask;
 use crate::closed::{Back, closes_well};
 use std::alloc::{AllocError, Global};
 use std::sync::Wait;
 use std::thread::Threads;
 use tpl_graph::Graph;
 use tpl_queue::QueuePass;
-use tpl_runtime::{Asked, Ended, Item, Looked, Report, Seat, Session, Watcher};
-use tpl_words::{Actor, Final, Inputs, Status, TaskId, TokenId};
+use tpl_runtime::{Ended, Item, Looked, Report, Seat, Session, Watcher};
+use tpl_words::{Actor, Final, Status, TaskId};
 
 /// The outside seat that looks at the tasks.
 pub const LOOKER: Actor = Actor::Outside(1);
@@ -56,62 +55,26 @@ pub fn looks<'g, R: Wait, K: Drop, W: Item<K>>(
     Ok(list)
 }
 
-/// How a session is run: by this many workers, with these inputs, once these tokens are requested.
-#[derive(Clone, Copy)]
-pub struct Play<'a> {
-    pub workers: u16,
-    pub inputs: &'a Inputs,
-    pub tokens: &'a [TokenId],
-}
-
-/// Requests each of the tokens, and says whether each is requested then.
-fn ask_all<'g, R: Wait, K: Drop, W: Item<K>>(
-    rt: &R,
-    graph: &Graph,
-    session: &Session<'g, K, W>,
-    seat: &mut Seat,
-    pass: &mut QueuePass<Vec<W>>,
-    tokens: &[TokenId],
-) -> bool
-    requires graph { session.now.graph ≡ graph.now }
-    requires pass { pass.old.queue ≡ session.now.queue }
-    ensures { pass.new.queue ≡ session.now.queue }
-{
-    let mut all = true;
-    for token in tokens {
-        all = match ask(rt, graph, session, seat, pass, *token) {
-            Some(Asked::Place(_)) | Some(Asked::Already) => all,
-            _ => false,
-        };
-    }
-    all
-}
-
-/// Requests the tokens by a seat outside, and lets workers run. None where they don't.
+/// Lets this many workers run. None where they don't.
 fn runs<'g, R: Threads + Wait + Sync, K: Drop + Send, W: Item<K> + Send>(
     rt: &R,
     alloc: Global,
-    graph: &Graph,
     session: &Session<'g, K, W>,
-    seat: &mut Seat,
     pass: QueuePass<Vec<W>>,
-    play: &Play<'_>,
+    workers: u16,
 ) -> Result<Option<Back<W>>, AllocError>
-    requires graph { session.now.graph ≡ graph.now }
-    requires pass { pass.queue ≡ session.now.queue }
+    requires { pass.queue ≡ session.now.queue }
     ensures { IfOk result (λ found. IfSome found (λ b. b.pass.queue ≡ session.now.queue)) }
 {
-    let mut pass = pass;
-    let asked = ask_all(rt, graph, session, seat, &mut pass, play.tokens);
-    let Ok((done, pass)) = session.run(rt, alloc, pass, play.workers) else {
+    let Ok((done, pass)) = session.run(rt, alloc, pass, workers) else {
         return Ok(None);
     };
-    let (seats, complete) = with_workers(Vec::new(alloc), done, Ended::Complete)?;
+    let (seats, well) = with_workers(Vec::new(alloc), done, Ended::Complete)?;
     Ok(Some(Back {
         seats,
         pass,
         watchers: Vec::new(alloc),
-        well: asked && complete,
+        well,
     }))
 }
 
@@ -119,19 +82,16 @@ fn runs<'g, R: Threads + Wait + Sync, K: Drop + Send, W: Item<K> + Send>(
 fn runs_watched<'g, R: Threads + Wait + Sync, K: Drop + Send, W: Item<K> + Send>(
     rt: &R,
     alloc: Global,
-    graph: &Graph,
     session: &Session<'g, K, W>,
-    seat: &mut Seat,
     pass: QueuePass<Vec<W>>,
     watcher: &mut Watcher,
-    play: &Play<'_>,
+    workers: u16,
 ) -> Result<Option<Back<W>>, AllocError>
-    requires graph { session.now.graph ≡ graph.now }
-    requires pass { pass.queue ≡ session.now.queue }
+    requires { pass.queue ≡ session.now.queue }
     ensures { IfOk result (λ found. IfSome found (λ b. b.pass.queue ≡ session.now.queue)) }
 {
     let mut other = session.watch(alloc)?;
-    let Some(back) = runs(rt, alloc, graph, session, seat, pass, play)? else {
+    let Some(back) = runs(rt, alloc, session, pass, workers)? else {
         return Ok(None);
     };
     let mut back = back;
@@ -148,7 +108,7 @@ pub fn run_by<'g, R: Threads + Wait + Sync, K: Drop + Send, W: Item<K> + Send>(
     graph: &Graph,
     session: Session<'g, K, W>,
     pass: QueuePass<Vec<W>>,
-    play: &Play<'_>,
+    workers: u16,
 ) -> Result<Option<Report<K, W>>, AllocError>
     requires graph { session.graph ≡ graph.now }
     requires pass { pass.queue ≡ session.queue }
@@ -157,22 +117,11 @@ pub fn run_by<'g, R: Threads + Wait + Sync, K: Drop + Send, W: Item<K> + Send>(
     let Ok(seat) = session.seat(rt, alloc, LOOKER) else {
         return Ok(None);
     };
-    let mut seat = seat;
-    let found = runs_watched(
-        rt,
-        alloc,
-        graph,
-        &session,
-        &mut seat,
-        pass,
-        &mut watcher,
-        play,
-    )?;
+    let found = runs_watched(rt, alloc, &session, pass, &mut watcher, workers)?;
     let Some(back) = found else {
         return Ok(None);
     };
-    let inputs = play.inputs.copy();
-    match closes_well(rt, alloc, graph, inputs, session, back, seat)? {
+    match closes_well(rt, alloc, graph, session, back, seat)? {
         Some(report) if watcher.list() == report.journal.as_slice() => Ok(Some(report)),
         _ => Ok(None),
     }

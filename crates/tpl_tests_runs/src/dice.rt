@@ -22,9 +22,4 @@ impl Dice {
         }
         (self.state >> 33) as usize % sides
     }
-
-    /// True once in this many times.
-    pub fn one_in(&mut self, times: usize) -> bool {
-        self.roll(times) == 0
-    }
 }

@@ -1,17 +1,84 @@
-//! The graphs of sessions, from files.
+//! What is tried on the graph of a file.
 
+use crate::beside::{Company, tried_beside};
+use crate::meeting::all_meet;
+use crate::memory::plays_graph;
+use crate::refusals::{Given, counts, refuses_given};
+use crate::sessions::{Trial, tried_each};
 use std::alloc::Global;
 use std::fs::Files;
+use std::sync::Wait;
+use std::thread::Threads;
 use std::{fs, io};
-use tpl_reader::{Document, read_document};
+use tpl_graph::Graph;
+use tpl_reader::read_document;
+use tpl_runtime::OpenWhy;
 
-/// The document of a graph.
-pub fn graph_of<R: Files + Alloc>(
+/// What is tried on a graph.
+#[derive(Clone, Copy)]
+pub enum Attempt {
+    /// This trial on a session, so often.
+    Session(Trial, usize),
+    /// Workers in threads of the test's own, with others beside them, so often.
+    Beside(Company, usize),
+    /// Boxes that wait for each other, with this many workers.
+    Meeting(u16),
+    /// A session with items that aren't the graph's, which is refused for this reason.
+    Items(&'static [Given], OpenWhy),
+    /// A session with counts of workers that can't be.
+    Counts,
+    /// A session with little memory.
+    Little,
+}
+
+/// Whether what is tried on a graph goes as it must.
+fn goes<R: Print + Threads + Wait + Sync>(
+    rt: &R,
+    alloc: Global,
+    graph: &Graph,
+    attempt: Attempt,
+) -> io::Result<bool> {
+    let holds = match attempt {
+        Attempt::Session(trial, rounds) => tried_each(rt, alloc, graph, trial, rounds)?,
+        Attempt::Beside(company, rounds) => tried_beside(rt, alloc, graph, company, rounds)?,
+        Attempt::Meeting(workers) => all_meet(rt, alloc, graph, workers)?,
+        Attempt::Items(given, why) => refuses_given(alloc, graph, given, why)?,
+        Attempt::Counts => counts(rt, alloc, graph)?,
+        Attempt::Little => plays_graph(rt, alloc, graph)?,
+    };
+    Ok(holds)
+}
+
+/// Whether what is tried on the graph of a file goes as it must; None where no document is read.
+pub fn attempted<R: Files + Alloc + Print + Threads + Wait + Sync>(
     rt: &R,
     alloc: Global,
     name: &str,
-) -> io::Result<Option<Document>> {
+    attempt: Attempt,
+) -> io::Result<Option<bool>> {
     let file = format!(in alloc; "graphs/{name}")?;
     let text = fs::read_to_string(rt, file.as_str())?;
-    Ok(read_document(alloc, text.as_bytes()).ok())
+    match read_document(alloc, text.as_bytes()) {
+        Ok(document) => goes(rt, alloc, &document.graph, attempt).map(Some),
+        Err(_) => Ok(None),
+    }
+}
+
+/// Tries that, and writes whether it goes as it must.
+pub fn check_on<R: Files + Alloc + Print + Threads + Wait + Sync>(
+    rt: &R,
+    alloc: Global,
+    title: &str,
+    name: &str,
+    attempt: Attempt,
+) -> io::Result<bool> {
+    let holds = attempted(rt, alloc, name, attempt)? == Some(true);
+    tell(rt, title, holds)
+}
+
+/// Writes whether a check of sessions holds.
+pub fn tell<R: Print>(rt: &R, title: &str, holds: bool) -> io::Result<bool> {
+    let word = if holds { "holds" } else { "FAILED" };
+    println!(rt; "session, {title}: {word}")?;
+    Ok(holds)
 }

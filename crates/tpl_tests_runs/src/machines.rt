@@ -5,6 +5,7 @@ use tpl_fast::Fast;
 use tpl_graph::Graph;
 use tpl_machine::{Core, Machine};
 use tpl_model::Event;
+use tpl_reader::Document;
 use tpl_words::Inputs;
 
 /// Opens machines, each time with the same graph and inputs.
@@ -43,6 +44,14 @@ impl<'g> Opener for Indexed<'g> {
 
     fn open(&self) -> Result<Fast<'g>, AllocError> {
         Fast::open(self.alloc, self.graph, self.inputs.copy())
+    }
+}
+
+/// The inputs with which a document starts.
+pub fn inputs_of(document: &Document) -> Inputs {
+    match &document.start {
+        Some(start) => start.inputs.copy(),
+        None => Inputs::new(0),
     }
 }
 

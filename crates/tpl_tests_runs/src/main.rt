@@ -13,7 +13,6 @@ mod closed;
 mod crews;
 mod dice;
 mod exchange;
-mod generate;
 mod graphs;
 mod machines;
 mod meeting;
@@ -25,7 +24,6 @@ mod plays;
 mod queue;
 mod refusals;
 mod retold;
-mod rounds;
 mod seen;
 mod sessions;
 
@@ -36,7 +34,6 @@ use crate::memory::play_with_little;
 use crate::plays::check_play;
 use crate::queue::check_queue;
 use crate::refusals::{check_counts, check_items};
-use crate::rounds::check_rounds;
 use crate::sessions::check_sessions;
 use std::{env, fs, io};
 
@@ -81,13 +78,12 @@ fn main(rt: HostRuntime) -> io::Result<()> {
         failed: 0,
     };
     let tally = check_plays(&rt, tally)?;
-    let tally = tally.with(&check_chance(&rt)?);
+    let tally = tally.with(&[check_chance(&rt)?]);
     let tally = tally.with(&check_queue(&rt, rt.alloc())?);
     let tally = tally.with(&check_sessions(&rt, rt.alloc())?);
     let tally = tally.with(&check_items(&rt, rt.alloc())?);
     let tally = tally.with(&[check_counts(&rt, rt.alloc())?]);
     let tally = tally.with(&check_meetings(&rt, rt.alloc())?);
     let tally = tally.with(&check_beside(&rt, rt.alloc())?);
-    let tally = tally.with(&[check_rounds(&rt, rt.alloc())?]);
     println!(&rt; "{} checks, {} failed", tally.checks, tally.failed)
 }

@@ -3,11 +3,10 @@
 ghost use Rattle.std.specs.Prelude.{◌≡◌, false};
 ghost use Rattle.tpl_words.specs.declared.status.Answer.TheVariants.{Done};
 
-use crate::crews::{Play, all_ran, run_by};
+use crate::crews::{all_ran, run_by};
 use crate::exchange::Stamp;
-use crate::graphs::graph_of;
+use crate::graphs::{Attempt, check_on};
 use crate::opened::opened;
-use crate::sessions::tell;
 use std::alloc::{AllocError, Global};
 use std::fs::Files;
 use std::sync::atomic::{AtomicU64, Ordering};
@@ -17,7 +16,7 @@ use std::{io, thread};
 use tpl_graph::Graph;
 use tpl_jobs::{Work, WorkItem};
 use tpl_runtime::Item;
-use tpl_words::{Answer, Inputs, SiteId};
+use tpl_words::{Answer, SiteId};
 
 /// How often a box looks for the others before it gives up.
 const TURNS: usize = 20_000_000;
@@ -75,23 +74,17 @@ fn run_to_the_end<R: Threads + Wait + Sync, K: Drop + Send, W: Item<K> + Send>(
     items: Vec<W>,
     workers: u16,
 ) -> Result<bool, AllocError> {
-    let inputs = Inputs::new(graph.input_count());
-    let play = Play {
-        workers,
-        inputs: &inputs,
-        tokens: &[],
-    };
-    let Some((session, pass)) = opened(alloc, graph, inputs.copy(), items)? else {
+    let Some((session, pass)) = opened(alloc, graph, items)? else {
         return Ok(false);
     };
-    match run_by(rt, alloc, graph, session, pass, &play)? {
+    match run_by(rt, alloc, graph, session, pass, workers)? {
         Some(report) => Ok(all_ran(graph, &report, None)),
         None => Ok(false),
     }
 }
 
 /// The boxes of a graph meet, with this many workers.
-fn all_meet<R: Threads + Wait + Sync>(
+pub fn all_meet<R: Threads + Wait + Sync>(
     rt: &R,
     alloc: Global,
     graph: &Graph,
@@ -111,20 +104,6 @@ fn all_meet<R: Threads + Wait + Sync>(
     Ok(ran && are_set(flags.as_slice(), flags.len()))
 }
 
-/// Lets the boxes of a graph meet.
-fn check_meeting<R: Files + Alloc + Print + Threads + Wait + Sync>(
-    rt: &R,
-    alloc: Global,
-    name: &str,
-    workers: u16,
-) -> io::Result<bool> {
-    let holds = match graph_of(rt, alloc, name)? {
-        Some(document) => all_meet(rt, alloc, &document.graph, workers)?,
-        None => false,
-    };
-    tell(rt, "boxes that wait for each other", holds)
-}
-
 /// Lets the boxes of each graph meet, and answers where they do.
 pub fn check_meetings<R: Files + Alloc + Print + Threads + Wait + Sync>(
     rt: &R,
@@ -132,7 +111,8 @@ pub fn check_meetings<R: Files + Alloc + Print + Threads + Wait + Sync>(
 ) -> io::Result<[bool; 2]> {
     let mut all = [false; 2];
     for (holds, (name, workers)) in all.iter_mut().zip(MEETINGS) {
-        *holds = check_meeting(rt, alloc, name, workers)?;
+        let attempt = Attempt::Meeting(workers);
+        *holds = check_on(rt, alloc, "boxes that wait for each other", name, attempt)?;
     }
     Ok(all)
 }

@@ -5,8 +5,8 @@ ghost use Rattle.std.specs.Prelude.{◌≡◌, IfOk};
 use crate::asked::ask;
 use crate::crews::{LOOKER, with_workers};
 use crate::exchange::Stamp;
-use crate::graphs::graph_of;
-use crate::sessions::{places, tell};
+use crate::graphs::{Attempt, attempted, tell};
+use crate::sessions::places;
 use std::alloc::{AllocError, Global};
 use std::fs::Files;
 use std::io;
@@ -355,7 +355,7 @@ fn opens<R: Print + Threads + Wait + Sync, K: Drop + Send, W: Item<K> + Send>(
 }
 
 /// Makes a box for each work statement, which answers that it is done, and plays a session with them.
-fn plays_graph<R: Print + Threads + Wait + Sync>(
+pub fn plays_graph<R: Print + Threads + Wait + Sync>(
     rt: &R,
     alloc: Global,
     graph: &Graph,
@@ -375,8 +375,8 @@ pub fn play_with_little<R: Files + Alloc + Print + Threads + Wait + Sync>(
     alloc: Global,
 ) -> io::Result<()> {
     for name in GRAPHS {
-        if let Some(document) = graph_of(rt, alloc, name)? {
-            plays_graph(rt, alloc, &document.graph)?;
+        if attempted(rt, alloc, name, Attempt::Little)?.is_none() {
+            tell(rt, "no memory for the document", true)?;
         }
     }
     Ok(())

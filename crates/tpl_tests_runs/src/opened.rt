@@ -9,16 +9,16 @@ use tpl_queue::{JobQueue, QueuePass};
 use tpl_runtime::{Item, Session};
 use tpl_words::Inputs;
 
-/// A session of the graph with these items, and its pass. None where it isn't opened.
+/// A session of the graph with these items, whose inputs are all false, and its pass. None where it isn't opened.
 pub fn opened<'g, K: Drop, W: Item<K>>(
     alloc: Global,
     graph: &'g Graph,
-    inputs: Inputs,
     items: Vec<W>,
 ) -> Result<Option<(Session<'g, K, W>, QueuePass<Vec<W>>)>, AllocError>
     ensures graph { IfOk result (λ found. IfSome found (λ s. s.0.graph ≡ graph.now)) }
     ensures pass { IfOk result (λ found. IfSome found (λ s. s.1.queue ≡ s.0.queue)) }
 {
+    let inputs = Inputs::new(graph.input_count());
     let (queue, pass) = JobQueue::new(alloc, places(graph))?;
     match Session::open(alloc, graph, inputs, items, queue, &pass) {
         Ok(session) => Ok(Some((session, pass))),

@@ -5,7 +5,7 @@
 //! otherwise than before, and all that is allowed next, and to whom.
 
 use crate::allowed::{all_events, allowed, push_allowed};
-use crate::machines::{Indexed, Opener, Plain, replayed};
+use crate::machines::{Indexed, Opener, Plain, inputs_of, replayed};
 use crate::seen::seen;
 use std::alloc::{AllocError, Global};
 use std::{fs, io};
@@ -14,7 +14,6 @@ use tpl_journal::read_journal;
 use tpl_machine::Core;
 use tpl_model::Event;
 use tpl_reader::{Document, read_document};
-use tpl_words::Inputs;
 
 /// The place that a run has come to, and what the readers answered there.
 #[derive(Drop)]
@@ -102,14 +101,6 @@ fn played<O: Opener>(
         }
     }
     Ok(text)
-}
-
-/// The inputs with which a document starts.
-fn inputs_of(document: &Document) -> Inputs {
-    match &document.start {
-        Some(start) => start.inputs.copy(),
-        None => Inputs::new(0),
-    }
 }
 
 /// What differs in a text from the one that is expected.

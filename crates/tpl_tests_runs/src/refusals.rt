@@ -4,9 +4,9 @@ ghost use Rattle.std.specs.Prelude.{◌≡◌, ◌<◌};
 
 use crate::crews::LOOKER;
 use crate::exchange::Stamp;
-use crate::graphs::graph_of;
+use crate::graphs::{Attempt, check_on};
 use crate::opened::opened;
-use crate::sessions::{places, tell};
+use crate::sessions::places;
 use std::alloc::{AllocError, Global};
 use std::fs::Files;
 use std::io;
@@ -19,7 +19,7 @@ use tpl_runtime::{Item, OpenFault, OpenWhy, RunWhy, SeatFault, Session};
 use tpl_words::{Actor, Answer, Inputs, SiteId, Worker};
 
 /// An item of a work statement, and whether it says that it may fail.
-type Given = (u16, bool);
+pub type Given = (u16, bool);
 
 /// Items, and why they aren't those of a graph whose work statements are 0 and 1, neither of which may fail.
 const REFUSED: [(&[Given], OpenWhy); COUNT] = [
@@ -70,7 +70,7 @@ fn refuses(
 }
 
 /// A session isn't opened with items like these, for this reason.
-fn refuses_given(
+pub fn refuses_given(
     alloc: Global,
     graph: &Graph,
     given: &[Given],
@@ -125,38 +125,33 @@ fn refuses_counts<R: Threads + Wait + Sync, K: Drop + Send, W: Item<K> + Send>(
 }
 
 /// A session of a graph with no work statements, and what it refuses to run.
-fn counts<R: Threads + Wait + Sync>(
+pub fn counts<R: Threads + Wait + Sync>(
     rt: &R,
     alloc: Global,
     graph: &Graph,
 ) -> Result<bool, AllocError> {
-    let inputs = Inputs::new(graph.input_count());
     let items: Vec<WorkItem<Stamp>> = Vec::new(alloc);
-    match opened(alloc, graph, inputs, items)? {
+    match opened(alloc, graph, items)? {
         Some((session, pass)) => refuses_counts(rt, alloc, session, pass),
         None => Ok(false),
     }
 }
 
-/// Tries to open a session with a list of items.
-fn check_given<R: Files + Alloc + Print>(
+/// Tries to open a session with each list of items, and answers which of them are refused as they must be.
+pub fn check_items<R: Files + Alloc + Print + Threads + Wait + Sync>(
     rt: &R,
     alloc: Global,
-    given: &[Given],
-    why: OpenWhy,
-) -> io::Result<bool> {
-    let holds = match graph_of(rt, alloc, "two_jobs")? {
-        Some(document) => refuses_given(alloc, &document.graph, given, why)?,
-        None => false,
-    };
-    tell(rt, "items that aren't the graph's", holds)
-}
-
-/// Tries to open a session with each list of items, and answers which of them are refused as they must be.
-pub fn check_items<R: Files + Alloc + Print>(rt: &R, alloc: Global) -> io::Result<[bool; COUNT]> {
+) -> io::Result<[bool; COUNT]> {
     let mut all = [false; COUNT];
     for (holds, (given, why)) in all.iter_mut().zip(REFUSED) {
-        *holds = check_given(rt, alloc, given, why)?;
+        let attempt = Attempt::Items(given, why);
+        *holds = check_on(
+            rt,
+            alloc,
+            "items that aren't the graph's",
+            "two_jobs",
+            attempt,
+        )?;
     }
     Ok(all)
 }
@@ -166,9 +161,5 @@ pub fn check_counts<R: Files + Alloc + Print + Threads + Wait + Sync>(
     rt: &R,
     alloc: Global,
 ) -> io::Result<bool> {
-    let holds = match graph_of(rt, alloc, "two")? {
-        Some(document) => counts(rt, alloc, &document.graph)?,
-        None => false,
-    };
-    tell(rt, "workers that can't be", holds)
+    check_on(rt, alloc, "workers that can't be", "two", Attempt::Counts)
 }

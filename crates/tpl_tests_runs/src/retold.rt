@@ -35,13 +35,14 @@ fn agrees<C: Core, K, W>(core: &C, report: &Report<K, W>) -> bool {
     core.complete() == report.complete && core.graph().len() == report.statuses.len()
 }
 
-/// The plain machine takes the journal event by event, and answers then what the report says.
+/// The plain machine, whose inputs are all false, takes the journal event by event, and answers then what the report
+/// says.
 pub fn is_retold<K, W>(
     alloc: Global,
     graph: &Graph,
-    inputs: Inputs,
     report: &Report<K, W>,
 ) -> Result<bool, AllocError> {
+    let inputs = Inputs::new(graph.input_count());
     let mut core = Machine::open(alloc, graph, inputs)?;
     for event in report.journal.iter() {
         if core.step(*event).is_err() {

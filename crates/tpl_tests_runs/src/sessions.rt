@@ -4,9 +4,9 @@ ghost use Rattle.std.specs.Prelude.{◌≡◌, ◌<◌, ◌≤◌, false};
 ghost use Rattle.tpl_words.specs.declared.status.Answer.TheVariants.{Done};
 
 use crate::asked::{Closing, asks_a_link, halts_first, requests};
-use crate::crews::{Length, Play, all_ran, run_by};
+use crate::crews::{Length, all_ran, run_by};
 use crate::exchange::Stamp;
-use crate::graphs::graph_of;
+use crate::graphs::{Attempt, check_on};
 use crate::opened::opened;
 use std::alloc::{AllocError, Global};
 use std::fs::Files;
@@ -17,7 +17,7 @@ use tpl_graph::Graph;
 use tpl_jobs::{Work, WorkItem};
 use tpl_queue::QueuePass;
 use tpl_runtime::{Item, Session};
-use tpl_words::{Answer, Inputs, SiteId};
+use tpl_words::{Answer, SiteId};
 
 /// What is tried on a session.
 #[derive(Clone, Copy)]
@@ -133,13 +133,7 @@ fn runs<R: Threads + Wait + Sync, K: Drop + Send, W: Item<K> + Send>(
     requires graph { session.graph ≡ graph.now }
     requires pass { pass.queue ≡ session.queue }
 {
-    let inputs = Inputs::new(graph.input_count());
-    let play = Play {
-        workers,
-        inputs: &inputs,
-        tokens: &[],
-    };
-    match run_by(rt, alloc, graph, session, pass, &play)? {
+    match run_by(rt, alloc, graph, session, pass, workers)? {
         Some(report) => Ok(all_ran(graph, &report, events)),
         None => Ok(false),
     }
@@ -173,8 +167,7 @@ fn tries<R: Threads + Wait + Sync, K: Drop + Send, W: Item<K> + Send>(
     items: Vec<W>,
     trial: Trial,
 ) -> Result<bool, AllocError> {
-    let inputs = Inputs::new(graph.input_count());
-    match opened(alloc, graph, inputs, items)? {
+    match opened(alloc, graph, items)? {
         Some((session, pass)) => goes(rt, alloc, graph, session, pass, trial),
         None => Ok(false),
     }
@@ -197,39 +190,20 @@ fn tried<R: Threads + Wait + Sync>(
     tries(rt, alloc, graph, items, trial)
 }
 
-/// Tries each round of a case.
-fn tried_each<R: Threads + Wait + Sync>(
+/// Tries it so often.
+pub fn tried_each<R: Threads + Wait + Sync>(
     rt: &R,
     alloc: Global,
     graph: &Graph,
-    case: Case,
+    trial: Trial,
+    rounds: usize,
 ) -> Result<bool, AllocError> {
-    for _ in 0..case.rounds {
-        if !tried(rt, alloc, graph, case.trial)? {
+    for _ in 0..rounds {
+        if !tried(rt, alloc, graph, trial)? {
             return Ok(false);
         }
     }
     Ok(true)
-}
-
-/// Writes whether a check of sessions holds.
-pub fn tell<R: Print>(rt: &R, title: &str, holds: bool) -> io::Result<bool> {
-    let word = if holds { "holds" } else { "FAILED" };
-    println!(rt; "session, {title}: {word}")?;
-    Ok(holds)
-}
-
-/// Tries a case.
-fn check_case<R: Files + Alloc + Print + Threads + Wait + Sync>(
-    rt: &R,
-    alloc: Global,
-    case: Case,
-) -> io::Result<bool> {
-    let holds = match graph_of(rt, alloc, case.file)? {
-        Some(document) => tried_each(rt, alloc, &document.graph, case)?,
-        None => false,
-    };
-    tell(rt, case.title, holds)
 }
 
 /// Tries each case, and answers which of them hold.
@@ -239,7 +213,8 @@ pub fn check_sessions<R: Files + Alloc + Print + Threads + Wait + Sync>(
 ) -> io::Result<[bool; COUNT]> {
     let mut all = [false; COUNT];
     for (holds, case) in all.iter_mut().zip(CASES) {
-        *holds = check_case(rt, alloc, case)?;
+        let attempt = Attempt::Session(case.trial, case.rounds);
+        *holds = check_on(rt, alloc, case.title, case.file, attempt)?;
     }
     Ok(all)
 }
