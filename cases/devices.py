@@ -33,7 +33,7 @@ CHOSEN = {
     "draws.json": ["no tasks"],
     "traces.json": ["a document without a journal: no event"],
 }
-# an answer that is longer than what the program keeps together before it writes, and the writes of it that go wrong
+# an answer that is longer than what the program keeps together before it writes, and how many bytes that are
 LONG = ("analyse.json", "an exclusion over four steps beside three tasks that have nothing to do with it")
 KEPT = 8_192
 # the error of a call that moves nothing and is none
