@@ -7,7 +7,7 @@ ghost use Rattle.tpl_hall.specs.Moves.{MatchAsked};
 ghost use Rattle.tpl_hall.specs.Sights.{IsSeen};
 ghost use Rattle.tpl_hall.specs.declared.sight.Sight.TheVariants.{Already};
 
-use crate::put::put_after;
+use crate::put::put_all;
 use crate::queue::{ItemPass, ItemQueue};
 use crate::shared::{Shared, is_worker};
 use std::sync::Wait;
@@ -50,20 +50,11 @@ impl<'g, K: Drop, W: Item<K>> Shared<'g, K, W> {
         if self.hall.tell_requested(seat, token) {
             return Asked::Already;
         }
-        let from = seat.mine().len();
         match self.hall.step(seat, Act::Request(token)) {
             Ok(place) => {
                 self.hall.sweep(seat);
                 self.hall.run_law();
-                put_after(
-                    rt,
-                    &self.hall,
-                    &mut self.stock,
-                    &self.children,
-                    queue,
-                    pass,
-                    seat.since(from),
-                );
+                put_all(rt, &self.hall, &mut self.stock, queue, pass);
                 Asked::Place(place)
             }
             Err(_) => Asked::Stray,

@@ -57,7 +57,7 @@ fn put_each<K: Drop, W: Drop, R: Wait>(
     }
 }
 
-/// Puts the jobs of all tasks that are ready to run and weren't put before.
+/// Puts the jobs of all tasks that are ready to run and weren't put before, in declared order.
 pub(crate) fn put_all<K: Drop, W: Drop, R: Wait>(
     rt: &R,
     hall: &Hall<'_, K>,
@@ -73,7 +73,22 @@ pub(crate) fn put_all<K: Drop, W: Drop, R: Wait>(
     }
 }
 
-/// Puts the jobs of the tasks that these events made ready: a release its own task, and a step a child of its task.
+/// Whether these events release tasks in declared order.
+fn release_in_order(events: &[(u32, Event)]) -> bool {
+    let mut last = 0;
+    for (_place, event) in events {
+        if let Act::Release(task) = event.act {
+            if task.0 < last {
+                return false;
+            }
+            last = task.0;
+        }
+    }
+    true
+}
+
+/// Puts the jobs of the tasks that the events of a section made ready, in declared order: a release its own task, and a
+/// step a child of its task. A step that starts a child makes no other task ready.
 pub(crate) fn put_after<K: Drop, W: Drop, R: Wait>(
     rt: &R,
     hall: &Hall<'_, K>,
@@ -86,6 +101,10 @@ pub(crate) fn put_after<K: Drop, W: Drop, R: Wait>(
     requires { pass.old.queue ≡ queue.now.id }
     ensures { pass.new.queue ≡ queue.now.id }
 {
+    if !release_in_order(events) {
+        put_all(rt, hall, stock, queue, pass);
+        return;
+    }
     for (_place, event) in events {
         match event.act {
             Act::Release(task) => put_one(rt, hall, stock, queue, pass, task),

@@ -15,7 +15,8 @@ use tpl_model::Act;
 use tpl_words::TaskId;
 
 impl<'g, K: Drop, W: Item<K>> Shared<'g, K, W> {
-    /// Begins a task, if it may begin.
+    /// Begins a task, if it may begin. Where it may not, as it was dropped meanwhile, the worker holds a job that was kept
+    /// for it, if there is one.
     fn begin<R: Wait>(
         &mut self,
         rt: &R,
@@ -33,7 +34,7 @@ impl<'g, K: Drop, W: Item<K>> Shared<'g, K, W> {
         if self.act(rt, queue, pass, seat, Act::Begin(task)) {
             return Turn::Go(Hand::Running(task));
         }
-        Turn::Go(Hand::Free)
+        Turn::Go(self.hand_on(seat.actor()))
     }
 
     /// Passes the next statement, which isn't a job.

@@ -198,7 +198,7 @@ impl<'g, K: Drop, W: Item<K>> Shared<'g, K, W> {
         None
     }
 
-    /// What a worker holds once it has left its task: a job that was kept for it, if there is one.
+    /// What a worker holds that has no task: a job that was kept for it, if there is one.
     pub(crate) fn hand_on(&mut self, actor: Actor) -> Hand<K>
         ensures { self.new.hall.core ≡ self.old.hall.core }
     {

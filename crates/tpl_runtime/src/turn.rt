@@ -15,8 +15,9 @@ use tpl_items::Item;
 use tpl_words::Inputs;
 
 impl<'g, K: Drop, W: Item<K>> Shared<'g, K, W> {
-    /// Does the Worked event of a receipt that a worker brings, and what is due where it comes for the first time.
-    /// Returns what the worker holds then, and whether something was done; nothing where the receipt was refused.
+    /// Does the Worked event of a receipt that a worker brings, and what is due where it comes for the first time: it then
+    /// holds a job that was kept for it, if there is one. Returns what the worker holds, and whether something was done;
+    /// nothing where the receipt was refused.
     fn bring<R: Wait>(
         &mut self,
         rt: &R,
@@ -40,7 +41,7 @@ impl<'g, K: Drop, W: Item<K>> Shared<'g, K, W> {
             }
             Hand::New => {
                 self.enter(rt, queue, pass, seat);
-                Some((Hand::Free, true))
+                Some((self.hand_on(seat.actor()), true))
             }
             Hand::Free => Some((Hand::Free, false)),
             Hand::Taken(task) => Some((Hand::Taken(task), false)),
