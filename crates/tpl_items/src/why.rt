@@ -9,22 +9,28 @@ use crate::counts::{first_missing, first_twice};
 use crate::differs::first_differing;
 use crate::item::Item;
 use crate::strange::first_strange;
+use thiserror::Error;
 use tpl_graph::Graph;
 use tpl_words::SiteId;
 
 /// Why a session wasn't opened: the first of these that applies. Each refusal of an item names the least site to which
 /// it applies.
-#[derive(Clone, Copy, PartialEq, Eq, Debug)]
+#[derive(Clone, Copy, PartialEq, Eq, Debug, Error)]
 pub enum OpenWhy {
     /// A site of the graph has no item.
+    #[error("ItemMissing")]
     ItemMissing(SiteId),
     /// An item is of no site of the graph.
+    #[error("ItemStrange")]
     ItemStrange(SiteId),
     /// A site has two items.
+    #[error("ItemTwice")]
     ItemTwice(SiteId),
     /// An item says that it may fail where its site says that it may not, or the other way round.
+    #[error("MayFailDiffers")]
     MayFailDiffers(SiteId),
     /// The items are those of the graph, and there was no memory.
+    #[error("out of memory")]
     Memory,
 }
 

@@ -12,6 +12,7 @@ ghost use Rattle.tpl_runtime.specs.Reports.{each_below, those_below, is_unseen, 
 
 use crate::tables::{Told, tables};
 use std::alloc::{AllocError, Global};
+use thiserror::Error;
 use tpl_graph::Graph;
 use tpl_hall::{Hall, Seat, all_last, are_own, are_seats, have_seats, receipts_of};
 use tpl_items::{Item, items_of};
@@ -35,13 +36,16 @@ pub struct Report<K, W> {
 }
 
 /// Why a session wasn't closed well.
-#[derive(Clone, Copy, PartialEq, Eq, Debug)]
+#[derive(Clone, Copy, PartialEq, Eq, Debug, Error)]
 pub enum CloseWhy {
     /// There are not as many seats as were made.
+    #[error("SeatsMissing")]
     SeatsMissing,
     /// What was handed in isn't what was done.
+    #[error("Mismatch")]
     Mismatch,
     /// There was no memory.
+    #[error("out of memory")]
     Memory,
 }
 

@@ -10,6 +10,7 @@ use crate::threads::{Child, run_crew};
 use std::alloc::{AllocError, Global};
 use std::sync::Wait;
 use std::thread::Threads;
+use thiserror::Error;
 use tpl_hall::{Ended, Seat, SeatFault};
 use tpl_items::Item;
 use tpl_words::{Actor, Worker};
@@ -18,15 +19,19 @@ use tpl_words::{Actor, Worker};
 const MOST_WORKERS: u16 = 64;
 
 /// Why the workers didn't all run.
-#[derive(Clone, Copy, PartialEq, Eq, Debug)]
+#[derive(Clone, Copy, PartialEq, Eq, Debug, Error)]
 pub enum RunWhy {
     /// There are 1 to 64 workers.
+    #[error("BadCount")]
     BadCount,
     /// A worker has no seat.
+    #[error("{0}")]
     Seat(SeatFault),
     /// There was no thread for a worker. The session is halted.
+    #[error("Spawn")]
     Spawn,
     /// There was no memory. No worker was started.
+    #[error("out of memory")]
     Memory,
 }
 
