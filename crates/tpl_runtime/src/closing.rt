@@ -69,11 +69,22 @@ fn are_one(a: usize, b: usize) -> bool
     }
 }
 
-/// Each site has one receipt or one item.
+/// There are as many receipts and items as sites.
+fn are_as_many<K, W>(sites: u16, receipts: &[Receipt<K>], items: &[W]) -> bool
+    ensures { IsTrue result → length receipts.now + length items.now ≡ sites }
+{
+    let sites = sites as usize;
+    items.len() <= sites && receipts.len() == sites - items.len()
+}
+
+/// The sites of receipts and items are the graph's, each once.
 fn are_once<K, W: Item<K>>(sites: u16, receipts: &[Receipt<K>], items: &[W]) -> bool
     ensures { IsTrue result → AreOnce sites (map (λ r. r.site.0) receipts.now) (map W.site
         items.now) }
 {
+    if !are_as_many(sites, receipts, items) {
+        return false;
+    }
     for site in 0..sites {
         let called = receipts_of(site, receipts);
         let left = items_of::<K, W>(site, items);
