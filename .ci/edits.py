@@ -123,7 +123,7 @@ def body_at(lines, first, indent):
         is_head = inner and not inner.startswith(" ")
         if is_head and inner.endswith(("{", "}")):
             return at
-        if is_head and (inner.endswith(";") or at > first and not inner.startswith((")", "where"))):
+        if is_head and (inner.endswith(";") or at > first and not inner.startswith((">", ")", "where"))):
             return None
     return None
 

@@ -179,6 +179,11 @@ class Places(unittest.TestCase):
         self.assertEqual(made.places(edit("a", "n + n", "n", "src/other.rt")), {"other::twice"})
         self.assertEqual(made.places(edit("a", "self.second", "1", "src/other.rt")), {"pair::Pair::second"})
 
+    def test_a_head_over_many_lines(self):
+        text = "pub fn wide<\n    T: Drop,\n>(\n    it: T,\n) -> T\nwhere\n    T: Sized,\n{\n    it\n}\n"
+        (wide,) = edits.functions_of("src/lib.rt", text)
+        self.assertEqual((wide.path, text[wide.at : wide.end]), ("wide", "{\n    it\n}"))
+
     def test_outside_of_bodies(self):
         for old in ("MOST: u8 = 9", "    first: u8,", "self.now.first < 9", "result ≡", "pub fn both", "use crate::other"):
             self.assertIsNone(crate().places(edit("a", old, "x")))
