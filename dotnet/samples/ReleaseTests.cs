@@ -1,0 +1,100 @@
+using System;
+using System.Threading;
+using TaskGraph;
+using Xunit;
+
+namespace Sample
+{
+    public class ReleaseTests
+    {
+        [Fact]
+        public void TheFirstPageRuns()
+        {
+            new Release().First();
+        }
+
+        // every run keeps the claims: any order of events, any failing job, a request at any moment
+        [Fact]
+        public void EveryRunKeepsTheClaims()
+        {
+            new Release().Repaired().Certify();
+            new Release().Stoppable(CancellationToken.None).Certify();
+        }
+
+        // the certificate in the repository is still one of the graph
+        [Fact]
+        public void TheStoredCertificateFits()
+        {
+            string stored = new Release().Repaired().Certify();
+            new Release().Repaired().Check(stored);
+            Assert.Throws<TaskGraphException>(() => new Release().Graph().Check(stored));
+        }
+
+        // the program is the graph: real runs with delays and failures, each audited
+        [Fact]
+        public void RealRunsAreRunsOfTheGraph()
+        {
+            for (int seed = 0; seed < 50; seed++)
+            {
+                GraphRun run = new Release().Repaired().Start(RunOptions.Shaken(seed));
+                Assert.True(run.Wait(5000));
+                run.Audit();
+            }
+        }
+
+        // the same with requests from outside
+        [Fact]
+        public void StopsAreRunsOfTheGraph()
+        {
+            for (int seed = 0; seed < 20; seed++)
+            {
+                var stopping = new CancellationTokenSource(seed % 5);
+                GraphRun run = new Release().Stoppable(stopping.Token).Start(RunOptions.Shaken(seed));
+                Assert.True(run.Wait(5000));
+                run.Audit();
+            }
+        }
+
+        // the release as it was first written: no certificate, and a run in which the claim fails
+        [Fact]
+        public void TheFirstReleaseRollsNothingBack()
+        {
+            var none = Assert.Throws<TaskGraphException>(() => new Release().Graph().Certify());
+            Assert.StartsWith("not found: claim 1", none.Message);
+            Assert.Contains("claim 1 fails here", none.Message);
+            GraphRun run = new Release().Graph().Start(new RunOptions { Fail = site => site == "Smoke" });
+            Assert.True(run.Wait(5000));
+            var wrong = Assert.Throws<TaskGraphException>(() => run.Audit());
+            Assert.Contains("claim 1 fails", wrong.Message);
+        }
+
+        // code that stays as it is, watched
+        [Fact]
+        public void TheCodeIsWhatIsDeclared()
+        {
+            var release = new FailingSmoke();
+            GraphRun repaired = release.Watched(release.Repaired(), isRepaired: true);
+            Assert.True(repaired.Wait(5000));
+            repaired.Audit();
+            GraphRun first = release.Watched(release.Repaired(), isRepaired: false);
+            Assert.True(first.Wait(5000));
+            Assert.Throws<TaskGraphException>(() => first.Audit());
+        }
+
+        [Fact]
+        public void AwaitsCanBeWatched()
+        {
+            GraphRun run = new Release().WatchedProbe(CancellationToken.None);
+            Assert.True(run.Wait(5000));
+            run.Audit();
+        }
+
+        private sealed class FailingSmoke : Release
+        {
+            public override void Smoke()
+            {
+                throw new InvalidOperationException("the smoke test fails");
+            }
+        }
+    }
+}

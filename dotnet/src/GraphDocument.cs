@@ -1,0 +1,148 @@
+using System.Collections.Generic;
+using System.Linq;
+using System.Threading.Tasks;
+
+namespace TaskGraph.Internals
+{
+    /// <summary>Writes a graph as a document for taskgraph.</summary>
+    internal sealed class GraphDocument
+    {
+        private const string Plain = "1";
+        private const string WithLinkedTokens = "2";
+
+        private readonly TaskGraphBuilder graph;
+
+        internal GraphDocument(TaskGraphBuilder graph)
+        {
+            this.graph = graph;
+        }
+
+        /// <summary>The document with these claims, and with a journal where there is one.</summary>
+        internal string Write(string journal, IEnumerable<string> claims)
+        {
+            return Write(claims, journal == null ? null : Json.Member("journal", Json.Text(journal.Replace("\n", "\\n"))));
+        }
+
+        /// <summary>The document with its claims and a certificate of them.</summary>
+        internal string WriteWith(string certificate)
+        {
+            return Write(graph.Claims.Texts, Json.Member("certificate", certificate));
+        }
+
+        private string Write(IEnumerable<string> claims, string further)
+        {
+            bool isLinked = graph.Tokens.Any(it => it.Sources.Length > 0);
+            var members = new List<string> { Json.Member("version", isLinked ? WithLinkedTokens : Plain) };
+            AddList(members, "inputs", graph.Inputs.Select(it => Json.Text(it.Name)));
+            AddList(members, "tokens", graph.Tokens.Select(TokenOf));
+            members.Add(Lines("tasks", graph.Tasks.Select(TaskOf)));
+            if (claims.Any())
+            {
+                members.Add(Lines("claims", claims));
+            }
+            if (graph.Inputs.Count > 0)
+            {
+                string values = Json.Object(graph.Inputs.Select(it => Json.Member(it.Name, Json.Bool(it.Value))).ToArray());
+                members.Add(Json.Member("start", Json.Object(Json.Member("inputs", values))));
+            }
+            if (further != null)
+            {
+                members.Add(further);
+            }
+            return "{" + string.Join(",\n ", members) + "}\n";
+        }
+
+        private static void AddList(List<string> members, string name, IEnumerable<string> items)
+        {
+            if (items.Any())
+            {
+                members.Add(Json.Member(name, Json.List(items)));
+            }
+        }
+
+        private static string Lines(string name, IEnumerable<string> items)
+        {
+            return Json.Member(name, "[\n  " + string.Join(",\n  ", items) + "]");
+        }
+
+        private static string Names(IEnumerable<GraphTask> tasks)
+        {
+            return Json.List(tasks.Select(it => Json.Text(it.Name)));
+        }
+
+        private static string TokenOf(GraphToken token)
+        {
+            if (token.Sources.Length == 0)
+            {
+                return Json.Text(token.Name);
+            }
+            string linked = Json.List(token.Sources.Select(it => Json.Text(it.Name)));
+            return Json.Object(Json.Member("name", Json.Text(token.Name)), Json.Member("linked", linked));
+        }
+
+        private static string TaskOf(GraphTask task)
+        {
+            var members = new List<string>
+            {
+                Json.Member("name", Json.Text(task.Name)), Json.Member("kind", Json.Text(task.Kind.ToString().ToLowerInvariant())),
+            };
+            if (task.Antecedent != null)
+            {
+                members.Add(Json.Member("after", Json.Text(task.Antecedent.Name)));
+            }
+            if (task.Of != null)
+            {
+                members.Add(Json.Member("of", Names(task.Of)));
+            }
+            if (task.Body != null)
+            {
+                members.Add(Json.Member("body", BodyOf(task.Body)));
+            }
+            if (task.Token != null)
+            {
+                members.Add(Json.Member("token", Json.Text(task.Token.Name)));
+            }
+            AddList(members, "options", OptionWords.Of(task.Options).Select(Json.Text));
+            return Json.Object(members.ToArray());
+        }
+
+        private static string BodyOf(Steps body)
+        {
+            return Json.List(body.List.Select(StatementOf));
+        }
+
+        private static string StatementOf(Step step)
+        {
+            switch (step.Kind)
+            {
+                case StepKind.Return: return Json.Text("return");
+                case StepKind.Observe: return Json.Text("observe");
+                case StepKind.Throw: return Statement("throw", step.Text);
+                case StepKind.Check: return Statement("check", step.Token.Name);
+                case StepKind.Cancel: return Statement("cancel", step.Token.Name);
+                case StepKind.Start: return Statement("start", step.Child.Name);
+                case StepKind.Work: return step.MayFail ? MayFail(step.Text) : Statement("work", step.Text);
+                case StepKind.If: return Branch(Json.Member("if", Json.Text(step.Input.Name)), step);
+                default: return Branch(Json.Member("when", Json.Text(step.Final.ToString())), step);
+            }
+        }
+
+        private static string Statement(string word, string name)
+        {
+            return Json.Object(Json.Member(word, Json.Text(name)));
+        }
+
+        private static string MayFail(string site)
+        {
+            return Json.Object(Json.Member("work", Json.Text(site)), Json.Member("may_fail", Json.Bool(true)));
+        }
+
+        private static string Branch(string asked, Step step)
+        {
+            string then = Json.Member("then", BodyOf(step.Then));
+            return step.Otherwise.List.Count == 0
+                ? Json.Object(asked, then)
+                : Json.Object(asked, then, Json.Member("else", BodyOf(step.Otherwise)));
+        }
+    }
+}

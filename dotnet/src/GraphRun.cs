@@ -1,0 +1,290 @@
+using System;
+using System.Collections.Generic;
+using System.Diagnostics;
+using System.Linq;
+using System.Threading;
+using System.Threading.Tasks;
+using TaskGraph.Internals;
+
+namespace TaskGraph
+{
+    /// <summary>A run of a graph on the default scheduler, with its record.</summary>
+    /// <remarks>Made by <see cref="TaskGraphBuilder.Start"/> and <see cref="TaskGraphBuilder.Watch"/>. The recorder observes no
+    /// exception, registers nothing on a task or a token, and attaches nothing to a task that is running.</remarks>
+    public sealed class GraphRun
+    {
+        private const long MicrosecondsInSecond = 1000000;
+
+        private readonly TaskGraphBuilder graph;
+        private readonly RunOptions options;
+        private readonly Recorder recorder;
+        private RunAccount account;
+
+        internal GraphRun(TaskGraphBuilder graph, RunOptions options)
+        {
+            this.graph = graph;
+            this.options = options;
+            recorder = new Recorder(graph, options.Record);
+        }
+
+        /// <summary>The real task; null where it isn't made yet.</summary>
+        public Task this[GraphTask task]
+        {
+            get { return recorder.Real(task.Id); }
+        }
+
+        /// <summary>The journal so far, an event on each line; that of a complete run once <see cref="Wait"/> gave true.</summary>
+        public string Journal
+        {
+            get { return Account().Journal; }
+        }
+
+        /// <summary>Where the recorder had to choose, or saw what the declaration doesn't say; empty for a plain run.</summary>
+        public IReadOnlyList<RunNote> Notes
+        {
+            get { return Account().Notes; }
+        }
+
+        /// <summary>When each event of the journal was, in microseconds from the start; they don't fall. An end, or a request that the
+        /// outside made, has the time of the last record before it was seen.</summary>
+        public IReadOnlyList<long> Times
+        {
+            get { return Account().Times; }
+        }
+
+        /// <summary>How the task was seen to end; null where it hasn't ended, or never started.</summary>
+        public TaskStatus? EndOf(GraphTask task)
+        {
+            return recorder.EndOf(task.Id);
+        }
+
+        /// <summary>Waits until every task has ended, every started child too. It observes no exception.</summary>
+        /// <param name="milliseconds">The longest wait, or -1 to wait for ever.</param>
+        /// <returns>Whether all have ended.</returns>
+        public bool Wait(int milliseconds = Timeout.Infinite)
+        {
+            Stopwatch watch = Stopwatch.StartNew();
+            Task open;
+            while ((open = FirstOpen()) != null)
+            {
+                int left = milliseconds < 0 ? Timeout.Infinite : (int)Math.Max(0, milliseconds - watch.ElapsedMilliseconds);
+                // WaitAny doesn't throw what the task threw, and so doesn't observe it
+                if (Task.WaitAny(new[] { open }, left) < 0)
+                {
+                    return false;
+                }
+            }
+            recorder.Put(RecordKind.Look, Record.NoTask, 0);
+            return true;
+        }
+
+        /// <summary>The document of the graph with the journal of this run, to be kept for taskgraph audit and trace.</summary>
+        public string ToJson()
+        {
+            return graph.ToJson(Journal, graph.Claims.Texts);
+        }
+
+        /// <summary>Asks whether the run is one of the graph, is complete, has no claim that fails, and whether each task ended as the
+        /// journal says. Calls the program: see <see cref="TaskGraphProgram"/>.</summary>
+        /// <exception cref="TaskGraphException">One of these isn't so: with the program's words, the notes and the journal.</exception>
+        public void Audit()
+        {
+            NewAudit().Demand();
+        }
+
+        /// <summary>Says that this is the real task, which code that is watched has made. To be called before anything continues it:
+        /// <c>var deploy = run.Is(d, Task.Run(run.Body(d, it => it.Work(Deploy))));</c></summary>
+        public T Is<T>(GraphTask task, T real)
+            where T : Task
+        {
+            if (real == null)
+            {
+                throw new ArgumentNullException(nameof(real));
+            }
+            recorder.Made(task.Id, real);
+            return real;
+        }
+
+        /// <summary>Wraps the body of a root or a child for Task.Run and Task.Factory.StartNew.</summary>
+        public Action Body(GraphTask task, Action<WatchedBody> body)
+        {
+            return () => Watched(task, null, body);
+        }
+
+        /// <summary>Wraps the body of a continuation for Task.ContinueWith.</summary>
+        public Action<Task> Next(GraphTask task, Action<WatchedBody> body)
+        {
+            return antecedent => Watched(task, antecedent, body);
+        }
+
+        /// <summary>Wraps the body of a root that is an async method, for Task.Run. The graph's task is the one that Task.Run
+        /// gives.</summary>
+        public Func<Task> BodyAsync(GraphTask task, Func<WatchedBody, Task> body)
+        {
+            return () => WatchedAsync(task, null, body);
+        }
+
+        /// <summary>Wraps the body of a continuation that is an async method, for Task.ContinueWith. The graph's task is the unwrapped
+        /// one: ContinueWith(..).Unwrap().</summary>
+        public Func<Task, Task> NextAsync(GraphTask task, Func<WatchedBody, Task> body)
+        {
+            return antecedent => WatchedAsync(task, antecedent, body);
+        }
+
+        internal Recorder Recorder
+        {
+            get { return recorder; }
+        }
+
+        /// <summary>Makes the real tasks, each with just the options that are declared.</summary>
+        internal void Begin()
+        {
+            var roots = new List<Task>();
+            foreach (GraphTask task in graph.Tasks)
+            {
+                switch (task.Kind)
+                {
+                    case TaskKind.Root:
+                        BeginRoot(task, roots);
+                        break;
+                    case TaskKind.Then:
+                        recorder.Made(task.Id, Continue(task));
+                        break;
+                    case TaskKind.All:
+                        recorder.Made(task.Id, Task.WhenAll(task.Of.Select(it => this[it])));
+                        break;
+                    case TaskKind.Any:
+                        recorder.Made(task.Id, Task.WhenAny(task.Of.Select(it => this[it])));
+                        break;
+                }
+            }
+            roots.ForEach(StartOrCancel);
+        }
+
+        internal void StartChild(GraphTask child)
+        {
+            StartOrCancel(MakeBody(child));
+        }
+
+        internal RunAudit NewAudit()
+        {
+            return new RunAudit(graph, Account());
+        }
+
+        private RunAccount Account()
+        {
+            if (!options.Record)
+            {
+                throw new InvalidOperationException("the run isn't recorded; start it with RunOptions.Record set to true");
+            }
+            Recording taken = recorder.Take();
+            if (account == null || !account.IsOf(taken))
+            {
+                account = new RunAccount(graph, taken, Stopwatch.Frequency / (double)MicrosecondsInSecond);
+            }
+            return account;
+        }
+
+        private void BeginRoot(GraphTask task, List<Task> roots)
+        {
+            Task root = MakeBody(task);
+            if (options.StartLast)
+            {
+                roots.Add(root);
+            }
+            else
+            {
+                StartOrCancel(root);
+            }
+        }
+
+        /// <summary>Makes the task of a root or a child, and keeps it before it is started; gives the task that has to be
+        /// started.</summary>
+        private Task MakeBody(GraphTask task)
+        {
+            CancellationToken token = task.Token;
+            var creation = (TaskCreationOptions)(task.Options & OptionWords.Creation);
+            if (task.IsAsync)
+            {
+                // an async method takes no children
+                var outer = new Task<Task>(() => NewBody(task, null).RunAsync(), token, creation | TaskCreationOptions.DenyChildAttach);
+                recorder.Made(task.Id, outer.Unwrap());
+                return outer;
+            }
+            var body = new Task(() => NewBody(task, null).Run(), token, creation);
+            recorder.Made(task.Id, body);
+            return body;
+        }
+
+        private Task Continue(GraphTask task)
+        {
+            Task antecedent = this[task.Antecedent];
+            CancellationToken token = task.Token;
+            if (task.IsAsync)
+            {
+                TaskContinuationOptions closed = task.Options | TaskContinuationOptions.DenyChildAttach;
+                return antecedent.ContinueWith(it => NewBody(task, it).RunAsync(), token, closed, TaskScheduler.Default).Unwrap();
+            }
+            return antecedent.ContinueWith(it => NewBody(task, it).Run(), token, task.Options, TaskScheduler.Default);
+        }
+
+        private BodyRunner NewBody(GraphTask task, Task antecedent)
+        {
+            return new BodyRunner(this, recorder, options, task, antecedent);
+        }
+
+        /// <summary>Starts a task as Task.Factory.StartNew does: with a requested token it is a canceled one, where Start throws.</summary>
+        private static void StartOrCancel(Task task)
+        {
+            try
+            {
+                task.Start(TaskScheduler.Default);
+            }
+            catch (InvalidOperationException)
+            {
+                if (!task.IsCanceled)
+                {
+                    throw;
+                }
+            }
+        }
+
+        /// <summary>A task that hasn't ended; null where there is none. A child is made before its parent ends, so where every task that
+        /// was there has ended, a second round finds the children that were made during the first.</summary>
+        private Task FirstOpen()
+        {
+            return FirstOpenInRound() ?? FirstOpenInRound();
+        }
+
+        private Task FirstOpenInRound()
+        {
+            return graph.Tasks.Select(it => this[it]).FirstOrDefault(it => it != null && !it.IsCompleted);
+        }
+
+        private void Watched(GraphTask task, Task antecedent, Action<WatchedBody> body)
+        {
+            int worker = recorder.Begin(task.Id);
+            try
+            {
+                body(new WatchedBody(this, task, antecedent, worker));
+            }
+            finally
+            {
+                recorder.Put(RecordKind.Over, task.Id, worker);
+            }
+        }
+
+        private async Task WatchedAsync(GraphTask task, Task antecedent, Func<WatchedBody, Task> body)
+        {
+            int worker = recorder.Begin(task.Id);
+            try
+            {
+                await body(new WatchedBody(this, task, antecedent, worker)).ConfigureAwait(false);
+            }
+            finally
+            {
+                recorder.Put(RecordKind.Over, task.Id, worker);
+            }
+        }
+    }
+}

@@ -1,0 +1,44 @@
+using System.Linq;
+using System.Threading;
+
+namespace TaskGraph
+{
+    /// <summary>A cancellation token of the graph.</summary>
+    /// <remarks>Made by <see cref="TaskGraphBuilder.Token(string)"/>, its overloads and <see cref="TaskGraphBuilder.Linked"/>.</remarks>
+    public sealed class GraphToken
+    {
+        internal readonly GraphToken[] Sources;
+
+        internal GraphToken(int id, string name, CancellationTokenSource source, CancellationToken token, GraphToken[] sources)
+        {
+            Id = id;
+            Name = name;
+            Source = source;
+            CancellationToken = token;
+            Sources = sources;
+        }
+
+        internal int Id { get; private set; }
+
+        /// <summary>The token's name in the document.</summary>
+        public string Name { get; private set; }
+
+        /// <summary>The source of the token; null where the token came from elsewhere, as RequestAborted does.</summary>
+        public CancellationTokenSource Source { get; private set; }
+
+        /// <summary>The real token.</summary>
+        public CancellationToken CancellationToken { get; private set; }
+
+        /// <summary>Gives the real token, so that a graph's token can be handed to any call that takes one.</summary>
+        public static implicit operator CancellationToken(GraphToken token)
+        {
+            return token == null ? CancellationToken.None : token.CancellationToken;
+        }
+
+        /// <summary>Whether a request of this token requests the other one too: it is the other one, or a source of it.</summary>
+        internal bool Requests(GraphToken other)
+        {
+            return this == other || other.Sources.Any(Requests);
+        }
+    }
+}

@@ -1,0 +1,48 @@
+using System;
+
+namespace TaskGraph.Internals
+{
+    /// <summary>The names of tasks, tokens, inputs, jobs and exceptions, as documents have them.</summary>
+    internal static class Name
+    {
+        private const int Longest = 32;
+
+        /// <summary>Gives the name back.</summary>
+        /// <exception cref="ArgumentException">It isn't 1 to 32 ASCII letters, digits or '_', or begins with a digit.</exception>
+        internal static string Checked(string name)
+        {
+            if (!IsName(name))
+            {
+                throw new ArgumentException(
+                    "a name is 1 to 32 ASCII letters, digits or '_', and doesn't begin with a digit; give another one than '" + name + "'");
+            }
+            return name;
+        }
+
+        private static bool IsName(string name)
+        {
+            if (string.IsNullOrEmpty(name) || name.Length > Longest || IsDigit(name[0]))
+            {
+                return false;
+            }
+            foreach (char it in name)
+            {
+                if (!IsDigit(it) && !IsLetter(it) && it != '_')
+                {
+                    return false;
+                }
+            }
+            return true;
+        }
+
+        private static bool IsDigit(char it)
+        {
+            return it >= '0' && it <= '9';
+        }
+
+        private static bool IsLetter(char it)
+        {
+            return (it >= 'a' && it <= 'z') || (it >= 'A' && it <= 'Z');
+        }
+    }
+}

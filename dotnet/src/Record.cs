@@ -1,0 +1,27 @@
+namespace TaskGraph.Internals
+{
+    /// <summary>One record, made under the one lock at an instant at which exactly the tasks had ended, and the tokens were requested,
+    /// that were seen so far.</summary>
+    internal struct Record
+    {
+        /// <summary>The task of a record that no body made.</summary>
+        internal const int NoTask = -1;
+
+        internal RecordKind Kind;
+
+        /// <summary>Whose body made it.</summary>
+        internal int Task;
+
+        /// <summary>The token of a check or a cancel; the child of a start.</summary>
+        internal int Target;
+
+        /// <summary>The number of the worker.</summary>
+        internal byte Worker;
+
+        /// <summary>How many ends and requests had been seen.</summary>
+        internal int Seen;
+
+        /// <summary>Ticks of Stopwatch since the run began.</summary>
+        internal long Time;
+    }
+}

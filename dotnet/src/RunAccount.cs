@@ -1,0 +1,34 @@
+using System.Collections.Generic;
+using System.Linq;
+using System.Threading.Tasks;
+
+namespace TaskGraph.Internals
+{
+    /// <summary>What is told of a run: made once of what was recorded.</summary>
+    internal sealed class RunAccount
+    {
+        internal readonly string Journal;
+        internal readonly IReadOnlyList<RunNote> Notes;
+        internal readonly IReadOnlyList<long> Times;
+        internal readonly IReadOnlyDictionary<GraphTask, TaskStatus> Ends;
+        private readonly int seen;
+        private readonly int records;
+
+        internal RunAccount(TaskGraphBuilder graph, Recording run, double ticksInMicrosecond)
+        {
+            var writer = new JournalWriter(graph, run);
+            Journal = writer.Write();
+            Notes = writer.Notes;
+            Times = writer.EventTimes.Select(it => (long)(it / ticksInMicrosecond)).ToArray();
+            Ends = graph.Tasks.Where(it => run.IsFinal[it.Id]).ToDictionary(it => it, it => run.Ends[it.Id]);
+            seen = run.Seen.Length;
+            records = run.Records.Length;
+        }
+
+        /// <summary>Whether nothing was recorded since.</summary>
+        internal bool IsOf(Recording run)
+        {
+            return run.Seen.Length == seen && run.Records.Length == records;
+        }
+    }
+}

@@ -1,0 +1,24 @@
+namespace TaskGraph
+{
+    /// <summary>Where the recorder had to choose, or saw what the declaration doesn't say.</summary>
+    public sealed class RunNote
+    {
+        internal RunNote(RunNoteKind kind, string text)
+        {
+            Kind = kind;
+            Text = text;
+        }
+
+        /// <summary>What the note is about.</summary>
+        public RunNoteKind Kind { get; private set; }
+
+        /// <summary>The note in words.</summary>
+        public string Text { get; private set; }
+
+        /// <summary>Gives the kind and the words.</summary>
+        public override string ToString()
+        {
+            return Kind + ": " + Text;
+        }
+    }
+}

@@ -1,0 +1,353 @@
+using System;
+using System.Collections.Generic;
+using System.Linq;
+using System.Threading;
+using System.Threading.Tasks;
+using TaskGraph.Internals;
+
+namespace TaskGraph
+{
+    /// <summary>Declares a graph of tasks nearly as it is written today: gives its document, runs it, and records the run.</summary>
+    /// <remarks>A graph runs at most once; build it again for another run, the document is the same.</remarks>
+    public sealed class TaskGraphBuilder
+    {
+        internal readonly List<GraphTask> Tasks = new List<GraphTask>();
+        internal readonly List<GraphToken> Tokens = new List<GraphToken>();
+        internal readonly List<GraphInput> Inputs = new List<GraphInput>();
+        private readonly Dictionary<string, GraphTask> byName = new Dictionary<string, GraphTask>();
+        private readonly List<MethodBlock> methods = new List<MethodBlock>();
+        private bool isComplete;
+
+        /// <summary>Makes a graph without tasks.</summary>
+        public TaskGraphBuilder()
+        {
+            Claims = new Claims();
+        }
+
+        /// <summary>What has to hold in every run.</summary>
+        public Claims Claims { get; private set; }
+
+        /// <summary>The tokens, in declared order.</summary>
+        public IReadOnlyList<GraphToken> AllTokens
+        {
+            get { return Tokens; }
+        }
+
+        /// <summary>The inputs, in declared order.</summary>
+        public IReadOnlyList<GraphInput> AllInputs
+        {
+            get { return Inputs; }
+        }
+
+        /// <summary>The tasks, in declared order.</summary>
+        public IReadOnlyList<GraphTask> AllTasks
+        {
+            get { return Tasks; }
+        }
+
+        /// <summary>The run that was started; null before.</summary>
+        internal GraphRun StartedRun { get; private set; }
+
+        /// <summary>The task of this name.</summary>
+        /// <exception cref="KeyNotFoundException">There is none.</exception>
+        public GraphTask this[string name]
+        {
+            get
+            {
+                GraphTask found;
+                if (!byName.TryGetValue(name, out found))
+                {
+                    throw new KeyNotFoundException("no task " + name + "; there are " + string.Join(", ", Tasks.Select(it => it.Name)));
+                }
+                return found;
+            }
+        }
+
+        /// <summary>Declares a value that is fixed before the run.</summary>
+        public GraphInput Input(string name, bool value = false)
+        {
+            if (Inputs.Any(it => it.Name == name))
+            {
+                throw new ArgumentException("two inputs are named " + name + "; use the GraphInput that Input gave first");
+            }
+            var input = new GraphInput(Name.Checked(name), value);
+            Inputs.Add(input);
+            return input;
+        }
+
+        /// <summary>Declares a token with a source of its own: new CancellationTokenSource().</summary>
+        public GraphToken Token(string name)
+        {
+            return Token(name, new CancellationTokenSource());
+        }
+
+        /// <summary>Declares the token of a source that the caller has.</summary>
+        public GraphToken Token(string name, CancellationTokenSource source)
+        {
+            return AddToken(name, source, source.Token, new GraphToken[0]);
+        }
+
+        /// <summary>Declares a token whose source is elsewhere: RequestAborted, ApplicationStopping.</summary>
+        public GraphToken Token(string name, CancellationToken token)
+        {
+            return AddToken(name, null, token, new GraphToken[0]);
+        }
+
+        /// <summary>Declares a token that is linked to others: CancellationTokenSource.CreateLinkedTokenSource.</summary>
+        public GraphToken Linked(string name, params GraphToken[] sources)
+        {
+            if (sources.Length == 0)
+            {
+                throw new ArgumentException("a linked token has a source; without one, use Token(name)");
+            }
+            var source = CancellationTokenSource.CreateLinkedTokenSource(sources.Select(it => it.CancellationToken).ToArray());
+            return AddToken(name, source, source.Token, sources);
+        }
+
+        /// <summary>Starts a task: Task.Run, on the default scheduler and with DenyChildAttach.</summary>
+        /// <param name="name">The name of the task, which is that of its job too.</param>
+        /// <param name="job">The job: code that touches no task and no token of the graph.</param>
+        /// <param name="token">The task's own token; none if left out.</param>
+        /// <param name="mayFail">Whether the job may throw.</param>
+        public GraphTask Run(string name, Action job, GraphToken token = null, bool mayFail = false)
+        {
+            return Run(name, new Steps().Work(name, job, mayFail), token);
+        }
+
+        /// <summary>Starts a task whose job is awaited: Task.Run(async ..).</summary>
+        public GraphTask Run(string name, Func<Task> job, GraphToken token = null, bool mayFail = false)
+        {
+            return Run(name, new Steps().Work(name, job, mayFail), token);
+        }
+
+        /// <summary>Starts a task with a body of several steps: Task.Run.</summary>
+        public GraphTask Run(string name, Steps body, GraphToken token = null)
+        {
+            return StartNew(name, body, TaskCreationOptions.DenyChildAttach, token);
+        }
+
+        /// <summary>Starts a task: Task.Factory.StartNew on the default scheduler.</summary>
+        public GraphTask StartNew(
+            string name, Action job, TaskCreationOptions options = TaskCreationOptions.None, GraphToken token = null, bool mayFail = false)
+        {
+            return StartNew(name, new Steps().Work(name, job, mayFail), options, token);
+        }
+
+        /// <summary>Starts a task whose job is awaited: Task.Factory.StartNew(async ..).Unwrap() on the default scheduler.</summary>
+        public GraphTask StartNew(
+            string name, Func<Task> job, TaskCreationOptions options = TaskCreationOptions.None, GraphToken token = null,
+            bool mayFail = false)
+        {
+            return StartNew(name, new Steps().Work(name, job, mayFail), options, token);
+        }
+
+        /// <summary>Starts a task with a body of several steps: Task.Factory.StartNew on the default scheduler.</summary>
+        public GraphTask StartNew(
+            string name, Steps body, TaskCreationOptions options = TaskCreationOptions.None, GraphToken token = null)
+        {
+            return Add(new GraphTask
+            {
+                Name = name, Kind = TaskKind.Root, Body = body, Options = (TaskContinuationOptions)options, Token = token,
+            });
+        }
+
+        /// <summary>Declares a task that a body starts, by <see cref="Steps.Start"/>. It stands behind its parent, so the parent's
+        /// steps are made first and the start is added to them afterwards.</summary>
+        public GraphTask Child(
+            string name, Action job, TaskCreationOptions options = TaskCreationOptions.None, GraphToken token = null, bool mayFail = false)
+        {
+            return Child(name, new Steps().Work(name, job, mayFail), options, token);
+        }
+
+        /// <summary>Declares a task whose job is awaited, and which a body starts by <see cref="Steps.Start"/>.</summary>
+        public GraphTask Child(
+            string name, Func<Task> job, TaskCreationOptions options = TaskCreationOptions.None, GraphToken token = null,
+            bool mayFail = false)
+        {
+            return Child(name, new Steps().Work(name, job, mayFail), options, token);
+        }
+
+        /// <summary>Declares a task with a body of several steps that a body starts, by <see cref="Steps.Start"/>.</summary>
+        public GraphTask Child(string name, Steps body, TaskCreationOptions options = TaskCreationOptions.None, GraphToken token = null)
+        {
+            return Add(new GraphTask
+            {
+                Name = name, Kind = TaskKind.Child, Body = body, Options = (TaskContinuationOptions)options, Token = token,
+            });
+        }
+
+        /// <summary>Waits for all of these tasks: Task.WhenAll.</summary>
+        public GraphTask WhenAll(string name, params GraphTask[] tasks)
+        {
+            return Add(new GraphTask { Name = name, Kind = TaskKind.All, Of = tasks });
+        }
+
+        /// <summary>Waits for one of these tasks: Task.WhenAny.</summary>
+        public GraphTask WhenAny(string name, params GraphTask[] tasks)
+        {
+            if (tasks.Length == 0)
+            {
+                throw new ArgumentException("Task.WhenAny refuses an empty list; give WhenAny a task at least");
+            }
+            return Add(new GraphTask { Name = name, Kind = TaskKind.Any, Of = tasks });
+        }
+
+        /// <summary>Declares a method as it is written today, by awaits, try, catch and finally.</summary>
+        /// <param name="name">The name of the method's task.</param>
+        public MethodBlock Method(string name)
+        {
+            var method = new MethodBlock(this, Name.Checked(name), null);
+            methods.Add(method);
+            return method;
+        }
+
+        /// <summary>The document: the graph and its claims.</summary>
+        public string ToJson()
+        {
+            return ToJson(null, Claims.Texts);
+        }
+
+        /// <summary>Searches for a certificate of the claims, has it checked, and gives the document with it, to be kept beside the
+        /// code. Calls the program: see <see cref="TaskGraphProgram"/>.</summary>
+        /// <param name="depth">The most splits on a path, 0 to 6.</param>
+        /// <exception cref="TaskGraphException">There is none, or the document can't be read: with the program's words, and with a run in
+        /// which a claim fails, where a short search finds one.</exception>
+        public string Certify(int depth = 2)
+        {
+            return TaskGraphProgram.Certify(this, depth);
+        }
+
+        /// <summary>Has the certificate of a stored document checked for this graph and its claims, which takes milliseconds where
+        /// <see cref="Certify"/> may search for long. Calls the program: see <see cref="TaskGraphProgram"/>.</summary>
+        /// <param name="certified">What <see cref="Certify"/> gave earlier.</param>
+        /// <exception cref="TaskGraphException">It doesn't show the claims of this graph, which may have changed since: with the program's
+        /// words.</exception>
+        public void Check(string certified)
+        {
+            Complete();
+            TaskGraphProgram.Check(new GraphDocument(this).WriteWith(Certificate.Of(certified)));
+        }
+
+        /// <summary>Starts the tasks on the default scheduler and records the run.</summary>
+        /// <param name="options">How to run; the defaults if left out.</param>
+        /// <exception cref="InvalidOperationException">The graph ran already; build it again.</exception>
+        public GraphRun Start(RunOptions options = null)
+        {
+            GraphRun run = NewRun(options);
+            if (Task.CurrentId == null)
+            {
+                run.Begin();
+                return run;
+            }
+            BeginElsewhere(run);
+            return run;
+        }
+
+        /// <summary>Begins to watch code that stays as it is: it makes its tasks by its own calls, hands each to
+        /// <see cref="GraphRun.Is{T}"/>, and its bodies are wrapped by <see cref="GraphRun.Body(GraphTask, Action{WatchedBody})"/>
+        /// and <see cref="GraphRun.Next(GraphTask, Action{WatchedBody})"/>.</summary>
+        /// <exception cref="InvalidOperationException">The graph ran already; build it again.</exception>
+        public GraphRun Watch()
+        {
+            return NewRun(null);
+        }
+
+        internal string ToJson(string journal, IEnumerable<string> claims)
+        {
+            Complete();
+            return new GraphDocument(this).Write(journal, claims);
+        }
+
+        internal GraphTask Add(GraphTask task)
+        {
+            if (isComplete)
+            {
+                throw new InvalidOperationException(
+                    "the graph is complete, since its document was made or it was started; declare " + task.Name + " before that");
+            }
+            GraphRules.CheckNew(task);
+            if (byName.ContainsKey(task.Name))
+            {
+                throw new ArgumentException("two tasks are named " + task.Name + "; give one another name");
+            }
+            task.Graph = this;
+            task.Id = Tasks.Count;
+            foreach (GraphTask awaited in GraphRules.AwaitedBy(task).Distinct())
+            {
+                awaited.Followers.Add(task);
+            }
+            Tasks.Add(task);
+            byName.Add(task.Name, task);
+            return task;
+        }
+
+        /// <summary>A name like this one that no task has: itself, or with a number behind it.</summary>
+        internal string FreeName(string name)
+        {
+            string free = name;
+            for (int number = 2; byName.ContainsKey(free); number++)
+            {
+                free = name + number;
+            }
+            return free;
+        }
+
+        private GraphToken AddToken(string name, CancellationTokenSource source, CancellationToken token, GraphToken[] sources)
+        {
+            Name.Checked(name);
+            GraphToken same = Tokens.FirstOrDefault(it => it.Name == name || (token.CanBeCanceled && it.CancellationToken == token));
+            if (same != null)
+            {
+                throw new ArgumentException(
+                    "there is the token " + same.Name + " with this name or this source; use the GraphToken that stands");
+            }
+            var added = new GraphToken(Tokens.Count, name, source, token, sources);
+            Tokens.Add(added);
+            return added;
+        }
+
+        private void Complete()
+        {
+            if (!isComplete)
+            {
+                methods.ForEach(it => it.Check());
+                GraphRules.Complete(Tasks);
+                isComplete = true;
+            }
+        }
+
+        private GraphRun NewRun(RunOptions options)
+        {
+            if (StartedRun != null)
+            {
+                throw new InvalidOperationException("the graph ran already; build it again for another run");
+            }
+            Complete();
+            StartedRun = new GraphRun(this, options ?? new RunOptions());
+            return StartedRun;
+        }
+
+        /// <summary>Begins the run on a thread of its own, so that no root attaches to the task that is running here.</summary>
+        private static void BeginElsewhere(GraphRun run)
+        {
+            Exception wrong = null;
+            var thread = new Thread(() =>
+            {
+                try
+                {
+                    run.Begin();
+                }
+                catch (Exception it)
+                {
+                    wrong = it;
+                }
+            });
+            thread.Start();
+            thread.Join();
+            if (wrong != null)
+            {
+                throw new InvalidOperationException("the graph can't be started: " + wrong.Message, wrong);
+            }
+        }
+    }
+}

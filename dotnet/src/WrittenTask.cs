@@ -1,0 +1,26 @@
+namespace TaskGraph.Internals
+{
+    /// <summary>What a journal says of a task so far.</summary>
+    internal sealed class WrittenTask
+    {
+        /// <summary>The worker that begins it: w and its number.</summary>
+        internal string Worker;
+
+        /// <summary>Of a child: whether it was started.</summary>
+        internal bool IsStarted;
+
+        internal bool HasBegun;
+
+        /// <summary>Whether the last instruction of its body has been passed.</summary>
+        internal bool IsOver;
+
+        internal bool HasLeft;
+        internal bool HasEnded;
+
+        /// <summary>Who did the act that ended it; null where it had ended before the first event.</summary>
+        internal string EndedBy;
+
+        /// <summary>How many events there were then.</summary>
+        internal int EndPlace;
+    }
+}

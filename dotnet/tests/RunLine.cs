@@ -1,0 +1,29 @@
+using System;
+using System.Collections.Generic;
+using System.IO;
+using System.Linq;
+using TaskGraph.Internals;
+
+namespace TaskGraph.Tests
+{
+    /// <summary>Writes what came of a run, as one line of JSON for the script dotnet/test.</summary>
+    internal static class RunLine
+    {
+        internal static void Write(TextWriter to, string name, GraphRun run, bool hasEnded, Beginnings begins = null)
+        {
+            RunAudit audit = run.NewAudit();
+            string notes = Json.List(run.Notes.Select(it => Json.Text(it.ToString())));
+            string documents = Json.List(audit.Documents.Select(it => it.Replace("\n", "")));
+            var members = new List<string>
+            {
+                Json.Member("name", Json.Text(name)), Json.Member("ended", Json.Bool(hasEnded)), Json.Member("notes", notes),
+                Json.Member("documents", documents), Json.Member("times", Json.List(run.Times.Select(it => it.ToString()))),
+            };
+            if (begins != null)
+            {
+                members.Add(Json.Member("begins", begins.ToJson()));
+            }
+            to.WriteLine(Json.Object(members.ToArray()));
+        }
+    }
+}

@@ -1,0 +1,50 @@
+using System;
+
+namespace Xunit
+{
+    /// <summary>What the samples use of xunit, so that they compile here.</summary>
+    [AttributeUsage(AttributeTargets.Method)]
+    internal sealed class FactAttribute : Attribute
+    {
+    }
+
+    internal static class Assert
+    {
+        internal static void True(bool value)
+        {
+            Demand(value, "true was expected");
+        }
+
+        internal static void StartsWith(string expected, string text)
+        {
+            Demand(text.StartsWith(expected, StringComparison.Ordinal), "no beginning " + expected + ": " + text);
+        }
+
+        internal static void Contains(string expected, string text)
+        {
+            Demand(text.Contains(expected), "no " + expected + ": " + text);
+        }
+
+        internal static T Throws<T>(Action action)
+            where T : Exception
+        {
+            try
+            {
+                action();
+            }
+            catch (T thrown)
+            {
+                return thrown;
+            }
+            throw new InvalidOperationException("nothing was thrown");
+        }
+
+        private static void Demand(bool value, string otherwise)
+        {
+            if (!value)
+            {
+                throw new InvalidOperationException(otherwise);
+            }
+        }
+    }
+}
