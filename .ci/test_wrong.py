@@ -611,10 +611,10 @@ class Told(unittest.TestCase):
         self.assertEqual(left.count("\n"), text.count("\n"))
         self.assertEqual(WRONG.stubbed(made, made.texts, set()), made.texts)
 
-    def test_lanes(self):
-        words = ["--jobs", "3", "tpl_words"]
-        self.assertEqual(WRONG.lanes(words), 3)
-        self.assertEqual(words, ["tpl_words"])
+    def test_words(self):
+        how = WRONG.asked(["--jobs", "3", "--kept", "tpl_words"])
+        self.assertEqual((how.jobs, how.names, how.kept, how.list, how.beside), (3, ["tpl_words"], True, False, None))
+        self.assertIn("tpl_fast", WRONG.asked([]).names)
 
 
 class Minutes(unittest.TestCase):
@@ -628,6 +628,8 @@ class Minutes(unittest.TestCase):
             ("python3 .ci/wrong", "/top", "other", "wrong bodies in rounds"),
             ("/tmp/rt-run-x/bin/a", "/tmp/rt-run-x/data", "other", "programs"),
             ("python3 cases/run.py crates/a/out/a", "/top", "other", "cases"),
+            ("python3 -B .ci/test_build.py", "/top", "other", "cases"),
+            ("rattle check --crate-name a src/lib.rt", "/tmp/build-x", "cases", "cases"),
             ("crates/a/out/a check", "/top", "cases", "cases"),
         ):
             self.assertEqual(MINUTES.part_of(words.split(), folder, above), part)

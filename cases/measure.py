@@ -1,37 +1,39 @@
 #!/usr/bin/env python3
-"""Has the bench program measure documents.
+"""Measures how long the program takes over documents of many sizes.
 
-usage: cases/measure.py WORD.. [--program PROGRAM]   crates/tpl_bench/out/tpl_bench, if none is named
-       cases/measure.py --write                      writes the files of crates/tpl_bench/data: small documents, over which
-                                                     the bench program does a little of each measurement
+usage: cases/measure.py [--program PROGRAM] [--runs PROGRAM] WORD..
+       cases/measure.py [--program PROGRAM] [--runs PROGRAM] --small    does each measurement once over small documents,
+                                                       and tests what is answered; the last line is 'N passed, M failed'
 
 The words:
-  read      how fast documents are read: 64 to 256 tasks with claims and certificate, and up to 1,024 with bodies as long as
-            may be
-  check     how long the check of a certificate takes: documents of 16 MB of long rows, of short rows, of tasks with long
-            bodies, and the same with one tree of 729 leaves and as many tasks as fit
-  analyse   how long the search for a certificate takes: groups of 16 tasks with a claim each, lines of stages with one claim
-  machines  how long an event takes on both machines: seven courses of 770 to 68,639 events
-  audit     how long the audit of an event takes: the same courses, with 0, 1, 8 and 64 claims
-  refute    how many runs a second the search for a run makes in which a claim fails: 16 to 992 tasks
-  run       how many events a second a session's workers make: roots, a chain, fans, and jobs of 1 to 100 microseconds
-  queue     how many jobs a second go from four threads to four
-It is a measurement and no test: nothing fails where a time is long.
+  check    documents of 16 MB: of long rows, of short rows, of tasks with long bodies, and the same with one tree of 729
+           leaves and as many tasks as fit
+  analyse  groups of 16 tasks with a claim each, lines of stages with one claim, with 0 to 6 splits
+  audit    seven courses of 770 to 68,639 events, with 0, 1, 8 and 64 claims
+  refute   16 to 992 tasks
+  speed    runs of roots, a chain, fans, and jobs of 1 to 100 microseconds by 1, 2 and 4 workers, beside a bare pool of
+           threads: the test program tpl_tests_runs measures these, since the jobs of the command answer at once
+It prints seconds of wall and of processor, the least of several calls. Nothing fails where a time is long.
 """
+import argparse
 import dataclasses
+import os
 import pathlib
 import subprocess
 import sys
+import tempfile
+import time
 
 from documents import (
     LENGTHS, MOST_CLAIMS, MOST_SITES, MOST_SPLITS, MOST_STATEMENTS, MOST_TASKS, WIDEST, Groups, Length, Size, Stages, Widths,
     chain_antecedent, courses, fan_antecedent, filled, for_threads, grouped, sized, staged, text_of, with_claims,
 )
+from suite import HERE, PROGRAM
 
-TOP = pathlib.Path(__file__).resolve().parent.parent
-PROGRAM = TOP / "crates/tpl_bench/out/tpl_bench"
-DATA = TOP / "crates/tpl_bench/data"
+RUNS = "crates/tpl_tests_runs/out/tpl_tests_runs"
 
+# how often each call is made
+TIMES = 3
 WORKERS = (1, 2, 4)
 FAN = 32
 # the most splits on a path that are searched for in groups
@@ -40,19 +42,12 @@ GROUP_SPLITS = 2
 
 @dataclasses.dataclass(frozen=True)
 class Measured:
-    """What is measured: its name, the words of the command line, and the document, if it takes one."""
+    """What is measured: its name, the words of the command line, and the document. In a small one, how the answer begins."""
 
     name: str
     words: list
-    document: dict = None
-
-
-def readings():
-    for tasks in (64, 128, 256):
-        yield Measured(f"{tasks} tasks", ["read"], sized(Size(tasks, statements=2, claims=MOST_CLAIMS)))
-    for tasks in (128, 256, 512, MOST_TASKS):
-        document = sized(Size(tasks, statements=MOST_STATEMENTS, line=2))
-        yield Measured(f"{tasks} tasks of {MOST_STATEMENTS} statements", ["read"], document)
+    document: dict
+    answer: str = None
 
 
 def checks():
@@ -68,47 +63,45 @@ def checks():
         yield Measured(f"{name}, 729 leaves", ["check"], filled(leaves))
 
 
-def searches_of_groups():
+def analyse(depth):
+    return ["analyse", "--depth", str(depth)]
+
+
+def searches():
     for count in (8, 16, 32, 64):
         for joined in (False, True):
             for splits in range(4):
                 name = f"{count} groups, {'joined' if joined else 'apart'}, splits {splits}"
-                words = ["analyse", str(min(splits, GROUP_SPLITS))]
-                yield Measured(name, words, grouped(Groups(count, joined, splits)))
-
-
-def searches_of_stages():
+                yield Measured(name, analyse(min(splits, GROUP_SPLITS)), grouped(Groups(count, joined, splits)))
     for count in (20, 300, 1_000):
         for splits in (0, 2, 4, MOST_SPLITS):
             for holds in (True, False):
                 name = f"{count} stages, splits {splits}, a {'true' if holds else 'false'} claim"
-                yield Measured(name, ["analyse", str(splits)], staged(Stages(count, splits, holds)))
-
-
-def searches():
-    yield from searches_of_groups()
-    yield from searches_of_stages()
-
-
-def steps():
-    for length in LENGTHS:
-        for name, document in courses(WIDEST, length):
-            yield Measured(name, ["machines"], document)
+                yield Measured(name, analyse(splits), staged(Stages(count, splits, holds)))
 
 
 def audits():
     for length in LENGTHS:
         for name, document in courses(WIDEST, length):
             for claims in (0, 1, 8, MOST_CLAIMS):
-                yield Measured(name, ["audit"], with_claims(document, claims))
+                events = document["journal"].count("\n")
+                yield Measured(f"{name}, {events} events, {claims} claims", ["audit"], with_claims(document, claims))
+
+
+def refute(runs):
+    return ["refute", "--claim", "1", "--runs", str(runs)]
 
 
 def refutations():
     for count, runs in ((1, 200_000), (12, 2_000), (62, 50)):
-        yield Measured(f"{count} groups", ["refute", str(runs)], grouped(Groups(count, joined=True, splits=0)))
+        yield Measured(f"{count} groups, {runs} runs", refute(runs), grouped(Groups(count, joined=True, splits=0)))
 
 
-def runs():
+def speed(workers, microseconds):
+    return ["speed", str(workers), str(microseconds)]
+
+
+def speeds():
     loads = {
         "empty roots": for_threads(MOST_TASKS),
         "a chain": for_threads(MOST_TASKS, chain_antecedent),
@@ -116,34 +109,44 @@ def runs():
     }
     for name, document in loads.items():
         for workers in WORKERS:
-            yield Measured(f"{name}, workers {workers}", ["run", str(workers)], document)
+            yield Measured(f"{name}, workers {workers}", speed(workers, 0), document)
     jobs = for_threads(MOST_SITES, has_jobs=True)
     for spins in (1, 10, 100):
         for workers in WORKERS:
-            yield Measured(f"jobs of {spins} µs, workers {workers}", ["run", str(workers), str(spins)], jobs)
+            yield Measured(f"jobs of {spins} microseconds, workers {workers}", speed(workers, spins), jobs)
 
 
-def queues():
-    yield Measured("four threads to four", ["queue"])
+WORDS = {"check": checks, "analyse": searches, "audit": audits, "refute": refutations, "speed": speeds}
 
 
-WORDS = {
-    "read": readings,
-    "check": checks,
-    "analyse": searches,
-    "machines": steps,
-    "audit": audits,
-    "refute": refutations,
-    "run": runs,
-    "queue": queues,
-}
+def called(program, words, text):
+    """What the program writes, and the seconds of wall and of processor that it takes."""
+    with tempfile.TemporaryFile() as given, tempfile.TemporaryFile() as out:
+        given.write(text.encode())
+        given.seek(0)
+        started = time.perf_counter()
+        with subprocess.Popen([program, *words], stdin=given, stdout=out, stderr=subprocess.DEVNULL) as ran:
+            _, _, used = os.wait4(ran.pid, 0)
+            ran.returncode = 0
+        wall = time.perf_counter() - started
+        out.seek(0)
+        return out.read().decode(), wall, used.ru_utime + used.ru_stime
 
 
-def lines_of(program, measured):
-    """What the program prints, in one line."""
-    text = text_of(measured.document) if measured.document else ""
-    done = subprocess.run([program, *measured.words], input=text.encode(), stdout=subprocess.PIPE, check=True)
-    return ", ".join(done.stdout.decode().splitlines())
+def told(program, measured):
+    """How long the least of several calls takes."""
+    text = text_of(measured.document)
+    times = [called(program, measured.words, text)[1:] for _ in range(TIMES)]
+    return f"{min(wall for wall, _ in times):.3f} s, of processor {min(used for _, used in times):.3f} s"
+
+
+def measure(word, given):
+    for measured in WORDS[word]():
+        if word == "speed":
+            said = ", ".join(called(given.runs, measured.words, text_of(measured.document))[0].splitlines())
+        else:
+            said = told(given.program, measured)
+        print(f"{word}, {measured.name}: {said}", flush=True)
 
 
 # ---- small documents
@@ -151,54 +154,62 @@ def lines_of(program, measured):
 
 NARROW = Widths(statements=4, arguments=3, children=4, tokens=2)
 SHORT = Length(tasks=3, rounds=2, combined=8, families=2)
+COMPLETE, OPEN = "run complete\n", "run not complete\n"
+# the course that passes two statements of each body, so that it is no complete run
+NOT_COMPLETE = "the first of 5 side by side"
 
 
 def small():
-    """The name of each small document, the document, and what is done with it."""
-    yield "sized", sized(Size(4, statements=3, line=2, claims=2, splits=1, ends=1)), ["read", "check"]
-    yield "groups", grouped(Groups(2, joined=True, splits=2)), ["analyse 2", "analyse 1", "refute 100"]
-    yield "false_groups", grouped(Groups(2, joined=True, splits=3)), ["analyse 2", "refute 100"]
-    yield "stages", staged(Stages(10, 4, holds=True)), ["analyse 4", "analyse 3"]
-    yield "false_stages", staged(Stages(10, 4, holds=False)), ["analyse 4"]
+    """Each measurement over a small document, with what is answered by the rules."""
+    size = Size(4, statements=3, line=2, claims=2, splits=1, ends=1)
+    yield Measured("sized", ["check"], sized(size), "accepted\n")
+    groups, false_groups = grouped(Groups(2, joined=True, splits=2)), grouped(Groups(2, joined=True, splits=3))
+    yield Measured("groups, splits enough", analyse(2), groups, "[{")
+    yield Measured("groups, splits too few", analyse(1), groups, "not found: claim 1\n")
+    yield Measured("groups, refuted", refute(100), groups, "not refuted")
+    yield Measured("false groups, searched", analyse(2), false_groups, "not found: claim 1\n")
+    yield Measured("false groups, refuted", refute(100), false_groups, "{")
+    stages = staged(Stages(10, 4, holds=True))
+    yield Measured("stages, splits enough", analyse(4), stages, "[{")
+    yield Measured("stages, splits too few", analyse(3), stages, "not found: claim 1\n")
+    yield Measured("false stages", analyse(4), staged(Stages(10, 4, holds=False)), "not found: claim 1\n")
     for name, document in courses(NARROW, SHORT, many=5):
-        yield name.lower().replace(" ", "_"), with_claims(document, 5), ["machines", "audit"]
-    yield "roots", for_threads(8), ["run 1", "run 4"]
-    yield "chain", for_threads(8, chain_antecedent), ["run 1", "run 4"]
-    yield "fans", for_threads(8, fan_antecedent(4)), ["run 1", "run 4"]
-    yield "jobs", for_threads(8, has_jobs=True), ["run 2", "run 4 10"]
+        yield Measured(name, ["audit"], with_claims(document, 5), OPEN if name == NOT_COMPLETE else COMPLETE)
+    # a root has two events, a continuation three, and a job one more
+    loads = {16: for_threads(8), 23: for_threads(8, chain_antecedent), 22: for_threads(8, fan_antecedent(4))}
+    for events, document in {**loads, 24: for_threads(8, has_jobs=True)}.items():
+        yield Measured(f"{events} events", speed(2, 1), document, f"{events} events, complete true\n")
 
 
-def small_files():
-    """The name and the text of each file of the bench program's folder: the small documents, and the list of what is done."""
-    lines = []
-    for name, document, words in small():
-        lines += [f"{name}.json {done}\n" for done in words]
-        yield f"{name}.json", text_of(document)
-    yield "list", "".join(lines)
-
-
-def write():
-    DATA.mkdir(exist_ok=True)
-    for name, text in small_files():
-        (DATA / name).write_text(text, encoding="utf-8")
-
-
-def given():
-    """The program, and the words."""
-    words = sys.argv[1:]
-    return (words[-1], words[:-2]) if words[-2:-1] == ["--program"] else (PROGRAM, words)
+def test_small(given):
+    passed = failed = 0
+    for it in small():
+        program = given.runs if it.words[0] == "speed" else given.program
+        answer = called(program, it.words, text_of(it.document))[0]
+        is_well = answer.startswith(it.answer)
+        passed, failed = passed + is_well, failed + (not is_well)
+        if not is_well:
+            print(f"measure: {it.name}: {' '.join(it.words)} answers {answer[:200]!r}, and not {it.answer!r}")
+    print(f"{passed} passed, {failed} failed")
+    return 1 if failed else 0
 
 
 def main():
-    program, words = given()
-    if words == ["--write"]:
-        return write()
-    if not words or not set(words) <= set(WORDS):
-        sys.exit(__doc__)
-    for word in words:
-        for measured in WORDS[word]():
-            print(f"{word}, {measured.name}: {lines_of(program, measured)}", flush=True)
+    parser = argparse.ArgumentParser(description=__doc__, formatter_class=argparse.RawDescriptionHelpFormatter)
+    top = pathlib.Path(HERE).parent
+    parser.add_argument("--program", default=top / PROGRAM)
+    parser.add_argument("--runs", metavar="PROGRAM", default=top / RUNS, help="the test program of runs")
+    parser.add_argument("--small", action="store_true")
+    parser.add_argument("words", nargs="*", metavar="WORD")
+    given = parser.parse_args()
+    if given.small:
+        return test_small(given)
+    if not given.words or not set(given.words) <= set(WORDS):
+        parser.error(f"name what is to be measured, of {', '.join(WORDS)}")
+    for word in given.words:
+        measure(word, given)
+    return 0
 
 
 if __name__ == "__main__":
-    main()
+    sys.exit(main())

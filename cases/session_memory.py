@@ -22,7 +22,7 @@ SOURCE = HERE.parent / "crates/tpl_tests_runs/src/memory.rt"
 
 # with ample memory: one session that two workers run, and one in which a token is requested
 FULL = ["run", "closed", "requested", "closed"]
-# what each call says where it has no memory; each has to be met
+# what each call says where it has no memory, a run where that leaves it no thread; each has to be met
 WITHOUT = {
     "no memory for the document",
     "no memory to open",
@@ -31,12 +31,11 @@ WITHOUT = {
     "no memory for a seat, and then there is",
     "no memory to run",
     "no memory to run, and one works alone",
+    "no thread to run",
     "no memory to close",
 }
 # what the last call of a session says
 LAST = {"closed", "no memory for the document", "no memory to open", "no memory to close"}
-# and where no thread can be made
-ALSO = {*FULL, "no thread to run"}
 
 
 def played(named, library, **refusing):
@@ -59,7 +58,7 @@ def wrong(lines, status, error, met):
     said = [line.removesuffix(": holds") for line in lines]
     if any(line == before for line, before in zip(lines, said)):
         return f"a call went wrong: {lines}"
-    if not {*said} <= WITHOUT | ALSO:
+    if not {*said} <= WITHOUT | {*FULL}:
         return f"unknown lines: {lines}"
     if status != 0 and "OutOfMemory" not in error:
         return f"it ends with status {status}: {error}"
