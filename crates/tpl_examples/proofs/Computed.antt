@@ -9,51 +9,52 @@ use Rattle.tpl_model.specs.Valid.{IsGraph}
 use Rattle.tpl_model.specs.declared.claim.Given.{Given}
 use Rattle.tpl_model.specs.Claims.{Claim, IsGiven, Holds}
 use Rattle.tpl_laws.specs.Allowed.{can, is_run, is_settled, is_complete, is_given, holds}
+use Rattle.tpl_laws.proofs.GraphDecided.{graph_test}
+use Rattle.tpl_laws.proofs.AllowedSettled.{settled_lem, complete_lem, given_lem, holds_lem}
+use Rattle.tpl_laws.proofs.AllowedDecided.{can_lem, run_lem}
 use Rattle.tpl_laws.specs.GraphTests.{is_graph}
-use Rattle.tpl_laws.specs.Tests.{TestLaws}
 
 contradicts : {P : Type 0} (b : Bool) → (P → b ≡ true) → b ≡ false → P → ⊥
 contradicts b test e p = let t : b ≡ true = test p in absurd (cc)
 
-module _ (laws : TestLaws) where
-  pub valid : (g : TaskGraph) → is_graph g ≡ true → IsGraph g
-  valid g e = (laws.graph g).0 e
+pub valid : (g : TaskGraph) → is_graph g ≡ true → IsGraph g
+valid g e = (graph_test g).0 e
 
-  pub invalid : (g : TaskGraph) → is_graph g ≡ false → IsGraph g → ⊥
-  invalid g e = contradicts (is_graph g) (laws.graph g).1 e
+pub invalid : (g : TaskGraph) → is_graph g ≡ false → IsGraph g → ⊥
+invalid g e = contradicts (is_graph g) (graph_test g).1 e
 
-  pub runs : (g : TaskGraph) (v : List Bool) (h : List Event) → is_run g v h ≡ true → Run g v h
-  runs g v h e = (laws.run g v h).0 e
+pub runs : (g : TaskGraph) (v : List Bool) (h : List Event) → is_run g v h ≡ true → Run g v h
+runs g v h e = (run_lem g v h).0 e
 
-  pub runs_not : (g : TaskGraph) (v : List Bool) (h : List Event) → is_run g v h ≡ false → Run g v h → ⊥
-  runs_not g v h e = contradicts (is_run g v h) (laws.run g v h).1 e
+pub runs_not : (g : TaskGraph) (v : List Bool) (h : List Event) → is_run g v h ≡ false → Run g v h → ⊥
+runs_not g v h e = contradicts (is_run g v h) (run_lem g v h).1 e
 
-  pub allowed : (g : TaskGraph) (v : List Bool) (h : List Event) (actor : Actor) (act : Act) → can g v h actor act ≡ true → Allows g v h actor act
-  allowed g v h actor act e = (laws.can g v h actor act).0 e
+pub allowed : (g : TaskGraph) (v : List Bool) (h : List Event) (actor : Actor) (act : Act) → can g v h actor act ≡ true → Allows g v h actor act
+allowed g v h actor act e = (can_lem g v h actor act).0 e
 
-  pub refused : (g : TaskGraph) (v : List Bool) (h : List Event) (actor : Actor) (act : Act) → can g v h actor act ≡ false → Allows g v h actor act → ⊥
-  refused g v h actor act e = contradicts (can g v h actor act) (laws.can g v h actor act).1 e
+pub refused : (g : TaskGraph) (v : List Bool) (h : List Event) (actor : Actor) (act : Act) → can g v h actor act ≡ false → Allows g v h actor act → ⊥
+refused g v h actor act e = contradicts (can g v h actor act) (can_lem g v h actor act).1 e
 
-  pub completes : (g : TaskGraph) (v : List Bool) (h : List Event) → is_complete g v h ≡ true → Complete g v h
-  completes g v h e = (laws.complete g v h).0 e
+pub completes : (g : TaskGraph) (v : List Bool) (h : List Event) → is_complete g v h ≡ true → Complete g v h
+completes g v h e = (complete_lem g v h).0 e
 
-  pub completes_not : (g : TaskGraph) (v : List Bool) (h : List Event) → is_complete g v h ≡ false → Complete g v h → ⊥
-  completes_not g v h e = contradicts (is_complete g v h) (laws.complete g v h).1 e
+pub completes_not : (g : TaskGraph) (v : List Bool) (h : List Event) → is_complete g v h ≡ false → Complete g v h → ⊥
+completes_not g v h e = contradicts (is_complete g v h) (complete_lem g v h).1 e
 
-  pub settles : (g : TaskGraph) (v : List Bool) (h : List Event) (t : ℕ) → is_graph g ≡ true → is_settled g v h t ≡ true → Settled g v h t
-  settles g v h t is_valid e = (laws.settled g v h t (valid g is_valid)).0 e
+pub settles : (g : TaskGraph) (v : List Bool) (h : List Event) (t : ℕ) → is_graph g ≡ true → is_settled g v h t ≡ true → Settled g v h t
+settles g v h t is_valid e = (settled_lem g v h t (valid g is_valid)).0 e
 
-  pub settles_not : (g : TaskGraph) (v : List Bool) (h : List Event) (t : ℕ) → is_graph g ≡ true → is_settled g v h t ≡ false → Settled g v h t → ⊥
-  settles_not g v h t is_valid e = contradicts (is_settled g v h t) (laws.settled g v h t (valid g is_valid)).1 e
+pub settles_not : (g : TaskGraph) (v : List Bool) (h : List Event) (t : ℕ) → is_graph g ≡ true → is_settled g v h t ≡ false → Settled g v h t → ⊥
+settles_not g v h t is_valid e = contradicts (is_settled g v h t) (settled_lem g v h t (valid g is_valid)).1 e
 
-  pub claims : (g : TaskGraph) (claim : Claim) (v : List Bool) (h : List Event) → is_graph g ≡ true → holds g claim v h ≡ true → Holds g claim v h
-  claims g claim v h is_valid e = (laws.holds g claim v h (valid g is_valid)).0 e
+pub claims : (g : TaskGraph) (claim : Claim) (v : List Bool) (h : List Event) → is_graph g ≡ true → holds g claim v h ≡ true → Holds g claim v h
+claims g claim v h is_valid e = (holds_lem g claim v h (valid g is_valid)).0 e
 
-  pub fails : (g : TaskGraph) (claim : Claim) (v : List Bool) (h : List Event) → is_graph g ≡ true → holds g claim v h ≡ false → Holds g claim v h → ⊥
-  fails g claim v h is_valid e = contradicts (holds g claim v h) (laws.holds g claim v h (valid g is_valid)).1 e
+pub fails : (g : TaskGraph) (claim : Claim) (v : List Bool) (h : List Event) → is_graph g ≡ true → holds g claim v h ≡ false → Holds g claim v h → ⊥
+fails g claim v h is_valid e = contradicts (holds g claim v h) (holds_lem g claim v h (valid g is_valid)).1 e
 
-  pub given : (g : TaskGraph) (v : List Bool) (h : List Event) (givens : List Given) → is_given g v h givens ≡ true → IsGiven g v h givens
-  given g v h givens e = (laws.given g v h givens).0 e
+pub given : (g : TaskGraph) (v : List Bool) (h : List Event) (givens : List Given) → is_given g v h givens ≡ true → IsGiven g v h givens
+given g v h givens e = (given_lem g v h givens).0 e
 
-  pub given_not : (g : TaskGraph) (v : List Bool) (h : List Event) (givens : List Given) → is_given g v h givens ≡ false → IsGiven g v h givens → ⊥
-  given_not g v h givens e = contradicts (is_given g v h givens) (laws.given g v h givens).1 e
+pub given_not : (g : TaskGraph) (v : List Bool) (h : List Event) (givens : List Given) → is_given g v h givens ≡ false → IsGiven g v h givens → ⊥
+given_not g v h givens e = contradicts (is_given g v h givens) (given_lem g v h givens).1 e

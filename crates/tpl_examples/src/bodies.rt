@@ -2,117 +2,83 @@
 
 ghost use Rattle.tpl_examples.specs.Bodies.{ReturnEndsTheBody, ThrowEndsTheBody, EmptyBody, RootOpensReady, TaskBeginsOnce, OnlyItsWorkerRunsABody, BodiesRunApart, JobIsAnswered, FailedJobThrows, StoppedBetweenJobs, OnlyJobsAreAnswered, TwoJobsAtOnce, EightJobsAtOnce, InputChoosesTheBranch, ThreeWaysToEnd, GraphWithoutTasksIsComplete};
 
-use tpl_laws::allowed::tests_are_right;
-
 /// A return ends the body: the statement behind it isn't passed.
 pub fn return_ends_the_body()
     ensures { ReturnEndsTheBody }
-{
-    tests_are_right();
-}
+{}
 
 /// A throw ends the body and faults its task, which carries the exception once it has ended.
 pub fn throw_ends_the_body()
     ensures { ThrowEndsTheBody }
-{
-    tests_are_right();
-}
+{}
 
 /// The end of a body is a return.
 pub fn empty_body()
     ensures { EmptyBody }
-{
-    tests_are_right();
-}
+{}
 
 /// A root waits to run, and any worker begins it; the outside begins nothing, and nobody begins a task that the graph
 /// doesn't have.
 pub fn root_opens_ready()
     ensures { RootOpensReady }
-{
-    tests_are_right();
-}
+{}
 
 /// A task is begun once.
 pub fn task_begins_once()
     ensures { TaskBeginsOnce }
-{
-    tests_are_right();
-}
+{}
 
 /// A body is run by the worker that began it, and by no other and not from outside.
 pub fn only_its_worker_runs_a_body()
     ensures { OnlyItsWorkerRunsABody }
-{
-    tests_are_right();
-}
+{}
 
 /// A step of one body leaves the other where it was, and each ends at its own place by its own worker.
 pub fn bodies_run_apart()
     ensures { BodiesRunApart }
-{
-    tests_are_right();
-}
+{}
 
 /// A job is answered and not stepped over, by its task's worker; it fails only where it may.
 pub fn job_is_answered()
     ensures { JobIsAnswered }
-{
-    tests_are_right();
-}
+{}
 
 /// A job that fails throws in its task's body.
 pub fn failed_job_throws()
     ensures { FailedJobThrows }
-{
-    tests_are_right();
-}
+{}
 
 /// A run that stops between two jobs is a run, and not complete.
 pub fn stopped_between_jobs()
     ensures { StoppedBetweenJobs }
-{
-    tests_are_right();
-}
+{}
 
 /// A statement that is no job isn't answered.
 pub fn only_jobs_are_answered()
     ensures { OnlyJobsAreAnswered }
-{
-    tests_are_right();
-}
+{}
 
 /// Two jobs run at the same time.
 pub fn two_jobs_at_once()
     ensures { TwoJobsAtOnce }
-{
-    tests_are_right();
-}
+{}
 
 /// Eight jobs run at the same time, each on a worker of its own.
 pub fn eight_jobs_at_once()
     ensures { EightJobsAtOnce }
-{
-    tests_are_right();
-}
+{}
 
 /// An input chooses the branch, and what stands behind it comes after; an input without value is false.
 pub fn input_chooses_the_branch()
     ensures { InputChoosesTheBranch }
-{
-    tests_are_right();
-}
+{}
 
 /// One body ends its task in all three ways.
 pub fn three_ways_to_end()
     ensures { ThreeWaysToEnd }
-{
-    tests_are_right();
-}
+{}
 
 /// Nothing is to be done where there are no tasks.
 pub fn graph_without_tasks_is_complete()
     ensures { GraphWithoutTasksIsComplete }
-{
-    tests_are_right();
-}
+{}

@@ -2,125 +2,89 @@
 
 ghost use Rattle.tpl_examples.specs.Children.{ChildFaultsItsParent, ParentWaitsForItsChild, ChildIsStarted, ChildEndsBeforeItsParent, DeniedChild, DetachedChild, CanceledChild, ChildIsCanceledOnceStarted, ChildThatIsNotStarted, ChildThatIsStartedIsToEnd, DetachedChildIsNotSettledWithItsParent, ExceptionsInTheOrderOfTheText, OnlyStartedChildrenAreWaitedFor, ExceptionsComeUp, ExceptionsStopAtADetachedChild, ExceptionOutweighsCancellation, NothingElseIsDue};
 
-use tpl_laws::allowed::tests_are_right;
-
 /// An attached child faults its parent.
 pub fn child_faults_its_parent()
     ensures { ChildFaultsItsParent }
-{
-    tests_are_right();
-}
+{}
 
 /// A parent that has left its body waits for its child, carries nothing meanwhile, and ends by its close.
 pub fn parent_waits_for_its_child()
     ensures { ParentWaitsForItsChild }
-{
-    tests_are_right();
-}
+{}
 
 /// A child is created, and waits to run once its parent has passed its start; then any worker begins it.
 pub fn child_is_started()
     ensures { ChildIsStarted }
-{
-    tests_are_right();
-}
+{}
 
 /// A parent whose children have ended before it leaves its body ends there, without a close.
 pub fn child_ends_before_its_parent()
     ensures { ChildEndsBeforeItsParent }
-{
-    tests_are_right();
-}
+{}
 
 /// A child that its parent denies is not waited for, and leaves its parent alone.
 pub fn denied_child()
     ensures { DeniedChild }
-{
-    tests_are_right();
-}
+{}
 
 /// A detached child is not waited for, and leaves its parent alone.
 pub fn detached_child()
     ensures { DetachedChild }
-{
-    tests_are_right();
-}
+{}
 
 /// A canceled attached child doesn't change its parent's status.
 pub fn canceled_child()
     ensures { CanceledChild }
-{
-    tests_are_right();
-}
+{}
 
 /// A child whose token is requested is canceled once it is started, and not before.
 pub fn child_is_canceled_once_started()
     ensures { ChildIsCanceledOnceStarted }
-{
-    tests_are_right();
-}
+{}
 
 /// A child that is not started stays created; it is settled with its parent, and so is its own child, and the run is
 /// complete without them.
 pub fn child_that_is_not_started()
     ensures { ChildThatIsNotStarted }
-{
-    tests_are_right();
-}
+{}
 
 /// A child that is started and hasn't ended isn't settled, nor is its parent, which waits for it.
 pub fn child_that_is_started_is_to_end()
     ensures { ChildThatIsStartedIsToEnd }
-{
-    tests_are_right();
-}
+{}
 
 /// A detached child that is started and hasn't ended isn't settled, though its parent is.
 pub fn detached_child_is_not_settled_with_its_parent()
     ensures { DetachedChildIsNotSettledWithItsParent }
-{
-    tests_are_right();
-}
+{}
 
 /// A parent carries its own exception, then its children's in the order of their start statements, not of their ids and
 /// not of their endings.
 pub fn exceptions_in_the_order_of_the_text()
     ensures { ExceptionsInTheOrderOfTheText }
-{
-    tests_are_right();
-}
+{}
 
 /// A parent waits for each of its children that was started, and for no other.
 pub fn only_started_children_are_waited_for()
     ensures { OnlyStartedChildrenAreWaitedFor }
-{
-    tests_are_right();
-}
+{}
 
 /// Exceptions come up through each attached child, and each family is closed from below.
 pub fn exceptions_come_up()
     ensures { ExceptionsComeUp }
-{
-    tests_are_right();
-}
+{}
 
 /// Exceptions don't come up through a detached child.
 pub fn exceptions_stop_at_a_detached_child()
     ensures { ExceptionsStopAtADetachedChild }
-{
-    tests_are_right();
-}
+{}
 
 /// A parent that acknowledged is canceled, but for a child's exception.
 pub fn exception_outweighs_cancellation()
     ensures { ExceptionOutweighsCancellation }
-{
-    tests_are_right();
-}
+{}
 
 /// Of a requested child nothing is due before it is started; then its cancellation is, and nothing more.
 pub fn nothing_else_is_due()
     ensures { NothingElseIsDue }
-{
-    tests_are_right();
-}
+{}

@@ -2,117 +2,83 @@
 
 ghost use Rattle.tpl_examples.specs.ValidGraphs.{GraphOfEveryKind, LengthOfBodies, LevelsOfBodies, TokensAndInputs, NumberOfJobs, JobStandsOnce, NumberOfArguments, SourcesOfLinks, IdsAreTheGraphs, AntecedentsAndArguments, CombinatorsAreBare, WordsOfEachKind, WordsThatExcludeEachOther, OnlyContinuationsRead, PlaceOfChildren, BoundOfAGraph};
 
-use tpl_laws::allowed::tests_are_right;
-
 /// Tasks of every kind are a graph; no run of it is longer than its 2 tokens, 4 for each of its 10 tasks, and its 18
 /// statements.
 pub fn graph_of_every_kind()
     ensures { GraphOfEveryKind }
-{
-    tests_are_right();
-}
+{}
 
 /// A body has at most 64 statements, those in its branches too.
 pub fn length_of_bodies()
     ensures { LengthOfBodies }
-{
-    tests_are_right();
-}
+{}
 
 /// A body has at most 8 levels.
 pub fn levels_of_bodies()
     ensures { LevelsOfBodies }
-{
-    tests_are_right();
-}
+{}
 
 /// There are at most 32 tokens and 16 inputs.
 pub fn tokens_and_inputs()
     ensures { TokensAndInputs }
-{
-    tests_are_right();
-}
+{}
 
 /// There are at most 256 jobs.
 pub fn number_of_jobs()
     ensures { NumberOfJobs }
-{
-    tests_are_right();
-}
+{}
 
 /// A job stands at one place of one body.
 pub fn job_stands_once()
     ensures { JobStandsOnce }
-{
-    tests_are_right();
-}
+{}
 
 /// WhenAll and WhenAny have at most 256 arguments, and WhenAny has one.
 pub fn number_of_arguments()
     ensures { NumberOfArguments }
-{
-    tests_are_right();
-}
+{}
 
 /// A link has 1 to 32 sources, each declared before it.
 pub fn sources_of_links()
     ensures { SourcesOfLinks }
-{
-    tests_are_right();
-}
+{}
 
 /// Each id in a body, at every depth, and a task's own token are the graph's.
 pub fn ids_are_the_graphs()
     ensures { IdsAreTheGraphs }
-{
-    tests_are_right();
-}
+{}
 
 /// Antecedents and arguments are declared before, and are no children.
 pub fn antecedents_and_arguments()
     ensures { AntecedentsAndArguments }
-{
-    tests_are_right();
-}
+{}
 
 /// WhenAll and WhenAny have no body, no token and no option words.
 pub fn combinators_are_bare()
     ensures { CombinatorsAreBare }
-{
-    tests_are_right();
-}
+{}
 
 /// A word of continuations stands on no root and no child, and a bit that is no word on none.
 pub fn words_of_each_kind()
     ensures { WordsOfEachKind }
-{
-    tests_are_right();
-}
+{}
 
 /// A continuation may start after some end, and isn't both long running and synchronous.
 pub fn words_that_exclude_each_other()
     ensures { WordsThatExcludeEachOther }
-{
-    tests_are_right();
-}
+{}
 
 /// Only a continuation observes, or branches on how a task ended.
 pub fn only_continuations_read()
     ensures { OnlyContinuationsRead }
-{
-    tests_are_right();
-}
+{}
 
 /// A child is started at one place of one body, that of a task declared before it, and only children are started.
 pub fn place_of_children()
     ensures { PlaceOfChildren }
-{
-    tests_are_right();
-}
+{}
 
 /// No run is longer than the number of tokens, 4 for each task, and the statements, nested ones too.
 pub fn bound_of_a_graph()
     ensures { BoundOfAGraph }
-{
-    tests_are_right();
-}
+{}

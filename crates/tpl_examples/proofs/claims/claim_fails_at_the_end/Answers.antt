@@ -6,9 +6,9 @@ use Rattle.tpl_examples.proofs.claims.claim_fails_at_the_end.Goals as goal
 
 pub returns : goal.returns
 returns c = (
-  runs c.tests_are_right.ensures checking_graph [] acknowledged refl,
-  claims c.tests_are_right.ensures checking_graph (claim (ends_in 0 canceled_only)) [] acknowledged refl refl,
-  claims c.tests_are_right.ensures checking_graph (claim (ends_in 0 ran_only)) [] not_left refl refl,
-  fails c.tests_are_right.ensures checking_graph (claim (ends_in 0 ran_only)) [] acknowledged refl refl,
-  fails c.tests_are_right.ensures checking_graph (claim (ends_in 0 faulted_only)) [] acknowledged refl refl,
+  runs checking_graph [] acknowledged refl,
+  claims checking_graph (claim (ends_in 0 canceled_only)) [] acknowledged refl refl,
+  claims checking_graph (claim (ends_in 0 ran_only)) [] not_left refl refl,
+  fails checking_graph (claim (ends_in 0 ran_only)) [] acknowledged refl refl,
+  fails checking_graph (claim (ends_in 0 faulted_only)) [] acknowledged refl refl,
 )

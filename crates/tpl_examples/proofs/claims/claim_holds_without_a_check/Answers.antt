@@ -6,8 +6,8 @@ use Rattle.tpl_examples.proofs.claims.claim_holds_without_a_check.Goals as goal
 
 pub returns : goal.returns
 returns c = (
-  runs c.tests_are_right.ensures blind_graph [] acknowledged refl,
-  completes c.tests_are_right.ensures blind_graph [] acknowledged refl,
-  claims c.tests_are_right.ensures blind_graph (claim (ends_in 0 ran_only)) [] acknowledged refl refl,
-  fails c.tests_are_right.ensures blind_graph (claim (ends_in 0 canceled_only)) [] acknowledged refl refl,
+  runs blind_graph [] acknowledged refl,
+  completes blind_graph [] acknowledged refl,
+  claims blind_graph (claim (ends_in 0 ran_only)) [] acknowledged refl refl,
+  fails blind_graph (claim (ends_in 0 canceled_only)) [] acknowledged refl refl,
 )

@@ -6,12 +6,12 @@ use Rattle.tpl_examples.proofs.claims.claim_of_an_input.Goals as goal
 
 pub returns : goal.returns
 returns c = (
-  valid c.tests_are_right.ensures input_graph refl,
-  runs c.tests_are_right.ensures input_graph (true ∷ []) chosen refl,
-  runs c.tests_are_right.ensures input_graph (false ∷ []) chosen refl,
-  claims c.tests_are_right.ensures input_graph (claim (ends_in 0 ran_only)) (true ∷ []) chosen refl refl,
-  fails c.tests_are_right.ensures input_graph (claim (ends_in 0 ran_only)) (false ∷ []) chosen refl refl,
-  claims c.tests_are_right.ensures input_graph (claim_given (given_input 0 true ∷ []) (ends_in 0 ran_only)) (false ∷ []) chosen refl refl,
-  fails c.tests_are_right.ensures input_graph (claim_given (given_input 0 true ∷ []) (ends_in 0 faulted_only)) (true ∷ []) chosen refl refl,
-  fails c.tests_are_right.ensures input_graph (claim_given (given_input 0 false ∷ []) (ends_in 0 ran_only)) (false ∷ []) chosen refl refl,
+  valid input_graph refl,
+  runs input_graph (true ∷ []) chosen refl,
+  runs input_graph (false ∷ []) chosen refl,
+  claims input_graph (claim (ends_in 0 ran_only)) (true ∷ []) chosen refl refl,
+  fails input_graph (claim (ends_in 0 ran_only)) (false ∷ []) chosen refl refl,
+  claims input_graph (claim_given (given_input 0 true ∷ []) (ends_in 0 ran_only)) (false ∷ []) chosen refl refl,
+  fails input_graph (claim_given (given_input 0 true ∷ []) (ends_in 0 faulted_only)) (true ∷ []) chosen refl refl,
+  fails input_graph (claim_given (given_input 0 false ∷ []) (ends_in 0 ran_only)) (false ∷ []) chosen refl refl,
 )

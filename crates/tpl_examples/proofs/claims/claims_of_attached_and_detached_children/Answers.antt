@@ -6,16 +6,16 @@ use Rattle.tpl_examples.proofs.claims.claims_of_attached_and_detached_children.G
 
 pub returns : goal.returns
 returns c = (
-  valid c.tests_are_right.ensures family_graph refl,
-  runs c.tests_are_right.ensures family_graph [] together refl,
-  completes c.tests_are_right.ensures family_graph [] together refl,
-  claims c.tests_are_right.ensures family_graph (claim (after 1 2)) [] together refl refl,
-  claims c.tests_are_right.ensures family_graph (claim (observed 1)) [] together refl refl,
-  claims c.tests_are_right.ensures family_graph (claim (observed 0)) [] together refl refl,
-  valid c.tests_are_right.ensures apart_graph refl,
-  runs c.tests_are_right.ensures apart_graph [] apart refl,
-  completes c.tests_are_right.ensures apart_graph [] apart refl,
-  fails c.tests_are_right.ensures apart_graph (claim (after 1 2)) [] apart refl refl,
-  fails c.tests_are_right.ensures apart_graph (claim (observed 1)) [] apart refl refl,
-  claims c.tests_are_right.ensures apart_graph (claim (observed 0)) [] apart refl refl,
+  valid family_graph refl,
+  runs family_graph [] together refl,
+  completes family_graph [] together refl,
+  claims family_graph (claim (after 1 2)) [] together refl refl,
+  claims family_graph (claim (observed 1)) [] together refl refl,
+  claims family_graph (claim (observed 0)) [] together refl refl,
+  valid apart_graph refl,
+  runs apart_graph [] apart refl,
+  completes apart_graph [] apart refl,
+  fails apart_graph (claim (after 1 2)) [] apart refl refl,
+  fails apart_graph (claim (observed 1)) [] apart refl refl,
+  claims apart_graph (claim (observed 0)) [] apart refl refl,
 )

@@ -6,12 +6,12 @@ use Rattle.tpl_examples.proofs.claims.exception_is_not_observed.Goals as goal
 
 pub returns : goal.returns
 returns c = (
-  valid c.tests_are_right.ensures checking_observer_graph refl,
-  runs c.tests_are_right.ensures checking_observer_graph [] checked_instead refl,
-  completes c.tests_are_right.ensures checking_observer_graph [] checked_instead refl,
-  fails c.tests_are_right.ensures checking_observer_graph (claim (observed 0)) [] checked_instead refl refl,
-  valid c.tests_are_right.ensures canceled_observer_graph refl,
-  runs c.tests_are_right.ensures canceled_observer_graph [] canceled_instead refl,
-  completes c.tests_are_right.ensures canceled_observer_graph [] canceled_instead refl,
-  fails c.tests_are_right.ensures canceled_observer_graph (claim (observed 0)) [] canceled_instead refl refl,
+  valid checking_observer_graph refl,
+  runs checking_observer_graph [] checked_instead refl,
+  completes checking_observer_graph [] checked_instead refl,
+  fails checking_observer_graph (claim (observed 0)) [] checked_instead refl refl,
+  valid canceled_observer_graph refl,
+  runs canceled_observer_graph [] canceled_instead refl,
+  completes canceled_observer_graph [] canceled_instead refl,
+  fails canceled_observer_graph (claim (observed 0)) [] canceled_instead refl refl,
 )

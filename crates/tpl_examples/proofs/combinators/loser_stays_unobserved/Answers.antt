@@ -6,9 +6,9 @@ use Rattle.tpl_examples.proofs.combinators.loser_stays_unobserved.Goals as goal
 
 pub returns : goal.returns
 returns c = (
-  runs c.tests_are_right.ensures any_graph [] thrower_second refl,
+  runs any_graph [] thrower_second refl,
   refl,
   refl,
-  completes c.tests_are_right.ensures any_graph [] thrower_second refl,
-  fails c.tests_are_right.ensures any_graph (claim (observed 1)) [] thrower_second refl refl,
+  completes any_graph [] thrower_second refl,
+  fails any_graph (claim (observed 1)) [] thrower_second refl refl,
 )

@@ -6,11 +6,11 @@ use Rattle.tpl_examples.proofs.links.cancel_of_a_source_of_a_quiet_link.Goals as
 
 pub returns : goal.returns
 returns c = (
-  valid c.tests_are_right.ensures canceling_graph refl,
-  runs c.tests_are_right.ensures canceling_graph [] canceled_and_threw refl,
+  valid canceling_graph refl,
+  runs canceling_graph [] canceled_and_threw refl,
   refl,
-  given c.tests_are_right.ensures canceling_graph [] about_to_cancel link_quiet refl,
-  given_not c.tests_are_right.ensures canceling_graph [] canceled_and_threw link_quiet refl,
-  claims c.tests_are_right.ensures canceling_graph (claim_given link_quiet (ends_in 0 ran_only)) [] canceled_and_threw refl refl,
-  fails c.tests_are_right.ensures canceling_graph (claim (ends_in 0 ran_only)) [] canceled_and_threw refl refl,
+  given canceling_graph [] about_to_cancel link_quiet refl,
+  given_not canceling_graph [] canceled_and_threw link_quiet refl,
+  claims canceling_graph (claim_given link_quiet (ends_in 0 ran_only)) [] canceled_and_threw refl refl,
+  fails canceling_graph (claim (ends_in 0 ran_only)) [] canceled_and_threw refl refl,
 )

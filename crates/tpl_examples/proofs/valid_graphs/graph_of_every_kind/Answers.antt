@@ -5,6 +5,6 @@ use Rattle.tpl_examples.proofs.valid_graphs.graph_of_every_kind.Goals as goal
 
 pub returns : goal.returns
 returns c = (
-  valid c.tests_are_right.ensures every_kind_graph refl,
+  valid every_kind_graph refl,
   refl,
 )

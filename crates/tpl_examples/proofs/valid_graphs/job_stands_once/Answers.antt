@@ -5,6 +5,6 @@ use Rattle.tpl_examples.proofs.valid_graphs.job_stands_once.Goals as goal
 
 pub returns : goal.returns
 returns c = (
-  invalid c.tests_are_right.ensures site_twice_graph refl,
-  invalid c.tests_are_right.ensures shared_site_graph refl,
+  invalid site_twice_graph refl,
+  invalid shared_site_graph refl,
 )

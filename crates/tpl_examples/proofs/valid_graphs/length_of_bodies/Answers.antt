@@ -5,7 +5,7 @@ use Rattle.tpl_examples.proofs.valid_graphs.length_of_bodies.Goals as goal
 
 pub returns : goal.returns
 returns c = (
-  valid c.tests_are_right.ensures longest_body_graph refl,
-  invalid c.tests_are_right.ensures long_body_graph refl,
-  invalid c.tests_are_right.ensures long_branches_graph refl,
+  valid longest_body_graph refl,
+  invalid long_body_graph refl,
+  invalid long_branches_graph refl,
 )

@@ -5,7 +5,7 @@ use Rattle.tpl_examples.proofs.valid_graphs.levels_of_bodies.Goals as goal
 
 pub returns : goal.returns
 returns c = (
-  valid c.tests_are_right.ensures deepest_body_graph refl,
-  invalid c.tests_are_right.ensures deep_body_graph refl,
-  invalid c.tests_are_right.ensures deep_when_graph refl,
+  valid deepest_body_graph refl,
+  invalid deep_body_graph refl,
+  invalid deep_when_graph refl,
 )

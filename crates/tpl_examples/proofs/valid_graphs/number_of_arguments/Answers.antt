@@ -5,8 +5,8 @@ use Rattle.tpl_examples.proofs.valid_graphs.number_of_arguments.Goals as goal
 
 pub returns : goal.returns
 returns c = (
-  valid c.tests_are_right.ensures most_args_graph refl,
-  invalid c.tests_are_right.ensures many_all_graph refl,
-  invalid c.tests_are_right.ensures many_any_graph refl,
-  invalid c.tests_are_right.ensures no_args_graph refl,
+  valid most_args_graph refl,
+  invalid many_all_graph refl,
+  invalid many_any_graph refl,
+  invalid no_args_graph refl,
 )

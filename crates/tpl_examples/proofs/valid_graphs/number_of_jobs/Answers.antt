@@ -5,6 +5,6 @@ use Rattle.tpl_examples.proofs.valid_graphs.number_of_jobs.Goals as goal
 
 pub returns : goal.returns
 returns c = (
-  valid c.tests_are_right.ensures most_sites_graph refl,
-  invalid c.tests_are_right.ensures many_sites_graph refl,
+  valid most_sites_graph refl,
+  invalid many_sites_graph refl,
 )

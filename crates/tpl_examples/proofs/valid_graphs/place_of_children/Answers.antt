@@ -5,12 +5,12 @@ use Rattle.tpl_examples.proofs.valid_graphs.place_of_children.Goals as goal
 
 pub returns : goal.returns
 returns c = (
-  invalid c.tests_are_right.ensures orphan_graph refl,
-  invalid c.tests_are_right.ensures self_start_graph refl,
-  invalid c.tests_are_right.ensures late_parent_graph refl,
-  invalid c.tests_are_right.ensures twice_started_graph refl,
-  invalid c.tests_are_right.ensures started_in_both_graph refl,
-  invalid c.tests_are_right.ensures two_parents_graph refl,
-  invalid c.tests_are_right.ensures started_root_graph refl,
-  invalid c.tests_are_right.ensures started_continuation_graph refl,
+  invalid orphan_graph refl,
+  invalid self_start_graph refl,
+  invalid late_parent_graph refl,
+  invalid twice_started_graph refl,
+  invalid started_in_both_graph refl,
+  invalid two_parents_graph refl,
+  invalid started_root_graph refl,
+  invalid started_continuation_graph refl,
 )

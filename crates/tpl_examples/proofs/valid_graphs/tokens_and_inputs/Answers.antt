@@ -5,8 +5,8 @@ use Rattle.tpl_examples.proofs.valid_graphs.tokens_and_inputs.Goals as goal
 
 pub returns : goal.returns
 returns c = (
-  valid c.tests_are_right.ensures most_tokens_graph refl,
-  invalid c.tests_are_right.ensures many_tokens_graph refl,
-  valid c.tests_are_right.ensures most_inputs_graph refl,
-  invalid c.tests_are_right.ensures many_inputs_graph refl,
+  valid most_tokens_graph refl,
+  invalid many_tokens_graph refl,
+  valid most_inputs_graph refl,
+  invalid many_inputs_graph refl,
 )
