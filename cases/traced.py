@@ -1,7 +1,10 @@
 """The trace of a document's journal, worked out by the rules of docs/PICTURES.md alone."""
 import json
+import math
 
 SEATS_BEHIND = 64
+# the track of the first task's body, if it has one of its own
+BODIES_BEHIND = 73
 ENDINGS = ("leave", "close", "drop", "settle")
 INSTANTS = ("request", "release", "close", "drop", "settle")
 
@@ -17,6 +20,18 @@ def events(document):
 def track(actor):
     """The number of an actor's track."""
     return int(actor[1:]) + (SEATS_BEHIND if actor[0] == "o" else 0)
+
+
+def crossing(document):
+    """The tasks whose bodies don't nest: each is begun inside another body of its worker, and not left before that one."""
+    begun = {name: (place, actor) for place, actor, verb, name in events(document) if verb == "begin"}
+    left = {name: place for place, _, verb, name in events(document) if verb == "leave"}
+    return {
+        inner
+        for inner, (start, actor) in begun.items()
+        for outer, (before, other) in begun.items()
+        if actor == other and before < start < left.get(outer, math.inf) < left.get(inner, math.inf)
+    }
 
 
 def arrows(document):
@@ -41,13 +56,18 @@ def arrow(phase, number, tid, ts, **more):
 def entries(document):
     """Each entry, in the order in which they stand."""
     yield {"args": {"name": "taskgraph"}, "name": "process_name", "ph": "M", "pid": 1}
-    drawn, named = list(arrows(document)), set()
+    drawn, named, alone = list(arrows(document)), set(), crossing(document)
+    number = {task["name"]: at for at, task in enumerate(document["tasks"])}
     for place, actor, verb, name in events(document):
         tid = track(actor)
+        called = ("worker " if actor[0] == "w" else "outside ") + actor[1:]
         if actor not in named:
-            called = ("worker " if actor[0] == "w" else "outside ") + actor[1:]
             yield {"args": {"name": called}, "name": "thread_name", "ph": "M", "pid": 1, "tid": tid}
             named.add(actor)
+        if verb in ("begin", "leave") and name in alone:
+            tid = BODIES_BEHIND + number[name]
+            if verb == "begin":
+                yield {"args": {"name": f"{called}: {name}"}, "name": "thread_name", "ph": "M", "pid": 1, "tid": tid}
         if verb == "begin":
             yield entry("B", name, tid, place)
         if verb in INSTANTS:

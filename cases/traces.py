@@ -1,9 +1,10 @@
 #!/usr/bin/env python3
 """Traces the journal of each example, and of each run of one that the program makes, and compares each trace with the one
 that follows from the rules of docs/PICTURES.md. The traces of the examples' own journals are also held against the files of
-traces/, at which a person has looked. Each trace is read back: its slices have to be the bodies that the journal begins and
-leaves, on the tracks of those who do it, and each arrow has to lead from the ending of a task to the release of one that
-continues it.
+traces/, at which a person has looked. Each trace is read back as a viewer does, with a stack for each track, of which each
+end closes the innermost slice: its slices have to be the bodies that the journal begins and leaves, on the tracks of those
+who do it, and each arrow has to lead from the ending of a task to the release of one that continues it. Some runs have
+bodies of one worker that don't nest.
 
 usage: cases/traces.py [PROGRAM] [--write]    the script `taskgraph` at the top, if none is named; --write writes the files
                                               of traces/ from the rules, and traces nothing
@@ -20,6 +21,30 @@ from traced import trace
 
 TOP = HERE.parent
 WORKERS = (1, 4)
+# Three roots, and a continuation that the worker which ended A begins. By hand: which journal, and which bodies have a track
+# of their own.
+CROSSED = {
+    "version": 1,
+    "tasks": [
+        {"name": "A", "kind": "root", "body": []},
+        {"name": "B", "kind": "root", "body": [{"work": "b"}]},
+        {"name": "C", "kind": "then", "after": "A", "body": [{"work": "c"}], "options": ["ExecuteSynchronously"]},
+        {"name": "D", "kind": "root", "body": []},
+    ],
+}
+CROSSINGS = (
+    ("nested", "w1 begin B\nw1 begin D\nw1 leave D\nw1 worked B done\nw1 leave B\n", []),
+    ("crossing", "w1 begin B\nw1 begin D\nw1 worked B done\nw1 leave B\nw1 leave D\n", ["worker 1: D"]),
+    ("never left", "w1 begin B\nw1 begin D\nw1 worked B done\nw1 leave B\n", ["worker 1: D"]),
+    ("by two workers", "w1 begin B\nw2 begin D\nw1 worked B done\nw1 leave B\nw2 leave D\n", []),
+    (
+        "three at once",
+        "w1 begin A\nw1 begin B\nw1 leave A\nw1 release C\nw1 begin D\nw1 begin C\nw1 worked B done\nw1 leave B\n"
+        "w1 worked C done\nw1 leave C\nw1 leave D\n",
+        ["worker 1: B", "worker 1: C", "worker 1: D"],
+    ),
+    ("one inside, one across", "w1 begin B\nw1 begin A\nw1 begin D\nw1 leave A\nw1 leave D\nw1 worked B done\nw1 leave B\n", ["worker 1: D"]),
+)
 
 
 def examples():
@@ -54,17 +79,25 @@ def documents(named):
                 yield f"{name} run by {workers}", {**document, "journal": journal}, None
 
 
+def tracks(found):
+    """The names of the tracks by their numbers."""
+    return {it["tid"]: it["args"]["name"] for it in found if it["name"] == "thread_name"}
+
+
 def slices(found):
-    """Each slice: its track's name, what it is called, from where to where; of one that doesn't end, no end."""
-    tracks = {it["tid"]: it["args"]["name"] for it in found if it["name"] == "thread_name"}
-    begun = {}
+    """Each slice as a viewer reads it, an end closing the innermost slice that its track has open: whose it is, what it is
+    called, from where to where; of one that doesn't end, no end."""
+    names, begun = tracks(found), {}
     for it in found:
+        track = begun.setdefault(it.get("tid"), [])
         if it["ph"] == "B":
-            begun[it["tid"], it["name"]] = it["ts"]
+            track.append((it["name"], it["ts"]))
         if it["ph"] == "E":
-            yield tracks[it["tid"]], it["name"], begun.pop((it["tid"], it["name"])), it["ts"]
-    for (tid, name), start in begun.items():
-        yield tracks[tid], name, start, None
+            name, start = track.pop()
+            yield names[it["tid"]].split(":")[0], name, start, it["ts"]
+    for tid, left in begun.items():
+        for name, start in left:
+            yield names[tid].split(":")[0], name, start, None
 
 
 def bodies(lines):
@@ -105,8 +138,18 @@ def difference(words, document, kept):
     return misdrawn(document, found)
 
 
+def crossed(words, journal, own):
+    """What is wrong with the trace of a run in which bodies of one worker overlap, or None."""
+    document = {**CROSSED, "journal": journal}
+    wrote, _ = called(words, document)
+    found = sorted(name for name in tracks(json.loads(wrote)["traceEvents"]).values() if ":" in name)
+    return f"tracks of their own: {found}" if found != own else difference(words, document, None)
+
+
 def compared():
     named = program("taskgraph")
+    for name, journal, own in CROSSINGS:
+        yield pathlib.Path("traces.py"), {"name": name}, crossed([named, "trace"], journal, own)
     for name, document, kept in documents(named):
         yield pathlib.Path("traces.py"), {"name": name}, difference([named, "trace"], document, kept)
 

@@ -9,10 +9,23 @@ use tpl_machine::Core;
 use tpl_model::Act;
 use tpl_words::{MOST_TOKENS, Status, TaskId, TokenId};
 
+/// How many of those that wait for a worker try to act once one has left a body.
+const MOST_WOKEN: usize = 16;
+
+/// A task that is ready or in its body acts as soon as a worker may.
+fn wants_worker(core: &Fast<'_>, task: TaskId) -> bool {
+    (task.0 as usize) < core.graph().len()
+        && matches!(core.status(task), Status::WaitingToRun | Status::Running)
+}
+
 /// All that may act, and perhaps some that may not. Who was found to have nothing to do is added again when it may.
 #[derive(Drop)]
 pub(crate) struct Awake {
     movers: Vec<Mover>,
+    /// Those that wait for a worker: to be free, or to go on with their body.
+    held: Vec<TaskId>,
+    /// How long the run was when all of these tried last.
+    tried: Option<usize>,
     marks: Vec<bool>,
     asked: [bool; MOST_TOKENS],
 }
@@ -26,6 +39,8 @@ impl Awake {
         }
         Ok(Awake {
             movers: Vec::with_capacity(alloc, graph.len() + MOST_TOKENS)?,
+            held: Vec::new(alloc),
+            tried: None,
             marks,
             asked: [false; MOST_TOKENS],
         })
@@ -38,6 +53,8 @@ impl Awake {
     /// Nobody is awake, and no token is known to be requested.
     fn clear(&mut self) {
         self.movers.clear();
+        self.held.clear();
+        self.tried = None;
         self.asked = [false; MOST_TOKENS];
         for mark in self.marks.iter_mut() {
             *mark = false;
@@ -61,16 +78,42 @@ impl Awake {
         Ok(())
     }
 
-    /// Who stands at the place may not act.
-    pub(crate) fn sleep(&mut self, at: usize) {
+    /// Who stands at the place may not act. A task that could, had it a worker, waits for one.
+    pub(crate) fn sleep(&mut self, core: &Fast<'_>, at: usize) -> Result<(), AllocError> {
         if at >= self.movers.len() {
-            return;
+            return Ok(());
         }
         if let Mover::Task(task) = self.movers.swap_remove(at) {
             if let Some(mark) = self.marks.get_mut(task.0 as usize) {
                 *mark = false;
             }
+            if wants_worker(core, task) {
+                self.held.push(task)?;
+            }
         }
+        Ok(())
+    }
+
+    /// A worker has left a body: some of those that wait for one try to act, the last ones first.
+    fn wake_held(&mut self, most: usize) -> Result<(), AllocError> {
+        for _ in 0..most {
+            match self.held.pop() {
+                Some(task) => self.wake(task)?,
+                None => break,
+            }
+        }
+        Ok(())
+    }
+
+    /// Where nobody is awake, all that wait for a worker try to act, once after each event. Says whether there are any.
+    pub(crate) fn has_any(&mut self, core: &Fast<'_>) -> Result<bool, AllocError> {
+        let length = Some(core.events().len());
+        if self.movers.is_empty() && self.tried != length {
+            let most = self.held.len();
+            self.tried = length;
+            self.wake_held(most)?;
+        }
+        Ok(!self.movers.is_empty())
     }
 
     /// A run begins: the roots, and who waits for a task that has ended already.
@@ -143,7 +186,11 @@ impl Awake {
         match act {
             Act::Request(_) => (),
             Act::Step(task) => self.wake_children(core, links.children(task))?,
-            Act::Leave(task) | Act::Close(task) | Act::Drop(task) | Act::Settle(task) => {
+            Act::Leave(task) => {
+                self.wake_held(MOST_WOKEN)?;
+                return self.wake_all(links.waiters(task));
+            }
+            Act::Close(task) | Act::Drop(task) | Act::Settle(task) => {
                 return self.wake_all(links.waiters(task));
             }
             _ => return Ok(()),

@@ -3,21 +3,34 @@
 ghost use Rattle.std.specs.Prelude.{◌≡◌, ◌↔◌, IsTrue};
 ghost use Rattle.tpl_model.specs.Graph.{is_task};
 
+use crate::bodies::Bodies;
+use std::alloc::{AllocError, Global};
 use tpl_fast::Fast;
+use tpl_graph::Graph;
 use tpl_machine::Core;
 use tpl_model::{Act, Event};
 use tpl_words::{Actor, TaskId, Worker};
 
-/// The most workers that the events of a run name.
-const MOST_WORKERS: usize = 64;
+/// Who does what waits for nobody before the first event.
+const FIRST: Actor = Actor::Worker(Worker(1));
 
 /// The seat outside from which tokens are requested.
 const SEAT: u8 = 1;
 
-/// The workers, and which of them are in a body. Each begin is a free worker's, so that a run reads as one of threads.
+/// Who does an act that waits for nobody, where the worker that acted last is in a body.
+#[derive(Clone, Copy, PartialEq, Eq, Debug)]
+pub(crate) enum Habit {
+    /// That worker, where it has just passed a statement: what a `Cancel` does is done inside it.
+    Inside,
+    /// A worker that is in no body.
+    Aside,
+}
+
+/// The workers. Their bodies nest, so that a run reads as one of threads.
 #[derive(Drop)]
 pub(crate) struct Crew {
-    busy: [bool; MOST_WORKERS],
+    bodies: Bodies,
+    habit: Habit,
 }
 
 /// The task is one of the graph that runs.
@@ -56,79 +69,77 @@ fn ender(core: &Fast<'_>, task: TaskId) -> Option<Actor> {
 
 impl Crew {
     /// All workers are free.
-    pub(crate) fn new() -> Crew {
-        Crew {
-            busy: [false; MOST_WORKERS],
-        }
+    pub(crate) fn new(alloc: Global, graph: &Graph) -> Result<Crew, AllocError> {
+        Ok(Crew {
+            bodies: Bodies::new(alloc, graph)?,
+            habit: Habit::Inside,
+        })
     }
 
-    /// The first worker that is in no body, or the last one.
-    fn free(&self) -> Actor {
-        let before = self.busy.iter().take_while(|busy| **busy).count();
-        Actor::Worker(Worker(before.min(MOST_WORKERS - 1) as u16 + 1))
+    /// A run begins: all workers are free.
+    pub(crate) fn begin_run(&mut self, habit: Habit) {
+        self.bodies.clear();
+        self.habit = habit;
     }
 
-    /// Notes whether a worker is in a body.
-    fn note(&mut self, actor: Actor, is_busy: bool) {
-        if let Actor::Worker(worker) = actor {
-            let at = (worker.0 as usize).saturating_sub(1);
-            if at < MOST_WORKERS {
-                self.busy[at] = is_busy;
-            }
-        }
-    }
-
-    /// Does the act as this actor, if it is allowed.
+    /// Does the act as this actor, if it is allowed and bodies nest with it.
     fn act_as(&mut self, core: &mut Fast<'_>, actor: Actor, act: Act) -> bool
         ensures { core.new.graph ≡ core.old.graph }
     {
-        if core.step(Event { actor, act }).is_err() {
+        let event = Event { actor, act };
+        if !self.bodies.allow(core.graph(), event) || core.step(event).is_err() {
             return false;
         }
-        match act {
-            Act::Begin(_) => self.note(actor, true),
-            Act::Leave(_) => self.note(actor, false),
-            _ => (),
-        }
+        self.bodies.note(event);
         true
     }
 
-    /// Begins a task by a free worker, or by the one to which it is bound.
-    fn begin(&mut self, core: &mut Fast<'_>, task: TaskId) -> bool
+    /// Does the act as this actor, if there is one.
+    fn act_if(&mut self, core: &mut Fast<'_>, actor: Option<Actor>, act: Act) -> bool
         ensures { core.new.graph ≡ core.old.graph }
     {
-        let free = self.free();
-        if self.act_as(core, free, Act::Begin(task)) {
-            return true;
-        }
-        match ender(core, task) {
-            Some(actor) => self.act_as(core, actor, Act::Begin(task)),
-            None => false,
-        }
-    }
-
-    /// Does an act that waits for nobody, by whoever acted last.
-    fn finish(&mut self, core: &mut Fast<'_>, act: Act) -> bool
-        ensures { core.new.graph ≡ core.old.graph }
-    {
-        let actor = match core.events().last() {
-            Some(event) => event.actor,
-            None => self.free(),
-        };
-        self.act_as(core, actor, act)
-    }
-
-    /// Does an act of a body by who began it.
-    fn go_on(&mut self, core: &mut Fast<'_>, task: TaskId, act: Act) -> bool
-        ensures { core.new.graph ≡ core.old.graph }
-    {
-        match runner(core, task) {
+        match actor {
             Some(actor) => self.act_as(core, actor, act),
             None => false,
         }
     }
 
-    /// Does the act by one who may do it, if it is allowed.
+    /// Begins a task by the first free worker, or by the one to which it is bound.
+    fn begin(&mut self, core: &mut Fast<'_>, task: TaskId) -> bool
+        ensures { core.new.graph ≡ core.old.graph }
+    {
+        let free = self.bodies.free();
+        if self.act_if(core, free, Act::Begin(task)) {
+            return true;
+        }
+        let bound = ender(core, task);
+        self.act_if(core, bound, Act::Begin(task))
+    }
+
+    /// Who does an act that waits for nobody, after this event: who acted last, or a free worker.
+    fn finisher(&self, last: Event) -> Actor {
+        let may_be_inside = match last.act {
+            Act::Begin(_) | Act::Worked(_, _) => false,
+            _ => self.habit == Habit::Inside,
+        };
+        if may_be_inside || self.bodies.inside(last.actor).is_none() {
+            return last.actor;
+        }
+        self.bodies.free().unwrap_or(last.actor)
+    }
+
+    /// Does an act that waits for nobody.
+    fn finish(&mut self, core: &mut Fast<'_>, act: Act) -> bool
+        ensures { core.new.graph ≡ core.old.graph }
+    {
+        let actor = match core.events().last() {
+            Some(event) => self.finisher(*event),
+            None => FIRST,
+        };
+        self.act_as(core, actor, act)
+    }
+
+    /// Does the act by one who may do it, if it is allowed and bodies nest with it.
     pub(crate) fn perform(&mut self, core: &mut Fast<'_>, act: Act) -> bool
         ensures { core.new.graph ≡ core.old.graph }
     {
@@ -136,7 +147,8 @@ impl Crew {
             Act::Request(_) => self.act_as(core, Actor::Outside(SEAT), act),
             Act::Begin(task) => self.begin(core, task),
             Act::Step(task) | Act::Worked(task, _) | Act::Leave(task) => {
-                self.go_on(core, task, act)
+                let who = runner(core, task);
+                self.act_if(core, who, act)
             }
             Act::Release(_) | Act::Close(_) | Act::Drop(_) | Act::Settle(_) => {
                 self.finish(core, act)

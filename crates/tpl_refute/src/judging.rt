@@ -1,4 +1,4 @@
-//! Whether events refute a claim.
+//! Whether events refute a claim, and up to where.
 
 ghost use Rattle.std.specs.Prelude.{◌≡◌, ◌↔◌, IsTrue, IfOk, IfSome, length};
 ghost use Rattle.std.specs.List.{All};
@@ -67,34 +67,6 @@ pub(crate) fn judge(
         }
         Verdict::Run { fails: None, .. } => Ok(None),
         Verdict::NotAllowed { .. } => Ok(None),
-        Verdict::Memory => Err(AllocError),
-    }
-}
-
-/// Whether the events refute the claim: they are a run with these inputs, one for each that the graph has, after the
-/// last of them the claim doesn't hold for the first time, and a journal can name whoever acts. Out of memory is the
-/// only error.
-pub fn refutes(
-    alloc: Global,
-    graph: &Graph,
-    claim: &Claim,
-    inputs: Inputs,
-    events: &[Event],
-) -> Result<bool, AllocError>
-    requires { Fits graph.now.graph claim.now }
-    ensures { IfOk result (λ answer.
-        IsTrue answer ↔ Refutes graph.now.graph claim.now inputs events.now) }
-{
-    tpl_laws::prefix_is_run();
-    let alone = slice::from_ref(claim);
-    let written = can_be_written(graph, &inputs, events);
-    match audit(alloc, graph, inputs, events, alone) {
-        Verdict::Run {
-            fails: Some(failure),
-            ..
-        } => Ok(failure.place == events.len() && written),
-        Verdict::Run { fails: None, .. } => Ok(false),
-        Verdict::NotAllowed { .. } => Ok(false),
         Verdict::Memory => Err(AllocError),
     }
 }

@@ -2,6 +2,8 @@
 #![tactic(auto)]
 
 mod awake;
+mod bodies;
+mod budget;
 mod counterexample;
 mod crew;
 mod dice;
@@ -11,9 +13,10 @@ mod plan;
 mod refuting;
 mod replay;
 mod shortening;
+mod tidying;
 mod walk;
 mod weights;
 
+pub use bodies::first_crossing;
 pub use counterexample::Counterexample;
-pub use judging::refutes;
-pub use refuting::{Effort, refute};
+pub use refuting::{Effort, Sought, refute};

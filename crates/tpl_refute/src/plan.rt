@@ -1,5 +1,6 @@
 //! What is drawn for one run.
 
+use crate::crew::Habit;
 use crate::dice::Dice;
 use crate::weights::{FIRST, LAST, Mover, Way, Weights};
 use tpl_claims::Claim;
@@ -13,6 +14,8 @@ pub(crate) const MOST_DROPS: usize = 4;
 const ASKED_IN_TEN: u32 = 6;
 /// How often of ten times a run is led to where the claim may fail.
 const LED_IN_TEN: u32 = 5;
+/// How often of ten times what waits for nobody is done by workers that are in no body.
+const ASIDE_IN_TEN: u32 = 5;
 /// How many of ten jobs fail, one of these for a run.
 const FAILING_IN_TEN: [u32; 6] = [0, 1, 3, 5, 9, 10];
 
@@ -31,6 +34,8 @@ pub(crate) struct Plan {
     pub(crate) failing: u32,
     /// A task all of whose jobs give this answer, if they may.
     pub(crate) fixed: Option<(TaskId, Answer)>,
+    /// Who does what waits for nobody.
+    pub(crate) habit: Habit,
 }
 
 /// The tokens that are requested in no run that agrees with what is given: those, and each source of one.
@@ -159,6 +164,14 @@ fn lead(weights: &mut Weights, graph: &Graph, body: Property) -> Option<(TaskId,
     }
 }
 
+fn habit_of(dice: &mut Dice) -> Habit {
+    if dice.in_ten(ASIDE_IN_TEN) {
+        Habit::Aside
+    } else {
+        Habit::Inside
+    }
+}
+
 impl Plan {
     /// Draws the weights of a run and all else of it. A run has `drops` drops of priority, and is expected to have
     /// this length.
@@ -186,6 +199,7 @@ impl Plan {
             drops: drops_of(dice, drops, length),
             failing,
             fixed,
+            habit: habit_of(dice),
         }
     }
 

@@ -3,7 +3,8 @@
 ghost use Rattle.std.specs.Prelude.{◌≡◌};
 ghost use Rattle.tpl_claims.specs.Fits.{Fits};
 
-use crate::crew::Crew;
+use crate::budget::Budget;
+use crate::crew::{Crew, Habit};
 use std::alloc::{AllocError, Global};
 use tpl_claims::{Claim, holds};
 use tpl_fast::Fast;
@@ -15,6 +16,8 @@ use tpl_words::{Inputs, TaskId};
 /// What is left out of a run: all from the first number on and below the second.
 #[derive(Clone, Copy, PartialEq, Eq, Debug)]
 pub(crate) enum Cut {
+    /// Nothing.
+    Nothing,
     /// The acts of these tasks.
     Tasks(usize, usize),
     /// The events at these places, counted from 0.
@@ -22,7 +25,7 @@ pub(crate) enum Cut {
 }
 
 /// The task of an act, if it has one.
-fn task_of(act: Act) -> Option<TaskId> {
+pub(crate) fn task_of(act: Act) -> Option<TaskId> {
     match act {
         Act::Request(_) => None,
         Act::Release(task) => Some(task),
@@ -40,6 +43,7 @@ impl Cut {
     /// The act at this place is left out.
     fn has(self, place: usize, act: Act) -> bool {
         match self {
+            Cut::Nothing => false,
             Cut::Events(from, to) => from <= place && place < to,
             Cut::Tasks(from, to) => match task_of(act) {
                 Some(task) => from <= task.0 as usize && (task.0 as usize) < to,
@@ -57,23 +61,34 @@ impl Cut {
     }
 }
 
+/// How runs are played again.
+#[derive(Drop)]
+pub(crate) struct Stage {
+    pub(crate) crew: Crew,
+    pub(crate) habit: Habit,
+    pub(crate) budget: Budget,
+}
+
 /// Does the acts that aren't left out and are still allowed, and gives the events up to where the claim fails, if it
 /// does.
 pub(crate) fn replay(
     alloc: Global,
     graph: &Graph,
     claim: &Claim,
-    inputs: Inputs,
+    inputs: &Inputs,
     events: &[Event],
     cut: Cut,
+    stage: &mut Stage,
 ) -> Result<Option<Vec<Event>>, AllocError>
     requires { Fits graph.now.graph claim.now }
 {
-    let mut core = Fast::open(alloc, graph, inputs)?;
-    let mut crew = Crew::new();
+    let mut core = Fast::open(alloc, graph, inputs.copy())?;
+    stage.budget.open();
+    stage.crew.begin_run(stage.habit);
     for (place, event) in events.iter().enumerate() {
         if !cut.has(place, event.act) {
-            crew.perform(&mut core, event.act);
+            stage.crew.perform(&mut core, event.act);
+            stage.budget.play(&core, event.act);
         }
         if !holds(&core, claim) {
             return Ok(Some(Vec::from_slice(alloc, core.events())?));

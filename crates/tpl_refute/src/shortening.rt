@@ -6,41 +6,38 @@ ghost use Rattle.tpl_refute.specs.Refuting.{Refutes};
 
 use crate::counterexample::Counterexample;
 use crate::judging::judge;
-use crate::replay::{Cut, replay};
+use crate::replay::{Cut, Stage, replay};
+use crate::tidying::tidy;
 use std::alloc::{AllocError, Global};
 use tpl_claims::Claim;
 use tpl_graph::Graph;
+use tpl_model::Event;
+use tpl_words::Inputs;
 
 /// How many times at most the number of tasks or events that are left out at once is halved.
 const HALVINGS: u32 = 10;
-/// The most runs that are tried with one number of events left out.
-const MOST_CUTS: usize = 1_000;
+/// How many events are played at most in order to leave some out.
+pub(crate) const PLAYED_TO_CUT: u64 = 800_000;
+/// How many events are played at most in order to put them in order.
+const PLAYED_TO_TIDY: u64 = 400_000;
 
 /// What is left of the run without what is cut, if the claim fails of that too; else the run itself.
 fn without(
     alloc: Global,
     graph: &Graph,
     claim: &Claim,
-    found: Counterexample,
+    inputs: &Inputs,
+    shortest: Vec<Event>,
     cut: Cut,
-) -> Result<Counterexample, AllocError>
-    requires fits { Fits graph.now.graph claim.now }
-    requires refutes { Refutes graph.now.graph claim.now found.inputs found.events.items }
-    ensures { IfOk result (λ one.
-        Refutes graph.now.graph claim.now one.inputs one.events.items) }
+    stage: &mut Stage,
+) -> Result<Vec<Event>, AllocError>
+    requires { Fits graph.now.graph claim.now }
 {
-    if !cut.has_any(found.events.as_slice()) {
-        return Ok(found);
+    if stage.budget.is_spent() || !cut.has_any(shortest.as_slice()) {
+        return Ok(shortest);
     }
-    let inputs = found.inputs.copy();
-    let left = replay(alloc, graph, claim, inputs, found.events.as_slice(), cut)?;
-    let Some(events) = left else {
-        return Ok(found);
-    };
-    match judge(alloc, graph, claim, found.inputs.copy(), events)? {
-        Some(shorter) => Ok(shorter),
-        None => Ok(found),
-    }
+    let left = replay(alloc, graph, claim, inputs, shortest.as_slice(), cut, stage)?;
+    Ok(left.unwrap_or(shortest))
 }
 
 /// Leaves out whole tasks, this many at once.
@@ -48,13 +45,12 @@ fn without_tasks(
     alloc: Global,
     graph: &Graph,
     claim: &Claim,
-    found: Counterexample,
+    inputs: &Inputs,
+    found: Vec<Event>,
     size: usize,
-) -> Result<Counterexample, AllocError>
-    requires fits { Fits graph.now.graph claim.now }
-    requires refutes { Refutes graph.now.graph claim.now found.inputs found.events.items }
-    ensures { IfOk result (λ one.
-        Refutes graph.now.graph claim.now one.inputs one.events.items) }
+    stage: &mut Stage,
+) -> Result<Vec<Event>, AllocError>
+    requires { Fits graph.now.graph claim.now }
 {
     let mut from = 0;
     let mut shortest = found;
@@ -63,7 +59,8 @@ fn without_tasks(
             break;
         }
         let to = from.saturating_add(size);
-        shortest = without(alloc, graph, claim, shortest, Cut::Tasks(from, to))?;
+        let cut = Cut::Tasks(from, to);
+        shortest = without(alloc, graph, claim, inputs, shortest, cut, stage)?;
         from = to;
     }
     Ok(shortest)
@@ -74,44 +71,67 @@ fn without_events(
     alloc: Global,
     graph: &Graph,
     claim: &Claim,
-    found: Counterexample,
+    inputs: &Inputs,
+    found: Vec<Event>,
     size: usize,
-) -> Result<Counterexample, AllocError>
-    requires fits { Fits graph.now.graph claim.now }
-    requires refutes { Refutes graph.now.graph claim.now found.inputs found.events.items }
-    ensures { IfOk result (λ one.
-        Refutes graph.now.graph claim.now one.inputs one.events.items) }
+    stage: &mut Stage,
+) -> Result<Vec<Event>, AllocError>
+    requires { Fits graph.now.graph claim.now }
 {
-    let mut to = found.events.len();
+    let mut to = found.len();
     let mut shortest = found;
-    for _ in 0..MOST_CUTS {
-        if to == 0 {
+    for _ in 0..shortest.len() {
+        if to == 0 || stage.budget.is_spent() {
             break;
         }
         let from = to.saturating_sub(size);
-        shortest = without(alloc, graph, claim, shortest, Cut::Events(from, to))?;
+        let cut = Cut::Events(from, to);
+        shortest = without(alloc, graph, claim, inputs, shortest, cut, stage)?;
         to = from;
     }
     Ok(shortest)
 }
 
 /// Leaves out what isn't needed: first whole tasks, then events, many at once and then fewer and fewer.
+fn cut_down(
+    alloc: Global,
+    graph: &Graph,
+    claim: &Claim,
+    inputs: &Inputs,
+    found: Vec<Event>,
+    stage: &mut Stage,
+) -> Result<Vec<Event>, AllocError>
+    requires { Fits graph.now.graph claim.now }
+{
+    let mut shortest = found;
+    for halving in 0..=HALVINGS {
+        let size = 1usize << (HALVINGS - halving);
+        shortest = without_tasks(alloc, graph, claim, inputs, shortest, size, stage)?;
+        shortest = without_events(alloc, graph, claim, inputs, shortest, size, stage)?;
+    }
+    Ok(shortest)
+}
+
+/// Leaves out what isn't needed as far as the events that may be played for it reach, and puts the rest in order. What
+/// comes of it is judged once more.
 pub(crate) fn shorten(
     alloc: Global,
     graph: &Graph,
     claim: &Claim,
     found: Counterexample,
+    stage: &mut Stage,
 ) -> Result<Counterexample, AllocError>
     requires fits { Fits graph.now.graph claim.now }
     requires refutes { Refutes graph.now.graph claim.now found.inputs found.events.items }
     ensures { IfOk result (λ one.
         Refutes graph.now.graph claim.now one.inputs one.events.items) }
 {
-    let mut shortest = found;
-    for halving in 0..=HALVINGS {
-        let size = 1usize << (HALVINGS - halving);
-        shortest = without_tasks(alloc, graph, claim, shortest, size)?;
-        shortest = without_events(alloc, graph, claim, shortest, size)?;
+    let events = Vec::from_slice(alloc, found.events.as_slice())?;
+    let cut = cut_down(alloc, graph, claim, &found.inputs, events, stage)?;
+    stage.budget = stage.budget.of_same(PLAYED_TO_TIDY);
+    let tidied = tidy(alloc, graph, claim, &found.inputs, cut, stage)?;
+    match judge(alloc, graph, claim, found.inputs.copy(), tidied)? {
+        Some(shorter) => Ok(shorter),
+        None => Ok(found),
     }
-    Ok(shortest)
 }

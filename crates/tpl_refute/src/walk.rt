@@ -4,6 +4,7 @@ ghost use Rattle.std.specs.Prelude.{◌≡◌};
 ghost use Rattle.tpl_claims.specs.Fits.{Fits};
 
 use crate::awake::Awake;
+use crate::budget::Budget;
 use crate::crew::{Crew, has_task};
 use crate::dice::Dice;
 use crate::links::Links;
@@ -26,6 +27,7 @@ pub(crate) struct Tables {
     pub(crate) links: Links,
     pub(crate) weights: Weights,
     pub(crate) awake: Awake,
+    pub(crate) crew: Crew,
 }
 
 /// How a run ended.
@@ -43,6 +45,7 @@ impl Tables {
             links: Links::new(alloc, graph)?,
             weights: Weights::new(alloc, graph)?,
             awake: Awake::new(alloc, graph)?,
+            crew: Crew::new(alloc, graph)?,
         })
     }
 }
@@ -101,8 +104,15 @@ fn act(core: &mut Fast<'_>, crew: &mut Crew, mover: Mover, plan: &Plan, dice: &m
 }
 
 /// Wakes those to whom the newest event may matter, and drops a priority where the plan says so.
-fn tell(tables: &mut Tables, core: &Fast<'_>, mover: Mover, plan: &Plan) -> Result<(), AllocError> {
+fn tell(
+    tables: &mut Tables,
+    core: &Fast<'_>,
+    mover: Mover,
+    plan: &Plan,
+    budget: &mut Budget,
+) -> Result<(), AllocError> {
     if let Some(event) = core.events().last() {
+        budget.play(core, event.act);
         tables.awake.tell(core, &tables.links, event.act)?;
     }
     if plan.way == Way::Priorities {
@@ -113,6 +123,33 @@ fn tell(tables: &mut Tables, core: &Fast<'_>, mover: Mover, plan: &Plan) -> Resu
     Ok(())
 }
 
+/// Lets the next one act, if somebody is awake. Says whether somebody was.
+fn turn(
+    core: &mut Fast<'_>,
+    tables: &mut Tables,
+    dice: &mut Dice,
+    plan: &Plan,
+    budget: &mut Budget,
+) -> Result<bool, AllocError>
+    ensures { core.new.graph ≡ core.old.graph }
+{
+    if !tables.awake.has_any(core)? {
+        return Ok(false);
+    }
+    budget.choose(tables.awake.movers().len());
+    let at = tables.weights.choose(tables.awake.movers(), dice, plan.way);
+    let Some(mover) = tables.awake.movers().get(at) else {
+        return Ok(false);
+    };
+    let mover = *mover;
+    if act(core, &mut tables.crew, mover, plan, dice) {
+        tell(tables, core, mover, plan, budget)?;
+    } else {
+        tables.awake.sleep(core, at)?;
+    }
+    Ok(true)
+}
+
 /// Makes a run by the plan, until the claim fails or nobody can act.
 pub(crate) fn walk(
     alloc: Global,
@@ -121,29 +158,24 @@ pub(crate) fn walk(
     tables: &mut Tables,
     dice: &mut Dice,
     plan: &Plan,
+    budget: &mut Budget,
 ) -> Result<Walked, AllocError>
     requires { Fits graph.now.graph claim.now }
 {
     let mut core = Fast::open(alloc, graph, plan.inputs.copy())?;
-    let mut crew = Crew::new();
+    budget.open();
+    tables.crew.begin_run(plan.habit);
     tables.awake.begin(&core, &tables.links)?;
     tables.awake.add_tokens(&plan.tokens)?;
     for _ in 0..MOST_CHOICES {
         if !holds(&core, claim) {
             return Ok(Walked::Fails(Vec::from_slice(alloc, core.events())?));
         }
-        if core.complete() {
+        if core.complete() || budget.is_spent() {
             break;
         }
-        let at = tables.weights.choose(tables.awake.movers(), dice, plan.way);
-        let mover = match tables.awake.movers().get(at) {
-            Some(mover) => *mover,
-            None => break,
-        };
-        if act(&mut core, &mut crew, mover, plan, dice) {
-            tell(tables, &core, mover, plan)?;
-        } else {
-            tables.awake.sleep(at);
+        if !turn(&mut core, tables, dice, plan, budget)? {
+            break;
         }
     }
     Ok(Walked::Holds(core.events().len()))

@@ -8,35 +8,40 @@ use Rattle.serde_json.specs.View.{view}
 use Rattle.serde_json.specs.declared.value.Value.{Value}
 use Rattle.tpl_draft.specs.Named.{Named}
 use Rattle.tpl_model.specs.declared.event.Event.{Event}
-use Rattle.tpl_trace.specs.Trace.{track_of, new_track, marks, event_marks, marks_from}
+use Rattle.tpl_trace.specs.Trace.{body_mark, event_marks, marks, marks_from, new_track, new_tracks, track_in}
 
-marks_step : (n : Named) (h : List Event) (i : ℕ) (d : Event) → i < length h → marks_from n (take i h) (drop i h) ≡ event_marks n (take i h) (get_or h i d) (drop (suc i) h) ++ marks_from n (take (suc i) h) (drop (suc i) h)
+marks_step : (n : Named) (h : List Event) (i : ℕ) (d : Event) → i < length h → marks_from n h (take i h) (drop i h) ≡ event_marks n h (take i h) (get_or h i d) (drop (suc i) h) ++ marks_from n h (take (suc i) h) (drop (suc i) h)
 marks_step n h i d lt =
-    ap (marks_from n (take i h)) (drop-cons h i d lt)
-    ∙ ap (λ past. event_marks n (take i h) (get_or h i d) (drop (suc i) h) ++ marks_from n past (drop (suc i) h)) (sym (rw add-one at (take_more h i d lt)))
+    ap (marks_from n h (take i h)) (drop-cons h i d lt)
+    ∙ ap (λ past. event_marks n h (take i h) (get_or h i d) (drop (suc i) h) ++ marks_from n h past (drop (suc i) h)) (sym (rw add-one at (take_more h i d lt)))
 
-event_at : (n : Named) (h : List Event) (i : ℕ) (e : Event) → i < length h → event_marks n (take i h) e (drop (suc i) h) ≡ new_track (take i h) e.actor ++ marks n e.act (track_of e.actor) (suc i) (take i h) (drop (suc i) h)
+event_at : (n : Named) (h : List Event) (i : ℕ) (e : Event) → i < length h → event_marks n h (take i h) e (drop (suc i) h) ≡ new_tracks n h (take i h) e ++ marks n e.act (track_in h e.actor e.act) (suc i) (take i h) (drop (suc i) h)
 event_at n h i e lt =
-    ap (λ place. new_track (take i h) e.actor ++ marks n e.act (track_of e.actor) (suc place) (take i h) (drop (suc i) h)) (length-take-le i h (omega (arith, lt)))
+    ap (λ place. new_tracks n h (take i h) e ++ marks n e.act (track_in h e.actor e.act) (suc place) (take i h) (drop (suc i) h)) (length-take-le i h (omega (arith, lt)))
 
 -- after the entries of one event more
 pub marks_more : (n : Named) (h : List Event) (i : ℕ) (d : Event) (e : Event) (all now mid new : List Data) → i < length h → e ≡ slice_index_or h i d
-    → now ++ marks_from n (take i h) (drop i h) ≡ all
-    → mid ≡ now ++ new_track (take i h) e.actor
-    → new ≡ mid ++ marks n e.act (track_of e.actor) (suc i) (take i h) (drop (suc i) h)
-    → new ++ marks_from n (take (suc i) h) (drop (suc i) h) ≡ all
+    → now ++ marks_from n h (take i h) (drop i h) ≡ all
+    → mid ≡ now ++ new_tracks n h (take i h) e
+    → new ≡ mid ++ marks n e.act (track_in h e.actor e.act) (suc i) (take i h) (drop (suc i) h)
+    → new ++ marks_from n h (take (suc i) h) (drop (suc i) h) ≡ all
 marks_more n h i d e all now mid new lt is so_far track act =
-    let rest = marks_from n (take (suc i) h) (drop (suc i) h) in
-    let first = new_track (take i h) e.actor in
-    let second = marks n e.act (track_of e.actor) (suc i) (take i h) (drop (suc i) h) in
+    let rest = marks_from n h (take (suc i) h) (drop (suc i) h) in
+    let first = new_tracks n h (take i h) e in
+    let second = marks n e.act (track_in h e.actor e.act) (suc i) (take i h) (drop (suc i) h) in
     ap (λ xs. xs ++ rest) (act ∙ ap (λ xs. xs ++ second) track)
     ∙ (append_assoc (now ++ first) second rest
     ∙ (append_assoc now first (second ++ rest)
     ∙ (ap (λ xs. now ++ xs) (sym (append_assoc first second rest))
     ∙ (ap (λ xs. now ++ (xs ++ rest)) (sym (event_at n h i e lt))
-    ∙ (ap (λ (x : Event). now ++ (event_marks n (take i h) x (drop (suc i) h) ++ rest)) is
+    ∙ (ap (λ (x : Event). now ++ (event_marks n h (take i h) x (drop (suc i) h) ++ rest)) is
     ∙ (ap (λ xs. now ++ xs) (sym (marks_step n h i d lt))
     ∙ so_far))))))
+
+-- the names of the actor's track and of the body's
+pub both_tracks : (n : Named) (h past : List Event) (e : Event) (now mid new : List Data) → mid ≡ now ++ new_track past e.actor → new ≡ mid ++ body_mark n h e.actor e.act → new ≡ now ++ new_tracks n h past e
+both_tracks n h past e now mid new track body =
+    body ∙ (ap (λ xs. xs ++ body_mark n h e.actor e.act) track ∙ append_assoc now (new_track past e.actor) (body_mark n h e.actor e.act))
 
 -- one entry, and then others
 pub then_more : (old pushed : List Value) (v : Value) (i : Data) (new more : List Data) → pushed ≡ old ++ (v ∷ []) → view v ≡ i → new ≡ map view pushed ++ more → new ≡ map view old ++ (i ∷ more)

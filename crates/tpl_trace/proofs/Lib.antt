@@ -1,5 +1,6 @@
+pub mod CrossingLemmas
 pub mod EntryLemmas
 pub mod NoFloat
 pub mod RunLemmas
-pub mod TrackLemmas
 pub mod Tracing
+pub mod TrackLemmas

@@ -12,7 +12,7 @@ use Rattle.tpl_model.specs.declared.event.Event.{Event}
 use Rattle.tpl_draft.specs.Named.{Named, antecedent_of}
 use Rattle.tpl_journal.specs.Lines.{task_name}
 use Rattle.tpl_trace.specs.Marks.{slice_mark, arrow_start, arrow_end, track_mark}
-use Rattle.tpl_trace.specs.Trace.{may_end, releases, some_ends, acts_in, track_of, track_name, new_track, arrows, arrow_to, marks, event_marks, marks_from, trace_data}
+use Rattle.tpl_trace.specs.Trace.{may_end, releases, some_ends, acts_in, track_of, track_name, body_track, body_mark, crosses, new_track, new_tracks, arrows, arrow_to, marks, event_marks, marks_from, trace_data}
 
 abbrev IsWhole : List Data → Type 0
 IsWhole ds = items_have_float (items_of ds) ≡ false
@@ -60,12 +60,27 @@ track_whole past a = go (acts_in a past)
     go true = refl
     go false = refl
 
-from_whole : (n : Named) (past later : List Event) → IsWhole (marks_from n past later)
-from_whole n past [] = refl
-from_whole n past (e ∷ later) =
-    whole_append (event_marks n past e later) (marks_from n (past ++ (e ∷ [])) later)
-    (whole_append (new_track past e.actor) _ (track_whole past e.actor) (marks_whole n e.act _ _ past later))
-    (from_whole n (past ++ (e ∷ [])) later)
+body_whole : (n : Named) (h : List Event) (a : Actor) (x : Act) → IsWhole (body_mark n h a x)
+body_whole n h a (Request k) = refl
+body_whole n h a (Release c) = refl
+body_whole n h a (Begin t) = go (crosses a t.0 [] h)
+  where
+    go : (b : Bool) → IsWhole (if b then track_mark ((track_name a ++ codes ": ") ++ task_name n.names t) (body_track t.0) ∷ [] else [])
+    go true = refl
+    go false = refl
+body_whole n h a (Step t) = refl
+body_whole n h a (Worked t answer) = refl
+body_whole n h a (Leave t) = refl
+body_whole n h a (Close t) = refl
+body_whole n h a (Drop t) = refl
+body_whole n h a (Settle t) = refl
+
+from_whole : (n : Named) (h past later : List Event) → IsWhole (marks_from n h past later)
+from_whole n h past [] = refl
+from_whole n h past (e ∷ later) =
+    whole_append (event_marks n h past e later) (marks_from n h (past ++ (e ∷ [])) later)
+    (whole_append (new_tracks n h past e) _ (whole_append (new_track past e.actor) _ (track_whole past e.actor) (body_whole n h e.actor e.act)) (marks_whole n e.act _ _ past later))
+    (from_whole n h (past ++ (e ∷ [])) later)
 
 pub no_float : (n : Named) (h : List Event) → has_float (trace_data n h) ≡ false
-no_float n h = rw (from_whole n [] h) refl
+no_float n h = rw (from_whole n h [] h) refl

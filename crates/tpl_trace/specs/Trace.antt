@@ -1,5 +1,5 @@
--- The trace of a journal: for each event its entries. The time of an event is its place, in microseconds.
-use Rattle.std.specs.Prelude.{ℕ, suc, ◌+◌, ◌||◌, Bool, false, if◌then◌else◌, Option, Some, None, List, [], ◌∷◌, ◌++◌, length, codes, decimal, nat_eq}
+-- The trace of a run: for each event its entries. The time of an event is its place, in microseconds.
+use Rattle.std.specs.Prelude.{ℕ, suc, ◌+◌, ◌&&◌, ◌||◌, Bool, false, if◌then◌else◌, Option, Some, None, List, [], ◌∷◌, ◌++◌, length, codes, decimal, is_some, nat_eq}
 use Rattle.serde_json.specs.Data.{Data, array, object, no_members, member}
 use Rattle.serde_json.specs.View.{items_of}
 use Rattle.serde_json.specs.Written.{compact_text}
@@ -10,6 +10,7 @@ use Rattle.tpl_model.specs.Journal.{same_actor}
 use Rattle.tpl_model.specs.declared.event.Act.{Act}
 use Rattle.tpl_model.specs.declared.event.Act.TheVariants.{Request, Release, Begin, Step, Worked, Leave, Close, Drop, Settle}
 use Rattle.tpl_model.specs.declared.event.Event.{Event}
+use Rattle.tpl_model.specs.Facts.{begun, begun_by, left_by}
 use Rattle.tpl_draft.specs.Named.{Named, antecedent_of}
 use Rattle.tpl_journal.specs.Lines.{task_name, token_name}
 use Rattle.tpl_trace.specs.Marks.{process_mark, track_mark, slice_mark, instant_mark, arrow_start, arrow_end}
@@ -32,6 +33,45 @@ acts_in a (e ∷ h) = same_actor a e.actor || acts_in a h
 -- the name of an actor's track, where the actor did none of the past events
 abbrev pub new_track : (past : List Event) → Actor → List Data
 new_track past a = if acts_in a past then [] else track_mark (track_name a) (track_of a) ∷ []
+
+-- the act leaves a body that one of the events begins
+abbrev pub leaves_begun : List Event → Act → Bool
+leaves_begun past (Leave s) = is_some (begun past s.0)
+leaves_begun past act = false
+
+-- Of the later events in which the actor leaves the task's body or one that was begun before it, the first leaves one
+-- that was begun before it.
+abbrev pub outlives : Actor → ℕ → (past later : List Event) → Bool
+outlives a t past [] = false
+outlives a t past (e ∷ later) =
+    if same_actor a e.actor && left_by e.act t then false
+    else ((same_actor a e.actor && leaves_begun past e.act) || outlives a t past later)
+
+-- The task's body, which the actor begins in a later event, doesn't nest: it is begun inside another of the actor's, and
+-- not left before that one.
+abbrev pub crosses : Actor → ℕ → (past later : List Event) → Bool
+crosses a t past [] = false
+crosses a t past (e ∷ later) = if begun_by e.act t then outlives a t past later else crosses a t (past ++ (e ∷ [])) later
+
+-- the number of the track of a body that doesn't nest: these come behind those of 64 workers and 8 seats
+abbrev pub body_track : ℕ → ℕ
+body_track t = 73 + t
+
+-- the track on which the actor begins or leaves the body
+abbrev pub track_of_body : List Event → Actor → ℕ → ℕ
+track_of_body h a t = if crosses a t [] h then body_track t else track_of a
+
+-- the track of an act in a run: a body that doesn't nest has one of its own, all else stands on the actor's
+abbrev pub track_in : List Event → Actor → Act → ℕ
+track_in h a (Begin t) = track_of_body h a t.0
+track_in h a (Leave t) = track_of_body h a t.0
+track_in h a act = track_of a
+
+-- the name of the track of a body that doesn't nest, where it is begun
+abbrev pub body_mark : Named → List Event → Actor → Act → List Data
+body_mark n h a (Begin t) =
+    if crosses a t.0 [] h then track_mark ((track_name a ++ codes ": ") ++ task_name n.names t) (body_track t.0) ∷ [] else []
+body_mark n h a act = []
 
 -- an act that may end the task: it leaves, closes, drops or settles it
 abbrev pub may_end : ℕ → Act → Bool
@@ -95,19 +135,23 @@ marks n (Drop t) track time past later =
 marks n (Settle t) track time past later =
     instant (codes "settle") (task_name n.names t) track time ∷ arrows n.graph t.0 track time (suc time) later
 
--- the entries of an event, on its actor's track and at its place; before the first one on a track stands the track's
--- name
-abbrev pub event_marks : Named → (past : List Event) → Event → (later : List Event) → List Data
-event_marks n past e later = new_track past e.actor ++ marks n e.act (track_of e.actor) (suc (length past)) past later
+-- the names of tracks that stand before the entries of an event
+abbrev pub new_tracks : Named → (h past : List Event) → Event → List Data
+new_tracks n h past e = new_track past e.actor ++ body_mark n h e.actor e.act
 
--- the entries of each of the later events
-abbrev pub marks_from : Named → (past later : List Event) → List Data
-marks_from n past [] = []
-marks_from n past (e ∷ later) = event_marks n past e later ++ marks_from n (past ++ (e ∷ [])) later
+-- the entries of an event of a run, on its track and at its place; before the first one on a track stands the track's
+-- name
+abbrev pub event_marks : Named → (h past : List Event) → Event → (later : List Event) → List Data
+event_marks n h past e later = new_tracks n h past e ++ marks n e.act (track_in h e.actor e.act) (suc (length past)) past later
+
+-- the entries of each of the later events of a run
+abbrev pub marks_from : Named → (h past later : List Event) → List Data
+marks_from n h past [] = []
+marks_from n h past (e ∷ later) = event_marks n h past e later ++ marks_from n h (past ++ (e ∷ [])) later
 
 -- the whole trace: the name of the process, and the entries of each event
 abbrev pub entries : Named → List Event → List Data
-entries n h = process_mark (codes "taskgraph") ∷ marks_from n [] h
+entries n h = process_mark (codes "taskgraph") ∷ marks_from n h [] h
 
 -- the trace of these events as a JSON value
 abbrev pub trace_data : Named → List Event → Data

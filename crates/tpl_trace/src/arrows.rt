@@ -57,7 +57,7 @@ pub(crate) fn add_arrows(
     alloc: Global,
     graph: &Graph,
     task: TaskId,
-    track: u16,
+    track: u32,
     events: &[Event],
     time: usize,
 ) -> Result<(), AllocError>
@@ -84,7 +84,7 @@ pub(crate) fn add_arrow_end(
     alloc: Global,
     graph: &Graph,
     task: TaskId,
-    track: u16,
+    track: u32,
     time: usize,
     past: &[Event],
 ) -> Result<(), AllocError>

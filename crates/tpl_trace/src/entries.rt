@@ -6,18 +6,20 @@ ghost use Rattle.serde_json.specs.View.{view};
 ghost use Rattle.tpl_draft.specs.Named.{antecedent_of};
 ghost use Rattle.tpl_journal.specs.Lines.{CanSpell, HasId, task_name, token_name};
 ghost use Rattle.tpl_model.specs.Graph.{is_task, is_token, kind};
-ghost use Rattle.tpl_trace.specs.Trace.{arrow_to, arrows, entries, instant, marks, marks_from};
+ghost use Rattle.tpl_trace.specs.Trace.{arrow_to, arrows, entries, instant, marks, marks_from, new_tracks};
 
 use crate::arrows::{add_arrow_end, add_arrows};
+use crate::bodies::{add_body_track, track_in};
 use crate::marks::{instant, process_mark, slice_mark};
-use crate::tracks::{add_new_track, track_of};
+use crate::tracks::add_new_track;
 use serde_json::Value;
 use std::alloc::{AllocError, Global};
 use tpl_graph::Graph;
 use tpl_model::{Act, Event};
 use tpl_words::{TaskId, TokenId};
 
-fn name_of(graph: &Graph, task: TaskId) -> &str
+/// The name of a task.
+pub(crate) fn name_of(graph: &Graph, task: TaskId) -> &str
     requires { is_task graph.now.graph task.0 }
     ensures { result.now ≡ task_name graph.now.names task }
 {
@@ -39,7 +41,7 @@ fn add_marks(
     alloc: Global,
     graph: &Graph,
     act: Act,
-    track: u16,
+    track: u32,
     events: &[Event],
     before: usize,
 ) -> Result<(), AllocError>
@@ -84,7 +86,7 @@ fn add_release(
     alloc: Global,
     graph: &Graph,
     task: TaskId,
-    track: u16,
+    track: u32,
     time: usize,
     past: &[Event],
 ) -> Result<(), AllocError>
@@ -105,7 +107,7 @@ fn add_end(
     graph: &Graph,
     verb: &str,
     task: TaskId,
-    track: u16,
+    track: u32,
     events: &[Event],
     time: usize,
 ) -> Result<(), AllocError>
@@ -121,6 +123,24 @@ fn add_end(
     add_arrows(entries, alloc, graph, task, track, events, time)
 }
 
+/// Adds the names of tracks that stand before the entries of the event behind this many others.
+fn add_new_tracks(
+    entries: &mut Vec<Value>,
+    alloc: Global,
+    graph: &Graph,
+    events: &[Event],
+    before: usize,
+    event: Event,
+) -> Result<(), AllocError>
+    requires before { before ≤ length events.now }
+    requires act { HasId graph.now.graph event.act }
+    ensures { OnOk result (map view entries.new.items ≡ map view entries.old.items
+        ++ new_tracks graph.now events.now (take before events.now) event) }
+{
+    add_new_track(entries, alloc, &events[..before], event.actor)?;
+    add_body_track(entries, alloc, graph, events, event.actor, event.act)
+}
+
 /// Adds the entries of each event.
 fn add_all(
     entries: &mut Vec<Value>,
@@ -130,12 +150,12 @@ fn add_all(
 ) -> Result<(), AllocError>
     requires { All (CanSpell graph.now.graph) events.now }
     ensures { OnOk result (map view entries.new.items ≡ map view entries.old.items
-        ++ marks_from graph.now [] events.now) }
+        ++ marks_from graph.now events.now [] events.now) }
 {
     for before in 0..events.len() {
         let event = events[before];
-        add_new_track(entries, alloc, &events[..before], event.actor)?;
-        let track = track_of(event.actor);
+        add_new_tracks(entries, alloc, graph, events, before, event)?;
+        let track = track_in(events, event.actor, event.act);
         add_marks(entries, alloc, graph, event.act, track, events, before)?;
     }
     Ok(())

@@ -3,6 +3,7 @@
 
 mod answering;
 mod arrows;
+mod bodies;
 mod entries;
 mod marks;
 mod text;

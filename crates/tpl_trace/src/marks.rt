@@ -19,7 +19,7 @@ pub(crate) fn process_mark(alloc: Global, name: &str) -> Result<Value, AllocErro
 }
 
 /// How a track is called.
-pub(crate) fn track_mark(alloc: Global, name: &str, track: u16) -> Result<Value, AllocError>
+pub(crate) fn track_mark(alloc: Global, name: &str, track: u32) -> Result<Value, AllocError>
     ensures { IfOk result (λ v. view v ≡ track_mark name.now track) }
 {
     json!(in alloc; {
@@ -32,7 +32,7 @@ pub(crate) fn slice_mark(
     alloc: Global,
     phase: &str,
     name: &str,
-    track: u16,
+    track: u32,
     time: usize,
 ) -> Result<Value, AllocError>
     ensures { IfOk result (λ v. view v ≡ slice_mark phase.now name.now track time) }
@@ -40,7 +40,7 @@ pub(crate) fn slice_mark(
     json!(in alloc; {"name": name, "ph": phase, "pid": PROCESS, "tid": track, "ts": time})
 }
 
-fn instant_mark(alloc: Global, name: &str, track: u16, time: usize) -> Result<Value, AllocError>
+fn instant_mark(alloc: Global, name: &str, track: u32, time: usize) -> Result<Value, AllocError>
     ensures { IfOk result (λ v. view v ≡ instant_mark name.now track time) }
 {
     json!(in alloc; {
@@ -53,7 +53,7 @@ pub(crate) fn instant(
     alloc: Global,
     verb: &str,
     name: &str,
-    track: u16,
+    track: u32,
     time: usize,
 ) -> Result<Value, AllocError>
     ensures { IfOk result (λ v. view v ≡ instant verb.now name.now track time) }
@@ -66,7 +66,7 @@ pub(crate) fn instant(
 pub(crate) fn arrow_start(
     alloc: Global,
     id: usize,
-    track: u16,
+    track: u32,
     time: usize,
 ) -> Result<Value, AllocError>
     ensures { IfOk result (λ v. view v ≡ arrow_start id track time) }
@@ -81,7 +81,7 @@ pub(crate) fn arrow_start(
 pub(crate) fn arrow_end(
     alloc: Global,
     id: usize,
-    track: u16,
+    track: u32,
     time: usize,
 ) -> Result<Value, AllocError>
     ensures { IfOk result (λ v. view v ≡ arrow_end id track time) }

@@ -1,4 +1,4 @@
-//! The tracks of a trace: one for each worker and each seat outside.
+//! The tracks of the actors: one for each worker and each seat outside.
 
 ghost use Rattle.std.specs.Prelude.{◌≡◌, ◌++◌, map, IfOk, OnOk, string_bytes};
 ghost use Rattle.serde_json.specs.View.{view};
@@ -25,7 +25,7 @@ pub(crate) fn track_of(actor: Actor) -> u16
 }
 
 /// The name of an actor's track.
-fn track_name(alloc: Global, actor: Actor) -> Result<String, AllocError>
+pub(crate) fn track_name(alloc: Global, actor: Actor) -> Result<String, AllocError>
     ensures { IfOk result (λ name. string_bytes name ≡ track_name actor) }
 {
     match actor {
@@ -34,7 +34,7 @@ fn track_name(alloc: Global, actor: Actor) -> Result<String, AllocError>
     }
 }
 
-fn same_actor(a: Actor, b: Actor) -> bool
+pub(crate) fn same_actor(a: Actor, b: Actor) -> bool
     ensures { result ≡ same_actor a b }
 {
     match (a, b) {
@@ -70,7 +70,7 @@ pub(crate) fn add_new_track(
 {
     if !acts_in(actor, past) {
         let name = track_name(alloc, actor)?;
-        entries.push(track_mark(alloc, name.as_str(), track_of(actor))?)?;
+        entries.push(track_mark(alloc, name.as_str(), u32::from(track_of(actor)))?)?;
     }
     Ok(())
 }

@@ -1,7 +1,8 @@
-use Rattle.std.proofs.Common.{inl, refl, subst}
+use Rattle.std.proofs.Common.{◌∙◌, ap, inl, refl, subst}
 use Rattle.tpl_reader.specs.Document.{DocumentValue}
 use Rattle.tpl_reader.specs.SeenDocument.{doc_of}
 use Rattle.tpl_trace.specs.Answer.{HasRun}
+use Rattle.tpl_trace.specs.Trace.{trace_text}
 use Rattle.tpl_trace.proofs.answering.trace_of.Goals as goal
 
 pub returns-in-Some-clause-some : goal.returns-in-Some-clause-some
@@ -12,7 +13,7 @@ returns-in-Some-clause-some c =
       record {
         events = c.in-Some.events.items;
         run = rw c.in-Some.is at c.in_ok-events-in-Ok.ensures.some;
-        said = rw c.as_slice.ensures.value at c.in_ok-text-in-Some.ensures;
+        said = c.in_ok-text-in-Some.ensures ∙ ap (trace_text (doc_of c.in-Ok.document).graph) c.as_slice.ensures.value;
       },
       refl,
     )

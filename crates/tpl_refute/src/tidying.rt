@@ -1,0 +1,171 @@
+//! Runs that fail, put in order, so that people can read them.
+
+ghost use Rattle.tpl_claims.specs.Fits.{Fits};
+
+use crate::crew::Habit;
+use crate::replay::{Cut, Stage, replay, task_of};
+use std::alloc::{AllocError, Global};
+use tpl_claims::Claim;
+use tpl_graph::Graph;
+use tpl_model::Event;
+use tpl_words::{Actor, Inputs, TaskId};
+
+/// The greatest number of a worker that acts.
+fn workers(events: &[Event]) -> u16 {
+    let mut most = 0;
+    for event in events {
+        if let Actor::Worker(worker) = event.actor {
+            most = most.max(worker.0);
+        }
+    }
+    most
+}
+
+/// The place behind the last event before this one that is of the same task, if others stand between.
+fn place_behind(events: &[Event], at: usize) -> Option<usize> {
+    let task = task_of(events.get(at)?.act)?;
+    let before = events
+        .iter()
+        .take(at)
+        .rposition(|event| task_of(event.act) == Some(task))?;
+    let behind = before.saturating_add(1);
+    if behind < at { Some(behind) } else { None }
+}
+
+/// The events with one of them at an earlier place.
+fn with_earlier(
+    alloc: Global,
+    events: &[Event],
+    from: usize,
+    to: usize,
+) -> Result<Vec<Event>, AllocError> {
+    let mut moved = Vec::from_slice(alloc, events)?;
+    if from < moved.len() {
+        let event = moved.remove(from);
+        moved.insert(to.min(moved.len()), event)?;
+    }
+    Ok(moved)
+}
+
+/// The run with its events in another order, if it is as long, needs no more workers, and the claim fails after its
+/// last event; else the run itself.
+fn if_no_worse(
+    alloc: Global,
+    graph: &Graph,
+    claim: &Claim,
+    inputs: &Inputs,
+    best: Vec<Event>,
+    other: Vec<Event>,
+    stage: &mut Stage,
+) -> Result<Vec<Event>, AllocError>
+    requires { Fits graph.now.graph claim.now }
+{
+    if stage.budget.is_spent() {
+        return Ok(best);
+    }
+    match replay(
+        alloc,
+        graph,
+        claim,
+        inputs,
+        other.as_slice(),
+        Cut::Nothing,
+        stage,
+    )? {
+        Some(played)
+            if played.len() <= best.len()
+                && workers(played.as_slice()) <= workers(best.as_slice()) => { Ok(played) }
+        _ => Ok(best),
+    }
+}
+
+/// Puts each event behind the last one of its task, where the claim fails then too.
+fn gathered(
+    alloc: Global,
+    graph: &Graph,
+    claim: &Claim,
+    inputs: &Inputs,
+    found: Vec<Event>,
+    stage: &mut Stage,
+) -> Result<Vec<Event>, AllocError>
+    requires { Fits graph.now.graph claim.now }
+{
+    let mut best = found;
+    for at in 1..best.len() {
+        if stage.budget.is_spent() {
+            break;
+        }
+        if let Some(to) = place_behind(best.as_slice(), at) {
+            let other = with_earlier(alloc, best.as_slice(), at, to)?;
+            best = if_no_worse(alloc, graph, claim, inputs, best, other, stage)?;
+        }
+    }
+    Ok(best)
+}
+
+/// For each task its events, in their order.
+fn by_task(alloc: Global, graph: &Graph, events: &[Event]) -> Result<Vec<Vec<Event>>, AllocError> {
+    let mut lists = Vec::with_capacity(alloc, graph.len())?;
+    for _ in 0..graph.len() {
+        lists.push(Vec::new(alloc))?;
+    }
+    for event in events {
+        if let Some(list) = task_of(event.act).and_then(|task| lists.get_mut(task.0 as usize)) {
+            list.push(*event)?;
+        }
+    }
+    Ok(lists)
+}
+
+/// The same events, those of each task together where its last one was.
+fn joined(alloc: Global, graph: &Graph, events: &[Event]) -> Result<Vec<Event>, AllocError> {
+    let mut lists = by_task(alloc, graph, events)?;
+    let mut order = Vec::with_capacity(alloc, events.len())?;
+    for event in events.iter().rev() {
+        let Some(task) = task_of(event.act) else {
+            order.push(*event)?;
+            continue;
+        };
+        add_reversed(&mut order, &mut lists, task)?;
+    }
+    order.reverse();
+    Ok(order)
+}
+
+/// Moves the events of a task behind others, the last one first.
+fn add_reversed(
+    order: &mut Vec<Event>,
+    lists: &mut Vec<Vec<Event>>,
+    task: TaskId,
+) -> Result<(), AllocError> {
+    let at = task.0 as usize;
+    if at < lists.len() {
+        for event in lists[at].iter().rev() {
+            order.push(*event)?;
+        }
+        lists[at].clear();
+    }
+    Ok(())
+}
+
+/// Puts the events of each task together, as far as the claim fails then too, and has as few workers act as serve.
+pub(crate) fn tidy(
+    alloc: Global,
+    graph: &Graph,
+    claim: &Claim,
+    inputs: &Inputs,
+    found: Vec<Event>,
+    stage: &mut Stage,
+) -> Result<Vec<Event>, AllocError>
+    requires { Fits graph.now.graph claim.now }
+{
+    let order = joined(alloc, graph, found.as_slice())?;
+    let whole = if_no_worse(alloc, graph, claim, inputs, found, order, stage)?;
+    let best = gathered(alloc, graph, claim, inputs, whole, stage)?;
+    stage.habit = match stage.habit {
+        Habit::Inside => Habit::Aside,
+        Habit::Aside => Habit::Inside,
+    };
+    let same = Vec::from_slice(alloc, best.as_slice())?;
+    if_no_worse(alloc, graph, claim, inputs, best, same, stage)
+}
