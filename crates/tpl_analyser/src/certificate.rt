@@ -100,9 +100,53 @@ pub fn analyse_watched<W: Watch>(
     ensures gap { IfErr result (λ missed. IsGap graph.now.graph claims.now depth (gap_of missed)) }
 {
     let below = Below::of_graph(graph);
-    let stages = stages_of(alloc, graph, &below)?;
+    let made = made_of(alloc, graph, &below)?;
+    certificate_for(alloc, graph, &below, &made, claims, depth, form, watch)
+}
+
+/// What is made of a graph once for all claims.
+#[derive(Drop)]
+struct Made {
+    stages: Vec<Stage>,
+    followers: Followers,
+    splits: Vec<Split>,
+}
+
+fn made_of(alloc: Global, graph: &Graph, below: &Below) -> Result<Made, AllocError>
+    ensures stages { IfOk result (λ m. All (IsStageOf graph.now.graph) m.stages.items) }
+    ensures splits { IfOk result (λ m. All (IsSplitOf graph.now.graph) m.splits.items) }
+{
+    let stages = stages_of(alloc, graph, below)?;
     let followers = Followers::of_graph(alloc, graph)?;
     let splits = all_splits(alloc, graph)?;
+    Ok(Made {
+        stages,
+        followers,
+        splits,
+    })
+}
+
+/// Trees for the claims, one after another.
+fn certificate_for<W: Watch>(
+    alloc: Global,
+    graph: &Graph,
+    below: &Below,
+    made: &Made,
+    claims: &[Claim],
+    depth: u8,
+    form: Form,
+    watch: W,
+) -> Result<Certificate, Missed>
+    requires below { AreBelow graph.now.graph below.now }
+    requires stages { All (IsStageOf graph.now.graph) made.now.stages.items }
+    requires splits { All (IsSplitOf graph.now.graph) made.now.splits.items }
+    requires claims { All (Fits graph.now.graph) claims.now }
+    requires depth { depth ≤ 6 }
+    ensures accepted { IfOk result (λ c. Accepts graph.now.graph claims.now c) }
+    ensures splits { IfOk result (All (λ tree. height tree ≤ depth)) }
+    ensures form { IfOk result (IsCertificateOf form claims.now) }
+    ensures gap { IfErr result (λ missed. IsGap graph.now.graph claims.now depth (gap_of missed)) }
+{
     let mut budget = Budget::new(watch);
     let mut trees = Vec::new(alloc);
     for at in 0..claims.len() {
@@ -110,10 +154,8 @@ pub fn analyse_watched<W: Watch>(
         match tree_for(
             alloc,
             graph,
-            &below,
-            &stages,
-            &followers,
-            &splits,
+            below,
+            made,
             &claims[at],
             form,
             depth,
@@ -136,9 +178,7 @@ fn tree_for<W: Watch>(
     alloc: Global,
     graph: &Graph,
     below: &Below,
-    stages: &[Stage],
-    followers: &Followers,
-    splits: &[Split],
+    made: &Made,
     claim: &Claim,
     form: Form,
     depth: u8,
@@ -146,20 +186,20 @@ fn tree_for<W: Watch>(
 ) -> Result<Option<Tree>, AllocError>
     requires claim { Fits graph.now.graph claim.now }
     requires below { AreBelow graph.now.graph below.now }
-    requires stages { All (IsStageOf graph.now.graph) stages.now }
-    requires splits { All (IsSplitOf graph.now.graph) splits.now }
+    requires stages { All (IsStageOf graph.now.graph) made.now.stages.items }
+    requires splits { All (IsSplitOf graph.now.graph) made.now.splits.items }
     ensures { IfOk result (λ found. IfSome found (IsFound graph.now.graph claim.now.body
         form (assumed graph.now.graph claim.now.given) depth)) }
 {
-    let cone = Cone::of(graph, claim.body(), splits);
+    let cone = Cone::of(graph, claim.body(), &made.splits);
     let question = Question {
         graph,
         below,
-        stages,
-        followers,
+        stages: &made.stages,
+        followers: &made.followers,
         property: claim.body(),
         form,
-        splits,
+        splits: &made.splits,
         cone: &cone,
     };
     let root = Branch::root(question, claim.given());

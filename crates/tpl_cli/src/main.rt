@@ -6,15 +6,18 @@ mod line;
 mod options;
 mod progress;
 mod subcommand;
+mod told;
 mod usage;
 mod why;
 
-ghost use Rattle.std.specs.Prelude.{IfOk};
+ghost use Rattle.std.specs.Prelude.{IfOk, IfSome};
 ghost use Rattle.tpl_cli.specs.Line.{IsWithin};
+ghost use Rattle.tpl_reasons.specs.Reasons.{IsAnswered};
 
 use crate::boxes::run_boxes;
 use crate::line::{Line, LineFault, line_of};
 use crate::progress::{RunProgress, SearchProgress};
+use crate::told::{Told, certify_bytes, search_bytes, told_of};
 use crate::why::{asks_why, say_what_is_read, tell_why, tell_why_unread};
 use std::alloc::Global;
 use std::io::{BufWriter, ErrorKind, IsTerminal, Read, Write};
@@ -22,6 +25,7 @@ use std::process::ExitCode;
 use std::sync::Wait;
 use std::thread::Threads;
 use std::{env, iter};
+use tpl_analyser::Form;
 use tpl_journal::Counting;
 use tpl_report::{Ask, Crew, Exit, load, put_out_of_memory, read_input, serve, serve_watched};
 use tpl_trace::trace_document;
@@ -80,11 +84,18 @@ fn run<R: Threads + Wait + Sync, I: Read, O: Write>(
     }
 }
 
+/// How many events a search for such a run plays at most, which takes some ten seconds.
+const PLAYED: u64 = 40_000_000;
+
+/// How many events it plays at most for each run that is asked for, where that is more.
+const PLAYED_A_RUN: u64 = 400;
+
 /// The search for a run in which a claim fails.
 fn search_of(claim: Option<u8>, runs: u32, seed: u32, explain: bool) -> Search {
     Search {
         claim: claim.map(usize::from),
         runs,
+        events: PLAYED.max(u64::from(runs) * PLAYED_A_RUN),
         seed: u64::from(seed),
         explain,
     }
@@ -130,6 +141,29 @@ fn answer<R: Threads + Wait + Sync, I: Read, O: Write>(
     }
 }
 
+/// Answers a document of these bytes, and says what is to be asked of its reason.
+fn answer_bytes<R: Threads + Wait + Sync, O: Write>(
+    rt: &HostRuntime,
+    threads: &R,
+    line: &Line,
+    bytes: &[u8],
+    to: &mut Counting<O>,
+) -> Told
+    requires { IsWithin line.now }
+    ensures { IfSome result.asked (IsAnswered bytes.now) }
+{
+    match line {
+        Line::Analyse(depth) => search_bytes(rt, *depth, Form::Full, bytes, to),
+        Line::AnalyseIn(depth, form) => search_bytes(rt, *depth, *form, bytes, to),
+        Line::Certify(depth, form) => certify_bytes(rt, *depth, *form, bytes, to),
+        _ => {
+            let mut again = Counting::new(bytes);
+            let exit = answer(rt, threads, line, &mut again, to);
+            told_of(line, exit)
+        }
+    }
+}
+
 /// Answers the document that comes, and says on the standard error why the answer is what it is.
 fn answer_and_explain<R: Threads + Wait + Sync, I: Read, O: Write>(
     rt: &HostRuntime,
@@ -142,9 +176,8 @@ fn answer_and_explain<R: Threads + Wait + Sync, I: Read, O: Write>(
 {
     match read_input(rt.alloc(), from, to) {
         Ok(bytes) => {
-            let mut again = Counting::new(bytes.as_slice());
-            let exit = answer(rt, threads, line, &mut again, to);
-            tell_why(rt, line, exit, &bytes);
+            let Told { exit, asked } = answer_bytes(rt, threads, line, &bytes, to);
+            tell_why(rt, asked, &bytes);
             exit
         }
         Err(exit) => {

@@ -1,6 +1,8 @@
 //! What is said on the standard error, for people: why an answer is what it is. It changes nothing of the answer.
 
-use crate::line::Line;
+ghost use Rattle.std.specs.Prelude.{IfSome};
+ghost use Rattle.tpl_reasons.specs.Reasons.{IsAnswered};
+
 use std::io::IsTerminal;
 use tpl_reasons::{Asked, explain};
 use tpl_report::Exit;
@@ -10,43 +12,16 @@ pub(crate) fn asks_why(words: &[&str]) -> bool {
     words.contains(&"--explain")
 }
 
-/// What a line asks of the document, as far as the reasons of its answer go.
-fn asked_by(line: &Line) -> Asked {
-    match line {
-        Line::Check => Asked::Check,
-        Line::Analyse(depth) | Line::AnalyseIn(depth, _) | Line::Certify(depth, _) => {
-            Asked::Analyse(*depth)
-        }
-        Line::Run(_) => Asked::Run,
-        Line::Audit => Asked::Audit,
-        Line::Trace => Asked::Trace,
-        Line::Refute(..) | Line::Draw(_) => Asked::Other,
-    }
-}
-
-/// What was asked for, where there may be a reason to report: the document wasn't read, or the answer is no, or it is
-/// yes, perhaps to no claim at all.
-fn told_of(line: &Line, exit: Exit) -> Option<Asked> {
-    match exit {
-        Exit::Failure | Exit::Unreadable => Some(asked_by(line)),
-        Exit::Success => match line {
-            Line::Check | Line::Analyse(_) | Line::AnalyseIn(..) | Line::Certify(..) => {
-                Some(Asked::Claims)
-            }
-            _ => None,
-        },
-        _ => None,
-    }
-}
-
 /// Says why the answer to a document of these bytes was what it was. Where there is no memory for it, or the standard
 /// error takes nothing, it isn't said.
-pub(crate) fn tell_why(rt: &HostRuntime, line: &Line, exit: Exit, bytes: &[u8]) {
-    let Some(asked) = told_of(line, exit) else {
+pub(crate) fn tell_why(rt: &HostRuntime, asked: Option<Asked>, bytes: &[u8])
+    requires { IfSome asked (IsAnswered bytes.now) }
+{
+    let Some(asked) = asked else {
         return;
     };
-    if let Ok(Some(told)) = explain(rt.alloc(), asked, bytes) {
-        let _ = eprint!(rt; "{}", told.text);
+    if let Ok(Some(reasoned)) = explain(rt.alloc(), asked, bytes) {
+        let _ = eprint!(rt; "{}", reasoned.text);
     }
 }
 

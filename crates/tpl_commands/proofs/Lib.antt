@@ -6,3 +6,4 @@ pub mod LoadLemmas
 pub mod TakenBack
 pub mod Whole
 pub mod WrittenTrees
+pub mod SearchLemmas

@@ -72,6 +72,14 @@ abbrev pub IsNotFound : ℕ → DocumentValue → List ℕ → Type 0
 IsNotFound depth doc text =
     (claim : ℕ) × IsFirstWithout doc.graph.graph doc.claims depth claim × (text ≡ not_found claim)
 
+-- the text names this claim of the document, the first for which none was found
+abbrev pub NamesIn : ℕ → DocumentValue → List ℕ → ℕ → Type 0
+NamesIn depth doc text claim = (text ≡ not_found claim) × IsFirstWithout doc.graph.graph doc.claims depth claim
+
+-- the bytes spell a document, and the text names this claim of it
+abbrev pub NamesClaim : ℕ → List ℕ → List ℕ → ℕ → Type 0
+NamesClaim depth bytes text claim = (doc : DocumentValue) × Spells bytes doc × NamesIn depth doc text claim
+
 -- a certificate, or the first claim for which none was found
 abbrev pub IsFinding : ℕ → Form → DocumentValue → Exit → List ℕ → Type 0
 IsFinding depth form doc Success text = IsCertificate depth form doc text

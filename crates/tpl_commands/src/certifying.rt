@@ -1,6 +1,6 @@
 //! The search for a certificate of a document's claims, and the document that has it.
 
-ghost use Rattle.std.specs.Prelude.{◌≡◌, ◌≤◌, true, IfOk, string_bytes};
+ghost use Rattle.std.specs.Prelude.{◌≡◌, ◌≤◌, true, codes, IfOk, IfSome, IfNone, string_bytes};
 ghost use Rattle.std.specs.List.{All};
 ghost use Rattle.serde_json.specs.View.{view};
 ghost use Rattle.tpl_cert.specs.Heights.{height};
@@ -10,13 +10,13 @@ ghost use Rattle.tpl_reader.specs.Document.{Reads, Spells};
 ghost use Rattle.tpl_reader.specs.Laws.{HasCertificate, HoldsCertificate};
 ghost use Rattle.tpl_reader.specs.SeenDocument.{doc_of};
 ghost use Rattle.tpl_commands.specs.Certifying.{Certifies, IsCertifying, IsObject, IsSized, IsTextOfObject};
-ghost use Rattle.tpl_commands.specs.Finding.{IsRead, written_trees};
+ghost use Rattle.tpl_commands.specs.Finding.{IsRead, NamesClaim, NamesIn, written_trees};
 
 use crate::answer::Answer;
 use crate::exit::Exit;
 use crate::finding::certificate_value;
 use crate::responding::Command;
-use crate::text::not_found;
+use crate::searched::{Searched, naming};
 use crate::unreadable::unreadable_answer;
 use serde_json::Value;
 use std::alloc::{AllocError, Global};
@@ -41,11 +41,28 @@ impl<T: Watch + Copy> Command for Certify<T> {
     ghost answers = { λ this. Certifies this.depth this.form };
 
     fn answer(&self, alloc: Global, bytes: &[u8]) -> Result<Answer, AllocError> {
+        Ok(self.search(alloc, bytes)?.answer)
+    }
+}
+
+impl<T: Watch + Copy> Certify<T> {
+    /// Answers a document of these bytes, and says which claim the answer names. Out of memory is the only error.
+    pub fn search(&self, alloc: Global, bytes: &[u8]) -> Result<Searched, AllocError>
+        ensures answer { IfOk result (λ it. Certifies self.now.depth self.now.form bytes.now
+            it.answer.exit (string_bytes it.answer.text)) }
+        ensures named { IfOk result (λ it. IfSome it.named
+            (NamesClaim self.now.depth bytes.now (string_bytes it.answer.text))) }
+        ensures unnamed { IfOk result (λ it. IfNone it.named (it.answer.exit ≡ Exit.Failure
+            → string_bytes it.answer.text ≡ codes "too long\n")) }
+    {
         match read_document(alloc, bytes) {
             Ok(document) => {
                 certified(alloc, bytes, &document, self.depth, self.form, self.watch)
             }
-            Err(fault) => unreadable_answer(alloc, fault),
+            Err(fault) => Ok(Searched {
+                answer: unreadable_answer(alloc, fault)?,
+                named: None,
+            }),
         }
     }
 }
@@ -58,11 +75,15 @@ fn certified<T: Watch>(
     depth: Depth,
     form: Form,
     watch: T,
-) -> Result<Answer, AllocError>
+) -> Result<Searched, AllocError>
     requires spelled { Spells bytes.now (doc_of document.now) }
     requires claims { All (Fits document.now.graph.graph) document.now.claims.items }
-    ensures { IfOk result (λ given.
-        IsCertifying depth form (doc_of document.now) given.exit (string_bytes given.text)) }
+    ensures answer { IfOk result (λ it. IsCertifying depth form (doc_of document.now)
+        it.answer.exit (string_bytes it.answer.text)) }
+    ensures named { IfOk result (λ it. IfSome it.named
+        (NamesIn depth (doc_of document.now) (string_bytes it.answer.text))) }
+    ensures unnamed { IfOk result (λ it. IfNone it.named (it.answer.exit ≡ Exit.Failure
+        → string_bytes it.answer.text ≡ codes "too long\n")) }
 {
     document.graph.valid_law();
     tpl_laws::soundness();
@@ -80,12 +101,12 @@ fn certified<T: Watch>(
         Ok(certificate) => {
             certificate.limits_law();
             let text = whole_text(alloc, bytes, &document.graph, certificate.trees())?;
-            sized(alloc, text)
+            Ok(Searched {
+                answer: sized(alloc, text)?,
+                named: None,
+            })
         }
-        Err(Missed::NotFound { claim, .. }) => Ok(Answer {
-            exit: Exit::Failure,
-            text: not_found(alloc, claim)?,
-        }),
+        Err(Missed::NotFound { claim, .. }) => naming(alloc, claim),
         Err(Missed::Memory) => Err(AllocError),
     }
 }

@@ -1,6 +1,6 @@
 //! The search for a certificate of a document's claims.
 
-ghost use Rattle.std.specs.Prelude.{◌≡◌, ◌++◌, ◌≤◌, true, Some, codes, IfOk, map, string_bytes};
+ghost use Rattle.std.specs.Prelude.{◌≡◌, ◌≢◌, ◌++◌, ◌≤◌, true, Some, codes, IfOk, IfSome, IfNone, map, string_bytes};
 ghost use Rattle.std.specs.List.{All};
 ghost use Rattle.serde_json.specs.Data.{array};
 ghost use Rattle.serde_json.specs.Read.{read};
@@ -10,12 +10,12 @@ ghost use Rattle.tpl_cert.specs.Heights.{height};
 ghost use Rattle.tpl_cert.specs.Written.{has_ids};
 ghost use Rattle.tpl_claims.specs.Fits.{Fits};
 ghost use Rattle.tpl_reader.specs.SeenDocument.{doc_of};
-ghost use Rattle.tpl_commands.specs.Finding.{Finds, IsFinding, IsRead, written_tree, written_trees};
+ghost use Rattle.tpl_commands.specs.Finding.{Finds, IsFinding, IsRead, NamesClaim, NamesIn, written_tree, written_trees};
 
 use crate::answer::Answer;
 use crate::exit::Exit;
 use crate::responding::Command;
-use crate::text::not_found;
+use crate::searched::{Searched, naming};
 use crate::unreadable::unreadable_answer;
 use serde_json::Value;
 use std::alloc::{AllocError, Global};
@@ -40,9 +40,25 @@ impl<T: Watch + Copy> Command for Analyse<T> {
     ghost answers = { λ this. Finds this.depth this.form };
 
     fn answer(&self, alloc: Global, bytes: &[u8]) -> Result<Answer, AllocError> {
+        Ok(self.search(alloc, bytes)?.answer)
+    }
+}
+
+impl<T: Watch + Copy> Analyse<T> {
+    /// Answers a document of these bytes, and says which claim the answer names. Out of memory is the only error.
+    pub fn search(&self, alloc: Global, bytes: &[u8]) -> Result<Searched, AllocError>
+        ensures answer { IfOk result (λ it. Finds self.now.depth self.now.form bytes.now
+            it.answer.exit (string_bytes it.answer.text)) }
+        ensures named { IfOk result (λ it. IfSome it.named
+            (NamesClaim self.now.depth bytes.now (string_bytes it.answer.text))) }
+        ensures unnamed { IfOk result (λ it. IfNone it.named (it.answer.exit ≢ Exit.Failure)) }
+    {
         match read_document(alloc, bytes) {
             Ok(document) => finding_for(alloc, &document, self.depth, self.form, self.watch),
-            Err(fault) => unreadable_answer(alloc, fault),
+            Err(fault) => Ok(Searched {
+                answer: unreadable_answer(alloc, fault)?,
+                named: None,
+            }),
         }
     }
 }
@@ -54,10 +70,13 @@ fn finding_for<T: Watch>(
     depth: Depth,
     form: Form,
     watch: T,
-) -> Result<Answer, AllocError>
+) -> Result<Searched, AllocError>
     requires claims { All (Fits document.now.graph.graph) document.now.claims.items }
-    ensures { IfOk result (λ given.
-        IsFinding depth form (doc_of document.now) given.exit (string_bytes given.text)) }
+    ensures answer { IfOk result (λ it. IsFinding depth form (doc_of document.now) it.answer.exit
+        (string_bytes it.answer.text)) }
+    ensures named { IfOk result (λ it. IfSome it.named
+        (NamesIn depth (doc_of document.now) (string_bytes it.answer.text))) }
+    ensures unnamed { IfOk result (λ it. IfNone it.named (it.answer.exit ≢ Exit.Failure)) }
 {
     document.graph.valid_law();
     tpl_laws::soundness();
@@ -75,15 +94,13 @@ fn finding_for<T: Watch>(
         Ok(certificate) => {
             certificate.limits_law();
             let text = certificate_text(alloc, &document.graph, certificate.trees())?;
-            Ok(Answer {
-                exit: Exit::Success,
-                text,
+            let exit = Exit::Success;
+            Ok(Searched {
+                answer: Answer { exit, text },
+                named: None,
             })
         }
-        Err(Missed::NotFound { claim, .. }) => Ok(Answer {
-            exit: Exit::Failure,
-            text: not_found(alloc, claim)?,
-        }),
+        Err(Missed::NotFound { claim, .. }) => naming(alloc, claim),
         Err(Missed::Memory) => Err(AllocError),
     }
 }

@@ -1,14 +1,18 @@
 //! From a fault to its explanation.
 
-ghost use Rattle.std.specs.Prelude.{◌≢◌, ⊤, IfOk, IfSome, MatchOption};
+ghost use Rattle.std.specs.Prelude.{◌≢◌, [], ⊤, IfOk, IfSome, MatchOption, string_bytes};
 ghost use Rattle.tpl_reader.specs.Document.{DocumentValue, IsFault, Spells};
 
 use crate::bytes::not_json;
 use crate::misfit::Line;
+use crate::said::said_or;
 use crate::walk::{Area, Teller};
 use serde_json::Value;
 use std::alloc::{AllocError, Global};
 use tpl_reader::{Part, ReadFault, read_document};
+
+/// What is said where there is nothing else to say.
+const SEE: &str = "see what may stand there in docs/FORMAT.md\n";
 
 /// Why a document can't be read, and in words what is to be changed: one line, ended by a line break.
 #[derive(Drop)]
@@ -65,6 +69,7 @@ fn text_of(alloc: Global, fault: ReadFault, bytes: &[u8]) -> Result<String, Allo
 pub fn explain_document(alloc: Global, bytes: &[u8]) -> Result<Option<Explanation>, AllocError>
     ensures some { IfOk result (λ o. IfSome o (λ e. IsFault bytes.now e.fault
         × (e.fault ≢ ReadFault.Memory))) }
+    ensures text { IfOk result (λ o. IfSome o (λ e. string_bytes e.text ≢ [])) }
     ensures none { IfOk result (λ o. MatchOption o ((doc : DocumentValue) × Spells bytes.now doc)
         (λ e. ⊤)) }
 {
@@ -74,7 +79,7 @@ pub fn explain_document(alloc: Global, bytes: &[u8]) -> Result<Option<Explanatio
             if fault == ReadFault::Memory {
                 return Err(AllocError);
             }
-            let text = text_of(alloc, fault, bytes)?;
+            let text = said_or(alloc, text_of(alloc, fault, bytes)?, SEE)?;
             Ok(Some(Explanation { fault, text }))
         }
     }

@@ -7,7 +7,9 @@ mod explain;
 mod graph;
 mod misfit;
 mod others;
+mod said;
 mod say;
 mod walk;
 
 pub use explain::{Explanation, explain_document};
+pub use said::said_or;

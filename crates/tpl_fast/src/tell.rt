@@ -17,7 +17,6 @@ use tpl_model::Act;
 use tpl_run::Readers;
 use tpl_run::due::is_due;
 use tpl_run::ends::is_done;
-use tpl_run::graphs::has_task;
 use tpl_words::{MOST_TOKENS, TaskId, TokenId};
 
 /// The task that an act may end.
@@ -39,7 +38,7 @@ fn refresh(due: &mut Bits, state: &State, task: TaskId)
     ensures kept { Keeps state.now (λ t s. IsRight state.now s t) due.old due.new }
 {
     state.run_law();
-    if has_task(state, task) {
+    if state.has_task(task) {
         let is_due = is_due(state, task);
         due.put(task, is_due);
     }
@@ -147,7 +146,7 @@ pub(crate) fn note_open(unended: &mut Bits, state: &State, task: Option<TaskId>)
 {
     state.run_law();
     if let Some(task) = task
-        && has_task(state, task)
+        && state.has_task(task)
     {
         let is_done = is_done(state, task);
         unended.put(task, !is_done);

@@ -24,6 +24,7 @@ goes_on_first graph v seat j f =
     let below : AllUpTo (length j.events) seat.mine = up_to (reverse j.events) seat.mine (length j.events) (omega (arith, length-reverse j.events)) f.stands in
     record {
       last = refl;
+      room = refl;
       list = record { added = []; list = sym (append-nil seat.mine); top = length j.events; below = below; above = refl };
       below = below;
       within = f.within;
@@ -31,7 +32,7 @@ goes_on_first graph v seat j f =
 
 pub goes_on_more : (n m : ℕ) (first seat : SeatView) → n ≤ m → GoesOn n first seat → GoesOn m first seat
 goes_on_more n m first seat le g =
-    record { last = g.last; list = g.list; below = up_to_more n m seat.mine le g.below; within = within_more n m first.last le g.within }
+    record { last = g.last; room = g.room; list = g.list; below = up_to_more n m seat.mine le g.below; within = within_more n m first.last le g.within }
 
 -- one section more
 pub goes_on_moved : (first seat seat' : SeatView) (j j' : Journal) → GoesOn (length j.events) first seat → Moves seat seat' j j' → seat'.last ≡ seat.last
@@ -44,6 +45,7 @@ goes_on_moved first seat seat' j j' g m same =
     up_to-append (n + length acts) seat.mine (entries n seat.actor acts) (up_to_more n (n + length acts) seat.mine (omega arith) g.below) (up_to_entries n seat.actor acts) in
     record {
       last = same ∙ g.last;
+      room = m.room ∙ g.room;
       list = extends_join first.mine seat.mine seat'.mine g.list.added (entries n seat.actor acts) g.list.top n g.list.list m.grown.list g.list.below g.list.above g.below (entries_rise n seat.actor acts);
       below = subst (λ l. AllUpTo (length j'.events) l) (sym m.grown.list) (subst (λ k. AllUpTo k (seat.mine ++ entries n seat.actor acts)) more below);
       within = within_more n (length j'.events) first.last (omega (arith, more)) g.within;
@@ -61,11 +63,11 @@ went n graph v first seat j f run g = inr (g.list, (j.events, run_of graph v sea
 -- a worker goes to which nothing was reported
 pub leaves_halted : (n : ℕ) (graph : Named) (v : List Bool) (first seat : SeatView) (j : Journal) → Fits j graph v seat → Run j.graph j.inputs j.events → GoesOn n first seat
     → Leaves Halted graph.graph v first seat
-leaves_halted n graph v first seat j f run g = record { list = went n graph v first seat j f run g; last = g.last }
+leaves_halted n graph v first seat j f run g = record { list = went n graph v first seat j f run g; last = g.last; room = g.room }
 
 pub leaves_stray : (n : ℕ) (graph : Named) (v : List Bool) (first seat : SeatView) (j : Journal) → Fits j graph v seat → Run j.graph j.inputs j.events → GoesOn n first seat
     → Leaves Stray graph.graph v first seat
-leaves_stray n graph v first seat j f run g = record { list = went n graph v first seat j f run g; last = g.last }
+leaves_stray n graph v first seat j f run g = record { list = went n graph v first seat j f run g; last = g.last; room = g.room }
 
 -- a worker goes to which it is reported that the run is complete
 pub leaves_complete : (graph : Named) (v : List Bool) (first seat seat' : SeatView) (j : Journal) (place : ℕ) → Fits j graph v seat → Run j.graph j.inputs j.events
@@ -87,6 +89,7 @@ leaves_complete graph v first seat seat' j place f run g complete at told =
           not_before = subst (λ n. IsWithin n first.last) (sym at) g.within;
         },
       );
+      room = g.room;
     })
 
 take_first : {X : Type 0} (xs ys : List X) (n : ℕ) → length xs ≡ n → take n (xs ++ ys) ≡ xs
@@ -97,21 +100,23 @@ take_first (x ∷ xs) ys (suc n) is = ap (λ l. x ∷ l) (take_first xs ys n (om
 
 -- a worker goes with the list with which it came
 as_it_came : (seen : Option ℕ) (n : ℕ) (first seat seat' : SeatView) → length first.mine ≡ n → IsOn seen first seat → seat' ≡ record seat { mine = take n seat.mine }
-    → (seat'.mine ≡ first.mine) × (seat'.last ≡ first.last)
+    → (seat'.mine ≡ first.mine) × (seat'.last ≡ first.last) × (seat'.room ≡ first.room)
 as_it_came None n first seat seat' came on is = (
   ap (λ (s : SeatView). s.mine) is ∙ ap (λ (s : SeatView). take n s.mine) on ∙ ap (take n) (sym (append-nil first.mine)) ∙ take_first first.mine [] n came,
   ap (λ (s : SeatView). s.last) is ∙ ap (λ (s : SeatView). s.last) on,
+  ap (λ (s : SeatView). s.room) is ∙ ap (λ (s : SeatView). s.room) on,
 )
 as_it_came (Some m) n first seat seat' came on is = (
   ap (λ (s : SeatView). s.mine) is ∙ ap (take n) on.list.list ∙ take_first first.mine on.list.added n came,
   ap (λ (s : SeatView). s.last) is ∙ on.last,
+  ap (λ (s : SeatView). s.room) is ∙ on.room,
 )
 
 pub leaves_as_it_came : (stint : Stint) (g : TaskGraph) (v : List Bool) (first seat seat' : SeatView) → Stays stint first seat
     → seat' ≡ record seat { mine = take stint.came seat.mine } → Leaves Stray g v first seat'
 leaves_as_it_came stint g v first seat seat' s is =
     let came = as_it_came stint.seen stint.came first seat seat' s.came s.on is in
-    record { list = inl came.0; last = came.1 }
+    record { list = inl came.0; last = came.1; room = came.2 }
 
 -- the seat of a worker that may go on
 pub went_on : (n m : ℕ) (stint : Stint) (first seat : SeatView) → n ≤ m → stint.seen ≡ Some n → Stays stint first seat → GoesOn m first seat

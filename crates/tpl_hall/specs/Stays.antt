@@ -16,6 +16,7 @@ use Rattle.tpl_hall.specs.Moves.{Fits, HasRoom, EndsAs}
 -- the seat's list goes on from the one with which it came, nothing more was reported to it, and nothing that it has lies beyond the first n events
 pub record GoesOn (n : ℕ) (first seat : SeatView) : Type 0 where
   pub last : seat.last ≡ first.last
+  pub room : seat.room ≡ first.room
   pub list : Extends first.mine seat.mine
   pub below : AllUpTo n seat.mine
   pub within : IsWithin n first.last
@@ -45,3 +46,4 @@ MayEnd Stray j = Unit {0}
 pub record Leaves (ended : Ended) (g : TaskGraph) (v : List Bool) (first seat : SeatView) : Type 0 where
   pub list : WorksOn g v first.mine seat.mine
   pub last : EndsAs ended g v first seat
+  pub room : seat.room ≡ first.room

@@ -2,12 +2,14 @@
 use Rattle.std.specs.Prelude.{map, string_bytes}
 use Rattle.std.specs.Option.{option_map}
 use Rattle.tpl_json.specs.View.{view}
+use Rattle.tpl_draft.specs.Draft.{Draft}
 use Rattle.tpl_draft.specs.Ids.{token_number, site_number}
 use Rattle.tpl_draft.specs.SeenTasks.{draft_of}
 use Rattle.tpl_parts.specs.SeenClaims.{claim_of}
 use Rattle.tpl_parts.specs.SeenStart.{start_of}
 use Rattle.tpl_reader.specs.declared.document.Start as start
 use Rattle.tpl_reader.specs.declared.document.Document as document
+use Rattle.tpl_reader.specs.declared.shape.NamedRest.{NamedRest}
 use Rattle.tpl_reader.specs.declared.shape.Shaped.{Shaped}
 use Rattle.tpl_reader.specs.Begin.{StartValue}
 use Rattle.tpl_reader.specs.Document.{Spelled, DocumentValue}
@@ -18,5 +20,9 @@ value_of s = record { inputs = s.inputs; request = map token_number s.request.it
 abbrev pub doc_of : document.Document → DocumentValue
 doc_of d = record { graph = d.graph; claims = d.claims.items; certificate = d.certificate; journal = string_bytes d.journal; start = option_map value_of d.start }
 
+-- the document with this draft and what stands beside it
+abbrev pub spelled_with : Draft → NamedRest → Spelled
+spelled_with d r = record { draft = d; claims = map claim_of r.claims.items; certificate = map view r.certificate.now; journal = r.journal.now; start = option_map start_of r.start }
+
 abbrev pub spelled_of : Shaped → Spelled
-spelled_of s = record { draft = draft_of s.draft; claims = map claim_of s.claims.items; certificate = map view s.certificate.now; journal = s.journal.now; start = option_map start_of s.start }
+spelled_of s = spelled_with (draft_of s.draft) s.rest

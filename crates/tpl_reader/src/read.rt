@@ -1,9 +1,10 @@
 //! From bytes to a document.
 
-ghost use Rattle.std.specs.Prelude.{◌≡◌, map, IfOk, IfErr};
+ghost use Rattle.std.specs.Prelude.{◌≡◌, map, string_bytes, IfOk, IfErr};
 ghost use Rattle.std.specs.List.{All};
 ghost use Rattle.std.specs.Option.{option_map};
 ghost use Rattle.tpl_json.specs.View.{view};
+ghost use Rattle.tpl_draft.specs.Draft as spec;
 ghost use Rattle.tpl_draft.specs.Numbered.{numbered};
 ghost use Rattle.tpl_draft.specs.Refusals.{IsValid};
 ghost use Rattle.tpl_draft.specs.SeenTasks.{draft_of};
@@ -12,7 +13,7 @@ ghost use Rattle.tpl_cert.specs.Spelled.{ReadsAs};
 ghost use Rattle.tpl_claims.specs.Fits.{Fits};
 ghost use Rattle.tpl_parts.specs.SeenClaims.{claim_of};
 ghost use Rattle.tpl_parts.specs.SeenStart.{start_of};
-ghost use Rattle.tpl_reader.specs.SeenDocument.{value_of, doc_of, spelled_of};
+ghost use Rattle.tpl_reader.specs.SeenDocument.{value_of, doc_of, spelled_of, spelled_with};
 ghost use Rattle.tpl_json.specs.Grammar.{AllRead};
 ghost use Rattle.tpl_reader.specs.Document.{AreAsked, IsStarted, GraphFaults, ClaimFaults, TreeFaults, StartFaults, IsDocument, IsRefused, Spells, IsFault};
 
@@ -20,7 +21,7 @@ use crate::asked::claims_in;
 use crate::begin::start_in;
 use crate::document::{Document, Start};
 use crate::fault::{ClaimFault, ReadFault};
-use crate::shape::{Shaped, shape_of};
+use crate::shape::{NamedRest, Shaped, shape_of};
 use crate::trees::trees_in;
 use json::{Scratch, Value};
 use std::alloc::Global;
@@ -98,6 +99,39 @@ fn start_for(
     }
 }
 
+/// What a document has beside its graph.
+#[derive(Drop)]
+struct Rest {
+    claims: Vec<Claim>,
+    trees: Vec<Tree>,
+    journal: String,
+    start: Option<Start>,
+}
+
+/// The rest of a document with this graph.
+fn rest_of(alloc: Global, graph: &Graph, named: &NamedRest<'_, '_>) -> Result<Rest, ReadFault>
+    ensures claims { IfOk result (λ r. AreAsked graph.now (map claim_of named.now.claims.items)
+        r.claims.items) }
+    ensures trees { IfOk result (λ r. AllRead (ReadsAs graph.now.names)
+        (map view named.now.certificate.now) r.trees.items) }
+    ensures journal { IfOk result (λ r. string_bytes r.journal ≡ named.now.journal.now) }
+    ensures start { IfOk result (λ r. IsStarted graph.now (option_map start_of named.now.start)
+        (option_map value_of r.start)) }
+    ensures err { IfErr result (λ e. (d : spec.Draft) → IsValid d → graph.now ≡ numbered d
+        → IsRefused (spelled_with d named.now) e) }
+{
+    let journal = String::from_str(alloc, named.journal)?;
+    let claims = claims_for(alloc, graph, &named.claims)?;
+    let trees = trees_for(alloc, graph, named.certificate)?;
+    let start = start_for(alloc, graph, &named.start)?;
+    Ok(Rest {
+        claims,
+        trees,
+        journal,
+        start,
+    })
+}
+
 fn document_of(alloc: Global, shaped: Shaped) -> Result<Document, ReadFault>
     ensures ok { IfOk result (λ d. IsDocument (spelled_of shaped.entry) (doc_of d)) }
     ensures claims { IfOk result (λ d. All (Fits d.graph.graph) d.claims.items) }
@@ -105,16 +139,13 @@ fn document_of(alloc: Global, shaped: Shaped) -> Result<Document, ReadFault>
     ensures err { IfErr result (IsRefused (spelled_of shaped.entry)) }
 {
     let graph = graph_of(alloc, shaped.draft)?;
-    let claims = claims_for(alloc, &graph, &shaped.claims)?;
-    let trees = trees_for(alloc, &graph, shaped.certificate)?;
-    let start = start_for(alloc, &graph, &shaped.start)?;
-    let journal = String::from_str(alloc, shaped.journal)?;
+    let rest = rest_of(alloc, &graph, &shaped.rest)?;
     Ok(Document {
         graph,
-        claims,
-        certificate: Certificate::new(trees),
-        journal,
-        start,
+        claims: rest.claims,
+        certificate: Certificate::new(rest.trees),
+        journal: rest.journal,
+        start: rest.start,
     })
 }
 

@@ -25,14 +25,20 @@ use tpl_graph::{Draft, DraftTask};
 use tpl_json::{Miss, Shape};
 use tpl_parts::{NamedClaim, NamedStart, start_or_none};
 
-/// A document with names.
+/// What stands in a document beside its draft, with names.
 #[derive(Drop)]
-pub(crate) struct Shaped<'v, 't> {
-    pub(crate) draft: Draft,
+pub(crate) struct NamedRest<'v, 't> {
     pub(crate) claims: Vec<NamedClaim<'v>>,
     pub(crate) certificate: &'v [Value<'t>],
     pub(crate) journal: &'v str,
     pub(crate) start: Option<NamedStart<'v, 't>>,
+}
+
+/// A document with names.
+#[derive(Drop)]
+pub(crate) struct Shaped<'v, 't> {
+    pub(crate) draft: Draft,
+    pub(crate) rest: NamedRest<'v, 't>,
 }
 
 fn top_part<'v, 't>(alloc: Global, value: &'v Value<'t>) -> Result<Members<'v, 't>, Miss<Part>>
@@ -104,11 +110,11 @@ pub(crate) fn shape_of<'v, 't>(
         tokens: members.tokens,
         tasks,
     };
-    Ok(Shaped {
-        draft,
+    let rest = NamedRest {
         claims,
         certificate: members.certificate,
         journal: members.journal,
         start,
-    })
+    };
+    Ok(Shaped { draft, rest })
 }

@@ -1,6 +1,6 @@
 -- The reasons of the program's answers.
 use Rattle.std.specs.Prelude.{◌≡◌, ◌⊎◌, ℕ, Bool, true, false, List, [], Option, Some, None, Err}
-use Rattle.tpl_model.specs.Certificate.{Tree, Accepts}
+use Rattle.tpl_model.specs.Certificate.{Accepts}
 use Rattle.tpl_model.specs.declared.event.Event.{Event}
 use Rattle.tpl_model.specs.declared.fault.CertFault.{CertFault}
 use Rattle.tpl_laws.specs.Faults.{IsFirstFault}
@@ -55,11 +55,11 @@ IsRunReason doc NoStart = inputs_of doc ≡ None
 IsRunReason doc (Unchecked fault) = IsRefused doc fault
 IsRunReason doc reason = ⊥
 
--- why no certificate is found, or one of nothing
-abbrev pub IsSearchReason : ℕ → DocumentValue → Reason → Type 0
-IsSearchReason depth doc (NotFound claim) = IsFirstWithout doc.graph.graph doc.claims depth claim
-IsSearchReason depth doc NothingAsked = doc.claims ≡ []
-IsSearchReason depth doc reason = ⊥
+-- why no certificate is found, or one of nothing: the claim is the one that the answer names
+abbrev pub IsSearchReason : ℕ → Option ℕ → DocumentValue → Reason → Type 0
+IsSearchReason depth named doc (NotFound claim) = (named ≡ Some claim) × IsFirstWithout doc.graph.graph doc.claims depth claim
+IsSearchReason depth named doc NothingAsked = doc.claims ≡ []
+IsSearchReason depth named doc reason = ⊥
 
 -- why the journal isn't a complete run in which each claim holds
 abbrev pub IsAuditReason : DocumentValue → Reason → Type 0
@@ -86,21 +86,31 @@ IsClaimsReason doc reason = ⊥
 abbrev pub IsReasonOf : DocumentValue → Asked → Reason → Type 0
 IsReasonOf doc Check reason = IsCheckReason doc reason
 IsReasonOf doc Run reason = IsRunReason doc reason
-IsReasonOf doc (Analyse depth) reason = IsSearchReason depth doc reason
+IsReasonOf doc (Analyse depth named) reason = IsSearchReason depth named doc reason
 IsReasonOf doc Audit reason = IsAuditReason doc reason
 IsReasonOf doc Trace reason = IsTraceReason doc reason
 IsReasonOf doc Claims reason = IsClaimsReason doc reason
 IsReasonOf doc Other reason = ⊥
 
--- the answer to a document says all: what was asked for is shown, found, made, or another command's
+-- the answer to a document says all: what was asked for is shown or made, the answer names no claim, or it is another command's
 abbrev pub IsSilent : DocumentValue → Asked → Type 0
 IsSilent doc Check = IsAccepted doc × (doc.claims ≡ [] → ⊥)
 IsSilent doc Run = IsAccepted doc
-IsSilent doc (Analyse depth) = (trees : List Tree) × Accepts doc.graph.graph doc.claims trees
+IsSilent doc (Analyse depth named) = named ≡ None
 IsSilent doc Audit = IsAudited doc (ruled.Run true None)
 IsSilent doc Trace = (complete : Bool) × ((fails : Option Failure) × IsAudited doc (ruled.Run complete fails))
 IsSilent doc Claims = doc.claims ≡ [] → ⊥
 IsSilent doc Other = Unit {0}
+
+-- the claim that the answer names, if it names one, is one of the document, and those before it have a certificate
+abbrev pub IsNamed : DocumentValue → Asked → Type 0
+IsNamed doc (Analyse depth (Some claim)) = IsFirstWithout doc.graph.graph doc.claims depth claim
+IsNamed doc asked = Unit {0}
+
+-- the bytes spell a document where the answer names a claim, and it is that document's
+abbrev pub IsAnswered : List ℕ → Asked → Type 0
+IsAnswered bytes (Analyse depth (Some claim)) = (doc : DocumentValue) × Spells bytes doc × IsFirstWithout doc.graph.graph doc.claims depth claim
+IsAnswered bytes asked = Unit {0}
 
 -- the bytes spell no document, for this reason, which isn't that memory ran out
 abbrev pub IsUnreadable : List ℕ → Reason → Type 0

@@ -9,8 +9,9 @@ pub enum Asked {
     Check,
     /// A run of the document.
     Run,
-    /// A certificate with at most this many splits on each path.
-    Analyse(Depth),
+    /// A certificate with at most this many splits on each path; and which claim the answer names, if it names one: the
+    /// first for which none was found. Claims count from 1.
+    Analyse(Depth, Option<usize>),
     /// Whether the document's journal is a run, whether it is complete, and which claim fails.
     Audit,
     /// The trace of the document's journal, where that is a run.

@@ -7,6 +7,7 @@ ghost use Rattle.tpl_reader.specs.SeenDocument.{doc_of};
 ghost use Rattle.tpl_reasons.specs.Reasons.{IsAudited, IsAuditReason, IsTraceReason, IsSilent};
 
 use crate::asked::Asked;
+use crate::crossing::crossing_text;
 use crate::journal::line_text;
 use crate::reason::Reason;
 use crate::refusal::refusal_text;
@@ -150,14 +151,15 @@ pub(crate) fn not_allowed_text(alloc: Global, document: &Document, number: usize
     format!(in alloc; "{line} isn't allowed there: {why}")
 }
 
-/// At which event a claim fails.
+/// At which event a claim fails, and whether no thread makes the run.
 pub(crate) fn fails_text(alloc: Global, document: &Document, failure: Failure) -> Said {
     let claim = claim_text(alloc, &document.graph, &document.claims, failure.claim)?;
     if failure.place == 0 {
         return format!(in alloc; "{claim} fails before the first event\n");
     }
     let line = line_text(alloc, document, failure.place)?;
-    format!(in alloc; "{claim} fails at {line}\n")
+    let crossing = crossing_text(alloc, document)?;
+    format!(in alloc; "{claim} fails at {line}\n{crossing}")
 }
 
 /// Where a task stands that has to end before the run is complete: it is no child, or was started.
@@ -177,7 +179,7 @@ fn awaited_text<C: Core>(alloc: Global, run: &C, task: TaskId) -> Said {
     }
 }
 
-/// Which tasks have not ended.
+/// Which tasks have not ended, and whether no thread makes the run.
 pub(crate) fn not_complete_text(alloc: Global, document: &Document) -> Said {
     let mut text = String::from_str(alloc, "not each task has ended")?;
     if let Some(replay) = replayed(alloc, document)? {
@@ -186,5 +188,6 @@ pub(crate) fn not_complete_text(alloc: Global, document: &Document) -> Said {
         }
     }
     text.push_str("\n")?;
+    text.push_str(crossing_text(alloc, document)?.as_str())?;
     Ok(text)
 }

@@ -1,11 +1,11 @@
 //! Why the program's answer is what it is.
 
-ghost use Rattle.std.specs.Prelude.{IfOk, IfSome, IfNone};
+ghost use Rattle.std.specs.Prelude.{◌≢◌, [], IfOk, IfSome, IfNone, string_bytes};
 ghost use Rattle.std.specs.List.{All};
 ghost use Rattle.tpl_claims.specs.Fits.{Fits};
 ghost use Rattle.tpl_reader.specs.Document.{IsFault, Spells};
 ghost use Rattle.tpl_reader.specs.SeenDocument.{doc_of};
-ghost use Rattle.tpl_reasons.specs.Reasons.{HasNoReason, IsReason, IsReasonOf, IsSilent};
+ghost use Rattle.tpl_reasons.specs.Reasons.{HasNoReason, IsAnswered, IsNamed, IsReason, IsReasonOf, IsSilent};
 
 use crate::asked::Asked;
 use crate::auditing::{
@@ -17,8 +17,8 @@ use crate::finding::{not_found_text, search_reason};
 use crate::reason::Reason;
 use crate::words::Said;
 use std::alloc::{AllocError, Global};
-use tpl_explain::explain_document;
-use tpl_reader::{Document, ReadFault, read_document};
+use tpl_explain::{explain_document, said_or};
+use tpl_reader::{Document, ReadFault, one_document, read_document};
 
 /// What is said of bytes that spell no document.
 const UNREAD: &str = "the document can't be read\n";
@@ -27,6 +27,9 @@ const UNREAD: &str = "the document can't be read\n";
 const NO_TASK: &str = "there is no task and no claim, so nothing is shown\n";
 
 const NO_CLAIM: &str = "no claim was asked, so nothing is shown\n";
+
+/// What is said where there is nothing else to say.
+const SEE: &str = "docs/OUTPUT.md has each answer, and what to do\n";
 
 /// Why the program's answer is what it is.
 #[derive(Drop)]
@@ -44,13 +47,14 @@ fn reason_of(
     document: &Document,
 ) -> Result<Option<Reason>, AllocError>
     requires claims { All (Fits document.now.graph.graph) document.now.claims.items }
+    requires named { IsNamed (doc_of document.now) asked.now }
     ensures some { IfOk result (λ o. IfSome o (IsReasonOf (doc_of document.now) asked.now)) }
     ensures none { IfOk result (λ o. IfNone o (IsSilent (doc_of document.now) asked.now)) }
 {
     match asked {
         Asked::Check => Ok(check_reason(document)),
         Asked::Run => Ok(run_reason(document)),
-        Asked::Analyse(depth) => search_reason(alloc, document, *depth),
+        Asked::Analyse(depth, named) => Ok(search_reason(document, *depth, *named)),
         Asked::Audit => audit_reason(alloc, document),
         Asked::Trace => trace_reason(alloc, document),
         Asked::Claims => Ok(claims_reason(document)),
@@ -66,7 +70,7 @@ fn text_of(alloc: Global, asked: &Asked, document: &Document, reason: Reason) ->
         Reason::Unreadable(_) => String::from_str(alloc, UNREAD),
         Reason::Unchecked(fault) => fault_text(alloc, document, fault),
         Reason::NotFound(claim) => match asked {
-            Asked::Analyse(depth) => not_found_text(alloc, document, *depth, claim),
+            Asked::Analyse(depth, _) => not_found_text(alloc, document, *depth, claim),
             _ => Ok(String::new(alloc)),
         },
         Reason::NoStart => no_start_text(alloc, document),
@@ -88,13 +92,15 @@ fn explain_in(
 ) -> Result<Option<Reasoned>, AllocError>
     requires spelled { Spells bytes.now (doc_of document.now) }
     requires claims { All (Fits document.now.graph.graph) document.now.claims.items }
+    requires named { IsNamed (doc_of document.now) asked }
     ensures some { IfOk result (λ o. IfSome o (λ r. IsReason bytes.now asked r.reason)) }
+    ensures text { IfOk result (λ o. IfSome o (λ r. string_bytes r.text ≢ [])) }
     ensures none { IfOk result (λ o. IfNone o (HasNoReason bytes.now asked)) }
 {
     let _ = bytes;
     match reason_of(alloc, &asked, document)? {
         Some(reason) => {
-            let text = text_of(alloc, &asked, document, reason)?;
+            let text = said_or(alloc, text_of(alloc, &asked, document, reason)?, SEE)?;
             Ok(Some(Reasoned { reason, text }))
         }
         None => Ok(None),
@@ -110,6 +116,7 @@ fn unreadable(
 ) -> Result<Option<Reasoned>, AllocError>
     requires { IsFault bytes.now fault }
     ensures some { IfOk result (λ o. IfSome o (λ r. IsReason bytes.now asked r.reason)) }
+    ensures text { IfOk result (λ o. IfSome o (λ r. string_bytes r.text ≢ [])) }
     ensures none { IfOk result (λ o. IfNone o (HasNoReason bytes.now asked)) }
 {
     let _ = asked;
@@ -129,11 +136,15 @@ fn unreadable(
 }
 
 /// Why the program's answer to a document of these bytes is what it is, in words; none where there is nothing to say:
-/// the answer says all, or it is that of another command. Out of memory is the only error.
+/// the answer says all, or it is that of another command. Of a search that found no certificate the caller says which
+/// claim the answer names. Out of memory is the only error.
 pub fn explain(alloc: Global, asked: Asked, bytes: &[u8]) -> Result<Option<Reasoned>, AllocError>
+    requires answered { IsAnswered bytes.now asked }
     ensures some { IfOk result (λ o. IfSome o (λ r. IsReason bytes.now asked r.reason)) }
+    ensures text { IfOk result (λ o. IfSome o (λ r. string_bytes r.text ≢ [])) }
     ensures none { IfOk result (λ o. IfNone o (HasNoReason bytes.now asked)) }
 {
+    one_document();
     match explain_document(alloc, bytes)? {
         Some(explanation) => Ok(Some(Reasoned {
             reason: Reason::Unreadable(explanation.fault),

@@ -1,7 +1,8 @@
 //! Why no certificate was found.
 
-ghost use Rattle.std.specs.Prelude.{◌<◌, length, IfOk, IfSome, IfNone};
+ghost use Rattle.std.specs.Prelude.{◌<◌, length, IfSome, IfNone};
 ghost use Rattle.std.specs.List.{All};
+ghost use Rattle.tpl_analyser.specs.Gaps.{IsFirstWithout};
 ghost use Rattle.tpl_claims.specs.Fits.{Fits};
 ghost use Rattle.tpl_reader.specs.SeenDocument.{doc_of};
 ghost use Rattle.tpl_reasons.specs.Reasons.{IsSearchReason, IsSilent};
@@ -11,30 +12,28 @@ use crate::obstacle::obstacle_text;
 use crate::reason::Reason;
 use crate::words::{Said, claim_text, count_text};
 use std::alloc::{AllocError, Global};
-use tpl_analyser::{Depth, Form, Gap, Missed, RanOut, Unwatched, analyse, analyse_watched};
+use tpl_analyser::{Depth, Form, Missed, RanOut, Unwatched, analyse_watched};
 use tpl_cert::MOST_SPLITS;
 use tpl_claims::Claim;
 use tpl_graph::Graph;
 use tpl_reader::Document;
 
-/// Why no certificate was found.
+/// Why no certificate was found: the claim that the answer names, if it names one.
 pub(crate) fn search_reason(
-    alloc: Global,
     document: &Document,
     depth: Depth,
-) -> Result<Option<Reason>, AllocError>
-    requires claims { All (Fits document.now.graph.graph) document.now.claims.items }
-    ensures some { IfOk result (λ o. IfSome o (IsSearchReason depth (doc_of document.now))) }
-    ensures none { IfOk result (λ o. IfNone o
-        (IsSilent (doc_of document.now) (Asked.Analyse depth))) }
+    named: Option<usize>,
+) -> Option<Reason>
+    requires named { IfSome named (IsFirstWithout document.now.graph.graph
+        document.now.claims.items depth) }
+    ensures some { IfSome result (IsSearchReason depth named (doc_of document.now)) }
+    ensures none { IfNone result (IsSilent (doc_of document.now) (Asked.Analyse depth named)) }
 {
-    if document.claims.is_empty() {
-        return Ok(Some(Reason::NothingAsked));
-    }
-    match analyse(alloc, &document.graph, &document.claims, depth.splits()) {
-        Ok(_) => Ok(None),
-        Err(Gap::NotFound { claim }) => Ok(Some(Reason::NotFound(claim))),
-        Err(Gap::Memory) => Err(AllocError),
+    let _ = depth;
+    match named {
+        Some(claim) => Some(Reason::NotFound(claim)),
+        None if document.claims.is_empty() => Some(Reason::NothingAsked),
+        None => None,
     }
 }
 

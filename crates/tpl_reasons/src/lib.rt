@@ -4,6 +4,7 @@
 mod asked;
 mod auditing;
 mod checking;
+mod crossing;
 mod explaining;
 mod finding;
 mod journal;

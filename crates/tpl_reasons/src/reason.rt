@@ -12,7 +12,7 @@ pub enum Reason {
     Unreadable(ReadFault),
     /// The first fault of the certificate.
     Unchecked(CertFault),
-    /// The first claim for which no certificate was found.
+    /// The claim that the answer names: the first for which no certificate was found.
     NotFound(usize),
     /// The graph has inputs, and nothing says which values they have.
     NoStart,

@@ -1,3 +1,4 @@
 pub mod Reported
 pub mod Running
 pub mod RunTexts
+pub mod Faults

@@ -1,6 +1,7 @@
 //! Why a run wasn't made.
 
 ghost use Rattle.std.specs.Prelude.{◌≡◌};
+ghost use Rattle.tpl_report.specs.Faults.{open_stop, seat_stop, run_stop, close_stop};
 ghost use Rattle.tpl_report.specs.RunTexts.{fault_line};
 
 use std::alloc::AllocError;
@@ -71,7 +72,10 @@ impl From<AllocError> for Stop {
     }
 }
 
-pub(crate) fn open_stop(why: OpenWhy) -> Stop {
+/// Why there is no report of a session that wasn't opened.
+pub(crate) fn open_stop(why: OpenWhy) -> Stop
+    ensures { result ≡ open_stop why }
+{
     match why {
         OpenWhy::ItemMissing(_) => Stop::Fault(RunFault::ItemMissing),
         OpenWhy::ItemStrange(_) => Stop::Fault(RunFault::ItemStrange),
@@ -81,7 +85,10 @@ pub(crate) fn open_stop(why: OpenWhy) -> Stop {
     }
 }
 
-pub(crate) fn seat_stop(fault: SeatFault) -> Stop {
+/// Why there is no report where there was no seat.
+pub(crate) fn seat_stop(fault: SeatFault) -> Stop
+    ensures { result ≡ seat_stop fault }
+{
     match fault {
         SeatFault::BadActor => Stop::Fault(RunFault::BadActor),
         SeatFault::SeatTaken => Stop::Fault(RunFault::SeatTaken),
@@ -89,17 +96,24 @@ pub(crate) fn seat_stop(fault: SeatFault) -> Stop {
     }
 }
 
-pub(crate) fn run_stop(why: RunWhy) -> Stop {
+/// Why there is no report where the workers didn't all run.
+pub(crate) fn run_stop(why: RunWhy) -> Stop
+    ensures { result ≡ run_stop why }
+{
     match why {
         RunWhy::BadCount => Stop::Fault(RunFault::BadCount),
-        RunWhy::Seat(fault) => seat_stop(fault),
+        RunWhy::Seat(_, fault) => seat_stop(fault),
         RunWhy::Spawn => Stop::Fault(RunFault::Spawn),
         RunWhy::Memory => Stop::Memory,
     }
 }
 
-pub(crate) fn close_stop(why: CloseWhy) -> Stop {
+/// Why there is no report of a session that wasn't closed well.
+pub(crate) fn close_stop(why: CloseWhy) -> Stop
+    ensures { result ≡ close_stop why }
+{
     match why {
+        CloseWhy::Lost => Stop::Fault(RunFault::Mismatch),
         CloseWhy::SeatsMissing => Stop::Fault(RunFault::SeatsMissing),
         CloseWhy::Mismatch => Stop::Fault(RunFault::Mismatch),
         CloseWhy::Memory => Stop::Memory,

@@ -1,6 +1,7 @@
 //! Who follows a run while it is made.
 
-ghost use Rattle.std.specs.Prelude.{◌≡◌, IfOk};
+ghost use Rattle.std.specs.Prelude.{◌≡◌, IfOk, map};
+ghost use Rattle.tpl_runtime.specs.Workers.{workers as first_workers};
 
 use std::alloc::Global;
 use std::sync::Wait;
@@ -54,14 +55,17 @@ fn run_seen<'g, R: Threads + Wait + Sync, K: Drop + Send, W: Item<K> + Send, F: 
     watcher: Watcher,
 ) -> Result<(Vec<(Seat, Ended)>, QueuePass<Vec<W>>), RunFault<W>>
     requires { pass.queue ≡ session.now.queue }
-    ensures { IfOk result (λ r. r.1.queue ≡ session.now.queue) }
+    ensures pass { IfOk result (λ r. r.1.queue ≡ session.now.queue) }
+    ensures workers { IfOk result (λ r. map (λ d. d.0.actor) r.0.items ≡ first_workers workers) }
 {
     thread::scope(
         thread::scope_env(),
         rt,
         |scope| -> Result<(Vec<(Seat, Ended)>, QueuePass<Vec<W>>), RunFault<W>>
             requires { pass.queue ≡ session.now.queue }
-            ensures { IfOk result (λ r. r.1.queue ≡ session.entry.now.queue) }
+            ensures pass { IfOk result (λ r. r.1.queue ≡ session.entry.now.queue) }
+            ensures workers { IfOk result (λ r. map (λ d. d.0.actor) r.0.items ≡ first_workers
+                workers) }
         {
             start(scope, follower, watcher);
             let done = session.run(rt, alloc, pass, workers);
@@ -86,7 +90,9 @@ pub(crate) fn run_followed<
     crew: Crew<'_, F>,
 ) -> Result<(Vec<(Seat, Ended)>, QueuePass<Vec<W>>), RunFault<W>>
     requires { pass.queue ≡ session.now.queue }
-    ensures { IfOk result (λ r. r.1.queue ≡ session.now.queue) }
+    ensures pass { IfOk result (λ r. r.1.queue ≡ session.now.queue) }
+    ensures workers { IfOk result (λ r. map (λ d. d.0.actor) r.0.items ≡ first_workers
+        crew.entry.workers) }
 {
     let Some(follower) = crew.follower else {
         return session.run(rt, alloc, pass, crew.workers);

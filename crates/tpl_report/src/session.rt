@@ -8,14 +8,14 @@ ghost use Rattle.tpl_queue.specs.Tally.{new_tally};
 ghost use Rattle.tpl_report.specs.Reported.{told, IsReport};
 ghost use Rattle.tpl_words.specs.declared.ids.TokenId.{TokenId};
 
-use crate::fault::{Stop, close_stop, open_stop, run_stop, seat_stop};
+use crate::fault::{RunFault, Stop, close_stop, open_stop, run_stop, seat_stop};
 use crate::following::{Crew, Follow, run_followed};
 use std::alloc::{AllocError, Global};
 use std::sync::Wait;
 use std::thread::Threads;
 use tpl_graph::Graph;
 use tpl_queue::{JobQueue, QueuePass};
-use tpl_runtime::{Ended, Item, Report, Seat, Session};
+use tpl_runtime::{Asked, Ended, Item, Report, Seat, Session};
 use tpl_words::{Actor, Inputs, TokenId};
 
 /// The outside seat that makes the first requests.
@@ -101,7 +101,7 @@ fn first_seat<'g, R: Wait, K: Drop, W: Item<K>>(
     match session.seat(rt, alloc, ASKER) {
         Ok(seat) => {
             let mut seat = seat;
-            request_all(rt, session, &mut seat, pass, tokens);
+            request_all(rt, session, &mut seat, pass, tokens)?;
             Ok(listed(alloc, seat)?)
         }
         Err(fault) => Err(seat_stop(fault)),
@@ -115,21 +115,25 @@ fn listed(alloc: Global, seat: Seat) -> Result<Vec<Seat>, AllocError> {
     Ok(seats)
 }
 
-/// Requests each of the tokens. One that is requested already is passed over.
+/// Requests each of the tokens, in order. One that is requested already is passed over. A session that is new refuses none.
 fn request_all<'g, R: Wait, K: Drop, W: Item<K>>(
     rt: &R,
     session: &Session<'g, K, W>,
     seat: &mut Seat,
     pass: &mut QueuePass<Vec<W>>,
     tokens: &[TokenId],
-)
+) -> Result<(), Stop>
     requires tokens { All (λ (k : TokenId). is_token session.now.graph.graph k.0) tokens.now }
     requires pass { pass.old.queue ≡ session.now.queue }
     ensures { pass.new.queue ≡ session.now.queue }
 {
     for token in tokens {
-        let _asked = session.request(rt, seat, pass, *token);
+        match session.request(rt, seat, pass, *token) {
+            Asked::Place(_) | Asked::Already => {}
+            Asked::Halted | Asked::Stray => return Err(Stop::Fault(RunFault::Mismatch)),
+        }
     }
+    Ok(())
 }
 
 /// The seats, and those of the workers that have come back.

@@ -1,3 +1,5 @@
 pub mod TurnLemmas
+mod AskLemmas
+mod WorkLemmas
 pub mod Crosses
 mod OrderLemmas

@@ -1,4 +1,6 @@
 pub mod Views
+pub mod Promises
 pub mod Turns
 pub mod Reports
+pub mod Puts
 pub mod Workers

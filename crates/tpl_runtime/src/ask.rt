@@ -1,11 +1,13 @@
 //! The request of a token.
 
 ghost use Rattle.std.specs.Prelude.{◌≡◌, ℕ, Some};
+ghost use Rattle.tpl_model.specs.Facts.{requested};
 ghost use Rattle.tpl_model.specs.Graph.{is_token};
 ghost use Rattle.tpl_hall.specs.Growth.{Requests};
 ghost use Rattle.tpl_hall.specs.Moves.{MatchAsked};
 ghost use Rattle.tpl_hall.specs.Sights.{IsSeen};
 ghost use Rattle.tpl_hall.specs.declared.sight.Sight.TheVariants.{Already};
+ghost use Rattle.tpl_runtime.specs.Turns.{MayAsk, IsAnswer};
 
 use crate::put::put_all;
 use crate::queue::{ItemPass, ItemQueue};
@@ -14,11 +16,13 @@ use std::sync::Wait;
 use tpl_graph::Graph;
 use tpl_hall::{Asked, Seat};
 use tpl_items::Item;
+use tpl_laws::is_bounded;
 use tpl_model::Act;
 use tpl_words::{Inputs, TokenId};
 
 impl<'g, K: Drop, W: Item<K>> Shared<'g, K, W> {
-    /// Requests a token, for an outside seat.
+    /// Requests a token, for an outside seat. A seat that is stray comes first, then a session that is halted, then a token
+    /// that was requested before.
     pub fn ask<R: Wait>(
         &mut self,
         rt: &R,
@@ -38,7 +42,10 @@ impl<'g, K: Drop, W: Item<K>> Shared<'g, K, W> {
             × (seat.new ≡ record seat.old { last = Some (n, Already token) })
             × IsSeen graph.now.graph inputs.now seat.old.mine seat.old.last (Already token) n)
             (seat.new ≡ seat.old) }
+        ensures room { seat.new.room ≡ seat.old.room }
         ensures halted { self.new.halted ≡ self.old.halted }
+        ensures order { let j = self.old.hall.core in IsAnswer result (MayAsk j graph.now inputs.now
+            seat.old) self.old.halted (requested j.graph j.inputs j.events token.0) }
     {
         if is_worker(seat.actor()) || !self.hall.fits(graph, inputs, seat) {
             return Asked::Stray;
@@ -50,14 +57,13 @@ impl<'g, K: Drop, W: Item<K>> Shared<'g, K, W> {
         if self.hall.tell_requested(seat, token) {
             return Asked::Already;
         }
-        match self.hall.step(seat, Act::Request(token)) {
-            Ok(place) => {
-                self.hall.sweep(seat);
-                self.hall.run_law();
-                put_all(rt, &self.hall, &mut self.stock, queue, pass);
-                Asked::Place(place)
-            }
-            Err(_) => Asked::Stray,
-        }
+        is_bounded();
+        let Ok(place) = self.hall.step(seat, Act::Request(token)) else {
+            unreachable!()
+        };
+        self.hall.sweep(seat);
+        self.hall.run_law();
+        put_all(rt, &self.hall, &mut self.stock, queue, pass);
+        Asked::Place(place)
     }
 }

@@ -1,24 +1,24 @@
 //! What a session leaves, and what is compared when it is closed.
 
-ghost use Rattle.std.specs.Prelude.{◌≡◌, ◌↔◌, ◌+◌, Err, true, length, map, reverse, All, IsTrue, IfOk, IfErr, OnOk};
+ghost use Rattle.std.specs.Prelude.{◌≡◌, ◌↔◌, ◌⊎◌, ◌+◌, true, length, map, reverse, All, IsTrue, IfOk, IfErr, OnOk};
 ghost use Rattle.tpl_model.specs.Rules.{Run, Complete, status, label, carried};
 ghost use Rattle.tpl_draft.specs.Ids.{task_number};
 ghost use Rattle.tpl_machine.specs.Journal.{named};
 ghost use Rattle.tpl_hall.specs.Answers.{answers, shown};
 ghost use Rattle.tpl_hall.specs.Closes.{AllOwn, AllLast};
-ghost use Rattle.tpl_hall.specs.Lists.{IsSeat, all_seated};
-ghost use Rattle.tpl_runtime.specs.declared.closing.CloseWhy.TheVariants.{SeatsMissing};
-ghost use Rattle.tpl_runtime.specs.Reports.{each_below, those_below, is_unseen, AreOnce};
+ghost use Rattle.tpl_hall.specs.Lists.{IsSeat, all_seated, are_seated};
+ghost use Rattle.tpl_runtime.specs.declared.closing.CloseWhy.TheVariants.{Lost, SeatsMissing};
+ghost use Rattle.tpl_runtime.specs.Reports.{each_below, those_below, is_unseen, AreOnce, IsWhole, GivesBack};
 
 use crate::tables::{Told, tables};
 use std::alloc::{AllocError, Global};
 use thiserror::Error;
 use tpl_graph::Graph;
-use tpl_hall::{Hall, Seat, all_last, are_own, are_seats, have_seats, receipts_of};
+use tpl_hall::{Hall, Seat, all_last, are_own, are_seated, are_seats, have_seats, receipts_of};
 use tpl_items::{Item, items_of};
 use tpl_jobs::Receipt;
 use tpl_model::Event;
-use tpl_words::{Inputs, Label, Status, TaskId};
+use tpl_words::{Actor, Inputs, Label, Status, TaskId};
 
 /// What a session leaves: the run, the first event first; of each task where it stands, what its own body threw, and
 /// whose exceptions it carries; the tasks whose exception nobody has observed; the receipts in the order of the Worked
@@ -38,6 +38,10 @@ pub struct Report<K, W> {
 /// Why a session wasn't closed well.
 #[derive(Clone, Copy, PartialEq, Eq, Debug, Error)]
 pub enum CloseWhy {
+    /// What the session kept isn't whole: its run isn't of its graph with its inputs, or some work statement has neither
+    /// a receipt nor an item. No call leaves a session so, but no type says it.
+    #[error("Lost")]
+    Lost,
     /// There are not as many seats as were made.
     #[error("SeatsMissing")]
     SeatsMissing,
@@ -95,28 +99,34 @@ fn are_once<K, W: Item<K>>(sites: u16, receipts: &[Receipt<K>], items: &[W]) -> 
     true
 }
 
-/// The run is of this graph with these inputs, and the seats, receipts and items are what it was made by.
-fn agrees<K: Drop, W: Item<K>>(
+/// The run is of this graph with these inputs, and each work statement has its receipt or its item.
+fn is_whole<K: Drop, W: Item<K>>(
     hall: &Hall<'_, K>,
     graph: &Graph,
     inputs: &Inputs,
-    seats: &[Seat],
     items: &[W],
 ) -> bool
     ensures graph { IsTrue result → named hall.now.core ≡ graph.now }
     ensures inputs { IsTrue result → hall.now.core.inputs ≡ inputs.now }
+    ensures whole { IsTrue result → IsWhole graph.now inputs.now hall.now.journal.items
+        hall.now.receipts.items (map W.site items.now) }
+{
+    hall.run_law();
+    hall.is_of(graph, inputs) && are_once::<K, W>(graph.site_count() as u16, hall.receipts(), items)
+}
+
+/// The seats are those that were made, and the run is what they made.
+fn agrees<K: Drop>(hall: &Hall<'_, K>, seats: &[Seat], made: &[Actor]) -> bool
     ensures own { IsTrue result → AllOwn seats.now hall.now.journal.items }
     ensures seats { IsTrue result → All (λ e. IsSeat e.actor) hall.now.journal.items }
     ensures seated { IsTrue result → all_seated hall.now.journal.items (map (λ s. s.actor)
         seats.now) ≡ true }
-    ensures once { IsTrue result → AreOnce (length graph.now.names.sites) (map (λ r. r.site.0)
-        hall.now.receipts.items) (map W.site items.now) }
+    ensures made { IsTrue result → are_seated made.now (map (λ s. s.actor) seats.now) ≡ true }
 {
-    hall.is_of(graph, inputs)
-        && are_own(seats, hall.journal())
+    are_own(seats, hall.journal())
         && have_seats(hall.journal(), seats)
         && are_seats(hall.journal())
-        && are_once::<K, W>(graph.site_count() as u16, hall.receipts(), items)
+        && are_seated(made, seats)
 }
 
 /// Compares the seats and items with the run, and makes the report.
@@ -126,10 +136,15 @@ fn judge<K: Drop, W: Item<K>>(
     graph: &Graph,
     inputs: &Inputs,
     seats: &[Seat],
-    made: usize,
+    made: &[Actor],
     items: &[W],
 ) -> Result<Told, CloseWhy>
-    ensures missing { (result ≡ Err SeatsMissing) ↔ (length seats.now ≡ made → ⊥) }
+    ensures whole { IfErr result (λ why. (why ≡ Lost) ⊎ IsWhole graph.now inputs.now
+        hall.now.journal.items hall.now.receipts.items (map W.site items.now)) }
+    ensures missing { IfErr result (λ why. (why ≡ Lost) ⊎ ((why ≡ SeatsMissing)
+        ↔ (length seats.now ≡ length made.now → ⊥))) }
+    ensures made { OnOk result ((length seats.now ≡ length made.now)
+        × (are_seated made.now (map (λ s. s.actor) seats.now) ≡ true)) }
     ensures run { OnOk result (Run graph.now.graph inputs.now (reverse hall.now.journal.items)) }
     ensures own { OnOk result (AllOwn seats.now hall.now.journal.items) }
     ensures last { OnOk result (AllLast graph.now.graph inputs.now seats.now
@@ -154,10 +169,13 @@ fn judge<K: Drop, W: Item<K>>(
     ensures complete { IfOk result (λ t. (t.complete ≡ true) ↔ Complete graph.now.graph inputs.now
         (reverse hall.now.journal.items)) }
 {
-    if seats.len() != made {
+    if !is_whole(hall, graph, inputs, items) {
+        return Err(CloseWhy::Lost);
+    }
+    if seats.len() != made.len() {
         return Err(CloseWhy::SeatsMissing);
     }
-    if !agrees(hall, graph, inputs, seats, items) {
+    if !agrees(hall, seats, made) {
         return Err(CloseWhy::Mismatch);
     }
     match all_last(alloc, graph, inputs, hall.journal(), seats) {
@@ -165,7 +183,6 @@ fn judge<K: Drop, W: Item<K>>(
         Ok(false) => return Err(CloseWhy::Mismatch),
         Err(AllocError) => return Err(CloseWhy::Memory),
     }
-    hall.run_law();
     match tables(alloc, hall, graph, inputs) {
         Ok(tables) => Ok(tables),
         Err(AllocError) => Err(CloseWhy::Memory),
@@ -179,11 +196,14 @@ pub fn settle<K: Drop, W: Item<K>>(
     graph: &Graph,
     inputs: &Inputs,
     seats: &[Seat],
-    made: usize,
+    made: &[Actor],
     items: Vec<W>,
 ) -> Result<Report<K, W>, CloseFault<K, W>>
-    ensures missing { IfErr result (λ e. (e.why ≡ SeatsMissing) ↔ (length seats.now ≡ made → ⊥)) }
-    ensures made { OnOk result (length seats.now ≡ made) }
+    ensures whole { IfErr result (λ e. GivesBack graph.now inputs.now W.site e) }
+    ensures missing { IfErr result (λ e. (e.why ≡ Lost) ⊎ ((e.why ≡ SeatsMissing)
+        ↔ (length seats.now ≡ length made.now → ⊥))) }
+    ensures made { OnOk result ((length seats.now ≡ length made.now)
+        × (are_seated made.now (map (λ s. s.actor) seats.now) ≡ true)) }
     ensures back { IfErr result (λ e. (e.journal ≡ hall.entry.journal)
         × (e.receipts ≡ hall.entry.receipts)
         × (e.items ≡ items)) }

@@ -1,6 +1,7 @@
 //! The jobs of tasks that are ready to run.
 
 ghost use Rattle.std.specs.Prelude.{◌≡◌};
+ghost use Rattle.tpl_runtime.specs.Puts.{Puts};
 
 use crate::queue::{ItemPass, ItemQueue};
 use std::sync::Wait;
@@ -21,7 +22,8 @@ fn put_one<K: Drop, W: Drop, R: Wait>(
     task: TaskId,
 )
     requires { pass.old.queue ≡ queue.now.id }
-    ensures { pass.new.queue ≡ queue.now.id }
+    ensures pass { pass.new.queue ≡ queue.now.id }
+    ensures job { Puts hall.now.core task pass.old.tally pass.new.tally stock.old stock.new }
 {
     let number = task.0 as usize;
     if number >= hall.core().graph().len() || hall.core().status(task) != Status::WaitingToRun {

@@ -1,11 +1,12 @@
 //! How a session runs its workers.
 
-ghost use Rattle.std.specs.Prelude.{◌≡◌, ◌≤◌, [], map, vec_len, vec_capacity, IfOk, IfErr, IfSome, IfNone, All, true};
-ghost use Rattle.tpl_runtime.specs.Workers.{workers};
-ghost use Rattle.tpl_runtime.specs.declared.run.RunWhy.TheVariants.{Spawn, Memory};
+ghost use Rattle.std.specs.Prelude.{◌≡◌, ◌⊎◌, ◌≤◌, ◌+◌, [], None, map, vec_len, vec_capacity, IfOk, IfErr, IfSome, IfNone, All};
+ghost use Rattle.tpl_runtime.specs.Workers.{workers, AreNew, HasWorked, IsSeatOf};
+ghost use Rattle.tpl_runtime.specs.declared.run.RunWhy.TheVariants.{Spawn};
 
 use crate::queue::ItemPass;
 use crate::session::Session;
+use crate::shared::Halting;
 use crate::threads::{Child, run_crew};
 use std::alloc::{AllocError, Global};
 use std::sync::Wait;
@@ -24,9 +25,9 @@ pub enum RunWhy {
     /// There are 1 to 64 workers.
     #[error("BadCount")]
     BadCount,
-    /// A worker has no seat.
-    #[error("{0}")]
-    Seat(SeatFault),
+    /// This worker has no seat. Those before it have theirs.
+    #[error("{1}")]
+    Seat(Worker, SeatFault),
     /// There was no thread for a worker. The session is halted.
     #[error("Spawn")]
     Spawn,
@@ -72,28 +73,28 @@ fn seats_of(done: Vec<(Seat, Ended)>, mut seats: Vec<Seat>) -> Vec<Seat>
     seats
 }
 
-/// What a run gives: the workers that are done, with the pass; or their seats, in the empty list `left`, where one of them
-/// had no thread.
+/// What a run gives: the workers that are done, with the pass; or their seats, in the empty list `left`, where the session
+/// was halted since one of them had no thread.
 fn answer_of<W>(
     done: Vec<(Seat, Ended)>,
     left: Vec<Seat>,
     pass: ItemPass<W>,
-    all: bool,
+    halting: Option<Halting>,
 ) -> Result<(Vec<(Seat, Ended)>, ItemPass<W>), RunFault<W>>
     requires empty { left.items ≡ [] }
     requires room { vec_len done ≤ vec_capacity left }
-    ensures done { IfOk result (λ r. (all ≡ true) × (r.0 ≡ done) × (r.1 ≡ pass)) }
+    ensures done { IfOk result (λ r. (halting ≡ None) × (r.0 ≡ done) × (r.1 ≡ pass)) }
     ensures left { IfErr result (λ e. (e.why ≡ Spawn) × (vec_len e.seats ≡ vec_len done)
         × (e.pass ≡ pass)) }
 {
-    if !all {
-        return Err(RunFault {
+    match halting {
+        None => Ok((done, pass)),
+        Some(_) => Err(RunFault {
             why: RunWhy::Spawn,
             seats: seats_of(done, left),
             pass,
-        });
+        }),
     }
-    Ok((done, pass))
 }
 
 impl<'g, K: Drop + Send, W: Item<K> + Send> Session<'g, K, W> {
@@ -111,12 +112,15 @@ impl<'g, K: Drop + Send, W: Item<K> + Send> Session<'g, K, W> {
         ensures back { IfErr result (λ e. e.pass.queue ≡ self.now.queue) }
         ensures workers { IfOk result (λ r. map (λ d. d.0.actor) r.0.items ≡ workers n) }
         ensures count { IfOk result (λ r. vec_len r.0 ≡ n) }
+        ensures worked { IfOk result (λ r. All (λ d. HasWorked self.now.graph.graph self.now.inputs
+            d.0 d.1) r.0.items) }
 
         // Where there was no thread for a worker, all seats come back.
         ensures left { IfErr result (λ e. e.why ≡ Spawn → vec_len e.seats ≡ n) }
 
-        // Where there was no memory, the seats that were made come back as they were made.
-        ensures fresh { IfErr result (λ e. e.why ≡ Memory → All (λ s. s.mine ≡ []) e.seats.items) }
+        // Else no worker was started: new seats come back, those of the workers before the first that has none.
+        ensures made { IfErr result (λ e. (e.why ≡ Spawn) ⊎ AreNew (vec_len e.seats) e.seats.items) }
+        ensures first { IfErr result (λ e. IsSeatOf e.why (vec_len e.seats + 1)) }
     {
         if n == 0 || n > MOST_WORKERS {
             return Err(RunFault {
@@ -135,8 +139,8 @@ impl<'g, K: Drop + Send, W: Item<K> + Send> Session<'g, K, W> {
         if let Some(why) = self.seat_workers(rt, alloc, n, &mut seats) {
             return Err(RunFault { why, seats, pass });
         }
-        let (done, pass, all) = run_crew(self, rt, seats, children, done, pass);
-        answer_of(done, left, pass, all)
+        let (done, pass, halting) = run_crew(self, rt, seats, children, done, pass);
+        answer_of(done, left, pass, halting)
     }
 
     /// Seats the workers 1 to n in an empty list that has room for them, and says why it can't.
@@ -150,16 +154,17 @@ impl<'g, K: Drop + Send, W: Item<K> + Send> Session<'g, K, W> {
         requires few { n ≤ 64 }
         requires empty { seats.old.items ≡ [] }
         requires room { n ≤ vec_capacity seats.old }
-        ensures seats { IfNone result (map (λ s. s.actor) seats.new.items ≡ workers n) }
+        ensures seats { AreNew (vec_len seats.new) seats.new.items }
         ensures count { IfNone result (vec_len seats.new ≡ n) }
         ensures threads { IfSome result (λ why. why ≡ Spawn → ⊥) }
-        ensures fresh { All (λ s. s.mine ≡ []) seats.new.items }
+        ensures first { IfSome result (λ why. IsSeatOf why (vec_len seats.new + 1)) }
     {
         for number in 0..n {
-            match self.seat(rt, alloc, Actor::Worker(Worker(number + 1))) {
+            let worker = Worker(number + 1);
+            match self.seat(rt, alloc, Actor::Worker(worker)) {
                 Ok(seat) => seats.push_reserved(seat),
                 Err(SeatFault::Memory) => return Some(RunWhy::Memory),
-                Err(fault) => return Some(RunWhy::Seat(fault)),
+                Err(fault) => return Some(RunWhy::Seat(worker, fault)),
             }
         }
         None

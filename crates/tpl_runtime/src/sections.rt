@@ -1,8 +1,8 @@
 //! What a worker does in a locked section: it begins a task, passes a statement, leaves a body, or looks for a job.
 
-ghost use Rattle.std.specs.Prelude.{◌≡◌};
+ghost use Rattle.std.specs.Prelude.{◌≡◌, true};
 ghost use Rattle.tpl_hall.specs.Moves.{Moves};
-ghost use Rattle.tpl_hall.specs.Stays.{MayEnd};
+ghost use Rattle.tpl_hall.specs.declared.sight.Ended.TheVariants.{Stray};
 ghost use Rattle.tpl_runtime.specs.Turns.{IfOver};
 
 use crate::queue::{ItemPass, ItemQueue};
@@ -29,7 +29,7 @@ impl<'g, K: Drop, W: Item<K>> Shared<'g, K, W> {
         ensures pass { pass.new.queue ≡ queue.now.id }
         ensures moves { Moves seat.old seat.new self.old.hall.core self.new.hall.core }
         ensures last { seat.new.last ≡ seat.old.last }
-        ensures over { IfOver result (λ ended. MayEnd ended self.new.hall.core) }
+        ensures over { IfOver result (λ ended. (ended ≡ Stray) × (self.new.halted ≡ true)) }
     {
         if self.act(rt, queue, pass, seat, Act::Begin(task)) {
             return Turn::Go(Hand::Running(task));
@@ -50,7 +50,7 @@ impl<'g, K: Drop, W: Item<K>> Shared<'g, K, W> {
         ensures pass { pass.new.queue ≡ queue.now.id }
         ensures moves { Moves seat.old seat.new self.old.hall.core self.new.hall.core }
         ensures last { seat.new.last ≡ seat.old.last }
-        ensures over { IfOver result (λ ended. MayEnd ended self.new.hall.core) }
+        ensures over { IfOver result (λ ended. (ended ≡ Stray) × (self.new.halted ≡ true)) }
     {
         if self.act(rt, queue, pass, seat, Act::Step(task)) {
             return Turn::Go(Hand::Running(task));
@@ -72,7 +72,7 @@ impl<'g, K: Drop, W: Item<K>> Shared<'g, K, W> {
         ensures pass { pass.new.queue ≡ queue.now.id }
         ensures moves { Moves seat.old seat.new self.old.hall.core self.new.hall.core }
         ensures last { seat.new.last ≡ seat.old.last }
-        ensures over { IfOver result (λ ended. MayEnd ended self.new.hall.core) }
+        ensures over { IfOver result (λ ended. (ended ≡ Stray) × (self.new.halted ≡ true)) }
     {
         if self.act(rt, queue, pass, seat, Act::Leave(task)) {
             return Turn::Go(self.hand_on(seat.actor()));
@@ -94,7 +94,7 @@ impl<'g, K: Drop, W: Item<K>> Shared<'g, K, W> {
         ensures pass { pass.new.queue ≡ queue.now.id }
         ensures moves { Moves seat.old seat.new self.old.hall.core self.new.hall.core }
         ensures last { seat.new.last ≡ seat.old.last }
-        ensures over { IfOver result (λ ended. MayEnd ended self.new.hall.core) }
+        ensures over { IfOver result (λ ended. (ended ≡ Stray) × (self.new.halted ≡ true)) }
     {
         let core = self.hall.core();
         if task.0 as usize >= core.graph().len() {
@@ -131,7 +131,7 @@ impl<'g, K: Drop, W: Item<K>> Shared<'g, K, W> {
         ensures pass { pass.new.queue ≡ queue.now.id }
         ensures moves { Moves seat.old seat.new self.old.hall.core self.new.hall.core }
         ensures last { seat.new.last ≡ seat.old.last }
-        ensures over { IfOver result (λ ended. MayEnd ended self.new.hall.core) }
+        ensures over { IfOver result (λ ended. (ended ≡ Stray) × (self.new.halted ≡ true)) }
     {
         match hand {
             Hand::Taken(task) => self.begin(rt, queue, pass, seat, task),

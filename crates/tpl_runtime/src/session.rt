@@ -10,7 +10,7 @@ ghost use Rattle.tpl_draft.specs.Ids.{task_number};
 ghost use Rattle.tpl_hall.specs.Answers.{answers, shown};
 ghost use Rattle.tpl_hall.specs.Lists.{IsSeat, all_seated};
 ghost use Rattle.tpl_hall.specs.Closes.{AllOwn, AllLast};
-ghost use Rattle.tpl_runtime.specs.Reports.{each_below, those_below, is_unseen, AreOnce};
+ghost use Rattle.tpl_runtime.specs.Reports.{each_below, those_below, is_unseen, AreOnce, GivesBack};
 ghost use Rattle.tpl_model.specs.Graph.{is_task, is_token};
 ghost use Rattle.tpl_queue.specs.Tally.{first_half, second_half, both};
 ghost use Rattle.tpl_hall.specs.Growth.{WorksOn, Requests};
@@ -21,7 +21,7 @@ ghost use Rattle.tpl_hall.specs.declared.sight.Sight.TheVariants.{At, Already};
 
 use crate::closing::{CloseFault, Report, settle};
 use crate::queue::{ItemPass, ItemQueue};
-use crate::shared::{Hand, Shared, Turn};
+use crate::shared::{Halting, Hand, Shared, Turn};
 use std::alloc::Global;
 use std::marker::Model;
 use std::sync::{Condvar, Mutex, Wait};
@@ -93,6 +93,7 @@ impl<'g, K: Drop, W: Item<K>> Session<'g, K, W> {
         requires pass { pass.old.queue ≡ self.now.queue }
         ensures pass { pass.new.queue ≡ self.now.queue }
         ensures actor { seat.new.actor ≡ seat.old.actor }
+        ensures room { seat.new.room ≡ seat.old.room }
         ensures asked { MatchAsked result (λ n. Requests self.now.graph.graph self.now.inputs
             seat.old seat.new token n × (seat.new.last ≡ seat.old.last)) ((n : ℕ)
             × (seat.new ≡ record seat.old { last = Some (n, Already token) })
@@ -108,10 +109,16 @@ impl<'g, K: Drop, W: Item<K>> Session<'g, K, W> {
 
     /// Halts the session: workers leave at their next section.
     pub fn halt<R: Wait>(&self, rt: &R) {
+        drop(self.halted(rt));
+    }
+
+    /// Halts the session, and gives what says so.
+    pub(crate) fn halted<R: Wait>(&self, rt: &R) -> Halting {
         let mut shared = self.shared.lock(rt);
-        shared.halt();
+        let halting = shared.halt();
         drop(shared);
         self.moved.notify_all();
+        halting
     }
 
     /// Cuts a pass in two halves. The first keeps what the pass put and took.
@@ -156,6 +163,7 @@ impl<'g, K: Drop, W: Item<K>> Session<'g, K, W> {
         ensures actor { result.0.actor ≡ seat.actor }
         ensures list { WorksOn self.now.graph.graph self.now.inputs seat.mine result.0.mine }
         ensures last { EndsAs result.2 self.now.graph.graph self.now.inputs seat result.0 }
+        ensures room { result.0.room ≡ seat.room }
     {
         let mut seat = seat;
         let mut pass = pass;
@@ -241,6 +249,7 @@ impl<'g, K: Drop, W: Item<K>> Session<'g, K, W> {
             self.entry.graph.graph.tasks)) }
         ensures complete { IfOk result (λ r. (r.complete ≡ true)
             ↔ Complete self.entry.graph.graph self.entry.inputs (reverse r.journal.items)) }
+        ensures back { IfErr result (λ e. GivesBack self.entry.graph self.entry.inputs W.site e) }
     {
         let Session {
             graph,
@@ -267,7 +276,7 @@ impl<'g, K: Drop, W: Item<K>> Session<'g, K, W> {
             graph,
             &inputs,
             seats.as_slice(),
-            made.len(),
+            made.as_slice(),
             items,
         )
     }

@@ -1,11 +1,13 @@
 //! What the session's lock guards.
 
-ghost use Rattle.std.specs.Prelude.{◌≡◌, ◌↔◌, ◌≤◌, ◌⊎◌, ◌++◌, ◌∷◌, [], Err, None, true, IfOk, IfErr, IfSome, OnOk, OnErr, vec_capacity, vec_len};
+ghost use Rattle.std.specs.Prelude.{◌≡◌, ◌↔◌, ◌≤◌, ◌⊎◌, ◌++◌, ◌∷◌, [], Err, None, true, IfOk, IfErr, IfSome, IsFalse, OnOk, OnErr, vec_capacity, vec_len};
+ghost use Rattle.tpl_model.specs.Rules.{Complete, IsOutside};
 ghost use Rattle.tpl_model.specs.Valid.{bound};
 ghost use Rattle.tpl_hall.specs.Moves.{Moves};
 ghost use Rattle.tpl_hall.specs.Stays.{MayEnd};
 ghost use Rattle.tpl_hall.specs.Lists.{is_seated};
 ghost use Rattle.tpl_hall.specs.declared.seat.SeatFault.TheVariants.{BadActor, SeatTaken};
+ghost use Rattle.tpl_runtime.specs.Turns.{IsEnd};
 
 use crate::put::{put_after, put_all};
 use crate::queue::{ItemPass, ItemQueue};
@@ -58,8 +60,16 @@ pub struct Shared<'g, K, W> {
     pub(crate) halted: bool,
 }
 
+/// That a session was halted. What halts one makes it, and nothing else does.
+#[derive(Drop)]
+pub struct Halting {
+    _made: (),
+}
+
 /// The actor is a worker.
-pub fn is_worker(actor: Actor) -> bool {
+pub fn is_worker(actor: Actor) -> bool
+    ensures { IsFalse result ↔ IsOutside actor }
+{
     match actor {
         Actor::Worker(_) => true,
         Actor::Outside(_) => false,
@@ -185,9 +195,11 @@ impl<'g, K: Drop, W: Item<K>> Shared<'g, K, W> {
         Some(job.task)
     }
 
-    /// Whether the worker's work ends here: where the session is halted, or the run complete.
+    /// Whether the worker's work ends here: where the session is halted, or else the run complete.
     pub(crate) fn end_of(&self) -> Option<Ended>
-        ensures { IfSome result (λ ended. MayEnd ended self.now.hall.core) }
+        ensures may { IfSome result (λ ended. MayEnd ended self.now.hall.core) }
+        ensures order { let j = self.now.hall.core in IsEnd result self.now.halted (Complete j.graph
+            j.inputs j.events) }
     {
         if self.halted {
             return Some(Ended::Halted);
@@ -209,11 +221,12 @@ impl<'g, K: Drop, W: Item<K>> Shared<'g, K, W> {
     }
 
     /// Workers leave at their next section.
-    pub fn halt(&mut self)
+    pub fn halt(&mut self) -> Halting
         ensures halted { self.new.halted ≡ true }
         ensures hall { self.new.hall.core ≡ self.old.hall.core }
     {
         self.halted = true;
+        Halting { _made: () }
     }
 
     /// A seat for an actor that has none, with room for all events of a run of the graph.

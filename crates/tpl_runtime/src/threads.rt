@@ -1,29 +1,53 @@
 //! Workers in threads of their own.
 
-ghost use Rattle.std.specs.Prelude.{◌≡◌, ◌+◌, ◌<◌, ◌≤◌, [], ◌∷◌, ◌++◌, map, vec_len, vec_capacity, All, IfOk, IfErr};
-ghost use Rattle.std.specs.Bool.{OnTrue};
+ghost use Rattle.std.specs.Prelude.{◌≡◌, ◌+◌, ◌<◌, ◌≤◌, [], ◌∷◌, ◌++◌, map, vec_len, vec_capacity, All, IfOk, IfErr, IfNone};
+ghost use Rattle.tpl_runtime.specs.Workers.{IsNew, HasWorked};
 
 use crate::crew::Crew;
+use crate::shared::Halting;
+use std::marker::Model;
 use std::snapshot::Snapshot;
 use std::sync::Wait;
 use std::thread;
 use std::thread::{Promise, PromisedHandle, Scope, Threads};
+use tpl_graph::Graph;
 use tpl_hall::{Ended, Seat};
 use tpl_queue::QueuePass;
-use tpl_words::Actor;
+use tpl_words::{Actor, Inputs};
 
 /// What a worker comes back with.
 type Back<L> = (Seat, QueuePass<L>, Ended);
 
-/// That a worker comes back as the same actor, with a pass of the same queue.
+/// That a worker comes back as the same actor, with a pass of the same queue, from work in the same session.
 #[derive(Drop)]
 pub(crate) struct Same<L> {
     actor: Actor,
     pass: Snapshot<QueuePass<L>>,
+    graph: Snapshot<Graph>,
+    inputs: Snapshot<Inputs>,
+}
+
+impl<L> Model for Same<L> {
+    ghost use Rattle.tpl_runtime.specs.Views.{PromiseView};
+    ghost use Rattle.tpl_runtime.specs.Promises.{promise_code};
+
+    ghost Value = { PromiseView };
+
+    ghost coded = { promise_code };
+
+    ghost view = { λ s. record {
+      actor = s.actor;
+      session = record {
+        graph = s.graph.value;
+        inputs = s.inputs.value;
+        queue = s.pass.value.queue;
+      };
+    } };
 }
 
 impl<L> Promise<(Seat, QueuePass<L>, Ended)> for Same<L> {
-    ghost kept_by = { λ p r. (r.0.actor ≡ p.actor) × (r.1.queue ≡ p.pass.value.queue) };
+    ghost kept_by = { λ p r. (r.0.actor ≡ p.actor) × (r.1.queue ≡ p.session.queue)
+        × HasWorked p.session.graph.graph p.session.inputs r.0 r.2 };
 }
 
 /// A thread with a worker.
@@ -36,36 +60,44 @@ fn start<'s, E, C: Crew + Sync + 's, R: Threads + Wait + Sync>(
     scope: &Scope<'s, E>,
     seat: Seat,
     pass: QueuePass<C::Load>,
-) -> Result<Child<C::Load>, Back<C::Load>>
+) -> Result<Child<C::Load>, (Back<C::Load>, Halting)>
 where
     C::Load: Send,
-    requires { pass.queue ≡ C.queue crew.now }
-    ensures child { IfOk result (λ h. h.promise.pass.value.queue ≡ C.queue crew.now) }
+    requires pass { pass.queue ≡ (C.session crew.now).queue }
+    requires new { IsNew seat }
+    ensures child { IfOk result (λ h. h.promise.session ≡ C.session crew.now) }
     ensures actor { IfOk result (λ h. h.promise.actor ≡ seat.actor) }
-    ensures back { IfErr result (λ b. b.1.queue ≡ C.queue crew.now) }
+    ensures back { IfErr result (λ b. b.0.1.queue ≡ (C.session crew.now).queue) }
+    ensures worked { let s = C.session crew.now in IfErr result (λ b. HasWorked s.graph.graph s.inputs
+        b.0.0 b.0.2) }
 {
     let promise = Same {
         actor: seat.actor(),
         pass: Snapshot::of(&pass),
+        graph: Snapshot::of(crew.graph()),
+        inputs: Snapshot::of(crew.inputs()),
     };
     match scope.spawn_with(
         promise,
         move || -> (Seat, QueuePass<C::Load>, Ended)
-            requires { pass.queue ≡ C.queue crew.now }
+            requires pass { pass.queue ≡ (C.session crew.now).queue }
+            requires new { IsNew seat }
             ensures actor { result.0.actor ≡ seat.actor }
-            ensures pass { result.1.queue ≡ C.queue crew.entry.now }
+            ensures pass { result.1.queue ≡ (C.session crew.entry.now).queue }
+            ensures worked { let s = C.session crew.entry.now in HasWorked s.graph.graph s.inputs
+                result.0 result.2 }
         { crew.work_with(rt, seat, pass) },
     ) {
         Ok(child) => Ok(child),
         Err(refused) => {
-            crew.stop(rt);
-            Err((refused.value)())
+            let halting = crew.stop(rt);
+            Err(((refused.value)(), halting))
         }
     }
 }
 
-/// Starts a worker with a part of the pass, and says whether there was a thread for it. It stands last among the children
-/// then, and otherwise among those that are done.
+/// Starts a worker with a part of the pass. It stands last among the children where there was a thread for it; else among
+/// those that are done, and the crew was stopped.
 fn start_one<'s, E, C: Crew + Sync + 's, R: Threads + Wait + Sync>(
     crew: &'s C,
     rt: &'s R,
@@ -74,17 +106,22 @@ fn start_one<'s, E, C: Crew + Sync + 's, R: Threads + Wait + Sync>(
     pass: QueuePass<C::Load>,
     children: &mut Vec<Child<C::Load>>,
     done: &mut Vec<(Seat, Ended)>,
-) -> (QueuePass<C::Load>, bool)
+) -> (QueuePass<C::Load>, Option<Halting>)
 where
     C::Load: Send,
-    requires pass { pass.queue ≡ C.queue crew.now }
-    requires children { All (λ h. h.promise.pass.value.queue ≡ C.queue crew.now)
+    requires pass { pass.queue ≡ (C.session crew.now).queue }
+    requires new { IsNew seat }
+    requires worked { let s = C.session crew.now in All (λ d. HasWorked s.graph.graph s.inputs d.0
+        d.1) done.old.items }
+    requires children { All (λ h. h.promise.session ≡ C.session crew.now)
         children.old.items }
     requires child_room { vec_len children.old < vec_capacity children.old }
     requires done_room { vec_len done.old < vec_capacity done.old }
-    ensures pass { result.0.queue ≡ C.queue crew.now }
-    ensures children { All (λ h. h.promise.pass.value.queue ≡ C.queue crew.now) children.new.items }
-    ensures started { OnTrue result.1 ((done.new ≡ done.old)
+    ensures pass { result.0.queue ≡ (C.session crew.now).queue }
+    ensures children { All (λ h. h.promise.session ≡ C.session crew.now) children.new.items }
+    ensures worked { let s = C.session crew.now in All (λ d. HasWorked s.graph.graph s.inputs d.0
+        d.1) done.new.items }
+    ensures started { IfNone result.1 ((done.new ≡ done.old)
         × (map (λ h. h.promise.actor) children.new.items
         ≡ map (λ h. h.promise.actor) children.old.items ++ seat.actor ∷ [])) }
     ensures count { vec_len children.new + vec_len done.new ≡ vec_len children.old + vec_len
@@ -98,17 +135,18 @@ where
     match start(crew, rt, scope, seat, own) {
         Ok(child) => {
             children.push_reserved(child);
-            (rest, true)
+            (rest, None)
         }
-        Err(back) => {
+        Err((back, halting)) => {
             let (seat, own, ended) = back;
             done.push_reserved((seat, ended));
-            (crew.mend(rest, own), false)
+            (crew.mend(rest, own), Some(halting))
         }
     }
 }
 
-/// Starts the workers, and says whether there was a thread for each: the children are theirs then, in the same order.
+/// Starts the workers. The children are theirs, in the same order, where there was a thread for each; else the crew was
+/// stopped.
 fn start_all<'s, E, C: Crew + Sync + 's, R: Threads + Wait + Sync>(
     crew: &'s C,
     rt: &'s R,
@@ -117,28 +155,33 @@ fn start_all<'s, E, C: Crew + Sync + 's, R: Threads + Wait + Sync>(
     pass: QueuePass<C::Load>,
     children: &mut Vec<Child<C::Load>>,
     done: &mut Vec<(Seat, Ended)>,
-) -> (QueuePass<C::Load>, bool)
+) -> (QueuePass<C::Load>, Option<Halting>)
 where
     C::Load: Send,
-    requires pass { pass.queue ≡ C.queue crew.now }
+    requires pass { pass.queue ≡ (C.session crew.now).queue }
+    requires new { All IsNew seats.items }
     requires empty { (children.old.items ≡ []) × (done.old.items ≡ []) }
     requires child_room { vec_len seats ≤ vec_capacity children.old }
     requires done_room { vec_len seats ≤ vec_capacity done.old }
-    ensures pass { result.0.queue ≡ C.queue crew.now }
-    ensures children { All (λ h. h.promise.pass.value.queue ≡ C.queue crew.now) children.new.items }
-    ensures started { OnTrue result.1 ((done.new.items ≡ [])
+    ensures pass { result.0.queue ≡ (C.session crew.now).queue }
+    ensures children { All (λ h. h.promise.session ≡ C.session crew.now) children.new.items }
+    ensures worked { let s = C.session crew.now in All (λ d. HasWorked s.graph.graph s.inputs d.0
+        d.1) done.new.items }
+    ensures started { IfNone result.1 ((done.new.items ≡ [])
         × (map (λ h. h.promise.actor) children.new.items ≡ map (λ s. s.actor) seats.items)) }
     ensures count { vec_len children.new + vec_len done.new ≡ vec_len seats }
     ensures capacity { vec_capacity done.new ≡ vec_capacity done.old }
 {
     let mut pass = pass;
-    let mut all = true;
+    let mut halting = None;
     for seat in seats {
-        let (rest, started) = start_one(crew, rt, scope, seat, pass, children, done);
+        let (rest, stopped) = start_one(crew, rt, scope, seat, pass, children, done);
         pass = rest;
-        all = all && started;
+        if stopped.is_some() {
+            halting = stopped;
+        }
     }
-    (pass, all)
+    (pass, halting)
 }
 
 /// Joins the workers, in their order, and their passes.
@@ -149,10 +192,14 @@ fn join_all<C: Crew, R: Threads + Wait>(
     pass: QueuePass<C::Load>,
     done: &mut Vec<(Seat, Ended)>,
 ) -> QueuePass<C::Load>
-    requires pass { pass.queue ≡ C.queue crew.now }
-    requires children { All (λ h. h.promise.pass.value.queue ≡ C.queue crew.now) children.items }
+    requires pass { pass.queue ≡ (C.session crew.now).queue }
+    requires children { All (λ h. h.promise.session ≡ C.session crew.now) children.items }
+    requires worked { let s = C.session crew.now in All (λ d. HasWorked s.graph.graph s.inputs d.0
+        d.1) done.old.items }
     requires room { vec_len done.old + vec_len children ≤ vec_capacity done.old }
-    ensures pass { result.queue ≡ C.queue crew.now }
+    ensures pass { result.queue ≡ (C.session crew.now).queue }
+    ensures worked { let s = C.session crew.now in All (λ d. HasWorked s.graph.graph s.inputs d.0
+        d.1) done.new.items }
     ensures joined { map (λ d. d.0.actor) done.new.items
         ≡ map (λ d. d.0.actor) done.old.items ++ map (λ h. h.promise.actor) children.items }
     ensures count { vec_len done.new ≡ vec_len done.old + vec_len children }
@@ -166,8 +213,8 @@ fn join_all<C: Crew, R: Threads + Wait>(
     pass
 }
 
-/// Starts and joins the workers, and says whether there was a thread for each: they came back in the order of their seats
-/// then. `children` and `done` are empty lists with room for them.
+/// Starts and joins the workers. They came back in the order of their seats where there was a thread for each; else the
+/// crew was stopped. `children` and `done` are empty lists with room for them.
 pub(crate) fn run_crew<C: Crew + Sync, R: Threads + Wait + Sync>(
     crew: &C,
     rt: &R,
@@ -175,36 +222,42 @@ pub(crate) fn run_crew<C: Crew + Sync, R: Threads + Wait + Sync>(
     children: Vec<Child<C::Load>>,
     done: Vec<(Seat, Ended)>,
     pass: QueuePass<C::Load>,
-) -> (Vec<(Seat, Ended)>, QueuePass<C::Load>, bool)
+) -> (Vec<(Seat, Ended)>, QueuePass<C::Load>, Option<Halting>)
 where
     C::Load: Send,
-    requires pass { pass.queue ≡ C.queue crew.now }
+    requires pass { pass.queue ≡ (C.session crew.now).queue }
+    requires new { All IsNew seats.items }
     requires empty { (children.items ≡ []) × (done.items ≡ []) }
     requires child_room { vec_len seats ≤ vec_capacity children }
     requires done_room { vec_len seats ≤ vec_capacity done }
-    ensures pass { result.1.queue ≡ C.queue crew.now }
-    ensures all { OnTrue result.2 (map (λ d. d.0.actor) result.0.items ≡ map (λ s. s.actor)
+    ensures pass { result.1.queue ≡ (C.session crew.now).queue }
+    ensures all { IfNone result.2 (map (λ d. d.0.actor) result.0.items ≡ map (λ s. s.actor)
         seats.items) }
+    ensures worked { let s = C.session crew.now in All (λ d. HasWorked s.graph.graph s.inputs d.0
+        d.1) result.0.items }
     ensures count { vec_len result.0 ≡ vec_len seats }
 {
     thread::scope(
         thread::scope_env(),
         rt,
-        |scope| -> (Vec<(Seat, Ended)>, QueuePass<C::Load>, bool)
-            requires pass { pass.queue ≡ C.queue crew.now }
+        |scope| -> (Vec<(Seat, Ended)>, QueuePass<C::Load>, Option<Halting>)
+            requires pass { pass.queue ≡ (C.session crew.now).queue }
+            requires new { All IsNew seats.items }
             requires empty { (children.items ≡ []) × (done.items ≡ []) }
             requires child_room { vec_len seats ≤ vec_capacity children }
             requires done_room { vec_len seats ≤ vec_capacity done }
-            ensures pass { result.1.queue ≡ C.queue crew.entry.now }
-            ensures all { OnTrue result.2 (map (λ d. d.0.actor) result.0.items ≡ map (λ s. s.actor)
+            ensures pass { result.1.queue ≡ (C.session crew.entry.now).queue }
+            ensures all { IfNone result.2 (map (λ d. d.0.actor) result.0.items ≡ map (λ s. s.actor)
                 seats.items) }
+            ensures worked { let s = C.session crew.entry.now in All (λ d. HasWorked s.graph.graph
+                s.inputs d.0 d.1) result.0.items }
             ensures count { vec_len result.0 ≡ vec_len seats }
         {
             let mut children = children;
             let mut done = done;
-            let (pass, all) = start_all(crew, rt, scope, seats, pass, &mut children, &mut done);
+            let (pass, halting) = start_all(crew, rt, scope, seats, pass, &mut children, &mut done);
             let pass = join_all(crew, rt, children, pass, &mut done);
-            (done, pass, all)
+            (done, pass, halting)
         },
     )
 }

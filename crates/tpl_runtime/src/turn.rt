@@ -1,10 +1,12 @@
 //! A worker's locked section, from what it brings to what it does next.
 
-ghost use Rattle.std.specs.Prelude.{◌≡◌};
+ghost use Rattle.std.specs.Prelude.{◌≡◌, true, IfNone};
 ghost use Rattle.tpl_hall.specs.Moves.{Moves};
 ghost use Rattle.tpl_hall.specs.Stays.{Stays, MayEnd, Leaves};
 ghost use Rattle.tpl_hall.specs.Views.{SeatView};
-ghost use Rattle.tpl_runtime.specs.Turns.{OnOver, IfOver};
+ghost use Rattle.tpl_hall.specs.declared.sight.Ended.TheVariants.{Stray};
+ghost use Rattle.tpl_runtime.specs.declared.shared.Turn.TheVariants.{Over};
+ghost use Rattle.tpl_runtime.specs.Turns.{OnOver, IfOver, EndsInOrder, MayTurn};
 
 use crate::queue::{ItemPass, ItemQueue};
 use crate::shared::{Hand, Shared, Turn, is_worker};
@@ -30,6 +32,7 @@ impl<'g, K: Drop, W: Item<K>> Shared<'g, K, W> {
         ensures pass { pass.new.queue ≡ queue.now.id }
         ensures moves { Moves seat.old seat.new self.old.hall.core self.new.hall.core }
         ensures last { seat.new.last ≡ seat.old.last }
+        ensures refused { IfNone result (self.new.halted ≡ true) }
     {
         match hand {
             Hand::Called(task, receipt) => {
@@ -64,6 +67,7 @@ impl<'g, K: Drop, W: Item<K>> Shared<'g, K, W> {
         ensures moves { Moves seat.old seat.new self.old.hall.core self.new.hall.core }
         ensures last { seat.new.last ≡ seat.old.last }
         ensures over { IfOver result (λ ended. MayEnd ended self.new.hall.core) }
+        ensures order { IfOver result (λ ended. EndsInOrder ended self.new.halted) }
     {
         let Some((held, done)) = self.bring(rt, queue, pass, seat, hand) else {
             return Turn::Over(Ended::Stray);
@@ -77,7 +81,8 @@ impl<'g, K: Drop, W: Item<K>> Shared<'g, K, W> {
         self.next(rt, queue, pass, seat, held)
     }
 
-    /// One section of a worker's work. Its seat is compared with the run where it comes for the first time and where its
+    /// One section of a worker's work. A seat that is stray comes first, then a receipt that is refused, then a session
+    /// that is halted, then a run that is complete. The seat is compared with the run where it comes for the first time and where its
     /// work ends; between them it is enough that the run has not become shorter.
     pub fn turn<R: Wait>(
         &mut self,
@@ -96,6 +101,9 @@ impl<'g, K: Drop, W: Item<K>> Shared<'g, K, W> {
         ensures stays { (first : SeatView) → Stays stint.old first seat.old
             → OnOver result (λ ended. Leaves ended graph.now.graph inputs.now first seat.new)
             (Stays stint.new first seat.new) }
+        ensures stray { (MayTurn stint.old.seen self.old.hall.core graph.now inputs.now seat.old → ⊥)
+            → result ≡ Over Stray }
+        ensures order { IfOver result (λ ended. EndsInOrder ended self.new.halted) }
     {
         if !is_worker(seat.actor()) || !self.hall.goes_on(graph, inputs, seat, *stint) {
             seat.stray(*stint);

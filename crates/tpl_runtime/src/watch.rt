@@ -1,6 +1,6 @@
 //! Watchers of a session.
 
-ghost use Rattle.std.specs.Prelude.{◌≡◌, ◌↔◌, [], true, length, map, reverse, All, List, IfOk};
+ghost use Rattle.std.specs.Prelude.{◌≡◌, ◌↔◌, [], true, length, map, reverse, All, List, IfOk, IfErr};
 ghost use Rattle.tpl_model.specs.Rules.{Run, Complete, status, label, carried};
 ghost use Rattle.tpl_model.specs.Certificate.{Accepts, Tree};
 ghost use Rattle.tpl_model.specs.Claims.{Claim, Holds};
@@ -10,7 +10,7 @@ ghost use Rattle.tpl_hall.specs.Answers.{answers, shown};
 ghost use Rattle.tpl_hall.specs.Closes.{AllOwn, AllLast};
 ghost use Rattle.tpl_hall.specs.Lists.{IsSeat, all_seated};
 ghost use Rattle.tpl_hall.specs.Watched.{AllBegin};
-ghost use Rattle.tpl_runtime.specs.Reports.{each_below, those_below, is_unseen, AreOnce};
+ghost use Rattle.tpl_runtime.specs.Reports.{each_below, those_below, is_unseen, AreOnce, GivesBack};
 
 use crate::closing::{CloseFault, CloseWhy, Report};
 use crate::queue::ItemPass;
@@ -70,6 +70,7 @@ impl<'g, K: Drop, W: Item<K>> Session<'g, K, W> {
         ensures complete { IfOk result (λ r. (r.complete ≡ true)
             ↔ Complete self.entry.graph.graph self.entry.inputs (reverse r.journal.items)) }
         ensures watched { IfOk result (λ r. AllBegin watchers.items r.journal.items) }
+        ensures back { IfErr result (λ e. GivesBack self.entry.graph self.entry.inputs W.site e) }
     {
         let report = match self.close(rt, alloc, seats, pass) {
             Ok(report) => report,

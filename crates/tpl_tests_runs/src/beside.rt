@@ -9,6 +9,7 @@ use crate::closed::{Back, closes_well};
 use crate::crews::{RAN, all_ran};
 use crate::exchange::Stamp;
 use crate::graphs::{Attempt, check_on};
+use crate::halting::halted_in_run;
 use crate::meeting::{flags_of, meet};
 use crate::opened::opened;
 use crate::parts::{FIRST, side_by_side};
@@ -48,7 +49,7 @@ struct Case {
 }
 
 /// How many cases there are.
-const COUNT: usize = 8;
+const COUNT: usize = 10;
 
 const CASES: [Case; COUNT] = [
     Case {
@@ -123,6 +124,24 @@ const CASES: [Case; COUNT] = [
         },
         rounds: 5,
     },
+    Case {
+        title: "halted while the one worker of a run calls a box",
+        file: "two_in_turn_that_wait",
+        company: Company {
+            workers: 1,
+            beside: Beside::HaltRun,
+        },
+        rounds: 20,
+    },
+    Case {
+        title: "halted while seven of the eight workers of a run wait",
+        file: "two_in_turn_that_wait",
+        company: Company {
+            workers: 8,
+            beside: Beside::HaltRun,
+        },
+        rounds: 20,
+    },
 ];
 
 /// The run is complete, and each task ran to its end, but for the two that may be canceled.
@@ -167,11 +186,11 @@ fn ends<K, W: Item<K>>(graph: &Graph, report: &Report<K, W>, beside: Beside) -> 
         Beside::Nobody | Beside::Watcher => all_ran(graph, report, None),
         Beside::Requests => ran_or_canceled(report),
         Beside::Look => all_ran(graph, report, Some(3)),
-        Beside::Halt => stands_halted(report),
+        Beside::Halt | Beside::HaltRun => stands_halted(report),
     }
 }
 
-/// Lets all be in threads at once. None where one finds no seat.
+/// Lets all be in threads of the test's own at once. None where one finds no seat.
 fn acted<'g, R: Threads + Wait + Sync, K: Drop + Send, W: Item<K> + Send>(
     rt: &R,
     alloc: Global,
@@ -194,6 +213,26 @@ fn acted<'g, R: Threads + Wait + Sync, K: Drop + Send, W: Item<K> + Send>(
     Ok(Some(back))
 }
 
+/// Lets all be in threads at once: those of the session's own `run`, or the test's own. None where they don't come back.
+fn acts<'g, R: Threads + Wait + Sync, K: Drop + Send, W: Item<K> + Send>(
+    rt: &R,
+    alloc: Global,
+    graph: &Graph,
+    session: &Session<'g, K, W>,
+    pass: QueuePass<Vec<W>>,
+    flags: &[AtomicU64],
+    company: Company,
+) -> Result<Option<Back<W>>, AllocError>
+    requires graph { session.now.graph ≡ graph.now }
+    requires pass { pass.queue ≡ session.now.queue }
+    ensures { IfOk result (λ found. IfSome found (λ b. b.pass.queue ≡ session.now.queue)) }
+{
+    match company.beside {
+        Beside::HaltRun => halted_in_run(rt, alloc, session, pass, flags, company.workers),
+        _ => acted(rt, alloc, graph, session, pass, flags, company),
+    }
+}
+
 /// Lets all be in threads at once, and says whether they and the session end as they must.
 fn together<R: Threads + Wait + Sync, K: Drop + Send, W: Item<K> + Send>(
     rt: &R,
@@ -210,7 +249,7 @@ fn together<R: Threads + Wait + Sync, K: Drop + Send, W: Item<K> + Send>(
     let Ok(looker) = session.seat(rt, alloc, LAST) else {
         return Ok(false);
     };
-    let Some(back) = acted(rt, alloc, graph, &session, pass, flags, company)? else {
+    let Some(back) = acts(rt, alloc, graph, &session, pass, flags, company)? else {
         return Ok(false);
     };
     match closes_well(rt, alloc, graph, session, back, looker)? {
@@ -239,7 +278,7 @@ fn flag_count(graph: &Graph, beside: Beside) -> usize {
     match beside {
         Beside::Nobody => graph.site_count(),
         Beside::Requests | Beside::Watcher => 0,
-        Beside::Look | Beside::Halt => 2,
+        Beside::Look | Beside::Halt | Beside::HaltRun => 2,
     }
 }
 

@@ -23,6 +23,8 @@ pub enum Beside {
     Look,
     /// Someone halts the session while the first box is called, and then lets the box go.
     Halt,
+    /// The same, where the workers are those of the session's own `run`.
+    HaltRun,
 }
 
 /// The first two seats outside.
@@ -60,7 +62,7 @@ fn others<'g, K: Drop, W: Item<K>>(
             vec![in alloc; (OUTSIDE, Role::Watches(watcher))]?
         }
         Beside::Look => vec![in alloc; (OUTSIDE, Role::Looks)]?,
-        Beside::Halt => vec![in alloc; (OUTSIDE, Role::Halts)]?,
+        Beside::Halt | Beside::HaltRun => vec![in alloc; (OUTSIDE, Role::Halts)]?,
     };
     Ok(cast)
 }

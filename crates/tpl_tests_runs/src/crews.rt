@@ -8,7 +8,7 @@ use std::sync::Wait;
 use std::thread::Threads;
 use tpl_graph::Graph;
 use tpl_queue::QueuePass;
-use tpl_runtime::{Ended, Item, Looked, Report, Seat, Session, Watcher};
+use tpl_runtime::{Ended, Item, Looked, Report, Seat, Session, Sight, Watcher};
 use tpl_words::{Actor, Final, Status, TaskId};
 
 /// The outside seat that looks at the tasks.
@@ -20,6 +20,12 @@ pub const RAN: Status = Status::Completed(Final::RanToCompletion);
 /// How many events a run has, where there is but one number.
 pub type Length = Option<usize>;
 
+/// A worker's work ended in this way, and it was reported to its seat that the run is complete where it ended so.
+fn ended_as(seat: &Seat, ended: Ended, how: Ended) -> bool {
+    let told = matches!(seat.last(), Some((_, Sight::Complete)));
+    ended == how && told == (how == Ended::Complete)
+}
+
 /// The seats, with those of the workers that have come back, and whether each ended as expected.
 pub fn with_workers(
     seats: Vec<Seat>,
@@ -29,7 +35,7 @@ pub fn with_workers(
     let mut seats = seats;
     let mut all = true;
     for (seat, ended) in done {
-        all = all && ended == how;
+        all = all && ended_as(&seat, ended, how);
         seats.push(seat)?;
     }
     Ok((seats, all))

@@ -1,8 +1,10 @@
 //! What is tried on the graph of a file.
 
 use crate::beside::{Company, tried_beside};
+use crate::handed::{Badly, closed_badly};
 use crate::meeting::all_meet;
 use crate::memory::plays_graph;
+use crate::order::finds_full;
 use crate::refusals::{Given, counts, refuses_given};
 use crate::sessions::{Trial, tried_each};
 use std::alloc::Global;
@@ -27,12 +29,31 @@ pub enum Attempt {
     Items(&'static [Given], OpenWhy),
     /// A session with counts of workers that can't be.
     Counts,
+    /// A session one of whose two jobs was called, and that isn't closed well.
+    Badly(Badly),
+    /// A session in which a seat of another one, over the graph of this file, has no room.
+    Full(&'static str),
     /// A session with little memory.
     Little,
 }
 
+/// A seat of a session over the graph of this file has no room in one over the graph, where it is stray.
+fn full<R: Files + Alloc + Wait>(
+    rt: &R,
+    alloc: Global,
+    graph: &Graph,
+    smaller: &str,
+) -> io::Result<bool> {
+    let file = format!(in alloc; "graphs/{smaller}")?;
+    let text = fs::read_to_string(rt, file.as_str())?;
+    match read_document(alloc, text.as_bytes()) {
+        Ok(document) => Ok(finds_full(rt, alloc, graph, &document.graph)?),
+        Err(_) => Ok(false),
+    }
+}
+
 /// Whether what is tried on a graph goes as it must.
-fn goes<R: Print + Threads + Wait + Sync>(
+fn goes<R: Files + Alloc + Print + Threads + Wait + Sync>(
     rt: &R,
     alloc: Global,
     graph: &Graph,
@@ -44,6 +65,8 @@ fn goes<R: Print + Threads + Wait + Sync>(
         Attempt::Meeting(workers) => all_meet(rt, alloc, graph, workers)?,
         Attempt::Items(given, why) => refuses_given(alloc, graph, given, why)?,
         Attempt::Counts => counts(rt, alloc, graph)?,
+        Attempt::Badly(badly) => closed_badly(rt, alloc, graph, badly)?,
+        Attempt::Full(smaller) => full(rt, alloc, graph, smaller)?,
         Attempt::Little => plays_graph(rt, alloc, graph)?,
     };
     Ok(holds)

@@ -1,7 +1,8 @@
 //! Runs: plays on both machines, random runs on both side by side, the queue between threads, and sessions.
 //!
 //! The file `files` names the plays. Each check is a line, and the last line counts them. With the word `memory`, the
-//! sessions of cases/session_memory.py alone.
+//! sessions of cases/session_memory.py alone. With `speed WORKERS MICROSECONDS` nothing is checked: the document on
+//! standard input is run by so many workers, each job of it takes so long, and how fast they are is printed.
 #![tactic(auto)]
 
 mod allowed;
@@ -12,20 +13,28 @@ mod chance;
 mod closed;
 mod crews;
 mod dice;
+mod dropped;
 mod exchange;
 mod graphs;
+mod halting;
+mod handed;
 mod machines;
 mod meeting;
 mod memory;
 mod names;
 mod opened;
+mod order;
 mod parts;
 mod plays;
+mod pool;
 mod queue;
 mod refusals;
 mod retold;
 mod seen;
+mod served;
 mod sessions;
+mod speed;
+mod spins;
 
 use crate::beside::check_beside;
 use crate::chance::check_chance;
@@ -33,8 +42,10 @@ use crate::meeting::check_meetings;
 use crate::memory::play_with_little;
 use crate::plays::check_play;
 use crate::queue::check_queue;
-use crate::refusals::{check_counts, check_items};
+use crate::refusals::{check_closes, check_counts, check_full, check_items};
+use crate::served::{check_fault_lines, check_served_meetings, check_served_refusals};
 use crate::sessions::check_sessions;
+use crate::speed::{Crew, measure};
 use std::{env, fs, io};
 
 /// How many checks there were, and how many of them failed.
@@ -67,11 +78,25 @@ fn check_plays(rt: &HostRuntime, so_far: Tally) -> io::Result<Tally> {
     Ok(tally)
 }
 
+/// Who runs the tasks that are measured, by the words `WORKERS MICROSECONDS`.
+fn crew_of(workers: Option<String>, microseconds: Option<String>) -> Option<Crew> {
+    Some(Crew {
+        workers: workers?.as_str().parse::<u16>().ok()?,
+        microseconds: microseconds?.as_str().parse::<u32>().ok()?,
+    })
+}
+
 fn main(rt: HostRuntime) -> io::Result<()> {
-    if let Some(word) = env::args(&rt)?.nth(1) {
+    let mut words = env::args(&rt)?;
+    if let Some(word) = words.nth(1) {
         if word.as_str() == "memory" {
             return play_with_little(&rt, rt.alloc());
         }
+        let workers = words.next();
+        return match crew_of(workers, words.next()) {
+            Some(crew) => measure(&rt, &rt, crew),
+            None => println!(&rt; "memory, or speed WORKERS MICROSECONDS"),
+        };
     }
     let tally = Tally {
         checks: 0,
@@ -83,7 +108,12 @@ fn main(rt: HostRuntime) -> io::Result<()> {
     let tally = tally.with(&check_sessions(&rt, rt.alloc())?);
     let tally = tally.with(&check_items(&rt, rt.alloc())?);
     let tally = tally.with(&[check_counts(&rt, rt.alloc())?]);
+    let tally = tally.with(&check_closes(&rt, rt.alloc())?);
+    let tally = tally.with(&[check_full(&rt, rt.alloc())?]);
     let tally = tally.with(&check_meetings(&rt, rt.alloc())?);
     let tally = tally.with(&check_beside(&rt, rt.alloc())?);
+    let tally = tally.with(&check_served_meetings(&rt, rt.alloc())?);
+    let tally = tally.with(&check_served_refusals(&rt, rt.alloc())?);
+    let tally = tally.with(&check_fault_lines(&rt)?);
     println!(&rt; "{} checks, {} failed", tally.checks, tally.failed)
 }

@@ -152,23 +152,42 @@ fn goes_on<'g, R: Print + Wait, K: Drop, W: Item<K>>(
     Ok(crew)
 }
 
-/// After a run that found no thread the seats that are left come back.
-fn has_no_thread<R: Print, W: Drop>(
+/// Works once more with one of these seats, if there is one, and says whether it finds the session halted.
+fn finds_it_halted<'g, R: Wait, K: Drop, W: Item<K>>(
     rt: &R,
+    session: &Session<'g, K, W>,
+    seats: &mut Vec<Seat>,
+    pass: QueuePass<Vec<W>>,
+) -> Result<(QueuePass<Vec<W>>, bool), AllocError>
+    requires { pass.queue ≡ session.now.queue }
+    ensures { IfOk result (λ r. r.0.queue ≡ session.now.queue) }
+{
+    let Some(seat) = seats.pop() else {
+        return Ok((pass, false));
+    };
+    let (seat, pass, ended) = session.work(rt, seat, pass);
+    seats.push(seat)?;
+    Ok((pass, ended == Ended::Halted))
+}
+
+/// After a run that found no thread the session is halted, and all seats come back.
+fn has_no_thread<'g, R: Print + Wait, K: Drop, W: Item<K>>(
+    rt: &R,
+    session: &Session<'g, K, W>,
     fault: RunFault<W>,
     others: Vec<Seat>,
 ) -> io::Result<Crew<W>>
-    ensures { IfOk result (λ c. c.pass.queue ≡ fault.pass.queue) }
+    requires { fault.pass.queue ≡ session.now.queue }
+    ensures { IfOk result (λ c. c.pass.queue ≡ session.now.queue) }
 {
     let mut seats = others;
     let mut left = fault.seats;
-    tell(rt, "no thread to run", fault.why == RunWhy::Spawn)?;
+    let all = left.len() == WORKERS as usize && fault.why == RunWhy::Spawn;
+    let (pass, halted) = finds_it_halted(rt, session, &mut left, fault.pass)?;
+    tell(rt, "no thread to run", all && halted)?;
     seats.append(&mut left)?;
-    Ok(Crew {
-        seats,
-        pass: fault.pass,
-        ran: false,
-    })
+    let ran = false;
+    Ok(Crew { seats, pass, ran })
 }
 
 /// The workers have come back.
@@ -200,7 +219,7 @@ fn runs<'g, R: Print + Threads + Wait + Sync, K: Drop + Send, W: Item<K> + Send>
         Err(fault) if fault.why == RunWhy::Memory => {
             goes_on(rt, alloc, session, fault, crew.seats)
         }
-        Err(fault) => has_no_thread(rt, fault, crew.seats),
+        Err(fault) => has_no_thread(rt, session, fault, crew.seats),
     }
 }
 

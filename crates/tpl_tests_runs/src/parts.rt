@@ -102,7 +102,7 @@ fn requests<'g, R: Wait, K: Drop, W: Item<K>>(
 }
 
 /// Halts the session once the first box is called and the other workers had time to wait, and lets the box go.
-fn halts<'g, R: Wait, K: Drop, W: Item<K>>(
+pub fn halts<'g, R: Wait, K: Drop, W: Item<K>>(
     rt: &R,
     session: &Session<'g, K, W>,
     flags: &[AtomicU64],

@@ -5,6 +5,7 @@ ghost use Rattle.std.specs.Prelude.{◌≡◌, ◌<◌};
 use crate::crews::LOOKER;
 use crate::exchange::Stamp;
 use crate::graphs::{Attempt, check_on};
+use crate::handed::Badly;
 use crate::opened::opened;
 use crate::sessions::places;
 use std::alloc::{AllocError, Global};
@@ -15,7 +16,7 @@ use std::thread::Threads;
 use tpl_graph::Graph;
 use tpl_jobs::{Work, WorkItem};
 use tpl_queue::{JobQueue, QueuePass};
-use tpl_runtime::{Item, OpenFault, OpenWhy, RunWhy, SeatFault, Session};
+use tpl_runtime::{Item, OpenFault, OpenWhy, RunWhy, Seat, SeatFault, Session};
 use tpl_words::{Actor, Answer, Inputs, SiteId, Worker};
 
 /// An item of a work statement, and whether it says that it may fail.
@@ -37,6 +38,9 @@ const REFUSED: [(&[Given], OpenWhy); COUNT] = [
     (&[(1, false), (0, true)], OpenWhy::MayFailDiffers(SiteId(0))),
     (&[(0, false), (1, true)], OpenWhy::MayFailDiffers(SiteId(1))),
 ];
+
+/// The worker who has a seat before the others.
+const SECOND: Worker = Worker(2);
 
 /// How many lists of items there are.
 const COUNT: usize = 7;
@@ -84,7 +88,19 @@ pub fn refuses_given(
     refuses(alloc, graph, items, given, why)
 }
 
-/// The session doesn't run this many workers, for this reason.
+/// These are new seats of the first workers, one for each.
+fn are_first(seats: &[Seat], count: u16) -> bool {
+    let mut all = seats.len() == count as usize;
+    for number in 0..count {
+        if let Some(seat) = seats.get(number as usize) {
+            let first = seat.actor() == Actor::Worker(Worker(number + 1));
+            all = all && first && seat.mine().is_empty() && seat.last().is_none();
+        }
+    }
+    all
+}
+
+/// The session doesn't run this many workers, for this reason. The seats of this many come back.
 fn refuses_to_run<R: Threads + Wait + Sync, K: Drop + Send, W: Item<K> + Send>(
     rt: &R,
     alloc: Global,
@@ -92,17 +108,22 @@ fn refuses_to_run<R: Threads + Wait + Sync, K: Drop + Send, W: Item<K> + Send>(
     pass: QueuePass<Vec<W>>,
     workers: u16,
     why: RunWhy,
-) -> (QueuePass<Vec<W>>, bool)
+    seated: u16,
+) -> (QueuePass<Vec<W>>, Vec<Seat>, bool)
     requires { pass.queue ≡ session.now.queue }
     ensures { result.0.queue ≡ session.now.queue }
 {
     match session.run(rt, alloc, pass, workers) {
-        Ok((_done, pass)) => (pass, false),
-        Err(fault) => (fault.pass, fault.why == why && fault.seats.is_empty()),
+        Ok((_done, pass)) => (pass, Vec::new(alloc), false),
+        Err(fault) => {
+            let refused = fault.why == why && are_first(fault.seats.as_slice(), seated);
+            (fault.pass, fault.seats, refused)
+        }
     }
 }
 
-/// There are 1 to 64 workers, and none of them is seated already.
+/// There are 1 to 64 workers, and none of them is seated already: where the second one is, the first one's seat comes
+/// back.
 fn refuses_counts<R: Threads + Wait + Sync, K: Drop + Send, W: Item<K> + Send>(
     rt: &R,
     alloc: Global,
@@ -111,17 +132,17 @@ fn refuses_counts<R: Threads + Wait + Sync, K: Drop + Send, W: Item<K> + Send>(
 ) -> Result<bool, AllocError>
     requires { pass.queue ≡ session.queue }
 {
-    let (pass, none) = refuses_to_run(rt, alloc, &session, pass, 0, RunWhy::BadCount);
-    let (pass, more) = refuses_to_run(rt, alloc, &session, pass, 65, RunWhy::BadCount);
-    let Ok(seat) = session.seat(rt, alloc, Actor::Worker(Worker(1))) else {
+    let count = RunWhy::BadCount;
+    let (pass, _, none) = refuses_to_run(rt, alloc, &session, pass, 0, count, 0);
+    let (pass, _, more) = refuses_to_run(rt, alloc, &session, pass, 65, count, 0);
+    let Ok(seat) = session.seat(rt, alloc, Actor::Worker(SECOND)) else {
         return Ok(false);
     };
-    let taken = RunWhy::Seat(SeatFault::SeatTaken);
-    let (pass, one) = refuses_to_run(rt, alloc, &session, pass, 1, taken);
-    let closed = session
-        .close(rt, alloc, vec![in alloc; seat]?, pass)
-        .is_ok();
-    Ok(closed && none && more && one)
+    let taken = RunWhy::Seat(SECOND, SeatFault::SeatTaken);
+    let (pass, mut seats, two) = refuses_to_run(rt, alloc, &session, pass, 3, taken, 1);
+    seats.push(seat)?;
+    let closed = session.close(rt, alloc, seats, pass).is_ok();
+    Ok(closed && none && more && two)
 }
 
 /// A session of a graph with no work statements, and what it refuses to run.
@@ -154,6 +175,49 @@ pub fn check_items<R: Files + Alloc + Print + Threads + Wait + Sync>(
         )?;
     }
     Ok(all)
+}
+
+/// How a session isn't closed well, each with its title.
+const CLOSES: [(&str, Badly); 4] = [
+    ("closed with a seat less, and all comes back", Badly::NoSeat),
+    (
+        "closed with another list, and all comes back",
+        Badly::OtherList,
+    ),
+    (
+        "closed with another actor, and all comes back",
+        Badly::OtherActor,
+    ),
+    (
+        "closed with another's watcher, and all comes back",
+        Badly::OtherWatcher,
+    ),
+];
+
+/// Closes a session in ways that aren't well, and answers which of them are refused as they must be.
+pub fn check_closes<R: Files + Alloc + Print + Threads + Wait + Sync>(
+    rt: &R,
+    alloc: Global,
+) -> io::Result<[bool; 4]> {
+    let mut all = [false; 4];
+    for (holds, (title, badly)) in all.iter_mut().zip(CLOSES) {
+        *holds = check_on(rt, alloc, title, "one_job_left", Attempt::Badly(badly))?;
+    }
+    Ok(all)
+}
+
+/// Looks from a seat that has no room, and answers whether it is stray.
+pub fn check_full<R: Files + Alloc + Print + Threads + Wait + Sync>(
+    rt: &R,
+    alloc: Global,
+) -> io::Result<bool> {
+    check_on(
+        rt,
+        alloc,
+        "a seat with no room",
+        "two",
+        Attempt::Full("one_token"),
+    )
 }
 
 /// Tries to run a session by counts of workers that can't be, and answers whether they are refused.

@@ -5,9 +5,11 @@ ghost use Rattle.tpl_words.specs.declared.status.Answer.TheVariants.{Done};
 
 use crate::asked::{Closing, asks_a_link, halts_first, requests};
 use crate::crews::{Length, all_ran, run_by};
+use crate::dropped::drops_a_job;
 use crate::exchange::Stamp;
 use crate::graphs::{Attempt, check_on};
-use crate::opened::opened;
+use crate::opened::opened_with;
+use crate::order::halts_last;
 use std::alloc::{AllocError, Global};
 use std::fs::Files;
 use std::io;
@@ -24,12 +26,18 @@ use tpl_words::{Answer, SiteId};
 pub enum Trial {
     /// This many workers run it, to a journal of this many events.
     Run(u16, Length),
+    /// This many workers run it, and its queue has one place.
+    Narrow(u16),
     /// A token is requested twice, and the session is closed in this way.
     Requests(Closing),
     /// A token is requested, and one that is linked to it.
     Link,
     /// It is halted before anyone works.
     Halt,
+    /// It is halted once its token is requested and its run is complete.
+    HaltLast,
+    /// A task is dropped once its job was put.
+    Dropped,
 }
 
 /// What is tried on the graph of which file, how often.
@@ -42,7 +50,7 @@ struct Case {
 }
 
 /// How many cases there are.
-const COUNT: usize = 11;
+const COUNT: usize = 15;
 
 const CASES: [Case; COUNT] = [
     Case {
@@ -111,6 +119,30 @@ const CASES: [Case; COUNT] = [
         trial: Trial::Halt,
         rounds: 1,
     },
+    Case {
+        title: "halted once all is done, and seats of another session",
+        file: "two",
+        trial: Trial::HaltLast,
+        rounds: 1,
+    },
+    Case {
+        title: "a task that is dropped once its job was put",
+        file: "two_with_two_tokens",
+        trial: Trial::Dropped,
+        rounds: 1,
+    },
+    Case {
+        title: "a queue of one place, by one worker",
+        file: "seven",
+        trial: Trial::Narrow(1),
+        rounds: 1,
+    },
+    Case {
+        title: "a queue of one place, by four workers",
+        file: "seven",
+        trial: Trial::Narrow(4),
+        rounds: 20,
+    },
 ];
 
 /// How many places the queue of a graph has.
@@ -153,9 +185,22 @@ fn goes<R: Threads + Wait + Sync, K: Drop + Send, W: Item<K> + Send>(
 {
     match trial {
         Trial::Run(workers, events) => runs(rt, alloc, graph, session, pass, workers, events),
+        Trial::Narrow(workers) => runs(rt, alloc, graph, session, pass, workers, None),
         Trial::Requests(closing) => requests(rt, alloc, graph, session, pass, closing),
         Trial::Link => asks_a_link(rt, alloc, graph, session, pass),
         Trial::Halt => halts_first(rt, alloc, graph, session, pass),
+        Trial::HaltLast => halts_last(rt, alloc, graph, session, pass),
+        Trial::Dropped => drops_a_job(rt, alloc, graph, session, pass),
+    }
+}
+
+/// How many places the queue of a trial has.
+fn places_of(graph: &Graph, trial: Trial) -> usize
+    ensures { 0 < result }
+{
+    match trial {
+        Trial::Narrow(_) => 1,
+        _ => places(graph),
     }
 }
 
@@ -167,7 +212,7 @@ fn tries<R: Threads + Wait + Sync, K: Drop + Send, W: Item<K> + Send>(
     items: Vec<W>,
     trial: Trial,
 ) -> Result<bool, AllocError> {
-    match opened(alloc, graph, items)? {
+    match opened_with(alloc, graph, items, places_of(graph, trial))? {
         Some((session, pass)) => goes(rt, alloc, graph, session, pass, trial),
         None => Ok(false),
     }

@@ -1,23 +1,24 @@
 -- What the audit says of a document with a run that refutes a claim.
-use Rattle.std.proofs.Common.{◌≡◌, ℕ, ◌⊎◌, inl, inr, Bool, List, length, reverse, Option, Some, None, refl, sym, ap, subst, arith}
+use Rattle.std.proofs.Common.{◌≡◌, ◌∙◌, ℕ, zero, suc, ◌⊎◌, inl, inr, Bool, List, [], ◌∷◌, ◌++◌, length, take, reverse, Option, Some, None, refl, sym, ap, subst, arith}
 use Rattle.std.specs.Prelude.{slice_get}
 use Rattle.std.specs.List.{All}
-use Rattle.std.proofs.lemmas.List.{take_all}
+use Rattle.std.proofs.lemmas.List.{reverse-append, take_all}
 use Rattle.std.proofs.lemmas.Option.{get_or_from_slice_get, slice_get_within}
 use Rattle.tpl_commands.proofs.TakenBack.{unreadable_never}
 use Rattle.tpl_laws.specs.Runs.{PrefixIsRun}
 use Rattle.tpl_model.specs.Graph.{TaskGraph}
 use Rattle.tpl_model.specs.declared.event.Event.{Event}
 use Rattle.tpl_model.specs.Claims.{Claim, Holds}
+use Rattle.tpl_model.specs.Rules.{Run}
 use Rattle.tpl_graph.specs.Kept.{IsNamedGraph}
 use Rattle.tpl_journal.specs.declared.reading_lines.JournalFault.{JournalFault}
 use Rattle.tpl_journal.specs.declared.reading_lines.JournalFault.TheVariants as broken
 use Rattle.tpl_journal.specs.Lines.{IsJournal, lines, TextIsUnambiguous, FaultIsNoJournal}
 use Rattle.tpl_audit.specs.declared.verdict.Verdict.{Verdict}
 use Rattle.tpl_audit.specs.declared.verdict.Verdict.TheVariants as ruled
-use Rattle.tpl_audit.specs.Audit.{first_events, AllHoldAt, FirstFails, IsVerdict}
+use Rattle.tpl_audit.specs.Audit.{first_events, AllHoldAt, FirstFails, IsFirstRefused, IsVerdict}
 use Rattle.tpl_refute.specs.Refuting.{Refutes}
-use Rattle.tpl_refute.proofs.JudgeLemmas.{is_allowed}
+use Rattle.tpl_audit.proofs.FailLemmas.{front_run}
 use Rattle.tpl_reader.specs.Begin.{StartValue}
 use Rattle.tpl_reader.specs.Document.{DocumentValue, Spells}
 use Rattle.tpl_reader.specs.Laws.{SpellsOneDocument, SpelledHasNoFault}
@@ -33,6 +34,20 @@ use Rattle.tpl_witness.specs.Witness.{refuted_by, NamesFailure, IsAuditedSo}
 
 there : (P : Claim → Type 0) (claims : List Claim) (at : ℕ) (claim : Claim) → All P claims → slice_get claims at ≡ Some claim → P claim
 there P claims at claim all e = subst P (get_or_from_slice_get claims at claim claim e) (all at claim (slice_get_within claims at claim e))
+
+-- the events up to and with one more
+next_event : (events : List Event) (n : ℕ) (event : Event) → slice_get events n ≡ Some event → take (suc n) events ≡ take n events ++ event ∷ []
+next_event [] zero event e = absurd (cc)
+next_event [] (suc n) event e = absurd (cc)
+next_event (x ∷ events) zero event e = let same : x ≡ event = cc in cc
+next_event (x ∷ events) (suc n) event e = ap (λ rest. x ∷ rest) (next_event events n event e)
+
+-- no event of a run is refused
+is_allowed : (g : TaskGraph) (claim : Claim) (v : List Bool) (events : List Event) (place : ℕ) → PrefixIsRun → IsFirstRefused g v events place → Refutes g claim v events → ⊥
+is_allowed g claim v events place prefix refused r =
+    let parts : first_events events (suc refused.before) ≡ refused.event ∷ first_events events refused.before =
+    ap reverse (next_event events refused.before refused.event refused.there) ∙ reverse-append (take refused.before events) (refused.event ∷ []) in
+    refused.refused (subst (Run g v) parts (front_run g v events (suc refused.before) prefix r.run)).1
 
 module _ (g : TaskGraph) (claims : List Claim) (claim : Claim) (number : ℕ) (inputs : List Bool) (events : List Event) (numbered : IsNumbered claims number claim) (refutes : Refutes g claim inputs events) where
   never_all : FirstFails g inputs events claims None → ⊥

@@ -42,7 +42,7 @@ abbrev pub IsAuditedSo : ℕ → List ℕ → Type 0
 IsAuditedSo place bytes = (exit : Exit) (text : List ℕ) → Audits bytes exit text → (exit ≡ Memory) ⊎ NamesFailure place exit text
 
 -- The text spells the document itself with a run that refutes a claim, and no other document: its journal is that run.
--- It is one line, JSON with no space in it and a line break.
+-- It is one line, JSON with no space between its tokens, and a line break.
 pub record IsRefutation (asked : Option ℕ) (doc : DocumentValue) (text : List ℕ) : Type 0 where
   pub number : ℕ
   pub inputs : List Bool

@@ -1,8 +1,10 @@
 //! What is written aside, for people. No answer depends on it.
 
+use crate::search::Search;
 use std::alloc::{AllocError, Global};
 use std::io::Write;
 use tpl_journal::{Counting, write_whole};
+use tpl_refute::Sought;
 
 /// Writes the text as far as that can be.
 fn tell<P: Write>(text: &str, aside: &mut Counting<P>) {
@@ -13,12 +15,17 @@ fn tell<P: Write>(text: &str, aside: &mut Counting<P>) {
 pub(crate) fn tell_end<P: Write>(
     alloc: Global,
     number: usize,
-    runs: u32,
-    is_refuted: bool,
+    search: Search,
+    sought: &Sought,
     aside: &mut Counting<P>,
 ) -> Result<(), AllocError> {
-    let text = if is_refuted {
+    let runs = sought.runs;
+    let text = if sought.found.is_some() {
         format!(in alloc; "claim {number}: refuted within {runs} runs\n")?
+    } else if runs < search.runs {
+        format!(in alloc;
+            "claim {number}: not refuted in {runs} runs; there its share of the events was played\n"
+        )?
     } else {
         format!(in alloc; "claim {number}: not refuted in {runs} runs\n")?
     };

@@ -23,6 +23,14 @@ pub(crate) struct Found {
     pub(crate) run: Counterexample,
 }
 
+/// How many of the events that are left may be played for the next claim, where this many are to come with it.
+fn share(search: Search, left: u64, claims: usize) -> u64 {
+    match search.claim {
+        Some(_) => left,
+        None => left / (claims as u64).max(1),
+    }
+}
+
 /// The first run that is found, claim by claim. Each claim has random numbers of its own.
 pub(crate) fn find<P: Write>(
     alloc: Global,
@@ -34,19 +42,23 @@ pub(crate) fn find<P: Write>(
     ensures { IfOk result (λ o. IfSome o (λ found. IsFound search.claim (doc_of document.now)
         found.number found.run.inputs found.run.events.items)) }
 {
+    let mut left = search.events;
     for (index, claim) in document.claims.iter().enumerate() {
         let number = index + 1;
         if search.asks(number) {
+            let events = share(search, left, document.claims.len().saturating_sub(index));
             let effort = Effort {
                 runs: search.runs,
+                events,
                 seed: search.seed,
                 stream: number as u64,
             };
-            let found = refute(alloc, &document.graph, claim, effort)?;
+            let sought = refute(alloc, &document.graph, claim, effort)?;
+            left = left.saturating_sub(events.saturating_sub(sought.left));
             if search.explain {
-                tell_end(alloc, number, search.runs, found.is_some(), aside)?;
+                tell_end(alloc, number, search, &sought, aside)?;
             }
-            if let Some(run) = found {
+            if let Some(run) = sought.found {
                 return Ok(Some(Found { number, run }));
             }
         }

@@ -12,6 +12,8 @@ pub struct Search {
     pub claim: Option<usize>,
     /// The most runs for each claim.
     pub runs: u32,
+    /// How many events are played at most in the whole search. Each claim that is searched has its share of what is left.
+    pub events: u64,
     /// The seed of the random numbers. The same search is made for the same seed.
     pub seed: u64,
     /// A line is to be written aside when the search for a claim has ended.

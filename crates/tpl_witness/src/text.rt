@@ -53,7 +53,7 @@ fn filled(
     Ok(document)
 }
 
-/// A document with these inputs and this journal, as JSON with no space in it and a line break.
+/// A document with these inputs and this journal, as JSON with no space between its tokens, and a line break.
 pub(crate) fn text_with(
     alloc: Global,
     bytes: &[u8],

@@ -15,7 +15,7 @@ ghost use Rattle.tpl_fast.specs.Kept.{has_ended, is_over, all_pass};
 use crate::state::State;
 use tpl_graph::{Graph, Kind};
 use tpl_run::ends::{all_ended, all_over, has_ended, is_open, some_ended};
-use tpl_run::graphs::{args, children, has_task};
+use tpl_run::graphs::children;
 use tpl_run::{Readers, Waits};
 use tpl_words::TaskId;
 
@@ -114,7 +114,7 @@ impl<'g> State<'g> {
         requires { is_task self.old.graph task.0 }
         ensures { self.new ≡ self.old }
     {
-        let head = self.first_unended(args(self, task), self.args_head(task));
+        let head = self.first_unended(self.args(task), self.args_head(task));
         self.ended[task.0 as usize] = head;
     }
 
@@ -141,7 +141,7 @@ impl<'g> State<'g> {
     fn advance(&mut self, task: TaskId)
         ensures { self.new ≡ self.old }
     {
-        if !has_task(self, task) {
+        if !self.has_task(task) {
             return;
         }
         match self.graph().kind(task) {
@@ -167,13 +167,13 @@ impl<'g> State<'g> {
 
 impl<'g> Waits for State<'g> {
     fn args_ended(&self, task: TaskId) -> bool {
-        let args = args(self, task);
+        let args = self.args(task);
         let head = self.args_head(task);
         all_ended(self, &args[head..])
     }
 
     fn some_arg_ended(&self, task: TaskId) -> bool {
-        self.has_found(task) || some_ended(self, args(self, task))
+        self.has_found(task) || some_ended(self, self.args(task))
     }
 
     fn children_over(&self, task: TaskId) -> bool {

@@ -1,4 +1,4 @@
-use Rattle.std.proofs.Common.{◌≡◌, List, true, string_bytes, subst, sym}
+use Rattle.std.proofs.Common.{◌≡◌, List, Ok, true, string_bytes, subst, sym}
 use Rattle.std.specs.List.{All}
 use Rattle.tpl_model.specs.Claims.{Claim}
 use Rattle.tpl_model.specs.Certificate.{Accepts}
@@ -17,8 +17,8 @@ whole_text-requires-clause-ids over c =
     subst (All (λ t. has_ids names t ≡ true)) (sym c.trees.ensures)
     (trees_known names c.args.document.now.graph.graph c.valid_law.ensures.tasks c.valid_law.ensures.inputs _ _ c.in-Ok.ensures.accepted)
 
-pub returns-in_ok-text-in-Ok : goal.returns-in_ok-text-in-Ok
-returns-in_ok-text-in-Ok over c =
+pub returns-in_ok-sized-in-Ok-clause-answer : goal.returns-in_ok-sized-in-Ok-clause-answer
+returns-in_ok-sized-in-Ok-clause-answer over c =
     let doc = doc_of c.args.document.now in
     let g = c.args.document.now.graph.graph in
     let names = c.args.document.now.graph.names in
@@ -30,4 +30,4 @@ returns-in_ok-text-in-Ok over c =
     certifying c.one_document.ensures.one c.one_document.ensures.faultless c.certificate_is_read_back.ensures c.args.depth c.args.form doc trees c.args.bytes.now (string_bytes c.in_ok-text-in-Ok.text)
     (record { accepted = accepted; splits = rw c.splits-splits.ensures.value at c.in-Ok.ensures.splits; of_form = form })
     (λ inputs events run. c.soundness.ensures g c.args.document.now.claims.items trees c.valid_law.ensures.graph accepted inputs events run)
-    back c.requires.spelled (rw c.trees.ensures at c.in_ok-text-in-Ok.ensures.holds) c.sized.result c.sized.ensures
+    back c.requires.spelled (rw c.trees.ensures at c.in_ok-text-in-Ok.ensures.holds) (Ok c.in_ok-sized-in-Ok.field-0) c.in_ok-sized-in-Ok.ensures

@@ -20,8 +20,8 @@ certificate_text-requires-clause-ids over c =
 pub certificate_text-requires-clause-limits : goal.certificate_text-requires-clause-limits
 certificate_text-requires-clause-limits over c = rw c.trees.ensures (λ k t lt. (c.limits_law.ensures k t lt).0)
 
-pub returns-in_ok-text-in-Ok : goal.returns-in_ok-text-in-Ok
-returns-in_ok-text-in-Ok over c =
+pub returns-in_ok-text-in-Ok-clause-answer : goal.returns-in_ok-text-in-Ok-clause-answer
+returns-in_ok-text-in-Ok-clause-answer over c =
     let doc = doc_of c.args.document.now in
     let g = c.args.document.now.graph.graph in
     let names = c.args.document.now.graph.names in

@@ -10,3 +10,7 @@ returns-in-Over-clause-list g c =
 pub returns-in-Over-clause-last : goal.returns-in-Over-clause-last
 returns-in-Over-clause-last g c =
     (subst (λ (s : SessionView). Leaves c.in-Over.ended s.graph.graph s.inputs c.args.seat c.turn.new.seat) c.self.view_is (c.in-Over.ensures.stays c.args.seat c.loop.invariant.stays)).last
+
+pub returns-in-Over-clause-room : goal.returns-in-Over-clause-room
+returns-in-Over-clause-room g c =
+    (subst (λ (s : SessionView). Leaves c.in-Over.ended s.graph.graph s.inputs c.args.seat c.turn.new.seat) c.self.view_is (c.in-Over.ensures.stays c.args.seat c.loop.invariant.stays)).room

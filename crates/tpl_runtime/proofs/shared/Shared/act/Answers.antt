@@ -1,6 +1,4 @@
 use Rattle.tpl_hall.proofs.MoveLemmas.{moves_one, moves_none, moves_trans}
-use Rattle.std.proofs.Common.{ap}
-use Rattle.tpl_hall.specs.Views.{SeatView}
 use Rattle.tpl_runtime.proofs.shared.Shared.act.Goals as goal
 
 pub returns-in-Ok-clause-moves : goal.returns-in-Ok-clause-moves
@@ -15,4 +13,4 @@ returns-in-Ok-clause-moves g c =
 pub returns-in-Err-clause-moves : goal.returns-in-Err-clause-moves
 returns-in-Err-clause-moves g c =
     let same = c.in-Err.ensures.refused in
-    moves_none c.args.seat.now c.step.new.seat c.args.self.now.hall.core c.step.new.self.core same.0 (ap (λ (s : SeatView). s.actor) same.2) (ap (λ (s : SeatView). s.mine) same.2)
+    moves_none c.args.seat.now c.step.new.seat c.args.self.now.hall.core c.step.new.self.core same.0 same.2

@@ -1,7 +1,5 @@
 use Rattle.tpl_hall.proofs.MoveLemmas.{moves_one, moves_none, moves_trans}
-use Rattle.std.proofs.Common.{ap}
 use Rattle.tpl_model.specs.declared.event.Act.TheVariants.{Worked}
-use Rattle.tpl_hall.specs.Views.{SeatView}
 use Rattle.tpl_runtime.proofs.shared.Shared.answer.Goals as goal
 
 pub returns-in-Ok-clause-moves : goal.returns-in-Ok-clause-moves
@@ -16,4 +14,4 @@ returns-in-Ok-clause-moves g c =
 pub returns-in-Err-clause-moves : goal.returns-in-Err-clause-moves
 returns-in-Err-clause-moves g c =
     let same = c.in-Err.ensures.refused in
-    moves_none c.args.seat.now c.worked.new.seat c.args.self.now.hall.core c.worked.new.self.core same.1 (ap (λ (s : SeatView). s.actor) same.4) (ap (λ (s : SeatView). s.mine) same.4)
+    moves_none c.args.seat.now c.worked.new.seat c.args.self.now.hall.core c.worked.new.self.core same.1 same.4

@@ -4,4 +4,4 @@ use Rattle.tpl_runtime.proofs.shared.Shared.enter.Goals as goal
 pub returns-clause-moves : goal.returns-clause-moves
 returns-clause-moves g c =
     let s = c.sweep.ensures in
-    moves_sweep c.args.seat.now c.sweep.new.seat c.args.self.now.hall.core c.sweep.new.self.core s.graph.0 s.graph.1 s.seat.0 s.grown
+    moves_sweep c.args.seat.now c.sweep.new.seat c.args.self.now.hall.core c.sweep.new.self.core s.graph.0 s.graph.1 s.seat.0 s.seat.2 s.grown

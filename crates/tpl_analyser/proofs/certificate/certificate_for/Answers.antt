@@ -3,7 +3,7 @@ use Rattle.tpl_model.specs.Claims.{Claim}
 use Rattle.tpl_model.specs.Certificate.{Tree, assumed}
 use Rattle.tpl_analyser.specs.Found.{IsFound}
 use Rattle.tpl_analyser.proofs.GapLemmas.{FoundSoFar, first_without, one_more}
-use Rattle.tpl_analyser.proofs.certificate.analyse_watched.Goals as goal
+use Rattle.tpl_analyser.proofs.certificate.certificate_for.Goals as goal
 
 pub returns-in-None-clause-gap : goal.returns-in-None-clause-gap
 returns-in-None-clause-gap over c =

@@ -1,5 +1,5 @@
 use Rattle.tpl_analyser.proofs.GapLemmas.{FoundSoFar}
-use Rattle.tpl_analyser.proofs.certificate.analyse_watched.Given as goal
+use Rattle.tpl_analyser.proofs.certificate.certificate_for.Given as goal
 
 abbrev pub invariant-loop-at : goal.invariant-loop-at
 invariant-loop-at over l = FoundSoFar l.graph.graph l.claims l.form l.depth l.at l.trees.items

@@ -1,0 +1,47 @@
+//! A session that is halted while its own `run` is under way.
+
+ghost use Rattle.std.specs.Prelude.{◌≡◌, IfOk, IfSome};
+
+use crate::closed::Back;
+use crate::crews::with_workers;
+use crate::parts::halts;
+use std::alloc::{AllocError, Global};
+use std::sync::Wait;
+use std::sync::atomic::AtomicU64;
+use std::thread;
+use std::thread::Threads;
+use tpl_queue::QueuePass;
+use tpl_runtime::{Ended, Item, RunFault, Seat, Session};
+
+/// Lets this many workers run a session, and halts it while the first box is called: each of them ends halted, and nothing
+/// is reported to it. None where they don't all run.
+pub fn halted_in_run<'g, R: Threads + Wait + Sync, K: Drop + Send, W: Item<K> + Send>(
+    rt: &R,
+    alloc: Global,
+    session: &Session<'g, K, W>,
+    pass: QueuePass<Vec<W>>,
+    flags: &[AtomicU64],
+    workers: u16,
+) -> Result<Option<Back<W>>, AllocError>
+    requires { pass.queue ≡ session.now.queue }
+    ensures { IfOk result (λ found. IfSome found (λ b. b.pass.queue ≡ session.now.queue)) }
+{
+    let (halted, ran) = thread::join(
+        rt,
+        || halts(rt, session, flags),
+        || -> Result<(Vec<(Seat, Ended)>, QueuePass<Vec<W>>), RunFault<W>>
+            requires { pass.queue ≡ session.now.queue }
+            ensures { IfOk result (λ r. r.1.queue ≡ session.entry.now.queue) }
+        { session.run(rt, alloc, pass, workers) },
+    );
+    let Ok((done, pass)) = ran else {
+        return Ok(None);
+    };
+    let (seats, well) = with_workers(Vec::new(alloc), done, Ended::Halted)?;
+    Ok(Some(Back {
+        seats,
+        pass,
+        watchers: Vec::new(alloc),
+        well: halted && well,
+    }))
+}
