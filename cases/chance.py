@@ -5,8 +5,9 @@ usage: cases/chance.py [PROGRAM]    the script `taskgraph` at the top, if none i
        cases/chance.py --write      writes the documents whose graphs crates/tpl_tests_runs plays on both machines
 
 Each graph is run by 1 to 16 workers, where inputs, requests and the jobs that fail are drawn too. The report says that the
-run is complete. Its journal is a run, in which each task ends as the report says, and just those exceptions are observed
-by nobody that the report names. Of a journal with another character somewhere, `audit` names the first line that is no
+run is complete. Its journal begins with the requests, in their order, but for a link that is requested by them, and just
+the jobs that are to fail have failed. It is a run, in which each task ends as the report says, and just those exceptions
+are observed by nobody that the report names. Of a journal with another character somewhere, `audit` names the first line that is no
 event, as this script reads lines by the rules of docs/FORMAT.md; where each line is one, the line that was changed or a
 later one isn't allowed, or it is a run. The last line is 'N passed, M failed'.
 """
@@ -35,6 +36,8 @@ BODIES = ("root", "then", "child")
 # an event: a worker or an outside seat, an act, a name, and how a job answered
 LINE = re.compile(r"(?:w(?P<worker>[1-9]\d?)|o(?P<seat>[1-8])) (?P<act>[a-z]+) (?P<name>\w+)(?: (?P<answer>done|failed))?")
 MOST_WORKERS = 64
+# the seat outside that makes the first requests
+ASKER, REQUEST = "o1 ", "o1 request "
 # what anyone does, what workers alone do, and what outside seats alone do
 ANYONE = {"release", "close", "drop", "settle"}
 WORKER = {"begin", "step", "worked", "leave"}
@@ -110,6 +113,29 @@ class Report:
         self.ends = dict(re.findall(r"(?m)^task (\w+) (\w+)", head))
         self.unobserved = re.findall(r"(?m)^unobserved (\w+):", head)
 
+    def requests(self):
+        """The tokens that the seat outside requests; None where it acts after a worker."""
+        lines = self.journal.splitlines()
+        first = [line for line in lines if line.startswith(ASKER)]
+        if lines[: len(first)] != first:
+            return None
+        return [line.removeprefix(REQUEST) for line in first if line.startswith(REQUEST)]
+
+    def answers(self, name):
+        """How the jobs of a task answered, in order."""
+        return re.findall(rf"(?m)^w\d+ worked {name} (\w+)$", self.journal)
+
+    def ended(self, name):
+        """The place of the event by which a task ended."""
+        ends = re.compile(rf"\w+ (leave|close|drop|settle) {name}")
+        return max(place for place, line in enumerate(self.journal.splitlines()) if ends.fullmatch(line))
+
+    def subject(self, drawn, task):
+        """How the task ended that a continuation's body sees, or None: its antecedent, or the winner of a WhenAny task."""
+        after = [it for it in drawn.tasks if it["name"] == task.get("after")]
+        names = [min(it["of"], key=self.ended) if it["kind"] == "any" else it["name"] for it in after]
+        return self.ends[names[0]] if names else None
+
     def claims(self, drawn):
         """That each task that has ended ends so, and that each exception is observed but for those that aren't."""
         finals = [{"final": name, "in": [end]} for name, end in self.ends.items() if end in FINALS]
@@ -117,10 +143,42 @@ class Report:
         return [*finals, *({"observed": name} for name in bodies)]
 
 
+def wanted(request):
+    """The requests that a run starts with: those of `start`, but for a link to a token that is requested before it."""
+    return [it for place, it in enumerate(request) if it != LINK or place == 0]
+
+
+def jobs(body, inputs, end):
+    """The jobs of a body with these inputs, where its subject ended so, up to its end."""
+    for it in body:
+        if not isinstance(it, dict):
+            continue
+        if "work" in it:
+            yield it["work"]
+        elif "if" in it or "when" in it:
+            is_so = inputs[it["if"]] if "if" in it else it["when"] == end
+            yield from jobs(it["then"] if is_so else it.get("else", []), inputs, end)
+
+
+def answered(drawn, start, report):
+    """Which task's jobs didn't answer as they were to, or None; a body may be left before its last job."""
+    for task in drawn.having(*BODIES):
+        said = report.answers(task["name"])
+        sites = [*jobs(task["body"], start["inputs"], report.subject(drawn, task))] if said else []
+        if said != ["failed" if site in start["fail"] else "done" for site in sites[: len(said)]]:
+            return f"the jobs of {task['name']} answer {said}"
+    return None
+
+
 def audited(named, drawn, start, report):
     """What is wrong with the run of a report, or None."""
     if report.first != "complete" or report.journal.count("\n") != report.count:
         return f"the report says {report.first!r} and {report.count} events"
+    if report.requests() != wanted(start["request"]):
+        return f"it starts with {report.requests()}, and not with {start['request']}"
+    why = answered(drawn, start, report)
+    if why:
+        return why
     kept = {"start": start, "journal": report.journal}
     answer = called(named, "audit", document=drawn.document(*report.claims(drawn), **kept))
     if answer != ("run complete\n", 0):

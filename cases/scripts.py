@@ -1,6 +1,6 @@
 #!/usr/bin/env python3
-"""Tests of the scripts: those of examples/, of this folder, and .ci/trusted; and of the program's version, help and
-progress on a terminal.
+"""Tests of the scripts: those of examples/, of this folder, .ci/trusted and .ci/definitions.py; and of the program's
+version, help and progress on a terminal.
 
 usage: cases/scripts.py [PROGRAM]    the script `taskgraph` at the top, if none is named
 
@@ -18,7 +18,6 @@ import tempfile
 from importlib.machinery import SourceFileLoader
 
 import chance
-import measure
 import pages
 from suite import HERE, program, tell
 
@@ -36,6 +35,7 @@ def loaded(path):
 
 ASK, PIPELINE = (loaded(TOP / "examples" / name) for name in ("ask", "pipeline"))
 TRUSTED = loaded(TOP / ".ci/trusted")
+DEFINITIONS = TRUSTED.definitions
 
 
 def named():
@@ -225,24 +225,198 @@ def each_line_in_the_code_is_on_the_page():
 
 
 def the_page_on_what_is_trusted_is_current():
-    assert TRUSTED.PAGE.read_text(encoding="utf-8") == TRUSTED.page(), "docs/TRUSTED.md: .ci/trusted --write makes it anew"
+    page = TRUSTED.page(DEFINITIONS.Repository(TOP))
+    assert TRUSTED.PAGE.read_text(encoding="utf-8") == page, "docs/TRUSTED.md: .ci/trusted --write makes it anew"
 
 
-def imports_lead_to_files():
-    files, types, foreign = TRUSTED.imports(TOP / "crates/tpl_model/specs/Claims.antt")
-    assert TOP / "crates/tpl_model/specs/Rules.antt" in files
-    assert ("tpl_model", "Property") in types
-    _, types, _ = TRUSTED.imports(TOP / "crates/tpl_reader/specs/SeenDocument.antt")
-    assert ("tpl_reader", "Document") in types
-    assert foreign == {"std"}
+# ---- the definitions that are reached, over made-up crates
+
+SHAPES = """-- Shapes.
+use Rattle.std.specs.Prelude.{ℕ, Bool}
+use Rattle.low.specs.declared.words.Word.{Word}
+use Rattle.low.specs.declared.words.Size.TheVariants as sizes
+
+mutual
+  -- a shape
+  pub data Shape : Type 0 where
+    Dot : Shape
+    Pair : (left : Shapes) → Shape
+
+  pub data Shapes : Type 0 where
+    Empty : Shapes
+    ◌⨾◌ : Shape → Shapes → Shapes
+
+infixr 5 ◌⨾◌
+-- how many, and not `unused`
+abbrev pub count : Shapes → ℕ
+count Empty = 0
+count (s ⨾ rest) = 1 + count rest
+
+pub record Box : Type 0 where
+  pub shape : Shape -- but not unused
+  pub word : Word
+
+unfoldable pub unused : ℕ → Bool
+unused n = "count"
+
+infixl 10 ◌>>=◌
+abbrev pub ◌>>=◌ : Shape → (Shape → Shape) → Shape
+o >>= f = f o
+
+abbrev pub chained : Shape → Shape
+chained s = do
+  x ← s
+  x
+
+abbrev pub sized : ℕ → Type 0
+sized n = n ≡ sizes.Large
+
+two : (n : ℕ) → ℕ
+two n = n
+"""
+
+HIGH = """use Rattle.low.specs.Shapes.{count as number, Box}
+use Rattle.low.specs.Shapes as shapes
+use Rattle.low.specs.Again.{count}
+
+abbrev pub by_another_name : ℕ
+by_another_name = number
+
+abbrev pub by_its_module : ℕ
+by_its_module = shapes.two 1
+
+abbrev pub taken_over : ℕ
+taken_over = count
+
+abbrev pub by_a_field : Box → ℕ
+by_a_field b = b.unused
+"""
+
+CODE = """ghost use Rattle.high.specs.High.{by_a_field, by_its_module};
+ghost use Rattle.low.specs.Shapes.{chained, unused};
+use low::{Size, Word};
+
+impl Pen {
+    /// Says `ensures other { chained }`.
+    pub fn write(&self, word: &Word) -> Size
+        requires { by_its_module }
+        ensures first { unused
+            word.now }
+        ensures second { chained }
+    {
+        chained
+    }
+}
+"""
+
+WORDS = """ghost use Rattle.low.specs.Shapes.{two, unused};
+
+pub struct Word { text: Size }
+
+impl Model for Word {
+    ghost Value = { two };
+}
+
+pub enum Size {
+    Word,
+    Of(Unit),
+}
+
+pub struct Unit {
+    // a Word
+    ghost held: { unused },
+}
+"""
 
 
-# ---- the documents that are measured
+def made_up(folder):
+    """A repository of two crates."""
+    files = {
+        "low/specs/Lib.antt": "pub mod Shapes\npub mod Again\n", "low/specs/Shapes.antt": SHAPES,
+        "low/specs/Again.antt": "pub use Rattle.low.specs.Shapes.{count}\n", "low/src/words.rt": WORDS,
+        "high/specs/Lib.antt": "pub mod High\n", "high/specs/High.antt": HIGH, "high/src/pen.rt": CODE,
+    }
+    for name, text in files.items():
+        path = pathlib.Path(folder, "crates", name)
+        path.parent.mkdir(parents=True, exist_ok=True)
+        path.write_text(text, encoding="utf-8")
+    return DEFINITIONS.Repository(pathlib.Path(folder))
 
 
-def the_small_documents_are_those_of_the_script():
-    written = {file.name: file.read_text(encoding="utf-8") for file in measure.DATA.iterdir()}
-    assert written == dict(measure.small_files())
+def titles(reach):
+    return {item.title for item in reach.items}
+
+
+def reach_of(repository, crate, file, name):
+    return repository.reach([repository.exported(repository.crates / crate / f"specs/{file}.antt")[name]])
+
+
+def definitions_are_found_with_their_lines():
+    with tempfile.TemporaryDirectory() as folder:
+        repository = made_up(folder)
+        items = repository.items(repository.crates / "low/specs/Shapes.antt")
+    assert [item.names for item in items] == [
+        ("Shape", "Shapes", "Dot", "Pair", "Empty", "◌⨾◌"), ("count",), ("Box",), ("unused",), ("◌>>=◌",),
+        ("chained",), ("sized",), ("two",),
+    ]
+    assert [len(item.lines) for item in items] == [8, 3, 3, 2, 3, 4, 2, 2]
+
+
+def what_a_definition_names_is_reached():
+    with tempfile.TemporaryDirectory() as folder:
+        repository = made_up(folder)
+        count, chained = (reach_of(repository, "low", "Shapes", name) for name in ("count", "chained"))
+        box, unused = (reach_of(repository, "low", "Shapes", name) for name in ("Box", "unused"))
+        sized = reach_of(repository, "low", "Shapes", "sized")
+        renamed, module, again, field = (
+            reach_of(repository, "high", "High", name)
+            for name in ("by_another_name", "by_its_module", "taken_over", "by_a_field")
+        )
+    assert titles(count) == {"count", "Shape"} and count.libraries == {"std"}
+    assert titles(chained) == {"chained", "◌>>=◌", "Shape"}
+    assert titles(unused) == {"unused"}
+    assert titles(renamed) == {"by_another_name", "count", "Shape"}
+    assert titles(module) == {"by_its_module", "two"}
+    assert titles(again) == {"taken_over", "count", "Shape"}
+    assert titles(field) == {"by_a_field", "Box", "Shape", "two"}
+    assert titles(box) == {"Box", "Shape", "two"} and {it.name for it in box.types} == {"Word"}
+    assert {it.name for it in sized.types} == {"Size", "Unit"}
+
+
+def the_clauses_of_a_function_are_followed():
+    with tempfile.TemporaryDirectory() as folder:
+        repository = made_up(folder)
+        pen = repository.crates / "high/src/pen.rt"
+        first, both = (repository.reach(repository.of_function(pen, "write", names)) for names in (("first",), ()))
+        for function, names in (("write", ("third",)), ("read", ())):
+            try:
+                repository.of_function(pen, function, names)
+            except LookupError:
+                continue
+            raise AssertionError(f"{function} {names} is found")
+    assert titles(first) == {"unused", "by_its_module", "two"}
+    assert titles(both) == titles(first) | {"chained", "◌>>=◌", "Shape"}
+    assert {it.name for it in first.types} == {"Size", "Unit", "Word"}
+
+
+def a_name_that_is_not_there_is_told():
+    with tempfile.TemporaryDirectory() as folder:
+        repository = made_up(folder)
+        path = repository.crates / "high/specs/High.antt"
+        path.write_text("use Rattle.low.specs.Shapes.{gone}\nabbrev pub it : ℕ\nit = gone\n", encoding="utf-8")
+        try:
+            reach_of(repository, "high", "High", "it")
+        except LookupError:
+            return
+    raise AssertionError("a name that isn't there is passed over")
+
+
+def all_lines_of_definitions_are_in_one():
+    repository = DEFINITIONS.Repository(TOP)
+    for path in TOP.glob("crates/*/specs/*.antt"):
+        counted = sum(len(item.lines) for item in repository.items(path))
+        assert counted == len(DEFINITIONS.said(path)), path
+        assert all(item.names for item in repository.items(path)), path
 
 
 # ---- cases/chance.py
@@ -277,8 +451,9 @@ TESTS = [
     pipelines_have_four_tasks_a_shard, pipelines_keep_the_limits, pipeline_refuses_other_numbers,
     pages_are_read_block_by_block, snippets_stand_behind_the_version, lines_of_the_output_page_stand_for_others,
     a_wrong_page_fails, each_word_of_a_refusal_has_its_line, each_line_in_the_code_is_on_the_page,
-    the_page_on_what_is_trusted_is_current, imports_lead_to_files,
-    the_small_documents_are_those_of_the_script,
+    the_page_on_what_is_trusted_is_current,
+    definitions_are_found_with_their_lines, what_a_definition_names_is_reached,
+    the_clauses_of_a_function_are_followed, a_name_that_is_not_there_is_told, all_lines_of_definitions_are_in_one,
     the_documents_that_are_played_are_those_of_the_script, lines_of_journals_are_told_from_others, reports_are_read,
 ]
 
