@@ -7,6 +7,7 @@ pattern that is also a definition's counts, all items of one `mutual` count toge
 import functools
 import pathlib
 import re
+from collections.abc import Iterable, Iterator, Sequence
 from typing import NamedTuple
 
 HEAD = re.compile(r"^(?:(?:abbrev|unfoldable|pub|record|data) )+(?=\S)|^(?=\S+ :(?: |$))")
@@ -24,11 +25,11 @@ class Item(NamedTuple):
     """A definition: the names it declares, and its lines without comments."""
 
     file: pathlib.Path
-    names: tuple
-    lines: tuple
+    names: tuple[str, ...]
+    lines: tuple[str, ...]
 
     @property
-    def title(self):
+    def title(self) -> str:
         """The name by which it goes."""
         return self.names[0]
 
@@ -40,45 +41,50 @@ class Sort(NamedTuple):
     name: str
 
 
+# what a name stands for: a definition, a type of the code, or a library
+Found = Item | Sort | str
+
+
 class Reach(NamedTuple):
     """What a sentence rests on: definitions, types of the code, and the libraries that these name."""
 
-    items: frozenset
-    types: frozenset
-    libraries: frozenset
+    items: frozenset[Item]
+    types: frozenset[Sort]
+    libraries: frozenset[str]
 
 
-def words(text):
+def words(text: str) -> list[list[str]]:
     """The names in a text, each with the names behind its dots."""
     bare = re.sub(r"\"(?:\\.|[^\"\\])*\"", " ", text)
     return [word.split(".") for word in WORD.findall(bare)]
 
 
-def without_comment(line):
+def without_comment(line: str) -> str:
     return re.sub(r"(^|\s)--(\s.*)?$", "", line).rstrip()
 
 
-def parts_of(name):
+def parts_of(name: str) -> list[str]:
     """The words that stand for a name in a text: of an operator those between its places."""
     return [part for part in name.split("◌") if part]
 
 
-def listed_in(listed):
+def listed_in(listed: str) -> Iterator[tuple[str, str]]:
     """The names of an import's list, each with the name by which it goes in the file."""
     for name in filter(None, map(str.strip, listed.split(","))):
         full, _, short = name.partition(" as ")
         yield full.strip(), (short or full).strip()
 
 
-def said(path):
+def said(path: pathlib.Path) -> list[str]:
     """The lines of a file of definitions that say something, without its imports."""
     lines = (without_comment(line) for line in path.read_text(encoding="utf-8").splitlines())
     return [line for line in lines if line and not re.match(r"(pub )?(use|mod) ", line)]
 
 
-def blocks_of(lines):
+def blocks_of(lines: list[str]) -> list[list[str]]:
     """The lines of each item, in order."""
-    blocks, within = [], False
+    blocks: list[list[str]] = []
+    within = False
     for line in lines:
         if line[0] != " ":
             within = bool(BLOCK.match(line))
@@ -90,12 +96,12 @@ def blocks_of(lines):
     return blocks
 
 
-def goes_on(block, line):
+def goes_on(block: list[str], line: str) -> bool:
     """Whether a line without a word before its name is a clause of the item."""
     return line.split()[0] in names_of(block)
 
 
-def names_of(block):
+def names_of(block: list[str]) -> list[str]:
     """The names that an item declares: its own, those of its cases, and of a `mutual` those of all items."""
     inner = [line for line in block if re.match(r"  \S", line)]
     heads = inner if BLOCK.match(block[0]) else block[:1]
@@ -105,11 +111,11 @@ def names_of(block):
     return [*names, *(match.group(1) for line in block if is_data and (match := CASE.match(line)))]
 
 
-def is_head(line):
+def is_head(line: str) -> bool:
     return bool(re.match(r"(?:pub |record |data )", line) or re.match(r"\S+ :(?: |$)", line))
 
 
-def items_of(path):
+def items_of(path: pathlib.Path) -> list[Item]:
     """The definitions of a file. How an operator binds is a line of its definition."""
     blocks = blocks_of(said(path))
     fixities = {match.group(1): block[0] for block in blocks if (match := FIXITY.match(block[0]))}
@@ -126,23 +132,23 @@ def items_of(path):
 class Repository:
     """The crates of a folder, and what their definitions rest on."""
 
-    def __init__(self, top):
+    def __init__(self, top: pathlib.Path):
         self.crates = top / "crates"
         self.items = functools.cache(lambda path: tuple(items_of(path)))
         self.scope = functools.cache(self._scope)
         self.exported = functools.cache(self._exported)
         self.sources = functools.cache(self._sources)
 
-    def _exported(self, path):
+    def _exported(self, path: pathlib.Path) -> dict[str, Found]:
         """The definitions of a file by their names, also those that it takes over from another."""
-        names = {name: item for item in self.items(path) for name in item.names}
+        names: dict[str, Found] = {name: item for item in self.items(path) for name in item.names}
         again = re.findall(r"^pub use .*$", path.read_text(encoding="utf-8"), re.MULTILINE)
         for module, listed, _ in USE.findall("\n".join(again)):
             for name, short in listed_in(listed):
                 names[short] = self.found(module, name)
         return names
 
-    def file(self, module):
+    def file(self, module: str) -> tuple[pathlib.Path, list[str]] | None:
         """The file of definitions that an import names, and the names behind it; None for a library's."""
         parts = module.split(".")
         if parts[0] != "Rattle" or len(parts) < 4 or not (self.crates / parts[1]).is_dir() or parts[2] != "specs":
@@ -158,7 +164,7 @@ class Repository:
             raise LookupError(f"{module}: no such file")
         return self.file(".".join([again.group(1), *parts[4:]]))
 
-    def found(self, module, name):
+    def found(self, module: str, name: str) -> Found:
         """What a name of a module stands for: an item, a type of the code, or the name of a library."""
         parts = module.split(".")
         if parts[0] == "Rattle" and "declared" in parts and (self.crates / parts[1]).is_dir():
@@ -172,9 +178,10 @@ class Repository:
             raise LookupError(f"{path}: no definition {name}")
         return self.exported(path)[name]
 
-    def _scope(self, path):
+    def _scope(self, path: pathlib.Path) -> tuple[dict[str, set[Found]], dict[str, str]]:
         """What the words of a file stand for, and its modules by their short names."""
-        names, modules = {}, {}
+        names: dict[str, set[Found]] = {}
+        modules: dict[str, str] = {}
         for module, listed, short in USE.findall(path.read_text(encoding="utf-8")):
             if "." not in module:
                 continue
@@ -192,7 +199,7 @@ class Repository:
             names["←"] = names[">>="]
         return names, modules
 
-    def named(self, path, text):
+    def named(self, path: pathlib.Path, text: str) -> set[Found]:
         """What the names in a text of a file stand for."""
         names, modules = self.scope(path)
         reached = set()
@@ -202,12 +209,12 @@ class Repository:
                 reached.add(self.found(modules[first], rest[0]))
         return reached
 
-    def _sources(self, crate):
+    def _sources(self, crate: str) -> dict[pathlib.Path, set[str]]:
         """The files of code of a crate with the types that each makes."""
         files = sorted((self.crates / crate / "src").rglob("*.rt"))
         return {path: set(TYPE.findall(path.read_text(encoding="utf-8"))) for path in files}
 
-    def home(self, path, name):
+    def home(self, path: pathlib.Path, name: str) -> Sort | None:
         """The type of that name that a file of code means: its own crate's, or that of a crate that it imports it from."""
         crate = path.relative_to(self.crates).parts[0]
         text = path.read_text(encoding="utf-8")
@@ -218,7 +225,7 @@ class Repository:
                 return sort
         return None
 
-    def owner(self, crate, name):
+    def owner(self, crate: str, name: str) -> Sort | None:
         """The type of that name of a crate, also one that it takes over from a lower one."""
         if any(name in types for types in self.sources(crate).values()):
             return Sort(crate, name)
@@ -229,7 +236,7 @@ class Repository:
                     return sort
         return None
 
-    def of_type(self, sort):
+    def of_type(self, sort: Sort) -> set[Found]:
         """What the value of a type rests on: its view; of a type without one the types of its fields."""
         reached = set()
         for path, types in self.sources(sort.crate).items():
@@ -245,32 +252,33 @@ class Repository:
                 reached |= self.of_fields(path, *body.groups())
         return reached
 
-    def of_fields(self, path, kind, body):
+    def of_fields(self, path: pathlib.Path, kind: str, body: str) -> set[Found]:
         """The types of the fields of a type; of a trait all that it names."""
         bare = re.sub(r"//.*|^ +[A-Z]\w*" if kind == "enum" else r"//.*", "", body, flags=re.MULTILINE)
         if kind == "trait":
             return self.named(path, bare)
         names = CAPITAL.findall(re.sub(r"ghost \w+:.*", "", bare))
-        return {self.home(path, name) for name in names} - {None}
+        return {home for name in names if (home := self.home(path, name))}
 
-    def of_function(self, path, function, clauses=()):
+    def of_function(self, path: pathlib.Path, function: str, clauses: Sequence[str] = ()) -> set[Found]:
         """What the contract of a function rests on: what it requires, and all it ensures or the clauses that are named."""
         text = re.sub(r"//.*", "", path.read_text(encoding="utf-8"))
         head = re.search(rf"^( *)pub fn {function}\b(.*?)^\1\{{", text, re.MULTILINE | re.DOTALL)
         if not head:
             raise LookupError(f"{path}: no function {function}")
         signature, *contract = re.split(r"^ *(?=requires|ensures)", head.group(2), flags=re.MULTILINE)
-        heads = [re.match(r"(requires|ensures)\s+(\w*)", clause).groups() for clause in contract]
+        heads = [(kind, name) for clause in contract for kind, name in re.findall(r"\A(requires|ensures)\s+(\w*)", clause)]
         missing = set(clauses) - {name for _, name in heads}
         if missing:
             raise LookupError(f"{path}: {function} has no clause {missing}")
-        kept = [text for text, (kind, name) in zip(contract, heads) if kind == "requires" or not clauses or name in clauses]
+        is_kept = lambda kind, name: kind == "requires" or not clauses or name in clauses
+        kept = [text for text, head in zip(contract, heads, strict=True) if is_kept(*head)]
         before = text[: head.start()]
         owner = re.findall(r"^impl\b.*?\{$", before, re.MULTILINE | re.DOTALL)[-1:] if head.group(1) else []
-        types = {self.home(path, name) for part in [signature, *owner, *kept] for name in CAPITAL.findall(part)}
-        return (types - {None}) | self.named(path, " ".join(kept))
+        names = {name for part in [signature, *owner, *kept] for name in CAPITAL.findall(part)}
+        return {home for name in names if (home := self.home(path, name))} | self.named(path, " ".join(kept))
 
-    def reach(self, begin):
+    def reach(self, begin: Iterable[Found]) -> Reach:
         """All that is reached from some definitions and types."""
         waiting, met = list(begin), set()
         while waiting:
@@ -282,5 +290,8 @@ class Repository:
                 waiting.extend(self.named(it.file, "\n".join(it.lines)))
             elif isinstance(it, Sort):
                 waiting.extend(self.of_type(it))
-        kinds = [frozenset(it for it in met if isinstance(it, kind)) for kind in (Item, Sort, str)]
-        return Reach(*kinds)
+        return Reach(
+            frozenset(it for it in met if isinstance(it, Item)),
+            frozenset(it for it in met if isinstance(it, Sort)),
+            frozenset(it for it in met if isinstance(it, str)),
+        )

@@ -2,11 +2,12 @@
 import pathlib
 import shutil
 import subprocess
+from collections.abc import Iterable
 
 TOP = pathlib.Path(__file__).resolve().parent.parent
 
 
-def create(folder, crates, scripts):
+def create(folder: str | pathlib.Path, crates: dict[str, tuple], scripts: Iterable[str]) -> pathlib.Path:
     """Makes a repository of these crates, each with the crates that it uses and the text of its root, by its name."""
     top = pathlib.Path(folder)
     for it in scripts:
@@ -23,15 +24,17 @@ def create(folder, crates, scripts):
     return top
 
 
-def root_of(top, name, is_program=False):
+def root_of(top: pathlib.Path, name: str, is_program: bool = False) -> pathlib.Path:
+    """The file at the root of a crate's sources."""
     return top / f"crates/{name}/src/{'main' if is_program else 'lib'}.rt"
 
 
-def called(top, *words):
+def called(top: pathlib.Path, *words: str) -> tuple[str, str, int]:
     """What a command says on standard output and standard error, and its exit status."""
-    ran = subprocess.run([top / words[0], *words[1:]], stdin=subprocess.DEVNULL, capture_output=True, text=True, check=False)
+    line = [str(top / words[0]), *words[1:]]
+    ran = subprocess.run(line, stdin=subprocess.DEVNULL, capture_output=True, text=True, check=False)
     return ran.stdout, ran.stderr, ran.returncode
 
 
-def git(top, *words):
+def git(top: pathlib.Path, *words: str) -> None:
     subprocess.run(["git", "-C", top, "-c", "user.name=a", "-c", "user.email=a@b", *words], check=True)

@@ -2,11 +2,10 @@
 """Counts what `check` costs: instructions beside those of a plain program that only reads the same bytes by Rust's
 serde_json, and the most memory that it takes.
 
-usage: cases/counts.py [PROGRAM]    crates/tpl_cli/out/tpl_cli, if none is named
-
 It wants Debian's packages valgrind and librust-serde-json-dev, and cargo. Instructions hardly differ from run to run, so one
 run is enough. It is a measurement and no test: nothing fails where a number is large.
 """
+import argparse
 import json
 import os
 import pathlib
@@ -16,7 +15,7 @@ import sys
 import tempfile
 
 from documents import COUNTED, LONGEST, sized, text_of
-from suite import HERE, PROGRAM, program
+from harness import HERE, PROGRAM, built
 
 # where Debian's packages put the sources of Rust's crates
 REGISTRY = "/usr/share/cargo/registry"
@@ -69,8 +68,10 @@ def filled(document, place, element):
     return text[:at] + ",".join([one] * ((LONGEST - len(text)) // (len(one) + 1))) + text[at:]
 
 
-def main():
-    named = program(PROGRAM)
+def main() -> int:
+    parser = argparse.ArgumentParser(description=__doc__, formatter_class=argparse.RawDescriptionHelpFormatter)
+    parser.add_argument("--program", type=pathlib.Path, default=built(PROGRAM), help="the program (%(default)s)")
+    named = parser.parse_args().program
     with tempfile.TemporaryDirectory() as folder:
         plain = plain_program(folder)
         for name, counted in COUNTED.items():
@@ -85,7 +86,8 @@ def main():
             pathlib.Path(file).write_text(filled(document, place, element), encoding="utf-8")
             size, memory = os.path.getsize(file), peak([named, "check"], file)
             print(f"{name}: {size} bytes, memory {memory}, {memory / size:.1f} for each byte")
+    return 0
 
 
 if __name__ == "__main__":
-    main()
+    sys.exit(main())

@@ -1,75 +1,78 @@
 #!/usr/bin/env python3
 """Counts how many claims of generated graphs are settled: by a certificate, by a run in which they fail, or by neither.
 
-usage: cases/decided.py [PROGRAM] [--keep FOLDER]    the script `taskgraph` at the top, if none is named; --keep writes the
-                                                     documents of the claims that are settled by neither
-
 There are 200 graphs of 4 to 12 tasks, of all kinds, with 4 claims each, always the same ones. This measures and judges
 nothing, but that no claim is both. The last line is what was counted.
 """
+import argparse
 import json
 import pathlib
 import random
-import subprocess
 import sys
 import time
 
 from graphs import Drawn
-from suite import HERE
+from harness import TOP, Program
 
-TOP = HERE.parent
 GRAPHS, CLAIMS, SEED = 200, 4, 26
 DEPTH = "3"
+# seconds for an answer
+LIMIT = 600
 
 
-def documents():
-    """A name and a document for each claim of each graph."""
-    chance = random.Random(SEED)
-    for number in range(GRAPHS):
+def documents(count: int, seed: int):
+    """A name and a document for each claim of so many graphs."""
+    chance = random.Random(seed)
+    for number in range(count):
         drawn = Drawn(chance)
         for letter in "abcd"[:CLAIMS]:
             yield f"{number}{letter}", drawn.document(drawn.claim())
 
 
-def called(named, *words, text):
+def called(program: Program, *words: str, text: str):
     """What the program writes, how it ends and how long that took."""
     started = time.monotonic()
-    ended = subprocess.run([named, *words], input=text.encode(), capture_output=True)
-    return ended.stdout.decode(), ended.returncode, time.monotonic() - started
+    answer = program(*words, given=text, limit=LIMIT)
+    return answer.stdout, answer.exit, time.monotonic() - started
 
 
-def settled(named, text):
+def settled(program: Program, text: str):
     """How the claim of the document is settled, and how long that took."""
-    found, ends, certify = called(named, "analyse", "--depth", DEPTH, text=text)
+    found, ends, certify = called(program, "analyse", "--depth", DEPTH, text=text)
     if ends not in (0, 1):
         raise ValueError(f"{found!r} of {text}")
-    wrote, refutes, refute = called(named, "refute", *(["--runs", "2000"] if ends == 0 else []), text=text)
+    _, refutes, refute = called(program, "refute", *(["--runs", "2000"] if ends == 0 else []), text=text)
     if ends == 0 and refutes == 1:
         raise ValueError(f"both a certificate and a run: {text}")
     return "certified" if ends == 0 else "refuted" if refutes == 1 else "neither", certify, refute
 
 
-def main():
-    words = sys.argv[1:]
-    keep = words.pop(words.index("--keep") + 1) if "--keep" in words else None
-    named = next((word for word in words if word != "--keep"), TOP / "taskgraph")
+def main() -> int:
+    parser = argparse.ArgumentParser(description=__doc__, formatter_class=argparse.RawDescriptionHelpFormatter)
+    parser.add_argument("--program", type=pathlib.Path, default=TOP / "taskgraph", help="the script taskgraph, if none is named")
+    parser.add_argument("--graphs", type=int, default=GRAPHS, help="how many graphs (%(default)s)")
+    parser.add_argument("--seed", type=int, default=SEED, help="by which number they are drawn (%(default)s)")
+    parser.add_argument("--keep", type=pathlib.Path, metavar="FOLDER", help="write the documents that are settled by neither")
+    given = parser.parse_args()
+    program = Program(given.program)
     counts = dict.fromkeys(("certified", "refuted", "neither"), 0)
-    times = {name: [] for name in counts}
+    times: dict[str, list[float]] = {name: [] for name in counts}
     certify = []
-    for name, document in documents():
+    for name, document in documents(given.graphs, given.seed):
         text = json.dumps(document)
-        how, first, second = settled(named, text)
+        how, first, second = settled(program, text)
         counts[how] += 1
         certify.append(first)
         times[how].append(second)
-        if how == "neither" and keep:
-            pathlib.Path(keep).mkdir(exist_ok=True)
-            pathlib.Path(keep, f"{name}.json").write_text(text + "\n", encoding="utf-8")
+        if how == "neither" and given.keep:
+            given.keep.mkdir(exist_ok=True)
+            (given.keep / f"{name}.json").write_text(text + "\n", encoding="utf-8")
     print(f"analyse: {sum(certify):.1f} s in all, {max(certify):.2f} s at most")
     for how, each in times.items():
         print(f"refute, of what is {how}: {sum(each):.1f} s in all, {max(each, default=0):.2f} s at most")
     print(", ".join(f"{count} {how}" for how, count in counts.items()))
+    return 0
 
 
 if __name__ == "__main__":
-    main()
+    sys.exit(main())

@@ -1,5 +1,14 @@
-"""The picture of a document, worked out by the rules of docs/PICTURES.md alone."""
+#!/usr/bin/env python3
+"""The picture of a document, worked out by the rules of docs/PICTURES.md alone. As a script it draws the examples."""
+import argparse
+import json
+import pathlib
+import sys
 
+from harness import HERE, TOP, examples
+
+PICTURES = HERE / "pictures"
+LANGUAGES = {"mermaid": "mmd", "dot": "dot"}
 SHAPES = {
     "mermaid": {
         "root": ('["', '"]'),
@@ -159,3 +168,35 @@ def picture(document, language, accepted):
     lines += [task_node(language, task["name"], task["kind"], it) for task, it in zip(document["tasks"], marks)]
     lines += [edge_line(language, *edge) for edge in edges(document)]
     return "".join(lines + [CLOSING[language]])
+
+
+def accepted(document):
+    """Whether the certificate is taken as accepted: it has a tree for each claim."""
+    return len(document.get("certificate", [])) == len(document.get("claims", []))
+
+
+def kept_picture(name: str, language: str) -> pathlib.Path:
+    """The file of an example's picture, at which a person has looked."""
+    return PICTURES / f"{name}.{LANGUAGES[language]}"
+
+
+def main() -> int:
+    where = PICTURES.relative_to(TOP)
+    parser = argparse.ArgumentParser(description=f"Draws the examples by the rules, and says which files of {where}/ differ.")
+    parser.add_argument("--write", action="store_true", help="write these files anew")
+    given = parser.parse_args()
+    differ = 0
+    for file in examples():
+        document = json.loads(file.read_text(encoding="utf-8"))
+        for language in LANGUAGES:
+            kept, text = kept_picture(file.stem, language), picture(document, language, accepted(document))
+            if not kept.exists() or kept.read_text(encoding="utf-8") != text:
+                print(kept.relative_to(TOP))
+                differ += 1
+                if given.write:
+                    kept.write_text(text, encoding="utf-8")
+    return int(differ > 0 and not given.write)
+
+
+if __name__ == "__main__":
+    sys.exit(main())

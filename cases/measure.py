@@ -1,10 +1,6 @@
 #!/usr/bin/env python3
 """Measures how long the program takes over documents of many sizes.
 
-usage: cases/measure.py [--program PROGRAM] [--runs PROGRAM] WORD..
-       cases/measure.py [--program PROGRAM] [--runs PROGRAM] --small    does each measurement once over small documents,
-                                                       and tests what is answered; the last line is 'N passed, M failed'
-
 The words:
   check    documents of 16 MB: of long rows, of short rows, of tasks with long bodies, and the same with one tree of 729
            leaves and as many tasks as fit
@@ -13,7 +9,8 @@ The words:
   refute   16 to 992 tasks
   speed    runs of roots, a chain, fans, and jobs of 1 to 100 microseconds by 1, 2 and 4 workers, beside a bare pool of
            threads: the test program tpl_tests_runs measures these, since the jobs of the command answer at once
-It prints seconds of wall and of processor, the least of several calls. Nothing fails where a time is long.
+It prints seconds of wall and of processor, the least of several calls. Nothing fails where a time is long. test_measure.py
+does each measurement over small documents.
 """
 import argparse
 import dataclasses
@@ -25,12 +22,28 @@ import tempfile
 import time
 
 from documents import (
-    LENGTHS, MOST_CLAIMS, MOST_SITES, MOST_SPLITS, MOST_STATEMENTS, MOST_TASKS, WIDEST, Groups, Length, Size, Stages, Widths,
-    chain_antecedent, courses, fan_antecedent, filled, for_threads, grouped, sized, staged, text_of, with_claims,
+    LENGTHS,
+    MOST_CLAIMS,
+    MOST_SITES,
+    MOST_SPLITS,
+    MOST_STATEMENTS,
+    MOST_TASKS,
+    WIDEST,
+    Groups,
+    Size,
+    Stages,
+    chain_antecedent,
+    courses,
+    fan_antecedent,
+    filled,
+    for_threads,
+    grouped,
+    sized,
+    staged,
+    text_of,
+    with_claims,
 )
-from suite import HERE, PROGRAM
-
-RUNS = "crates/tpl_tests_runs/out/tpl_tests_runs"
+from harness import PROGRAM, RUNS, built
 
 # how often each call is made
 TIMES = 3
@@ -42,12 +55,11 @@ GROUP_SPLITS = 2
 
 @dataclasses.dataclass(frozen=True)
 class Measured:
-    """What is measured: its name, the words of the command line, and the document. In a small one, how the answer begins."""
+    """What is measured: its name, the words of the command line, and the document."""
 
     name: str
-    words: list
+    words: list[str]
     document: dict
-    answer: str = None
 
 
 def checks():
@@ -149,63 +161,12 @@ def measure(word, given):
         print(f"{word}, {measured.name}: {said}", flush=True)
 
 
-# ---- small documents
-
-
-NARROW = Widths(statements=4, arguments=3, children=4, tokens=2)
-SHORT = Length(tasks=3, rounds=2, combined=8, families=2)
-COMPLETE, OPEN = "run complete\n", "run not complete\n"
-# the course that passes two statements of each body, so that it is no complete run
-NOT_COMPLETE = "the first of 5 side by side"
-
-
-def small():
-    """Each measurement over a small document, with what is answered by the rules."""
-    size = Size(4, statements=3, line=2, claims=2, splits=1, ends=1)
-    yield Measured("sized", ["check"], sized(size), "accepted\n")
-    groups, false_groups = grouped(Groups(2, joined=True, splits=2)), grouped(Groups(2, joined=True, splits=3))
-    yield Measured("groups, splits enough", analyse(2), groups, "[{")
-    yield Measured("groups, splits too few", analyse(1), groups, "not found: claim 1\n")
-    yield Measured("groups, refuted", refute(100), groups, "not refuted")
-    yield Measured("false groups, searched", analyse(2), false_groups, "not found: claim 1\n")
-    yield Measured("false groups, refuted", refute(100), false_groups, "{")
-    stages = staged(Stages(10, 4, holds=True))
-    yield Measured("stages, splits enough", analyse(4), stages, "[{")
-    yield Measured("stages, splits too few", analyse(3), stages, "not found: claim 1\n")
-    yield Measured("false stages", analyse(4), staged(Stages(10, 4, holds=False)), "not found: claim 1\n")
-    for name, document in courses(NARROW, SHORT, many=5):
-        yield Measured(name, ["audit"], with_claims(document, 5), OPEN if name == NOT_COMPLETE else COMPLETE)
-    # a root has two events, a continuation three, and a job one more
-    loads = {16: for_threads(8), 23: for_threads(8, chain_antecedent), 22: for_threads(8, fan_antecedent(4))}
-    for events, document in {**loads, 24: for_threads(8, has_jobs=True)}.items():
-        yield Measured(f"{events} events", speed(2, 1), document, f"{events} events, complete true\n")
-
-
-def test_small(given):
-    passed = failed = 0
-    for it in small():
-        program = given.runs if it.words[0] == "speed" else given.program
-        answer = called(program, it.words, text_of(it.document))[0]
-        is_well = answer.startswith(it.answer)
-        passed, failed = passed + is_well, failed + (not is_well)
-        if not is_well:
-            print(f"measure: {it.name}: {' '.join(it.words)} answers {answer[:200]!r}, and not {it.answer!r}")
-    print(f"{passed} passed, {failed} failed")
-    return 1 if failed else 0
-
-
-def main():
+def main() -> int:
     parser = argparse.ArgumentParser(description=__doc__, formatter_class=argparse.RawDescriptionHelpFormatter)
-    top = pathlib.Path(HERE).parent
-    parser.add_argument("--program", default=top / PROGRAM)
-    parser.add_argument("--runs", metavar="PROGRAM", default=top / RUNS, help="the test program of runs")
-    parser.add_argument("--small", action="store_true")
-    parser.add_argument("words", nargs="*", metavar="WORD")
+    parser.add_argument("--program", type=pathlib.Path, default=built(PROGRAM), help="the program (%(default)s)")
+    parser.add_argument("--runs", type=pathlib.Path, default=built(RUNS), help="the test program of runs (%(default)s)")
+    parser.add_argument("words", nargs="+", choices=WORDS, metavar="WORD")
     given = parser.parse_args()
-    if given.small:
-        return test_small(given)
-    if not given.words or not set(given.words) <= set(WORDS):
-        parser.error(f"name what is to be measured, of {', '.join(WORDS)}")
     for word in given.words:
         measure(word, given)
     return 0

@@ -1,4 +1,4 @@
-/* For devices.py, which has the program load it before the C library: standard input gives one byte a read, and standard
+/* For test_devices.py, which has the program load it before the C library: standard input gives one byte a read, and standard
    output takes one byte a write. The read whose number, from 0, is in READ fails, and so does the write whose number is
    in WRITE, with the error whose number is in ERROR; where that is 0 it moves nothing. At the end it says how many reads
    and writes there were. */

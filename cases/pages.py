@@ -1,7 +1,4 @@
-#!/usr/bin/env python3
-"""Runs what the pages show and compares it with what they say, in the top folder, docs/, examples/, schema/ and cases/.
-
-usage: cases/pages.py [PROGRAM]    the script `taskgraph` at the top, if none is named
+"""What the pages show and say: fenced blocks with commands or documents, and the lines of docs/OUTPUT.md.
 
 Two kinds of fenced blocks are run. A block `console` has commands, each behind `$ ` (with what stands between `<<END` and
 END), and below each what it writes; the exit status is the one that docs/OUTPUT.md gives for these lines. A block `json`
@@ -10,45 +7,58 @@ is a document, or what stands in one behind its version; below it lines of this 
     `analyse --depth 1` finds a certificate.
     `check` says `accepted`.
 
-A certificate that is found has to be accepted by `check`. Each link to a file has to lead to one. Each line of
-docs/OUTPUT.md is also held against the cases of this folder: each line that they expect is one of the page's, with its
-exit status. The last line is 'N passed, M failed'.
+A certificate that is found has to be accepted by `check`.
 """
+import functools
 import json
 import os
 import pathlib
 import re
 import subprocess
-import sys
-import tempfile
+from typing import NamedTuple
 
-from suite import HERE, cases, files, program, tell
+from harness import LIMIT, TOP, Program
 
-TOP = HERE.parent
 FENCE = re.compile(r"^```(\w*)\n(.*?)^```\n", re.MULTILINE | re.DOTALL)
 SAYS = re.compile(r"`((?:check|analyse|run|audit)[^`]*)` (?:says `([^`]*)`|(finds a certificate))\.")
 LINK = re.compile(r"\]\((?!https?:|#)([^)#]+)")
 PLACE = re.compile(r"[A-Z]{2,}|\b[NP]\b")
 ROW = re.compile(r"^\| `([^`]+)` \| (\d) \|", re.MULTILINE)
-LONGEST_WAIT = 120
+PROGRAM = "./taskgraph"
 
 
-def pages():
+class Block(NamedTuple):
+    """A fenced block: the word behind the fence, what stands in it, and the paragraph below."""
+
+    kind: str
+    text: str
+    below: str
+
+
+class Row(NamedTuple):
+    """A line of docs/OUTPUT.md: the heading under which it stands, the lines that it stands for, and the exit status."""
+
+    head: str
+    shape: re.Pattern
+    exit: int
+
+
+def pages() -> list[pathlib.Path]:
     """The pages of the repository."""
     folders = ("*.md", "docs/*.md", "examples/*.md", "schema/*.md", "cases/*.md")
     return [file for folder in folders for file in sorted(TOP.glob(folder))]
 
 
-def blocks(text):
-    """The fenced blocks of a page: the word behind the fence, what stands in it, and the paragraph below."""
+def blocks(text: str):
+    """The fenced blocks of a page."""
     for block in FENCE.finditer(text):
-        below = text[block.end():].lstrip("\n").split("\n\n")[0]
-        yield block.group(1), block.group(2), below
+        yield Block(block.group(1), block.group(2), text[block.end() :].lstrip("\n").split("\n\n")[0])
 
 
-def commands(block):
+def commands(block: str) -> list[tuple[str, str]]:
     """Each command of a console block, with what it writes."""
-    found, ends_with = [], None
+    found: list[list[str]] = []
+    ends_with = None
     for line in block.splitlines(keepends=True):
         if ends_with is not None:
             found[-1][0] += line
@@ -58,10 +68,10 @@ def commands(block):
             ends_with = "END" if "<<END" in line else None
         elif found:
             found[-1][1] += line
-    return [tuple(it) for it in found]
+    return [(command, answer) for command, answer in found]
 
 
-def pattern(line):
+def pattern(line: str) -> re.Pattern:
     """The lines that a row of docs/OUTPUT.md stands for: its words in capitals stand for any word."""
     if line == "TREES":
         return re.compile(r"\[.*\]")
@@ -71,121 +81,77 @@ def pattern(line):
     return re.compile(r"[^ \"]+".join(map(re.escape, PLACE.split(line))) + carried)
 
 
-def rows(text):
-    """The lines of docs/OUTPUT.md with their exit statuses, and the heading under which each stands."""
+def rows(text: str) -> list[Row]:
+    """The lines of docs/OUTPUT.md."""
     parts = re.split(r"^## `?([^`\n]*)`?\n", text, flags=re.MULTILINE)
     headed = zip(["", *parts[1::2]], parts[::2])
-    return [(head, pattern(row.group(1)), int(row.group(2))) for head, part in headed for row in ROW.finditer(part)]
+    return [Row(head, pattern(row.group(1)), int(row.group(2))) for head, part in headed for row in ROW.finditer(part)]
 
 
-def ending(answer, known, command=""):
+@functools.cache
+def known_rows() -> list[Row]:
+    """The lines of the page docs/OUTPUT.md as it is."""
+    return rows((TOP / "docs/OUTPUT.md").read_text(encoding="utf-8"))
+
+
+def ending(answer: str, known: list[Row], command: str = "") -> tuple[int, str | None]:
     """The exit status that belongs to these lines, and the first line that no row has, or None. Where two commands write
     such a line, it is the command's own that counts."""
     status = 0
     for line in answer.splitlines():
-        fits = [(head != command, number) for head, shape, number in known if shape.fullmatch(line)]
+        fits = [row for row in known if row.shape.fullmatch(line)]
         if not fits:
             return status, line
-        status = max(status, next((number for others, number in fits if not others), fits[0][1]))
+        status = max(status, next((row.exit for row in fits if row.head == command), fits[0].exit))
     return status, None
 
 
-def document(snippet):
+def document(snippet: str) -> dict:
     """The document that a json block stands for."""
     whole = snippet if snippet.lstrip().startswith("{") else '{"version": 2,' + snippet + "}"
     return json.loads(whole)
 
 
-class Page:
-    """What is run for the pages: the program, in a folder of its own that has the examples."""
+class Desk:
+    """Where the commands of pages are run: a folder with the program and the folders that pages name."""
 
-    def __init__(self, named, folder, known):
-        self.named, self.folder, self.known = named, folder, known
+    def __init__(self, program: Program, folder: pathlib.Path):
+        self.program, self.folder, self.known = program, folder, known_rows()
         for name in ("examples", "docs", "schema"):
-            (pathlib.Path(folder) / name).symlink_to(TOP / name)
-        (pathlib.Path(folder) / "taskgraph").symlink_to(named)
-        self.environment = {**os.environ, "TASKGRAPH": str(named)}
+            (folder / name).symlink_to(TOP / name)
+        (folder / "taskgraph").symlink_to(program.path)
 
-    def shell(self, command):
+    def shell(self, command: str) -> subprocess.CompletedProcess:
+        """What a command line writes, and how it ends."""
+        environment = {**os.environ, "TASKGRAPH": str(self.program.path)}
         return subprocess.run(
-            ["bash", "-c", command], cwd=self.folder, env=self.environment, capture_output=True, timeout=LONGEST_WAIT,
+            ["bash", "-c", command],
+            cwd=self.folder,
+            env=environment,
+            capture_output=True,
+            text=True,
+            errors="replace",
+            timeout=LIMIT,
             check=False,
         )
 
-    def ask(self, words, given):
-        ended = subprocess.run(
-            [self.named, *words], input=json.dumps(given).encode(), capture_output=True, timeout=LONGEST_WAIT, check=False
-        )
-        return ended.stdout.decode(errors="replace"), ended.returncode
-
-    def shown(self, command, answer):
-        """Why a console command doesn't answer as the page says, or None."""
+    def check_shown(self, command: str, answer: str):
+        """A console command answers as the page shows."""
         ended = self.shell(command)
-        wrote = ended.stdout.decode(errors="replace")
-        if wrote != answer:
-            return f"wrote {wrote[:300]!r}, not {answer[:300]!r}; {ended.stderr[-200:]!r}"
-        if not re.search(r"\./taskgraph [^|]*(<<END|$)", command.split("\n")[0]):
-            return None
-        *_, asked = re.findall(r"\./taskgraph (\w*)", command.split("\n")[0])
-        status, unknown = ending(answer, self.known, asked)
-        if unknown is not None:
-            return f"docs/OUTPUT.md hasn't the line {unknown!r}"
-        return None if ended.returncode == status else f"exit {ended.returncode}, not {status}"
+        assert ended.stdout == answer, ended.stderr
+        line = command.split("\n")[0]
+        if re.search(rf"{re.escape(PROGRAM)} [^|]*(<<END|$)", line):
+            *_, asked = re.findall(rf"{re.escape(PROGRAM)} (\w*)", line)
+            assert (ended.returncode, None) == ending(answer, self.known, asked)
 
-    def said(self, snippet, words, answer, found):
-        """Why a command doesn't say of a snippet what the page says, or None."""
+    def check_said(self, snippet: str, words: str, answer: str, finds: str):
+        """A command says of a snippet what the page says."""
         given = document(snippet)
-        wrote, status = self.ask(words.split(), given)
-        if not found:
-            expected, _ = ending(answer + "\n", self.known, words.split()[0])
-            return None if (wrote, status) == (answer + "\n", expected) else f"wrote {wrote[:200]!r}, exit {status}"
-        if status != 0:
-            return f"no certificate: {wrote[:200]!r}"
-        verdict = self.ask(["check"], {**given, "certificate": json.loads(wrote)})
-        return None if verdict == ("accepted\n", 0) else f"the certificate that it finds: {verdict}"
-
-
-def of_page(page, file):
-    """Each case of a page, with why it fails, or None."""
-    for kind, block, below in blocks(file.read_text(encoding="utf-8")):
-        if kind == "console":
-            for command, answer in commands(block):
-                yield file, {"name": command.split("\n")[0]}, page.shown(command, answer)
-        elif kind == "json" and SAYS.search(below):
-            for words, answer, found in SAYS.findall(below):
-                yield file, {"name": f"{words} of {block[:60]!r}"}, page.said(block, words, answer, found)
-
-
-def of_links(file):
-    """Each link of a page to a file."""
-    for link in LINK.findall(file.read_text(encoding="utf-8")):
-        yield file, {"name": f"the link {link}"}, None if (file.parent / link).exists() else "leads nowhere"
-
-
-def of_cases(known):
-    """Each case of this folder: its lines and its exit status are those of docs/OUTPUT.md."""
-    for file in files():
-        for case in cases(file):
-            words = {case["command"], *case["args"]}
-            if case["stdout"] is None or case["exit"] == 2 or words & {"--help", "-h", "help", "--version"}:
-                continue
-            # a picture's lines are those of docs/PICTURES.md
-            if case["command"] == "draw" and case["exit"] == 0:
-                continue
-            status, unknown = ending(case["stdout"], known, case["command"])
-            why = f"docs/OUTPUT.md hasn't the line {unknown!r}" if unknown is not None else None
-            yield file, case, why or (None if status == case["exit"] else f"docs/OUTPUT.md has exit {status}")
-
-
-def compared():
-    known = rows((TOP / "docs/OUTPUT.md").read_text(encoding="utf-8"))
-    with tempfile.TemporaryDirectory() as folder:
-        page = Page(pathlib.Path(program("taskgraph")).resolve(), folder, known)
-        for file in pages():
-            yield from of_page(page, file)
-            yield from of_links(file)
-    yield from of_cases(known)
-
-
-if __name__ == "__main__":
-    sys.exit(tell(compared()))
+        command, *_ = asked = words.split()
+        wrote = self.program(*asked, given=json.dumps(given))
+        if finds:
+            assert wrote.exit == 0, wrote
+            verdict = self.program("check", given=json.dumps({**given, "certificate": json.loads(wrote.stdout)}))
+            assert (verdict.stdout, verdict.exit) == ("accepted\n", 0)
+        else:
+            assert (wrote.stdout, wrote.exit) == (f"{answer}\n", ending(f"{answer}\n", self.known, command)[0])

@@ -1,4 +1,4 @@
-/* For memory.py, which has the program load it before the C library: refuses the allocation whose number, from 1, is in
+/* For test_memory.py, which has the program load it before the C library: refuses the allocation whose number, from 1, is in
    REFUSED, and all after it where REFUSE_REST is set. With no REFUSED it says at the end how many were asked for. */
 #include "ending.h"
 

@@ -1,7 +1,14 @@
-"""The trace of a document's journal, worked out by the rules of docs/PICTURES.md alone."""
+#!/usr/bin/env python3
+"""The trace of a document's journal, worked out by the rules of docs/PICTURES.md alone. As a script it traces the examples."""
+import argparse
 import json
 import math
+import pathlib
+import sys
 
+from harness import HERE, TOP, examples
+
+TRACES = HERE / "traces"
 SEATS_BEHIND = 64
 # the track of the first task's body, if it has one of its own
 BODIES_BEHIND = 73
@@ -82,3 +89,29 @@ def trace(document):
     """The text of the trace."""
     value = {"traceEvents": list(entries(document))}
     return json.dumps(value, separators=(",", ":"), sort_keys=True) + "\n"
+
+
+def kept_trace(name: str) -> pathlib.Path:
+    """The file of the trace of an example's journal, at which a person has looked."""
+    return TRACES / f"{name}.json"
+
+
+def main() -> int:
+    where = TRACES.relative_to(TOP)
+    parser = argparse.ArgumentParser(description=f"Traces the examples by the rules, and says which files of {where}/ differ.")
+    parser.add_argument("--write", action="store_true", help="write these files anew")
+    given = parser.parse_args()
+    differ = 0
+    for file in examples():
+        document = json.loads(file.read_text(encoding="utf-8"))
+        kept = kept_trace(file.stem)
+        if "journal" in document and not (kept.exists() and kept.read_text(encoding="utf-8") == trace(document)):
+            print(kept.relative_to(TOP))
+            differ += 1
+            if given.write:
+                kept.write_text(trace(document), encoding="utf-8")
+    return int(differ > 0 and not given.write)
+
+
+if __name__ == "__main__":
+    sys.exit(main())

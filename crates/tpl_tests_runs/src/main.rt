@@ -1,7 +1,7 @@
 //! Runs: plays on both machines, random runs on both side by side, the queue between threads, and sessions.
 //!
 //! The file `files` names the plays. Each check is a line, and the last line counts them. With the word `memory`, the
-//! sessions of cases/session_memory.py alone. With `speed WORKERS MICROSECONDS` nothing is checked: the document on
+//! sessions of cases/test_session_memory.py alone. With `speed WORKERS MICROSECONDS` nothing is checked: the document on
 //! standard input is run by so many workers, each job of it takes so long, and how fast they are is printed.
 #![tactic(auto)]
 

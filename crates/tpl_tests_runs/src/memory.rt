@@ -1,4 +1,4 @@
-//! Sessions with little memory: cases/session_memory.py refuses each allocation in turn.
+//! Sessions with little memory: cases/test_session_memory.py refuses each allocation in turn.
 
 ghost use Rattle.std.specs.Prelude.{◌≡◌, IfOk};
 

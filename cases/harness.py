@@ -1,0 +1,138 @@
+"""What the tests of this folder share: the cases of its TOML files, and the program, called with words and input."""
+import base64
+import dataclasses
+import functools
+import os
+import pathlib
+import re
+import shlex
+import subprocess
+import tomllib
+from collections.abc import Mapping
+
+HERE = pathlib.Path(__file__).resolve().parent
+TOP = HERE.parent
+# where `rt` puts the proved program of a crate, and .ci/compile the unproved one
+PROVED, UNPROVED = "crates/{0}/out/{0}", "crates/{0}/out/unproved"
+PROGRAM, RUNS = "tpl_cli", "tpl_tests_runs"
+COMMANDS = ("check", "analyse", "run", "audit", "refute", "draw", "trace")
+# how long an answer may take, in seconds
+LIMIT = 120
+# the exit status where the words are wrong
+USAGE = 2
+
+
+@dataclasses.dataclass(frozen=True)
+class Answer:
+    """How the program ended, what it wrote, and what it said on standard error."""
+
+    exit: int
+    stdout: str
+    stderr: str
+
+
+@dataclasses.dataclass(frozen=True)
+class Program:
+    """A program that answers to words and to standard input, in a folder where one is named."""
+
+    path: pathlib.Path
+    folder: pathlib.Path | None = None
+
+    def __call__(
+        self, *words: str, given: bytes | str = b"", limit: float = LIMIT, environment: Mapping[str, str] | None = None
+    ) -> Answer:
+        """Calls the program. Bytes that are no UTF-8 are kept, as single surrogates. One that takes longer is an error."""
+        ended = subprocess.run(
+            [self.path, *words],
+            input=given.encode() if isinstance(given, str) else given,
+            capture_output=True,
+            cwd=self.folder,
+            env={**os.environ, **(environment or {})},
+            timeout=limit,
+            check=False,
+        )
+        written, said = (it.decode(errors="surrogateescape") for it in (ended.stdout, ended.stderr))
+        return Answer(ended.returncode, written, said)
+
+
+def built(crate: str) -> pathlib.Path:
+    """The program of a crate that was built last, proved or not; where there is none, the place of the proved one."""
+    places = [TOP / it.format(crate) for it in (PROVED, UNPROVED)]
+    return max((it for it in places if it.exists()), key=os.path.getmtime, default=places[0])
+
+
+def shared_library(folder: pathlib.Path, source: str) -> str:
+    """Builds a C file of this folder, by the compiler beside `rt`, as a library to be loaded before the C library."""
+    guide = subprocess.run(["rt", "doc"], stdout=subprocess.PIPE, check=True, text=True)
+    tools = pathlib.Path(guide.stdout.strip()).parent / "toolchain/bin"
+    target = ["--target=x86_64-unknown-linux-gnu", "-O1", "-fPIC"]
+    made, library = folder / f"{source}.o", folder / f"{source}.so"
+    subprocess.run([tools / "clang", *target, "-c", HERE / source, "-o", made], check=True)
+    subprocess.run([tools / "ld.lld", "-shared", made, "-o", library], check=True)
+    return str(library)
+
+
+@dataclasses.dataclass(frozen=True)
+class Case:
+    """A case of a file: what the program is asked, and what it has to answer."""
+
+    file: str
+    name: str
+    words: tuple[str, ...]
+    stdin: bytes
+    exit: int
+    # None: it isn't compared
+    stdout: str | None
+    # lines that have to be written, and pieces of what has to be said on standard error; None: anything may be said
+    contains: tuple[str, ...]
+    stderr: tuple[str, ...] | None
+
+    def __str__(self):
+        return slug(f"{self.file}: {self.name}")
+
+    @property
+    def command(self) -> str:
+        """The word of the command, or no text where the words don't begin with one."""
+        return next((it for it in self.words[:1] if not it.startswith("-")), "")
+
+
+def slug(name: str) -> str:
+    """The words of a name with hyphens between them, as `pytest -k` reads it."""
+    return re.sub(r"\W+", "-", name).strip("-")
+
+
+def case_of(file: str, table: dict) -> Case:
+    """A table of a file as a case. Standard input that is no text is written in base 64."""
+    stdin = base64.b64decode(table["stdin_base64"]) if "stdin_base64" in table else table["stdin"].encode()
+    words = tuple(shlex.split(table["words"]))
+    said = tuple(table["stderr"]) if "stderr" in table else None
+    written, lines = table.get("stdout"), tuple(table.get("contains", ()))
+    return Case(file, table["name"], words, stdin, table["exit"], written, lines, said)
+
+
+def files() -> list[str]:
+    """The names of the files of cases, in order."""
+    return sorted(it.stem for it in HERE.glob("*.toml"))
+
+
+@functools.cache
+def cases_of(file: str) -> tuple[Case, ...]:
+    """The cases of a file."""
+    tables = tomllib.loads((HERE / f"{file}.toml").read_text(encoding="utf-8"))["case"]
+    return tuple(case_of(file, it) for it in tables)
+
+
+def all_cases() -> list[Case]:
+    """The cases of all files."""
+    return [case for file in files() for case in cases_of(file)]
+
+
+def case_named(file: str, name: str) -> Case:
+    """The case of this name."""
+    (found,) = (case for case in cases_of(file) if case.name == name)
+    return found
+
+
+def examples() -> list[pathlib.Path]:
+    """The documents of examples/."""
+    return sorted((TOP / "examples").glob("*.json"))

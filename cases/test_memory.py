@@ -1,0 +1,52 @@
+"""Each allocation of the program is refused in turn, alone and with all after it, for the first case of each file and some
+more: the answer is the same, or 'out of memory' with exit 4; or, where a run finds no thread for a worker, 'run: Spawn'
+with exit 5. refuse.c is what the program loads for that.
+"""
+import pytest
+
+from harness import Case, Program, case_named, cases_of, files
+
+# beside the first case of each file
+MORE = {
+    "analyse": [
+        "one root that returns; the certificate of the document is not used",
+        "a continuation that may be canceled early: no certificate",
+        "the whole document with a slim certificate",
+    ],
+    "audits": ["a synchronous continuation on another worker"],
+    "first-examples": [
+        "a row without what the claim needs before",
+        "LazyCancellation lets a continuation keep what is past its antecedent",
+        "two continuations on opposite ends, split on the end",
+    ],
+    "runs": ["seven tasks by one worker", "a job that is to fail"],
+    "refutes": [
+        "no run is tried",
+        "all else of the document stays, its start and its certificate too",
+    ],
+}
+NO_MEMORY = ("out of memory\n", 4)
+NO_THREAD = ("run: Spawn\n", 5)
+
+
+def chosen() -> list[Case]:
+    """The cases whose allocations are refused."""
+    return [case for file in files() for case in (cases_of(file)[0], *(case_named(file, it) for it in MORE.get(file, ())))]
+
+
+def answered(program: Program, case: Case, refuse: str, **refusing: str) -> tuple[tuple[str, int], str]:
+    """What the program writes, how it ends, and what refuse.c says: behind the last line of what the program says aside."""
+    answer = program(*case.words, given=case.stdin, environment={"LD_PRELOAD": refuse, **refusing})
+    return (answer.stdout, answer.exit), answer.stderr.rpartition("\n")[2]
+
+
+@pytest.mark.parametrize("case", chosen(), ids=str)
+def test_each_refused_allocation(bare_program, library, case: Case):
+    refuse = library("refuse.c")
+    whole, asked = answered(bare_program, case, refuse)
+    allowed = [whole, NO_MEMORY, *([NO_THREAD] if case.command == "run" else [])]
+    for number in range(1, int(asked) + 1):
+        alone = {"REFUSED": str(number)}
+        for refusing in (alone, {**alone, "REFUSE_REST": "1"}):
+            answer, _ = answered(bare_program, case, refuse, **refusing)
+            assert answer in allowed, f"allocation {number} of {asked} is refused, by {refusing}"

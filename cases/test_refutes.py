@@ -1,0 +1,222 @@
+"""Runs in which claims fail are searched for, over each document of examples/ and of the cases, claim by claim.
+
+A claim for which `analyse` finds a certificate is never refuted. Each claim of which a page of examples/ shows a run in
+which it fails, or of which a case of `audit` says where it fails, is refuted within the runs that are tried unless told
+otherwise. The same words give the same text. Of two shortest runs each is found by some seed, and no longer one. Each
+document that is written is the one that was read but for the inputs and the journal; `audit` finds a run there, and
+that the claim fails after its last event; and `check` refuses the document. In each run bodies nest, also in those of
+graphs that are drawn by chance; no run is found where only one that no thread makes would do; and a large document is
+answered before the time is over.
+"""
+import json
+import random
+import re
+import time
+
+import pytest
+
+from graphs import Drawn
+from harness import TOP, Answer, Program, all_cases, cases_of, examples, slug
+from nested import unnested
+
+# a page shows a claim of a document with a journal in which it fails
+SHOWN = re.compile(r"^\$ examples/ask examples/(\S+\.json) '([^']*)' --journal", re.MULTILINE)
+FAILS = re.compile(r"claim (\d+) fails at")
+# how many runs are tried where none is to be found
+FEW = "2000"
+DEPTH = "3"
+LONGEST = 16_777_216
+LIMIT = 300
+# the exit statuses of a claim that isn't refuted, of one that is, and of a document that can't be read
+HOLDS, REFUTED, UNREADABLE = 0, 1, 3
+NOT_REFUTED = Answer(HOLDS, "not refuted\n", "")
+# Two of ten roots may begin in either order, and by both the claim fails. No run is shorter, and the other roots aren't needed.
+EITHER = json.dumps({
+    "version": 1,
+    "tasks": [{"name": name, "kind": "root", "body": ["return"]} for name in "ABCDEFGHIJ"],
+    "claims": [{"excludes": ["A", "B"]}],
+})
+SEEDS = 32
+# how many graphs are drawn by chance, with a claim each
+DRAWN = 400
+# Two synchronous continuations of one task cancel and check crosswise: on the thread that ends the task one of them runs
+# after the other, so exactly one faults. Both do only where somebody outside requests a token first.
+SYNCHRONOUS, FAULTED = {"options": ["ExecuteSynchronously"]}, {"options": ["OnlyOnFaulted"]}
+CROSSWISE = json.dumps({
+    "version": 1,
+    "tokens": ["one", "other"],
+    "tasks": [
+        {"name": "A", "kind": "root", "body": []},
+        {"name": "B", "kind": "then", "after": "A", "body": [{"cancel": "one"}, {"check": "other"}], **SYNCHRONOUS},
+        {"name": "C", "kind": "then", "after": "A", "body": [{"cancel": "other"}, {"check": "one"}], **SYNCHRONOUS},
+        {"name": "E", "kind": "then", "after": "B", "body": [], **FAULTED},
+        {"name": "F", "kind": "then", "after": "C", "body": [], **FAULTED},
+    ],
+    "claims": [{"excludes": ["E", "F"]}],
+})
+# A run of each of 1,024 tasks, none of which can be left out; and 64 true claims over as many roots.
+CHAIN = json.dumps({
+    "version": 1,
+    "tasks": [
+        {"name": "T0", "kind": "root", "body": []},
+        *({"name": f"T{number}", "kind": "then", "after": f"T{number - 1}", "body": []} for number in range(1, 1024)),
+    ],
+    "claims": [{"never": "T1023"}],
+})
+
+
+def long_root(number: int) -> dict:
+    """A root, of the first 256 with a job and other statements."""
+    body = [{"work": f"w{number}", "may_fail": True}, *["return"] * 9] if number < 256 else []
+    return {"name": f"T{number}", "kind": "root", "body": body}
+
+
+TRUE = json.dumps({
+    "version": 1,
+    "tasks": [long_root(number) for number in range(1024)],
+    "claims": [{"final": f"T{number}", "in": ["RanToCompletion", "Canceled", "Faulted"]} for number in range(64)],
+})
+# seconds, on a machine that does much else
+FOUND_WITHIN = 10
+ENDED_WITHIN = 60
+
+
+def alone(document: dict, claim: dict) -> str:
+    """The document with this claim only."""
+    kept = {name: it for name, it in document.items() if name not in ("certificate", "journal")}
+    return json.dumps({**kept, "claims": [claim]})
+
+
+def false_claims():
+    """Documents with one claim each, of which it is known that it fails in some run."""
+    for page in sorted((TOP / "examples").glob("*.md")):
+        for file, claim in SHOWN.findall(page.read_text(encoding="utf-8")):
+            document = json.loads((TOP / "examples" / file).read_text(encoding="utf-8"))
+            yield pytest.param(alone(document, json.loads(claim)), id=slug(f"{page.name} {claim}"))
+    for case in cases_of("audits"):
+        fails = FAILS.search(case.stdout or "")
+        if fails:
+            document = json.loads(case.stdin)
+            yield pytest.param(alone(document, document["claims"][int(fails.group(1)) - 1]), id=str(case))
+
+
+def documents():
+    """Each document of the examples and the cases."""
+    for file in examples():
+        yield file.stem, file.read_bytes()
+    for case in all_cases():
+        yield str(case), case.stdin
+
+
+def claims():
+    """Each claim of a document that can be read, once."""
+    seen = set()
+    for name, text in documents():
+        try:
+            document = json.loads(text.decode())
+            each = document["claims"]
+        except (ValueError, KeyError, TypeError):
+            continue
+        for number, claim in enumerate(each if isinstance(each, list) else [], 1):
+            one = alone(document, claim)
+            if one not in seen:
+                seen.add(one)
+                yield pytest.param(one, id=f"{name}-claim-{number}")
+
+
+def refute(program: Program, *words: str, text: str) -> Answer:
+    return program("refute", *words, given=text, limit=LIMIT)
+
+
+def without_run(document: dict) -> dict:
+    """The document without the parts that are filled in: the journal, and the inputs of the start."""
+    start = {name: it for name, it in document.get("start", {}).items() if name != "inputs"}
+    return {**{name: it for name, it in document.items() if name != "journal"}, "start": start}
+
+
+def check_refutation(program: Program, text: str, wrote: str):
+    """The document that was written for a claim that is refuted is as it has to be."""
+    document = json.loads(wrote)
+    assert wrote == json.dumps(document, separators=(",", ":"), sort_keys=True) + "\n"
+    assert without_run(document) == without_run(json.loads(text))
+    assert unnested(document) is None, "no thread makes this run"
+    audit = program("audit", given=wrote, limit=LIMIT)
+    (head, *fails), events = audit.stdout.splitlines(), document["journal"].count("\n")
+    assert head in ("run complete", "run not complete")
+    assert (audit.exit, fails) == (REFUTED, [f"claim 1 fails at {events}"])
+    assert program("check", given=wrote, limit=LIMIT).exit == REFUTED
+
+
+@pytest.mark.parametrize("text", false_claims())
+def test_false_claim(program, text: str):
+    answer = refute(program, text=text)
+    assert answer.exit == REFUTED, answer.stdout
+    again = refute(program, "--seed", "0", "--runs", "100000", text=text)
+    assert (again.stdout, again.exit) == (answer.stdout, answer.exit)
+    check_refutation(program, text, answer.stdout)
+
+
+@pytest.mark.parametrize("text", claims())
+def test_claim(program, text: str):
+    """A claim that may be true or false."""
+    found = program("analyse", "--depth", DEPTH, given=text, limit=LIMIT)
+    answer = refute(program, "--runs", FEW, text=text)
+    if found.exit == UNREADABLE:
+        assert (answer.stdout, answer.exit) == (found.stdout, found.exit)
+    elif found.exit != HOLDS and answer.exit == REFUTED:
+        check_refutation(program, text, answer.stdout)
+    else:
+        assert answer == NOT_REFUTED
+
+
+def test_a_document_that_gets_too_long(program):
+    """Once its journal is filled in."""
+    head = '{"certificate":[{"rows":[{"before":["A"'
+    tail = '],"ends":[],"runs":true}]}],"claims":[{"never":"A"}],"tasks":[{"body":[],"kind":"root","name":"A"}],"version":1}'
+    more = (LONGEST - len(head) - len(tail)) // len(',"A"')
+    answer = refute(program, text=head + ',"A"' * more + tail)
+    assert (answer.stdout, answer.exit) == ("unreadable: too long\n", UNREADABLE)
+
+
+@pytest.mark.drawn(DRAWN)
+def test_drawn_graph(program, number: int):
+    graph = Drawn(random.Random(number))
+    text = json.dumps(graph.document(graph.claim()))
+    answer = refute(program, "--runs", "300", text=text)
+    if answer.exit == REFUTED:
+        check_refutation(program, text, answer.stdout)
+    elif answer.exit == UNREADABLE:
+        assert program("check", given=text).stdout == answer.stdout
+    else:
+        assert answer == NOT_REFUTED
+
+
+def test_crosswise_continuations(program):
+    """Both fault only where somebody outside requests a token."""
+    for seed in range(SEEDS):
+        answer = refute(program, "--seed", str(seed), text=CROSSWISE)
+        if answer.exit == REFUTED:
+            check_refutation(program, CROSSWISE, answer.stdout)
+            assert "o1 request" in json.loads(answer.stdout)["journal"], f"seed {seed}"
+
+
+@pytest.mark.parametrize(
+    "text, exit_status, seconds",
+    [(CHAIN, REFUTED, FOUND_WITHIN), (TRUE, HOLDS, ENDED_WITHIN)],
+    ids=["a-chain-of-1024-tasks", "64-true-claims-over-1024-tasks"],
+)
+def test_large_document(program, text: str, exit_status: int, seconds: float):
+    started = time.monotonic()
+    answer = refute(program, text=text)
+    assert answer.exit == exit_status
+    assert time.monotonic() - started < seconds
+
+
+def test_seeds_find_each_shortest_run(program):
+    orders = set()
+    for seed in range(SEEDS):
+        answer = refute(program, "--seed", str(seed), text=EITHER)
+        assert answer.exit == REFUTED, f"seed {seed}"
+        check_refutation(program, EITHER, answer.stdout)
+        orders.add(tuple(line.partition(" ")[2] for line in json.loads(answer.stdout)["journal"].splitlines()))
+    assert orders == {("begin A", "begin B"), ("begin B", "begin A")}
