@@ -4,17 +4,41 @@ and what a check's lines say of each.
 An edit is a file of lines 'file: src/a.rt' and pairs 'old: TEXT' and 'new: TEXT', as under must-fail/: each old text
 stands in that file exactly once.
 """
+import functools
 import os
 import re
-from collections import namedtuple
+from typing import NamedTuple
 
-# where a function's text lies: `path` is its name below the crate, as a check prints it; `head` is where its first line
-# begins, and `at` to `end` is its body, from the opening brace; functions of one `cycle` are proved together
-Function = namedtuple("Function", "path owner name head at end cycle")
-# a pair of an edit: in `file` the text `old` becomes `new`
-Change = namedtuple("Change", "file old new")
-# `files` are whole new files, each with its text
-Edit = namedtuple("Edit", "name changes files", defaults=((),))
+
+class Function(NamedTuple):
+    """Where a function's text lies."""
+
+    # its name below the crate, as a check prints it
+    path: str
+    owner: str
+    name: str
+    # where its first line begins, and its body, from the opening brace
+    head: int
+    at: int
+    end: int
+    # the functions of a cycle are proved together
+    cycle: str
+
+
+class Change(NamedTuple):
+    """A pair of an edit: in `file` the text `old` becomes `new`."""
+
+    file: str
+    old: str
+    new: str
+
+
+class Edit(NamedTuple):
+    """What is changed, and whole new files, each with its text."""
+
+    name: str
+    changes: tuple[Change, ...]
+    files: tuple[tuple[str, str], ...] = ()
 
 
 class BadEdit(Exception):
@@ -211,14 +235,14 @@ class Crate:
                     found.add(it.path)
         return found
 
-    @property
+    @functools.cached_property
     def named(self):
-        if not hasattr(self, "_named"):
-            self._named = {}
-            for it in self.functions.values():
-                if it:
-                    self._named.setdefault(it.name, []).append(it)
-        return self._named
+        """The functions of each name."""
+        found = {}
+        for it in self.functions.values():
+            if it:
+                found.setdefault(it.name, []).append(it)
+        return found
 
     def reach(self, path):
         """The functions on whose proofs a function's may rest: those that it calls, all of a cycle that it calls, which have
@@ -283,7 +307,9 @@ def can_have_twin(crate, path):
     """A copy of the function under another name, with its proof files, is a function that nothing else tells apart from
     it: a free one or a method of a type itself, that calls not itself, has none inside, and no file of lemmas of its own."""
     function = crate.functions.get(path)
-    if not function or function.cycle or path in crate.whole or path == "main" or function.owner and function.owner not in crate.types:
+    if not function or function.cycle or path in crate.whole or path == "main":
+        return False
+    if function.owner and function.owner not in crate.types:
         return False
     file, text = next((file, crate.texts[file]) for file, found in crate.of_file.items() if function in found)
     inside = [it for it in crate.of_file[file] if function.head < it.head < function.end]
@@ -321,7 +347,8 @@ def twin(crate, path, number, edit=None):
     files = []
     for at, proof in crate.texts.items():
         if at.startswith(f"{folder}/"):
-            proof = re.sub(rf"\b(Rattle\.{crate.name}\.(?:proofs|specs\.contracts)\.{re.escape(dotted)})\b(?!\.\w+_twin_)", rf"\1_twin_{number}", proof)
+            theorem = rf"\b(Rattle\.{crate.name}\.(?:proofs|specs\.contracts)\.{re.escape(dotted)})\b(?!\.\w+_twin_)"
+            proof = re.sub(theorem, rf"\1_twin_{number}", proof)
             proof = re.sub(rf"\b{function.name}_spec\b", f"{name}_spec", proof)
             files.append((f"{folder}_twin_{number}{at[len(folder):]}", proof))
     change = Change(file, whole, f"{whole}\n\n{attributes_above(text, function.head)}{copied}")
@@ -419,6 +446,8 @@ def verdict(crate, path, lines, edited, has_open_goal=False):
 # a proof file that names what the edit took away, and what cites that proof, as rt must-fail tells it
 NAMES = re.compile(r"(\./)?proofs/.*(has no field|is not in scope|has no `|was not admitted)")
 NOTE = re.compile(r"(?:note: )?(\S+):\d+:\d+:")
+# what an error says where a text can't be read
+UNREAD = re.compile(r"is not in scope|has no field|is no name|operand is missing|expected the end|cannot continue")
 
 
 def unread(line, changed):
@@ -426,8 +455,7 @@ def unread(line, changed):
     at = re.match(r"(?:\./)?(\S+?):\d+:\d+: error: (?:(`[^`]*`): )?(.*)", line)
     if not at or at[1] not in changed and not at[1].startswith(("src/", "specs/")):
         return False
-    told = re.sub(r"`[^`]*`", "", at[3])
-    return not at[2] or bool(re.search(r"is not in scope|has no field|is no name|operand is missing|expected the end|cannot continue", told))
+    return not at[2] or bool(UNREAD.search(re.sub(r"`[^`]*`", "", at[3])))
 
 
 def told_by_names_alone(lines):

@@ -11,7 +11,7 @@ import subprocess
 
 from crates import TOP, below, files_of, listed
 
-SCRIPTS = ("crates.py", "edits.py", "kept.py", "wrong")
+SCRIPTS = ("crates.py", "edits.py", "kept.py", "wrong.py")
 # of the files of a crate below, what a proof above it reads
 STATED = ("src", "specs")
 # how many hexadecimal digits of a checksum are written
@@ -77,8 +77,8 @@ def known(name):
 @functools.lru_cache(maxsize=None)
 def commit():
     """The commit's id, or nothing outside of a repository."""
-    ran = subprocess.run(["git", "-C", TOP, "rev-parse", "HEAD"], stdout=subprocess.PIPE, stderr=subprocess.DEVNULL, text=True, check=False)
-    return ran.stdout.strip()
+    words = ["git", "-C", TOP, "rev-parse", "HEAD"]
+    return subprocess.run(words, capture_output=True, text=True, check=False).stdout.strip()
 
 
 def is_in_sample(name, edit):

@@ -6,7 +6,7 @@ import sys
 
 from small import called, create, git, root_of
 
-SCRIPTS = (".ci/crates.py", ".ci/edits.py", ".ci/kept.py", ".ci/wrong")
+SCRIPTS = (".ci/crates.py", ".ci/edits.py", ".ci/kept.py", ".ci/wrong", ".ci/wrong.py")
 EXACT, WIDE = "ensures { result ≡ 1 }", "ensures { result ≤ 9 }"
 SOURCE = f"""//! A number.
 #![tactic(auto)]

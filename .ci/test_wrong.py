@@ -1,34 +1,19 @@
 """Tests of the scripts that try wrong bodies, without the prover: edits read, places found, rounds formed, verdicts read."""
-import importlib.machinery
-import importlib.util
-import pathlib
 import threading
 import time
 
 import pytest
 
 import edits
+import wrong
 from edits import BadEdit
-
-HERE = pathlib.Path(__file__).resolve().parent
-
-
-def script(name):
-    """A script of this folder as a module."""
-    loader = importlib.machinery.SourceFileLoader(name, f"{HERE}/{name}")
-    made = importlib.util.module_from_spec(importlib.util.spec_from_loader(name, loader))
-    loader.exec_module(made)
-    return made
-
-
-WRONG = script("wrong")
 
 
 @pytest.fixture
 def beside(monkeypatch):
     """The output of an rt ci that is under way, once a test names its file."""
-    found = WRONG.Beside()
-    monkeypatch.setattr(WRONG, "BESIDE", found)
+    found = wrong.Beside()
+    monkeypatch.setattr(wrong, "BESIDE", found)
     return found
 
 
@@ -269,7 +254,7 @@ class TestTwins:
         assert texts["proofs/pair/Pair/first/Proof.antt"] == PROOF
 
     def test_edits_of_one_function_in_one_round(self):
-        trial = WRONG.Trial.__new__(WRONG.Trial)
+        trial = wrong.Trial.__new__(wrong.Trial)
         trial.name, trial.crate, trial.twins, trial.unedited = "two", with_proof(), set(), {}
         trial.texts = trial.crate.texts
         given = [edit("a", "    3", "    4"), edit("b", "    3", "    5"), edit("c", "n != 0 &&", "n != 1 &&")]
@@ -318,7 +303,7 @@ class TestFirstRound:
 
     def trial(self, *answers):
         """A trial of these edits, and the functions of each check, which answers so: a line for each function's path."""
-        made = WRONG.Trial("tpl_words", self.GIVEN)
+        made = wrong.Trial("tpl_words", self.GIVEN)
         made.name, made.crate, made.texts = "two", with_proof(), crate().texts
         left, asked = list(answers), []
 
@@ -400,24 +385,24 @@ class TestFirstRound:
 
 class TestBeside:
     def test_what_rt_says(self, tmp_path):
-        beside = WRONG.Beside()
+        beside = wrong.Beside()
         beside.file = tmp_path / "log"
         told = ["tpl_one proved", "tpl_two is kept: an earlier run proved the same files", "tpl_three not proved"]
         beside.file.write_text("".join(f"rt: {it}\n" for it in told), encoding="utf-8")
         assert (beside.is_over(), beside.wait_for(["tpl_one", "tpl_two"])) == (False, set())
         with open(beside.file, "a", encoding="utf-8") as it:
-            it.write(f"2 passed, 1 failed\n{WRONG.ENDED}\n")
+            it.write(f"2 passed, 1 failed\n{wrong.ENDED}\n")
         assert (beside.is_over(), beside.wait_for(["tpl_one", "tpl_three"])) == (True, {"tpl_three"})
 
     def test_half_the_lanes(self, beside):
-        lanes = WRONG.Lanes()
+        lanes = wrong.Lanes()
         lanes.at_once = 4
         assert lanes.open() == 4
         beside.file = "/dev/null"
         assert lanes.open() == 2
 
     def test_the_first_in_order_goes_first(self):
-        lanes, order = WRONG.Lanes(), []
+        lanes, order = wrong.Lanes(), []
 
         def enter(rank):
             lanes.mine.rank = rank
@@ -435,21 +420,21 @@ class TestBeside:
         assert order == [1, 2]
 
     def test_what_is_not_settled_in_time_is_put_off(self, monkeypatch):
-        lanes = WRONG.Lanes()
+        lanes = wrong.Lanes()
         lanes.until = time.time() - 1
-        with pytest.raises(WRONG.PutOff):
+        with pytest.raises(wrong.PutOff):
             lanes.__enter__()
         assert (lanes.busy, lanes.waiting) == (0, [])
-        trial = WRONG.Trial("tpl_words", [])
+        trial = wrong.Trial("tpl_words", [])
         assert trial.ran(["echo", "yes"], ".") == ("yes\n", 0)
-        monkeypatch.setattr(WRONG.LANES, "until", time.time() + 0.2)
-        with pytest.raises(WRONG.PutOff):
+        monkeypatch.setattr(wrong.LANES, "until", time.time() + 0.2)
+        with pytest.raises(wrong.PutOff):
             trial.ran(["sleep", "60"], ".")
 
     def test_one_check_where_memory_is_short(self, beside, monkeypatch):
-        assert WRONG.free_memory() > 0
-        monkeypatch.setattr(WRONG, "free_memory", lambda: WRONG.ROOM - 1)
-        lanes = WRONG.Lanes()
+        assert wrong.free_memory() > 0
+        monkeypatch.setattr(wrong, "free_memory", lambda: wrong.ROOM - 1)
+        lanes = wrong.Lanes()
         lanes.at_once = 4
         beside.file = "/dev/null"
         assert not lanes.is_full()
@@ -565,7 +550,7 @@ class TestTold:
         assert not edits.told_by_names_alone([])
 
     def test_holes(self):
-        texts = WRONG.with_holes(crate(), crate().texts, {"pair::Pair::first"})
+        texts = wrong.with_holes(crate(), crate().texts, {"pair::Pair::first"})
         assert "proofs/pair/Pair/first/Answers.antt" not in texts
         assert "first_spec = ?" in texts["proofs/pair/Pair/first/Proof.antt"]
 
@@ -573,7 +558,7 @@ class TestTold:
         # a function and a module of one name
         sources = {"src/lib.rt": "fn pair() {}\n\nfn same() {}\n", "src/pair.rt": "fn first() {}\n"}
         proofs = {f"proofs/{it}/Answers.antt": "a" for it in ("pair", "pair/first", "pair/+cycle", "same")}
-        made = WRONG.with_holes(edits.Crate("two", {**sources, **proofs}), {**sources, **proofs}, {"pair"})
+        made = wrong.with_holes(edits.Crate("two", {**sources, **proofs}), {**sources, **proofs}, {"pair"})
         gone = {it for it in proofs if it not in made}
         assert gone == {"proofs/pair/Answers.antt"}
 
@@ -597,18 +582,18 @@ class TestTold:
         walk = edits.Crate("two", {"src/lib.rt": "struct Walk;\n" + text}).cycles()
         assert walk["proofs/Walk/+walk"] == {"Walk::on"}
         for holes, is_there in (({"pair::even"}, True), ({"pair::even", "pair::odd"}, False)):
-            texts = WRONG.with_holes(made, {**made.texts, **proofs}, holes)
+            texts = wrong.with_holes(made, {**made.texts, **proofs}, holes)
             assert ("proofs/pair/+parity/Proof.antt" in texts) == is_there
 
     def test_bodies_that_are_left_out(self):
         text = "/// It.\n#[cycle(a)]\nfn f(\n    n: u8,\n) -> u8 {\n    fn g() {}\n    f(n)\n}\n\nfn g() {\n    f(1);\n}\n"
         made = edits.Crate("two", {"src/lib.rt": text})
-        left = WRONG.stubbed(made, made.texts, {"f"})["src/lib.rt"]
+        left = wrong.stubbed(made, made.texts, {"f"})["src/lib.rt"]
         assert left == "/// It.\n\nfn f(\n    n: u8,\n) -> u8 { unreachable!()\n\n\n }\n\nfn g() {\n    f(1);\n}\n"
         assert left.count("\n") == text.count("\n")
-        assert WRONG.stubbed(made, made.texts, set()) == made.texts
+        assert wrong.stubbed(made, made.texts, set()) == made.texts
 
     def test_words(self):
-        how = WRONG.asked(["--jobs", "3", "--kept", "tpl_words"])
+        how = wrong.asked(["--jobs", "3", "--kept", "tpl_words"])
         assert (how.jobs, how.names, how.kept, how.list, how.beside) == (3, ["tpl_words"], True, False, None)
-        assert "tpl_fast" in WRONG.asked([]).names
+        assert "tpl_fast" in wrong.asked([]).names
