@@ -2,7 +2,8 @@
 
 A wrong body that was refused needs no second try while nothing that its refusal rests on has changed: the toolchain, the
 scripts that try it, the edit, all files of its crate, and the sources and definitions of the crates below. The checksum is
-over all of these. A tenth of them, another one with each commit, is tried all the same.
+over all of these, but for lines that are comments: no proof reads them. A tenth of them, another one with each commit, is
+tried all the same.
 """
 import functools
 import hashlib
@@ -14,6 +15,8 @@ from crates import TOP, below, files_of, listed
 SCRIPTS = ("crates.py", "edits.py", "kept.py", "wrong.py")
 # of the files of a crate below, what a proof above it reads
 STATED = ("src", "specs")
+# how a line begins that is a comment, by the ending of its file
+COMMENTS = {".rt": b"//", ".antt": b"--"}
 # how many hexadecimal digits of a checksum are written
 DIGITS = 32
 # one in so many is tried although it is on the list
@@ -34,12 +37,19 @@ def bytes_of(path):
         return file.read()
 
 
+def read_by_a_proof(path):
+    """The bytes of a file of a crate without the lines that are comments."""
+    comment = COMMENTS.get(os.path.splitext(path)[1])
+    lines = bytes_of(path).splitlines(keepends=True)
+    return b"".join(it for it in lines if comment is None or not it.lstrip().startswith(comment))
+
+
 @functools.lru_cache(maxsize=None)
 def of_files(name, parts):
     """The checksum of a crate's files in these folders."""
     top = f"{TOP}/crates/{name}/"
     files = sorted(it for it in files_of(name) if it.removeprefix(top).split("/")[0] in parts)
-    return digest(*(part for it in files for part in (it.removeprefix(top), bytes_of(it))))
+    return digest(*(part for it in files for part in (it.removeprefix(top), read_by_a_proof(it))))
 
 
 @functools.lru_cache(maxsize=None)

@@ -84,6 +84,19 @@ def test_a_tenth_is_tried(tmp_path):
     assert samples(tmp_path, edits) != chosen
 
 
+def test_comments_are_not_summed(tmp_path):
+    repository = Repository(tmp_path, ["two.edit"])
+
+    def checksum():
+        return printed(tmp_path, "import kept; print(kept.checksum('one', 'two.edit'))")
+
+    before = checksum()
+    repository.write(SOURCE.replace("/// One.", "/// The number one."))
+    assert checksum() == before
+    repository.write(SOURCE.replace("let answer: u64 = 1;", "let answer: u64 = 1 + 0;"))
+    assert checksum() != before
+
+
 def test_a_list_that_does_not_fit(tmp_path):
     repository = Repository(tmp_path, ["two.edit"])
     for line in ("two.edit 0123\n", "other.edit 0123\n", ""):
