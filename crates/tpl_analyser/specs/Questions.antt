@@ -1,6 +1,6 @@
 -- What is searched for.
 use Rattle.std.specs.List.{All}
-use Rattle.tpl_claims.specs.Fits.{TasksOf}
+use Rattle.tpl_graph.specs.Fits.{TasksOf}
 use Rattle.tpl_checker.specs.Below.{AreBelow}
 use Rattle.tpl_analyser.specs.declared.question.Question.{Question}
 use Rattle.tpl_analyser.specs.Splits.{IsSplitOf}

@@ -4,7 +4,7 @@
 ghost use Rattle.std.specs.Prelude.{◌≡◌, ◌<◌};
 ghost use Rattle.tpl_model.specs.Certificate.{assumed, with_end, with_input};
 ghost use Rattle.tpl_model.specs.Graph.{is_task};
-ghost use Rattle.tpl_claims.specs.Fits.{AreGivenOf};
+ghost use Rattle.tpl_graph.specs.Fits.{AreGivenOf};
 ghost use Rattle.tpl_checker.specs.Assumptions.{assumed_of};
 ghost use Rattle.tpl_analyser.specs.Questions.{IsReady};
 

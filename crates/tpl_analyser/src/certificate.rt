@@ -3,7 +3,7 @@
 ghost use Rattle.std.specs.Prelude.{◌≡◌, ◌<◌, ◌≤◌, IfOk, IfErr, IfSome};
 ghost use Rattle.std.specs.List.{All};
 ghost use Rattle.tpl_cert.specs.Heights.{height};
-ghost use Rattle.tpl_claims.specs.Fits.{Fits};
+ghost use Rattle.tpl_graph.specs.Fits.{Fits};
 ghost use Rattle.tpl_model.specs.Certificate.{Accepts, assumed};
 ghost use Rattle.tpl_checker.specs.Below.{AreBelow};
 ghost use Rattle.tpl_analyser.specs.Found.{IsFound};
@@ -31,8 +31,7 @@ use crate::watch::{Unwatched, Watch};
 use std::alloc::{AllocError, Global};
 use tpl_cert::{Certificate, Tree};
 use tpl_checker::Below;
-use tpl_claims::Claim;
-use tpl_graph::Graph;
+use tpl_graph::{Claim, Graph};
 use tpl_outline::{Followers, Stage, stages_of};
 
 /// Searches for a certificate of the claims, each of which can be asked of the graph, with at most

@@ -12,7 +12,7 @@ use Rattle.tpl_model.specs.declared.claim.Given.TheVariants.{Input, Quiet}
 use Rattle.tpl_model.specs.Claims.{Claim, Holds}
 use Rattle.tpl_model.specs.Rules.{Run}
 use Rattle.tpl_model.specs.Valid.{IsGraph}
-use Rattle.tpl_claims.specs.Fits.{IsGivenOf, AreGivenOf, Fits}
+use Rattle.tpl_graph.specs.Fits.{IsGivenOf, AreGivenOf, Fits}
 use Rattle.tpl_laws.specs.Runs.{gives_quiet, PrefixIsRun}
 use Rattle.tpl_laws.specs.Allowed.{HoldsIsRight}
 use Rattle.tpl_laws.specs.Failing.{is_at, unless_broken, first_failure, FailureIsTold}

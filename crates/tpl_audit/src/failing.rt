@@ -2,7 +2,7 @@
 
 ghost use Rattle.std.specs.Prelude.{◌≡◌, ℕ, reverse, List};
 ghost use Rattle.std.specs.List.{All};
-ghost use Rattle.tpl_claims.specs.Fits.{AreGivenOf, TasksOf, Fits};
+ghost use Rattle.tpl_graph.specs.Fits.{AreGivenOf, TasksOf, Fits};
 ghost use Rattle.tpl_laws.specs.Failing as law;
 ghost use Rattle.tpl_model.specs.declared.event.Event.{Event};
 ghost use Rattle.tpl_audit.specs.Audit.{FirstFails, better};

@@ -6,7 +6,7 @@ ghost use Rattle.tpl_model.specs.Certificate.{assumed, given_quiet};
 ghost use Rattle.tpl_model.specs.declared.claim.Given.{Given};
 ghost use Rattle.tpl_draft.specs.Ids.{token_number};
 ghost use Rattle.tpl_laws.specs.Runs.{gives_quiet};
-ghost use Rattle.tpl_claims.specs.Fits.{AreGivenOf, IsGivenOf};
+ghost use Rattle.tpl_graph.specs.Fits.{AreGivenOf, IsGivenOf};
 ghost use Rattle.tpl_checker.specs.Assumptions.{assumed_of, with_given, AllTokens};
 
 use crate::assumptions::Assumptions;

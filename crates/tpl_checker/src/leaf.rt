@@ -3,7 +3,7 @@
 ghost use Rattle.std.specs.Prelude.{◌≡◌, ◌↔◌, IsTrue, length};
 ghost use Rattle.tpl_model.specs.Graph.{is_task, kind};
 ghost use Rattle.tpl_model.specs.Certificate.{AcceptsTree, Leaf};
-ghost use Rattle.tpl_claims.specs.Fits.{TasksOf};
+ghost use Rattle.tpl_graph.specs.Fits.{TasksOf};
 ghost use Rattle.tpl_laws.specs.Verdict.{broken, first_broken, leaf_fault, past_rule, rows_fit};
 ghost use Rattle.tpl_checker.specs.Assumptions.{assumed_of};
 ghost use Rattle.tpl_checker.specs.Below.{AreBelow};

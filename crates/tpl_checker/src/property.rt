@@ -4,7 +4,7 @@ ghost use Rattle.std.specs.Prelude.{◌≡◌, length};
 ghost use Rattle.tpl_words.specs.Finals.{has};
 ghost use Rattle.tpl_model.specs.Graph.{is_task};
 ghost use Rattle.tpl_model.specs.Certificate.{Assumed};
-ghost use Rattle.tpl_claims.specs.Fits.{TasksOf};
+ghost use Rattle.tpl_graph.specs.Fits.{TasksOf};
 ghost use Rattle.tpl_laws.specs.RowTests.{each_end, implies, proves};
 ghost use Rattle.tpl_model.specs.declared.claim.Property.TheVariants.{Observed};
 ghost use Rattle.tpl_checker.specs.Bodies.{AreBodies};

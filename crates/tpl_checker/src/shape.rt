@@ -7,8 +7,7 @@ ghost use Rattle.tpl_laws.specs.Verdict.{fits, has_tasks, misfit, rows_fit};
 
 use crate::rows::within;
 use tpl_cert::{Node, Row, Tree};
-use tpl_claims::Claim;
-use tpl_graph::Graph;
+use tpl_graph::{Claim, Graph};
 use tpl_model::CertFault;
 use tpl_words::{TaskId, TaskSet};
 

@@ -1,7 +1,7 @@
 //! The first leaf of a tree that fails.
 
 ghost use Rattle.std.specs.Prelude.{◌≡◌, ◌+◌, ◌<◌, ◌^◌, IfSome, IsTrue, Some, length};
-ghost use Rattle.tpl_claims.specs.Fits.{TasksOf};
+ghost use Rattle.tpl_graph.specs.Fits.{TasksOf};
 ghost use Rattle.tpl_laws.specs.Verdict.{at_leaf, fits, leaves, rows_fit, tree_fault};
 ghost use Rattle.tpl_model.specs.Certificate.{Leaf};
 ghost use Rattle.tpl_checker.specs.Assumptions.{assumed_of};

@@ -3,7 +3,7 @@
 ghost use Rattle.std.specs.Prelude.{◌≡◌, ◌≤◌, ◌↔◌, List, Bool, IsOk, IfOk, IfErr, None};
 ghost use Rattle.std.specs.List.{All};
 ghost use Rattle.tpl_cert.specs.Heights.{height};
-ghost use Rattle.tpl_claims.specs.Fits.{Fits};
+ghost use Rattle.tpl_graph.specs.Fits.{Fits};
 ghost use Rattle.tpl_laws.specs.Faults.{IsFirstFault};
 ghost use Rattle.tpl_laws.specs.Soundness.{Each};
 ghost use Rattle.tpl_laws.specs.Verdict.{claims_fault, misfit, no_fault, verdict};
@@ -17,8 +17,7 @@ use crate::given::assumed;
 use crate::shape::misfit;
 use crate::tree::tree_fault;
 use tpl_cert::{Certificate, Tree};
-use tpl_claims::Claim;
-use tpl_graph::Graph;
+use tpl_graph::{Claim, Graph};
 use tpl_model::CertFault;
 
 /// Checks that the certificate proves the claims of the graph, each of which can be asked of it.

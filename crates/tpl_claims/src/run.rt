@@ -5,9 +5,9 @@ ghost use Rattle.tpl_model.specs.Graph.{is_task, IsParent};
 ghost use Rattle.tpl_model.specs.Facts.{Ending, begun, started, ending};
 ghost use Rattle.tpl_model.specs.Claims.{IsGiven, SettledAtBegin, HoldsOf, Holds};
 ghost use Rattle.tpl_laws.specs.Settling.{SettledBefore};
-ghost use Rattle.tpl_claims.specs.Fits.{IsGivenOf, AreGivenOf, TasksOf, Fits};
+ghost use Rattle.tpl_graph.specs.Fits.{IsGivenOf, AreGivenOf, TasksOf, Fits};
 
-use crate::claim::Claim;
+use tpl_graph::Claim;
 use tpl_model::{Given, Property};
 use tpl_run::Core;
 use tpl_words::{Finals, Status, TaskId};

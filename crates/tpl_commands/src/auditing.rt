@@ -2,7 +2,7 @@
 
 ghost use Rattle.std.specs.Prelude.{◌≡◌, Some, IfOk, string_bytes};
 ghost use Rattle.std.specs.List.{All};
-ghost use Rattle.tpl_claims.specs.Fits.{Fits};
+ghost use Rattle.tpl_graph.specs.Fits.{Fits};
 ghost use Rattle.tpl_reader.specs.SeenDocument.{doc_of};
 ghost use Rattle.tpl_commands.specs.Auditing.{Audits, IsAudit, IsAuditWith, IsNoJournalText, run_exit, run_text, verdict_exit, verdict_text};
 ghost use Rattle.tpl_reader.specs.Starting.{inputs_of};

@@ -5,7 +5,7 @@ ghost use Rattle.std.specs.List.{All};
 ghost use Rattle.serde_json.specs.View.{view};
 ghost use Rattle.tpl_cert.specs.Heights.{height};
 ghost use Rattle.tpl_cert.specs.Written.{has_ids};
-ghost use Rattle.tpl_claims.specs.Fits.{Fits};
+ghost use Rattle.tpl_graph.specs.Fits.{Fits};
 ghost use Rattle.tpl_reader.specs.Document.{Reads, Spells};
 ghost use Rattle.tpl_reader.specs.Laws.{HasCertificate, HoldsCertificate};
 ghost use Rattle.tpl_reader.specs.SeenDocument.{doc_of};

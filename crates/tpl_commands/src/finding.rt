@@ -8,7 +8,7 @@ ghost use Rattle.serde_json.specs.View.{view, items_of};
 ghost use Rattle.serde_json.specs.Written.{compact_text};
 ghost use Rattle.tpl_cert.specs.Heights.{height};
 ghost use Rattle.tpl_cert.specs.Written.{has_ids};
-ghost use Rattle.tpl_claims.specs.Fits.{Fits};
+ghost use Rattle.tpl_graph.specs.Fits.{Fits};
 ghost use Rattle.tpl_reader.specs.SeenDocument.{doc_of};
 ghost use Rattle.tpl_commands.specs.Finding.{Finds, IsFinding, IsRead, NamesClaim, NamesIn, written_tree, written_trees};
 

@@ -1,3 +1,4 @@
+pub mod Fits
 pub mod Coding
 pub mod Rows
 pub mod Roles

@@ -17,7 +17,7 @@ use Rattle.tpl_model.specs.declared.claim.Given.{Given}
 use Rattle.tpl_model.specs.declared.claim.Property.{Property}
 use Rattle.tpl_model.specs.Claims.{Claim}
 use Rattle.tpl_draft.specs.Named.{Names, Named}
-use Rattle.tpl_claims.specs.Fits.{IsGivenOf, TasksOf, have_bodies, given_twice}
+use Rattle.tpl_graph.specs.Fits.{IsGivenOf, TasksOf, have_bodies, given_twice}
 use Rattle.tpl_parts.specs.NamedClaims.{NamedGiven, GivenInput, GivenQuiet, NamedProperty, EndsIn, After, Observed, Never, Excludes, NamedClaim}
 use Rattle.tpl_json.specs.declared.miss.Miss.{Miss}
 use Rattle.tpl_json.specs.declared.miss.Miss.TheVariants as miss

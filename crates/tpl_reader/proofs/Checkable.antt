@@ -5,7 +5,7 @@ use Rattle.std.proofs.lemmas.List.Elements.{All-cons}
 use Rattle.serde_json.specs.Data.{Data}
 use Rattle.tpl_model.specs.Claims.{Claim}
 use Rattle.tpl_model.specs.Certificate.{Tree}
-use Rattle.tpl_claims.specs.Fits.{Fits}
+use Rattle.tpl_graph.specs.Fits.{Fits}
 use Rattle.tpl_cert.specs.Heights.{IsWithinLimits}
 use Rattle.tpl_cert.specs.Spelled.{ReadsAs}
 use Rattle.tpl_draft.specs.Named.{Names, Named}

@@ -5,7 +5,7 @@ use Rattle.std.specs.List.{list_all}
 use Rattle.tpl_cert.proofs.OneTree.{chain_same}
 use Rattle.serde_json.specs.Data.{Data}
 use Rattle.tpl_model.specs.Claims.{Claim}
-use Rattle.tpl_claims.specs.Fits.{have_bodies, given_twice}
+use Rattle.tpl_graph.specs.Fits.{have_bodies, given_twice}
 use Rattle.tpl_draft.specs.declared.fault.Why.{Why}
 use Rattle.tpl_draft.specs.declared.fault.Why.TheVariants as why
 use Rattle.tpl_draft.specs.declared.fault.GraphFault.{GraphFault}

@@ -9,7 +9,7 @@ use Rattle.tpl_model.specs.declared.claim.Given.TheVariants.{Input, Quiet}
 use Rattle.tpl_model.specs.declared.claim.Property.{Property}
 use Rattle.tpl_model.specs.declared.claim.Property.TheVariants as property
 use Rattle.tpl_model.specs.Claims.{Claim}
-use Rattle.tpl_claims.specs.Fits.{have_bodies, given_twice, Fits}
+use Rattle.tpl_graph.specs.Fits.{have_bodies, given_twice, Fits}
 use Rattle.tpl_draft.specs.Named.{Names, Named}
 use Rattle.tpl_cert.specs.Naming.{number_of}
 use Rattle.tpl_parts.specs.NamedClaims.{NamedGiven, GivenInput, GivenQuiet, NamedProperty, EndsIn, After, Observed, Never, Excludes, NamedClaim}

@@ -5,8 +5,7 @@ ghost use Rattle.tpl_reader.specs.SeenDocument.{doc_of};
 ghost use Rattle.tpl_reader.specs.Starting.{inputs_of};
 
 use tpl_cert::Certificate;
-use tpl_claims::Claim;
-use tpl_graph::Graph;
+use tpl_graph::{Claim, Graph};
 use tpl_words::{Inputs, SiteId, TokenId};
 
 /// Where a run starts.

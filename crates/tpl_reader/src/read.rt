@@ -10,7 +10,7 @@ ghost use Rattle.tpl_draft.specs.Refusals.{IsValid};
 ghost use Rattle.tpl_draft.specs.SeenTasks.{draft_of};
 ghost use Rattle.tpl_cert.specs.Heights.{IsWithinLimits};
 ghost use Rattle.tpl_cert.specs.Spelled.{ReadsAs};
-ghost use Rattle.tpl_claims.specs.Fits.{Fits};
+ghost use Rattle.tpl_graph.specs.Fits.{Fits};
 ghost use Rattle.tpl_parts.specs.SeenClaims.{claim_of};
 ghost use Rattle.tpl_parts.specs.SeenStart.{start_of};
 ghost use Rattle.tpl_reader.specs.SeenDocument.{value_of, doc_of, spelled_of, spelled_with};
@@ -26,8 +26,7 @@ use crate::trees::trees_in;
 use json::{Scratch, Value};
 use std::alloc::Global;
 use tpl_cert::{Certificate, Tree, TreeFault};
-use tpl_claims::Claim;
-use tpl_graph::{Draft, Graph, Why};
+use tpl_graph::{Claim, Draft, Graph, Why};
 use tpl_json::{Miss, NotRead, value_from};
 use tpl_parts::{NamedClaim, NamedStart};
 

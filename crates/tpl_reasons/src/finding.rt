@@ -3,7 +3,7 @@
 ghost use Rattle.std.specs.Prelude.{◌<◌, length, IfSome, IfNone};
 ghost use Rattle.std.specs.List.{All};
 ghost use Rattle.tpl_analyser.specs.Gaps.{IsFirstWithout};
-ghost use Rattle.tpl_claims.specs.Fits.{Fits};
+ghost use Rattle.tpl_graph.specs.Fits.{Fits};
 ghost use Rattle.tpl_reader.specs.SeenDocument.{doc_of};
 ghost use Rattle.tpl_reasons.specs.Reasons.{IsSearchReason, IsSilent};
 
@@ -14,8 +14,7 @@ use crate::words::{Said, claim_text, count_text};
 use std::alloc::{AllocError, Global};
 use tpl_analyser::{Depth, Form, Missed, RanOut, Unwatched, analyse_watched};
 use tpl_cert::MOST_SPLITS;
-use tpl_claims::Claim;
-use tpl_graph::Graph;
+use tpl_graph::{Claim, Graph};
 use tpl_reader::Document;
 
 /// Why no certificate was found: the claim that the answer names, if it names one.

@@ -1,13 +1,12 @@
 //! What stands in the way of a claim, where it can be said simply.
 
-ghost use Rattle.tpl_claims.specs.Fits.{Fits};
+ghost use Rattle.tpl_graph.specs.Fits.{Fits};
 
 use crate::rules::role;
 use crate::words::{Said, name, token_name};
 use std::alloc::{AllocError, Global};
 use tpl_checker::{Assumptions, assumed};
-use tpl_claims::Claim;
-use tpl_graph::{Graph, Role};
+use tpl_graph::{Claim, Graph, Role};
 use tpl_model::Property;
 use tpl_words::{Final, TaskId};
 

@@ -1,8 +1,7 @@
 //! Names, claims, and sets of tasks and of ends, in words.
 
 use std::alloc::{AllocError, Global};
-use tpl_claims::Claim;
-use tpl_graph::Graph;
+use tpl_graph::{Claim, Graph};
 use tpl_model::{Given, Property};
 use tpl_words::{Actor, Final, Finals, InputId, TaskId, TaskSet, TokenId};
 

@@ -2,7 +2,7 @@
 
 ghost use Rattle.std.specs.Prelude.{◌≡◌, ◌↔◌, IsTrue, IfOk, IfSome, length};
 ghost use Rattle.std.specs.List.{All};
-ghost use Rattle.tpl_claims.specs.Fits.{Fits};
+ghost use Rattle.tpl_graph.specs.Fits.{Fits};
 ghost use Rattle.tpl_journal.specs.Lines.{IsSeat};
 ghost use Rattle.tpl_refute.specs.Refuting.{Refutes};
 
@@ -10,8 +10,7 @@ use crate::counterexample::Counterexample;
 use std::alloc::{AllocError, Global};
 use std::slice;
 use tpl_audit::{Verdict, audit};
-use tpl_claims::Claim;
-use tpl_graph::Graph;
+use tpl_graph::{Claim, Graph};
 use tpl_model::Event;
 use tpl_words::{Actor, Inputs};
 

@@ -3,8 +3,7 @@
 use crate::crew::Habit;
 use crate::dice::Dice;
 use crate::weights::{FIRST, LAST, Mover, Way, Weights};
-use tpl_claims::Claim;
-use tpl_graph::Graph;
+use tpl_graph::{Claim, Graph};
 use tpl_model::{Given, Property};
 use tpl_words::{Answer, InputId, Inputs, MOST_TOKENS, TaskId, TokenId};
 

@@ -1,7 +1,7 @@
 //! The search.
 
 ghost use Rattle.std.specs.Prelude.{IfOk, IfSome};
-ghost use Rattle.tpl_claims.specs.Fits.{Fits};
+ghost use Rattle.tpl_graph.specs.Fits.{Fits};
 ghost use Rattle.tpl_refute.specs.Refuting.{Refutes};
 
 use crate::budget::Budget;
@@ -14,8 +14,7 @@ use crate::shortening::{PLAYED_TO_CUT, shorten};
 use crate::walk::{Tables, Walked, walk};
 use crate::weights::Way;
 use std::alloc::{AllocError, Global};
-use tpl_claims::Claim;
-use tpl_graph::Graph;
+use tpl_graph::{Claim, Graph};
 
 /// How long to search, and where its chances come from.
 #[derive(Clone, Copy, PartialEq, Eq, Debug)]

@@ -1,7 +1,7 @@
 //! Runs with some of the events of another.
 
 ghost use Rattle.std.specs.Prelude.{◌≡◌};
-ghost use Rattle.tpl_claims.specs.Fits.{Fits};
+ghost use Rattle.tpl_graph.specs.Fits.{Fits};
 
 use crate::budget::Budget;
 use crate::crew::{Crew, Habit};

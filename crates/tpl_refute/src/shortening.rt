@@ -1,7 +1,7 @@
 //! Runs that fail, made shorter.
 
 ghost use Rattle.std.specs.Prelude.{IfOk};
-ghost use Rattle.tpl_claims.specs.Fits.{Fits};
+ghost use Rattle.tpl_graph.specs.Fits.{Fits};
 ghost use Rattle.tpl_refute.specs.Refuting.{Refutes};
 
 use crate::counterexample::Counterexample;
@@ -9,8 +9,7 @@ use crate::judging::judge;
 use crate::replay::{Cut, Stage, replay};
 use crate::tidying::tidy;
 use std::alloc::{AllocError, Global};
-use tpl_claims::Claim;
-use tpl_graph::Graph;
+use tpl_graph::{Claim, Graph};
 use tpl_model::Event;
 use tpl_words::Inputs;
 

@@ -1,12 +1,11 @@
 //! Runs that fail, put in order, so that people can read them.
 
-ghost use Rattle.tpl_claims.specs.Fits.{Fits};
+ghost use Rattle.tpl_graph.specs.Fits.{Fits};
 
 use crate::crew::Habit;
 use crate::replay::{Cut, Stage, replay, task_of};
 use std::alloc::{AllocError, Global};
-use tpl_claims::Claim;
-use tpl_graph::Graph;
+use tpl_graph::{Claim, Graph};
 use tpl_model::Event;
 use tpl_words::{Actor, Inputs, TaskId};
 

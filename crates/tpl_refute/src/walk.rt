@@ -1,7 +1,7 @@
 //! One random run.
 
 ghost use Rattle.std.specs.Prelude.{◌≡◌};
-ghost use Rattle.tpl_claims.specs.Fits.{Fits};
+ghost use Rattle.tpl_graph.specs.Fits.{Fits};
 
 use crate::awake::Awake;
 use crate::budget::Budget;

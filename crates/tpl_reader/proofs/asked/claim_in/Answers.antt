@@ -1,6 +1,6 @@
 use Rattle.std.proofs.Common.{sym, ◌∙◌, ap}
 use Rattle.std.proofs.lemmas.Result.{err_from_is_err_and}
-use Rattle.tpl_claims.specs.Fits.{given_twice}
+use Rattle.tpl_graph.specs.Fits.{given_twice}
 use Rattle.tpl_parts.specs.SeenClaims.{claim_of}
 use Rattle.tpl_reader.proofs.Asking.{refuses_given, named_claim, asked}
 use Rattle.tpl_reader.proofs.asked.claim_in.Goals as goal

@@ -1,4 +1,4 @@
-use Rattle.tpl_claims.specs.Fits.{Fits}
+use Rattle.tpl_graph.specs.Fits.{Fits}
 use Rattle.tpl_refute.proofs.walk.walk.Given as goal
 
 abbrev pub invariant-loop : goal.invariant-loop

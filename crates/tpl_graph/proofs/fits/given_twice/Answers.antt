@@ -2,8 +2,8 @@ use Rattle.std.proofs.Common.{◌≡◌, ℕ, ◌+◌, ◌<◌, false, List, len
 use Rattle.std.proofs.lemmas.List.{take_more}
 use Rattle.std.specs.List.{list_any}
 use Rattle.tpl_model.specs.declared.claim.Given.{Given}
-use Rattle.tpl_claims.specs.Fits.{is_of_one_thing, given_again}
-use Rattle.tpl_claims.proofs.fits.given_twice.Goals as goal
+use Rattle.tpl_graph.specs.Fits.{is_of_one_thing, given_again}
+use Rattle.tpl_graph.proofs.fits.given_twice.Goals as goal
 
 one_more : (given : List Given) (i : ℕ) (x : Given) → i < length given → false ≡ list_any (is_of_one_thing (get_or given i x)) (take i given) → given_again (take i given) (drop i given) ≡ given_again (take (i + 1) given) (drop (i + 1) given)
 one_more given i x lt e = rw (drop-cons given i x lt, ← e, take_more given i x lt, add-one) refl

@@ -3,10 +3,11 @@
 ghost use Rattle.std.specs.Prelude.{◌≡◌, ◌↔◌, IsTrue};
 ghost use Rattle.std.specs.List.{list_any};
 ghost use Rattle.tpl_model.specs.Graph.{is_task, kind};
-ghost use Rattle.tpl_claims.specs.Fits.{IsGivenOf, AreGivenOf, is_of_one_thing, given_twice, TasksOf, has_body, have_bodies, Fits};
+ghost use Rattle.tpl_graph.specs.Fits.{IsGivenOf, AreGivenOf, is_of_one_thing, given_twice, TasksOf, has_body, have_bodies, Fits};
 
 use crate::claim::Claim;
-use tpl_graph::{Graph, Kind};
+use crate::graph::Graph;
+use crate::row::Kind;
 use tpl_model::{Given, Property};
 use tpl_words::{InputId, TaskId, TokenId};
 
