@@ -1,6 +1,7 @@
 -- Why a draft spells no graph: each refusal, where it applies, and which one is answered.
 use Rattle.std.specs.Prelude.{◌≡◌, ℕ, suc, zero, ◌<◌, ◌⊎◌, ◌&&◌, ◌||◌, Bool, true, false, not, ◌==◌, List, [], ◌∷◌, ◌++◌, Option, Some, None, map, length, take, slice_get, nat_eq, nat_lt, nat_le, is_some, sum_by, if◌then◌else◌}
 use Rattle.std.specs.List.{list_any, list_all}
+use Rattle.tpl_words.specs.declared.limits.TheConstants.{LONGEST_NAME, MOST_ARGUMENTS, MOST_INPUTS, MOST_LEVELS, MOST_SITES, MOST_STATEMENTS, MOST_TASKS, MOST_TOKENS}
 use Rattle.tpl_words.specs.Options.{has_bits, excludes_all, long_and_sync}
 use Rattle.tpl_script.specs.Statements.{starts}
 use Rattle.tpl_model.specs.Graph as graph
@@ -27,9 +28,9 @@ abbrev pub begins_with_digit : List ℕ → Bool
 begins_with_digit [] = false
 begins_with_digit (c ∷ cs) = is_digit c
 
--- 1 to 32 letters, digits or `_`, not beginning with a digit
+-- letters, digits or `_`, at least one and not too many, not beginning with a digit
 abbrev pub is_name : List ℕ → Bool
-is_name t = ((nat_lt 0 (length t) && nat_le (length t) 32) && list_all is_word t) && not (begins_with_digit t)
+is_name t = ((nat_lt 0 (length t) && nat_le (length t) LONGEST_NAME) && list_all is_word t) && not (begins_with_digit t)
 
 -- the text is no name
 abbrev pub is_bad_name : List ℕ → Bool
@@ -141,9 +142,9 @@ abbrev pub some_misplaced : ℕ → List graph.Token → Bool
 some_misplaced k [] = false
 some_misplaced k (x ∷ more) = is_misplaced k x || some_misplaced (suc k) more
 
--- a task past the 1,024th, or with more arguments, statements or levels than it may have
+-- a task past the last that a graph may have, or with more arguments, statements or levels than it may have
 abbrev pub exceeds : ℕ → Task → Bool
-exceeds t x = (nat_eq t 1024 || nat_lt 256 (length (waits_for x.kind))) || (nat_lt 64 (line_count (worked x.kind).body) || nat_lt 8 (levels (worked x.kind).body))
+exceeds t x = (nat_eq t MOST_TASKS || nat_lt MOST_ARGUMENTS (length (waits_for x.kind))) || (nat_lt MOST_STATEMENTS (line_count (worked x.kind).body) || nat_lt MOST_LEVELS (levels (worked x.kind).body))
 
 -- the sites of a list of tasks
 abbrev pub site_total : List Task → ℕ
@@ -151,7 +152,7 @@ site_total tasks = sum_by (λ (x : Task). site_count (worked x.kind).body) tasks
 
 -- a refusal applies to the lists of inputs and tokens
 abbrev pub in_lists : Draft → Why → Bool
-in_lists d why.TooMany = (nat_lt 16 (length d.inputs) || nat_lt 32 (length d.tokens)) || list_any (λ (k : Token). nat_lt 32 (length (linked_to k.linked))) d.tokens
+in_lists d why.TooMany = (nat_lt MOST_INPUTS (length d.inputs) || nat_lt MOST_TOKENS (length d.tokens)) || list_any (λ (k : Token). nat_lt MOST_TOKENS (length (linked_to k.linked))) d.tokens
 in_lists d why.BadName = list_any is_bad_name (names_of d).inputs || list_any is_bad_name (names_of d).tokens
 in_lists d why.NameTwice = some_twice (names_of d).inputs || some_twice (names_of d).tokens
 in_lists d why.Unknown = list_any (λ (k : Token). list_any (lacks (names_of d).tokens) (linked_to k.linked)) d.tokens
@@ -160,7 +161,7 @@ in_lists d w = false
 
 -- a refusal applies to the t-th task
 abbrev pub in_task : Draft → Why → ℕ → Task → Bool
-in_task d why.TooMany t x = exceeds t x || nat_lt 256 (site_total (take (suc t) d.tasks))
+in_task d why.TooMany t x = exceeds t x || nat_lt MOST_SITES (site_total (take (suc t) d.tasks))
 in_task d why.BadName t x = is_bad_name x.name || list_any says_bad_name (statements_in x)
 in_task d why.NameTwice t x = has_name (take t (names_of d).tasks) x.name
 in_task d why.Unknown t x =

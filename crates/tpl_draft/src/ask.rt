@@ -10,6 +10,7 @@ ghost use Rattle.tpl_draft.specs.SeenTasks.{task_of};
 
 use crate::draft::{DraftBody, DraftKind, DraftStmt, DraftTask};
 use crate::names::Names;
+use tpl_words::LONGEST_NAME;
 
 /// The names that a draft declares.
 #[derive(Drop)]
@@ -44,7 +45,7 @@ pub fn is_name(name: &str) -> bool
     ensures { result ≡ spec.is_name name.now }
 {
     let bytes = name.as_bytes();
-    if bytes.len() == 0 || bytes.len() > 32 {
+    if bytes.len() == 0 || bytes.len() > LONGEST_NAME {
         return false;
     }
     for c in bytes {

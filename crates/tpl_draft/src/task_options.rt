@@ -3,7 +3,7 @@
 ghost use Rattle.std.specs.Prelude.{◌≡◌};
 ghost use Rattle.std.specs.Int.RustNames.{bit_or};
 ghost use Rattle.bitflags.specs.Sets.{find_name};
-ghost use Rattle.tpl_words.specs.Options.{words};
+ghost use Rattle.tpl_words.specs.Options.{words, task_words, continuation_words};
 ghost use Rattle.tpl_draft.specs.Names.{or_zero};
 ghost use Rattle.tpl_draft.specs.Refusals as spec;
 ghost use Rattle.tpl_draft.specs.SeenTasks.{task_of};
@@ -24,7 +24,7 @@ fn with(options: Options, word: &str) -> Options
 
 /// The words that roots and children take (.NET API documentation: TaskCreationOptions).
 fn task_words() -> Options
-    ensures { result ≡ 95 }
+    ensures { result ≡ task_words }
 {
     let fair = with(Options::empty(), "PreferFairness");
     let long = with(fair, "LongRunning");
@@ -36,7 +36,7 @@ fn task_words() -> Options
 
 /// The words that continuations take (.NET API documentation: TaskContinuationOptions).
 fn continuation_words() -> Options
-    ensures { result ≡ 983167 }
+    ensures { result ≡ continuation_words }
 {
     let fair = with(Options::empty(), "PreferFairness");
     let long = with(fair, "LongRunning");

@@ -11,50 +11,34 @@ ghost use Rattle.tpl_draft.specs.SeenTasks.{draft_of, task_of, token_of};
 use crate::draft::{Draft, DraftKind, DraftTask, DraftToken};
 use crate::limits::{Room, room_behind};
 use crate::refusals::{linked_to, waits_for};
-use tpl_words::{MOST_INPUTS, MOST_TOKENS};
-
-/// The most statements of a body, nested ones counted.
-const MOST_STATEMENTS: u8 = 64;
-
-/// The most levels of a body. One without branches has one.
-const MOST_LEVELS: u8 = 8;
-
-/// The most sites of a graph.
-const MOST_SITES: u16 = 256;
-
-/// The most tasks.
-const MOST_TASKS: usize = 1024;
-
-/// The most arguments of a task.
-const MOST_ARGUMENTS: usize = 256;
-
-/// The most sources of a linked token.
-const MOST_SOURCES: usize = 32;
+use tpl_words::{
+    MOST_ARGUMENTS, MOST_INPUTS, MOST_LEVELS, MOST_SITES, MOST_STATEMENTS, MOST_TASKS, MOST_TOKENS,
+};
 
 fn linked_to_many(token: &DraftToken) -> bool
-    ensures { result ≡ nat_lt 32 (length (meaning.linked_to (token_of token.now).linked)) }
+    ensures { result ≡ nat_lt MOST_TOKENS (length (meaning.linked_to (token_of token.now).linked)) }
 {
-    linked_to(token).len() > MOST_SOURCES
+    linked_to(token).len() > MOST_TOKENS
 }
 
-/// Some token is linked to more than 32 tokens.
+/// Some token is linked to more tokens than a graph may have.
 fn some_linked_to_many(tokens: &[DraftToken]) -> bool
-    ensures { result ≡ list_any (λ token. nat_lt 32 (length
+    ensures { result ≡ list_any (λ token. nat_lt MOST_TOKENS (length
         (meaning.linked_to (token_of token).linked))) tokens.now }
 {
     tokens.iter().any(|token| linked_to_many(token))
 }
 
 fn sources_exceed(draft: &Draft) -> bool
-    ensures { result ≡ list_any (λ (k : Token). nat_lt 32 (length (meaning.linked_to k.linked)))
+    ensures { result ≡ list_any (λ (k : Token). nat_lt MOST_TOKENS (length (meaning.linked_to k.linked)))
         (draft_of draft.now).tokens }
 {
     some_linked_to_many(&draft.tokens)
 }
 
 fn counts_exceed(draft: &Draft) -> bool
-    ensures { result ≡ (nat_lt 16 (length (draft_of draft.now).inputs)
-        || nat_lt 32 (length (draft_of draft.now).tokens)) }
+    ensures { result ≡ (nat_lt MOST_INPUTS (length (draft_of draft.now).inputs)
+        || nat_lt MOST_TOKENS (length (draft_of draft.now).tokens)) }
 {
     draft.inputs.len() > MOST_INPUTS || draft.tokens.len() > MOST_TOKENS
 }
@@ -95,7 +79,7 @@ fn sites_behind(t: usize, task: &DraftTask, sites: u16) -> Option<u16>
         || nat_lt sites (site_count (worked (task_of task.now).kind).body)) ≡ true) }
 {
     let arguments = waits_for(task).len();
-    if t == MOST_TASKS || arguments > MOST_ARGUMENTS {
+    if t == MOST_TASKS as usize || arguments > MOST_ARGUMENTS {
         return None;
     }
     let room = Room {

@@ -1,10 +1,11 @@
 -- Bodies within the limits.
 use Rattle.std.specs.Prelude.{◌≡◌, ℕ, ◌≤◌, List, Some, slice_get}
+use Rattle.tpl_words.specs.declared.limits.TheConstants.{MOST_LEVELS, MOST_STATEMENTS}
 use Rattle.tpl_draft.specs.Draft.{Lines, Task, worked, line_count, levels}
 
--- at most 64 statements, nested ones too, and at most 8 levels
+-- no more statements, nested ones too, and no more levels than a body may have
 abbrev pub IsSmall : Lines → Type 0
-IsSmall body = (line_count body ≤ 64) × (levels body ≤ 8)
+IsSmall body = (line_count body ≤ MOST_STATEMENTS) × (levels body ≤ MOST_LEVELS)
 
 abbrev pub AreSmall : List Task → Type 0
 AreSmall tasks = (t : ℕ) (x : Task) → slice_get tasks t ≡ Some x → IsSmall (worked x.kind).body

@@ -29,7 +29,10 @@ use std::alloc::{AllocError, Global};
 use std::marker::Model;
 use tpl_draft::{Draft, GraphFault, Origin, Tables};
 use tpl_script::Script;
-use tpl_words::{InputId, LabelId, Options, SiteId, TaskId, TokenId};
+use tpl_words::{
+    InputId, LabelId, MOST_INPUTS, MOST_SITES, MOST_TASKS, MOST_TOKENS, Options, SiteId, TaskId,
+    TokenId,
+};
 
 /// A valid task graph with its names: at most 1,024 tasks, 32 tokens, 16 inputs and 256 sites. Ids count from 0 in
 /// declared order, sites in the order of the text, and labels by their first `throw`.
@@ -160,7 +163,7 @@ impl Graph {
     /// How many tasks there are: at most 1,024.
     pub fn len(&self) -> usize
         ensures count { result ≡ length self.now.graph.tasks }
-        ensures limit { result ≤ 1024 }
+        ensures limit { result ≤ MOST_TASKS }
     {
         self.tasks.len()
     }
@@ -168,7 +171,7 @@ impl Graph {
     /// How many tokens there are: at most 32.
     pub fn token_count(&self) -> usize
         ensures count { result ≡ length self.now.graph.tokens }
-        ensures limit { result ≤ 32 }
+        ensures limit { result ≤ MOST_TOKENS }
     {
         self.tokens.len()
     }
@@ -176,7 +179,7 @@ impl Graph {
     /// How many inputs there are: at most 16.
     pub fn input_count(&self) -> usize
         ensures count { result ≡ self.now.graph.inputs }
-        ensures limit { result ≤ 16 }
+        ensures limit { result ≤ MOST_INPUTS }
     {
         self.names.inputs.len()
     }
@@ -184,7 +187,7 @@ impl Graph {
     /// How many sites, that is work statements, there are: at most 256.
     pub fn site_count(&self) -> usize
         ensures count { result ≡ length self.now.names.sites }
-        ensures limit { result ≤ 256 }
+        ensures limit { result ≤ MOST_SITES }
     {
         self.names.sites.len()
     }

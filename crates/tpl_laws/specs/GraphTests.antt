@@ -1,5 +1,6 @@
 -- Whether a list of tasks is a graph, as a test that computes.
 use Rattle.std.specs.Prelude.{◌≡◌, ℕ, zero, suc, ◌&&◌, ◌||◌, ◌↔◌, not, Bool, true, false, Option, Some, None, List, [], ◌∷◌, length, nat_eq, nat_lt, count_by}
+use Rattle.tpl_words.specs.declared.limits.TheConstants.{MOST_ARGUMENTS, MOST_INPUTS, MOST_LEVELS, MOST_SITES, MOST_STATEMENTS, MOST_TASKS, MOST_TOKENS}
 use Rattle.tpl_words.specs.Members.{mem}
 use Rattle.tpl_words.specs.Options.{has_bits, excludes_all, long_and_sync}
 use Rattle.tpl_script.specs.Statements.{Statement, Statements, Check, Cancel, Start, If, When, Nothing, ◌⨾◌, starts, reads_nothing}
@@ -42,10 +43,10 @@ abbrev pub are_before : ℕ → List ℕ → Bool
 are_before k [] = true
 are_before k (s ∷ more) = nat_lt s k && are_before k more
 
--- a linked token has 1 to 32 sources, each declared before it
+-- a linked token has sources, no more than it may have, each declared before it
 abbrev pub is_linked : ℕ → Token → Bool
 is_linked k Plain = true
-is_linked k (Linked sources) = are_before k sources && (nat_lt 0 (length sources) && at_most (length sources) 32)
+is_linked k (Linked sources) = are_before k sources && (nat_lt 0 (length sources) && at_most (length sources) MOST_TOKENS)
 
 -- each of these tasks is declared before t and is no child
 abbrev pub are_placed : TaskGraph → ℕ → List ℕ → Bool
@@ -55,8 +56,8 @@ are_placed g t (x ∷ xs) = nat_lt x t && (not (is_child (kind g x)) && are_plac
 -- the tasks that a task of this kind waits for are placed in this way
 abbrev pub is_placed : TaskGraph → ℕ → TaskKind → Bool
 is_placed g t (Continues a) = are_placed g t (a ∷ [])
-is_placed g t (WhenAll args) = are_placed g t args && at_most (length args) 256
-is_placed g t (WhenAny args) = are_placed g t args && (at_most (length args) 256 && nat_lt 0 (length args))
+is_placed g t (WhenAll args) = are_placed g t args && at_most (length args) MOST_ARGUMENTS
+is_placed g t (WhenAny args) = are_placed g t args && (at_most (length args) MOST_ARGUMENTS && nat_lt 0 (length args))
 is_placed g t kind = true
 
 -- the body is empty
@@ -106,7 +107,7 @@ starts_child g t = all_below (λ p. implies (is_parent g p t) (is_child (kind g 
 
 -- the body of t is within its limits, and its ids are the graph's
 abbrev pub fits_body : TaskGraph → ℕ → Bool
-fits_body g t = (at_most (statement_count (body g t)) 64 && at_most (level_count (body g t)) 8) && (has_ids g (body g t) && (has_own g (task g t).token && has_subject (kind g t) (body g t)))
+fits_body g t = (at_most (statement_count (body g t)) MOST_STATEMENTS && at_most (level_count (body g t)) MOST_LEVELS) && (has_ids g (body g t) && (has_own g (task g t).token && has_subject (kind g t) (body g t)))
 
 -- t waits for tasks before it, and has what its kind may have
 abbrev pub fits_kind : TaskGraph → ℕ → Bool
@@ -130,7 +131,7 @@ once_each sites = all_in (λ s. at_most (count_by (nat_eq s) sites) 1) sites
 
 -- the graph is within its limits
 abbrev pub within_limits : TaskGraph → Bool
-within_limits g = (at_most (length g.tasks) 1024 && at_most (length g.tokens) 32) && (at_most g.inputs 16 && at_most (length (all_sites g)) 256)
+within_limits g = (at_most (length g.tasks) MOST_TASKS && at_most (length g.tokens) MOST_TOKENS) && (at_most g.inputs MOST_INPUTS && at_most (length (all_sites g)) MOST_SITES)
 
 -- the list of tasks is a graph
 abbrev pub is_graph : TaskGraph → Bool

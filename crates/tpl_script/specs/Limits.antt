@@ -1,5 +1,6 @@
 -- How many statements a body has, and how deep they nest.
 use Rattle.std.specs.Prelude.{ℕ, ◌+◌, ◌≤◌, max}
+use Rattle.tpl_words.specs.declared.limits.TheConstants.{MOST_STATEMENTS, MOST_LEVELS}
 use Rattle.tpl_script.specs.Statements.{Statement, Statements, If, When, Nothing, ◌⨾◌}
 
 -- the number of statements of a list, nested ones too
@@ -24,6 +25,6 @@ abbrev mutual
   levels_in (When f first second) = 1 + max (level_count first) (level_count second)
   levels_in s = 1
 
--- at most 64 statements, nested ones too, and at most 8 levels
+-- a body with no more statements, nested ones too, and no more levels than a body may have
 abbrev pub IsWithinLimits : Statements → Type 0
-IsWithinLimits b = (statement_count b ≤ 64) × (level_count b ≤ 8)
+IsWithinLimits b = (statement_count b ≤ MOST_STATEMENTS) × (level_count b ≤ MOST_LEVELS)

@@ -4,9 +4,10 @@ ghost use Rattle.std.specs.Prelude.{◌≡◌, ◌↔◌, IsTrue, IsOk, IfOk, If
 ghost use Rattle.tpl_script.specs.Limits.{statement_count, IsWithinLimits};
 
 use crate::body::Body;
-use crate::limits::{MOST_LEVELS, MOST_STATEMENTS, room_behind};
+use crate::limits::room_behind;
 use crate::same::same_body;
 use std::marker::Model;
+use tpl_words::{MOST_LEVELS, MOST_STATEMENTS};
 
 /// A body within the limits: at most 64 statements, nested ones counted, and at most 8 levels
 /// (the limits are this program's own).

@@ -1,6 +1,7 @@
 -- Sets of tasks as lists of their numbers in ascending order, and as words of 64 bits.
 use Rattle.std.specs.Prelude.{◌≡◌, ℕ, zero, suc, ◌*◌, ◌/◌, ◌%◌, ◌<◌, ◌≤◌, Bool, true, ◌==◌, List, [], ◌∷◌, length, slice_index, if◌then◌else◌}
 use Rattle.std.specs.Int.{bit_at}
+use Rattle.tpl_words.specs.declared.limits.TheConstants.{MOST_TASKS}
 use Rattle.tpl_words.specs.Members.{mem}
 
 -- a list of numbers in ascending order, none twice, from low on and below high
@@ -8,9 +9,9 @@ abbrev pub AscendsWithin : ℕ → ℕ → List ℕ → Type 0
 AscendsWithin low high [] = Unit {0}
 AscendsWithin low high (x ∷ xs) = (low ≤ x) × (x < high) × AscendsWithin (suc x) high xs
 
--- a list that can be the members of a set of tasks: its numbers ascend and are below 1,024
+-- a list that can be the members of a set of tasks: its numbers ascend, and each is that of a task of the largest graph
 abbrev pub IsTaskSet : List ℕ → Type 0
-IsTaskSet xs = AscendsWithin 0 1024 xs
+IsTaskSet xs = AscendsWithin 0 MOST_TASKS xs
 
 -- each member of the first list is one of the second
 abbrev pub IsSubset : List ℕ → List ℕ → Type 0

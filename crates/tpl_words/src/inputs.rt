@@ -3,10 +3,8 @@
 ghost use Rattle.std.specs.Prelude.{◌≡◌, ◌<◌, ◌≤◌, ◌↔◌, false, length, replicate, slice_index_or, slice_set, IsTrue};
 
 use crate::ids::InputId;
+use crate::limits::MOST_INPUTS;
 use std::marker::Model;
-
-/// The most inputs of a graph (this program's own limit).
-pub const MOST_INPUTS: usize = 16;
 
 /// One truth value for each input of a graph, of which there are at most `MOST_INPUTS`. Contracts
 /// see the list of them in declared order.

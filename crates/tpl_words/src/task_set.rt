@@ -5,10 +5,8 @@ ghost use Rattle.tpl_words.specs.Members.{mem};
 ghost use Rattle.tpl_words.specs.TaskSet.{IsTaskSet, IsSubset, SetsAreTheirMembers};
 
 use crate::ids::TaskId;
+use crate::limits::MOST_TASKS;
 use std::marker::Model;
-
-/// The most tasks of a graph (this program's own limit).
-pub const MOST_TASKS: u16 = 1024;
 
 const WORDS: usize = 16;
 

@@ -1,0 +1,25 @@
+//! The limits of a graph. They are this program's own.
+
+/// The most tasks of a graph.
+pub const MOST_TASKS: u16 = 1024;
+
+/// The most cancellation tokens of a graph, and so the most sources of a linked one.
+pub const MOST_TOKENS: usize = 32;
+
+/// The most inputs of a graph.
+pub const MOST_INPUTS: usize = 16;
+
+/// The most work statements of a graph, the sites of its jobs.
+pub const MOST_SITES: u16 = 256;
+
+/// The most arguments of a WhenAll or WhenAny task.
+pub const MOST_ARGUMENTS: usize = 256;
+
+/// The most statements of a body, nested ones counted.
+pub const MOST_STATEMENTS: u8 = 64;
+
+/// The most levels of a body. One without branches has one.
+pub const MOST_LEVELS: u8 = 8;
+
+/// The longest name, in characters.
+pub const LONGEST_NAME: usize = 32;
