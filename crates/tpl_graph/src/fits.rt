@@ -3,7 +3,7 @@
 ghost use Rattle.std.specs.Prelude.{◌≡◌, ◌↔◌, IsTrue};
 ghost use Rattle.std.specs.List.{list_any};
 ghost use Rattle.tpl_model.specs.Graph.{is_task, kind};
-ghost use Rattle.tpl_graph.specs.Fits.{IsGivenOf, AreGivenOf, is_of_one_thing, given_twice, TasksOf, has_body, have_bodies, Fits};
+ghost use Rattle.tpl_graph.specs.Fits.{IsGivenOf, is_of_one_thing, given_twice, TasksOf, has_body, have_bodies, Fits};
 
 use crate::claim::Claim;
 use crate::graph::Graph;
@@ -24,12 +24,6 @@ fn is_given_of(graph: &Graph, given: Given) -> bool
         Given::Input(InputId(input), _) => (input as usize) < graph.input_count(),
         Given::Quiet(TokenId(token)) => (token as usize) < graph.token_count(),
     }
-}
-
-fn are_given_of(graph: &Graph, given: &[Given]) -> bool
-    ensures { IsTrue result ↔ AreGivenOf graph.now.graph given.now }
-{
-    given.iter().all(|one| is_given_of(graph, *one))
 }
 
 fn is_of_one_thing(one: Given, other: Given) -> bool
@@ -103,7 +97,7 @@ impl Claim {
     pub fn fits(&self, graph: &Graph) -> bool
         ensures { IsTrue result ↔ Fits graph.now.graph self.now }
     {
-        are_given_of(graph, self.given())
+        self.given().iter().all(|one| is_given_of(graph, *one))
             && tasks_of(graph, self.body())
             && have_bodies(graph, self.body())
             && !given_twice(self.given())
