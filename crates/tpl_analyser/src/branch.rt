@@ -12,7 +12,7 @@ use crate::question::Question;
 use crate::split::{Split, Splits, Turn};
 use tpl_checker::{Assumptions, assumed};
 use tpl_model::Given;
-use tpl_outline::{NO_END, Outline, Setting, outline_under};
+use tpl_outline::{Beyond, NO_END, Outline, Setting, outline_under};
 use tpl_words::{Final, Finals, InputId, TaskId};
 
 /// A branch of the search.
@@ -40,7 +40,8 @@ impl Branch {
             followers: question.followers,
             assumed: &assumed,
         };
-        let outline = outline_under(setting, &question.cone.tasks, &Outline::unsettled(), true);
+        let tasks = &question.cone.tasks;
+        let outline = outline_under(setting, tasks, &Outline::unsettled(), Beyond::All);
         Branch {
             assumed,
             outline,
@@ -56,7 +57,7 @@ impl Branch {
             value }
     {
         let assumed = self.assumed.with_input(input, value);
-        let mut branch = self.under(question, assumed, true);
+        let mut branch = self.under(question, assumed, Beyond::All);
         branch.above.insert(Split::Input(input));
         branch
     }
@@ -69,14 +70,27 @@ impl Branch {
     {
         question.graph.valid_law();
         let assumed = self.assumed.with_end(task, status);
-        let mut branch = self.under(question, assumed, false);
+        let mut branch = self.under(question, assumed, Beyond::End(task));
         branch.above.insert(Split::End(task));
         branch
     }
 
-    /// The branch with these assumptions: those of this one and more; unless `all` is true, those on
-    /// inputs are the same.
-    pub(crate) fn under(&self, question: Question<'_>, assumed: Assumptions, all: bool) -> Branch
+    /// A copy.
+    pub(crate) fn copy(&self) -> Branch {
+        Branch {
+            assumed: self.assumed.copy(),
+            outline: self.outline.copy(),
+            above: self.above.copy(),
+        }
+    }
+
+    /// The branch with these assumptions: those of this one, and beyond them such as are said.
+    pub(crate) fn under(
+        &self,
+        question: Question<'_>,
+        assumed: Assumptions,
+        beyond: Beyond,
+    ) -> Branch
         requires question { IsReady question }
         ensures { result.assumed ≡ assumed }
     {
@@ -87,7 +101,7 @@ impl Branch {
             followers: question.followers,
             assumed: &assumed,
         };
-        let outline = outline_under(setting, &question.cone.tasks, &self.outline, all);
+        let outline = outline_under(setting, &question.cone.tasks, &self.outline, beyond);
         Branch {
             assumed,
             outline,
@@ -99,11 +113,9 @@ impl Branch {
     pub(crate) fn turned(&self, question: Question<'_>, turn: Turn) -> Branch
         requires { IsReady question }
     {
-        let all = match turn {
-            Turn::Input(_, _) => true,
-            Turn::End(_, _) => false,
-        };
-        self.under(question, turn.assumed(&self.assumed), all)
+        let mut assumed = self.assumed.copy();
+        turn.assume(&mut assumed);
+        self.under(question, assumed, turn.beyond())
     }
 
     /// This split isn't among those above.

@@ -76,12 +76,13 @@ fn needed<W: Watch>(
 {
     let mut needed = Splits::none();
     for at in 0..way.taken.len() {
+        if needed.count() > most as u32 || budget.is_spent() {
+            return Ok(needed);
+        }
         let others = assumed_on(&way.passed, &way.taken[..at]);
         let others = assumed_on(&others, &way.taken[at + 1..]);
-        let without = branch.under(question, others, true);
-        if needed.count() <= most as u32
-            && !try_leaf(alloc, question, &without, budget)?.unwrap_or(true)
-        {
+        let without = branch.under(question, others, question.cone.beyond());
+        if !try_leaf(alloc, question, &without, budget)?.unwrap_or(true) {
             needed.insert(way.taken[at].split());
         }
     }
@@ -136,9 +137,12 @@ fn enough<W: Watch>(
     let mut kept = Vec::new(alloc);
     let mut enough = Splits::none();
     for at in (0..way.taken.len()).rev() {
+        if budget.is_spent() {
+            return Ok(enough);
+        }
         let others = assumed_on(&branch.assumed, &way.taken[..at]);
         let others = assumed_on(&others, &kept);
-        let without = branch.under(question, others, true);
+        let without = branch.under(question, others, question.cone.beyond());
         if !try_leaf(alloc, question, &without, budget)?.unwrap_or(true) {
             kept.push(way.taken[at])?;
             enough.insert(way.taken[at].split());

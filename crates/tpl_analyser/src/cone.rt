@@ -4,7 +4,7 @@ use crate::asked::asks_for;
 use crate::split::{Split, Splits};
 use tpl_graph::Graph;
 use tpl_model::Property;
-use tpl_outline::bearing_tasks;
+use tpl_outline::{Beyond, bearing_tasks};
 use tpl_words::{InputId, TaskId, TaskSet};
 
 /// What bears on a property.
@@ -12,6 +12,8 @@ use tpl_words::{InputId, TaskId, TaskSet};
 pub(crate) struct Cone {
     pub(crate) tasks: TaskSet,
     splits: Splits,
+    /// One of the splits is by an input.
+    has_inputs: bool,
 }
 
 impl Cone {
@@ -20,14 +22,26 @@ impl Cone {
     pub(crate) fn of(graph: &Graph, property: Property, splits: &[Split]) -> Cone {
         let tasks = bearing_tasks(graph, property);
         let mut bearing = Splits::none();
+        let mut has_inputs = false;
         for split in splits {
             if bears(graph, property, &tasks, *split) {
                 bearing.insert(*split);
+                has_inputs = has_inputs || split.is_by_input();
             }
         }
         Cone {
             tasks,
             splits: bearing,
+            has_inputs,
+        }
+    }
+
+    /// What may be assumed on the branches of splits that bear on the property.
+    pub(crate) fn beyond(&self) -> Beyond {
+        if self.has_inputs {
+            Beyond::All
+        } else {
+            Beyond::Ends
         }
     }
 

@@ -7,6 +7,7 @@ ghost use Rattle.tpl_analyser.specs.Splits.{IsSplitOf};
 use std::alloc::{AllocError, Global};
 use tpl_checker::Assumptions;
 use tpl_graph::Graph;
+use tpl_outline::Beyond;
 use tpl_words::{Final, InputId, MOST_INPUTS, MOST_TASKS, TaskId, TaskSet};
 
 /// The most branches of a split.
@@ -54,6 +55,14 @@ fn push_ends(splits: &mut Vec<Split>, graph: &Graph) -> Result<(), AllocError>
 }
 
 impl Split {
+    /// The split is by an input.
+    pub(crate) fn is_by_input(self) -> bool {
+        match self {
+            Split::Input(_) => true,
+            Split::End(_) => false,
+        }
+    }
+
     /// The branches of the split, in order.
     pub(crate) fn turns(self) -> [Option<Turn>; MOST_BRANCHES] {
         match self {
@@ -88,14 +97,22 @@ impl Turn {
         }
     }
 
-    /// What is assumed on it, where this is assumed before it.
-    pub(crate) fn assumed(self, before: &Assumptions) -> Assumptions {
+    /// Assumes it too.
+    pub(crate) fn assume(self, assumed: &mut Assumptions) {
         match self {
             Turn::Input(input, value) if (input.0 as usize) < MOST_INPUTS => {
-                before.with_input(input, value)
+                *assumed = assumed.with_input(input, value);
             }
-            Turn::End(task, status) if task.0 < MOST_TASKS => before.with_end(task, status),
-            _ => before.copy(),
+            Turn::End(task, status) if task.0 < MOST_TASKS => assumed.assume_end(task, status),
+            _ => {}
+        }
+    }
+
+    /// What is assumed beyond that.
+    pub(crate) fn beyond(self) -> Beyond {
+        match self {
+            Turn::Input(_, _) => Beyond::All,
+            Turn::End(task, _) => Beyond::End(task),
         }
     }
 }
@@ -104,7 +121,7 @@ impl Turn {
 pub(crate) fn assumed_on(before: &Assumptions, turns: &[Turn]) -> Assumptions {
     let mut assumed = before.copy();
     for turn in turns {
-        assumed = turn.assumed(&assumed);
+        turn.assume(&mut assumed);
     }
     assumed
 }

@@ -38,7 +38,7 @@ pub(crate) fn way_from<W: Watch>(
     let mut way = Way {
         taken: Vec::new(alloc),
         passed: from.assumed.copy(),
-        branch: from.under(question, from.assumed.copy(), false),
+        branch: from.copy(),
         proved: false,
     };
     for split in question.splits.iter().rev() {
@@ -110,7 +110,7 @@ impl Way {
     /// Passes a split by, on the first branch that is open.
     fn pass(&mut self, split: Split) {
         let turn = self.first(split);
-        self.passed = turn.assumed(&self.passed);
+        turn.assume(&mut self.passed);
     }
 
     /// The first branch of the split that is open; where there is none, the first.

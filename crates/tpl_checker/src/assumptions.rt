@@ -91,16 +91,24 @@ impl Assumptions {
         ensures { assumed_of result ≡ with_end (assumed_of self.now) task.0 status }
     {
         let mut assumed = self.copy();
+        assumed.assume_end(task, status);
+        assumed
+    }
+
+    /// Assumes besides that the task, one of the first 1,024, ends in this way if it ends.
+    pub fn assume_end(&mut self, task: TaskId, status: Final)
+        requires { task.0 < 1024 }
+        ensures { assumed_of self.new ≡ with_end (assumed_of self.old) task.0 status }
+    {
         if status != Final::RanToCompletion {
-            assumed.not_ran.insert(task);
+            self.not_ran.insert(task);
         }
         if status != Final::Canceled {
-            assumed.not_canceled.insert(task);
+            self.not_canceled.insert(task);
         }
         if status != Final::Faulted {
-            assumed.not_faulted.insert(task);
+            self.not_faulted.insert(task);
         }
-        assumed
     }
 
     /// The task may end in this way.

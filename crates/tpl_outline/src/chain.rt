@@ -3,9 +3,10 @@
 ghost use Rattle.std.specs.Prelude.{◌<◌, ◌≤◌, length, IfOk};
 ghost use Rattle.tpl_model.specs.Graph.{is_task};
 
+use crate::bits::Bits;
 use crate::setting::Setting;
 use std::alloc::{AllocError, Global};
-use tpl_words::{Final, Finals, MOST_TASKS, TaskId, TaskSet};
+use tpl_words::{Final, Finals, MOST_TASKS, TaskId};
 
 /// The most tasks in a chain (this program's own limit).
 const MOST_IN_CHAIN: usize = 16;
@@ -29,7 +30,7 @@ pub(crate) fn chain(
 ) -> Result<Vec<TaskId>, AllocError>
     ensures { IfOk result (λ chain. length chain.items ≤ 16) }
 {
-    let mut seen = TaskSet::empty();
+    let mut seen = Bits::none();
     let mut carriers = Vec::new(alloc);
     carriers.push(Carrier {
         task,
@@ -61,21 +62,23 @@ fn carrier_at(carriers: &[Carrier], place: usize) -> Option<Carrier> {
 fn push_takers(
     setting: Setting<'_>,
     carriers: &mut Vec<Carrier>,
-    seen: &mut TaskSet,
+    seen: &mut Bits,
     place: usize,
     carrier: Carrier,
 ) -> Result<(), AllocError>
     requires { carrier.taken < 16 }
 {
-    for task in setting.followers.takers(carrier.task) {
-        if task.0 < MOST_TASKS && !seen.contains(*task) {
-            seen.insert(*task);
-            carriers.push(Carrier {
-                task: *task,
-                from: place,
-                taken: carrier.taken + 1,
-            })?;
-        }
+    let mut takers = setting.followers.takers(carrier.task).without(seen);
+    seen.add(&takers);
+    for _ in 0..MOST_TASKS {
+        let Some(task) = takers.pop_first() else {
+            return Ok(());
+        };
+        carriers.push(Carrier {
+            task,
+            from: place,
+            taken: carrier.taken + 1,
+        })?;
     }
     Ok(())
 }

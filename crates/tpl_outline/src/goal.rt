@@ -3,6 +3,7 @@
 ghost use Rattle.tpl_model.specs.Graph.{is_task};
 ghost use Rattle.tpl_outline.specs.Shown.{IsAnswer};
 
+use crate::bits::Bits;
 use crate::rows::{Parts, may_end_early};
 use tpl_checker::parent;
 use tpl_graph::Role;
@@ -35,26 +36,28 @@ pub(crate) fn is_reached(
     }
 }
 
-/// The tasks before which one task is settled, and those past which it is.
-#[derive(Drop)]
+/// The tasks before which one task is settled, and those after which it is: itself, and the tasks past
+/// which it is settled.
+#[derive(Clone, Copy)]
 struct Places {
-    before: TaskSet,
-    past: TaskSet,
+    before: Bits,
+    after: Bits,
 }
 
 /// The first task is settled when the second begins.
 fn is_before(parts: Parts<'_>, tasks: &TaskSet, first: TaskId, second: TaskId) -> bool {
     let mut places = Places {
-        before: TaskSet::empty(),
-        past: TaskSet::empty(),
+        before: Bits::none(),
+        after: Bits::none(),
     };
+    places.after.insert(first);
     for task in 0..parts.graph.len() {
         let task = TaskId(task as u16);
         if tasks.contains(task) {
             places.add(parts, first, task);
         }
     }
-    places.before.contains(second)
+    places.before.has(second)
 }
 
 impl Places {
@@ -62,21 +65,20 @@ impl Places {
     fn add(&mut self, parts: Parts<'_>, first: TaskId, task: TaskId)
         requires { is_task parts.graph.now.graph task.0 }
     {
-        parts.graph.valid_law();
-        if self.is_before(parts, first, task) {
+        if self.is_before(parts, task) {
             self.before.insert(task);
         }
         if self.is_past(parts, first, task) {
-            self.past.insert(task);
+            self.after.insert(task);
         }
     }
 
-    fn is_before(&self, parts: Parts<'_>, first: TaskId, task: TaskId) -> bool
+    fn is_before(&self, parts: Parts<'_>, task: TaskId) -> bool
         requires { is_task parts.graph.now.graph task.0 }
     {
         match parts.graph.role(task) {
             Role::Then(antecedent) => {
-                parts.outline.fate(task).runs && self.is_settled_after(first, antecedent)
+                parts.outline.fate(task).runs && self.after.has(antecedent)
             }
             Role::Child => parts.outline.fate(task).runs && self.is_before_parent(parts, task),
             _ => false,
@@ -92,10 +94,10 @@ impl Places {
             Role::Root => is_below,
             Role::Child => is_below || self.is_before_parent(parts, task),
             Role::Then(antecedent) => {
-                is_below || !may_end_early(parts, task) && self.is_settled_after(first, antecedent)
+                is_below || !may_end_early(parts, task) && self.after.has(antecedent)
             }
-            Role::All(args) => self.is_settled_after_some(first, args),
-            Role::Any(args) => self.is_settled_after_each(first, args),
+            Role::All(_) => parts.followers.args(task).meets(&self.after),
+            Role::Any(_) => parts.followers.args(task).is_within(&self.after),
         }
     }
 
@@ -104,29 +106,7 @@ impl Places {
     {
         match parent(parts.graph, task) {
             None => false,
-            Some(parent) => self.before.contains(parent),
+            Some(parent) => self.before.has(parent),
         }
-    }
-
-    fn is_settled_after(&self, first: TaskId, task: TaskId) -> bool {
-        first == task || self.past.contains(task)
-    }
-
-    fn is_settled_after_some(&self, first: TaskId, tasks: &[TaskId]) -> bool {
-        for task in tasks {
-            if self.is_settled_after(first, *task) {
-                return true;
-            }
-        }
-        false
-    }
-
-    fn is_settled_after_each(&self, first: TaskId, tasks: &[TaskId]) -> bool {
-        for task in tasks {
-            if !self.is_settled_after(first, *task) {
-                return false;
-            }
-        }
-        true
     }
 }

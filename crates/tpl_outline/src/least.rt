@@ -35,6 +35,7 @@ pub fn reached(
     let parts = Parts {
         graph: setting.graph,
         below: setting.below,
+        followers: setting.followers,
         assumed: setting.assumed,
         outline,
     };
@@ -61,6 +62,7 @@ pub fn least_rows(
     let parts = Parts {
         graph: setting.graph,
         below: setting.below,
+        followers: setting.followers,
         assumed: setting.assumed,
         outline: &outline,
     };

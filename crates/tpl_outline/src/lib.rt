@@ -2,6 +2,7 @@
 #![tactic(auto)]
 
 mod bearing;
+mod bits;
 mod chain;
 mod followers;
 mod goal;
@@ -11,11 +12,12 @@ mod pass;
 mod rows;
 mod setting;
 mod stages;
+mod ways;
 
 pub use bearing::bearing_tasks;
 pub use followers::Followers;
 pub use least::{least_rows, reached};
 pub use outline::{Fate, NO_END, Outline};
-pub use pass::outline_under;
+pub use pass::{Beyond, outline_under};
 pub use setting::Setting;
 pub use stages::{Stage, stages_of};

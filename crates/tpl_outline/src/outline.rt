@@ -7,8 +7,10 @@ ghost use Rattle.tpl_model.specs.Graph.{is_task};
 ghost use Rattle.tpl_checker.specs.Assumptions.{assumed_of};
 ghost use Rattle.tpl_outline.specs.Fates.{fate_of, unsettled};
 
-use tpl_checker::{Assumptions, allowed, excluded, some_end};
-use tpl_graph::{Graph, Role};
+use crate::setting::Setting;
+use crate::ways::Ways;
+use tpl_checker::{allowed, excluded, some_end};
+use tpl_graph::Role;
 use tpl_script::Verdicts;
 use tpl_words::{Final, Finals, TaskId};
 
@@ -41,10 +43,12 @@ pub struct Fate {
     pub ends: Finals,
 }
 
-/// What may become of each task of a graph, 7 kilobytes long.
+/// What may become of each task of a graph, 8 kilobytes long.
 #[derive(Drop)]
 pub struct Outline {
     fates: [Fate; 1024],
+    /// How the tasks may end once more, by the way in which they do.
+    ways: Ways,
 }
 
 impl Outline {
@@ -54,14 +58,18 @@ impl Outline {
     {
         Outline {
             fates: [UNSETTLED; 1024],
+            ways: Ways::none(),
         }
     }
 
     /// A copy.
-    pub(crate) fn copy(&self) -> Outline
+    pub fn copy(&self) -> Outline
         ensures { result ≡ self.now }
     {
-        Outline { fates: self.fates }
+        Outline {
+            fates: self.fates,
+            ways: self.ways,
+        }
     }
 
     /// What may become of the task. No task from the 1024th on may begin or end.
@@ -79,16 +87,18 @@ impl Outline {
         ensures others { (t : ℕ) → t ≢ task.0 → fate_of self.new t ≡ fate_of self.old t }
     {
         self.fates[task.0 as usize] = fate;
+        self.ways.set(task, fate.ends);
     }
 
     /// How the subject of a continuation may have ended: one of the arguments of a WhenAny task,
     /// else the antecedent in the ways after which the continuation runs.
-    pub(crate) fn subject(&self, graph: &Graph, task: TaskId) -> Finals
-        requires { is_task graph.now.graph task.0 }
+    pub(crate) fn subject(&self, setting: Setting<'_>, task: TaskId) -> Finals
+        requires { is_task setting.graph.now.graph task.0 }
     {
+        let graph = setting.graph;
         match graph.role(task) {
             Role::Then(antecedent) => match graph.role(antecedent) {
-                Role::Any(args) => self.ends_of_one(args),
+                Role::Any(_) => self.ways.of_one(setting.followers.args(antecedent)),
                 _ => allowed(self.fate(antecedent).ends, graph.options(task)),
             },
             _ => NO_END,
@@ -96,17 +106,19 @@ impl Outline {
     }
 
     /// How the task may end, without the ways that the branch cuts off.
-    pub(crate) fn ends(&self, graph: &Graph, assumed: &Assumptions, task: TaskId) -> Finals
-        requires { is_task graph.now.graph task.0 }
-        ensures { (f : Final) → has result f ≡ true → (assumed_of assumed.now).cut task.0 f ≡ true }
+    pub(crate) fn ends(&self, setting: Setting<'_>, task: TaskId) -> Finals
+        requires { is_task setting.graph.now.graph task.0 }
+        ensures { (f : Final) → has result f ≡ true
+            → (assumed_of setting.entry.assumed.now).cut task.0 f ≡ true }
     {
-        let found = match graph.role(task) {
-            Role::Root => self.ready_ends(graph, assumed, task),
-            Role::Child => self.ready_ends(graph, assumed, task),
-            Role::Then(antecedent) => self.continued_ends(graph, assumed, task, antecedent),
-            Role::All(args) => self.all_end(args),
-            Role::Any(args) => Finals {
-                ran: some_end(self.ends_of_one(args)),
+        let assumed = setting.assumed;
+        let found = match setting.graph.role(task) {
+            Role::Root => self.ready_ends(setting, task),
+            Role::Child => self.ready_ends(setting, task),
+            Role::Then(antecedent) => self.continued_ends(setting, task, antecedent),
+            Role::All(_) => self.ways.of_all(setting.followers.args(task)),
+            Role::Any(_) => Finals {
+                ran: self.ways.any_ends(setting.followers.args(task)),
                 ..NO_END
             },
         };
@@ -118,11 +130,11 @@ impl Outline {
     }
 
     /// A root or a started child ends as its body does, or is canceled before its body begins.
-    fn ready_ends(&self, graph: &Graph, assumed: &Assumptions, task: TaskId) -> Finals
-        requires { is_task graph.now.graph task.0 }
+    fn ready_ends(&self, setting: Setting<'_>, task: TaskId) -> Finals
+        requires { is_task setting.graph.now.graph task.0 }
     {
-        let ends = self.body_ends(graph, task);
-        let canceled = self.fate(task).runs && assumed.is_loud(graph, task);
+        let ends = self.body_ends(setting, task);
+        let canceled = self.fate(task).runs && setting.assumed.is_loud(setting.graph, task);
         Finals {
             canceled: ends.canceled || canceled,
             ..ends
@@ -131,20 +143,14 @@ impl Outline {
 
     /// A continuation ends as its body does, or is canceled without it: by its token, or since its
     /// options exclude how its antecedent ends.
-    fn continued_ends(
-        &self,
-        graph: &Graph,
-        assumed: &Assumptions,
-        task: TaskId,
-        antecedent: TaskId,
-    ) -> Finals
-        requires { is_task graph.now.graph task.0 }
+    fn continued_ends(&self, setting: Setting<'_>, task: TaskId, antecedent: TaskId) -> Finals
+        requires { is_task setting.graph.now.graph task.0 }
     {
-        let ends = self.body_ends(graph, task);
+        let ends = self.body_ends(setting, task);
         let before = self.fate(antecedent).ends;
-        let options = graph.options(task);
+        let options = setting.graph.options(task);
         let by_token = !options.lazy_cancellation() || some_end(before);
-        let canceled = by_token && assumed.is_loud(graph, task);
+        let canceled = by_token && setting.assumed.is_loud(setting.graph, task);
         Finals {
             canceled: ends.canceled || canceled || some_end(excluded(before, options)),
             ..ends
@@ -152,8 +158,8 @@ impl Outline {
     }
 
     /// How the body of a task that may begin ends it; it takes over what an attached child throws.
-    fn body_ends(&self, graph: &Graph, task: TaskId) -> Finals
-        requires { is_task graph.now.graph task.0 }
+    fn body_ends(&self, setting: Setting<'_>, task: TaskId) -> Finals
+        requires { is_task setting.graph.now.graph task.0 }
     {
         let fate = self.fate(task);
         if !fate.runs {
@@ -162,36 +168,12 @@ impl Outline {
         Finals {
             ran: fate.verdicts.returned,
             canceled: fate.verdicts.acknowledged,
-            faulted: fate.verdicts.thrown || self.ends_of_one(graph.attached(task)).faulted,
+            faulted: fate.verdicts.thrown || self.one_faults(setting.graph.attached(task)),
         }
     }
 
-    /// How one of the tasks ends.
-    fn ends_of_one(&self, tasks: &[TaskId]) -> Finals {
-        let mut ends = NO_END;
-        for task in tasks {
-            ends = ends.union(self.fate(*task).ends);
-        }
-        ends
-    }
-
-    /// How a WhenAll task may end: Faulted if one argument is, else Canceled if one is, else
-    /// RanToCompletion.
-    fn all_end(&self, args: &[TaskId]) -> Finals {
-        let one = self.ends_of_one(args);
-        let mut each_ran = true;
-        let mut each_ends = true;
-        let mut each_may_not_fault = true;
-        for arg in args {
-            let ends = self.fate(*arg).ends;
-            each_ran = each_ran && ends.ran;
-            each_ends = each_ends && some_end(ends);
-            each_may_not_fault = each_may_not_fault && (ends.ran || ends.canceled);
-        }
-        Finals {
-            ran: each_ran,
-            canceled: each_may_not_fault && one.canceled,
-            faulted: each_ends && one.faulted,
-        }
+    /// One of the tasks may be faulted.
+    fn one_faults(&self, tasks: &[TaskId]) -> bool {
+        tasks.iter().any(|task| self.fate(*task).ends.faulted)
     }
 }

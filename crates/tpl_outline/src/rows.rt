@@ -3,6 +3,7 @@
 ghost use Rattle.std.specs.Prelude.{◌≡◌, length, IfOk};
 ghost use Rattle.tpl_model.specs.Graph.{is_task};
 
+use crate::followers::Followers;
 use crate::outline::Outline;
 use std::alloc::{AllocError, Global};
 use tpl_cert::Row;
@@ -15,6 +16,7 @@ use tpl_words::{MOST_TASKS, TaskId, TaskSet};
 pub(crate) struct Parts<'s> {
     pub(crate) graph: &'s Graph,
     pub(crate) below: &'s Below,
+    pub(crate) followers: &'s Followers,
     pub(crate) assumed: &'s Assumptions,
     pub(crate) outline: &'s Outline,
 }

@@ -13,7 +13,7 @@ pub struct Setting<'s> {
     pub below: &'s Below,
     /// The order in which it is settled what becomes of the tasks.
     pub stages: &'s [Stage],
-    /// Who continues each task, and who takes its exceptions over.
+    /// Which tasks look at each task, and for which it waits.
     pub followers: &'s Followers,
     pub assumed: &'s Assumptions,
 }

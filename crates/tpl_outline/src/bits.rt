@@ -1,0 +1,103 @@
+//! Sets of tasks that serve a search alone.
+
+use tpl_words::{MOST_TASKS, TaskId};
+
+const WORDS: usize = 16;
+
+/// A set of tasks with ids below `MOST_TASKS`, a bit for each. It decides what a search finds, and
+/// nothing that is promised of it: so no clause speaks of its members.
+#[derive(Clone, Copy)]
+pub(crate) struct Bits {
+    words: [u64; WORDS],
+}
+
+impl Bits {
+    /// The set without members.
+    pub(crate) fn none() -> Bits {
+        Bits { words: [0; WORDS] }
+    }
+
+    /// The set of all tasks.
+    pub(crate) fn all() -> Bits {
+        Bits {
+            words: [u64::MAX; WORDS],
+        }
+    }
+
+    /// The task is a member. None from `MOST_TASKS` on is.
+    pub(crate) fn has(&self, task: TaskId) -> bool {
+        let at = task.0 as usize;
+        at < MOST_TASKS as usize && (self.words[at / 64] >> (at % 64)) & 1 == 1
+    }
+
+    /// Makes the task a member, or no member.
+    pub(crate) fn put(&mut self, task: TaskId, member: bool) {
+        let at = task.0 as usize;
+        if at < MOST_TASKS as usize {
+            let bit = 1u64 << (at % 64);
+            let others = self.words[at / 64] & !bit;
+            self.words[at / 64] = if member { others | bit } else { others };
+        }
+    }
+
+    /// Makes the task a member.
+    pub(crate) fn insert(&mut self, task: TaskId) {
+        self.put(task, true);
+    }
+
+    /// Makes each of the tasks a member.
+    pub(crate) fn insert_all(&mut self, tasks: &[TaskId]) {
+        for task in tasks {
+            self.insert(*task);
+        }
+    }
+
+    /// Makes the members of the other set members of this one too.
+    pub(crate) fn add(&mut self, other: &Bits) {
+        for at in 0..WORDS {
+            self.words[at] |= other.words[at];
+        }
+    }
+
+    /// The members that aren't in the other set.
+    pub(crate) fn without(&self, other: &Bits) -> Bits {
+        let mut left = *self;
+        for at in 0..WORDS {
+            left.words[at] &= !other.words[at];
+        }
+        left
+    }
+
+    /// The two have a member in common.
+    pub(crate) fn meets(&self, other: &Bits) -> bool {
+        for at in 0..WORDS {
+            if self.words[at] & other.words[at] != 0 {
+                return true;
+            }
+        }
+        false
+    }
+
+    /// Each member is one of the other set.
+    pub(crate) fn is_within(&self, other: &Bits) -> bool {
+        for at in 0..WORDS {
+            if self.words[at] & !other.words[at] != 0 {
+                return false;
+            }
+        }
+        true
+    }
+
+    /// Takes the least member out, and returns it.
+    pub(crate) fn pop_first(&mut self) -> Option<TaskId> {
+        for at in 0..WORDS {
+            let word = self.words[at];
+            if word != 0 {
+                let bit = word.trailing_zeros() as usize;
+                self.words[at] = word & !(1 << bit);
+                return Some(TaskId((64 * at + bit) as u16));
+            }
+        }
+        None
+    }
+}
