@@ -1,5 +1,5 @@
 -- Lists of tasks, joined.
-use Rattle.std.proofs.Common.{◌≡◌, ℕ, ◌<◌, ◌≤◌, ◌++◌, false, ◌||◌, List, [], ◌∷◌, drop, length, map, nat_eq, refl, sym, ap, ◌∙◌, arith, subst}
+use Rattle.std.proofs.Common.{◌≡◌, ℕ, ◌<◌, ◌≤◌, ◌++◌, Bool, true, false, ◌||◌, List, [], ◌∷◌, drop, length, map, nat_eq, refl, sym, ap, ◌∙◌, arith, subst}
 use Rattle.std.specs.Prelude.{vec_capacity}
 use Rattle.std.specs.List.{list_any}
 use Rattle.std.specs.declared.vec.Vec.{Vec}
@@ -14,12 +14,13 @@ use Rattle.tpl_words.specs.declared.ids.TaskId.{TaskId}
 use Rattle.tpl_words.specs.Members.{mem, joined}
 use Rattle.tpl_draft.specs.Ids.{task_number}
 use Rattle.tpl_run.specs.Atoms.{AreAtoms}
+use Rattle.tpl_machine.specs.Gathering.{IsBeside}
 use Rattle.tpl_run.proofs.AtomLemmas.{empty_atoms}
 
 -- the first i of the others are in the list
-pub record JoinedSoFar (first now : Vec TaskId Global) (more : List TaskId) (i : ℕ) : Type 0 where
+pub record JoinedSoFar (first now : Vec TaskId Global) (members : List ℕ) (more : List TaskId) (i : ℕ) : Type 0 where
   pub joins : joined (map task_number now.items) (map task_number (drop i more)) ≡ joined (map task_number first.items) (map task_number more)
-  pub atoms : AreAtoms (vec_capacity first) (map task_number now.items)
+  pub beside : IsBeside members now
   pub capacity : vec_capacity now ≡ vec_capacity first
 
 mem-any : (x : ℕ) (xs : List ℕ) → mem x xs ≡ list_any (nat_eq x) xs
@@ -48,3 +49,19 @@ atoms_pushed n ts ts' t is a lt out =
 
 pub one_atom : (n : ℕ) (ts ts' : List TaskId) (t : TaskId) → ts' ≡ ts ++ t ∷ [] → ts ≡ [] → t.0 < n → AreAtoms n (map task_number ts')
 one_atom n ts ts' t is none lt = atoms_pushed n ts ts' t is (empty_atoms n ts none) lt (ap (λ xs. mem t.0 (map task_number xs)) none)
+
+mem_push : (x y : ℕ) (xs : List ℕ) → mem x (xs ++ y ∷ []) ≡ (nat_eq x y || mem x xs)
+mem_push x y [] = refl
+mem_push x y (z ∷ xs) = ap (λ b. nat_eq x z || b) (mem_push x y xs) ∙ turned (nat_eq x z) (nat_eq x y) (mem x xs)
+  where
+    turned : (a b c : Bool) → (a || (b || c)) ≡ (b || (a || c))
+    turned true true c = refl
+    turned true false c = refl
+    turned false b c = refl
+
+pub beside_pushed : (members members' : List ℕ) (list list' : Vec TaskId Global) (t : TaskId) → IsBeside members list → t.0 < vec_capacity list → mem t.0 (map task_number list.items) ≡ false → ((x : ℕ) → mem x members' ≡ (nat_eq x t.0 || mem x members)) → list'.items ≡ list.items ++ t ∷ [] → vec_capacity list' ≡ vec_capacity list → IsBeside members' list'
+beside_pushed members members' list list' t beside lt out more is capacity = record {
+  atoms = subst (λ n. AreAtoms n (map task_number list'.items)) (sym capacity) (atoms_pushed (vec_capacity list) list.items list'.items t is beside.atoms lt out);
+  limit = omega (arith, capacity, beside.limit);
+  same = λ x. more x ∙ (ap (λ b. nat_eq x t.0 || b) (beside.same x) ∙ (sym (mem_push x t.0 (map task_number list.items)) ∙ ap (mem x) (sym (ap (map task_number) is ∙ map-append task_number list.items (t ∷ [])))));
+}

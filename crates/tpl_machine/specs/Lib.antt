@@ -3,3 +3,4 @@ pub use Rattle.tpl_run.specs.Reading
 pub mod Kept
 pub mod Settling
 pub mod Marks
+pub mod Gathering

@@ -136,6 +136,7 @@ pub fn gather_body(
     requires none { atoms.old.items ≡ [] }
     requires below { task.0 < vec_capacity atoms.old }
     requires rooms { HaveRoom rows.now (vec_capacity atoms.old) }
+    requires limit { vec_capacity atoms.old ≤ MOST_TASKS }
     ensures items { map task_number atoms.new.items ≡ gathered (own_atom task.0 outcome)
         (those_started (map task_number children.now) (λ c. mem c started.now))
         (ending_in rows.now) }
@@ -163,6 +164,7 @@ pub fn end_of_body(atoms: &[TaskId], outcome: Option<Outcome>, place: u32, actor
 pub fn gather_args(atoms: &mut Vec<TaskId>, rows: &[Row], kind: Kind, args: &[TaskId])
     requires none { atoms.old.items ≡ [] }
     requires rooms { HaveRoom rows.now (vec_capacity atoms.old) }
+    requires limit { vec_capacity atoms.old ≤ MOST_TASKS }
     ensures items { map task_number atoms.new.items ≡ (if is_all kind
         then gathered [] (map task_number args.now) (ending_in rows.now) else []) }
     ensures atoms { AreAtoms (vec_capacity atoms.old) (map task_number atoms.new.items) }
