@@ -11,8 +11,8 @@ ghost use Rattle.tpl_analyser.specs.Questions.{IsReady};
 use crate::question::Question;
 use crate::split::{Split, Splits, Turn};
 use tpl_checker::{Assumptions, assumed};
-use tpl_model::Given;
-use tpl_outline::{Beyond, NO_END, Outline, Setting, outline_under};
+use tpl_model::{Given, Property};
+use tpl_outline::{Beyond, NO_END, Outline, Setting, has_chain, is_proved, outline_under};
 use tpl_words::{Final, Finals, InputId, TaskId};
 
 /// A branch of the search.
@@ -21,8 +21,18 @@ pub(crate) struct Branch {
     pub(crate) assumed: Assumptions,
     /// What becomes of the tasks that bear on the property.
     pub(crate) outline: Outline,
+    /// The task that the property says to be observed, if it says so of one, has a chain.
+    has_chain: bool,
     /// The splits above it.
     above: Splits,
+}
+
+/// The task that the property says to be observed has a chain.
+fn has_chain_for(setting: Setting<'_>, property: Property) -> bool {
+    match property {
+        Property::Observed(task) => has_chain(setting, task),
+        _ => false,
+    }
 }
 
 impl Branch {
@@ -42,9 +52,11 @@ impl Branch {
         };
         let tasks = &question.cone.tasks;
         let outline = outline_under(setting, tasks, &Outline::unsettled(), Beyond::All);
+        let has_chain = has_chain_for(setting, question.property);
         Branch {
             assumed,
             outline,
+            has_chain,
             above: Splits::none(),
         }
     }
@@ -80,6 +92,7 @@ impl Branch {
         Branch {
             assumed: self.assumed.copy(),
             outline: self.outline.copy(),
+            has_chain: self.has_chain,
             above: self.above.copy(),
         }
     }
@@ -102,9 +115,14 @@ impl Branch {
             assumed: &assumed,
         };
         let outline = outline_under(setting, &question.cone.tasks, &self.outline, beyond);
+        let has_chain = match beyond {
+            Beyond::All => has_chain_for(setting, question.property),
+            Beyond::End(_) | Beyond::Ends => self.has_chain,
+        };
         Branch {
             assumed,
             outline,
+            has_chain,
             above: self.above.copy(),
         }
     }
@@ -116,6 +134,25 @@ impl Branch {
         let mut assumed = self.assumed.copy();
         turn.assume(&mut assumed);
         self.under(question, assumed, turn.beyond())
+    }
+
+    /// Whether the least rows of the branch prove the property.
+    pub(crate) fn is_proved(&self, question: Question<'_>) -> bool {
+        let setting = Setting {
+            graph: question.graph,
+            below: question.below,
+            stages: question.stages,
+            followers: question.followers,
+            assumed: &self.assumed,
+        };
+        let tasks = &question.cone.tasks;
+        is_proved(
+            setting,
+            &self.outline,
+            question.property,
+            tasks,
+            self.has_chain,
+        )
     }
 
     /// This split isn't among those above.

@@ -221,7 +221,7 @@ fn deepened<W: Watch>(
     ensures { IfOk result
         (λ found. IfSome found (IsPlan question.entry.graph.now.graph depth)) }
 {
-    if try_leaf(alloc, question, root, budget)?.unwrap_or(false) {
+    if try_leaf(question, root, budget).unwrap_or(false) {
         return Ok(Some(no_split(alloc)));
     }
     if depth == 0 {

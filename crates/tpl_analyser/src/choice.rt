@@ -82,7 +82,7 @@ fn needed<W: Watch>(
         let others = assumed_on(&way.passed, &way.taken[..at]);
         let others = assumed_on(&others, &way.taken[at + 1..]);
         let without = branch.under(question, others, question.cone.beyond());
-        if !try_leaf(alloc, question, &without, budget)?.unwrap_or(true) {
+        if !try_leaf(question, &without, budget).unwrap_or(true) {
             needed.insert(way.taken[at].split());
         }
     }
@@ -143,7 +143,7 @@ fn enough<W: Watch>(
         let others = assumed_on(&branch.assumed, &way.taken[..at]);
         let others = assumed_on(&others, &kept);
         let without = branch.under(question, others, question.cone.beyond());
-        if !try_leaf(alloc, question, &without, budget)?.unwrap_or(true) {
+        if !try_leaf(question, &without, budget).unwrap_or(true) {
             kept.push(way.taken[at])?;
             enough.insert(way.taken[at].split());
         }

@@ -39,16 +39,16 @@ pub(crate) fn leaf(
 /// Whether the least rows of the branch prove the property. It uses up one of the leaves that may be tried; where none is
 /// left, there is no answer.
 pub(crate) fn try_leaf<W: Watch>(
-    alloc: Global,
     question: Question<'_>,
     branch: &Branch,
     budget: &mut Budget<W>,
-) -> Result<Option<bool>, AllocError> {
+) -> Option<bool>
+    requires { IsReady question }
+{
     if !budget.spend() {
-        return Ok(None);
+        return None;
     }
-    let chain = chain_of(alloc, question, branch)?;
-    Ok(Some(chain.is_some()))
+    Some(branch.is_proved(question))
 }
 
 /// The chain with which the least rows of the branch prove the property, if they do.

@@ -58,7 +58,7 @@ fn find<W: Watch>(
     ensures { IfOk result
         (λ found. IfSome found (IsPlan question.entry.graph.now.graph reach.splits)) }
 {
-    if try_leaf(alloc, question, branch, budget)?.unwrap_or(false) {
+    if try_leaf(question, branch, budget).unwrap_or(false) {
         return Ok(Some(no_split(alloc)));
     }
     if reach.splits == 0 {

@@ -90,7 +90,7 @@ impl Way {
             return Ok(false);
         }
         let branch = self.branch.turned(question, turn);
-        if try_leaf(alloc, question, &branch, budget)?.unwrap_or(true) {
+        if try_leaf(question, &branch, budget).unwrap_or(true) {
             return Ok(false);
         }
         self.branch = branch;

@@ -2,13 +2,13 @@
 
 use tpl_words::{MOST_TASKS, TaskId};
 
-const WORDS: usize = 16;
+pub(crate) const WORDS: usize = 16;
 
 /// A set of tasks with ids below `MOST_TASKS`, a bit for each. It decides what a search finds, and
 /// nothing that is promised of it: so no clause speaks of its members.
 #[derive(Clone, Copy)]
 pub(crate) struct Bits {
-    words: [u64; WORDS],
+    pub(crate) words: [u64; WORDS],
 }
 
 impl Bits {

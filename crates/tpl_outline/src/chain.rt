@@ -51,6 +51,48 @@ pub(crate) fn chain(
     Ok(Vec::new(alloc))
 }
 
+/// The task has a chain of at most 16 tasks. That depends on inputs and quiet tokens alone, and not on
+/// how tasks end.
+pub fn has_chain(setting: Setting<'_>, task: TaskId) -> bool {
+    let mut carriers = Bits::none();
+    carriers.insert(task);
+    let mut seen = Bits::none();
+    for _ in 0..MOST_IN_CHAIN {
+        if one_is_read(setting, carriers) {
+            return true;
+        }
+        carriers = takers_of(setting, carriers).without(&seen);
+        seen.add(&carriers);
+    }
+    false
+}
+
+/// The exception of one of these carriers is read.
+fn one_is_read(setting: Setting<'_>, carriers: Bits) -> bool {
+    let mut left = carriers;
+    for _ in 0..MOST_TASKS {
+        match left.pop_first() {
+            None => return false,
+            Some(task) if reader_of(setting, task).is_some() => return true,
+            Some(_) => {}
+        }
+    }
+    false
+}
+
+/// Who takes over what one of these carries.
+fn takers_of(setting: Setting<'_>, carriers: Bits) -> Bits {
+    let mut left = carriers;
+    let mut takers = Bits::none();
+    for _ in 0..MOST_TASKS {
+        match left.pop_first() {
+            None => return takers,
+            Some(task) => takers.add(setting.followers.takers(task)),
+        }
+    }
+    takers
+}
+
 fn carrier_at(carriers: &[Carrier], place: usize) -> Option<Carrier> {
     match carriers.get(place) {
         None => None,

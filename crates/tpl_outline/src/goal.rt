@@ -11,12 +11,12 @@ use tpl_model::Property;
 use tpl_words::{TaskId, TaskSet};
 
 /// Whether the least rows prove the property, on which these tasks bear, where an observed task has
-/// this chain.
+/// a chain or not.
 pub(crate) fn is_reached(
     parts: Parts<'_>,
     property: Property,
     tasks: &TaskSet,
-    chain: &[TaskId],
+    has_chain: bool,
 ) -> bool
     ensures { IsAnswer property parts.entry.outline.now result }
 {
@@ -27,7 +27,7 @@ pub(crate) fn is_reached(
         }
         Property::Observed(task) => {
             let fate = parts.outline.fate(task);
-            !(chain.is_empty() && fate.runs && fate.ends.faulted && fate.verdicts.thrown)
+            has_chain || !(fate.runs && fate.ends.faulted && fate.verdicts.thrown)
         }
         Property::Never(task) => !parts.outline.fate(task).runs,
         Property::Excludes(first, second) => {

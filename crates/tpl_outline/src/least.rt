@@ -32,6 +32,24 @@ pub fn reached(
         Some(task) => chain(alloc, setting, task)?,
         None => Vec::new(alloc),
     };
+    if is_proved(setting, outline, property, tasks, !chain.is_empty()) {
+        Ok(Some(chain))
+    } else {
+        Ok(None)
+    }
+}
+
+/// Whether the least rows prove the property, where the task that it says to be observed has a chain or
+/// not. The outline and the tasks are those that bear on the property.
+pub fn is_proved(
+    setting: Setting<'_>,
+    outline: &Outline,
+    property: Property,
+    tasks: &TaskSet,
+    has_chain: bool,
+) -> bool
+    ensures { IsAnswer property outline.now result }
+{
     let parts = Parts {
         graph: setting.graph,
         below: setting.below,
@@ -39,11 +57,7 @@ pub fn reached(
         assumed: setting.assumed,
         outline,
     };
-    if is_reached(parts, property, tasks, &chain) {
-        Ok(Some(chain))
-    } else {
-        Ok(None)
-    }
+    is_reached(parts, property, tasks, has_chain)
 }
 
 /// The least rows of a leaf, one for each task, with this chain of the task that the property says

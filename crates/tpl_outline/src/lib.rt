@@ -15,8 +15,9 @@ mod stages;
 mod ways;
 
 pub use bearing::bearing_tasks;
+pub use chain::has_chain;
 pub use followers::Followers;
-pub use least::{least_rows, reached};
+pub use least::{is_proved, least_rows, reached};
 pub use outline::{Fate, NO_END, Outline};
 pub use pass::{Beyond, outline_under};
 pub use setting::Setting;

@@ -1,6 +1,6 @@
 //! Which tasks may end in each way.
 
-use crate::bits::Bits;
+use crate::bits::{Bits, WORDS};
 use tpl_checker::some_end;
 use tpl_words::{Finals, TaskId};
 
@@ -31,25 +31,41 @@ impl Ways {
 
     /// How one of the tasks ends.
     pub(crate) fn of_one(&self, tasks: &Bits) -> Finals {
+        let (mut ran, mut canceled, mut faulted) = (0u64, 0u64, 0u64);
+        for at in 0..WORDS {
+            let tasks = tasks.words[at];
+            ran |= tasks & self.ran.words[at];
+            canceled |= tasks & self.canceled.words[at];
+            faulted |= tasks & self.faulted.words[at];
+        }
         Finals {
-            ran: tasks.meets(&self.ran),
-            canceled: tasks.meets(&self.canceled),
-            faulted: tasks.meets(&self.faulted),
+            ran: ran != 0,
+            canceled: canceled != 0,
+            faulted: faulted != 0,
         }
     }
 
     /// How a WhenAll task of these may end: Faulted if one of them is, else Canceled if one is, else
     /// RanToCompletion.
     pub(crate) fn of_all(&self, tasks: &Bits) -> Finals {
-        let one = self.of_one(tasks);
-        let mut no_fault = self.ran;
-        no_fault.add(&self.canceled);
-        let mut some = no_fault;
-        some.add(&self.faulted);
+        let (mut canceled, mut faulted) = (0u64, 0u64);
+        // those that can't run to completion, can only be faulted, and can't end at all
+        let (mut failing, mut faulting, mut stuck) = (0u64, 0u64, 0u64);
+        for at in 0..WORDS {
+            let tasks = tasks.words[at];
+            let ran = self.ran.words[at];
+            let no_fault = ran | self.canceled.words[at];
+            let some = no_fault | self.faulted.words[at];
+            canceled |= tasks & self.canceled.words[at];
+            faulted |= tasks & self.faulted.words[at];
+            failing |= tasks & !ran;
+            faulting |= tasks & !no_fault;
+            stuck |= tasks & !some;
+        }
         Finals {
-            ran: tasks.is_within(&self.ran),
-            canceled: one.canceled && tasks.is_within(&no_fault),
-            faulted: one.faulted && tasks.is_within(&some),
+            ran: failing == 0,
+            canceled: canceled != 0 && faulting == 0,
+            faulted: faulted != 0 && stuck == 0,
         }
     }
 
