@@ -1,0 +1,409 @@
+#!/usr/bin/env python3
+"""Gives the program documents that are dear to answer, and finds answers that cost too much or end badly.
+
+usage: cases/hostile.py [--program PROGRAM] [WORD..]    the words: cost, stack, full, memcheck; all, if none is named
+
+  cost      each dear document within a bound of processor time and of memory. Both are multiples of what a plain reading
+            of the same bytes costs, by Python's own reader in the same minute, so that a slow machine fails none
+  stack     each command on small documents with a stack of STACK kilobytes
+  full      a file that may not grow is a failed write, as one without a reader is: by the script `taskgraph`, whatever
+            program is named
+  memcheck  ten calls of each command under Debian's valgrind, which finds reads and writes where none may be
+
+The last line is 'N passed, M failed', with ', K skipped' where valgrind is missing and can't be installed.
+"""
+import argparse
+import dataclasses
+import json
+import os
+import pathlib
+import resource
+import shutil
+import subprocess
+import sys
+import tempfile
+import time
+from concurrent.futures import ThreadPoolExecutor
+
+from documents import Stages, staged
+
+HERE = pathlib.Path(__file__).resolve().parent
+TOP = HERE.parent
+PROGRAM = TOP / "taskgraph"
+COMMANDS = ("check", "analyse", "run", "audit", "refute", "draw", "trace")
+
+# the limits of a document
+MOST_TASKS, MOST_ARGUMENTS, MOST_CLAIMS = 1_024, 256, 64
+# what the smallest document may take beside its bytes, in bytes
+BASE = 16 << 20
+# how long a document is read again and again to find what a reading takes, in seconds
+LEAST_READING = 0.2
+# the program is stopped where it takes so many times as long as it may
+PATIENCE = 3
+# the exit status of a failed write
+DEVICE = 5
+
+
+# ---- documents
+
+
+def root(name, *body):
+    return {"name": name, "kind": "root", "body": list(body)}
+
+
+def continuation(name, after, *body, **more):
+    return {"name": name, "kind": "then", "after": after, **more, "body": list(body)}
+
+
+def joined(name, names):
+    return {"name": name, "kind": "all", "of": list(names)}
+
+
+def turned(names, first):
+    """So many of the names as a task may wait for, from this one on and round again."""
+    return [names[(first + number) % len(names)] for number in range(MOST_ARGUMENTS)]
+
+
+def numbered(letter, count):
+    return [f"{letter}{number}" for number in range(count)]
+
+
+def document(tasks, *claims, **more):
+    return {"version": 1, "tasks": tasks, **({"claims": list(claims)} if claims else {}), **more}
+
+
+def forks(count=250):
+    """Jobs that may fail, each with a handler; two layers of WhenAll tasks over all handlers; and a claim that no split shows."""
+    handlers, first, second = numbered("F", count), numbered("A", MOST_ARGUMENTS), numbered("B", MOST_ARGUMENTS)
+    tasks = []
+    for number, handler in enumerate(handlers):
+        tasks.append(root(f"R{number}", {"work": f"w{number}", "may_fail": True}))
+        tasks.append(continuation(handler, f"R{number}", "observe", options=["OnlyOnFaulted"]))
+    tasks += [joined(name, turned(handlers, at)) for at, name in enumerate(first)]
+    tasks += [joined(name, turned(first, at)) for at, name in enumerate(second)]
+    tasks += [
+        joined("Z", second),
+        continuation("X", "Z", options=["OnlyOnRanToCompletion"]),
+        continuation("V", "Z", {"throw": "v"}, options=["OnlyOnCanceled"]),
+        continuation("U", "V", options=["OnlyOnRanToCompletion"]),
+    ]
+    return tasks
+
+
+def throwing_chain(roots, links, *claims):
+    """Roots that throw, WhenAll tasks over them, and a chain in which each waits for the one before as often as it can."""
+    names = numbered("T", roots)
+    tasks = [root(name, {"throw": "x"}) for name in names]
+    layer = [names[at : at + MOST_ARGUMENTS] for at in range(0, roots, MOST_ARGUMENTS)]
+    if len(layer) > 1:
+        tasks += [joined(f"B{at}", some) for at, some in enumerate(layer)]
+        names = numbered("B", len(layer))
+    tasks.append(joined("A0", names))
+    tasks += [joined(f"A{at}", [f"A{at - 1}"] * MOST_ARGUMENTS) for at in range(1, links)]
+    return document(tasks, *claims)
+
+
+def one_by_one(tasks):
+    """A run of roots with one statement and of tasks that wait, in declared order."""
+    events = []
+    for task in tasks:
+        name = task["name"]
+        acts = ("begin", "step", "leave") if "body" in task else ("settle",)
+        events += [f"w1 {act} {name}\n" for act in acts]
+    return "".join(events)
+
+
+def with_run(given):
+    return {**given, "journal": one_by_one(given["tasks"])}
+
+
+def all_exceptions():
+    return throwing_chain(683, 338)
+
+
+def many_claims(count, groups=MOST_CLAIMS, line=16):
+    """Tasks in one long line of groups, and claims that each of some groups is settled before its last task."""
+    names = numbered("T", groups * line)
+    tasks = [root(names[0]), *(continuation(name, before) for before, name in zip(names, names[1:]))]
+    claims = [{"after": [names[at * line], names[at * line + line - 1]]} for at in reversed(range(groups))]
+    return document(tasks, *claims[:count])
+
+
+def long_line():
+    """A line of as many tasks as may be, and a claim that each of its runs refutes."""
+    names = numbered("T", MOST_TASKS)
+    tasks = [root(names[0]), *(continuation(name, before) for before, name in zip(names, names[1:]))]
+    return document(tasks, {"never": names[-1]})
+
+
+def small_objects(longest=16 << 20):
+    """Rows that are small objects, as many as fit."""
+    row = {"ends": [], "runs": True}
+    given = document([root("a")], {"never": "a"}, certificate=[{"rows": []}])
+    room = longest - len(text_of(given))
+    given["certificate"][0]["rows"] = [row] * (room // (len(text_of(row))))
+    return given
+
+
+def text_of(given):
+    return json.dumps(given, separators=(",", ":")) + "\n"
+
+
+@dataclasses.dataclass(frozen=True)
+class Hostile:
+    """A dear document: what is asked of it, what has to come of it, and what it may cost."""
+
+    name: str
+    words: tuple
+    make: object
+    exit: int
+    # how the answer begins
+    answer: str
+    # processor time, in plain readings of the document
+    readings: int
+    # memory, in bytes for each byte of the document and of the answer
+    bytes: int
+
+
+
+def ran(task):
+    """The claim that a task ends in no other way."""
+    return {"final": task, "in": ["RanToCompletion"]}
+
+
+# Each bound is some three times what a program takes that is compiled with checks and not proved.
+DEAR = (
+    Hostile("a claim over forks", ("analyse",), lambda: document(forks(), ran("X")), 1, "not found", 2_500, 8),
+    Hostile("claims over a long line", ("analyse",), lambda: many_claims(8), 0, '[{"rows":', 5_000, 16),
+    Hostile("claims over a long line", ("analyse", "--slim"), lambda: many_claims(16), 0, '[{"rows":', 300, 24),
+    Hostile("exceptions of all roots in a chain", ("run",), all_exceptions, 0, "complete\n", 350, 8),
+    Hostile("exceptions of all roots in a chain", ("audit",), lambda: with_run(all_exceptions()), 0, "run complete\n", 100, 24),
+    Hostile("a run to be shortened", ("refute",), lambda: throwing_chain(60, 128, ran("A127")), 1, "{", 150, 24),
+    Hostile("a long run to be shortened", ("refute",), long_line, 1, "{", 250, 24),
+    Hostile("small objects", ("check",), small_objects, 1, "refused: shape claim 1\n", 5, 40),
+)
+
+
+# ---- what an answer costs
+
+
+@dataclasses.dataclass(frozen=True)
+class Cost:
+    """How a call ended, how the answer begins, and what it took: seconds of a processor, and bytes."""
+
+    exit: int
+    answer: str
+    seconds: float
+    memory: int
+    written: int
+
+
+def reading_of(text):
+    """What a plain reading of the text takes, in seconds of a processor."""
+    times, started = 0, time.process_time()
+    while time.process_time() - started < LEAST_READING:
+        json.loads(text)
+        times += 1
+    return (time.process_time() - started) / times
+
+
+def limiting(*limits):
+    """What sets limits in a child: pairs of a kind and the most."""
+
+    def limit():
+        for kind, most in limits:
+            resource.setrlimit(kind, (most, most))
+
+    return limit
+
+
+def cost_of(program, words, text, seconds):
+    """Calls the program, which is stopped after so many seconds of a processor."""
+    with tempfile.TemporaryFile() as given, tempfile.TemporaryFile() as out:
+        given.write(text.encode())
+        given.seek(0)
+        limit = limiting((resource.RLIMIT_CPU, int(seconds) + 1))
+        child = subprocess.Popen([program, *words], stdin=given, stdout=out, stderr=subprocess.DEVNULL, preexec_fn=limit)
+        _, status, used = os.wait4(child.pid, 0)
+        child.returncode = os.waitstatus_to_exitcode(status)
+        written = os.fstat(out.fileno()).st_size
+        out.seek(0)
+        start = out.read(80).decode(errors="replace")
+    return Cost(child.returncode, start, used.ru_utime + used.ru_stime, used.ru_maxrss << 10, written)
+
+
+def dearness(program, hostile):
+    """What is wrong with the cost of an answer; None where nothing is."""
+    text = text_of(hostile.make())
+    most = hostile.readings * reading_of(text)
+    cost = cost_of(program, hostile.words, text, PATIENCE * most)
+    room = BASE + hostile.bytes * (len(text) + cost.written)
+    if cost.exit != hostile.exit or not cost.answer.startswith(hostile.answer):
+        return f"ends with {cost.exit} after {cost.seconds:.2f} s and answers {cost.answer[:40]!r}"
+    if cost.seconds > most:
+        return f"takes {cost.seconds:.2f} s, and not {most:.2f} s as {hostile.readings} plain readings"
+    if cost.memory > room:
+        return f"takes {cost.memory >> 20} MB, and not {room >> 20} MB"
+    return None
+
+
+# ---- a small stack, a full file, memory that isn't the program's
+
+
+# what docs/OUTPUT.md says that the program needs at most, in kilobytes
+STACK = 1_024
+
+
+def tree_of(splits):
+    """A tree with as many splits on each path, all by how the only task ends."""
+    made = {"rows": [{"ends": ["RanToCompletion"], "runs": True}]}
+    for _ in range(splits):
+        made = {"split_end": "R", "ran": made, "canceled": made, "faulted": made}
+    return made
+
+
+def deep_tree():
+    return document([root("R")], {"final": "R", "in": ["RanToCompletion"]}, certificate=[tree_of(6)])
+
+
+def nested_bodies():
+    body = ["return"]
+    for _ in range(6):
+        body = [{"if": "i", "then": body}]
+    return document([root("R", *body)], inputs=["i"])
+
+
+# small documents that use much of the stack
+SHORT = {
+    "no task": text_of(document([])),
+    "a tree with six splits": text_of(deep_tree()),
+    "a claim that six splits show": text_of(staged(Stages(20, splits=6, holds=True))),
+    "nested bodies": text_of(nested_bodies()),
+    "nested arrays": "[" * 127 + "]" * 127,
+    "a chain that carries exceptions": text_of(throwing_chain(8, 24)),
+}
+
+
+def ended(program, words, text, *limits):
+    """How a call ends under limits, and what it writes into a file."""
+    with tempfile.TemporaryFile() as given, tempfile.TemporaryFile() as out:
+        given.write(text.encode())
+        given.seek(0)
+        how = {"stdin": given, "stdout": out, "stderr": subprocess.DEVNULL, "preexec_fn": limiting(*limits)}
+        called = subprocess.run([program, *words], check=False, **how)
+        out.seek(0)
+        return called.returncode, out.read()
+
+
+# what a command is asked besides: the deepest search, and few tries
+BESIDES = {"analyse": ("--depth", "6"), "refute": ("--runs", "100")}
+
+
+def asked(command):
+    return (command, *BESIDES.get(command, ()))
+
+
+def overflow(program, command, name):
+    """What is wrong where a command answers with a small stack; None where nothing is."""
+    wanted = ended(program, asked(command), SHORT[name])
+    got = ended(program, asked(command), SHORT[name], (resource.RLIMIT_STACK, STACK << 10))
+    # (what several workers run comes in another order)
+    is_well = got[0] == wanted[0] if command == "run" else got == wanted
+    return None if is_well else f"with a stack of {STACK} KB it ends with {got[0]}, and with more of it with {wanted[0]}"
+
+
+def unwritten(program, command):
+    """What is wrong where what a command writes may not grow; None where nothing is."""
+    got = ended(program, asked(command), SHORT["no task"], (resource.RLIMIT_FSIZE, 0))
+    return None if got == (DEVICE, b"") else f"it ends with {got[0]}, and not with {DEVICE}"
+
+
+# how many calls of each command valgrind watches, and the exit status by which it says that it found something
+WATCHED, FOUND = 10, 99
+VALGRIND = ("valgrind", "--quiet", "--leak-check=no", f"--error-exitcode={FOUND}")
+# how many calls are watched side by side
+LANES = 2
+
+
+def has_valgrind():
+    """Whether valgrind is there, or can be installed."""
+    if not shutil.which("valgrind") and shutil.which("apt-get") and os.geteuid() == 0:
+        quiet = {"stdin": subprocess.DEVNULL, "stdout": subprocess.DEVNULL, "stderr": subprocess.DEVNULL}
+        install = ["apt-get", "install", "-y", "-q", "--no-install-recommends", "valgrind"]
+        subprocess.run(install, env={**os.environ, "DEBIAN_FRONTEND": "noninteractive"}, timeout=300, check=False, **quiet)
+    return shutil.which("valgrind") is not None
+
+
+def small_examples():
+    """The shortest examples of the repository."""
+    return sorted((TOP / "examples").glob("*.json"), key=lambda file: (file.stat().st_size, file.name))[:WATCHED]
+
+
+def strays(program, command, file):
+    """What valgrind finds in a call; None where it finds nothing and the answer is as without it."""
+    words = ("refute", "--runs", "2") if command == "refute" else (command,)
+    text = file.read_text(encoding="utf-8")
+    with tempfile.TemporaryFile() as said:
+        how = {"input": text, "stdout": subprocess.PIPE, "stderr": said, "text": True, "check": False}
+        watched = subprocess.run([*VALGRIND, program, *words], **how)
+        said.seek(0)
+        if watched.returncode == FOUND:
+            return f"{file.name}: valgrind finds {said.read()[:300].decode(errors='replace')}"
+    got, wanted = (watched.returncode, watched.stdout), ended(program, words, text)
+    # (runs by threads differ)
+    same = got[0] == wanted[0] if command == "run" else got == (wanted[0], wanted[1].decode())
+    return None if same else f"{file.name}: under valgrind it answers {got}"
+
+
+# ---- what is tested
+
+
+def costs(program):
+    for hostile in DEAR:
+        yield f"cost of {hostile.words[0]}, {hostile.name}", dearness(program, hostile)
+
+
+def stacks(program):
+    for command in COMMANDS:
+        for name in SHORT:
+            yield f"stack of {command}, {name}", overflow(program, command, name)
+
+
+def fulls(_program):
+    for command in COMMANDS:
+        yield f"full file of {command}", unwritten(PROGRAM, command)
+
+
+def memchecks(program):
+    calls = [(command, file) for command in COMMANDS for file in small_examples()]
+    with ThreadPoolExecutor(LANES) as pool:
+        found = pool.map(lambda call: strays(program, *call), calls)
+        yield from ((f"memcheck of {command}, {file.name}", why) for (command, file), why in zip(calls, found))
+
+
+WORDS = {"cost": costs, "stack": stacks, "full": fulls, "memcheck": memchecks}
+
+
+def main():
+    parser = argparse.ArgumentParser(description=__doc__, formatter_class=argparse.RawDescriptionHelpFormatter)
+    parser.add_argument("--program", type=pathlib.Path, default=PROGRAM)
+    parser.add_argument("words", nargs="*", metavar="WORD")
+    given = parser.parse_args()
+    if not set(given.words) <= set(WORDS):
+        parser.error(f"the words are {', '.join(WORDS)}")
+    passed = failed = skipped = 0
+    for word in given.words or WORDS:
+        if word == "memcheck" and not has_valgrind():
+            print("memcheck: valgrind isn't installed and can't be")
+            skipped += 1
+            continue
+        for name, why in WORDS[word](given.program.resolve()):
+            passed, failed = passed + (why is None), failed + (why is not None)
+            if why:
+                print(f"{name}: {why}", flush=True)
+    print(f"{passed} passed, {failed} failed" + (f", {skipped} skipped" if skipped else ""))
+    return 1 if failed else 0
+
+
+if __name__ == "__main__":
+    sys.exit(main())
