@@ -1,2 +1,4 @@
+pub mod AskLemmas
+pub mod CrewLemmas
 pub mod ReceiptLemmas
 pub mod RunLemmas

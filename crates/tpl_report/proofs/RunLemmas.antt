@@ -15,9 +15,10 @@ use Rattle.tpl_runtime.specs.Reports.{each_below}
 use Rattle.tpl_commands.specs.declared.exit.Exit.{Exit}
 use Rattle.tpl_commands.specs.declared.exit.Exit.TheVariants.{Success, Failure, Usage, Unreadable, Memory, Device, Fault}
 use Rattle.tpl_commands.specs.Checking.{IsAccepted, IsRefused, IsRefusal}
+use Rattle.tpl_report.specs.Made.{IsMadeBy, requests_of}
 use Rattle.tpl_report.specs.Reported.{IsReport}
 use Rattle.tpl_commands.specs.Responding.{Puts, Writes}
-use Rattle.tpl_report.specs.Running.{report_exit, IsReported, RunsFrom, RunsWith, Runs, Completes}
+use Rattle.tpl_report.specs.Running.{report_exit, IsReported, RunsFrom, RunsWith, Runs, Completes, ServesRun}
 use Rattle.tpl_reader.specs.Starting.{inputs_of}
 
 -- what holds of each number holds of what it is the number of
@@ -32,25 +33,27 @@ length-each_below f (suc n) = omega (arith, length-append (each_below f n) (f n 
 -- a report of a run can be written
 pub report_is_of : (n : Named) (inputs : List Bool) (r : ReportValue) → IsReport n inputs r → All (CanSpell n.graph) r.journal → IsReportOf n r
 report_is_of n inputs r is events = record {
-  statuses = ap length is.statuses ∙ length-each_below _ (length n.graph.tasks);
-  carried = ap length is.carried ∙ length-each_below _ (length n.graph.tasks);
+  statuses = ap length is.told.statuses ∙ length-each_below _ (length n.graph.tasks);
+  carried = ap length is.told.carried ∙ length-each_below _ (length n.graph.tasks);
   events = events;
 }
 
 -- the exit of a report, with its text
-report_runs : (doc : DocumentValue) (inputs : List Bool) (complete : Bool) (text : List ℕ) → IsReported doc inputs complete text → RunsWith doc inputs (report_exit complete) text
-report_runs doc inputs true text is = is
-report_runs doc inputs false text is = inl is
+report_runs : (doc : DocumentValue) (inputs : List Bool) (workers : ℕ) (complete : Bool) (text : List ℕ) → IsReported doc inputs workers complete text → RunsWith doc inputs workers (report_exit complete) text
+report_runs doc inputs workers true text is = is
+report_runs doc inputs workers false text is = inl is
 
-pub reported : {W : Type 0} (doc : DocumentValue) (inputs : List Bool) (r : ReportValue) (contents : W → Option (List ℕ)) (old new : Counting W) (result : Exit) → IsAccepted doc → IsReport doc.graph inputs r
-    → Puts contents old new (report_exit r.complete) (ReportText doc.graph r) result → Runs doc (Some inputs) contents old new result
-reported doc inputs r contents old new result accepted is puts = record {
+pub reported : {W : Type 0} (doc : DocumentValue) (inputs : List Bool) (workers : ℕ) (r : ReportValue) (contents : W → Option (List ℕ)) (old new : Counting W) (result : Exit) → IsAccepted doc → IsReport doc.graph inputs r
+    → IsMadeBy doc.graph.graph inputs workers (requests_of doc.start) r.journal → Puts contents old new (report_exit r.complete) (ReportText doc.graph r) result
+    → Runs doc (Some inputs) workers contents old new result
+reported doc inputs workers r contents old new result accepted is made puts = record {
   exit = report_exit r.complete;
   text = ReportText doc.graph r;
-  runs = report_runs doc inputs r.complete (ReportText doc.graph r) (record {
+  runs = report_runs doc inputs workers r.complete (ReportText doc.graph r) (record {
     accepted = accepted;
     report = r;
     of_run = is;
+    made = made;
     hold = accepted.hold inputs (reverse r.journal) is.run;
     says = refl;
     written = refl;
@@ -59,17 +62,17 @@ reported doc inputs r contents old new result accepted is puts = record {
 }
 
 -- the line for a certificate that is refused
-pub refused : {W : Type 0} (doc : DocumentValue) (inputs : List Bool) (fault : CertFault) (contents : W → Option (List ℕ)) (old new : Counting W) (result : Exit) (r : Result Answer AllocError) → IsRefused doc fault
+pub refused : {W : Type 0} (doc : DocumentValue) (inputs : List Bool) (workers : ℕ) (fault : CertFault) (contents : W → Option (List ℕ)) (old new : Counting W) (result : Exit) (r : Result Answer AllocError) → IsRefused doc fault
     → IfOk r (λ given. (given.exit ≡ Failure) × IsRefusal doc.graph.names.tasks fault (string_bytes given.text))
     → MatchResult r (λ given. Puts contents old new given.exit (string_bytes given.text) result) (λ _. Puts contents old new Memory (codes "out of memory\n") result)
-    → Runs doc (Some inputs) contents old new result
-refused doc inputs fault contents old new result (Ok given) wrong is puts = record {
+    → Runs doc (Some inputs) workers contents old new result
+refused doc inputs workers fault contents old new result (Ok given) wrong is puts = record {
   exit = Failure;
   text = string_bytes given.text;
   runs = inr (fault, wrong, is.1);
   puts = subst (λ (e : Exit). Puts contents old new e (string_bytes given.text) result) is.0 puts;
 }
-refused doc inputs fault contents old new result (Err e) wrong is puts = record {
+refused doc inputs workers fault contents old new result (Err e) wrong is puts = record {
   exit = Memory;
   text = codes "out of memory\n";
   runs = refl;
@@ -78,36 +81,44 @@ refused doc inputs fault contents old new result (Err e) wrong is puts = record 
 
 -- what a run's end says of what was written
 
-success_completes : {W : Type 0} (doc : DocumentValue) (inputs : Option (List Bool)) (contents : W → Option (List ℕ)) (old new : Counting W) (exit : Exit) (text : List ℕ) → inputs_of doc ≡ inputs → exit ≡ Success → RunsFrom doc inputs exit text → Writes contents old new text → Completes doc contents old new
-success_completes doc None contents old new exit text known e runs writes = let f = sym e ∙ runs.0 in absurd cc
-success_completes doc (Some inputs) contents old new Success text known e runs writes = record { inputs = inputs; known = known; text = text; reported = runs; writes = writes }
-success_completes doc (Some inputs) contents old new Failure text known e runs writes = absurd cc
-success_completes doc (Some inputs) contents old new Usage text known e runs writes = absurd cc
-success_completes doc (Some inputs) contents old new Unreadable text known e runs writes = absurd cc
-success_completes doc (Some inputs) contents old new Memory text known e runs writes = absurd cc
-success_completes doc (Some inputs) contents old new Device text known e runs writes = absurd cc
-success_completes doc (Some inputs) contents old new Fault text known e runs writes = absurd cc
+success_completes : {W : Type 0} (doc : DocumentValue) (inputs : Option (List Bool)) (workers : ℕ) (contents : W → Option (List ℕ)) (old new : Counting W) (exit : Exit) (text : List ℕ) → inputs_of doc ≡ inputs → exit ≡ Success → RunsFrom doc inputs workers exit text → Writes contents old new text → Completes doc workers contents old new
+success_completes doc None workers contents old new exit text known e runs writes = let f = sym e ∙ runs.0 in absurd cc
+success_completes doc (Some inputs) workers contents old new Success text known e runs writes = record { inputs = inputs; known = known; text = text; reported = runs; writes = writes }
+success_completes doc (Some inputs) workers contents old new Failure text known e runs writes = absurd cc
+success_completes doc (Some inputs) workers contents old new Usage text known e runs writes = absurd cc
+success_completes doc (Some inputs) workers contents old new Unreadable text known e runs writes = absurd cc
+success_completes doc (Some inputs) workers contents old new Memory text known e runs writes = absurd cc
+success_completes doc (Some inputs) workers contents old new Device text known e runs writes = absurd cc
+success_completes doc (Some inputs) workers contents old new Fault text known e runs writes = absurd cc
 
-pub run_completes : {W : Type 0} (doc : DocumentValue) (inputs : Option (List Bool)) (contents : W → Option (List ℕ)) (old new : Counting W) (result : Exit) → inputs_of doc ≡ inputs → Runs doc inputs contents old new result → result ≡ Success → Completes doc contents old new
-run_completes doc inputs contents old new result known r e = go r.puts
+pub run_completes : {W : Type 0} (doc : DocumentValue) (inputs : Option (List Bool)) (workers : ℕ) (contents : W → Option (List ℕ)) (old new : Counting W) (result : Exit) → inputs_of doc ≡ inputs → Runs doc inputs workers contents old new result → result ≡ Success → Completes doc workers contents old new
+run_completes doc inputs workers contents old new result known r e = go r.puts
   where
-    go : Puts contents old new r.exit r.text result → Completes doc contents old new
-    go (inl w) = success_completes doc inputs contents old new r.exit r.text known (sym w.0 ∙ e) r.runs w.1
+    go : Puts contents old new r.exit r.text result → Completes doc workers contents old new
+    go (inl w) = success_completes doc inputs workers contents old new r.exit r.text known (sym w.0 ∙ e) r.runs w.1
     go (inr f) = let d = sym e ∙ f.0 in absurd cc
 
-memory_writes : {W : Type 0} (doc : DocumentValue) (inputs : Option (List Bool)) (contents : W → Option (List ℕ)) (old new : Counting W) (exit : Exit) (text : List ℕ) → exit ≡ Memory → RunsFrom doc inputs exit text → Writes contents old new text → Writes contents old new (codes "out of memory\n")
-memory_writes doc None contents old new exit text e runs writes = let f = sym e ∙ runs.0 in absurd cc
-memory_writes doc (Some inputs) contents old new Success text e runs writes = absurd cc
-memory_writes doc (Some inputs) contents old new Failure text e runs writes = absurd cc
-memory_writes doc (Some inputs) contents old new Usage text e runs writes = absurd cc
-memory_writes doc (Some inputs) contents old new Unreadable text e runs writes = absurd cc
-memory_writes doc (Some inputs) contents old new Memory text e runs writes = subst (λ (t : List ℕ). Writes contents old new t) runs writes
-memory_writes doc (Some inputs) contents old new Device text e runs writes = absurd cc
-memory_writes doc (Some inputs) contents old new Fault text e runs writes = absurd cc
+memory_writes : {W : Type 0} (doc : DocumentValue) (inputs : Option (List Bool)) (workers : ℕ) (contents : W → Option (List ℕ)) (old new : Counting W) (exit : Exit) (text : List ℕ) → exit ≡ Memory → RunsFrom doc inputs workers exit text → Writes contents old new text → Writes contents old new (codes "out of memory\n")
+memory_writes doc None workers contents old new exit text e runs writes = let f = sym e ∙ runs.0 in absurd cc
+memory_writes doc (Some inputs) workers contents old new Success text e runs writes = absurd cc
+memory_writes doc (Some inputs) workers contents old new Failure text e runs writes = absurd cc
+memory_writes doc (Some inputs) workers contents old new Usage text e runs writes = absurd cc
+memory_writes doc (Some inputs) workers contents old new Unreadable text e runs writes = absurd cc
+memory_writes doc (Some inputs) workers contents old new Memory text e runs writes = subst (λ (t : List ℕ). Writes contents old new t) runs writes
+memory_writes doc (Some inputs) workers contents old new Device text e runs writes = absurd cc
+memory_writes doc (Some inputs) workers contents old new Fault text e runs writes = absurd cc
 
-pub run_starves : {W : Type 0} (doc : DocumentValue) (inputs : Option (List Bool)) (contents : W → Option (List ℕ)) (old new : Counting W) (result : Exit) → Runs doc inputs contents old new result → result ≡ Memory → Writes contents old new (codes "out of memory\n")
-run_starves doc inputs contents old new result r e = go r.puts
+pub run_starves : {W : Type 0} (doc : DocumentValue) (inputs : Option (List Bool)) (workers : ℕ) (contents : W → Option (List ℕ)) (old new : Counting W) (result : Exit) → Runs doc inputs workers contents old new result → result ≡ Memory → Writes contents old new (codes "out of memory\n")
+run_starves doc inputs workers contents old new result r e = go r.puts
   where
     go : Puts contents old new r.exit r.text result → Writes contents old new (codes "out of memory\n")
-    go (inl w) = memory_writes doc inputs contents old new r.exit r.text (sym w.0 ∙ e) r.runs w.1
+    go (inl w) = memory_writes doc inputs workers contents old new r.exit r.text (sym w.0 ∙ e) r.runs w.1
     go (inr f) = let d = sym e ∙ f.0 in absurd cc
+
+-- what a run leaves is what `run` says
+pub serves : {W : Type 0} (doc : DocumentValue) (inputs : Option (List Bool)) (workers : ℕ) (contents : W → Option (List ℕ)) (old new : Counting W) (result : Exit) → inputs_of doc ≡ inputs → Runs doc inputs workers contents old new result → ServesRun doc workers contents old new result
+serves doc inputs workers contents old new result known r = record {
+  runs = subst (λ i. Runs doc i workers contents old new result) (sym known) r;
+  complete = run_completes doc inputs workers contents old new result known r;
+  memory = run_starves doc inputs workers contents old new result r;
+}

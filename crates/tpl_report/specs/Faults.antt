@@ -30,7 +30,7 @@ abbrev pub run_stop : RunWhy → Stop
 run_stop BadCount = Fault fault.BadCount
 run_stop (Seat w why) = seat_stop why
 run_stop Spawn = Fault fault.Spawn
-run_stop NoRunMemory = NoMemory
+run_stop (NoRunMemory w) = NoMemory
 
 -- a session wasn't closed well
 abbrev pub close_stop : CloseWhy → Stop

@@ -1,3 +1,4 @@
+pub mod Made
 pub mod Reported
 pub mod Running
 pub mod RunTexts

@@ -1,11 +1,11 @@
 -- What a report says of a run.
-use Rattle.std.specs.Prelude.{◌≡◌, ◌↔◌, ℕ, Bool, true, List, length, map, reverse}
-use Rattle.tpl_model.specs.Rules.{Run, Complete, status, label, carried}
+use Rattle.std.specs.Prelude.{◌≡◌, ℕ, Bool, List, length, map, reverse}
+use Rattle.tpl_model.specs.Rules.{Run}
 use Rattle.tpl_draft.specs.Named.{Named}
 use Rattle.tpl_report_text.specs.Carried.{numbers, numbers_of}
 use Rattle.tpl_report_text.specs.ReportText.{ReportValue}
 use Rattle.tpl_hall.specs.Answers.{answers}
-use Rattle.tpl_runtime.specs.Reports.{each_below, those_below, is_unseen, AreOnce}
+use Rattle.tpl_runtime.specs.Reports.{AreOnce, ToldView, IsTold}
 use Rattle.tpl_runtime.specs.declared.closing.Report.{Report}
 
 -- the values of a session's report that are written
@@ -21,15 +21,15 @@ told r = record {
   journal = r.journal.items;
 }
 
+-- what a report says of the tasks
+abbrev pub tasks_of : ReportValue → ToldView
+tasks_of r = record { statuses = r.statuses; labels = r.labels; carried = r.carried; unseen = r.unseen; complete = r.complete }
+
 -- The report is of a run of this graph with these inputs: its journal is one, the first event first, and
 -- the rest is true of it. Each work statement was called, as the journal says, or its item came back.
 pub record IsReport (n : Named) (inputs : List Bool) (r : ReportValue) : Type 0 where
   pub run : Run n.graph inputs (reverse r.journal)
-  pub completeness : (r.complete ≡ true) ↔ Complete n.graph inputs (reverse r.journal)
-  pub statuses : r.statuses ≡ each_below (status n.graph inputs (reverse r.journal)) (length n.graph.tasks)
-  pub labels : r.labels ≡ each_below (label n.graph inputs (reverse r.journal)) (length n.graph.tasks)
-  pub carried : r.carried ≡ each_below (carried n.graph inputs (reverse r.journal)) (length n.graph.tasks)
-  pub unseen : r.unseen ≡ those_below (is_unseen n.graph inputs (reverse r.journal)) (length n.graph.tasks)
+  pub told : IsTold n.graph inputs (reverse r.journal) (tasks_of r)
   pub called : r.called ≡ length (answers n.graph inputs (reverse r.journal))
   pub back : List ℕ
   pub returned : r.returned ≡ length back

@@ -10,6 +10,7 @@ use Rattle.tpl_commands.specs.declared.exit.Exit.{Exit}
 use Rattle.tpl_commands.specs.declared.exit.Exit.TheVariants.{Success, Failure, Usage, Unreadable, Memory, Device, Fault}
 use Rattle.tpl_report.specs.declared.fault.RunFault.{RunFault}
 use Rattle.tpl_commands.specs.Checking.{IsAccepted, IsRefused, IsRefusal}
+use Rattle.tpl_report.specs.Made.{IsMadeBy, requests_of}
 use Rattle.tpl_report.specs.Reported.{IsReport}
 use Rattle.tpl_commands.specs.Responding.{Puts, Writes}
 use Rattle.tpl_report.specs.RunTexts.{fault_line}
@@ -21,12 +22,13 @@ abbrev pub report_exit : Bool → Exit
 report_exit true = Success
 report_exit false = Failure
 
--- The certificate is accepted, and the text is that of a report of a run with these inputs, in which each
--- claim of the document holds.
-pub record IsReported (doc : DocumentValue) (inputs : List Bool) (complete : Bool) (text : List ℕ) : Type 0 where
+-- The certificate is accepted, and the text is that of a report of a run with these inputs by this many
+-- workers, in which each token of `start` was requested and each claim of the document holds.
+pub record IsReported (doc : DocumentValue) (inputs : List Bool) (workers : ℕ) (complete : Bool) (text : List ℕ) : Type 0 where
   pub accepted : IsAccepted doc
   pub report : ReportValue
   pub of_run : IsReport doc.graph inputs report
+  pub made : IsMadeBy doc.graph.graph inputs workers (requests_of doc.start) report.journal
   pub hold : Each (λ claim. Holds doc.graph.graph claim inputs (reverse report.journal)) doc.claims
   pub says : report.complete ≡ complete
   pub written : text ≡ ReportText doc.graph report
@@ -35,32 +37,38 @@ pub record IsReported (doc : DocumentValue) (inputs : List Bool) (complete : Boo
 abbrev pub IsCheckRefusal : DocumentValue → List ℕ → Type 0
 IsCheckRefusal doc text = (fault : CertFault) × IsRefused doc fault × IsRefusal doc.graph.names.tasks fault text
 
--- the exits and texts of a run with these inputs
-abbrev pub RunsWith : DocumentValue → List Bool → Exit → List ℕ → Type 0
-RunsWith doc inputs Success text = IsReported doc inputs true text
-RunsWith doc inputs Failure text = IsReported doc inputs false text ⊎ IsCheckRefusal doc text
-RunsWith doc inputs Usage text = ⊥
-RunsWith doc inputs Unreadable text = ⊥
-RunsWith doc inputs Memory text = text ≡ codes "out of memory\n"
-RunsWith doc inputs Device text = ⊥
-RunsWith doc inputs Fault text = (fault : RunFault) × (text ≡ fault_line fault)
+-- the exits and texts of a run with these inputs by this many workers
+abbrev pub RunsWith : DocumentValue → List Bool → ℕ → Exit → List ℕ → Type 0
+RunsWith doc inputs workers Success text = IsReported doc inputs workers true text
+RunsWith doc inputs workers Failure text = IsReported doc inputs workers false text ⊎ IsCheckRefusal doc text
+RunsWith doc inputs workers Usage text = ⊥
+RunsWith doc inputs workers Unreadable text = ⊥
+RunsWith doc inputs workers Memory text = text ≡ codes "out of memory\n"
+RunsWith doc inputs workers Device text = ⊥
+RunsWith doc inputs workers Fault text = (fault : RunFault) × (text ≡ fault_line fault)
 
 -- the exits and texts of a run, where the inputs are known and where they aren't
-abbrev pub RunsFrom : DocumentValue → Option (List Bool) → Exit → List ℕ → Type 0
-RunsFrom doc None exit text = (exit ≡ Unreadable) × (text ≡ unreadable_start (codes "Missing"))
-RunsFrom doc (Some inputs) exit text = RunsWith doc inputs exit text
+abbrev pub RunsFrom : DocumentValue → Option (List Bool) → ℕ → Exit → List ℕ → Type 0
+RunsFrom doc None workers exit text = (exit ≡ Unreadable) × (text ≡ unreadable_start (codes "Missing"))
+RunsFrom doc (Some inputs) workers exit text = RunsWith doc inputs workers exit text
 
 -- the text was written whole, and so the run ends; or a write failed
-pub record Runs {W : Type 0} (doc : DocumentValue) (inputs : Option (List Bool)) (contents : W → Option (List ℕ)) (old new : Counting W) (result : Exit) : Type 0 where
+pub record Runs {W : Type 0} (doc : DocumentValue) (inputs : Option (List Bool)) (workers : ℕ) (contents : W → Option (List ℕ)) (old new : Counting W) (result : Exit) : Type 0 where
   pub exit : Exit
   pub text : List ℕ
-  pub runs : RunsFrom doc inputs exit text
+  pub runs : RunsFrom doc inputs workers exit text
   pub puts : Puts contents old new exit text result
 
--- the report that was written says that the run is complete
-pub record Completes {W : Type 0} (doc : DocumentValue) (contents : W → Option (List ℕ)) (old new : Counting W) : Type 0 where
+-- the report that was written is of a run by this many workers, and says that it is complete
+pub record Completes {W : Type 0} (doc : DocumentValue) (workers : ℕ) (contents : W → Option (List ℕ)) (old new : Counting W) : Type 0 where
   pub inputs : List Bool
   pub known : inputs_of doc ≡ Some inputs
   pub text : List ℕ
-  pub reported : IsReported doc inputs true text
+  pub reported : IsReported doc inputs workers true text
   pub writes : Writes contents old new text
+
+-- what `run` does with a document, by this many workers: success says that the report that was written is of a complete run, and the line for want of memory stands alone
+pub record ServesRun {W : Type 0} (doc : DocumentValue) (workers : ℕ) (contents : W → Option (List ℕ)) (old new : Counting W) (result : Exit) : Type 0 where
+  pub runs : Runs doc (inputs_of doc) workers contents old new result
+  pub complete : result ≡ Success → Completes doc workers contents old new
+  pub memory : result ≡ Memory → Writes contents old new (codes "out of memory\n")

@@ -104,7 +104,7 @@ pub(crate) fn run_stop(why: RunWhy) -> Stop
         RunWhy::BadCount => Stop::Fault(RunFault::BadCount),
         RunWhy::Seat(_, fault) => seat_stop(fault),
         RunWhy::Spawn => Stop::Fault(RunFault::Spawn),
-        RunWhy::Memory => Stop::Memory,
+        RunWhy::Memory(_) => Stop::Memory,
     }
 }
 

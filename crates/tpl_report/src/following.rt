@@ -1,7 +1,7 @@
 //! Who follows a run while it is made.
 
 ghost use Rattle.std.specs.Prelude.{◌≡◌, IfOk, map};
-ghost use Rattle.tpl_runtime.specs.Workers.{workers as first_workers};
+ghost use Rattle.tpl_runtime.specs.Workers.{workers as first_workers, AllWorked};
 
 use std::alloc::Global;
 use std::sync::Wait;
@@ -57,6 +57,7 @@ fn run_seen<'g, R: Threads + Wait + Sync, K: Drop + Send, W: Item<K> + Send, F: 
     requires { pass.queue ≡ session.now.queue }
     ensures pass { IfOk result (λ r. r.1.queue ≡ session.now.queue) }
     ensures workers { IfOk result (λ r. map (λ d. d.0.actor) r.0.items ≡ first_workers workers) }
+    ensures worked { IfOk result (λ r. AllWorked session.now r.0.items) }
 {
     thread::scope(
         thread::scope_env(),
@@ -66,6 +67,7 @@ fn run_seen<'g, R: Threads + Wait + Sync, K: Drop + Send, W: Item<K> + Send, F: 
             ensures pass { IfOk result (λ r. r.1.queue ≡ session.entry.now.queue) }
             ensures workers { IfOk result (λ r. map (λ d. d.0.actor) r.0.items ≡ first_workers
                 workers) }
+            ensures worked { IfOk result (λ r. AllWorked session.entry.now r.0.items) }
         {
             start(scope, follower, watcher);
             let done = session.run(rt, alloc, pass, workers);
@@ -93,6 +95,7 @@ pub(crate) fn run_followed<
     ensures pass { IfOk result (λ r. r.1.queue ≡ session.now.queue) }
     ensures workers { IfOk result (λ r. map (λ d. d.0.actor) r.0.items ≡ first_workers
         crew.entry.workers) }
+    ensures worked { IfOk result (λ r. AllWorked session.now r.0.items) }
 {
     let Some(follower) = crew.follower else {
         return session.run(rt, alloc, pass, crew.workers);

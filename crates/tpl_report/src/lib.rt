@@ -3,6 +3,7 @@
 
 mod fault;
 mod following;
+mod requests;
 mod running;
 mod session;
 

@@ -1,7 +1,8 @@
 //! A document's run, from its items to a writer.
 
-ghost use Rattle.std.specs.Prelude.{◌≡◌, Some, IfErr, codes};
+ghost use Rattle.std.specs.Prelude.{◌≡◌, Some, map};
 ghost use Rattle.std.specs.List.{All};
+ghost use Rattle.tpl_draft.specs.Ids.{token_number};
 ghost use Rattle.tpl_graph.specs.Fits.{Fits};
 ghost use Rattle.tpl_model.specs.Graph.{is_token};
 ghost use Rattle.tpl_reader.specs.SeenDocument.{doc_of};
@@ -9,10 +10,10 @@ ghost use Rattle.tpl_report_text.specs.Carried.{said};
 ghost use Rattle.tpl_report_text.specs.ReportText.{IsReportOf, ReportText};
 ghost use Rattle.tpl_commands.specs.Checking.{IsAccepted};
 ghost use Rattle.tpl_commands.specs.Loading.{RequestsTokens};
-ghost use Rattle.tpl_commands.specs.Responding.{Puts, Writes};
+ghost use Rattle.tpl_commands.specs.Responding.{Puts};
+ghost use Rattle.tpl_report.specs.Made.{requests_of};
 ghost use Rattle.tpl_report.specs.Reported.{told};
-ghost use Rattle.tpl_report.specs.Running.{report_exit, Completes, Runs};
-ghost use Rattle.tpl_reader.specs.Starting.{inputs_of};
+ghost use Rattle.tpl_report.specs.Running.{report_exit, Runs, ServesRun};
 ghost use Rattle.tpl_words.specs.declared.ids.TokenId.{TokenId};
 
 use crate::fault::Stop;
@@ -33,7 +34,8 @@ use tpl_words::{Inputs, TokenId};
 /// The tokens that are requested first.
 fn requests(document: &Document) -> &[TokenId]
     requires { RequestsTokens (doc_of document.now) }
-    ensures { All (λ (k : TokenId). is_token document.now.graph.graph k.0) result.now }
+    ensures tokens { All (λ (k : TokenId). is_token document.now.graph.graph k.0) result.now }
+    ensures exact { map token_number result.now ≡ requests_of (doc_of document.now).start }
 {
     match &document.start {
         Some(start) => start.request.as_slice(),
@@ -96,7 +98,8 @@ fn run_with<R: Threads + Wait + Sync, K: Drop + Send, W: Item<K> + Send, O: Writ
 ) -> Exit
     requires accepted { IsAccepted (doc_of document.now) }
     requires tokens { RequestsTokens (doc_of document.now) }
-    ensures { Runs (doc_of document.now) (Some inputs) O.contents to.old to.new result }
+    ensures { Runs (doc_of document.now) (Some inputs) crew.entry.workers O.contents to.old to.new
+        result }
 {
     let graph = &document.graph;
     match report_on(rt, alloc, graph, inputs, requests(document), items, crew) {
@@ -118,7 +121,8 @@ fn check_and_run<R: Threads + Wait + Sync, K: Drop + Send, W: Item<K> + Send, O:
 ) -> Exit
     requires claims { All (Fits document.now.graph.graph) document.now.claims.items }
     requires tokens { RequestsTokens (doc_of document.now) }
-    ensures { Runs (doc_of document.now) (Some inputs) O.contents to.old to.new result }
+    ensures { Runs (doc_of document.now) (Some inputs) crew.entry.workers O.contents to.old to.new
+        result }
 {
     match check_document(document) {
         Ok(()) => run_with(rt, alloc, document, inputs, items, crew, to),
@@ -141,16 +145,7 @@ pub fn serve_run<R: Threads + Wait + Sync, K: Drop + Send, W: Item<K> + Send, O:
 ) -> Exit
     requires claims { All (Fits document.now.graph.graph) document.now.claims.items }
     requires tokens { RequestsTokens (doc_of document.now) }
-    ensures runs { let doc = doc_of document.now in
-        Runs doc (inputs_of doc) O.contents to.old to.new result }
-
-    // Success: the report that was written says that the run is complete, and each claim holds of it.
-    ensures complete { result ≡ Exit.Success
-        → Completes (doc_of document.now) O.contents to.old to.new }
-
-    // The line `out of memory` stands alone.
-    ensures memory { result ≡ Exit.Memory → Writes O.contents to.old to.new
-        (codes "out of memory\n") }
+    ensures { ServesRun (doc_of document.now) workers O.contents to.old to.new result }
 {
     let crew: Crew<'_, Nobody> = Crew {
         workers,
@@ -176,16 +171,7 @@ pub fn serve_run_followed<
 ) -> Exit
     requires claims { All (Fits document.now.graph.graph) document.now.claims.items }
     requires tokens { RequestsTokens (doc_of document.now) }
-    ensures runs { let doc = doc_of document.now in
-        Runs doc (inputs_of doc) O.contents to.old to.new result }
-
-    // Success: the report that was written says that the run is complete, and each claim holds of it.
-    ensures complete { result ≡ Exit.Success
-        → Completes (doc_of document.now) O.contents to.old to.new }
-
-    // The line for want of memory stands alone.
-    ensures memory { result ≡ Exit.Memory → Writes O.contents to.old to.new
-        (codes "out of memory\n") }
+    ensures { ServesRun (doc_of document.now) crew.entry.workers O.contents to.old to.new result }
 {
     match document.inputs() {
         Some(inputs) => check_and_run(rt, alloc, document, inputs, items, crew, to),

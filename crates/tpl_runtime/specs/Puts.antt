@@ -1,5 +1,5 @@
 -- Where the job of a task that is ready goes.
-use Rattle.std.specs.Prelude.{◌≡◌, ◌⊎◌, Bool, true, false, ◌∷◌, [], ◌++◌, slice_index_or, slice_set}
+use Rattle.std.specs.Prelude.{◌≡◌, ◌⊎◌, true, false, ◌∷◌, [], ◌++◌, slice_index_or, slice_set}
 use Rattle.tpl_words.specs.declared.ids.TaskId.{TaskId}
 use Rattle.tpl_words.specs.declared.ids.Worker.{Worker}
 use Rattle.tpl_words.specs.declared.status.Status.TheVariants.{WaitingToRun}

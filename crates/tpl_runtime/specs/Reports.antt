@@ -1,13 +1,26 @@
 -- What a session leaves.
-use Rattle.std.specs.Prelude.{◌≡◌, ◌⊎◌, ℕ, zero, suc, ◌+◌, ◌<◌, Bool, ◌&&◌, not, if◌then◌else◌, List, [], ◌∷◌, ◌++◌, count_by, length, map, reverse, nat_eq, is_some}
+use Rattle.std.specs.Prelude.{◌≡◌, ◌⊎◌, ◌↔◌, ℕ, zero, suc, ◌+◌, ◌<◌, Bool, true, ◌&&◌, not, if◌then◌else◌, List, [], ◌∷◌, ◌++◌, Option, All, count_by, length, map, reverse, nat_eq, is_some}
+use Rattle.tpl_words.specs.declared.status.Actor.{Actor}
+use Rattle.tpl_words.specs.declared.status.Label.{Label}
+use Rattle.tpl_words.specs.declared.status.Status.{Status}
+use Rattle.tpl_model.specs.Certificate.{Accepts, Tree}
+use Rattle.tpl_model.specs.Claims.{Claim, Holds}
 use Rattle.tpl_model.specs.declared.event.Event.{Event}
 use Rattle.tpl_model.specs.Graph.{TaskGraph}
-use Rattle.tpl_model.specs.Rules.{Run, label, seen}
+use Rattle.tpl_model.specs.Rules.{Run, Complete, carried, label, seen, status}
+use Rattle.tpl_laws.specs.Soundness.{Each}
+use Rattle.tpl_draft.specs.Ids.{task_number}
 use Rattle.tpl_draft.specs.Named.{Named}
 use Rattle.tpl_jobs.specs.declared.receipt.Receipt.{Receipt}
 use Rattle.tpl_hall.specs.Answers.{answers, shown}
+use Rattle.tpl_hall.specs.Closes.{AllOwn, AllLast}
+use Rattle.tpl_hall.specs.Lists.{IsSeat, all_seated, are_seated}
+use Rattle.tpl_hall.specs.Views.{SeatView}
 use Rattle.tpl_runtime.specs.declared.closing.CloseFault.{CloseFault}
-use Rattle.tpl_runtime.specs.declared.closing.CloseWhy.TheVariants.{Lost}
+use Rattle.tpl_runtime.specs.declared.closing.CloseWhy.{CloseWhy}
+use Rattle.tpl_runtime.specs.declared.closing.CloseWhy.TheVariants.{Lost, SeatsMissing}
+use Rattle.tpl_runtime.specs.declared.closing.Report.{Report}
+use Rattle.tpl_runtime.specs.declared.tables.Told.{Told}
 
 -- f of each number below n, in order
 abbrev pub each_below : {A : Type 0} → (ℕ → A) → ℕ → List A
@@ -33,6 +46,62 @@ pub record IsWhole {K : Type 0} (n : Named) (v : List Bool) (journal : List Even
   pub run : Run n.graph v (reverse journal)
   pub matched : map shown receipts ≡ answers n.graph v (reverse journal)
   pub once : AreOnce (length n.names.sites) (map (λ r. r.site.0) receipts) sites
+
+-- what is told of a run: of each task where it stands, what its own body threw, and whose exceptions it carries; the tasks whose exception nobody has observed; and whether the run is complete
+pub record ToldView : Type 0 where
+  pub statuses : List Status
+  pub labels : List (Option Label)
+  pub carried : List (List ℕ)
+  pub unseen : List ℕ
+  pub complete : Bool
+
+abbrev pub told_of : Told → ToldView
+told_of t = record {
+  statuses = t.statuses.items;
+  labels = t.labels.items;
+  carried = map (λ c. map task_number c.items) t.carried.items;
+  unseen = map task_number t.unseen.items;
+  complete = t.complete;
+}
+
+abbrev pub told_in : {K W : Type 0} → Report K W → ToldView
+told_in r = record {
+  statuses = r.statuses.items;
+  labels = r.labels.items;
+  carried = map (λ c. map task_number c.items) r.carried.items;
+  unseen = map task_number r.unseen.items;
+  complete = r.complete;
+}
+
+-- what is told is so, the newest event first
+pub record IsTold (g : TaskGraph) (v : List Bool) (h : List Event) (said : ToldView) : Type 0 where
+  pub statuses : said.statuses ≡ each_below (status g v h) (length g.tasks)
+  pub labels : said.labels ≡ each_below (label g v h) (length g.tasks)
+  pub carried : said.carried ≡ each_below (carried g v h) (length g.tasks)
+  pub unseen : said.unseen ≡ those_below (is_unseen g v h) (length g.tasks)
+  pub complete : (said.complete ≡ true) ↔ Complete g v h
+
+-- What a session of this graph with these inputs leaves where it is closed well: it has kept all, and each claim of a certificate that is accepted holds. The list of each seat that was handed in is what its actor did, what was last reported to it is true there, and nobody else did anything. What is told of the run is so.
+pub record IsClosed {K : Type 0} (n : Named) (v : List Bool) (handed : List SeatView) (journal : List Event) (receipts : List (Receipt K)) (sites : List ℕ) (said : ToldView) : Type 0 where
+  pub whole : IsWhole n v journal receipts sites
+  pub claims : (claims : List Claim) (certificate : List Tree) → Accepts n.graph claims certificate → Each (λ claim. Holds n.graph claim v (reverse journal)) claims
+  pub own : AllOwn handed journal
+  pub last : AllLast n.graph v handed journal
+  pub seats : All (λ e. IsSeat e.actor) journal
+  pub seated : all_seated journal (map (λ s. s.actor) handed) ≡ true
+  pub told : IsTold n.graph v (reverse journal) said
+
+-- the report is what a session leaves that is closed well
+abbrev pub ClosesWell : {K W : Type 0} → Named → List Bool → (W → ℕ) → List SeatView → Report K W → Type 0
+ClosesWell n v site handed r = IsClosed n v handed r.journal.items r.receipts.items (map site r.items.items) (told_in r)
+
+-- a close is refused for missing seats, where nothing was lost, exactly where there are not as many seats as were made
+abbrev pub MissesSeats : CloseWhy → (handed made : ℕ) → Type 0
+MissesSeats why handed made = (why ≡ Lost) ⊎ ((why ≡ SeatsMissing) ↔ (handed ≡ made → ⊥))
+
+-- there are as many seats as were made, and each actor that was seated has one
+abbrev pub AreAllSeats : List Actor → List SeatView → Type 0
+AreAllSeats made handed = (length handed ≡ length made) × (are_seated made (map (λ s. s.actor) handed) ≡ true)
 
 -- what comes back from a close that was refused: all that the session kept, but where it was lost before
 abbrev pub GivesBack : {K W : Type 0} → Named → List Bool → (W → ℕ) → CloseFault K W → Type 0

@@ -3,7 +3,13 @@ use Rattle.std.specs.Prelude.{◌≡◌, ℕ, Bool, true, false, List, length, O
 use Rattle.tpl_model.specs.Rules.{IsOutside}
 use Rattle.tpl_draft.specs.Named.{Named}
 use Rattle.tpl_machine.specs.Journal.{Journal}
-use Rattle.tpl_hall.specs.Moves.{Fits, HasRoom}
+use Rattle.atomic_table.specs.Seated.{TableId}
+use Rattle.tpl_words.specs.declared.ids.TokenId.{TokenId}
+use Rattle.tpl_model.specs.Graph.{TaskGraph}
+use Rattle.tpl_hall.specs.Growth.{Requests}
+use Rattle.tpl_hall.specs.Moves.{Fits, HasRoom, Moves, MatchAsked}
+use Rattle.tpl_hall.specs.Sights.{IsSeen}
+use Rattle.tpl_hall.specs.declared.sight.Sight.TheVariants.{Already as AlreadyRequested}
 use Rattle.tpl_hall.specs.Stays.{MayGoOn}
 use Rattle.tpl_hall.specs.Views.{SeatView}
 use Rattle.tpl_hall.specs.declared.sight.Asked.{Asked}
@@ -23,6 +29,24 @@ OnOver Wait over on = on
 -- what is so of a turn that ends a worker's work
 abbrev pub IfOver : {K W : Type 0} → Turn K W → (Ended → Type 0) → Type 0
 IfOver turn over = OnOver turn over (Unit {0})
+
+-- what is done in a section: the run and the seat's list grew by the same acts, nothing was reported to the seat, and the pass is still of the session's queue
+pub record Proceeds (queue passed : TableId) (seat seat' : SeatView) (j j' : Journal) : Type 0 where
+  pub pass : passed ≡ queue
+  pub moves : Moves seat seat' j j'
+  pub last : seat'.last ≡ seat.last
+
+-- what a worker does next in a section: it ends its work there only as stray, and then the session is halted
+pub record PlaysOn {K W : Type 0} (turn : Turn K W) (halted : Bool) (queue passed : TableId) (seat seat' : SeatView) (j j' : Journal) : Type 0 where
+  pub proceeds : Proceeds queue passed seat seat' j j'
+  pub over : IfOver turn (λ ended. (ended ≡ Stray) × (halted ≡ true))
+
+-- what a request leaves of the seat, by its answer: with a place the event is in a run and in its list, and nothing was reported to it; where the token was requested before, only this was reported to it; else it is as it was
+abbrev pub Asks : TaskGraph → List Bool → SeatView → SeatView → TokenId → Asked → Type 0
+Asks g v seat seat' k asked =
+    MatchAsked asked (λ n. Requests g v seat seat' k n × (seat'.last ≡ seat.last))
+    ((n : ℕ) × (seat' ≡ record seat { last = Some (n, AlreadyRequested k) }) × IsSeen g v seat.mine seat.last (AlreadyRequested k) n)
+    (seat' ≡ seat)
 
 -- the seat may ask for a token: it is outside, it fits the run, and it has room as long as the run can go on
 pub record MayAsk (j : Journal) (graph : Named) (v : List Bool) (seat : SeatView) : Type 0 where

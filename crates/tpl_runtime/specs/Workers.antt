@@ -1,11 +1,12 @@
 -- Workers in order.
-use Rattle.std.specs.Prelude.{ℕ, zero, suc, ◌+◌, Bool, List, [], ◌∷◌, ◌++◌, None, ◌≡◌, map, All}
+use Rattle.std.specs.Prelude.{ℕ, zero, suc, ◌+◌, ◌≤◌, Bool, List, [], ◌∷◌, ◌++◌, None, ◌≡◌, length, map, All}
 use Rattle.tpl_words.specs.declared.status.Actor.{Actor}
 use Rattle.tpl_words.specs.declared.status.Actor.TheVariants.{Worker}
 use Rattle.tpl_model.specs.Graph.{TaskGraph}
 use Rattle.tpl_hall.specs.declared.sight.Ended.{Ended}
 use Rattle.tpl_hall.specs.Stays.{Leaves}
 use Rattle.tpl_hall.specs.Views.{SeatView}
+use Rattle.tpl_runtime.specs.Views.{SessionView}
 use Rattle.tpl_runtime.specs.declared.run.RunWhy.{RunWhy}
 use Rattle.tpl_runtime.specs.declared.run.RunWhy.TheVariants.{BadCount, Seat, Spawn, Memory}
 
@@ -35,9 +36,19 @@ pub record AreNew (n : ℕ) (seats : List SeatView) : Type 0 where
 abbrev pub HasWorked : TaskGraph → List Bool → SeatView → Ended → Type 0
 HasWorked g v seat ended = Leaves ended g v (new_seat seat.actor seat.room) seat
 
--- where it is said which worker has no seat, it is the worker n
-abbrev pub IsSeatOf : RunWhy → ℕ → Type 0
-IsSeatOf (Seat w fault) n = w.0 ≡ n
-IsSeatOf BadCount n = Unit {0}
-IsSeatOf Spawn n = Unit {0}
-IsSeatOf Memory n = Unit {0}
+-- each of these workers came with a new seat, and this is what it left in the session
+abbrev pub AllWorked : SessionView → List (SeatView × Ended) → Type 0
+AllWorked s done = All (λ d. HasWorked s.graph.graph s.inputs d.0 d.1) done
+
+-- these are new seats of the workers before the worker w, which is one of n
+pub record AreBefore (w n : ℕ) (seats : List SeatView) : Type 0 where
+  pub number : w ≡ length seats + 1
+  pub few : w ≤ n
+  pub made : AreNew (length seats) seats
+
+-- the seats that come back where n workers didn't all run: all where there was no thread for one; else no worker was started, and they are those that were made before the one that has none
+abbrev pub ComeBack : RunWhy → ℕ → List SeatView → Type 0
+ComeBack BadCount n seats = seats ≡ []
+ComeBack (Seat w fault) n seats = AreBefore w.0 n seats
+ComeBack Spawn n seats = length seats ≡ n
+ComeBack (Memory w) n seats = AreBefore w.0 n seats

@@ -1,13 +1,9 @@
 //! The request of a token.
 
-ghost use Rattle.std.specs.Prelude.{◌≡◌, ℕ, Some};
+ghost use Rattle.std.specs.Prelude.{◌≡◌};
 ghost use Rattle.tpl_model.specs.Facts.{requested};
 ghost use Rattle.tpl_model.specs.Graph.{is_token};
-ghost use Rattle.tpl_hall.specs.Growth.{Requests};
-ghost use Rattle.tpl_hall.specs.Moves.{MatchAsked};
-ghost use Rattle.tpl_hall.specs.Sights.{IsSeen};
-ghost use Rattle.tpl_hall.specs.declared.sight.Sight.TheVariants.{Already};
-ghost use Rattle.tpl_runtime.specs.Turns.{MayAsk, IsAnswer};
+ghost use Rattle.tpl_runtime.specs.Turns.{Asks, MayAsk, IsAnswer};
 
 use crate::put::put_all;
 use crate::queue::{ItemPass, ItemQueue};
@@ -37,11 +33,7 @@ impl<'g, K: Drop, W: Item<K>> Shared<'g, K, W> {
         requires pass { pass.old.queue ≡ queue.now.id }
         ensures pass { pass.new.queue ≡ queue.now.id }
         ensures actor { seat.new.actor ≡ seat.old.actor }
-        ensures asked { MatchAsked result (λ n. Requests graph.now.graph inputs.now seat.old
-            seat.new token n × (seat.new.last ≡ seat.old.last)) ((n : ℕ)
-            × (seat.new ≡ record seat.old { last = Some (n, Already token) })
-            × IsSeen graph.now.graph inputs.now seat.old.mine seat.old.last (Already token) n)
-            (seat.new ≡ seat.old) }
+        ensures asked { Asks graph.now.graph inputs.now seat.old seat.new token result }
         ensures room { seat.new.room ≡ seat.old.room }
         ensures halted { self.new.halted ≡ self.old.halted }
         ensures order { let j = self.old.hall.core in IsAnswer result (MayAsk j graph.now inputs.now

@@ -1,14 +1,11 @@
 //! What a session leaves, and what is compared when it is closed.
 
-ghost use Rattle.std.specs.Prelude.{◌≡◌, ◌↔◌, ◌⊎◌, ◌+◌, true, length, map, reverse, All, IsTrue, IfOk, IfErr, OnOk};
-ghost use Rattle.tpl_model.specs.Rules.{Run, Complete, status, label, carried};
-ghost use Rattle.tpl_draft.specs.Ids.{task_number};
+ghost use Rattle.std.specs.Prelude.{◌≡◌, ◌⊎◌, ◌+◌, true, length, map, All, IsTrue, IfOk, IfErr, OnOk};
 ghost use Rattle.tpl_machine.specs.Journal.{named};
-ghost use Rattle.tpl_hall.specs.Answers.{answers, shown};
-ghost use Rattle.tpl_hall.specs.Closes.{AllOwn, AllLast};
+ghost use Rattle.tpl_hall.specs.Closes.{AllOwn};
 ghost use Rattle.tpl_hall.specs.Lists.{IsSeat, all_seated, are_seated};
-ghost use Rattle.tpl_runtime.specs.declared.closing.CloseWhy.TheVariants.{Lost, SeatsMissing};
-ghost use Rattle.tpl_runtime.specs.Reports.{each_below, those_below, is_unseen, AreOnce, IsWhole, GivesBack};
+ghost use Rattle.tpl_runtime.specs.declared.closing.CloseWhy.TheVariants.{Lost};
+ghost use Rattle.tpl_runtime.specs.Reports.{told_of, AreAllSeats, AreOnce, IsWhole, IsClosed, ClosesWell, GivesBack, MissesSeats};
 
 use crate::tables::{Told, tables};
 use std::alloc::{AllocError, Global};
@@ -141,34 +138,13 @@ fn judge<K: Drop, W: Item<K>>(
 ) -> Result<Told, CloseWhy>
     ensures whole { IfErr result (λ why. (why ≡ Lost) ⊎ IsWhole graph.now inputs.now
         hall.now.journal.items hall.now.receipts.items (map W.site items.now)) }
-    ensures missing { IfErr result (λ why. (why ≡ Lost) ⊎ ((why ≡ SeatsMissing)
-        ↔ (length seats.now ≡ length made.now → ⊥))) }
-    ensures made { OnOk result ((length seats.now ≡ length made.now)
-        × (are_seated made.now (map (λ s. s.actor) seats.now) ≡ true)) }
-    ensures run { OnOk result (Run graph.now.graph inputs.now (reverse hall.now.journal.items)) }
-    ensures own { OnOk result (AllOwn seats.now hall.now.journal.items) }
-    ensures last { OnOk result (AllLast graph.now.graph inputs.now seats.now
-        hall.now.journal.items) }
-    ensures seats { OnOk result (All (λ e. IsSeat e.actor) hall.now.journal.items) }
-    ensures seated { OnOk result (all_seated hall.now.journal.items (map (λ s. s.actor) seats.now)
-        ≡ true) }
-    ensures once { OnOk result (AreOnce (length graph.now.names.sites) (map (λ r. r.site.0)
-        hall.now.receipts.items) (map W.site items.now)) }
-    ensures matched { OnOk result (map shown hall.now.receipts.items ≡ answers graph.now.graph
-        inputs.now (reverse hall.now.journal.items)) }
-    ensures statuses { IfOk result (λ t. t.statuses.items ≡ each_below (status graph.now.graph
-        inputs.now (reverse hall.now.journal.items)) (length graph.now.graph.tasks)) }
-    ensures labels { IfOk result (λ t. t.labels.items ≡ each_below (label graph.now.graph
-        inputs.now (reverse hall.now.journal.items)) (length graph.now.graph.tasks)) }
-    ensures carried { IfOk result (λ t. map (λ c. map task_number c.items) t.carried.items ≡
-        each_below (carried graph.now.graph inputs.now (reverse hall.now.journal.items)) (length
-        graph.now.graph.tasks)) }
-    ensures unseen { IfOk result (λ t. map task_number t.unseen.items ≡ those_below (is_unseen
-        graph.now.graph inputs.now (reverse hall.now.journal.items)) (length
-        graph.now.graph.tasks)) }
-    ensures complete { IfOk result (λ t. (t.complete ≡ true) ↔ Complete graph.now.graph inputs.now
-        (reverse hall.now.journal.items)) }
+    ensures missing { IfErr result (λ why. MissesSeats why (length seats.now) (length made.now)) }
+    ensures made { OnOk result (AreAllSeats made.now seats.now) }
+    ensures closes { IfOk result (λ t. IsClosed graph.now inputs.now seats.now
+        hall.now.journal.items hall.now.receipts.items (map W.site items.now) (told_of t)) }
 {
+    graph.valid_law();
+    tpl_laws::soundness();
     if !is_whole(hall, graph, inputs, items) {
         return Err(CloseWhy::Lost);
     }
@@ -200,37 +176,15 @@ pub fn settle<K: Drop, W: Item<K>>(
     items: Vec<W>,
 ) -> Result<Report<K, W>, CloseFault<K, W>>
     ensures whole { IfErr result (λ e. GivesBack graph.now inputs.now W.site e) }
-    ensures missing { IfErr result (λ e. (e.why ≡ Lost) ⊎ ((e.why ≡ SeatsMissing)
-        ↔ (length seats.now ≡ length made.now → ⊥))) }
-    ensures made { OnOk result ((length seats.now ≡ length made.now)
-        × (are_seated made.now (map (λ s. s.actor) seats.now) ≡ true)) }
+    ensures missing { IfErr result (λ e. MissesSeats e.why (length seats.now) (length made.now)) }
+    ensures made { OnOk result (AreAllSeats made.now seats.now) }
     ensures back { IfErr result (λ e. (e.journal ≡ hall.entry.journal)
         × (e.receipts ≡ hall.entry.receipts)
         × (e.items ≡ items)) }
     ensures given { IfOk result (λ r. (r.journal ≡ hall.entry.journal)
         × (r.receipts ≡ hall.entry.receipts)
         × (r.items ≡ items)) }
-    ensures run { IfOk result (λ r. Run graph.now.graph inputs.now (reverse r.journal.items)) }
-    ensures own { IfOk result (λ r. AllOwn seats.now r.journal.items) }
-    ensures last { IfOk result (λ r. AllLast graph.now.graph inputs.now seats.now r.journal.items) }
-    ensures seats { IfOk result (λ r. All (λ e. IsSeat e.actor) r.journal.items) }
-    ensures seated { IfOk result (λ r. all_seated r.journal.items (map (λ s. s.actor) seats.now) ≡
-        true) }
-    ensures once { IfOk result (λ r. AreOnce (length graph.now.names.sites) (map (λ x. x.site.0)
-        r.receipts.items) (map W.site r.items.items)) }
-    ensures matched { IfOk result (λ r. map shown r.receipts.items ≡ answers graph.now.graph
-        inputs.now (reverse r.journal.items)) }
-    ensures statuses { IfOk result (λ r. r.statuses.items ≡ each_below (status graph.now.graph
-        inputs.now (reverse r.journal.items)) (length graph.now.graph.tasks)) }
-    ensures labels { IfOk result (λ r. r.labels.items ≡ each_below (label graph.now.graph
-        inputs.now (reverse r.journal.items)) (length graph.now.graph.tasks)) }
-    ensures carried { IfOk result (λ r. map (λ c. map task_number c.items) r.carried.items ≡
-        each_below (carried graph.now.graph inputs.now (reverse r.journal.items)) (length
-        graph.now.graph.tasks)) }
-    ensures unseen { IfOk result (λ r. map task_number r.unseen.items ≡ those_below (is_unseen
-        graph.now.graph inputs.now (reverse r.journal.items)) (length graph.now.graph.tasks)) }
-    ensures complete { IfOk result (λ r. (r.complete ≡ true) ↔ Complete graph.now.graph inputs.now
-        (reverse r.journal.items)) }
+    ensures closes { IfOk result (λ r. ClosesWell graph.now inputs.now W.site seats.now r) }
 {
     let told = judge(alloc, &hall, graph, inputs, seats, made, items.as_slice());
     let (journal, receipts) = hall.into_lists();

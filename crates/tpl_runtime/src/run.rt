@@ -1,7 +1,8 @@
 //! How a session runs its workers.
 
-ghost use Rattle.std.specs.Prelude.{◌≡◌, ◌⊎◌, ◌≤◌, ◌+◌, [], None, map, vec_len, vec_capacity, IfOk, IfErr, IfSome, IfNone, All};
-ghost use Rattle.tpl_runtime.specs.Workers.{workers, AreNew, HasWorked, IsSeatOf};
+ghost use Rattle.std.specs.Prelude.{◌≡◌, ◌≤◌, ℕ, [], List, None, map, vec_len, vec_capacity, IfOk, IfErr, IfSome, IfNone};
+ghost use Rattle.tpl_hall.specs.Views.{SeatView};
+ghost use Rattle.tpl_runtime.specs.Workers.{workers, AllWorked, AreNew, AreBefore, ComeBack};
 ghost use Rattle.tpl_runtime.specs.declared.run.RunWhy.TheVariants.{Spawn};
 
 use crate::queue::ItemPass;
@@ -31,9 +32,9 @@ pub enum RunWhy {
     /// There was no thread for a worker. The session is halted.
     #[error("Spawn")]
     Spawn,
-    /// There was no memory. No worker was started.
+    /// There was no memory for this worker. Those before it have their seats, and none was started.
     #[error("out of memory")]
-    Memory,
+    Memory(Worker),
 }
 
 /// Why the workers didn't all run, the seats that were made, and the pass.
@@ -61,6 +62,16 @@ fn lists<L: Drop>(alloc: Global, count: usize) -> Result<Lists<L>, AllocError>
     Ok((seats, left, done, children))
 }
 
+/// Why the workers didn't all run, where this one has no seat.
+fn no_seat(worker: Worker, fault: SeatFault) -> RunWhy
+    ensures { (n : ℕ) (seats : List SeatView) → AreBefore worker.0 n seats → ComeBack result n seats }
+{
+    match fault {
+        SeatFault::Memory => RunWhy::Memory(worker),
+        fault => RunWhy::Seat(worker, fault),
+    }
+}
+
 /// The seats alone, in an empty list that has room for them.
 fn seats_of(done: Vec<(Seat, Ended)>, mut seats: Vec<Seat>) -> Vec<Seat>
     requires empty { seats.items ≡ [] }
@@ -84,7 +95,7 @@ fn answer_of<W>(
     requires empty { left.items ≡ [] }
     requires room { vec_len done ≤ vec_capacity left }
     ensures done { IfOk result (λ r. (halting ≡ None) × (r.0 ≡ done) × (r.1 ≡ pass)) }
-    ensures left { IfErr result (λ e. (e.why ≡ Spawn) × (vec_len e.seats ≡ vec_len done)
+    ensures left { IfErr result (λ e. (e.why ≡ Spawn) × ComeBack e.why (vec_len done) e.seats.items
         × (e.pass ≡ pass)) }
 {
     match halting {
@@ -112,15 +123,8 @@ impl<'g, K: Drop + Send, W: Item<K> + Send> Session<'g, K, W> {
         ensures back { IfErr result (λ e. e.pass.queue ≡ self.now.queue) }
         ensures workers { IfOk result (λ r. map (λ d. d.0.actor) r.0.items ≡ workers n) }
         ensures count { IfOk result (λ r. vec_len r.0 ≡ n) }
-        ensures worked { IfOk result (λ r. All (λ d. HasWorked self.now.graph.graph self.now.inputs
-            d.0 d.1) r.0.items) }
-
-        // Where there was no thread for a worker, all seats come back.
-        ensures left { IfErr result (λ e. e.why ≡ Spawn → vec_len e.seats ≡ n) }
-
-        // Else no worker was started: new seats come back, those of the workers before the first that has none.
-        ensures made { IfErr result (λ e. (e.why ≡ Spawn) ⊎ AreNew (vec_len e.seats) e.seats.items) }
-        ensures first { IfErr result (λ e. IsSeatOf e.why (vec_len e.seats + 1)) }
+        ensures worked { IfOk result (λ r. AllWorked self.now r.0.items) }
+        ensures seats { IfErr result (λ e. ComeBack e.why n e.seats.items) }
     {
         if n == 0 || n > MOST_WORKERS {
             return Err(RunFault {
@@ -131,40 +135,42 @@ impl<'g, K: Drop + Send, W: Item<K> + Send> Session<'g, K, W> {
         }
         let Ok((mut seats, left, done, children)) = lists(alloc, n as usize) else {
             return Err(RunFault {
-                why: RunWhy::Memory,
+                why: RunWhy::Memory(Worker(1)),
                 seats: Vec::new(alloc),
                 pass,
             });
         };
-        if let Some(why) = self.seat_workers(rt, alloc, n, &mut seats) {
-            return Err(RunFault { why, seats, pass });
+        if let Some((worker, fault)) = self.seat_workers(rt, alloc, n, &mut seats) {
+            return Err(RunFault {
+                why: no_seat(worker, fault),
+                seats,
+                pass,
+            });
         }
         let (done, pass, halting) = run_crew(self, rt, seats, children, done, pass);
         answer_of(done, left, pass, halting)
     }
 
-    /// Seats the workers 1 to n in an empty list that has room for them, and says why it can't.
+    /// Seats the workers 1 to n in an empty list that has room for them. The first that can't be seated comes back, and why.
     fn seat_workers<R: Wait>(
         &self,
         rt: &R,
         alloc: Global,
         n: u16,
         seats: &mut Vec<Seat>,
-    ) -> Option<RunWhy>
+    ) -> Option<(Worker, SeatFault)>
         requires few { n ≤ 64 }
         requires empty { seats.old.items ≡ [] }
         requires room { n ≤ vec_capacity seats.old }
-        ensures seats { AreNew (vec_len seats.new) seats.new.items }
+        ensures all { IfNone result (AreNew n seats.new.items) }
         ensures count { IfNone result (vec_len seats.new ≡ n) }
-        ensures threads { IfSome result (λ why. why ≡ Spawn → ⊥) }
-        ensures first { IfSome result (λ why. IsSeatOf why (vec_len seats.new + 1)) }
+        ensures first { IfSome result (λ r. AreBefore r.0.0 n seats.new.items) }
     {
         for number in 0..n {
             let worker = Worker(number + 1);
             match self.seat(rt, alloc, Actor::Worker(worker)) {
                 Ok(seat) => seats.push_reserved(seat),
-                Err(SeatFault::Memory) => return Some(RunWhy::Memory),
-                Err(fault) => return Some(RunWhy::Seat(worker, fault)),
+                Err(fault) => return Some((worker, fault)),
             }
         }
         None

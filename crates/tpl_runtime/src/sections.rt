@@ -1,9 +1,7 @@
 //! What a worker does in a locked section: it begins a task, passes a statement, leaves a body, or looks for a job.
 
-ghost use Rattle.std.specs.Prelude.{◌≡◌, true};
-ghost use Rattle.tpl_hall.specs.Moves.{Moves};
-ghost use Rattle.tpl_hall.specs.declared.sight.Ended.TheVariants.{Stray};
-ghost use Rattle.tpl_runtime.specs.Turns.{IfOver};
+ghost use Rattle.std.specs.Prelude.{◌≡◌};
+ghost use Rattle.tpl_runtime.specs.Turns.{PlaysOn};
 
 use crate::queue::{ItemPass, ItemQueue};
 use crate::shared::{Hand, Shared, Turn};
@@ -26,10 +24,8 @@ impl<'g, K: Drop, W: Item<K>> Shared<'g, K, W> {
         task: TaskId,
     ) -> Turn<K, W>
         requires { pass.old.queue ≡ queue.now.id }
-        ensures pass { pass.new.queue ≡ queue.now.id }
-        ensures moves { Moves seat.old seat.new self.old.hall.core self.new.hall.core }
-        ensures last { seat.new.last ≡ seat.old.last }
-        ensures over { IfOver result (λ ended. (ended ≡ Stray) × (self.new.halted ≡ true)) }
+        ensures { PlaysOn result self.new.halted queue.now.id pass.new.queue seat.old seat.new
+            self.old.hall.core self.new.hall.core }
     {
         if self.act(rt, queue, pass, seat, Act::Begin(task)) {
             return Turn::Go(Hand::Running(task));
@@ -47,10 +43,8 @@ impl<'g, K: Drop, W: Item<K>> Shared<'g, K, W> {
         task: TaskId,
     ) -> Turn<K, W>
         requires { pass.old.queue ≡ queue.now.id }
-        ensures pass { pass.new.queue ≡ queue.now.id }
-        ensures moves { Moves seat.old seat.new self.old.hall.core self.new.hall.core }
-        ensures last { seat.new.last ≡ seat.old.last }
-        ensures over { IfOver result (λ ended. (ended ≡ Stray) × (self.new.halted ≡ true)) }
+        ensures { PlaysOn result self.new.halted queue.now.id pass.new.queue seat.old seat.new
+            self.old.hall.core self.new.hall.core }
     {
         if self.act(rt, queue, pass, seat, Act::Step(task)) {
             return Turn::Go(Hand::Running(task));
@@ -69,10 +63,8 @@ impl<'g, K: Drop, W: Item<K>> Shared<'g, K, W> {
         task: TaskId,
     ) -> Turn<K, W>
         requires { pass.old.queue ≡ queue.now.id }
-        ensures pass { pass.new.queue ≡ queue.now.id }
-        ensures moves { Moves seat.old seat.new self.old.hall.core self.new.hall.core }
-        ensures last { seat.new.last ≡ seat.old.last }
-        ensures over { IfOver result (λ ended. (ended ≡ Stray) × (self.new.halted ≡ true)) }
+        ensures { PlaysOn result self.new.halted queue.now.id pass.new.queue seat.old seat.new
+            self.old.hall.core self.new.hall.core }
     {
         if self.act(rt, queue, pass, seat, Act::Leave(task)) {
             return Turn::Go(self.hand_on(seat.actor()));
@@ -91,10 +83,8 @@ impl<'g, K: Drop, W: Item<K>> Shared<'g, K, W> {
         task: TaskId,
     ) -> Turn<K, W>
         requires { pass.old.queue ≡ queue.now.id }
-        ensures pass { pass.new.queue ≡ queue.now.id }
-        ensures moves { Moves seat.old seat.new self.old.hall.core self.new.hall.core }
-        ensures last { seat.new.last ≡ seat.old.last }
-        ensures over { IfOver result (λ ended. (ended ≡ Stray) × (self.new.halted ≡ true)) }
+        ensures { PlaysOn result self.new.halted queue.now.id pass.new.queue seat.old seat.new
+            self.old.hall.core self.new.hall.core }
     {
         let core = self.hall.core();
         if task.0 as usize >= core.graph().len() {
@@ -128,10 +118,8 @@ impl<'g, K: Drop, W: Item<K>> Shared<'g, K, W> {
         hand: Hand<K>,
     ) -> Turn<K, W>
         requires { pass.old.queue ≡ queue.now.id }
-        ensures pass { pass.new.queue ≡ queue.now.id }
-        ensures moves { Moves seat.old seat.new self.old.hall.core self.new.hall.core }
-        ensures last { seat.new.last ≡ seat.old.last }
-        ensures over { IfOver result (λ ended. (ended ≡ Stray) × (self.new.halted ≡ true)) }
+        ensures { PlaysOn result self.new.halted queue.now.id pass.new.queue seat.old seat.new
+            self.old.hall.core self.new.hall.core }
     {
         match hand {
             Hand::Taken(task) => self.begin(rt, queue, pass, seat, task),

@@ -1,23 +1,17 @@
 //! The session that threads share.
 
-ghost use Rattle.std.specs.Prelude.{◌≡◌, ◌↔◌, ℕ, [], Some, None, true, length, map, reverse, All, List, IfOk, IfErr, OnOk};
-ghost use Rattle.tpl_model.specs.Rules.{Run, Complete, status, label, carried};
-ghost use Rattle.tpl_model.specs.Certificate.{Accepts, Tree};
-ghost use Rattle.tpl_model.specs.Claims.{Claim, Holds};
+ghost use Rattle.std.specs.Prelude.{◌≡◌, ◌↔◌, [], Some, None, IfOk, IfErr, OnOk};
 ghost use Rattle.tpl_model.specs.Valid.{bound};
-ghost use Rattle.tpl_laws.specs.Soundness.{Each};
-ghost use Rattle.tpl_draft.specs.Ids.{task_number};
-ghost use Rattle.tpl_hall.specs.Answers.{answers, shown};
-ghost use Rattle.tpl_hall.specs.Lists.{IsSeat, all_seated};
-ghost use Rattle.tpl_hall.specs.Closes.{AllOwn, AllLast};
-ghost use Rattle.tpl_runtime.specs.Reports.{each_below, those_below, is_unseen, AreOnce, GivesBack};
+ghost use Rattle.tpl_hall.specs.Lists.{IsSeat};
+ghost use Rattle.tpl_runtime.specs.Reports.{ClosesWell, GivesBack};
+ghost use Rattle.tpl_runtime.specs.Turns.{Asks};
 ghost use Rattle.tpl_model.specs.Graph.{is_task, is_token};
 ghost use Rattle.tpl_queue.specs.Tally.{first_half, second_half, both};
-ghost use Rattle.tpl_hall.specs.Growth.{WorksOn, Requests};
-ghost use Rattle.tpl_hall.specs.Moves.{MatchAsked, MatchLooked, EndsAs};
+ghost use Rattle.tpl_hall.specs.Moves.{MatchLooked};
 ghost use Rattle.tpl_hall.specs.Sights.{IsSeen};
+ghost use Rattle.tpl_hall.specs.Stays.{Leaves};
 ghost use Rattle.tpl_hall.specs.declared.seat.SeatFault.TheVariants.{BadActor};
-ghost use Rattle.tpl_hall.specs.declared.sight.Sight.TheVariants.{At, Already};
+ghost use Rattle.tpl_hall.specs.declared.sight.Sight.TheVariants.{At};
 
 use crate::closing::{CloseFault, Report, settle};
 use crate::queue::{ItemPass, ItemQueue};
@@ -94,11 +88,7 @@ impl<'g, K: Drop, W: Item<K>> Session<'g, K, W> {
         ensures pass { pass.new.queue ≡ self.now.queue }
         ensures actor { seat.new.actor ≡ seat.old.actor }
         ensures room { seat.new.room ≡ seat.old.room }
-        ensures asked { MatchAsked result (λ n. Requests self.now.graph.graph self.now.inputs
-            seat.old seat.new token n × (seat.new.last ≡ seat.old.last)) ((n : ℕ)
-            × (seat.new ≡ record seat.old { last = Some (n, Already token) })
-            × IsSeen self.now.graph.graph self.now.inputs seat.old.mine seat.old.last (Already
-            token) n) (seat.new ≡ seat.old) }
+        ensures asked { Asks self.now.graph.graph self.now.inputs seat.old seat.new token result }
     {
         let mut shared = self.shared.lock(rt);
         let asked = shared.ask(rt, self.graph, &self.inputs, &self.queue, pass, seat, token);
@@ -161,9 +151,7 @@ impl<'g, K: Drop, W: Item<K>> Session<'g, K, W> {
         requires { pass.queue ≡ self.now.queue }
         ensures pass { result.1.queue ≡ self.now.queue }
         ensures actor { result.0.actor ≡ seat.actor }
-        ensures list { WorksOn self.now.graph.graph self.now.inputs seat.mine result.0.mine }
-        ensures last { EndsAs result.2 self.now.graph.graph self.now.inputs seat result.0 }
-        ensures room { result.0.room ≡ seat.room }
+        ensures left { Leaves result.2 self.now.graph.graph self.now.inputs seat result.0 }
     {
         let mut seat = seat;
         let mut pass = pass;
@@ -219,36 +207,8 @@ impl<'g, K: Drop, W: Item<K>> Session<'g, K, W> {
         pass: ItemPass<W>,
     ) -> Result<Report<K, W>, CloseFault<K, W>>
         requires { pass.queue ≡ self.queue }
-        ensures run { IfOk result (λ r. Run self.entry.graph.graph self.entry.inputs (reverse
-            r.journal.items)) }
-        ensures claims { IfOk result (λ r. (claims : List Claim) (certificate : List Tree)
-            → Accepts self.entry.graph.graph claims certificate
-            → Each (λ claim. Holds self.entry.graph.graph claim self.entry.inputs (reverse
-            r.journal.items)) claims) }
-        ensures own { IfOk result (λ r. AllOwn seats.items r.journal.items) }
-        ensures last { IfOk result (λ r. AllLast self.entry.graph.graph self.entry.inputs
-            seats.items r.journal.items) }
-        ensures seats { IfOk result (λ r. All (λ e. IsSeat e.actor) r.journal.items) }
-        ensures seated { IfOk result (λ r. all_seated r.journal.items (map (λ s. s.actor)
-            seats.items) ≡ true) }
-        ensures once { IfOk result (λ r. AreOnce (length self.entry.graph.names.sites) (map
-            (λ x. x.site.0) r.receipts.items) (map W.site r.items.items)) }
-        ensures matched { IfOk result (λ r. map shown r.receipts.items ≡ answers
-            self.entry.graph.graph self.entry.inputs (reverse r.journal.items)) }
-        ensures statuses { IfOk result (λ r. r.statuses.items ≡ each_below (status
-            self.entry.graph.graph self.entry.inputs (reverse r.journal.items)) (length
-            self.entry.graph.graph.tasks)) }
-        ensures labels { IfOk result (λ r. r.labels.items ≡ each_below (label
-            self.entry.graph.graph self.entry.inputs (reverse r.journal.items)) (length
-            self.entry.graph.graph.tasks)) }
-        ensures carried { IfOk result (λ r. map (λ c. map task_number c.items) r.carried.items ≡
-            each_below (carried self.entry.graph.graph self.entry.inputs (reverse r.journal.items))
-            (length self.entry.graph.graph.tasks)) }
-        ensures unseen { IfOk result (λ r. map task_number r.unseen.items ≡ those_below (is_unseen
-            self.entry.graph.graph self.entry.inputs (reverse r.journal.items)) (length
-            self.entry.graph.graph.tasks)) }
-        ensures complete { IfOk result (λ r. (r.complete ≡ true)
-            ↔ Complete self.entry.graph.graph self.entry.inputs (reverse r.journal.items)) }
+        ensures closes { IfOk result (λ r. ClosesWell self.entry.graph self.entry.inputs W.site
+            seats.items r) }
         ensures back { IfErr result (λ e. GivesBack self.entry.graph self.entry.inputs W.site e) }
     {
         let Session {
@@ -259,8 +219,6 @@ impl<'g, K: Drop, W: Item<K>> Session<'g, K, W> {
             queue,
             cells: _,
         } = self;
-        graph.valid_law();
-        tpl_laws::soundness();
         let _left = queue.drain(rt, pass);
         let Shared {
             hall,

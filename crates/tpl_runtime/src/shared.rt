@@ -3,11 +3,10 @@
 ghost use Rattle.std.specs.Prelude.{◌≡◌, ◌↔◌, ◌≤◌, ◌⊎◌, ◌++◌, ◌∷◌, [], Err, None, true, IfOk, IfErr, IfSome, IsFalse, OnOk, OnErr, vec_capacity, vec_len};
 ghost use Rattle.tpl_model.specs.Rules.{Complete, IsOutside};
 ghost use Rattle.tpl_model.specs.Valid.{bound};
-ghost use Rattle.tpl_hall.specs.Moves.{Moves};
 ghost use Rattle.tpl_hall.specs.Stays.{MayEnd};
 ghost use Rattle.tpl_hall.specs.Lists.{is_seated};
 ghost use Rattle.tpl_hall.specs.declared.seat.SeatFault.TheVariants.{BadActor, SeatTaken};
-ghost use Rattle.tpl_runtime.specs.Turns.{IsEnd};
+ghost use Rattle.tpl_runtime.specs.Turns.{IsEnd, Proceeds};
 
 use crate::put::{put_after, put_all};
 use crate::queue::{ItemPass, ItemQueue};
@@ -86,9 +85,8 @@ impl<'g, K: Drop, W: Item<K>> Shared<'g, K, W> {
         seat: &mut Seat,
     )
         requires { pass.old.queue ≡ queue.now.id }
-        ensures pass { pass.new.queue ≡ queue.now.id }
-        ensures moves { Moves seat.old seat.new self.old.hall.core self.new.hall.core }
-        ensures last { seat.new.last ≡ seat.old.last }
+        ensures { Proceeds queue.now.id pass.new.queue seat.old seat.new
+            self.old.hall.core self.new.hall.core }
     {
         self.hall.sweep(seat);
         put_all(rt, &self.hall, &mut self.stock, queue, pass);
@@ -105,9 +103,8 @@ impl<'g, K: Drop, W: Item<K>> Shared<'g, K, W> {
         from: usize,
     )
         requires { pass.old.queue ≡ queue.now.id }
-        ensures pass { pass.new.queue ≡ queue.now.id }
-        ensures moves { Moves seat.old seat.new self.old.hall.core self.new.hall.core }
-        ensures last { seat.new.last ≡ seat.old.last }
+        ensures { Proceeds queue.now.id pass.new.queue seat.old seat.new
+            self.old.hall.core self.new.hall.core }
     {
         self.hall.sweep(seat);
         put_after(
@@ -131,9 +128,8 @@ impl<'g, K: Drop, W: Item<K>> Shared<'g, K, W> {
         act: Act,
     ) -> bool
         requires { pass.old.queue ≡ queue.now.id }
-        ensures pass { pass.new.queue ≡ queue.now.id }
-        ensures moves { Moves seat.old seat.new self.old.hall.core self.new.hall.core }
-        ensures last { seat.new.last ≡ seat.old.last }
+        ensures { Proceeds queue.now.id pass.new.queue seat.old seat.new
+            self.old.hall.core self.new.hall.core }
     {
         let from = seat.mine().len();
         match self.hall.step(seat, act) {
@@ -156,9 +152,8 @@ impl<'g, K: Drop, W: Item<K>> Shared<'g, K, W> {
         receipt: Receipt<K>,
     ) -> bool
         requires { pass.old.queue ≡ queue.now.id }
-        ensures pass { pass.new.queue ≡ queue.now.id }
-        ensures moves { Moves seat.old seat.new self.old.hall.core self.new.hall.core }
-        ensures last { seat.new.last ≡ seat.old.last }
+        ensures { Proceeds queue.now.id pass.new.queue seat.old seat.new
+            self.old.hall.core self.new.hall.core }
     {
         let from = seat.mine().len();
         match self.hall.worked(seat, task, receipt) {

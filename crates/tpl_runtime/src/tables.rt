@@ -1,11 +1,11 @@
 //! What is reported of each task when a session is closed.
 
-ghost use Rattle.std.specs.Prelude.{◌≡◌, ◌↔◌, true, length, map, reverse, IfOk};
+ghost use Rattle.std.specs.Prelude.{◌≡◌, length, map, reverse, IfOk};
 ghost use Rattle.tpl_model.specs.Graph.{is_task};
-ghost use Rattle.tpl_model.specs.Rules.{Complete, status, label, carried};
+ghost use Rattle.tpl_model.specs.Rules.{status, label, carried};
 ghost use Rattle.tpl_draft.specs.Ids.{task_number};
 ghost use Rattle.tpl_machine.specs.Journal.{named};
-ghost use Rattle.tpl_runtime.specs.Reports.{each_below, those_below, is_unseen};
+ghost use Rattle.tpl_runtime.specs.Reports.{each_below, those_below, is_unseen, told_of, IsTold};
 
 use std::alloc::{AllocError, Global};
 use tpl_fast::Fast;
@@ -98,18 +98,8 @@ pub fn tables<K: Drop>(
 ) -> Result<Told, AllocError>
     requires graph { named hall.now.core ≡ graph.now }
     requires inputs { hall.now.core.inputs ≡ inputs.now }
-    ensures statuses { IfOk result (λ t. t.statuses.items ≡ each_below (status graph.now.graph
-        inputs.now (reverse hall.now.journal.items)) (length graph.now.graph.tasks)) }
-    ensures labels { IfOk result (λ t. t.labels.items ≡ each_below (label graph.now.graph
-        inputs.now (reverse hall.now.journal.items)) (length graph.now.graph.tasks)) }
-    ensures carried { IfOk result (λ t. map (λ c. map task_number c.items) t.carried.items ≡
-        each_below (carried graph.now.graph inputs.now (reverse hall.now.journal.items)) (length
-        graph.now.graph.tasks)) }
-    ensures unseen { IfOk result (λ t. map task_number t.unseen.items ≡ those_below (is_unseen
-        graph.now.graph inputs.now (reverse hall.now.journal.items)) (length
-        graph.now.graph.tasks)) }
-    ensures complete { IfOk result (λ t. (t.complete ≡ true) ↔ Complete graph.now.graph inputs.now
-        (reverse hall.now.journal.items)) }
+    ensures { IfOk result (λ t. IsTold graph.now.graph inputs.now (reverse
+        hall.now.journal.items) (told_of t)) }
 {
     let core = hall.core();
     Ok(Told {

@@ -1,7 +1,7 @@
 //! Workers in threads of their own.
 
 ghost use Rattle.std.specs.Prelude.{◌≡◌, ◌+◌, ◌<◌, ◌≤◌, [], ◌∷◌, ◌++◌, map, vec_len, vec_capacity, All, IfOk, IfErr, IfNone};
-ghost use Rattle.tpl_runtime.specs.Workers.{IsNew, HasWorked};
+ghost use Rattle.tpl_runtime.specs.Workers.{IsNew, HasWorked, AllWorked};
 
 use crate::crew::Crew;
 use crate::shared::Halting;
@@ -111,16 +111,14 @@ where
     C::Load: Send,
     requires pass { pass.queue ≡ (C.session crew.now).queue }
     requires new { IsNew seat }
-    requires worked { let s = C.session crew.now in All (λ d. HasWorked s.graph.graph s.inputs d.0
-        d.1) done.old.items }
+    requires worked { AllWorked (C.session crew.now) done.old.items }
     requires children { All (λ h. h.promise.session ≡ C.session crew.now)
         children.old.items }
     requires child_room { vec_len children.old < vec_capacity children.old }
     requires done_room { vec_len done.old < vec_capacity done.old }
     ensures pass { result.0.queue ≡ (C.session crew.now).queue }
     ensures children { All (λ h. h.promise.session ≡ C.session crew.now) children.new.items }
-    ensures worked { let s = C.session crew.now in All (λ d. HasWorked s.graph.graph s.inputs d.0
-        d.1) done.new.items }
+    ensures worked { AllWorked (C.session crew.now) done.new.items }
     ensures started { IfNone result.1 ((done.new ≡ done.old)
         × (map (λ h. h.promise.actor) children.new.items
         ≡ map (λ h. h.promise.actor) children.old.items ++ seat.actor ∷ [])) }
@@ -165,8 +163,7 @@ where
     requires done_room { vec_len seats ≤ vec_capacity done.old }
     ensures pass { result.0.queue ≡ (C.session crew.now).queue }
     ensures children { All (λ h. h.promise.session ≡ C.session crew.now) children.new.items }
-    ensures worked { let s = C.session crew.now in All (λ d. HasWorked s.graph.graph s.inputs d.0
-        d.1) done.new.items }
+    ensures worked { AllWorked (C.session crew.now) done.new.items }
     ensures started { IfNone result.1 ((done.new.items ≡ [])
         × (map (λ h. h.promise.actor) children.new.items ≡ map (λ s. s.actor) seats.items)) }
     ensures count { vec_len children.new + vec_len done.new ≡ vec_len seats }
@@ -194,12 +191,10 @@ fn join_all<C: Crew, R: Threads + Wait>(
 ) -> QueuePass<C::Load>
     requires pass { pass.queue ≡ (C.session crew.now).queue }
     requires children { All (λ h. h.promise.session ≡ C.session crew.now) children.items }
-    requires worked { let s = C.session crew.now in All (λ d. HasWorked s.graph.graph s.inputs d.0
-        d.1) done.old.items }
+    requires worked { AllWorked (C.session crew.now) done.old.items }
     requires room { vec_len done.old + vec_len children ≤ vec_capacity done.old }
     ensures pass { result.queue ≡ (C.session crew.now).queue }
-    ensures worked { let s = C.session crew.now in All (λ d. HasWorked s.graph.graph s.inputs d.0
-        d.1) done.new.items }
+    ensures worked { AllWorked (C.session crew.now) done.new.items }
     ensures joined { map (λ d. d.0.actor) done.new.items
         ≡ map (λ d. d.0.actor) done.old.items ++ map (λ h. h.promise.actor) children.items }
     ensures count { vec_len done.new ≡ vec_len done.old + vec_len children }
@@ -233,8 +228,7 @@ where
     ensures pass { result.1.queue ≡ (C.session crew.now).queue }
     ensures all { IfNone result.2 (map (λ d. d.0.actor) result.0.items ≡ map (λ s. s.actor)
         seats.items) }
-    ensures worked { let s = C.session crew.now in All (λ d. HasWorked s.graph.graph s.inputs d.0
-        d.1) result.0.items }
+    ensures worked { AllWorked (C.session crew.now) result.0.items }
     ensures count { vec_len result.0 ≡ vec_len seats }
 {
     thread::scope(
@@ -249,8 +243,7 @@ where
             ensures pass { result.1.queue ≡ (C.session crew.entry.now).queue }
             ensures all { IfNone result.2 (map (λ d. d.0.actor) result.0.items ≡ map (λ s. s.actor)
                 seats.items) }
-            ensures worked { let s = C.session crew.entry.now in All (λ d. HasWorked s.graph.graph
-                s.inputs d.0 d.1) result.0.items }
+            ensures worked { AllWorked (C.session crew.entry.now) result.0.items }
             ensures count { vec_len result.0 ≡ vec_len seats }
         {
             let mut children = children;

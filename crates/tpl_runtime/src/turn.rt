@@ -1,12 +1,11 @@
 //! A worker's locked section, from what it brings to what it does next.
 
 ghost use Rattle.std.specs.Prelude.{◌≡◌, true, IfNone};
-ghost use Rattle.tpl_hall.specs.Moves.{Moves};
 ghost use Rattle.tpl_hall.specs.Stays.{Stays, MayEnd, Leaves};
 ghost use Rattle.tpl_hall.specs.Views.{SeatView};
 ghost use Rattle.tpl_hall.specs.declared.sight.Ended.TheVariants.{Stray};
 ghost use Rattle.tpl_runtime.specs.declared.shared.Turn.TheVariants.{Over};
-ghost use Rattle.tpl_runtime.specs.Turns.{OnOver, IfOver, EndsInOrder, MayTurn};
+ghost use Rattle.tpl_runtime.specs.Turns.{OnOver, IfOver, EndsInOrder, MayTurn, Proceeds};
 
 use crate::queue::{ItemPass, ItemQueue};
 use crate::shared::{Hand, Shared, Turn, is_worker};
@@ -29,9 +28,8 @@ impl<'g, K: Drop, W: Item<K>> Shared<'g, K, W> {
         hand: Hand<K>,
     ) -> Option<(Hand<K>, bool)>
         requires { pass.old.queue ≡ queue.now.id }
-        ensures pass { pass.new.queue ≡ queue.now.id }
-        ensures moves { Moves seat.old seat.new self.old.hall.core self.new.hall.core }
-        ensures last { seat.new.last ≡ seat.old.last }
+        ensures proceeds { Proceeds queue.now.id pass.new.queue seat.old seat.new
+            self.old.hall.core self.new.hall.core }
         ensures refused { IfNone result (self.new.halted ≡ true) }
     {
         match hand {
@@ -63,9 +61,8 @@ impl<'g, K: Drop, W: Item<K>> Shared<'g, K, W> {
         hand: Hand<K>,
     ) -> Turn<K, W>
         requires { pass.old.queue ≡ queue.now.id }
-        ensures pass { pass.new.queue ≡ queue.now.id }
-        ensures moves { Moves seat.old seat.new self.old.hall.core self.new.hall.core }
-        ensures last { seat.new.last ≡ seat.old.last }
+        ensures proceeds { Proceeds queue.now.id pass.new.queue seat.old seat.new
+            self.old.hall.core self.new.hall.core }
         ensures over { IfOver result (λ ended. MayEnd ended self.new.hall.core) }
         ensures order { IfOver result (λ ended. EndsInOrder ended self.new.halted) }
     {

@@ -216,7 +216,7 @@ fn runs<'g, R: Print + Threads + Wait + Sync, K: Drop + Send, W: Item<K> + Send>
 {
     match session.run(rt, alloc, crew.pass, WORKERS) {
         Ok((done, pass)) => have_run(rt, done, pass, crew.seats),
-        Err(fault) if fault.why == RunWhy::Memory => {
+        Err(fault) if matches!(fault.why, RunWhy::Memory(_)) => {
             goes_on(rt, alloc, session, fault, crew.seats)
         }
         Err(fault) => has_no_thread(rt, session, fault, crew.seats),

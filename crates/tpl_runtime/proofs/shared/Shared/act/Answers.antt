@@ -1,16 +1,26 @@
+use Rattle.std.proofs.Common.{◌∙◌, ap}
 use Rattle.tpl_hall.proofs.MoveLemmas.{moves_one, moves_none, moves_trans}
+use Rattle.tpl_hall.specs.Views.{SeatView}
 use Rattle.tpl_runtime.proofs.shared.Shared.act.Goals as goal
 
-pub returns-in-Ok-clause-moves : goal.returns-in-Ok-clause-moves
-returns-in-Ok-clause-moves g c =
+pub returns-in-Ok : goal.returns-in-Ok
+returns-in-Ok g c =
     let ok = c.in-Ok.ensures in
     let was = c.args.self.now.hall.core in
     let done = c.step.new.self.core in
-    moves_trans c.args.seat.now c.step.new.seat c.finish.new.seat was done c.finish.new.self.hall.core
-    (moves_one c.args.seat.now c.step.new.seat was done c.args.act c.in-Ok._place ok.run ok.place ok.seat)
-    c.finish.ensures.moves
+    record {
+      pass = c.finish.ensures.pass;
+      moves = moves_trans c.args.seat.now c.step.new.seat c.finish.new.seat was done c.finish.new.self.hall.core
+          (moves_one c.args.seat.now c.step.new.seat was done c.args.act c.in-Ok._place ok.run ok.place ok.seat)
+          c.finish.ensures.moves;
+      last = c.finish.ensures.last ∙ ap (λ (s : SeatView). s.last) ok.seat;
+    }
 
-pub returns-in-Err-clause-moves : goal.returns-in-Err-clause-moves
-returns-in-Err-clause-moves g c =
+pub returns-in-Err : goal.returns-in-Err
+returns-in-Err g c =
     let same = c.in-Err.ensures.refused in
-    moves_none c.args.seat.now c.step.new.seat c.args.self.now.hall.core c.step.new.self.core same.0 same.2
+    record {
+      pass = c.requires;
+      moves = moves_none c.args.seat.now c.step.new.seat c.args.self.now.hall.core c.step.new.self.core same.0 same.2;
+      last = ap (λ (s : SeatView). s.last) same.2;
+    }

@@ -5,17 +5,17 @@ use Rattle.tpl_runtime.proofs.shared.Shared.turn.Goals as goal
 pub returns-in-Go-clause-stays : goal.returns-in-Go-clause-stays
 returns-in-Go-clause-stays g c = λ first stays.
     stays_on c.args.stint.now c.len.result first c.args.seat.now c.play-turn.new.seat c.args.self.now.hall.core c.play-turn.new.self.hall.core stays
-    (c.goes_on.ensures.goes c.if-not-goes_on.false first stays) c.play-turn.ensures.moves c.play-turn.ensures.last c.len.ensures
+    (c.goes_on.ensures.goes c.if-not-goes_on.false first stays) c.play-turn.ensures.proceeds.moves c.play-turn.ensures.proceeds.last c.len.ensures
 
 pub returns-in-Call-clause-stays : goal.returns-in-Call-clause-stays
 returns-in-Call-clause-stays g c = λ first stays.
     stays_on c.args.stint.now c.len.result first c.args.seat.now c.play-turn.new.seat c.args.self.now.hall.core c.play-turn.new.self.hall.core stays
-    (c.goes_on.ensures.goes c.if-not-goes_on.false first stays) c.play-turn.ensures.moves c.play-turn.ensures.last c.len.ensures
+    (c.goes_on.ensures.goes c.if-not-goes_on.false first stays) c.play-turn.ensures.proceeds.moves c.play-turn.ensures.proceeds.last c.len.ensures
 
 pub returns-in-Wait-clause-stays : goal.returns-in-Wait-clause-stays
 returns-in-Wait-clause-stays g c = λ first stays.
     stays_on c.args.stint.now c.len.result first c.args.seat.now c.play-turn.new.seat c.args.self.now.hall.core c.play-turn.new.self.hall.core stays
-    (c.goes_on.ensures.goes c.if-not-goes_on.false first stays) c.play-turn.ensures.moves c.play-turn.ensures.last c.len.ensures
+    (c.goes_on.ensures.goes c.if-not-goes_on.false first stays) c.play-turn.ensures.proceeds.moves c.play-turn.ensures.proceeds.last c.len.ensures
 
 pub returns-in-Over-clause-stays : goal.returns-in-Over-clause-stays
 returns-in-Over-clause-stays g c = λ first stays.
@@ -24,8 +24,8 @@ returns-in-Over-clause-stays g c = λ first stays.
     let was = c.args.self.now.hall.core in
     let done = c.play-turn.new.self.hall.core in
     c.let_go.ensures.left first
-    (stays_on c.args.stint.now c.len.result first seat c.play-turn.new.seat was done stays goes c.play-turn.ensures.moves c.play-turn.ensures.last c.len.ensures)
-    (goes_on_moved first seat c.play-turn.new.seat was done goes c.play-turn.ensures.moves c.play-turn.ensures.last)
+    (stays_on c.args.stint.now c.len.result first seat c.play-turn.new.seat was done stays goes c.play-turn.ensures.proceeds.moves c.play-turn.ensures.proceeds.last c.len.ensures)
+    (goes_on_moved first seat c.play-turn.new.seat was done goes c.play-turn.ensures.proceeds.moves c.play-turn.ensures.proceeds.last)
 
 pub returns-then-not-is_worker-clause-stays : goal.returns-then-not-is_worker-clause-stays
 returns-then-not-is_worker-clause-stays g c = λ first stays. c.stray.ensures.left first stays c.args.graph.now.graph c.args.inputs.now

@@ -1,0 +1,161 @@
+//! The tokens that are requested before the workers begin.
+
+ghost use Rattle.std.specs.Prelude.{◌≡◌, ◌||◌, ℕ, ◌<◌, [], ◌∷◌, true, false, length, map, slice_index_or, IfOk, IsTrue, OnOk};
+ghost use Rattle.std.specs.List.{All};
+ghost use Rattle.tpl_draft.specs.Ids.{token_number};
+ghost use Rattle.tpl_model.specs.Graph.{is_token};
+ghost use Rattle.tpl_report.specs.Made.{is_request, asks, HasAsked, HaveAsked, GoesOn};
+ghost use Rattle.tpl_words.specs.declared.ids.TokenId.{TokenId};
+
+use crate::fault::{RunFault, Stop, seat_stop};
+use std::alloc::{AllocError, Global};
+use std::sync::Wait;
+use tpl_graph::Graph;
+use tpl_model::{Act, Event};
+use tpl_queue::QueuePass;
+use tpl_run::tokens::{close, none_requested};
+use tpl_runtime::{Asked, Item, Seat, Session};
+use tpl_words::{Actor, MOST_TOKENS, TokenId};
+
+/// The outside seat that makes the first requests.
+const ASKER: Actor = Actor::Outside(1);
+
+/// Marks the token that an act requests from outside, if it requests one.
+fn mark(table: &mut [bool; MOST_TOKENS], act: Act)
+    ensures marks { (k : ℕ) → k < MOST_TOKENS → slice_index_or table.new k false
+        ≡ (is_request k act || slice_index_or table.old k false) }
+    ensures many { length table.new ≡ length table.old }
+{
+    match act {
+        Act::Request(token) => {
+            let at = token.0 as usize;
+            if at < MOST_TOKENS {
+                table[at] = true;
+            }
+        }
+        Act::Release(_)
+        | Act::Begin(_)
+        | Act::Step(_)
+        | Act::Worked(_, _)
+        | Act::Leave(_)
+        | Act::Close(_)
+        | Act::Drop(_)
+        | Act::Settle(_) => {}
+    }
+}
+
+/// The tokens that these events request from outside.
+fn requested_in(events: &[(u32, Event)]) -> [bool; MOST_TOKENS]
+    ensures exact { (k : ℕ) → k < MOST_TOKENS → slice_index_or result k false ≡ asks events.now k }
+    ensures many { length result ≡ 32 }
+{
+    let mut table = none_requested();
+    for (_place, event) in events {
+        mark(&mut table, event.act);
+    }
+    table
+}
+
+/// These events request the token or, repeatedly, one of its sources.
+fn have_asked(graph: &Graph, events: &[(u32, Event)], token: TokenId) -> bool
+    requires { is_token graph.now.graph token.0 }
+    ensures { IsTrue result → HasAsked graph.now.graph events.now token.0 }
+{
+    graph.valid_law();
+    let closed = close(&requested_in(events), graph);
+    closed[token.0 as usize]
+}
+
+/// Passes over a token that these events requested. A session that is new has no other that is requested.
+fn passed_over(graph: &Graph, events: &[(u32, Event)], token: TokenId) -> Result<(), Stop>
+    requires { is_token graph.now.graph token.0 }
+    ensures { OnOk result (HasAsked graph.now.graph events.now token.0) }
+{
+    if have_asked(graph, events, token) {
+        Ok(())
+    } else {
+        Err(Stop::Fault(RunFault::Mismatch))
+    }
+}
+
+/// Requests a token. One that the seat requested already is passed over. A session that is new refuses none.
+fn request_one<'g, R: Wait, K: Drop, W: Item<K>>(
+    rt: &R,
+    session: &Session<'g, K, W>,
+    graph: &Graph,
+    seat: &mut Seat,
+    pass: &mut QueuePass<Vec<W>>,
+    token: TokenId,
+) -> Result<(), Stop>
+    requires graph { session.now.graph ≡ graph.now }
+    requires token { is_token graph.now.graph token.0 }
+    requires pass { pass.old.queue ≡ session.now.queue }
+    ensures pass { pass.new.queue ≡ session.now.queue }
+    ensures actor { seat.new.actor ≡ seat.old.actor }
+    ensures list { OnOk result (GoesOn seat.old.mine seat.new.mine) }
+    ensures asked { OnOk result (HasAsked graph.now.graph seat.new.mine token.0) }
+{
+    match session.request(rt, seat, pass, token) {
+        Asked::Place(_) => Ok(()),
+        Asked::Already => passed_over(graph, seat.mine(), token),
+        Asked::Halted | Asked::Stray => Err(Stop::Fault(RunFault::Mismatch)),
+    }
+}
+
+/// Requests each of the tokens, in order.
+fn request_all<'g, R: Wait, K: Drop, W: Item<K>>(
+    rt: &R,
+    session: &Session<'g, K, W>,
+    graph: &Graph,
+    seat: &mut Seat,
+    pass: &mut QueuePass<Vec<W>>,
+    tokens: &[TokenId],
+) -> Result<(), Stop>
+    requires graph { session.now.graph ≡ graph.now }
+    requires tokens { All (λ (k : TokenId). is_token graph.now.graph k.0) tokens.now }
+    requires pass { pass.old.queue ≡ session.now.queue }
+    ensures pass { pass.new.queue ≡ session.now.queue }
+    ensures actor { seat.new.actor ≡ seat.old.actor }
+    ensures asked { OnOk result (All (HasAsked graph.now.graph seat.new.mine) (map token_number
+        tokens.now)) }
+{
+    for token in tokens {
+        request_one(rt, session, graph, seat, pass, *token)?;
+    }
+    Ok(())
+}
+
+/// A list of one seat.
+fn listed(alloc: Global, seat: Seat) -> Result<Vec<Seat>, AllocError>
+    ensures { IfOk result (λ seats. seats.items ≡ seat ∷ []) }
+{
+    let mut seats = Vec::new(alloc);
+    seats.push(seat)?;
+    Ok(seats)
+}
+
+/// Requests the tokens from an outside seat, and gives the seat in a list.
+pub(crate) fn first_seat<'g, R: Wait, K: Drop, W: Item<K>>(
+    rt: &R,
+    alloc: Global,
+    session: &Session<'g, K, W>,
+    graph: &Graph,
+    pass: &mut QueuePass<Vec<W>>,
+    tokens: &[TokenId],
+) -> Result<Vec<Seat>, Stop>
+    requires graph { session.now.graph ≡ graph.now }
+    requires tokens { All (λ (k : TokenId). is_token graph.now.graph k.0) tokens.now }
+    requires pass { pass.old.queue ≡ session.now.queue }
+    ensures pass { pass.new.queue ≡ session.now.queue }
+    ensures asked { IfOk result (λ seats. HaveAsked graph.now.graph (map token_number tokens.now)
+        seats.items) }
+{
+    match session.seat(rt, alloc, ASKER) {
+        Ok(seat) => {
+            let mut seat = seat;
+            request_all(rt, session, graph, &mut seat, pass, tokens)?;
+            Ok(listed(alloc, seat)?)
+        }
+        Err(fault) => Err(seat_stop(fault)),
+    }
+}
