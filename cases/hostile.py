@@ -25,6 +25,7 @@ import tempfile
 import time
 from concurrent.futures import ThreadPoolExecutor
 
+import debian
 from documents import Stages, staged
 
 HERE = pathlib.Path(__file__).resolve().parent
@@ -173,7 +174,7 @@ def ran(task):
 
 # Each bound is some three times what a program takes that is compiled with checks and not proved.
 DEAR = (
-    Hostile("a claim over forks", ("analyse",), lambda: document(forks(), ran("X")), 1, "not found", 2_500, 8),
+    Hostile("a claim over forks", ("analyse",), lambda: document(forks(), ran("X")), 1, "not found", 1_200, 8),
     Hostile("claims over a long line", ("analyse",), lambda: many_claims(8), 0, '[{"rows":', 5_000, 16),
     Hostile("claims over a long line", ("analyse", "--slim"), lambda: many_claims(16), 0, '[{"rows":', 300, 24),
     Hostile("exceptions of all roots in a chain", ("run",), all_exceptions, 0, "complete\n", 350, 8),
@@ -327,10 +328,8 @@ LANES = 2
 
 def has_valgrind():
     """Whether valgrind is there, or can be installed."""
-    if not shutil.which("valgrind") and shutil.which("apt-get") and os.geteuid() == 0:
-        quiet = {"stdin": subprocess.DEVNULL, "stdout": subprocess.DEVNULL, "stderr": subprocess.DEVNULL}
-        install = ["apt-get", "install", "-y", "-q", "--no-install-recommends", "valgrind"]
-        subprocess.run(install, env={**os.environ, "DEBIAN_FRONTEND": "noninteractive"}, timeout=300, check=False, **quiet)
+    if not shutil.which("valgrind"):
+        debian.install("valgrind")
     return shutil.which("valgrind") is not None
 
 
