@@ -6,28 +6,30 @@ mod line;
 mod options;
 mod progress;
 mod subcommand;
-mod told;
 mod usage;
 mod why;
 
-ghost use Rattle.std.specs.Prelude.{IfOk, IfSome};
+ghost use Rattle.std.specs.Prelude.{IfOk};
+ghost use Rattle.std.specs.List.{All};
+ghost use Rattle.tpl_graph.specs.Fits.{Fits};
 ghost use Rattle.tpl_cli.specs.Line.{IsWithin};
-ghost use Rattle.tpl_reasons.specs.Reasons.{IsAnswered};
+ghost use Rattle.tpl_commands.specs.Loading.{RequestsTokens};
+ghost use Rattle.tpl_reader.specs.SeenDocument.{doc_of};
 
 use crate::boxes::run_boxes;
 use crate::line::{Line, LineFault, line_of};
-use crate::progress::{RunProgress, SearchProgress};
-use crate::told::{Told, certify_bytes, search_bytes, told_of};
-use crate::why::{asks_why, say_what_is_read, tell_why, tell_why_unread};
+use crate::progress::RunProgress;
+use crate::why::{Teller, asks_why, say_what_is_read};
 use std::alloc::Global;
 use std::io::{BufWriter, ErrorKind, IsTerminal, Read, Write};
 use std::process::ExitCode;
 use std::sync::Wait;
 use std::thread::Threads;
 use std::{env, iter};
-use tpl_analyser::Form;
+use tpl_commands::{Ask, Exit, Loaded, load_watched, put_out_of_memory, serve_watched};
 use tpl_journal::Counting;
-use tpl_report::{Ask, Crew, Exit, load, put_out_of_memory, read_input, serve, serve_watched};
+use tpl_reader::Document;
+use tpl_report::Crew;
 use tpl_trace::trace_document;
 use tpl_witness::{Search, refute_document};
 use tpl_words::Inputs;
@@ -64,21 +66,38 @@ fn given_order(rt: &HostRuntime) -> Result<Order, LineFault>
     Ok(Order { line, explains })
 }
 
+/// Makes the run of a document.
+fn run_document<R: Threads + Wait + Sync, O: Write>(
+    rt: &HostRuntime,
+    threads: &R,
+    workers: u16,
+    document: &Document,
+    to: &mut Counting<O>,
+) -> Exit
+    requires claims { All (Fits document.now.graph.graph) document.now.claims.items }
+    requires tokens { RequestsTokens (doc_of document.now) }
+{
+    let inputs = document.inputs().unwrap_or(Inputs::new(0));
+    let progress = RunProgress::new(rt, &document.graph, inputs);
+    let follower = rt.stderr().is_terminal().then_some(&progress);
+    let crew = Crew { workers, follower };
+    run_boxes(threads, rt.alloc(), document, crew, to)
+}
+
 /// Makes the run of the document that comes.
 fn run<R: Threads + Wait + Sync, I: Read, O: Write>(
     rt: &HostRuntime,
     threads: &R,
+    teller: Teller<'_>,
     workers: u16,
     from: &mut Counting<I>,
     to: &mut Counting<O>,
 ) -> Exit {
-    match load(rt.alloc(), from, to) {
-        Ok(document) => {
-            let inputs = document.inputs().unwrap_or(Inputs::new(0));
-            let progress = RunProgress::new(rt, &document.graph, inputs);
-            let follower = rt.stderr().is_terminal().then_some(&progress);
-            let crew = Crew { workers, follower };
-            run_boxes(threads, rt.alloc(), &document, crew, to)
+    match load_watched(rt.alloc(), teller, from, to) {
+        Ok(Loaded { document, bytes }) => {
+            let exit = run_document(rt, threads, workers, &document, to);
+            teller.ran(exit, &bytes, document);
+            exit
         }
         Err(exit) => exit,
     }
@@ -101,89 +120,37 @@ fn search_of(claim: Option<u8>, runs: u32, seed: u32, explain: bool) -> Search {
     }
 }
 
-/// Searches a certificate for the document that comes.
-fn search<I: Read, O: Write>(
-    rt: &HostRuntime,
-    ask: Ask,
-    from: &mut Counting<I>,
-    to: &mut Counting<O>,
-) -> Exit {
-    let progress = SearchProgress::new(rt);
-    let exit = serve_watched(rt.alloc(), ask, progress, from, to);
-    progress.end();
-    exit
-}
-
-/// Answers the document that comes.
+/// Answers the document that comes, and says on the standard error why the answer is what it is, where that is asked for.
 fn answer<R: Threads + Wait + Sync, I: Read, O: Write>(
     rt: &HostRuntime,
     threads: &R,
-    line: &Line,
+    order: &Order,
     from: &mut Counting<I>,
     to: &mut Counting<O>,
 ) -> Exit
-    requires { IsWithin line.now }
+    requires { IsWithin order.now.line }
 {
-    match line {
-        Line::Check => serve(rt.alloc(), Ask::Check, from, to),
-        Line::Analyse(depth) => search(rt, Ask::Analyse(*depth), from, to),
-        Line::AnalyseIn(depth, form) => search(rt, Ask::AnalyseIn(*depth, *form), from, to),
-        Line::Certify(depth, form) => search(rt, Ask::Certify(*depth, *form), from, to),
-        Line::Run(workers) => run(rt, threads, *workers, from, to),
-        Line::Audit => serve(rt.alloc(), Ask::Audit, from, to),
+    let alloc = rt.alloc();
+    let teller = Teller::new(rt, order.explains);
+    let searcher = teller.of_search();
+    match order.line {
+        Line::Check => serve_watched(alloc, Ask::Check, teller, from, to),
+        Line::Analyse(depth) => serve_watched(alloc, Ask::Analyse(depth), searcher, from, to),
+        Line::AnalyseIn(depth, form) => {
+            serve_watched(alloc, Ask::AnalyseIn(depth, form), searcher, from, to)
+        }
+        Line::Certify(depth, form) => {
+            serve_watched(alloc, Ask::Certify(depth, form), searcher, from, to)
+        }
+        Line::Run(workers) => run(rt, threads, teller, workers, from, to),
+        Line::Audit => serve_watched(alloc, Ask::Audit, teller, from, to),
         Line::Refute(claim, runs, seed, explain) => {
-            let search = search_of(*claim, *runs, *seed, *explain);
+            let search = search_of(claim, runs, seed, explain);
             let mut aside = Counting::new(rt.stderr());
-            refute_document(rt.alloc(), search, from, to, &mut aside)
+            refute_document(alloc, search, teller, from, to, &mut aside)
         }
-        Line::Draw(language) => serve(rt.alloc(), Ask::Draw(*language), from, to),
-        Line::Trace => trace_document(rt.alloc(), from, to),
-    }
-}
-
-/// Answers a document of these bytes, and says what is to be asked of its reason.
-fn answer_bytes<R: Threads + Wait + Sync, O: Write>(
-    rt: &HostRuntime,
-    threads: &R,
-    line: &Line,
-    bytes: &[u8],
-    to: &mut Counting<O>,
-) -> Told
-    requires { IsWithin line.now }
-    ensures { IfSome result.asked (IsAnswered bytes.now) }
-{
-    match line {
-        Line::Analyse(depth) => search_bytes(rt, *depth, Form::Full, bytes, to),
-        Line::AnalyseIn(depth, form) => search_bytes(rt, *depth, *form, bytes, to),
-        Line::Certify(depth, form) => certify_bytes(rt, *depth, *form, bytes, to),
-        _ => {
-            let mut again = Counting::new(bytes);
-            let exit = answer(rt, threads, line, &mut again, to);
-            told_of(line, exit)
-        }
-    }
-}
-
-/// Answers the document that comes, and says on the standard error why the answer is what it is.
-fn answer_and_explain<R: Threads + Wait + Sync, I: Read, O: Write>(
-    rt: &HostRuntime,
-    threads: &R,
-    line: &Line,
-    from: &mut Counting<I>,
-    to: &mut Counting<O>,
-) -> Exit
-    requires { IsWithin line.now }
-{
-    match read_input(rt.alloc(), from, to) {
-        Ok(bytes) => {
-            let Told { exit, asked } = answer_bytes(rt, threads, line, &bytes, to);
-            tell_why(rt, asked, &bytes);
-            exit
-        }
-        Err(exit) => {
-            tell_why_unread(rt, exit);
-            exit
-        }
+        Line::Draw(language) => serve_watched(alloc, Ask::Draw(language), teller, from, to),
+        Line::Trace => trace_document(alloc, teller, from, to),
     }
 }
 
@@ -198,11 +165,7 @@ fn perform<R: Threads + Wait + Sync>(rt: &HostRuntime, threads: &R, order: Order
         return put_out_of_memory(&mut Counting::new(rt.stdout()));
     };
     let mut to = Counting::new(out);
-    let exit = if order.explains {
-        answer_and_explain(rt, threads, &order.line, &mut from, &mut to)
-    } else {
-        answer(rt, threads, &order.line, &mut from, &mut to)
-    };
+    let exit = answer(rt, threads, &order, &mut from, &mut to);
     let _left = to.into_inner().into_parts();
     exit
 }

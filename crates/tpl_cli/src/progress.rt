@@ -1,11 +1,9 @@
 //! How far the work is, told on the standard error while it goes on, where that is a terminal.
 
 use std::alloc::Global;
-use std::io::IsTerminal;
 use std::sync::atomic::{AtomicBool, Ordering};
 use std::thread;
 use std::time::Duration;
-use tpl_analyser::Watch;
 use tpl_fast::Fast;
 use tpl_graph::Graph;
 use tpl_machine::Core;
@@ -19,40 +17,8 @@ const PAUSE: u64 = 20;
 const MOST_LOOKS: u32 = 180_000;
 
 /// Takes the line back.
-fn clear(rt: &HostRuntime) {
+pub(crate) fn clear(rt: &HostRuntime) {
     let _ = eprint!(rt; "\r\x1b[K");
-}
-
-/// Tells how many leaves were tried for which claim, where it shows something.
-#[derive(Clone, Copy, Drop)]
-pub(crate) struct SearchProgress<'a> {
-    rt: &'a HostRuntime,
-    shows: bool,
-}
-
-impl<'a> SearchProgress<'a> {
-    /// The progress of a search, on a terminal alone.
-    pub(crate) fn new(rt: &'a HostRuntime) -> SearchProgress<'a> {
-        SearchProgress {
-            rt,
-            shows: rt.stderr().is_terminal(),
-        }
-    }
-
-    /// Takes the line back.
-    pub(crate) fn end(self) {
-        if self.shows {
-            clear(self.rt);
-        }
-    }
-}
-
-impl Watch for SearchProgress<'_> {
-    fn tries(&mut self, claim: usize, leaves: u32) {
-        if self.shows {
-            let _ = eprint!(self.rt; "\rclaim {claim}: {leaves} leaves tried\x1b[K");
-        }
-    }
 }
 
 /// Tells how many tasks of a run have ended.

@@ -1,36 +1,109 @@
-//! What is said on the standard error, for people: why an answer is what it is. It changes nothing of the answer.
+//! What is said on the standard error, for people: how far a search is, and why an answer is what it is. It changes
+//! nothing of the answer.
 
 ghost use Rattle.std.specs.Prelude.{IfSome};
-ghost use Rattle.tpl_reasons.specs.Reasons.{IsAnswered};
+ghost use Rattle.std.specs.List.{All};
+ghost use Rattle.tpl_graph.specs.Fits.{Fits};
+ghost use Rattle.tpl_reader.specs.Document.{Spells};
+ghost use Rattle.tpl_reader.specs.SeenDocument.{doc_of};
+ghost use Rattle.tpl_commands.specs.Finding.{IsFoundOf};
 
+use crate::progress::clear;
 use std::io::IsTerminal;
-use tpl_reasons::{Asked, explain};
-use tpl_report::Exit;
+use tpl_analyser::Watch;
+use tpl_commands::{Audit, Exit, Finding, Found, Listen, check_document};
+use tpl_reader::Document;
+use tpl_reasons::explain;
 
 /// Whether the words ask for reasons.
 pub(crate) fn asks_why(words: &[&str]) -> bool {
     words.contains(&"--explain")
 }
 
-/// Says why the answer to a document of these bytes was what it was. Where there is no memory for it, or the standard
-/// error takes nothing, it isn't said.
-pub(crate) fn tell_why(rt: &HostRuntime, asked: Option<Asked>, bytes: &[u8])
-    requires { IfSome asked (IsAnswered bytes.now) }
-{
-    let Some(asked) = asked else {
-        return;
-    };
-    if let Ok(Some(reasoned)) = explain(rt.alloc(), asked, bytes) {
-        let _ = eprint!(rt; "{}", reasoned.text);
+/// Tells how far a search is, where that shows something, and why an answer is what it is, where that is asked for. What the
+/// standard error doesn't take isn't said, nor that for which there is no memory.
+#[derive(Clone, Copy, Drop)]
+pub(crate) struct Teller<'a> {
+    rt: &'a HostRuntime,
+    shows: bool,
+    explains: bool,
+}
+
+impl<'a> Teller<'a> {
+    /// Tells nothing of a search; and reasons, where they are asked for.
+    pub(crate) fn new(rt: &'a HostRuntime, explains: bool) -> Teller<'a> {
+        Teller {
+            rt,
+            shows: false,
+            explains,
+        }
+    }
+
+    /// Tells also how far a search is, on a terminal alone.
+    pub(crate) fn of_search(self) -> Teller<'a> {
+        Teller {
+            rt: self.rt,
+            shows: self.rt.stderr().is_terminal(),
+            explains: self.explains,
+        }
+    }
+
+    /// Tells why a document isn't run, or not to its end.
+    pub(crate) fn ran(self, exit: Exit, bytes: &[u8], document: Document)
+        requires spelled { Spells bytes.now (doc_of document) }
+        requires claims { All (Fits document.graph.graph) document.claims.items }
+    {
+        if self.explains && (exit == Exit::Failure || exit == Exit::Unreadable) {
+            if let Some(found) = why_no_run(&document) {
+                self.answered(bytes, &Finding::Read(document, found));
+            }
+        }
     }
 }
 
-/// Says why no document was read, where it was too long.
-pub(crate) fn tell_why_unread(rt: &HostRuntime, exit: Exit) {
-    if exit == Exit::Unreadable {
-        let _ = eprint!(rt;
-            "the document is longer than 16777216 bytes, the most that is read; --slim makes shorter certificates\n"
-        );
+impl Watch for Teller<'_> {
+    fn tries(&mut self, claim: usize, leaves: u32) {
+        if self.shows {
+            let _ = eprint!(self.rt; "\rclaim {claim}: {leaves} leaves tried\x1b[K");
+        }
+    }
+}
+
+impl Listen for Teller<'_> {
+    fn found(self) {
+        if self.shows {
+            clear(self.rt);
+        }
+    }
+
+    fn answered(self, bytes: &[u8], finding: &Finding) {
+        if self.explains {
+            if let Ok(Some(reasoned)) = explain(self.rt.alloc(), bytes, finding) {
+                let _ = eprint!(self.rt; "{}", reasoned.text);
+            }
+        }
+    }
+
+    fn unread(self, exit: Exit) {
+        if self.explains && exit == Exit::Unreadable {
+            let _ = eprint!(self.rt;
+                "the document is longer than 16777216 bytes, the most that is read; --slim makes shorter certificates\n"
+            );
+        }
+    }
+}
+
+/// Why a document isn't run: nothing says which values its inputs have, or its certificate is refused.
+fn why_no_run(document: &Document) -> Option<Found>
+    requires { All (Fits document.now.graph.graph) document.now.claims.items }
+    ensures { IfSome result (IsFoundOf (doc_of document.now)) }
+{
+    match document.inputs() {
+        None => Some(Found::Audited(Audit::NoStart)),
+        Some(_) => match check_document(document) {
+            Ok(()) => None,
+            Err(fault) => Some(Found::Checked(Err(fault))),
+        },
     }
 }
 

@@ -1,20 +1,23 @@
 -- From the verdict on a document to what was read and written.
-use Rattle.std.proofs.Common.{◌≡◌, ℕ, List, Option, Result, Ok, Err, IfOk, string_bytes, inl, inr, sym, ◌∙◌, subst}
+use Rattle.std.proofs.Common.{◌≡◌, ◌+◌, ◌≤◌, ℕ, List, Option, Result, Ok, Err, IfOk, string_bytes, inl, inr, sym, ◌∙◌, subst}
 use Rattle.std.specs.declared.alloc.AllocError.{AllocError}
+use Rattle.tpl_journal.specs.Counting.{calls_of}
 use Rattle.tpl_journal.specs.declared.counting.Counting.{Counting}
 use Rattle.tpl_reader.specs.Document.{DocumentValue, Spells}
 use Rattle.tpl_commands.specs.declared.answer.Answer.{Answer}
 use Rattle.tpl_commands.specs.declared.exit.Exit.{Exit}
-use Rattle.tpl_commands.specs.declared.serving.Ask.{Ask}
-use Rattle.tpl_commands.specs.declared.serving.Ask.TheVariants.{Analyse, AnalyseIn, Certify}
+use Rattle.tpl_commands.specs.declared.ask.Ask.{Ask}
+use Rattle.tpl_commands.specs.declared.ask.Ask.TheVariants.{Check, Analyse, AnalyseIn, Certify, Audit}
 use Rattle.tpl_commands.specs.declared.exit.Exit.TheVariants.{Success, Failure, Usage, Unreadable, Memory, Device, Fault}
 use Rattle.tpl_analyser.specs.declared.form.Form.{Form}
+use Rattle.tpl_analyser.specs.declared.form.Form.TheVariants.{Full}
 use Rattle.tpl_commands.specs.Certifying.{Certifies, IsCertifying}
 use Rattle.tpl_commands.specs.Checking.{Checks, IsVerdict}
 use Rattle.tpl_commands.specs.Documents.{ToDocument}
-use Rattle.tpl_commands.specs.Finding.{Finds, IsFinding}
-use Rattle.tpl_commands.specs.Responding.{Says, Puts, Writes, Responds}
-use Rattle.tpl_commands.specs.Serving.{Accepted, Found, Certified}
+use Rattle.tpl_commands.specs.Searching.{Finds, IsSearching}
+use Rattle.tpl_commands.specs.Responding.{longest, Says, Puts, Writes, Responds}
+use Rattle.tpl_commands.specs.Serving.{answers_of, Accepted, Found, Certified, Serves}
+use Rattle.tpl_commands.proofs.AuditLemmas.{answer_audits}
 
 pub to_document : (Is : DocumentValue → Exit → List ℕ → Type 0) (input : List ℕ) (doc : DocumentValue) → Spells input doc → (r : Result Answer AllocError) → IfOk r (λ given. Is doc given.exit (string_bytes given.text)) → IfOk r (λ given. ToDocument Is input given.exit (string_bytes given.text))
 to_document Is input doc spelled (Ok given) answer = inl (doc, spelled, answer)
@@ -62,7 +65,7 @@ pub success_finds : {R W : Type 0} (remaining : R → Option (List ℕ)) (from_o
 unfolding Succeeds
 success_finds remaining from_old from_new contents old new depth form result (inl p) e =
     let w = puts_success contents old new p.1 p.2 result p.5 e in
-    let s = says_success (IsFinding depth form) p.0 p.1 p.2 w.0 p.4 in
+    let s = says_success (IsSearching depth form) p.0 p.1 p.2 w.0 p.4 in
     record {
       input = p.0;
       reads = p.3;
@@ -90,17 +93,18 @@ success_certifies remaining from_old from_new contents old new depth form result
     }
 success_certifies remaining from_old from_new contents old new depth form result (inr f) e = let d = f.0 in absurd cc
 
-pub same_depth : (a b : ℕ) (ask : Ask) → ask ≡ Analyse a → ask ≡ Analyse b → a ≡ b
-same_depth a b ask e f = cc
+-- what is known from an exit where this is asked
+module _ {R W : Type 0} (ask : Ask) (remaining : R → Option (List ℕ)) (from_old from_new : Counting R) (contents : W → Option (List ℕ)) (old new : Counting W) (result : Exit) (responds : Responds (answers_of ask) remaining from_old from_new contents old new result) where
+  where_asked : (other : Ask) → ask ≡ other → Responds (answers_of other) remaining from_old from_new contents old new result
+  where_asked other is = subst (λ (a : Ask). Responds (answers_of a) remaining from_old from_new contents old new result) is responds
 
-pub same_depth_in : (a b : ℕ) (m n : Form) (ask : Ask) → ask ≡ AnalyseIn a m → ask ≡ AnalyseIn b n → a ≡ b
-same_depth_in a b m n ask e f = cc
-
-pub same_form_in : (a b : ℕ) (m n : Form) (ask : Ask) → ask ≡ AnalyseIn a m → ask ≡ AnalyseIn b n → m ≡ n
-same_form_in a b m n ask e f = cc
-
-pub same_depth_certified : (a b : ℕ) (m n : Form) (ask : Ask) → ask ≡ Certify a m → ask ≡ Certify b n → a ≡ b
-same_depth_certified a b m n ask e f = cc
-
-pub same_form_certified : (a b : ℕ) (m n : Form) (ask : Ask) → ask ≡ Certify a m → ask ≡ Certify b n → m ≡ n
-same_form_certified a b m n ask e f = cc
+  pub serves : calls_of from_new ≤ calls_of from_old + (longest + 2) → Serves ask remaining from_old from_new contents old new result
+  serves reads = record {
+    responds = responds;
+    reads = reads;
+    accepted = λ is success. success_accepts remaining from_old from_new contents old new result (where_asked Check is) success;
+    found = λ depth is success. success_finds remaining from_old from_new contents old new depth Full result (where_asked (Analyse depth) is) success;
+    found_in = λ depth form is success. success_finds remaining from_old from_new contents old new depth form result (where_asked (AnalyseIn depth form) is) success;
+    certified = λ depth form is success. success_certifies remaining from_old from_new contents old new depth form result (where_asked (Certify depth form) is) success;
+    audited = λ is exit. answer_audits remaining from_old from_new contents old new result (where_asked Audit is) exit;
+  }

@@ -10,10 +10,11 @@ use Rattle.tpl_model.specs.Certificate.{Accepts}
 use Rattle.tpl_reader.specs.Document.{DocumentValue, Spells}
 use Rattle.tpl_commands.specs.declared.exit.Exit.{Exit}
 use Rattle.tpl_commands.specs.declared.exit.Exit.TheVariants.{Success, Failure as Failed, Usage, Unreadable, Memory, Device, Fault}
-use Rattle.tpl_commands.specs.Auditing.{Audits, IsAudit, IsAuditWith, NamesNoFailure, run_text, verdict_text}
+use Rattle.tpl_commands.specs.declared.auditing.Audit.{Audit}
+use Rattle.tpl_commands.specs.declared.auditing.Audit.TheVariants.{NoStart, NoJournal, Judged}
+use Rattle.tpl_commands.specs.Auditing.{Audits, IsAudit, IsAuditAnswer, IsAuditOf, NamesNoFailure, run_text, verdict_text}
 use Rattle.tpl_commands.specs.Responding.{Says, Puts, Responds}
 use Rattle.tpl_commands.specs.Serving.{Audited}
-use Rattle.tpl_reader.specs.Starting.{inputs_of}
 
 -- a text of a run in which no claim fails is none that names one
 
@@ -51,12 +52,12 @@ unreadable≢ : (exit : Exit) → (exit ≡ Success) ⊎ (exit ≡ Failed) → e
 unreadable≢ exit (inl e) f = absurd cc
 unreadable≢ exit (inr e) f = absurd cc
 
-audit_names_none : (doc : DocumentValue) (inputs : Option (List Bool)) (exit : Exit) (text : List ℕ) → (exit ≡ Success) ⊎ (exit ≡ Failed) → IsAuditWith doc inputs exit text
+audit_names_none : (doc : DocumentValue) (audit : Audit) (exit : Exit) (text : List ℕ) → (exit ≡ Success) ⊎ (exit ≡ Failed) → IsAuditOf doc audit → IsAuditAnswer audit exit text
     → Accepts doc.graph.graph doc.claims doc.certificate → NamesNoFailure text
-audit_names_none doc None exit text answers audit accepted = absurd (unreadable≢ exit answers audit.0)
-audit_names_none doc (Some inputs) exit text answers (inl audit) accepted =
-    subst NamesNoFailure (sym audit.said) (verdict_names_none audit.verdict (audit.sound accepted))
-audit_names_none doc (Some inputs) exit text answers (inr none) accepted = absurd (unreadable≢ exit answers none.ends)
+audit_names_none doc NoStart exit text answers is said accepted = absurd (unreadable≢ exit answers said.0)
+audit_names_none doc (Judged verdict) exit text answers is said accepted =
+    subst NamesNoFailure (sym said.1) (verdict_names_none verdict (is.sound accepted))
+audit_names_none doc (NoJournal fault) exit text answers is said accepted = absurd (unreadable≢ exit answers said.0)
 
 -- what an answer to the audit says
 
@@ -98,7 +99,7 @@ answer_audits remaining from_old from_new contents old new result (inl p) answer
           spelled = a.1;
           text = p.2;
           audit = a.2;
-          sound = audit_names_none a.0 (inputs_of a.0) result p.2 answers a.2;
+          sound = audit_names_none a.0 a.2.0 result p.2 answers a.2.1 a.2.2;
           writes = w.1;
         }
     go (inr f) = absurd (device≢ result answers f.0)

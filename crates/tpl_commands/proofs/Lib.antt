@@ -1,9 +1,10 @@
 pub mod Accepting
+pub mod Asked
 pub mod AuditLemmas
 pub mod Inputs
 pub mod LineBreak
 pub mod LoadLemmas
+pub mod Responses
 pub mod TakenBack
 pub mod Whole
 pub mod WrittenTrees
-pub mod SearchLemmas

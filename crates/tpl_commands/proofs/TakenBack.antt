@@ -12,7 +12,7 @@ use Rattle.tpl_commands.specs.declared.exit.Exit.{Exit}
 use Rattle.tpl_commands.specs.declared.exit.Exit.TheVariants.{Success, Failure, Usage, Unreadable, Memory, Device, Fault}
 use Rattle.tpl_commands.specs.Checking.{IsVerdict}
 use Rattle.tpl_commands.specs.Unreadable.{IsUnreadable}
-use Rattle.tpl_commands.specs.Finding.{IsRead, IsOnlyAccepted, CanBePut, written_trees}
+use Rattle.tpl_commands.specs.Searching.{IsRead, IsOnlyAccepted, CanBePut, written_trees}
 
 verdict_only : (doc : DocumentValue) (exit : Exit) (text : List ℕ) → Accepts doc.graph.graph doc.claims doc.certificate → IsVerdict doc exit text → (exit ≡ Success) × (text ≡ codes "accepted\n")
 verdict_only doc Success text accepted is = (refl, is.1)

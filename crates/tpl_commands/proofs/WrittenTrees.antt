@@ -15,7 +15,7 @@ use Rattle.tpl_model.specs.Certificate as tree
 use Rattle.tpl_draft.specs.Named.{Names}
 use Rattle.tpl_cert.specs.NamedTrees.{NamedRow, NamedTree, SplitInput, SplitEnd, Leaf}
 use Rattle.tpl_cert.specs.Written.{words_of, row_data, tree_data, named, is_id, has_row_ids, has_ids}
-use Rattle.tpl_commands.specs.Finding.{IsRead, written_tree, written_trees}
+use Rattle.tpl_commands.specs.Searching.{IsRead, written_tree, written_trees}
 
 -- the ids of a tree that is accepted are the graph's
 module _ (n : Names) (g : TaskGraph) (tasks : length n.tasks ≡ length g.tasks) (inputs : length n.inputs ≡ g.inputs) where

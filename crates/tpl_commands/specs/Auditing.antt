@@ -1,5 +1,5 @@
 -- What `audit` answers to a document.
-use Rattle.std.specs.Prelude.{◌≡◌, ◌⊎◌, ℕ, Bool, true, false, List, Option, Some, None, ◌++◌, codes}
+use Rattle.std.specs.Prelude.{◌≡◌, ℕ, Bool, true, false, List, Option, Some, None, ◌++◌, codes}
 use Rattle.tpl_model.specs.declared.event.Event.{Event}
 use Rattle.tpl_model.specs.Certificate.{Accepts}
 use Rattle.tpl_journal.specs.declared.reading_lines.JournalFault.{JournalFault}
@@ -10,6 +10,8 @@ use Rattle.tpl_audit.specs.declared.verdict.Verdict.{Verdict}
 use Rattle.tpl_audit.specs.declared.verdict.Verdict.TheVariants as ruled
 use Rattle.tpl_audit.specs.Audit.{IsVerdict, FindsNoFailure}
 use Rattle.tpl_reader.specs.Document.{DocumentValue}
+use Rattle.tpl_commands.specs.declared.auditing.Audit.{Audit}
+use Rattle.tpl_commands.specs.declared.auditing.Audit.TheVariants.{NoStart, NoJournal, Judged}
 use Rattle.tpl_commands.specs.declared.exit.Exit.{Exit}
 use Rattle.tpl_commands.specs.declared.exit.Exit.TheVariants.{Success, Failure as Failed, Unreadable, Memory}
 use Rattle.tpl_commands.specs.Texts.{ended, claim_fails, not_allowed, unreadable, unreadable_at, unreadable_start}
@@ -40,16 +42,28 @@ verdict_exit (ruled.Run complete fails) = run_exit complete fails
 verdict_exit (ruled.NotAllowed place) = Failed
 verdict_exit ruled.Memory = Memory
 
--- The journal's text is that of these events, and this is the verdict on them. Where the document's
--- certificate is accepted, no claim fails.
-pub record IsAudited (doc : DocumentValue) (inputs : List Bool) (exit : Exit) (text : List ℕ) : Type 0 where
+-- The verdict on the journal, whose text is that of these events. Where the document's certificate is accepted, no claim
+-- fails.
+pub record IsAudited (doc : DocumentValue) (verdict : Verdict) : Type 0 where
+  pub inputs : List Bool
+  pub known : inputs_of doc ≡ Some inputs
   pub events : List Event
   pub journal : IsJournal doc.graph doc.journal events
-  pub verdict : Verdict
   pub audited : IsVerdict doc.graph.graph inputs events doc.claims verdict
   pub sound : Accepts doc.graph.graph doc.claims doc.certificate → FindsNoFailure verdict
-  pub ends : exit ≡ verdict_exit verdict
-  pub said : text ≡ verdict_text verdict
+
+-- The inputs are known, and the journal's text is none of the graph's, for this reason.
+pub record IsNoJournal (doc : DocumentValue) (fault : JournalFault) : Type 0 where
+  pub inputs : List Bool
+  pub known : inputs_of doc ≡ Some inputs
+  pub is : IsJournalFault doc.graph doc.journal fault
+  pub other : fault ≡ broken.Memory → ⊥
+
+-- what the audit says of the document's journal
+abbrev pub IsAuditOf : DocumentValue → Audit → Type 0
+IsAuditOf doc NoStart = inputs_of doc ≡ None
+IsAuditOf doc (NoJournal fault) = IsNoJournal doc fault
+IsAuditOf doc (Judged verdict) = IsAudited doc verdict
 
 -- the line for a text that is no journal
 abbrev pub IsNoJournalText : JournalFault → List ℕ → Type 0
@@ -57,21 +71,15 @@ IsNoJournalText (broken.Line number) text = text ≡ unreadable_at (codes "journ
 IsNoJournalText broken.Limit text = text ≡ unreadable (codes "journal limit")
 IsNoJournalText broken.Memory text = ⊥
 
--- the journal's text is none of the graph's
-pub record IsNoJournal (doc : DocumentValue) (exit : Exit) (text : List ℕ) : Type 0 where
-  pub fault : JournalFault
-  pub is : IsJournalFault doc.graph doc.journal fault
-  pub ends : exit ≡ Unreadable
-  pub said : IsNoJournalText fault text
-
--- the audit with these inputs, if they are known
-abbrev pub IsAuditWith : DocumentValue → Option (List Bool) → Exit → List ℕ → Type 0
-IsAuditWith doc None exit text = (exit ≡ Unreadable) × (text ≡ unreadable_start (codes "Missing"))
-IsAuditWith doc (Some inputs) exit text = IsAudited doc inputs exit text ⊎ IsNoJournal doc exit text
+-- the exit and the text for what the audit says
+abbrev pub IsAuditAnswer : Audit → Exit → List ℕ → Type 0
+IsAuditAnswer NoStart exit text = (exit ≡ Unreadable) × (text ≡ unreadable_start (codes "Missing"))
+IsAuditAnswer (NoJournal fault) exit text = (exit ≡ Unreadable) × IsNoJournalText fault text
+IsAuditAnswer (Judged verdict) exit text = (exit ≡ verdict_exit verdict) × (text ≡ verdict_text verdict)
 
 -- the answer of `audit` to a document
 abbrev pub IsAudit : DocumentValue → Exit → List ℕ → Type 0
-IsAudit doc exit text = IsAuditWith doc (inputs_of doc) exit text
+IsAudit doc exit text = (audit : Audit) × IsAuditOf doc audit × IsAuditAnswer audit exit text
 
 -- the answer of `audit` to bytes
 abbrev pub Audits : Answers

@@ -1,11 +1,9 @@
 -- What `analyse --whole` answers to a document.
 use Rattle.std.specs.Prelude.{◌≡◌, ◌⊎◌, ◌≤◌, ◌<◌, ℕ, List, codes, length, string_bytes}
-use Rattle.std.specs.List.{All}
 use Rattle.serde_json.specs.Data.{Data, Members, object}
-use Rattle.tpl_model.specs.Certificate.{Tree, Accepts}
-use Rattle.tpl_cert.specs.Heights.{height}
+use Rattle.tpl_draft.specs.Named.{Names}
+use Rattle.tpl_model.specs.Certificate.{Tree}
 use Rattle.tpl_analyser.specs.declared.form.Form.{Form}
-use Rattle.tpl_analyser.specs.Slim.{IsCertificateOf}
 use Rattle.tpl_reader.specs.Document.{DocumentValue, Reads, Spells, longest}
 use Rattle.tpl_reader.specs.Laws.{HoldsCertificate}
 use Rattle.tpl_commands.specs.declared.answer.Answer.{Answer}
@@ -14,14 +12,10 @@ use Rattle.tpl_commands.specs.declared.exit.Exit.TheVariants.{Success, Failure}
 use Rattle.tpl_commands.specs.Responding.{Answers}
 use Rattle.tpl_commands.specs.Documents.{ToDocument}
 use Rattle.tpl_commands.specs.Checking.{ClaimsHold}
-use Rattle.tpl_commands.specs.Finding.{written_trees, IsTakenBack, IsNotFound}
-
--- The trees are a certificate of this form with at most this many splits on each path, which is accepted
--- for the document's claims.
-pub record AreFound (depth : ℕ) (form : Form) (doc : DocumentValue) (trees : List Tree) : Type 0 where
-  pub accepted : Accepts doc.graph.graph doc.claims trees
-  pub splits : All (λ tree. height tree ≤ depth) trees
-  pub of_form : IsCertificateOf form doc.claims trees
+use Rattle.tpl_commands.specs.declared.searching.Outcome.{Outcome}
+use Rattle.tpl_commands.specs.declared.searching.Outcome.TheVariants.{Certificate, Missed}
+use Rattle.tpl_commands.specs.Texts.{not_found}
+use Rattle.tpl_commands.specs.Searching.{written_trees, AreFound, IsTakenBack, IsNotFound}
 
 -- The text spells the document with such a certificate in place of its own, and no other document; the
 -- check accepts it, and so the claims hold.
@@ -52,6 +46,13 @@ IsCertifying depth form doc exit text = ⊥
 -- the answer of `analyse --whole` to bytes
 abbrev pub Certifies : ℕ → Form → Answers
 Certifies depth form = ToDocument (IsCertifying depth form)
+
+-- a text of the document with the certificate that was found, or that it is too long, or the line that names the claim for
+-- which none was found
+abbrev pub IsWholeText : Names → Outcome → List ℕ → Type 0
+IsWholeText names (Certificate trees) text =
+    ((input : List ℕ) × HoldsCertificate input (written_trees names trees) text) ⊎ (text ≡ codes "too long\n")
+IsWholeText names (Missed claim ran_out) text = text ≡ not_found claim
 
 -- the text itself where it is no longer than what is read, else that it is too long
 abbrev pub IsSized : List ℕ → Answer → Type 0

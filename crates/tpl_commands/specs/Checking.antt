@@ -1,5 +1,5 @@
 -- What `check` answers to a document.
-use Rattle.std.specs.Prelude.{◌≡◌, ℕ, Bool, List, Some, Ok, Err, codes, slice_get}
+use Rattle.std.specs.Prelude.{◌≡◌, ℕ, Bool, List, Some, Result, Ok, Err, codes, slice_get}
 use Rattle.tpl_model.specs.declared.event.Event.{Event}
 use Rattle.tpl_model.specs.declared.fault.CertFault.{CertFault}
 use Rattle.tpl_model.specs.declared.fault.CertFault.TheVariants.{Shape, NotClosed, ClaimNot}
@@ -35,12 +35,28 @@ pub record IsRefused (doc : DocumentValue) (fault : CertFault) : Type 0 where
   pub first : IsFirstFault doc.graph.graph doc.claims doc.certificate fault
   pub not_accepted : Accepts doc.graph.graph doc.claims doc.certificate → ⊥
 
+-- the task that is named is the graph's
+abbrev pub NamesTask : TaskGraph → CertFault → Type 0
+NamesTask g (Shape claim) = Unit {0}
+NamesTask g (NotClosed claim leaf task rule) = is_task g task.0
+NamesTask g (ClaimNot claim leaf) = Unit {0}
+
+-- what the check says of the document's certificate
+abbrev pub IsCheckOf : DocumentValue → Result (Unit {0}) CertFault → Type 0
+IsCheckOf doc (Ok x) = IsAccepted doc
+IsCheckOf doc (Err fault) = IsRefused doc fault × NamesTask doc.graph.graph fault
+
 -- the line for a fault, with the names of the tasks
 abbrev pub IsRefusal : List (List ℕ) → CertFault → List ℕ → Type 0
 IsRefusal names (Shape claim) text = text ≡ refused_shape claim
 IsRefusal names (NotClosed claim leaf task rule) text =
     (name : List ℕ) × (slice_get names task.0 ≡ Some name) × (text ≡ refused_leaf claim leaf name rule)
 IsRefusal names (ClaimNot claim leaf) text = text ≡ refused_claim claim leaf
+
+-- `accepted`, or the line for a fault
+abbrev pub IsVerdictText : List (List ℕ) → Result (Unit {0}) CertFault → List ℕ → Type 0
+IsVerdictText names (Ok x) text = text ≡ codes "accepted\n"
+IsVerdictText names (Err fault) text = IsRefusal names fault text
 
 -- `accepted` where the certificate is accepted, else its first fault
 abbrev pub IsVerdict : DocumentValue → Exit → List ℕ → Type 0
@@ -52,9 +68,3 @@ IsVerdict doc exit text = ⊥
 -- the answer of `check` to bytes
 abbrev pub Checks : Answers
 Checks = ToDocument IsVerdict
-
--- the task that is named is the graph's
-abbrev pub NamesTask : TaskGraph → CertFault → Type 0
-NamesTask g (Shape claim) = Unit {0}
-NamesTask g (NotClosed claim leaf task rule) = is_task g task.0
-NamesTask g (ClaimNot claim leaf) = Unit {0}

@@ -1,91 +1,67 @@
--- What `analyse` answers to a document.
-use Rattle.std.specs.Prelude.{◌≡◌, ◌≤◌, ℕ, List, ◌++◌, Some, codes, length, map}
+-- What was found for bytes, and what is answered to them.
+use Rattle.std.specs.Prelude.{◌≡◌, ℕ, List}
 use Rattle.std.specs.List.{All}
-use Rattle.serde_json.specs.Data.{Data, array}
-use Rattle.serde_json.specs.Read.{read}
-use Rattle.serde_json.specs.View.{items_of}
-use Rattle.serde_json.specs.Written.{compact_text}
-use Rattle.tpl_model.specs.Certificate.{Tree, Accepts}
-use Rattle.tpl_draft.specs.Named.{Names}
-use Rattle.tpl_cert.specs.Heights.{height}
-use Rattle.tpl_cert.specs.Spelled.{SpellsTree}
-use Rattle.tpl_cert.specs.Written.{tree_data, named}
-use Rattle.tpl_analyser.specs.declared.form.Form.{Form}
-use Rattle.tpl_analyser.specs.Gaps.{IsFirstWithout}
-use Rattle.tpl_analyser.specs.Slim.{IsCertificateOf}
-use Rattle.tpl_reader.specs.Document.{DocumentValue, Spells, longest}
-use Rattle.tpl_reader.specs.Laws.{IsReadBack, HoldsCertificate}
+use Rattle.tpl_analyser.specs.declared.form.Form.TheVariants.{Full}
+use Rattle.tpl_graph.specs.Fits.{Fits}
+use Rattle.tpl_reader.specs.Document.{DocumentValue, Spells, IsFault}
+use Rattle.tpl_reader.specs.SeenDocument.{doc_of}
+use Rattle.tpl_reader.specs.declared.fault.ReadFault.TheVariants as read
+use Rattle.tpl_commands.specs.declared.ask.Ask.{Ask}
+use Rattle.tpl_commands.specs.declared.ask.Ask.TheVariants.{Check, Analyse, AnalyseIn, Certify, Audit, Draw}
 use Rattle.tpl_commands.specs.declared.exit.Exit.{Exit}
-use Rattle.tpl_commands.specs.declared.exit.Exit.TheVariants.{Success, Failure}
-use Rattle.tpl_commands.specs.Texts.{not_found}
-use Rattle.tpl_commands.specs.Responding.{Answers}
-use Rattle.tpl_commands.specs.Documents.{ToDocument}
-use Rattle.tpl_commands.specs.Checking.{Checks, ClaimsHold}
+use Rattle.tpl_commands.specs.declared.exit.Exit.TheVariants.{Unreadable}
+use Rattle.tpl_commands.specs.declared.finding.Finding.{Finding}
+use Rattle.tpl_commands.specs.declared.finding.Finding.TheVariants.{Unread, Read}
+use Rattle.tpl_commands.specs.declared.finding.Found.{Found}
+use Rattle.tpl_commands.specs.declared.finding.Found.TheVariants.{Checked, Drawn, Searched, Certified, Audited}
+use Rattle.tpl_commands.specs.Auditing.{IsAudit, IsAuditAnswer, IsAuditOf}
+use Rattle.tpl_commands.specs.Certifying.{IsCertifying, IsWholeText}
+use Rattle.tpl_commands.specs.Checking.{IsCheckOf, IsVerdict, IsVerdictText}
+use Rattle.tpl_commands.specs.Drawing.{IsDrawing}
+use Rattle.tpl_commands.specs.Searching.{IsOutcomeText, IsSearching, IsSearchOf}
+use Rattle.tpl_commands.specs.Unreadable.{IsUnreadable}
 
--- the JSON value that is written for a tree
-abbrev pub written_tree : Names → Tree → Data
-written_tree names tree = tree_data (named names tree)
+-- what was found is so of the document
+abbrev pub IsFoundOf : DocumentValue → Found → Type 0
+IsFoundOf doc (Checked verdict) = IsCheckOf doc verdict
+IsFoundOf doc (Drawn language verdict) = IsCheckOf doc verdict
+IsFoundOf doc (Searched search) = IsSearchOf doc search
+IsFoundOf doc (Certified search) = IsSearchOf doc search
+IsFoundOf doc (Audited audit) = IsAuditOf doc audit
 
--- the JSON value of a certificate: an array of its trees
-abbrev pub written_trees : Names → List Tree → Data
-written_trees names trees = array (items_of (map (written_tree names) trees))
+-- what was found is so of the bytes: they spell no document, for this reason; or this one, each claim of which can be asked
+-- of its graph
+abbrev pub IsFindingOf : List ℕ → Finding → Type 0
+IsFindingOf input (Unread fault) = IsFault input fault × (fault ≡ read.Memory → ⊥)
+IsFindingOf input (Read document found) =
+    Spells input (doc_of document) × All (Fits document.graph.graph) document.claims.items × IsFoundOf (doc_of document) found
 
--- what is written for a tree spells that tree
-abbrev pub IsRead : Names → Tree → Type 0
-IsRead names tree = SpellsTree names (written_tree names tree) tree
+-- this was to be found where this is asked
+abbrev pub IsFoundFor : Ask → Found → Type 0
+IsFoundFor Check (Checked verdict) = Unit {0}
+IsFoundFor (Analyse depth) (Searched search) = (search.depth ≡ depth) × (search.form ≡ Full)
+IsFoundFor (AnalyseIn depth form) (Searched search) = (search.depth ≡ depth) × (search.form ≡ form)
+IsFoundFor (Certify depth form) (Certified search) = (search.depth ≡ depth) × (search.form ≡ form)
+IsFoundFor Audit (Audited audit) = Unit {0}
+IsFoundFor (Draw language) (Drawn drawn verdict) = drawn ≡ language
+IsFoundFor ask found = ⊥
 
--- whatever the check answers to a document of these bytes, it is `accepted`
-abbrev pub IsOnlyAccepted : List ℕ → Type 0
-IsOnlyAccepted bytes = (exit : Exit) (text : List ℕ) → Checks bytes exit text → (exit ≡ Success) × (text ≡ codes "accepted\n")
+-- that bytes spell no document may be found whatever is asked
+abbrev pub IsAskedFor : Ask → Finding → Type 0
+IsAskedFor ask (Unread fault) = Unit {0}
+IsAskedFor ask (Read document found) = IsFoundFor ask found
 
--- The bytes spell the document with these trees as its certificate, and no other document, and the
--- check accepts it.
-pub record IsTakenBack (doc : DocumentValue) (trees : List Tree) (bytes : List ℕ) : Type 0 where
-  pub spelled : Spells bytes (record doc { certificate = trees })
-  pub only : (other : DocumentValue) → Spells bytes other → other ≡ record doc { certificate = trees }
-  pub accepted : IsOnlyAccepted bytes
+-- the answer to a document for which this was found: it is so of the document, and its text tells what was found
+abbrev pub IsAnswerTo : DocumentValue → Found → Exit → List ℕ → Type 0
+IsAnswerTo doc (Checked verdict) exit text = IsVerdict doc exit text × IsVerdictText doc.graph.names.tasks verdict text
+IsAnswerTo doc (Drawn language verdict) exit text = IsDrawing language doc exit text
+IsAnswerTo doc (Searched search) exit text =
+    IsSearching search.depth search.form doc exit text × IsOutcomeText doc.graph.names search.outcome text
+IsAnswerTo doc (Certified search) exit text =
+    IsCertifying search.depth search.form doc exit text × IsWholeText doc.graph.names search.outcome text
+IsAnswerTo doc (Audited audit) exit text = IsAudit doc exit text × IsAuditAnswer audit exit text
 
--- Any text of the document with this value as its member `certificate`, if it isn't too long, is taken
--- back with these trees.
-abbrev pub CanBePut : DocumentValue → List Tree → Data → Type 0
-CanBePut doc trees value =
-    (input bytes : List ℕ) → Spells input doc → HoldsCertificate input value bytes → length bytes ≤ longest
-    → IsTakenBack doc trees bytes
-
--- The text is that of a certificate of this form with at most this many splits on each path, which is
--- accepted for the document's claims, and so they hold. As the member `certificate` of the document it is read as
--- these trees, and accepted.
-pub record IsCertificate (depth : ℕ) (form : Form) (doc : DocumentValue) (text : List ℕ) : Type 0 where
-  pub trees : List Tree
-  pub accepted : Accepts doc.graph.graph doc.claims trees
-  pub hold : ClaimsHold doc
-  pub splits : All (λ tree. height tree ≤ depth) trees
-  pub of_form : IsCertificateOf form doc.claims trees
-  pub value : read (compact_text (written_trees doc.graph.names trees))
-      ≡ Some (written_trees doc.graph.names trees)
-  pub read : All (IsReadBack doc.graph.names) trees
-  pub again : CanBePut doc trees (written_trees doc.graph.names trees)
-  pub written : text ≡ compact_text (written_trees doc.graph.names trees) ++ codes "\n"
-
--- the text names the first claim for which none was found
-abbrev pub IsNotFound : ℕ → DocumentValue → List ℕ → Type 0
-IsNotFound depth doc text =
-    (claim : ℕ) × IsFirstWithout doc.graph.graph doc.claims depth claim × (text ≡ not_found claim)
-
--- the text names this claim of the document, the first for which none was found
-abbrev pub NamesIn : ℕ → DocumentValue → List ℕ → ℕ → Type 0
-NamesIn depth doc text claim = (text ≡ not_found claim) × IsFirstWithout doc.graph.graph doc.claims depth claim
-
--- the bytes spell a document, and the text names this claim of it
-abbrev pub NamesClaim : ℕ → List ℕ → List ℕ → ℕ → Type 0
-NamesClaim depth bytes text claim = (doc : DocumentValue) × Spells bytes doc × NamesIn depth doc text claim
-
--- a certificate, or the first claim for which none was found
-abbrev pub IsFinding : ℕ → Form → DocumentValue → Exit → List ℕ → Type 0
-IsFinding depth form doc Success text = IsCertificate depth form doc text
-IsFinding depth form doc Failure text = IsNotFound depth doc text
-IsFinding depth form doc exit text = ⊥
-
--- the answer of `analyse` to bytes
-abbrev pub Finds : ℕ → Form → Answers
-Finds depth form = ToDocument (IsFinding depth form)
+-- the answer to bytes for which this was found
+abbrev pub IsAnswer : Finding → Exit → List ℕ → Type 0
+IsAnswer (Unread fault) exit text = (exit ≡ Unreadable) × IsUnreadable fault text
+IsAnswer (Read document found) exit text = IsAnswerTo (doc_of document) found exit text

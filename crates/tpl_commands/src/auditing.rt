@@ -4,70 +4,74 @@ ghost use Rattle.std.specs.Prelude.{◌≡◌, Some, IfOk, string_bytes};
 ghost use Rattle.std.specs.List.{All};
 ghost use Rattle.tpl_graph.specs.Fits.{Fits};
 ghost use Rattle.tpl_reader.specs.SeenDocument.{doc_of};
-ghost use Rattle.tpl_commands.specs.Auditing.{Audits, IsAudit, IsAuditWith, IsNoJournalText, run_exit, run_text, verdict_exit, verdict_text};
+ghost use Rattle.tpl_commands.specs.Auditing.{IsAuditAnswer, IsAuditOf, IsNoJournalText, run_exit, run_text, verdict_exit, verdict_text};
 ghost use Rattle.tpl_reader.specs.Starting.{inputs_of};
 
 use crate::answer::Answer;
 use crate::exit::Exit;
-use crate::responding::Command;
 use crate::text::{ended, failing, not_allowed, unreadable, unreadable_at, unreadable_start};
-use crate::unreadable::unreadable_answer;
 use std::alloc::{AllocError, Global};
 use tpl_audit::{Failure, Verdict, audit};
 use tpl_journal::{JournalFault, read_journal};
-use tpl_reader::{Document, read_document};
+use tpl_reader::Document;
 use tpl_words::Inputs;
 
-/// Audits the journal of a document.
-pub struct Audit;
-
-impl Command for Audit {
-    ghost answers = { λ _. Audits };
-
-    fn answer(&self, alloc: Global, bytes: &[u8]) -> Result<Answer, AllocError> {
-        match read_document(alloc, bytes) {
-            Ok(document) => audit_for(alloc, &document),
-            Err(fault) => unreadable_answer(alloc, fault),
-        }
-    }
+/// What the audit says of a document's journal.
+#[derive(Clone, Copy)]
+pub enum Audit {
+    /// The graph has inputs, and nothing says which values they have.
+    NoStart,
+    /// The journal's text is none of the graph's, for this reason, which isn't that memory ran out.
+    NoJournal(JournalFault),
+    /// The verdict on its events.
+    Judged(Verdict),
 }
 
-/// The audit, where the values of the inputs are known.
-fn audit_for(alloc: Global, document: &Document) -> Result<Answer, AllocError>
+/// Audits the journal of a document. Out of memory is the only error.
+pub(crate) fn audit_document(alloc: Global, document: &Document) -> Result<Audit, AllocError>
     requires { All (Fits document.now.graph.graph) document.now.claims.items }
-    ensures { IfOk result (λ given.
-        IsAudit (doc_of document.now) given.exit (string_bytes given.text)) }
+    ensures { IfOk result (IsAuditOf (doc_of document.now)) }
 {
     match document.inputs() {
         Some(inputs) => audit_with(alloc, document, inputs),
-        None => Ok(Answer {
-            exit: Exit::Unreadable,
-            text: unreadable_start(alloc, "Missing")?,
-        }),
+        None => Ok(Audit::NoStart),
     }
 }
 
 /// The audit with these inputs.
-fn audit_with(alloc: Global, document: &Document, inputs: Inputs) -> Result<Answer, AllocError>
-    requires { All (Fits document.now.graph.graph) document.now.claims.items }
-    ensures { IfOk result (λ given. IsAuditWith (doc_of document.now) (Some inputs)
-        given.exit (string_bytes given.text)) }
+fn audit_with(alloc: Global, document: &Document, inputs: Inputs) -> Result<Audit, AllocError>
+    requires claims { All (Fits document.now.graph.graph) document.now.claims.items }
+    requires inputs { inputs_of (doc_of document.now) ≡ Some inputs }
+    ensures { IfOk result (IsAuditOf (doc_of document.now)) }
 {
     match read_journal(alloc, &document.graph, document.journal.as_str()) {
-        Ok(events) => verdict_answer(
+        Ok(events) => Ok(Audit::Judged(audit(
             alloc,
-            audit(
-                alloc,
-                &document.graph,
-                inputs,
-                events.as_slice(),
-                document.claims.as_slice(),
-            ),
-        ),
-        Err(fault) => Ok(Answer {
+            &document.graph,
+            inputs,
+            events.as_slice(),
+            document.claims.as_slice(),
+        ))),
+        Err(JournalFault::Memory) => Err(AllocError),
+        Err(fault) => Ok(Audit::NoJournal(fault)),
+    }
+}
+
+/// The answer where the audit says this of the document's journal. Out of memory has none.
+pub fn audit_answer(alloc: Global, audit: Audit) -> Result<Answer, AllocError>
+    ensures { IfOk result (λ given.
+        IsAuditAnswer audit given.exit (string_bytes given.text)) }
+{
+    match audit {
+        Audit::NoStart => Ok(Answer {
+            exit: Exit::Unreadable,
+            text: unreadable_start(alloc, "Missing")?,
+        }),
+        Audit::NoJournal(fault) => Ok(Answer {
             exit: Exit::Unreadable,
             text: no_journal_text(alloc, fault)?,
         }),
+        Audit::Judged(verdict) => verdict_answer(alloc, verdict),
     }
 }
 

@@ -1,113 +1,72 @@
-//! The search for a certificate of a document's claims, and the document that has it.
+//! The document with a certificate that was found.
 
-ghost use Rattle.std.specs.Prelude.{◌≡◌, ◌≤◌, true, codes, IfOk, IfSome, IfNone, string_bytes};
+ghost use Rattle.std.specs.Prelude.{◌≡◌, ◌≤◌, true, IfOk, string_bytes};
 ghost use Rattle.std.specs.List.{All};
 ghost use Rattle.serde_json.specs.View.{view};
 ghost use Rattle.tpl_cert.specs.Heights.{height};
 ghost use Rattle.tpl_cert.specs.Written.{has_ids};
-ghost use Rattle.tpl_graph.specs.Fits.{Fits};
 ghost use Rattle.tpl_reader.specs.Document.{Reads, Spells};
 ghost use Rattle.tpl_reader.specs.Laws.{HasCertificate, HoldsCertificate};
 ghost use Rattle.tpl_reader.specs.SeenDocument.{doc_of};
-ghost use Rattle.tpl_commands.specs.Certifying.{Certifies, IsCertifying, IsObject, IsSized, IsTextOfObject};
-ghost use Rattle.tpl_commands.specs.Finding.{IsRead, NamesClaim, NamesIn, written_trees};
+ghost use Rattle.tpl_commands.specs.Certifying.{IsCertifying, IsObject, IsSized, IsTextOfObject, IsWholeText};
+ghost use Rattle.tpl_commands.specs.Searching.{AreFound, IsRead, IsSearchOf, written_trees};
 
 use crate::answer::Answer;
 use crate::exit::Exit;
-use crate::finding::certificate_value;
-use crate::responding::Command;
-use crate::searched::{Searched, naming};
-use crate::unreadable::unreadable_answer;
+use crate::searching::{Outcome, Searched, certificate_value, missed_answer};
 use serde_json::Value;
 use std::alloc::{AllocError, Global};
-use tpl_analyser::{Depth, Form, Missed, Watch, analyse_watched};
+use tpl_analyser::{Depth, Form};
 use tpl_cert::{Certificate, Tree};
 use tpl_graph::Graph;
-use tpl_reader::{Document, LONGEST, certificate_is_read_back, one_document, read_document};
+use tpl_reader::{Document, LONGEST, certificate_is_read_back, one_document};
 
-/// Searches for a certificate of a document's claims, and answers the document with it in place of the one that it
-/// has, if any.
-#[derive(Drop)]
-pub struct Certify<T> {
-    /// The most splits on each path.
-    pub depth: Depth,
-    /// What the rows are to say.
-    pub form: Form,
-    /// Who is told how far the search is.
-    pub watch: T,
-}
-
-impl<T: Watch + Copy> Command for Certify<T> {
-    ghost answers = { λ this. Certifies this.depth this.form };
-
-    fn answer(&self, alloc: Global, bytes: &[u8]) -> Result<Answer, AllocError> {
-        Ok(self.search(alloc, bytes)?.answer)
-    }
-}
-
-impl<T: Watch + Copy> Certify<T> {
-    /// Answers a document of these bytes, and says which claim the answer names. Out of memory is the only error.
-    pub fn search(&self, alloc: Global, bytes: &[u8]) -> Result<Searched, AllocError>
-        ensures answer { IfOk result (λ it. Certifies self.now.depth self.now.form bytes.now
-            it.answer.exit (string_bytes it.answer.text)) }
-        ensures named { IfOk result (λ it. IfSome it.named
-            (NamesClaim self.now.depth bytes.now (string_bytes it.answer.text))) }
-        ensures unnamed { IfOk result (λ it. IfNone it.named (it.answer.exit ≡ Exit.Failure
-            → string_bytes it.answer.text ≡ codes "too long\n")) }
-    {
-        match read_document(alloc, bytes) {
-            Ok(document) => {
-                certified(alloc, bytes, &document, self.depth, self.form, self.watch)
-            }
-            Err(fault) => Ok(Searched {
-                answer: unreadable_answer(alloc, fault)?,
-                named: None,
-            }),
-        }
-    }
-}
-
-/// The document of these bytes with a certificate, or the first claim for which none was found.
-fn certified<T: Watch>(
+/// The document of these bytes with the certificate that was found.
+fn certified(
     alloc: Global,
     bytes: &[u8],
     document: &Document,
     depth: Depth,
     form: Form,
-    watch: T,
-) -> Result<Searched, AllocError>
+    certificate: &Certificate,
+) -> Result<Answer, AllocError>
     requires spelled { Spells bytes.now (doc_of document.now) }
-    requires claims { All (Fits document.now.graph.graph) document.now.claims.items }
-    ensures answer { IfOk result (λ it. IsCertifying depth form (doc_of document.now)
-        it.answer.exit (string_bytes it.answer.text)) }
-    ensures named { IfOk result (λ it. IfSome it.named
-        (NamesIn depth (doc_of document.now) (string_bytes it.answer.text))) }
-    ensures unnamed { IfOk result (λ it. IfNone it.named (it.answer.exit ≡ Exit.Failure
-        → string_bytes it.answer.text ≡ codes "too long\n")) }
+    requires found { AreFound depth form (doc_of document.now) certificate.now }
+    ensures { IfOk result (λ given.
+        IsCertifying depth form (doc_of document.now) given.exit (string_bytes given.text)
+        × IsWholeText document.now.graph.names (Outcome.Certificate certificate.now)
+        (string_bytes given.text)) }
 {
+    let _ = (depth, form);
     document.graph.valid_law();
     tpl_laws::soundness();
     one_document();
     certificate_is_read_back();
-    let splits = depth.splits();
-    match analyse_watched(
-        alloc,
-        &document.graph,
-        &document.claims,
-        splits,
-        form,
-        watch,
-    ) {
-        Ok(certificate) => {
-            certificate.limits_law();
-            let text = whole_text(alloc, bytes, &document.graph, certificate.trees())?;
-            Ok(Searched {
-                answer: sized(alloc, text)?,
-                named: None,
-            })
+    certificate.limits_law();
+    let text = whole_text(alloc, bytes, &document.graph, certificate.trees())?;
+    sized(alloc, text)
+}
+
+/// The document of these bytes with the certificate that was found, or the line that names the claim for which none was.
+pub(crate) fn certified_answer(
+    alloc: Global,
+    bytes: &[u8],
+    document: &Document,
+    searched: &Searched,
+) -> Result<Answer, AllocError>
+    requires spelled { Spells bytes.now (doc_of document.now) }
+    requires found { IsSearchOf (doc_of document.now) searched.now }
+    ensures { IfOk result (λ given.
+        IsCertifying searched.now.depth searched.now.form (doc_of document.now) given.exit
+        (string_bytes given.text)
+        × IsWholeText document.now.graph.names searched.now.outcome (string_bytes given.text)) }
+{
+    match &searched.outcome {
+        Outcome::Certificate(certificate) => {
+            let (depth, form) = (searched.depth, searched.form);
+            certified(alloc, bytes, document, depth, form, certificate)
         }
-        Err(Missed::NotFound { claim, .. }) => naming(alloc, claim),
-        Err(Missed::Memory) => Err(AllocError),
+        Outcome::Missed { claim, .. } => missed_answer(alloc, *claim),
     }
 }
 

@@ -4,32 +4,16 @@ ghost use Rattle.std.specs.Prelude.{◌≡◌, IfOk, IfErr, OnOk, string_bytes};
 ghost use Rattle.std.specs.List.{All};
 ghost use Rattle.tpl_graph.specs.Fits.{Fits};
 ghost use Rattle.tpl_reader.specs.SeenDocument.{doc_of};
-ghost use Rattle.tpl_commands.specs.Checking.{Checks, IsAccepted, IsRefused, IsVerdict, IsRefusal, NamesTask};
+ghost use Rattle.tpl_commands.specs.Checking.{IsAccepted, IsCheckOf, IsRefused, IsVerdict, IsVerdictText, IsRefusal, NamesTask};
 
 use crate::answer::Answer;
 use crate::exit::Exit;
-use crate::responding::Command;
 use crate::text::{refused_claim, refused_leaf, refused_shape};
-use crate::unreadable::unreadable_answer;
 use std::alloc::{AllocError, Global};
 use tpl_checker::check;
 use tpl_graph::Graph;
 use tpl_model::CertFault;
-use tpl_reader::{Document, read_document};
-
-/// Checks the certificate of a document.
-pub struct Check;
-
-impl Command for Check {
-    ghost answers = { λ _. Checks };
-
-    fn answer(&self, alloc: Global, bytes: &[u8]) -> Result<Answer, AllocError> {
-        match read_document(alloc, bytes) {
-            Ok(document) => verdict_on(alloc, &document),
-            Err(fault) => unreadable_answer(alloc, fault),
-        }
-    }
-}
+use tpl_reader::Document;
 
 /// The check of a document's certificate.
 pub fn check_document(document: &Document) -> Result<(), CertFault>
@@ -37,6 +21,7 @@ pub fn check_document(document: &Document) -> Result<(), CertFault>
     ensures accepted { OnOk result (IsAccepted (doc_of document.now)) }
     ensures refused { IfErr result (IsRefused (doc_of document.now)) }
     ensures named { IfErr result (NamesTask document.now.graph.graph) }
+    ensures checked { IsCheckOf (doc_of document.now) result }
 {
     match check(&document.graph, &document.claims, &document.certificate) {
         Ok(()) => Ok(()),
@@ -44,18 +29,23 @@ pub fn check_document(document: &Document) -> Result<(), CertFault>
     }
 }
 
-/// The verdict on a document's certificate.
-fn verdict_on(alloc: Global, document: &Document) -> Result<Answer, AllocError>
-    requires claims { All (Fits document.now.graph.graph) document.now.claims.items }
+/// The answer where the check says this of the document's certificate.
+pub(crate) fn verdict_answer(
+    alloc: Global,
+    document: &Document,
+    verdict: &Result<(), CertFault>,
+) -> Result<Answer, AllocError>
+    requires { IsCheckOf (doc_of document.now) verdict.now }
     ensures { IfOk result (λ given.
-        IsVerdict (doc_of document.now) given.exit (string_bytes given.text)) }
+        IsVerdict (doc_of document.now) given.exit (string_bytes given.text)
+        × IsVerdictText document.now.graph.names.tasks verdict.now (string_bytes given.text)) }
 {
-    match check_document(document) {
+    match verdict {
         Ok(()) => Ok(Answer {
             exit: Exit::Success,
             text: String::from_str(alloc, "accepted\n")?,
         }),
-        Err(fault) => refused_answer(alloc, &document.graph, fault),
+        Err(fault) => refused_answer(alloc, &document.graph, *fault),
     }
 }
 

@@ -1,171 +1,129 @@
-//! The search for a certificate of a document's claims.
+//! What was found for the bytes of a document. The answer and its reason follow from it.
 
-ghost use Rattle.std.specs.Prelude.{◌≡◌, ◌≢◌, ◌++◌, ◌≤◌, true, Some, codes, IfOk, IfSome, IfNone, map, string_bytes};
+ghost use Rattle.std.specs.Prelude.{IfOk, string_bytes};
 ghost use Rattle.std.specs.List.{All};
-ghost use Rattle.serde_json.specs.Data.{array};
-ghost use Rattle.serde_json.specs.Read.{read};
-ghost use Rattle.serde_json.specs.View.{view, items_of};
-ghost use Rattle.serde_json.specs.Written.{compact_text};
-ghost use Rattle.tpl_cert.specs.Heights.{height};
-ghost use Rattle.tpl_cert.specs.Written.{has_ids};
 ghost use Rattle.tpl_graph.specs.Fits.{Fits};
+ghost use Rattle.tpl_reader.specs.Document.{Spells};
 ghost use Rattle.tpl_reader.specs.SeenDocument.{doc_of};
-ghost use Rattle.tpl_commands.specs.Finding.{Finds, IsFinding, IsRead, NamesClaim, NamesIn, written_tree, written_trees};
+ghost use Rattle.tpl_commands.specs.Finding.{IsAnswer, IsAnswerTo, IsAskedFor, IsFindingOf, IsFoundFor, IsFoundOf};
 
 use crate::answer::Answer;
-use crate::exit::Exit;
-use crate::responding::Command;
-use crate::searched::{Searched, naming};
+use crate::ask::Ask;
+use crate::auditing::{Audit, audit_answer, audit_document};
+use crate::certifying::certified_answer;
+use crate::checking::{check_document, verdict_answer};
+use crate::drawing::drawing_answer;
+use crate::searching::{Searched, found_answer, search};
 use crate::unreadable::unreadable_answer;
-use serde_json::Value;
 use std::alloc::{AllocError, Global};
-use tpl_analyser::{Depth, Form, Missed, Watch, analyse_watched};
-use tpl_cert::{Tree, TreeToFault, certificates_nest_little, tree_to};
-use tpl_graph::Graph;
-use tpl_reader::{Document, certificate_is_read_back, one_document, read_document};
+use tpl_analyser::{Form, Watch};
+use tpl_draw::Language;
+use tpl_model::CertFault;
+use tpl_reader::{Document, ReadFault, read_document};
 
-/// Searches for a certificate of a document's claims. The certificate that the document has, if any, is read like the
-/// rest of it, and not used.
+/// What was found for a document.
 #[derive(Drop)]
-pub struct Analyse<T> {
-    /// The most splits on each path.
-    pub depth: Depth,
-    /// What the rows are to say.
-    pub form: Form,
-    /// Who is told how far the search is.
-    pub watch: T,
+pub enum Found {
+    /// Its certificate is accepted, or this is its first fault.
+    Checked(Result<(), CertFault>),
+    /// The same, where a picture in this language is asked for.
+    Drawn(Language, Result<(), CertFault>),
+    /// How the search for a certificate ended.
+    Searched(Searched),
+    /// The same, where the document with the certificate is asked for.
+    Certified(Searched),
+    /// What the audit says of its journal.
+    Audited(Audit),
 }
 
-impl<T: Watch + Copy> Command for Analyse<T> {
-    ghost answers = { λ this. Finds this.depth this.form };
-
-    fn answer(&self, alloc: Global, bytes: &[u8]) -> Result<Answer, AllocError> {
-        Ok(self.search(alloc, bytes)?.answer)
-    }
+/// What was found for bytes.
+#[derive(Drop)]
+pub enum Finding {
+    /// They spell no document, for this reason, which isn't that memory ran out.
+    Unread(ReadFault),
+    /// They spell this document, for which this was found.
+    Read(Document, Found),
 }
 
-impl<T: Watch + Copy> Analyse<T> {
-    /// Answers a document of these bytes, and says which claim the answer names. Out of memory is the only error.
-    pub fn search(&self, alloc: Global, bytes: &[u8]) -> Result<Searched, AllocError>
-        ensures answer { IfOk result (λ it. Finds self.now.depth self.now.form bytes.now
-            it.answer.exit (string_bytes it.answer.text)) }
-        ensures named { IfOk result (λ it. IfSome it.named
-            (NamesClaim self.now.depth bytes.now (string_bytes it.answer.text))) }
-        ensures unnamed { IfOk result (λ it. IfNone it.named (it.answer.exit ≢ Exit.Failure)) }
-    {
-        match read_document(alloc, bytes) {
-            Ok(document) => finding_for(alloc, &document, self.depth, self.form, self.watch),
-            Err(fault) => Ok(Searched {
-                answer: unreadable_answer(alloc, fault)?,
-                named: None,
-            }),
-        }
-    }
-}
-
-/// The text of a certificate of the document's claims, or the first claim for which none was found.
-fn finding_for<T: Watch>(
+/// What is found for a document where this is asked. Out of memory is the only error.
+fn found_in<T: Watch>(
     alloc: Global,
-    document: &Document,
-    depth: Depth,
-    form: Form,
+    ask: Ask,
     watch: T,
-) -> Result<Searched, AllocError>
+    document: &Document,
+) -> Result<Found, AllocError>
     requires claims { All (Fits document.now.graph.graph) document.now.claims.items }
-    ensures answer { IfOk result (λ it. IsFinding depth form (doc_of document.now) it.answer.exit
-        (string_bytes it.answer.text)) }
-    ensures named { IfOk result (λ it. IfSome it.named
-        (NamesIn depth (doc_of document.now) (string_bytes it.answer.text))) }
-    ensures unnamed { IfOk result (λ it. IfNone it.named (it.answer.exit ≢ Exit.Failure)) }
+    ensures found { IfOk result (IsFoundOf (doc_of document.now)) }
+    ensures asked { IfOk result (IsFoundFor ask) }
 {
-    document.graph.valid_law();
-    tpl_laws::soundness();
-    one_document();
-    certificate_is_read_back();
-    let splits = depth.splits();
-    match analyse_watched(
-        alloc,
-        &document.graph,
-        &document.claims,
-        splits,
-        form,
-        watch,
-    ) {
-        Ok(certificate) => {
-            certificate.limits_law();
-            let text = certificate_text(alloc, &document.graph, certificate.trees())?;
-            let exit = Exit::Success;
-            Ok(Searched {
-                answer: Answer { exit, text },
-                named: None,
-            })
+    match ask {
+        Ask::Check => Ok(Found::Checked(check_document(document))),
+        Ask::Analyse(depth) => {
+            let searched = search(alloc, document, depth, Form::Full, watch)?;
+            Ok(Found::Searched(searched))
         }
-        Err(Missed::NotFound { claim, .. }) => naming(alloc, claim),
-        Err(Missed::Memory) => Err(AllocError),
+        Ask::AnalyseIn(depth, form) => {
+            let searched = search(alloc, document, depth, form, watch)?;
+            Ok(Found::Searched(searched))
+        }
+        Ask::Certify(depth, form) => {
+            let searched = search(alloc, document, depth, form, watch)?;
+            Ok(Found::Certified(searched))
+        }
+        Ask::Audit => Ok(Found::Audited(audit_document(alloc, document)?)),
+        Ask::Draw(language) => Ok(Found::Drawn(language, check_document(document))),
     }
 }
 
-/// The trees as one array, and a line break.
-fn certificate_text(alloc: Global, graph: &Graph, trees: &[Tree]) -> Result<String, AllocError>
-    requires ids { All (λ tree. has_ids graph.now.names tree ≡ true) trees.now }
-    requires limits { All (λ tree. height tree ≤ 6) trees.now }
-    ensures written { IfOk result (λ text.
-        string_bytes text ≡ compact_text (written_trees graph.now.names trees.now) ++ codes "\n") }
-    ensures read { IfOk result (λ _. All (IsRead graph.now.names) trees.now) }
-    ensures value { IfOk result (λ _. read (compact_text (written_trees graph.now.names trees.now))
-        ≡ Some (written_trees graph.now.names trees.now)) }
-{
-    certificates_nest_little();
-    let mut text = certificate_value(alloc, graph, trees)?.to_string(alloc)?;
-    text.push_str("\n")?;
-    Ok(text)
-}
-
-/// The trees as one array.
-pub(crate) fn certificate_value(
+/// What is found for bytes where this is asked. Of a search the watcher is told how far it is. Out of memory is the only
+/// error.
+pub fn find<T: Watch>(
     alloc: Global,
-    graph: &Graph,
-    trees: &[Tree],
-) -> Result<Value, AllocError>
-    requires { All (λ tree. has_ids graph.now.names tree ≡ true) trees.now }
-    ensures written { IfOk result (λ value.
-        view value ≡ written_trees graph.now.names trees.now) }
-    ensures read { IfOk result (λ _. All (IsRead graph.now.names) trees.now) }
+    ask: Ask,
+    watch: T,
+    bytes: &[u8],
+) -> Result<Finding, AllocError>
+    ensures found { IfOk result (IsFindingOf bytes.now) }
+    ensures asked { IfOk result (IsAskedFor ask) }
 {
-    let values = tree_values(alloc, graph, trees)?;
-    Ok(array_of(values))
-}
-
-fn array_of(values: Vec<Value>) -> Value
-    ensures { view result ≡ array (items_of (map view values.items)) }
-{
-    Value::Array(values)
-}
-
-/// The trees, each as a JSON value.
-fn tree_values(alloc: Global, graph: &Graph, trees: &[Tree]) -> Result<Vec<Value>, AllocError>
-    requires { All (λ tree. has_ids graph.now.names tree ≡ true) trees.now }
-    ensures written { IfOk result (λ values.
-        map view values.items ≡ map (written_tree graph.now.names) trees.now) }
-    ensures read { IfOk result (λ _. All (IsRead graph.now.names) trees.now) }
-{
-    let mut values = Vec::new(alloc);
-    for tree in trees {
-        let value = tree_value(alloc, graph, tree)?;
-        values.push(value)?;
+    match read_document(alloc, bytes) {
+        Ok(document) => {
+            let found = found_in(alloc, ask, watch, &document)?;
+            Ok(Finding::Read(document, found))
+        }
+        Err(ReadFault::Memory) => Err(AllocError),
+        Err(fault) => Ok(Finding::Unread(fault)),
     }
-    Ok(values)
 }
 
-/// A tree as a JSON value.
-fn tree_value(alloc: Global, graph: &Graph, tree: &Tree) -> Result<Value, AllocError>
-    requires { has_ids graph.now.names tree.now ≡ true }
-    ensures written { IfOk result (λ value. view value ≡ written_tree graph.now.names tree.now) }
-    ensures read { IfOk result (λ _. IsRead graph.now.names tree.now) }
+/// The answer to a document for which this was found.
+fn answer_to(
+    alloc: Global,
+    bytes: &[u8],
+    document: &Document,
+    found: &Found,
+) -> Result<Answer, AllocError>
+    requires spelled { Spells bytes.now (doc_of document.now) }
+    requires found { IsFoundOf (doc_of document.now) found.now }
+    ensures { IfOk result (λ given. IsAnswerTo (doc_of document.now) found.now given.exit
+        (string_bytes given.text)) }
 {
-    match tree_to(alloc, graph, tree) {
-        Ok(value) => Ok(value),
-        Err(TreeToFault::Memory) => Err(AllocError),
-        Err(TreeToFault::Unknown) => unreachable!(),
+    match found {
+        Found::Checked(verdict) => verdict_answer(alloc, document, verdict),
+        Found::Drawn(language, verdict) => drawing_answer(alloc, document, *language, verdict),
+        Found::Searched(searched) => found_answer(alloc, document, searched),
+        Found::Certified(searched) => certified_answer(alloc, bytes, document, searched),
+        Found::Audited(audited) => audit_answer(alloc, *audited),
+    }
+}
+
+/// The answer to bytes for which this was found. Out of memory is the only error.
+pub fn answer_of(alloc: Global, bytes: &[u8], finding: &Finding) -> Result<Answer, AllocError>
+    requires { IsFindingOf bytes.now finding.now }
+    ensures { IfOk result (λ given. IsAnswer finding.now given.exit (string_bytes given.text)) }
+{
+    match finding {
+        Finding::Unread(fault) => unreadable_answer(alloc, *fault),
+        Finding::Read(document, found) => answer_to(alloc, bytes, document, found),
     }
 }

@@ -2,27 +2,30 @@
 #![tactic(auto)]
 
 mod answer;
+mod ask;
 mod auditing;
 mod certifying;
 mod checking;
 mod drawing;
 mod exit;
 mod finding;
+mod listening;
 mod loading;
 mod responding;
-mod searched;
+mod searching;
 mod serving;
 mod text;
 mod unreadable;
 
 pub use answer::{Answer, put, put_answer, put_out_of_memory};
-pub use auditing::Audit;
-pub use certifying::Certify;
-pub use checking::{Check, check_document, refused_answer};
-pub use drawing::Draw;
+pub use ask::Ask;
+pub use auditing::{Audit, audit_answer};
+pub use checking::{check_document, refused_answer};
 pub use exit::Exit;
-pub use finding::Analyse;
-pub use loading::load;
-pub use responding::{Command, read_input, respond};
-pub use searched::Searched;
-pub use serving::{Ask, serve, serve_watched};
+pub use finding::{Finding, Found, answer_of, find};
+pub use listening::Listen;
+pub use loading::{Loaded, load, load_watched};
+pub use responding::{Answered, Command, put_answered, read_input, respond, unread};
+pub use searching::{Outcome, Searched};
+pub use serving::{serve, serve_watched};
+pub use tpl_analyser::Unwatched;

@@ -5,19 +5,29 @@ ghost use Rattle.std.specs.List.{All};
 ghost use Rattle.tpl_cert.specs.Heights.{IsWithinLimits};
 ghost use Rattle.tpl_graph.specs.Fits.{Fits};
 ghost use Rattle.tpl_journal.specs.Counting.{calls_of};
+ghost use Rattle.tpl_reader.specs.Document.{Spells};
 ghost use Rattle.tpl_reader.specs.SeenDocument.{doc_of};
 ghost use Rattle.tpl_commands.specs.Documents.{NoDocument};
 ghost use Rattle.tpl_commands.specs.Loading.{Loads, RequestsTokens};
 ghost use Rattle.tpl_commands.specs.Responding.{longest, Responds};
 
-use crate::answer::put_answer;
 use crate::exit::Exit;
-use crate::responding::read_input;
-use crate::unreadable::unreadable_answer;
+use crate::listening::Listen;
+use crate::responding::{put_answered, read_input, unread};
 use std::alloc::Global;
 use std::io::{Read, Write};
+use tpl_analyser::Unwatched;
 use tpl_journal::Counting;
 use tpl_reader::{Document, read_document};
+
+/// A document that was read, and its bytes.
+#[derive(Drop)]
+pub struct Loaded {
+    /// The document.
+    pub document: Document,
+    /// The bytes that spell it.
+    pub bytes: Vec<u8>,
+}
 
 /// Reads a document to its end, at most 16,777,216 bytes. Where reading fails, or the bytes spell no document, the
 /// line for that is written and its exit returned. The line is made whole before its first byte is written, so the
@@ -36,14 +46,40 @@ pub fn load<R: Read, W: Write>(
         (Responds NoDocument R.remaining from.old from.new W.contents to.old to.new) }
     ensures reads { calls_of from.new ≤ calls_of from.old + (longest + 2) }
 {
+    match load_watched(alloc, Unwatched, from, to) {
+        Ok(loaded) => Ok(loaded.document),
+        Err(exit) => Err(exit),
+    }
+}
+
+/// Reads a document as [`load`] does. Where there is none, the listener is told why.
+pub fn load_watched<L: Listen, R: Read, W: Write>(
+    alloc: Global,
+    listener: L,
+    from: &mut Counting<R>,
+    to: &mut Counting<W>,
+) -> Result<Loaded, Exit>
+    ensures document { IfOk result (λ it. Loads R.remaining from.old from.new (doc_of it.document)
+        × (to.new ≡ to.old)) }
+    ensures spelled { IfOk result (λ it. Spells it.bytes.items (doc_of it.document)) }
+    ensures claims { IfOk result (λ it. All (Fits it.document.graph.graph) it.document.claims.items) }
+    ensures trees { IfOk result (λ it. All IsWithinLimits it.document.certificate) }
+    ensures tokens { IfOk result (λ it. RequestsTokens (doc_of it.document)) }
+    ensures err { IfErr result
+        (Responds NoDocument R.remaining from.old from.new W.contents to.old to.new) }
+    ensures reads { calls_of from.new ≤ calls_of from.old + (longest + 2) }
+{
     match read_input(alloc, from, to) {
         Ok(bytes) => match read_document(alloc, &bytes) {
             Ok(document) => {
                 document.graph.valid_law();
-                Ok(document)
+                Ok(Loaded { document, bytes })
             }
-            Err(fault) => Err(put_answer(unreadable_answer(alloc, fault), to)),
+            Err(fault) => Err(put_answered(unread(alloc, &bytes, fault), listener, &bytes, to)),
         },
-        Err(exit) => Err(exit),
+        Err(exit) => {
+            listener.unread(exit);
+            Err(exit)
+        }
     }
 }

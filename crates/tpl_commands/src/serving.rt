@@ -3,36 +3,36 @@
 ghost use Rattle.std.specs.Prelude.{◌≡◌, ◌⊎◌, ◌+◌, ◌≤◌, ℕ};
 ghost use Rattle.tpl_journal.specs.Counting.{calls_of};
 ghost use Rattle.tpl_commands.specs.Responding.{longest, Responds};
-ghost use Rattle.tpl_commands.specs.Serving.{answers_of, Accepted, Found, Certified, Audited};
+ghost use Rattle.tpl_commands.specs.Serving.{answers_of, Accepted, Found, Certified, Audited, Serves};
 
-use crate::auditing::Audit;
-use crate::certifying::Certify;
-use crate::checking::Check;
-use crate::drawing::Draw;
+use crate::ask::Ask;
 use crate::exit::Exit;
-use crate::finding::Analyse;
-use crate::responding::respond;
-use std::alloc::Global;
+use crate::finding::{answer_of, find};
+use crate::listening::Listen;
+use crate::responding::{Answered, Command, respond};
+use std::alloc::{AllocError, Global};
 use std::io::{Read, Write};
-use tpl_analyser::{Depth, Form, Unwatched, Watch};
-use tpl_draw::Language;
+use tpl_analyser::{Form, Unwatched};
 use tpl_journal::Counting;
 
-/// What is asked of a document.
-#[derive(Clone, Copy, Debug, PartialEq, Eq)]
-pub enum Ask {
-    /// Is its certificate accepted?
-    Check,
-    /// Which certificate do its claims have, with at most this many splits on each path?
-    Analyse(Depth),
-    /// Which certificate of this form do its claims have, with at most this many splits on each path?
-    AnalyseIn(Depth, Form),
-    /// What is the document with such a certificate in place of its own?
-    Certify(Depth, Form),
-    /// Is its journal a run, is that complete, and where does a claim fail?
-    Audit,
-    /// What is the picture of its graph, in this language?
-    Draw(Language),
+/// What is asked of a document, and who is told how far a search is.
+#[derive(Drop)]
+struct Asking<L> {
+    ask: Ask,
+    listener: L,
+}
+
+impl<L: Listen> Command for Asking<L> {
+    ghost answers = { λ this. answers_of this.ask };
+
+    fn answer(&self, alloc: Global, bytes: &[u8]) -> Result<Answered, AllocError> {
+        let finding = find(alloc, self.ask, self.listener, bytes)?;
+        let answer = answer_of(alloc, bytes, &finding)?;
+        Ok(Answered {
+            answer,
+            finding: Some(finding),
+        })
+    }
 }
 
 /// Reads a document to its end, at most 16,777,216 bytes, and writes the answer. The text is made
@@ -68,44 +68,15 @@ pub fn serve<R: Read, W: Write>(
     serve_watched(alloc, ask, Unwatched, from, to)
 }
 
-/// Answers a document as [`serve`] does. Of a search for a certificate the watcher is told how far it is.
-pub fn serve_watched<R: Read, W: Write, T: Watch + Copy>(
+/// Answers a document as [`serve`] does. The listener is told how far a search for a certificate is, and what was found.
+pub fn serve_watched<R: Read, W: Write, L: Listen>(
     alloc: Global,
     ask: Ask,
-    watch: T,
+    listener: L,
     from: &mut Counting<R>,
     to: &mut Counting<W>,
 ) -> Exit
-    ensures responds { Responds (answers_of ask) R.remaining from.old from.new
-        W.contents to.old to.new result }
-    ensures reads { calls_of from.new ≤ calls_of from.old + (longest + 2) }
-
-    // From the check's success each claim is known to hold in every run, for all inputs and
-    // whatever comes from outside; and so it is where a certificate is written.
-    ensures accepted { ask ≡ Ask.Check → result ≡ Exit.Success
-        → Accepted R.remaining from.old from.new W.contents to.old to.new }
-    ensures found { (depth : ℕ) → ask ≡ Ask.Analyse depth → result ≡ Exit.Success
-        → Found R.remaining from.old from.new W.contents to.old to.new depth Form.Full }
-    ensures found_in { (depth : ℕ) → (form : Form) → ask ≡ Ask.AnalyseIn depth form
-        → result ≡ Exit.Success
-        → Found R.remaining from.old from.new W.contents to.old to.new depth form }
-    ensures certified { (depth : ℕ) → (form : Form) → ask ≡ Ask.Certify depth form
-        → result ≡ Exit.Success
-        → Certified R.remaining from.old from.new W.contents to.old to.new depth form }
-
-    // Where the audit answers and the document's certificate is accepted, no claim is named as failing.
-    ensures audited { ask ≡ Ask.Audit → (result ≡ Exit.Success) ⊎ (result ≡ Exit.Failure)
-        → Audited R.remaining from.old from.new W.contents to.old to.new result }
+    ensures { Serves ask R.remaining from.old from.new W.contents to.old to.new result }
 {
-    match ask {
-        Ask::Check => respond(&Check, alloc, from, to),
-        Ask::Analyse(depth) => {
-            let form = Form::Full;
-            respond(&Analyse { depth, form, watch }, alloc, from, to)
-        }
-        Ask::AnalyseIn(depth, form) => respond(&Analyse { depth, form, watch }, alloc, from, to),
-        Ask::Certify(depth, form) => respond(&Certify { depth, form, watch }, alloc, from, to),
-        Ask::Audit => respond(&Audit, alloc, from, to),
-        Ask::Draw(language) => respond(&Draw { language }, alloc, from, to),
-    }
+    respond(&Asking { ask, listener }, alloc, listener, from, to)
 }

@@ -111,7 +111,7 @@ fn unreadable_text(alloc: Global, fault: ReadFault) -> Result<String, AllocError
     }
 }
 
-/// The answer to a document that can't be read.
+/// The answer to a document that can't be read. Out of memory has none.
 pub(crate) fn unreadable_answer(alloc: Global, fault: ReadFault) -> Result<Answer, AllocError>
     ensures { IfOk result (λ given.
         (given.exit ≡ Exit.Unreadable) × IsUnreadable fault (string_bytes given.text)) }

@@ -1,19 +1,16 @@
 //! Why a journal can't be read, isn't a run, isn't complete, or shows that a claim fails.
 
-ghost use Rattle.std.specs.Prelude.{◌≡◌, Some, IfOk, IfSome, IfNone};
-ghost use Rattle.std.specs.List.{All};
-ghost use Rattle.tpl_graph.specs.Fits.{Fits};
-ghost use Rattle.tpl_reader.specs.SeenDocument.{doc_of};
-ghost use Rattle.tpl_reasons.specs.Reasons.{IsAudited, IsAuditReason, IsTraceReason, IsSilent};
+ghost use Rattle.std.specs.Prelude.{◌≡◌};
+ghost use Rattle.tpl_reasons.specs.Reasons.{audit_reason, verdict_reason};
 
-use crate::asked::Asked;
 use crate::crossing::crossing_text;
 use crate::journal::line_text;
 use crate::reason::Reason;
 use crate::refusal::refusal_text;
 use crate::words::{Said, claim_text, input_name, name};
 use std::alloc::{AllocError, Global};
-use tpl_audit::{Failure, Verdict, audit};
+use tpl_audit::{Failure, Verdict};
+use tpl_commands::Audit;
 use tpl_fast::Fast;
 use tpl_graph::Kind;
 use tpl_journal::{JournalFault, read_journal};
@@ -22,53 +19,29 @@ use tpl_model::Event;
 use tpl_reader::Document;
 use tpl_words::{InputId, Inputs, Status, TaskId};
 
-/// The reason of a verdict on the journal, if it has one. Out of memory has none.
-fn verdict_reason(document: &Document, verdict: Verdict) -> Result<Option<Reason>, AllocError>
-    requires audited { IsAudited (doc_of document.now) verdict }
-    ensures some { IfOk result (λ o. IfSome o (IsAuditReason (doc_of document.now))) }
-    ensures none { IfOk result (λ o. IfNone o (IsSilent (doc_of document.now) Asked.Audit)) }
+/// The reason of a verdict on the journal, if it has one.
+fn verdict_reason(verdict: Verdict) -> Option<Reason>
+    ensures { result ≡ verdict_reason verdict }
 {
-    let _ = document;
     match verdict {
-        Verdict::NotAllowed { place } => Ok(Some(Reason::NotAllowed(place))),
+        Verdict::NotAllowed { place } => Some(Reason::NotAllowed(place)),
         Verdict::Run { complete, fails } => match fails {
-            Some(failure) => Ok(Some(Reason::Fails(failure))),
-            None if complete => Ok(None),
-            None => Ok(Some(Reason::NotComplete)),
+            Some(failure) => Some(Reason::Fails(failure)),
+            None if complete => None,
+            None => Some(Reason::NotComplete),
         },
-        Verdict::Memory => Err(AllocError),
+        Verdict::Memory => None,
     }
 }
 
 /// What is wrong with the journal, if anything.
-pub(crate) fn audit_reason(alloc: Global, document: &Document) -> Result<Option<Reason>, AllocError>
-    requires claims { All (Fits document.now.graph.graph) document.now.claims.items }
-    ensures some { IfOk result (λ o. IfSome o (IsAuditReason (doc_of document.now))) }
-    ensures none { IfOk result (λ o. IfNone o (IsSilent (doc_of document.now) Asked.Audit)) }
+pub(crate) fn audit_reason(audit: Audit) -> Option<Reason>
+    ensures { result ≡ audit_reason audit }
 {
-    let Some(inputs) = document.inputs() else {
-        return Ok(Some(Reason::NoStart));
-    };
-    match read_journal(alloc, &document.graph, document.journal.as_str()) {
-        Ok(events) => {
-            let claims = document.claims.as_slice();
-            let verdict = audit(alloc, &document.graph, inputs, &events, claims);
-            verdict_reason(document, verdict)
-        }
-        Err(JournalFault::Memory) => Err(AllocError),
-        Err(fault) => Ok(Some(Reason::NoJournal(fault))),
-    }
-}
-
-/// Why there is no trace of the journal.
-pub(crate) fn trace_reason(alloc: Global, document: &Document) -> Result<Option<Reason>, AllocError>
-    requires claims { All (Fits document.now.graph.graph) document.now.claims.items }
-    ensures some { IfOk result (λ o. IfSome o (IsTraceReason (doc_of document.now))) }
-    ensures none { IfOk result (λ o. IfNone o (IsSilent (doc_of document.now) Asked.Trace)) }
-{
-    match audit_reason(alloc, document)? {
-        Some(Reason::Fails(_)) | Some(Reason::NotComplete) => Ok(None),
-        reason => Ok(reason),
+    match audit {
+        Audit::NoStart => Some(Reason::NoStart),
+        Audit::NoJournal(fault) => Some(Reason::NoJournal(fault)),
+        Audit::Judged(verdict) => verdict_reason(verdict),
     }
 }
 

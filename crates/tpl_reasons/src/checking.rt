@@ -1,18 +1,13 @@
 //! Why a certificate is refused, or shows nothing.
 
-ghost use Rattle.std.specs.Prelude.{IfSome, IfNone};
-ghost use Rattle.std.specs.List.{All};
-ghost use Rattle.tpl_graph.specs.Fits.{Fits};
-ghost use Rattle.tpl_reader.specs.SeenDocument.{doc_of};
-ghost use Rattle.tpl_reasons.specs.Reasons.{IsCheckReason, IsClaimsReason, IsRunReason, IsSilent};
+ghost use Rattle.std.specs.Prelude.{◌≡◌};
+ghost use Rattle.tpl_reasons.specs.Reasons.{check_reason, yes_reason};
 
-use crate::asked::Asked;
 use crate::leaves::{row_text, rows_of};
 use crate::reason::Reason;
 use crate::rules::rule_text;
 use crate::words::{Said, claim_text, count_text};
 use std::alloc::Global;
-use tpl_checker::check;
 use tpl_model::{CertFault, Property};
 use tpl_reader::Document;
 use tpl_words::TaskId;
@@ -20,23 +15,9 @@ use tpl_words::TaskId;
 /// The most leaves of a tree with at most 6 splits on each path.
 const MOST_LEAVES: usize = 729;
 
-/// Why the certificate is refused, or shows nothing.
-pub(crate) fn check_reason(document: &Document) -> Option<Reason>
-    requires claims { All (Fits document.now.graph.graph) document.now.claims.items }
-    ensures some { IfSome result (IsCheckReason (doc_of document.now)) }
-    ensures none { IfNone result (IsSilent (doc_of document.now) Asked.Check) }
-{
-    match check(&document.graph, &document.claims, &document.certificate) {
-        Ok(()) if document.claims.is_empty() => Some(Reason::NothingAsked),
-        Ok(()) => None,
-        Err(fault) => Some(Reason::Unchecked(fault)),
-    }
-}
-
-/// Why an answer about all claims says nothing.
-pub(crate) fn claims_reason(document: &Document) -> Option<Reason>
-    ensures some { IfSome result (IsClaimsReason (doc_of document.now)) }
-    ensures none { IfNone result (IsSilent (doc_of document.now) Asked.Claims) }
+/// Why a yes to all claims says nothing.
+pub(crate) fn yes_reason(document: &Document) -> Option<Reason>
+    ensures { result ≡ yes_reason document.now.claims.items }
 {
     if document.claims.is_empty() {
         Some(Reason::NothingAsked)
@@ -45,18 +26,13 @@ pub(crate) fn claims_reason(document: &Document) -> Option<Reason>
     }
 }
 
-/// Why no run is made.
-pub(crate) fn run_reason(document: &Document) -> Option<Reason>
-    requires claims { All (Fits document.now.graph.graph) document.now.claims.items }
-    ensures some { IfSome result (IsRunReason (doc_of document.now)) }
-    ensures none { IfNone result (IsSilent (doc_of document.now) Asked.Run) }
+/// Why the certificate is refused, or shows nothing.
+pub(crate) fn check_reason(document: &Document, verdict: &Result<(), CertFault>) -> Option<Reason>
+    ensures { result ≡ check_reason document.now.claims.items verdict.now }
 {
-    if document.inputs().is_none() {
-        return Some(Reason::NoStart);
-    }
-    match check_reason(document) {
-        Some(Reason::NothingAsked) => None,
-        reason => reason,
+    match verdict {
+        Ok(()) => yes_reason(document),
+        Err(fault) => Some(Reason::Unchecked(*fault)),
     }
 }
 

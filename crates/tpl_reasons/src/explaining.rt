@@ -1,24 +1,23 @@
 //! Why the program's answer is what it is.
 
-ghost use Rattle.std.specs.Prelude.{◌≢◌, [], IfOk, IfSome, IfNone, string_bytes};
+ghost use Rattle.std.specs.Prelude.{◌≡◌, ◌≢◌, [], IfOk, IfSome, string_bytes};
 ghost use Rattle.std.specs.List.{All};
+ghost use Rattle.std.specs.Option.{option_map};
 ghost use Rattle.tpl_graph.specs.Fits.{Fits};
-ghost use Rattle.tpl_reader.specs.Document.{IsFault, Spells};
-ghost use Rattle.tpl_reader.specs.SeenDocument.{doc_of};
-ghost use Rattle.tpl_reasons.specs.Reasons.{HasNoReason, IsAnswered, IsNamed, IsReason, IsReasonOf, IsSilent};
+ghost use Rattle.tpl_commands.specs.Finding.{IsFindingOf};
+ghost use Rattle.tpl_reasons.specs.Reasons.{found_reason, reason_of};
 
-use crate::asked::Asked;
 use crate::auditing::{
     audit_reason, fails_text, no_journal_text, no_start_text, not_allowed_text, not_complete_text,
-    trace_reason,
 };
-use crate::checking::{check_reason, claims_reason, fault_text, run_reason};
-use crate::finding::{not_found_text, search_reason};
+use crate::checking::{check_reason, fault_text};
 use crate::reason::Reason;
+use crate::searching::{not_found_text, search_reason};
 use crate::words::Said;
 use std::alloc::{AllocError, Global};
+use tpl_commands::{Finding, Found};
 use tpl_explain::{explain_document, said_or};
-use tpl_reader::{Document, ReadFault, one_document, read_document};
+use tpl_reader::Document;
 
 /// What is said of bytes that spell no document.
 const UNREAD: &str = "the document can't be read\n";
@@ -40,39 +39,49 @@ pub struct Reasoned {
     pub text: String,
 }
 
-/// The reason of the answer to a document, if there is something to say.
-fn reason_of(
-    alloc: Global,
-    asked: &Asked,
-    document: &Document,
-) -> Result<Option<Reason>, AllocError>
-    requires claims { All (Fits document.now.graph.graph) document.now.claims.items }
-    requires named { IsNamed (doc_of document.now) asked.now }
-    ensures some { IfOk result (λ o. IfSome o (IsReasonOf (doc_of document.now) asked.now)) }
-    ensures none { IfOk result (λ o. IfNone o (IsSilent (doc_of document.now) asked.now)) }
+/// The reason of the answer to a document for which this was found, if there is something to say.
+fn found_reason(document: &Document, found: &Found) -> Option<Reason>
+    ensures { result ≡ found_reason document.now.claims.items found.now }
 {
-    match asked {
-        Asked::Check => Ok(check_reason(document)),
-        Asked::Run => Ok(run_reason(document)),
-        Asked::Analyse(depth, named) => Ok(search_reason(document, *depth, *named)),
-        Asked::Audit => audit_reason(alloc, document),
-        Asked::Trace => trace_reason(alloc, document),
-        Asked::Claims => Ok(claims_reason(document)),
-        Asked::Other => Ok(None),
+    match found {
+        Found::Checked(verdict) => check_reason(document, verdict),
+        Found::Drawn(_, _) => None,
+        Found::Searched(searched) => search_reason(document, searched),
+        Found::Certified(searched) => search_reason(document, searched),
+        Found::Audited(audit) => audit_reason(*audit),
     }
 }
 
-/// The reason in words.
-fn text_of(alloc: Global, asked: &Asked, document: &Document, reason: Reason) -> Said
+/// The reason of an answer, if there is something to say.
+fn reason_of(finding: &Finding) -> Option<Reason>
+    ensures { result ≡ reason_of finding.now }
+{
+    match finding {
+        Finding::Unread(fault) => Some(Reason::Unreadable(*fault)),
+        Finding::Read(document, found) => found_reason(document, found),
+    }
+}
+
+/// The words for a claim without a certificate, where a search found this.
+fn missed_text(alloc: Global, document: &Document, found: &Found) -> Said
+    requires claims { All (Fits document.now.graph.graph) document.now.claims.items }
+{
+    match found {
+        Found::Searched(searched) | Found::Certified(searched) => {
+            not_found_text(alloc, document, searched)
+        }
+        Found::Checked(_) | Found::Drawn(_, _) | Found::Audited(_) => Ok(String::new(alloc)),
+    }
+}
+
+/// The words for the reason of the answer to a document for which this was found.
+fn found_text(alloc: Global, document: &Document, found: &Found, reason: Reason) -> Said
     requires claims { All (Fits document.now.graph.graph) document.now.claims.items }
 {
     match reason {
         Reason::Unreadable(_) => String::from_str(alloc, UNREAD),
         Reason::Unchecked(fault) => fault_text(alloc, document, fault),
-        Reason::NotFound(claim) => match asked {
-            Asked::Analyse(depth, _) => not_found_text(alloc, document, *depth, claim),
-            _ => Ok(String::new(alloc)),
-        },
+        Reason::NotFound(_) => missed_text(alloc, document, found),
         Reason::NoStart => no_start_text(alloc, document),
         Reason::NoJournal(fault) => no_journal_text(alloc, document, fault),
         Reason::NotAllowed(line) => not_allowed_text(alloc, document, line),
@@ -83,76 +92,35 @@ fn text_of(alloc: Global, asked: &Asked, document: &Document, reason: Reason) ->
     }
 }
 
-/// Why the answer to the document that the bytes spell is what it is.
-fn explain_in(
-    alloc: Global,
-    asked: Asked,
-    bytes: &[u8],
-    document: &Document,
-) -> Result<Option<Reasoned>, AllocError>
-    requires spelled { Spells bytes.now (doc_of document.now) }
-    requires claims { All (Fits document.now.graph.graph) document.now.claims.items }
-    requires named { IsNamed (doc_of document.now) asked }
-    ensures some { IfOk result (λ o. IfSome o (λ r. IsReason bytes.now asked r.reason)) }
-    ensures text { IfOk result (λ o. IfSome o (λ r. string_bytes r.text ≢ [])) }
-    ensures none { IfOk result (λ o. IfNone o (HasNoReason bytes.now asked)) }
+/// The words for the reason of an answer.
+fn text_of(alloc: Global, bytes: &[u8], finding: &Finding, reason: Reason) -> Said
+    requires { IsFindingOf bytes.now finding.now }
 {
-    let _ = bytes;
-    match reason_of(alloc, &asked, document)? {
+    match finding {
+        Finding::Unread(_) => match explain_document(alloc, bytes)? {
+            Some(explanation) => Ok(explanation.text),
+            None => String::from_str(alloc, UNREAD),
+        },
+        Finding::Read(document, found) => found_text(alloc, document, found, reason),
+    }
+}
+
+/// Why the answer to these bytes, for which this was found, is what it is, in words; none, where the answer says all. Out
+/// of memory is the only error.
+pub fn explain(
+    alloc: Global,
+    bytes: &[u8],
+    finding: &Finding,
+) -> Result<Option<Reasoned>, AllocError>
+    requires { IsFindingOf bytes.now finding.now }
+    ensures reason { IfOk result (λ o. option_map (λ r. r.reason) o ≡ reason_of finding.now) }
+    ensures text { IfOk result (λ o. IfSome o (λ r. string_bytes r.text ≢ [])) }
+{
+    match reason_of(finding) {
         Some(reason) => {
-            let text = said_or(alloc, text_of(alloc, &asked, document, reason)?, SEE)?;
+            let text = said_or(alloc, text_of(alloc, bytes, finding, reason)?, SEE)?;
             Ok(Some(Reasoned { reason, text }))
         }
         None => Ok(None),
-    }
-}
-
-/// Why bytes spell no document.
-fn unreadable(
-    alloc: Global,
-    asked: Asked,
-    bytes: &[u8],
-    fault: ReadFault,
-) -> Result<Option<Reasoned>, AllocError>
-    requires { IsFault bytes.now fault }
-    ensures some { IfOk result (λ o. IfSome o (λ r. IsReason bytes.now asked r.reason)) }
-    ensures text { IfOk result (λ o. IfSome o (λ r. string_bytes r.text ≢ [])) }
-    ensures none { IfOk result (λ o. IfNone o (HasNoReason bytes.now asked)) }
-{
-    let _ = asked;
-    match fault {
-        ReadFault::Memory => Err(AllocError),
-        ReadFault::TooLong
-        | ReadFault::NotJson
-        | ReadFault::Shape(_)
-        | ReadFault::Graph(_)
-        | ReadFault::Claim(_, _)
-        | ReadFault::Certificate(_, _)
-        | ReadFault::Start(_) => Ok(Some(Reasoned {
-            reason: Reason::Unreadable(fault),
-            text: String::from_str(alloc, UNREAD)?,
-        })),
-    }
-}
-
-/// Why the program's answer to a document of these bytes is what it is, in words; none where there is nothing to say:
-/// the answer says all, or it is that of another command. Of a search that found no certificate the caller says which
-/// claim the answer names. Out of memory is the only error.
-pub fn explain(alloc: Global, asked: Asked, bytes: &[u8]) -> Result<Option<Reasoned>, AllocError>
-    requires answered { IsAnswered bytes.now asked }
-    ensures some { IfOk result (λ o. IfSome o (λ r. IsReason bytes.now asked r.reason)) }
-    ensures text { IfOk result (λ o. IfSome o (λ r. string_bytes r.text ≢ [])) }
-    ensures none { IfOk result (λ o. IfNone o (HasNoReason bytes.now asked)) }
-{
-    one_document();
-    match explain_document(alloc, bytes)? {
-        Some(explanation) => Ok(Some(Reasoned {
-            reason: Reason::Unreadable(explanation.fault),
-            text: explanation.text,
-        })),
-        None => match read_document(alloc, bytes) {
-            Ok(document) => explain_in(alloc, asked, bytes, &document),
-            Err(fault) => unreadable(alloc, asked, bytes, fault),
-        },
     }
 }

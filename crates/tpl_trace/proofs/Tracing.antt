@@ -1,34 +1,38 @@
 -- From what is answered to what was read and written.
-use Rattle.std.proofs.Common.{◌≡◌, ℕ, List, Bool, Option, Some, None, refl, inl, inr}
+use Rattle.std.proofs.Common.{◌≡◌, ℕ, List, Option, Result, Ok, Err, IfOk, string_bytes, subst, inl, inr}
+use Rattle.std.specs.declared.alloc.AllocError.{AllocError}
 use Rattle.tpl_commands.proofs.Accepting.{puts_success}
 use Rattle.tpl_audit.specs.declared.verdict.Verdict.{Verdict}
 use Rattle.tpl_audit.specs.declared.verdict.Verdict.TheVariants as ruled
-use Rattle.tpl_audit.specs.Audit.{IsVerdict}
 use Rattle.tpl_journal.specs.declared.counting.Counting.{Counting}
-use Rattle.tpl_journal.specs.Lines.{IsJournal}
 use Rattle.tpl_model.specs.declared.event.Event.{Event}
-use Rattle.tpl_reader.specs.Document.{DocumentValue, Spells}
+use Rattle.tpl_reader.specs.declared.fault.ReadFault.{ReadFault}
+use Rattle.tpl_reader.specs.declared.fault.ReadFault.TheVariants as faults
+use Rattle.tpl_reader.specs.Document.{DocumentValue, Spells, IsFault}
+use Rattle.tpl_reader.specs.Laws.{SpellsOneDocument, SpelledHasNoFault}
 use Rattle.tpl_commands.specs.declared.exit.Exit.{Exit}
 use Rattle.tpl_commands.specs.declared.exit.Exit.TheVariants.{Success, Failure, Usage, Unreadable, Memory, Device, Fault}
-use Rattle.tpl_commands.specs.Auditing.{Audits, IsAuditWith, verdict_exit}
+use Rattle.tpl_commands.specs.declared.auditing.Audit.{Audit}
+use Rattle.tpl_commands.specs.declared.auditing.Audit.TheVariants.{NoStart, NoJournal, Judged}
+use Rattle.tpl_commands.specs.declared.responding.Answered.{Answered}
+use Rattle.tpl_commands.specs.Auditing.{Audits, IsAudited, IsAuditAnswer, IsAuditOf, verdict_exit}
+use Rattle.tpl_commands.specs.Documents.{NoDocument}
 use Rattle.tpl_commands.specs.Responding.{Says, Responds}
-use Rattle.tpl_reader.specs.Starting.{inputs_of}
-use Rattle.tpl_trace.specs.Answer.{IsTraced, SpellsNoRun, Traces, Traced}
+use Rattle.tpl_trace.specs.Answer.{HasRun, IsTraced, SpellsNoRun, Traces, Traced}
 
 -- the audit doesn't succeed where the journal is no run
-verdict_never : (input : List ℕ) (doc : DocumentValue) (inputs : List Bool) (events : List Event) (verdict : Verdict) → SpellsNoRun input → Spells input doc → inputs_of doc ≡ Some inputs
-    → IsJournal doc.graph doc.journal events → IsVerdict doc.graph.graph inputs events doc.claims verdict → Success ≡ verdict_exit verdict → ⊥
-verdict_never input doc inputs events (ruled.Run complete fails) none spelled known journal is ends = none doc events spelled (record { inputs = inputs; known = known; journal = journal; run = is.run })
-verdict_never input doc inputs events (ruled.NotAllowed place) none spelled known journal is ends = absurd cc
-verdict_never input doc inputs events ruled.Memory none spelled known journal is ends = absurd cc
+verdict_never : (input : List ℕ) (doc : DocumentValue) (verdict : Verdict) → SpellsNoRun input → Spells input doc → IsAudited doc verdict → Success ≡ verdict_exit verdict → ⊥
+verdict_never input doc (ruled.Run complete fails) none spelled is ends = none doc is.events spelled (record { inputs = is.inputs; known = is.known; journal = is.journal; run = is.audited.run })
+verdict_never input doc (ruled.NotAllowed place) none spelled is ends = absurd cc
+verdict_never input doc ruled.Memory none spelled is ends = absurd cc
 
-audit_never : (input : List ℕ) (doc : DocumentValue) (inputs : Option (List Bool)) (text : List ℕ) → SpellsNoRun input → Spells input doc → inputs_of doc ≡ inputs → IsAuditWith doc inputs Success text → ⊥
-audit_never input doc None text none spelled known is = let e = is.0 in absurd cc
-audit_never input doc (Some inputs) text none spelled known (inl is) = verdict_never input doc inputs is.events is.verdict none spelled known is.journal is.audited is.ends
-audit_never input doc (Some inputs) text none spelled known (inr is) = let e = is.ends in absurd cc
+audit_never : (input : List ℕ) (doc : DocumentValue) (audit : Audit) (text : List ℕ) → SpellsNoRun input → Spells input doc → IsAuditOf doc audit → IsAuditAnswer audit Success text → ⊥
+audit_never input doc NoStart text none spelled is said = let e = said.0 in absurd cc
+audit_never input doc (Judged verdict) text none spelled is said = verdict_never input doc verdict none spelled is said.0
+audit_never input doc (NoJournal fault) text none spelled is said = let e = said.0 in absurd cc
 
 audits_never : (input text : List ℕ) → SpellsNoRun input → Audits input Success text → ⊥
-audits_never input text none (inl is) = audit_never input is.0 (inputs_of is.0) text none is.1 refl is.2
+audits_never input text none (inl is) = audit_never input is.0 is.2.0 text none is.1 is.2.1 is.2.2
 audits_never input text none (inr is) = let e = is.2 in absurd cc
 
 -- what a success says
@@ -48,6 +52,17 @@ says_success input Unreadable text e s = absurd cc
 says_success input Memory text e s = absurd cc
 says_success input Device text e s = absurd s
 says_success input Fault text e s = absurd s
+
+-- what is answered where the journal of a document that was read is no run
+pub other_traces : SpellsOneDocument → (input : List ℕ) (doc : DocumentValue) (audit : Audit) (exit : Exit) (text : List ℕ) → Spells input doc → IsAuditOf doc audit → ((events : List Event) → HasRun doc events → ⊥) → IsAuditAnswer audit exit text → Traces input exit text
+other_traces one input doc audit exit text spelled is none said =
+    inr ((λ other events also run. none events (subst (λ (d : DocumentValue). HasRun d events) (one input doc other spelled also) run)), inl (doc, spelled, (audit, is, said)))
+
+-- what is answered where the bytes spell no document
+pub unread_traces : SpellsOneDocument → SpelledHasNoFault → (input : List ℕ) (fault : ReadFault) → IsFault input fault → (r : Result Answered AllocError) → IfOk r (λ it. fault ≡ faults.Memory → ⊥)
+    → IfOk r (λ it. NoDocument input it.answer.exit (string_bytes it.answer.text)) → IfOk r (λ it. Traces input it.answer.exit (string_bytes it.answer.text))
+unread_traces one faultless input fault is (Ok it) other none = inr ((λ doc events spelled run. other (faultless input doc fault spelled is)), inr none)
+unread_traces one faultless input fault is (Err e) other none = tt
 
 pub success_traces : {R W : Type 0} (remaining : R → Option (List ℕ)) (from_old from_new : Counting R) (contents : W → Option (List ℕ)) (old new : Counting W) (result : Exit) → Responds Traces remaining from_old from_new contents old new result → result ≡ Success → Traced remaining from_old from_new contents old new
 unfolding IsDrawn

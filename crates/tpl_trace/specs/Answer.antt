@@ -1,14 +1,17 @@
 -- What `trace` answers to a document.
 use Rattle.std.specs.Prelude.{◌≡◌, ◌⊎◌, ℕ, Bool, List, Option, Some, reverse}
+use Rattle.std.specs.List.{All}
 use Rattle.tpl_model.specs.declared.event.Event.{Event}
-use Rattle.tpl_model.specs.Rules.{Run}
+use Rattle.tpl_model.specs.Rules as rules
 use Rattle.tpl_journal.specs.declared.counting.Counting.{Counting}
-use Rattle.tpl_journal.specs.Lines.{IsJournal}
+use Rattle.tpl_journal.specs.Lines.{CanSpell, IsJournal}
 use Rattle.tpl_reader.specs.Document.{DocumentValue, Spells}
 use Rattle.tpl_commands.specs.declared.exit.Exit.TheVariants.{Success}
-use Rattle.tpl_commands.specs.Auditing.{Audits}
+use Rattle.tpl_commands.specs.Auditing.{Audits, IsAuditOf}
 use Rattle.tpl_commands.specs.Responding.{Answers, Reads, Writes}
 use Rattle.tpl_reader.specs.Starting.{inputs_of}
+use Rattle.tpl_trace.specs.declared.answering.Journal.{Journal}
+use Rattle.tpl_trace.specs.declared.answering.Journal.TheVariants.{Run, Other}
 use Rattle.tpl_trace.specs.Trace.{trace_text}
 
 -- the journal's text is that of these events, and they are a run with the document's inputs
@@ -16,7 +19,12 @@ pub record HasRun (doc : DocumentValue) (events : List Event) : Type 0 where
   pub inputs : List Bool
   pub known : inputs_of doc ≡ Some inputs
   pub journal : IsJournal doc.graph doc.journal events
-  pub run : Run doc.graph.graph inputs (reverse events)
+  pub run : rules.Run doc.graph.graph inputs (reverse events)
+
+-- the journal is a run of these events, each of which can be spelled; or the audit says of it what no run has
+abbrev pub IsJournalOf : DocumentValue → Journal → Type 0
+IsJournalOf doc (Run events) = HasRun doc events.items × All (CanSpell doc.graph.graph) events.items
+IsJournalOf doc (Other audit) = IsAuditOf doc audit × ((events : List Event) → HasRun doc events → ⊥)
 
 -- the journal is a run, and this is its trace
 pub record IsTraced (doc : DocumentValue) (text : List ℕ) : Type 0 where

@@ -1,37 +1,41 @@
 //! The trace of a document's journal.
 
-ghost use Rattle.std.specs.Prelude.{◌≡◌, ◌≢◌, ◌+◌, ◌≤◌, List, Some, IfOk, IfSome, IfNone, OnOk, string_bytes};
-ghost use Rattle.tpl_journal.specs.Counting.{calls_of};
-ghost use Rattle.tpl_journal.specs.Lines.{CanSpell};
+ghost use Rattle.std.specs.Prelude.{◌≡◌, ◌+◌, ◌≤◌, Some, IfOk, IfSome, string_bytes};
 ghost use Rattle.std.specs.List.{All};
-ghost use Rattle.tpl_model.specs.declared.event.Event as events;
+ghost use Rattle.tpl_graph.specs.Fits.{Fits};
+ghost use Rattle.tpl_journal.specs.Counting.{calls_of};
+ghost use Rattle.tpl_reader.specs.Document.{Spells};
 ghost use Rattle.tpl_reader.specs.SeenDocument.{doc_of};
 ghost use Rattle.tpl_reader.specs.Starting.{inputs_of};
+ghost use Rattle.tpl_commands.specs.Finding.{IsAnswer, IsFindingOf};
 ghost use Rattle.tpl_commands.specs.Responding.{longest, Responds};
-ghost use Rattle.tpl_trace.specs.Answer.{HasRun, SpellsNoRun, Traced, Traces};
+ghost use Rattle.tpl_trace.specs.Answer.{IsJournalOf, Traced, Traces};
 
 use crate::text::trace_text;
 use std::alloc::{AllocError, Global};
 use std::io::{Read, Write};
 use tpl_audit::{Verdict, audit};
-use tpl_commands::{Answer, Audit, Command, Exit, respond};
+use tpl_commands::{
+    Answer, Answered, Audit, Command, Exit, Finding, Found, Listen, audit_answer, respond, unread,
+};
 use tpl_journal::{Counting, JournalFault, fault_is_no_journal, read_journal, text_is_unambiguous};
 use tpl_model::Event;
-use tpl_reader::{Document, ReadFault, one_document, read_document};
+use tpl_reader::{Document, one_document, read_document};
 use tpl_words::Inputs;
 
-/// The events of the document's journal, where they are a run with these inputs; else none.
-fn run_with(
-    alloc: Global,
-    document: &Document,
-    inputs: Inputs,
-) -> Result<Option<Vec<Event>>, AllocError>
+/// The journal of a document.
+#[derive(Drop)]
+enum Journal {
+    /// It is a run, of these events.
+    Run(Vec<Event>),
+    /// It is none, as the audit says.
+    Other(Audit),
+}
+
+/// The document's journal with these inputs.
+fn journal_with(alloc: Global, document: &Document, inputs: Inputs) -> Result<Journal, AllocError>
     requires { inputs_of (doc_of document.now) ≡ Some inputs }
-    ensures some { IfOk result (λ run. IfSome run (λ h. HasRun (doc_of document.now) h.items)) }
-    ensures spelled { IfOk result (λ run. IfSome run (λ h.
-        All (CanSpell document.now.graph.graph) h.items)) }
-    ensures none { IfOk result (λ run. IfNone run ((h : List events.Event)
-        → HasRun (doc_of document.now) h → ⊥)) }
+    ensures { IfOk result (IsJournalOf (doc_of document.now)) }
 {
     document.graph.valid_law();
     text_is_unambiguous();
@@ -39,66 +43,51 @@ fn run_with(
     tpl_laws::prefix_is_run();
     match read_journal(alloc, &document.graph, document.journal.as_str()) {
         Ok(events) => match audit(alloc, &document.graph, inputs, events.as_slice(), &[]) {
-            Verdict::Run { .. } => Ok(Some(events)),
-            Verdict::NotAllowed { .. } => Ok(None),
+            Verdict::Run { .. } => Ok(Journal::Run(events)),
+            Verdict::NotAllowed { place } => {
+                Ok(Journal::Other(Audit::Judged(Verdict::NotAllowed { place })))
+            }
             Verdict::Memory => Err(AllocError),
         },
         Err(JournalFault::Memory) => Err(AllocError),
-        Err(_) => Ok(None),
+        Err(fault) => Ok(Journal::Other(Audit::NoJournal(fault))),
     }
 }
 
-/// The events of the document's journal, where they are a run; else none.
-fn run_of(alloc: Global, document: &Document) -> Result<Option<Vec<Event>>, AllocError>
-    ensures some { IfOk result (λ run. IfSome run (λ h. HasRun (doc_of document.now) h.items)) }
-    ensures spelled { IfOk result (λ run. IfSome run (λ h.
-        All (CanSpell document.now.graph.graph) h.items)) }
-    ensures none { IfOk result (λ run. IfNone run ((h : List events.Event)
-        → HasRun (doc_of document.now) h → ⊥)) }
+/// The document's journal.
+fn journal_of(alloc: Global, document: &Document) -> Result<Journal, AllocError>
+    ensures { IfOk result (IsJournalOf (doc_of document.now)) }
 {
     match document.inputs() {
-        Some(inputs) => run_with(alloc, document, inputs),
-        None => Ok(None),
+        Some(inputs) => journal_with(alloc, document, inputs),
+        None => Ok(Journal::Other(Audit::NoStart)),
     }
 }
 
-/// An error where memory ran out.
-fn unless_memory(fault: ReadFault) -> Result<(), AllocError>
-    ensures { OnOk result (fault ≢ ReadFault.Memory) }
+/// The trace of the journal of the document that the bytes spell, where that is a run; else what the audit answers.
+fn traced(alloc: Global, bytes: &[u8], document: Document) -> Result<Answered, AllocError>
+    requires spelled { Spells bytes.now (doc_of document) }
+    requires claims { All (Fits document.graph.graph) document.claims.items }
+    ensures answer { IfOk result (λ it.
+        Traces bytes.now it.answer.exit (string_bytes it.answer.text)) }
+    ensures found { IfOk result (λ it. IfSome it.finding (IsFindingOf bytes.now)) }
+    ensures follows { IfOk result (λ it. IfSome it.finding (λ finding.
+        IsAnswer finding it.answer.exit (string_bytes it.answer.text))) }
 {
-    match fault {
-        ReadFault::Memory => Err(AllocError),
-        ReadFault::TooLong
-        | ReadFault::NotJson
-        | ReadFault::Shape(_)
-        | ReadFault::Graph(_)
-        | ReadFault::Claim(_, _)
-        | ReadFault::Certificate(_, _)
-        | ReadFault::Start(_) => Ok(()),
-    }
-}
-
-/// The trace of the journal of the document that the bytes spell, where that is a run; else none.
-fn trace_of(alloc: Global, bytes: &[u8]) -> Result<Option<Answer>, AllocError>
-    ensures some { IfOk result (λ found. IfSome found (λ given.
-        Traces bytes.now given.exit (string_bytes given.text))) }
-    ensures none { IfOk result (λ found. IfNone found (SpellsNoRun bytes.now)) }
-{
+    let _ = bytes;
     one_document();
-    match read_document(alloc, bytes) {
-        Ok(document) => match run_of(alloc, &document)? {
-            Some(events) => {
-                let text = trace_text(alloc, &document.graph, events.as_slice())?;
-                Ok(Some(Answer {
-                    exit: Exit::Success,
-                    text,
-                }))
-            }
-            None => Ok(None),
-        },
-        Err(fault) => {
-            unless_memory(fault)?;
-            Ok(None)
+    match journal_of(alloc, &document)? {
+        Journal::Run(events) => {
+            let exit = Exit::Success;
+            let text = trace_text(alloc, &document.graph, events.as_slice())?;
+            let answer = Answer { exit, text };
+            let finding = None;
+            Ok(Answered { answer, finding })
+        }
+        Journal::Other(audit) => {
+            let answer = audit_answer(alloc, audit)?;
+            let finding = Some(Finding::Read(document, Found::Audited(audit)));
+            Ok(Answered { answer, finding })
         }
     }
 }
@@ -109,19 +98,22 @@ struct Trace;
 impl Command for Trace {
     ghost answers = { λ _. Traces };
 
-    fn answer(&self, alloc: Global, bytes: &[u8]) -> Result<Answer, AllocError> {
-        match trace_of(alloc, bytes)? {
-            Some(answer) => Ok(answer),
-            None => Audit.answer(alloc, bytes),
+    fn answer(&self, alloc: Global, bytes: &[u8]) -> Result<Answered, AllocError> {
+        one_document();
+        match read_document(alloc, bytes) {
+            Ok(document) => traced(alloc, bytes, document),
+            Err(fault) => unread(alloc, bytes, fault),
         }
     }
 }
 
 /// Reads a document to its end, at most 16,777,216 bytes, and writes the trace of its journal, where that is a run;
 /// else what the audit of the document answers. The text is made whole before its first byte is written. A failed read
-/// ends the reading, and then nothing is written; after a failed write no more is.
-pub fn trace_document<I: Read, O: Write>(
+/// ends the reading, and then nothing is written; after a failed write no more is. Where the journal is no run, the
+/// listener is told why.
+pub fn trace_document<L: Listen, I: Read, O: Write>(
     alloc: Global,
+    listener: L,
     from: &mut Counting<I>,
     to: &mut Counting<O>,
 ) -> Exit
@@ -133,5 +125,5 @@ pub fn trace_document<I: Read, O: Write>(
     ensures traced { result ≡ Exit.Success
         → Traced I.remaining from.old from.new O.contents to.old to.new }
 {
-    respond(&Trace, alloc, from, to)
+    respond(&Trace, alloc, listener, from, to)
 }

@@ -1,6 +1,6 @@
 -- From what was found to what was read and written.
 use Rattle.std.proofs.Common.{◌≡◌, ℕ, suc, ◌≤◌, ◌++◌, inl, inr, Bool, List, [], ◌∷◌, zero, length, reverse, Option, Some, Result, Ok, Err, IfOk, string_bytes, codes, refl, sym, subst, ◌∙◌, arith}
-use Rattle.std.specs.Prelude.{slice_get, IsTrue, MatchResult}
+use Rattle.std.specs.Prelude.{slice_get}
 use Rattle.std.specs.declared.alloc.AllocError.{AllocError}
 use Rattle.std.proofs.lemmas.List.{length-reverse}
 use Rattle.json.specs.Lex.{tokens}
@@ -14,17 +14,13 @@ use Rattle.tpl_draft.specs.Named.{Named}
 use Rattle.tpl_journal.specs.declared.counting.Counting.{Counting}
 use Rattle.tpl_journal.specs.Lines.{IsJournal, lines, TextIsUnambiguous, FaultIsNoJournal, SpellsRun}
 use Rattle.tpl_refute.specs.Refuting.{Refutes}
-use Rattle.tpl_reader.specs.declared.fault.ReadFault.{ReadFault}
-use Rattle.tpl_reader.specs.declared.fault.ReadFault.TheVariants as faults
-use Rattle.tpl_reader.specs.Document.{DocumentValue, Spells, IsFault, longest}
+use Rattle.tpl_reader.specs.Document.{DocumentValue, Spells, longest}
 use Rattle.tpl_reader.specs.Laws.{SpellsOneDocument, SpelledHasNoFault}
-use Rattle.tpl_commands.specs.declared.answer.Answer.{Answer}
 use Rattle.tpl_commands.specs.declared.exit.Exit.{Exit}
 use Rattle.tpl_commands.specs.declared.exit.Exit.TheVariants.{Success, Failure as Failed, Usage, Unreadable, Memory, Device, Fault}
-use Rattle.tpl_commands.specs.Checking.{Checks}
+use Rattle.tpl_commands.specs.declared.responding.Answered.{Answered}
 use Rattle.tpl_commands.specs.Documents.{NoDocument}
-use Rattle.tpl_commands.specs.Exit.{is_verdict}
-use Rattle.tpl_commands.specs.Responding.{Answers, Says, Reads, Puts, Writes, Responds}
+use Rattle.tpl_commands.specs.Responding.{Says, Puts, Writes, Responds}
 use Rattle.tpl_witness.specs.Asking.{IsKnown}
 use Rattle.tpl_witness.specs.Filled.{IsTextOf}
 use Rattle.tpl_witness.specs.Serving.{Refuted, Unrefuted}
@@ -81,37 +77,11 @@ refuted laws asked doc number inputs events text named found is le printed =
       ends = printed.2;
     }
 
--- ---- bytes that can't be read
+-- ---- the answer to bytes
 
-pub no_document : SpelledHasNoFault → (bytes : List ℕ) (fault : ReadFault) → IsFault bytes fault → (fault ≡ faults.Memory → ⊥) → (r : Result Answer AllocError) → IfOk r (λ given. Checks bytes given.exit (string_bytes given.text))
-    → IfOk r (λ given. NoDocument bytes given.exit (string_bytes given.text))
-no_document faultless bytes fault is other (Ok given) (inl found) = absurd (other (faultless bytes found.0 fault found.1 is))
-no_document faultless bytes fault is other (Ok given) (inr wrong) = wrong
-no_document faultless bytes fault is other (Err e) checks = tt
-
-pub unread : (asked : Option ℕ) (bytes : List ℕ) (r : Result Answer AllocError) → IfOk r (λ given. NoDocument bytes given.exit (string_bytes given.text)) → IfOk r (λ given. Searches asked bytes given.exit (string_bytes given.text))
-unread asked bytes (Ok given) wrong = inr wrong
+pub unread : (asked : Option ℕ) (bytes : List ℕ) (r : Result Answered AllocError) → IfOk r (λ it. NoDocument bytes it.answer.exit (string_bytes it.answer.text)) → IfOk r (λ it. Searches asked bytes it.answer.exit (string_bytes it.answer.text))
+unread asked bytes (Ok it) wrong = inr wrong
 unread asked bytes (Err e) wrong = tt
-
--- ---- an answer that was put
-
-says : (answers : Answers) (input : List ℕ) (exit : Exit) (text : List ℕ) → IsTrue (is_verdict exit) → length input ≤ longest → answers input exit text → Says answers input exit text
-says answers input Success text verdict le is = (le, is)
-says answers input Failed text verdict le is = (le, is)
-says answers input Usage text verdict le is = absurd cc
-says answers input Unreadable text verdict le is = inl (le, is)
-says answers input Memory text verdict le is = absurd cc
-says answers input Device text verdict le is = absurd cc
-says answers input Fault text verdict le is = absurd cc
-
-pub put_responds : {R W : Type 0} (answers : Answers) (remaining : R → Option (List ℕ)) (from_old from_new : Counting R) (contents : W → Option (List ℕ)) (old read new : Counting W) (input : List ℕ) (r : Result Answer AllocError) (result : Exit)
-    → Reads remaining from_old from_new input → length input ≤ longest → read ≡ old → IfOk r (λ given. answers input given.exit (string_bytes given.text))
-    → MatchResult r (λ given. Puts contents read new given.exit (string_bytes given.text) result) (λ e. Puts contents read new Memory (codes "out of memory\n") result)
-    → Responds answers remaining from_old from_new contents old new result
-put_responds answers remaining from_old from_new contents old read new input (Ok given) result reads le same is puts =
-    inl (input, given.exit, string_bytes given.text, reads, says answers input given.exit (string_bytes given.text) given.verdict le is, subst (λ (w : Counting _). Puts contents w new given.exit (string_bytes given.text) result) same puts)
-put_responds answers remaining from_old from_new contents old read new input (Err e) result reads le same is puts =
-    inl (input, Memory, codes "out of memory\n", reads, refl, subst (λ (w : Counting _). Puts contents w new Memory (codes "out of memory\n") result) same puts)
 
 -- ---- what was read and written
 

@@ -11,8 +11,6 @@ use Rattle.tpl_model.specs.declared.event.Event.{Event}
 use Rattle.tpl_model.specs.Claims.{Claim, Holds}
 use Rattle.tpl_model.specs.Rules.{Run}
 use Rattle.tpl_graph.specs.Kept.{IsNamedGraph}
-use Rattle.tpl_journal.specs.declared.reading_lines.JournalFault.{JournalFault}
-use Rattle.tpl_journal.specs.declared.reading_lines.JournalFault.TheVariants as broken
 use Rattle.tpl_journal.specs.Lines.{IsJournal, lines, TextIsUnambiguous, FaultIsNoJournal}
 use Rattle.tpl_audit.specs.declared.verdict.Verdict.{Verdict}
 use Rattle.tpl_audit.specs.declared.verdict.Verdict.TheVariants as ruled
@@ -24,7 +22,9 @@ use Rattle.tpl_reader.specs.Document.{DocumentValue, Spells}
 use Rattle.tpl_reader.specs.Laws.{SpellsOneDocument, SpelledHasNoFault}
 use Rattle.tpl_commands.specs.declared.exit.Exit.{Exit}
 use Rattle.tpl_commands.specs.declared.exit.Exit.TheVariants.{Memory}
-use Rattle.tpl_commands.specs.Auditing.{IsAudit, IsAuditWith, IsAudited, IsNoJournal, IsNoJournalText, verdict_exit, verdict_text}
+use Rattle.tpl_commands.specs.declared.auditing.Audit.{Audit}
+use Rattle.tpl_commands.specs.declared.auditing.Audit.TheVariants.{NoStart, NoJournal, Judged}
+use Rattle.tpl_commands.specs.Auditing.{IsAudit, IsAudited, IsAuditAnswer, IsAuditOf, verdict_exit, verdict_text}
 use Rattle.tpl_reader.specs.Starting.{inputs_of}
 use Rattle.tpl_witness.specs.Asking.{IsNumbered}
 use Rattle.tpl_witness.specs.Filled.{started}
@@ -66,29 +66,34 @@ module _ (g : TaskGraph) (claims : List Claim) (claim : Claim) (number : ℕ) (i
 
 -- ---- the audit of the document
 
-has_text : (fault : JournalFault) (text : List ℕ) → IsNoJournalText fault text → fault ≡ broken.Memory → ⊥
-has_text fault text is e = subst (λ (f : JournalFault). IsNoJournalText f text) e is
-
 started_inputs : (start : Option StartValue) (inputs : List Bool) → (started start inputs).inputs ≡ inputs
 started_inputs None inputs = refl
 started_inputs (Some start) inputs = refl
 
+the_same : (a b : List Bool) → Some a ≡ Some b → a ≡ b
+the_same a b e = cc
+
 module _ (doc : DocumentValue) (claim : Claim) (number : ℕ) (inputs : List Bool) (events : List Event) (numbered : IsNumbered doc.claims number claim) (refutes : Refutes doc.graph.graph claim inputs events)
     (named : IsNamedGraph doc.graph) (journal : IsJournal doc.graph (lines doc.graph.names events) events) (prefix : PrefixIsRun) (unambiguous : TextIsUnambiguous) (no_journal : FaultIsNoJournal) where
-  of_journal : (exit : Exit) (text : List ℕ) → IsAudited (refuted_by doc inputs events) inputs exit text → (exit ≡ Memory) ⊎ NamesFailure (length events) exit text
-  of_journal exit text is =
-      let same : events ≡ is.events = unambiguous doc.graph events is.events named journal.spelled is.journal.spelled is.journal.reads in
-      let verdict : IsVerdict doc.graph.graph inputs events doc.claims is.verdict = subst (λ (h : List Event). IsVerdict doc.graph.graph inputs h doc.claims is.verdict) (sym same) is.audited in
-      names_failure doc.graph.graph doc.claims claim number inputs events numbered refutes prefix is.verdict exit text verdict is.ends is.said
+  known : inputs_of (refuted_by doc inputs events) ≡ Some inputs
+  known = ap (λ v. Some v) (started_inputs doc.start inputs)
 
-  of_audit : (exit : Exit) (text : List ℕ) → IsAudited (refuted_by doc inputs events) inputs exit text ⊎ IsNoJournal (refuted_by doc inputs events) exit text → (exit ≡ Memory) ⊎ NamesFailure (length events) exit text
-  of_audit exit text (inl is) = of_journal exit text is
-  of_audit exit text (inr is) = absurd (no_journal doc.graph (lines doc.graph.names events) is.fault events named is.is (has_text is.fault text is.said) journal)
+  of_verdict : (verdict : Verdict) (exit : Exit) (text : List ℕ) → IsAudited (refuted_by doc inputs events) verdict → exit ≡ verdict_exit verdict → text ≡ verdict_text verdict → (exit ≡ Memory) ⊎ NamesFailure (length events) exit text
+  of_verdict verdict exit text is ends said =
+      let same : events ≡ is.events = unambiguous doc.graph events is.events named journal.spelled is.journal.spelled is.journal.reads in
+      let values : is.inputs ≡ inputs = the_same is.inputs inputs (sym is.known ∙ known) in
+      let judged = subst (λ (v : List Bool). IsVerdict doc.graph.graph v is.events doc.claims verdict) values is.audited in
+      let judged_so : IsVerdict doc.graph.graph inputs events doc.claims verdict = subst (λ (h : List Event). IsVerdict doc.graph.graph inputs h doc.claims verdict) (sym same) judged in
+      names_failure doc.graph.graph doc.claims claim number inputs events numbered refutes prefix verdict exit text judged_so ends said
+
+  of_audit : (audit : Audit) (exit : Exit) (text : List ℕ) → IsAuditOf (refuted_by doc inputs events) audit → IsAuditAnswer audit exit text → (exit ≡ Memory) ⊎ NamesFailure (length events) exit text
+  of_audit NoStart exit text is said = let e : None ≡ Some inputs = sym is ∙ known in absurd cc
+  of_audit (Judged verdict) exit text is said = of_verdict verdict exit text is said.0 said.1
+  of_audit (NoJournal fault) exit text is said = absurd (no_journal doc.graph (lines doc.graph.names events) fault events named is.is is.other journal)
 
   pub audited_so : (bytes : List ℕ) → SpellsOneDocument → SpelledHasNoFault → Spells bytes (refuted_by doc inputs events) → IsAuditedSo (length events) bytes
   audited_so bytes one faultless spelled exit text (inl found) =
       let is : IsAudit (refuted_by doc inputs events) exit text = subst (λ (d : DocumentValue). IsAudit d exit text) (one bytes (refuted_by doc inputs events) found.0 spelled found.1) found.2 in
-      let known : inputs_of (refuted_by doc inputs events) ≡ Some inputs = ap (λ v. Some v) (started_inputs doc.start inputs) in
-      of_audit exit text (subst (λ (v : Option (List Bool)). IsAuditWith (refuted_by doc inputs events) v exit text) known is)
+      of_audit is.0 exit text is.1 is.2
   audited_so bytes one faultless spelled exit text (inr wrong) =
       absurd (unreadable_never wrong.0 text (faultless bytes (refuted_by doc inputs events) wrong.0 spelled wrong.1) wrong.3)

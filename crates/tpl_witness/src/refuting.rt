@@ -1,12 +1,12 @@
 //! The search for runs in which the claims of a document fail, from a reader to a writer.
 
-ghost use Rattle.std.specs.Prelude.{◌≡◌, ◌+◌, ◌≤◌, IfOk, string_bytes};
+ghost use Rattle.std.specs.Prelude.{◌≡◌, ◌+◌, ◌≤◌, IfOk, IfSome, string_bytes};
 ghost use Rattle.std.specs.List.{All};
 ghost use Rattle.tpl_graph.specs.Fits.{Fits};
 ghost use Rattle.tpl_journal.specs.Counting.{calls_of};
-ghost use Rattle.tpl_reader.specs.Document.{IsFault, Spells};
+ghost use Rattle.tpl_reader.specs.Document.{Spells};
 ghost use Rattle.tpl_reader.specs.SeenDocument.{doc_of};
-ghost use Rattle.tpl_commands.specs.Documents.{NoDocument};
+ghost use Rattle.tpl_commands.specs.Finding.{IsFindingOf};
 ghost use Rattle.tpl_commands.specs.Responding.{longest, Responds};
 ghost use Rattle.tpl_witness.specs.Serving.{Refuted, Unrefuted};
 ghost use Rattle.tpl_witness.specs.Witness.{IsFound, IsSearched, Searches};
@@ -18,9 +18,9 @@ use crate::search::{Search, has_claim};
 use crate::text::text_with;
 use std::alloc::{AllocError, Global};
 use std::io::{Read, Write};
-use tpl_commands::{Answer, Check, Command, Exit, put_answer, read_input};
+use tpl_commands::{Answer, Answered, Exit, Listen, put_answered, read_input, unread};
 use tpl_journal::{Counting, fault_is_no_journal, spells_run, text_is_unambiguous};
-use tpl_reader::{Document, LONGEST, ReadFault, one_document, read_document};
+use tpl_reader::{Document, LONGEST, one_document, read_document};
 
 /// The document with the run that was found.
 fn refutation<P: Write>(
@@ -91,39 +91,32 @@ fn answer_for<P: Write>(
     }
 }
 
-/// The answer to bytes that can't be read: the check's.
-fn unread(alloc: Global, bytes: &[u8], fault: ReadFault) -> Result<Answer, AllocError>
-    requires { IsFault bytes.now fault }
-    ensures { IfOk result (λ given.
-        NoDocument bytes.now given.exit (string_bytes given.text)) }
-{
-    one_document();
-    match fault {
-        ReadFault::Memory => Err(AllocError),
-        _ => Check.answer(alloc, bytes),
-    }
-}
-
 /// The answer to bytes.
 fn answer<P: Write>(
     alloc: Global,
     search: Search,
     bytes: &[u8],
     aside: &mut Counting<P>,
-) -> Result<Answer, AllocError>
-    ensures { IfOk result (λ given.
-        Searches search.claim bytes.now given.exit (string_bytes given.text)) }
+) -> Result<Answered, AllocError>
+    ensures answer { IfOk result (λ it.
+        Searches search.claim bytes.now it.answer.exit (string_bytes it.answer.text)) }
+    ensures found { IfOk result (λ it. IfSome it.finding (IsFindingOf bytes.now)) }
 {
     match read_document(alloc, bytes) {
-        Ok(document) => answer_for(alloc, search, bytes, &document, aside),
+        Ok(document) => {
+            let answer = answer_for(alloc, search, bytes, &document, aside)?;
+            let finding = None;
+            Ok(Answered { answer, finding })
+        }
         Err(fault) => unread(alloc, bytes, fault),
     }
 }
 
 /// Reads a document and writes the answer to it.
-fn respond<I: Read, O: Write, P: Write>(
+fn respond<L: Listen, I: Read, O: Write, P: Write>(
     alloc: Global,
     search: Search,
+    listener: L,
     from: &mut Counting<I>,
     to: &mut Counting<O>,
     aside: &mut Counting<P>,
@@ -133,8 +126,14 @@ fn respond<I: Read, O: Write, P: Write>(
     ensures reads { calls_of from.new ≤ calls_of from.old + (longest + 2) }
 {
     match read_input(alloc, from, to) {
-        Ok(bytes) => put_answer(answer(alloc, search, &bytes, aside), to),
-        Err(exit) => exit,
+        Ok(bytes) => {
+            let answered = answer(alloc, search, &bytes, aside);
+            put_answered(answered, listener, &bytes, to)
+        }
+        Err(exit) => {
+            listener.unread(exit);
+            exit
+        }
     }
 }
 
@@ -145,10 +144,11 @@ fn respond<I: Read, O: Write, P: Write>(
 ///
 /// The text is made whole before its first byte is written. A failed read ends the reading, and then nothing is
 /// written; after a failed write no more is. The run itself is written aside, for people, with the place where the
-/// claim fails; a failed write there changes nothing.
-pub fn refute_document<I: Read, O: Write, P: Write>(
+/// claim fails; a failed write there changes nothing. Where the document can't be read, the listener is told why.
+pub fn refute_document<L: Listen, I: Read, O: Write, P: Write>(
     alloc: Global,
     search: Search,
+    listener: L,
     from: &mut Counting<I>,
     to: &mut Counting<O>,
     aside: &mut Counting<P>,
@@ -166,5 +166,5 @@ pub fn refute_document<I: Read, O: Write, P: Write>(
     ensures unrefuted { result ≡ Exit.Success → Unrefuted I.remaining from.old from.new
         O.contents to.old to.new search.claim }
 {
-    respond(alloc, search, from, to, aside)
+    respond(alloc, search, listener, from, to, aside)
 }

@@ -3,7 +3,7 @@ use Rattle.std.proofs.lemmas.Str.{IsUtf8-string_bytes}
 use Rattle.serde_json.specs.Read.{read}
 use Rattle.serde_json.specs.View.{view}
 use Rattle.tpl_reader.specs.Laws.{HasCertificate}
-use Rattle.tpl_commands.specs.Finding.{written_trees}
+use Rattle.tpl_commands.specs.Searching.{written_trees}
 use Rattle.tpl_commands.proofs.LineBreak.{read_with_line_break}
 use Rattle.tpl_commands.proofs.Whole.{whole_depth}
 use Rattle.tpl_commands.proofs.certifying.whole_text.Goals as goal

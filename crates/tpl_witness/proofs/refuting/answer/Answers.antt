@@ -1,12 +1,10 @@
+use Rattle.std.proofs.Common.{inl}
 use Rattle.tpl_reader.specs.SeenDocument.{doc_of}
-use Rattle.tpl_commands.proofs.Accepting.{to_document}
-use Rattle.tpl_witness.specs.Witness.{IsSearched}
 use Rattle.tpl_witness.proofs.Answering.{unread}
 use Rattle.tpl_witness.proofs.refuting.answer.Goals as goal
 
-pub returns-in-Ok : goal.returns-in-Ok
-returns-in-Ok g c =
-    to_document (IsSearched c.args.search.claim) c.args.bytes.now (doc_of c.in-Ok.document) c.in-Ok.ensures.ok c.answer_for.result c.answer_for.ensures
+pub returns-in_ok-answer-in-Ok-clause-answer : goal.returns-in_ok-answer-in-Ok-clause-answer
+returns-in_ok-answer-in-Ok-clause-answer g c = inl (doc_of c.in-Ok.document, c.in-Ok.ensures.ok, c.in_ok-answer-in-Ok.ensures)
 
-pub returns-in-Err : goal.returns-in-Err
-returns-in-Err g c = unread c.args.search.claim c.args.bytes.now c.unread.result c.unread.ensures
+pub returns-in-Err-clause-answer : goal.returns-in-Err-clause-answer
+returns-in-Err-clause-answer g c = unread c.args.search.claim c.args.bytes.now c.unread.result c.unread.ensures.answer

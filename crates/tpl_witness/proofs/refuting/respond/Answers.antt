@@ -1,12 +1,12 @@
 use Rattle.std.proofs.Common.{List, ℕ, IfOk, subst, string_bytes}
+use Rattle.tpl_commands.proofs.Responses.{put_responds}
 use Rattle.tpl_witness.specs.Witness.{Searches}
-use Rattle.tpl_witness.proofs.Answering.{put_responds}
 use Rattle.tpl_witness.proofs.refuting.respond.Goals as goal
 
 pub returns-in-Ok-clause-responds : goal.returns-in-Ok-clause-responds
 returns-in-Ok-clause-responds g c =
     let read = c.in-Ok.ensures.ok in
     let asked = c.args.search.claim in
-    let answered = subst (λ (bytes : List ℕ). IfOk c.answer.result (λ given. Searches asked bytes given.exit (string_bytes given.text))) c.deref.ensures.value c.answer.ensures in
-    put_responds (Searches asked) g.I.Read.remaining c.args.from.now c.read_input.new.from g.O.Write.contents c.args.to.now c.read_input.new.to c.put_answer.new.to c.in-Ok.bytes.items c.answer.result c.put_answer.result
-    read.0 read.1 read.2 answered c.put_answer.ensures
+    let answered = subst (λ (bytes : List ℕ). IfOk c.answer-answered.result (λ it. Searches asked bytes it.answer.exit (string_bytes it.answer.text))) c.deref.ensures.value c.answer-answered.ensures.answer in
+    put_responds (Searches asked) g.I.Read.remaining c.args.from.now c.read_input.new.from g.O.Write.contents c.args.to.now c.read_input.new.to c.put_answered.new.to c.in-Ok.bytes.items c.answer-answered.result c.put_answered.result
+    read.0 read.1 read.2 answered c.put_answered.ensures

@@ -1,0 +1,136 @@
+//! Why no certificate was found.
+
+ghost use Rattle.std.specs.Prelude.{◌≡◌, ◌<◌, length};
+ghost use Rattle.std.specs.List.{All};
+ghost use Rattle.tpl_graph.specs.Fits.{Fits};
+ghost use Rattle.tpl_reasons.specs.Reasons.{search_reason};
+
+use crate::checking::yes_reason;
+use crate::obstacle::obstacle_text;
+use crate::reason::Reason;
+use crate::words::{Said, claim_text, count_text};
+use std::alloc::{AllocError, Global};
+use tpl_analyser::{Depth, Form, Missed, RanOut, Unwatched, analyse_watched};
+use tpl_cert::MOST_SPLITS;
+use tpl_commands::{Outcome, Searched};
+use tpl_graph::{Claim, Graph};
+use tpl_reader::Document;
+
+/// Why no certificate was found: the claim that the answer names, if it names one.
+pub(crate) fn search_reason(document: &Document, searched: &Searched) -> Option<Reason>
+    ensures { result ≡ search_reason document.now.claims.items searched.now.outcome }
+{
+    match &searched.outcome {
+        Outcome::Certificate(_) => yes_reason(document),
+        Outcome::Missed { claim, .. } => Some(Reason::NotFound(*claim)),
+    }
+}
+
+/// A certificate of the claim at this place alone is found.
+fn is_found(
+    alloc: Global,
+    graph: &Graph,
+    claims: &[Claim],
+    at: usize,
+    depth: Depth,
+) -> Result<bool, AllocError>
+    requires at { at < length claims.now }
+    requires claims { All (Fits graph.now.graph) claims.now }
+{
+    match analyse_watched(
+        alloc,
+        graph,
+        &claims[at..at + 1],
+        depth.splits(),
+        Form::Slim,
+        Unwatched,
+    ) {
+        Err(Missed::NotFound { .. }) => Ok(false),
+        Err(Missed::Memory) => Err(AllocError),
+        Ok(_certificate) => Ok(true),
+    }
+}
+
+/// A line for each claim: whether it is found at this depth. The one of this number is the first that isn't; only those
+/// behind it have not been searched yet.
+fn each_text(alloc: Global, document: &Document, depth: Depth, missed: usize) -> Said
+    requires claims { All (Fits document.now.graph.graph) document.now.claims.items }
+{
+    let mut lines = String::new(alloc);
+    for at in 0..document.claims.len() {
+        let number = at + 1;
+        let found = if number <= missed {
+            number < missed
+        } else {
+            is_found(alloc, &document.graph, &document.claims, at, depth)?
+        };
+        lines.push_str(if found { "found: " } else { "not found: " })?;
+        let claim = claim_text(alloc, &document.graph, &document.claims, number)?;
+        lines.push_str(claim.as_str())?;
+        lines.push_str("\n")?;
+    }
+    Ok(lines)
+}
+
+/// What was tried for a claim, and what ran out.
+fn tried_text(alloc: Global, depth: Depth, ran_out: RanOut) -> Said {
+    if depth.splits() == 0 {
+        return String::from_str(alloc, "the one tree without a split doesn't prove it");
+    }
+    let splits = count_text(alloc, usize::from(depth.splits()), "split")?;
+    match ran_out {
+        RanOut::Trees => {
+            String::from_str(alloc, "no tree proves it, however many splits it has")
+        }
+        RanOut::Leaves => format!(in alloc;
+            "no tree with at most {splits} on each path was found within 100,000 leaves in order and 20,000 in a directed search"
+        ),
+        RanOut::Depth => format!(in alloc; "no tree with at most {splits} on each path proves it"),
+    }
+}
+
+/// What may be tried next for a claim.
+fn next_text(ran_out: RanOut, depth: Depth) -> &'static str {
+    match ran_out {
+        RanOut::Depth if depth.splits() < MOST_SPLITS => {
+            "a claim that isn't found may be true: try a greater `--depth`, at most 6, or `refute`, which looks for a run in which a claim fails\n"
+        }
+        _ => {
+            "a claim that isn't found may be true: `refute` looks for a run in which a claim fails\n"
+        }
+    }
+}
+
+/// Why no certificate was found for the claim of this number, and for which others there is one.
+fn missed_text(
+    alloc: Global,
+    document: &Document,
+    depth: Depth,
+    number: usize,
+    ran_out: RanOut,
+) -> Said
+    requires claims { All (Fits document.now.graph.graph) document.now.claims.items }
+{
+    let graph = &document.graph;
+    let claim = claim_text(alloc, graph, &document.claims, number)?;
+    let tried = tried_text(alloc, depth, ran_out)?;
+    let obstacle = match document.claims.get(number.saturating_sub(1)) {
+        Some(claim) => obstacle_text(alloc, graph, claim)?,
+        None => String::new(alloc),
+    };
+    let each = each_text(alloc, document, depth, number)?;
+    let next = next_text(ran_out, depth);
+    format!(in alloc; "{claim}: {tried}\n{obstacle}{each}{next}")
+}
+
+/// Why no certificate was found. Nothing, where one was.
+pub(crate) fn not_found_text(alloc: Global, document: &Document, searched: &Searched) -> Said
+    requires claims { All (Fits document.now.graph.graph) document.now.claims.items }
+{
+    match &searched.outcome {
+        Outcome::Certificate(_) => Ok(String::new(alloc)),
+        Outcome::Missed { claim, ran_out } => {
+            missed_text(alloc, document, searched.depth, *claim, *ran_out)
+        }
+    }
+}

@@ -1,0 +1,26 @@
+use Rattle.std.proofs.Common.{◌∙◌, ap, inl, refl, string_bytes}
+use Rattle.tpl_reader.specs.SeenDocument.{doc_of}
+use Rattle.tpl_trace.specs.Trace.{trace_text}
+use Rattle.tpl_trace.proofs.Tracing.{other_traces}
+use Rattle.tpl_trace.proofs.answering.traced.Goals as goal
+
+pub returns-in_ok-text-in-Run-clause-answer : goal.returns-in_ok-text-in-Run-clause-answer
+returns-in_ok-text-in-Run-clause-answer c =
+    let doc = doc_of c.args.document in
+    let is = rw c.in-Run.is at c.in_ok-events.ensures in
+    inl (
+      doc,
+      c.requires.spelled,
+      record {
+        events = c.in-Run.events.items;
+        run = is.0;
+        said = c.in_ok-text-in-Run.ensures ∙ ap (trace_text doc.graph) c.as_slice.ensures.value;
+      },
+      refl,
+    )
+
+pub returns-in_ok-answer-in-Other-clause-answer : goal.returns-in_ok-answer-in-Other-clause-answer
+returns-in_ok-answer-in-Other-clause-answer c =
+    let is = rw c.in-Other.is at c.in_ok-events.ensures in
+    let given = c.in_ok-answer-in-Other.answer in
+    other_traces c.one_document.ensures.one c.args.bytes.now (doc_of c.args.document) c.in-Other.audit given.exit (string_bytes given.text) c.requires.spelled is.0 is.1 c.in_ok-answer-in-Other.ensures
