@@ -1,7 +1,5 @@
 //! Which events a machine allows next.
 
-ghost use Rattle.std.specs.Prelude.{◌≤◌};
-
 use crate::machines::{Opener, replayed};
 use crate::names::{push_act, push_actor};
 use std::alloc::{AllocError, Global};
@@ -18,8 +16,8 @@ const ACTORS: [Actor; 3] = [
 ];
 
 fn push_each(events: &mut Vec<Event>, act: Act) -> Result<(), AllocError> {
-    for actor in ACTORS {
-        events.push(Event { actor, act })?;
+    for actor in ACTORS.iter() {
+        events.push(Event { actor: *actor, act })?;
     }
     Ok(())
 }
@@ -36,29 +34,27 @@ fn push_acts(events: &mut Vec<Event>, task: TaskId) -> Result<(), AllocError> {
         Act::Drop(task),
         Act::Settle(task),
     ];
-    for act in acts {
-        push_each(events, act)?;
+    for act in acts.iter() {
+        push_each(events, *act)?;
     }
     Ok(())
 }
 
-fn push_requests(events: &mut Vec<Event>, count: usize) -> Result<(), AllocError>
-    requires { count ≤ 32 }
-{
-    for i in 0..count + 1 {
+fn push_requests(events: &mut Vec<Event>, graph: &Graph) -> Result<(), AllocError> {
+    for i in 0..graph.token_count() {
         push_each(events, Act::Request(TokenId(i as u8)))?;
     }
-    Ok(())
+    push_each(events, Act::Request(TokenId(graph.token_count() as u8)))
 }
 
 /// Each act for each task and token, and for one past the last, by the workers 1 and 2 and by the outside 1.
 pub fn all_events(alloc: Global, graph: &Graph) -> Result<Vec<Event>, AllocError> {
     let mut events = Vec::new(alloc);
-    graph.valid_law();
-    for i in 0..graph.len() + 1 {
+    for i in 0..graph.len() {
         push_acts(&mut events, TaskId(i as u16))?;
     }
-    push_requests(&mut events, graph.token_count())?;
+    push_acts(&mut events, TaskId(graph.len() as u16))?;
+    push_requests(&mut events, graph)?;
     Ok(events)
 }
 

@@ -1,6 +1,6 @@
 //! Sessions whose workers are threads of the test's own, and who is in threads beside them.
 
-ghost use Rattle.std.specs.Prelude.{◌≡◌, false, IfOk, IfSome};
+ghost use Rattle.std.specs.Prelude.{◌≡◌, false, IfSome};
 ghost use Rattle.tpl_words.specs.declared.status.Answer.TheVariants.{Done};
 
 use crate::asked::CANCELED;
@@ -199,18 +199,19 @@ fn acted<'g, R: Threads + Wait + Sync, K: Drop + Send, W: Item<K> + Send>(
     pass: QueuePass<Vec<W>>,
     flags: &[AtomicU64],
     company: Company,
-) -> Result<Option<Back<W>>, AllocError>
+) -> Option<Back<W>>
     requires graph { session.now.graph ≡ graph.now }
     requires pass { pass.queue ≡ session.now.queue }
-    ensures { IfOk result (λ found. IfSome found (λ b. b.pass.queue ≡ session.now.queue)) }
+    ensures { IfSome result (λ b. b.pass.queue ≡ session.now.queue) }
 {
-    let cast = cast(alloc, session, company.workers, company.beside)?;
-    let Some((pass, parts)) = seated(rt, alloc, session, pass, cast)? else {
-        return Ok(None);
+    let Ok(cast) = cast(alloc, session, company.workers, company.beside) else {
+        return None;
     };
-    let parts = side_by_side(rt, alloc, graph, session, flags, parts)?;
-    let back = gathered(alloc, session, pass, parts)?;
-    Ok(Some(back))
+    let (pass, parts) = seated(rt, alloc, session, pass, cast)?;
+    match side_by_side(rt, alloc, graph, session, flags, parts) {
+        Ok(parts) => Some(gathered(alloc, session, pass, parts)),
+        Err(_) => None,
+    }
 }
 
 /// Lets all be in threads at once: those of the session's own `run`, or the test's own. None where they don't come back.
@@ -222,10 +223,10 @@ fn acts<'g, R: Threads + Wait + Sync, K: Drop + Send, W: Item<K> + Send>(
     pass: QueuePass<Vec<W>>,
     flags: &[AtomicU64],
     company: Company,
-) -> Result<Option<Back<W>>, AllocError>
+) -> Option<Back<W>>
     requires graph { session.now.graph ≡ graph.now }
     requires pass { pass.queue ≡ session.now.queue }
-    ensures { IfOk result (λ found. IfSome found (λ b. b.pass.queue ≡ session.now.queue)) }
+    ensures { IfSome result (λ b. b.pass.queue ≡ session.now.queue) }
 {
     match company.beside {
         Beside::HaltRun => halted_in_run(rt, alloc, session, pass, flags, company.workers),
@@ -242,19 +243,19 @@ fn together<R: Threads + Wait + Sync, K: Drop + Send, W: Item<K> + Send>(
     pass: QueuePass<Vec<W>>,
     flags: &[AtomicU64],
     company: Company,
-) -> Result<bool, AllocError>
+) -> bool
     requires graph { session.graph ≡ graph.now }
     requires pass { pass.queue ≡ session.queue }
 {
     let Ok(looker) = session.seat(rt, alloc, LAST) else {
-        return Ok(false);
+        return false;
     };
-    let Some(back) = acts(rt, alloc, graph, &session, pass, flags, company)? else {
-        return Ok(false);
+    let Some(back) = acts(rt, alloc, graph, &session, pass, flags, company) else {
+        return false;
     };
-    match closes_well(rt, alloc, graph, session, back, looker)? {
-        Some(report) => Ok(ends(graph, &report, company.beside)),
-        None => Ok(false),
+    match closes_well(rt, alloc, graph, session, back, looker) {
+        Some(report) => ends(graph, &report, company.beside),
+        None => false,
     }
 }
 
@@ -266,10 +267,10 @@ fn tries<R: Threads + Wait + Sync, K: Drop + Send, W: Item<K> + Send>(
     items: Vec<W>,
     flags: &[AtomicU64],
     company: Company,
-) -> Result<bool, AllocError> {
-    match opened(alloc, graph, items)? {
+) -> bool {
+    match opened(alloc, graph, items) {
         Some((session, pass)) => together(rt, alloc, graph, session, pass, flags, company),
-        None => Ok(false),
+        None => false,
     }
 }
 
@@ -303,7 +304,7 @@ fn tried<R: Threads + Wait + Sync>(
         )?;
         items.push(WorkItem::new(Stamp(0), site, may_fail, work))?;
     }
-    tries(rt, alloc, graph, items, flags.as_slice(), company)
+    Ok(tries(rt, alloc, graph, items, flags.as_slice(), company))
 }
 
 /// Tries it so often.
@@ -328,7 +329,7 @@ pub fn check_beside<R: Files + Alloc + Print + Threads + Wait + Sync>(
     alloc: Global,
 ) -> io::Result<[bool; COUNT]> {
     let mut all = [false; COUNT];
-    for (holds, case) in all.iter_mut().zip(CASES) {
+    for (holds, case) in all.iter_mut().zip(CASES.iter()) {
         let attempt = Attempt::Beside(case.company, case.rounds);
         *holds = check_on(rt, alloc, case.title, case.file, attempt)?;
     }

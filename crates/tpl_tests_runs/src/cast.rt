@@ -1,6 +1,6 @@
 //! Who is in threads in a session, their seats and their parts of the pass, and what they come back with.
 
-ghost use Rattle.std.specs.Prelude.{◌≡◌, All, IfOk, IfSome};
+ghost use Rattle.std.specs.Prelude.{◌≡◌, All, IfSome};
 
 use crate::closed::Back;
 use crate::parts::{Part, Role};
@@ -117,22 +117,21 @@ pub fn seated<'g, R: Wait, K: Drop, W: Item<K>>(
     session: &Session<'g, K, W>,
     pass: QueuePass<Vec<W>>,
     cast: Vec<(Actor, Role)>,
-) -> Result<Option<(QueuePass<Vec<W>>, Vec<Part<W>>)>, AllocError>
+) -> Option<(QueuePass<Vec<W>>, Vec<Part<W>>)>
     requires { pass.queue ≡ session.now.queue }
-    ensures pass { IfOk result (λ found. IfSome found (λ s. s.0.queue ≡ session.now.queue)) }
-    ensures parts { IfOk result (λ found. IfSome found (λ s. All (λ p. p.pass.queue ≡
-        session.now.queue) s.1.items)) }
+    ensures pass { IfSome result (λ s. s.0.queue ≡ session.now.queue) }
+    ensures parts { IfSome result (λ s. All (λ p. p.pass.queue ≡ session.now.queue) s.1.items) }
 {
     let mut whole = pass;
     let mut parts = Vec::new(alloc);
     for (actor, role) in cast {
-        let Some((rest, part)) = seat_one(rt, alloc, session, whole, actor, role) else {
-            return Ok(None);
-        };
+        let (rest, part) = seat_one(rt, alloc, session, whole, actor, role)?;
         whole = rest;
-        parts.push(part)?;
+        if parts.push(part).is_err() {
+            return None;
+        }
     }
-    Ok(Some((whole, parts)))
+    Some((whole, parts))
 }
 
 /// Takes back what one thread comes back with.
@@ -140,19 +139,34 @@ fn take_back<'g, K: Drop, W: Item<K>>(
     session: &Session<'g, K, W>,
     back: Back<W>,
     part: Part<W>,
-) -> Result<Back<W>, AllocError>
+) -> Back<W>
     requires back { back.pass.queue ≡ session.now.queue }
     requires part { part.pass.queue ≡ session.now.queue }
-    ensures { IfOk result (λ b. b.pass.queue ≡ session.now.queue) }
+    ensures { result.pass.queue ≡ session.now.queue }
 {
-    let mut back = back;
-    back.pass = session.join(back.pass, part.pass);
-    back.well = back.well && part.well;
-    back.seats.push(part.seat)?;
-    if let Role::Watches(watcher) = part.role {
-        back.watchers.push(watcher)?;
+    let Back {
+        mut seats,
+        pass,
+        mut watchers,
+        well,
+    } = back;
+    let Part {
+        seat,
+        pass: own,
+        role,
+        well: went,
+    } = part;
+    let pass = session.join(pass, own);
+    let mut well = well && went && seats.push(seat).is_ok();
+    if let Role::Watches(watcher) = role {
+        well = well && watchers.push(watcher).is_ok();
     }
-    Ok(back)
+    Back {
+        seats,
+        pass,
+        watchers,
+        well,
+    }
 }
 
 /// Puts together what the threads come back with.
@@ -161,10 +175,10 @@ pub fn gathered<'g, K: Drop, W: Item<K>>(
     session: &Session<'g, K, W>,
     pass: QueuePass<Vec<W>>,
     parts: Vec<Part<W>>,
-) -> Result<Back<W>, AllocError>
+) -> Back<W>
     requires pass { pass.queue ≡ session.now.queue }
     requires parts { All (λ p. p.pass.queue ≡ session.now.queue) parts.items }
-    ensures { IfOk result (λ b. b.pass.queue ≡ session.now.queue) }
+    ensures { result.pass.queue ≡ session.now.queue }
 {
     let mut back = Back {
         seats: Vec::new(alloc),
@@ -173,7 +187,7 @@ pub fn gathered<'g, K: Drop, W: Item<K>>(
         well: true,
     };
     for part in parts {
-        back = take_back(session, back, part)?;
+        back = take_back(session, back, part);
     }
-    Ok(back)
+    back
 }

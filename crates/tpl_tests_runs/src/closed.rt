@@ -4,11 +4,13 @@ ghost use Rattle.std.specs.Prelude.{◌≡◌};
 
 use crate::crews::looks;
 use crate::retold::is_retold;
-use std::alloc::{AllocError, Global};
+use crate::shut::shut;
+use std::alloc::Global;
 use std::sync::Wait;
 use tpl_graph::Graph;
 use tpl_queue::QueuePass;
 use tpl_runtime::{Item, Report, Seat, Session, Watcher};
+use tpl_words::Status;
 
 /// What threads come back with, and whether each went as it must.
 #[derive(Drop)]
@@ -19,18 +21,19 @@ pub struct Back<W> {
     pub well: bool,
 }
 
-/// What a session leaves that is closed with its watchers. None where it isn't closed well.
-fn closed<R: Wait, K: Drop, W: Item<K>>(
-    rt: &R,
-    alloc: Global,
-    session: Session<'_, K, W>,
-    back: Back<W>,
-) -> Option<Report<K, W>>
-    requires { back.pass.queue ≡ session.queue }
+/// What threads came back with, and one more seat.
+fn with_seat<W: Drop>(back: Back<W>, seat: Seat) -> Back<W>
+    ensures { result.pass.queue ≡ back.pass.queue }
 {
-    session
-        .close_watched(rt, alloc, back.seats, back.pass, back.watchers)
-        .ok()
+    let mut back = back;
+    let has_room = back.seats.push(seat).is_ok();
+    back.well = back.well && has_room;
+    back
+}
+
+/// A report says of each task what was reported to a seat outside, and the plain machine answers the same.
+fn is_told<K, W>(alloc: Global, graph: &Graph, report: &Report<K, W>, looked: &[Status]) -> bool {
+    looked == report.statuses.as_slice() && is_retold(alloc, graph, report).unwrap_or(false)
 }
 
 /// What a session leaves whose threads have come back. What is reported of each task to a seat outside is what the
@@ -42,22 +45,24 @@ pub fn closes_well<R: Wait, K: Drop, W: Item<K>>(
     session: Session<'_, K, W>,
     back: Back<W>,
     looker: Seat,
-) -> Result<Option<Report<K, W>>, AllocError>
+) -> Option<Report<K, W>>
     requires graph { session.graph ≡ graph.now }
     requires pass { back.pass.queue ≡ session.queue }
 {
     let mut looker = looker;
-    let mut back = back;
-    let looked = looks(rt, alloc, graph, &session, &mut looker)?;
-    back.seats.push(looker)?;
-    let well = back.well;
-    let Some(report) = closed(rt, alloc, session, back) else {
-        return Ok(None);
+    let Ok(looked) = looks(rt, alloc, graph, &session, &mut looker) else {
+        return None;
     };
-    let told = is_retold(alloc, graph, &report)?;
-    if well && told && looked.as_slice() == report.statuses.as_slice() {
-        Ok(Some(report))
+    let Back {
+        seats,
+        pass,
+        watchers,
+        well,
+    } = with_seat(back, looker);
+    let report = shut(rt, alloc, session, seats, pass, watchers).ok()?;
+    if well && is_told(alloc, graph, &report, looked.as_slice()) {
+        Some(report)
     } else {
-        Ok(None)
+        None
     }
 }

@@ -1,6 +1,6 @@
 //! Sessions that are run by workers, from the first seat to the report.
 
-ghost use Rattle.std.specs.Prelude.{◌≡◌, IfOk, IfSome};
+ghost use Rattle.std.specs.Prelude.{◌≡◌, IfSome};
 
 use crate::closed::{Back, closes_well};
 use std::alloc::{AllocError, Global};
@@ -61,6 +61,26 @@ pub fn looks<'g, R: Wait, K: Drop, W: Item<K>>(
     Ok(list)
 }
 
+/// What workers come back with, whose work is to end so. None where there is no memory for it.
+pub fn back_of<W: Drop>(
+    alloc: Global,
+    done: Vec<(Seat, Ended)>,
+    pass: QueuePass<Vec<W>>,
+    how: Ended,
+) -> Option<Back<W>>
+    ensures { IfSome result (λ b. b.pass.queue ≡ pass.queue) }
+{
+    let Ok((seats, well)) = with_workers(Vec::new(alloc), done, how) else {
+        return None;
+    };
+    Some(Back {
+        seats,
+        pass,
+        watchers: Vec::new(alloc),
+        well,
+    })
+}
+
 /// Lets this many workers run. None where they don't.
 fn runs<'g, R: Threads + Wait + Sync, K: Drop + Send, W: Item<K> + Send>(
     rt: &R,
@@ -68,20 +88,14 @@ fn runs<'g, R: Threads + Wait + Sync, K: Drop + Send, W: Item<K> + Send>(
     session: &Session<'g, K, W>,
     pass: QueuePass<Vec<W>>,
     workers: u16,
-) -> Result<Option<Back<W>>, AllocError>
+) -> Option<Back<W>>
     requires { pass.queue ≡ session.now.queue }
-    ensures { IfOk result (λ found. IfSome found (λ b. b.pass.queue ≡ session.now.queue)) }
+    ensures { IfSome result (λ b. b.pass.queue ≡ session.now.queue) }
 {
     let Ok((done, pass)) = session.run(rt, alloc, pass, workers) else {
-        return Ok(None);
+        return None;
     };
-    let (seats, well) = with_workers(Vec::new(alloc), done, Ended::Complete)?;
-    Ok(Some(Back {
-        seats,
-        pass,
-        watchers: Vec::new(alloc),
-        well,
-    }))
+    back_of(alloc, done, pass, Ended::Complete)
 }
 
 /// Lets workers run, and a watcher look, which is handed in with them. A second one saw as much; None where it didn't.
@@ -92,18 +106,17 @@ fn runs_watched<'g, R: Threads + Wait + Sync, K: Drop + Send, W: Item<K> + Send>
     pass: QueuePass<Vec<W>>,
     watcher: &mut Watcher,
     workers: u16,
-) -> Result<Option<Back<W>>, AllocError>
+) -> Option<Back<W>>
     requires { pass.queue ≡ session.now.queue }
-    ensures { IfOk result (λ found. IfSome found (λ b. b.pass.queue ≡ session.now.queue)) }
+    ensures { IfSome result (λ b. b.pass.queue ≡ session.now.queue) }
 {
-    let mut other = session.watch(alloc)?;
-    let Some(back) = runs(rt, alloc, session, pass, workers)? else {
-        return Ok(None);
+    let Ok(other) = session.watch(alloc) else {
+        return None;
     };
-    let mut back = back;
-    back.well = back.well && watcher.look() == other.look();
-    back.watchers.push(other)?;
-    Ok(Some(back))
+    let mut other = other;
+    let mut back = runs(rt, alloc, session, pass, workers)?;
+    back.well = back.well && watcher.look() == other.look() && back.watchers.push(other).is_ok();
+    Some(back)
 }
 
 /// Lets workers run. What is then reported of each task to a seat outside is what the report says, watchers saw the
@@ -115,21 +128,20 @@ pub fn run_by<'g, R: Threads + Wait + Sync, K: Drop + Send, W: Item<K> + Send>(
     session: Session<'g, K, W>,
     pass: QueuePass<Vec<W>>,
     workers: u16,
-) -> Result<Option<Report<K, W>>, AllocError>
+) -> Option<Report<K, W>>
     requires graph { session.graph ≡ graph.now }
     requires pass { pass.queue ≡ session.queue }
 {
-    let mut watcher = session.watch(alloc)?;
-    let Ok(seat) = session.seat(rt, alloc, LOOKER) else {
-        return Ok(None);
+    let (Ok(watcher), Ok(seat)) = (session.watch(alloc), session.seat(rt, alloc, LOOKER)) else {
+        return None;
     };
-    let found = runs_watched(rt, alloc, &session, pass, &mut watcher, workers)?;
-    let Some(back) = found else {
-        return Ok(None);
-    };
-    match closes_well(rt, alloc, graph, session, back, seat)? {
-        Some(report) if watcher.list() == report.journal.as_slice() => Ok(Some(report)),
-        _ => Ok(None),
+    let mut watcher = watcher;
+    let back = runs_watched(rt, alloc, &session, pass, &mut watcher, workers)?;
+    let report = closes_well(rt, alloc, graph, session, back, seat)?;
+    if watcher.list() == report.journal.as_slice() {
+        Some(report)
+    } else {
+        None
     }
 }
 

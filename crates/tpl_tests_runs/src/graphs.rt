@@ -1,12 +1,13 @@
 //! What is tried on the graph of a file.
 
 use crate::beside::{Company, tried_beside};
-use crate::handed::{Badly, closed_badly};
 use crate::meeting::all_meet;
 use crate::memory::plays_graph;
-use crate::order::finds_full;
 use crate::refusals::{Given, counts, refuses_given};
+use crate::scenes::plays_scene;
+use crate::scripts::Script;
 use crate::sessions::{Trial, tried_each};
+use crate::shut::Closing;
 use std::alloc::Global;
 use std::fs::Files;
 use std::sync::Wait;
@@ -29,25 +30,24 @@ pub enum Attempt {
     Items(&'static [Given], OpenWhy),
     /// A session with counts of workers that can't be.
     Counts,
-    /// A session one of whose two jobs was called, and that isn't closed well.
-    Badly(Badly),
-    /// A session in which a seat of another one, over the graph of this file, has no room.
-    Full(&'static str),
+    /// A scene, and how one of its sessions is closed.
+    Scene(Script, Closing),
     /// A session with little memory.
     Little,
 }
 
-/// A seat of a session over the graph of this file has no room in one over the graph, where it is stray.
-fn full<R: Files + Alloc + Wait>(
+/// Whether a scene over this graph and that of its other file goes as it must.
+fn plays<R: Files + Alloc + Wait>(
     rt: &R,
     alloc: Global,
     graph: &Graph,
-    smaller: &str,
+    script: Script,
+    closing: Closing,
 ) -> io::Result<bool> {
-    let file = format!(in alloc; "graphs/{smaller}")?;
+    let file = format!(in alloc; "graphs/{}", script.other)?;
     let text = fs::read_to_string(rt, file.as_str())?;
     match read_document(alloc, text.as_bytes()) {
-        Ok(document) => Ok(finds_full(rt, alloc, graph, &document.graph)?),
+        Ok(document) => Ok(plays_scene(rt, alloc, graph, &document.graph, script, closing)?),
         Err(_) => Ok(false),
     }
 }
@@ -64,9 +64,8 @@ fn goes<R: Files + Alloc + Print + Threads + Wait + Sync>(
         Attempt::Beside(company, rounds) => tried_beside(rt, alloc, graph, company, rounds)?,
         Attempt::Meeting(workers) => all_meet(rt, alloc, graph, workers)?,
         Attempt::Items(given, why) => refuses_given(alloc, graph, given, why)?,
-        Attempt::Counts => counts(rt, alloc, graph)?,
-        Attempt::Badly(badly) => closed_badly(rt, alloc, graph, badly)?,
-        Attempt::Full(smaller) => full(rt, alloc, graph, smaller)?,
+        Attempt::Counts => counts(rt, alloc, graph),
+        Attempt::Scene(script, closing) => plays(rt, alloc, graph, script, closing)?,
         Attempt::Little => plays_graph(rt, alloc, graph)?,
     };
     Ok(holds)

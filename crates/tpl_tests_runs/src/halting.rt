@@ -3,9 +3,9 @@
 ghost use Rattle.std.specs.Prelude.{◌≡◌, IfOk, IfSome};
 
 use crate::closed::Back;
-use crate::crews::with_workers;
+use crate::crews::back_of;
 use crate::parts::halts;
-use std::alloc::{AllocError, Global};
+use std::alloc::Global;
 use std::sync::Wait;
 use std::sync::atomic::AtomicU64;
 use std::thread;
@@ -22,9 +22,9 @@ pub fn halted_in_run<'g, R: Threads + Wait + Sync, K: Drop + Send, W: Item<K> + 
     pass: QueuePass<Vec<W>>,
     flags: &[AtomicU64],
     workers: u16,
-) -> Result<Option<Back<W>>, AllocError>
+) -> Option<Back<W>>
     requires { pass.queue ≡ session.now.queue }
-    ensures { IfOk result (λ found. IfSome found (λ b. b.pass.queue ≡ session.now.queue)) }
+    ensures { IfSome result (λ b. b.pass.queue ≡ session.now.queue) }
 {
     let (halted, ran) = thread::join(
         rt,
@@ -35,13 +35,9 @@ pub fn halted_in_run<'g, R: Threads + Wait + Sync, K: Drop + Send, W: Item<K> + 
         { session.run(rt, alloc, pass, workers) },
     );
     let Ok((done, pass)) = ran else {
-        return Ok(None);
+        return None;
     };
-    let (seats, well) = with_workers(Vec::new(alloc), done, Ended::Halted)?;
-    Ok(Some(Back {
-        seats,
-        pass,
-        watchers: Vec::new(alloc),
-        well: halted && well,
-    }))
+    let mut back = back_of(alloc, done, pass, Ended::Halted)?;
+    back.well = back.well && halted;
+    Some(back)
 }

@@ -3,10 +3,9 @@
 ghost use Rattle.std.specs.Prelude.{◌≡◌, false};
 ghost use Rattle.tpl_words.specs.declared.status.Answer.TheVariants.{Done};
 
-use crate::crews::{all_ran, run_by};
 use crate::exchange::Stamp;
 use crate::graphs::{Attempt, check_on};
-use crate::opened::opened;
+use crate::sessions::{Trial, tries};
 use std::alloc::{AllocError, Global};
 use std::fs::Files;
 use std::sync::atomic::{AtomicU64, Ordering};
@@ -15,7 +14,6 @@ use std::thread::Threads;
 use std::{io, thread};
 use tpl_graph::Graph;
 use tpl_jobs::{Work, WorkItem};
-use tpl_runtime::Item;
 use tpl_words::{Answer, SiteId};
 
 /// How often a box looks for the others before it gives up.
@@ -66,23 +64,6 @@ pub fn flags_of(alloc: Global, count: usize) -> Result<Arc<Vec<AtomicU64>, Globa
     Ok(Arc::new(alloc, flags)?)
 }
 
-/// This many workers run a session with these items to its end.
-fn run_to_the_end<R: Threads + Wait + Sync, K: Drop + Send, W: Item<K> + Send>(
-    rt: &R,
-    alloc: Global,
-    graph: &Graph,
-    items: Vec<W>,
-    workers: u16,
-) -> Result<bool, AllocError> {
-    let Some((session, pass)) = opened(alloc, graph, items)? else {
-        return Ok(false);
-    };
-    match run_by(rt, alloc, graph, session, pass, workers)? {
-        Some(report) => Ok(all_ran(graph, &report, None)),
-        None => Ok(false),
-    }
-}
-
 /// The boxes of a graph meet, with this many workers.
 pub fn all_meet<R: Threads + Wait + Sync>(
     rt: &R,
@@ -93,14 +74,19 @@ pub fn all_meet<R: Threads + Wait + Sync>(
     let flags = flags_of(alloc, graph.site_count())?;
     let mut items: Vec<WorkItem<Stamp>> = Vec::new(alloc);
     for number in 0..graph.site_count() {
+        let site = SiteId(number as u16);
         let own = Arc::try_clone(&flags)?;
         let work: Work = Box::new(alloc, move |site: SiteId| -> Answer {
             meet(own.as_slice(), site, true)
         })?;
-        let site = SiteId(number as u16);
         items.push(WorkItem::new(Stamp(0), site, true, work))?;
     }
-    let ran = run_to_the_end(rt, alloc, graph, items, workers)?;
+    let trial = Trial {
+        workers,
+        events: None,
+        is_narrow: false,
+    };
+    let ran = tries(rt, alloc, graph, items, trial);
     Ok(ran && are_set(flags.as_slice(), flags.len()))
 }
 
@@ -110,8 +96,8 @@ pub fn check_meetings<R: Files + Alloc + Print + Threads + Wait + Sync>(
     alloc: Global,
 ) -> io::Result<[bool; 2]> {
     let mut all = [false; 2];
-    for (holds, (name, workers)) in all.iter_mut().zip(MEETINGS) {
-        let attempt = Attempt::Meeting(workers);
+    for (holds, (name, workers)) in all.iter_mut().zip(MEETINGS.iter()) {
+        let attempt = Attempt::Meeting(*workers);
         *holds = check_on(rt, alloc, "boxes that wait for each other", name, attempt)?;
     }
     Ok(all)

@@ -6,7 +6,8 @@ use crate::asked::ask;
 use crate::crews::{LOOKER, with_workers};
 use crate::exchange::Stamp;
 use crate::graphs::{Attempt, attempted, tell};
-use crate::sessions::places;
+use crate::opened::places;
+use crate::shut::shut;
 use std::alloc::{AllocError, Global};
 use std::fs::Files;
 use std::io;
@@ -223,25 +224,6 @@ fn runs<'g, R: Print + Threads + Wait + Sync, K: Drop + Send, W: Item<K> + Send>
     }
 }
 
-/// Closes a session, with its watchers where nobody worked.
-fn closed<R: Wait, K: Drop, W: Item<K>>(
-    rt: &R,
-    alloc: Global,
-    worked: bool,
-    session: Session<'_, K, W>,
-    seats: Vec<Seat>,
-    pass: QueuePass<Vec<W>>,
-    watchers: Vec<Watcher>,
-) -> Result<Report<K, W>, CloseFault<K, W>>
-    requires { pass.queue ≡ session.queue }
-{
-    if worked {
-        session.close(rt, alloc, seats, pass)
-    } else {
-        session.close_watched(rt, alloc, seats, pass, watchers)
-    }
-}
-
 /// What is reported of a session that is closed: each item was called, or comes back.
 fn told_closed<K, W>(graph: &Graph, report: &Report<K, W>, ran: bool) -> Told {
     let items = report.receipts.len().saturating_add(report.items.len());
@@ -256,7 +238,7 @@ fn told_open<K, W>(graph: &Graph, fault: &CloseFault<K, W>) -> Told {
     ("no memory to close", items == graph.site_count() && memory)
 }
 
-/// Closes a session.
+/// Closes a session, with its watchers where nobody worked.
 fn closes<R: Print + Wait, K: Drop, W: Item<K>>(
     rt: &R,
     alloc: Global,
@@ -268,8 +250,12 @@ fn closes<R: Print + Wait, K: Drop, W: Item<K>>(
     requires { crew.pass.queue ≡ session.queue }
 {
     let Crew { seats, pass, ran } = crew;
-    let worked = graph.site_count() > 0;
-    let (title, holds) = match closed(rt, alloc, worked, session, seats, pass, watchers) {
+    let watchers = if graph.site_count() > 0 {
+        Vec::new(alloc)
+    } else {
+        watchers
+    };
+    let (title, holds) = match shut(rt, alloc, session, seats, pass, watchers) {
         Ok(report) => told_closed(graph, &report, ran),
         Err(fault) => told_open(graph, &fault),
     };
@@ -393,7 +379,7 @@ pub fn play_with_little<R: Files + Alloc + Print + Threads + Wait + Sync>(
     rt: &R,
     alloc: Global,
 ) -> io::Result<()> {
-    for name in GRAPHS {
+    for name in GRAPHS.iter() {
         if attempted(rt, alloc, name, Attempt::Little)?.is_none() {
             tell(rt, "no memory for the document", true)?;
         }

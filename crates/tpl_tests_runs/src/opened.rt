@@ -1,13 +1,19 @@
 //! Sessions that are opened for a test.
 
-ghost use Rattle.std.specs.Prelude.{◌≡◌, ◌<◌, IfOk, IfSome};
+ghost use Rattle.std.specs.Prelude.{◌≡◌, ◌<◌, IfSome};
 
-use crate::sessions::places;
-use std::alloc::{AllocError, Global};
+use std::alloc::Global;
 use tpl_graph::Graph;
 use tpl_queue::{JobQueue, QueuePass};
 use tpl_runtime::{Item, Session};
 use tpl_words::Inputs;
+
+/// How many places the queue of a graph has: one for each task.
+pub fn places(graph: &Graph) -> usize
+    ensures { 0 < result }
+{
+    if graph.len() == 0 { 1 } else { graph.len() }
+}
 
 /// A session of the graph with these items, whose inputs are all false and whose queue has a place for each task, and its
 /// pass. None where it isn't opened.
@@ -15,9 +21,9 @@ pub fn opened<'g, K: Drop, W: Item<K>>(
     alloc: Global,
     graph: &'g Graph,
     items: Vec<W>,
-) -> Result<Option<(Session<'g, K, W>, QueuePass<Vec<W>>)>, AllocError>
-    ensures graph { IfOk result (λ found. IfSome found (λ s. s.0.graph ≡ graph.now)) }
-    ensures pass { IfOk result (λ found. IfSome found (λ s. s.1.queue ≡ s.0.queue)) }
+) -> Option<(Session<'g, K, W>, QueuePass<Vec<W>>)>
+    ensures graph { IfSome result (λ s. s.0.graph ≡ graph.now) }
+    ensures pass { IfSome result (λ s. s.1.queue ≡ s.0.queue) }
 {
     opened_with(alloc, graph, items, places(graph))
 }
@@ -28,15 +34,17 @@ pub fn opened_with<'g, K: Drop, W: Item<K>>(
     graph: &'g Graph,
     items: Vec<W>,
     places: usize,
-) -> Result<Option<(Session<'g, K, W>, QueuePass<Vec<W>>)>, AllocError>
+) -> Option<(Session<'g, K, W>, QueuePass<Vec<W>>)>
     requires { 0 < places }
-    ensures graph { IfOk result (λ found. IfSome found (λ s. s.0.graph ≡ graph.now)) }
-    ensures pass { IfOk result (λ found. IfSome found (λ s. s.1.queue ≡ s.0.queue)) }
+    ensures graph { IfSome result (λ s. s.0.graph ≡ graph.now) }
+    ensures pass { IfSome result (λ s. s.1.queue ≡ s.0.queue) }
 {
+    let Ok((queue, pass)) = JobQueue::new(alloc, places) else {
+        return None;
+    };
     let inputs = Inputs::new(graph.input_count());
-    let (queue, pass) = JobQueue::new(alloc, places)?;
     match Session::open(alloc, graph, inputs, items, queue, &pass) {
-        Ok(session) => Ok(Some((session, pass))),
-        Err(_) => Ok(None),
+        Ok(session) => Some((session, pass)),
+        Err(_) => None,
     }
 }

@@ -2,12 +2,10 @@
 
 ghost use Rattle.std.specs.Prelude.{◌≡◌, ◌<◌};
 
-use crate::crews::LOOKER;
 use crate::exchange::Stamp;
 use crate::graphs::{Attempt, check_on};
-use crate::handed::Badly;
-use crate::opened::opened;
-use crate::sessions::places;
+use crate::opened::{opened, places};
+use crate::shut::shut;
 use std::alloc::{AllocError, Global};
 use std::fs::Files;
 use std::io;
@@ -64,12 +62,14 @@ fn refuses(
     items: Vec<WorkItem<Stamp>>,
     given: &[Given],
     why: OpenWhy,
-) -> Result<bool, AllocError> {
+) -> bool {
+    let Ok((queue, pass)) = JobQueue::new(alloc, places(graph)) else {
+        return false;
+    };
     let inputs = Inputs::new(graph.input_count());
-    let (queue, pass) = JobQueue::new(alloc, places(graph))?;
     match Session::open(alloc, graph, inputs, items, queue, &pass) {
-        Ok(_) => Ok(false),
-        Err(fault) => Ok(fault.why == why && are_given(fault.items.as_slice(), given)),
+        Ok(_) => false,
+        Err(fault) => fault.why == why && are_given(fault.items.as_slice(), given),
     }
 }
 
@@ -85,7 +85,7 @@ pub fn refuses_given(
         let work: Work = Box::new(alloc, |_site: SiteId| -> Answer { Answer::Done })?;
         items.push(WorkItem::new(Stamp(0), SiteId(*site), *may_fail, work))?;
     }
-    refuses(alloc, graph, items, given, why)
+    Ok(refuses(alloc, graph, items, given, why))
 }
 
 /// These are new seats of the first workers, one for each.
@@ -129,32 +129,29 @@ fn refuses_counts<R: Threads + Wait + Sync, K: Drop + Send, W: Item<K> + Send>(
     alloc: Global,
     session: Session<'_, K, W>,
     pass: QueuePass<Vec<W>>,
-) -> Result<bool, AllocError>
+) -> bool
     requires { pass.queue ≡ session.queue }
 {
     let count = RunWhy::BadCount;
     let (pass, _, none) = refuses_to_run(rt, alloc, &session, pass, 0, count, 0);
     let (pass, _, more) = refuses_to_run(rt, alloc, &session, pass, 65, count, 0);
     let Ok(seat) = session.seat(rt, alloc, Actor::Worker(SECOND)) else {
-        return Ok(false);
+        return false;
     };
     let taken = RunWhy::Seat(SECOND, SeatFault::SeatTaken);
     let (pass, mut seats, two) = refuses_to_run(rt, alloc, &session, pass, 3, taken, 1);
-    seats.push(seat)?;
-    let closed = session.close(rt, alloc, seats, pass).is_ok();
-    Ok(closed && none && more && two)
+    none && more
+        && two
+        && seats.push(seat).is_ok()
+        && shut(rt, alloc, session, seats, pass, Vec::new(alloc)).is_ok()
 }
 
 /// A session of a graph with no work statements, and what it refuses to run.
-pub fn counts<R: Threads + Wait + Sync>(
-    rt: &R,
-    alloc: Global,
-    graph: &Graph,
-) -> Result<bool, AllocError> {
+pub fn counts<R: Threads + Wait + Sync>(rt: &R, alloc: Global, graph: &Graph) -> bool {
     let items: Vec<WorkItem<Stamp>> = Vec::new(alloc);
-    match opened(alloc, graph, items)? {
+    match opened(alloc, graph, items) {
         Some((session, pass)) => refuses_counts(rt, alloc, session, pass),
-        None => Ok(false),
+        None => false,
     }
 }
 
@@ -164,8 +161,8 @@ pub fn check_items<R: Files + Alloc + Print + Threads + Wait + Sync>(
     alloc: Global,
 ) -> io::Result<[bool; COUNT]> {
     let mut all = [false; COUNT];
-    for (holds, (given, why)) in all.iter_mut().zip(REFUSED) {
-        let attempt = Attempt::Items(given, why);
+    for (holds, (given, why)) in all.iter_mut().zip(REFUSED.iter()) {
+        let attempt = Attempt::Items(*given, *why);
         *holds = check_on(
             rt,
             alloc,
@@ -175,49 +172,6 @@ pub fn check_items<R: Files + Alloc + Print + Threads + Wait + Sync>(
         )?;
     }
     Ok(all)
-}
-
-/// How a session isn't closed well, each with its title.
-const CLOSES: [(&str, Badly); 4] = [
-    ("closed with a seat less, and all comes back", Badly::NoSeat),
-    (
-        "closed with another list, and all comes back",
-        Badly::OtherList,
-    ),
-    (
-        "closed with another actor, and all comes back",
-        Badly::OtherActor,
-    ),
-    (
-        "closed with another's watcher, and all comes back",
-        Badly::OtherWatcher,
-    ),
-];
-
-/// Closes a session in ways that aren't well, and answers which of them are refused as they must be.
-pub fn check_closes<R: Files + Alloc + Print + Threads + Wait + Sync>(
-    rt: &R,
-    alloc: Global,
-) -> io::Result<[bool; 4]> {
-    let mut all = [false; 4];
-    for (holds, (title, badly)) in all.iter_mut().zip(CLOSES) {
-        *holds = check_on(rt, alloc, title, "one_job_left", Attempt::Badly(badly))?;
-    }
-    Ok(all)
-}
-
-/// Looks from a seat that has no room, and answers whether it is stray.
-pub fn check_full<R: Files + Alloc + Print + Threads + Wait + Sync>(
-    rt: &R,
-    alloc: Global,
-) -> io::Result<bool> {
-    check_on(
-        rt,
-        alloc,
-        "a seat with no room",
-        "two",
-        Attempt::Full("one_token"),
-    )
 }
 
 /// Tries to run a session by counts of workers that can't be, and answers whether they are refused.

@@ -149,9 +149,9 @@ pub fn check_served_meetings<R: Files + Alloc + Print + Threads + Wait + Sync>(
     alloc: Global,
 ) -> io::Result<[bool; 2]> {
     let mut all = [false; 2];
-    for (holds, (name, workers, text)) in all.iter_mut().zip(MEETINGS) {
+    for (holds, (name, workers, text)) in all.iter_mut().zip(MEETINGS.iter()) {
         let met = match loaded(rt, alloc, name)? {
-            Some(document) => all_meet(rt, alloc, &document, workers, text)?,
+            Some(document) => all_meet(rt, alloc, &document, *workers, text)?,
             None => false,
         };
         *holds = tell(rt, "as many workers as are asked for", met)?;
@@ -165,9 +165,9 @@ pub fn check_served_refusals<R: Files + Alloc + Print + Threads + Wait + Sync>(
     alloc: Global,
 ) -> io::Result<[bool; 6]> {
     let mut all = [false; 6];
-    for (holds, (given, workers, text)) in all.iter_mut().zip(REFUSED) {
+    for (holds, (given, workers, text)) in all.iter_mut().zip(REFUSED.iter()) {
         let refused = match loaded(rt, alloc, "two_jobs")? {
-            Some(document) => refuses(rt, alloc, &document, given, workers, text)?,
+            Some(document) => refuses(rt, alloc, &document, given, *workers, text)?,
             None => false,
         };
         *holds = tell(rt, "a run that is refused by its name", refused)?;
@@ -178,8 +178,8 @@ pub fn check_served_refusals<R: Files + Alloc + Print + Threads + Wait + Sync>(
 /// Reads the lines of the other faults, and answers which of them name their fault.
 pub fn check_fault_lines<R: Print>(rt: &R) -> io::Result<[bool; 5]> {
     let mut all = [false; 5];
-    for (holds, (fault, text)) in all.iter_mut().zip(OTHERS) {
-        *holds = tell(rt, "a fault's own line", fault.line() == text)?;
+    for (holds, (fault, text)) in all.iter_mut().zip(OTHERS.iter()) {
+        *holds = tell(rt, "a fault's own line", fault.line() == *text)?;
     }
     Ok(all)
 }

@@ -95,7 +95,7 @@ fn run_once<R: Threads + Wait + Sync + Clock>(
         items.push(WorkItem::new((), SiteId(number as u16), true, work))?;
     }
     match by {
-        By::Session => match opened(alloc, graph, items)? {
+        By::Session => match opened(alloc, graph, items) {
             Some((session, pass)) => timed(rt, alloc, session, pass, workers),
             None => Err(refused()),
         },

@@ -1,0 +1,190 @@
+//! How a session is closed, and what it leaves.
+
+ghost use Rattle.std.specs.Prelude.{◌≡◌};
+
+use crate::steps::Hands;
+use std::alloc::{AllocError, Global};
+use std::sync::Wait;
+use tpl_jobs::Receipt;
+use tpl_model::Event;
+use tpl_queue::QueuePass;
+use tpl_runtime::{CloseFault, CloseWhy, Item, Report, Seat, Session, Watcher};
+use tpl_words::Status;
+
+/// Which of the two sessions of a scene.
+#[derive(Clone, Copy)]
+pub enum Which {
+    First,
+    Other,
+}
+
+/// How a session is closed.
+#[derive(Clone, Copy, PartialEq, Eq)]
+pub enum How {
+    /// Well, and its run is complete.
+    Complete,
+    /// Well, before its run is complete.
+    Halfway,
+    /// Not well, for this reason.
+    Refused(CloseWhy),
+}
+
+/// How one of the two sessions of a scene is closed, and what it leaves then.
+#[derive(Clone, Copy)]
+pub struct Closing {
+    pub which: Which,
+    /// The numbers of the seats with which it is closed, and that of the watcher, if there is one.
+    pub seats: [Option<usize>; 3],
+    pub watcher: Option<usize>,
+    pub how: How,
+    /// How many events its journal has, and the number of a watcher that has seen just these, if one has.
+    pub events: usize,
+    pub seen_by: Option<usize>,
+    /// Of how many of its sites, the first ones, the boxes were called: they leave receipts, and the others items.
+    pub called: usize,
+    /// How its first task stands, where it is closed well and that is asked.
+    pub first: Option<Status>,
+}
+
+/// Closes a session, with its watchers if there are some.
+pub fn shut<R: Wait, K: Drop, W: Item<K>>(
+    rt: &R,
+    alloc: Global,
+    session: Session<'_, K, W>,
+    seats: Vec<Seat>,
+    pass: QueuePass<Vec<W>>,
+    watchers: Vec<Watcher>,
+) -> Result<Report<K, W>, CloseFault<K, W>>
+    requires { pass.queue ≡ session.queue }
+{
+    if watchers.is_empty() {
+        session.close(rt, alloc, seats, pass)
+    } else {
+        session.close_watched(rt, alloc, seats, pass, watchers)
+    }
+}
+
+/// The one with this number, which is handed in.
+fn handed<T: Drop>(held: &mut [Option<T>], number: Option<usize>) -> Option<T> {
+    held.get_mut(number?)?.take()
+}
+
+/// The seats with these numbers, which are handed in.
+fn handed_in(
+    alloc: Global,
+    held: &mut [Option<Seat>],
+    numbers: [Option<usize>; 3],
+) -> Result<Vec<Seat>, AllocError> {
+    let mut seats = Vec::with_capacity(alloc, numbers.len())?;
+    for number in numbers.iter() {
+        if let Some(seat) = handed(held, *number) {
+            seats.push(seat)?;
+        }
+    }
+    Ok(seats)
+}
+
+/// The watcher with this number, which is handed in, if there is one.
+fn watcher_in(
+    alloc: Global,
+    held: &mut [Option<Watcher>],
+    number: Option<usize>,
+) -> Result<Vec<Watcher>, AllocError> {
+    let mut watchers = Vec::with_capacity(alloc, 1)?;
+    if let Some(watcher) = handed(held, number) {
+        watchers.push(watcher)?;
+    }
+    Ok(watchers)
+}
+
+/// The journal has as many events as it must, and is what the watcher saw.
+fn is_journal(journal: &[Event], watchers: &[Option<Watcher>], closing: Closing) -> bool {
+    let seen = match closing.seen_by {
+        None => true,
+        Some(number) => match watchers.get(number) {
+            Some(Some(watcher)) => watcher.list() == journal,
+            _ => false,
+        },
+    };
+    seen && journal.len() == closing.events
+}
+
+/// Of so many sites, the first ones have receipts, and the others items.
+fn are_parted<K, W: Item<K>>(
+    receipts: &[Receipt<K>],
+    items: &[W],
+    called: usize,
+    sites: usize,
+) -> bool {
+    receipts.len() == called
+        && receipts.len().saturating_add(items.len()) == sites
+        && receipts
+            .iter()
+            .all(|receipt| (receipt.site().0 as usize) < called)
+        && items.iter().all(|item| item.site().0 as usize >= called)
+}
+
+/// A session of so many sites left this where it was closed well.
+fn is_report<K, W: Item<K>>(
+    report: &Report<K, W>,
+    watchers: &[Option<Watcher>],
+    closing: Closing,
+    sites: usize,
+) -> bool {
+    let how = if report.complete {
+        How::Complete
+    } else {
+        How::Halfway
+    };
+    how == closing.how
+        && is_journal(report.journal.as_slice(), watchers, closing)
+        && are_parted(
+            report.receipts.as_slice(),
+            report.items.as_slice(),
+            closing.called,
+            sites,
+        )
+        && (closing.first.is_none() || report.statuses.first().copied() == closing.first)
+}
+
+/// A session of so many sites left this where it wasn't closed well: all that it kept comes back.
+fn is_fault<K, W: Item<K>>(
+    fault: &CloseFault<K, W>,
+    watchers: &[Option<Watcher>],
+    closing: Closing,
+    sites: usize,
+) -> bool {
+    How::Refused(fault.why) == closing.how
+        && is_journal(fault.journal.as_slice(), watchers, closing)
+        && are_parted(
+            fault.receipts.as_slice(),
+            fault.items.as_slice(),
+            closing.called,
+            sites,
+        )
+}
+
+/// Closes a session of so many sites as a scene says, and answers whether it leaves what it must.
+pub fn closes<R: Wait, K: Drop, W: Item<K>>(
+    rt: &R,
+    alloc: Global,
+    session: Session<'_, K, W>,
+    pass: QueuePass<Vec<W>>,
+    hands: &mut Hands,
+    closing: Closing,
+    sites: usize,
+) -> bool
+    requires { pass.queue ≡ session.queue }
+{
+    let Hands { seats, watchers } = hands;
+    let (Ok(own), Ok(watched)) = (
+        handed_in(alloc, seats, closing.seats),
+        watcher_in(alloc, watchers, closing.watcher),
+    ) else {
+        return false;
+    };
+    match shut(rt, alloc, session, own, pass, watched) {
+        Ok(report) => is_report(&report, watchers, closing, sites),
+        Err(fault) => is_fault(&fault, watchers, closing, sites),
+    }
+}
