@@ -6,7 +6,7 @@ use Rattle.tpl_model.specs.declared.event.Event.{Event}
 use Rattle.tpl_model.specs.Rules.{seen, Run, Complete}
 use Rattle.tpl_model.specs.Valid.{IsGraph}
 use Rattle.tpl_model.specs.Claims.{Holds}
-use Rattle.tpl_examples.specs.Words.{outside, dropping, by, release, begin, step, done, failed, leave, close, drop, request, played, returns, root, child, detached_child, continues, with_token, with_options, only_on_faulted, only_on_ran_to_completion, graph, with_tokens, with_inputs, ran_only, canceled_only, faulted_only, ends_in, after, observed, never, excludes, given_input, given_quiet, claim, claim_given}
+use Rattle.tpl_examples.specs.Words.{outside, dropping, by, release, begin, step, done, failed, leave, close, drop, request, played, returns, root, child, detached_child, continues, with_token, with_options, only_on_faulted, only_on_ran_to_completion, graph, with_tokens, with_inputs, ran, canceled, faulted, ends_in, begins_after, is_observed, never_begins, exclude, given_input, given_quiet, claim, claim_given}
 
 -- a root that checks its own token
 abbrev pub checking_graph : TaskGraph
@@ -22,10 +22,10 @@ acknowledged = played (begin 1 0 ∷ request 1 0 ∷ step 1 0 ∷ leave 1 0 ∷ 
 abbrev pub ClaimFailsAtTheEnd : Type 0
 ClaimFailsAtTheEnd =
     Run checking_graph [] acknowledged
-    × Holds checking_graph (claim (ends_in 0 canceled_only)) [] acknowledged
-    × Holds checking_graph (claim (ends_in 0 ran_only)) [] not_left
-    × (Holds checking_graph (claim (ends_in 0 ran_only)) [] acknowledged → ⊥)
-    × (Holds checking_graph (claim (ends_in 0 faulted_only)) [] acknowledged → ⊥)
+    × Holds checking_graph (claim (ends_in 0 canceled)) [] acknowledged
+    × Holds checking_graph (claim (ends_in 0 ran)) [] not_left
+    × (Holds checking_graph (claim (ends_in 0 ran)) [] acknowledged → ⊥)
+    × (Holds checking_graph (claim (ends_in 0 faulted)) [] acknowledged → ⊥)
 
 abbrev pub blind_graph : TaskGraph
 blind_graph = with_tokens (Plain ∷ []) (graph (with_token 0 (root returns) ∷ []))
@@ -35,8 +35,8 @@ abbrev pub ClaimHoldsWithoutACheck : Type 0
 ClaimHoldsWithoutACheck =
     Run blind_graph [] acknowledged
     × Complete blind_graph [] acknowledged
-    × Holds blind_graph (claim (ends_in 0 ran_only)) [] acknowledged
-    × (Holds blind_graph (claim (ends_in 0 canceled_only)) [] acknowledged → ⊥)
+    × Holds blind_graph (claim (ends_in 0 ran)) [] acknowledged
+    × (Holds blind_graph (claim (ends_in 0 canceled)) [] acknowledged → ⊥)
 
 -- a continuation with a token, and its continuation
 abbrev pub chain_graph : TaskGraph
@@ -58,20 +58,20 @@ in_order = played (begin 1 0 ∷ step 1 0 ∷ leave 1 0 ∷ release 1 1 ∷ begi
 abbrev pub ClaimFailsAtTheBegin : Type 0
 ClaimFailsAtTheBegin =
     Run chain_graph [] settled_too_late
-    × Holds chain_graph (claim (after 0 2)) [] before_it_begins
-    × (Holds chain_graph (claim (after 0 2)) [] as_it_begins → ⊥)
-    × (Holds chain_graph (claim (after 0 2)) [] settled_too_late → ⊥)
-    × Holds chain_graph (claim (after 1 2)) [] settled_too_late
+    × Holds chain_graph (claim (begins_after 0 2)) [] before_it_begins
+    × (Holds chain_graph (claim (begins_after 0 2)) [] as_it_begins → ⊥)
+    × (Holds chain_graph (claim (begins_after 0 2)) [] settled_too_late → ⊥)
+    × Holds chain_graph (claim (begins_after 1 2)) [] settled_too_late
     × Run chain_graph [] in_order
-    × Holds chain_graph (claim (after 0 2)) [] in_order
-    × (Holds chain_graph (claim (after 2 0)) [] in_order → ⊥)
+    × Holds chain_graph (claim (begins_after 0 2)) [] in_order
+    × (Holds chain_graph (claim (begins_after 2 0)) [] in_order → ⊥)
 
 -- a claim that takes a token as quiet doesn't speak of a run in which it is requested
 abbrev pub ClaimOfQuietRuns : Type 0
 ClaimOfQuietRuns =
-    Holds chain_graph (claim_given (given_quiet 0 ∷ []) (after 0 2)) [] as_it_begins
-    × Holds chain_graph (claim_given (given_quiet 0 ∷ []) (after 0 2)) [] in_order
-    × (Holds chain_graph (claim_given (given_quiet 0 ∷ []) (after 2 0)) [] in_order → ⊥)
+    Holds chain_graph (claim_given (given_quiet 0 ∷ []) (begins_after 0 2)) [] as_it_begins
+    × Holds chain_graph (claim_given (given_quiet 0 ∷ []) (begins_after 0 2)) [] in_order
+    × (Holds chain_graph (claim_given (given_quiet 0 ∷ []) (begins_after 2 0)) [] in_order → ⊥)
 
 -- a root that returns or throws, by an input
 abbrev pub input_graph : TaskGraph
@@ -86,11 +86,11 @@ ClaimOfAnInput =
     IsGraph input_graph
     × Run input_graph (true ∷ []) chosen
     × Run input_graph (false ∷ []) chosen
-    × Holds input_graph (claim (ends_in 0 ran_only)) (true ∷ []) chosen
-    × (Holds input_graph (claim (ends_in 0 ran_only)) (false ∷ []) chosen → ⊥)
-    × Holds input_graph (claim_given (given_input 0 true ∷ []) (ends_in 0 ran_only)) (false ∷ []) chosen
-    × (Holds input_graph (claim_given (given_input 0 true ∷ []) (ends_in 0 faulted_only)) (true ∷ []) chosen → ⊥)
-    × (Holds input_graph (claim_given (given_input 0 false ∷ []) (ends_in 0 ran_only)) (false ∷ []) chosen → ⊥)
+    × Holds input_graph (claim (ends_in 0 ran)) (true ∷ []) chosen
+    × (Holds input_graph (claim (ends_in 0 ran)) (false ∷ []) chosen → ⊥)
+    × Holds input_graph (claim_given (given_input 0 true ∷ []) (ends_in 0 ran)) (false ∷ []) chosen
+    × (Holds input_graph (claim_given (given_input 0 true ∷ []) (ends_in 0 faulted)) (true ∷ []) chosen → ⊥)
+    × (Holds input_graph (claim_given (given_input 0 false ∷ []) (ends_in 0 ran)) (false ∷ []) chosen → ⊥)
 
 -- a root that throws, and a continuation that observes, perhaps after a check of a token
 abbrev pub observing_graph : TaskGraph
@@ -120,10 +120,10 @@ ExceptionIsObserved =
     IsGraph observing_graph
     × Run observing_graph [] observing_run
     × Complete observing_graph [] observing_run
-    × Holds observing_graph (claim (observed 0)) [] observing_run
+    × Holds observing_graph (claim (is_observed 0)) [] observing_run
     × (seen observing_graph [] unread_yet 0 ≡ false)
-    × Holds observing_graph (claim (observed 0)) [] unread_yet
-    × Holds observing_graph (claim (observed 1)) [] observing_run
+    × Holds observing_graph (claim (is_observed 0)) [] unread_yet
+    × Holds observing_graph (claim (is_observed 1)) [] observing_run
 
 -- a claim that an exception is observed fails where the continuation's body ends before its observe, or the
 -- continuation never runs
@@ -132,11 +132,11 @@ ExceptionIsNotObserved =
     IsGraph checking_observer_graph
     × Run checking_observer_graph [] checked_instead
     × Complete checking_observer_graph [] checked_instead
-    × (Holds checking_observer_graph (claim (observed 0)) [] checked_instead → ⊥)
+    × (Holds checking_observer_graph (claim (is_observed 0)) [] checked_instead → ⊥)
     × IsGraph canceled_observer_graph
     × Run canceled_observer_graph [] canceled_instead
     × Complete canceled_observer_graph [] canceled_instead
-    × (Holds canceled_observer_graph (claim (observed 0)) [] canceled_instead → ⊥)
+    × (Holds canceled_observer_graph (claim (is_observed 0)) [] canceled_instead → ⊥)
 
 -- a parent with a child, attached or detached, and the parent's continuation
 abbrev pub family_graph : TaskGraph
@@ -158,15 +158,15 @@ ClaimsOfAttachedAndDetachedChildren =
     IsGraph family_graph
     × Run family_graph [] together
     × Complete family_graph [] together
-    × Holds family_graph (claim (after 1 2)) [] together
-    × Holds family_graph (claim (observed 1)) [] together
-    × Holds family_graph (claim (observed 0)) [] together
+    × Holds family_graph (claim (begins_after 1 2)) [] together
+    × Holds family_graph (claim (is_observed 1)) [] together
+    × Holds family_graph (claim (is_observed 0)) [] together
     × IsGraph apart_graph
     × Run apart_graph [] apart
     × Complete apart_graph [] apart
-    × (Holds apart_graph (claim (after 1 2)) [] apart → ⊥)
-    × (Holds apart_graph (claim (observed 1)) [] apart → ⊥)
-    × Holds apart_graph (claim (observed 0)) [] apart
+    × (Holds apart_graph (claim (begins_after 1 2)) [] apart → ⊥)
+    × (Holds apart_graph (claim (is_observed 1)) [] apart → ⊥)
+    × Holds apart_graph (claim (is_observed 0)) [] apart
 
 -- a parent that starts its child by an input, and its continuation
 abbrev pub maybe_graph : TaskGraph
@@ -183,9 +183,9 @@ abbrev pub UnstartedChildIsSettledBefore : Type 0
 UnstartedChildIsSettledBefore =
     IsGraph maybe_graph
     × Run maybe_graph (false ∷ []) without_child
-    × Holds maybe_graph (claim (after 1 2)) (false ∷ []) without_child
+    × Holds maybe_graph (claim (begins_after 1 2)) (false ∷ []) without_child
     × Run maybe_graph (true ∷ []) with_child
-    × (Holds maybe_graph (claim (after 1 2)) (true ∷ []) with_child → ⊥)
+    × (Holds maybe_graph (claim (begins_after 1 2)) (true ∷ []) with_child → ⊥)
 
 -- a job that may fail, and a continuation for each end
 abbrev pub handler_graph : TaskGraph
@@ -202,11 +202,11 @@ abbrev pub NeverAndExcludes : Type 0
 NeverAndExcludes =
     IsGraph handler_graph
     × Run handler_graph [] failure
-    × Holds handler_graph (claim (never 2)) [] failure
-    × (Holds handler_graph (claim (never 1)) [] failure → ⊥)
-    × Holds handler_graph (claim (excludes 1 2)) [] failure
-    × (Holds handler_graph (claim (excludes 0 1)) [] failure → ⊥)
+    × Holds handler_graph (claim (never_begins 2)) [] failure
+    × (Holds handler_graph (claim (never_begins 1)) [] failure → ⊥)
+    × Holds handler_graph (claim (exclude 1 2)) [] failure
+    × (Holds handler_graph (claim (exclude 0 1)) [] failure → ⊥)
     × Run handler_graph [] success
-    × Holds handler_graph (claim (never 1)) [] success
-    × (Holds handler_graph (claim (never 2)) [] success → ⊥)
-    × Holds handler_graph (claim (excludes 1 2)) [] success
+    × Holds handler_graph (claim (never_begins 1)) [] success
+    × (Holds handler_graph (claim (never_begins 2)) [] success → ⊥)
+    × Holds handler_graph (claim (exclude 1 2)) [] success

@@ -9,7 +9,7 @@ use Rattle.tpl_model.specs.Facts.{ending, winner_of}
 use Rattle.tpl_model.specs.Rules.{status, carried, label, seen, subject, Run, Allows, Complete}
 use Rattle.tpl_model.specs.Valid.{IsGraph}
 use Rattle.tpl_model.specs.Claims.{Holds}
-use Rattle.tpl_examples.specs.Words.{worker, outside, releasing, beginning, closing, dropping, settling, by, release, begin, step, leave, drop, settle, request, played, thrown, returns, root, continues, when_all, when_any, with_token, with_options, only_on_faulted, only_on_ran_to_completion, execute_synchronously, graph, with_tokens, observed, claim}
+use Rattle.tpl_examples.specs.Words.{worker, outside, releasing, beginning, closing, dropping, settling, by, release, begin, step, leave, drop, settle, request, played, thrown, returns, root, continues, when_all, when_any, with_token, with_options, only_on_faulted, only_on_ran_to_completion, execute_synchronously, graph, with_tokens, is_observed, claim}
 
 -- a root that throws, one with a token, and WhenAll of both in both orders
 abbrev pub all_graph : TaskGraph
@@ -167,7 +167,7 @@ WinnerIsTheFirstToEnd =
     × (status any_graph [] thrower_first 3 ≡ Completed RanToCompletion)
     × (status any_graph [] thrower_first 0 ≡ Completed RanToCompletion)
     × Complete any_graph [] thrower_first
-    × Holds any_graph (claim (observed 1)) [] thrower_first
+    × Holds any_graph (claim (is_observed 1)) [] thrower_first
 
 -- where the argument that returns ends first, the other one's exception stays unobserved
 abbrev pub LoserStaysUnobserved : Type 0
@@ -176,7 +176,7 @@ LoserStaysUnobserved =
     × (winner_of (ending any_graph [] thrower_second 2) ≡ Some 0)
     × (seen any_graph [] thrower_second 1 ≡ false)
     × Complete any_graph [] thrower_second
-    × (Holds any_graph (claim (observed 1)) [] thrower_second → ⊥)
+    × (Holds any_graph (claim (is_observed 1)) [] thrower_second → ⊥)
 
 -- the order of the endings decides, and not when WhenAny is settled; WhenAny carries no exception
 abbrev pub WinnerOfALateSettle : Type 0

@@ -9,7 +9,7 @@ use Rattle.tpl_model.specs.Facts.{ending}
 use Rattle.tpl_model.specs.Rules.{status, carried, label, seen, subject, bound_worker, Run, Allows, Complete}
 use Rattle.tpl_model.specs.Valid.{IsGraph}
 use Rattle.tpl_model.specs.Claims.{Holds}
-use Rattle.tpl_examples.specs.Words.{worker, outside, requesting, releasing, beginning, dropping, by, release, begin, step, done, failed, leave, close, drop, request, played, thrown, work_failed, returns, root, child, detached_child, continues, when_all, with_token, with_options, prefer_fairness, long_running, attached_to_parent, hide_scheduler, lazy_cancellation, run_continuations_asynchronously, not_on_ran_to_completion, not_on_faulted, not_on_canceled, only_on_canceled, only_on_faulted, only_on_ran_to_completion, execute_synchronously, graph, with_tokens, after, excludes, claim}
+use Rattle.tpl_examples.specs.Words.{worker, outside, requesting, releasing, beginning, dropping, by, release, begin, step, done, failed, leave, close, drop, request, played, thrown, work_failed, returns, root, child, detached_child, continues, when_all, with_token, with_options, prefer_fairness, long_running, attached_to_parent, hide_scheduler, lazy_cancellation, run_continuations_asynchronously, not_on_ran_to_completion, not_on_faulted, not_on_canceled, only_on_canceled, only_on_faulted, only_on_ran_to_completion, execute_synchronously, graph, with_tokens, begins_after, exclude, claim}
 
 -- a root that throws and one that returns, each with a continuation that wants the other
 abbrev pub wrong_end_graph : TaskGraph
@@ -122,7 +122,7 @@ FailureChoosesTheContinuation =
     × (status handler_graph [] failure_handled 2 ≡ Completed Canceled)
     × (seen handler_graph [] failure_handled 0 ≡ false)
     × Complete handler_graph [] failure_handled
-    × Holds handler_graph (claim (excludes 1 2)) [] failure_handled
+    × Holds handler_graph (claim (exclude 1 2)) [] failure_handled
 
 -- a continuation with a token, its continuation, and the same where the first one is lazy
 abbrev pub stop_graph : TaskGraph
@@ -160,7 +160,7 @@ EagerCancellationOvertakes =
     Run stop_graph [] overtaken
     × (status stop_graph [] overtaken 0 ≡ WaitingToRun)
     × (status stop_graph [] overtaken 2 ≡ Running)
-    × (Holds stop_graph (claim (after 0 2)) [] overtaken → ⊥)
+    × (Holds stop_graph (claim (begins_after 0 2)) [] overtaken → ⊥)
 
 abbrev pub lazy_antecedent_left : List Event
 lazy_antecedent_left = played (request 1 0 ∷ begin 1 0 ∷ step 1 0 ∷ leave 1 0 ∷ [])
@@ -184,7 +184,7 @@ LazyCancellationWaits =
     × (status lazy_graph [] lazy_dropped 1 ≡ Completed Canceled)
     × Run lazy_graph [] lazy_followed
     × Complete lazy_graph [] lazy_followed
-    × Holds lazy_graph (claim (after 0 2)) [] lazy_followed
+    × Holds lazy_graph (claim (begins_after 0 2)) [] lazy_followed
 
 -- a continuation whose token is requested isn't released, though its antecedent has ended, and is canceled
 abbrev pub RequestedContinuationIsNotReleased : Type 0

@@ -9,3 +9,6 @@ pub mod ValidGraphs
 pub mod Claims
 pub mod ManyTasks
 pub mod Journals
+pub mod CertificateWords
+pub mod Certificates
+pub mod RowRules

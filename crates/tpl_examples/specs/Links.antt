@@ -12,7 +12,7 @@ use Rattle.tpl_model.specs.Valid.{IsGraph}
 use Rattle.tpl_model.specs.Claims.{Holds}
 use Rattle.tpl_model.specs.Graph.{Token}
 use Rattle.tpl_model.specs.Claims.{IsGiven}
-use Rattle.tpl_examples.specs.Words.{worker, outside, requesting, beginning, dropping, by, begin, step, leave, drop, request, played, operation_canceled, returns, root, with_token, graph, with_tokens, ran_only, canceled_only, ends_in, given_quiet, claim, claim_given}
+use Rattle.tpl_examples.specs.Words.{worker, outside, requesting, beginning, dropping, by, begin, step, leave, drop, request, played, operation_canceled, returns, root, with_token, graph, with_tokens, ran, canceled, ends_in, given_quiet, claim, claim_given}
 
 -- the tokens 0 and 1, and 2 linked to both
 abbrev pub link_tokens : List Token
@@ -32,7 +32,7 @@ LinkIsRequestedThroughASource =
     × Run link_graph [] source_requested
     × (status link_graph [] source_requested 0 ≡ Completed Canceled)
     × Complete link_graph [] source_requested
-    × Holds link_graph (claim (ends_in 0 canceled_only)) [] source_requested
+    × Holds link_graph (claim (ends_in 0 canceled)) [] source_requested
 
 abbrev pub first_source : List Event
 first_source = played (begin 1 0 ∷ request 1 0 ∷ [])
@@ -138,5 +138,5 @@ CancelOfASourceOfAQuietLink =
     × (status canceling_graph [] canceled_and_threw 0 ≡ Completed Faulted)
     × IsGiven canceling_graph [] about_to_cancel link_quiet
     × (IsGiven canceling_graph [] canceled_and_threw link_quiet → ⊥)
-    × Holds canceling_graph (claim_given link_quiet (ends_in 0 ran_only)) [] canceled_and_threw
-    × (Holds canceling_graph (claim (ends_in 0 ran_only)) [] canceled_and_threw → ⊥)
+    × Holds canceling_graph (claim_given link_quiet (ends_in 0 ran)) [] canceled_and_threw
+    × (Holds canceling_graph (claim (ends_in 0 ran)) [] canceled_and_threw → ⊥)

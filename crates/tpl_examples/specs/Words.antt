@@ -192,30 +192,30 @@ abbrev pub with_inputs : ℕ → TaskGraph → TaskGraph
 with_inputs n g = record { tokens = g.tokens; inputs = n; tasks = g.tasks }
 
 -- sets of ways to end
-abbrev pub ran_only : Finals
-ran_only = record { ran = true; canceled = false; faulted = false }
+abbrev pub ran : Finals
+ran = record { ran = true; canceled = false; faulted = false }
 
-abbrev pub canceled_only : Finals
-canceled_only = record { ran = false; canceled = true; faulted = false }
+abbrev pub canceled : Finals
+canceled = record { ran = false; canceled = true; faulted = false }
 
-abbrev pub faulted_only : Finals
-faulted_only = record { ran = false; canceled = false; faulted = true }
+abbrev pub faulted : Finals
+faulted = record { ran = false; canceled = false; faulted = true }
 
 -- what a claim says
 abbrev pub ends_in : ℕ → Finals → Property
 ends_in t ends = EndsIn (record { 0 = t }) ends
 
-abbrev pub after : ℕ → ℕ → Property
-after a b = After (record { 0 = a }) (record { 0 = b })
+abbrev pub begins_after : ℕ → ℕ → Property
+begins_after a b = After (record { 0 = a }) (record { 0 = b })
 
-abbrev pub observed : ℕ → Property
-observed t = Observed (record { 0 = t })
+abbrev pub is_observed : ℕ → Property
+is_observed t = Observed (record { 0 = t })
 
-abbrev pub never : ℕ → Property
-never t = Never (record { 0 = t })
+abbrev pub never_begins : ℕ → Property
+never_begins t = Never (record { 0 = t })
 
-abbrev pub excludes : ℕ → ℕ → Property
-excludes a b = Excludes (record { 0 = a }) (record { 0 = b })
+abbrev pub exclude : ℕ → ℕ → Property
+exclude a b = Excludes (record { 0 = a }) (record { 0 = b })
 
 -- what it takes as given
 abbrev pub given_input : ℕ → Bool → Given

@@ -1,6 +1,6 @@
 //! Worked certificates, and what is said of each.
 
-ghost use Rattle.tpl_certificates.specs.Worked.{OneRoot, Throwing, EagerContinuation, LazyContinuation, QuietContinuation, ByEnd, ThroughAny, OwnCheck, CancelThenCheck, OnlyOn, AllOfBoth, AttachedChild, Observing, ObservedThroughParent, AfterChild, ByInput, LinkedTokens};
+ghost use Rattle.tpl_examples.specs.Certificates.{OneRoot, Throwing, EagerContinuation, LazyContinuation, QuietContinuation, ByEnd, ThroughAny, OwnCheck, CancelThenCheck, OnlyOn, AllOfBoth, AttachedChild, Observing, ObservedThroughParent, AfterChild, ByInput, LinkedTokens};
 
 /// A root that returns, no claims about no tasks, and a claim without a tree.
 pub fn one_root()

@@ -1,6 +1,6 @@
 //! Worked certificates for each rule: those that keep it, and those that break it.
 
-ghost use Rattle.tpl_certificates.specs.RowRules.{MayBegin, ContinuationMayBegin, BodyEnds, CanceledBeforeItBegins, CanceledContinuation, ChildFaults, AllEnds, AnyEnds, Before, BeforeWithoutRunning, PastChildren, PastContinuation, PastWhereNotCanceled, PastCombinator, Chains, Readers, Proving, ProvingOwnFault, Shapes, Assumptions, Subjects, BrokenOff};
+ghost use Rattle.tpl_examples.specs.RowRules.{MayBegin, ContinuationMayBegin, BodyEnds, CanceledBeforeItBegins, CanceledContinuation, ChildFaults, AllEnds, AnyEnds, Before, BeforeWithoutRunning, PastChildren, PastContinuation, PastWhereNotCanceled, PastCombinator, Chains, Readers, Proving, ProvingOwnFault, Shapes, Assumptions, Subjects, BrokenOff};
 
 /// A root runs, and a child that may be started.
 pub fn may_begin()

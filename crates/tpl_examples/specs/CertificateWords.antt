@@ -1,0 +1,68 @@
+-- Short words, in which the worked certificates are written beside those of Words: tasks with their options, rows, and
+-- lists of one claim.
+use Rattle.std.specs.Prelude.{ℕ, true, false, None, List, [], ◌∷◌}
+use Rattle.tpl_words.specs.declared.finals.Finals.{Finals}
+use Rattle.tpl_script.specs.Statements.{Throw, Observe, Statements, Nothing, ◌⨾◌}
+use Rattle.tpl_model.specs.Graph.{TaskGraph, Task, Token, Child, Continues}
+use Rattle.tpl_model.specs.declared.fault.Rule.{Rule}
+use Rattle.tpl_model.specs.declared.fault.CertFault.{CertFault}
+use Rattle.tpl_model.specs.declared.fault.CertFault.TheVariants.{NotClosed}
+use Rattle.tpl_model.specs.declared.claim.Given.{Given}
+use Rattle.tpl_model.specs.declared.claim.Property.{Property}
+use Rattle.tpl_model.specs.Claims.{Claim}
+use Rattle.tpl_model.specs.Certificate.{Row, Tree, Leaf}
+
+-- tasks with option words, and a graph with tokens and a number of inputs
+abbrev pub child_with : Statements → ℕ → Task
+child_with body options = record { kind = Child; body = body; token = None; options = options }
+
+abbrev pub continuing : ℕ → Statements → ℕ → Task
+continuing antecedent body options = record { kind = Continues antecedent; body = body; token = None; options = options }
+
+abbrev pub graph_with : List Token → ℕ → List Task → TaskGraph
+graph_with tokens inputs tasks = record { tokens = tokens; inputs = inputs; tasks = tasks }
+
+-- sets of no and of several ways to end
+abbrev pub nothing : Finals
+nothing = record { ran = false; canceled = false; faulted = false }
+
+abbrev pub ran_or_canceled : Finals
+ran_or_canceled = record { ran = true; canceled = true; faulted = false }
+
+abbrev pub ran_or_faulted : Finals
+ran_or_faulted = record { ran = true; canceled = false; faulted = true }
+
+abbrev pub any_end : Finals
+any_end = record { ran = true; canceled = true; faulted = true }
+
+-- a row that runs, with what is before and past it and its chain, and one that doesn't run
+abbrev pub runs : Finals → List ℕ → List ℕ → List ℕ → Row
+runs ends before past chain = record { ends = ends; runs = true; before = before; past = past; chain = chain }
+
+abbrev pub ends : Finals → Row
+ends f = runs f [] [] []
+
+abbrev pub not_run : Finals → Row
+not_run ends = record { ends = ends; runs = false; before = []; past = []; chain = [] }
+
+-- one claim, and what is given for it
+abbrev pub one_claim : Property → List Claim
+one_claim says = record { given = []; body = says } ∷ []
+
+abbrev pub one_claim_given : List Given → Property → List Claim
+one_claim_given facts says = record { given = facts; body = says } ∷ []
+
+-- the fault of a row that breaks a rule
+abbrev pub not_closed : ℕ → ℕ → ℕ → Rule → CertFault
+not_closed claim leaf t rule = NotClosed claim leaf (record { 0 = t }) rule
+
+-- a certificate of one tree, which is one leaf with these rows
+abbrev pub leaf : List Row → List Tree
+leaf rows = Leaf rows ∷ []
+
+-- bodies of one statement
+abbrev pub throws : Statements
+throws = Throw 0 ⨾ Nothing
+
+abbrev pub observes : Statements
+observes = Observe ⨾ Nothing
