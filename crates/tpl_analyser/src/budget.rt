@@ -3,11 +3,20 @@
 use crate::missed::RanOut;
 use crate::watch::Watch;
 
-/// The most leaves that are tried for one claim (this program's own limit).
-const MOST_LEAVES: u32 = 100_000;
+/// How many leaves are tried for one claim at most.
+#[derive(Clone, Copy, Debug, PartialEq, Eq)]
+pub struct Leaves {
+    /// In the order of the search.
+    pub in_order: u32,
+    /// Then in a directed search.
+    pub directed: u32,
+}
 
-/// The most leaves that are then tried in a directed search (this program's own limit).
-const MOST_LEAVES_DIRECTED: u32 = 20_000;
+/// How many leaves are tried where the caller says nothing else (this program's own limit).
+pub(crate) const USUAL: Leaves = Leaves {
+    in_order: 100_000,
+    directed: 20_000,
+};
 
 /// After so many leaves the watcher is told again.
 const LEAVES_BETWEEN: u32 = 1_000;
@@ -16,6 +25,7 @@ const LEAVES_BETWEEN: u32 = 1_000;
 #[derive(Drop)]
 pub(crate) struct Budget<W> {
     watch: W,
+    leaves: Leaves,
     /// The number of the claim.
     claim: usize,
     /// How many have been tried for it.
@@ -29,9 +39,10 @@ pub(crate) struct Budget<W> {
 
 impl<W: Watch> Budget<W> {
     /// Before the first claim.
-    pub(crate) fn new(watch: W) -> Budget<W> {
+    pub(crate) fn new(watch: W, leaves: Leaves) -> Budget<W> {
         Budget {
             watch,
+            leaves,
             claim: 0,
             tried: 0,
             left: 0,
@@ -44,7 +55,7 @@ impl<W: Watch> Budget<W> {
     pub(crate) fn begin(&mut self, claim: usize) {
         self.claim = claim;
         self.tried = 0;
-        self.left = MOST_LEAVES;
+        self.left = self.leaves.in_order;
         self.renewed = false;
         self.hopeless = false;
         self.watch.tries(claim, 0);
@@ -52,7 +63,7 @@ impl<W: Watch> Budget<W> {
 
     /// The directed search for the same claim begins.
     pub(crate) fn renew(&mut self) {
-        self.left = MOST_LEAVES_DIRECTED;
+        self.left = self.leaves.directed;
         self.renewed = true;
     }
 

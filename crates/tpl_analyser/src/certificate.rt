@@ -16,7 +16,7 @@ ghost use Rattle.tpl_analyser.specs.Splits.{IsSplitOf};
 ghost use Rattle.tpl_outline.specs.Stages.{IsStageOf};
 
 use crate::branch::Branch;
-use crate::budget::Budget;
+use crate::budget::{Budget, Leaves, USUAL};
 use crate::choice::{Bound, bound_of};
 use crate::cone::Cone;
 use crate::form::Form;
@@ -98,9 +98,30 @@ pub fn analyse_watched<W: Watch>(
     ensures form { IfOk result (IsCertificateOf form claims.now) }
     ensures gap { IfErr result (λ missed. IsGap graph.now.graph claims.now depth (gap_of missed)) }
 {
+    analyse_within(alloc, graph, claims, depth, form, USUAL, watch)
+}
+
+/// Searches a certificate as `analyse_watched` does, with at most so many leaves for each claim.
+pub fn analyse_within<W: Watch>(
+    alloc: Global,
+    graph: &Graph,
+    claims: &[Claim],
+    depth: u8,
+    form: Form,
+    leaves: Leaves,
+    watch: W,
+) -> Result<Certificate, Missed>
+    requires claims { All (Fits graph.now.graph) claims.now }
+    requires depth { depth ≤ 6 }
+    ensures accepted { IfOk result (λ c. Accepts graph.now.graph claims.now c) }
+    ensures splits { IfOk result (All (λ tree. height tree ≤ depth)) }
+    ensures form { IfOk result (IsCertificateOf form claims.now) }
+    ensures gap { IfErr result (λ missed. IsGap graph.now.graph claims.now depth (gap_of missed)) }
+{
     let below = Below::of_graph(graph);
     let made = made_of(alloc, graph, &below)?;
-    certificate_for(alloc, graph, &below, &made, claims, depth, form, watch)
+    let budget = Budget::new(watch, leaves);
+    certificate_for(alloc, graph, &below, &made, claims, depth, form, budget)
 }
 
 /// What is made of a graph once for all claims.
@@ -134,7 +155,7 @@ fn certificate_for<W: Watch>(
     claims: &[Claim],
     depth: u8,
     form: Form,
-    watch: W,
+    mut budget: Budget<W>,
 ) -> Result<Certificate, Missed>
     requires below { AreBelow graph.now.graph below.now }
     requires stages { All (IsStageOf graph.now.graph) made.now.stages.items }
@@ -146,7 +167,6 @@ fn certificate_for<W: Watch>(
     ensures form { IfOk result (IsCertificateOf form claims.now) }
     ensures gap { IfErr result (λ missed. IsGap graph.now.graph claims.now depth (gap_of missed)) }
 {
-    let mut budget = Budget::new(watch);
     let mut trees = Vec::new(alloc);
     for at in 0..claims.len() {
         budget.begin(at + 1);

@@ -19,7 +19,8 @@ mod split;
 mod watch;
 mod way;
 
-pub use certificate::{analyse, analyse_in, analyse_watched};
+pub use budget::Leaves;
+pub use certificate::{analyse, analyse_in, analyse_watched, analyse_within};
 pub use depth::Depth;
 pub use form::Form;
 pub use gap::Gap;
