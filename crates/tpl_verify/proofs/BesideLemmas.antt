@@ -1,0 +1,42 @@
+-- Verdicts by their places.
+use Rattle.std.proofs.Common.{◌≡◌, ℕ, zero, suc, ◌<◌, Option, Some, None, List, [], ◌∷◌, length, map, refl, ap, arith}
+use Rattle.std.specs.Prelude.{slice_get, slice_index_or}
+use Rattle.std.specs.List.{AllZip}
+use Rattle.tpl_model.specs.Graph.{TaskGraph}
+use Rattle.tpl_model.specs.Claims.{Claim}
+use Rattle.tpl_verify.specs.declared.verdict.Verdict.{Verdict}
+use Rattle.tpl_verify.specs.Verdicts.{IsVerdict}
+use Rattle.tpl_verify.specs.Beside.{IsVerdictAt}
+
+-- the verdicts at all places are those on all claims
+pub zip_places : (g : TaskGraph) (claims : List Claim) (verdicts : List Verdict) → length verdicts ≡ length claims → ((i : ℕ) (verdict : Verdict) → slice_get verdicts i ≡ Some verdict → IsVerdictAt g claims i verdict) → AllZip (IsVerdict g) claims verdicts
+zip_places g [] [] len each = tt
+zip_places g [] (v ∷ verdicts) len each = absurd (omega arith)
+zip_places g (claim ∷ claims) [] len each = absurd (omega arith)
+zip_places g (claim ∷ claims) (v ∷ verdicts) len each = (
+  each 0 v refl claim refl,
+  zip_places g claims verdicts (omega arith) (λ i verdict e. each (suc i) verdict e),
+)
+
+pub same_length : (verdicts : List Verdict) (places : List (Option Verdict)) → places ≡ map (λ v. Some v) verdicts → length places ≡ length verdicts
+same_length [] [] e = refl
+same_length [] (p ∷ places) e = absurd (cc)
+same_length (v ∷ verdicts) [] e = absurd (cc)
+same_length (v ∷ verdicts) (p ∷ places) e =
+    let whole : p ∷ places ≡ Some v ∷ map (λ w. Some w) verdicts = e in
+    let rest : places ≡ map (λ w. Some w) verdicts = cc in ap suc (same_length verdicts places rest)
+
+-- the verdict at a place, where each place has one
+pub at_place : (verdicts : List Verdict) (places : List (Option Verdict)) (i : ℕ) (verdict : Verdict) → places ≡ map (λ v. Some v) verdicts → slice_get verdicts i ≡ Some verdict → (i < length places) × (slice_index_or places i None ≡ Some verdict)
+at_place [] places i verdict e there = absurd (cc)
+at_place (v ∷ verdicts) [] i verdict e there = absurd (cc)
+at_place (v ∷ verdicts) (p ∷ places) zero verdict e there =
+    let whole : p ∷ places ≡ Some v ∷ map (λ w. Some w) verdicts = e in
+    let same : Some v ≡ Some verdict = there in
+    let first : p ≡ Some verdict = cc in
+    (omega arith, first)
+at_place (v ∷ verdicts) (p ∷ places) (suc i) verdict e there =
+    let whole : p ∷ places ≡ Some v ∷ map (λ w. Some w) verdicts = e in
+    let rest : places ≡ map (λ w. Some w) verdicts = cc in
+    let more = at_place verdicts places i verdict rest there in
+    (let lt = more.0 in omega arith, more.1)

@@ -1,0 +1,78 @@
+-- Bodies that throw in no run.
+use Rattle.std.proofs.Common.{◌≡◌, ℕ, inl, inr, not, IsTrue, Bool, true, false, is_some, Option, Some, None, List, sym, ap, ◌∙◌, subst, refl}
+use Rattle.tpl_words.specs.declared.ids.TaskId.{TaskId}
+use Rattle.tpl_words.specs.declared.finals.Final.{Final}
+use Rattle.tpl_words.specs.declared.finals.Final.TheVariants.{RanToCompletion, Canceled, Faulted}
+use Rattle.tpl_words.specs.declared.finals.Finals.{Finals}
+use Rattle.tpl_words.specs.Finals.{has}
+use Rattle.tpl_words.specs.declared.status.Label.{Label}
+use Rattle.tpl_words.proofs.Truths.{true_false}
+use Rattle.std.proofs.lemmas.Bool.{cases_Bool}
+use Rattle.tpl_script.specs.declared.outcome.Outcome.TheVariants.{Threw}
+use Rattle.tpl_script.specs.Paths.{Known, MayThrow}
+use Rattle.tpl_model.specs.declared.event.Event.{Event}
+use Rattle.tpl_model.specs.declared.claim.Given.{Given}
+use Rattle.tpl_model.specs.declared.claim.Property.TheVariants.{Final as EndsIn}
+use Rattle.tpl_model.specs.Graph.{TaskGraph, body, task}
+use Rattle.tpl_model.specs.Facts.{begun, ending, final_in, outcome_in, rest, requested}
+use Rattle.tpl_model.specs.Rules.{Run, Complete, label}
+use Rattle.tpl_model.specs.Valid.{IsGraph}
+use Rattle.tpl_model.specs.Claims.{input, IsGiven}
+use Rattle.tpl_model.specs.Certificate.{Assumed, assumed}
+use Rattle.tpl_laws.proofs.Basics.{the_some}
+use Rattle.tpl_laws.proofs.Execution.{passed}
+use Rattle.tpl_laws.proofs.Follows.{Fits, follows}
+use Rattle.tpl_laws.proofs.Settling.{has_subject_of}
+use Rattle.tpl_laws.proofs.RowsAreTrue.{verdict_path}
+use Rattle.tpl_laws.proofs.Carrying.{carries_faulted}
+use Rattle.tpl_laws.proofs.Chains.{carries_own, threw_begun, begun_ends}
+use Rattle.tpl_laws.proofs.Observing.{label_verdict}
+use Rattle.tpl_laws.proofs.MainTheorem.{given_agrees}
+use Rattle.tpl_verify.specs.Verdicts.{HoldsAlways, HasNoLabel, under}
+
+-- no more is known than is true of each run in which this is given, whatever the subject does
+pub record KnowsGiven (g : TaskGraph) (given : List Given) (t : ℕ) (w : Known) : Type 0 where
+  pub own : w.own ≡ (task g t).token
+  pub possible : w.possible ≡ (assumed g given).possible
+  pub quiet : w.quiet ≡ (assumed g given).quiet
+  pub subject : (f : Final) → w.subject f ≡ true
+
+-- each way to end is one of these
+pub each_end : (f : Final) → has (record { ran = true; canceled = true; faulted = true }) f ≡ true
+each_end RanToCompletion = refl
+each_end Canceled = refl
+each_end Faulted = refl
+
+pub not_both : (b : Bool) → IsTrue (not b) → IsTrue b → ⊥
+not_both true n b = cc
+not_both false n b = cc
+
+no_label : (o : Option Label) → ((lb : Label) → o ≡ Some lb → ⊥) → o ≡ None
+no_label None none = refl
+no_label (Some lb) none = absurd (none lb refl)
+
+known_fits : (g : TaskGraph) (given : List Given) (t : ℕ) (w : Known) (v : List Bool) (h : List Event) → KnowsGiven g given t w → IsGiven g v h given → Fits g v h t w
+known_fits g given t w v h knows is =
+    let agrees = given_agrees g v h given is in
+    record {
+      own = knows.own;
+      inputs = λ i. subst (λ (p : ℕ → Bool → Bool). p i (input v i) ≡ true) (sym knows.possible) (agrees.inputs i);
+      quiet = λ k r. subst (λ (q : ℕ → Bool). q k ≡ false) (sym knows.quiet) (elim (cases_Bool ((assumed g given).quiet k)) [ inl q ↦ true_false (sym r ∙ agrees.quiet k q) | inr q ↦ q ]);
+      subject = λ s f e q. knows.subject f;
+    }
+
+-- no path of the body throws
+pub throws_nowhere : (g : TaskGraph) (given : List Given) (t : ℕ) (w : Known) → IsGraph g → KnowsGiven g given t w → (MayThrow w (body g t) → ⊥) → HasNoLabel g given t
+throws_nowhere g given t w valid knows none v h run complete is =
+    no_label (label g v h t) (λ lb e.
+    let threw = label_verdict (outcome_in (rest g v h t)) lb e in
+    none (lb, (passed g v h t, verdict_path w (body g t) (rest g v h t).outcome (rest g v h t).left (passed g v h t) (Threw lb) threw (follows g v h t w run (known_fits g given t w v h knows is) (has_subject_of g t valid)))))
+
+-- the task never ends faulted
+pub never_faults : (g : TaskGraph) (given : List Given) (t : TaskId) (ends : Finals) → has ends Faulted ≡ false → HoldsAlways g (under given (EndsIn t ends)) → HasNoLabel g given t.0
+never_faults g given t ends unfaulted always v h run complete is =
+    no_label (label g v h t.0) (λ lb e.
+    let threw = label_verdict (outcome_in (rest g v h t.0)) lb e in
+    let q = the_some (ending g v h t.0) (begun_ends g v h t.0 run complete (threw_begun g v h t.0 lb run threw)) in
+    let f = carries_faulted g v h t.0 t.0 q.0 run q.1 (carries_own g v h t.0 lb q.0 run threw q.1) in
+    true_false (sym (always v h run is Faulted (ap final_in q.1 ∙ ap Some f)) ∙ unfaulted))

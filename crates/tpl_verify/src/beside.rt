@@ -1,0 +1,144 @@
+//! The answers to claims, by threads beside each other.
+
+ghost use Rattle.std.specs.Prelude.{◌≡◌, ◌<◌, ℕ, length, map, IfOk, IfSome, Some, None, slice_get, slice_index_or};
+ghost use Rattle.std.specs.List.{All, AllZip};
+ghost use Rattle.tpl_claims.specs.Fits.{Fits};
+ghost use Rattle.tpl_verify.specs.declared.verdict.Verdict.{Verdict};
+ghost use Rattle.tpl_verify.specs.Verdicts.{IsVerdict};
+ghost use Rattle.tpl_verify.specs.Beside.{IsVerdictAt};
+
+use crate::limits::Limits;
+use crate::verdict::Verdict;
+use crate::verifying::verify_claim;
+use std::alloc::{AllocError, Global};
+use std::thread;
+use std::thread::Threads;
+use tpl_claims::Claim;
+use tpl_graph::Graph;
+
+/// The verdict on the claim at this place; none where memory was refused.
+fn verdict_at(
+    alloc: Global,
+    graph: &Graph,
+    claims: &[Claim],
+    limits: &Limits,
+    at: usize,
+) -> Option<Verdict>
+    requires claims { All (Fits graph.now.graph) claims.now }
+    requires at { at < length claims.now }
+    ensures { IfSome result (IsVerdictAt graph.now.graph claims.now at) }
+{
+    let number = at as u64 + 1;
+    match verify_claim(alloc, graph, &claims[at], number, limits) {
+        Ok(verdict) => Some(verdict),
+        Err(_) => None,
+    }
+}
+
+/// So many places without a verdict.
+fn places(alloc: Global, count: usize) -> Result<Vec<Option<Verdict>>, AllocError>
+    ensures { IfOk result (λ places. length places.items ≡ count) }
+{
+    let mut places = Vec::with_capacity(alloc, count)?;
+    for _ in 0..count {
+        places.push(None)?;
+    }
+    Ok(places)
+}
+
+/// Puts at each place what the function answers there, by at most this many threads.
+fn fill<R: Threads + Sync, F: Fn(usize) -> Option<Verdict> + Sync>(
+    rt: &R,
+    places: &mut [Option<Verdict>],
+    jobs: usize,
+    answer: &F,
+)
+    requires jobs { 0 < jobs }
+    requires callable { (i : ℕ) → i < length places.old → F.pre answer.now i }
+    ensures { (i : ℕ) → i < length places.old
+        → F.post answer.now i (slice_index_or places.new i None) }
+{
+    let put = move |at: usize, place: &mut Option<Verdict>|
+        requires { F.pre answer.now at }
+        ensures { F.post answer.entry.now at place.exit.now }
+    {
+        *place = answer(at);
+    };
+    thread::for_each_mut(rt, places, jobs, &put);
+}
+
+/// The verdicts, if there is one at each place.
+fn taken(alloc: Global, mut places: Vec<Option<Verdict>>) -> Result<Vec<Verdict>, AllocError>
+    ensures { IfOk result (λ verdicts. places.items ≡ map (λ v. Some v) verdicts.items) }
+{
+    let mut verdicts = Vec::with_capacity(alloc, places.len())?;
+    while !places.is_empty() {
+        match places.remove(0) {
+            Some(verdict) => verdicts.push(verdict)?,
+            None => return Err(AllocError),
+        }
+    }
+    Ok(verdicts)
+}
+
+/// What the function answers at each of the first places, by at most this many threads.
+fn filled<R: Threads + Sync, F: Fn(usize) -> Option<Verdict> + Sync>(
+    rt: &R,
+    alloc: Global,
+    count: usize,
+    jobs: usize,
+    answer: &F,
+) -> Result<Vec<Option<Verdict>>, AllocError>
+    requires jobs { 0 < jobs }
+    requires callable { (i : ℕ) → i < count → F.pre answer.now i }
+    ensures count { IfOk result (λ places. length places.items ≡ count) }
+    ensures each { IfOk result (λ places. (i : ℕ) → i < count
+        → F.post answer.now i (slice_index_or places.items i None)) }
+{
+    let mut places = places(alloc, count)?;
+    fill(rt, places.as_mut_slice(), jobs, answer);
+    Ok(places)
+}
+
+/// What the function answers at each of the first places, by at most this many threads beside each other: whatever their
+/// number, each answer is one of the same call. An error where one of the calls has no answer.
+fn answers<R: Threads + Sync, F: Fn(usize) -> Option<Verdict> + Sync>(
+    rt: &R,
+    alloc: Global,
+    count: usize,
+    jobs: usize,
+    answer: &F,
+) -> Result<Vec<Verdict>, AllocError>
+    requires jobs { 0 < jobs }
+    requires callable { (i : ℕ) → i < count → F.pre answer.now i }
+    ensures count { IfOk result (λ verdicts. length verdicts.items ≡ count) }
+    ensures each { IfOk result (λ verdicts. (i : ℕ) (verdict : Verdict)
+        → slice_get verdicts.items i ≡ Some verdict → F.post answer.now i (Some verdict)) }
+{
+    let places = filled(rt, alloc, count, jobs, answer)?;
+    let all = taken(alloc, places)?;
+    Ok(all)
+}
+
+/// The verdicts on the claims, as `verify` gives them, by at most this many threads beside each other. Each verdict
+/// comes from its graph, claim, number and limits alone, so they are the same for every number of threads.
+pub fn verify_beside<R: Threads + Sync>(
+    rt: &R,
+    alloc: Global,
+    graph: &Graph,
+    claims: &[Claim],
+    limits: &Limits,
+    jobs: usize,
+) -> Result<Vec<Verdict>, AllocError>
+    requires claims { All (Fits graph.now.graph) claims.now }
+    requires jobs { 0 < jobs }
+    ensures { IfOk result (λ verdicts.
+        AllZip (IsVerdict graph.now.graph) claims.now verdicts.items) }
+{
+    let answer = |at: usize| -> Option<Verdict>
+        requires { All (Fits graph.now.graph) claims.now × (at < length claims.now) }
+        ensures { IfSome result (IsVerdictAt graph.entry.now.graph claims.entry.now at) }
+    { verdict_at(alloc, graph, claims, limits, at) };
+    let verdicts = answers(rt, alloc, claims.len(), jobs, &answer)?;
+    Ok(verdicts)
+}

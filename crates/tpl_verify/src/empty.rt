@@ -1,0 +1,259 @@
+//! Why a claim that holds says nothing.
+
+ghost use Rattle.std.specs.Prelude.{◌≡◌, ◌↔◌, Bool, true, IsTrue, IfOk, IfSome};
+ghost use Rattle.tpl_model.specs.Graph.{is_task, kind};
+ghost use Rattle.tpl_model.specs.Rules.{to_end};
+ghost use Rattle.tpl_claims.specs.Fits.{AreGivenOf, Fits};
+ghost use Rattle.tpl_verify.specs.Verdicts.{EndsAnyhow, HasNoLabel, IsEmpty, NeedsBegin};
+
+use crate::cancels::cancels_quiet;
+use crate::certifying::is_certified;
+use crate::verdict::Empty;
+use std::alloc::{AllocError, Global};
+use tpl_analyser::{Depth, Leaves};
+use tpl_checker::assumed;
+use tpl_claims::Claim;
+use tpl_graph::{Graph, Kind};
+use tpl_model::{Given, Property};
+use tpl_script::{View, may};
+use tpl_words::{Finals, TaskId};
+
+/// How many leaves are tried for each claim that makes another one empty.
+const LEAVES: Leaves = Leaves {
+    in_order: 2_000,
+    directed: 500,
+};
+
+/// The most tasks of which it is tried whether they never end.
+const MOST_TRIED: usize = 32;
+
+/// Each end but `Faulted`.
+const UNFAULTED: Finals = Finals {
+    ran: true,
+    canceled: true,
+    faulted: false,
+};
+
+/// Each end.
+const EACH_END: Finals = Finals {
+    ran: true,
+    canceled: true,
+    faulted: true,
+};
+
+/// No end.
+const NO_END: Finals = Finals {
+    ran: false,
+    canceled: false,
+    faulted: false,
+};
+
+/// The tasks whose begin the property needs to say something: none, one or two.
+fn needed(body: Property) -> (Option<TaskId>, Option<TaskId>)
+    ensures first { IfSome result.0 (λ t. NeedsBegin body t.0) }
+    ensures second { IfSome result.1 (λ t. NeedsBegin body t.0) }
+{
+    match body {
+        Property::Final(task, ends) => {
+            if ends.ran || ends.faulted {
+                (Some(task), None)
+            } else {
+                (None, None)
+            }
+        }
+        Property::After(_, second) => (Some(second), None),
+        Property::Observed(task) => (Some(task), None),
+        Property::Never(_) => (None, None),
+        Property::Excludes(one, other) => (Some(one), Some(other)),
+    }
+}
+
+/// The property lets its task end in each way.
+fn ends_anyhow(body: Property) -> bool
+    ensures { IsTrue result ↔ EndsAnyhow body }
+{
+    match body {
+        Property::Final(_, ends) => ends.ran && ends.canceled && ends.faulted,
+        _ => false,
+    }
+}
+
+/// Whether this task, if there is one, never begins.
+fn never_begins(
+    alloc: Global,
+    graph: &Graph,
+    claim: &Claim,
+    depth: Depth,
+    task: Option<TaskId>,
+) -> Result<Option<Empty>, AllocError>
+    requires { IfSome task (λ t. NeedsBegin claim.now.body t.0) }
+    ensures { IfOk result (λ found. IfSome found (IsEmpty graph.now.graph claim.now)) }
+{
+    match task {
+        None => Ok(None),
+        Some(task) => {
+            let body = Property::Never(task);
+            let never = is_certified(alloc, graph, claim, body, depth, LEAVES)?;
+            if never {
+                Ok(Some(Empty::NeverBegins(task)))
+            } else {
+                Ok(None)
+            }
+        }
+    }
+}
+
+/// Whether a task never begins whose begin the claim needs to say something.
+fn lacks_begin(
+    alloc: Global,
+    graph: &Graph,
+    claim: &Claim,
+    depth: Depth,
+) -> Result<Option<Empty>, AllocError>
+    ensures { IfOk result (λ found. IfSome found (IsEmpty graph.now.graph claim.now)) }
+{
+    let (first, second) = needed(claim.body());
+    match never_begins(alloc, graph, claim, depth, first)? {
+        Some(empty) => Ok(Some(empty)),
+        None => never_begins(alloc, graph, claim, depth, second),
+    }
+}
+
+/// The body of the task can't throw where this is given, whatever its subject does.
+fn throws_nowhere(graph: &Graph, given: &[Given], task: TaskId) -> bool
+    requires given { AreGivenOf graph.now.graph given.now }
+    requires task { is_task graph.now.graph task.0 }
+    ensures { IsTrue result → HasNoLabel graph.now.graph given.now task.0 }
+{
+    graph.valid_law();
+    let view = assumed(graph, given).view(graph.own_token(task), EACH_END);
+    !may(graph.body(task), &view).thrown
+}
+
+/// Whether the body of the task throws in no complete run where this is given: it can't, or the task never ends faulted.
+fn never_throws(
+    alloc: Global,
+    graph: &Graph,
+    claim: &Claim,
+    depth: Depth,
+    task: TaskId,
+) -> Result<bool, AllocError>
+    requires fits { Fits graph.now.graph claim.now }
+    requires task { is_task graph.now.graph task.0 }
+    ensures { IfOk result (λ never. IsTrue never
+        → HasNoLabel graph.now.graph claim.now.given task.0) }
+{
+    if throws_nowhere(graph, claim.given(), task) {
+        return Ok(true);
+    }
+    let body = Property::Final(task, UNFAULTED);
+    let never = is_certified(alloc, graph, claim, body, depth, LEAVES)?;
+    Ok(never)
+}
+
+/// Whether there is no exception to observe.
+fn lacks_exception(
+    alloc: Global,
+    graph: &Graph,
+    claim: &Claim,
+    depth: Depth,
+) -> Result<Option<Empty>, AllocError>
+    requires { Fits graph.now.graph claim.now }
+    ensures { IfOk result (λ found. IfSome found (IsEmpty graph.now.graph claim.now)) }
+{
+    match claim.body() {
+        Property::Observed(task) => {
+            let never = never_throws(alloc, graph, claim, depth, task)?;
+            if never {
+                Ok(Some(Empty::NeverThrows))
+            } else {
+                Ok(None)
+            }
+        }
+        _ => Ok(None),
+    }
+}
+
+/// The task has ended in each complete run: it is no child.
+fn has_to_end(graph: &Graph, task: TaskId) -> bool
+    requires { is_task graph.now.graph task.0 }
+    ensures { IsTrue result
+        → (started : Bool) → to_end (kind graph.now.graph task.0) started ≡ true }
+{
+    match graph.kind(task) {
+        Kind::Child => false,
+        Kind::Root => true,
+        Kind::Then => true,
+        Kind::All => true,
+        Kind::Any => true,
+    }
+}
+
+/// Whether this task has ended in each complete run, and never ends where what the claim takes as given is true.
+fn never_ends(
+    alloc: Global,
+    graph: &Graph,
+    claim: &Claim,
+    depth: Depth,
+    task: TaskId,
+) -> Result<Option<Empty>, AllocError>
+    requires { is_task graph.now.graph task.0 }
+    ensures { IfOk result (λ found. IfSome found (IsEmpty graph.now.graph claim.now)) }
+{
+    if has_to_end(graph, task) {
+        let body = Property::Final(task, NO_END);
+        let never = is_certified(alloc, graph, claim, body, depth, LEAVES)?;
+        if never {
+            return Ok(Some(Empty::NeverKept));
+        }
+    }
+    Ok(None)
+}
+
+/// Whether what the claim takes as given is true of no complete run: a task whose body has to request a token that is
+/// given as quiet never ends.
+fn lacks_run(
+    alloc: Global,
+    graph: &Graph,
+    claim: &Claim,
+    depth: Depth,
+) -> Result<Option<Empty>, AllocError>
+    requires { Fits graph.now.graph claim.now }
+    ensures { IfOk result (λ found. IfSome found (IsEmpty graph.now.graph claim.now)) }
+{
+    let view = assumed(graph, claim.given()).view(None, NO_END);
+    let mut left = MOST_TRIED;
+    for number in 0..graph.len() {
+        let task = TaskId(number as u16);
+        if left > 0 && cancels_quiet(graph.body(task).body(), &view) {
+            left -= 1;
+            if let Some(empty) = never_ends(alloc, graph, claim, depth, task)? {
+                return Ok(Some(empty));
+            }
+        }
+    }
+    Ok(None)
+}
+
+/// Why the claim says nothing, where that is certified by trees with at most this many splits on each path. None
+/// promises nothing.
+pub fn why_empty(
+    alloc: Global,
+    graph: &Graph,
+    claim: &Claim,
+    depth: Depth,
+) -> Result<Option<Empty>, AllocError>
+    requires { Fits graph.now.graph claim.now }
+    ensures { IfOk result (λ found. IfSome found (IsEmpty graph.now.graph claim.now)) }
+{
+    if ends_anyhow(claim.body()) {
+        return Ok(Some(Empty::NamesAllEnds));
+    }
+    if let Some(empty) = lacks_begin(alloc, graph, claim, depth)? {
+        return Ok(Some(empty));
+    }
+    if let Some(empty) = lacks_exception(alloc, graph, claim, depth)? {
+        return Ok(Some(empty));
+    }
+    lacks_run(alloc, graph, claim, depth)
+}

@@ -1,0 +1,18 @@
+//! What is answered of each claim of a graph: it holds, it fails, or neither is known.
+#![tactic(auto)]
+
+mod beside;
+mod cancels;
+mod certifying;
+mod empty;
+mod limits;
+mod summing;
+mod verdict;
+mod verifying;
+
+pub use beside::verify_beside;
+pub use empty::why_empty;
+pub use limits::Limits;
+pub use summing::all_hold;
+pub use verdict::{Empty, Tried, Verdict};
+pub use verifying::{verify, verify_claim};

@@ -1,0 +1,45 @@
+//! What is answered of a claim.
+
+use tpl_analyser::RanOut;
+use tpl_refute::Counterexample;
+use tpl_words::TaskId;
+
+/// What is answered of a claim.
+#[derive(Drop)]
+pub enum Verdict {
+    /// It holds in each run of the graph, for all inputs.
+    Holds {
+        /// How many splits its certificate has above the deepest leaf.
+        splits: u8,
+        /// Why it says nothing, where that is certified too.
+        empty: Option<Empty>,
+    },
+    /// It fails after the last event of this run.
+    Fails(Counterexample),
+    /// Neither a certificate nor a run in which it fails was found. That promises nothing.
+    Unknown(Tried),
+}
+
+/// Why a claim that holds says nothing.
+#[derive(Clone, Copy, PartialEq, Eq, Debug)]
+pub enum Empty {
+    /// It speaks only of what comes with the begin of this task, which never begins where what is given is true.
+    NeverBegins(TaskId),
+    /// It lets its task end in each of the three ways.
+    NamesAllEnds,
+    /// The body of its task throws in no complete run of which what is given is true: there is no exception to observe.
+    NeverThrows,
+    /// What is given is true of no complete run.
+    NeverKept,
+}
+
+/// How far a claim was tried that is neither certified nor refuted.
+#[derive(Clone, Copy, PartialEq, Eq, Debug)]
+pub struct Tried {
+    /// What ran out in the search for a certificate.
+    pub ran_out: RanOut,
+    /// How many random runs were made.
+    pub runs: u32,
+    /// The events that may be played were used up before the runs.
+    pub events_ran_out: bool,
+}

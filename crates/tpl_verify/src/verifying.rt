@@ -1,0 +1,146 @@
+//! The answers to claims, one after another.
+
+ghost use Rattle.std.specs.Prelude.{IfOk};
+ghost use Rattle.std.specs.List.{All, AllZip};
+ghost use Rattle.tpl_claims.specs.Fits.{Fits};
+ghost use Rattle.tpl_verify.specs.Verdicts.{HoldsAlways, IsCertified, IsVerdict};
+
+use crate::certifying::certify;
+use crate::empty::why_empty;
+use crate::limits::Limits;
+use crate::verdict::{Tried, Verdict};
+use std::alloc::{AllocError, Global};
+use tpl_analyser::{Depth, Missed, RanOut};
+use tpl_claims::Claim;
+use tpl_graph::Graph;
+use tpl_refute::{Effort, refute};
+
+/// How many random runs are made before a certificate is searched: they refute most false claims.
+const FIRST_RUNS: u32 = 1_000;
+
+/// These runs may play this part of the events that all may.
+const FIRST_PART: u64 = 200;
+
+/// The first random runs for the claim of this number. Those of all runs begin with the same ones.
+fn first_runs(limits: &Limits, number: u64) -> Effort {
+    Effort {
+        runs: limits.runs.min(FIRST_RUNS),
+        events: limits.events / FIRST_PART,
+        seed: limits.seed,
+        stream: number,
+    }
+}
+
+/// All random runs for the claim of this number.
+fn all_runs(limits: &Limits, number: u64) -> Effort {
+    Effort {
+        runs: limits.runs,
+        events: limits.events,
+        seed: limits.seed,
+        stream: number,
+    }
+}
+
+/// The verdict on a claim for which a certificate was found.
+fn held(
+    alloc: Global,
+    graph: &Graph,
+    claim: &Claim,
+    splits: u8,
+    depth: Depth,
+) -> Result<Verdict, AllocError>
+    requires fits { Fits graph.now.graph claim.now }
+    requires certified { IsCertified graph.now.graph claim.now splits }
+    requires always { HoldsAlways graph.now.graph claim.now }
+    ensures { IfOk result (IsVerdict graph.now.graph claim.now) }
+{
+    let empty = why_empty(alloc, graph, claim, depth)?;
+    Ok(Verdict::Holds { splits, empty })
+}
+
+/// The verdict on a claim for which no certificate was found, after all random runs.
+fn tried(
+    alloc: Global,
+    graph: &Graph,
+    claim: &Claim,
+    effort: Effort,
+    ran_out: RanOut,
+) -> Result<Verdict, AllocError>
+    requires { Fits graph.now.graph claim.now }
+    ensures { IfOk result (IsVerdict graph.now.graph claim.now) }
+{
+    let sought = refute(alloc, graph, claim, effort)?;
+    match sought.found {
+        Some(found) => Ok(Verdict::Fails(found)),
+        None => Ok(Verdict::Unknown(Tried {
+            ran_out,
+            runs: sought.runs,
+            events_ran_out: sought.left == 0,
+        })),
+    }
+}
+
+/// The verdict on a claim that the first random runs didn't refute.
+fn certified_or_tried(
+    alloc: Global,
+    graph: &Graph,
+    claim: &Claim,
+    number: u64,
+    limits: &Limits,
+) -> Result<Verdict, AllocError>
+    requires { Fits graph.now.graph claim.now }
+    ensures { IfOk result (IsVerdict graph.now.graph claim.now) }
+{
+    match certify(alloc, graph, claim, limits.depth, limits.leaves) {
+        Ok(splits) => held(alloc, graph, claim, splits, limits.depth),
+        Err(Missed::NotFound { ran_out, .. }) => {
+            let effort = all_runs(limits, number);
+            tried(alloc, graph, claim, effort, ran_out)
+        }
+        Err(Missed::Memory) => Err(AllocError),
+    }
+}
+
+/// The verdict on the claim of this number, within these limits: a few random runs first, then the search for a
+/// certificate, with few splits before many, then all random runs. The number only chooses the random numbers, so the
+/// answer depends on the graph, the claim, its number and the limits alone. Out of memory is the only error.
+///
+/// `Holds` is said only of a claim that holds in each run of the graph, `Fails` only with a run in which it doesn't hold,
+/// and why it is empty only where that is certified. `Unknown` promises nothing.
+pub fn verify_claim(
+    alloc: Global,
+    graph: &Graph,
+    claim: &Claim,
+    number: u64,
+    limits: &Limits,
+) -> Result<Verdict, AllocError>
+    requires { Fits graph.now.graph claim.now }
+    ensures { IfOk result (IsVerdict graph.now.graph claim.now) }
+{
+    let effort = first_runs(limits, number);
+    let first = refute(alloc, graph, claim, effort)?;
+    match first.found {
+        Some(run) => Ok(Verdict::Fails(run)),
+        None => certified_or_tried(alloc, graph, claim, number, limits),
+    }
+}
+
+/// The verdicts on the claims, in their order. The first claim has the number 1.
+pub fn verify(
+    alloc: Global,
+    graph: &Graph,
+    claims: &[Claim],
+    limits: &Limits,
+) -> Result<Vec<Verdict>, AllocError>
+    requires { All (Fits graph.now.graph) claims.now }
+    ensures { IfOk result (λ verdicts.
+        AllZip (IsVerdict graph.now.graph) claims.now verdicts.items) }
+{
+    let mut verdicts = Vec::new(alloc);
+    for at in 0..claims.len() {
+        let number = at as u64 + 1;
+        let verdict = verify_claim(alloc, graph, &claims[at], number, limits)?;
+        verdicts.push(verdict)?;
+    }
+    Ok(verdicts)
+}
