@@ -100,8 +100,8 @@ fn filled<R: Threads + Sync, F: Fn(usize) -> Option<Verdict> + Sync>(
     Ok(places)
 }
 
-/// What the function answers at each of the first places, by at most this many threads beside each other: whatever their
-/// number, each answer is one of the same call. An error where one of the calls has no answer.
+/// What the function answers at each of the first places, by at most this many threads beside each other. Whatever
+/// their number, each answer is one of the same call. An error where one of the calls has no answer.
 fn answers<R: Threads + Sync, F: Fn(usize) -> Option<Verdict> + Sync>(
     rt: &R,
     alloc: Global,

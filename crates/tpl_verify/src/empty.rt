@@ -130,7 +130,8 @@ fn throws_nowhere(graph: &Graph, given: &[Given], task: TaskId) -> bool
     !may(graph.body(task), &view).thrown
 }
 
-/// Whether the body of the task throws in no complete run where this is given: it can't, or the task never ends faulted.
+/// Whether the body of the task throws in no complete run where the claim's given is true: it can't, or the task never
+/// ends faulted.
 fn never_throws(
     alloc: Global,
     graph: &Graph,

@@ -105,8 +105,8 @@ fn certified_or_tried(
 /// certificate, with few splits before many, then all random runs. The number only chooses the random numbers, so the
 /// answer depends on the graph, the claim, its number and the limits alone. Out of memory is the only error.
 ///
-/// `Holds` is said only of a claim that holds in each run of the graph, `Fails` only with a run in which it doesn't hold,
-/// and why it is empty only where that is certified. `Unknown` promises nothing.
+/// `Holds` is said only of a claim that holds in each run of the graph, and why it is empty only where that is certified.
+/// `Fails` is said only with a run in which it doesn't hold. `Unknown` promises nothing.
 pub fn verify_claim(
     alloc: Global,
     graph: &Graph,
