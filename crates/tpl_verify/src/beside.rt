@@ -2,7 +2,7 @@
 
 ghost use Rattle.std.specs.Prelude.{◌≡◌, ◌<◌, ℕ, length, map, IfOk, IfSome, Some, None, slice_get, slice_index_or};
 ghost use Rattle.std.specs.List.{All, AllZip};
-ghost use Rattle.tpl_claims.specs.Fits.{Fits};
+ghost use Rattle.tpl_graph.specs.Fits.{Fits};
 ghost use Rattle.tpl_verify.specs.declared.verdict.Verdict.{Verdict};
 ghost use Rattle.tpl_verify.specs.Verdicts.{IsVerdict};
 ghost use Rattle.tpl_verify.specs.Beside.{IsVerdictAt};
@@ -13,8 +13,7 @@ use crate::verifying::verify_claim;
 use std::alloc::{AllocError, Global};
 use std::thread;
 use std::thread::Threads;
-use tpl_claims::Claim;
-use tpl_graph::Graph;
+use tpl_graph::{Claim, Graph};
 
 /// The verdict on the claim at this place; none where memory was refused.
 fn verdict_at(

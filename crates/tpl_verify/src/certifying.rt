@@ -3,15 +3,14 @@
 ghost use Rattle.std.specs.Prelude.{◌≡◌, ◌≤◌, ◌∷◌, [], length, IfOk, IsTrue};
 ghost use Rattle.tpl_model.specs.Certificate.{Tree};
 ghost use Rattle.tpl_cert.specs.Heights.{height};
-ghost use Rattle.tpl_claims.specs.Fits.{Fits};
+ghost use Rattle.tpl_graph.specs.Fits.{Fits};
 ghost use Rattle.tpl_verify.specs.Verdicts.{HoldsAlways, IsCertified, under};
 
 use std::alloc::{AllocError, Global};
 use std::slice;
 use tpl_analyser::{Depth, Form, Leaves, Missed, Unwatched, analyse_within};
 use tpl_cert::{Certificate, Node, Tree};
-use tpl_claims::Claim;
-use tpl_graph::Graph;
+use tpl_graph::{Claim, Graph};
 use tpl_model::Property;
 
 /// How many splits the tree has above its deepest leaf.

@@ -3,7 +3,7 @@
 ghost use Rattle.std.specs.Prelude.{◌≡◌, ◌↔◌, Bool, true, IsTrue, IfOk, IfSome};
 ghost use Rattle.tpl_model.specs.Graph.{is_task, kind};
 ghost use Rattle.tpl_model.specs.Rules.{to_end};
-ghost use Rattle.tpl_claims.specs.Fits.{AreGivenOf, Fits};
+ghost use Rattle.tpl_graph.specs.Fits.{AreGivenOf, Fits};
 ghost use Rattle.tpl_verify.specs.Verdicts.{EndsAnyhow, HasNoLabel, IsEmpty, NeedsBegin};
 
 use crate::cancels::cancels_quiet;
@@ -12,8 +12,7 @@ use crate::verdict::Empty;
 use std::alloc::{AllocError, Global};
 use tpl_analyser::{Depth, Leaves};
 use tpl_checker::assumed;
-use tpl_claims::Claim;
-use tpl_graph::{Graph, Kind};
+use tpl_graph::{Claim, Graph, Kind};
 use tpl_model::{Given, Property};
 use tpl_script::{View, may};
 use tpl_words::{Finals, TaskId};

@@ -5,8 +5,7 @@ ghost use Rattle.std.specs.List.{All, AllZip};
 ghost use Rattle.tpl_verify.specs.Verdicts.{HoldsAlways, HoldsFully, IsVerdict};
 
 use crate::verdict::Verdict;
-use tpl_claims::Claim;
-use tpl_graph::Graph;
+use tpl_graph::{Claim, Graph};
 
 impl Verdict {
     /// The claim holds, and nothing says that it is empty.

@@ -2,7 +2,7 @@
 
 ghost use Rattle.std.specs.Prelude.{IfOk};
 ghost use Rattle.std.specs.List.{All, AllZip};
-ghost use Rattle.tpl_claims.specs.Fits.{Fits};
+ghost use Rattle.tpl_graph.specs.Fits.{Fits};
 ghost use Rattle.tpl_verify.specs.Verdicts.{HoldsAlways, IsCertified, IsVerdict};
 
 use crate::certifying::certify;
@@ -11,8 +11,7 @@ use crate::limits::Limits;
 use crate::verdict::{Tried, Verdict};
 use std::alloc::{AllocError, Global};
 use tpl_analyser::{Depth, Missed, RanOut};
-use tpl_claims::Claim;
-use tpl_graph::Graph;
+use tpl_graph::{Claim, Graph};
 use tpl_refute::{Effort, refute};
 
 /// How many random runs are made before a certificate is searched: they refute most false claims.
