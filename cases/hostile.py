@@ -218,19 +218,33 @@ def limiting(*limits):
     return limit
 
 
+# Calls a program with a limit of processor time, in seconds, and says how it ended and what it took. A process is charged with
+# the memory of the one that it was forked from, until it runs another program: so that one has to be small.
+CALLING = """
+import os, resource, sys
+limit, program, *words = sys.argv[1:]
+child = os.fork()
+if child == 0:
+    resource.setrlimit(resource.RLIMIT_CPU, (int(limit), int(limit)))
+    os.dup2(os.open(os.devnull, os.O_WRONLY), 2)
+    os.execv(program, [program, *words])
+_, status, used = os.wait4(child, 0)
+print(os.waitstatus_to_exitcode(status), used.ru_utime + used.ru_stime, used.ru_maxrss, file=sys.stderr)
+"""
+
+
 def cost_of(program, words, text, seconds):
     """Calls the program, which is stopped after so many seconds of a processor."""
     with tempfile.TemporaryFile() as given, tempfile.TemporaryFile() as out:
         given.write(text.encode())
         given.seek(0)
-        limit = limiting((resource.RLIMIT_CPU, int(seconds) + 1))
-        child = subprocess.Popen([program, *words], stdin=given, stdout=out, stderr=subprocess.DEVNULL, preexec_fn=limit)
-        _, status, used = os.wait4(child.pid, 0)
-        child.returncode = os.waitstatus_to_exitcode(status)
+        line = [sys.executable, "-E", "-S", "-c", CALLING, str(int(seconds) + 1), program, *words]
+        called = subprocess.run(line, stdin=given, stdout=out, stderr=subprocess.PIPE, check=True)
+        status, taken, kilobytes = called.stderr.split()
         written = os.fstat(out.fileno()).st_size
         out.seek(0)
         start = out.read(80).decode(errors="replace")
-    return Cost(child.returncode, start, used.ru_utime + used.ru_stime, used.ru_maxrss << 10, written)
+    return Cost(int(status), start, float(taken), int(kilobytes) << 10, written)
 
 
 def dearness(program, hostile):
