@@ -8,9 +8,9 @@ ghost use Rattle.tpl_reader.specs.Passes.{Passes, Here};
 
 use crate::fault::ClaimFault;
 use std::alloc::Global;
-use tpl_model::{Given, Property};
 use tpl_graph::{Claim, Graph, given_twice, have_bodies};
 use tpl_json::Miss;
+use tpl_model::{Given, Property};
 use tpl_parts::{NamedClaim, NamedGiven, NamedProperty};
 use tpl_words::{InputId, TaskId, TokenId};
 
