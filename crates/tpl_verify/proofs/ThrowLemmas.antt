@@ -1,5 +1,5 @@
 -- Bodies that throw in no run.
-use Rattle.std.proofs.Common.{◌≡◌, ℕ, inl, inr, not, IsTrue, Bool, true, false, is_some, Option, Some, None, List, sym, ap, ◌∙◌, subst, refl}
+use Rattle.std.proofs.Common.{◌≡◌, ℕ, inl, inr, not, IsTrue, Bool, true, false, Option, Some, None, List, sym, ap, ◌∙◌, subst, refl}
 use Rattle.tpl_words.specs.declared.ids.TaskId.{TaskId}
 use Rattle.tpl_words.specs.declared.finals.Final.{Final}
 use Rattle.tpl_words.specs.declared.finals.Final.TheVariants.{RanToCompletion, Canceled, Faulted}
@@ -14,11 +14,11 @@ use Rattle.tpl_model.specs.declared.event.Event.{Event}
 use Rattle.tpl_model.specs.declared.claim.Given.{Given}
 use Rattle.tpl_model.specs.declared.claim.Property.TheVariants.{Final as EndsIn}
 use Rattle.tpl_model.specs.Graph.{TaskGraph, body, task}
-use Rattle.tpl_model.specs.Facts.{begun, ending, final_in, outcome_in, rest, requested}
-use Rattle.tpl_model.specs.Rules.{Run, Complete, label}
+use Rattle.tpl_model.specs.Facts.{ending, final_in, outcome_in, rest}
+use Rattle.tpl_model.specs.Rules.{label}
 use Rattle.tpl_model.specs.Valid.{IsGraph}
 use Rattle.tpl_model.specs.Claims.{input, IsGiven}
-use Rattle.tpl_model.specs.Certificate.{Assumed, assumed}
+use Rattle.tpl_model.specs.Certificate.{assumed}
 use Rattle.tpl_laws.proofs.Basics.{the_some}
 use Rattle.tpl_laws.proofs.Execution.{passed}
 use Rattle.tpl_laws.proofs.Follows.{Fits, follows}

@@ -1,5 +1,5 @@
 -- From what is certified to what is answered.
-use Rattle.std.proofs.Common.{◌≡◌, ℕ, zero, suc, ◌+◌, ◌<◌, ◌++◌, Bool, true, false, is_some, Option, Some, None, IfSome, List, [], ◌∷◌, length, take, map, subst, sym, ap, refl, arith}
+use Rattle.std.proofs.Common.{◌≡◌, ℕ, ◌+◌, ◌<◌, ◌++◌, Bool, true, false, is_some, Option, Some, None, List, [], ◌∷◌, length, take, subst, sym, refl}
 use Rattle.std.specs.Prelude.{slice_index_or}
 use Rattle.std.specs.List.{All, AllByRecursion, AllZip}
 use Rattle.tpl_words.specs.declared.ids.TaskId.{TaskId}
@@ -7,7 +7,6 @@ use Rattle.tpl_words.specs.declared.finals.Final.{Final}
 use Rattle.tpl_words.specs.declared.finals.Final.TheVariants.{RanToCompletion, Canceled, Faulted}
 use Rattle.tpl_words.specs.declared.finals.Finals.{Finals}
 use Rattle.tpl_words.specs.Finals.{has}
-use Rattle.tpl_model.specs.declared.event.Event.{Event}
 use Rattle.tpl_model.specs.declared.claim.Given.{Given}
 use Rattle.tpl_model.specs.declared.claim.Property.{Property}
 use Rattle.tpl_model.specs.declared.claim.Property.TheVariants.{Final as EndsIn}

@@ -1,7 +1,6 @@
 -- What is answered of a claim: it holds, it fails, or neither is known.
-use Rattle.std.specs.Prelude.{◌≡◌, ℕ, ◌⊎◌, Bool, true, false, List, [], ◌∷◌, Option, None, Some, IfSome}
+use Rattle.std.specs.Prelude.{◌≡◌, ℕ, ◌⊎◌, Bool, true, List, [], ◌∷◌, Option, None, Some, IfSome}
 use Rattle.tpl_words.specs.declared.ids.TaskId.{TaskId}
-use Rattle.tpl_words.specs.declared.finals.Finals.{Finals}
 use Rattle.tpl_model.specs.declared.event.Event.{Event}
 use Rattle.tpl_model.specs.declared.claim.Given.{Given}
 use Rattle.tpl_model.specs.declared.claim.Property.{Property}

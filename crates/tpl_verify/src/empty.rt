@@ -14,7 +14,7 @@ use tpl_analyser::{Depth, Leaves};
 use tpl_checker::assumed;
 use tpl_graph::{Claim, Graph, Kind};
 use tpl_model::{Given, Property};
-use tpl_script::{View, may};
+use tpl_script::may;
 use tpl_words::{Finals, TaskId};
 
 /// How many leaves are tried for each claim that makes another one empty.

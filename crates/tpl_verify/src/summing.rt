@@ -1,6 +1,6 @@
 //! What the verdicts on all claims come to.
 
-ghost use Rattle.std.specs.Prelude.{◌≡◌, ◌↔◌, ◌+◌, IsTrue, length, vec_len};
+ghost use Rattle.std.specs.Prelude.{◌↔◌, IsTrue};
 ghost use Rattle.std.specs.List.{All, AllZip};
 ghost use Rattle.tpl_verify.specs.Verdicts.{HoldsAlways, HoldsFully, IsVerdict};
 

@@ -1,4 +1,4 @@
-use Rattle.std.proofs.Common.{◌<◌, ◌∙◌, sym, ap, length}
+use Rattle.std.proofs.Common.{◌<◌, ◌∙◌, sym, length}
 use Rattle.tpl_verify.proofs.BesideLemmas.{at_place, same_length}
 use Rattle.tpl_verify.proofs.beside.answers.Goals as goal
 
