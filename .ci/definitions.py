@@ -18,6 +18,7 @@ CASE = re.compile(r"^ +([^\s({]+) : ")
 USE = re.compile(r"(?:ghost )?(?:pub )?use ([\w.?]+?)(?:\.\{([^}]*)\}| as (\w+))?(?:;|$)", re.MULTILINE)
 WORD = re.compile(r"[^\s(){}\[\],;\"]+")
 TYPE = re.compile(r"\b(?:pub(?:\([a-z]+\))? )?(?:struct|enum|trait) ([A-Z]\w*)")
+BOUND = re.compile(r"\b([A-Z]\w*): [A-Z]\w*(?: \+ [A-Z]\w*)*(?=[,>])")
 CAPITAL = re.compile(r"(?<![.\w])[A-Z]\w*")
 
 
@@ -61,6 +62,11 @@ def words(text: str) -> list[list[str]]:
 
 def without_comment(line: str) -> str:
     return re.sub(r"(^|\s)--(\s.*)?$", "", line).rstrip()
+
+
+def without_silent_bounds(signature: str, said: str) -> str:
+    """A signature without the bounds of those type parameters that no clause names: nothing is said of them."""
+    return BOUND.sub(lambda it: it[0] if re.search(rf"\b{it[1]}\b", said) else it[1], signature)
 
 
 def parts_of(name: str) -> list[str]:
@@ -275,7 +281,8 @@ class Repository:
         kept = [text for text, head in zip(contract, heads, strict=True) if is_kept(*head)]
         before = text[: head.start()]
         owner = re.findall(r"^impl\b.*?\{$", before, re.MULTILINE | re.DOTALL)[-1:] if head.group(1) else []
-        names = {name for part in [signature, *owner, *kept] for name in CAPITAL.findall(part)}
+        asked = without_silent_bounds(signature, " ".join(kept))
+        names = {name for part in [asked, *owner, *kept] for name in CAPITAL.findall(part)}
         return {home for name in names if (home := self.home(path, name))} | self.named(path, " ".join(kept))
 
     def reach(self, begin: Iterable[Found]) -> Reach:

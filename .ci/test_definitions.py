@@ -68,9 +68,18 @@ by_a_field b = b.unused
 
 CODE = """ghost use Rattle.high.specs.High.{by_a_field, by_its_module};
 ghost use Rattle.low.specs.Shapes.{chained, unused};
-use low::{Size, Word};
+use low::{Listen, Size, Word};
 
 impl Pen {
+    /// Tells.
+    pub fn tell<L: Listen>(&self, listener: L) -> Size
+        ensures silent { unused }
+        ensures heard { L.heard unused }
+    {
+        unused
+    }
+
+
     /// Says `ensures other { chained }`.
     pub fn write(&self, word: &Word) -> Size
         requires { by_its_module }
@@ -89,6 +98,12 @@ pub struct Word { text: Size }
 
 impl Model for Word {
     ghost Value = { two };
+}
+
+pub trait Listen {
+    ghost use Rattle.low.specs.Shapes.{count};
+
+    ghost heard: { count };
 }
 
 pub enum Size {
@@ -170,6 +185,13 @@ def test_the_clauses_of_a_function_are_followed(repository):
     assert titles(first) == {"unused", "by_its_module", "two"}
     assert titles(both) == titles(first) | {"chained", "◌>>=◌", "Shape"}
     assert {it.name for it in first.types} == {"Size", "Unit", "Word"}
+
+
+def test_a_bound_counts_where_a_clause_names_it(repository):
+    pen = repository.crates / "high/src/pen.rt"
+    silent, heard = (repository.reach(repository.of_function(pen, "tell", [name])) for name in ("silent", "heard"))
+    assert titles(silent) == {"unused"}
+    assert titles(heard) == {"unused", "count", "Shape"}
 
 
 @pytest.mark.parametrize("function, names", [("write", ("third",)), ("read", ())])

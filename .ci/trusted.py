@@ -21,7 +21,7 @@ HEAD = """# What a reader has to believe
 
 A proof shows that the code does what a definition says; that the definition says the right thing, a person has to read. This page counts, for each sentence of README.md and PROOFS.md, the definitions that a reader has to read for it. It is written by `.ci/trusted --write`, and the gate tests that it is current. `.ci/trusted 2` prints the names of all definitions of the second sentence.
 
-A sentence begins at clauses of functions, or at definitions. Whatever these name is counted with them, and whatever that names, definition by definition; where a name may be a definition or only a variable, it is counted. A line counts if it isn't empty, no import and no comment. `Valid` 64 of 66 says that the file `specs/Valid.antt` has 66 such lines, of which 64 count; `Claims` 20, that all its 20 do.
+A sentence begins at clauses of functions, or at definitions. Whatever these name is counted with them, and whatever that names, definition by definition; where a name may be a definition or only a variable, it is counted. The bound of a type parameter counts where a clause names the parameter. A line counts if it isn't empty, no import and no comment. `Valid` 64 of 66 says that the file `specs/Valid.antt` has 66 such lines, of which 64 count; `Claims` 20, that all its 20 do.
 
 Beside the definitions stand the types that they take over from the code (statuses, events, claims and the like), and the toolchain with its library, which README.md names.
 """
