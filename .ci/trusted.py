@@ -19,9 +19,9 @@ PAGE = TOP / "docs/TRUSTED.md"
 
 HEAD = """# What a reader has to believe
 
-A proof shows that the code does what a definition says; that the definition says the right thing, a person has to read. This page counts, for each sentence of README.md and PROOFS.md, the definitions that a reader has to read for it. It is written by `.ci/trusted --write`, and the gate tests that it is current. `.ci/trusted 2` prints the names of all definitions of the second sentence.
+A proof shows that the code does what a definition says. Whether the definition says the right thing, a person has to read. For each sentence of README.md and PROOFS.md this page counts the definitions that a reader has to read for it. `.ci/trusted --write` writes it, and the gate tests that it is current. `.ci/trusted 2` prints the names of all definitions of the second sentence.
 
-A sentence begins at clauses of functions, or at definitions. Whatever these name is counted with them, and whatever that names, definition by definition; where a name may be a definition or only a variable, it is counted. The bound of a type parameter counts where a clause names the parameter. A line counts if it isn't empty, no import and no comment. `Valid` 64 of 66 says that the file `specs/Valid.antt` has 66 such lines, of which 64 count; `Claims` 20, that all its 20 do.
+A sentence begins at clauses of functions, or at definitions. Whatever these name is counted with them, and whatever that names, definition by definition. A name that may be a definition or only a variable is counted. The bound of a type parameter counts if a clause names the parameter. A line counts if it isn't empty, an import or a comment. `Valid` 64 of 66 says that the file `specs/Valid.antt` has 66 such lines, of which 64 count; `Claims` 20, that all its 20 do.
 
 Beside the definitions stand the types that they take over from the code (statuses, events, claims and the like), and the toolchain with its library, which README.md names.
 """
@@ -71,7 +71,7 @@ SENTENCES = [
     Sentence(
         "Where `check` refuses, the line that it writes names the first thing wrong",
         "Clause `responds` of `serve`, where it is asked for a check (`Checking.Checks`): which line is written for which "
-        "document, for what is none, and what is left where a device fails.",
+        "document, which for bytes that are none, and what is left if a device fails.",
         (ANSWERED, Named("tpl_commands", "Checking", "Checks")),
     ),
     Sentence(
@@ -96,6 +96,11 @@ SENTENCES = [
         "`refute` writes the document with a run in which a claim fails",
         "The clauses of `tpl_witness::refute_document`.",
         (Clauses("tpl_witness/src/refuting.rt", "refute_document"),),
+    ),
+    Sentence(
+        "What `verify` says of a claim is so: it holds in every run, it fails in a run that is shown, or it says nothing",
+        "The clauses of `tpl_verdicts::verify_document`.",
+        (Clauses("tpl_verdicts/src/verifying.rt", "verify_document"),),
     ),
     Sentence(
         "What a session gives back is a run, and its seats and watchers saw that run",

@@ -15,7 +15,7 @@ TOP = HERE.parent
 # where `rt` puts the proved program of a crate, and .ci/compile the unproved one
 PROVED, UNPROVED = "crates/{0}/out/{0}", "crates/{0}/out/unproved"
 PROGRAM, RUNS = "tpl_cli", "tpl_tests_runs"
-COMMANDS = ("check", "analyse", "run", "audit", "refute", "draw", "trace")
+COMMANDS = ("check", "analyse", "run", "audit", "refute", "verify", "draw", "trace")
 # how long an answer may take, in seconds
 LIMIT = 120
 # the exit status where the words are wrong

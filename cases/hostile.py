@@ -27,14 +27,15 @@ from concurrent.futures import ThreadPoolExecutor
 
 import debian
 from documents import Stages, staged
+from graphs import FINALS
 
 HERE = pathlib.Path(__file__).resolve().parent
 TOP = HERE.parent
 PROGRAM = TOP / "taskgraph"
-COMMANDS = ("check", "analyse", "run", "audit", "refute", "draw", "trace")
+COMMANDS = ("check", "analyse", "run", "audit", "refute", "verify", "draw", "trace")
 
 # the limits of a document
-MOST_TASKS, MOST_ARGUMENTS, MOST_CLAIMS = 1_024, 256, 64
+MOST_TASKS, MOST_ARGUMENTS, MOST_CLAIMS, MOST_STATEMENTS = 1_024, 256, 64, 64
 # what the smallest document may take beside its bytes, in bytes
 BASE = 16 << 20
 # how long a document is read again and again to find what a reading takes, in seconds
@@ -137,12 +138,26 @@ def long_line():
     return document(tasks, {"never": names[-1]})
 
 
+def long_bodies():
+    """As many tasks as may be with bodies as long as may be, and claims that hold: each of some ends in some way."""
+    names = numbered("T", MOST_TASKS)
+    claims = [{"final": name, "in": FINALS} for name in names[:MOST_CLAIMS]]
+    return document([root(name, *["return"] * MOST_STATEMENTS) for name in names], *claims)
+
+
 def small_objects(longest=16 << 20):
     """Rows that are small objects, as many as fit."""
     row = {"ends": [], "runs": True}
     given = document([root("a")], {"never": "a"}, certificate=[{"rows": []}])
     room = longest - len(text_of(given))
     given["certificate"][0]["rows"] = [row] * (room // (len(text_of(row))))
+    return given
+
+
+def wrong_object():
+    """The same, where the last row is wrong."""
+    given = small_objects()
+    given["certificate"][0]["rows"][-1] = {"ends": [], "runs": "yes"}
     return given
 
 
@@ -175,13 +190,15 @@ def ran(task):
 # Each bound is some three times what a program takes that is compiled with checks and not proved.
 DEAR = (
     Hostile("a claim over forks", ("analyse",), lambda: document(forks(), ran("X")), 1, "not found", 1_200, 8),
-    Hostile("claims over a long line", ("analyse",), lambda: many_claims(8), 0, '[{"rows":', 5_000, 16),
-    Hostile("claims over a long line", ("analyse", "--slim"), lambda: many_claims(16), 0, '[{"rows":', 300, 24),
+    Hostile("claims over a long line", ("analyse",), lambda: many_claims(16), 0, '[{"rows":', 5_000, 3),
+    Hostile("all claims over a long line", ("analyse", "--slim"), lambda: many_claims(MOST_CLAIMS), 0, '[{"rows":', 600, 12),
     Hostile("exceptions of all roots in a chain", ("run",), all_exceptions, 0, "complete\n", 350, 8),
     Hostile("exceptions of all roots in a chain", ("audit",), lambda: with_run(all_exceptions()), 0, "run complete\n", 100, 24),
     Hostile("a run to be shortened", ("refute",), lambda: throwing_chain(60, 128, ran("A127")), 1, "{", 150, 24),
     Hostile("a long run to be shortened", ("refute",), long_line, 1, "{", 250, 24),
+    Hostile("true claims over long bodies", ("refute",), long_bodies, 0, "not refuted\n", 1_500, 16),
     Hostile("small objects", ("check",), small_objects, 1, "refused: shape claim 1\n", 5, 40),
+    Hostile("small objects, one of them wrong", ("check", "--explain"), wrong_object, 3, "unreadable: ", 15, 130),
 )
 
 
@@ -311,7 +328,7 @@ def ended(program, words, text, *limits):
 
 
 # what a command is asked besides: the deepest search, and few tries
-BESIDES = {"analyse": ("--depth", "6"), "refute": ("--runs", "100")}
+BESIDES = {"analyse": ("--depth", "6"), "refute": ("--runs", "100"), "verify": ("--runs", "100")}
 
 
 def asked(command):

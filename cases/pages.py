@@ -72,11 +72,13 @@ def commands(block: str) -> list[tuple[str, str]]:
 
 
 def pattern(line: str) -> re.Pattern:
-    """The lines that a row of docs/OUTPUT.md stands for: its words in capitals stand for any word."""
+    """The lines that a row of docs/OUTPUT.md stands for: its words in capitals stand for any word, and WORDS for several."""
     if line == "TREES":
         return re.compile(r"\[.*\]")
     if line == "DOCUMENT":
         return re.compile(r"\{.*\}")
+    if line.endswith("WORDS"):
+        return re.compile(pattern(line.removesuffix("WORDS")).pattern + ".+")
     carried = r"(?: [^ ]+:[^ ]+)*" if line.startswith("task ") else ""
     return re.compile(r"[^ \"]+".join(map(re.escape, PLACE.split(line))) + carried)
 

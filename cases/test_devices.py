@@ -5,8 +5,11 @@ Where no call goes wrong, the answer is that of the case. A read that fails or i
 written, and the exit status is 5. A document that ends before its last byte is none. A write that fails or takes nothing
 is the last call too, with exit status 5; just the bytes of the writes before it are there. A write that is interrupted is
 the last call, or is made again. Too many bytes, or bytes without an end, are answered as such.
+
+Where standard input or standard output can't be used, standard error says why.
 """
 import errno
+import os
 import subprocess
 
 import pytest
@@ -119,3 +122,33 @@ def test_writes_of_a_long_answer(bare_program, library):
 @pytest.mark.parametrize("command", COMMANDS)
 def test_spaces(bare_program, command: str, count: int | None, wanted: tuple[str, int]):
     assert answer_to_spaces(bare_program, command, count) == wanted
+
+
+NO_INPUT = "a document comes there, as in `taskgraph check < document.json`"
+# what the C library says of a full disk
+FULL = "No space left on device (os error 28)"
+
+
+@pytest.mark.parametrize(
+    "words, said",
+    [
+        ("check <&-", f"taskgraph: standard input is closed; {NO_INPUT}\n"),
+        ("refute </", f"taskgraph: standard input is a folder; {NO_INPUT}\n"),
+        ("draw >&-", "taskgraph: standard output is closed; the answer goes there\n"),
+        ("--help >&-", "taskgraph: standard output is closed; the answer goes there\n"),
+        ("trace >/dev/full", f"taskgraph: the answer can't be written to standard output: {FULL}\n"),
+    ],
+)
+def test_a_device_that_fails_is_named(bare_program, words: str, said: str):
+    line = ["sh", "-c", f'exec "$0" {words}', bare_program.path]
+    ended = subprocess.run(line, input=b'{"version":1,"tasks":[]}', capture_output=True, check=False)
+    assert (ended.stdout, ended.stderr.decode(), ended.returncode) == (b"", said, DEVICE)
+
+
+def test_a_reader_that_has_read_enough_is_no_matter(bare_program):
+    read, write = os.pipe()
+    os.close(read)
+    line = [bare_program.path, "draw"]
+    ended = subprocess.run(line, input=b'{"version":1,"tasks":[]}', stdout=write, stderr=subprocess.PIPE, check=False)
+    os.close(write)
+    assert (ended.stderr, ended.returncode) == (b"", DEVICE)

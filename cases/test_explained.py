@@ -1,9 +1,11 @@
 """Documents in which one word is another are answered the same with and without `--explain`.
 
 What is written and the exit status are the same. Without the word nothing is said on standard error. With it there is a
-reason just where the answer isn't yes, and it speaks of the place that the answer names.
+reason just where the answer isn't yes, and it speaks of the place that the answer names. Two members of one name are warned
+of where the document is read.
 """
 import functools
+import json
 import random
 import re
 
@@ -53,6 +55,21 @@ def reason_of(answer: str) -> str:
     return reason(int(found[1]) if found.groups() else None)
 
 
+def twice_in(text: str) -> list[str]:
+    """The names that stand twice in an object of the text, object by object."""
+    names: list[str] = []
+
+    def members(pairs: list[tuple[str, object]]) -> dict[str, object]:
+        seen = dict(pairs)
+        if len(seen) < len(pairs):
+            own = [name for name, _ in pairs]
+            names.append(next(name for at, name in enumerate(own) if name in own[:at]))
+        return seen
+
+    json.loads(text, object_pairs_hook=members)
+    return names
+
+
 def asked() -> list:
     """Each command with each of its documents."""
     return [
@@ -74,7 +91,9 @@ def test_reason(program, answer, words: tuple[str, ...], text: str):
     explained = program(*words, "--explain", given=text)
     assert (explained.stdout, explained.exit) == (plain.stdout, plain.exit)
     assert plain.stderr == ""
-    if plain.exit == YES:
+    if plain.exit == YES and (twice := twice_in(text)):
+        assert any(f'the member "{name}" stands twice' in explained.stderr for name in twice)
+    elif plain.exit == YES:
         assert explained.stderr == ""
     else:
         assert re.search(reason_of(plain.stdout), explained.stderr)

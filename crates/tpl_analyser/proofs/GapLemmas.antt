@@ -1,12 +1,12 @@
 -- Trees for the claims, one after another.
-use Rattle.std.proofs.Common.{ℕ, suc, ◌+◌, ◌<◌, ◌≤◌, ◌++◌, List, [], ◌∷◌, take, drop, length, sym, ap, ◌∙◌, subst, slice_index_or, arith}
+use Rattle.std.proofs.Common.{ℕ, suc, ◌+◌, ◌<◌, ◌≤◌, ◌++◌, Bool, List, [], ◌∷◌, take, drop, length, sym, ap, ◌∙◌, subst, slice_index_or, arith}
 use Rattle.std.specs.List.{All}
 use Rattle.std.proofs.lemmas.List.{take_more, take_all, take-append-drop, length-take-le}
 use Rattle.std.proofs.lemmas.List.Elements.{All-push, All-nil}
 use Rattle.std.proofs.Math.Seq.{drop-cons}
 use Rattle.tpl_model.specs.Graph.{TaskGraph}
 use Rattle.tpl_model.specs.Claims.{Claim}
-use Rattle.tpl_model.specs.Certificate.{Tree, AcceptsTree, Accepts, assumed}
+use Rattle.tpl_model.specs.Certificate.{Tree, AcceptsTree, Accepts, assumed_for}
 use Rattle.tpl_cert.specs.Heights.{height, IsWithinLimits}
 use Rattle.tpl_analyser.specs.declared.form.Form.{Form}
 use Rattle.tpl_analyser.specs.Found.{IsFound}
@@ -14,20 +14,20 @@ use Rattle.tpl_analyser.specs.Gaps.{IsFirstWithout}
 use Rattle.tpl_analyser.specs.Slim.{IsOfForm, IsCertificateOf}
 
 -- trees for the first i claims
-pub record FoundSoFar (g : TaskGraph) (claims : List Claim) (form : Form) (depth i : ℕ) (trees : List Tree) : Type 0 where
-  pub accepted : Accepts g (take i claims) trees
+pub record FoundSoFar (wide : Bool) (g : TaskGraph) (claims : List Claim) (form : Form) (depth i : ℕ) (trees : List Tree) : Type 0 where
+  pub accepted : Accepts wide g (take i claims) trees
   pub splits : All (λ tree. height tree ≤ depth) trees
   pub limits : All IsWithinLimits trees
   pub of_form : IsCertificateOf form (take i claims) trees
 
-pub none_found : (g : TaskGraph) (claims : List Claim) (form : Form) (depth : ℕ) → FoundSoFar g claims form depth 0 []
-none_found g claims form depth = record { accepted = tt; splits = All-nil (λ (tree : Tree). height tree ≤ depth); limits = All-nil IsWithinLimits; of_form = tt }
+pub none_found : (wide : Bool) (g : TaskGraph) (claims : List Claim) (form : Form) (depth : ℕ) → FoundSoFar wide g claims form depth 0 []
+none_found wide g claims form depth = record { accepted = tt; splits = All-nil (λ (tree : Tree). height tree ≤ depth); limits = All-nil IsWithinLimits; of_form = tt }
 
-accepts_more : (g : TaskGraph) (claims : List Claim) (trees : List Tree) (claim : Claim) (tree : Tree) → Accepts g claims trees → AcceptsTree g claim.body (assumed g claim.given) tree → Accepts g (claims ++ claim ∷ []) (trees ++ tree ∷ [])
-accepts_more g [] [] claim tree a h = (h, tt)
-accepts_more g [] (t ∷ trees) claim tree a h = absurd a
-accepts_more g (c ∷ claims) [] claim tree a h = absurd a
-accepts_more g (c ∷ claims) (t ∷ trees) claim tree a h = (a.0, accepts_more g claims trees claim tree a.1 h)
+accepts_more : (wide : Bool) (g : TaskGraph) (claims : List Claim) (trees : List Tree) (claim : Claim) (tree : Tree) → Accepts wide g claims trees → AcceptsTree g claim.body (assumed_for wide g claim) tree → Accepts wide g (claims ++ claim ∷ []) (trees ++ tree ∷ [])
+accepts_more wide g [] [] claim tree a h = (h, tt)
+accepts_more wide g [] (t ∷ trees) claim tree a h = absurd a
+accepts_more wide g (c ∷ claims) [] claim tree a h = absurd a
+accepts_more wide g (c ∷ claims) (t ∷ trees) claim tree a h = (a.0, accepts_more wide g claims trees claim tree a.1 h)
 
 forms_more : (form : Form) (claims : List Claim) (trees : List Tree) (claim : Claim) (tree : Tree) → IsCertificateOf form claims trees → IsOfForm form claim.body tree → IsCertificateOf form (claims ++ claim ∷ []) (trees ++ tree ∷ [])
 forms_more form [] [] claim tree a h = (h, tt)
@@ -35,16 +35,16 @@ forms_more form [] (t ∷ trees) claim tree a h = absurd a
 forms_more form (c ∷ claims) [] claim tree a h = absurd a
 forms_more form (c ∷ claims) (t ∷ trees) claim tree a h = (a.0, forms_more form claims trees claim tree a.1 h)
 
-module _ (g : TaskGraph) (claims : List Claim) (form : Form) (depth i : ℕ) (trees : List Tree) (d : Claim) (lt : i < length claims) (so_far : FoundSoFar g claims form depth i trees) where
-  pub one_more : (tree : Tree) → depth ≤ 6 → IsFound g (slice_index_or claims i d).body form (assumed g (slice_index_or claims i d).given) depth tree → FoundSoFar g claims form depth (i + 1) (trees ++ tree ∷ [])
+module _ (wide : Bool) (g : TaskGraph) (claims : List Claim) (form : Form) (depth i : ℕ) (trees : List Tree) (d : Claim) (lt : i < length claims) (so_far : FoundSoFar wide g claims form depth i trees) where
+  pub one_more : (tree : Tree) → depth ≤ 6 → IsFound g (slice_index_or claims i d).body form (assumed_for wide g (slice_index_or claims i d)) depth tree → FoundSoFar wide g claims form depth (i + 1) (trees ++ tree ∷ [])
   one_more tree le found = record {
-    accepted = subst (λ (cs : List Claim). Accepts g cs (trees ++ tree ∷ [])) (sym (take_more claims i d lt)) (accepts_more g (take i claims) trees (slice_index_or claims i d) tree so_far.accepted found.accepted);
+    accepted = subst (λ (cs : List Claim). Accepts wide g cs (trees ++ tree ∷ [])) (sym (take_more claims i d lt)) (accepts_more wide g (take i claims) trees (slice_index_or claims i d) tree so_far.accepted found.accepted);
     splits = All-push (λ (t : Tree). height t ≤ depth) trees tree so_far.splits found.splits;
     limits = All-push IsWithinLimits trees tree so_far.limits (omega arith, found.chains);
     of_form = subst (λ (cs : List Claim). IsCertificateOf form cs (trees ++ tree ∷ [])) (sym (take_more claims i d lt)) (forms_more form (take i claims) trees (slice_index_or claims i d) tree so_far.of_form found.of_form);
   }
 
-  pub first_without : IsFirstWithout g claims depth (i + 1)
+  pub first_without : IsFirstWithout wide g claims depth (i + 1)
   first_without = record {
     before = take i claims;
     claim = slice_index_or claims i d;
@@ -56,8 +56,8 @@ module _ (g : TaskGraph) (claims : List Claim) (form : Form) (depth i : ℕ) (tr
     splits = so_far.splits;
   }
 
-pub all_found : (g : TaskGraph) (claims : List Claim) (form : Form) (depth i : ℕ) (trees : List Tree) → length claims ≤ i → FoundSoFar g claims form depth i trees → Accepts g claims trees
-all_found g claims form depth i trees le so_far = subst (λ (cs : List Claim). Accepts g cs trees) (take_all i claims le) so_far.accepted
+pub all_found : (wide : Bool) (g : TaskGraph) (claims : List Claim) (form : Form) (depth i : ℕ) (trees : List Tree) → length claims ≤ i → FoundSoFar wide g claims form depth i trees → Accepts wide g claims trees
+all_found wide g claims form depth i trees le so_far = subst (λ (cs : List Claim). Accepts wide g cs trees) (take_all i claims le) so_far.accepted
 
-pub all_of_form : (g : TaskGraph) (claims : List Claim) (form : Form) (depth i : ℕ) (trees : List Tree) → length claims ≤ i → FoundSoFar g claims form depth i trees → IsCertificateOf form claims trees
-all_of_form g claims form depth i trees le so_far = subst (λ (cs : List Claim). IsCertificateOf form cs trees) (take_all i claims le) so_far.of_form
+pub all_of_form : (wide : Bool) (g : TaskGraph) (claims : List Claim) (form : Form) (depth i : ℕ) (trees : List Tree) → length claims ≤ i → FoundSoFar wide g claims form depth i trees → IsCertificateOf form claims trees
+all_of_form wide g claims form depth i trees le so_far = subst (λ (cs : List Claim). IsCertificateOf form cs trees) (take_all i claims le) so_far.of_form

@@ -1,7 +1,6 @@
 pub mod Splits
 pub mod Found
 pub mod Gaps
-pub mod Missed
 pub mod Questions
 pub mod Slim
 pub mod Plans

@@ -2,16 +2,15 @@
 //! tasks.
 
 ghost use Rattle.std.specs.Prelude.{◌≡◌, ◌<◌};
-ghost use Rattle.tpl_model.specs.Certificate.{assumed, with_end, with_input};
+ghost use Rattle.tpl_model.specs.Certificate.{with_end, with_input};
 ghost use Rattle.tpl_model.specs.Graph.{is_task};
-ghost use Rattle.tpl_graph.specs.Fits.{AreGivenOf};
 ghost use Rattle.tpl_checker.specs.Assumptions.{assumed_of};
 ghost use Rattle.tpl_analyser.specs.Questions.{IsReady};
 
 use crate::question::Question;
 use crate::split::{Split, Splits, Turn};
-use tpl_checker::{Assumptions, assumed};
-use tpl_model::{Given, Property};
+use tpl_checker::Assumptions;
+use tpl_model::Property;
 use tpl_outline::{Beyond, NO_END, Outline, Setting, has_chain, is_proved, outline_under};
 use tpl_words::{Final, Finals, InputId, TaskId};
 
@@ -36,13 +35,11 @@ fn has_chain_for(setting: Setting<'_>, property: Property) -> bool {
 }
 
 impl Branch {
-    /// The root branch.
-    pub(crate) fn root(question: Question<'_>, given: &[Given]) -> Branch
-        requires question { IsReady question }
-        requires given { AreGivenOf question.graph.now.graph given.now }
-        ensures { assumed_of result.assumed ≡ assumed question.entry.graph.now.graph given.now }
+    /// The root branch, on which this is assumed.
+    pub(crate) fn root(question: Question<'_>, assumed: Assumptions) -> Branch
+        requires { IsReady question }
+        ensures { result.assumed ≡ assumed }
     {
-        let assumed = assumed(question.graph, given);
         let setting = Setting {
             graph: question.graph,
             below: question.below,

@@ -1,6 +1,6 @@
 //! How many leaves may still be tried, and who is told of those that are.
 
-use crate::missed::RanOut;
+use crate::ran_out::RanOut;
 use crate::watch::Watch;
 
 /// How many leaves are tried for one claim at most.
@@ -12,18 +12,20 @@ pub struct Leaves {
     pub directed: u32,
 }
 
-/// How many leaves are tried where the caller says nothing else (this program's own limit).
-pub(crate) const USUAL: Leaves = Leaves {
-    in_order: 100_000,
-    directed: 20_000,
-};
+impl Leaves {
+    /// How many leaves are tried where the caller says nothing else (this program's own limit).
+    pub const USUAL: Leaves = Leaves {
+        in_order: 100_000,
+        directed: 20_000,
+    };
+}
 
 /// After so many leaves the watcher is told again.
 const LEAVES_BETWEEN: u32 = 1_000;
 
-/// How many leaves may still be tried for a claim.
+/// How many leaves may still be tried for a claim, and who is told of those that are. No clause speaks of it.
 #[derive(Drop)]
-pub(crate) struct Budget<W> {
+pub struct Budget<W> {
     watch: W,
     leaves: Leaves,
     /// The number of the claim.
@@ -39,7 +41,7 @@ pub(crate) struct Budget<W> {
 
 impl<W: Watch> Budget<W> {
     /// Before the first claim.
-    pub(crate) fn new(watch: W, leaves: Leaves) -> Budget<W> {
+    pub fn new(watch: W, leaves: Leaves) -> Budget<W> {
         Budget {
             watch,
             leaves,
@@ -91,8 +93,8 @@ impl<W: Watch> Budget<W> {
         self.hopeless = true;
     }
 
-    /// What ran out, where no tree was found for the claim.
-    pub(crate) fn ran_out(&self) -> RanOut {
+    /// What ran out, where no tree was found for the claim that was searched last.
+    pub fn ran_out(&self) -> RanOut {
         if self.hopeless {
             RanOut::Trees
         } else if self.renewed || self.left == 0 {

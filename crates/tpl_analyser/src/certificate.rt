@@ -4,11 +4,10 @@ ghost use Rattle.std.specs.Prelude.{◌≡◌, ◌<◌, ◌≤◌, IfOk, IfErr, 
 ghost use Rattle.std.specs.List.{All};
 ghost use Rattle.tpl_cert.specs.Heights.{height};
 ghost use Rattle.tpl_graph.specs.Fits.{Fits};
-ghost use Rattle.tpl_model.specs.Certificate.{Accepts, assumed};
+ghost use Rattle.tpl_model.specs.Certificate.{Accepts, assumed_for, is_wide};
 ghost use Rattle.tpl_checker.specs.Below.{AreBelow};
 ghost use Rattle.tpl_analyser.specs.Found.{IsFound};
 ghost use Rattle.tpl_analyser.specs.Gaps.{IsGap};
-ghost use Rattle.tpl_analyser.specs.Missed.{gap_of};
 ghost use Rattle.tpl_analyser.specs.Plans.{IsPlan};
 ghost use Rattle.tpl_analyser.specs.Questions.{IsReady};
 ghost use Rattle.tpl_analyser.specs.Slim.{IsCertificateOf};
@@ -16,25 +15,26 @@ ghost use Rattle.tpl_analyser.specs.Splits.{IsSplitOf};
 ghost use Rattle.tpl_outline.specs.Stages.{IsStageOf};
 
 use crate::branch::Branch;
-use crate::budget::{Budget, Leaves, USUAL};
+use crate::budget::{Budget, Leaves};
 use crate::choice::{Bound, bound_of};
 use crate::cone::Cone;
 use crate::form::Form;
 use crate::gap::Gap;
 use crate::leaf::try_leaf;
-use crate::missed::{Missed, RanOut};
 use crate::plan::{grown, no_split};
 use crate::question::Question;
+use crate::ran_out::RanOut;
 use crate::search::{Reach, split};
 use crate::split::{Split, all_splits};
 use crate::watch::{Unwatched, Watch};
 use std::alloc::{AllocError, Global};
 use tpl_cert::{Certificate, Tree};
-use tpl_checker::Below;
+use tpl_checker::{Below, assumed_for};
 use tpl_graph::{Claim, Graph};
+use tpl_model::RuleSet;
 use tpl_outline::{Followers, Stage, stages_of};
 
-/// Searches for a certificate of the claims, each of which can be asked of the graph, with at most
+/// Searches for a certificate of the claims, each of which can be asked of the graph, by these rules and with at most
 /// `depth` splits on each path, and at most 6, whose rows say all that the rules permit. For each
 /// claim, trees with 0 splits on a path are tried first, then those with 1, and so on.
 ///
@@ -47,81 +47,42 @@ pub fn analyse(
     alloc: Global,
     graph: &Graph,
     claims: &[Claim],
+    rules: RuleSet,
     depth: u8,
 ) -> Result<Certificate, Gap>
     requires claims { All (Fits graph.now.graph) claims.now }
     requires depth { depth ≤ 6 }
-    ensures accepted { IfOk result (λ c. Accepts graph.now.graph claims.now c) }
+    ensures accepted { IfOk result (λ c. Accepts (is_wide rules) graph.now.graph claims.now c) }
     ensures splits { IfOk result (All (λ tree. height tree ≤ depth)) }
-    ensures gap { IfErr result (IsGap graph.now.graph claims.now depth) }
+    ensures gap { IfErr result (IsGap (is_wide rules) graph.now.graph claims.now depth) }
 {
-    analyse_in(alloc, graph, claims, depth, Form::Full)
+    let mut budget = Budget::new(Unwatched, Leaves::USUAL);
+    analyse_within(alloc, graph, claims, rules, depth, Form::Full, &mut budget)
 }
 
-/// Searches for a certificate as `analyse` does, and gives it in this form. Which claim is `NotFound`
-/// does not depend on the form.
-pub fn analyse_in(
-    alloc: Global,
-    graph: &Graph,
-    claims: &[Claim],
-    depth: u8,
-    form: Form,
-) -> Result<Certificate, Gap>
-    requires claims { All (Fits graph.now.graph) claims.now }
-    requires depth { depth ≤ 6 }
-    ensures accepted { IfOk result (λ c. Accepts graph.now.graph claims.now c) }
-    ensures splits { IfOk result (All (λ tree. height tree ≤ depth)) }
-    ensures form { IfOk result (IsCertificateOf form claims.now) }
-    ensures gap { IfErr result (IsGap graph.now.graph claims.now depth) }
-{
-    match analyse_watched(alloc, graph, claims, depth, form, Unwatched) {
-        Ok(certificate) => Ok(certificate),
-        Err(Missed::NotFound { claim, .. }) => Err(Gap::NotFound { claim }),
-        Err(Missed::Memory) => Err(Gap::Memory),
-    }
-}
-
-/// Searches a certificate as `analyse_in` does. The watcher is told how far the search is, and where
-/// a claim is `NotFound`, it is said what ran out.
-pub fn analyse_watched<W: Watch>(
-    alloc: Global,
-    graph: &Graph,
-    claims: &[Claim],
-    depth: u8,
-    form: Form,
-    watch: W,
-) -> Result<Certificate, Missed>
-    requires claims { All (Fits graph.now.graph) claims.now }
-    requires depth { depth ≤ 6 }
-    ensures accepted { IfOk result (λ c. Accepts graph.now.graph claims.now c) }
-    ensures splits { IfOk result (All (λ tree. height tree ≤ depth)) }
-    ensures form { IfOk result (IsCertificateOf form claims.now) }
-    ensures gap { IfErr result (λ missed. IsGap graph.now.graph claims.now depth (gap_of missed)) }
-{
-    analyse_within(alloc, graph, claims, depth, form, USUAL, watch)
-}
-
-/// Searches a certificate as `analyse_watched` does, with at most so many leaves for each claim.
+/// Searches for a certificate as [`analyse`] does, within this budget of leaves for each claim, and gives it in this form.
+/// Which claim is `NotFound` does not depend on the form; the budget then says what ran out.
 pub fn analyse_within<W: Watch>(
     alloc: Global,
     graph: &Graph,
     claims: &[Claim],
+    rules: RuleSet,
     depth: u8,
     form: Form,
-    leaves: Leaves,
-    watch: W,
-) -> Result<Certificate, Missed>
+    budget: &mut Budget<W>,
+) -> Result<Certificate, Gap>
     requires claims { All (Fits graph.now.graph) claims.now }
     requires depth { depth ≤ 6 }
-    ensures accepted { IfOk result (λ c. Accepts graph.now.graph claims.now c) }
+    ensures accepted { IfOk result (λ c. Accepts (is_wide rules) graph.now.graph claims.now c) }
     ensures splits { IfOk result (All (λ tree. height tree ≤ depth)) }
     ensures form { IfOk result (IsCertificateOf form claims.now) }
-    ensures gap { IfErr result (λ missed. IsGap graph.now.graph claims.now depth (gap_of missed)) }
+    ensures gap { IfErr result (IsGap (is_wide rules) graph.now.graph claims.now depth) }
 {
     let below = Below::of_graph(graph);
     let made = made_of(alloc, graph, &below)?;
-    let budget = Budget::new(watch, leaves);
-    certificate_for(alloc, graph, &below, &made, claims, depth, form, budget)
+    certificate_for(
+        alloc, graph, &below, &made, claims, rules, depth, form, budget,
+    )
 }
 
 /// What is made of a graph once for all claims.
@@ -153,19 +114,20 @@ fn certificate_for<W: Watch>(
     below: &Below,
     made: &Made,
     claims: &[Claim],
+    rules: RuleSet,
     depth: u8,
     form: Form,
-    mut budget: Budget<W>,
-) -> Result<Certificate, Missed>
+    budget: &mut Budget<W>,
+) -> Result<Certificate, Gap>
     requires below { AreBelow graph.now.graph below.now }
     requires stages { All (IsStageOf graph.now.graph) made.now.stages.items }
     requires splits { All (IsSplitOf graph.now.graph) made.now.splits.items }
     requires claims { All (Fits graph.now.graph) claims.now }
     requires depth { depth ≤ 6 }
-    ensures accepted { IfOk result (λ c. Accepts graph.now.graph claims.now c) }
+    ensures accepted { IfOk result (λ c. Accepts (is_wide rules) graph.now.graph claims.now c) }
     ensures splits { IfOk result (All (λ tree. height tree ≤ depth)) }
     ensures form { IfOk result (IsCertificateOf form claims.now) }
-    ensures gap { IfErr result (λ missed. IsGap graph.now.graph claims.now depth (gap_of missed)) }
+    ensures gap { IfErr result (IsGap (is_wide rules) graph.now.graph claims.now depth) }
 {
     let mut trees = Vec::new(alloc);
     for at in 0..claims.len() {
@@ -176,17 +138,13 @@ fn certificate_for<W: Watch>(
             below,
             made,
             &claims[at],
+            rules,
             form,
             depth,
-            &mut budget,
+            budget,
         )? {
             Some(tree) => trees.push(tree)?,
-            None => {
-                return Err(Missed::NotFound {
-                    claim: at + 1,
-                    ran_out: budget.ran_out(),
-                });
-            }
+            None => return Err(Gap::NotFound { claim: at + 1 }),
         }
     }
     Ok(Certificate::new(trees))
@@ -199,6 +157,7 @@ fn tree_for<W: Watch>(
     below: &Below,
     made: &Made,
     claim: &Claim,
+    rules: RuleSet,
     form: Form,
     depth: u8,
     budget: &mut Budget<W>,
@@ -208,9 +167,10 @@ fn tree_for<W: Watch>(
     requires stages { All (IsStageOf graph.now.graph) made.now.stages.items }
     requires splits { All (IsSplitOf graph.now.graph) made.now.splits.items }
     ensures { IfOk result (λ found. IfSome found (IsFound graph.now.graph claim.now.body
-        form (assumed graph.now.graph claim.now.given) depth)) }
+        form (assumed_for (is_wide rules) graph.now.graph claim.now) depth)) }
 {
-    let cone = Cone::of(graph, claim.body(), &made.splits);
+    let assumed = assumed_for(graph, claim, rules);
+    let cone = Cone::of(graph, claim.body(), &assumed, &made.splits);
     let question = Question {
         graph,
         below,
@@ -221,7 +181,7 @@ fn tree_for<W: Watch>(
         splits: &made.splits,
         cone: &cone,
     };
-    let root = Branch::root(question, claim.given());
+    let root = Branch::root(question, assumed);
     match deepened(alloc, question, &root, depth, budget)? {
         None => Ok(None),
         Some(plan) => grown(alloc, question, &root, &plan),

@@ -2,6 +2,7 @@
 
 use crate::asked::asks_for;
 use crate::split::{Split, Splits};
+use tpl_checker::Assumptions;
 use tpl_graph::Graph;
 use tpl_model::Property;
 use tpl_outline::{Beyond, bearing_tasks};
@@ -17,10 +18,15 @@ pub(crate) struct Cone {
 }
 
 impl Cone {
-    /// What bears on the property: tasks, how these end, and the inputs for which their bodies ask.
+    /// What bears on the property where this is assumed: tasks, how these end, and the inputs for which their bodies ask.
     /// Who reads the exception of an observed task may ask for any input.
-    pub(crate) fn of(graph: &Graph, property: Property, splits: &[Split]) -> Cone {
-        let tasks = bearing_tasks(graph, property);
+    pub(crate) fn of(
+        graph: &Graph,
+        property: Property,
+        assumed: &Assumptions,
+        splits: &[Split],
+    ) -> Cone {
+        let tasks = bearing_tasks(graph, property, assumed);
         let mut bearing = Splits::none();
         let mut has_inputs = false;
         for split in splits {

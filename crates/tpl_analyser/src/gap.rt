@@ -1,5 +1,9 @@
 //! Why no certificate is given.
 
+ghost use Rattle.std.specs.Prelude.{◌≡◌};
+ghost use Rattle.tpl_analyser.specs.declared.gap.Gap.TheVariants as gap;
+
+use std::alloc::{AllocError, AllocFailed};
 use thiserror::Error;
 
 /// Why no certificate is given.
@@ -11,4 +15,20 @@ pub enum Gap {
     /// An allocation was refused.
     #[error("out of memory")]
     Memory,
+}
+
+impl From<AllocError> for Gap {
+    ghost from_gives = { λ _ e. e ≡ gap.Memory };
+
+    fn from(_e: AllocError) -> Gap {
+        Gap::Memory
+    }
+}
+
+impl<T: Drop> From<AllocFailed<T>> for Gap {
+    ghost from_gives = { λ _ e. e ≡ gap.Memory };
+
+    fn from(_e: AllocFailed<T>) -> Gap {
+        Gap::Memory
+    }
 }

@@ -8,10 +8,10 @@ use Rattle.std.proofs.lemmas.Option.{slice_get-get_or}
 use Rattle.tpl_model.specs.Graph.{TaskGraph, is_token}
 use Rattle.tpl_model.specs.declared.event.Event.{Event}
 use Rattle.tpl_model.specs.declared.claim.Given.{Given}
-use Rattle.tpl_model.specs.declared.claim.Given.TheVariants.{Input, Quiet}
+use Rattle.tpl_model.specs.declared.claim.Given.TheVariants.{Input, Quiet, Ended, Succeeds}
 use Rattle.tpl_model.specs.Claims.{Claim, Holds}
 use Rattle.tpl_model.specs.Rules.{Run}
-use Rattle.tpl_model.specs.Valid.{IsGraph}
+use Rattle.tpl_model.specs.Valid.{IsGraph, all_sites}
 use Rattle.tpl_graph.specs.Fits.{IsGivenOf, AreGivenOf, Fits}
 use Rattle.tpl_laws.specs.Runs.{gives_quiet, PrefixIsRun}
 use Rattle.tpl_laws.specs.Allowed.{HoldsIsRight}
@@ -21,9 +21,9 @@ use Rattle.tpl_audit.specs.declared.verdict.Failure.{Failure}
 use Rattle.tpl_audit.specs.Audit.{first_events, AllHoldAt, FirstFails, better, IsVerdict, FindsNoFailure}
 use Rattle.tpl_audit.specs.declared.verdict.Verdict.{Verdict}
 use Rattle.tpl_audit.specs.declared.verdict.Verdict.TheVariants.{Run as Ran, NotAllowed, Memory}
-use Rattle.tpl_model.specs.Certificate.{Tree, Accepts}
+use Rattle.tpl_model.specs.Certificate.{Tree, Accepts, given_sure}
 use Rattle.tpl_laws.specs.Soundness.{Each, Soundness}
-use Rattle.tpl_audit.specs.Watching.{asked_at, IsWatched}
+use Rattle.tpl_audit.specs.Watching.{noted_of, IsWatched}
 use Rattle.tpl_audit.proofs.WatchLemmas.{length-first}
 
 -- one claim
@@ -36,11 +36,26 @@ quiet_token g (Quiet j ∷ given) k fit e =
     (λ here. subst (is_token g) (eqb-true j.0 k here) (All-head (IsGivenOf g) (Quiet j) given fit))
     (λ later. quiet_token g given k (All-tail (IsGivenOf g) (Quiet j) given fit) later)
     (or_cases (nat_eq j.0 k) (gives_quiet given k) e)
+quiet_token g (Ended t ends ∷ given) k fit e = quiet_token g given k (All-tail (IsGivenOf g) (Ended t ends) given fit) e
+quiet_token g (Succeeds s ∷ given) k fit e = quiet_token g given k (All-tail (IsGivenOf g) (Succeeds s) given fit) e
 
-pub told_at : (g : TaskGraph) (v : List Bool) (h : List Event) (claim : Claim) (complete : Option ℕ) (asked : List (Option ℕ)) (result : Option ℕ) → FailureIsTold → IsGraph g → Run g v h → Fits g claim → IsWatched g v h complete asked → result ≡ first_failure g v h complete (asked_at asked) claim → law.IsFirstFailure g v h claim result
-told_at g v h claim complete asked result told valid run fits w e =
+sure_site : (g : TaskGraph) (given : List Given) (site : ℕ) → AreGivenOf g given → given_sure given site ≡ true → site < length (all_sites g)
+sure_site g [] site fit e = absurd (cc)
+sure_site g (Input i value ∷ given) site fit e = sure_site g given site (All-tail (IsGivenOf g) (Input i value) given fit) e
+sure_site g (Quiet j ∷ given) site fit e = sure_site g given site (All-tail (IsGivenOf g) (Quiet j) given fit) e
+sure_site g (Ended t ends ∷ given) site fit e = sure_site g given site (All-tail (IsGivenOf g) (Ended t ends) given fit) e
+sure_site g (Succeeds s ∷ given) site fit e =
+    ⊎_elim
+    (λ here. subst (λ z. z < length (all_sites g)) (eqb-true s.0 site here) (All-head (IsGivenOf g) (Succeeds s) given fit))
+    (λ later. sure_site g given site (All-tail (IsGivenOf g) (Succeeds s) given fit) later)
+    (or_cases (nat_eq s.0 site) (given_sure given site) e)
+
+pub told_at : (g : TaskGraph) (v : List Bool) (h : List Event) (claim : Claim) (complete : Option ℕ) (asked failures : List (Option ℕ)) (result : Option ℕ) → FailureIsTold → IsGraph g → Run g v h → Fits g claim → IsWatched g v h complete asked failures → result ≡ first_failure g v h complete (noted_of asked failures) claim → law.IsFirstFailure g v h claim result
+told_at g v h claim complete asked failures result told valid run fits w e =
     subst (law.IsFirstFailure g v h claim) (sym e)
-    (told g v h complete (asked_at asked) claim valid run w.completes (λ k quiet. w.requests k (quiet_token g claim.given k fits.given quiet)))
+    (told g v h complete (noted_of asked failures) claim valid run w.completes
+    (λ k quiet. w.requests k (quiet_token g claim.given k fits.given quiet))
+    (λ site sure. w.failures site (sure_site g claim.given site fits.given sure)))
 
 pub unless_at : (fails : Option ℕ) (broken : ℕ → Bool) (place : ℕ) (b : Bool) → Some place ≡ fails → b ≡ broken place → (if b then None else Some place) ≡ unless_broken fails broken
 unless_at fails broken place b e f =
@@ -164,11 +179,11 @@ front_run g v events p prefix run =
     let parts : reverse (drop p events) ++ first_events events p ≡ reverse events = sym (reverse-append (take p events) (drop p events)) ∙ ap reverse (take-append-drop p events) in
     prefix g v (reverse (drop p events)) (first_events events p) (subst (Run g v) (sym parts) run)
 
-pub sound_verdict : (g : TaskGraph) (v : List Bool) (events : List Event) (claims : List Claim) (verdict : Verdict) (certificate : List Tree) → Soundness → PrefixIsRun → IsGraph g → IsVerdict g v events claims verdict → Accepts g claims certificate → FindsNoFailure verdict
-sound_verdict g v events claims (Ran complete None) certificate sound prefix valid is accepted = refl
-sound_verdict g v events claims (Ran complete (Some failure)) certificate sound prefix valid is accepted =
+pub sound_verdict : (wide : Bool) (g : TaskGraph) (v : List Bool) (events : List Event) (claims : List Claim) (verdict : Verdict) (certificate : List Tree) → Soundness → PrefixIsRun → IsGraph g → IsVerdict g v events claims verdict → Accepts wide g claims certificate → FindsNoFailure verdict
+sound_verdict wide g v events claims (Ran complete None) certificate sound prefix valid is accepted = refl
+sound_verdict wide g v events claims (Ran complete (Some failure)) certificate sound prefix valid is accepted =
     let f = is.failure in
-    let hold = sound g claims certificate valid accepted v (first_events events failure.place) (front_run g v events failure.place prefix is.run) in
+    let hold = sound wide g claims certificate valid accepted v (first_events events failure.place) (front_run g v events failure.place prefix is.run) in
     absurd (f.fails (each_at (λ claim. Holds g claim v (first_events events failure.place)) claims f.before f.claim hold f.there))
-sound_verdict g v events claims (NotAllowed place) certificate sound prefix valid is accepted = tt
-sound_verdict g v events claims Memory certificate sound prefix valid is accepted = tt
+sound_verdict wide g v events claims (NotAllowed place) certificate sound prefix valid is accepted = tt
+sound_verdict wide g v events claims Memory certificate sound prefix valid is accepted = tt

@@ -6,7 +6,7 @@ ghost use Rattle.tpl_graph.specs.Fits.{AreGivenOf, TasksOf, Fits};
 ghost use Rattle.tpl_laws.specs.Failing as law;
 ghost use Rattle.tpl_model.specs.declared.event.Event.{Event};
 ghost use Rattle.tpl_audit.specs.Audit.{FirstFails, better};
-ghost use Rattle.tpl_audit.specs.Watching.{asked_at, IsWatched};
+ghost use Rattle.tpl_audit.specs.Watching.{noted_of, IsWatched};
 
 use crate::verdict::Failure;
 use crate::watch::Watch;
@@ -56,7 +56,7 @@ fn fails_from<C: Core>(core: &C, complete: Option<usize>, body: Property) -> Opt
     match body {
         Property::Final(task, _) => place_of(core.ended(task)),
         Property::After(_, second) => place_of(core.began(second)),
-        Property::Observed(_) => complete,
+        Property::Observed(_) | Property::Runs(_) => complete,
         Property::Never(task) => place_of(core.began(task)),
         Property::Excludes(one, other) => later_of(core.began(one), core.began(other)),
     }
@@ -66,13 +66,18 @@ fn fails_from<C: Core>(core: &C, complete: Option<usize>, body: Property) -> Opt
 fn is_broken<C: Core>(core: &C, watch: &Watch, given: &[Given], place: usize) -> bool
     requires { AreGivenOf (C.journal core.now).graph given.now }
     ensures { let j = C.journal core.now in
-        result ≡ law.is_broken j.inputs (asked_at watch.now.asked) given.now place }
+        result ≡ law.is_broken j.graph j.inputs j.events
+        (noted_of watch.now.asked watch.now.failed) given.now place }
 {
     core.run_law();
     for one in given {
         let broken = match one {
             Given::Input(input, value) => core.input(*input) != *value,
             Given::Quiet(token) => is_at(watch.asked[token.0 as usize], place),
+            Given::Ended(task, ends) => {
+                is_at(fails_from(core, None, Property::Final(*task, *ends)), place)
+            }
+            Given::Succeeds(site) => is_at(watch.failed[site.0 as usize], place),
         };
         if broken {
             return true;
@@ -85,7 +90,8 @@ fn is_broken<C: Core>(core: &C, watch: &Watch, given: &[Given], place: usize) ->
 fn failure_of<C: Core>(core: &C, watch: &Watch, claim: &Claim) -> Option<usize>
     requires fits { Fits (C.journal core.now).graph claim.now }
     requires watched { let j = C.journal core.now in
-        IsWatched j.graph j.inputs j.events watch.now.complete watch.now.asked }
+        IsWatched j.graph j.inputs j.events watch.now.complete watch.now.asked
+        watch.now.failed }
     ensures { let j = C.journal core.now in
         law.IsFirstFailure j.graph j.inputs j.events claim.now result }
 {
@@ -126,7 +132,8 @@ fn better(found: Option<Failure>, place: Option<usize>, claim: usize) -> Option<
 pub(crate) fn first_failure<C: Core>(core: &C, watch: &Watch, claims: &[Claim]) -> Option<Failure>
     requires fit { All (Fits (C.journal core.now).graph) claims.now }
     requires watched { let j = C.journal core.now in
-        IsWatched j.graph j.inputs j.events watch.now.complete watch.now.asked }
+        IsWatched j.graph j.inputs j.events watch.now.complete watch.now.asked
+        watch.now.failed }
     ensures { let j = C.journal core.now in (events : List Event) → j.events ≡ reverse events
         → FirstFails j.graph j.inputs events claims.now result }
 {

@@ -1,21 +1,25 @@
-//! The places from which a run is complete, and from which tokens are requested.
+//! The places from which a run is complete, tokens are requested, and jobs have failed.
 
 ghost use Rattle.std.specs.Prelude.{◌≡◌, ℕ, ◌<◌, ◌≤◌, length, IsTrue, None};
 ghost use Rattle.tpl_model.specs.Graph.{is_token};
-ghost use Rattle.tpl_model.specs.Facts.{requested};
+ghost use Rattle.tpl_model.specs.Facts.{failed, requested};
+ghost use Rattle.tpl_model.specs.Valid.{all_sites};
 ghost use Rattle.tpl_laws.specs.Allowed.{is_complete};
 ghost use Rattle.tpl_laws.specs.Failing.{or_now};
-ghost use Rattle.tpl_audit.specs.Watching.{asked_at, may_request, noted_after};
+ghost use Rattle.tpl_audit.specs.Watching.{failure_noted_after, may_fail, may_request, noted_after, noted_at};
 
+use tpl_claims::has_failed;
 use tpl_machine::Core;
 use tpl_model::Act;
-use tpl_words::{MOST_TOKENS, TokenId};
+use tpl_words::{Answer, MOST_SITES, MOST_TOKENS, SiteId, TokenId};
 
-/// The place from which the run is complete, and for each token that from which it is requested.
+/// The place from which the run is complete, for each token that from which it is requested, and for
+/// each job that from which it has failed.
 #[derive(Drop)]
 pub(crate) struct Watch {
     pub(crate) complete: Option<usize>,
     pub(crate) asked: [Option<usize>; MOST_TOKENS],
+    pub(crate) failed: [Option<usize>; MOST_SITES],
 }
 
 /// The place where it is noted, if it isn't noted yet and is true now.
@@ -39,11 +43,37 @@ fn may_request(act: Act) -> bool
     }
 }
 
+/// A job may fail by the act.
+fn may_fail(act: Act) -> bool
+    ensures { result ≡ may_fail act }
+{
+    match act {
+        Act::Worked(_, Answer::Failed) => true,
+        _ => false,
+    }
+}
+
+/// Notes which jobs have failed at this place for the first time.
+fn note_failures<C: Core>(noted: &mut [Option<usize>; MOST_SITES], core: &C, place: usize)
+    ensures { let j = C.journal core.now in (site : ℕ) → site < length (all_sites j.graph)
+        → noted_at noted.new site
+        ≡ or_now (noted_at noted.old site) (failed j.graph j.inputs j.events site) place }
+{
+    core.run_law();
+    let graph = core.graph();
+    graph.valid_law();
+    for i in 0..graph.site_count() {
+        if noted[i].is_none() && has_failed(core, SiteId(i as u16)) {
+            noted[i] = Some(place);
+        }
+    }
+}
+
 /// Notes which tokens are requested at this place for the first time.
 fn note_requests<C: Core>(asked: &mut [Option<usize>; MOST_TOKENS], core: &C, place: usize)
     ensures { let j = C.journal core.now in (k : ℕ) → is_token j.graph k
-        → asked_at asked.new k
-        ≡ or_now (asked_at asked.old k) (requested j.graph j.inputs j.events k) place }
+        → noted_at asked.new k
+        ≡ or_now (noted_at asked.old k) (requested j.graph j.inputs j.events k) place }
 {
     core.run_law();
     for i in 0..core.graph().token_count() {
@@ -57,21 +87,24 @@ impl Watch {
     /// Nothing is noted yet.
     pub(crate) fn new() -> Watch
         ensures complete { result.complete ≡ None }
-        ensures asked { (k : ℕ) → asked_at result.asked k ≡ None }
+        ensures asked { (k : ℕ) → noted_at result.asked k ≡ None }
+        ensures failed { (site : ℕ) → noted_at result.failed site ≡ None }
     {
         Watch {
             complete: None,
             asked: [None; MOST_TOKENS],
+            failed: [None; MOST_SITES],
         }
     }
 
-    /// Notes what is true at this place for the first time.
+    /// Notes what is true at this place, before the first event, at which no job has failed.
     pub(crate) fn note<C: Core>(&mut self, core: &C, place: usize)
         ensures complete { let j = C.journal core.now in self.new.complete
             ≡ or_now self.old.complete (is_complete j.graph j.inputs j.events) place }
         ensures asked { let j = C.journal core.now in (k : ℕ) → is_token j.graph k
-            → asked_at self.new.asked k
-            ≡ or_now (asked_at self.old.asked k) (requested j.graph j.inputs j.events k) place }
+            → noted_at self.new.asked k
+            ≡ or_now (noted_at self.old.asked k) (requested j.graph j.inputs j.events k) place }
+        ensures failed { self.new.failed ≡ self.old.failed }
     {
         tpl_laws::allowed::is_complete_is_right();
         self.complete = or_now(self.complete, core.complete(), place);
@@ -79,18 +112,25 @@ impl Watch {
     }
 
     /// Notes what is true for the first time at this place, which is right after the act. It looks at the tokens only
-    /// where the act may request one.
+    /// where the act may request one, and at the jobs only where one may fail by it.
     pub(crate) fn note_after<C: Core>(&mut self, core: &C, act: Act, place: usize)
         ensures complete { let j = C.journal core.now in self.new.complete
             ≡ or_now self.old.complete (is_complete j.graph j.inputs j.events) place }
         ensures asked { let j = C.journal core.now in (k : ℕ) → is_token j.graph k
-            → asked_at self.new.asked k ≡ noted_after act (asked_at self.old.asked k)
+            → noted_at self.new.asked k ≡ noted_after act (noted_at self.old.asked k)
             (requested j.graph j.inputs j.events k) place }
+        ensures failed { let j = C.journal core.now in (site : ℕ)
+            → site < length (all_sites j.graph) → noted_at self.new.failed site
+            ≡ failure_noted_after act (noted_at self.old.failed site)
+            (failed j.graph j.inputs j.events site) place }
     {
         tpl_laws::allowed::is_complete_is_right();
         self.complete = or_now(self.complete, core.complete(), place);
         if may_request(act) {
             note_requests(&mut self.asked, core, place);
+        }
+        if may_fail(act) {
+            note_failures(&mut self.failed, core, place);
         }
     }
 }

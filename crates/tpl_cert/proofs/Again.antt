@@ -1,6 +1,7 @@
 -- What is written for a tree spells the tree.
 use Rattle.std.proofs.Common.{◌≡◌, ℕ, List, [], ◌∷◌, map, Bool, true, false, refl, ap}
-use Rattle.std.specs.List.{list_all, list_any}
+use Rattle.std.specs.List.{All, list_all, list_any}
+use Rattle.std.proofs.lemmas.List.Elements.{All-nil, All-cons, All-head, All-tail}
 use Rattle.tpl_words.proofs.Truths.{and_first, and_second}
 use Rattle.serde_json.specs.Data.{Data, string, array}
 use Rattle.serde_json.specs.View.{items_of}
@@ -151,3 +152,10 @@ tree_named n inputs tasks (tree.Leaf rows) h sets = rows_named n tasks rows h se
 
 pub reads_again : (n : Names) → some_twice n.inputs ≡ false → some_twice n.tasks ≡ false → (t : Tree) → has_ids n t ≡ true → HasTaskSets t → SpellsTree n (tree_data (named n t)) t
 reads_again n inputs tasks t h sets = (named n t, tree_again (named n t), tree_named n inputs tasks t h sets)
+
+pub all_read_again : (n : Names) → some_twice n.inputs ≡ false → some_twice n.tasks ≡ false → (trees : List Tree) → list_all (has_ids n) trees ≡ true → All HasTaskSets trees → All (λ t. SpellsTree n (tree_data (named n t)) t) trees
+all_read_again n inputs tasks [] h sets = All-nil (λ t. SpellsTree n (tree_data (named n t)) t)
+all_read_again n inputs tasks (t ∷ trees) h sets =
+    All-cons (λ t. SpellsTree n (tree_data (named n t)) t) t trees
+    (reads_again n inputs tasks t (and_first (has_ids n t) (list_all (has_ids n) trees) h) (All-head HasTaskSets t trees sets))
+    (all_read_again n inputs tasks trees (and_second (has_ids n t) (list_all (has_ids n) trees) h) (All-tail HasTaskSets t trees sets))

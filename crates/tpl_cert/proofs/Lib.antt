@@ -9,3 +9,5 @@ pub mod Again
 pub mod OneTree
 pub mod Nesting
 pub mod Faultless
+pub mod Tokens
+pub mod Texts

@@ -1,6 +1,10 @@
 -- The one spelling that is written for a tree: each member, in the order of the bytes of the names.
 use Rattle.std.specs.Prelude.{◌≡◌, ℕ, ◌++◌, ◌&&◌, Bool, true, false, List, [], ◌∷◌, length, codes, map, nat_lt, slice_index_or, if◌then◌else◌, Result, Ok, Err}
 use Rattle.std.specs.List.{list_all}
+use Rattle.json.specs.Token.{Token}
+use Rattle.json.specs.Tree.{json_tokens}
+use Rattle.json.specs.Written.{Written}
+use Rattle.serde_json.specs.Written.{outline}
 use Rattle.serde_json.specs.Data.{Data, string, boolean, array, object, no_members, member}
 use Rattle.serde_json.specs.View.{items_of}
 use Rattle.tpl_words.specs.declared.finals.Finals.{Finals}
@@ -82,6 +86,14 @@ abbrev pub HasTaskSets : Tree → Type 0
 HasTaskSets (tree.SplitInput i a b) = HasTaskSets a × HasTaskSets b
 HasTaskSets (tree.SplitEnd t a b c) = HasTaskSets a × HasTaskSets b × HasTaskSets c
 HasTaskSets (tree.Leaf rows) = AreTaskSets rows
+
+-- these tokens come after those that were written before
+abbrev pub Puts : List Token → Written → Written → Type 0
+Puts ts old new = (new.before ≡ old.before) × (new.tokens ≡ old.tokens ++ ts)
+
+-- the tokens of the value come after those that were written before
+abbrev pub PutsValue : Data → Written → Written → Type 0
+PutsValue d = Puts (json_tokens (outline d))
 
 -- what is written for ids: a value, or that one of the ids isn't the graph's, unless memory ran out
 abbrev pub Unwritten : TreeToFault → Bool → Type 0

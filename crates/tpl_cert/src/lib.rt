@@ -10,14 +10,14 @@ mod named;
 mod naming;
 mod read;
 mod row;
-mod to;
+mod text;
 mod tree;
 
 pub use certificate::Certificate;
 pub use fault::{TreeFault, TreeToFault};
 pub use from::tree_from;
 pub use laws::{certificates_nest_little, one_reading};
-pub use limits::{MOST_SPLITS, is_within_limits};
+pub use limits::{MOST_IN_CHAIN, MOST_SPLITS, is_within_limits};
 pub use row::Row;
-pub use to::tree_to;
+pub use text::trees_text;
 pub use tree::{Node, Tree};

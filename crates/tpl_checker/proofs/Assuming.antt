@@ -7,9 +7,14 @@ use Rattle.tpl_words.specs.declared.finals.Final.TheVariants.{RanToCompletion, C
 use Rattle.tpl_words.specs.Members.{mem}
 use Rattle.tpl_script.specs.declared.view.Possible.{Possible}
 use Rattle.tpl_script.specs.View.{may_have}
-use Rattle.tpl_model.specs.Certificate.{same, with_input}
+use Rattle.tpl_words.specs.declared.finals.Finals.{Finals}
+use Rattle.tpl_words.specs.Finals.{has, is_final}
+use Rattle.tpl_words.proofs.MemberLemmas.{same_either_way}
+use Rattle.tpl_model.specs.Certificate.{same, with_input, with_end, is_wide}
 use Rattle.tpl_checker.specs.declared.assumptions.Assumptions.{Assumptions}
-use Rattle.tpl_checker.specs.Assumptions.{assumed_of, both, excluded, nothing_assumed}
+use Rattle.tpl_checker.specs.declared.cut.Cut.{Cut}
+use Rattle.tpl_checker.specs.Cut.{left_by}
+use Rattle.tpl_checker.specs.Assumptions.{assumed_of, both, nothing_assumed, with_ended}
 
 and_true : (b : Bool) → b ≡ b && true
 and_true true = refl
@@ -35,7 +40,7 @@ possible_set xs i p d value lt h j b = elim (eqb_tells i j) [
 -- tests that agree on each value make the same assumptions
 pub with_possible : (a : Assumptions) (xs : List Possible) (i : ℕ) (value : Bool) → ((j : ℕ) (b : Bool) → may_have (slice_index_or xs j both) b ≡ (may_have (slice_index_or a.inputs j both) b && (not (nat_eq i j) || same value b))) → assumed_of (record a { inputs = xs }) ≡ with_input (assumed_of a) i value
 with_possible a xs i value h =
-    λ k. record { possible = λ j b. h j b k; quiet = (assumed_of a).quiet; cut = (assumed_of a).cut }
+    λ k. record { possible = λ j b. h j b k; quiet = (assumed_of a).quiet; cut = (assumed_of a).cut; ended = (assumed_of a).ended; sure = (assumed_of a).sure; wide = (assumed_of a).wide }
 
 -- a list of one value has it everywhere, and past its end
 pub replicate_same : {A : Type 0} (n j : ℕ) (d : A) → slice_index_or (replicate n d) j d ≡ d
@@ -43,20 +48,65 @@ replicate_same zero j d = refl
 replicate_same (suc n) zero d = refl
 replicate_same (suc n) (suc j) d = replicate_same n j d
 
+-- a cut of empty sets leaves each end
+pub none_cut : (c : Cut) → c.not_ran ≡ [] → c.not_canceled ≡ [] → c.not_faulted ≡ [] → (t : ℕ) (f : Final) → left_by c t f ≡ true
+none_cut c r a f t RanToCompletion = ap (λ z. not (mem t z)) r
+none_cut c r a f t Canceled = ap (λ z. not (mem t z)) a
+none_cut c r a f t Faulted = ap (λ z. not (mem t z)) f
+
+kept_one : (new old there back keeps : Bool) → new ≡ (not keeps && there || old) → there ≡ back → not new ≡ (not old && (not back || keeps))
+kept_one new old there back keeps e f = ap not e ∙ (by_cases old there keeps ∙ ap (λ z. not old && (not z || keeps)) f)
+  where
+    by_cases : (o t k : Bool) → not (not k && t || o) ≡ (not o && (not t || k))
+    by_cases true true true = refl
+    by_cases true true false = refl
+    by_cases true false true = refl
+    by_cases true false false = refl
+    by_cases false true true = refl
+    by_cases false true false = refl
+    by_cases false false true = refl
+    by_cases false false false = refl
+
+-- a cut that takes from one task all ends but these
+pub kept_cut : (old new : Cut) (t : ℕ) (ends : Finals) → ((x : ℕ) → mem x new.not_ran ≡ (not ends.ran && nat_eq x t || mem x old.not_ran)) → ((x : ℕ) → mem x new.not_canceled ≡ (not ends.canceled && nat_eq x t || mem x old.not_canceled)) → ((x : ℕ) → mem x new.not_faulted ≡ (not ends.faulted && nat_eq x t || mem x old.not_faulted)) → (s : ℕ) (f : Final) → left_by new s f ≡ (left_by old s f && (not (nat_eq t s) || has ends f))
+kept_cut old new t ends r c a s RanToCompletion = kept_one (mem s new.not_ran) (mem s old.not_ran) (nat_eq s t) (nat_eq t s) ends.ran (r s) (same_either_way s t)
+kept_cut old new t ends r c a s Canceled = kept_one (mem s new.not_canceled) (mem s old.not_canceled) (nat_eq s t) (nat_eq t s) ends.canceled (c s) (same_either_way s t)
+kept_cut old new t ends r c a s Faulted = kept_one (mem s new.not_faulted) (mem s old.not_faulted) (nat_eq s t) (nat_eq t s) ends.faulted (a s) (same_either_way s t)
+
+-- on the branch of a split on an end
+pub with_cut : (a : Assumptions) (cut : Cut) (t : ℕ) (f : Final) (ends : Finals) → ((e : Final) → has ends e ≡ is_final f e) → ((s : ℕ) (e : Final) → left_by cut s e ≡ (left_by a.cut s e && (not (nat_eq t s) || has ends e))) → assumed_of (record a { cut = cut }) ≡ with_end (assumed_of a) t f
+with_cut a cut t f ends only h = λ k. record {
+  possible = (assumed_of a).possible;
+  quiet = (assumed_of a).quiet;
+  cut = λ s e. (h s e ∙ ap (λ z. left_by a.cut s e && (not (nat_eq t s) || z)) (only e)) k;
+  ended = (assumed_of a).ended;
+  sure = (assumed_of a).sure;
+  wide = (assumed_of a).wide;
+}
+
+-- where the end of one more task is given
+pub with_given_cut : (a : Assumptions) (cut : Cut) (t : ℕ) (ends : Finals) → ((s : ℕ) (e : Final) → left_by cut s e ≡ (left_by a.ended s e && (not (nat_eq t s) || has ends e))) → assumed_of (record a { ended = cut }) ≡ with_ended (assumed_of a) t ends
+with_given_cut a cut t ends h = λ k. record {
+  possible = (assumed_of a).possible;
+  quiet = (assumed_of a).quiet;
+  cut = (assumed_of a).cut;
+  ended = λ s e. h s e k;
+  sure = (assumed_of a).sure;
+  wide = (assumed_of a).wide;
+}
+
 -- from no entry and no set
-pub none_assumed : (a : Assumptions) → a.inputs ≡ replicate 16 both → a.quiet ≡ replicate 32 false → a.not_ran ≡ [] → a.not_canceled ≡ [] → a.not_faulted ≡ [] → assumed_of a ≡ nothing_assumed
-none_assumed a is quiet r c f =
+pub none_assumed : (a : Assumptions) → a.inputs ≡ replicate 16 both → a.quiet ≡ replicate 32 false → ((t : ℕ) (f : Final) → left_by a.cut t f ≡ true) → ((t : ℕ) (f : Final) → left_by a.ended t f ≡ true) → a.sure ≡ replicate 256 false → assumed_of a ≡ nothing_assumed (is_wide a.rules)
+none_assumed a is quiet cut ended sure =
     λ k. record {
       possible = λ j b. (ap (λ z. may_have (slice_index_or z j both) b) is ∙ (ap (λ z. may_have z b) (replicate_same 16 j both) ∙ both_has b)) k;
       quiet = λ j. (ap (λ z. slice_index_or z j false) quiet ∙ replicate_same 32 j false) k;
-      cut = λ t e. no_cut t e k;
+      cut = λ t f. cut t f k;
+      ended = λ t f. ended t f k;
+      sure = λ j. (ap (λ z. slice_index_or z j false) sure ∙ replicate_same 256 j false) k;
+      wide = is_wide a.rules;
     }
   where
     both_has : (b : Bool) → may_have both b ≡ true
     both_has true = refl
     both_has false = refl
-
-    no_cut : (t : ℕ) (e : Final) → not (mem t (excluded a e)) ≡ true
-    no_cut t RanToCompletion = ap (λ z. not (mem t z)) r
-    no_cut t Canceled = ap (λ z. not (mem t z)) c
-    no_cut t Faulted = ap (λ z. not (mem t z)) f

@@ -1,8 +1,12 @@
 -- The tokens that are quiet with the given ones.
-use Rattle.std.proofs.Common.{◌≡◌, ℕ, suc, ◌+◌, ◌<◌, ◌≤◌, ◌&&◌, ◌||◌, not, ◌⊎◌, inl, inr, Bool, true, false, List, [], ◌∷◌, drop, length, map, refl, sym, ap, ◌∙◌, subst, nat_eq, slice_index_or, slice_set, arith}
+use Rattle.std.proofs.Common.{◌≡◌, ℕ, suc, ◌+◌, ◌<◌, ◌≤◌, ◌++◌, ◌&&◌, ◌||◌, not, ◌⊎◌, inl, inr, Bool, true, false, Option, Some, None, List, [], ◌∷◌, drop, length, map, refl, sym, ap, ◌∙◌, subst, nat_eq, slice_index_or, slice_set, arith}
 use Rattle.std.proofs.lemmas.List.{get_or-set_same, get_or-set_other, length-set}
 use Rattle.std.proofs.lemmas.Bool.Decides.{eqb_tells}
+use Rattle.tpl_words.specs.declared.ids.SiteId.{SiteId}
+use Rattle.tpl_words.specs.declared.ids.TaskId.{TaskId}
 use Rattle.tpl_words.specs.declared.ids.TokenId.{TokenId}
+use Rattle.tpl_words.specs.declared.finals.Finals.{Finals}
+use Rattle.tpl_words.specs.Finals.{has}
 use Rattle.tpl_words.specs.Members.{mem}
 use Rattle.std.proofs.lemmas.Bool.{cases_lt, or_cases, or_left, or_right}
 use Rattle.std.proofs.lemmas.List.{drop_more, get_or_past}
@@ -11,14 +15,14 @@ use Rattle.tpl_words.proofs.Truths.{and_assoc, and_true, or_false, true_false, s
 use Rattle.tpl_words.specs.declared.ids.InputId.{InputId}
 use Rattle.tpl_words.specs.declared.finals.Final.{Final}
 use Rattle.tpl_model.specs.declared.claim.Given.{Given}
-use Rattle.tpl_model.specs.declared.claim.Given.TheVariants.{Input, Quiet}
+use Rattle.tpl_model.specs.declared.claim.Given.TheVariants.{Input, Quiet, Ended, Succeeds}
 use Rattle.tpl_model.specs.Graph.{TaskGraph, Token, Plain, Linked, token, sources, sources_of, is_token}
 use Rattle.tpl_model.specs.Valid.{IsGraph, AreBefore, IsLinked}
-use Rattle.tpl_model.specs.Certificate.{Assumed, assumed, same, given_input, given_quiet, with_input}
+use Rattle.tpl_model.specs.Certificate.{Assumed, as_quiet, assumed, same, given_input, given_quiet, given_end, given_sure, with_input}
 use Rattle.tpl_draft.specs.Ids.{token_number}
 use Rattle.tpl_laws.specs.Runs.{QuietByALink, gives_quiet}
 use Rattle.tpl_checker.specs.declared.assumptions.Assumptions.{Assumptions}
-use Rattle.tpl_checker.specs.Assumptions.{AllTokens, assumed_of, nothing_assumed, with_given, with_quiet}
+use Rattle.tpl_checker.specs.Assumptions.{AllTokens, assumed_of, nothing_assumed, with_given, with_quiet, with_own, with_ended, with_sure}
 
 -- the first i of the tokens are marked
 pub record MarkedSoFar (first now : List Bool) (tokens : List TokenId) (i : ℕ) : Type 0 where
@@ -152,49 +156,84 @@ quiet_at_last g law first now q given same j =
     (λ e. elim (q.finds given same j e) [ inl p ↦ (law g given j).1 (inl p) | inr (m, le, is, p) ↦ (law g given j).1 (inr (m, is, p)) ])
     (λ e. q.found given same j (elim ((law g given j).0 e) [ inl p ↦ inl p | inr (m, is, p) ↦ inr (m, (omega arith), is, p) ]))
 
--- what the first i of the given add
-pub record GivenSoFar (given : List Given) (i : ℕ) (a : Assumed) : Type 0 where
-  pub possible : (j : ℕ) (b : Bool) → (a.possible j b && given_input (drop i given) j b) ≡ given_input given j b
-  pub quiet : (j : ℕ) → (a.quiet j || gives_quiet (drop i given) j) ≡ gives_quiet given j
+-- what all of these add is what is assumed with what is left of them
+pub record GivenSoFar (all left : List Given) (wide : Bool) (a : Assumed) : Type 0 where
+  pub possible : (j : ℕ) (b : Bool) → (a.possible j b && given_input left j b) ≡ given_input all j b
+  pub quiet : (j : ℕ) → (a.quiet j || gives_quiet left j) ≡ gives_quiet all j
   pub cut : (t : ℕ) (f : Final) → a.cut t f ≡ true
+  pub ended : (t : ℕ) (f : Final) → (a.ended t f && given_end left t f) ≡ given_end all t f
+  pub sure : (site : ℕ) → (a.sure site || given_sure left site) ≡ given_sure all site
+  pub rules : a.wide ≡ wide
 
-step_input : (given : List Given) (i : ℕ) (a : Assumed) (k : InputId) (value : Bool) → drop i given ≡ Input k value ∷ drop (i + 1) given → GivenSoFar given i a → GivenSoFar given (i + 1) (with_input a k.0 value)
-step_input given i a k value e s = record {
-  possible = λ j b. and_assoc (a.possible j b) (not (nat_eq k.0 j) || same value b) (given_input (drop (i + 1) given) j b) ∙ (ap (λ (xs : List Given). a.possible j b && given_input xs j b) (sym e) ∙ s.possible j b);
-  quiet = λ j. ap (λ (xs : List Given). a.quiet j || gives_quiet xs j) (sym e) ∙ s.quiet j;
+step_input : (all left : List Given) (wide : Bool) (a : Assumed) (k : InputId) (value : Bool) → GivenSoFar all (Input k value ∷ left) wide a → GivenSoFar all left wide (with_input a k.0 value)
+step_input all left wide a k value s = record {
+  possible = λ j b. and_assoc (a.possible j b) (not (nat_eq k.0 j) || same value b) (given_input left j b) ∙ s.possible j b;
+  quiet = s.quiet;
   cut = s.cut;
+  ended = s.ended;
+  sure = s.sure;
+  rules = s.rules;
 }
 
-step_quiet : (given : List Given) (i : ℕ) (a : Assumed) (k : TokenId) → drop i given ≡ Quiet k ∷ drop (i + 1) given → GivenSoFar given i a → GivenSoFar given (i + 1) (with_quiet a k.0)
-step_quiet given i a k e s = record {
-  possible = λ j b. ap (λ (xs : List Given). a.possible j b && given_input xs j b) (sym e) ∙ s.possible j b;
-  quiet = λ j. or_moved (nat_eq j k.0) (a.quiet j) (gives_quiet (drop (i + 1) given) j)
-      ∙ (ap (λ z. a.quiet j || (z || gives_quiet (drop (i + 1) given) j)) (same_either_way j k.0) ∙ (ap (λ (xs : List Given). a.quiet j || gives_quiet xs j) (sym e) ∙ s.quiet j));
+step_quiet : (all left : List Given) (wide : Bool) (a : Assumed) (k : TokenId) → GivenSoFar all (Quiet k ∷ left) wide a → GivenSoFar all left wide (with_quiet a k.0)
+step_quiet all left wide a k s = record {
+  possible = s.possible;
+  quiet = λ j. or_moved (nat_eq j k.0) (a.quiet j) (gives_quiet left j) ∙ (ap (λ z. a.quiet j || (z || gives_quiet left j)) (same_either_way j k.0) ∙ s.quiet j);
   cut = s.cut;
+  ended = s.ended;
+  sure = s.sure;
+  rules = s.rules;
+}
+
+step_ended : (all left : List Given) (wide : Bool) (a : Assumed) (t : TaskId) (ends : Finals) → GivenSoFar all (Ended t ends ∷ left) wide a → GivenSoFar all left wide (with_ended a t.0 ends)
+step_ended all left wide a t ends s = record {
+  possible = s.possible;
+  quiet = s.quiet;
+  cut = s.cut;
+  ended = λ x f. and_assoc (a.ended x f) (not (nat_eq t.0 x) || has ends f) (given_end left x f) ∙ s.ended x f;
+  sure = s.sure;
+  rules = s.rules;
+}
+
+step_sure : (all left : List Given) (wide : Bool) (a : Assumed) (k : SiteId) → GivenSoFar all (Succeeds k ∷ left) wide a → GivenSoFar all left wide (with_sure a k.0)
+step_sure all left wide a k s = record {
+  possible = s.possible;
+  quiet = s.quiet;
+  cut = s.cut;
+  ended = s.ended;
+  sure = λ j. or_moved (nat_eq j k.0) (a.sure j) (given_sure left j) ∙ (ap (λ z. a.sure j || (z || given_sure left j)) (same_either_way j k.0) ∙ s.sure j);
+  rules = s.rules;
 }
 
 -- one more
-pub given_step : (given : List Given) (i : ℕ) (a next : Assumed) (d : Given) → i < length given → next ≡ with_given a (slice_index_or given i d) → GivenSoFar given i a → GivenSoFar given (i + 1) next
-given_step given i a next d lt e s = subst (λ n. GivenSoFar given (i + 1) n) (sym e) (go (slice_index_or given i d) (drop_more given i d lt))
+pub given_step : (all given : List Given) (i : ℕ) (wide : Bool) (a next : Assumed) (d : Given) → i < length given → next ≡ with_given a (slice_index_or given i d) → GivenSoFar all (drop i given) wide a → GivenSoFar all (drop (i + 1) given) wide next
+given_step all given i wide a next d lt e s =
+    subst (λ n. GivenSoFar all (drop (i + 1) given) wide n) (sym e)
+    (go (slice_index_or given i d) (subst (λ (xs : List Given). GivenSoFar all xs wide a) (drop_more given i d lt) s))
   where
-    go : (x : Given) → drop i given ≡ x ∷ drop (i + 1) given → GivenSoFar given (i + 1) (with_given a x)
-    go (Input k value) f = step_input given i a k value f s
-    go (Quiet k) f = step_quiet given i a k f s
+    go : (x : Given) → GivenSoFar all (x ∷ drop (i + 1) given) wide a → GivenSoFar all (drop (i + 1) given) wide (with_given a x)
+    go (Input k value) f = step_input all (drop (i + 1) given) wide a k value f
+    go (Quiet k) f = step_quiet all (drop (i + 1) given) wide a k f
+    go (Ended t ends) f = step_ended all (drop (i + 1) given) wide a t ends f
+    go (Succeeds k) f = step_sure all (drop (i + 1) given) wide a k f
 
--- none yet
-pub given_at_first : (given : List Given) (a : Assumed) → a ≡ nothing_assumed → GivenSoFar given 0 a
-given_at_first given a e = subst (λ z. GivenSoFar given 0 z) (sym e) (record { possible = λ j b. refl; quiet = λ j. refl; cut = λ t f. refl })
+-- none yet but the own token, if there is one
+pub given_at_first : (own : Option ℕ) (given : List Given) (wide : Bool) (a : Assumed) → a ≡ with_own (nothing_assumed wide) own → GivenSoFar (as_quiet own ++ given) given wide a
+given_at_first None given wide a e =
+    subst (λ z. GivenSoFar given given wide z) (sym e) (record { possible = λ j b. refl; quiet = λ j. refl; cut = λ t f. refl; ended = λ t f. refl; sure = λ site. refl; rules = refl })
+given_at_first (Some k) given wide a e =
+    subst (λ z. GivenSoFar (Quiet (record { 0 = k }) ∷ given) given wide z) (sym e)
+    (record { possible = λ j b. refl; quiet = λ j. ap (λ z. z || gives_quiet given j) (or_false (nat_eq j k) ∙ same_either_way j k); cut = λ t f. refl; ended = λ t f. refl; sure = λ site. refl; rules = refl })
 
 -- all of them
-pub given_at_last : (g : TaskGraph) (given : List Given) (i : ℕ) (a : Assumptions) (marks : List Bool) → drop i given ≡ [] → GivenSoFar given i (assumed_of a) → (((k : ℕ) → slice_index_or a.quiet k false ≡ gives_quiet given k) → (k : ℕ) → slice_index_or marks k false ≡ given_quiet g given k) → assumed_of (record a { quiet = marks }) ≡ assumed g given
-given_at_last g given i a marks e s sources = λ n. record {
-  possible = λ j b. possible j b n;
-  quiet = λ k. sources quiet k n;
-  cut = λ t f. s.cut t f n;
-}
-  where
-    possible : (j : ℕ) (b : Bool) → (assumed_of a).possible j b ≡ given_input given j b
-    possible j b = sym (and_true ((assumed_of a).possible j b)) ∙ (ap (λ (xs : List Given). (assumed_of a).possible j b && given_input xs j b) (sym e) ∙ s.possible j b)
-
-    quiet : (k : ℕ) → slice_index_or a.quiet k false ≡ gives_quiet given k
-    quiet k = sym (or_false (slice_index_or a.quiet k false)) ∙ (ap (λ (xs : List Given). slice_index_or a.quiet k false || gives_quiet xs k) (sym e) ∙ s.quiet k)
+pub given_at_last : (g : TaskGraph) (all given : List Given) (i : ℕ) (wide : Bool) (a : Assumptions) (marks : List Bool) → drop i given ≡ [] → GivenSoFar all (drop i given) wide (assumed_of a) → (((k : ℕ) → slice_index_or a.quiet k false ≡ gives_quiet all k) → (k : ℕ) → slice_index_or marks k false ≡ given_quiet g all k) → assumed_of (record a { quiet = marks }) ≡ assumed wide g all
+given_at_last g all given i wide a marks e s sources =
+    let f : GivenSoFar all [] wide (assumed_of a) = subst (λ (xs : List Given). GivenSoFar all xs wide (assumed_of a)) e s in
+    λ n. record {
+      possible = λ j b. (sym (and_true ((assumed_of a).possible j b)) ∙ f.possible j b) n;
+      quiet = λ k. sources (λ j. sym (or_false (slice_index_or a.quiet j false)) ∙ f.quiet j) k n;
+      cut = λ t x. f.cut t x n;
+      ended = λ t x. (sym (and_true ((assumed_of a).ended t x)) ∙ f.ended t x) n;
+      sure = λ j. (sym (or_false ((assumed_of a).sure j)) ∙ f.sure j) n;
+      wide = f.rules n;
+    }

@@ -37,12 +37,13 @@ same_finals a b e =
     let r = and_parts (beq a.canceled b.canceled) (beq a.faulted b.faulted) s.1 in
     λ i. record { ran = beq_same a.ran b.ran s.0 i; canceled = beq_same a.canceled b.canceled r.0 i; faulted = beq_same a.faulted b.faulted r.1 i }
 
-pub same_view : (g : TaskGraph) (a b : Assumptions) (xs ys : List Row) (t : ℕ) → a.inputs ≡ b.inputs → a.quiet ≡ b.quiet → ((f : Final) → subject_set g xs t (kind g t) f ≡ subject_set g ys t (kind g t) f) → view g (assumed_of a) xs t ≡ view g (assumed_of b) ys t
-same_view g a b xs ys t inputs quiet subjects = λ i. record {
+pub same_view : (g : TaskGraph) (a b : Assumptions) (xs ys : List Row) (t : ℕ) → a.inputs ≡ b.inputs → a.quiet ≡ b.quiet → a.sure ≡ b.sure → ((f : Final) → subject_set g xs t (kind g t) f ≡ subject_set g ys t (kind g t) f) → view g (assumed_of a) xs t ≡ view g (assumed_of b) ys t
+same_view g a b xs ys t inputs quiet sure subjects = λ i. record {
   possible = λ k value. may_have (slice_index_or (inputs i) k both) value;
   quiet = λ k. slice_index_or (quiet i) k false;
   own = (task g t).token;
   subject = λ f. subjects f i;
+  sure = λ k. slice_index_or (sure i) k false;
 }
 
 -- where each body sees the same, the bodies end alike and start the same children

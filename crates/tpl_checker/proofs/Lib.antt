@@ -1,6 +1,7 @@
 pub mod Basics
 pub mod Assuming
 pub mod ChildLemmas
+pub mod CompleteLemmas
 pub mod GivenLemmas
 pub mod BodyLemmas
 pub mod BelowLemmas

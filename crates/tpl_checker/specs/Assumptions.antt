@@ -1,47 +1,66 @@
 -- What a leaf in memory assumes.
-use Rattle.std.specs.Prelude.{ℕ, true, false, not, ◌||◌, nat_eq, List, [], ◌∷◌, ◌<◌, slice_index_or}
-use Rattle.tpl_words.specs.declared.finals.Final.{Final}
-use Rattle.tpl_words.specs.declared.finals.Final.TheVariants.{RanToCompletion, Canceled, Faulted}
+use Rattle.std.specs.Prelude.{ℕ, true, false, not, ◌&&◌, ◌||◌, Bool, nat_eq, Option, Some, None, List, [], ◌∷◌, ◌<◌, slice_index_or}
+use Rattle.tpl_words.specs.declared.finals.Finals.{Finals}
+use Rattle.tpl_words.specs.Finals.{has}
 use Rattle.tpl_words.specs.declared.ids.TokenId.{TokenId}
-use Rattle.tpl_words.specs.Members.{mem}
 use Rattle.tpl_script.specs.declared.view.Possible.{Possible}
 use Rattle.tpl_script.specs.View.{may_have}
 use Rattle.tpl_model.specs.declared.claim.Given.{Given}
-use Rattle.tpl_model.specs.declared.claim.Given.TheVariants.{Input, Quiet}
-use Rattle.tpl_model.specs.Certificate.{Assumed, with_input}
+use Rattle.tpl_model.specs.declared.claim.Given.TheVariants.{Input, Quiet, Ended, Succeeds}
+use Rattle.tpl_model.specs.Certificate.{Assumed, with_input, is_wide}
 use Rattle.tpl_checker.specs.declared.assumptions.Assumptions.{Assumptions}
+use Rattle.tpl_checker.specs.Cut.{left_by}
 
 -- the values of an input past the last entry: both
 abbrev pub both : Possible
 both = record { on_true = true; on_false = true }
 
--- the tasks that don't end in this way
-abbrev pub excluded : Assumptions → Final → List ℕ
-excluded a RanToCompletion = a.not_ran
-excluded a Canceled = a.not_canceled
-excluded a Faulted = a.not_faulted
-
--- an input past the last entry may have both values, a token there may be requested, and a task there may end in each
--- way
+-- an input past the last entry may have both values, a token there may be requested, a task there may end in each way,
+-- and a job there may fail
 abbrev pub assumed_of : Assumptions → Assumed
 assumed_of a = record {
   possible = λ i value. may_have (slice_index_or a.inputs i both) value;
   quiet = λ k. slice_index_or a.quiet k false;
-  cut = λ t f. not (mem t (excluded a f));
+  cut = left_by a.cut;
+  ended = left_by a.ended;
+  sure = λ site. slice_index_or a.sure site false;
+  wide = is_wide a.rules;
 }
 
 -- what is assumed where nothing is
-abbrev pub nothing_assumed : Assumed
-nothing_assumed = record { possible = λ i value. true; quiet = λ k. false; cut = λ t f. true }
+abbrev pub nothing_assumed : Bool → Assumed
+nothing_assumed wide = record { possible = λ i value. true; quiet = λ k. false; cut = λ t f. true; ended = λ t f. true; sure = λ site. false; wide = wide }
 
 -- what is assumed where, besides, the token is never requested
 abbrev pub with_quiet : Assumed → ℕ → Assumed
-with_quiet l k = record { possible = l.possible; quiet = λ j. nat_eq j k || l.quiet j; cut = l.cut }
+with_quiet l k = record { possible = l.possible; quiet = λ j. nat_eq j k || l.quiet j; cut = l.cut; ended = l.ended; sure = l.sure; wide = l.wide }
+
+-- what is assumed where, besides, a token, if there is one, is never requested
+abbrev pub with_own : Assumed → Option ℕ → Assumed
+with_own l None = l
+with_own l (Some k) = with_quiet l k
+
+-- what is assumed where, besides, a task is given to end in one of these ways
+abbrev pub with_ended : Assumed → ℕ → Finals → Assumed
+with_ended l s ends = record {
+  possible = l.possible;
+  quiet = l.quiet;
+  cut = l.cut;
+  ended = λ t f. l.ended t f && (not (nat_eq s t) || has ends f);
+  sure = l.sure;
+  wide = l.wide;
+}
+
+-- what is assumed where, besides, the job of a site doesn't fail
+abbrev pub with_sure : Assumed → ℕ → Assumed
+with_sure l s = record { possible = l.possible; quiet = l.quiet; cut = l.cut; ended = l.ended; sure = λ site. nat_eq site s || l.sure site; wide = l.wide }
 
 -- what is assumed where, besides, this is given
 abbrev pub with_given : Assumed → Given → Assumed
 with_given l (Input i value) = with_input l i.0 value
 with_given l (Quiet k) = with_quiet l k.0
+with_given l (Ended t ends) = with_ended l t.0 ends
+with_given l (Succeeds site) = with_sure l site.0
 
 -- each of the tokens is one of the first n
 abbrev pub AllTokens : ℕ → List TokenId → Type 0

@@ -2,16 +2,18 @@
 
 ghost use Rattle.std.specs.Prelude.{◌≡◌, ◌<◌, ℕ, ◌&&◌, Bool, true};
 ghost use Rattle.std.specs.Option.{option_map};
-ghost use Rattle.tpl_words.specs.Finals.{has};
+ghost use Rattle.tpl_words.specs.Finals.{has, is_final};
 ghost use Rattle.tpl_draft.specs.Ids.{token_number};
 ghost use Rattle.tpl_script.specs.View.{known, may_have};
-ghost use Rattle.tpl_model.specs.Certificate.{same, with_input, with_end, is_loud};
+ghost use Rattle.tpl_model.specs.Certificate.{same, with_input, with_end, end_left, is_loud, is_wide};
 ghost use Rattle.tpl_model.specs.Graph.{is_task};
-ghost use Rattle.tpl_checker.specs.Assumptions.{assumed_of, nothing_assumed, with_quiet};
+ghost use Rattle.tpl_checker.specs.Assumptions.{assumed_of, nothing_assumed, with_quiet, with_ended, with_sure};
 
+use crate::cut::Cut;
 use tpl_graph::Graph;
+use tpl_model::RuleSet;
 use tpl_script::{Possible, View};
-use tpl_words::{Final, Finals, InputId, TaskId, TaskSet, TokenId};
+use tpl_words::{Final, Finals, InputId, MOST_SITES, SiteId, TaskId, TokenId};
 
 /// The one of these values that is `value`, if it is among them.
 fn narrowed(possible: Possible, value: bool) -> Possible
@@ -23,21 +25,34 @@ fn narrowed(possible: Possible, value: bool) -> Possible
     }
 }
 
-/// What a leaf assumes: the values that each input may have, the tokens that are never requested,
-/// and for each way to end the tasks that don't end so. It is 448 bytes long.
+/// The set of this one way to end.
+fn only(status: Final) -> Finals
+    ensures { (f : Final) → has result f ≡ is_final status f }
+{
+    Finals {
+        ran: status == Final::RanToCompletion,
+        canceled: status == Final::Canceled,
+        faulted: status == Final::Faulted,
+    }
+}
+
+/// What a leaf assumes: the values that each input may have, the tokens that are never requested, how
+/// tasks don't end by its splits and how by what is given, the sites whose jobs don't fail, and by
+/// which rules it is judged. It is 1,089 bytes long.
 #[derive(Drop)]
 pub struct Assumptions {
     pub(crate) inputs: [Possible; 16],
     pub(crate) quiet: [bool; 32],
-    pub(crate) not_ran: TaskSet,
-    pub(crate) not_canceled: TaskSet,
-    pub(crate) not_faulted: TaskSet,
+    pub(crate) cut: Cut,
+    pub(crate) ended: Cut,
+    pub(crate) sure: [bool; MOST_SITES],
+    pub(crate) rules: RuleSet,
 }
 
 impl Assumptions {
     /// Nothing is assumed.
-    pub(crate) fn none() -> Assumptions
-        ensures { assumed_of result ≡ nothing_assumed }
+    pub(crate) fn none(rules: RuleSet) -> Assumptions
+        ensures { assumed_of result ≡ nothing_assumed (is_wide rules) }
     {
         Assumptions {
             inputs: [Possible {
@@ -45,9 +60,10 @@ impl Assumptions {
                 on_false: true,
             }; 16],
             quiet: [false; 32],
-            not_ran: TaskSet::empty(),
-            not_canceled: TaskSet::empty(),
-            not_faulted: TaskSet::empty(),
+            cut: Cut::none(),
+            ended: Cut::none(),
+            sure: [false; MOST_SITES],
+            rules,
         }
     }
 
@@ -58,9 +74,10 @@ impl Assumptions {
         Assumptions {
             inputs: self.inputs,
             quiet: self.quiet,
-            not_ran: self.not_ran.copy(),
-            not_canceled: self.not_canceled.copy(),
-            not_faulted: self.not_faulted.copy(),
+            cut: self.cut.copy(),
+            ended: self.ended.copy(),
+            sure: self.sure,
+            rules: self.rules,
         }
     }
 
@@ -100,30 +117,49 @@ impl Assumptions {
         requires { task.0 < 1024 }
         ensures { assumed_of self.new ≡ with_end (assumed_of self.old) task.0 status }
     {
-        if status != Final::RanToCompletion {
-            self.not_ran.insert(task);
-        }
-        if status != Final::Canceled {
-            self.not_canceled.insert(task);
-        }
-        if status != Final::Faulted {
-            self.not_faulted.insert(task);
-        }
+        self.cut = self.cut.keeping(task, only(status));
     }
 
-    /// The task may end in this way.
-    pub fn may_end(&self, task: TaskId, status: Final) -> bool
-        ensures { result ≡ (assumed_of self.now).cut task.0 status }
+    /// The assumptions, and that the task, one of the first 1,024, is given to end in one of these ways if
+    /// it ends.
+    pub(crate) fn with_ended(&self, task: TaskId, ends: Finals) -> Assumptions
+        requires { task.0 < 1024 }
+        ensures { assumed_of result ≡ with_ended (assumed_of self.now) task.0 ends }
     {
-        match status {
-            Final::RanToCompletion => !self.not_ran.contains(task),
-            Final::Canceled => !self.not_canceled.contains(task),
-            Final::Faulted => !self.not_faulted.contains(task),
+        let mut assumed = self.copy();
+        assumed.ended = self.ended.keeping(task, ends);
+        assumed
+    }
+
+    /// The assumptions, and that the job of the site doesn't fail.
+    pub(crate) fn with_sure(&self, site: SiteId) -> Assumptions
+        requires { site.0 < MOST_SITES }
+        ensures { assumed_of result ≡ with_sure (assumed_of self.now) site.0 }
+    {
+        let mut assumed = self.copy();
+        assumed.sure[site.0 as usize] = true;
+        assumed
+    }
+
+    /// The task may end in this way, by the splits and by what is given.
+    pub fn may_end(&self, task: TaskId, status: Final) -> bool
+        ensures { result ≡ end_left (assumed_of self.now) task.0 status }
+    {
+        self.cut.leaves(task, status) && self.ended.leaves(task, status)
+    }
+
+    /// The wider rules are taken.
+    pub fn is_wide(&self) -> bool
+        ensures { result ≡ (assumed_of self.now).wide }
+    {
+        match self.rules {
+            RuleSet::Narrow => false,
+            RuleSet::Wide => true,
         }
     }
 
     /// The token is never requested.
-    pub(crate) fn is_quiet(&self, token: TokenId) -> bool
+    pub fn is_quiet(&self, token: TokenId) -> bool
         ensures { result ≡ (assumed_of self.now).quiet token.0 }
     {
         let at = token.0 as usize;
@@ -148,6 +184,7 @@ impl Assumptions {
           quiet = (assumed_of self.now).quiet;
           own = option_map token_number own;
           subject = has subject;
+          sure = (assumed_of self.now).sure;
         } }
     {
         View {
@@ -155,6 +192,7 @@ impl Assumptions {
             quiet: self.quiet,
             own,
             subject,
+            sure: self.sure,
         }
     }
 }

@@ -6,7 +6,7 @@ ghost use Rattle.tpl_words.specs.Members.{mem};
 ghost use Rattle.tpl_words.specs.declared.finals.Final.TheVariants as finals;
 ghost use Rattle.tpl_script.specs.Recursion.{reaches};
 ghost use Rattle.tpl_model.specs.Graph.{TaskGraph, is_task, kind, body, attached, some_in, Root, Child, Continues, WhenAny};
-ghost use Rattle.tpl_model.specs.Certificate.{row, Assumed, view};
+ghost use Rattle.tpl_model.specs.Certificate.{row, Assumed, end_left, view};
 ghost use Rattle.tpl_draft.specs.Ids.{task_number};
 ghost use Rattle.tpl_laws.specs.RowTests.{implies, ends, body_may_end, may_be_canceled, may_end_as, all_may_end};
 ghost use Rattle.tpl_checker.specs.Assumptions.{assumed_of};
@@ -48,7 +48,7 @@ fn is_listed(
     listed: Finals,
     status: Final,
 ) -> bool
-    ensures { result ≡ implies ((assumed_of assumed.now).cut task.0 status)
+    ensures { result ≡ implies (end_left (assumed_of assumed.now) task.0 status)
         (implies (has found status) (has listed status)) }
 {
     let is_found = found.contains(status);

@@ -1,31 +1,107 @@
 //! What a claim takes as given.
 
-ghost use Rattle.std.specs.Prelude.{◌≡◌, ℕ, ◌||◌, false, List, map, slice_index_or};
+ghost use Rattle.std.specs.Prelude.{◌≡◌, ◌<◌, ℕ, ◌++◌, ◌||◌, false, [], if◌then◌else◌, List, map, slice_index_or, IfSome};
+ghost use Rattle.std.specs.Option.{option_map};
 ghost use Rattle.tpl_words.specs.Members.{mem};
-ghost use Rattle.tpl_model.specs.Certificate.{assumed, given_quiet};
+ghost use Rattle.tpl_model.specs.Certificate.{as_quiet, assumed, assumed_for, given_quiet, is_wide, own_quiet};
 ghost use Rattle.tpl_model.specs.declared.claim.Given.{Given};
+ghost use Rattle.tpl_model.specs.declared.claim.Property.TheVariants.{Excludes};
+ghost use Rattle.tpl_model.specs.Graph.{is_task, task};
 ghost use Rattle.tpl_draft.specs.Ids.{token_number};
 ghost use Rattle.tpl_laws.specs.Runs.{gives_quiet};
-ghost use Rattle.tpl_graph.specs.Fits.{AreGivenOf, IsGivenOf};
-ghost use Rattle.tpl_checker.specs.Assumptions.{assumed_of, with_given, AllTokens};
+ghost use Rattle.tpl_graph.specs.Fits.{AreGivenOf, IsGivenOf, Fits, TasksOf};
+ghost use Rattle.tpl_checker.specs.Assumptions.{assumed_of, nothing_assumed, with_given, with_own, AllTokens};
 
 use crate::assumptions::Assumptions;
-use tpl_graph::Graph;
-use tpl_model::Given;
-use tpl_words::TokenId;
+use tpl_graph::{Claim, Graph};
+use tpl_model::{Given, Property, RuleSet};
+use tpl_words::{TaskId, TokenId};
 
-/// What is assumed where this is given: the values of its inputs, and that its tokens, their
-/// sources, and theirs, are never requested.
-pub fn assumed(graph: &Graph, given: &[Given]) -> Assumptions
-    requires { AreGivenOf graph.now.graph given.now }
-    ensures { assumed_of result ≡ assumed graph.now.graph given.now }
+/// What is assumed for a claim by these rules, before any split: what it takes as given, and by the
+/// wide ones for a claim about a beginning that the own token of the task that begins isn't requested.
+pub fn assumed_for(graph: &Graph, claim: &Claim, rules: RuleSet) -> Assumptions
+    requires { Fits graph.now.graph claim.now }
+    ensures { assumed_of result ≡ assumed_for (is_wide rules) graph.now.graph claim.now }
 {
-    let mut assumed = Assumptions::none();
+    let own = match rules {
+        RuleSet::Narrow => None,
+        RuleSet::Wide => own_quiet(graph, claim.body()),
+    };
+    assumed_with(graph, own, claim.given(), rules)
+}
+
+/// What is assumed where this is given: the values of its inputs, that its tokens, their sources, and
+/// theirs, are never requested, how its tasks end, and that its jobs don't fail.
+pub fn assumed(graph: &Graph, given: &[Given], rules: RuleSet) -> Assumptions
+    requires { AreGivenOf graph.now.graph given.now }
+    ensures { assumed_of result ≡ assumed (is_wide rules) graph.now.graph given.now }
+{
+    assumed_with(graph, None, given, rules)
+}
+
+/// The own token of the task that a claim says to begin, or not to; of two only if it is that of both.
+fn own_quiet(graph: &Graph, body: Property) -> Option<TokenId>
+    requires { TasksOf graph.now.graph body }
+    ensures own { as_quiet (option_map token_number result) ≡ own_quiet graph.now.graph body }
+    ensures limit { IfSome result (λ k. k.0 < 32) }
+{
+    match body {
+        Property::After(_, task) | Property::Never(task) => own_token(graph, task),
+        Property::Excludes(one, other) => common_token(graph, one, other),
+        _ => None,
+    }
+}
+
+/// The own token of a task, one of the first 32.
+fn own_token(graph: &Graph, owner: TaskId) -> Option<TokenId>
+    requires { is_task graph.now.graph owner.0 }
+    ensures own { option_map token_number result ≡ (task graph.now.graph owner.0).token }
+    ensures limit { IfSome result (λ k. k.0 < 32) }
+{
+    graph.valid_law();
+    graph.own_token(owner)
+}
+
+/// The token that both tasks have, if they have the same.
+fn common_token(graph: &Graph, one: TaskId, other: TaskId) -> Option<TokenId>
+    requires one { is_task graph.now.graph one.0 }
+    requires other { is_task graph.now.graph other.0 }
+    ensures own { as_quiet (option_map token_number result)
+        ≡ own_quiet graph.now.graph (Excludes one other) }
+    ensures limit { IfSome result (λ k. k.0 < 32) }
+{
+    match (own_token(graph, one), own_token(graph, other)) {
+        (Some(first), Some(second)) if first.0 == second.0 => Some(second),
+        _ => None,
+    }
+}
+
+/// What is assumed where this is given, and this token too.
+fn assumed_with(graph: &Graph, own: Option<TokenId>, given: &[Given], rules: RuleSet) -> Assumptions
+    requires given { AreGivenOf graph.now.graph given.now }
+    requires own { IfSome own (λ k. k.0 < 32) }
+    ensures { assumed_of result ≡ assumed (is_wide rules) graph.now.graph
+        (as_quiet (option_map token_number own) ++ given.now) }
+{
+    let mut assumed = with_own(own, rules);
     for one in given {
         assumed = with_given(graph, &assumed, *one);
     }
     assumed.quiet = with_sources(graph, assumed.quiet);
     assumed
+}
+
+/// What is assumed where this token is never requested.
+fn with_own(own: Option<TokenId>, rules: RuleSet) -> Assumptions
+    requires { IfSome own (λ k. k.0 < 32) }
+    ensures { assumed_of result
+        ≡ with_own (nothing_assumed (is_wide rules)) (option_map token_number own) }
+{
+    let none = Assumptions::none(rules);
+    match own {
+        None => none,
+        Some(token) => none.with_quiet(token),
+    }
 }
 
 fn with_given(graph: &Graph, assumed: &Assumptions, one: Given) -> Assumptions
@@ -36,6 +112,8 @@ fn with_given(graph: &Graph, assumed: &Assumptions, one: Given) -> Assumptions
     match one {
         Given::Input(input, value) => assumed.with_input(input, value),
         Given::Quiet(token) => assumed.with_quiet(token),
+        Given::Ended(task, ends) => assumed.with_ended(task, ends),
+        Given::Succeeds(site) => assumed.with_sure(site),
     }
 }
 

@@ -32,6 +32,9 @@ fn sees_same(graph: &Graph, last: &LastLeaf<'_>, assumed: &Assumptions, rows: &[
     if last.assumed.inputs != assumed.inputs || last.assumed.quiet != assumed.quiet {
         return false;
     }
+    if last.assumed.sure != assumed.sure {
+        return false;
+    }
     for number in 0..graph.len() {
         let task = TaskId(number as u16);
         if subject(graph, last.rows, task) != subject(graph, rows, task) {

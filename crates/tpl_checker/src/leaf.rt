@@ -85,7 +85,7 @@ pub(crate) fn leaf_fault(
     if let Some(fault) = first_broken(graph, assumed, below, rows, bodies) {
         return Some(fault);
     }
-    if !proves(graph, rows, bodies, property) {
+    if !proves(graph, assumed, rows, bodies, property) {
         return Some(LeafFault::ProvesNot);
     }
     None

@@ -7,6 +7,7 @@ mod begins;
 mod below;
 mod bodies;
 mod chain;
+mod cut;
 mod ends;
 mod given;
 mod last;
@@ -22,7 +23,7 @@ mod view;
 
 pub use assumptions::Assumptions;
 pub use below::Below;
-pub use given::assumed;
+pub use given::{assumed, assumed_for};
 pub use leaf::accepts_leaf;
 pub use parents::parent;
 pub use rows::{allowed, excluded, some_end};

@@ -1,11 +1,11 @@
 //! What a row has past its task is settled when the task has ended (the rules K4 and K5).
 
-ghost use Rattle.std.specs.Prelude.{◌≡◌, ◌&&◌, ◌||◌, ◌≤◌, ℕ, length, nat_eq, map};
+ghost use Rattle.std.specs.Prelude.{◌≡◌, ◌&&◌, ◌||◌, ◌<◌, ◌≤◌, ℕ, length, nat_eq, map};
 ghost use Rattle.tpl_words.specs.Members.{mem};
 ghost use Rattle.tpl_model.specs.Graph.{is_task, some_in, Child, Continues};
-ghost use Rattle.tpl_model.specs.Certificate.{Assumed, may_end_early, row};
+ghost use Rattle.tpl_model.specs.Certificate.{Assumed, may_end_early, may_win, row};
 ghost use Rattle.tpl_draft.specs.Ids.{task_number};
-ghost use Rattle.tpl_laws.specs.RowTests.{all_in, past, past_by};
+ghost use Rattle.tpl_laws.specs.RowTests.{all_in, implies, past, past_by};
 ghost use Rattle.tpl_checker.specs.Assumptions.{assumed_of};
 ghost use Rattle.tpl_checker.specs.Below.{AreBelow};
 ghost use Rattle.tpl_graph.specs.Roles.{AreTasks};
@@ -13,7 +13,7 @@ ghost use Rattle.tpl_graph.specs.Roles.{AreTasks};
 use crate::assumptions::Assumptions;
 use crate::below::Below;
 use crate::parents::parent;
-use crate::rows::{row, settled_after, within};
+use crate::rows::{may_end, row, settled_after, within};
 use tpl_cert::Row;
 use tpl_graph::{Graph, Role};
 use tpl_words::{TaskId, TaskSet};
@@ -41,7 +41,7 @@ pub(crate) fn past(
             is_past_continuation(graph, assumed, below, rows, task, antecedent)
         }
         Role::All(args) => within(past, &settled_after_some(rows, args)),
-        Role::Any(args) => within(past, &settled_after_each(rows, args, past)),
+        Role::Any(args) => within(past, &settled_after_each(assumed, rows, args, past)),
     }
 }
 
@@ -114,16 +114,34 @@ fn settled_after_some(rows: &[Row], tasks: &[TaskId]) -> TaskSet
     settled
 }
 
-/// Of the set, those that are settled after each of the tasks, since WhenAny may end after any one of them.
-fn settled_after_each(rows: &[Row], tasks: &[TaskId], set: &TaskSet) -> TaskSet
+/// Of the set, those that are settled after each of the tasks that may win, since WhenAny may end after any
+/// one of these.
+fn settled_after_each(
+    assumed: &Assumptions,
+    rows: &[Row],
+    tasks: &[TaskId],
+    set: &TaskSet,
+) -> TaskSet
     requires tasks { AreTasks (length rows.now) tasks.now }
     requires limit { length rows.now ≤ 1024 }
-    ensures { (x : ℕ) → mem x result ≡ (mem x set.now && all_in (λ y. nat_eq x y
-        || mem x (row rows.now y).past) (map task_number tasks.now)) }
+    ensures { (x : ℕ) → mem x result ≡ (mem x set.now && all_in
+        (λ y. implies (may_win (assumed_of assumed.now) rows.now y)
+        (nat_eq x y || mem x (row rows.now y).past)) (map task_number tasks.now)) }
 {
     let mut settled = set.copy();
     for task in tasks {
-        settled = settled.intersection(&settled_after(rows, *task));
+        if may_win(assumed, rows, *task) {
+            settled = settled.intersection(&settled_after(rows, *task));
+        }
     }
     settled
+}
+
+/// The task may end first of those for which a WhenAny task waits: by the wide rules one that can't end
+/// can't.
+fn may_win(assumed: &Assumptions, rows: &[Row], task: TaskId) -> bool
+    requires { task.0 < length rows.now }
+    ensures { result ≡ may_win (assumed_of assumed.now) rows.now task.0 }
+{
+    !assumed.is_wide() || may_end(rows, task)
 }

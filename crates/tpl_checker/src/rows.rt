@@ -4,7 +4,7 @@ ghost use Rattle.std.specs.Prelude.{◌≡◌, ℕ, ◌<◌, ◌≤◌, ◌&&◌
 ghost use Rattle.tpl_words.specs.Finals.{has};
 ghost use Rattle.tpl_words.specs.Members.{mem};
 ghost use Rattle.tpl_words.specs.Options.{allows};
-ghost use Rattle.tpl_model.specs.Certificate.{row};
+ghost use Rattle.tpl_model.specs.Certificate.{may_end, row};
 ghost use Rattle.tpl_draft.specs.Ids.{task_number};
 ghost use Rattle.tpl_laws.specs.RowTests.{all_in, implies, some_end};
 
@@ -24,6 +24,14 @@ pub fn some_end(finals: Finals) -> bool
     ensures { result ≡ some_end (has finals) }
 {
     finals.ran || finals.canceled || finals.faulted
+}
+
+/// The task may end, by its row.
+pub(crate) fn may_end(rows: &[Row], task: TaskId) -> bool
+    requires { task.0 < length rows.now }
+    ensures { result ≡ may_end rows.now task.0 }
+{
+    some_end(row(rows, task).ends())
 }
 
 /// Of these ways to end, those after which a continuation with the options runs.

@@ -7,20 +7,21 @@ ghost use Rattle.tpl_graph.specs.Fits.{Fits};
 ghost use Rattle.tpl_laws.specs.Faults.{IsFirstFault};
 ghost use Rattle.tpl_laws.specs.Soundness.{Each};
 ghost use Rattle.tpl_laws.specs.Verdict.{claims_fault, misfit, no_fault, verdict};
-ghost use Rattle.tpl_model.specs.Certificate.{Accepts};
+ghost use Rattle.tpl_model.specs.Certificate.{Accepts, is_wide};
 ghost use Rattle.tpl_model.specs.Claims.{Holds};
 ghost use Rattle.tpl_model.specs.Rules.{Run};
 ghost use Rattle.tpl_model.specs.declared.event.Event.{Event};
 
 use crate::below::Below;
-use crate::given::assumed;
+use crate::given::assumed_for;
 use crate::shape::misfit;
 use crate::tree::tree_fault;
 use tpl_cert::{Certificate, Tree};
 use tpl_graph::{Claim, Graph};
-use tpl_model::CertFault;
+use tpl_model::{CertFault, RuleSet};
 
-/// Checks that the certificate proves the claims of the graph, each of which can be asked of it.
+/// Checks that the certificate proves the claims of the graph, each of which can be asked of it, by
+/// these rules.
 ///
 /// The first fault is reported. `Shape` comes first, for the first claim that has it: it has no tree,
 /// or a tree has no claim, a leaf doesn't have one row for each task, or an id isn't the graph's. Then
@@ -30,47 +31,58 @@ use tpl_model::CertFault;
 ///
 /// Where there is no fault, each claim holds in every run, for all inputs and whatever comes from
 /// outside. No memory is taken.
-pub fn check(graph: &Graph, claims: &[Claim], certificate: &Certificate) -> Result<(), CertFault>
+pub fn check(
+    graph: &Graph,
+    claims: &[Claim],
+    certificate: &Certificate,
+    rules: RuleSet,
+) -> Result<(), CertFault>
     requires claims { All (Fits graph.now.graph) claims.now }
-    ensures verdict { result ≡ verdict graph.now.graph claims.now certificate.now }
-    ensures accepted { IsOk result ↔ Accepts graph.now.graph claims.now certificate.now }
+    ensures verdict { result ≡ verdict (is_wide rules) graph.now.graph claims.now certificate.now }
+    ensures accepted { IsOk result
+        ↔ Accepts (is_wide rules) graph.now.graph claims.now certificate.now }
     ensures sound { IfOk result (λ u. (v : List Bool) (h : List Event) → Run graph.now.graph v h
         → Each (λ claim. Holds graph.now.graph claim v h) claims.now) }
-    ensures first { IfErr result (λ fault. IsFirstFault graph.now.graph claims.now certificate.now
-        fault) }
+    ensures first { IfErr result (λ fault. IsFirstFault (is_wide rules) graph.now.graph claims.now
+        certificate.now fault) }
 {
     graph.valid_law();
     tpl_laws::verdict_is_right();
     tpl_laws::verdict_is_sound();
     tpl_laws::fault_is_first();
     certificate.limits_law();
-    verdict(graph, claims, certificate.trees())
+    verdict(graph, claims, certificate.trees(), rules)
 }
 
 /// The first fault: shapes first, then claim by claim.
-fn verdict(graph: &Graph, claims: &[Claim], trees: &[Tree]) -> Result<(), CertFault>
+fn verdict(graph: &Graph, claims: &[Claim], trees: &[Tree], rules: RuleSet) -> Result<(), CertFault>
     requires claims { All (Fits graph.now.graph) claims.now }
     requires trees { All (λ tree. height tree ≤ 6) trees.now }
-    ensures { result ≡ verdict graph.now.graph claims.now trees.now }
+    ensures { result ≡ verdict (is_wide rules) graph.now.graph claims.now trees.now }
 {
     match misfit(graph, claims, trees) {
         Some(fault) => Err(fault),
-        None => claims_fault(graph, claims, trees),
+        None => claims_fault(graph, claims, trees, rules),
     }
 }
 
 /// The first claim whose tree fails.
-fn claims_fault(graph: &Graph, claims: &[Claim], trees: &[Tree]) -> Result<(), CertFault>
+fn claims_fault(
+    graph: &Graph,
+    claims: &[Claim],
+    trees: &[Tree],
+    rules: RuleSet,
+) -> Result<(), CertFault>
     requires claims { All (Fits graph.now.graph) claims.now }
     requires trees { All (λ tree. height tree ≤ 6) trees.now }
     requires shapes { misfit graph.now.graph 1 claims.now trees.now ≡ None }
-    ensures { result ≡ no_fault (claims_fault graph.now.graph 1 claims.now trees.now) }
+    ensures { result ≡ no_fault (claims_fault (is_wide rules) graph.now.graph 1 claims.now trees.now) }
 {
     let below = Below::of_graph(graph);
     let mut last = None;
     for at in 0..claims.len() {
         let claim = &claims[at];
-        let given = assumed(graph, claim.given());
+        let given = assumed_for(graph, claim, rules);
         tree_fault(
             graph,
             claim.body(),

@@ -35,6 +35,7 @@ pub(crate) fn view(graph: &Graph, assumed: &Assumptions, rows: &[Row], task: Tas
         quiet: assumed.quiet,
         own: graph.own_token(task),
         subject: subject(graph, rows, task),
+        sure: assumed.sure,
     }
 }
 
@@ -52,6 +53,7 @@ pub(crate) fn faulted_view(graph: &Graph, assumed: &Assumptions, reader: TaskId)
             canceled: false,
             faulted: true,
         },
+        sure: assumed.sure,
     }
 }
 

@@ -3,6 +3,6 @@
 
 mod run;
 
-pub use run::{holds, is_true_of};
+pub use run::{has_failed, holds, is_true_of};
 pub use tpl_graph::Claim;
 pub use tpl_model::{Given, Property};

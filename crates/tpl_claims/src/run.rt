@@ -1,8 +1,9 @@
 //! Whether a claim holds of a run.
 
-ghost use Rattle.std.specs.Prelude.{◌≡◌, ◌↔◌, ◌<◌, ◌⊎◌, IsTrue, IfSome, IfNone, ℕ, true, false, is_some, [], ◌∷◌};
+ghost use Rattle.std.specs.Prelude.{◌≡◌, ◌↔◌, ◌<◌, ◌⊎◌, IsTrue, IfSome, IfNone, ℕ, true, false, is_some, length, [], ◌∷◌};
 ghost use Rattle.tpl_model.specs.Graph.{is_task, IsParent};
-ghost use Rattle.tpl_model.specs.Facts.{Ending, begun, started, ending};
+ghost use Rattle.tpl_model.specs.Valid.{all_sites};
+ghost use Rattle.tpl_model.specs.Facts.{Ending, begun, failed, started, ending};
 ghost use Rattle.tpl_model.specs.Claims.{IsGiven, SettledAtBegin, HoldsOf, Holds};
 ghost use Rattle.tpl_laws.specs.Settling.{SettledBefore};
 ghost use Rattle.tpl_graph.specs.Fits.{IsGivenOf, AreGivenOf, TasksOf, Fits};
@@ -10,7 +11,7 @@ ghost use Rattle.tpl_graph.specs.Fits.{IsGivenOf, AreGivenOf, TasksOf, Fits};
 use tpl_graph::Claim;
 use tpl_model::{Given, Property};
 use tpl_run::Core;
-use tpl_words::{Finals, Status, TaskId};
+use tpl_words::{Finals, Label, SiteId, Status, TaskId};
 
 fn is_given<C: Core>(core: &C, given: Given) -> bool
     requires { IsGivenOf (C.journal core.now).graph given }
@@ -20,6 +21,23 @@ fn is_given<C: Core>(core: &C, given: Given) -> bool
     match given {
         Given::Input(input, value) => core.input(input) == value,
         Given::Quiet(token) => !core.requested(token),
+        Given::Ended(task, ends) => ends_within(core, task, ends),
+        Given::Succeeds(site) => !has_failed(core, site),
+    }
+}
+
+/// Whether the job of a site has failed, which is what the task threw in whose body it stands.
+pub fn has_failed<C: Core>(core: &C, site: SiteId) -> bool
+    requires { site.0 < length (all_sites (C.journal core.now).graph) }
+    ensures { let j = C.journal core.now in result ≡ failed j.graph j.inputs j.events site.0 }
+{
+    core.run_law();
+    tpl_laws::failed_by_its_label();
+    let graph = core.graph();
+    graph.valid_law();
+    match core.label(graph.site_owner(site)) {
+        Some(Label::WorkFailed(failed)) => failed.0 == site.0,
+        _ => false,
     }
 }
 
@@ -131,12 +149,13 @@ pub fn is_true_of<C: Core>(core: &C, body: Property) -> bool
         Property::Observed(task) => is_observed(core, task),
         Property::Never(task) => !has_begun(core, task),
         Property::Excludes(one, other) => !(has_begun(core, one) && has_begun(core, other)),
+        Property::Runs(task) => !core.complete() || has_begun(core, task),
     }
 }
 
 /// Whether the claim holds of the run: its property is true of it, or what it takes as given isn't. `Final` speaks of a
-/// task that has ended, `After` of one that has begun, `Observed` of a run that is complete, `Never` and `Excludes` of
-/// the tasks that have begun. A task is settled if it has ended (.NET: `Task.IsCompleted`), or if it is a child that
+/// task that has ended, `After` of one that has begun, `Observed` and `Runs` of a run that is complete, `Never` and
+/// `Excludes` of the tasks that have begun. A task is settled if it has ended (.NET: `Task.IsCompleted`), or if it is a child that
 /// isn't started and its parent is settled.
 pub fn holds<C: Core>(core: &C, claim: &Claim) -> bool
     requires { Fits (C.journal core.now).graph claim.now }

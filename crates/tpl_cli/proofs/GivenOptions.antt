@@ -1,5 +1,5 @@
 -- The numbers and the words that are given for options.
-use Rattle.std.proofs.Common.{◌≡◌, ◌∙◌, ◌<◌, ◌≤◌, ℕ, true, List, Option, Some, None, Result, Ok, Err, codes, sym, ap, subst, refl, arith}
+use Rattle.std.proofs.Common.{◌≡◌, ◌∙◌, ◌<◌, ◌≤◌, ◌==◌, ℕ, true, if◌then◌else◌, slice_index, List, Option, Some, None, Result, Ok, Err, codes, sym, ap, subst, refl, arith}
 use Rattle.std.specs.Prelude.{MatchOption}
 use Rattle.std.specs.Str.Parse.{ParsesUnsigned, digits_value, without_leading_plus}
 use Rattle.tpl_draw.specs.declared.language.Language.{Language}
@@ -7,8 +7,10 @@ use Rattle.tpl_draw.specs.declared.language.Language.TheVariants.{Mermaid, Dot}
 use Rattle.clap.specs.Words.{Row, Text, ReadsOne, first_of, first_value, one_text, rows_of}
 use Rattle.clap.specs.declared.parser.matches.Found.{Found}
 use Rattle.clap.proofs.WalkLemmas.{first_value-rows, one_text-rows}
-use Rattle.tpl_cli.specs.Options.{language_word, IsGiven, IsLanguage, IsSet}
-use Rattle.tpl_cli.specs.Line.{IsClaim}
+use Rattle.tpl_verdicts.specs.declared.style.Style.{Style}
+use Rattle.tpl_verdicts.specs.declared.style.Style.TheVariants as style
+use Rattle.tpl_cli.specs.Options.{language_word, style_word, IsGiven, IsSet}
+use Rattle.tpl_cli.specs.Line.{IsIfGiven}
 
 pub some_same : {A : Type 0} (x y : A) → Some x ≡ Some y → x ≡ y
 some_same x y e = cc
@@ -50,24 +52,38 @@ same_number option least most rows m n a b =
     let texts = some_same a.text b.text (sym a.given ∙ b.given) in
     sym a.value ∙ ap (λ t. digits_value 10 (without_leading_plus t)) texts ∙ b.value
 
--- two languages have two words
-same_word : (a b : Language) → language_word a ≡ language_word b → a ≡ b
-same_word Mermaid Mermaid e = refl
-same_word Mermaid Dot e = absurd cc
-same_word Dot Mermaid e = absurd cc
-same_word Dot Dot e = refl
+-- two languages have two words, and so have two styles
+pub same_language : (a b : Language) → language_word a ≡ language_word b → a ≡ b
+same_language Mermaid Mermaid e = refl
+same_language Mermaid Dot e = absurd cc
+same_language Dot Mermaid e = absurd cc
+same_language Dot Dot e = refl
 
-pub same_language : (rows : List Row) (a b : Language) → IsLanguage rows a → IsLanguage rows b → a ≡ b
-same_language rows a b first second = same_word a b (some_same (language_word a) (language_word b) (sym first ∙ second))
+styled : Text → Style
+styled t = if slice_index t 0 == 116 then style.Text else (if slice_index t 1 == 115 then style.Json else style.Junit)
 
-pub none_given : (found : Found) (language : Language) → None ≡ first_value found (codes "as") → IsLanguage (rows_of found) language → ⊥
-none_given found language gives is = let e = gives ∙ (first_value-rows found (codes "as") ∙ is) in absurd cc
+styled_word : (s : Style) → styled (style_word s) ≡ s
+unfolding styled
+styled_word style.Text = refl
+styled_word style.Json = refl
+styled_word style.Junit = refl
 
--- the language that a text names is the one that the words give, if that text is given
-pub language_given : (found : Found) (t : Text) (o : Option Language) → Some t ≡ first_value found (codes "as") → MatchOption o ((l : Language) → language_word l ≡ t → ⊥) (λ l. language_word l ≡ t)
-    → MatchOption o ((l : Language) → IsLanguage (rows_of found) l → ⊥) (IsLanguage (rows_of found))
-language_given found t None gives none = λ l is. none l (sym (some_same t (language_word l) (gives ∙ (first_value-rows found (codes "as") ∙ is))))
-language_given found t (Some l) gives is = sym (first_value-rows found (codes "as")) ∙ (sym gives ∙ ap Some (sym is))
+pub same_style : (a b : Style) → style_word a ≡ style_word b → a ≡ b
+same_style a b e = sym (styled_word a) ∙ (ap styled e ∙ styled_word b)
+
+module _ {A : Type 0} (word : A → Text) where
+  -- one thing is named at most, where two have two words
+  pub same_named : (rows : List Row) (a b : A) → ((x y : A) → word x ≡ word y → x ≡ y) → first_of (codes "as") rows ≡ Some (word a) → first_of (codes "as") rows ≡ Some (word b) → a ≡ b
+  same_named rows a b same first second = same a b (some_same (word a) (word b) (sym first ∙ second))
+
+  pub none_named : (found : Found) (thing : A) → None ≡ first_value found (codes "as") → first_of (codes "as") (rows_of found) ≡ Some (word thing) → ⊥
+  none_named found thing gives is = let e = gives ∙ (first_value-rows found (codes "as") ∙ is) in absurd cc
+
+  -- what a text names is what the words give, if that text is given
+  pub named_given : (found : Found) (t : Text) (o : Option A) → Some t ≡ first_value found (codes "as") → MatchOption o ((x : A) → word x ≡ t → ⊥) (λ x. word x ≡ t)
+      → MatchOption o ((x : A) → first_of (codes "as") (rows_of found) ≡ Some (word x) → ⊥) (λ x. first_of (codes "as") (rows_of found) ≡ Some (word x))
+  named_given found t None gives none = λ x is. none x (sym (some_same t (word x) (gives ∙ (first_value-rows found (codes "as") ∙ is))))
+  named_given found t (Some x) gives is = sym (first_value-rows found (codes "as")) ∙ (sym gives ∙ ap Some (sym is))
 
 -- a text is given for the option, and it is `true`, or it isn't
 pub set_given : (found : Found) (option t : Text) → Some t ≡ first_value found option → t ≡ codes "true" → IsSet option (rows_of found)
@@ -79,14 +95,14 @@ not_set_given found option t gives differs is = differs (some_same t (codes "tru
 pub not_set : (found : Found) (option : Text) → None ≡ first_value found option → IsSet option (rows_of found) → ⊥
 not_set found option gives is = let e = gives ∙ (first_value-rows found option ∙ is) in absurd cc
 
--- whether a claim is asked for
-pub no_claim : (found : Found) → None ≡ first_value found (codes "claim") → first_of (codes "claim") (rows_of found) ≡ None
-no_claim found gives = sym (first_value-rows found (codes "claim")) ∙ sym gives
+-- whether a number is given
+pub no_number : (found : Found) (option : Text) → None ≡ first_value found option → first_of option (rows_of found) ≡ None
+no_number found option gives = sym (first_value-rows found option) ∙ sym gives
 
-pub some_claim : (found : Found) (t : Text) → Some t ≡ first_value found (codes "claim") → first_of (codes "claim") (rows_of found) ≡ None → ⊥
-some_claim found t gives none = let e = gives ∙ (first_value-rows found (codes "claim") ∙ none) in absurd cc
+pub some_number : (found : Found) (option t : Text) → Some t ≡ first_value found option → first_of option (rows_of found) ≡ None → ⊥
+some_number found option t gives none = let e = gives ∙ (first_value-rows found option ∙ none) in absurd cc
 
--- a claim is asked for that is no number in the range
-pub wrong_claim : (rows : List Row) (claim : Option ℕ) → (first_of (codes "claim") rows ≡ None → ⊥) → ((n : ℕ) → IsGiven (codes "claim") 1 64 rows n → ⊥) → IsClaim rows claim → ⊥
-wrong_claim rows None some none is = some is
-wrong_claim rows (Some n) some none is = none n is.1
+-- what is given is no number in the range
+pub wrong_number : (option : Text) (rows : List Row) (number : Option ℕ) → (first_of option rows ≡ None → ⊥) → ((n : ℕ) → IsGiven option 1 64 rows n → ⊥) → IsIfGiven option rows number → ⊥
+wrong_number option rows None some none is = some is
+wrong_number option rows (Some n) some none is = none n is.1

@@ -3,6 +3,8 @@ use Rattle.std.specs.Prelude.{◌≡◌, ◌≤◌, ℕ, pos, List, [], ◌∷�
 use Rattle.std.specs.Str.Parse.{IsNumeral, digits_value, without_leading_plus}
 use Rattle.tpl_draw.specs.declared.language.Language.{Language}
 use Rattle.tpl_draw.specs.declared.language.Language.TheVariants.{Mermaid, Dot}
+use Rattle.tpl_verdicts.specs.declared.style.Style.{Style}
+use Rattle.tpl_verdicts.specs.declared.style.Style.TheVariants as style
 use Rattle.clap.specs.Words.{Row, Rule, Text, first_of, new_rule, one_of}
 use Rattle.clap.specs.declared.builder.action.ArgAction.TheVariants.{SetTrue}
 use Rattle.clap.specs.declared.builder.value_parser.ValueParser.TheVariants as vp
@@ -26,9 +28,9 @@ valued name defaults = record (new_rule name) {
 abbrev pub numbered : Text → List Text → ℕ → ℕ → Rule
 numbered name defaults least most = record (valued name defaults) { parser = Some (vp.Signed (pos least) (pos most)) }
 
--- the option `--depth`
-abbrev pub depth_rule : Rule
-depth_rule = numbered (codes "depth") (codes "2" ∷ []) 0 6
+-- the option `--depth`, with what stands for a value that is left out
+abbrev pub depth_rule : Text → Rule
+depth_rule usual = numbered (codes "depth") (usual ∷ []) 0 6
 
 -- the option `--slim`
 abbrev pub slim_rule : Rule
@@ -54,13 +56,25 @@ runs_rule = numbered (codes "runs") (codes "100000" ∷ []) 0 1000000
 abbrev pub seed_rule : Rule
 seed_rule = numbered (codes "seed") (codes "0" ∷ []) 0 4294967295
 
+-- the option `--jobs`
+abbrev pub jobs_rule : Rule
+jobs_rule = numbered (codes "jobs") [] 1 64
+
+-- the option `--each`
+abbrev pub each_rule : Rule
+each_rule = flag (codes "each")
+
 -- the option `--explain`
 abbrev pub explain_rule : Rule
 explain_rule = flag (codes "explain")
 
--- the option `--as`
+-- the option `--as` of a picture
 abbrev pub language_rule : Rule
 language_rule = valued (codes "as") (codes "mermaid" ∷ [])
+
+-- the option `--as` of verdicts
+abbrev pub style_rule : Rule
+style_rule = valued (codes "as") (codes "text" ∷ [])
 
 -- the option was used
 abbrev pub IsSet : Text → List Row → Type 0
@@ -83,3 +97,13 @@ language_word Dot = codes "dot"
 -- the option's text is the word for this language
 abbrev pub IsLanguage : List Row → Language → Type 0
 IsLanguage rows language = first_of (codes "as") rows ≡ Some (language_word language)
+
+-- the word for a style
+abbrev pub style_word : Style → Text
+style_word style.Text = codes "text"
+style_word style.Json = codes "json"
+style_word style.Junit = codes "junit"
+
+-- the option's text is the word for this style
+abbrev pub IsStyle : List Row → Style → Type 0
+IsStyle rows style = first_of (codes "as") rows ≡ Some (style_word style)

@@ -2,11 +2,12 @@
 
 ghost use Rattle.std.specs.Prelude.{◌≡◌, ℕ, true, Option, IfOk, MatchOption, MatchResult, map};
 ghost use Rattle.clap.specs.Words.{found_of, kind_of, rows_of, subcommand_rows_of, takes};
-ghost use Rattle.tpl_cli.specs.Line.{IsClaim, IsLineOf, IsWithin, Means, Names};
+ghost use Rattle.tpl_cli.specs.Line.{IsIfGiven, IsLineOf, IsWithin, Means, Names};
 ghost use Rattle.tpl_cli.specs.Usage.{taskgraph};
 
-use crate::options::{is_set, language_in, number_in};
+use crate::options::{is_set, language_in, number_in, style_in};
 use crate::subcommand::{Subcommand, subcommand_named};
+use crate::tips::{no_meaning, with_tip};
 use crate::usage::taskgraph;
 use clap::ArgMatches;
 use clap::error::ErrorKind;
@@ -14,12 +15,15 @@ use std::alloc::{AllocError, Global};
 use thiserror::Error;
 use tpl_draw::Language;
 use tpl_report::{Depth, Form};
+use tpl_verdicts::Style;
 
 /// What the program is to do.
 #[derive(Clone, Copy, Debug, Drop, PartialEq, Eq)]
 pub enum Line {
     /// Check the certificate of a document.
     Check,
+    /// Check that of the document on each line, by so many threads, 1 to 64, or as many as there are processors.
+    CheckEach(Option<u8>),
     /// Search for a certificate of a document's claims with at most this many splits on each path.
     Analyse(Depth),
     /// Search for a certificate of this form.
@@ -30,9 +34,17 @@ pub enum Line {
     Run(u16),
     /// Audit the journal of a document.
     Audit,
+    /// Audit that of the document on each line, by so many threads, 1 to 64, or as many as there are processors.
+    AuditEach(Option<u8>),
     /// Search for a run in which a claim doesn't hold: the claim, 1 to 64, or each; how many runs are tried for it, at
     /// most 1,000,000; where the random numbers begin; and whether lines are asked for on the standard error.
     Refute(Option<u8>, u32, u32, bool),
+    /// Answer each claim of a document: the most splits on each path of a certificate; how many runs are tried for a
+    /// claim, at most 1,000,000; where the random numbers begin; how many threads search, 1 to 64, or as many as there
+    /// are processors; and how the verdicts are written.
+    Verify(Depth, u32, u32, Option<u8>, Style),
+    /// The same of the document on each line, by so many threads beside each other.
+    VerifyEach(Depth, u32, u32, Option<u8>, Style),
     /// Draw the graph of a document in this language.
     Draw(Language),
     /// Write the journal of a document for a trace viewer.
@@ -66,7 +78,7 @@ impl From<AllocError> for LineFault {
 }
 
 /// The text goes where its kind belongs: help that was asked for isn't a fault of the words.
-fn fault_of(alloc: Global, error: clap::Error) -> LineFault
+fn fault_of(alloc: Global, words: &[&str], error: clap::Error) -> LineFault
     ensures { kind_of error ≡ ErrorKind.OutOfMemory → result ≡ LineFault.Memory }
 {
     let kind = error.kind();
@@ -77,7 +89,25 @@ fn fault_of(alloc: Global, error: clap::Error) -> LineFault
     match kind {
         ErrorKind::OutOfMemory => LineFault::Memory,
         ErrorKind::DisplayHelp | ErrorKind::DisplayVersion => LineFault::Help(text),
-        _ => LineFault::Usage(text),
+        _ => match with_tip(alloc, text, words) {
+            Ok(text) => LineFault::Usage(text),
+            Err(_) => LineFault::Memory,
+        },
+    }
+}
+
+/// The line that `check` means with these options.
+fn check_line(given: &ArgMatches<'_>) -> Option<Line>
+    ensures { MatchOption result
+        ((l : Line) → Means Subcommand.Check (rows_of (found_of given.now)) l → ⊥)
+        (Means Subcommand.Check (rows_of (found_of given.now))) }
+{
+    if !is_set(given, "each") {
+        return Some(Line::Check);
+    }
+    match number_if_given(given, "jobs") {
+        Some(jobs) => Some(Line::CheckEach(jobs)),
+        None => None,
     }
 }
 
@@ -103,6 +133,21 @@ fn analyse_line(given: &ArgMatches<'_>) -> Option<Line>
     }
 }
 
+/// The line that `audit` means with these options.
+fn audit_line(given: &ArgMatches<'_>) -> Option<Line>
+    ensures { MatchOption result
+        ((l : Line) → Means Subcommand.Audit (rows_of (found_of given.now)) l → ⊥)
+        (Means Subcommand.Audit (rows_of (found_of given.now))) }
+{
+    if !is_set(given, "each") {
+        return Some(Line::Audit);
+    }
+    match number_if_given(given, "jobs") {
+        Some(jobs) => Some(Line::AuditEach(jobs)),
+        None => None,
+    }
+}
+
 /// The line that `run` means with these options.
 fn run_line(given: &ArgMatches<'_>) -> Option<Line>
     ensures { MatchOption result
@@ -115,16 +160,16 @@ fn run_line(given: &ArgMatches<'_>) -> Option<Line>
     }
 }
 
-/// The claim that is asked for: one, each, or a number out of range.
-fn claim_in(given: &ArgMatches<'_>) -> Option<Option<u8>>
+/// The number from 1 to 64 that is given for the option: one, none, or a number out of range.
+fn number_if_given(given: &ArgMatches<'_>, option: &str) -> Option<Option<u8>>
     ensures { MatchOption result
-        ((claim : Option ℕ) → IsClaim (rows_of (found_of given.now)) claim → ⊥)
-        (IsClaim (rows_of (found_of given.now))) }
+        ((n : Option ℕ) → IsIfGiven option.now (rows_of (found_of given.now)) n → ⊥)
+        (IsIfGiven option.now (rows_of (found_of given.now))) }
 {
-    match given.get_str("claim") {
+    match given.get_str(option) {
         None => Some(None),
-        Some(_) => match number_in(given, "claim", 1, 64) {
-            Some(claim) => Some(Some(claim as u8)),
+        Some(_) => match number_in(given, option, 1, 64) {
+            Some(number) => Some(Some(number as u8)),
             None => None,
         },
     }
@@ -136,7 +181,7 @@ fn refute_line(given: &ArgMatches<'_>) -> Option<Line>
         ((l : Line) → Means Subcommand.Refute (rows_of (found_of given.now)) l → ⊥)
         (Means Subcommand.Refute (rows_of (found_of given.now))) }
 {
-    let Some(claim) = claim_in(given) else {
+    let Some(claim) = number_if_given(given, "claim") else {
         return None;
     };
     let Some(runs) = number_in(given, "runs", 0, 1_000_000) else {
@@ -147,6 +192,37 @@ fn refute_line(given: &ArgMatches<'_>) -> Option<Line>
     };
     let explain = is_set(given, "explain");
     Some(Line::Refute(claim, runs, seed, explain))
+}
+
+/// The line that `verify` means with these options.
+fn verify_line(given: &ArgMatches<'_>) -> Option<Line>
+    ensures { MatchOption result
+        ((l : Line) → Means Subcommand.Verify (rows_of (found_of given.now)) l → ⊥)
+        (Means Subcommand.Verify (rows_of (found_of given.now))) }
+{
+    let Some(splits) = number_in(given, "depth", 0, 6) else {
+        return None;
+    };
+    let Some(depth) = Depth::new(splits as u8) else {
+        return None;
+    };
+    let Some(runs) = number_in(given, "runs", 0, 1_000_000) else {
+        return None;
+    };
+    let Some(seed) = number_in(given, "seed", 0, 4_294_967_295) else {
+        return None;
+    };
+    let Some(jobs) = number_if_given(given, "jobs") else {
+        return None;
+    };
+    let Some(style) = style_in(given) else {
+        return None;
+    };
+    if is_set(given, "each") {
+        Some(Line::VerifyEach(depth, runs, seed, jobs, style))
+    } else {
+        Some(Line::Verify(depth, runs, seed, jobs, style))
+    }
 }
 
 /// The line that `draw` means with these options.
@@ -168,11 +244,12 @@ fn line_meant(subcommand: Subcommand, given: &ArgMatches<'_>) -> Option<Line>
         (Means subcommand (rows_of (found_of given.now))) }
 {
     match subcommand {
-        Subcommand::Check => Some(Line::Check),
+        Subcommand::Check => check_line(given),
         Subcommand::Analyse => analyse_line(given),
         Subcommand::Run => run_line(given),
-        Subcommand::Audit => Some(Line::Audit),
+        Subcommand::Audit => audit_line(given),
         Subcommand::Refute => refute_line(given),
+        Subcommand::Verify => verify_line(given),
         Subcommand::Draw => draw_line(given),
         Subcommand::Trace => Some(Line::Trace),
     }
@@ -205,10 +282,10 @@ pub fn line_of<'a>(alloc: Global, words: &'a [&'a str]) -> Result<Line, LineFaul
 {
     let matches = match taskgraph(alloc)?.try_get_matches_from(words) {
         Ok(matches) => matches,
-        Err(error) => return Err(fault_of(alloc, error)),
+        Err(error) => return Err(fault_of(alloc, words, error)),
     };
     match line_in(&matches) {
         Some(line) => Ok(line),
-        None => Err(LineFault::Usage(String::from_str(alloc, "error: no command\n")?)),
+        None => Err(LineFault::Usage(no_meaning(alloc, &matches)?)),
     }
 }

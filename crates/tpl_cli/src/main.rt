@@ -2,35 +2,41 @@
 #![tactic(auto)]
 
 mod boxes;
+mod devices;
 mod line;
 mod options;
 mod progress;
 mod subcommand;
+mod tips;
 mod usage;
 mod why;
 
-ghost use Rattle.std.specs.Prelude.{IfOk};
+ghost use Rattle.std.specs.Prelude.{◌<◌, ◌≤◌, IfOk};
 ghost use Rattle.std.specs.List.{All};
 ghost use Rattle.tpl_graph.specs.Fits.{Fits};
-ghost use Rattle.tpl_cli.specs.Line.{IsWithin};
+ghost use Rattle.tpl_cli.specs.Line.{AreThreads, IsWithin};
 ghost use Rattle.tpl_commands.specs.Loading.{RequestsTokens};
 ghost use Rattle.tpl_reader.specs.SeenDocument.{doc_of};
 
 use crate::boxes::run_boxes;
+use crate::devices::{Noting, say_unwritten, say_what_failed};
 use crate::line::{Line, LineFault, line_of};
-use crate::progress::RunProgress;
+use crate::progress::{ClaimProgress, RunProgress};
 use crate::why::{Teller, asks_why, say_what_is_read};
 use std::alloc::Global;
 use std::io::{BufWriter, ErrorKind, IsTerminal, Read, Write};
 use std::process::ExitCode;
 use std::sync::Wait;
-use std::thread::Threads;
+use std::thread::{Threads, available_parallelism};
 use std::{env, iter};
 use tpl_commands::{Ask, Exit, Loaded, load_watched, put_out_of_memory, serve_watched};
+use tpl_each::{MOST_JOBS, Question, serve_each};
 use tpl_journal::Counting;
 use tpl_reader::Document;
 use tpl_report::Crew;
 use tpl_trace::trace_document;
+use tpl_verdicts::{OneByOne, Verification, verify_document};
+use tpl_verify::Limits;
 use tpl_witness::{Search, refute_document};
 use tpl_words::Inputs;
 
@@ -120,6 +126,42 @@ fn search_of(claim: Option<u8>, runs: u32, seed: u32, explain: bool) -> Search {
     }
 }
 
+/// How many threads work beside each other: as many as are asked for, or as there are processors; one where that isn't known.
+fn jobs_of<R: Threads>(threads: &R, asked: Option<u8>) -> usize
+    requires { AreThreads asked }
+    ensures some { 0 < result }
+    ensures most { result ≤ 64 }
+{
+    match asked {
+        Some(jobs) => usize::from(jobs),
+        None => match available_parallelism(threads) {
+            Ok(processors) => processors.get().min(MOST_JOBS),
+            Err(_) => 1,
+        },
+    }
+}
+
+/// Answers the document on each line. No reasons are given.
+fn answer_each<R: Threads + Sync, I: Read, O: Write>(
+    threads: &R,
+    alloc: Global,
+    ask: Ask,
+    jobs: Option<u8>,
+    from: &mut Counting<I>,
+    to: &mut Counting<O>,
+) -> Exit
+    requires { AreThreads jobs }
+{
+    serve_each(
+        threads,
+        &Question { ask },
+        alloc,
+        jobs_of(threads, jobs),
+        from,
+        to,
+    )
+}
+
 /// Answers the document that comes, and says on the standard error why the answer is what it is, where that is asked for.
 fn answer<R: Threads + Wait + Sync, I: Read, O: Write>(
     rt: &HostRuntime,
@@ -144,10 +186,27 @@ fn answer<R: Threads + Wait + Sync, I: Read, O: Write>(
         }
         Line::Run(workers) => run(rt, threads, teller, workers, from, to),
         Line::Audit => serve_watched(alloc, Ask::Audit, teller, from, to),
+        Line::CheckEach(jobs) => answer_each(threads, alloc, Ask::Check, jobs, from, to),
+        Line::AuditEach(jobs) => answer_each(threads, alloc, Ask::Audit, jobs, from, to),
         Line::Refute(claim, runs, seed, explain) => {
             let search = search_of(claim, runs, seed, explain);
-            let mut aside = Counting::new(rt.stderr());
-            refute_document(alloc, search, teller, from, to, &mut aside)
+            refute_document(alloc, search, teller, from, to)
+        }
+        Line::Verify(depth, runs, seed, jobs, style) => {
+            let limits = Limits::usual(depth, runs, u64::from(seed));
+            let jobs = jobs_of(threads, jobs);
+            let progress = ClaimProgress::new(rt);
+            let asked = Verification {
+                limits,
+                jobs,
+                style,
+            };
+            verify_document(threads, alloc, asked, &progress, searcher, from, to)
+        }
+        Line::VerifyEach(depth, runs, seed, jobs, style) => {
+            let limits = Limits::usual(depth, runs, u64::from(seed));
+            let asked = OneByOne { limits, style };
+            serve_each(threads, &asked, alloc, jobs_of(threads, jobs), from, to)
         }
         Line::Draw(language) => serve_watched(alloc, Ask::Draw(language), teller, from, to),
         Line::Trace => trace_document(alloc, teller, from, to),
@@ -155,18 +214,21 @@ fn answer<R: Threads + Wait + Sync, I: Read, O: Write>(
 }
 
 /// Does what the command line says. What is written is kept together, and all of it is written out before the end is
-/// known. What a failed write left is not written later.
+/// known. What a failed write left is not written later. Where reading or writing failed, standard error says how.
 fn perform<R: Threads + Wait + Sync>(rt: &HostRuntime, threads: &R, order: Order) -> Exit
     requires { IsWithin order.line }
 {
     say_what_is_read(rt);
-    let mut from = Counting::new(rt.stdin());
-    let Ok(out) = BufWriter::new(rt.alloc(), rt.stdout()) else {
+    let mut from = Counting::new(Noting::new(rt.stdin()));
+    let Ok(out) = BufWriter::new(rt.alloc(), Noting::new(rt.stdout())) else {
         return put_out_of_memory(&mut Counting::new(rt.stdout()));
     };
     let mut to = Counting::new(out);
     let exit = answer(rt, threads, &order, &mut from, &mut to);
-    let _left = to.into_inner().into_parts();
+    let (out, _left) = to.into_inner().into_parts();
+    if exit == Exit::Device {
+        say_what_failed(rt, from.into_inner().error(), out.error());
+    }
     exit
 }
 
@@ -175,7 +237,10 @@ fn refuse(rt: &HostRuntime, fault: LineFault) -> Exit {
     match fault {
         LineFault::Help(text) => match print!(rt; "{text}") {
             Ok(()) => Exit::Success,
-            Err(_) => Exit::Device,
+            Err(error) => {
+                say_unwritten(rt, error);
+                Exit::Device
+            }
         },
         LineFault::Usage(text) => match eprint!(rt; "{text}") {
             Ok(()) => Exit::Usage,

@@ -2,26 +2,27 @@
 
 ghost use Rattle.std.specs.Prelude.{◌≡◌, ◌↔◌, ℕ, false, IsTrue, MatchOption};
 ghost use Rattle.clap.specs.Words.{found_of, rows_of, rule_of};
-ghost use Rattle.tpl_cli.specs.Options.{claim_rule, depth_rule, explain_rule, language_rule, language_word, runs_rule, seed_rule, slim_rule, whole_rule, workers_rule, IsGiven, IsLanguage, IsSet};
+ghost use Rattle.tpl_cli.specs.Options.{claim_rule, depth_rule, each_rule, explain_rule, jobs_rule, language_rule, language_word, runs_rule, seed_rule, slim_rule, style_rule, style_word, whole_rule, workers_rule, IsGiven, IsLanguage, IsSet, IsStyle};
 
 use clap::{Arg, ArgAction, ArgMatches, value_parser};
 use std::alloc::Global;
 use tpl_draw::Language;
+use tpl_verdicts::Style;
 
-/// The option for the most splits on each path.
-pub(crate) fn depth<'a>(alloc: Global) -> Arg<'a>
-    ensures rule { rule_of result ≡ depth_rule }
+/// The option for the most splits on each path, with how many there are where it is left out.
+pub(crate) fn depth<'a>(alloc: Global, usual: &'a str) -> Arg<'a>
+    ensures rule { rule_of result ≡ depth_rule usual.now }
     ensures own { result.global ≡ false }
 {
     Arg::new(alloc, "depth")
         .long("depth")
         .value_name("N")
         .help("The most splits on each path of a tree, 0 to 6")
-        .default_value("2")
+        .default_value(usual)
         .value_parser(value_parser!(u32).range(0..=6))
 }
 
-/// The option for rows that say no more than is used.
+/// The option for rows that say no more than the proof needs.
 pub(crate) fn slim<'a>(alloc: Global) -> Arg<'a>
     ensures rule { rule_of result ≡ slim_rule }
     ensures own { result.global ≡ false }
@@ -29,7 +30,7 @@ pub(crate) fn slim<'a>(alloc: Global) -> Arg<'a>
     Arg::new(alloc, "slim")
         .long("slim")
         .action(ArgAction::SetTrue)
-        .help("Leaves out of the rows what the claim's proof does not use")
+        .help("Omits from the rows whatever the proof does not need")
 }
 
 /// The option for the whole document.
@@ -40,7 +41,7 @@ pub(crate) fn whole<'a>(alloc: Global) -> Arg<'a>
     Arg::new(alloc, "whole")
         .long("whole")
         .action(ArgAction::SetTrue)
-        .help("Writes the document with the certificate in its place")
+        .help("Writes the whole document, with the certificate in it")
 }
 
 /// The option for how many workers make a run.
@@ -64,7 +65,7 @@ pub(crate) fn claim<'a>(alloc: Global) -> Arg<'a>
     Arg::new(alloc, "claim")
         .long("claim")
         .value_name("N")
-        .help("The claim, 1 to 64; every claim where it is left out")
+        .help("The claim, 1 to 64; every claim if it is left out")
         .value_parser(value_parser!(u32).range(1..=64))
 }
 
@@ -89,9 +90,34 @@ pub(crate) fn seed<'a>(alloc: Global) -> Arg<'a>
     Arg::new(alloc, "seed")
         .long("seed")
         .value_name("N")
-        .help("Where the random numbers begin, 0 to 4294967295")
+        .help("The seed of the random numbers, 0 to 4294967295")
         .default_value("0")
         .value_parser(value_parser!(u32).range(0..=4_294_967_295))
+}
+
+/// The option for how many threads search.
+pub(crate) fn jobs<'a>(alloc: Global) -> Arg<'a>
+    ensures rule { rule_of result ≡ jobs_rule }
+    ensures own { result.global ≡ false }
+{
+    Arg::new(alloc, "jobs")
+        .long("jobs")
+        .value_name("N")
+        .help(
+            "How many threads work beside each other, 1 to 64; as many as there are processors where it is left out",
+        )
+        .value_parser(value_parser!(u32).range(1..=64))
+}
+
+/// The option for a document on each line.
+pub(crate) fn each<'a>(alloc: Global) -> Arg<'a>
+    ensures rule { rule_of result ≡ each_rule }
+    ensures own { result.global ≡ false }
+{
+    Arg::new(alloc, "each")
+        .long("each")
+        .action(ArgAction::SetTrue)
+        .help("Answers the document on each line, behind its number and exit status")
 }
 
 /// The option for lines on the standard error.
@@ -102,7 +128,7 @@ pub(crate) fn explain<'a>(alloc: Global) -> Arg<'a>
     Arg::new(alloc, "explain")
         .long("explain")
         .action(ArgAction::SetTrue)
-        .help("Says on the standard error why the answer is what it is, and what to do")
+        .help("Says on standard error why the answer is what it is, and what to do")
 }
 
 /// The option for the language of a picture.
@@ -113,8 +139,20 @@ pub(crate) fn language<'a>(alloc: Global) -> Arg<'a>
     Arg::new(alloc, "as")
         .long("as")
         .value_name("LANGUAGE")
-        .help("The language of the picture, mermaid or dot")
+        .help("The language of the picture: mermaid or dot")
         .default_value("mermaid")
+}
+
+/// The option for how verdicts are written.
+pub(crate) fn style<'a>(alloc: Global) -> Arg<'a>
+    ensures rule { rule_of result ≡ style_rule }
+    ensures own { result.global ≡ false }
+{
+    Arg::new(alloc, "as")
+        .long("as")
+        .value_name("STYLE")
+        .help("How the verdicts are written: text, json or junit")
+        .default_value("text")
 }
 
 /// Whether the option was used.
@@ -161,6 +199,34 @@ pub(crate) fn language_in(given: &ArgMatches<'_>) -> Option<Language>
 {
     match given.get_str("as") {
         Some(word) => language_named(word),
+        None => None,
+    }
+}
+
+/// The style that a word names.
+fn style_named(word: &str) -> Option<Style>
+    ensures { MatchOption result ((s : Style) → style_word s ≡ word.now → ⊥)
+        (λ s. style_word s ≡ word.now) }
+{
+    if word == "text" {
+        Some(Style::Text)
+    } else if word == "json" {
+        Some(Style::Json)
+    } else if word == "junit" {
+        Some(Style::Junit)
+    } else {
+        None
+    }
+}
+
+/// The style that the option names.
+pub(crate) fn style_in(given: &ArgMatches<'_>) -> Option<Style>
+    ensures { MatchOption result
+        ((s : Style) → IsStyle (rows_of (found_of given.now)) s → ⊥)
+        (IsStyle (rows_of (found_of given.now))) }
+{
+    match given.get_str("as") {
+        Some(word) => style_named(word),
         None => None,
     }
 }

@@ -1,13 +1,15 @@
 //! How far the work is, told on the standard error while it goes on, where that is a terminal.
 
 use std::alloc::Global;
-use std::sync::atomic::{AtomicBool, Ordering};
+use std::io::IsTerminal;
+use std::sync::atomic::{AtomicBool, AtomicUsize, Ordering};
 use std::thread;
 use std::time::Duration;
 use tpl_fast::Fast;
 use tpl_graph::Graph;
 use tpl_machine::Core;
 use tpl_report::{Follow, Watcher};
+use tpl_verify::{Attend, Verdict};
 use tpl_words::{Inputs, TaskId};
 
 /// How long it takes until the line is written again, in milliseconds.
@@ -16,7 +18,7 @@ const PAUSE: u64 = 20;
 /// The most times that the line is written: in an hour.
 const MOST_LOOKS: u32 = 180_000;
 
-/// Takes the line back.
+/// Erases the progress line.
 pub(crate) fn clear(rt: &HostRuntime) {
     let _ = eprint!(rt; "\r\x1b[K");
 }
@@ -74,6 +76,47 @@ fn catch_up(run: &mut Fast<'_>, watcher: &mut Watcher, done: usize) -> usize {
         let _done = run.step(*event);
     }
     watcher.list().len()
+}
+
+/// Tells how many claims have a verdict.
+#[derive(Drop)]
+pub(crate) struct ClaimProgress<'a> {
+    rt: &'a HostRuntime,
+    shows: bool,
+    judged: AtomicUsize,
+}
+
+impl<'a> ClaimProgress<'a> {
+    /// No claim has a verdict yet. They are counted on a terminal alone.
+    pub(crate) fn new(rt: &'a HostRuntime) -> ClaimProgress<'a> {
+        ClaimProgress {
+            rt,
+            shows: rt.stderr().is_terminal(),
+            judged: AtomicUsize::new(0),
+        }
+    }
+}
+
+/// What is said at once of a claim with this verdict. Nothing, where it holds and isn't empty.
+fn said_of(verdict: &Verdict) -> Option<&'static str> {
+    match verdict {
+        Verdict::Holds { empty: None, .. } => None,
+        Verdict::Holds { empty: Some(_), .. } => Some("is empty"),
+        Verdict::Fails(_) => Some("fails"),
+        Verdict::Unknown(_) => Some("is unknown"),
+    }
+}
+
+impl Attend for ClaimProgress<'_> {
+    fn judged(&self, number: usize, verdict: &Verdict) {
+        if self.shows {
+            let judged = self.judged.fetch_add(1, Ordering::SeqCst).saturating_add(1);
+            if let Some(said) = said_of(verdict) {
+                let _ = eprint!(self.rt; "\rclaim {number} {said}\x1b[K\n");
+            }
+            let _ = eprint!(self.rt; "\rclaims with a verdict: {judged}\x1b[K");
+        }
+    }
 }
 
 impl Follow for RunProgress<'_> {

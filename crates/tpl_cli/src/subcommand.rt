@@ -11,6 +11,7 @@ pub(crate) enum Subcommand {
     Run,
     Audit,
     Refute,
+    Verify,
     Draw,
     Trace,
 }
@@ -26,6 +27,7 @@ pub(crate) fn subcommand_named(word: &str) -> Option<Subcommand>
         "run" => Some(Subcommand::Run),
         "audit" => Some(Subcommand::Audit),
         "refute" => Some(Subcommand::Refute),
+        "verify" => Some(Subcommand::Verify),
         "draw" => Some(Subcommand::Draw),
         "trace" => Some(Subcommand::Trace),
         _ => None,

@@ -9,11 +9,14 @@ ghost use Rattle.tpl_reader.specs.SeenDocument.{doc_of};
 ghost use Rattle.tpl_commands.specs.Finding.{IsFoundOf};
 
 use crate::progress::clear;
+use json::Value;
+use std::alloc::Global;
 use std::io::IsTerminal;
 use tpl_analyser::Watch;
-use tpl_commands::{Audit, Exit, Finding, Found, Listen, check_document};
-use tpl_reader::Document;
-use tpl_reasons::explain;
+use tpl_checker::check;
+use tpl_commands::{Audit, Exit, Finding, Found, Listen, rules_of};
+use tpl_reader::{Document, Hear, NotRead, ReadFault};
+use tpl_reasons::{explain, no_document_text, no_json_text, twice_text};
 
 /// Whether the words ask for reasons.
 pub(crate) fn asks_why(words: &[&str]) -> bool {
@@ -69,6 +72,32 @@ impl Watch for Teller<'_> {
     }
 }
 
+impl Hear for Teller<'_> {
+    fn document(self, alloc: Global, value: &Value<'_>) {
+        if self.explains {
+            if let Ok(Some(text)) = twice_text(alloc, value) {
+                let _ = eprint!(self.rt; "{text}");
+            }
+        }
+    }
+
+    fn no_json(self, alloc: Global, bytes: &[u8], why: NotRead) -> Option<String> {
+        if self.explains {
+            no_json_text(alloc, bytes, why).ok()
+        } else {
+            None
+        }
+    }
+
+    fn no_document(self, alloc: Global, value: &Value<'_>, fault: ReadFault) -> Option<String> {
+        if self.explains {
+            no_document_text(alloc, value, fault).ok()
+        } else {
+            None
+        }
+    }
+}
+
 impl Listen for Teller<'_> {
     fn found(self) {
         if self.shows {
@@ -91,6 +120,10 @@ impl Listen for Teller<'_> {
             );
         }
     }
+
+    fn tells(self, line: &str) {
+        let _ = eprint!(self.rt; "{line}");
+    }
 }
 
 /// Why a document isn't run: nothing says which values its inputs have, or its certificate is refused.
@@ -100,7 +133,12 @@ fn why_no_run(document: &Document) -> Option<Found>
 {
     match document.inputs() {
         None => Some(Found::Audited(Audit::NoStart)),
-        Some(_) => match check_document(document) {
+        Some(_) => match check(
+            &document.graph,
+            &document.claims,
+            &document.certificate,
+            rules_of(document),
+        ) {
             Ok(()) => None,
             Err(fault) => Some(Found::Checked(Err(fault))),
         },

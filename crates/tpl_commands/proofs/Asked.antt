@@ -68,5 +68,5 @@ unread_answers Audit input exit text none = inr none
 unread_answers (Draw l) input exit text none = inr none
 
 pub asked_answers : (ask : Ask) (input : List ℕ) (finding : Finding) (exit : Exit) (text : List ℕ) → IsAskedFor ask finding → IsFindingOf input finding → IsAnswer finding exit text → answers_of ask input exit text
-asked_answers ask input (Unread fault) exit text asked found answer = unread_answers ask input exit text (fault, found.0, answer.0, answer.1)
+asked_answers ask input (Unread misread) exit text asked found answer = unread_answers ask input exit text (misread.fault, found.0, answer.0, answer.1)
 asked_answers ask input (Read document found) exit text asked is answer = found_answers input (doc_of document) is.0 exit text ask found asked answer

@@ -1,6 +1,7 @@
 pub mod Accepting
 pub mod Asked
 pub mod AuditLemmas
+pub mod Checked
 pub mod Inputs
 pub mod LineBreak
 pub mod LoadLemmas

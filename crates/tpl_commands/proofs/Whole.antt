@@ -13,14 +13,13 @@ use Rattle.tpl_cert.proofs.Nesting.{tree_depth}
 use Rattle.std.specs.declared.alloc.AllocError.{AllocError}
 use Rattle.tpl_analyser.specs.declared.form.Form.{Form}
 use Rattle.tpl_reader.specs.Document.{DocumentValue, Spells}
-use Rattle.tpl_reader.specs.Laws.{SpellsOneDocument, SpelledHasNoFault, CertificateIsReadBack, IsReadBack, HasCertificate, HoldsCertificate}
+use Rattle.tpl_reader.specs.Laws.{HasCertificate, HoldsCertificate}
 use Rattle.tpl_commands.specs.declared.answer.Answer.{Answer}
 use Rattle.tpl_commands.specs.declared.exit.Exit.{Exit}
 use Rattle.tpl_commands.specs.declared.searching.Outcome.TheVariants.{Certificate}
 use Rattle.tpl_commands.specs.Certifying.{IsCertified, IsTooLong, IsCertifying, IsSized, IsWholeText}
 use Rattle.tpl_commands.specs.Checking.{ClaimsHold}
-use Rattle.tpl_commands.specs.Searching.{AreFound, written_tree, written_trees}
-use Rattle.tpl_commands.proofs.TakenBack.{taken_back}
+use Rattle.tpl_commands.specs.Searching.{AreFound, CanBePut, written_tree, written_trees}
 
 trees_depth : (n : Names) (trees : List Tree) → All (λ t. height t ≤ 6) trees → items_depth (items_of (map (written_tree n) trees)) ≤ 10
 trees_depth n [] low = omega arith
@@ -40,16 +39,15 @@ whole_depth n trees bytes d with low is has =
     subst (λ (x : Data). depth x ≤ max_depth) (sym has.2) (omega arith)
 
 -- the text of a document with a certificate in its place, read back or too long
-pub certifying : SpellsOneDocument → SpelledHasNoFault → CertificateIsReadBack → (depth : ℕ) (form : Form) (doc : DocumentValue) (trees : List Tree) (input text : List ℕ)
-    → AreFound depth form doc trees → ClaimsHold doc → All (IsReadBack doc.graph.names) trees → Spells input doc → HoldsCertificate input (written_trees doc.graph.names trees) text
+pub certifying : (depth : ℕ) (form : Form) (doc : DocumentValue) (trees : List Tree) (input text : List ℕ)
+    → AreFound depth form doc trees → ClaimsHold doc → CanBePut doc trees (written_trees doc.graph.names trees) → Spells input doc → HoldsCertificate input (written_trees doc.graph.names trees) text
     → (r : Result Answer AllocError) → IfOk r (IsSized text) → IfOk r (λ given. IsCertifying depth form doc given.exit (string_bytes given.text) × IsWholeText doc.graph.names (Certificate trees) (string_bytes given.text))
-certifying one faultless put depth form doc trees input text found hold back spelled holds (Ok given) (inl (le, is_success, is_text)) =
-    let again = taken_back one faultless put doc trees found.accepted back input text spelled holds le in
-    let certified : IsCertified depth form doc text = record { trees = trees; found = found; hold = hold; taken_back = again } in (
+certifying depth form doc trees input text found hold put spelled holds (Ok given) (inl (le, is_success, is_text)) =
+    let certified : IsCertified depth form doc text = record { trees = trees; found = found; hold = hold; taken_back = put input text spelled holds le } in (
       subst (λ (e : Exit). IsCertifying depth form doc e (string_bytes given.text)) (sym is_success) (subst (λ (bytes : List ℕ). IsCertified depth form doc bytes) (sym is_text) certified),
       inl (input, subst (λ (bytes : List ℕ). HoldsCertificate input (written_trees doc.graph.names trees) bytes) (sym is_text) holds),
     )
-certifying one faultless put depth form doc trees input text found hold back spelled holds (Ok given) (inr (lt, is_failure, is_text)) =
+certifying depth form doc trees input text found hold put spelled holds (Ok given) (inr (lt, is_failure, is_text)) =
     let too_long : IsTooLong depth form doc = record { trees = trees; found = found; input = input; spelled = spelled; text = text; holds = holds; long = lt } in
     (subst (λ (e : Exit). IsCertifying depth form doc e (string_bytes given.text)) (sym is_failure) (inr (too_long, is_text)), inr is_text)
-certifying one faultless put depth form doc trees input text found hold back spelled holds (Err e) sized = tt
+certifying depth form doc trees input text found hold put spelled holds (Err e) sized = tt

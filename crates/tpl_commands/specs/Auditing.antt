@@ -10,6 +10,7 @@ use Rattle.tpl_audit.specs.declared.verdict.Verdict.{Verdict}
 use Rattle.tpl_audit.specs.declared.verdict.Verdict.TheVariants as ruled
 use Rattle.tpl_audit.specs.Audit.{IsVerdict, FindsNoFailure}
 use Rattle.tpl_reader.specs.Document.{DocumentValue}
+use Rattle.tpl_commands.specs.Rules.{is_judged_widely}
 use Rattle.tpl_commands.specs.declared.auditing.Audit.{Audit}
 use Rattle.tpl_commands.specs.declared.auditing.Audit.TheVariants.{NoStart, NoJournal, Judged}
 use Rattle.tpl_commands.specs.declared.exit.Exit.{Exit}
@@ -50,7 +51,7 @@ pub record IsAudited (doc : DocumentValue) (verdict : Verdict) : Type 0 where
   pub events : List Event
   pub journal : IsJournal doc.graph doc.journal events
   pub audited : IsVerdict doc.graph.graph inputs events doc.claims verdict
-  pub sound : Accepts doc.graph.graph doc.claims doc.certificate → FindsNoFailure verdict
+  pub sound : Accepts (is_judged_widely doc) doc.graph.graph doc.claims doc.certificate → FindsNoFailure verdict
 
 -- The inputs are known, and the journal's text is none of the graph's, for this reason.
 pub record IsNoJournal (doc : DocumentValue) (fault : JournalFault) : Type 0 where

@@ -11,6 +11,7 @@ use Rattle.tpl_laws.specs.Verdict.{verdict}
 use Rattle.tpl_laws.specs.Faults.{IsFirstFault}
 use Rattle.tpl_laws.specs.Soundness.{Each}
 use Rattle.tpl_reader.specs.Document.{DocumentValue}
+use Rattle.tpl_commands.specs.Rules.{is_judged_widely}
 use Rattle.tpl_commands.specs.declared.exit.Exit.{Exit}
 use Rattle.tpl_commands.specs.declared.exit.Exit.TheVariants.{Success, Failure}
 use Rattle.tpl_commands.specs.Texts.{refused_shape, refused_leaf, refused_claim}
@@ -25,15 +26,15 @@ ClaimsHold doc =
 
 -- The certificate has no fault: it is accepted, and so the claims hold.
 pub record IsAccepted (doc : DocumentValue) : Type 0 where
-  pub verdict : verdict doc.graph.graph doc.claims doc.certificate ≡ Ok tt
-  pub accepted : Accepts doc.graph.graph doc.claims doc.certificate
+  pub verdict : verdict (is_judged_widely doc) doc.graph.graph doc.claims doc.certificate ≡ Ok tt
+  pub accepted : Accepts (is_judged_widely doc) doc.graph.graph doc.claims doc.certificate
   pub hold : ClaimsHold doc
 
 -- This is the first fault of the certificate, which isn't accepted.
 pub record IsRefused (doc : DocumentValue) (fault : CertFault) : Type 0 where
-  pub verdict : verdict doc.graph.graph doc.claims doc.certificate ≡ Err fault
-  pub first : IsFirstFault doc.graph.graph doc.claims doc.certificate fault
-  pub not_accepted : Accepts doc.graph.graph doc.claims doc.certificate → ⊥
+  pub verdict : verdict (is_judged_widely doc) doc.graph.graph doc.claims doc.certificate ≡ Err fault
+  pub first : IsFirstFault (is_judged_widely doc) doc.graph.graph doc.claims doc.certificate fault
+  pub not_accepted : Accepts (is_judged_widely doc) doc.graph.graph doc.claims doc.certificate → ⊥
 
 -- the task that is named is the graph's
 abbrev pub NamesTask : TaskGraph → CertFault → Type 0

@@ -8,6 +8,7 @@ use Rattle.tpl_draw.specs.declared.language.Language.{Language}
 use Rattle.tpl_draw.specs.Endings.{endings}
 use Rattle.tpl_draw.specs.Picture.{picture}
 use Rattle.tpl_reader.specs.Document.{DocumentValue}
+use Rattle.tpl_commands.specs.Rules.{is_judged_widely}
 use Rattle.tpl_commands.specs.declared.exit.Exit.{Exit}
 use Rattle.tpl_commands.specs.declared.exit.Exit.TheVariants.{Success}
 use Rattle.tpl_commands.specs.Responding.{Answers}
@@ -21,7 +22,7 @@ endings_after (Err fault) certificate tasks = []
 -- how the tasks may end, where the certificate is accepted; else nothing
 abbrev pub shown_endings : DocumentValue → List Finals
 shown_endings doc =
-    endings_after (verdict doc.graph.graph doc.claims doc.certificate) doc.certificate (length doc.graph.graph.tasks)
+    endings_after (verdict (is_judged_widely doc) doc.graph.graph doc.claims doc.certificate) doc.certificate (length doc.graph.graph.tasks)
 
 -- the answer is the picture of the document's graph, coloured by how its tasks may end
 abbrev pub IsDrawing : Language → DocumentValue → Exit → List ℕ → Type 0

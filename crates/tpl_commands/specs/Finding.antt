@@ -32,7 +32,7 @@ IsFoundOf doc (Audited audit) = IsAuditOf doc audit
 -- what was found is so of the bytes: they spell no document, for this reason; or this one, each claim of which can be asked
 -- of its graph
 abbrev pub IsFindingOf : List ℕ → Finding → Type 0
-IsFindingOf input (Unread fault) = IsFault input fault × (fault ≡ read.Memory → ⊥)
+IsFindingOf input (Unread misread) = IsFault input misread.fault × (misread.fault ≡ read.Memory → ⊥)
 IsFindingOf input (Read document found) =
     Spells input (doc_of document) × All (Fits document.graph.graph) document.claims.items × IsFoundOf (doc_of document) found
 
@@ -48,7 +48,7 @@ IsFoundFor ask found = ⊥
 
 -- that bytes spell no document may be found whatever is asked
 abbrev pub IsAskedFor : Ask → Finding → Type 0
-IsAskedFor ask (Unread fault) = Unit {0}
+IsAskedFor ask (Unread misread) = Unit {0}
 IsAskedFor ask (Read document found) = IsFoundFor ask found
 
 -- the answer to a document for which this was found: it is so of the document, and its text tells what was found
@@ -63,5 +63,5 @@ IsAnswerTo doc (Audited audit) exit text = IsAudit doc exit text × IsAuditAnswe
 
 -- the answer to bytes for which this was found
 abbrev pub IsAnswer : Finding → Exit → List ℕ → Type 0
-IsAnswer (Unread fault) exit text = (exit ≡ Unreadable) × IsUnreadable fault text
+IsAnswer (Unread misread) exit text = (exit ≡ Unreadable) × IsUnreadable misread.fault text
 IsAnswer (Read document found) exit text = IsAnswerTo (doc_of document) found exit text

@@ -7,6 +7,7 @@ pub mod Exit
 pub mod Finding
 pub mod Loading
 pub mod Responding
+pub mod Rules
 pub mod Searching
 pub mod Serving
 pub mod Texts

@@ -1,9 +1,8 @@
 -- What a command leaves behind.
 use Rattle.std.specs.Prelude.{◌≡◌, ◌⊎◌, ◌<◌, ◌≤◌, ℕ, List, length, codes, true, Option, IfSome}
-use Rattle.std.specs.Io.KnownBytes.{Appends}
 use Rattle.tpl_journal.specs.declared.counting.Counting.{Counting}
-use Rattle.tpl_journal.specs.Counting.{failures_of, counted, remaining_of, contents_of}
-use Rattle.tpl_journal.specs.Writing.{AppendsFront}
+use Rattle.tpl_journal.specs.Counting.{failures_of, counted, remaining_of}
+use Rattle.tpl_journal.specs.Writing.{Writes, StopsIn}
 use Rattle.tpl_commands.specs.declared.exit.Exit.{Exit}
 use Rattle.tpl_commands.specs.declared.exit.Exit.TheVariants.{Success, Failure, Usage, Unreadable, Memory, Device, Fault}
 
@@ -36,16 +35,6 @@ Says answers input Fault text = ⊥
 pub record Reads {R : Type 0} (remaining : R → Option (List ℕ)) (old new : Counting R) (input : List ℕ) : Type 0 where
   pub known : IfSome (remaining_of remaining old) (λ bytes. input ≡ bytes)
   pub failures : failures_of new ≡ failures_of old
-
--- no write failed, and the text was written
-pub record Writes {W : Type 0} (contents : W → Option (List ℕ)) (old new : Counting W) (text : List ℕ) : Type 0 where
-  pub whole : Appends (contents_of contents old) (contents_of contents new) text
-  pub failures : failures_of new ≡ failures_of old
-
--- a write failed, after which nothing more was written than a front of the text
-pub record StopsIn {W : Type 0} (contents : W → Option (List ℕ)) (old new : Counting W) (text : List ℕ) : Type 0 where
-  pub front : AppendsFront (contents_of contents old) (contents_of contents new) text
-  pub failures : failures_of new ≡ counted true (failures_of old)
 
 -- the text was written and this is the exit, or a write failed
 abbrev pub Puts : {W : Type 0} → (W → Option (List ℕ)) → Counting W → Counting W → Exit → List ℕ → Exit → Type 0

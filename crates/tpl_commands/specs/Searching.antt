@@ -14,6 +14,7 @@ use Rattle.tpl_analyser.specs.declared.form.Form.{Form}
 use Rattle.tpl_analyser.specs.Gaps.{IsFirstWithout}
 use Rattle.tpl_analyser.specs.Slim.{IsCertificateOf}
 use Rattle.tpl_reader.specs.Document.{DocumentValue, Spells, longest}
+use Rattle.tpl_commands.specs.Rules.{is_judged_widely}
 use Rattle.tpl_reader.specs.Laws.{IsReadBack, HoldsCertificate}
 use Rattle.tpl_commands.specs.declared.exit.Exit.{Exit}
 use Rattle.tpl_commands.specs.declared.exit.Exit.TheVariants.{Success, Failure}
@@ -55,17 +56,23 @@ CanBePut doc trees value =
     (input bytes : List ℕ) → Spells input doc → HoldsCertificate input value bytes → length bytes ≤ longest
     → IsTakenBack doc trees bytes
 
+-- where each tree's text spells it, the trees are read back, and the document with them is
+abbrev pub IsBackWhereRead : DocumentValue → List Tree → Type 0
+IsBackWhereRead doc trees =
+    All (IsRead doc.graph.names) trees
+    → All (IsReadBack doc.graph.names) trees × CanBePut doc trees (written_trees doc.graph.names trees)
+
 -- The trees are a certificate of this form with at most this many splits on each path, which is accepted
 -- for the document's claims.
 pub record AreFound (depth : ℕ) (form : Form) (doc : DocumentValue) (trees : List Tree) : Type 0 where
-  pub accepted : Accepts doc.graph.graph doc.claims trees
+  pub accepted : Accepts (is_judged_widely doc) doc.graph.graph doc.claims trees
   pub splits : All (λ tree. height tree ≤ depth) trees
   pub of_form : IsCertificateOf form doc.claims trees
 
 -- how a search with this many splits on each path ends for the document
 abbrev pub IsOutcome : ℕ → Form → DocumentValue → Outcome → Type 0
 IsOutcome depth form doc (Certificate trees) = AreFound depth form doc trees
-IsOutcome depth form doc (Missed claim ran_out) = IsFirstWithout doc.graph.graph doc.claims depth claim
+IsOutcome depth form doc (Missed claim ran_out) = IsFirstWithout (is_judged_widely doc) doc.graph.graph doc.claims depth claim
 
 -- how the search ended is so of the document
 abbrev pub IsSearchOf : DocumentValue → Searched → Type 0
@@ -81,7 +88,7 @@ IsOutcomeText names (Missed claim ran_out) text = text ≡ not_found claim
 -- these trees, and accepted.
 pub record IsCertificate (depth : ℕ) (form : Form) (doc : DocumentValue) (text : List ℕ) : Type 0 where
   pub trees : List Tree
-  pub accepted : Accepts doc.graph.graph doc.claims trees
+  pub accepted : Accepts (is_judged_widely doc) doc.graph.graph doc.claims trees
   pub hold : ClaimsHold doc
   pub splits : All (λ tree. height tree ≤ depth) trees
   pub of_form : IsCertificateOf form doc.claims trees
@@ -94,7 +101,7 @@ pub record IsCertificate (depth : ℕ) (form : Form) (doc : DocumentValue) (text
 -- the text names the first claim for which none was found
 abbrev pub IsNotFound : ℕ → DocumentValue → List ℕ → Type 0
 IsNotFound depth doc text =
-    (claim : ℕ) × IsFirstWithout doc.graph.graph doc.claims depth claim × (text ≡ not_found claim)
+    (claim : ℕ) × IsFirstWithout (is_judged_widely doc) doc.graph.graph doc.claims depth claim × (text ≡ not_found claim)
 
 -- a certificate, or the first claim for which none was found
 abbrev pub IsSearching : ℕ → Form → DocumentValue → Exit → List ℕ → Type 0

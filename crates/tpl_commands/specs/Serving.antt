@@ -3,10 +3,11 @@ use Rattle.std.specs.Prelude.{◌≡◌, ◌⊎◌, ◌+◌, ◌≤◌, ℕ, Lis
 use Rattle.tpl_journal.specs.Counting.{calls_of}
 use Rattle.tpl_journal.specs.declared.counting.Counting.{Counting}
 use Rattle.tpl_model.specs.Certificate.{Accepts}
-use Rattle.tpl_reader.specs.Document.{DocumentValue, Spells}
+use Rattle.tpl_commands.specs.Rules.{is_judged_widely}
 use Rattle.tpl_commands.specs.declared.ask.Ask.{Ask}
 use Rattle.tpl_commands.specs.declared.ask.Ask.TheVariants.{Check, Analyse, AnalyseIn, Certify, Audit, Draw}
-use Rattle.tpl_commands.specs.Responding.{Answers, longest, Reads, Responds, Writes}
+use Rattle.tpl_commands.specs.Documents.{Tells}
+use Rattle.tpl_commands.specs.Responding.{Answers, longest, Responds}
 use Rattle.tpl_commands.specs.Checking.{Checks, ClaimsHold}
 use Rattle.tpl_analyser.specs.declared.form.Form.{Form}
 use Rattle.tpl_analyser.specs.declared.form.Form.TheVariants.{Full}
@@ -28,48 +29,25 @@ answers_of (Draw language) = Draws language
 
 -- What was read spells a document whose certificate is accepted, and each of its claims holds in
 -- each run of its graph; `accepted` was written.
-pub record Accepted {R W : Type 0} (remaining : R → Option (List ℕ)) (from_old from_new : Counting R) (contents : W → Option (List ℕ)) (to_old to_new : Counting W) : Type 0 where
-  pub input : List ℕ
-  pub reads : Reads remaining from_old from_new input
-  pub doc : DocumentValue
-  pub spelled : Spells input doc
-  pub accepted : Accepts doc.graph.graph doc.claims doc.certificate
-  pub hold : ClaimsHold doc
-  pub writes : Writes contents to_old to_new (codes "accepted\n")
+abbrev pub Accepted : {R W : Type 0} → (R → Option (List ℕ)) → Counting R → Counting R → (W → Option (List ℕ)) → Counting W → Counting W → Type 0
+Accepted remaining from_old from_new contents to_old to_new =
+    Tells (λ doc text. Accepts (is_judged_widely doc) doc.graph.graph doc.claims doc.certificate × ClaimsHold doc × (text ≡ codes "accepted\n")) remaining from_old from_new contents to_old to_new
 
 -- What was read spells a document, and the text of a certificate was written that is accepted for it;
 -- each of its claims holds in each run of its graph.
-pub record Found {R W : Type 0} (remaining : R → Option (List ℕ)) (from_old from_new : Counting R) (contents : W → Option (List ℕ)) (to_old to_new : Counting W) (depth : ℕ) (form : Form) : Type 0 where
-  pub input : List ℕ
-  pub reads : Reads remaining from_old from_new input
-  pub doc : DocumentValue
-  pub spelled : Spells input doc
-  pub text : List ℕ
-  pub certificate : IsCertificate depth form doc text
-  pub writes : Writes contents to_old to_new text
+abbrev pub Found : {R W : Type 0} → (R → Option (List ℕ)) → Counting R → Counting R → (W → Option (List ℕ)) → Counting W → Counting W → ℕ → Form → Type 0
+Found remaining from_old from_new contents to_old to_new depth form = Tells (IsCertificate depth form) remaining from_old from_new contents to_old to_new
 
 -- What was read spells a document, and what was written spells it with a certificate that is accepted;
 -- each of its claims holds in each run of its graph.
-pub record Certified {R W : Type 0} (remaining : R → Option (List ℕ)) (from_old from_new : Counting R) (contents : W → Option (List ℕ)) (to_old to_new : Counting W) (depth : ℕ) (form : Form) : Type 0 where
-  pub input : List ℕ
-  pub reads : Reads remaining from_old from_new input
-  pub doc : DocumentValue
-  pub spelled : Spells input doc
-  pub text : List ℕ
-  pub certified : IsCertified depth form doc text
-  pub writes : Writes contents to_old to_new text
+abbrev pub Certified : {R W : Type 0} → (R → Option (List ℕ)) → Counting R → Counting R → (W → Option (List ℕ)) → Counting W → Counting W → ℕ → Form → Type 0
+Certified remaining from_old from_new contents to_old to_new depth form = Tells (IsCertified depth form) remaining from_old from_new contents to_old to_new
 
 -- What was read spells a document, and the audit of its journal was written, which ends with this exit. Where
 -- its certificate is accepted, no claim is named as failing.
-pub record Audited {R W : Type 0} (remaining : R → Option (List ℕ)) (from_old from_new : Counting R) (contents : W → Option (List ℕ)) (to_old to_new : Counting W) (exit : Exit) : Type 0 where
-  pub input : List ℕ
-  pub reads : Reads remaining from_old from_new input
-  pub doc : DocumentValue
-  pub spelled : Spells input doc
-  pub text : List ℕ
-  pub audit : IsAudit doc exit text
-  pub sound : Accepts doc.graph.graph doc.claims doc.certificate → NamesNoFailure text
-  pub writes : Writes contents to_old to_new text
+abbrev pub Audited : {R W : Type 0} → (R → Option (List ℕ)) → Counting R → Counting R → (W → Option (List ℕ)) → Counting W → Counting W → Exit → Type 0
+Audited remaining from_old from_new contents to_old to_new exit =
+    Tells (λ doc text. IsAudit doc exit text × (Accepts (is_judged_widely doc) doc.graph.graph doc.claims doc.certificate → NamesNoFailure text)) remaining from_old from_new contents to_old to_new
 
 -- What was read is answered as it is asked, by at most this many reads; and this is known from what the exit says.
 pub record Serves {R W : Type 0} (ask : Ask) (remaining : R → Option (List ℕ)) (from_old from_new : Counting R) (contents : W → Option (List ℕ)) (to_old to_new : Counting W) (result : Exit) : Type 0 where

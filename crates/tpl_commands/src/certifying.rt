@@ -1,7 +1,7 @@
 //! The document with a certificate that was found.
 
 ghost use Rattle.std.specs.Prelude.{◌≡◌, ◌≤◌, true, IfOk, string_bytes};
-ghost use Rattle.std.specs.List.{All};
+ghost use Rattle.std.specs.List.{All, list_all};
 ghost use Rattle.serde_json.specs.View.{view};
 ghost use Rattle.tpl_cert.specs.Heights.{height};
 ghost use Rattle.tpl_cert.specs.Written.{has_ids};
@@ -13,13 +13,13 @@ ghost use Rattle.tpl_commands.specs.Searching.{AreFound, IsRead, IsSearchOf, wri
 
 use crate::answer::Answer;
 use crate::exit::Exit;
-use crate::searching::{Outcome, Searched, certificate_value, missed_answer};
+use crate::searching::{Outcome, Searched, array_text, found_law, missed_answer};
 use serde_json::Value;
 use std::alloc::{AllocError, Global};
 use tpl_analyser::{Depth, Form};
 use tpl_cert::{Certificate, Tree};
 use tpl_graph::Graph;
-use tpl_reader::{Document, LONGEST, certificate_is_read_back, one_document};
+use tpl_reader::{Document, LONGEST};
 
 /// The document of these bytes with the certificate that was found.
 fn certified(
@@ -38,11 +38,7 @@ fn certified(
         (string_bytes given.text)) }
 {
     let _ = (depth, form);
-    document.graph.valid_law();
-    tpl_laws::soundness();
-    one_document();
-    certificate_is_read_back();
-    certificate.limits_law();
+    found_law(document, certificate);
     let text = whole_text(alloc, bytes, &document.graph, certificate.trees())?;
     sized(alloc, text)
 }
@@ -95,7 +91,7 @@ fn whole_text(
     trees: &[Tree],
 ) -> Result<String, AllocError>
     requires json { IsTextOfObject bytes.now }
-    requires ids { All (λ tree. has_ids graph.now.names tree ≡ true) trees.now }
+    requires ids { list_all (has_ids graph.now.names) trees.now ≡ true }
     requires limits { All (λ tree. height tree ≤ 6) trees.now }
     ensures holds { IfOk result (λ text.
         HoldsCertificate bytes.now (written_trees graph.now.names trees.now) (string_bytes text)) }
@@ -106,6 +102,22 @@ fn whole_text(
     let mut text = with_certificate(alloc, value, certificate)?.to_string(alloc)?;
     text.push_str("\n")?;
     Ok(text)
+}
+
+/// The JSON value of the trees as one array.
+fn certificate_value(alloc: Global, graph: &Graph, trees: &[Tree]) -> Result<Value, AllocError>
+    requires ids { list_all (has_ids graph.now.names) trees.now ≡ true }
+    requires limits { All (λ tree. height tree ≤ 6) trees.now }
+    ensures written { IfOk result (λ value.
+        view value ≡ written_trees graph.now.names trees.now) }
+    ensures read { IfOk result (λ _. All (IsRead graph.now.names) trees.now) }
+{
+    let text = array_text(alloc, graph, trees)?;
+    match Value::from_str(alloc, text.as_str()) {
+        Ok(value) => Ok(value),
+        Err(error) if error.is_memory() => Err(AllocError),
+        Err(_) => unreachable!(),
+    }
 }
 
 /// The JSON value of a document's bytes.

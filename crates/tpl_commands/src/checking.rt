@@ -1,33 +1,17 @@
-//! The check of a document's certificate.
+//! The answer to the check of a document's certificate.
 
-ghost use Rattle.std.specs.Prelude.{◌≡◌, IfOk, IfErr, OnOk, string_bytes};
-ghost use Rattle.std.specs.List.{All};
-ghost use Rattle.tpl_graph.specs.Fits.{Fits};
+ghost use Rattle.std.specs.Prelude.{◌≡◌, IfOk, string_bytes};
 ghost use Rattle.tpl_reader.specs.SeenDocument.{doc_of};
-ghost use Rattle.tpl_commands.specs.Checking.{IsAccepted, IsCheckOf, IsRefused, IsVerdict, IsVerdictText, IsRefusal, NamesTask};
+ghost use Rattle.tpl_commands.specs.Checking.{IsCheckOf, IsVerdict, IsVerdictText, IsRefusal, NamesTask};
 
 use crate::answer::Answer;
 use crate::exit::Exit;
+use crate::rules::rules_of;
 use crate::text::{refused_claim, refused_leaf, refused_shape};
 use std::alloc::{AllocError, Global};
-use tpl_checker::check;
 use tpl_graph::Graph;
 use tpl_model::CertFault;
 use tpl_reader::Document;
-
-/// The check of a document's certificate.
-pub fn check_document(document: &Document) -> Result<(), CertFault>
-    requires claims { All (Fits document.now.graph.graph) document.now.claims.items }
-    ensures accepted { OnOk result (IsAccepted (doc_of document.now)) }
-    ensures refused { IfErr result (IsRefused (doc_of document.now)) }
-    ensures named { IfErr result (NamesTask document.now.graph.graph) }
-    ensures checked { IsCheckOf (doc_of document.now) result }
-{
-    match check(&document.graph, &document.claims, &document.certificate) {
-        Ok(()) => Ok(()),
-        Err(fault) => Err(fault),
-    }
-}
 
 /// The answer where the check says this of the document's certificate.
 pub(crate) fn verdict_answer(

@@ -11,15 +11,18 @@ use crate::answer::Answer;
 use crate::ask::Ask;
 use crate::auditing::{Audit, audit_answer, audit_document};
 use crate::certifying::certified_answer;
-use crate::checking::{check_document, verdict_answer};
+use crate::checking::verdict_answer;
 use crate::drawing::drawing_answer;
+use crate::listening::Listen;
+use crate::rules::rules_of;
 use crate::searching::{Searched, found_answer, search};
 use crate::unreadable::unreadable_answer;
 use std::alloc::{AllocError, Global};
 use tpl_analyser::{Form, Watch};
+use tpl_checker::check;
 use tpl_draw::Language;
 use tpl_model::CertFault;
-use tpl_reader::{Document, ReadFault, read_document};
+use tpl_reader::{Document, Misread, ReadFault, read_document_heard};
 
 /// What was found for a document.
 #[derive(Drop)]
@@ -40,7 +43,7 @@ pub enum Found {
 #[derive(Drop)]
 pub enum Finding {
     /// They spell no document, for this reason, which isn't that memory ran out.
-    Unread(ReadFault),
+    Unread(Misread),
     /// They spell this document, for which this was found.
     Read(Document, Found),
 }
@@ -56,8 +59,10 @@ fn found_in<T: Watch>(
     ensures found { IfOk result (IsFoundOf (doc_of document.now)) }
     ensures asked { IfOk result (IsFoundFor ask) }
 {
+    let (graph, claims, certificate) = (&document.graph, &document.claims, &document.certificate);
+    let rules = rules_of(document);
     match ask {
-        Ask::Check => Ok(Found::Checked(check_document(document))),
+        Ask::Check => Ok(Found::Checked(check(graph, claims, certificate, rules))),
         Ask::Analyse(depth) => {
             let searched = search(alloc, document, depth, Form::Full, watch)?;
             Ok(Found::Searched(searched))
@@ -71,28 +76,32 @@ fn found_in<T: Watch>(
             Ok(Found::Certified(searched))
         }
         Ask::Audit => Ok(Found::Audited(audit_document(alloc, document)?)),
-        Ask::Draw(language) => Ok(Found::Drawn(language, check_document(document))),
+        Ask::Draw(language) => Ok(Found::Drawn(language, check(graph, claims, certificate, rules))),
     }
 }
 
-/// What is found for bytes where this is asked. Of a search the watcher is told how far it is. Out of memory is the only
-/// error.
-pub fn find<T: Watch>(
+/// What is found for bytes where this is asked. The listener is told how far a search is, and asked for words where the
+/// bytes spell no document. Out of memory is the only error.
+pub fn find<L: Listen>(
     alloc: Global,
     ask: Ask,
-    watch: T,
+    listener: L,
     bytes: &[u8],
 ) -> Result<Finding, AllocError>
     ensures found { IfOk result (IsFindingOf bytes.now) }
     ensures asked { IfOk result (IsAskedFor ask) }
 {
-    match read_document(alloc, bytes) {
+    match read_document_heard(alloc, bytes, listener) {
         Ok(document) => {
-            let found = found_in(alloc, ask, watch, &document)?;
+            let found = found_in(alloc, ask, listener, &document)?;
             Ok(Finding::Read(document, found))
         }
-        Err(ReadFault::Memory) => Err(AllocError),
-        Err(fault) => Ok(Finding::Unread(fault)),
+        Err(misread) => {
+            if misread.fault == ReadFault::Memory {
+                return Err(AllocError);
+            }
+            Ok(Finding::Unread(misread))
+        }
     }
 }
 
@@ -123,7 +132,7 @@ pub fn answer_of(alloc: Global, bytes: &[u8], finding: &Finding) -> Result<Answe
     ensures { IfOk result (λ given. IsAnswer finding.now given.exit (string_bytes given.text)) }
 {
     match finding {
-        Finding::Unread(fault) => unreadable_answer(alloc, *fault),
+        Finding::Unread(misread) => unreadable_answer(alloc, misread.fault),
         Finding::Read(document, found) => answer_to(alloc, bytes, document, found),
     }
 }

@@ -12,13 +12,12 @@ ghost use Rattle.tpl_commands.specs.Loading.{Loads, RequestsTokens};
 ghost use Rattle.tpl_commands.specs.Responding.{longest, Responds};
 
 use crate::exit::Exit;
-use crate::listening::Listen;
+use crate::listening::{Listen, Nobody};
 use crate::responding::{put_answered, read_input, unread};
 use std::alloc::Global;
 use std::io::{Read, Write};
-use tpl_analyser::Unwatched;
 use tpl_journal::Counting;
-use tpl_reader::{Document, read_document};
+use tpl_reader::{Document, read_document_heard};
 
 /// A document that was read, and its bytes.
 #[derive(Drop)]
@@ -46,7 +45,7 @@ pub fn load<R: Read, W: Write>(
         (Responds NoDocument R.remaining from.old from.new W.contents to.old to.new) }
     ensures reads { calls_of from.new ≤ calls_of from.old + (longest + 2) }
 {
-    match load_watched(alloc, Unwatched, from, to) {
+    match load_watched(alloc, Nobody, from, to) {
         Ok(loaded) => Ok(loaded.document),
         Err(exit) => Err(exit),
     }
@@ -70,12 +69,12 @@ pub fn load_watched<L: Listen, R: Read, W: Write>(
     ensures reads { calls_of from.new ≤ calls_of from.old + (longest + 2) }
 {
     match read_input(alloc, from, to) {
-        Ok(bytes) => match read_document(alloc, &bytes) {
+        Ok(bytes) => match read_document_heard(alloc, &bytes, listener) {
             Ok(document) => {
                 document.graph.valid_law();
                 Ok(Loaded { document, bytes })
             }
-            Err(fault) => Err(put_answered(unread(alloc, &bytes, fault), listener, &bytes, to)),
+            Err(misread) => Err(put_answered(unread(alloc, &bytes, misread), listener, &bytes, to)),
         },
         Err(exit) => {
             listener.unread(exit);

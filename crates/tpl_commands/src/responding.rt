@@ -7,7 +7,7 @@ ghost use Rattle.tpl_commands.specs.Documents.{NoDocument};
 ghost use Rattle.tpl_commands.specs.Finding.{IsAnswer, IsFindingOf};
 ghost use Rattle.tpl_commands.specs.Responding.{longest, NoAnswer, Puts, Reads, Responds};
 
-use crate::answer::{Answer, put, put_answer, put_out_of_memory};
+use crate::answer::{Answer, put, put_out_of_memory};
 use crate::exit::Exit;
 use crate::finding::Finding;
 use crate::listening::Listen;
@@ -15,7 +15,7 @@ use crate::unreadable::unreadable_answer;
 use std::alloc::{AllocError, Global};
 use std::io::{Read, Write};
 use tpl_journal::{Counting, InputFault, read_limited};
-use tpl_reader::{LONGEST, ReadFault};
+use tpl_reader::{LONGEST, Misread, ReadFault};
 
 /// The answer to a document, and what it follows from.
 #[derive(Drop)]
@@ -92,7 +92,7 @@ pub fn put_answered<L: Listen, W: Write>(
     listener.found();
     match answered {
         Ok(Answered { answer, finding }) => {
-            let exit = put_answer(Ok(answer), to);
+            let exit = put(answer.exit, answer.text.as_bytes(), to);
             tell(listener, exit, bytes, finding);
             exit
         }
@@ -101,23 +101,23 @@ pub fn put_answered<L: Listen, W: Write>(
 }
 
 /// The answer to bytes that spell no document, for this reason. Out of memory is the only error.
-pub fn unread(alloc: Global, bytes: &[u8], fault: ReadFault) -> Result<Answered, AllocError>
-    requires { IsFault bytes.now fault }
+pub fn unread(alloc: Global, bytes: &[u8], misread: Misread) -> Result<Answered, AllocError>
+    requires { IsFault bytes.now misread.fault }
     ensures answer { IfOk result (λ it.
         NoDocument bytes.now it.answer.exit (string_bytes it.answer.text)) }
     ensures found { IfOk result (λ it. IfSome it.finding (IsFindingOf bytes.now)) }
     ensures follows { IfOk result (λ it. IfSome it.finding (λ finding.
         IsAnswer finding it.answer.exit (string_bytes it.answer.text))) }
-    ensures reason { IfOk result (λ _. fault ≢ ReadFault.Memory) }
+    ensures reason { IfOk result (λ _. misread.fault ≢ ReadFault.Memory) }
 {
     let _ = bytes;
-    match fault {
-        ReadFault::Memory => Err(AllocError),
-        fault => Ok(Answered {
-            answer: unreadable_answer(alloc, fault)?,
-            finding: Some(Finding::Unread(fault)),
-        }),
+    if misread.fault == ReadFault::Memory {
+        return Err(AllocError);
     }
+    Ok(Answered {
+        answer: unreadable_answer(alloc, misread.fault)?,
+        finding: Some(Finding::Unread(misread)),
+    })
 }
 
 /// Reads a document whole and writes the command's answer to it. The answer is made whole before

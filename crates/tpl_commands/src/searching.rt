@@ -1,25 +1,26 @@
 //! The search for a certificate of a document's claims.
 
-ghost use Rattle.std.specs.Prelude.{◌≡◌, ◌++◌, ◌≤◌, true, Some, codes, IfOk, map, string_bytes};
-ghost use Rattle.std.specs.List.{All};
-ghost use Rattle.serde_json.specs.Data.{array};
+ghost use Rattle.std.specs.Prelude.{◌≡◌, ◌++◌, ◌≤◌, true, Some, codes, IfOk, string_bytes};
+ghost use Rattle.std.specs.List.{All, list_all};
 ghost use Rattle.serde_json.specs.Read.{read};
-ghost use Rattle.serde_json.specs.View.{view, items_of};
 ghost use Rattle.serde_json.specs.Written.{compact_text};
 ghost use Rattle.tpl_cert.specs.Heights.{height};
 ghost use Rattle.tpl_cert.specs.Written.{has_ids};
 ghost use Rattle.tpl_graph.specs.Fits.{Fits};
 ghost use Rattle.tpl_reader.specs.SeenDocument.{doc_of};
-ghost use Rattle.tpl_commands.specs.Searching.{AreFound, IsOutcome, IsOutcomeText, IsRead, IsSearching, IsSearchOf, written_tree, written_trees};
+ghost use Rattle.tpl_model.specs.Certificate.{Accepts};
+ghost use Rattle.tpl_commands.specs.Checking.{ClaimsHold};
+ghost use Rattle.tpl_commands.specs.Rules.{is_judged_widely};
+ghost use Rattle.tpl_commands.specs.Searching.{AreFound, IsBackWhereRead, IsOutcome, IsOutcomeText, IsRead, IsSearching, IsSearchOf, written_trees};
 ghost use Rattle.tpl_commands.specs.Texts.{not_found as not_found_line};
 
 use crate::answer::Answer;
 use crate::exit::Exit;
+use crate::rules::rules_of;
 use crate::text::not_found;
-use serde_json::Value;
 use std::alloc::{AllocError, Global};
-use tpl_analyser::{Depth, Form, Missed, RanOut, Watch, analyse_watched};
-use tpl_cert::{Certificate, Tree, TreeToFault, certificates_nest_little, tree_to};
+use tpl_analyser::{Budget, Depth, Form, Gap, Leaves, RanOut, Watch, analyse_within};
+use tpl_cert::{Certificate, Tree, TreeToFault, trees_text};
 use tpl_graph::Graph;
 use tpl_reader::{Document, certificate_is_read_back, one_document};
 
@@ -57,25 +58,30 @@ pub(crate) fn search<T: Watch>(
     ensures asked { IfOk result (λ it. (it.depth ≡ depth) × (it.form ≡ form)) }
 {
     let splits = depth.splits();
-    match analyse_watched(
+    let mut budget = Budget::new(watch, Leaves::USUAL);
+    match analyse_within(
         alloc,
         &document.graph,
         &document.claims,
+        rules_of(document),
         splits,
         form,
-        watch,
+        &mut budget,
     ) {
         Ok(certificate) => Ok(Searched {
             depth,
             form,
             outcome: Outcome::Certificate(certificate),
         }),
-        Err(Missed::NotFound { claim, ran_out }) => Ok(Searched {
-            depth,
-            form,
-            outcome: Outcome::Missed { claim, ran_out },
-        }),
-        Err(Missed::Memory) => Err(AllocError),
+        Err(Gap::NotFound { claim }) => {
+            let ran_out = budget.ran_out();
+            Ok(Searched {
+                depth,
+                form,
+                outcome: Outcome::Missed { claim, ran_out },
+            })
+        }
+        Err(Gap::Memory) => Err(AllocError),
     }
 }
 
@@ -88,6 +94,22 @@ pub(crate) fn missed_answer(alloc: Global, claim: usize) -> Result<Answer, Alloc
         exit: Exit::Failure,
         text: not_found(alloc, claim)?,
     })
+}
+
+/// A certificate that is accepted can be written, the claims hold, and what is written of it is taken back.
+pub(crate) fn found_law(document: &Document, certificate: &Certificate)
+    requires { Accepts (is_judged_widely (doc_of document.now)) document.now.graph.graph
+        document.now.claims.items certificate.now }
+    ensures ids { list_all (has_ids document.now.graph.names) certificate.now ≡ true }
+    ensures limits { All (λ tree. height tree ≤ 6) certificate.now }
+    ensures hold { ClaimsHold (doc_of document.now) }
+    ensures back { IsBackWhereRead (doc_of document.now) certificate.now }
+{
+    document.graph.valid_law();
+    tpl_laws::soundness();
+    one_document();
+    certificate_is_read_back();
+    certificate.limits_law();
 }
 
 /// The certificate that was found, as the answer.
@@ -105,11 +127,7 @@ fn certificate_answer(
         (string_bytes given.text)) }
 {
     let _ = (depth, form);
-    document.graph.valid_law();
-    tpl_laws::soundness();
-    one_document();
-    certificate_is_read_back();
-    certificate.limits_law();
+    found_law(document, certificate);
     let text = certificate_text(alloc, &document.graph, certificate.trees())?;
     Ok(Answer {
         exit: Exit::Success,
@@ -140,7 +158,7 @@ pub(crate) fn found_answer(
 
 /// The trees as one array, and a line break.
 fn certificate_text(alloc: Global, graph: &Graph, trees: &[Tree]) -> Result<String, AllocError>
-    requires ids { All (λ tree. has_ids graph.now.names tree ≡ true) trees.now }
+    requires ids { list_all (has_ids graph.now.names) trees.now ≡ true }
     requires limits { All (λ tree. height tree ≤ 6) trees.now }
     ensures written { IfOk result (λ text.
         string_bytes text ≡ compact_text (written_trees graph.now.names trees.now) ++ codes "\n") }
@@ -148,56 +166,23 @@ fn certificate_text(alloc: Global, graph: &Graph, trees: &[Tree]) -> Result<Stri
     ensures value { IfOk result (λ _. read (compact_text (written_trees graph.now.names trees.now))
         ≡ Some (written_trees graph.now.names trees.now)) }
 {
-    certificates_nest_little();
-    let mut text = certificate_value(alloc, graph, trees)?.to_string(alloc)?;
+    let mut text = array_text(alloc, graph, trees)?;
     text.push_str("\n")?;
     Ok(text)
 }
 
 /// The trees as one array.
-pub(crate) fn certificate_value(
-    alloc: Global,
-    graph: &Graph,
-    trees: &[Tree],
-) -> Result<Value, AllocError>
-    requires { All (λ tree. has_ids graph.now.names tree ≡ true) trees.now }
-    ensures written { IfOk result (λ value.
-        view value ≡ written_trees graph.now.names trees.now) }
+pub(crate) fn array_text(alloc: Global, graph: &Graph, trees: &[Tree]) -> Result<String, AllocError>
+    requires ids { list_all (has_ids graph.now.names) trees.now ≡ true }
+    requires limits { All (λ tree. height tree ≤ 6) trees.now }
+    ensures written { IfOk result (λ text.
+        string_bytes text ≡ compact_text (written_trees graph.now.names trees.now)) }
     ensures read { IfOk result (λ _. All (IsRead graph.now.names) trees.now) }
+    ensures value { IfOk result (λ text.
+        read (string_bytes text) ≡ Some (written_trees graph.now.names trees.now)) }
 {
-    let values = tree_values(alloc, graph, trees)?;
-    Ok(array_of(values))
-}
-
-fn array_of(values: Vec<Value>) -> Value
-    ensures { view result ≡ array (items_of (map view values.items)) }
-{
-    Value::Array(values)
-}
-
-/// The trees, each as a JSON value.
-fn tree_values(alloc: Global, graph: &Graph, trees: &[Tree]) -> Result<Vec<Value>, AllocError>
-    requires { All (λ tree. has_ids graph.now.names tree ≡ true) trees.now }
-    ensures written { IfOk result (λ values.
-        map view values.items ≡ map (written_tree graph.now.names) trees.now) }
-    ensures read { IfOk result (λ _. All (IsRead graph.now.names) trees.now) }
-{
-    let mut values = Vec::new(alloc);
-    for tree in trees {
-        let value = tree_value(alloc, graph, tree)?;
-        values.push(value)?;
-    }
-    Ok(values)
-}
-
-/// A tree as a JSON value.
-fn tree_value(alloc: Global, graph: &Graph, tree: &Tree) -> Result<Value, AllocError>
-    requires { has_ids graph.now.names tree.now ≡ true }
-    ensures written { IfOk result (λ value. view value ≡ written_tree graph.now.names tree.now) }
-    ensures read { IfOk result (λ _. IsRead graph.now.names tree.now) }
-{
-    match tree_to(alloc, graph, tree) {
-        Ok(value) => Ok(value),
+    match trees_text(alloc, graph, trees) {
+        Ok(text) => Ok(text),
         Err(TreeToFault::Memory) => Err(AllocError),
         Err(TreeToFault::Unknown) => unreachable!(),
     }

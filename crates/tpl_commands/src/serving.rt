@@ -8,11 +8,11 @@ ghost use Rattle.tpl_commands.specs.Serving.{answers_of, Accepted, Found, Certif
 use crate::ask::Ask;
 use crate::exit::Exit;
 use crate::finding::{answer_of, find};
-use crate::listening::Listen;
+use crate::listening::{Listen, Nobody};
 use crate::responding::{Answered, Command, respond};
 use std::alloc::{AllocError, Global};
 use std::io::{Read, Write};
-use tpl_analyser::{Form, Unwatched};
+use tpl_analyser::Form;
 use tpl_journal::Counting;
 
 /// What is asked of a document, and who is told how far a search is.
@@ -65,7 +65,7 @@ pub fn serve<R: Read, W: Write>(
     ensures audited { ask ≡ Ask.Audit → (result ≡ Exit.Success) ⊎ (result ≡ Exit.Failure)
         → Audited R.remaining from.old from.new W.contents to.old to.new result }
 {
-    serve_watched(alloc, ask, Unwatched, from, to)
+    serve_watched(alloc, ask, Nobody, from, to)
 }
 
 /// Answers a document as [`serve`] does. The listener is told how far a search for a certificate is, and what was found.

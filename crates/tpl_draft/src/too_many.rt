@@ -97,7 +97,7 @@ pub fn first_too_many(draft: &Draft) -> Option<usize>
     if lists_exceed(draft) {
         return Some(0);
     }
-    let mut sites = MOST_SITES;
+    let mut sites = MOST_SITES as u16;
     for (t, task) in draft.tasks.iter().enumerate() {
         match sites_behind(t, task, sites) {
             Some(left) => sites = left,

@@ -7,7 +7,7 @@ use Rattle.tpl_words.specs.declared.finals.Finals.{Finals}
 use Rattle.tpl_words.specs.Finals.{has}
 use Rattle.tpl_model.specs.Graph.{TaskGraph}
 use Rattle.tpl_model.specs.declared.claim.Property.{Property}
-use Rattle.tpl_model.specs.Certificate.{Row, row, Assumed, assumed, with_input, with_end, Closed, Tree, SplitInput, SplitEnd, Leaf, AcceptsTree}
+use Rattle.tpl_model.specs.Certificate.{Row, row, Assumed, assumed_for, taken, with_input, with_end, Closed, Tree, SplitInput, SplitEnd, Leaf, AcceptsTree}
 use Rattle.tpl_laws.specs.Soundness.{HasLeaf, RowsAreTrue, SomeLeafAgrees}
 use Rattle.tpl_draw.specs.Endings.{either, tree_ends, ends, EndingsAreTrue}
 
@@ -49,14 +49,14 @@ leaf_in_tree l m (SplitEnd s a b c) rows t f (inr (inr w)) e =
 leaf_in_tree l m (Leaf leaf) rows t f w e = subst (λ z. has (row z t).ends f ≡ true) (sym w.1) e
 
 pub endings_lem : RowsAreTrue → SomeLeafAgrees → EndingsAreTrue
-endings_lem rows_true some_leaf g [] [] valid acc v h run given t f e = absurd given
-endings_lem rows_true some_leaf g (claim ∷ claims) [] valid acc v h run given t f e = absurd acc
-endings_lem rows_true some_leaf g [] (tree ∷ trees) valid acc v h run given t f e = absurd acc
-endings_lem rows_true some_leaf g (claim ∷ claims) (tree ∷ trees) valid acc v h run (inl given) t f e =
-    let w = some_leaf g claim tree v h given in
-    let closed = leaf_closed g claim.body (assumed g claim.given) w.0 tree w.1 acc.0 w.2 in
+endings_lem rows_true some_leaf wide g [] [] valid acc v h run given t f e = absurd given
+endings_lem rows_true some_leaf wide g (claim ∷ claims) [] valid acc v h run given t f e = absurd acc
+endings_lem rows_true some_leaf wide g [] (tree ∷ trees) valid acc v h run given t f e = absurd acc
+endings_lem rows_true some_leaf wide g (claim ∷ claims) (tree ∷ trees) valid acc v h run (inl given) t f e =
+    let w = some_leaf wide g (taken wide g claim) tree v h given in
+    let closed = leaf_closed g claim.body (assumed_for wide g claim) w.0 tree w.1 acc.0 w.2 in
     in_first (tree_ends tree t) (ends trees t) f
-    (leaf_in_tree (assumed g claim.given) w.0 tree w.1 t f w.2 ((rows_true g w.0 w.1 v h valid closed run w.3).0.ends t f e))
-endings_lem rows_true some_leaf g (claim ∷ claims) (tree ∷ trees) valid acc v h run (inr given) t f e =
+    (leaf_in_tree (assumed_for wide g claim) w.0 tree w.1 t f w.2 ((rows_true g w.0 w.1 v h valid closed run w.3).0.ends t f e))
+endings_lem rows_true some_leaf wide g (claim ∷ claims) (tree ∷ trees) valid acc v h run (inr given) t f e =
     in_second (tree_ends tree t) (ends trees t) f
-    (endings_lem rows_true some_leaf g claims trees valid acc.1 v h run given t f e)
+    (endings_lem rows_true some_leaf wide g claims trees valid acc.1 v h run given t f e)

@@ -8,7 +8,7 @@ use Rattle.tpl_model.specs.declared.event.Event.{Event}
 use Rattle.tpl_model.specs.Rules.{final, Run}
 use Rattle.tpl_model.specs.Valid.{IsGraph}
 use Rattle.tpl_model.specs.Claims.{Claim, IsGiven}
-use Rattle.tpl_model.specs.Certificate.{Tree, SplitInput, SplitEnd, Leaf, row, Accepts}
+use Rattle.tpl_model.specs.Certificate.{Tree, SplitInput, SplitEnd, Leaf, row, Accepts, taken}
 use Rattle.tpl_draw.specs.Below.{below}
 
 -- no way to end
@@ -34,15 +34,16 @@ ends (tree ∷ trees) t = either (tree_ends tree t) (ends trees t)
 abbrev pub endings : List Tree → ℕ → List Finals
 endings trees n = below (λ t. ends trees t ∷ []) n
 
--- what one of the claims gives is true of a run so far
-abbrev pub IsSomeGiven : TaskGraph → List Bool → List Event → List Claim → Type 0
-IsSomeGiven g v h [] = ⊥
-IsSomeGiven g v h (claim ∷ claims) = IsGiven g v h claim.given ⊎ IsSomeGiven g v h claims
+-- what a certificate may take as given for one of the claims is true of a run so far: by the wider rules for a claim
+-- about a beginning also that the own token isn't requested
+abbrev pub IsSomeTaken : Bool → TaskGraph → List Bool → List Event → List Claim → Type 0
+IsSomeTaken wide g v h [] = ⊥
+IsSomeTaken wide g v h (claim ∷ claims) = IsGiven g v h (taken wide g claim) ⊎ IsSomeTaken wide g v h claims
 
--- where a certificate is accepted, a task ends as one of its rows says, in each run of which what one of the claims
--- gives is true
+-- where a certificate is accepted, a task ends as one of its rows says, in each run of which what may be taken as given
+-- for one of the claims is true
 abbrev pub EndingsAreTrue : Type 0
 EndingsAreTrue =
-    (g : TaskGraph) (claims : List Claim) (certificate : List Tree) → IsGraph g → Accepts g claims certificate
-    → (v : List Bool) (h : List Event) → Run g v h → IsSomeGiven g v h claims
+    (wide : Bool) (g : TaskGraph) (claims : List Claim) (certificate : List Tree) → IsGraph g → Accepts wide g claims certificate
+    → (v : List Bool) (h : List Event) → Run g v h → IsSomeTaken wide g v h claims
     → (t : ℕ) (f : Final) → final g v h t ≡ Some f → has (ends certificate t) f ≡ true

@@ -6,7 +6,7 @@ use Rattle.tpl_model.specs.declared.event.Event.{Event}
 use Rattle.tpl_model.specs.Rules.{seen, Run, Complete}
 use Rattle.tpl_model.specs.Valid.{IsGraph}
 use Rattle.tpl_model.specs.Claims.{Holds}
-use Rattle.tpl_examples.specs.Words.{outside, dropping, by, release, begin, step, done, failed, leave, close, drop, request, played, returns, root, child, detached_child, continues, with_token, with_options, only_on_faulted, only_on_ran_to_completion, graph, with_tokens, with_inputs, ran, canceled, faulted, ends_in, begins_after, is_observed, never_begins, exclude, given_input, given_quiet, claim, claim_given}
+use Rattle.tpl_examples.specs.Words.{outside, dropping, by, release, begin, step, done, failed, leave, close, drop, request, played, returns, root, child, detached_child, continues, with_token, with_options, only_on_faulted, only_on_ran_to_completion, graph, with_tokens, with_inputs, ran, canceled, faulted, ends_in, begins_after, is_observed, never_begins, exclude, must_run, given_input, given_quiet, given_end, given_success, claim, claim_given}
 
 -- a root that checks its own token
 abbrev pub checking_graph : TaskGraph
@@ -210,3 +210,31 @@ NeverAndExcludes =
     × Holds handler_graph (claim (never_begins 1)) [] success
     × (Holds handler_graph (claim (never_begins 2)) [] success → ⊥)
     × Holds handler_graph (claim (exclude 1 2)) [] success
+
+abbrev pub failure_to_its_end : List Event
+failure_to_its_end = played (begin 1 0 ∷ failed 1 0 ∷ leave 1 0 ∷ release 1 1 ∷ drop 1 2 ∷ begin 1 1 ∷ step 1 1 ∷ leave 1 1 ∷ [])
+
+-- a claim that a task runs fails where the run is complete and the task hasn't begun, and not before
+abbrev pub ClaimThatATaskRuns : Type 0
+ClaimThatATaskRuns =
+    Run handler_graph [] failure_to_its_end
+    × Complete handler_graph [] failure_to_its_end
+    × Holds handler_graph (claim (must_run 1)) [] failure_to_its_end
+    × (Holds handler_graph (claim (must_run 2)) [] failure_to_its_end → ⊥)
+    × (Complete handler_graph [] failure → ⊥)
+    × Holds handler_graph (claim (must_run 2)) [] failure
+
+-- a claim with an end given speaks of the runs in which the task ends so, or hasn't ended
+abbrev pub ClaimOfAnEnd : Type 0
+ClaimOfAnEnd =
+    Holds handler_graph (claim_given (given_end 0 ran ∷ []) (never_begins 1)) [] failure
+    × (Holds handler_graph (claim_given (given_end 0 faulted ∷ []) (never_begins 1)) [] failure → ⊥)
+    × (Holds handler_graph (claim_given (given_end 1 ran ∷ []) (never_begins 1)) [] failure → ⊥)
+    × Holds handler_graph (claim_given (given_end 0 faulted ∷ []) (never_begins 2)) [] success
+
+-- a claim with a job that succeeds speaks of the runs in which that job hasn't failed
+abbrev pub ClaimOfAJob : Type 0
+ClaimOfAJob =
+    Holds handler_graph (claim_given (given_success 0 ∷ []) (never_begins 1)) [] failure
+    × (Holds handler_graph (claim_given (given_success 0 ∷ []) (never_begins 2)) [] success → ⊥)
+    × (Holds handler_graph (claim_given (given_success 1 ∷ []) (never_begins 1)) [] failure → ⊥)

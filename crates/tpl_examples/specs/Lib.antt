@@ -12,3 +12,4 @@ pub mod Journals
 pub mod CertificateWords
 pub mod Certificates
 pub mod RowRules
+pub mod WiderRules

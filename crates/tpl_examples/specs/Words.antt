@@ -12,9 +12,9 @@ use Rattle.tpl_model.specs.declared.event.Act.{Act}
 use Rattle.tpl_model.specs.declared.event.Act.TheVariants.{Request, Release, Begin, Step, Worked, Leave, Close, Drop, Settle}
 use Rattle.tpl_model.specs.declared.event.Event.{Event}
 use Rattle.tpl_model.specs.declared.claim.Given.{Given}
-use Rattle.tpl_model.specs.declared.claim.Given.TheVariants.{Input, Quiet}
+use Rattle.tpl_model.specs.declared.claim.Given.TheVariants.{Input, Quiet, Ended, Succeeds}
 use Rattle.tpl_model.specs.declared.claim.Property.{Property}
-use Rattle.tpl_model.specs.declared.claim.Property.TheVariants.{Final as EndsIn, After, Observed, Never, Excludes}
+use Rattle.tpl_model.specs.declared.claim.Property.TheVariants.{Final as EndsIn, After, Observed, Never, Excludes, Runs}
 use Rattle.tpl_model.specs.Claims.{Claim}
 
 -- an actor: a worker or a seat outside, by its number
@@ -217,12 +217,21 @@ never_begins t = Never (record { 0 = t })
 abbrev pub exclude : ℕ → ℕ → Property
 exclude a b = Excludes (record { 0 = a }) (record { 0 = b })
 
+abbrev pub must_run : ℕ → Property
+must_run t = Runs (record { 0 = t })
+
 -- what it takes as given
 abbrev pub given_input : ℕ → Bool → Given
 given_input i value = Input (record { 0 = i }) value
 
 abbrev pub given_quiet : ℕ → Given
 given_quiet k = Quiet (record { 0 = k })
+
+abbrev pub given_end : ℕ → Finals → Given
+given_end t ends = Ended (record { 0 = t }) ends
+
+abbrev pub given_success : ℕ → Given
+given_success site = Succeeds (record { 0 = site })
 
 abbrev pub claim : Property → Claim
 claim body = record { given = []; body = body }

@@ -1,6 +1,6 @@
 //! Claims that hold in a run, and claims that fail at a place of it.
 
-ghost use Rattle.tpl_examples.specs.Claims.{ClaimFailsAtTheEnd, ClaimHoldsWithoutACheck, ClaimFailsAtTheBegin, ClaimOfQuietRuns, ClaimOfAnInput, ExceptionIsObserved, ExceptionIsNotObserved, ClaimsOfAttachedAndDetachedChildren, UnstartedChildIsSettledBefore, NeverAndExcludes};
+ghost use Rattle.tpl_examples.specs.Claims.{ClaimFailsAtTheEnd, ClaimHoldsWithoutACheck, ClaimFailsAtTheBegin, ClaimOfQuietRuns, ClaimOfAnInput, ExceptionIsObserved, ExceptionIsNotObserved, ClaimsOfAttachedAndDetachedChildren, UnstartedChildIsSettledBefore, NeverAndExcludes, ClaimThatATaskRuns, ClaimOfAnEnd, ClaimOfAJob};
 
 /// A claim about a task's end fails where the task ends otherwise, and not before.
 pub fn claim_fails_at_the_end()
@@ -52,4 +52,19 @@ pub fn unstarted_child_is_settled_before()
 /// A task that is canceled has never begun, and the two continuations exclude each other.
 pub fn never_and_excludes()
     ensures { NeverAndExcludes }
+{}
+
+/// A claim that a task runs fails where the run is complete and the task hasn't begun, and not before.
+pub fn claim_that_a_task_runs()
+    ensures { ClaimThatATaskRuns }
+{}
+
+/// A claim with an end given speaks of the runs in which the task ends so, or hasn't ended.
+pub fn claim_of_an_end()
+    ensures { ClaimOfAnEnd }
+{}
+
+/// A claim with a job that succeeds speaks of the runs in which that job hasn't failed.
+pub fn claim_of_a_job()
+    ensures { ClaimOfAJob }
 {}

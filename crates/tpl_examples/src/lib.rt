@@ -14,3 +14,4 @@ pub mod links;
 pub mod many_tasks;
 pub mod row_rules;
 pub mod valid_graphs;
+pub mod wider_rules;

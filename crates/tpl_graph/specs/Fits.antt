@@ -1,35 +1,39 @@
 -- Which claims can be asked of a graph.
-use Rattle.std.specs.Prelude.{◌≡◌, ◌<◌, ◌++◌, ◌||◌, ◌&&◌, Bool, true, false, List, [], ◌∷◌, nat_eq, All}
+use Rattle.std.specs.Prelude.{◌≡◌, ◌<◌, length, ◌++◌, ◌||◌, ◌&&◌, Bool, true, false, List, [], ◌∷◌, nat_eq, All}
 use Rattle.std.specs.List.{list_any}
 use Rattle.tpl_model.specs.declared.claim.Given.{Given}
-use Rattle.tpl_model.specs.declared.claim.Given.TheVariants.{Input, Quiet}
+use Rattle.tpl_model.specs.declared.claim.Given.TheVariants.{Input, Quiet, Ended, Succeeds}
 use Rattle.tpl_model.specs.declared.claim.Property.{Property}
-use Rattle.tpl_model.specs.declared.claim.Property.TheVariants.{Final as EndsIn, After, Observed, Never, Excludes}
+use Rattle.tpl_model.specs.declared.claim.Property.TheVariants.{Final as EndsIn, After, Observed, Never, Excludes, Runs}
 use Rattle.tpl_model.specs.Graph.{TaskGraph, TaskKind, WhenAll, WhenAny, kind, is_task, is_token}
+use Rattle.tpl_model.specs.Valid.{all_sites}
 use Rattle.tpl_model.specs.Claims.{Claim}
 
--- the input or token is the graph's
+-- the input, token or task is the graph's, and so is the site: sites are numbered in the order of the text
 abbrev pub IsGivenOf : TaskGraph → Given → Type 0
 IsGivenOf g (Input i value) = i.0 < g.inputs
 IsGivenOf g (Quiet k) = is_token g k.0
+IsGivenOf g (Ended t ends) = is_task g t.0
+IsGivenOf g (Succeeds site) = site.0 < length (all_sites g)
 
--- each input and token that is given is the graph's
+-- each input, token, task and site that is given is the graph's
 abbrev pub AreGivenOf : TaskGraph → List Given → Type 0
 AreGivenOf g given = All (IsGivenOf g) given
 
--- both speak of one input, whatever its values, or of one token
+-- both speak of one input or of one task's end, whatever they say of it, or of one token or one job
 abbrev pub is_of_one_thing : Given → Given → Bool
 is_of_one_thing (Input i value) (Input j other) = nat_eq i.0 j.0
-is_of_one_thing (Input i value) (Quiet k) = false
-is_of_one_thing (Quiet k) (Input i value) = false
 is_of_one_thing (Quiet k) (Quiet j) = nat_eq k.0 j.0
+is_of_one_thing (Ended t ends) (Ended s other) = nat_eq t.0 s.0
+is_of_one_thing (Succeeds i) (Succeeds j) = nat_eq i.0 j.0
+is_of_one_thing one other = false
 
 -- one of these is given again, after those before
 abbrev pub given_again : List Given → List Given → Bool
 given_again before [] = false
 given_again before (x ∷ rest) = list_any (is_of_one_thing x) before || given_again (before ++ x ∷ []) rest
 
--- an input or a token is given twice
+-- one thing is given twice
 abbrev pub given_twice : List Given → Bool
 given_twice given = given_again [] given
 
@@ -40,6 +44,7 @@ TasksOf g (After a b) = is_task g a.0 × is_task g b.0
 TasksOf g (Observed t) = is_task g t.0
 TasksOf g (Never t) = is_task g t.0
 TasksOf g (Excludes a b) = is_task g a.0 × is_task g b.0
+TasksOf g (Runs t) = is_task g t.0
 
 -- WhenAll and WhenAny tasks have no body, and never begin
 abbrev pub has_body : TaskKind → Bool
@@ -54,6 +59,7 @@ have_bodies g (After a b) = has_body (kind g b.0)
 have_bodies g (Observed t) = has_body (kind g t.0)
 have_bodies g (Never t) = has_body (kind g t.0)
 have_bodies g (Excludes a b) = has_body (kind g a.0) && has_body (kind g b.0)
+have_bodies g (Runs t) = has_body (kind g t.0)
 
 -- a claim that can be asked of a graph: its ids are the graph's, what it says of bodies is said of tasks with a body,
 -- and nothing is given twice

@@ -29,7 +29,8 @@ impl Claim {
         Claim { given, body }
     }
 
-    /// The givens: values of inputs, and tokens that are never requested.
+    /// The givens: values of inputs, tokens that are never requested, ends of tasks, and jobs that don't
+    /// fail.
     pub fn given(&self) -> &[Given]
         ensures { result.now ≡ self.now.given }
     {

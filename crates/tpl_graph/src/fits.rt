@@ -9,7 +9,7 @@ use crate::claim::Claim;
 use crate::graph::Graph;
 use crate::row::Kind;
 use tpl_model::{Given, Property};
-use tpl_words::{InputId, TaskId, TokenId};
+use tpl_words::{InputId, SiteId, TaskId, TokenId};
 
 fn is_task(graph: &Graph, task: TaskId) -> bool
     ensures { IsTrue result ↔ is_task graph.now.graph task.0 }
@@ -20,9 +20,12 @@ fn is_task(graph: &Graph, task: TaskId) -> bool
 fn is_given_of(graph: &Graph, given: Given) -> bool
     ensures { IsTrue result ↔ IsGivenOf graph.now.graph given }
 {
+    graph.valid_law();
     match given {
         Given::Input(InputId(input), _) => (input as usize) < graph.input_count(),
         Given::Quiet(TokenId(token)) => (token as usize) < graph.token_count(),
+        Given::Ended(task, _) => is_task(graph, task),
+        Given::Succeeds(SiteId(site)) => (site as usize) < graph.site_count(),
     }
 }
 
@@ -32,6 +35,8 @@ fn is_of_one_thing(one: Given, other: Given) -> bool
     match (one, other) {
         (Given::Input(i, _), Given::Input(j, _)) => i.0 == j.0,
         (Given::Quiet(k), Given::Quiet(j)) => k.0 == j.0,
+        (Given::Ended(t, _), Given::Ended(s, _)) => t.0 == s.0,
+        (Given::Succeeds(i), Given::Succeeds(j)) => i.0 == j.0,
         _ => false,
     }
 }
@@ -42,7 +47,7 @@ fn is_given_in(before: &[Given], one: Given) -> bool
     before.iter().any(|other| is_of_one_thing(one, *other))
 }
 
-/// Whether an input, with whatever values, or a token is given twice.
+/// Whether one input or one task's end, whatever is said of it, one token or one job is given twice.
 pub fn given_twice(given: &[Given]) -> bool
     ensures { result ≡ given_twice given.now }
 {
@@ -63,6 +68,7 @@ fn tasks_of(graph: &Graph, body: Property) -> bool
         Property::Observed(task) => is_task(graph, task),
         Property::Never(task) => is_task(graph, task),
         Property::Excludes(a, b) => is_task(graph, a) && is_task(graph, b),
+        Property::Runs(task) => is_task(graph, task),
     }
 }
 
@@ -88,12 +94,13 @@ pub fn have_bodies(graph: &Graph, body: Property) -> bool
         Property::Observed(task) => has_body(graph, task),
         Property::Never(task) => has_body(graph, task),
         Property::Excludes(a, b) => has_body(graph, a) && has_body(graph, b),
+        Property::Runs(task) => has_body(graph, task),
     }
 }
 
 impl Claim {
     /// Whether the claim can be asked of the graph: its ids are the graph's, what it says of bodies is said of tasks
-    /// with a body, and no input or token is given twice.
+    /// with a body, and nothing is given twice.
     pub fn fits(&self, graph: &Graph) -> bool
         ensures { IsTrue result ↔ Fits graph.now.graph self.now }
     {

@@ -1,12 +1,11 @@
 //! From bytes to a value of JSON.
 
-ghost use Rattle.std.specs.Prelude.{◌≡◌, ◌≤◌, Some, None, Err, IfOk, IsUtf8};
+ghost use Rattle.std.specs.Prelude.{◌≡◌, ◌≢◌, ◌≤◌, Some, None, IfOk, IfErr, IsUtf8};
 ghost use Rattle.json.specs.Value.{value_view, items_view, members_view};
 ghost use Rattle.serde_json.specs.Data.{depth};
 ghost use Rattle.serde_json.specs.Read.{read};
 ghost use Rattle.tpl_json.specs.View.{view};
 ghost use Rattle.tpl_json.specs.Numbers.{in_range, items_in_range, members_in_range};
-ghost use Rattle.tpl_json.specs.declared.read.NotRead.TheVariants.{NotJson};
 
 use crate::number::is_in_range;
 use json::{Error, Reader, Scratch, Value};
@@ -18,8 +17,13 @@ const DEEPEST: usize = 127;
 /// Why bytes were not read.
 #[derive(Clone, Copy, Debug, Drop, PartialEq, Eq)]
 pub enum NotRead {
-    /// They are no JSON in UTF-8, nest too deep, or hold a number that is too large for a float.
-    NotJson,
+    /// They are no UTF-8.
+    NotUtf8,
+    /// They are no JSON, or nest too deep. The text is read as far as this byte, counted from 0; the first that can't
+    /// stand where it does, or the text's length where it ends too early.
+    NotJson(usize),
+    /// A number is too large for a float.
+    TooLarge,
     /// Memory ran out.
     Memory,
 }
@@ -66,7 +70,7 @@ fn text_read<'t>(
     scratch: &'t mut Scratch,
 ) -> Result<Value<'t>, NotRead>
     ensures ok { IfOk result (λ v. read text.now ≡ Some (view v)) }
-    ensures err { result ≡ Err NotJson → read text.now ≡ None }
+    ensures err { IfErr result (λ e. e ≢ NotRead.Memory → read text.now ≡ None) }
 {
     let Ok(mut reader) = Reader::new(text, scratch) else {
         return Err(NotRead::Memory);
@@ -74,15 +78,15 @@ fn text_read<'t>(
     let value = match Value::read(alloc, &mut reader, DEEPEST) {
         Ok(value) => value,
         Err(Error::OutOfMemory) => return Err(NotRead::Memory),
-        Err(_) => return Err(NotRead::NotJson),
+        Err(_) => return Err(NotRead::NotJson(reader.offset())),
     };
     if reader.next().is_some() {
-        return Err(NotRead::NotJson);
+        return Err(NotRead::NotJson(reader.offset()));
     }
     if in_range(&value) {
         Ok(value)
     } else {
-        Err(NotRead::NotJson)
+        Err(NotRead::TooLarge)
     }
 }
 
@@ -96,10 +100,10 @@ pub fn value_from<'t>(
 ) -> Result<Value<'t>, NotRead>
     ensures ok { IfOk result (λ v. IsUtf8 bytes.now × (read bytes.now ≡ Some (view v))) }
     ensures nests { IfOk result (λ v. depth (view v) ≤ 127) }
-    ensures err { result ≡ Err NotJson → IsUtf8 bytes.now → read bytes.now ≡ None }
+    ensures err { IfErr result (λ e. e ≢ NotRead.Memory → IsUtf8 bytes.now → read bytes.now ≡ None) }
 {
     match std::str::from_utf8(bytes) {
         Ok(text) => text_read(alloc, text, scratch),
-        Err(_) => Err(NotRead::NotJson),
+        Err(_) => Err(NotRead::NotUtf8),
     }
 }

@@ -10,12 +10,12 @@ use Rattle.tpl_words.specs.Finals.{has}
 use Rattle.tpl_words.specs.declared.status.Label.{Label}
 use Rattle.tpl_model.specs.Graph.{TaskGraph, TaskKind, Root, Child, Continues, WhenAll, WhenAny, kind}
 use Rattle.tpl_model.specs.declared.event.Event.{Event}
-use Rattle.tpl_model.specs.Facts.{begun, begun_by, requested, started, ending}
+use Rattle.tpl_model.specs.Facts.{begun, begun_by, requested, failed, started, ending}
 use Rattle.tpl_model.specs.Rules.{final, label, seen, Settled, ended, unstarted, to_end, Complete}
 use Rattle.tpl_model.specs.Valid.{IsGraph}
 use Rattle.tpl_model.specs.declared.claim.Given.{Given}
-use Rattle.tpl_model.specs.declared.claim.Given.TheVariants.{Input, Quiet}
-use Rattle.tpl_model.specs.declared.claim.Property.TheVariants.{Final as EndsIn, After, Observed, Never, Excludes}
+use Rattle.tpl_model.specs.declared.claim.Given.TheVariants.{Input, Quiet, Ended, Succeeds}
+use Rattle.tpl_model.specs.declared.claim.Property.TheVariants.{Final as EndsIn, After, Observed, Never, Excludes, Runs}
 use Rattle.tpl_model.specs.Certificate.{same}
 use Rattle.tpl_model.specs.Claims.{input, IsGiven, SettledAtBegin, HoldsOf}
 use Rattle.tpl_laws.specs.RowTests.{implies, parent_of}
@@ -70,14 +70,16 @@ equal true b = (λ e. sym e, λ e. sym e)
 equal false true = (λ e. absurd (cc), λ e. absurd (cc))
 equal false false = (λ e. refl, λ e. refl)
 
+ends_in : (ends : Finals) (o : Option Final) → Decides (ends_within ends o) ((f : Final) → o ≡ Some f → has ends f ≡ true)
+ends_in ends None = (λ e f x. absurd (cc), λ x. refl)
+ends_in ends (Some f) = (λ e x same. ap (has ends) (let it : x ≡ f = cc in it) ∙ e, λ x. x f refl)
+
 pub given_lem : (g : TaskGraph) (v : List Bool) (h : List Event) (given : List Given) → Decides (is_given g v h given) (IsGiven g v h given)
 given_lem g v h [] = (λ e. tt, λ e. refl)
 given_lem g v h (Input i value ∷ given) = Decides-and (same (input v i.0) value) (is_given g v h given) (equal (input v i.0) value) (given_lem g v h given)
 given_lem g v h (Quiet k ∷ given) = Decides-and (not (requested g v h k.0)) (is_given g v h given) (denied (requested g v h k.0)) (given_lem g v h given)
-
-ends_in : (ends : Finals) (o : Option Final) → Decides (ends_within ends o) ((f : Final) → o ≡ Some f → has ends f ≡ true)
-ends_in ends None = (λ e f x. absurd (cc), λ x. refl)
-ends_in ends (Some f) = (λ e x same. ap (has ends) (let it : x ≡ f = cc in it) ∙ e, λ x. x f refl)
+given_lem g v h (Ended t ends ∷ given) = Decides-and (ends_within ends (final g v h t.0)) (is_given g v h given) (ends_in ends (final g v h t.0)) (given_lem g v h given)
+given_lem g v h (Succeeds site ∷ given) = Decides-and (not (failed g v h site.0)) (is_given g v h given) (denied (failed g v h site.0)) (given_lem g v h given)
 
 labelled : (o : Option Label) (b : Bool) → Decides (implies (is_some o) b) ((l : Label) → o ≡ Some l → b ≡ true)
 labelled None b = (λ e l x. absurd (cc), λ f. refl)
@@ -98,6 +100,8 @@ holds_of_lem g v h (Observed t) valid =
     (complete_lem g v h) (labelled (label g v h t.0) (seen g v h t.0))
 holds_of_lem g v h (Never t) valid = denied (is_some (begun h t.0))
 holds_of_lem g v h (Excludes a b) valid = denied (is_some (begun h a.0) && is_some (begun h b.0))
+holds_of_lem g v h (Runs t) valid =
+    only_if (Complete g v h) (is_some (begun h t.0) ≡ true) (is_complete g v h) (is_some (begun h t.0)) (complete_lem g v h) (itself (is_some (begun h t.0)))
 
 pub holds_lem : HoldsIsRight
 holds_lem g claim v h valid = only_if (IsGiven g v h claim.given) (HoldsOf g v h claim.body) (is_given g v h claim.given) (holds_of g v h claim.body) (given_lem g v h claim.given) (holds_of_lem g v h claim.body valid)

@@ -3,6 +3,7 @@ use Rattle.std.proofs.Common.{◌≡◌, ℕ, ◌⊎◌, inl, inr, Bool, true, f
 use Rattle.std.proofs.lemmas.Bool.{cases_Bool}
 use Rattle.tpl_words.proofs.Truths.{true_false}
 use Rattle.tpl_words.specs.declared.finals.Final.{Final}
+use Rattle.tpl_words.specs.declared.finals.Final.TheVariants.{Canceled}
 use Rattle.tpl_words.specs.Options.{allows}
 use Rattle.tpl_words.specs.declared.status.Label.{Label}
 use Rattle.tpl_script.specs.declared.outcome.Outcome.TheVariants.{Threw}
@@ -247,6 +248,28 @@ taken_over g v h x y a r valid run complete i (inr w) e n =
   where
     some_ending : (p q : Ending) → Some p ≡ Some q → p ≡ q
     some_ending p q e = cc
+
+-- a task with a body that ended in another way than Canceled had begun
+pub ended_begun : (g : TaskGraph) (v : List Bool) (h : List Event) (t : ℕ) (r : Ending) → Run g v h → IsBody (kind g t) → ending g v h t ≡ Some r → (r.final ≡ Canceled → ⊥) → is_some (begun h t) ≡ true
+ended_begun g v [] t r run b e n = absurd (at_once (kind g t) b e)
+  where
+    at_once : (k : TaskKind) → IsBody k → ended_at_once k ≡ Some r → ⊥
+    at_once Root b e = some_none r (sym e)
+    at_once Child b e = some_none r (sym e)
+    at_once (Continues a) b e = some_none r (sym e)
+    at_once (WhenAll args) b e = b
+    at_once (WhenAny args) b e = b
+ended_begun g v (x ∷ h) t r run b e n =
+    begun_kept h x.actor x.act t
+    (elim (ending_new g v h x.actor x.act t r e) [
+      | inl old ↦ ended_begun g v h t r run.0 b old n
+      | inr new ↦ by_end (how_ends g v h x.actor x.act t r run.0 run.1 new.0 new.1)
+    ])
+  where
+    by_end : Ends g v h t r → is_some (begun h t) ≡ true
+    by_end (drops i d f c) = absurd (n f)
+    by_end (leaves i w) = w.begun
+    by_end (settled i c place who s) = absurd (no_settle (kind g t) (ending g v h) b c)
 
 -- how a continuation has ended: its body is over, its token was requested, or its options didn't allow it
 abbrev pub EndedAs : TaskGraph → List Bool → List Event → ℕ → ℕ → Type 0

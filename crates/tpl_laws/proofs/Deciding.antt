@@ -1,7 +1,7 @@
 -- Tests that decide statements.
-use Rattle.std.proofs.Common.{◌≡◌, ℕ, ◌⊎◌, inl, inr, ◌&&◌, ◌||◌, not, Bool, true, false, List, [], ◌∷◌, refl, sym, subst, nat_eq}
+use Rattle.std.proofs.Common.{◌≡◌, ℕ, zero, suc, ◌<◌, ◌⊎◌, inl, inr, ◌&&◌, ◌||◌, not, Bool, true, false, List, [], ◌∷◌, refl, sym, subst, arith, nat_eq}
 use Rattle.std.specs.Prelude.{Decides}
-use Rattle.std.proofs.lemmas.Bool.{and_parts, and_from as and_join, or_cases as or_split, or_left, or_right}
+use Rattle.std.proofs.lemmas.Bool.{cases_lt, and_parts, and_from as and_join, or_cases as or_split, or_left, or_right}
 use Rattle.tpl_words.proofs.MemberLemmas.{same_self, mem_there, mem_split}
 use Rattle.tpl_words.proofs.Truths.{true_false}
 use Rattle.tpl_words.specs.declared.finals.Final.{Final}
@@ -10,7 +10,7 @@ use Rattle.tpl_words.specs.Finals.{is_final}
 use Rattle.tpl_words.specs.Members.{mem}
 use Rattle.tpl_model.specs.Graph.{some_in}
 use Rattle.tpl_laws.proofs.Basics.{same_number, final_same, final_self, mem_here}
-use Rattle.tpl_laws.specs.RowTests.{implies, all_in, each_end, some_end}
+use Rattle.tpl_laws.specs.RowTests.{implies, all_in, each_end, some_end, some_below}
 
 pub denied : (P : Type 0) (b : Bool) → Decides b P → Decides (not b) (P → ⊥)
 denied P true d = (λ e. true_false (sym e), λ f. absurd (f (d.0 refl)))
@@ -108,4 +108,24 @@ of_some P q xs d = (to xs, λ e. from xs e.0 e.1 e.2)
         elim (mem_split x y ys m) [
           | inl a ↦ or_left (q y) (some_in q ys) ((d y).1 (subst P a p))
           | inr b ↦ or_right (q y) (some_in q ys) (from ys x b p)
+        ]
+
+-- of the numbers below n
+pub below_some : (P : ℕ → Type 0) (q : ℕ → Bool) (n : ℕ) → ((x : ℕ) → Decides (q x) (P x)) → Decides (some_below q n) ((x : ℕ) × (x < n) × P x)
+below_some P q n d = (to n, λ e. from n e.0 e.1 e.2)
+  where
+    to : (m : ℕ) → some_below q m ≡ true → (x : ℕ) × (x < m) × P x
+    to zero e = true_false (sym e)
+    to (suc m) e =
+        elim (or_split (q m) (some_below q m) e) [
+          | inl a ↦ (m, omega arith, (d m).0 a)
+          | inr b ↦ let r = to m b in let lt = r.1 in (r.0, omega arith, r.2)
+        ]
+
+    from : (m x : ℕ) → x < m → P x → some_below q m ≡ true
+    from zero x lt p = absurd (omega arith)
+    from (suc m) x lt p =
+        elim (cases_lt x m) [
+          | inl less ↦ or_right (q m) (some_below q m) (from m x less p)
+          | inr ge ↦ let same : x ≡ m = omega arith in or_left (q m) (some_below q m) ((d m).1 (subst P same p))
         ]

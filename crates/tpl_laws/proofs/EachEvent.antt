@@ -1,5 +1,5 @@
 -- Each event keeps the rows true.
-use Rattle.std.proofs.Common.{◌≡◌, ℕ, ◌&&◌, ◌⊎◌, inl, inr, not, Bool, true, false, Option, Some, None, List, [], ◌∷◌, refl, sym, ap, ◌∙◌, subst, nat_eq, is_some, length}
+use Rattle.std.proofs.Common.{◌≡◌, ℕ, ◌&&◌, ◌||◌, ◌⊎◌, inl, inr, not, Bool, true, false, Option, Some, None, List, [], ◌∷◌, refl, sym, ap, ◌∙◌, subst, nat_eq, is_some, length}
 use Rattle.tpl_words.specs.declared.finals.Final.{Final}
 use Rattle.tpl_words.specs.declared.finals.Final.TheVariants.{RanToCompletion, Canceled, Faulted}
 use Rattle.tpl_words.specs.Finals.{is_final, has}
@@ -18,14 +18,14 @@ use Rattle.tpl_laws.proofs.Basics.{if_false, some_none, the_some, is_some_of, sa
 use Rattle.tpl_laws.proofs.Kept.{after, ending_new, final_of}
 use Rattle.tpl_words.specs.Options.{lazy_cancellation}
 use Rattle.tpl_model.specs.Valid.{IsGraph}
-use Rattle.tpl_model.specs.Certificate.{Row, row, Assumed, Agrees, is_loud, view, IsBelow, BodyMayEnd, AllMayEnd, MayEndAs, PastRule, Closed}
+use Rattle.tpl_model.specs.Certificate.{Row, row, Assumed, end_left, Agrees, is_loud, view, IsBelow, BodyMayEnd, AllMayEnd, MayEndAs, may_end, may_win, PastRule, Closed}
 use Rattle.tpl_laws.proofs.Execution.{passed, StartedBy, started_parent}
 use Rattle.tpl_laws.proofs.Ready.{Ready, begun_ready, waiting_ready, IsBody, begun_body}
 use Rattle.tpl_laws.proofs.Follows.{follows}
 use Rattle.tpl_laws.proofs.Settling.{no_task, child_rules, has_subject_of, attached_child, settled_kept, below_settled}
 use Rattle.tpl_laws.proofs.Carrying.{Ends, drops, leaves, settled, BodyEnds, how_ends, carries_faulted, gathered_from, those_mem, gathered_keeps, carried_some}
 use Rattle.tpl_laws.proofs.RowsAreTrue.{Now, AreTrue, left_verdict, verdict_path, view_fits, starts_on_path, ready_runs, ready_before, requested_loud, agrees_before, some_eq}
-use Rattle.std.proofs.lemmas.Bool.{cases_lt, cases_Bool, and_parts, or_cases}
+use Rattle.std.proofs.lemmas.Bool.{cases_lt, cases_Bool, and_parts, or_cases, or_left, or_right}
 use Rattle.tpl_words.proofs.MemberLemmas.{mem_split, mem_there}
 use Rattle.tpl_words.proofs.Truths.{true_false}
 
@@ -156,9 +156,9 @@ body_may g l rows v h t r now b =
         true_false (sym (subst (λ z. mem t z ≡ true) (sym q) (gathered_keeps t (own_atom t (outcome_in (rest g v h t))) (those_started (attached g t) (started g v h)) (ending g v h) (subst (λ z. mem t (own_atom t z) ≡ true) (sym e) (mem_here t t [] refl)))))
 
 -- however a task ends, its row has that end
-pub ends_so : (g : TaskGraph) (l : Assumed) (rows : List Row) (v : List Bool) (h : List Event) (t : ℕ) (r : Ending) → Now g l rows v h → l.cut t r.final ≡ true → Ends g v h t r → has (row rows t).ends r.final ≡ true
+pub ends_so : (g : TaskGraph) (l : Assumed) (rows : List Row) (v : List Bool) (h : List Event) (t : ℕ) (r : Ending) → Now g l rows v h → end_left l t r.final ≡ true → Ends g v h t r → has (row rows t).ends r.final ≡ true
 ends_so g l rows v h t r now cut (drops i d f c) =
-    subst (λ z. has (row rows t).ends z ≡ true) (sym f) ((now.closed t i).ends Canceled (subst (λ z. l.cut t z ≡ true) f cut) (drop_may g l rows v h t now i d))
+    subst (λ z. has (row rows t).ends z ≡ true) (sym f) ((now.closed t i).ends Canceled (subst (λ z. end_left l t z ≡ true) f cut) (drop_may g l rows v h t now i d))
 ends_so g l rows v h t r now cut (leaves i b) =
     (now.closed t i).ends r.final cut (by_kind (kind g t) (begun_body g v h t now.run b.begun) (now.true_rows.runs t b.begun) (body_may g l rows v h t r now b))
   where
@@ -236,12 +236,25 @@ done_before g l rows v h t r now (settled i c place who q) = by_kind (kind g t) 
     by_kind Child c = true_false (sym c)
     by_kind (Continues a) c = true_false (sym c)
 
+-- a task whose row has an end may end
+pub may_end_so : (rows : List Row) (t : ℕ) (f : Final) → has (row rows t).ends f ≡ true → may_end rows t ≡ true
+may_end_so rows t RanToCompletion e = or_left (has (row rows t).ends RanToCompletion) (has (row rows t).ends Canceled || has (row rows t).ends Faulted) e
+may_end_so rows t Canceled e =
+    or_right (has (row rows t).ends RanToCompletion) (has (row rows t).ends Canceled || has (row rows t).ends Faulted)
+    (or_left (has (row rows t).ends Canceled) (has (row rows t).ends Faulted) e)
+may_end_so rows t Faulted e =
+    or_right (has (row rows t).ends RanToCompletion) (has (row rows t).ends Canceled || has (row rows t).ends Faulted)
+    (or_right (has (row rows t).ends Canceled) (has (row rows t).ends Faulted) e)
+
 -- what its row has past it is settled, or below it, when a task ends
 pub past_so : (g : TaskGraph) (l : Assumed) (rows : List Row) (v : List Bool) (h : List Event) (t x : ℕ) (r : Ending) → Now g l rows v h → is_task g t → has (row rows t).ends r.final ≡ true → DoneBefore g l v h t r (kind g t) → mem x (row rows t).past ≡ true → Settled g v h x ⊎ IsBelow g t x
 past_so g l rows v h t x r now i en d m = by_kind (kind g t) d ((now.closed t i).past x m)
   where
     or_past : (y : ℕ) → is_some (ending g v h y) ≡ true → (x ≡ y) ⊎ (mem x (row rows y).past ≡ true) → Settled g v h x
     or_past y e c = elim c [ inl q ↦ subst (λ z. Settled g v h z) (sym q) (ended e) | inr q ↦ now.true_rows.past y x e q ]
+
+    wins : (y : ℕ) → is_some (ending g v h y) ≡ true → may_win l rows y ≡ true
+    wins y e = let w = end_of (ending g v h y) e in or_right (not l.wide) (may_end rows y) (may_end_so rows y w.0 (now.true_rows.ends y w.0 w.1))
 
     by_kind : (k : TaskKind) → DoneBefore g l v h t r k → PastRule g l rows t k x → Settled g v h x ⊎ IsBelow g t x
     by_kind Root d c = inr c
@@ -266,7 +279,7 @@ past_so g l rows v h t x r now i en d m = by_kind (kind g t) d ((now.closed t i)
         early true false cancel a b c = c
         early false lazy cancel a b c = true_false (sym a)
     by_kind (WhenAll args) d c = inl (or_past c.0 (all_ended_mem args (ending g v h) c.0 d c.1) c.2)
-    by_kind (WhenAny args) d c = let w = some_ended_mem args (ending g v h) d in inl (or_past w.0 w.2 (c w.0 w.1))
+    by_kind (WhenAny args) d c = let w = some_ended_mem args (ending g v h) d in inl (or_past w.0 w.2 (c w.0 w.1 (wins w.0 w.2)))
 
 ends_task : (g : TaskGraph) (v : List Bool) (h : List Event) (t : ℕ) (r : Ending) → Ends g v h t r → is_task g t
 ends_task g v h t r (drops i d f c) = i
@@ -287,7 +300,7 @@ event_keeps g l rows v h a x now al ag = record {
         let w = final_of (ending g v (after a x h) t) f e in
         elim (ending_new g v h a x t w.0 w.1) [
           | inl o ↦ now.true_rows.ends t f (ap final_in o ∙ ap Some w.2)
-          | inr n ↦ subst (λ z. has (row rows t).ends z ≡ true) w.2 (ends_so g l rows v h t w.0 now (subst (λ z. l.cut t z ≡ true) (sym w.2) (ag.ends t f e)) (how_ends g v h a x t w.0 now.run al n.0 n.1))
+          | inr n ↦ subst (λ z. has (row rows t).ends z ≡ true) w.2 (ends_so g l rows v h t w.0 now (subst (λ z. end_left l t z ≡ true) (sym w.2) (ag.ends t f e)) (how_ends g v h a x t w.0 now.run al n.0 n.1))
         ]
 
     begins : (t : ℕ) (act : Act) → Allows g v h a act → is_some (begun (after a act h) t) ≡ true → ((is_some (begun h t) ≡ true) ⊎ (is_task g t × Ready g v h t (kind g t)))
@@ -341,11 +354,11 @@ rows_at_first g l rows v valid closed ag = record {
         no_root : Root ≡ WhenAll [] → ⊥
         no_root e = absurd (cc)
 
-    first_end : (t : ℕ) (f : Final) (k : TaskKind) → kind g t ≡ k → final_in (ended_at_once k) ≡ Some f → l.cut t f ≡ true → has (row rows t).ends f ≡ true
+    first_end : (t : ℕ) (f : Final) (k : TaskKind) → kind g t ≡ k → final_in (ended_at_once k) ≡ Some f → end_left l t f ≡ true → has (row rows t).ends f ≡ true
     first_end t f (WhenAll []) k e c =
         let f_is = some_eq RanToCompletion f e in
         subst (λ z. has (row rows t).ends z ≡ true) f_is
-        ((closed t (in_graph t k)).ends RanToCompletion (subst (λ z. l.cut t z ≡ true) (sym f_is) c) (subst (λ z. MayEndAs g l rows t z RanToCompletion) (sym k) (λ x m. true_false (sym m))))
+        ((closed t (in_graph t k)).ends RanToCompletion (subst (λ z. end_left l t z ≡ true) (sym f_is) c) (subst (λ z. MayEndAs g l rows t z RanToCompletion) (sym k) (λ x m. true_false (sym m))))
     first_end t f (WhenAll (y ∷ ys)) k e c = some_none f (sym e)
     first_end t f Root k e c = some_none f (sym e)
     first_end t f Child k e c = some_none f (sym e)

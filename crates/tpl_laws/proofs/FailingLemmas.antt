@@ -13,20 +13,20 @@ use Rattle.tpl_model.specs.Graph.{TaskGraph, TaskKind, Root, Child, Continues, W
 use Rattle.tpl_model.specs.declared.event.Act.{Act}
 use Rattle.tpl_model.specs.declared.event.Act.TheVariants.{Request, Release, Begin, Step, Worked, Leave, Close, Drop, Settle}
 use Rattle.tpl_model.specs.declared.event.Event.{Event}
-use Rattle.tpl_model.specs.Facts.{Ending, begun, begun_by, requested, started, ending, final_in}
+use Rattle.tpl_model.specs.Facts.{Ending, begun, begun_by, requested, failed, started, ending, final_in}
 use Rattle.tpl_model.specs.Rules.{final, label, seen, MayDrop, MayStart, MayNotStart, MayCancel, Allows, Run, to_end, Complete, can_settle}
 use Rattle.tpl_model.specs.declared.claim.Given.{Given}
-use Rattle.tpl_model.specs.declared.claim.Given.TheVariants.{Input, Quiet}
+use Rattle.tpl_model.specs.declared.claim.Given.TheVariants.{Input, Quiet, Ended, Succeeds}
 use Rattle.tpl_model.specs.declared.claim.Property.{Property}
-use Rattle.tpl_model.specs.declared.claim.Property.TheVariants.{Final as EndsIn, After, Observed, Never, Excludes}
-use Rattle.tpl_model.specs.Certificate.{same}
+use Rattle.tpl_model.specs.declared.claim.Property.TheVariants.{Final as EndsIn, After, Observed, Never, Excludes, Runs}
+use Rattle.tpl_model.specs.Certificate.{same, given_sure}
 use Rattle.tpl_model.specs.Claims.{input}
 use Rattle.tpl_laws.specs.RowTests.{implies}
 use Rattle.tpl_laws.specs.Allowed.{is_settled, is_complete, is_given, settled_at_begin, ends_within, holds_of}
-use Rattle.tpl_laws.specs.Failing.{is_at, IsFrom, began_at, place_of, later_of, or_now, lost_at, fails_from, is_broken, unless_broken, first_failure, FailureIsTold, OnlyRequests, StaysComplete, CompleteIsNoted, RequestIsNoted}
+use Rattle.tpl_laws.specs.Failing.{is_at, IsFrom, began_at, place_of, later_of, or_now, lost_at, fails_from, Noted, is_broken, unless_broken, first_failure, FailureIsTold, OnlyRequests, StaysComplete, CompleteIsNoted, RequestIsNoted, JobIsNoted}
 use Rattle.tpl_laws.specs.Runs.{gives_quiet}
 use Rattle.tpl_laws.proofs.Basics.{the_some}
-use Rattle.tpl_laws.proofs.Kept.{after, running_facts, waiting_facts, close_facts, not_some}
+use Rattle.tpl_laws.proofs.Kept.{after, failed_kept, running_facts, waiting_facts, close_facts, not_some}
 use Rattle.tpl_laws.proofs.Ready.{Ready, waiting_ready, begun_ready, left_begun}
 use Rattle.tpl_laws.proofs.Prefixes.{nothing_goes_back_lem}
 use Rattle.tpl_laws.proofs.SettledBefore.{ended_within, longer, ended_then, begins_once, begun_once}
@@ -207,9 +207,10 @@ record Untouched (g : TaskGraph) (v : List Bool) (h : List Event) (a : Actor) (x
   complete : Complete g v h → Complete g v (after a x h)
   label : (t : ℕ) → label g v (after a x h) t ≡ label g v h t
   seen : (t : ℕ) → seen g v (after a x h) t ≡ seen g v h t
+  begun : (t : ℕ) → begun (after a x h) t ≡ begun h t
 
 untouched : (g : TaskGraph) (v : List Bool) (h : List Event) (a : Actor) (k : TokenId) → Untouched g v h a (Request k)
-untouched g v h a k = record { complete = λ c. c; label = λ t. refl; seen = λ t. refl }
+untouched g v h a k = record { complete = λ c. c; label = λ t. refl; seen = λ t. refl; begun = λ t. refl }
 
 stays_untouched : (g : TaskGraph) (v : List Bool) (h : List Event) (x : Event) → Run g v h → Complete g v h → Allows g v h x.actor x.act → Untouched g v h x.actor x.act
 stays_untouched g v h x run complete al =
@@ -231,6 +232,11 @@ seen_stays : (g : TaskGraph) (v : List Bool) (later h : List Event) (t : ℕ) �
 seen_stays g v [] h t run complete = refl
 seen_stays g v (x ∷ later) h t run complete =
     (stays_untouched g v (later ++ h) x run.0 (stays_complete_lem g v later h run.0 complete) run.1).seen t ∙ seen_stays g v later h t run.0 complete
+
+begun_stays : (g : TaskGraph) (v : List Bool) (later h : List Event) (t : ℕ) → Run g v (later ++ h) → Complete g v h → begun (later ++ h) t ≡ begun h t
+begun_stays g v [] h t run complete = refl
+begun_stays g v (x ∷ later) h t run complete =
+    (stays_untouched g v (later ++ h) x run.0 (stays_complete_lem g v later h run.0 complete) run.1).begun t ∙ begun_stays g v later h t run.0 complete
 
 -- a property that is lost at a place
 
@@ -359,44 +365,75 @@ module _ (g : TaskGraph) (v : List Bool) (later before : List Event) (run : Run 
         (λ out. ap (λ z. implies z (implies (is_some (label g v before t)) (seen g v before t))) (complete_now ∙ out))
         (λ at. observed_same t (complete_now ∙ at))
 
+    fails_runs : (t : ℕ) → not (holds_of g v before (Runs (record { 0 = t }))) ≡ is_at (fails_from g v (later ++ before) complete (Runs (record { 0 = t }))) (length before)
+    fails_runs t =
+        lost (holds_of g v before (Runs (record { 0 = t }))) (holds_of g v (later ++ before) (Runs (record { 0 = t }))) complete (length before)
+        (λ out. ap (λ z. implies z (is_some (begun before t))) (complete_now ∙ out))
+        (λ at.
+        let c = complete_now ∙ at in
+        ap (λ z. implies z (is_some (begun before t))) (c ∙ sym (complete_then c))
+        ∙ ap (λ z. implies (is_complete g v (later ++ before)) (is_some z)) (sym (begun_stays g v later before t run ((complete_lem g v before).0 c))))
+
     fails_each : (p : Property) → not (holds_of g v before p) ≡ is_at (fails_from g v (later ++ before) complete p) (length before)
     fails_each (EndsIn t ends) = fails_ended t.0 ends
     fails_each (After a b) = fails_settled a.0 b.0
     fails_each (Observed t) = fails_observed t.0
     fails_each (Never t) = fails_begun t.0
     fails_each (Excludes a b) = fails_both a.0 b.0
+    fails_each (Runs t) = fails_runs t.0
 
 -- what is given
 
-broken_each : (g : TaskGraph) (v : List Bool) (before : List Event) (asked : ℕ → Option ℕ) (given : List Given) → ((k : ℕ) → gives_quiet given k ≡ true → requested g v before k ≡ is_at (asked k) (length before)) → is_given g v before given ≡ not (is_broken v asked given (length before))
-broken_each g v before asked [] each = refl
-broken_each g v before asked (Input i value ∷ given) each = here (broken_each g v before asked given each) (same (input v i.0) value)
+one_more_broken : (now at rest broken : Bool) → now ≡ at → rest ≡ not broken → not now && rest ≡ not (at || broken)
+one_more_broken now true rest broken e f = ap (λ z. not z && rest) e
+one_more_broken now false rest broken e f = ap (λ z. not z && rest) e ∙ f
+
+still_one : (o : Option ℕ) (n m : ℕ) (x y : Bool) → n ≤ m → (x ≡ true → y ≡ true) → is_at o n || x ≡ true → is_at o m || y ≡ true
+still_one o n m x y le more e =
+    elim (or_cases (is_at o n) x e) [
+      | inl now ↦ or_left (is_at o m) y (still_at o n m le now)
+      | inr rest ↦ or_right (is_at o m) y (more rest)
+    ]
+
+broken_each : (g : TaskGraph) (v : List Bool) (later before : List Event) (noted : Noted) (given : List Given) → Run g v (later ++ before)
+    → ((k : ℕ) → gives_quiet given k ≡ true → requested g v before k ≡ is_at (noted.asked k) (length before))
+    → ((site : ℕ) → given_sure given site ≡ true → failed g v before site ≡ is_at (noted.failed site) (length before))
+    → is_given g v before given ≡ not (is_broken g v (later ++ before) noted given (length before))
+broken_each g v later before noted [] run each jobs = refl
+broken_each g v later before noted (Input i value ∷ given) run each jobs = here (broken_each g v later before noted given run each jobs) (same (input v i.0) value)
   where
-    here : is_given g v before given ≡ not (is_broken v asked given (length before)) → (b : Bool) → b && is_given g v before given ≡ not (not b || is_broken v asked given (length before))
+    here : is_given g v before given ≡ not (is_broken g v (later ++ before) noted given (length before)) → (b : Bool) → b && is_given g v before given ≡ not (not b || is_broken g v (later ++ before) noted given (length before))
     here rest true = rest
     here rest false = refl
-broken_each g v before asked (Quiet k ∷ given) each =
-    ap (λ z. not z && is_given g v before given) (each k.0 (or_left (nat_eq k.0 k.0) (gives_quiet given k.0) (same_self k.0)))
-    ∙ (ap (λ z. not (is_at (asked k.0) (length before)) && z) (broken_each g v before asked given (λ j e. each j (or_right (nat_eq k.0 j) (gives_quiet given j) e)))
-    ∙ neither (is_at (asked k.0) (length before)) (is_broken v asked given (length before)))
+broken_each g v later before noted (Quiet k ∷ given) run each jobs =
+    one_more_broken (requested g v before k.0) (is_at (noted.asked k.0) (length before)) (is_given g v before given) (is_broken g v (later ++ before) noted given (length before))
+    (each k.0 (or_left (nat_eq k.0 k.0) (gives_quiet given k.0) (same_self k.0)))
+    (broken_each g v later before noted given run (λ j e. each j (or_right (nat_eq k.0 j) (gives_quiet given j) e)) jobs)
+broken_each g v later before noted (Ended t ends ∷ given) run each jobs =
+    here (broken_each g v later before noted given run each jobs) (ends_within ends (final g v before t.0)) (fails_ended g v later before run t.0 ends)
   where
-    neither : (a b : Bool) → not a && not b ≡ not (a || b)
-    neither true b = refl
-    neither false b = refl
+    at : Bool
+    at = is_at (if ends_within ends (final g v (later ++ before) t.0) then None else place_of (ending g v (later ++ before) t.0)) (length before)
+
+    here : is_given g v before given ≡ not (is_broken g v (later ++ before) noted given (length before)) → (b : Bool) → not b ≡ at → b && is_given g v before given ≡ not (at || is_broken g v (later ++ before) noted given (length before))
+    here rest true e = rest ∙ ap (λ z. not (z || is_broken g v (later ++ before) noted given (length before))) e
+    here rest false e = ap (λ z. not (z || is_broken g v (later ++ before) noted given (length before))) e
+broken_each g v later before noted (Succeeds s ∷ given) run each jobs =
+    one_more_broken (failed g v before s.0) (is_at (noted.failed s.0) (length before)) (is_given g v before given) (is_broken g v (later ++ before) noted given (length before))
+    (jobs s.0 (or_left (nat_eq s.0 s.0) (given_sure given s.0) (same_self s.0)))
+    (broken_each g v later before noted given run each (λ j e. jobs j (or_right (nat_eq s.0 j) (given_sure given j) e)))
 
 -- what is broken stays so
-still_broken : (v : List Bool) (asked : ℕ → Option ℕ) (given : List Given) (n m : ℕ) → n ≤ m → is_broken v asked given n ≡ true → is_broken v asked given m ≡ true
-still_broken v asked [] n m le e = e
-still_broken v asked (Input i value ∷ given) n m le e =
-    elim (or_cases (not (same (input v i.0) value)) (is_broken v asked given n) e) [
-      | inl now ↦ or_left (not (same (input v i.0) value)) (is_broken v asked given m) now
-      | inr rest ↦ or_right (not (same (input v i.0) value)) (is_broken v asked given m) (still_broken v asked given n m le rest)
+still_broken : (g : TaskGraph) (v : List Bool) (h : List Event) (noted : Noted) (given : List Given) (n m : ℕ) → n ≤ m → is_broken g v h noted given n ≡ true → is_broken g v h noted given m ≡ true
+still_broken g v h noted [] n m le e = e
+still_broken g v h noted (Input i value ∷ given) n m le e =
+    elim (or_cases (not (same (input v i.0) value)) (is_broken g v h noted given n) e) [
+      | inl now ↦ or_left (not (same (input v i.0) value)) (is_broken g v h noted given m) now
+      | inr rest ↦ or_right (not (same (input v i.0) value)) (is_broken g v h noted given m) (still_broken g v h noted given n m le rest)
     ]
-still_broken v asked (Quiet k ∷ given) n m le e =
-    elim (or_cases (is_at (asked k.0) n) (is_broken v asked given n) e) [
-      | inl now ↦ or_left (is_at (asked k.0) m) (is_broken v asked given m) (still_at (asked k.0) n m le now)
-      | inr rest ↦ or_right (is_at (asked k.0) m) (is_broken v asked given m) (still_broken v asked given n m le rest)
-    ]
+still_broken g v h noted (Quiet k ∷ given) n m le e = still_one (noted.asked k.0) n m (is_broken g v h noted given n) (is_broken g v h noted given m) le (still_broken g v h noted given n m le) e
+still_broken g v h noted (Ended t ends ∷ given) n m le e = still_one (fails_from g v h None (EndsIn t ends)) n m (is_broken g v h noted given n) (is_broken g v h noted given m) le (still_broken g v h noted given n m le) e
+still_broken g v h noted (Succeeds s ∷ given) n m le e = still_one (noted.failed s.0) n m (is_broken g v h noted given n) (is_broken g v h noted given m) le (still_broken g v h noted given n m le) e
 
 -- a claim fails from the place of its property on, as long as what is given isn't broken
 
@@ -448,8 +485,8 @@ unless_within n (Some p) broken w = here (broken p)
     here false = w
 
 pub failure_is_told_lem : FailureIsTold
-failure_is_told_lem g v h complete asked claim valid run completes requests = record {
-  within = unless_within (length h) (fails_from g v h complete claim.body) (is_broken v asked claim.given) (in_run (holds_of g v h claim.body) (lost_at g v h complete claim.body) fails_whole);
+failure_is_told_lem g v h complete noted claim valid run completes requests jobs = record {
+  within = unless_within (length h) (fails_from g v h complete claim.body) (is_broken g v h noted claim.given) (in_run (holds_of g v h claim.body) (lost_at g v h complete claim.body) fails_whole);
   before = λ later before same late. (told_at later before same).holds late;
   there = λ later before same at. (told_at later before same).fails at;
 }
@@ -459,12 +496,13 @@ failure_is_told_lem g v h complete asked claim valid run completes requests = re
         let P : List Event → Type 0 = λ z. Run g v z → IsFrom (is_complete g v) z complete → not (holds_of g v before claim.body) ≡ is_at (fails_from g v z complete claim.body) (length before) in
         subst P same (λ r c. fails_each g v later before r complete c claim.body) run completes
 
-    told_at : (later before : List Event) → later ++ before ≡ h → Told (first_failure g v h complete asked claim) (length before) (is_given g v before claim.given) (holds_of g v before claim.body)
+    told_at : (later before : List Event) → later ++ before ≡ h → Told (first_failure g v h complete noted claim) (length before) (is_given g v before claim.given) (holds_of g v before claim.body)
     told_at later before same =
-        told (fails_from g v h complete claim.body) (is_broken v asked claim.given) (length before) (is_given g v before claim.given) (holds_of g v before claim.body)
-        (still_broken v asked claim.given)
+        told (fails_from g v h complete claim.body) (is_broken g v h noted claim.given) (length before) (is_given g v before claim.given) (holds_of g v before claim.body)
+        (still_broken g v h noted claim.given)
         (fails_at later before same)
-        (broken_each g v before asked claim.given (λ k q. (requests k q).each later before same))
+        (subst (λ z. is_given g v before claim.given ≡ not (is_broken g v z noted claim.given (length before))) same
+        (broken_each g v later before noted claim.given (subst (Run g v) (sym same) run) (λ k q. (requests k q).each later before same) (λ site q. (jobs site q).each later before same)))
 
     fails_whole : not (holds_of g v h claim.body) ≡ is_at (fails_from g v h complete claim.body) (length h)
     fails_whole = fails_at [] h refl
@@ -496,3 +534,9 @@ request_is_noted_lem g v k = (from_start (λ before. requested g v before k), mo
   where
     more : (h : List Event) (x : Event) (place : Option ℕ) → Run g v (x ∷ h) → IsFrom (λ before. requested g v before k) h place → IsFrom (λ before. requested g v before k) (x ∷ h) (or_now place (requested g v (x ∷ h) k) (suc (length h)))
     more h x place run old = from_more (λ before. requested g v before k) h x place old ((nothing_goes_back_lem g v (x ∷ []) h run).still_requested k)
+
+pub job_is_noted_lem : JobIsNoted
+job_is_noted_lem g v site = (none_yet (λ before. failed g v before site) refl, more)
+  where
+    more : (h : List Event) (x : Event) (place : Option ℕ) → IsFrom (λ before. failed g v before site) h place → IsFrom (λ before. failed g v before site) (x ∷ h) (or_now place (failed g v (x ∷ h) site) (suc (length h)))
+    more h x place old = from_more (λ before. failed g v before site) h x place old (failed_kept g v h x.actor x.act site)

@@ -8,7 +8,7 @@ use Rattle.tpl_model.specs.Graph.{TaskGraph, kind, is_task}
 use Rattle.tpl_model.specs.Valid.{IsGraph}
 use Rattle.tpl_model.specs.declared.claim.Property.{Property}
 use Rattle.tpl_model.specs.Claims.{Claim}
-use Rattle.tpl_model.specs.Certificate.{Row, Tree, SplitInput, SplitEnd, Leaf, Assumed, assumed, with_input, with_end, IsClosed, Closed, Proves, AllTasks, IdsOfRows, AcceptsTree, Accepts}
+use Rattle.tpl_model.specs.Certificate.{Row, Tree, SplitInput, SplitEnd, Leaf, Assumed, assumed_for, with_input, with_end, IsClosed, Closed, Proves, AllTasks, IdsOfRows, AcceptsTree, Accepts}
 use Rattle.tpl_laws.specs.RowTests.{runs, ends, before, past, chain, proves}
 use Rattle.tpl_model.specs.declared.fault.Rule.{Rule}
 use Rattle.tpl_model.specs.declared.fault.Rule.TheVariants.{K1, K2, K3, K6}
@@ -191,37 +191,37 @@ module _ (paths : PathLaws) where
       (clear_leaf c n (Closed g l rows × (Proves g l rows p × Unit {0})) (leaf_fault g p l rows) (leaf_decided g p l rows valid)).1 (e.2, (e.3, tt))
 
   -- a certificate
-  all_accepted : (g : TaskGraph) → IsGraph g → (n m : ℕ) (claims : List Claim) (trees : List Tree) → misfit g n claims trees ≡ None → claims_fault g m claims trees ≡ None → Accepts g claims trees
-  all_accepted g valid n m [] [] f e = tt
-  all_accepted g valid n m [] (tree ∷ trees) f e = absurd (cc)
-  all_accepted g valid n m (claim ∷ claims) [] f e = absurd (cc)
-  all_accepted g valid n m (claim ∷ claims) (tree ∷ trees) f e =
+  all_accepted : (wide : Bool) (g : TaskGraph) → IsGraph g → (n m : ℕ) (claims : List Claim) (trees : List Tree) → misfit g n claims trees ≡ None → claims_fault wide g m claims trees ≡ None → Accepts wide g claims trees
+  all_accepted wide g valid n m [] [] f e = tt
+  all_accepted wide g valid n m [] (tree ∷ trees) f e = absurd (cc)
+  all_accepted wide g valid n m (claim ∷ claims) [] f e = absurd (cc)
+  all_accepted wide g valid n m (claim ∷ claims) (tree ∷ trees) f e =
       let s = no_unless (fits g tree) (Shape n) (misfit g (suc n) claims trees) f in
-      let q = none_first (tree_fault g claim.body m (assumed g claim.given) 1 tree) (claims_fault g (suc m) claims trees) e in
-      (tree_accepted g claim.body m valid (assumed g claim.given) 1 tree s.0 q.0, all_accepted g valid (suc n) (suc m) claims trees s.1 q.1)
+      let q = none_first (tree_fault g claim.body m (assumed_for wide g claim) 1 tree) (claims_fault wide g (suc m) claims trees) e in
+      (tree_accepted g claim.body m valid (assumed_for wide g claim) 1 tree s.0 q.0, all_accepted wide g valid (suc n) (suc m) claims trees s.1 q.1)
 
-  all_fit : (g : TaskGraph) (n : ℕ) (claims : List Claim) (trees : List Tree) → Accepts g claims trees → misfit g n claims trees ≡ None
-  all_fit g n [] [] a = refl
-  all_fit g n [] (tree ∷ trees) a = absurd a
-  all_fit g n (claim ∷ claims) [] a = absurd a
-  all_fit g n (claim ∷ claims) (tree ∷ trees) a = passes (fits g tree) (Shape n) (misfit g (suc n) claims trees) (accepted_fits g claim.body (assumed g claim.given) tree a.0) (all_fit g (suc n) claims trees a.1)
+  all_fit : (wide : Bool) (g : TaskGraph) (n : ℕ) (claims : List Claim) (trees : List Tree) → Accepts wide g claims trees → misfit g n claims trees ≡ None
+  all_fit wide g n [] [] a = refl
+  all_fit wide g n [] (tree ∷ trees) a = absurd a
+  all_fit wide g n (claim ∷ claims) [] a = absurd a
+  all_fit wide g n (claim ∷ claims) (tree ∷ trees) a = passes (fits g tree) (Shape n) (misfit g (suc n) claims trees) (accepted_fits g claim.body (assumed_for wide g claim) tree a.0) (all_fit wide g (suc n) claims trees a.1)
 
-  all_clear : (g : TaskGraph) → IsGraph g → (m : ℕ) (claims : List Claim) (trees : List Tree) → Accepts g claims trees → claims_fault g m claims trees ≡ None
-  all_clear g valid m [] [] a = refl
-  all_clear g valid m [] (tree ∷ trees) a = refl
-  all_clear g valid m (claim ∷ claims) [] a = refl
-  all_clear g valid m (claim ∷ claims) (tree ∷ trees) a =
-      no_two (tree_fault g claim.body m (assumed g claim.given) 1 tree) (claims_fault g (suc m) claims trees) (accepted_clear g claim.body m valid (assumed g claim.given) 1 tree a.0) (all_clear g valid (suc m) claims trees a.1)
+  all_clear : (wide : Bool) (g : TaskGraph) → IsGraph g → (m : ℕ) (claims : List Claim) (trees : List Tree) → Accepts wide g claims trees → claims_fault wide g m claims trees ≡ None
+  all_clear wide g valid m [] [] a = refl
+  all_clear wide g valid m [] (tree ∷ trees) a = refl
+  all_clear wide g valid m (claim ∷ claims) [] a = refl
+  all_clear wide g valid m (claim ∷ claims) (tree ∷ trees) a =
+      no_two (tree_fault g claim.body m (assumed_for wide g claim) 1 tree) (claims_fault wide g (suc m) claims trees) (accepted_clear g claim.body m valid (assumed_for wide g claim) 1 tree a.0) (all_clear wide g valid (suc m) claims trees a.1)
 
   ok_none : (o : Option CertFault) → no_fault o ≡ Ok tt → o ≡ None
   ok_none None e = refl
   ok_none (Some x) e = absurd (cc)
 
-  pub verdict_accepts : (g : TaskGraph) (claims : List Claim) (trees : List Tree) → IsGraph g → verdict g claims trees ≡ Ok tt → Accepts g claims trees
-  verdict_accepts g claims trees valid e =
-      let q = none_first (misfit g 1 claims trees) (claims_fault g 1 claims trees) (ok_none (or_else (misfit g 1 claims trees) (claims_fault g 1 claims trees)) e) in
-      all_accepted g valid 1 1 claims trees q.0 q.1
+  pub verdict_accepts : (wide : Bool) (g : TaskGraph) (claims : List Claim) (trees : List Tree) → IsGraph g → verdict wide g claims trees ≡ Ok tt → Accepts wide g claims trees
+  verdict_accepts wide g claims trees valid e =
+      let q = none_first (misfit g 1 claims trees) (claims_fault wide g 1 claims trees) (ok_none (or_else (misfit g 1 claims trees) (claims_fault wide g 1 claims trees)) e) in
+      all_accepted wide g valid 1 1 claims trees q.0 q.1
 
-  pub accepts_verdict : (g : TaskGraph) (claims : List Claim) (trees : List Tree) → IsGraph g → Accepts g claims trees → verdict g claims trees ≡ Ok tt
-  accepts_verdict g claims trees valid a =
-      ap no_fault (no_two (misfit g 1 claims trees) (claims_fault g 1 claims trees) (all_fit g 1 claims trees a) (all_clear g valid 1 claims trees a))
+  pub accepts_verdict : (wide : Bool) (g : TaskGraph) (claims : List Claim) (trees : List Tree) → IsGraph g → Accepts wide g claims trees → verdict wide g claims trees ≡ Ok tt
+  accepts_verdict wide g claims trees valid a =
+      ap no_fault (no_two (misfit g 1 claims trees) (claims_fault wide g 1 claims trees) (all_fit wide g 1 claims trees a) (all_clear wide g valid 1 claims trees a))

@@ -8,7 +8,7 @@ use Rattle.tpl_model.specs.Graph.{TaskGraph, TaskKind, Root, Child, Continues, W
 use Rattle.tpl_model.specs.Valid.{IsGraph}
 use Rattle.tpl_model.specs.declared.claim.Property.{Property}
 use Rattle.tpl_model.specs.Claims.{Claim}
-use Rattle.tpl_model.specs.Certificate.{Row, Tree, SplitInput, SplitEnd, Leaf, Assumed, assumed, with_input, with_end, IsClosed, Closed, Proves, IdsOfRows}
+use Rattle.tpl_model.specs.Certificate.{Row, Tree, SplitInput, SplitEnd, Leaf, Assumed, assumed_for, with_input, with_end, IsClosed, Closed, Proves, IdsOfRows}
 use Rattle.tpl_laws.specs.RowTests.{runs, ends, before, past, chain, proves}
 use Rattle.tpl_model.specs.declared.fault.Rule.{Rule}
 use Rattle.tpl_model.specs.declared.fault.Rule.TheVariants.{K1, K2, K3, K4, K5, K6}
@@ -217,12 +217,12 @@ module _ (paths : PathLaws) where
       }
 
   -- the claims
-  claims_fail : (g : TaskGraph) → IsGraph g → (n m : ℕ) (claims : List Claim) (trees : List Tree) (fault : CertFault) → misfit g n claims trees ≡ None → claims_fault g m claims trees ≡ Some fault → ClaimsFail g m claims trees fault
-  claims_fail g valid n m [] trees fault f e = absurd (cc)
-  claims_fail g valid n m (claim ∷ claims) [] fault f e = absurd (cc)
-  claims_fail g valid n m (claim ∷ claims) (tree ∷ trees) fault f e =
+  claims_fail : (wide : Bool) (g : TaskGraph) → IsGraph g → (n m : ℕ) (claims : List Claim) (trees : List Tree) (fault : CertFault) → misfit g n claims trees ≡ None → claims_fault wide g m claims trees ≡ Some fault → ClaimsFail wide g m claims trees fault
+  claims_fail wide g valid n m [] trees fault f e = absurd (cc)
+  claims_fail wide g valid n m (claim ∷ claims) [] fault f e = absurd (cc)
+  claims_fail wide g valid n m (claim ∷ claims) (tree ∷ trees) fault f e =
       let s = no_unless (fits g tree) (Shape n) (misfit g (suc n) claims trees) f in
-      elim (some_or_else (tree_fault g claim.body m (assumed g claim.given) 1 tree) (claims_fault g (suc m) claims trees) fault e) [
+      elim (some_or_else (tree_fault g claim.body m (assumed_for wide g claim) 1 tree) (claims_fault wide g (suc m) claims trees) fault e) [
         | inl q ↦
             let number : m ≡ m + 0 = omega arith in
             record {
@@ -235,10 +235,10 @@ module _ (paths : PathLaws) where
               claims_are = refl;
               trees_are = refl;
               accepted = tt;
-              fails = subst (λ z. LeavesFail g claim.body z 1 (leaves_of (assumed g claim.given) tree) fault) number (tree_fails g claim.body m valid (assumed g claim.given) 1 tree fault q);
+              fails = subst (λ z. LeavesFail g claim.body z 1 (leaves_of (assumed_for wide g claim) tree) fault) number (tree_fails g claim.body m valid (assumed_for wide g claim) 1 tree fault q);
             }
         | inr q ↦
-            let r = claims_fail g valid (suc n) (suc m) claims trees fault s.1 q.1 in
+            let r = claims_fail wide g valid (suc n) (suc m) claims trees fault s.1 q.1 in
             let number : suc m + length r.earlier_claims ≡ m + suc (length r.earlier_claims) = omega arith in
             record {
               earlier_claims = claim ∷ r.earlier_claims;
@@ -249,8 +249,8 @@ module _ (paths : PathLaws) where
               later_trees = r.later_trees;
               claims_are = ap (λ z. claim ∷ z) r.claims_are;
               trees_are = ap (λ z. tree ∷ z) r.trees_are;
-              accepted = (tree_accepted paths g claim.body m valid (assumed g claim.given) 1 tree s.0 q.0, r.accepted);
-              fails = subst (λ z. LeavesFail g r.claim.body z 1 (leaves_of (assumed g r.claim.given) r.tree) fault) number r.fails;
+              accepted = (tree_accepted paths g claim.body m valid (assumed_for wide g claim) 1 tree s.0 q.0, r.accepted);
+              fails = subst (λ z. LeavesFail g r.claim.body z 1 (leaves_of (assumed_for wide g r.claim) r.tree) fault) number r.fails;
             }
       ]
 
@@ -319,8 +319,8 @@ module _ (paths : PathLaws) where
   err_some (Some x) fault e = let q : x ≡ fault = cc in ap Some q
 
   pub first_fault : FaultIsFirst
-  first_fault g claims trees fault valid e =
-      elim (some_or_else (misfit g 1 claims trees) (claims_fault g 1 claims trees) fault (err_some (or_else (misfit g 1 claims trees) (claims_fault g 1 claims trees)) fault e)) [
+  first_fault wide g claims trees fault valid e =
+      elim (some_or_else (misfit g 1 claims trees) (claims_fault wide g 1 claims trees) fault (err_some (or_else (misfit g 1 claims trees) (claims_fault wide g 1 claims trees)) fault e)) [
         | inl q ↦ inl (misfit_is g 1 claims trees fault q)
-        | inr q ↦ inr (have_shape g 1 claims trees q.0, claims_fail g valid 1 1 claims trees fault q.0 q.1)
+        | inr q ↦ inr (have_shape g 1 claims trees q.0, claims_fail wide g valid 1 1 claims trees fault q.0 q.1)
       ]

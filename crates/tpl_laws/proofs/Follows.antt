@@ -11,13 +11,13 @@ use Rattle.tpl_words.specs.declared.status.Answer.TheVariants.{Done, Failed}
 use Rattle.tpl_model.specs.declared.event.Act.{Act}
 use Rattle.tpl_model.specs.declared.event.Act.TheVariants.{Request, Release, Begin, Step, Worked, Leave, Close, Drop, Settle}
 use Rattle.tpl_model.specs.declared.event.Event.{Event}
-use Rattle.tpl_model.specs.Facts.{Rest, Ending, on, over, begun, stepped, worked, final_in, winner_of, rest, requested, ending, is_cancel, subject_in, subject_of, has_final, is_end, requested_itself}
+use Rattle.tpl_model.specs.Facts.{Rest, Ending, on, over, begun, stepped, worked, final_in, winner_of, rest, requested, failed, fails_by, is_work, ending, is_cancel, subject_in, subject_of, has_final, is_end, requested_itself}
 use Rattle.tpl_script.specs.Paths.{cancellation, Known, Passes, EndsPassing}
 use Rattle.tpl_model.specs.Rules.{final, subject, MayStart, Allows, Run, steps, works}
 use Rattle.tpl_model.specs.Claims.{input}
 use Rattle.tpl_model.specs.Valid.{HasSubject}
 use Rattle.tpl_laws.proofs.Basics.{some_none, same_number, final_same}
-use Rattle.tpl_laws.proofs.Kept.{id, after, not_some, running_facts, ending_kept, final_kept, requested_kept, final_of}
+use Rattle.tpl_laws.proofs.Kept.{id, after, not_some, running_facts, ending_kept, final_kept, requested_kept, failed_kept, final_of}
 use Rattle.tpl_laws.proofs.Execution.{pushed, passed, reads_left}
 use Rattle.tpl_laws.proofs.Ready.{Ready, begun_ready, any_winner}
 use Rattle.std.proofs.Common.{◌≡◌, ℕ, ◌⊎◌, inl, inr, Bool, true, false, if◌then◌else◌, Option, Some, None, List, [], ◌∷◌, refl, sym, ap, ◌∙◌, subst, nat_eq, is_some, slice_index_or}
@@ -31,6 +31,7 @@ pub record Fits (g : TaskGraph) (v : List Bool) (h : List Event) (t : ℕ) (w : 
   pub inputs : (i : ℕ) → w.possible i (input v i) ≡ true
   pub quiet : (k : ℕ) → requested g v h k ≡ true → w.quiet k ≡ false
   pub subject : (s : ℕ) (f : Final) → subject g v h t ≡ Some s → final g v h s ≡ Some f → w.subject f ≡ true
+  pub jobs : (site : ℕ) → failed g v h site ≡ true → w.sure site ≡ false
 
 winner_some : (o : Option Ending) (s : ℕ) → winner_of o ≡ Some s → (r : Ending) × (o ≡ Some r) × (r.winner ≡ Some s)
 winner_some None s e = some_none s (sym e)
@@ -61,6 +62,7 @@ fits_before g v h a x t w al f = record {
   inputs = f.inputs;
   quiet = λ k e. f.quiet k (requested_kept g v h a x k e);
   subject = λ s e p q. f.subject s e (subject_kept g v h a x t s al p) (final_kept g v h a x s e al q);
+  jobs = λ site e. f.jobs site (failed_kept g v h a x site e);
 }
 
 -- the subject of a continuation that has begun has ended
@@ -129,27 +131,27 @@ step_follows g v h t w body ps (When n a b ⨾ more) f c (inr s) st p =
     same_test : has_final n (ending g v h) (subject_in g (kind g t) (ending g v h)) ≡ is_final n s.1
     same_test = ap (has_final n (ending g v h)) s.2 ∙ ap (is_end n) s.3
 
-work_follows : (g : TaskGraph) (w : Known) (body : Statements) (ps : List Statement) (answer : Answer) (left : Statements) → works answer left ≡ true → Passes w body ps left → Follows w body (worked answer left) (pushed left ps)
-work_follows g w body ps Done Nothing e p = true_false (sym e)
-work_follows g w body ps Done (Return ⨾ more) e p = true_false (sym e)
-work_follows g w body ps Done (Throw l ⨾ more) e p = true_false (sym e)
-work_follows g w body ps Done (Check k ⨾ more) e p = true_false (sym e)
-work_follows g w body ps Done (Cancel k ⨾ more) e p = true_false (sym e)
-work_follows g w body ps Done (Start d ⨾ more) e p = true_false (sym e)
-work_follows g w body ps Done (Observe ⨾ more) e p = true_false (sym e)
-work_follows g w body ps Done (Work s m ⨾ more) e p = (more, p, refl)
-work_follows g w body ps Done (If i a b ⨾ more) e p = true_false (sym e)
-work_follows g w body ps Done (When n a b ⨾ more) e p = true_false (sym e)
-work_follows g w body ps Failed Nothing e p = true_false (sym e)
-work_follows g w body ps Failed (Return ⨾ more) e p = true_false (sym e)
-work_follows g w body ps Failed (Throw l ⨾ more) e p = true_false (sym e)
-work_follows g w body ps Failed (Check k ⨾ more) e p = true_false (sym e)
-work_follows g w body ps Failed (Cancel k ⨾ more) e p = true_false (sym e)
-work_follows g w body ps Failed (Start d ⨾ more) e p = true_false (sym e)
-work_follows g w body ps Failed (Observe ⨾ more) e p = true_false (sym e)
-work_follows g w body ps Failed (Work s m ⨾ more) e p = (refl, (more, p, (e, refl)))
-work_follows g w body ps Failed (If i a b ⨾ more) e p = true_false (sym e)
-work_follows g w body ps Failed (When n a b ⨾ more) e p = true_false (sym e)
+work_follows : (g : TaskGraph) (w : Known) (body : Statements) (ps : List Statement) (answer : Answer) (left : Statements) → ((site : ℕ) → answer ≡ Failed → is_work site left ≡ true → w.sure site ≡ false) → works answer left ≡ true → Passes w body ps left → Follows w body (worked answer left) (pushed left ps)
+work_follows g w body ps Done Nothing c e p = true_false (sym e)
+work_follows g w body ps Done (Return ⨾ more) c e p = true_false (sym e)
+work_follows g w body ps Done (Throw l ⨾ more) c e p = true_false (sym e)
+work_follows g w body ps Done (Check k ⨾ more) c e p = true_false (sym e)
+work_follows g w body ps Done (Cancel k ⨾ more) c e p = true_false (sym e)
+work_follows g w body ps Done (Start d ⨾ more) c e p = true_false (sym e)
+work_follows g w body ps Done (Observe ⨾ more) c e p = true_false (sym e)
+work_follows g w body ps Done (Work s m ⨾ more) c e p = (more, p, refl)
+work_follows g w body ps Done (If i a b ⨾ more) c e p = true_false (sym e)
+work_follows g w body ps Done (When n a b ⨾ more) c e p = true_false (sym e)
+work_follows g w body ps Failed Nothing c e p = true_false (sym e)
+work_follows g w body ps Failed (Return ⨾ more) c e p = true_false (sym e)
+work_follows g w body ps Failed (Throw l ⨾ more) c e p = true_false (sym e)
+work_follows g w body ps Failed (Check k ⨾ more) c e p = true_false (sym e)
+work_follows g w body ps Failed (Cancel k ⨾ more) c e p = true_false (sym e)
+work_follows g w body ps Failed (Start d ⨾ more) c e p = true_false (sym e)
+work_follows g w body ps Failed (Observe ⨾ more) c e p = true_false (sym e)
+work_follows g w body ps Failed (Work s m ⨾ more) c e p = (refl, (more, p, (e, c s refl (same_self s), refl)))
+work_follows g w body ps Failed (If i a b ⨾ more) c e p = true_false (sym e)
+work_follows g w body ps Failed (When n a b ⨾ more) c e p = true_false (sym e)
 
 reads_subject : (g : TaskGraph) (v : List Bool) (h : List Event) (t : ℕ) → Run g v h → is_some (begun h t) ≡ true → HasSubject (kind g t) (body g t) → (reads_nothing (rest g v h t).left ≡ true) ⊎ ((s : ℕ) × (f : Final) × (subject g v h t ≡ Some s) × (final g v h s ≡ Some f))
 reads_subject g v h t run b = by_kind (kind g t) refl
@@ -174,9 +176,11 @@ follows g v (e ∷ h) t w run f n = here (follows g v h t w run.0 (fits_before g
         al.2
         (subst (λ z. FollowsBy w (body g t) z (rest g v h t).left (passed g v h t)) (not_some (rest g v h t).outcome al.1) old)
 
-    work_case : (a : Actor) (answer : Answer) → Follows w (body g t) (rest g v h t) (passed g v h t) → Allows g v h a (Worked (id t) answer) → Follows w (body g t) (worked answer (rest g v h t).left) (pushed (rest g v h t).left (passed g v h t))
-    work_case a answer old al =
-        work_follows g w (body g t) (passed g v h t) answer (rest g v h t).left al.2
+    work_case : (a : Actor) (answer : Answer) → Follows w (body g t) (rest g v h t) (passed g v h t) → Allows g v h a (Worked (id t) answer) → Fits g v (after a (Worked (id t) answer) h) t w → Follows w (body g t) (worked answer (rest g v h t).left) (pushed (rest g v h t).left (passed g v h t))
+    work_case a answer old al f2 =
+        work_follows g w (body g t) (passed g v h t) answer (rest g v h t).left
+        (λ site q c. f2.jobs site (or_left (fails_by site (Worked (id t) answer) (rest g v h)) (failed g v h site) (subst (λ z. fails_by site (Worked (id t) z) (rest g v h) ≡ true) (sym q) c)))
+        al.2
         (subst (λ z. FollowsBy w (body g t) z (rest g v h t).left (passed g v h t)) (not_some (rest g v h t).outcome al.1) old)
 
     here : Follows w (body g t) (rest g v h t) (passed g v h t) → (a : Actor) (x : Act) → Allows g v h a x → Fits g v (after a x h) t w → Follows w (body g t) (rest g v (after a x h) t) (passed g v (after a x h) t)
@@ -186,7 +190,7 @@ follows g v (e ∷ h) t w run f n = here (follows g v h t w run.0 (fits_before g
         (λ q. old)
     here old a (Worked s answer) al f2 =
         either_follows w (body g t) (nat_eq s.0 t) (worked answer (rest g v h t).left) (rest g v h t) (pushed (rest g v h t).left (passed g v h t)) (passed g v h t)
-        (λ q. work_case a answer old (subst (λ z. Allows g v h a (Worked (id z) answer)) (same_number s.0 t q) al))
+        (λ q. work_case a answer old (subst (λ z. Allows g v h a (Worked (id z) answer)) (same_number s.0 t q) al) (subst (λ z. Fits g v (after a (Worked (id z) answer) h) t w) (same_number s.0 t q) f2))
         (λ q. old)
     here old a (Request k) al f2 = old
     here old a (Release s) al f2 = old

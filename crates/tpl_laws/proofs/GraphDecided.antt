@@ -183,7 +183,7 @@ module _ (g : TaskGraph) (t : ℕ) where
       )
 
 -- how often a number stands in a list
-abbrev counted : ℕ → List ℕ → ℕ
+abbrev pub counted : ℕ → List ℕ → ℕ
 counted s [] = 0
 counted s (x ∷ xs) = cond (nat_eq s x) (1 + counted s xs) (counted s xs)
 

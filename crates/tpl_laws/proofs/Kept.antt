@@ -9,7 +9,7 @@ use Rattle.tpl_words.specs.declared.status.Actor.{Actor}
 use Rattle.tpl_model.specs.declared.event.Act.{Act}
 use Rattle.tpl_model.specs.declared.event.Act.TheVariants.{Request, Release, Begin, Step, Worked, Leave, Close, Drop, Settle}
 use Rattle.tpl_model.specs.declared.event.Event.{Event}
-use Rattle.tpl_model.specs.Facts.{Ending, begun, begun_by, released, released_by, left_body, left_by, requests, starts_by, ends_by, ending_by, final_in, all_over, rest, requested, started, ending, requested_itself}
+use Rattle.tpl_model.specs.Facts.{Ending, begun, begun_by, released, released_by, left_body, left_by, requests, fails_by, starts_by, ends_by, ending_by, final_in, all_over, rest, requested, failed, started, ending, requested_itself}
 use Rattle.tpl_model.specs.Rules.{final, status, status_by, opening, IsRunning, MayDrop, Allows}
 use Rattle.tpl_laws.proofs.Basics.{if_true, if_false, some_none, the_some, same_number}
 use Rattle.std.proofs.Common.{◌≡◌, ℕ, suc, ◌⊎◌, inl, inr, Bool, true, false, if◌then◌else◌, Option, Some, None, List, ◌∷◌, refl, sym, ap, ◌∙◌, subst, nat_eq, is_some, length}
@@ -131,6 +131,9 @@ ending_new g v h a x t r e =
 pub requested_kept : (g : TaskGraph) (v : List Bool) (h : List Event) (a : Actor) (x : Act) (k : ℕ) → requested g v h k ≡ true → requested g v (after a x h) k ≡ true
 requested_kept g v h a x k e =
     through_more g (requested_itself g v h) (requested_itself g v (after a x h)) (λ j. or_right (requests j x (rest g v h)) (requested_itself g v h j)) k e
+
+pub failed_kept : (g : TaskGraph) (v : List Bool) (h : List Event) (a : Actor) (x : Act) (site : ℕ) → failed g v h site ≡ true → failed g v (after a x h) site ≡ true
+failed_kept g v h a x site e = or_right (fails_by site x (rest g v h)) (failed g v h site) e
 
 pub started_kept : (g : TaskGraph) (v : List Bool) (h : List Event) (a : Actor) (x : Act) (c : ℕ) → started g v h c ≡ true → started g v (after a x h) c ≡ true
 started_kept g v h a x c e = or_right (starts_by c x (rest g v h)) (started g v h c) e

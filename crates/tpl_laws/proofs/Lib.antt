@@ -26,3 +26,5 @@ pub mod AllowedDecided
 pub mod AllowedSettled
 pub mod GraphDecided
 pub mod FailingLemmas
+pub mod Wider
+pub mod Jobs

@@ -2,37 +2,37 @@
 use Rattle.tpl_laws.proofs.Sources.{through_more, through_twice}
 use Rattle.tpl_words.specs.declared.finals.Final.{Final}
 use Rattle.tpl_words.specs.declared.finals.Final.TheVariants.{RanToCompletion, Canceled, Faulted}
-use Rattle.tpl_words.specs.Finals.{is_final}
+use Rattle.tpl_words.specs.Finals.{has, is_final}
+use Rattle.tpl_words.specs.declared.ids.TaskId.{TaskId}
 use Rattle.tpl_words.specs.declared.status.Label.{Label}
 use Rattle.tpl_script.specs.declared.outcome.Outcome.TheVariants.{Threw}
-use Rattle.tpl_words.specs.Members.{mem}
-use Rattle.tpl_model.specs.Graph.{TaskGraph, kind, body, is_task, through}
+use Rattle.tpl_model.specs.Graph.{TaskGraph, TaskKind, Root, Child, Continues, WhenAll, WhenAny, task, kind, body, is_task, through}
 use Rattle.tpl_words.specs.declared.status.Actor.{Actor}
 use Rattle.tpl_model.specs.declared.event.Act.{Act}
 use Rattle.tpl_model.specs.declared.event.Act.TheVariants.{Request, Release, Begin, Step, Worked, Leave, Close, Drop, Settle}
 use Rattle.tpl_model.specs.declared.event.Event.{Event}
-use Rattle.tpl_model.specs.Facts.{begun, begun_by, final_in, rest, requested, ending, requested_itself, outcome_in}
-use Rattle.tpl_model.specs.Rules.{final, Allows, Run, Settled, seen, label, Complete}
+use Rattle.tpl_model.specs.Facts.{begun, begun_by, final_in, rest, requested, failed, started, ending, requested_itself, outcome_in}
+use Rattle.tpl_model.specs.Rules.{final, Allows, Run, Settled, seen, label, token_requested, token_requested_by, to_end, Complete}
 use Rattle.tpl_model.specs.Claims.{input, Claim, IsGiven, SettledAtBegin, HoldsOf, Holds}
-use Rattle.tpl_laws.proofs.Basics.{if_true, some_none, the_some, same_number}
-use Rattle.tpl_laws.proofs.Kept.{after, begun_kept}
+use Rattle.tpl_laws.proofs.Basics.{if_false, some_none, the_some, same_number}
+use Rattle.tpl_laws.proofs.Kept.{after, requested_kept, failed_kept, final_kept}
 use Rattle.tpl_model.specs.Valid.{IsGraph}
-use Rattle.tpl_model.specs.Certificate.{Row, row, Assumed, Agrees, view, Closed, Tree, SplitInput, SplitEnd, Leaf, same, given_input, given_quiet, assumed, with_input, with_end, Proves, AcceptsTree}
+use Rattle.tpl_model.specs.Certificate.{Row, row, Assumed, Agrees, view, Closed, Tree, SplitInput, SplitEnd, Leaf, same, given_input, given_quiet, given_end, given_sure, assumed, with_input, with_end, NoneComplete, begins_itself, Proves, AcceptsTree, as_quiet, same_token, own_quiet, taken, assumed_for}
 use Rattle.tpl_laws.proofs.Execution.{passed}
-use Rattle.tpl_laws.proofs.Ready.{Ready, waiting_ready}
+use Rattle.tpl_laws.proofs.Ready.{Ready, waiting_ready, IsBody}
 use Rattle.tpl_laws.proofs.Follows.{follows}
 use Rattle.tpl_laws.proofs.Settling.{has_subject_of}
 use Rattle.tpl_laws.proofs.Carrying.{carries_faulted}
-use Rattle.tpl_laws.proofs.RowsAreTrue.{Now, verdict_path, view_fits, ready_before, agrees_before}
+use Rattle.tpl_laws.proofs.RowsAreTrue.{Now, verdict_path, view_fits, ready_runs, ready_before, agrees_before}
 use Rattle.tpl_model.specs.declared.claim.Given.{Given}
-use Rattle.tpl_model.specs.declared.claim.Given.TheVariants.{Input, Quiet}
+use Rattle.tpl_model.specs.declared.claim.Given.TheVariants.{Input, Quiet, Ended, Succeeds}
 use Rattle.tpl_model.specs.declared.claim.Property.{Property}
-use Rattle.tpl_model.specs.declared.claim.Property.TheVariants.{Final as EndsIn, After, Observed, Never, Excludes}
+use Rattle.tpl_model.specs.declared.claim.Property.TheVariants.{Final as EndsIn, After, Observed, Never, Excludes, Runs}
 use Rattle.tpl_laws.specs.Soundness.{HasLeaf, BeforeHolds, SomeLeafAgrees, RowsAreTrue, Soundness}
-use Rattle.tpl_laws.proofs.EachEvent.{rows_are_true}
-use Rattle.tpl_laws.proofs.Chains.{carries_own, threw_begun, begun_ends}
+use Rattle.tpl_laws.proofs.EachEvent.{may_end_so, rows_are_true}
+use Rattle.tpl_laws.proofs.Chains.{carries_own, threw_begun, begun_ends, ended_begun}
 use Rattle.tpl_laws.proofs.Observing.{label_verdict, chain_seen}
-use Rattle.std.proofs.Common.{◌≡◌, ℕ, ◌&&◌, ◌||◌, ◌⊎◌, inl, inr, not, Bool, true, false, Option, Some, None, List, [], ◌∷◌, refl, sym, ap, ◌∙◌, subst, nat_eq, is_some}
+use Rattle.std.proofs.Common.{◌≡◌, ℕ, ◌++◌, ◌&&◌, ◌||◌, ◌⊎◌, inl, inr, not, Bool, true, false, if◌then◌else◌, Option, Some, None, List, [], ◌∷◌, refl, sym, ap, ◌∙◌, subst, nat_eq, is_some}
 use Rattle.std.proofs.lemmas.Bool.{cases_Bool, and_parts, and_from, or_cases}
 use Rattle.tpl_words.proofs.Truths.{true_false}
 
@@ -40,26 +40,29 @@ use Rattle.tpl_words.proofs.Truths.{true_false}
 now_of : (g : TaskGraph) (l : Assumed) (rows : List Row) (v : List Bool) (h : List Event) → IsGraph g → Closed g l rows → Run g v h → Agrees g l v h → Now g l rows v h
 now_of g l rows v h valid closed run agrees = record { valid = valid; closed = closed; run = run; agrees = agrees; true_rows = rows_are_true g l rows v h valid closed run agrees }
 
--- where a task begins, what its row has before it is settled
-begins_settled : (g : TaskGraph) (l : Assumed) (rows : List Row) (v : List Bool) (h : List Event) (a : Actor) (act : Act) (t x : ℕ) → Now g l rows v h → Allows g v h a act → begun_by act t ≡ true → mem x (row rows t).before ≡ true → Settled g v h x
-begins_settled g l rows v h a (Begin s) t x now al b m =
-    let s_is = same_number s.0 t b in
-    ready_before g l rows v h t x now (subst (λ z. is_task g z) s_is al.0) (subst (λ z. Ready g v h z (kind g z)) s_is (waiting_ready g v h s.0 now.run al.1)) m
-begins_settled g l rows v h a (Request s) t x now al b m = true_false (sym b)
-begins_settled g l rows v h a (Release s) t x now al b m = true_false (sym b)
-begins_settled g l rows v h a (Step s) t x now al b m = true_false (sym b)
-begins_settled g l rows v h a (Worked s w) t x now al b m = true_false (sym b)
-begins_settled g l rows v h a (Leave s) t x now al b m = true_false (sym b)
-begins_settled g l rows v h a (Close s) t x now al b m = true_false (sym b)
-begins_settled g l rows v h a (Drop s) t x now al b m = true_false (sym b)
-begins_settled g l rows v h a (Settle s) t x now al b m = true_false (sym b)
+-- a task that begins is ready, and its own token isn't requested
+record Begins (g : TaskGraph) (v : List Bool) (h : List Event) (t : ℕ) : Type 0 where
+  task : is_task g t
+  ready : Ready g v h t (kind g t)
+  not_requested : token_requested g v h t ≡ false
+
+begins : (g : TaskGraph) (v : List Bool) (h : List Event) (a : Actor) (act : Act) (t : ℕ) → Run g v h → Allows g v h a act → begun_by act t ≡ true → Begins g v h t
+begins g v h a (Begin s) t run al b = subst (Begins g v h) (same_number s.0 t b) (record { task = al.0; ready = waiting_ready g v h s.0 run al.1; not_requested = al.2 })
+begins g v h a (Request s) t run al b = true_false (sym b)
+begins g v h a (Release s) t run al b = true_false (sym b)
+begins g v h a (Step s) t run al b = true_false (sym b)
+begins g v h a (Worked s w) t run al b = true_false (sym b)
+begins g v h a (Leave s) t run al b = true_false (sym b)
+begins g v h a (Close s) t run al b = true_false (sym b)
+begins g v h a (Drop s) t run al b = true_false (sym b)
+begins g v h a (Settle s) t run al b = true_false (sym b)
 
 before_holds : (g : TaskGraph) (l : Assumed) (rows : List Row) (v : List Bool) (h : List Event) → IsGraph g → Closed g l rows → Run g v h → Agrees g l v h → BeforeHolds g rows v h
 before_holds g l rows v [] valid closed run agrees = tt
 before_holds g l rows v (e ∷ h) valid closed run agrees =
     let ag = agrees_before g v h l e.actor e.act run.1 agrees in
     let now = now_of g l rows v h valid closed run.0 ag in
-    ((λ t x b m. begins_settled g l rows v h e.actor e.act t x now run.1 b m), before_holds g l rows v h valid closed run.0 ag)
+    ((λ t x b m. let w = begins g v h e.actor e.act t run.0 run.1 b in ready_before g l rows v h t x now w.task w.ready m), before_holds g l rows v h valid closed run.0 ag)
 
 pub rows_lem : RowsAreTrue
 rows_lem g l rows v h valid closed run agrees =
@@ -88,10 +91,14 @@ given_inputs g v h (Input j value ∷ given) i k =
     by_test true e = same_values value (input v i) (subst (λ z. input v z ≡ value) (same_number j.0 i e) k.0)
     by_test false e = refl
 given_inputs g v h (Quiet n ∷ given) i k = given_inputs g v h given i k.1
+given_inputs g v h (Ended t ends ∷ given) i k = given_inputs g v h given i k.1
+given_inputs g v h (Succeeds site ∷ given) i k = given_inputs g v h given i k.1
 
 given_tokens : (g : TaskGraph) (v : List Bool) (h : List Event) (given : List Given) (k : ℕ) → IsGiven g v h given → given_quiet g given k ≡ true → requested g v h k ≡ false
 given_tokens g v h [] k i e = true_false (sym e)
 given_tokens g v h (Input j value ∷ given) k i e = given_tokens g v h given k i.1 e
+given_tokens g v h (Ended t ends ∷ given) k i e = given_tokens g v h given k i.1 e
+given_tokens g v h (Succeeds site ∷ given) k i e = given_tokens g v h given k i.1 e
 given_tokens g v h (Quiet n ∷ given) k i e =
     elim (or_cases (through g (nat_eq k) n.0) (given_quiet g given k) e) [
       | inl q ↦ elim (cases_Bool (requested g v h k)) [
@@ -101,11 +108,37 @@ given_tokens g v h (Quiet n ∷ given) k i e =
       | inr q ↦ given_tokens g v h given k i.1 q
     ]
 
-pub given_agrees : (g : TaskGraph) (v : List Bool) (h : List Event) (given : List Given) → IsGiven g v h given → Agrees g (assumed g given) v h
-given_agrees g v h given i = record {
+-- a task's end is one that is given
+given_ends : (g : TaskGraph) (v : List Bool) (h : List Event) (given : List Given) (t : ℕ) (f : Final) → IsGiven g v h given → final g v h t ≡ Some f → given_end given t f ≡ true
+given_ends g v h [] t f i e = refl
+given_ends g v h (Ended s ends ∷ given) t f i e =
+    and_from (not (nat_eq s.0 t) || has ends f) (given_end given t f) (by_test (nat_eq s.0 t) refl) (given_ends g v h given t f i.1 e)
+  where
+    by_test : (c : Bool) → nat_eq s.0 t ≡ c → not c || has ends f ≡ true
+    by_test true q = i.0 f (subst (λ z. final g v h z ≡ Some f) (sym (same_number s.0 t q)) e)
+    by_test false q = refl
+given_ends g v h (Input j value ∷ given) t f i e = given_ends g v h given t f i.1 e
+given_ends g v h (Quiet n ∷ given) t f i e = given_ends g v h given t f i.1 e
+given_ends g v h (Succeeds site ∷ given) t f i e = given_ends g v h given t f i.1 e
+
+-- a job that is given as one that succeeds hasn't failed
+given_jobs : (g : TaskGraph) (v : List Bool) (h : List Event) (given : List Given) (site : ℕ) → IsGiven g v h given → given_sure given site ≡ true → failed g v h site ≡ false
+given_jobs g v h [] site i e = true_false (sym e)
+given_jobs g v h (Succeeds s ∷ given) site i e =
+    elim (or_cases (nat_eq s.0 site) (given_sure given site) e) [
+      | inl q ↦ subst (λ z. failed g v h z ≡ false) (same_number s.0 site q) i.0
+      | inr q ↦ given_jobs g v h given site i.1 q
+    ]
+given_jobs g v h (Input j value ∷ given) site i e = given_jobs g v h given site i.1 e
+given_jobs g v h (Quiet n ∷ given) site i e = given_jobs g v h given site i.1 e
+given_jobs g v h (Ended t ends ∷ given) site i e = given_jobs g v h given site i.1 e
+
+pub given_agrees : (wide : Bool) (g : TaskGraph) (v : List Bool) (h : List Event) (given : List Given) → IsGiven g v h given → Agrees g (assumed wide g given) v h
+given_agrees wide g v h given i = record {
   inputs = λ n. given_inputs g v h given n i;
   quiet = λ k e. given_tokens g v h given k i e;
-  ends = λ t f e. refl;
+  ends = λ t f e. given_ends g v h given t f i e;
+  jobs = λ site e. given_jobs g v h given site i e;
 }
 
 -- on the branch of an input's own value
@@ -114,6 +147,7 @@ input_agrees g l v h i value e agrees = record {
   inputs = λ j. and_from (l.possible j (input v j)) (not (nat_eq i j) || same value (input v j)) (agrees.inputs j) (by_test j (nat_eq i j) refl);
   quiet = agrees.quiet;
   ends = agrees.ends;
+  jobs = agrees.jobs;
 }
   where
     same_values : (a b : Bool) → b ≡ a → same a b ≡ true
@@ -130,7 +164,10 @@ end_agrees : (g : TaskGraph) (l : Assumed) (v : List Bool) (h : List Event) (t :
 end_agrees g l v h t f ends agrees = record {
   inputs = agrees.inputs;
   quiet = agrees.quiet;
-  ends = λ s e q. and_from (l.cut s e) (not (nat_eq t s) || is_final f e) (agrees.ends s e q) (by_test s e q (nat_eq t s) refl);
+  ends = λ s e q.
+      let p = and_parts (l.cut s e) (l.ended s e) (agrees.ends s e q) in
+      and_from (l.cut s e && (not (nat_eq t s) || is_final f e)) (l.ended s e) (and_from (l.cut s e) (not (nat_eq t s) || is_final f e) p.0 (by_test s e q (nat_eq t s) refl)) p.1;
+  jobs = agrees.jobs;
 }
   where
     by_test : (s : ℕ) (e : Final) → final g v h s ≡ Some e → (c : Bool) → nat_eq t s ≡ c → not c || is_final f e ≡ true
@@ -170,7 +207,7 @@ leaf_agrees g l (SplitEnd t a b c) v h agrees =
 leaf_agrees g l (Leaf rows) v h agrees = (l, rows, (refl, refl), agrees)
 
 pub some_leaf_lem : SomeLeafAgrees
-some_leaf_lem g claim tree v h given = leaf_agrees g (assumed g claim.given) tree v h (given_agrees g v h claim.given given)
+some_leaf_lem wide g given tree v h i = leaf_agrees g (assumed wide g given) tree v h (given_agrees wide g v h given i)
 
 -- each leaf of an accepted tree is closed and proves the claim
 accepted_leaf : (g : TaskGraph) (p : Property) (l m : Assumed) (tree : Tree) (rows : List Row) → AcceptsTree g p l tree → HasLeaf l tree m rows → Closed g m rows × Proves g m rows p
@@ -182,64 +219,205 @@ accepted_leaf g p l m (SplitEnd t a b c) rows acc (inr (inr w)) = accepted_leaf 
 accepted_leaf g p l m (Leaf leaf) rows acc w =
     subst (λ z. Closed g z rows × Proves g z rows p) w.0 (subst (λ z. Closed g l z × Proves g l z p) w.1 (acc.2, acc.3))
 
--- what a closed leaf proves holds
-leaf_proves : (g : TaskGraph) (l : Assumed) (rows : List Row) (v : List Bool) (h : List Event) (p : Property) → IsGraph g → Closed g l rows → Run g v h → Agrees g l v h → Proves g l rows p → HoldsOf g v h p
-leaf_proves g l rows v h (EndsIn t ends) valid closed run agrees pr =
-    let r = rows_lem g l rows v h valid closed run agrees in λ f e. pr f (r.0.ends t.0 f e)
-leaf_proves g l rows v h (After a b) valid closed run agrees pr =
-    settled_before h (rows_lem g l rows v h valid closed run agrees).1 (λ s. (rows_lem g l rows v h valid closed run agrees).0.runs b.0 s)
+-- what is given stays so towards the first event
+given_before : (g : TaskGraph) (v : List Bool) (h : List Event) (a : Actor) (x : Act) (given : List Given) → Allows g v h a x → IsGiven g v (after a x h) given → IsGiven g v h given
+given_before g v h a x [] al i = tt
+given_before g v h a x (Input j value ∷ given) al i = (i.0, given_before g v h a x given al i.1)
+given_before g v h a x (Quiet k ∷ given) al i = (
+  elim (cases_Bool (requested g v h k.0)) [ inl r ↦ true_false (sym (requested_kept g v h a x k.0 r) ∙ i.0) | inr r ↦ r ],
+  given_before g v h a x given al i.1,
+)
+given_before g v h a x (Ended t ends ∷ given) al i = ((λ f e. i.0 f (final_kept g v h a x t.0 f al e)), given_before g v h a x given al i.1)
+given_before g v h a x (Succeeds site ∷ given) al i = (
+  elim (cases_Bool (failed g v h site.0)) [ inl r ↦ true_false (sym (failed_kept g v h a x site.0 r) ∙ i.0) | inr r ↦ r ],
+  given_before g v h a x given al i.1,
+)
+
+both_given : (g : TaskGraph) (v : List Bool) (h : List Event) (xs ys : List Given) → IsGiven g v h xs → IsGiven g v h ys → IsGiven g v h (xs ++ ys)
+both_given g v h [] ys i j = j
+both_given g v h (Input n value ∷ xs) ys i j = (i.0, both_given g v h xs ys i.1 j)
+both_given g v h (Quiet k ∷ xs) ys i j = (i.0, both_given g v h xs ys i.1 j)
+both_given g v h (Ended t ends ∷ xs) ys i j = (i.0, both_given g v h xs ys i.1 j)
+both_given g v h (Succeeds site ∷ xs) ys i j = (i.0, both_given g v h xs ys i.1 j)
+
+-- what may be taken as given is, where the claim's given is and the own tokens aren't requested
+is_taken : (wide : Bool) (g : TaskGraph) (claim : Claim) (v : List Bool) (h : List Event) → IsGiven g v h claim.given → IsGiven g v h (own_quiet g claim.body) → IsGiven g v h (taken wide g claim)
+is_taken true g claim v h i q = both_given g v h (own_quiet g claim.body) claim.given q i
+is_taken false g claim v h i q = i
+
+-- a token that isn't requested may be given as quiet
+not_asked : (g : TaskGraph) (v : List Bool) (h : List Event) (o : Option ℕ) → token_requested_by o (requested g v h) ≡ false → IsGiven g v h (as_quiet o)
+not_asked g v h None e = tt
+not_asked g v h (Some k) e = (e, tt)
+
+-- a leaf that agrees with a run so far, is closed and proves the property
+record ALeaf (g : TaskGraph) (v : List Bool) (h : List Event) (p : Property) : Type 0 where
+  assumes : Assumed
+  rows : List Row
+  now : Now g assumes rows v h
+  proves : Proves g assumes rows p
+
+a_leaf : (wide : Bool) (g : TaskGraph) (claim : Claim) (tree : Tree) (v : List Bool) (h : List Event) → IsGraph g → AcceptsTree g claim.body (assumed_for wide g claim) tree → Run g v h → IsGiven g v h claim.given → IsGiven g v h (own_quiet g claim.body) → ALeaf g v h claim.body
+a_leaf wide g claim tree v h valid acc run i q =
+    let w = some_leaf_lem wide g (taken wide g claim) tree v h (is_taken wide g claim v h i q) in
+    let c = accepted_leaf g claim.body (assumed_for wide g claim) w.0 tree w.1 acc w.2 in
+    record { assumes = w.0; rows = w.1; now = now_of g w.0 w.1 v h valid c.0 run w.3; proves = c.1 }
+
+-- where a task that is no child can't end, no run is complete
+never_complete : (g : TaskGraph) (l : Assumed) (rows : List Row) (v : List Bool) (h : List Event) → Now g l rows v h → NoneComplete g rows → Complete g v h → ⊥
+never_complete g l rows v h now w complete =
+    let e = the_some (ending g v h w.0) (complete w.0 w.1 (whatever (kind g w.0) (started g v h w.0) w.2)) in
+    true_false (sym (may_end_so rows w.0 e.0.final (now.true_rows.ends w.0 e.0.final (ap final_in e.1))) ∙ w.3)
   where
-    began : (x : Actor) (act : Act) (h2 : List Event) → begun_by act b.0 ≡ true → is_some (begun (after x act h2) b.0) ≡ true
-    began x act h2 e = subst (λ z. is_some z ≡ true) (sym (if_true (begun_by act b.0) (Some x) (begun h2 b.0) e)) refl
+    whatever : (k : TaskKind) (s : Bool) → to_end k false ≡ true → to_end k s ≡ true
+    whatever Child s e = true_false (sym e)
+    whatever Root s e = refl
+    whatever (Continues a) s e = refl
+    whatever (WhenAll args) s e = refl
+    whatever (WhenAny args) s e = refl
 
-    settled_before : (h2 : List Event) → BeforeHolds g rows v h2 → (is_some (begun h2 b.0) ≡ true → (row rows b.0).runs ≡ true) → SettledAtBegin g v a.0 b.0 h2
-    settled_before [] w r = tt
-    settled_before (e ∷ h2) w r = (
-      (λ s. elim pr [ inl no_run ↦ true_false (sym (r (began e.actor e.act h2 s)) ∙ no_run) | inr m ↦ w.0 b.0 a.0 s m ]),
-      settled_before h2 w.1 (λ s. r (begun_kept h2 e.actor e.act b.0 s)),
-    )
-leaf_proves g l rows v h (Observed t) valid closed run agrees pr = λ complete lb e. by_proof complete lb e pr
+-- in a complete run a root or continuation that can't be canceled has begun
+never_canceled : (g : TaskGraph) (l : Assumed) (rows : List Row) (v : List Bool) (h : List Event) (t : ℕ) → Now g l rows v h → is_task g t → begins_itself (kind g t) ≡ true → has (row rows t).ends Canceled ≡ false → Complete g v h → is_some (begun h t) ≡ true
+never_canceled g l rows v h t now i b n complete =
+    let k = by_kind (kind g t) b in
+    let e = the_some (ending g v h t) (complete t i (k.1 (started g v h t))) in
+    ended_begun g v h t e.0 now.run k.0 e.1
+    (λ c. true_false (sym (subst (λ z. has (row rows t).ends z ≡ true) c (now.true_rows.ends t e.0.final (ap final_in e.1))) ∙ n))
   where
-    threw : (lb : Label) → label g v h t.0 ≡ Some lb → outcome_in (rest g v h t.0) ≡ Some (Threw lb)
-    threw lb e = label_verdict (outcome_in (rest g v h t.0)) lb e
+    by_kind : (k : TaskKind) → begins_itself k ≡ true → IsBody k × ((s : Bool) → to_end k s ≡ true)
+    by_kind Root b = (tt, λ s. refl)
+    by_kind (Continues a) b = (tt, λ s. refl)
+    by_kind Child b = true_false (sym b)
+    by_kind (WhenAll args) b = true_false (sym b)
+    by_kind (WhenAny args) b = true_false (sym b)
 
-    has_begun : (lb : Label) → label g v h t.0 ≡ Some lb → is_some (begun h t.0) ≡ true
-    has_begun lb e = threw_begun g v h t.0 lb run (threw lb e)
+-- in a complete run an exception is observed
+observed_holds : (g : TaskGraph) (l : Assumed) (rows : List Row) (v : List Bool) (h : List Event) (t : ℕ) (lb : Label) → Now g l rows v h → Complete g v h → label g v h t ≡ Some lb → Proves g l rows (Observed (record { 0 = t })) → seen g v h t ≡ true
+observed_holds g l rows v h t lb now complete e pr = by_proof pr
+  where
+    threw : outcome_in (rest g v h t) ≡ Some (Threw lb)
+    threw = label_verdict (outcome_in (rest g v h t)) lb e
 
-    by_proof : Complete g v h → (lb : Label) → label g v h t.0 ≡ Some lb → Proves g l rows (Observed t) → seen g v h t.0 ≡ true
-    by_proof complete lb e (inl chain) = chain_seen g l rows v h t.0 lb (now_of g l rows v h valid closed run agrees) complete chain e
-    by_proof complete lb e (inr (inl no_fault)) =
-        let q = the_some (ending g v h t.0) (begun_ends g v h t.0 run complete (has_begun lb e)) in
-        let f = carries_faulted g v h t.0 t.0 q.0 run q.1 (carries_own g v h t.0 lb q.0 run (threw lb e) q.1) in
-        true_false (sym ((rows_lem g l rows v h valid closed run agrees).0.ends t.0 Faulted (ap final_in q.1 ∙ ap Some f)) ∙ no_fault)
-    by_proof complete lb e (inr (inr (inl no_run))) = true_false (sym ((rows_lem g l rows v h valid closed run agrees).0.runs t.0 (has_begun lb e)) ∙ no_run)
-    by_proof complete lb e (inr (inr (inr no_throw))) =
-        let w = view g l rows t.0 in
-        absurd (no_throw (lb, (passed g v h t.0, verdict_path w (body g t.0) (rest g v h t.0).outcome (rest g v h t.0).left (passed g v h t.0) (Threw lb) (threw lb e) (follows g v h t.0 w run (view_fits g v h l rows t.0 run agrees (rows_lem g l rows v h valid closed run agrees).0.ends (has_begun lb e)) (has_subject_of g t.0 valid)))))
-leaf_proves g l rows v h (Never t) valid closed run agrees pr =
-    elim (cases_Bool (is_some (begun h t.0))) [
-      | inl b ↦ true_false (sym ((rows_lem g l rows v h valid closed run agrees).0.runs t.0 b) ∙ pr)
-      | inr b ↦ b
-    ]
-leaf_proves g l rows v h (Excludes a b) valid closed run agrees pr =
-    elim (cases_Bool (is_some (begun h a.0) && is_some (begun h b.0))) [
-      | inl both ↦
-          let w = and_parts (is_some (begun h a.0)) (is_some (begun h b.0)) both in
-          elim pr [
-            | inl q ↦ true_false (sym ((rows_lem g l rows v h valid closed run agrees).0.runs a.0 w.0) ∙ q)
-            | inr q ↦ true_false (sym ((rows_lem g l rows v h valid closed run agrees).0.runs b.0 w.1) ∙ q)
+    has_begun : is_some (begun h t) ≡ true
+    has_begun = threw_begun g v h t lb now.run threw
+
+    by_proof : Proves g l rows (Observed (record { 0 = t })) → seen g v h t ≡ true
+    by_proof (inl chain) = chain_seen g l rows v h t lb now complete chain e
+    by_proof (inr (inl no_fault)) =
+        let q = the_some (ending g v h t) (begun_ends g v h t now.run complete has_begun) in
+        let f = carries_faulted g v h t t q.0 now.run q.1 (carries_own g v h t lb q.0 now.run threw q.1) in
+        true_false (sym (now.true_rows.ends t Faulted (ap final_in q.1 ∙ ap Some f)) ∙ no_fault)
+    by_proof (inr (inr (inl no_run))) = true_false (sym (now.true_rows.runs t has_begun) ∙ no_run)
+    by_proof (inr (inr (inr (inl no_throw)))) =
+        let w = view g l rows t in
+        absurd (no_throw (lb, (passed g v h t, verdict_path w (body g t) (rest g v h t).outcome (rest g v h t).left (passed g v h t) (Threw lb) threw (follows g v h t w now.run (view_fits g v h l rows t now.run now.agrees now.true_rows.ends has_begun) (has_subject_of g t now.valid)))))
+    by_proof (inr (inr (inr (inr never)))) = absurd (never_complete g l rows v h now never.1 complete)
+
+-- what an accepted tree proves holds
+module _ (wide : Bool) (g : TaskGraph) (given : List Given) (tree : Tree) (v : List Bool) (valid : IsGraph g) where
+  abbrev ATree : Property → Type 0
+  ATree p = AcceptsTree g p (assumed_for wide g (record { given = given; body = p })) tree
+
+  leaf_of : (p : Property) (h : List Event) → ATree p → Run g v h → IsGiven g v h given → IsGiven g v h (own_quiet g p) → ALeaf g v h p
+  leaf_of p h acc run i q = a_leaf wide g (record { given = given; body = p }) tree v h valid acc run i q
+
+  after_holds : (a b : TaskId) → ATree (After a b) → (h : List Event) → Run g v h → IsGiven g v h given → SettledAtBegin g v a.0 b.0 h
+  after_holds a b acc [] run i = tt
+  after_holds a b acc (e ∷ h) run i = ((λ s. here (begins g v h e.actor e.act b.0 run.0 run.1 s)), after_holds a b acc h run.0 old)
+    where
+      old : IsGiven g v h given
+      old = given_before g v h e.actor e.act given run.1 i
+
+      here : Begins g v h b.0 → Settled g v h a.0
+      here w =
+          let l = leaf_of (After a b) h acc run.0 old (not_asked g v h (task g b.0).token w.not_requested) in
+          elim l.proves [
+            | inl no_run ↦ true_false (sym (ready_runs g l.assumes l.rows v h b.0 l.now w.task w.ready) ∙ no_run)
+            | inr m ↦ ready_before g l.assumes l.rows v h b.0 a.0 l.now w.task w.ready m
           ]
-      | inr other ↦ other
-    ]
 
-claim_holds : (g : TaskGraph) (claim : Claim) (tree : Tree) (v : List Bool) (h : List Event) → IsGraph g → AcceptsTree g claim.body (assumed g claim.given) tree → Run g v h → Holds g claim v h
-claim_holds g claim tree v h valid acc run = λ given.
-    let w = some_leaf_lem g claim tree v h given in
-    let c = accepted_leaf g claim.body (assumed g claim.given) w.0 tree w.1 acc w.2 in
-    leaf_proves g w.0 w.1 v h claim.body valid c.0 run w.3 c.1
+  never_holds : (t : TaskId) → ATree (Never t) → (h : List Event) → Run g v h → IsGiven g v h given → is_some (begun h t.0) ≡ false
+  never_holds t acc [] run i = refl
+  never_holds t acc (e ∷ h) run i =
+      elim (cases_Bool (begun_by e.act t.0)) [
+        | inl s ↦
+            let w = begins g v h e.actor e.act t.0 run.0 run.1 s in
+            let l = leaf_of (Never t) h acc run.0 old (not_asked g v h (task g t.0).token w.not_requested) in
+            true_false (sym (ready_runs g l.assumes l.rows v h t.0 l.now w.task w.ready) ∙ l.proves)
+        | inr n ↦ ap is_some (if_false (begun_by e.act t.0) (Some e.actor) (begun h t.0) n) ∙ never_holds t acc h run.0 old
+      ]
+    where
+      old : IsGiven g v h given
+      old = given_before g v h e.actor e.act given run.1 i
+
+  -- the own token, where one of the two tasks begins
+  own_of_two : (h : List Event) (a b : ℕ) → (token_requested g v h a ≡ false) ⊎ (token_requested g v h b ≡ false) → IsGiven g v h (if same_token (task g a).token (task g b).token then as_quiet (task g b).token else [])
+  own_of_two h a b w = by_tokens (task g a).token (task g b).token w
+    where
+      by_tokens : (o p : Option ℕ) → (token_requested_by o (requested g v h) ≡ false) ⊎ (token_requested_by p (requested g v h) ≡ false) → IsGiven g v h (if same_token o p then as_quiet p else [])
+      by_tokens None p w = tt
+      by_tokens (Some j) None w = tt
+      by_tokens (Some j) (Some k) w = by_test (nat_eq j k) refl
+        where
+          by_test : (c : Bool) → nat_eq j k ≡ c → IsGiven g v h (if c then as_quiet (Some k) else [])
+          by_test true e = (elim w [ inl q ↦ subst (λ z. requested g v h z ≡ false) (same_number j k e) q | inr q ↦ q ], tt)
+          by_test false e = tt
+
+  excludes_holds : (a b : TaskId) → ATree (Excludes a b) → (h : List Event) → Run g v h → IsGiven g v h given → is_some (begun h a.0) ≡ true → is_some (begun h b.0) ≡ true → ⊥
+  excludes_holds a b acc [] run i p q = true_false (sym p)
+  excludes_holds a b acc (e ∷ h) run i p q =
+      by_tests (λ x y. excludes_holds a b acc h run.0 (given_before g v h e.actor e.act given run.1 i) x y) (cases_Bool (begun_by e.act a.0)) (cases_Bool (begun_by e.act b.0))
+    where
+      old : IsGiven g v h given
+      old = given_before g v h e.actor e.act given run.1 i
+
+      begun_old : (t : ℕ) → begun_by e.act t ≡ false → is_some (begun (e ∷ h) t) ≡ true → is_some (begun h t) ≡ true
+      begun_old t n s = sym (ap is_some (if_false (begun_by e.act t) (Some e.actor) (begun h t) n)) ∙ s
+
+      runs_here : (l : ALeaf g v h (Excludes a b)) (t : ℕ) → is_some (begun (e ∷ h) t) ≡ true → (row l.rows t).runs ≡ true
+      runs_here l t s =
+          elim (cases_Bool (begun_by e.act t)) [
+            | inl m ↦ let w = begins g v h e.actor e.act t run.0 run.1 m in ready_runs g l.assumes l.rows v h t l.now w.task w.ready
+            | inr n ↦ l.now.true_rows.runs t (begun_old t n s)
+          ]
+
+      at_begin : (token_requested g v h a.0 ≡ false) ⊎ (token_requested g v h b.0 ≡ false) → ⊥
+      at_begin w =
+          let l = leaf_of (Excludes a b) h acc run.0 old (own_of_two h a.0 b.0 w) in
+          elim l.proves [
+            | inl no_run ↦ true_false (sym (runs_here l a.0 p) ∙ no_run)
+            | inr no_run ↦ true_false (sym (runs_here l b.0 q) ∙ no_run)
+          ]
+
+      by_tests : (is_some (begun h a.0) ≡ true → is_some (begun h b.0) ≡ true → ⊥) → (begun_by e.act a.0 ≡ true) ⊎ (begun_by e.act a.0 ≡ false) → (begun_by e.act b.0 ≡ true) ⊎ (begun_by e.act b.0 ≡ false) → ⊥
+      by_tests earlier (inl x) y = at_begin (inl (begins g v h e.actor e.act a.0 run.0 run.1 x).not_requested)
+      by_tests earlier (inr x) (inl y) = at_begin (inr (begins g v h e.actor e.act b.0 run.0 run.1 y).not_requested)
+      by_tests earlier (inr x) (inr y) = earlier (begun_old a.0 x p) (begun_old b.0 y q)
+
+  property_holds : (p : Property) → ATree p → (h : List Event) → Run g v h → IsGiven g v h given → HoldsOf g v h p
+  property_holds (EndsIn t ends) acc h run i = let l = leaf_of (EndsIn t ends) h acc run i tt in λ f e. l.proves f (l.now.true_rows.ends t.0 f e)
+  property_holds (After a b) acc h run i = after_holds a b acc h run i
+  property_holds (Observed t) acc h run i =
+      let l = leaf_of (Observed t) h acc run i tt in
+      λ complete lb e. observed_holds g l.assumes l.rows v h t.0 lb l.now complete e l.proves
+  property_holds (Never t) acc h run i = never_holds t acc h run i
+  property_holds (Excludes a b) acc h run i =
+      elim (cases_Bool (is_some (begun h a.0) && is_some (begun h b.0))) [
+        | inl both ↦ let w = and_parts (is_some (begun h a.0)) (is_some (begun h b.0)) both in absurd (excludes_holds a b acc h run i w.0 w.1)
+        | inr other ↦ other
+      ]
+  property_holds (Runs t) acc h run i =
+      let l = leaf_of (Runs t) h acc run i tt in
+      λ complete. elim l.proves [
+        | inl w ↦ never_canceled g l.assumes l.rows v h t.0 l.now w.0 w.1 w.2 complete
+        | inr never ↦ absurd (never_complete g l.assumes l.rows v h l.now never complete)
+      ]
+
+claim_holds : (wide : Bool) (g : TaskGraph) (claim : Claim) (tree : Tree) (v : List Bool) (h : List Event) → IsGraph g → AcceptsTree g claim.body (assumed_for wide g claim) tree → Run g v h → Holds g claim v h
+claim_holds wide g claim tree v h valid acc run = λ i. property_holds wide g claim.given tree v valid claim.body acc h run i
 
 pub soundness_lem : Soundness
-soundness_lem g [] [] valid acc v h run = tt
-soundness_lem g (claim ∷ claims) (tree ∷ trees) valid acc v h run = (claim_holds g claim tree v h valid acc.0 run, soundness_lem g claims trees valid acc.1 v h run)
-soundness_lem g [] (tree ∷ trees) valid acc v h run = tt
-soundness_lem g (claim ∷ claims) [] valid acc v h run = absurd acc
+soundness_lem wide g [] [] valid acc v h run = tt
+soundness_lem wide g (claim ∷ claims) (tree ∷ trees) valid acc v h run = (claim_holds wide g claim tree v h valid acc.0 run, soundness_lem wide g claims trees valid acc.1 v h run)
+soundness_lem wide g [] (tree ∷ trees) valid acc v h run = tt
+soundness_lem wide g (claim ∷ claims) [] valid acc v h run = absurd acc

@@ -206,12 +206,13 @@ reader_observes g l rows v h r y a q now complete reads e m =
     by_body b d =
         let vd = the_some (outcome_in (rest g v h r)) d in
         let full = view_fits g v h l rows r now.run now.agrees now.true_rows.ends b in
-        let w : Known = record { possible = l.possible; quiet = l.quiet; own = (task g r).token; subject = λ f. is_final f Faulted } in
+        let w : Known = record { possible = l.possible; quiet = l.quiet; own = (task g r).token; subject = λ f. is_final f Faulted; sure = l.sure } in
         let fits : Fits g v h r w = record {
           own = refl;
           inputs = full.inputs;
           quiet = full.quiet;
           subject = λ s f p z. let same = some_eq y s (sym (subject_is g v h r y a q now.run reads.after e m) ∙ p) in subst (λ n. is_final n Faulted ≡ true) (sym (end_is f (subst (λ n. final g v h n ≡ Some f) (sym same) z))) refl;
+          jobs = full.jobs;
         } in
         let path = verdict_path w (body g r) (rest g v h r).outcome (rest g v h r).left (passed g v h r) vd.0 vd.1 (follows g v h r w now.run fits (has_subject_of g r now.valid)) in
         observed_by g v h r y a q now.run reads.after e m (reads.observes (passed g v h r) vd.0 path)

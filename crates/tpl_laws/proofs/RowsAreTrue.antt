@@ -14,11 +14,11 @@ use Rattle.tpl_words.specs.declared.status.Actor.{Actor}
 use Rattle.tpl_model.specs.declared.event.Act.{Act}
 use Rattle.tpl_model.specs.declared.event.Act.TheVariants.{Request, Release, Begin, Step, Worked, Leave, Close, Drop, Settle}
 use Rattle.tpl_model.specs.declared.event.Event.{Event}
-use Rattle.tpl_model.specs.Facts.{Ending, begun, left_body, stepped, worked, winner_of, rest, requested, ending, subject_in, subject_of, outcome_in, outcome_of}
+use Rattle.tpl_model.specs.Facts.{Ending, begun, left_body, stepped, worked, winner_of, rest, requested, failed, ending, subject_in, subject_of, outcome_in, outcome_of}
 use Rattle.tpl_model.specs.Rules.{final, IsRunning, MayStart, Allows, Run, Settled, ended, token_requested, token_requested_by}
 use Rattle.tpl_script.specs.Paths.{Known, EndsPassing, Path, MayStartChild}
 use Rattle.tpl_laws.proofs.Basics.{if_false, some_none, is_some_of, same_number}
-use Rattle.tpl_laws.proofs.Kept.{after, running_facts, final_kept, requested_kept, final_of}
+use Rattle.tpl_laws.proofs.Kept.{after, running_facts, final_kept, requested_kept, failed_kept, final_of}
 use Rattle.tpl_words.specs.Finals.{has}
 use Rattle.tpl_model.specs.Valid.{IsGraph}
 use Rattle.tpl_model.specs.Certificate.{Row, row, Assumed, Agrees, is_loud, loud_token, one_ends, subject_ends, subject_set, view, RunsRule, BeforeRule, Closed}
@@ -98,6 +98,7 @@ view_fits g v h l rows t run agrees ends b = record {
   inputs = agrees.inputs;
   quiet = λ k r. elim (cases_Bool (l.quiet k)) [ inl q ↦ true_false (sym r ∙ agrees.quiet k q) | inr q ↦ q ];
   subject = by_kind (kind g t) refl;
+  jobs = λ site r. elim (cases_Bool (l.sure site)) [ inl q ↦ true_false (sym r ∙ agrees.jobs site q) | inr q ↦ q ];
 }
   where
     plain : (a : ℕ) → MayStart g v h t (Continues a) → (s : ℕ) (f : Final) → Some a ≡ Some s → final g v h s ≡ Some f → has (row rows a).ends f && allows (options g t) f ≡ true
@@ -134,6 +135,7 @@ agrees_before g v h l a x al ag = record {
   inputs = ag.inputs;
   quiet = λ k q. elim (cases_Bool (requested g v h k)) [ inl r ↦ true_false (sym (requested_kept g v h a x k r) ∙ ag.quiet k q) | inr r ↦ r ];
   ends = λ t f e. ag.ends t f (final_kept g v h a x t f al e);
+  jobs = λ site q. elim (cases_Bool (failed g v h site)) [ inl r ↦ true_false (sym (failed_kept g v h a x site r) ∙ ag.jobs site q) | inr r ↦ r ];
 }
 
 -- what the rows say of a run

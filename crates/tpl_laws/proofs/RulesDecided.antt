@@ -1,6 +1,7 @@
 -- The rules for a row are decided by their tests.
-use Rattle.std.proofs.Common.{◌≡◌, ℕ, ◌⊎◌, ◌&&◌, ◌||◌, not, Bool, true, false, Some, List, [], ◌∷◌, refl, sym, subst, nat_eq}
+use Rattle.std.proofs.Common.{◌≡◌, ℕ, ◌⊎◌, ◌&&◌, ◌||◌, not, Bool, true, false, Some, List, [], ◌∷◌, refl, sym, subst, nat_eq, nat_lt, length}
 use Rattle.std.specs.Prelude.{Decides}
+use Rattle.std.proofs.lemmas.Bool.{ltb-true, lt-ltb}
 use Rattle.tpl_laws.proofs.AllowedDecided.{itself, denied as opposite}
 use Rattle.tpl_words.proofs.Truths.{true_false}
 use Rattle.tpl_script.proofs.PathEnds.{is_acknowledged, is_returned, thrown_label}
@@ -12,15 +13,16 @@ use Rattle.tpl_words.specs.Options.{allows, lazy_cancellation}
 use Rattle.tpl_script.specs.declared.outcome.Outcome.TheVariants.{Returned, Threw, Acknowledged}
 use Rattle.tpl_words.specs.Members.{mem}
 use Rattle.tpl_script.specs.Statements.{Statements}
-use Rattle.tpl_model.specs.Graph.{TaskGraph, TaskKind, Root, Child, Continues, WhenAll, WhenAny, kind, body, options, attached, some_in, IsParent}
+use Rattle.tpl_model.specs.Graph.{TaskGraph, TaskKind, Root, Child, Continues, WhenAll, WhenAny, kind, body, options, is_task, attached, some_in, IsParent}
+use Rattle.tpl_model.specs.Rules.{to_end}
 use Rattle.tpl_model.specs.Valid.{IsGraph}
 use Rattle.tpl_model.specs.declared.claim.Property.{Property}
-use Rattle.tpl_model.specs.declared.claim.Property.TheVariants.{Final as EndsIn, After, Observed, Never, Excludes}
+use Rattle.tpl_model.specs.declared.claim.Property.TheVariants.{Final as EndsIn, After, Observed, Never, Excludes, Runs}
 use Rattle.tpl_script.specs.Paths.{Known, Path, MayEnd, MayThrow, MayStartChild, MustObserve}
-use Rattle.tpl_model.specs.Certificate.{Row, row, Assumed, is_loud, view, IsBelow, RunsRule, BodyMayEnd, MayBeCanceled, AllMayEnd, MayEndAs, BeforeRule, may_end_early, PastRule, TakesOver, Reads, Links, ChainRule, Proves}
+use Rattle.tpl_model.specs.Certificate.{Row, row, Assumed, end_left, is_loud, view, IsBelow, RunsRule, BodyMayEnd, MayBeCanceled, AllMayEnd, MayEndAs, BeforeRule, may_end_early, may_end, may_win, PastRule, TakesOver, Reads, Links, ChainRule, NoneComplete, begins_itself, Proves}
 use Rattle.tpl_script.specs.Recursion.{may, none, is_throw, must_observe, reaches}
-use Rattle.tpl_laws.specs.RowTests.{implies, all_in, some_end, parent_of, by_parent, is_below, runs_by, runs, is_return, is_acknowledgement, may_throw, body_may_end, may_be_canceled, all_may_end, may_end_as, ends, before_by, before, past_by, past, is_argument, takes_over, continues, faulted_view, reads, links, chain_by, chain, is_none, proves}
-use Rattle.tpl_laws.proofs.Deciding.{denied, same, same_end, both, either, only_if, means, at_each_end, at_some_end, of_all, of_some}
+use Rattle.tpl_laws.specs.RowTests.{implies, all_in, some_end, parent_of, by_parent, is_below, runs_by, runs, is_return, is_acknowledgement, may_throw, body_may_end, may_be_canceled, all_may_end, may_end_as, ends, before_by, before, past_by, past, is_argument, takes_over, continues, faulted_view, reads, links, chain_by, chain, is_none, none_complete, proves}
+use Rattle.tpl_laws.proofs.Deciding.{denied, same, same_end, both, either, only_if, means, at_each_end, at_some_end, of_all, of_some, below_some}
 use Rattle.tpl_laws.proofs.Parents.{at_parent, below}
 use Rattle.tpl_laws.specs.PathLaws.{PathLaws}
 
@@ -158,12 +160,12 @@ module _ (paths : PathLaws) where
   end_decided g l rows t (WhenAny args) f =
       both (f ≡ RanToCompletion) ((x : ℕ) × (e : Final) × (mem x args ≡ true) × (has (row rows x).ends e ≡ true)) (is_final f RanToCompletion) (some_in (λ x. some_end (has (row rows x).ends)) args) (same_end f RanToCompletion) (some_argument rows args)
 
-  pub ends_lem : (g : TaskGraph) (l : Assumed) (rows : List Row) (t : ℕ) → Decides (ends g l rows t) ((f : Final) → l.cut t f ≡ true → MayEndAs g l rows t (kind g t) f → has (row rows t).ends f ≡ true)
+  pub ends_lem : (g : TaskGraph) (l : Assumed) (rows : List Row) (t : ℕ) → Decides (ends g l rows t) ((f : Final) → end_left l t f ≡ true → MayEndAs g l rows t (kind g t) f → has (row rows t).ends f ≡ true)
   ends_lem g l rows t =
-      at_each_end (λ f. l.cut t f ≡ true → MayEndAs g l rows t (kind g t) f → has (row rows t).ends f ≡ true)
-      (λ f. implies (l.cut t f) (implies (may_end_as g l rows t (kind g t) f) (has (row rows t).ends f)))
+      at_each_end (λ f. end_left l t f ≡ true → MayEndAs g l rows t (kind g t) f → has (row rows t).ends f ≡ true)
+      (λ f. implies (end_left l t f) (implies (may_end_as g l rows t (kind g t) f) (has (row rows t).ends f)))
       (λ f.
-      only_if (l.cut t f ≡ true) (MayEndAs g l rows t (kind g t) f → has (row rows t).ends f ≡ true) (l.cut t f) (implies (may_end_as g l rows t (kind g t) f) (has (row rows t).ends f)) (itself (l.cut t f))
+      only_if (end_left l t f ≡ true) (MayEndAs g l rows t (kind g t) f → has (row rows t).ends f ≡ true) (end_left l t f) (implies (may_end_as g l rows t (kind g t) f) (has (row rows t).ends f)) (itself (end_left l t f))
       (only_if (MayEndAs g l rows t (kind g t) f) (has (row rows t).ends f ≡ true) (may_end_as g l rows t (kind g t) f) (has (row rows t).ends f) (end_decided g l rows t (kind g t) f) (itself (has (row rows t).ends f))))
 
   -- what is before it
@@ -195,7 +197,9 @@ module _ (paths : PathLaws) where
       either ((may_end_early g l rows t ≡ false) × ((x ≡ a) ⊎ (mem x (row rows a).past ≡ true))) (IsBelow g t x) (not (may_end_early g l rows t) && (nat_eq x a || mem x (row rows a).past)) (is_below g t x)
       (both (may_end_early g l rows t ≡ false) ((x ≡ a) ⊎ (mem x (row rows a).past ≡ true)) (not (may_end_early g l rows t)) (nat_eq x a || mem x (row rows a).past) (opposite (may_end_early g l rows t)) (or_past rows x a)) (below g t x valid)
   past_decided g l rows t valid (WhenAll args) x = of_some (λ y. (x ≡ y) ⊎ (mem x (row rows y).past ≡ true)) (λ y. nat_eq x y || mem x (row rows y).past) args (λ y. or_past rows x y)
-  past_decided g l rows t valid (WhenAny args) x = of_all (λ y. (x ≡ y) ⊎ (mem x (row rows y).past ≡ true)) (λ y. nat_eq x y || mem x (row rows y).past) args (λ y. or_past rows x y)
+  past_decided g l rows t valid (WhenAny args) x =
+      of_all (λ y. may_win l rows y ≡ true → (x ≡ y) ⊎ (mem x (row rows y).past ≡ true)) (λ y. implies (may_win l rows y) (nat_eq x y || mem x (row rows y).past)) args
+      (λ y. only_if (may_win l rows y ≡ true) ((x ≡ y) ⊎ (mem x (row rows y).past ≡ true)) (may_win l rows y) (nat_eq x y || mem x (row rows y).past) (itself (may_win l rows y)) (or_past rows x y))
 
   pub past_lem : (g : TaskGraph) (l : Assumed) (rows : List Row) (t : ℕ) → IsGraph g → Decides (past g l rows t) ((x : ℕ) → mem x (row rows t).past ≡ true → PastRule g l rows t (kind g t) x)
   past_lem g l rows t valid = of_all (PastRule g l rows t (kind g t)) (past_by g l rows t (kind g t)) (row rows t).past (λ x. past_decided g l rows t valid (kind g t) x)
@@ -246,6 +250,14 @@ module _ (paths : PathLaws) where
   none_decided [] = (λ e. refl, λ e. refl)
   none_decided (x ∷ xs) = (λ e. true_false (sym e), λ e. absurd (cc))
 
+  none_complete_decided : (g : TaskGraph) (rows : List Row) → Decides (none_complete g rows) (NoneComplete g rows)
+  none_complete_decided g rows =
+      means ((x : ℕ) × is_task g x × ((to_end (kind g x) false ≡ true) × (may_end rows x ≡ false))) (NoneComplete g rows) (none_complete g rows)
+      (below_some (λ x. (to_end (kind g x) false ≡ true) × (may_end rows x ≡ false)) (λ x. to_end (kind g x) false && not (may_end rows x)) (length g.tasks)
+      (λ x. both (to_end (kind g x) false ≡ true) (may_end rows x ≡ false) (to_end (kind g x) false) (not (may_end rows x)) (itself (to_end (kind g x) false)) (opposite (may_end rows x))))
+      (λ e. (e.0, e.1, e.2.0, e.2.1))
+      (λ e. (e.0, e.1, (e.2, e.3)))
+
   pub proves_lem : (g : TaskGraph) (l : Assumed) (rows : List Row) (p : Property) → Decides (proves g l rows p) (Proves g l rows p)
   proves_lem g l rows (EndsIn t fs) =
       at_each_end (λ f. has (row rows t.0).ends f ≡ true → has fs f ≡ true) (λ f. implies (has (row rows t.0).ends f) (has fs f))
@@ -253,12 +265,24 @@ module _ (paths : PathLaws) where
   proves_lem g l rows (After a b) =
       either ((row rows b.0).runs ≡ false) (mem a.0 (row rows b.0).before ≡ true) (not (row rows b.0).runs) (mem a.0 (row rows b.0).before) (opposite (row rows b.0).runs) (itself (mem a.0 (row rows b.0).before))
   proves_lem g l rows (Observed t) =
-      either ((row rows t.0).chain ≡ [] → ⊥) ((has (row rows t.0).ends Faulted ≡ false) ⊎ ((row rows t.0).runs ≡ false) ⊎ (MayThrow (view g l rows t.0) (body g t.0) → ⊥))
-      (not (is_none (row rows t.0).chain)) (not (has (row rows t.0).ends Faulted) || (not (row rows t.0).runs || not (may_throw g l rows t.0)))
+      either ((row rows t.0).chain ≡ [] → ⊥) ((has (row rows t.0).ends Faulted ≡ false) ⊎ ((row rows t.0).runs ≡ false) ⊎ (MayThrow (view g l rows t.0) (body g t.0) → ⊥) ⊎ ((l.wide ≡ true) × NoneComplete g rows))
+      (not (is_none (row rows t.0).chain)) (not (has (row rows t.0).ends Faulted) || (not (row rows t.0).runs || (not (may_throw g l rows t.0) || (l.wide && none_complete g rows))))
       (denied ((row rows t.0).chain ≡ []) (is_none (row rows t.0).chain) (none_decided (row rows t.0).chain))
-      (either (has (row rows t.0).ends Faulted ≡ false) (((row rows t.0).runs ≡ false) ⊎ (MayThrow (view g l rows t.0) (body g t.0) → ⊥)) (not (has (row rows t.0).ends Faulted)) (not (row rows t.0).runs || not (may_throw g l rows t.0)) (opposite (has (row rows t.0).ends Faulted))
-      (either ((row rows t.0).runs ≡ false) (MayThrow (view g l rows t.0) (body g t.0) → ⊥) (not (row rows t.0).runs) (not (may_throw g l rows t.0)) (opposite (row rows t.0).runs)
-      (denied (MayThrow (view g l rows t.0) (body g t.0)) (may_throw g l rows t.0) (throws_it (view g l rows t.0) (body g t.0)))))
+      (either (has (row rows t.0).ends Faulted ≡ false) (((row rows t.0).runs ≡ false) ⊎ (MayThrow (view g l rows t.0) (body g t.0) → ⊥) ⊎ ((l.wide ≡ true) × NoneComplete g rows)) (not (has (row rows t.0).ends Faulted)) (not (row rows t.0).runs || (not (may_throw g l rows t.0) || (l.wide && none_complete g rows))) (opposite (has (row rows t.0).ends Faulted))
+      (either ((row rows t.0).runs ≡ false) ((MayThrow (view g l rows t.0) (body g t.0) → ⊥) ⊎ ((l.wide ≡ true) × NoneComplete g rows)) (not (row rows t.0).runs) (not (may_throw g l rows t.0) || (l.wide && none_complete g rows)) (opposite (row rows t.0).runs)
+      (either (MayThrow (view g l rows t.0) (body g t.0) → ⊥) ((l.wide ≡ true) × NoneComplete g rows) (not (may_throw g l rows t.0)) (l.wide && none_complete g rows)
+      (denied (MayThrow (view g l rows t.0) (body g t.0)) (may_throw g l rows t.0) (throws_it (view g l rows t.0) (body g t.0)))
+      (both (l.wide ≡ true) (NoneComplete g rows) l.wide (none_complete g rows) (itself l.wide) (none_complete_decided g rows)))))
   proves_lem g l rows (Never t) = opposite (row rows t.0).runs
   proves_lem g l rows (Excludes a b) =
       either ((row rows a.0).runs ≡ false) ((row rows b.0).runs ≡ false) (not (row rows a.0).runs) (not (row rows b.0).runs) (opposite (row rows a.0).runs) (opposite (row rows b.0).runs)
+  proves_lem g l rows (Runs t) =
+      either (is_task g t.0 × (begins_itself (kind g t.0) ≡ true) × (has (row rows t.0).ends Canceled ≡ false)) (NoneComplete g rows)
+      (nat_lt t.0 (length g.tasks) && (begins_itself (kind g t.0) && not (has (row rows t.0).ends Canceled))) (none_complete g rows)
+      (means (is_task g t.0 × ((begins_itself (kind g t.0) ≡ true) × (has (row rows t.0).ends Canceled ≡ false))) (is_task g t.0 × (begins_itself (kind g t.0) ≡ true) × (has (row rows t.0).ends Canceled ≡ false))
+      (nat_lt t.0 (length g.tasks) && (begins_itself (kind g t.0) && not (has (row rows t.0).ends Canceled)))
+      (both (is_task g t.0) ((begins_itself (kind g t.0) ≡ true) × (has (row rows t.0).ends Canceled ≡ false)) (nat_lt t.0 (length g.tasks)) (begins_itself (kind g t.0) && not (has (row rows t.0).ends Canceled)) (ltb-true t.0 (length g.tasks), lt-ltb t.0 (length g.tasks))
+      (both (begins_itself (kind g t.0) ≡ true) (has (row rows t.0).ends Canceled ≡ false) (begins_itself (kind g t.0)) (not (has (row rows t.0).ends Canceled)) (itself (begins_itself (kind g t.0))) (opposite (has (row rows t.0).ends Canceled))))
+      (λ e. (e.0, e.1.0, e.1.1))
+      (λ e. (e.0, (e.1, e.2))))
+      (none_complete_decided g rows)

@@ -13,14 +13,14 @@ use Rattle.tpl_model.specs.Graph.{TaskGraph, TaskKind, Child, Continues, kind, o
 use Rattle.tpl_model.specs.declared.event.Act.{Act}
 use Rattle.tpl_model.specs.declared.event.Act.TheVariants.{Request, Release, Begin, Step, Worked, Leave, Close, Drop, Settle}
 use Rattle.tpl_model.specs.declared.event.Event.{Event}
-use Rattle.tpl_model.specs.Facts.{begun, begun_by, outcome_in, all_over, rest, requested, started, ending}
+use Rattle.tpl_model.specs.Facts.{begun, begun_by, outcome_in, all_over, rest, requested, failed, started, ending}
 use Rattle.tpl_model.specs.Rules.{final, label, seen, status, token_requested, bound_worker, steps, works, can_settle, Allows, Run, Settled, to_end, Complete}
 use Rattle.tpl_model.specs.Journal.{same_actor}
 use Rattle.tpl_model.specs.Valid.{IsGraph}
 use Rattle.tpl_model.specs.declared.claim.Given.{Given}
-use Rattle.tpl_model.specs.declared.claim.Given.TheVariants.{Input, Quiet}
+use Rattle.tpl_model.specs.declared.claim.Given.TheVariants.{Input, Quiet, Ended, Succeeds}
 use Rattle.tpl_model.specs.declared.claim.Property.{Property}
-use Rattle.tpl_model.specs.declared.claim.Property.TheVariants.{Final as EndsIn, After, Observed, Never, Excludes}
+use Rattle.tpl_model.specs.declared.claim.Property.TheVariants.{Final as EndsIn, After, Observed, Never, Excludes, Runs}
 use Rattle.tpl_model.specs.Certificate.{same}
 use Rattle.tpl_model.specs.Claims.{Claim, input, HoldsOf, Holds}
 use Rattle.tpl_laws.specs.RowTests.{implies, parent_of}
@@ -193,21 +193,23 @@ has_ended g v h t = implies (to_end (kind g t) (started g v h t)) (is_some (endi
 abbrev pub is_complete : TaskGraph → List Bool → List Event → Bool
 is_complete g v h = all_below (has_ended g v h) (length g.tasks)
 
+-- the task has not ended, or has ended in one of these ways
+abbrev pub ends_within : Finals → Option Final → Bool
+ends_within ends None = true
+ends_within ends (Some f) = has ends f
+
 -- what is given is true of the run so far
 abbrev pub is_given : TaskGraph → List Bool → List Event → List Given → Bool
 is_given g v h [] = true
 is_given g v h (Input i value ∷ given) = same (input v i.0) value && is_given g v h given
 is_given g v h (Quiet k ∷ given) = not (requested g v h k.0) && is_given g v h given
+is_given g v h (Ended t ends ∷ given) = ends_within ends (final g v h t.0) && is_given g v h given
+is_given g v h (Succeeds site ∷ given) = not (failed g v h site.0) && is_given g v h given
 
 -- where b begins, a is settled in the list before
 abbrev pub settled_at_begin : TaskGraph → List Bool → ℕ → ℕ → List Event → Bool
 settled_at_begin g v a b [] = true
 settled_at_begin g v a b (e ∷ h) = implies (begun_by e.act b) (is_settled g v h a) && settled_at_begin g v a b h
-
--- the task has not ended, or has ended in one of these ways
-abbrev pub ends_within : Finals → Option Final → Bool
-ends_within ends None = true
-ends_within ends (Some f) = has ends f
 
 -- what a claim says is true of a run
 abbrev pub holds_of : TaskGraph → List Bool → List Event → Property → Bool
@@ -216,6 +218,7 @@ holds_of g v h (After a b) = settled_at_begin g v a.0 b.0 h
 holds_of g v h (Observed t) = implies (is_complete g v h) (implies (is_some (label g v h t.0)) (seen g v h t.0))
 holds_of g v h (Never t) = not (is_some (begun h t.0))
 holds_of g v h (Excludes a b) = not (is_some (begun h a.0) && is_some (begun h b.0))
+holds_of g v h (Runs t) = implies (is_complete g v h) (is_some (begun h t.0))
 
 -- a claim holds in a run
 abbrev pub holds : TaskGraph → Claim → List Bool → List Event → Bool

@@ -9,7 +9,7 @@ use Rattle.tpl_model.specs.Rules.{Run}
 use Rattle.tpl_model.specs.Valid.{IsGraph}
 use Rattle.tpl_model.specs.declared.claim.Property.{Property}
 use Rattle.tpl_model.specs.Claims.{Claim, Holds}
-use Rattle.tpl_model.specs.Certificate.{Row, row, Tree, Assumed, RunsRule, MayEndAs, BeforeRule, PastRule, IsBelow, ChainRule, IsClosed, Closed, Proves, Accepts}
+use Rattle.tpl_model.specs.Certificate.{Row, row, Tree, Assumed, end_left, RunsRule, MayEndAs, BeforeRule, PastRule, IsBelow, ChainRule, IsClosed, Closed, Proves, Accepts}
 use Rattle.tpl_laws.specs.Soundness.{Each}
 use Rattle.tpl_laws.specs.RowTests.{parent_of, runs, ends, before, past, below_by, is_below, chain, proves}
 use Rattle.tpl_laws.specs.Verdict.{broken, first_broken, verdict}
@@ -22,7 +22,7 @@ RunsIsRight = (g : TaskGraph) (l : Assumed) (rows : List Row) (t : ℕ) → IsGr
 abbrev pub EndsIsRight : Type 0
 EndsIsRight =
     (g : TaskGraph) (l : Assumed) (rows : List Row) (t : ℕ)
-    → (ends g l rows t ≡ true) ↔ ((f : Final) → l.cut t f ≡ true → MayEndAs g l rows t (kind g t) f → has (row rows t).ends f ≡ true)
+    → (ends g l rows t ≡ true) ↔ ((f : Final) → end_left l t f ≡ true → MayEndAs g l rows t (kind g t) f → has (row rows t).ends f ≡ true)
 
 -- the test of K3 passes just where the rule holds
 abbrev pub BeforeIsRight : Type 0
@@ -66,10 +66,11 @@ ProvesIsRight = (g : TaskGraph) (l : Assumed) (rows : List Row) (p : Property) �
 
 -- there is no fault just where the certificate is accepted
 abbrev pub VerdictIsRight : Type 0
-VerdictIsRight = (g : TaskGraph) (claims : List Claim) (trees : List Tree) → IsGraph g → (verdict g claims trees ≡ Ok tt) ↔ Accepts g claims trees
+VerdictIsRight =
+    (wide : Bool) (g : TaskGraph) (claims : List Claim) (trees : List Tree) → IsGraph g → (verdict wide g claims trees ≡ Ok tt) ↔ Accepts wide g claims trees
 
 -- where the verdict finds no fault, each claim holds in every run
 abbrev pub VerdictIsSound : Type 0
 VerdictIsSound =
-    (g : TaskGraph) (claims : List Claim) (trees : List Tree) → IsGraph g → verdict g claims trees ≡ Ok tt
+    (wide : Bool) (g : TaskGraph) (claims : List Claim) (trees : List Tree) → IsGraph g → verdict wide g claims trees ≡ Ok tt
     → (v : List Bool) (h : List Event) → Run g v h → Each (λ claim. Holds g claim v h) claims

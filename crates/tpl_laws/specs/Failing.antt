@@ -6,14 +6,14 @@ use Rattle.tpl_model.specs.declared.event.Act.TheVariants.{Request}
 use Rattle.tpl_model.specs.declared.event.Event.{Event}
 use Rattle.tpl_words.specs.declared.ids.TokenId.{TokenId}
 use Rattle.tpl_words.specs.declared.status.Actor.{Actor}
-use Rattle.tpl_model.specs.Facts.{Ending, begun_by, requested, ending}
+use Rattle.tpl_model.specs.Facts.{Ending, begun_by, requested, failed, ending}
 use Rattle.tpl_model.specs.Rules.{Allows, Run, Complete}
 use Rattle.tpl_model.specs.Valid.{IsGraph}
 use Rattle.tpl_model.specs.declared.claim.Given.{Given}
-use Rattle.tpl_model.specs.declared.claim.Given.TheVariants.{Input, Quiet}
+use Rattle.tpl_model.specs.declared.claim.Given.TheVariants.{Input, Quiet, Ended, Succeeds}
 use Rattle.tpl_model.specs.declared.claim.Property.{Property}
-use Rattle.tpl_model.specs.declared.claim.Property.TheVariants.{Final as EndsIn, After, Observed, Never, Excludes}
-use Rattle.tpl_model.specs.Certificate.{same}
+use Rattle.tpl_model.specs.declared.claim.Property.TheVariants.{Final as EndsIn, After, Observed, Never, Excludes, Runs}
+use Rattle.tpl_model.specs.Certificate.{same, given_sure}
 use Rattle.tpl_model.specs.Claims.{Claim, input}
 use Rattle.tpl_laws.specs.Allowed.{is_complete, holds_of, holds}
 use Rattle.tpl_laws.specs.Runs.{gives_quiet}
@@ -55,16 +55,24 @@ lost_at g v h complete (After a b) = began_at h b.0
 lost_at g v h complete (Observed t) = complete
 lost_at g v h complete (Never t) = began_at h t.0
 lost_at g v h complete (Excludes a b) = later_of (began_at h a.0) (began_at h b.0)
+lost_at g v h complete (Runs t) = complete
 
 -- the place from which on a property isn't true of the run
 abbrev pub fails_from : TaskGraph → List Bool → List Event → Option ℕ → Property → Option ℕ
 fails_from g v h complete p = if holds_of g v h p then None else lost_at g v h complete p
 
--- at the place something of what is given isn't true of the run. A token k is requested from the place `asked k` on
-abbrev pub is_broken : List Bool → (ℕ → Option ℕ) → List Given → ℕ → Bool
-is_broken v asked [] n = false
-is_broken v asked (Input i value ∷ given) n = not (same (input v i.0) value) || is_broken v asked given n
-is_broken v asked (Quiet k ∷ given) n = is_at (asked k.0) n || is_broken v asked given n
+-- the places from which tokens are requested, and those from which jobs have failed
+pub record Noted : Type 0 where
+  pub asked : ℕ → Option ℕ
+  pub failed : ℕ → Option ℕ
+
+-- at the place something of what is given isn't true of the run
+abbrev pub is_broken : TaskGraph → List Bool → List Event → Noted → List Given → ℕ → Bool
+is_broken g v h noted [] n = false
+is_broken g v h noted (Input i value ∷ given) n = not (same (input v i.0) value) || is_broken g v h noted given n
+is_broken g v h noted (Quiet k ∷ given) n = is_at (noted.asked k.0) n || is_broken g v h noted given n
+is_broken g v h noted (Ended t ends ∷ given) n = is_at (fails_from g v h None (EndsIn t ends)) n || is_broken g v h noted given n
+is_broken g v h noted (Succeeds site ∷ given) n = is_at (noted.failed site.0) n || is_broken g v h noted given n
 
 -- a property fails first at its place, unless what is given is broken there
 abbrev pub unless_broken : Option ℕ → (ℕ → Bool) → Option ℕ
@@ -72,8 +80,8 @@ unless_broken None broken = None
 unless_broken (Some place) broken = if broken place then None else Some place
 
 -- the first place at which a claim fails
-abbrev pub first_failure : TaskGraph → List Bool → List Event → Option ℕ → (ℕ → Option ℕ) → Claim → Option ℕ
-first_failure g v h complete asked claim = unless_broken (fails_from g v h complete claim.body) (is_broken v asked claim.given)
+abbrev pub first_failure : TaskGraph → List Bool → List Event → Option ℕ → Noted → Claim → Option ℕ
+first_failure g v h complete noted claim = unless_broken (fails_from g v h complete claim.body) (is_broken g v h noted claim.given)
 
 -- the claim fails at the place, and holds before; without a place it holds throughout
 pub record IsFirstFailure (g : TaskGraph) (v : List Bool) (h : List Event) (claim : Claim) (place : Option ℕ) : Type 0 where
@@ -82,12 +90,14 @@ pub record IsFirstFailure (g : TaskGraph) (v : List Bool) (h : List Event) (clai
   pub there : (later before : List Event) → later ++ before ≡ h → place ≡ Some (length before) → holds g claim v before ≡ false
 
 -- where a claim first fails in a run follows from the ends and begins of tasks, from the place from which the run is
--- complete, and from those from which tokens are requested
+-- complete, and from those from which tokens are requested and jobs have failed
 abbrev pub FailureIsTold : Type 0
 FailureIsTold =
-    (g : TaskGraph) (v : List Bool) (h : List Event) (complete : Option ℕ) (asked : ℕ → Option ℕ) (claim : Claim)
-    → IsGraph g → Run g v h → IsFrom (is_complete g v) h complete → ((k : ℕ) → gives_quiet claim.given k ≡ true → IsFrom (λ before. requested g v before k) h (asked k))
-    → IsFirstFailure g v h claim (first_failure g v h complete asked claim)
+    (g : TaskGraph) (v : List Bool) (h : List Event) (complete : Option ℕ) (noted : Noted) (claim : Claim)
+    → IsGraph g → Run g v h → IsFrom (is_complete g v) h complete
+    → ((k : ℕ) → gives_quiet claim.given k ≡ true → IsFrom (λ before. requested g v before k) h (noted.asked k))
+    → ((site : ℕ) → given_sure claim.given site ≡ true → IsFrom (λ before. failed g v before site) h (noted.failed site))
+    → IsFirstFailure g v h claim (first_failure g v h complete noted claim)
 
 -- a run that is complete goes on with requests alone
 abbrev pub OnlyRequests : Type 0
@@ -114,3 +124,11 @@ RequestIsNoted =
     → IsFrom (λ before. requested g v before k) [] (or_now None (requested g v [] k) 0)
     × ((h : List Event) (x : Event) (place : Option ℕ) → Run g v (x ∷ h) → IsFrom (λ before. requested g v before k) h place
     → IsFrom (λ before. requested g v before k) (x ∷ h) (or_now place (requested g v (x ∷ h) k) (suc (length h))))
+
+-- along a run the place from which a job has failed can be noted, event by event
+abbrev pub JobIsNoted : Type 0
+JobIsNoted =
+    (g : TaskGraph) (v : List Bool) (site : ℕ)
+    → IsFrom (λ before. failed g v before site) [] None
+    × ((h : List Event) (x : Event) (place : Option ℕ) → IsFrom (λ before. failed g v before site) h place
+    → IsFrom (λ before. failed g v before site) (x ∷ h) (or_now place (failed g v (x ∷ h) site) (suc (length h))))

@@ -1,5 +1,5 @@
 -- What the first fault of a certificate says, in terms of the rules.
-use Rattle.std.specs.Prelude.{◌≡◌, ℕ, ◌+◌, ◌<◌, ◌++◌, ◌⊎◌, true, false, Err, List, [], ◌∷◌, length}
+use Rattle.std.specs.Prelude.{◌≡◌, ℕ, ◌+◌, ◌<◌, ◌++◌, ◌⊎◌, Bool, true, false, Err, List, [], ◌∷◌, length}
 use Rattle.tpl_words.specs.declared.finals.Final.{Final}
 use Rattle.tpl_words.specs.declared.finals.Final.TheVariants.{RanToCompletion, Canceled, Faulted}
 use Rattle.tpl_words.specs.Finals.{has}
@@ -8,7 +8,7 @@ use Rattle.tpl_model.specs.Graph.{TaskGraph, kind, is_task}
 use Rattle.tpl_model.specs.Valid.{IsGraph}
 use Rattle.tpl_model.specs.declared.claim.Property.{Property}
 use Rattle.tpl_model.specs.Claims.{Claim}
-use Rattle.tpl_model.specs.Certificate.{Row, row, Tree, SplitInput, SplitEnd, Leaf, Assumed, assumed, with_input, with_end, RunsRule, MayEndAs, BeforeRule, PastRule, ChainRule, IsClosed, Closed, Proves, IdsOfRows, Accepts}
+use Rattle.tpl_model.specs.Certificate.{Row, row, Tree, SplitInput, SplitEnd, Leaf, Assumed, end_left, assumed_for, with_input, with_end, RunsRule, MayEndAs, BeforeRule, PastRule, ChainRule, IsClosed, Closed, Proves, IdsOfRows, Accepts}
 use Rattle.tpl_model.specs.declared.fault.Rule.{Rule}
 use Rattle.tpl_model.specs.declared.fault.Rule.TheVariants.{K1, K2, K3, K4, K5, K6}
 use Rattle.tpl_model.specs.declared.fault.CertFault.{CertFault}
@@ -21,7 +21,7 @@ Runs g l rows t = RunsRule g l rows t (kind g t)
 
 -- the row of t keeps K2
 abbrev pub Ends : TaskGraph → Assumed → List Row → ℕ → Type 0
-Ends g l rows t = (f : Final) → l.cut t f ≡ true → MayEndAs g l rows t (kind g t) f → has (row rows t).ends f ≡ true
+Ends g l rows t = (f : Final) → end_left l t f ≡ true → MayEndAs g l rows t (kind g t) f → has (row rows t).ends f ≡ true
 
 -- the row of t keeps K3
 abbrev pub Before : TaskGraph → Assumed → List Row → ℕ → Type 0
@@ -85,7 +85,7 @@ pub record LeavesFail (g : TaskGraph) (p : Property) (claim : ℕ) (n : ℕ) (bs
 
 -- the tree of one of these claims fails, and those of the claims before it are accepted; the first of them has the
 -- number n
-pub record ClaimsFail (g : TaskGraph) (n : ℕ) (claims : List Claim) (trees : List Tree) (fault : CertFault) : Type 0 where
+pub record ClaimsFail (wide : Bool) (g : TaskGraph) (n : ℕ) (claims : List Claim) (trees : List Tree) (fault : CertFault) : Type 0 where
   pub earlier_claims : List Claim
   pub claim : Claim
   pub later_claims : List Claim
@@ -94,8 +94,8 @@ pub record ClaimsFail (g : TaskGraph) (n : ℕ) (claims : List Claim) (trees : L
   pub later_trees : List Tree
   pub claims_are : claims ≡ earlier_claims ++ claim ∷ later_claims
   pub trees_are : trees ≡ earlier_trees ++ tree ∷ later_trees
-  pub accepted : Accepts g earlier_claims earlier_trees
-  pub fails : LeavesFail g claim.body (n + length earlier_claims) 1 (leaves_of (assumed g claim.given) tree) fault
+  pub accepted : Accepts wide g earlier_claims earlier_trees
+  pub fails : LeavesFail g claim.body (n + length earlier_claims) 1 (leaves_of (assumed_for wide g claim) tree) fault
 
 -- each id in a tree is the graph's, and each leaf has one row for each task
 abbrev pub HasShape : TaskGraph → Tree → Type 0
@@ -129,9 +129,10 @@ pub record Misfits (g : TaskGraph) (n : ℕ) (claims : List Claim) (trees : List
 
 -- a fault is the first one: a shape, or where all shapes are right the first leaf that fails of the first claim whose
 -- tree isn't accepted
-abbrev pub IsFirstFault : TaskGraph → List Claim → List Tree → CertFault → Type 0
-IsFirstFault g claims trees fault = Misfits g 1 claims trees fault ⊎ (HaveShape g claims trees × ClaimsFail g 1 claims trees fault)
+abbrev pub IsFirstFault : Bool → TaskGraph → List Claim → List Tree → CertFault → Type 0
+IsFirstFault wide g claims trees fault = Misfits g 1 claims trees fault ⊎ (HaveShape g claims trees × ClaimsFail wide g 1 claims trees fault)
 
 -- the fault that the verdict names is the first one
 abbrev pub FaultIsFirst : Type 0
-FaultIsFirst = (g : TaskGraph) (claims : List Claim) (trees : List Tree) (fault : CertFault) → IsGraph g → verdict g claims trees ≡ Err fault → IsFirstFault g claims trees fault
+FaultIsFirst =
+    (wide : Bool) (g : TaskGraph) (claims : List Claim) (trees : List Tree) (fault : CertFault) → IsGraph g → verdict wide g claims trees ≡ Err fault → IsFirstFault wide g claims trees fault

@@ -10,3 +10,4 @@ pub mod Verdict
 pub mod Decided
 pub mod Failing
 pub mod Faults
+pub mod Wider

@@ -1,5 +1,5 @@
 -- The rules for the rows of a leaf, as tests that compute.
-use Rattle.std.specs.Prelude.{ℕ, zero, suc, ◌&&◌, ◌||◌, not, Bool, true, false, if◌then◌else◌, Option, Some, None, List, [], ◌∷◌, length, nat_eq}
+use Rattle.std.specs.Prelude.{ℕ, zero, suc, ◌&&◌, ◌||◌, not, Bool, true, false, if◌then◌else◌, Option, Some, None, List, [], ◌∷◌, length, nat_eq, nat_lt}
 use Rattle.tpl_words.specs.declared.finals.Final.{Final}
 use Rattle.tpl_words.specs.declared.finals.Final.TheVariants.{RanToCompletion, Canceled, Faulted}
 use Rattle.tpl_words.specs.Finals.{has, is_final}
@@ -8,8 +8,9 @@ use Rattle.tpl_words.specs.Members.{mem}
 use Rattle.tpl_script.specs.Statements.{starts}
 use Rattle.tpl_model.specs.Graph.{TaskGraph, TaskKind, Root, Child, Continues, WhenAll, WhenAny, task, kind, body, options, attached, some_in}
 use Rattle.tpl_model.specs.declared.claim.Property.{Property}
-use Rattle.tpl_model.specs.declared.claim.Property.TheVariants.{Final as EndsIn, After, Observed, Never, Excludes}
-use Rattle.tpl_model.specs.Certificate.{Row, row, Assumed, is_loud, view, may_end_early}
+use Rattle.tpl_model.specs.declared.claim.Property.TheVariants.{Final as EndsIn, After, Observed, Never, Excludes, Runs}
+use Rattle.tpl_model.specs.Certificate.{Row, row, Assumed, end_left, is_loud, view, may_end_early, may_end, may_win, begins_itself}
+use Rattle.tpl_model.specs.Rules.{to_end}
 use Rattle.tpl_script.specs.Paths.{Known}
 pub use Rattle.tpl_script.specs.Ends.{is_return, is_acknowledgement}
 use Rattle.tpl_script.specs.Recursion.{may, none, is_throw, must_observe, reaches}
@@ -106,7 +107,7 @@ may_end_as g l rows t (WhenAny args) f = is_final f RanToCompletion && some_in (
 
 -- K2
 abbrev pub ends : TaskGraph → Assumed → List Row → ℕ → Bool
-ends g l rows t = each_end (λ f. implies (l.cut t f) (implies (may_end_as g l rows t (kind g t) f) (has (row rows t).ends f)))
+ends g l rows t = each_end (λ f. implies (end_left l t f) (implies (may_end_as g l rows t (kind g t) f) (has (row rows t).ends f)))
 
 -- what may be taken as settled when a task begins
 abbrev pub before_by : TaskGraph → List Row → ℕ → TaskKind → ℕ → Bool
@@ -125,7 +126,7 @@ past_by g l rows t Root x = is_below g t x
 past_by g l rows t Child x = by_parent (parent_of g t) (λ p. mem x (row rows p).before) || is_below g t x
 past_by g l rows t (Continues a) x = (not (may_end_early g l rows t) && (nat_eq x a || mem x (row rows a).past)) || is_below g t x
 past_by g l rows t (WhenAll args) x = some_in (λ y. nat_eq x y || mem x (row rows y).past) args
-past_by g l rows t (WhenAny args) x = all_in (λ y. nat_eq x y || mem x (row rows y).past) args
+past_by g l rows t (WhenAny args) x = all_in (λ y. implies (may_win l rows y) (nat_eq x y || mem x (row rows y).past)) args
 
 -- K4 and K5
 abbrev pub past : TaskGraph → Assumed → List Row → ℕ → Bool
@@ -147,7 +148,7 @@ continues y kind = false
 
 -- what a continuation sees whose subject is faulted
 abbrev pub faulted_view : TaskGraph → Assumed → ℕ → Known
-faulted_view g l r = record { possible = l.possible; quiet = l.quiet; own = (task g r).token; subject = λ f. is_final f Faulted }
+faulted_view g l r = record { possible = l.possible; quiet = l.quiet; own = (task g r).token; subject = λ f. is_final f Faulted; sure = l.sure }
 
 -- r is a continuation of y that reads y's exception wherever y is faulted
 abbrev pub reads : TaskGraph → Assumed → ℕ → ℕ → Bool
@@ -173,11 +174,23 @@ abbrev pub is_none : List ℕ → Bool
 is_none [] = true
 is_none (x ∷ xs) = false
 
+-- some number below n passes the test
+abbrev pub some_below : (ℕ → Bool) → ℕ → Bool
+some_below test zero = false
+some_below test (suc n) = test n || some_below test n
+
+-- a task that has to end, started or not, can't
+abbrev pub none_complete : TaskGraph → List Row → Bool
+none_complete g rows = some_below (λ x. to_end (kind g x) false && not (may_end rows x)) (length g.tasks)
+
 -- a closed leaf proves the claim
 abbrev pub proves : TaskGraph → Assumed → List Row → Property → Bool
 proves g l rows (EndsIn t ends) = each_end (λ f. implies (has (row rows t.0).ends f) (has ends f))
 proves g l rows (After a b) = not (row rows b.0).runs || mem a.0 (row rows b.0).before
 proves g l rows (Observed t) =
-    not (is_none (row rows t.0).chain) || (not (has (row rows t.0).ends Faulted) || (not (row rows t.0).runs || not (may_throw g l rows t.0)))
+    not (is_none (row rows t.0).chain)
+    || (not (has (row rows t.0).ends Faulted) || (not (row rows t.0).runs || (not (may_throw g l rows t.0) || (l.wide && none_complete g rows))))
 proves g l rows (Never t) = not (row rows t.0).runs
 proves g l rows (Excludes a b) = not (row rows a.0).runs || not (row rows b.0).runs
+proves g l rows (Runs t) =
+    (nat_lt t.0 (length g.tasks) && (begins_itself (kind g t.0) && not (has (row rows t.0).ends Canceled))) || none_complete g rows

@@ -1,14 +1,17 @@
 -- What is true of every run, and of every token.
 use Rattle.std.specs.Prelude.{◌⊎◌, ◌≡◌, ℕ, ◌≤◌, ◌++◌, ◌||◌, ◌↔◌, Bool, true, false, Some, List, [], ◌∷◌, length, nat_eq}
 use Rattle.tpl_words.specs.Members.{mem}
-use Rattle.tpl_model.specs.Graph.{TaskGraph, Plain, token, sources, some_in}
+use Rattle.tpl_model.specs.Graph.{TaskGraph, Plain, body, token, sources, some_in}
+use Rattle.tpl_script.specs.Statements.{sites}
 use Rattle.tpl_words.specs.declared.status.Actor.{Actor}
 use Rattle.tpl_model.specs.declared.event.Event.{Event}
-use Rattle.tpl_model.specs.Facts.{Ending, begun, ending, started, requested, requested_itself}
-use Rattle.tpl_model.specs.Rules.{Run}
-use Rattle.tpl_model.specs.Valid.{bound}
+use Rattle.tpl_model.specs.Facts.{Ending, begun, ending, started, requested, requested_itself, failed}
+use Rattle.tpl_words.specs.declared.ids.SiteId.{SiteId}
+use Rattle.tpl_words.specs.declared.status.Label.TheVariants.{WorkFailed}
+use Rattle.tpl_model.specs.Rules.{Run, label}
+use Rattle.tpl_model.specs.Valid.{bound, IsGraph}
 use Rattle.tpl_model.specs.declared.claim.Given.{Given}
-use Rattle.tpl_model.specs.declared.claim.Given.TheVariants.{Input, Quiet}
+use Rattle.tpl_model.specs.declared.claim.Given.TheVariants.{Quiet}
 use Rattle.tpl_model.specs.Certificate.{given_quiet}
 
 -- no run is longer than its graph's bound
@@ -30,6 +33,12 @@ pub record Stays (g : TaskGraph) (v : List Bool) (later h : List Event) : Type 0
 abbrev pub NothingGoesBack : Type 0
 NothingGoesBack = (g : TaskGraph) (v : List Bool) (later h : List Event) → Run g v (later ++ h) → Stays g v later h
 
+-- a job has failed just where that is the label of the task in whose body it stands
+abbrev pub FailedByItsLabel : Type 0
+FailedByItsLabel =
+    (g : TaskGraph) (v : List Bool) (h : List Event) (site : SiteId) (t : ℕ) → IsGraph g → Run g v h → mem site.0 (sites (body g t)) ≡ true
+    → (failed g v h site.0 ≡ true) ↔ (label g v h t ≡ Some (WorkFailed site))
+
 -- s is k, or a source of k, or a source of one of these, and so on
 pub data IsSource (g : TaskGraph) : ℕ → ℕ → Type 0 where
   itself : {k : ℕ} → IsSource g k k
@@ -50,8 +59,8 @@ RequestedByASource =
 -- the token itself is given as quiet
 abbrev pub gives_quiet : List Given → ℕ → Bool
 gives_quiet [] k = false
-gives_quiet (Input i value ∷ given) k = gives_quiet given k
 gives_quiet (Quiet j ∷ given) k = nat_eq j.0 k || gives_quiet given k
+gives_quiet (other ∷ given) k = gives_quiet given k
 
 -- a leaf's quiet tokens are the given's and, repeatedly, their sources
 abbrev pub QuietWithSources : Type 0

@@ -10,6 +10,7 @@ use Rattle.tpl_model.specs.declared.event.Event.{Event}
 use Rattle.tpl_model.specs.Facts.{begun, begun_by, ending}
 use Rattle.tpl_model.specs.Rules.{final, label, seen, Run, Settled, Complete}
 use Rattle.tpl_model.specs.Valid.{IsGraph}
+use Rattle.tpl_model.specs.declared.claim.Given.{Given}
 use Rattle.tpl_model.specs.Claims.{Claim, Holds, IsGiven}
 use Rattle.tpl_model.specs.Certificate.{Row, row, Tree, SplitInput, SplitEnd, Leaf, Assumed, assumed, with_input, with_end, Agrees, Closed, Accepts}
 
@@ -22,13 +23,13 @@ HasLeaf l (SplitEnd t ran canceled faulted) m rows =
     ⊎ HasLeaf (with_end l t Faulted) faulted m rows
 HasLeaf l (Leaf leaf) m rows = (l ≡ m) × (leaf ≡ rows)
 
--- where a claim's given is true of a run so far, some leaf of its tree agrees with the run, also while a task on which
+-- where what is given is true of a run so far, some leaf of each tree agrees with the run, also while a task on which
 -- the tree splits hasn't ended
 abbrev pub SomeLeafAgrees : Type 0
 SomeLeafAgrees =
-    (g : TaskGraph) (claim : Claim) (tree : Tree) (v : List Bool) (h : List Event)
-    → IsGiven g v h claim.given
-    → (l : Assumed) × (rows : List Row) × HasLeaf (assumed g claim.given) tree l rows × Agrees g l v h
+    (wide : Bool) (g : TaskGraph) (given : List Given) (tree : Tree) (v : List Bool) (h : List Event)
+    → IsGiven g v h given
+    → (l : Assumed) × (rows : List Row) × HasLeaf (assumed wide g given) tree l rows × Agrees g l v h
 
 -- what the rows of a closed leaf say is true of each run that agrees with it
 pub record RowsHold (g : TaskGraph) (rows : List Row) (v : List Bool) (h : List Event) : Type 0 where
@@ -53,8 +54,8 @@ abbrev pub Each : (Claim → Type 0) → List Claim → Type 0
 Each P [] = Unit {0}
 Each P (claim ∷ claims) = P claim × Each P claims
 
--- where a certificate is accepted, each claim holds in each run
+-- where a certificate is accepted, by the wider rules or the others, each claim holds in each run
 abbrev pub Soundness : Type 0
 Soundness =
-    (g : TaskGraph) (claims : List Claim) (certificate : List Tree) → IsGraph g → Accepts g claims certificate
+    (wide : Bool) (g : TaskGraph) (claims : List Claim) (certificate : List Tree) → IsGraph g → Accepts wide g claims certificate
     → (v : List Bool) (h : List Event) → Run g v h → Each (λ claim. Holds g claim v h) claims

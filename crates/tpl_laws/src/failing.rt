@@ -1,6 +1,6 @@
 //! From which place on a claim fails along a run.
 
-ghost use Rattle.tpl_laws.specs.Failing.{CompleteIsNoted, FailureIsTold, OnlyRequests, RequestIsNoted, StaysComplete};
+ghost use Rattle.tpl_laws.specs.Failing.{CompleteIsNoted, FailureIsTold, JobIsNoted, OnlyRequests, RequestIsNoted, StaysComplete};
 
 /// A run that is complete goes on with requests alone.
 pub fn only_requests()
@@ -25,4 +25,9 @@ pub fn complete_is_noted()
 /// Along a run the place from which a token is requested can be noted, event by event.
 pub fn request_is_noted()
     ensures { RequestIsNoted }
+{}
+
+/// Along a run the place from which a job has failed can be noted, event by event.
+pub fn job_is_noted()
+    ensures { JobIsNoted }
 {}

@@ -16,12 +16,13 @@ pub use closed::{
     proves_is_right, runs_is_right, verdict_is_right, verdict_is_sound,
 };
 pub use failing::{
-    complete_is_noted, failure_is_told, only_requests, request_is_noted, stays_complete,
+    complete_is_noted, failure_is_told, job_is_noted, only_requests, request_is_noted,
+    stays_complete,
 };
 pub use links::{
     quiet_by_a_link, quiet_with_sources, requested_by_a_source, requested_through_sources,
     without_links,
 };
-pub use runs::{is_bounded, nothing_goes_back, prefix_is_run};
+pub use runs::{failed_by_its_label, is_bounded, nothing_goes_back, prefix_is_run};
 pub use settled::{settled_before_its_begin, settled_without_begin};
-pub use sound::{rows_are_true, some_leaf_agrees, soundness};
+pub use sound::{more_is_assumed, rows_are_true, some_leaf_agrees, soundness, wider_accepts};

@@ -1,6 +1,6 @@
 //! What is true of every run.
 
-ghost use Rattle.tpl_laws.specs.Runs.{IsBounded, NothingGoesBack, PrefixIsRun};
+ghost use Rattle.tpl_laws.specs.Runs.{FailedByItsLabel, IsBounded, NothingGoesBack, PrefixIsRun};
 
 /// No run is longer than its graph's bound.
 pub fn is_bounded()
@@ -15,4 +15,9 @@ pub fn prefix_is_run()
 /// What is requested, started, begun or ended stays so.
 pub fn nothing_goes_back()
     ensures { NothingGoesBack }
+{}
+
+/// A job has failed just where the label of its task says so.
+pub fn failed_by_its_label()
+    ensures { FailedByItsLabel }
 {}

@@ -1,6 +1,7 @@
 //! What an accepted certificate promises.
 
 ghost use Rattle.tpl_laws.specs.Soundness.{RowsAreTrue, SomeLeafAgrees, Soundness};
+ghost use Rattle.tpl_laws.specs.Wider.{MoreIsAssumed, WiderAccepts};
 
 /// What the rows of a closed leaf say is true of each run that agrees with the leaf.
 pub fn rows_are_true()
@@ -15,4 +16,14 @@ pub fn some_leaf_agrees()
 /// Where a certificate is accepted, each claim holds in each run.
 pub fn soundness()
     ensures { Soundness }
+{}
+
+/// Rows that are closed stay so where more is assumed, and prove what they did.
+pub fn more_is_assumed()
+    ensures { MoreIsAssumed }
+{}
+
+/// The wider rules accept what the others do.
+pub fn wider_accepts()
+    ensures { WiderAccepts }
 {}

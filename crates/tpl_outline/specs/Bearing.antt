@@ -1,7 +1,7 @@
 -- Of which tasks a property speaks.
 use Rattle.std.specs.Prelude.{◌≡◌, ℕ, ◌⊎◌}
 use Rattle.tpl_model.specs.declared.claim.Property.{Property}
-use Rattle.tpl_model.specs.declared.claim.Property.TheVariants.{Final, After, Observed, Never, Excludes}
+use Rattle.tpl_model.specs.declared.claim.Property.TheVariants.{Final, After, Observed, Never, Excludes, Runs}
 
 -- the property speaks of the task
 abbrev pub Names : Property → ℕ → Type 0
@@ -10,3 +10,4 @@ Names (After a b) x = (x ≡ a.0) ⊎ (x ≡ b.0)
 Names (Observed t) x = x ≡ t.0
 Names (Never t) x = x ≡ t.0
 Names (Excludes a b) x = (x ≡ a.0) ⊎ (x ≡ b.0)
+Names (Runs t) x = x ≡ t.0

@@ -2,7 +2,7 @@
 use Rattle.std.specs.Prelude.{◌≡◌, ◌≢◌, ℕ, Bool, true, false, ◌⊎◌, slice_index_or}
 use Rattle.tpl_words.specs.declared.finals.Final.{Final}
 use Rattle.tpl_words.specs.Finals.{has}
-use Rattle.tpl_model.specs.Certificate.{Assumed}
+use Rattle.tpl_model.specs.Certificate.{Assumed, end_left}
 use Rattle.tpl_outline.specs.declared.outline.Fate.{Fate}
 use Rattle.tpl_outline.specs.declared.outline.Outline.{Outline}
 
@@ -28,4 +28,4 @@ KeepsOthers task old new = (t : ℕ) → t ≢ task → fate_of new t ≡ fate_o
 
 -- a task ends in no way in which it couldn't before, unless what is assumed leaves it open
 abbrev pub IsOpen : Assumed → Outline → Outline → Type 0
-IsOpen l old new = (t : ℕ) (f : Final) → may_end new t f ≡ true → (may_end old t f ≡ true) ⊎ (l.cut t f ≡ true)
+IsOpen l old new = (t : ℕ) (f : Final) → may_end new t f ≡ true → (may_end old t f ≡ true) ⊎ (end_left l t f ≡ true)

@@ -5,18 +5,20 @@ ghost use Rattle.tpl_words.specs.Members.{mem};
 ghost use Rattle.tpl_model.specs.Graph.{is_task};
 ghost use Rattle.tpl_outline.specs.Bearing.{Names};
 
-use tpl_checker::parent;
+use crate::stuck::may_be_stuck;
+use tpl_checker::{Assumptions, parent};
 use tpl_graph::{Graph, Role};
 use tpl_model::Property;
 use tpl_words::{MOST_TASKS, TaskId, TaskSet};
 
-/// The tasks that bear on a property: those of which it speaks, what these wait for, their parents
-/// and their attached children, and what bears on these in turn. How any other task ends changes
-/// nothing of what is proved of them; of that no clause speaks.
-pub fn bearing_tasks(graph: &Graph, property: Property) -> TaskSet
+/// The tasks that bear on a property where this is assumed: those of which it speaks, what these wait
+/// for, their parents and their attached children, and what bears on these in turn; and where the
+/// property is also proved if no run is complete, likewise those that may never end by what is
+/// assumed. How any other task ends changes nothing of what is proved of them; of that no clause speaks.
+pub fn bearing_tasks(graph: &Graph, property: Property, assumed: &Assumptions) -> TaskSet
     ensures { (x : ℕ) → x < 1024 → Names property x → mem x result ≡ true }
 {
-    let mut bearing = named(property);
+    let mut bearing = with_stuck(graph, named(property), property, assumed);
     for _ in 0..MOST_TASKS {
         let wider = widened(graph, &bearing);
         if wider.same(&bearing) {
@@ -38,6 +40,34 @@ fn named(property: Property) -> TaskSet
         Property::Observed(task) => with(none, task),
         Property::Never(task) => with(none, task),
         Property::Excludes(first, second) => with(with(none, first), second),
+        Property::Runs(task) => with(none, task),
+    }
+}
+
+/// Adds the tasks that may never end by what is assumed, if the property is also proved where no run is
+/// complete.
+fn with_stuck(graph: &Graph, tasks: TaskSet, property: Property, assumed: &Assumptions) -> TaskSet
+    ensures { (x : ℕ) → mem x tasks ≡ true → mem x result ≡ true }
+{
+    let mut tasks = tasks;
+    if !rests_on_ends(property, assumed) {
+        return tasks;
+    }
+    for task in 0..graph.len() {
+        let task = TaskId(task as u16);
+        if may_be_stuck(graph, assumed, task) {
+            tasks = with(tasks, task);
+        }
+    }
+    tasks
+}
+
+/// The property is also proved where no run is complete.
+fn rests_on_ends(property: Property, assumed: &Assumptions) -> bool {
+    match property {
+        Property::Observed(_) => assumed.is_wide(),
+        Property::Runs(_) => true,
+        _ => false,
     }
 }
 

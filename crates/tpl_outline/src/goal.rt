@@ -5,7 +5,7 @@ ghost use Rattle.tpl_outline.specs.Shown.{IsAnswer};
 
 use crate::bits::Bits;
 use crate::rows::{Parts, may_end_early};
-use tpl_checker::parent;
+use tpl_checker::{parent, some_end};
 use tpl_graph::Role;
 use tpl_model::Property;
 use tpl_words::{TaskId, TaskSet};
@@ -27,12 +27,49 @@ pub(crate) fn is_reached(
         }
         Property::Observed(task) => {
             let fate = parts.outline.fate(task);
-            has_chain || !(fate.runs && fate.ends.faulted && fate.verdicts.thrown)
+            let throws = fate.runs && fate.ends.faulted && fate.verdicts.thrown;
+            has_chain || !throws || parts.assumed.is_wide() && none_complete(parts, tasks)
         }
         Property::Never(task) => !parts.outline.fate(task).runs,
         Property::Excludes(first, second) => {
             !parts.outline.fate(first).runs || !parts.outline.fate(second).runs
         }
+        Property::Runs(task) => {
+            begins_itself(parts, task) && !parts.outline.fate(task).ends.canceled
+                || none_complete(parts, tasks)
+        }
+    }
+}
+
+/// The task is a root or a continuation.
+fn begins_itself(parts: Parts<'_>, task: TaskId) -> bool {
+    if task.0 as usize >= parts.graph.len() {
+        return false;
+    }
+    match parts.graph.role(task) {
+        Role::Root | Role::Then(_) => true,
+        _ => false,
+    }
+}
+
+/// No run is complete: one of these tasks is no child and can't end.
+fn none_complete(parts: Parts<'_>, tasks: &TaskSet) -> bool {
+    for task in 0..parts.graph.len() {
+        let task = TaskId(task as u16);
+        if tasks.contains(task) && is_stuck(parts, task) {
+            return true;
+        }
+    }
+    false
+}
+
+/// The task is no child and can't end.
+fn is_stuck(parts: Parts<'_>, task: TaskId) -> bool
+    requires { is_task parts.graph.now.graph task.0 }
+{
+    match parts.graph.role(task) {
+        Role::Child => false,
+        _ => !some_end(parts.outline.fate(task).ends),
     }
 }
 
@@ -97,8 +134,20 @@ impl Places {
                 is_below || !may_end_early(parts, task) && self.after.has(antecedent)
             }
             Role::All(_) => parts.followers.args(task).meets(&self.after),
-            Role::Any(_) => parts.followers.args(task).is_within(&self.after),
+            Role::Any(_) => self.is_past_any(parts, task),
         }
+    }
+
+    /// The first task is settled after each of those for which a WhenAny task waits; by the wide rules
+    /// after each of those that may end.
+    fn is_past_any(&self, parts: Parts<'_>, task: TaskId) -> bool {
+        let args = parts.followers.args(task);
+        let winners = if parts.assumed.is_wide() {
+            parts.outline.ending(args)
+        } else {
+            *args
+        };
+        winners.meets(&self.after) && winners.is_within(&self.after)
     }
 
     fn is_before_parent(&self, parts: Parts<'_>, task: TaskId) -> bool

@@ -3,6 +3,7 @@
 
 mod bearing;
 mod bits;
+mod cancels;
 mod chain;
 mod followers;
 mod goal;
@@ -12,9 +13,11 @@ mod pass;
 mod rows;
 mod setting;
 mod stages;
+mod stuck;
 mod ways;
 
 pub use bearing::bearing_tasks;
+pub use cancels::cancels_quiet;
 pub use chain::has_chain;
 pub use followers::Followers;
 pub use least::{is_proved, least_rows, reached};

@@ -4,9 +4,11 @@ ghost use Rattle.std.specs.Prelude.{◌≡◌, ◌≢◌, ℕ, ◌<◌, true};
 ghost use Rattle.tpl_words.specs.declared.finals.Final as finals;
 ghost use Rattle.tpl_words.specs.Finals.{has};
 ghost use Rattle.tpl_model.specs.Graph.{is_task};
+ghost use Rattle.tpl_model.specs.Certificate.{end_left};
 ghost use Rattle.tpl_checker.specs.Assumptions.{assumed_of};
 ghost use Rattle.tpl_outline.specs.Fates.{fate_of, unsettled};
 
+use crate::bits::Bits;
 use crate::setting::Setting;
 use crate::ways::Ways;
 use tpl_checker::{allowed, excluded, some_end};
@@ -105,11 +107,16 @@ impl Outline {
         }
     }
 
-    /// How the task may end, without the ways that the branch cuts off.
+    /// Of the tasks those that may end.
+    pub(crate) fn ending(&self, tasks: &Bits) -> Bits {
+        self.ways.ending(tasks)
+    }
+
+    /// How the task may end, without the ways that the branch cuts off or that what is given leaves out.
     pub(crate) fn ends(&self, setting: Setting<'_>, task: TaskId) -> Finals
         requires { is_task setting.graph.now.graph task.0 }
         ensures { (f : Final) → has result f ≡ true
-            → (assumed_of setting.entry.assumed.now).cut task.0 f ≡ true }
+            → end_left (assumed_of setting.entry.assumed.now) task.0 f ≡ true }
     {
         let assumed = setting.assumed;
         let found = match setting.graph.role(task) {

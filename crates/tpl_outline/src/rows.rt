@@ -7,7 +7,7 @@ use crate::followers::Followers;
 use crate::outline::Outline;
 use std::alloc::{AllocError, Global};
 use tpl_cert::Row;
-use tpl_checker::{Assumptions, Below, parent};
+use tpl_checker::{Assumptions, Below, parent, some_end};
 use tpl_graph::{Graph, Role};
 use tpl_words::{MOST_TASKS, TaskId, TaskSet};
 
@@ -102,7 +102,7 @@ fn past(parts: Parts<'_>, rows: &[Row], task: TaskId) -> TaskSet
             }
         }
         Role::All(args) => settled_after_some(rows, args),
-        Role::Any(args) => settled_after_each(rows, args),
+        Role::Any(args) => settled_after_each(parts, rows, args),
     }
 }
 
@@ -148,11 +148,25 @@ fn settled_after_some(rows: &[Row], tasks: &[TaskId]) -> TaskSet {
     settled
 }
 
-/// What is settled after each of the tasks; nothing if there is none.
-fn settled_after_each(rows: &[Row], tasks: &[TaskId]) -> TaskSet {
-    let mut settled = settled_after_some(rows, tasks);
+/// What is settled after each of the tasks that may win; nothing if there is none.
+fn settled_after_each(parts: Parts<'_>, rows: &[Row], tasks: &[TaskId]) -> TaskSet {
+    let mut settled = TaskSet::empty();
+    let mut is_first = true;
     for task in tasks {
-        settled = settled.intersection(&settled_after(rows, *task));
+        if may_win(parts, *task) {
+            let after = settled_after(rows, *task);
+            settled = if is_first {
+                after
+            } else {
+                settled.intersection(&after)
+            };
+            is_first = false;
+        }
     }
     settled
+}
+
+/// A task may end first of those for which a WhenAny task waits: by the wide rules one that can't end can't.
+fn may_win(parts: Parts<'_>, task: TaskId) -> bool {
+    !parts.assumed.is_wide() || some_end(parts.outline.fate(task).ends)
 }

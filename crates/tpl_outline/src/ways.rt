@@ -69,6 +69,17 @@ impl Ways {
         }
     }
 
+    /// Those of the tasks that may end.
+    pub(crate) fn ending(&self, tasks: &Bits) -> Bits {
+        let mut ending = *tasks;
+        for at in 0..WORDS {
+            ending.words[at] &= self.ran.words[at]
+                | self.canceled.words[at]
+                | self.faulted.words[at];
+        }
+        ending
+    }
+
     /// A WhenAny task of these may end: one of them does.
     pub(crate) fn any_ends(&self, tasks: &Bits) -> bool {
         some_end(self.of_one(tasks))

@@ -10,5 +10,5 @@ mod tasks;
 
 pub use claims::claim_of;
 pub use named::{NamedClaim, NamedGiven, NamedProperty, NamedStart};
-pub use start::start_or_none;
+pub use start::{has_truths, start_or_none};
 pub use tasks::{task_of, token_of};

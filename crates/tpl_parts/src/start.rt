@@ -36,9 +36,10 @@ fn all_truths(alloc: Global, members: &[(&str, Value<'_>)]) -> Result<bool, Miss
     Ok(are_all(&truths))
 }
 
-/// Whether the value is an object whose members are all true or false.
+/// Whether the value is an object whose members are all true or false; of several of one name the last counts. Out of
+/// memory is the only error.
 #[tactic(auto, unfolding(crate::specs::Start::has_truths))]
-fn has_truths(alloc: Global, value: &Value<'_>) -> Result<bool, Miss<Shape>>
+pub fn has_truths(alloc: Global, value: &Value<'_>) -> Result<bool, Miss<Shape>>
     ensures { Gives (λ b. b) result (Some (has_truths (view value.now))) }
 {
     match value {

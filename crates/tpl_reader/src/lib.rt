@@ -5,6 +5,7 @@ mod asked;
 mod begin;
 mod document;
 mod fault;
+mod hear;
 mod laws;
 mod read;
 mod shape;
@@ -13,5 +14,7 @@ mod trees;
 
 pub use document::{Document, Start};
 pub use fault::{ClaimFault, Part, ReadFault, StartFault};
+pub use hear::{Hear, Misread, Unheard};
 pub use laws::{certificate_is_read_back, one_document};
-pub use read::{LONGEST, MOST_CLAIMS, read_document};
+pub use read::{LONGEST, MOST_CLAIMS, read_document, read_document_heard};
+pub use tpl_json::NotRead;

@@ -1,8 +1,9 @@
 //! From bytes to a document.
 
-ghost use Rattle.std.specs.Prelude.{◌≡◌, map, string_bytes, IfOk, IfErr};
+ghost use Rattle.std.specs.Prelude.{◌≡◌, ◌≤◌, ℕ, List, length, map, string_bytes, IfOk, IfErr};
 ghost use Rattle.std.specs.List.{All};
 ghost use Rattle.std.specs.Option.{option_map};
+ghost use Rattle.serde_json.specs.Data.{depth};
 ghost use Rattle.tpl_json.specs.View.{view};
 ghost use Rattle.tpl_draft.specs.Draft as spec;
 ghost use Rattle.tpl_draft.specs.Numbered.{numbered};
@@ -15,12 +16,13 @@ ghost use Rattle.tpl_parts.specs.SeenClaims.{claim_of};
 ghost use Rattle.tpl_parts.specs.SeenStart.{start_of};
 ghost use Rattle.tpl_reader.specs.SeenDocument.{value_of, doc_of, spelled_of, spelled_with};
 ghost use Rattle.tpl_json.specs.Grammar.{AllRead};
-ghost use Rattle.tpl_reader.specs.Document.{AreAsked, IsStarted, GraphFaults, ClaimFaults, TreeFaults, StartFaults, IsDocument, IsRefused, Spells, IsFault};
+ghost use Rattle.tpl_reader.specs.Document.{AreAsked, IsStarted, GraphFaults, ClaimFaults, TreeFaults, StartFaults, IsDocument, IsRefused, longest, Reads, Spells, IsFault};
 
 use crate::asked::claims_in;
 use crate::begin::start_in;
 use crate::document::{Document, Start};
 use crate::fault::{ClaimFault, ReadFault};
+use crate::hear::{Hear, Misread, Unheard};
 use crate::shape::{NamedRest, Shaped, shape_of};
 use crate::trees::trees_in;
 use json::{Scratch, Value};
@@ -148,6 +150,30 @@ fn document_of(alloc: Global, shaped: Shaped) -> Result<Document, ReadFault>
     })
 }
 
+/// A fault of which nothing is said.
+fn unsaid(fault: ReadFault) -> Misread
+    ensures { result.fault ≡ fault }
+{
+    Misread { fault, words: None }
+}
+
+/// The document that bytes spell which read as this value.
+fn document_from(alloc: Global, value: &Value<'_>) -> Result<Document, ReadFault>
+    requires { depth (view value.now) ≤ 127 }
+    ensures ok { IfOk result (λ d. (bytes : List ℕ) → length bytes ≤ longest
+        → Reads bytes (view value.now) → Spells bytes (doc_of d)) }
+    ensures claims { IfOk result (λ d. All (Fits d.graph.graph) d.claims.items) }
+    ensures trees { IfOk result (λ d. All IsWithinLimits d.certificate) }
+    ensures err { IfErr result (λ e. (bytes : List ℕ) → length bytes ≤ longest
+        → Reads bytes (view value.now) → IsFault bytes e) }
+{
+    match shape_of(alloc, value) {
+        Ok(shaped) => document_of(alloc, shaped),
+        Err(Miss::Wrong(part)) => Err(ReadFault::Shape(part)),
+        Err(Miss::Memory) => Err(ReadFault::Memory),
+    }
+}
+
 /// The document that the bytes spell: a JSON text in UTF-8 as `serde_json` reads it, of at most 16,777,216 bytes and 127
 /// levels, whose version is 1 or 2. Each claim can be asked of its graph, and each tree is within the limits, so that the
 /// certificate can be checked. Else the least `ReadFault` that applies to the whole document, or `Memory`.
@@ -157,18 +183,42 @@ pub fn read_document(alloc: Global, bytes: &[u8]) -> Result<Document, ReadFault>
     ensures trees { IfOk result (λ d. All IsWithinLimits d.certificate) }
     ensures err { IfErr result (IsFault bytes.now) }
 {
+    match read_document_heard(alloc, bytes, Unheard) {
+        Ok(document) => Ok(document),
+        Err(misread) => Err(misread.fault),
+    }
+}
+
+/// Reads a document as [`read_document`] does, and asks for words where there is none.
+pub fn read_document_heard<H: Hear>(
+    alloc: Global,
+    bytes: &[u8],
+    hear: H,
+) -> Result<Document, Misread>
+    ensures ok { IfOk result (λ d. Spells bytes.now (doc_of d)) }
+    ensures claims { IfOk result (λ d. All (Fits d.graph.graph) d.claims.items) }
+    ensures trees { IfOk result (λ d. All IsWithinLimits d.certificate) }
+    ensures err { IfErr result (λ misread. IsFault bytes.now misread.fault) }
+{
     if bytes.len() > LONGEST {
-        return Err(ReadFault::TooLong);
+        return Err(unsaid(ReadFault::TooLong));
     }
     let mut scratch = Scratch::new(alloc);
-    let value = match value_from(alloc, bytes, &mut scratch) {
-        Ok(value) => value,
-        Err(NotRead::Memory) => return Err(ReadFault::Memory),
-        Err(NotRead::NotJson) => return Err(ReadFault::NotJson),
-    };
-    match shape_of(alloc, &value) {
-        Ok(shaped) => document_of(alloc, shaped),
-        Err(Miss::Wrong(part)) => Err(ReadFault::Shape(part)),
-        Err(Miss::Memory) => Err(ReadFault::Memory),
+    match value_from(alloc, bytes, &mut scratch) {
+        Ok(value) => match document_from(alloc, &value) {
+            Ok(document) => {
+                hear.document(alloc, &value);
+                Ok(document)
+            }
+            Err(fault) => Err(Misread {
+                fault,
+                words: hear.no_document(alloc, &value, fault),
+            }),
+        },
+        Err(NotRead::Memory) => Err(unsaid(ReadFault::Memory)),
+        Err(why) => Err(Misread {
+            fault: ReadFault::NotJson,
+            words: hear.no_json(alloc, bytes, why),
+        }),
     }
 }

@@ -54,5 +54,5 @@ found_reason claims (Audited audit) = audit_reason audit
 
 -- why the answer is what it is
 abbrev pub reason_of : Finding → Option Reason
-reason_of (Unread fault) = Some (Unreadable fault)
+reason_of (Unread misread) = Some (Unreadable misread.fault)
 reason_of (Read document found) = found_reason document.claims.items found

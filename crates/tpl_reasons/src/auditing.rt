@@ -4,7 +4,7 @@ ghost use Rattle.std.specs.Prelude.{◌≡◌};
 ghost use Rattle.tpl_reasons.specs.Reasons.{audit_reason, verdict_reason};
 
 use crate::crossing::crossing_text;
-use crate::journal::line_text;
+use crate::journal::{ending_text, line_text};
 use crate::reason::Reason;
 use crate::refusal::refusal_text;
 use crate::words::{Said, claim_text, input_name, name};
@@ -61,8 +61,9 @@ pub(crate) fn no_journal_text(alloc: Global, document: &Document, fault: Journal
     match fault {
         JournalFault::Line(number) => {
             let line = line_text(alloc, document, number)?;
+            let ending = ending_text(document, number);
             format!(in alloc;
-                "{line} spells no event of this graph\na line is ACTOR VERB NAME with single spaces and a line break at its end, as `o1 request stop`, `w1 begin Build` or `w1 worked Build done`; ACTOR is w1 to w64, or o1 to o8, who request tokens and run no body\n"
+                "{line} spells no event of this graph\n{ending}a line is ACTOR VERB NAME with single spaces and a line break at its end, as `o1 request stop`, `w1 begin Build` or `w1 worked Build done`; ACTOR is w1 to w64, or o1 to o8, who request tokens and run no body\n"
             )
         }
         _ => {
@@ -154,7 +155,7 @@ fn awaited_text<C: Core>(alloc: Global, run: &C, task: TaskId) -> Said {
 
 /// Which tasks have not ended, and whether no thread makes the run.
 pub(crate) fn not_complete_text(alloc: Global, document: &Document) -> Said {
-    let mut text = String::from_str(alloc, "not each task has ended")?;
+    let mut text = String::from_str(alloc, "some tasks have not ended")?;
     if let Some(replay) = replayed(alloc, document)? {
         for number in 0..document.graph.len() {
             text.push_str(awaited_text(alloc, &replay.run, TaskId(number as u16))?.as_str())?;

@@ -12,6 +12,14 @@ use tpl_model::{CertFault, Property};
 use tpl_reader::Document;
 use tpl_words::TaskId;
 
+/// What is said beside a fault of a certificate that was found for something else, most often.
+pub(crate) const STALE: &str =
+    "the certificate may be of another version of the document: `taskgraph analyse --whole < document.json > certified.json` makes a new one\n";
+
+/// What is said where there is no certificate.
+const NONE: &str =
+    "`taskgraph analyse --whole < document.json > certified.json` writes the document with its certificate\n";
+
 /// The most leaves of a tree with at most 6 splits on each path.
 const MOST_LEAVES: usize = 729;
 
@@ -79,7 +87,10 @@ fn shape_text(alloc: Global, document: &Document, claim: usize) -> Said {
 /// The tasks of which a property speaks: two, or one twice.
 fn tasks_of(property: Property) -> (TaskId, TaskId) {
     match property {
-        Property::Final(task, _) | Property::Observed(task) | Property::Never(task) => (task, task),
+        Property::Final(task, _)
+        | Property::Observed(task)
+        | Property::Never(task)
+        | Property::Runs(task) => (task, task),
         Property::After(first, second) => (first, second),
         Property::Excludes(one, other) => (one, other),
     }
@@ -93,6 +104,9 @@ fn proved_if(property: Property) -> &'static str {
         Property::Observed(_) => "its row has a `chain`, or no end Faulted, or doesn't run",
         Property::Never(_) => "its row doesn't run",
         Property::Excludes(_, _) => "one of the two rows doesn't run",
+        Property::Runs(_) => {
+            "it is a root or a continuation whose row has no end Canceled, or the row of a task that is no child has no end"
+        }
     }
 }
 
@@ -117,8 +131,8 @@ fn unproved_text(alloc: Global, document: &Document, claim: usize, leaf: usize) 
     )
 }
 
-/// Why a certificate is refused.
-pub(crate) fn fault_text(alloc: Global, document: &Document, fault: CertFault) -> Said {
+/// The fault of a certificate.
+fn refusal_text(alloc: Global, document: &Document, fault: CertFault) -> Said {
     let graph = &document.graph;
     match fault {
         CertFault::Shape { claim } => shape_text(alloc, document, claim),
@@ -136,4 +150,15 @@ pub(crate) fn fault_text(alloc: Global, document: &Document, fault: CertFault) -
             format!(in alloc; "{number}, leaf {leaf}: {rule}\n{row}")
         }
     }
+}
+
+/// Why a certificate is refused, and how a new one is made.
+pub(crate) fn fault_text(alloc: Global, document: &Document, fault: CertFault) -> Said {
+    let refusal = refusal_text(alloc, document, fault)?;
+    let advice = if document.certificate.trees().is_empty() {
+        NONE
+    } else {
+        STALE
+    };
+    format!(in alloc; "{refusal}{advice}")
 }

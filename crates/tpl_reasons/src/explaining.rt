@@ -5,6 +5,7 @@ ghost use Rattle.std.specs.List.{All};
 ghost use Rattle.std.specs.Option.{option_map};
 ghost use Rattle.tpl_graph.specs.Fits.{Fits};
 ghost use Rattle.tpl_commands.specs.Finding.{IsFindingOf};
+ghost use Rattle.tpl_reasons.specs.Hidden.{IsShown};
 ghost use Rattle.tpl_reasons.specs.Reasons.{found_reason, reason_of};
 
 use crate::auditing::{
@@ -13,22 +14,17 @@ use crate::auditing::{
 use crate::checking::{check_reason, fault_text};
 use crate::reason::Reason;
 use crate::searching::{not_found_text, search_reason};
+use crate::shown::said;
+use crate::unread::unread_text;
 use crate::words::Said;
 use std::alloc::{AllocError, Global};
 use tpl_commands::{Finding, Found};
-use tpl_explain::{explain_document, said_or};
 use tpl_reader::Document;
-
-/// What is said of bytes that spell no document.
-const UNREAD: &str = "the document can't be read\n";
 
 /// What is said of a document without tasks, and of one without claims.
 const NO_TASK: &str = "there is no task and no claim, so nothing is shown\n";
 
 const NO_CLAIM: &str = "no claim was asked, so nothing is shown\n";
-
-/// What is said where there is nothing else to say.
-const SEE: &str = "docs/OUTPUT.md has each answer, and what to do\n";
 
 /// Why the program's answer is what it is.
 #[derive(Drop)]
@@ -57,7 +53,7 @@ fn reason_of(finding: &Finding) -> Option<Reason>
     ensures { result ≡ reason_of finding.now }
 {
     match finding {
-        Finding::Unread(fault) => Some(Reason::Unreadable(*fault)),
+        Finding::Unread(misread) => Some(Reason::Unreadable(misread.fault)),
         Finding::Read(document, found) => found_reason(document, found),
     }
 }
@@ -79,7 +75,7 @@ fn found_text(alloc: Global, document: &Document, found: &Found, reason: Reason)
     requires claims { All (Fits document.now.graph.graph) document.now.claims.items }
 {
     match reason {
-        Reason::Unreadable(_) => String::from_str(alloc, UNREAD),
+        Reason::Unreadable(_) => Ok(String::new(alloc)),
         Reason::Unchecked(fault) => fault_text(alloc, document, fault),
         Reason::NotFound(_) => missed_text(alloc, document, found),
         Reason::NoStart => no_start_text(alloc, document),
@@ -97,16 +93,14 @@ fn text_of(alloc: Global, bytes: &[u8], finding: &Finding, reason: Reason) -> Sa
     requires { IsFindingOf bytes.now finding.now }
 {
     match finding {
-        Finding::Unread(_) => match explain_document(alloc, bytes)? {
-            Some(explanation) => Ok(explanation.text),
-            None => String::from_str(alloc, UNREAD),
-        },
+        Finding::Unread(misread) => unread_text(alloc, bytes, misread),
         Finding::Read(document, found) => found_text(alloc, document, found, reason),
     }
 }
 
-/// Why the answer to these bytes, for which this was found, is what it is, in words; none, where the answer says all. Out
-/// of memory is the only error.
+/// Why the answer to these bytes, for which this was found, is what it is, in words; none, where the answer says all. What
+/// stands in the document and would change how a terminal shows the words, as a control character, is escaped. Out of
+/// memory is the only error.
 pub fn explain(
     alloc: Global,
     bytes: &[u8],
@@ -115,10 +109,12 @@ pub fn explain(
     requires { IsFindingOf bytes.now finding.now }
     ensures reason { IfOk result (λ o. option_map (λ r. r.reason) o ≡ reason_of finding.now) }
     ensures text { IfOk result (λ o. IfSome o (λ r. string_bytes r.text ≢ [])) }
+    ensures shown { IfOk result (λ o. IfSome o (λ r. IsShown (string_bytes r.text))) }
 {
     match reason_of(finding) {
         Some(reason) => {
-            let text = said_or(alloc, text_of(alloc, bytes, finding, reason)?, SEE)?;
+            let text = text_of(alloc, bytes, finding, reason)?;
+            let text = said(alloc, text.as_str())?;
             Ok(Some(Reasoned { reason, text }))
         }
         None => Ok(None),

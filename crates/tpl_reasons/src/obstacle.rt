@@ -5,9 +5,9 @@ ghost use Rattle.tpl_graph.specs.Fits.{Fits};
 use crate::rules::role;
 use crate::words::{Said, name, token_name};
 use std::alloc::{AllocError, Global};
-use tpl_checker::{Assumptions, assumed};
+use tpl_checker::{Assumptions, assumed_for};
 use tpl_graph::{Claim, Graph, Role};
-use tpl_model::Property;
+use tpl_model::{Property, RuleSet};
 use tpl_words::{Final, TaskId};
 
 /// The name of the task's token, if that may be requested.
@@ -72,12 +72,24 @@ fn order_text(
     Ok(String::new(alloc))
 }
 
-/// What stands in the way of the claim, as a line, where it can be said simply.
-pub(crate) fn obstacle_text(alloc: Global, graph: &Graph, claim: &Claim) -> Said
+/// What stands in the way of a claim, as a line with its line break; nothing, where it can't be said simply. Out of memory
+/// is the only error.
+pub fn obstacle_words(
+    alloc: Global,
+    graph: &Graph,
+    claim: &Claim,
+    rules: RuleSet,
+) -> Result<String, AllocError>
     requires { Fits graph.now.graph claim.now }
 {
-    let assumed = assumed(graph, claim.given());
+    let assumed = assumed_for(graph, claim, rules);
     match claim.body() {
+        Property::After(one, other) | Property::Excludes(one, other) if one == other => {
+            let task = name(graph, one);
+            format!(in alloc;
+                "{task} stands there twice, so the claim says that {task} never begins: `never` says that\n"
+            )
+        }
         Property::After(first, second) => order_text(alloc, graph, &assumed, first, second),
         Property::Final(task, ends) if !ends.contains(Final::Canceled) => {
             let Some(token) = loud_token(graph, &assumed, task) else {

@@ -18,43 +18,44 @@ pub(crate) fn role(graph: &Graph, task: TaskId) -> Option<Role<'_>> {
 /// The rule, said of a root.
 fn root_rule(rule: Rule) -> &'static str {
     match rule {
-        Rule::K1 => "K1: a root may begin, so its row has to say that it runs",
-        Rule::K3 => "K3: a root waits for nothing, so its `before` has to be empty",
-        _ => "K4: `past` of a root may have its attached children alone",
+        Rule::K1 => "K1: a root may begin, so its row must say that it runs",
+        Rule::K3 => "K3: a root waits for nothing, so its `before` must be empty",
+        _ => "K4: a root's `past` may list only its attached children",
     }
 }
 
 /// The rule, said of a child.
 fn child_rule(rule: Rule) -> &'static str {
     match rule {
-        Rule::K1 => "K1: its parent runs and may start it, so its row has to say that it runs",
-        Rule::K3 => "K3: `before` of a child may have what `before` of its parent has",
-        _ => "K4: `past` of a child may have its attached children and what is before its parent",
+        Rule::K1 => "K1: its parent runs and may start it, so its row must say that it runs",
+        Rule::K3 => "K3: a child's `before` may list only what its parent's `before` lists",
+        _ =>
+            "K4: a child's `past` may list only its attached children and what its parent's `before` lists",
     }
 }
 
 /// The rule, said of a continuation.
 fn then_rule(rule: Rule) -> &'static str {
     match rule {
-        Rule::K1 => "K1: its options allow an end of that task, so its row has to say that it runs",
-        Rule::K3 => "K3: its `before` may have that task and what `past` of that task has",
+        Rule::K1 => "K1: its options allow an end of that task, so its row must say that it runs",
+        Rule::K3 => "K3: its `before` may list only that task and what that task's `past` lists",
         _ => {
-            "K4: its `past` may have that task, what `past` of that task has, and its attached children; but the children alone where it may be canceled while that task still runs: it has a token that may be requested, and is not lazy"
+            "K4: its `past` may list only that task, what that task's `past` lists, and its own attached children; and only the children if it may be canceled while that task still runs, because it has a token that may be requested and is not lazy"
         }
     }
 }
 
 /// The rule K2.
 const ENDS: &str =
-    "K2: its `ends` has to name each way in which it may end: RanToCompletion where its body may return; Faulted where it may throw, a job of it may fail, or an attached child may be Faulted; Canceled where its token may be requested, or its options don't allow an end of the task that it continues";
+    "K2: its `ends` must name each way in which it may end: RanToCompletion where its body may return; Faulted where it may throw, a job of it may fail, or an attached child may be Faulted; Canceled where its token may be requested, or its options don't allow an end of the task that it continues";
 
 /// The rule K2, said of a WhenAll task.
 const ENDS_OF_ALL: &str =
-    "K2: the `ends` of WhenAll has to name RanToCompletion where each task of its list may run to completion; Canceled where each may end otherwise than Faulted and one may be Canceled; Faulted where each may end and one may be Faulted";
+    "K2: the `ends` of WhenAll must name RanToCompletion where each task of its list may run to completion; Canceled where each may end otherwise than Faulted and one may be Canceled; Faulted where each may end and one may be Faulted";
 
 /// The rule K6.
 const CHAIN: &str =
-    "K6: its `chain` has to lead over tasks that take its exception over (a parent that of its attached child, a WhenAll task that of a task of its list) to a continuation that reads it: its options allow Faulted, its token is never requested, and its body observes on each path";
+    "K6: each task in its `chain` must take over the exception of the one before it (a parent that of its attached child, a WhenAll task that of a task of its list), and the last must be a continuation that reads it: its options allow Faulted, its token is never requested, and its body observes on each path";
 
 /// What the rule asks of a task.
 fn sentence(rule: Rule, role: Option<Role<'_>>) -> &'static str {
@@ -62,14 +63,14 @@ fn sentence(rule: Rule, role: Option<Role<'_>>) -> &'static str {
         (Rule::K6, _) => CHAIN,
         (Rule::K2, Some(Role::All(_))) => ENDS_OF_ALL,
         (Rule::K2, Some(Role::Any(_))) => {
-            "K2: the `ends` of WhenAny has to name RanToCompletion where a task of its list may end"
+            "K2: the `ends` of WhenAny must name RanToCompletion where a task of its list may end"
         }
         (Rule::K2, _) => ENDS,
         (_, Some(Role::All(_))) => {
-            "K5: `past` of WhenAll may have the tasks of its list and what is in their `past`"
+            "K5: `past` of WhenAll may list only the tasks of its list and what their `past` lists"
         }
         (_, Some(Role::Any(_))) => {
-            "K5: `past` of WhenAny may have only what is past each task of its list, since any of them may be the first to end"
+            "K5: `past` of WhenAny may list only what is past each task of its list, since any of them may be the first to end"
         }
         (_, Some(Role::Root)) => root_rule(rule),
         (_, Some(Role::Then(_))) => then_rule(rule),

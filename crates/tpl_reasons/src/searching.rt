@@ -6,14 +6,15 @@ ghost use Rattle.tpl_graph.specs.Fits.{Fits};
 ghost use Rattle.tpl_reasons.specs.Reasons.{search_reason};
 
 use crate::checking::yes_reason;
-use crate::obstacle::obstacle_text;
+use crate::obstacle::obstacle_words;
 use crate::reason::Reason;
 use crate::words::{Said, claim_text, count_text};
 use std::alloc::{AllocError, Global};
-use tpl_analyser::{Depth, Form, Missed, RanOut, Unwatched, analyse_watched};
+use tpl_analyser::{Budget, Depth, Form, Gap, Leaves, RanOut, Unwatched, analyse_within};
 use tpl_cert::MOST_SPLITS;
-use tpl_commands::{Outcome, Searched};
+use tpl_commands::{Outcome, Searched, rules_of};
 use tpl_graph::{Claim, Graph};
+use tpl_model::RuleSet;
 use tpl_reader::Document;
 
 /// Why no certificate was found: the claim that the answer names, if it names one.
@@ -31,22 +32,25 @@ fn is_found(
     alloc: Global,
     graph: &Graph,
     claims: &[Claim],
+    rules: RuleSet,
     at: usize,
     depth: Depth,
 ) -> Result<bool, AllocError>
     requires at { at < length claims.now }
     requires claims { All (Fits graph.now.graph) claims.now }
 {
-    match analyse_watched(
+    let mut budget = Budget::new(Unwatched, Leaves::USUAL);
+    match analyse_within(
         alloc,
         graph,
         &claims[at..at + 1],
+        rules,
         depth.splits(),
         Form::Slim,
-        Unwatched,
+        &mut budget,
     ) {
-        Err(Missed::NotFound { .. }) => Ok(false),
-        Err(Missed::Memory) => Err(AllocError),
+        Err(Gap::NotFound { .. }) => Ok(false),
+        Err(Gap::Memory) => Err(AllocError),
         Ok(_certificate) => Ok(true),
     }
 }
@@ -62,7 +66,8 @@ fn each_text(alloc: Global, document: &Document, depth: Depth, missed: usize) ->
         let found = if number <= missed {
             number < missed
         } else {
-            is_found(alloc, &document.graph, &document.claims, at, depth)?
+            let rules = rules_of(document);
+            is_found(alloc, &document.graph, &document.claims, rules, at, depth)?
         };
         lines.push_str(if found { "found: " } else { "not found: " })?;
         let claim = claim_text(alloc, &document.graph, &document.claims, number)?;
@@ -72,8 +77,8 @@ fn each_text(alloc: Global, document: &Document, depth: Depth, missed: usize) ->
     Ok(lines)
 }
 
-/// What was tried for a claim, and what ran out.
-fn tried_text(alloc: Global, depth: Depth, ran_out: RanOut) -> Said {
+/// What was tried for a claim that isn't certified, and what ran out. Out of memory is the only error.
+pub fn tried_words(alloc: Global, depth: Depth, ran_out: RanOut) -> Result<String, AllocError> {
     if depth.splits() == 0 {
         return String::from_str(alloc, "the one tree without a split doesn't prove it");
     }
@@ -113,9 +118,9 @@ fn missed_text(
 {
     let graph = &document.graph;
     let claim = claim_text(alloc, graph, &document.claims, number)?;
-    let tried = tried_text(alloc, depth, ran_out)?;
+    let tried = tried_words(alloc, depth, ran_out)?;
     let obstacle = match document.claims.get(number.saturating_sub(1)) {
-        Some(claim) => obstacle_text(alloc, graph, claim)?,
+        Some(claim) => obstacle_words(alloc, graph, claim, rules_of(document))?,
         None => String::new(alloc),
     };
     let each = each_text(alloc, document, depth, number)?;

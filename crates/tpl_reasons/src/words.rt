@@ -3,7 +3,7 @@
 use std::alloc::{AllocError, Global};
 use tpl_graph::{Claim, Graph};
 use tpl_model::{Given, Property};
-use tpl_words::{Actor, Final, Finals, InputId, TaskId, TaskSet, TokenId};
+use tpl_words::{Actor, Final, Finals, InputId, Inputs, SiteId, TaskId, TaskSet, TokenId};
 
 /// A text; out of memory is the only error.
 pub(crate) type Said = Result<String, AllocError>;
@@ -24,6 +24,15 @@ pub(crate) fn name(graph: &Graph, task: TaskId) -> &str {
 pub(crate) fn token_name(graph: &Graph, token: TokenId) -> &str {
     if (token.0 as usize) < graph.token_count() {
         graph.token_name(token)
+    } else {
+        "?"
+    }
+}
+
+/// The name of a job's site, or a question mark where the graph has no such site.
+fn site_name(graph: &Graph, site: SiteId) -> &str {
+    if (site.0 as usize) < graph.site_count() {
+        graph.site_name(site)
     } else {
         "?"
     }
@@ -136,6 +145,32 @@ fn property_text(alloc: Global, graph: &Graph, property: Property) -> Said {
             let (one, other) = (name(graph, one), name(graph, other));
             format!(in alloc; "{one} and {other} don't both begin")
         }
+        Property::Runs(task) => {
+            let task = name(graph, task);
+            format!(in alloc; "{task} begins in each complete run")
+        }
+    }
+}
+
+/// One thing that a claim takes as given.
+fn one_given_text(alloc: Global, graph: &Graph, one: Given) -> Said {
+    match one {
+        Given::Input(input, value) => {
+            let input = input_name(graph, input);
+            format!(in alloc; "{input} is {value}")
+        }
+        Given::Quiet(token) => {
+            let token = token_name(graph, token);
+            format!(in alloc; "{token} is never requested")
+        }
+        Given::Ended(task, ends) => {
+            let (task, ends) = (name(graph, task), ends_text(alloc, ends)?);
+            format!(in alloc; "{task} ends {ends}, if it ends")
+        }
+        Given::Succeeds(site) => {
+            let site = site_name(graph, site);
+            format!(in alloc; "the job {site} doesn't fail")
+        }
     }
 }
 
@@ -143,27 +178,38 @@ fn property_text(alloc: Global, graph: &Graph, property: Property) -> Said {
 fn given_text(alloc: Global, graph: &Graph, given: &[Given]) -> Said {
     let mut list = String::new(alloc);
     for one in given {
-        let (thing, is) = match one {
-            Given::Input(input, true) => (input_name(graph, *input), " is true"),
-            Given::Input(input, false) => (input_name(graph, *input), " is false"),
-            Given::Quiet(token) => (token_name(graph, *token), " is never requested"),
-        };
-        add_word(&mut list, " and ", thing)?;
-        list.push_str(is)?;
+        let text = one_given_text(alloc, graph, *one)?;
+        add_word(&mut list, " and ", text.as_str())?;
     }
     Ok(list)
+}
+
+/// The values of the inputs, in words: `dry is true and fast is false`. Out of memory is the only error.
+pub fn input_words(alloc: Global, graph: &Graph, inputs: &Inputs) -> Result<String, AllocError> {
+    let mut given = Vec::new(alloc);
+    for number in 0..inputs.len() {
+        let input = InputId(number as u8);
+        given.push(Given::Input(input, inputs.get(input)))?;
+    }
+    given_text(alloc, graph, &given)
+}
+
+/// What a claim says, in words: `B begins only after A is settled, where dry is true`. Out of memory is the only error.
+pub fn claim_words(alloc: Global, graph: &Graph, claim: &Claim) -> Result<String, AllocError> {
+    let property = property_text(alloc, graph, claim.body())?;
+    if claim.given().is_empty() {
+        return Ok(property);
+    }
+    let given = given_text(alloc, graph, claim.given())?;
+    format!(in alloc; "{property}, where {given}")
 }
 
 /// The claim of this number, counted from 1: `claim 3 (B begins only after A is settled)`.
 pub(crate) fn claim_text(alloc: Global, graph: &Graph, claims: &[Claim], number: usize) -> Said {
     for (at, claim) in claims.iter().enumerate() {
         if at + 1 == number {
-            let property = property_text(alloc, graph, claim.body())?;
-            let given = given_text(alloc, graph, claim.given())?;
-            if claim.given().is_empty() {
-                return format!(in alloc; "claim {number} ({property})");
-            }
-            return format!(in alloc; "claim {number} ({property}, where {given})");
+            let words = claim_words(alloc, graph, claim)?;
+            return format!(in alloc; "claim {number} ({words})");
         }
     }
     format!(in alloc; "claim {number}")

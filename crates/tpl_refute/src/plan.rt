@@ -5,7 +5,7 @@ use crate::dice::Dice;
 use crate::weights::{FIRST, LAST, Mover, Way, Weights};
 use tpl_graph::{Claim, Graph};
 use tpl_model::{Given, Property};
-use tpl_words::{Answer, InputId, Inputs, MOST_TOKENS, TaskId, TokenId};
+use tpl_words::{Answer, InputId, Inputs, MOST_SITES, MOST_TOKENS, SiteId, TaskId, TokenId};
 
 /// The most places at which a priority drops.
 pub(crate) const MOST_DROPS: usize = 4;
@@ -33,6 +33,8 @@ pub(crate) struct Plan {
     pub(crate) failing: u32,
     /// A task all of whose jobs give this answer, if they may.
     pub(crate) fixed: Option<(TaskId, Answer)>,
+    /// The sites whose jobs are given as ones that don't fail.
+    pub(crate) sure: [bool; MOST_SITES],
     /// Who does what waits for nobody.
     pub(crate) habit: Habit,
 }
@@ -51,6 +53,20 @@ pub(crate) fn quiet_tokens(graph: &Graph, given: &[Given]) -> [bool; MOST_TOKENS
         }
     }
     quiet
+}
+
+/// The sites whose jobs fail in no run that agrees with what is given.
+fn sure_sites(given: &[Given]) -> [bool; MOST_SITES] {
+    let mut sure = [false; MOST_SITES];
+    for one in given {
+        if let Given::Succeeds(SiteId(site)) = one {
+            let at = *site as usize;
+            if at < MOST_SITES {
+                sure[at] = true;
+            }
+        }
+    }
+    sure
 }
 
 fn mark(quiet: &mut [bool; MOST_TOKENS], token: TokenId) {
@@ -150,6 +166,10 @@ fn lead(weights: &mut Weights, graph: &Graph, body: Property) -> Option<(TaskId,
             None
         }
         Property::Observed(task) => Some((task, Answer::Failed)),
+        Property::Runs(task) => {
+            hurry_token(weights, graph, task);
+            None
+        }
         Property::Final(task, ends) => {
             if !ends.canceled {
                 hurry_token(weights, graph, task);
@@ -198,6 +218,7 @@ impl Plan {
             drops: drops_of(dice, drops, length),
             failing,
             fixed,
+            sure: sure_sites(claim.given()),
             habit: habit_of(dice),
         }
     }
@@ -214,6 +235,12 @@ impl Plan {
                 }
             }
         }
+    }
+
+    /// The job of this site doesn't fail.
+    pub(crate) fn is_sure(&self, site: SiteId) -> bool {
+        let at = site.0 as usize;
+        at < MOST_SITES && self.sure[at]
     }
 
     /// The priority to which who acts at this place drops.

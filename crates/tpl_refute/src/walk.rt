@@ -15,8 +15,8 @@ use tpl_claims::{Claim, holds};
 use tpl_fast::Fast;
 use tpl_graph::Graph;
 use tpl_machine::{Core, Next};
-use tpl_model::{Act, Event};
-use tpl_words::{Answer, Status, TaskId};
+use tpl_model::{Act, Event, Given};
+use tpl_words::{Answer, Finals, Status, TaskId};
 
 /// How often somebody is chosen in a run at most.
 const MOST_CHOICES: u32 = 1_000_000;
@@ -51,7 +51,7 @@ impl Tables {
 }
 
 /// Does what a running task does next.
-fn run_on(core: &mut Fast<'_>, crew: &mut Crew, task: TaskId, answer: Answer) -> bool
+fn run_on(core: &mut Fast<'_>, crew: &mut Crew, task: TaskId, plan: &Plan, answer: Answer) -> bool
     ensures { core.new.graph ≡ core.old.graph }
 {
     if !has_task(core, task) {
@@ -60,7 +60,12 @@ fn run_on(core: &mut Fast<'_>, crew: &mut Crew, task: TaskId, answer: Answer) ->
     match core.next(task) {
         Next::NotRunning => false,
         Next::Silent => crew.perform(core, Act::Step(task)),
-        Next::Work(_) => {
+        Next::Work(site) => {
+            let answer = if plan.is_sure(site) {
+                Answer::Done
+            } else {
+                answer
+            };
             crew.perform(core, Act::Worked(task, answer))
                 || crew.perform(core, Act::Worked(task, Answer::Done))
         }
@@ -69,7 +74,7 @@ fn run_on(core: &mut Fast<'_>, crew: &mut Crew, task: TaskId, answer: Answer) ->
 }
 
 /// Does the next act of a task, if it has one.
-fn advance(core: &mut Fast<'_>, crew: &mut Crew, task: TaskId, answer: Answer) -> bool
+fn advance(core: &mut Fast<'_>, crew: &mut Crew, task: TaskId, plan: &Plan, answer: Answer) -> bool
     ensures { core.new.graph ≡ core.old.graph }
 {
     if !has_task(core, task) {
@@ -85,7 +90,7 @@ fn advance(core: &mut Fast<'_>, crew: &mut Crew, task: TaskId, answer: Answer) -
         Status::WaitingToRun => {
             crew.perform(core, Act::Begin(task)) || crew.perform(core, Act::Drop(task))
         }
-        Status::Running => run_on(core, crew, task, answer),
+        Status::Running => run_on(core, crew, task, plan, answer),
         Status::WaitingForChildrenToComplete => crew.perform(core, Act::Close(task)),
     }
 }
@@ -98,7 +103,7 @@ fn act(core: &mut Fast<'_>, crew: &mut Crew, mover: Mover, plan: &Plan, dice: &m
         Mover::Token(token) => crew.perform(core, Act::Request(token)),
         Mover::Task(task) => {
             let answer = plan.answer(dice, task);
-            advance(core, crew, task, answer)
+            advance(core, crew, task, plan, answer)
         }
     }
 }
@@ -150,7 +155,30 @@ fn turn(
     Ok(true)
 }
 
-/// Makes a run by the plan, until the claim fails or nobody can act.
+/// A task has ended in another way than one that is given: no later event mends that.
+fn breaks_an_end(core: &Fast<'_>, given: &[Given]) -> bool {
+    for one in given {
+        if let Given::Ended(task, ends) = one {
+            if has_ended_outside(core, *task, *ends) {
+                return true;
+            }
+        }
+    }
+    false
+}
+
+/// The task has ended, and in none of these ways.
+fn has_ended_outside(core: &Fast<'_>, task: TaskId, ends: Finals) -> bool {
+    if !has_task(core, task) {
+        return false;
+    }
+    match core.status(task) {
+        Status::Completed(end) => !ends.contains(end),
+        _ => false,
+    }
+}
+
+/// Makes a run by the plan, until the claim fails, nobody can act, or an end that is given is broken.
 pub(crate) fn walk(
     alloc: Global,
     graph: &Graph,
@@ -171,7 +199,7 @@ pub(crate) fn walk(
         if !holds(&core, claim) {
             return Ok(Walked::Fails(Vec::from_slice(alloc, core.events())?));
         }
-        if core.complete() || budget.is_spent() {
+        if core.complete() || budget.is_spent() || breaks_an_end(&core, claim.given()) {
             break;
         }
         if !turn(&mut core, tables, dice, plan, budget)? {

@@ -2,8 +2,8 @@
 use Rattle.std.specs.Prelude.{◌≡◌, ℕ, Bool, List, length, map, reverse}
 use Rattle.tpl_model.specs.Rules.{Run}
 use Rattle.tpl_draft.specs.Named.{Named}
-use Rattle.tpl_report_text.specs.Carried.{numbers, numbers_of}
-use Rattle.tpl_report_text.specs.ReportText.{ReportValue}
+use Rattle.tpl_journal.specs.Carried.{numbers, numbers_of}
+use Rattle.tpl_journal.specs.ReportText.{ReportValue}
 use Rattle.tpl_hall.specs.Answers.{answers}
 use Rattle.tpl_runtime.specs.Reports.{AreOnce, ToldView, IsTold}
 use Rattle.tpl_runtime.specs.declared.closing.Report.{Report}

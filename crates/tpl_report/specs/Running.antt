@@ -5,14 +5,15 @@ use Rattle.tpl_model.specs.Claims.{Holds}
 use Rattle.tpl_laws.specs.Soundness.{Each}
 use Rattle.tpl_journal.specs.declared.counting.Counting.{Counting}
 use Rattle.tpl_reader.specs.Document.{DocumentValue}
-use Rattle.tpl_report_text.specs.ReportText.{ReportValue, ReportText}
+use Rattle.tpl_journal.specs.ReportText.{ReportValue, ReportText}
+use Rattle.tpl_journal.specs.Writing.{Writes}
 use Rattle.tpl_commands.specs.declared.exit.Exit.{Exit}
 use Rattle.tpl_commands.specs.declared.exit.Exit.TheVariants.{Success, Failure, Usage, Unreadable, Memory, Device, Fault}
 use Rattle.tpl_report.specs.declared.fault.RunFault.{RunFault}
 use Rattle.tpl_commands.specs.Checking.{IsAccepted, IsRefused, IsRefusal}
 use Rattle.tpl_report.specs.Made.{IsMadeBy, requests_of}
 use Rattle.tpl_report.specs.Reported.{IsReport}
-use Rattle.tpl_commands.specs.Responding.{Puts, Writes}
+use Rattle.tpl_commands.specs.Responding.{Puts}
 use Rattle.tpl_report.specs.RunTexts.{fault_line}
 use Rattle.tpl_reader.specs.Starting.{inputs_of}
 use Rattle.tpl_commands.specs.Texts.{unreadable_start}

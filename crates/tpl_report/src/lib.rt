@@ -14,5 +14,5 @@ pub use tpl_analyser::{Depth, Form};
 pub use tpl_commands::{
     Answer, Ask, Exit, load, put_answer, put_out_of_memory, read_input, serve, serve_watched,
 };
-pub use tpl_report_text::write_report;
+pub use tpl_journal::write_report;
 pub use tpl_runtime::Watcher;

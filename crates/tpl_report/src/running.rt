@@ -6,8 +6,8 @@ ghost use Rattle.tpl_draft.specs.Ids.{token_number};
 ghost use Rattle.tpl_graph.specs.Fits.{Fits};
 ghost use Rattle.tpl_model.specs.Graph.{is_token};
 ghost use Rattle.tpl_reader.specs.SeenDocument.{doc_of};
-ghost use Rattle.tpl_report_text.specs.Carried.{said};
-ghost use Rattle.tpl_report_text.specs.ReportText.{IsReportOf, ReportText};
+ghost use Rattle.tpl_journal.specs.Carried.{said};
+ghost use Rattle.tpl_journal.specs.ReportText.{IsReportOf, ReportText};
 ghost use Rattle.tpl_commands.specs.Checking.{IsAccepted};
 ghost use Rattle.tpl_commands.specs.Loading.{RequestsTokens};
 ghost use Rattle.tpl_commands.specs.Responding.{Puts};
@@ -23,11 +23,11 @@ use std::alloc::Global;
 use std::io::Write;
 use std::sync::Wait;
 use std::thread::Threads;
-use tpl_commands::{Exit, check_document, put, put_answer, put_out_of_memory, refused_answer};
+use tpl_checker::check;
+use tpl_commands::{Exit, put, put_answer, put_out_of_memory, refused_answer, rules_of};
 use tpl_graph::Graph;
-use tpl_journal::Counting;
+use tpl_journal::{Counting, Report as Told, write_report};
 use tpl_reader::Document;
-use tpl_report_text::{Report as Told, write_report};
 use tpl_runtime::{Item, Report};
 use tpl_words::{Inputs, TokenId};
 
@@ -124,7 +124,13 @@ fn check_and_run<R: Threads + Wait + Sync, K: Drop + Send, W: Item<K> + Send, O:
     ensures { Runs (doc_of document.now) (Some inputs) crew.entry.workers O.contents to.old to.new
         result }
 {
-    match check_document(document) {
+    let rules = rules_of(document);
+    match check(
+        &document.graph,
+        &document.claims,
+        &document.certificate,
+        rules,
+    ) {
         Ok(()) => run_with(rt, alloc, document, inputs, items, crew, to),
         Err(fault) => put_answer(refused_answer(alloc, &document.graph, fault), to),
     }

@@ -11,6 +11,7 @@ use Rattle.tpl_model.specs.Rules.{Run, Complete, carried, label, seen, status}
 use Rattle.tpl_laws.specs.Soundness.{Each}
 use Rattle.tpl_draft.specs.Ids.{task_number}
 use Rattle.tpl_draft.specs.Named.{Named}
+use Rattle.tpl_machine.specs.Journal.{Journal, named}
 use Rattle.tpl_jobs.specs.declared.receipt.Receipt.{Receipt}
 use Rattle.tpl_hall.specs.Answers.{answers, shown}
 use Rattle.tpl_hall.specs.Closes.{AllOwn, AllLast}
@@ -18,7 +19,7 @@ use Rattle.tpl_hall.specs.Lists.{IsSeat, all_seated, are_seated}
 use Rattle.tpl_hall.specs.Views.{SeatView}
 use Rattle.tpl_runtime.specs.declared.closing.CloseFault.{CloseFault}
 use Rattle.tpl_runtime.specs.declared.closing.CloseWhy.{CloseWhy}
-use Rattle.tpl_runtime.specs.declared.closing.CloseWhy.TheVariants.{Lost, SeatsMissing}
+use Rattle.tpl_runtime.specs.declared.closing.CloseWhy.TheVariants.{Lost, SeatsMissing, Mismatch, Memory}
 use Rattle.tpl_runtime.specs.declared.closing.Report.{Report}
 use Rattle.tpl_runtime.specs.declared.tables.Told.{Told}
 
@@ -84,7 +85,7 @@ pub record IsTold (g : TaskGraph) (v : List Bool) (h : List Event) (said : ToldV
 -- What a session of this graph with these inputs leaves where it is closed well: it has kept all, and each claim of a certificate that is accepted holds. The list of each seat that was handed in is what its actor did, what was last reported to it is true there, and nobody else did anything. What is told of the run is so.
 pub record IsClosed {K : Type 0} (n : Named) (v : List Bool) (handed : List SeatView) (journal : List Event) (receipts : List (Receipt K)) (sites : List ℕ) (said : ToldView) : Type 0 where
   pub whole : IsWhole n v journal receipts sites
-  pub claims : (claims : List Claim) (certificate : List Tree) → Accepts n.graph claims certificate → Each (λ claim. Holds n.graph claim v (reverse journal)) claims
+  pub claims : (wide : Bool) (claims : List Claim) (certificate : List Tree) → Accepts wide n.graph claims certificate → Each (λ claim. Holds n.graph claim v (reverse journal)) claims
   pub own : AllOwn handed journal
   pub last : AllLast n.graph v handed journal
   pub seats : All (λ e. IsSeat e.actor) journal
@@ -95,13 +96,30 @@ pub record IsClosed {K : Type 0} (n : Named) (v : List Bool) (handed : List Seat
 abbrev pub ClosesWell : {K W : Type 0} → Named → List Bool → (W → ℕ) → List SeatView → Report K W → Type 0
 ClosesWell n v site handed r = IsClosed n v handed r.journal.items r.receipts.items (map site r.items.items) (told_in r)
 
--- a close is refused for missing seats, where nothing was lost, exactly where there are not as many seats as were made
-abbrev pub MissesSeats : CloseWhy → (handed made : ℕ) → Type 0
-MissesSeats why handed made = (why ≡ Lost) ⊎ ((why ≡ SeatsMissing) ↔ (handed ≡ made → ⊥))
-
 -- there are as many seats as were made, and each actor that was seated has one
 abbrev pub AreAllSeats : List Actor → List SeatView → Type 0
 AreAllSeats made handed = (length handed ≡ length made) × (are_seated made (map (λ s. s.actor) handed) ≡ true)
+
+-- what lies under a session's lock is whole: the run is of this graph with these inputs, and each site of it has one receipt or one item
+pub record IsKept (j : Journal) (n : Named) (v : List Bool) (receipts sites : List ℕ) : Type 0 where
+  pub graph : named j ≡ n
+  pub inputs : j.inputs ≡ v
+  pub once : AreOnce (length n.names.sites) receipts sites
+
+-- what was handed in is what was done: the list of each seat is what its actor did, nobody else did anything, each actor that was seated has a seat, and what was last reported to each is true
+pub record Agrees (g : TaskGraph) (v : List Bool) (made : List Actor) (handed : List SeatView) (journal : List Event) : Type 0 where
+  pub own : AllOwn handed journal
+  pub seated : all_seated journal (map (λ s. s.actor) handed) ≡ true
+  pub seats : All (λ e. IsSeat e.actor) journal
+  pub all : are_seated made (map (λ s. s.actor) handed) ≡ true
+  pub last : AllLast g v handed journal
+
+-- how a close is refused: Lost where what the session kept isn't whole, else SeatsMissing where there are not as many seats as were made, else Mismatch where what was handed in isn't what was done
+abbrev pub RefusesClose : CloseWhy → (kept : Type 0) → (handed made : ℕ) → (agrees : Type 0) → Type 0
+RefusesClose Lost kept handed made agrees = kept → ⊥
+RefusesClose SeatsMissing kept handed made agrees = kept × (handed ≡ made → ⊥)
+RefusesClose Mismatch kept handed made agrees = kept × (handed ≡ made) × (agrees → ⊥)
+RefusesClose Memory kept handed made agrees = kept × (handed ≡ made)
 
 -- what comes back from a close that was refused: all that the session kept, but where it was lost before
 abbrev pub GivesBack : {K W : Type 0} → Named → List Bool → (W → ℕ) → CloseFault K W → Type 0

@@ -1,8 +1,9 @@
 -- Workers in order.
-use Rattle.std.specs.Prelude.{ℕ, zero, suc, ◌+◌, ◌≤◌, Bool, List, [], ◌∷◌, ◌++◌, None, ◌≡◌, length, map, All}
+use Rattle.std.specs.Prelude.{ℕ, zero, suc, ◌+◌, ◌<◌, ◌≤◌, Bool, List, [], ◌∷◌, ◌++◌, None, ◌≡◌, length, map, All, IsPermutation}
 use Rattle.tpl_words.specs.declared.status.Actor.{Actor}
 use Rattle.tpl_words.specs.declared.status.Actor.TheVariants.{Worker}
 use Rattle.tpl_model.specs.Graph.{TaskGraph}
+use Rattle.tpl_hall.specs.declared.seat.SeatFault.TheVariants.{SeatTaken}
 use Rattle.tpl_hall.specs.declared.sight.Ended.{Ended}
 use Rattle.tpl_hall.specs.Stays.{Leaves}
 use Rattle.tpl_hall.specs.Views.{SeatView}
@@ -18,6 +19,10 @@ worker n = Worker (record { 0 = n })
 abbrev pub workers : ℕ → List Actor
 workers zero = []
 workers (suc n) = workers n ++ worker (n + 1) ∷ []
+
+-- a session has 1 to 64 workers
+abbrev pub IsCount : ℕ → Type 0
+IsCount n = (0 < n) × (n ≤ 64)
 
 -- a new seat of this actor, with this room: no events, and nothing was reported to it
 abbrev pub new_seat : Actor → ℕ → SeatView
@@ -46,9 +51,9 @@ pub record AreBefore (w n : ℕ) (seats : List SeatView) : Type 0 where
   pub few : w ≤ n
   pub made : AreNew (length seats) seats
 
--- the seats that come back where n workers didn't all run: all where there was no thread for one; else no worker was started, and they are those that were made before the one that has none
+-- the seats that come back where n workers didn't all run: those of the workers 1 to n, in some order, where there was no thread for one; else no worker was started, and they are those that were made before the one that has none, whose seat was taken or for which there was no memory
 abbrev pub ComeBack : RunWhy → ℕ → List SeatView → Type 0
 ComeBack BadCount n seats = seats ≡ []
-ComeBack (Seat w fault) n seats = AreBefore w.0 n seats
-ComeBack Spawn n seats = length seats ≡ n
+ComeBack (Seat w fault) n seats = (fault ≡ SeatTaken) × AreBefore w.0 n seats
+ComeBack Spawn n seats = IsPermutation (workers n) (map (λ s. s.actor) seats)
 ComeBack (Memory w) n seats = AreBefore w.0 n seats

@@ -1,11 +1,10 @@
 //! What a session leaves, and what is compared when it is closed.
 
-ghost use Rattle.std.specs.Prelude.{◌≡◌, ◌⊎◌, ◌+◌, true, length, map, All, IsTrue, IfOk, IfErr, OnOk};
-ghost use Rattle.tpl_machine.specs.Journal.{named};
+ghost use Rattle.std.specs.Prelude.{◌≡◌, ◌↔◌, ◌⊎◌, ◌+◌, true, length, map, All, IsTrue, IfOk, IfErr, OnOk};
 ghost use Rattle.tpl_hall.specs.Closes.{AllOwn};
 ghost use Rattle.tpl_hall.specs.Lists.{IsSeat, all_seated, are_seated};
 ghost use Rattle.tpl_runtime.specs.declared.closing.CloseWhy.TheVariants.{Lost};
-ghost use Rattle.tpl_runtime.specs.Reports.{told_of, AreAllSeats, AreOnce, IsWhole, IsClosed, ClosesWell, GivesBack, MissesSeats};
+ghost use Rattle.tpl_runtime.specs.Reports.{told_of, Agrees, AreAllSeats, AreOnce, IsKept, IsWhole, IsClosed, ClosesWell, GivesBack, RefusesClose};
 
 use crate::tables::{Told, tables};
 use std::alloc::{AllocError, Global};
@@ -61,7 +60,7 @@ pub struct CloseFault<K, W> {
 
 /// Exactly one of the two numbers is 1, and the other is 0.
 fn are_one(a: usize, b: usize) -> bool
-    ensures { IsTrue result → a + b ≡ 1 }
+    ensures { IsTrue result ↔ (a + b ≡ 1) }
 {
     match a {
         0 => b == 1,
@@ -72,7 +71,7 @@ fn are_one(a: usize, b: usize) -> bool
 
 /// There are as many receipts and items as sites.
 fn are_as_many<K, W>(sites: u16, receipts: &[Receipt<K>], items: &[W]) -> bool
-    ensures { IsTrue result → length receipts.now + length items.now ≡ sites }
+    ensures { IsTrue result ↔ (length receipts.now + length items.now ≡ sites) }
 {
     let sites = sites as usize;
     items.len() <= sites && receipts.len() == sites - items.len()
@@ -80,7 +79,7 @@ fn are_as_many<K, W>(sites: u16, receipts: &[Receipt<K>], items: &[W]) -> bool
 
 /// The sites of receipts and items are the graph's, each once.
 fn are_once<K, W: Item<K>>(sites: u16, receipts: &[Receipt<K>], items: &[W]) -> bool
-    ensures { IsTrue result → AreOnce sites (map (λ r. r.site.0) receipts.now) (map W.site
+    ensures { IsTrue result ↔ AreOnce sites (map (λ r. r.site.0) receipts.now) (map W.site
         items.now) }
 {
     if !are_as_many(sites, receipts, items) {
@@ -103,8 +102,8 @@ fn is_whole<K: Drop, W: Item<K>>(
     inputs: &Inputs,
     items: &[W],
 ) -> bool
-    ensures graph { IsTrue result → named hall.now.core ≡ graph.now }
-    ensures inputs { IsTrue result → hall.now.core.inputs ≡ inputs.now }
+    ensures exact { IsTrue result ↔ IsKept hall.now.core graph.now inputs.now (map (λ r. r.site.0)
+        hall.now.receipts.items) (map W.site items.now) }
     ensures whole { IsTrue result → IsWhole graph.now inputs.now hall.now.journal.items
         hall.now.receipts.items (map W.site items.now) }
 {
@@ -114,11 +113,10 @@ fn is_whole<K: Drop, W: Item<K>>(
 
 /// The seats are those that were made, and the run is what they made.
 fn agrees<K: Drop>(hall: &Hall<'_, K>, seats: &[Seat], made: &[Actor]) -> bool
-    ensures own { IsTrue result → AllOwn seats.now hall.now.journal.items }
-    ensures seats { IsTrue result → All (λ e. IsSeat e.actor) hall.now.journal.items }
-    ensures seated { IsTrue result → all_seated hall.now.journal.items (map (λ s. s.actor)
-        seats.now) ≡ true }
-    ensures made { IsTrue result → are_seated made.now (map (λ s. s.actor) seats.now) ≡ true }
+    ensures { IsTrue result ↔ (AllOwn seats.now hall.now.journal.items
+        × (all_seated hall.now.journal.items (map (λ s. s.actor) seats.now) ≡ true)
+        × All (λ e. IsSeat e.actor) hall.now.journal.items
+        × (are_seated made.now (map (λ s. s.actor) seats.now) ≡ true)) }
 {
     are_own(seats, hall.journal())
         && have_seats(hall.journal(), seats)
@@ -138,7 +136,10 @@ fn judge<K: Drop, W: Item<K>>(
 ) -> Result<Told, CloseWhy>
     ensures whole { IfErr result (λ why. (why ≡ Lost) ⊎ IsWhole graph.now inputs.now
         hall.now.journal.items hall.now.receipts.items (map W.site items.now)) }
-    ensures missing { IfErr result (λ why. MissesSeats why (length seats.now) (length made.now)) }
+    ensures refused { IfErr result (λ why. RefusesClose why
+        (IsKept hall.now.core graph.now inputs.now (map (λ r. r.site.0) hall.now.receipts.items)
+        (map W.site items.now)) (length seats.now) (length made.now)
+        (Agrees graph.now.graph inputs.now made.now seats.now hall.now.journal.items)) }
     ensures made { OnOk result (AreAllSeats made.now seats.now) }
     ensures closes { IfOk result (λ t. IsClosed graph.now inputs.now seats.now
         hall.now.journal.items hall.now.receipts.items (map W.site items.now) (told_of t)) }
@@ -176,7 +177,10 @@ pub fn settle<K: Drop, W: Item<K>>(
     items: Vec<W>,
 ) -> Result<Report<K, W>, CloseFault<K, W>>
     ensures whole { IfErr result (λ e. GivesBack graph.now inputs.now W.site e) }
-    ensures missing { IfErr result (λ e. MissesSeats e.why (length seats.now) (length made.now)) }
+    ensures refused { IfErr result (λ e. RefusesClose e.why
+        (IsKept hall.entry.core graph.now inputs.now (map (λ r. r.site.0)
+        hall.entry.receipts.items) (map W.site items.items)) (length seats.now) (length made.now)
+        (Agrees graph.now.graph inputs.now made.now seats.now hall.entry.journal.items)) }
     ensures made { OnOk result (AreAllSeats made.now seats.now) }
     ensures back { IfErr result (λ e. (e.journal ≡ hall.entry.journal)
         × (e.receipts ≡ hall.entry.receipts)

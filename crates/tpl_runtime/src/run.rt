@@ -1,9 +1,10 @@
 //! How a session runs its workers.
 
-ghost use Rattle.std.specs.Prelude.{◌≡◌, ◌≤◌, ℕ, [], List, None, map, vec_len, vec_capacity, IfOk, IfErr, IfSome, IfNone};
+ghost use Rattle.std.specs.Prelude.{◌≡◌, ◌↔◌, ◌≤◌, ℕ, [], List, None, map, vec_len, vec_capacity, IfOk, IfErr, IfSome, IfNone, OnOk, IsPermutation};
 ghost use Rattle.tpl_hall.specs.Views.{SeatView};
-ghost use Rattle.tpl_runtime.specs.Workers.{workers, AllWorked, AreNew, AreBefore, ComeBack};
-ghost use Rattle.tpl_runtime.specs.declared.run.RunWhy.TheVariants.{Spawn};
+ghost use Rattle.tpl_hall.specs.declared.seat.SeatFault.TheVariants.{BadActor};
+ghost use Rattle.tpl_runtime.specs.Workers.{workers, AllWorked, AreNew, AreBefore, ComeBack, IsCount};
+ghost use Rattle.tpl_runtime.specs.declared.run.RunWhy.TheVariants.{BadCount, Spawn};
 
 use crate::queue::ItemPass;
 use crate::session::Session;
@@ -26,10 +27,10 @@ pub enum RunWhy {
     /// There are 1 to 64 workers.
     #[error("BadCount")]
     BadCount,
-    /// This worker has no seat. Those before it have theirs.
+    /// This worker has no seat, since it has one already. Those before it have theirs.
     #[error("{1}")]
     Seat(Worker, SeatFault),
-    /// There was no thread for a worker. The session is halted.
+    /// There was no thread for a worker. The session is halted, and the seats of all workers come back.
     #[error("Spawn")]
     Spawn,
     /// There was no memory for this worker. Those before it have their seats, and none was started.
@@ -64,7 +65,10 @@ fn lists<L: Drop>(alloc: Global, count: usize) -> Result<Lists<L>, AllocError>
 
 /// Why the workers didn't all run, where this one has no seat.
 fn no_seat(worker: Worker, fault: SeatFault) -> RunWhy
-    ensures { (n : ℕ) (seats : List SeatView) → AreBefore worker.0 n seats → ComeBack result n seats }
+    requires { fault ≡ BadActor → ⊥ }
+    ensures seats { (n : ℕ) (seats : List SeatView) → AreBefore worker.0 n seats
+        → ComeBack result n seats }
+    ensures count { result ≡ BadCount → ⊥ }
 {
     match fault {
         SeatFault::Memory => RunWhy::Memory(worker),
@@ -95,8 +99,9 @@ fn answer_of<W>(
     requires empty { left.items ≡ [] }
     requires room { vec_len done ≤ vec_capacity left }
     ensures done { IfOk result (λ r. (halting ≡ None) × (r.0 ≡ done) × (r.1 ≡ pass)) }
-    ensures left { IfErr result (λ e. (e.why ≡ Spawn) × ComeBack e.why (vec_len done) e.seats.items
-        × (e.pass ≡ pass)) }
+    ensures left { IfErr result (λ e. (e.why ≡ Spawn) × (e.pass ≡ pass)) }
+    ensures seats { (n : ℕ) → IsPermutation (workers n) (map (λ d. d.0.actor) done.items)
+        → IfErr result (λ e. ComeBack e.why n e.seats.items) }
 {
     match halting {
         None => Ok((done, pass)),
@@ -124,6 +129,8 @@ impl<'g, K: Drop + Send, W: Item<K> + Send> Session<'g, K, W> {
         ensures workers { IfOk result (λ r. map (λ d. d.0.actor) r.0.items ≡ workers n) }
         ensures count { IfOk result (λ r. vec_len r.0 ≡ n) }
         ensures worked { IfOk result (λ r. AllWorked self.now r.0.items) }
+        ensures few { OnOk result (IsCount n) }
+        ensures bad_count { IfErr result (λ e. (e.why ≡ BadCount) ↔ (IsCount n → ⊥)) }
         ensures seats { IfErr result (λ e. ComeBack e.why n e.seats.items) }
     {
         if n == 0 || n > MOST_WORKERS {
@@ -165,6 +172,7 @@ impl<'g, K: Drop + Send, W: Item<K> + Send> Session<'g, K, W> {
         ensures all { IfNone result (AreNew n seats.new.items) }
         ensures count { IfNone result (vec_len seats.new ≡ n) }
         ensures first { IfSome result (λ r. AreBefore r.0.0 n seats.new.items) }
+        ensures known { IfSome result (λ r. r.1 ≡ BadActor → ⊥) }
     {
         for number in 0..n {
             let worker = Worker(number + 1);

@@ -1,6 +1,6 @@
 //! Workers in threads of their own.
 
-ghost use Rattle.std.specs.Prelude.{◌≡◌, ◌+◌, ◌<◌, ◌≤◌, [], ◌∷◌, ◌++◌, map, vec_len, vec_capacity, All, IfOk, IfErr, IfNone};
+ghost use Rattle.std.specs.Prelude.{◌≡◌, ◌+◌, ◌<◌, ◌≤◌, [], ◌∷◌, ◌++◌, map, vec_len, vec_capacity, All, IfOk, IfErr, IfNone, IsPermutation};
 ghost use Rattle.tpl_runtime.specs.Workers.{IsNew, HasWorked, AllWorked};
 
 use crate::crew::Crew;
@@ -67,6 +67,7 @@ where
     requires new { IsNew seat }
     ensures child { IfOk result (λ h. h.promise.session ≡ C.session crew.now) }
     ensures actor { IfOk result (λ h. h.promise.actor ≡ seat.actor) }
+    ensures same { IfErr result (λ b. b.0.0.actor ≡ seat.actor) }
     ensures back { IfErr result (λ b. b.0.1.queue ≡ (C.session crew.now).queue) }
     ensures worked { let s = C.session crew.now in IfErr result (λ b. HasWorked s.graph.graph s.inputs
         b.0.0 b.0.2) }
@@ -122,6 +123,10 @@ where
     ensures started { IfNone result.1 ((done.new ≡ done.old)
         × (map (λ h. h.promise.actor) children.new.items
         ≡ map (λ h. h.promise.actor) children.old.items ++ seat.actor ∷ [])) }
+    ensures everyone { IsPermutation
+        (seat.actor ∷ (map (λ d. d.0.actor) done.old.items
+        ++ map (λ h. h.promise.actor) children.old.items))
+        (map (λ d. d.0.actor) done.new.items ++ map (λ h. h.promise.actor) children.new.items) }
     ensures count { vec_len children.new + vec_len done.new ≡ vec_len children.old + vec_len
         done.old + 1 }
     ensures longer { (vec_len children.old ≤ vec_len children.new)
@@ -166,6 +171,8 @@ where
     ensures worked { AllWorked (C.session crew.now) done.new.items }
     ensures started { IfNone result.1 ((done.new.items ≡ [])
         × (map (λ h. h.promise.actor) children.new.items ≡ map (λ s. s.actor) seats.items)) }
+    ensures everyone { IsPermutation (map (λ s. s.actor) seats.items)
+        (map (λ d. d.0.actor) done.new.items ++ map (λ h. h.promise.actor) children.new.items) }
     ensures count { vec_len children.new + vec_len done.new ≡ vec_len seats }
     ensures capacity { vec_capacity done.new ≡ vec_capacity done.old }
 {
@@ -208,8 +215,8 @@ fn join_all<C: Crew, R: Threads + Wait>(
     pass
 }
 
-/// Starts and joins the workers. They came back in the order of their seats where there was a thread for each; else the
-/// crew was stopped. `children` and `done` are empty lists with room for them.
+/// Starts and joins the workers, all of whom come back: in the order of their seats where there was a thread for each; else
+/// in another, and the crew was stopped. `children` and `done` are empty lists with room for them.
 pub(crate) fn run_crew<C: Crew + Sync, R: Threads + Wait + Sync>(
     crew: &C,
     rt: &R,
@@ -228,6 +235,8 @@ where
     ensures pass { result.1.queue ≡ (C.session crew.now).queue }
     ensures all { IfNone result.2 (map (λ d. d.0.actor) result.0.items ≡ map (λ s. s.actor)
         seats.items) }
+    ensures everyone { IsPermutation (map (λ s. s.actor) seats.items) (map (λ d. d.0.actor)
+        result.0.items) }
     ensures worked { AllWorked (C.session crew.now) result.0.items }
     ensures count { vec_len result.0 ≡ vec_len seats }
 {
@@ -243,6 +252,8 @@ where
             ensures pass { result.1.queue ≡ (C.session crew.entry.now).queue }
             ensures all { IfNone result.2 (map (λ d. d.0.actor) result.0.items ≡ map (λ s. s.actor)
                 seats.items) }
+            ensures everyone { IsPermutation (map (λ s. s.actor) seats.items) (map (λ d. d.0.actor)
+                result.0.items) }
             ensures worked { AllWorked (C.session crew.entry.now) result.0.items }
             ensures count { vec_len result.0 ≡ vec_len seats }
         {

@@ -224,7 +224,10 @@ mutual
   stop_at_found avoid test w (Cancel k) e = true_false (sym e)
   stop_at_found avoid test w (Start c) e = true_false (sym e)
   stop_at_found avoid test w Observe e = true_false (sym e)
-  stop_at_found avoid test w (Work i f) e = let b = and_parts f (test (Threw (WorkFailed (record { 0 = i })))) e in itself (Threw (WorkFailed (record { 0 = i }))) (b.0, refl) b.1
+  stop_at_found avoid test w (Work i f) e =
+      let b = and_parts f (not (w.sure i) && test (Threw (WorkFailed (record { 0 = i })))) e in
+      let d = and_parts (not (w.sure i)) (test (Threw (WorkFailed (record { 0 = i })))) b.1 in
+      itself (Threw (WorkFailed (record { 0 = i }))) (b.0, not_of (w.sure i) d.0, refl) d.1
   stop_at_found avoid test w (If i x y) e =
       elim (or_cases (w.possible i true && stops avoid test w x) (w.possible i false && stops avoid test w y) e) [
         | inl q ↦ let b = and_parts (w.possible i true) (stops avoid test w x) q in inside x (λ more. inl (b.0, refl)) (stop_found avoid test w x b.1)
@@ -288,7 +291,9 @@ ends_at_test avoid test w (Check k) verdict e t = and_join (not (w.quiet k)) (te
 ends_at_test avoid test w (Cancel k) verdict e t = absurd e
 ends_at_test avoid test w (Start c) verdict e t = absurd e
 ends_at_test avoid test w Observe verdict e t = absurd e
-ends_at_test avoid test w (Work i f) verdict e t = and_join f (test (Threw (WorkFailed (record { 0 = i })))) e.0 (subst (λ z. test z ≡ true) e.1 t)
+ends_at_test avoid test w (Work i f) verdict e t =
+    and_join f (not (w.sure i) && test (Threw (WorkFailed (record { 0 = i })))) e.0
+    (and_join (not (w.sure i)) (test (Threw (WorkFailed (record { 0 = i })))) (not_from_false (w.sure i) e.1) (subst (λ z. test z ≡ true) e.2 t))
 ends_at_test avoid test w (If i x y) verdict e t = absurd e
 ends_at_test avoid test w (When f x y) verdict e t = absurd e
 

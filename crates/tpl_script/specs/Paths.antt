@@ -19,12 +19,13 @@ abbrev pub cancellation : Option ℕ → ℕ → Outcome
 cancellation own k = if is_own own k then Acknowledged else Threw (OperationCanceled (record { 0 = k }))
 
 -- what is known of the runs in which a body is read: the values that an input may have, the tokens that are never
--- requested, the own token, and how the subject may have ended
+-- requested, the own token, how the subject may have ended, and the sites whose jobs don't fail
 pub record Known : Type 0 where
   pub possible : ℕ → Bool → Bool
   pub quiet : ℕ → Bool
   pub own : Option ℕ
   pub subject : Final → Bool
+  pub sure : ℕ → Bool
 
 -- a path goes on from the statement s before these, with what is left
 abbrev pub GoesOn : Known → Statement → Statements → Statements → Type 0
@@ -49,7 +50,7 @@ EndsAt w (Check k) outcome = (w.quiet k ≡ false) × (outcome ≡ cancellation 
 EndsAt w (Cancel k) outcome = ⊥
 EndsAt w (Start c) outcome = ⊥
 EndsAt w Observe outcome = ⊥
-EndsAt w (Work site may_fail) outcome = (may_fail ≡ true) × (outcome ≡ Threw (WorkFailed (record { 0 = site })))
+EndsAt w (Work site may_fail) outcome = (may_fail ≡ true) × (w.sure site ≡ false) × (outcome ≡ Threw (WorkFailed (record { 0 = site })))
 EndsAt w (If i first second) outcome = ⊥
 EndsAt w (When f first second) outcome = ⊥
 

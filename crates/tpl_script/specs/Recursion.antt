@@ -44,7 +44,7 @@ abbrev mutual
   stops_at avoid test w (Cancel k) = false
   stops_at avoid test w (Start c) = false
   stops_at avoid test w Observe = false
-  stops_at avoid test w (Work site may_fail) = may_fail && test (Threw (WorkFailed (record { 0 = site })))
+  stops_at avoid test w (Work site may_fail) = may_fail && (not (w.sure site) && test (Threw (WorkFailed (record { 0 = site }))))
   stops_at avoid test w (If i first second) = (w.possible i true && stops avoid test w first) || (w.possible i false && stops avoid test w second)
   stops_at avoid test w (When f first second) = (w.subject f && stops avoid test w first) || (another w f && stops avoid test w second)
 

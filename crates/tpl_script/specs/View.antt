@@ -11,11 +11,12 @@ abbrev pub may_have : Possible → Bool → Bool
 may_have p true = p.on_true
 may_have p false = p.on_false
 
--- an input past the last entry may have both values, and a token there may be requested
+-- an input past the last entry may have both values, a token there may be requested, and a job there may fail
 abbrev pub known : View → Known
 known v = record {
   possible = λ i value. may_have (slice_index_or v.inputs i (record { on_true = true; on_false = true })) value;
   quiet = λ k. slice_index_or v.quiet k false;
   own = option_map (λ (k : TokenId). k.0) v.own;
   subject = has v.subject;
+  sure = λ site. slice_index_or v.sure site false;
 }

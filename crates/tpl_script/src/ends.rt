@@ -126,8 +126,8 @@ fn ends_at(statement: &Stmt, view: &View, past_observe: bool) -> Ends
         Stmt::Cancel(token) => Ends::open(!view.is_quiet(*token)),
         Stmt::Start(_) => Ends::open(true),
         Stmt::Observe => Ends::open(past_observe),
-        Stmt::Work(_, may_fail) => Ends {
-            thrown: *may_fail,
+        Stmt::Work(site, may_fail) => Ends {
+            thrown: *may_fail && !view.is_sure(*site),
             ..Ends::open(true)
         },
         Stmt::If(input, first, second) => {

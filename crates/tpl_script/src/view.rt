@@ -5,7 +5,7 @@ ghost use Rattle.tpl_script.specs.Paths.{is_own};
 ghost use Rattle.tpl_script.specs.Recursion.{another};
 ghost use Rattle.tpl_script.specs.View.{known};
 
-use tpl_words::{Final, Finals, InputId, MOST_INPUTS, MOST_TOKENS, TokenId};
+use tpl_words::{Final, Finals, InputId, MOST_INPUTS, MOST_SITES, MOST_TOKENS, SiteId, TokenId};
 
 /// The values that an input may have.
 #[derive(Clone, Copy, PartialEq, Eq, Debug)]
@@ -15,14 +15,15 @@ pub struct Possible {
 }
 
 /// What is known of the runs in which a body is read: the values that each input may have, the
-/// tokens that are never requested, the task's own token, and how its subject may have ended (the
-/// rules of reading are this program's own).
+/// tokens that are never requested, the task's own token, how its subject may have ended, and the
+/// sites whose jobs don't fail (the rules of reading are this program's own).
 #[derive(Clone, Copy, PartialEq, Eq, Debug)]
 pub struct View {
     pub inputs: [Possible; MOST_INPUTS],
     pub quiet: [bool; MOST_TOKENS],
     pub own: Option<TokenId>,
     pub subject: Finals,
+    pub sure: [bool; MOST_SITES],
 }
 
 impl View {
@@ -58,6 +59,14 @@ impl View {
             None => false,
             Some(own) => own.0 == token.0,
         }
+    }
+
+    /// The site's job doesn't fail. One past the last entry may.
+    pub fn is_sure(&self, site: SiteId) -> bool
+        ensures { result ≡ (known self.now).sure site.0 }
+    {
+        let at = site.0 as usize;
+        at < MOST_SITES && self.sure[at]
     }
 
     /// The subject may have ended in this way.

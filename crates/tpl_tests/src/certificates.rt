@@ -2,15 +2,23 @@
 
 use json::Scratch;
 use std::alloc::{AllocError, Global};
-use tpl_cert::{Node, Row, Tree, TreeToFault, is_within_limits, tree_from, tree_to};
+use std::slice;
+use tpl_cert::{Node, Row, Tree, TreeToFault, is_within_limits, tree_from, trees_text};
 use tpl_graph::Graph;
 use tpl_json::value_from;
 use tpl_words::{Finals, TaskId, TaskSet};
 
+/// What stands within the brackets of an array.
+fn within_brackets(text: &str) -> Option<&str> {
+    text.strip_prefix('[')?.strip_suffix(']')
+}
+
 /// The text that is written of a tree.
 fn written(alloc: Global, graph: &Graph, tree: &Tree) -> Result<String, AllocError> {
-    match tree_to(alloc, graph, tree) {
-        Ok(value) => value.to_string(alloc),
+    match trees_text(alloc, graph, slice::from_ref(tree)) {
+        Ok(text) => {
+            String::from_str(alloc, within_brackets(text.as_str()).unwrap_or("no array"))
+        }
         Err(TreeToFault::Memory) => Err(AllocError),
         Err(fault) => format!(in alloc; "not written: {fault}"),
     }

@@ -6,7 +6,7 @@ use tpl_script::{
     Cursor, Possible, Script, Stmt, Verdict, Verdicts, View, may, may_start, may_start_all,
     must_observe,
 };
-use tpl_words::{Final, Finals, InputId, TaskId, TokenId};
+use tpl_words::{Final, Finals, InputId, MOST_SITES, TaskId, TokenId};
 
 /// The body that is asked about is this task's.
 const SUBJECT: &str = "X";
@@ -14,8 +14,8 @@ const SUBJECT: &str = "X";
 /// No body has more statements.
 const MOST_STATEMENTS: usize = 64;
 
-/// Nothing is known but the task's own token: no token is quiet, each input may have both values, and what it continues
-/// may have ended in any way.
+/// Nothing is known but the task's own token: no token is quiet, each input may have both values, what it continues may
+/// have ended in any way, and each job may fail.
 fn open_view(graph: &Graph, task: TaskId) -> View {
     View {
         inputs: [Possible {
@@ -29,6 +29,7 @@ fn open_view(graph: &Graph, task: TaskId) -> View {
             canceled: true,
             faulted: true,
         },
+        sure: [false; MOST_SITES],
     }
 }
 

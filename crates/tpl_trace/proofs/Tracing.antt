@@ -1,7 +1,7 @@
 -- From what is answered to what was read and written.
 use Rattle.std.proofs.Common.{◌≡◌, ℕ, List, Option, Result, Ok, Err, IfOk, string_bytes, subst, inl, inr}
 use Rattle.std.specs.declared.alloc.AllocError.{AllocError}
-use Rattle.tpl_commands.proofs.Accepting.{puts_success}
+use Rattle.tpl_commands.proofs.Responses.{said}
 use Rattle.tpl_audit.specs.declared.verdict.Verdict.{Verdict}
 use Rattle.tpl_audit.specs.declared.verdict.Verdict.TheVariants as ruled
 use Rattle.tpl_journal.specs.declared.counting.Counting.{Counting}
@@ -11,13 +11,13 @@ use Rattle.tpl_reader.specs.declared.fault.ReadFault.TheVariants as faults
 use Rattle.tpl_reader.specs.Document.{DocumentValue, Spells, IsFault}
 use Rattle.tpl_reader.specs.Laws.{SpellsOneDocument, SpelledHasNoFault}
 use Rattle.tpl_commands.specs.declared.exit.Exit.{Exit}
-use Rattle.tpl_commands.specs.declared.exit.Exit.TheVariants.{Success, Failure, Usage, Unreadable, Memory, Device, Fault}
+use Rattle.tpl_commands.specs.declared.exit.Exit.TheVariants.{Success}
 use Rattle.tpl_commands.specs.declared.auditing.Audit.{Audit}
 use Rattle.tpl_commands.specs.declared.auditing.Audit.TheVariants.{NoStart, NoJournal, Judged}
 use Rattle.tpl_commands.specs.declared.responding.Answered.{Answered}
 use Rattle.tpl_commands.specs.Auditing.{Audits, IsAudited, IsAuditAnswer, IsAuditOf, verdict_exit}
 use Rattle.tpl_commands.specs.Documents.{NoDocument}
-use Rattle.tpl_commands.specs.Responding.{Says, Responds}
+use Rattle.tpl_commands.specs.Responding.{Responds}
 use Rattle.tpl_trace.specs.Answer.{HasRun, IsTraced, SpellsNoRun, Traces, Traced}
 
 -- the audit doesn't succeed where the journal is no run
@@ -36,22 +36,9 @@ audits_never input text none (inl is) = audit_never input is.0 is.2.0 text none 
 audits_never input text none (inr is) = let e = is.2 in absurd cc
 
 -- what a success says
-IsDrawn : List ℕ → List ℕ → Type 0
-IsDrawn input text = (doc : DocumentValue) × Spells input doc × IsTraced doc text
-
-traces_success : (input text : List ℕ) → Traces input Success text → IsDrawn input text
-unfolding IsDrawn
-traces_success input text (inl is) = (is.0, is.1, is.2)
-traces_success input text (inr is) = absurd (audits_never input text is.0 is.1)
-
-says_success : (input : List ℕ) (exit : Exit) (text : List ℕ) → exit ≡ Success → Says Traces input exit text → IsDrawn input text
-says_success input Success text e s = traces_success input text s.1
-says_success input Failure text e s = absurd cc
-says_success input Usage text e s = absurd s
-says_success input Unreadable text e s = absurd cc
-says_success input Memory text e s = absurd cc
-says_success input Device text e s = absurd s
-says_success input Fault text e s = absurd s
+drawn : (input text : List ℕ) → Traces input Success text → (doc : DocumentValue) × Spells input doc × IsTraced doc text
+drawn input text (inl is) = (is.0, is.1, is.2)
+drawn input text (inr is) = absurd (audits_never input text is.0 is.1)
 
 -- what is answered where the journal of a document that was read is no run
 pub other_traces : SpellsOneDocument → (input : List ℕ) (doc : DocumentValue) (audit : Audit) (exit : Exit) (text : List ℕ) → Spells input doc → IsAuditOf doc audit → ((events : List Event) → HasRun doc events → ⊥) → IsAuditAnswer audit exit text → Traces input exit text
@@ -65,17 +52,7 @@ unread_traces one faultless input fault is (Ok it) other none = inr ((λ doc eve
 unread_traces one faultless input fault is (Err e) other none = tt
 
 pub success_traces : {R W : Type 0} (remaining : R → Option (List ℕ)) (from_old from_new : Counting R) (contents : W → Option (List ℕ)) (old new : Counting W) (result : Exit) → Responds Traces remaining from_old from_new contents old new result → result ≡ Success → Traced remaining from_old from_new contents old new
-unfolding IsDrawn
-success_traces remaining from_old from_new contents old new result (inl p) e =
-    let w = puts_success contents old new p.1 p.2 result p.5 e in
-    let s = says_success p.0 p.1 p.2 w.0 p.4 in
-    record {
-      input = p.0;
-      reads = p.3;
-      doc = s.0;
-      spelled = s.1;
-      text = p.2;
-      traced = s.2;
-      writes = w.1;
-    }
-success_traces remaining from_old from_new contents old new result (inr f) e = let d = f.0 in absurd cc
+success_traces remaining from_old from_new contents old new result responds e =
+    let s = said remaining from_old from_new contents old new result Traces (inl e) responds in
+    let d = drawn s.input s.text (subst (λ (x : Exit). Traces s.input x s.text) e s.is) in
+    record { input = s.input; reads = s.reads; doc = d.0; spelled = d.1; text = s.text; is = d.2; writes = s.writes }

@@ -8,7 +8,8 @@ use Rattle.tpl_journal.specs.Lines.{CanSpell, IsJournal}
 use Rattle.tpl_reader.specs.Document.{DocumentValue, Spells}
 use Rattle.tpl_commands.specs.declared.exit.Exit.TheVariants.{Success}
 use Rattle.tpl_commands.specs.Auditing.{Audits, IsAuditOf}
-use Rattle.tpl_commands.specs.Responding.{Answers, Reads, Writes}
+use Rattle.tpl_commands.specs.Documents.{Tells}
+use Rattle.tpl_commands.specs.Responding.{Answers}
 use Rattle.tpl_reader.specs.Starting.{inputs_of}
 use Rattle.tpl_trace.specs.declared.answering.Journal.{Journal}
 use Rattle.tpl_trace.specs.declared.answering.Journal.TheVariants.{Run, Other}
@@ -43,11 +44,5 @@ Traces input exit text =
     ⊎ (SpellsNoRun input × Audits input exit text)
 
 -- What was read spells a document whose journal is a run, and its trace was written.
-pub record Traced {R W : Type 0} (remaining : R → Option (List ℕ)) (from_old from_new : Counting R) (contents : W → Option (List ℕ)) (to_old to_new : Counting W) : Type 0 where
-  pub input : List ℕ
-  pub reads : Reads remaining from_old from_new input
-  pub doc : DocumentValue
-  pub spelled : Spells input doc
-  pub text : List ℕ
-  pub traced : IsTraced doc text
-  pub writes : Writes contents to_old to_new text
+abbrev pub Traced : {R W : Type 0} → (R → Option (List ℕ)) → Counting R → Counting R → (W → Option (List ℕ)) → Counting W → Counting W → Type 0
+Traced remaining from_old from_new contents to_old to_new = Tells IsTraced remaining from_old from_new contents to_old to_new

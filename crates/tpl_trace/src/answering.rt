@@ -20,7 +20,7 @@ use tpl_commands::{
 };
 use tpl_journal::{Counting, JournalFault, fault_is_no_journal, read_journal, text_is_unambiguous};
 use tpl_model::Event;
-use tpl_reader::{Document, one_document, read_document};
+use tpl_reader::{Document, one_document, read_document_heard};
 use tpl_words::Inputs;
 
 /// The journal of a document.
@@ -92,17 +92,20 @@ fn traced(alloc: Global, bytes: &[u8], document: Document) -> Result<Answered, A
     }
 }
 
-/// Traces the journal of a document.
-struct Trace;
+/// Traces the journal of a document, and asks the listener for words where there is none.
+#[derive(Drop)]
+struct Trace<L> {
+    listener: L,
+}
 
-impl Command for Trace {
+impl<L: Listen> Command for Trace<L> {
     ghost answers = { λ _. Traces };
 
     fn answer(&self, alloc: Global, bytes: &[u8]) -> Result<Answered, AllocError> {
         one_document();
-        match read_document(alloc, bytes) {
+        match read_document_heard(alloc, bytes, self.listener) {
             Ok(document) => traced(alloc, bytes, document),
-            Err(fault) => unread(alloc, bytes, fault),
+            Err(misread) => unread(alloc, bytes, misread),
         }
     }
 }
@@ -125,5 +128,5 @@ pub fn trace_document<L: Listen, I: Read, O: Write>(
     ensures traced { result ≡ Exit.Success
         → Traced I.remaining from.old from.new O.contents to.old to.new }
 {
-    respond(&Trace, alloc, listener, from, to)
+    respond(&Trace { listener }, alloc, listener, from, to)
 }

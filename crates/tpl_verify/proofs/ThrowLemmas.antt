@@ -31,10 +31,11 @@ use Rattle.tpl_laws.proofs.MainTheorem.{given_agrees}
 use Rattle.tpl_verify.specs.Verdicts.{HoldsAlways, HasNoLabel, under}
 
 -- no more is known than is true of each run in which this is given, whatever the subject does
-pub record KnowsGiven (g : TaskGraph) (given : List Given) (t : ℕ) (w : Known) : Type 0 where
+pub record KnowsGiven (wide : Bool) (g : TaskGraph) (given : List Given) (t : ℕ) (w : Known) : Type 0 where
   pub own : w.own ≡ (task g t).token
-  pub possible : w.possible ≡ (assumed g given).possible
-  pub quiet : w.quiet ≡ (assumed g given).quiet
+  pub possible : w.possible ≡ (assumed wide g given).possible
+  pub quiet : w.quiet ≡ (assumed wide g given).quiet
+  pub sure : w.sure ≡ (assumed wide g given).sure
   pub subject : (f : Final) → w.subject f ≡ true
 
 -- each way to end is one of these
@@ -51,22 +52,23 @@ no_label : (o : Option Label) → ((lb : Label) → o ≡ Some lb → ⊥) → o
 no_label None none = refl
 no_label (Some lb) none = absurd (none lb refl)
 
-known_fits : (g : TaskGraph) (given : List Given) (t : ℕ) (w : Known) (v : List Bool) (h : List Event) → KnowsGiven g given t w → IsGiven g v h given → Fits g v h t w
-known_fits g given t w v h knows is =
-    let agrees = given_agrees g v h given is in
+known_fits : (wide : Bool) (g : TaskGraph) (given : List Given) (t : ℕ) (w : Known) (v : List Bool) (h : List Event) → KnowsGiven wide g given t w → IsGiven g v h given → Fits g v h t w
+known_fits wide g given t w v h knows is =
+    let agrees = given_agrees wide g v h given is in
     record {
       own = knows.own;
       inputs = λ i. subst (λ (p : ℕ → Bool → Bool). p i (input v i) ≡ true) (sym knows.possible) (agrees.inputs i);
-      quiet = λ k r. subst (λ (q : ℕ → Bool). q k ≡ false) (sym knows.quiet) (elim (cases_Bool ((assumed g given).quiet k)) [ inl q ↦ true_false (sym r ∙ agrees.quiet k q) | inr q ↦ q ]);
+      quiet = λ k r. subst (λ (q : ℕ → Bool). q k ≡ false) (sym knows.quiet) (elim (cases_Bool ((assumed wide g given).quiet k)) [ inl q ↦ true_false (sym r ∙ agrees.quiet k q) | inr q ↦ q ]);
       subject = λ s f e q. knows.subject f;
+      jobs = λ site e. subst (λ (q : ℕ → Bool). q site ≡ false) (sym knows.sure) (elim (cases_Bool ((assumed wide g given).sure site)) [ inl q ↦ true_false (sym e ∙ agrees.jobs site q) | inr q ↦ q ]);
     }
 
 -- no path of the body throws
-pub throws_nowhere : (g : TaskGraph) (given : List Given) (t : ℕ) (w : Known) → IsGraph g → KnowsGiven g given t w → (MayThrow w (body g t) → ⊥) → HasNoLabel g given t
-throws_nowhere g given t w valid knows none v h run complete is =
+pub throws_nowhere : (wide : Bool) (g : TaskGraph) (given : List Given) (t : ℕ) (w : Known) → IsGraph g → KnowsGiven wide g given t w → (MayThrow w (body g t) → ⊥) → HasNoLabel g given t
+throws_nowhere wide g given t w valid knows none v h run complete is =
     no_label (label g v h t) (λ lb e.
     let threw = label_verdict (outcome_in (rest g v h t)) lb e in
-    none (lb, (passed g v h t, verdict_path w (body g t) (rest g v h t).outcome (rest g v h t).left (passed g v h t) (Threw lb) threw (follows g v h t w run (known_fits g given t w v h knows is) (has_subject_of g t valid)))))
+    none (lb, (passed g v h t, verdict_path w (body g t) (rest g v h t).outcome (rest g v h t).left (passed g v h t) (Threw lb) threw (follows g v h t w run (known_fits wide g given t w v h knows is) (has_subject_of g t valid)))))
 
 -- the task never ends faulted
 pub never_faults : (g : TaskGraph) (given : List Given) (t : TaskId) (ends : Finals) → has ends Faulted ≡ false → HoldsAlways g (under given (EndsIn t ends)) → HasNoLabel g given t.0

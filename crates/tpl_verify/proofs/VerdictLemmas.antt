@@ -27,22 +27,22 @@ use Rattle.std.proofs.lemmas.List.Elements.{recursion_from_All, All-from_recursi
 use Rattle.tpl_verify.specs.Verdicts.{HoldsAlways, IsCertified, under, IsNeverKept, IsVerdict, HoldsFully}
 
 -- an accepted certificate of one claim has one tree
-one_tree-of : (g : TaskGraph) (claim : Claim) (trees : List Tree) → Accepts g (claim ∷ []) trees → length trees ≡ 1
-one_tree-of g claim [] accepted = absurd accepted
-one_tree-of g claim (tree ∷ []) accepted = refl
-one_tree-of g claim (tree ∷ other ∷ rest) accepted = absurd accepted.1
+one_tree-of : (wide : Bool) (g : TaskGraph) (claim : Claim) (trees : List Tree) → Accepts wide g (claim ∷ []) trees → length trees ≡ 1
+one_tree-of wide g claim [] accepted = absurd accepted
+one_tree-of wide g claim (tree ∷ []) accepted = refl
+one_tree-of wide g claim (tree ∷ other ∷ rest) accepted = absurd accepted.1
 
-only : (g : TaskGraph) (claim : Claim) (trees : List Tree) (n : ℕ) → Accepts g (claim ∷ []) trees → ((tree : Tree) → trees ≡ tree ∷ [] → n ≡ height tree) → IsCertified g claim n
-only g claim [] n accepted splits = absurd accepted
-only g claim (tree ∷ []) n accepted splits = record { tree = tree; accepted = accepted; splits = sym (splits tree refl) }
-only g claim (tree ∷ other ∷ rest) n accepted splits = absurd accepted.1
+only : (wide : Bool) (g : TaskGraph) (claim : Claim) (trees : List Tree) (n : ℕ) → Accepts wide g (claim ∷ []) trees → ((tree : Tree) → trees ≡ tree ∷ [] → n ≡ height tree) → IsCertified wide g claim n
+only wide g claim [] n accepted splits = absurd accepted
+only wide g claim (tree ∷ []) n accepted splits = record { tree = tree; accepted = accepted; splits = sym (splits tree refl) }
+only wide g claim (tree ∷ other ∷ rest) n accepted splits = absurd accepted.1
 
-pub certified : (g : TaskGraph) (claim : Claim) (claims : List Claim) (trees : List Tree) (n : ℕ) → claims ≡ claim ∷ [] → Accepts g claims trees → ((tree : Tree) → trees ≡ tree ∷ [] → n ≡ height tree) → IsCertified g claim n
-certified g claim claims trees n e accepted splits =
-    only g claim trees n (subst (λ (z : List Claim). Accepts g z trees) e accepted) splits
+pub certified : (wide : Bool) (g : TaskGraph) (claim : Claim) (claims : List Claim) (trees : List Tree) (n : ℕ) → claims ≡ claim ∷ [] → Accepts wide g claims trees → ((tree : Tree) → trees ≡ tree ∷ [] → n ≡ height tree) → IsCertified wide g claim n
+certified wide g claim claims trees n e accepted splits =
+    only wide g claim trees n (subst (λ (z : List Claim). Accepts wide g z trees) e accepted) splits
 
-pub one_tree : (g : TaskGraph) (claim : Claim) (claims : List Claim) (trees : List Tree) → claims ≡ claim ∷ [] → Accepts g claims trees → length trees ≡ 1
-one_tree g claim claims trees e accepted = one_tree-of g claim trees (subst (λ (z : List Claim). Accepts g z trees) e accepted)
+pub one_tree : (wide : Bool) (g : TaskGraph) (claim : Claim) (claims : List Claim) (trees : List Tree) → claims ≡ claim ∷ [] → Accepts wide g claims trees → length trees ≡ 1
+one_tree wide g claim claims trees e accepted = one_tree-of wide g claim trees (subst (λ (z : List Claim). Accepts wide g z trees) e accepted)
 
 -- the same under the same given
 pub likewise : (g : TaskGraph) (other : Claim) (given : List Given) (body : Property) → other.given ≡ given → other.body ≡ body → HoldsAlways g other → HoldsAlways g (under given body)
@@ -50,9 +50,9 @@ likewise g other given body e f always =
     subst (λ (x : List Given). HoldsAlways g (under x body)) e (subst (λ (p : Property). HoldsAlways g (under other.given p)) f always)
 
 -- its claim holds in each run
-pub always : (g : TaskGraph) (claim : Claim) (claims : List Claim) (trees : List Tree) → Soundness → IsGraph g → claims ≡ claim ∷ [] → Accepts g claims trees → HoldsAlways g claim
-always g claim claims trees sound is e accepted v h run =
-    (sound g (claim ∷ []) trees is (subst (λ (z : List Claim). Accepts g z trees) e accepted) v h run).0
+pub always : (wide : Bool) (g : TaskGraph) (claim : Claim) (claims : List Claim) (trees : List Tree) → Soundness → IsGraph g → claims ≡ claim ∷ [] → Accepts wide g claims trees → HoldsAlways g claim
+always wide g claim claims trees sound is e accepted v h run =
+    (sound wide g (claim ∷ []) trees is (subst (λ (z : List Claim). Accepts wide g z trees) e accepted) v h run).0
 
 -- no end
 abbrev pub no_end : Finals
@@ -88,24 +88,24 @@ zip_snoc R (a ∷ xs) [] x y all one = absurd all
 zip_snoc R (a ∷ xs) (b ∷ ys) x y all one = (all.0, zip_snoc R xs ys x y all.1 one)
 
 -- the verdicts on one claim more
-pub verdict_more : (g : TaskGraph) (claims : List Claim) (verdicts more : List Verdict) (i : ℕ) (claim : Claim) (v : Verdict) → i < length claims → claim ≡ slice_index_or claims i claim → AllZip (IsVerdict g) (take i claims) verdicts → IsVerdict g claim v → more ≡ verdicts ++ v ∷ [] → AllZip (IsVerdict g) (take (i + 1) claims) more
-verdict_more g claims verdicts more i claim v lt is so_far one pushed =
-    subst (λ (z : List Verdict). AllZip (IsVerdict g) (take (i + 1) claims) z) (sym pushed)
-    (subst (λ (z : List Claim). AllZip (IsVerdict g) z (verdicts ++ v ∷ [])) (sym (take_more claims i claim lt))
-    (zip_snoc (IsVerdict g) (take i claims) verdicts (slice_index_or claims i claim) v so_far (subst (λ (z : Claim). IsVerdict g z v) is one)))
+pub verdict_more : (wide : Bool) (g : TaskGraph) (claims : List Claim) (verdicts more : List Verdict) (i : ℕ) (claim : Claim) (v : Verdict) → i < length claims → claim ≡ slice_index_or claims i claim → AllZip (IsVerdict wide g) (take i claims) verdicts → IsVerdict wide g claim v → more ≡ verdicts ++ v ∷ [] → AllZip (IsVerdict wide g) (take (i + 1) claims) more
+verdict_more wide g claims verdicts more i claim v lt is so_far one pushed =
+    subst (λ (z : List Verdict). AllZip (IsVerdict wide g) (take (i + 1) claims) z) (sym pushed)
+    (subst (λ (z : List Claim). AllZip (IsVerdict wide g) z (verdicts ++ v ∷ [])) (sym (take_more claims i claim lt))
+    (zip_snoc (IsVerdict wide g) (take i claims) verdicts (slice_index_or claims i claim) v so_far (subst (λ (z : Claim). IsVerdict wide g z v) is one)))
 
 -- a claim whose verdict says that it holds does so
-held_always : (g : TaskGraph) (claim : Claim) (v : Verdict) → IsVerdict g claim v → HoldsFully v → HoldsAlways g claim
-held_always g claim (verdict.Holds splits empty) is holds = is.always
-held_always g claim (verdict.Fails run) is holds = absurd holds
-held_always g claim (verdict.Unknown tried) is holds = absurd holds
+held_always : (wide : Bool) (g : TaskGraph) (claim : Claim) (v : Verdict) → IsVerdict wide g claim v → HoldsFully v → HoldsAlways g claim
+held_always wide g claim (verdict.Holds splits empty) is holds = is.always
+held_always wide g claim (verdict.Fails run) is holds = absurd holds
+held_always wide g claim (verdict.Unknown tried) is holds = absurd holds
 
-each_held : (g : TaskGraph) (claims : List Claim) (verdicts : List Verdict) → AllZip (IsVerdict g) claims verdicts → AllByRecursion HoldsFully verdicts → AllByRecursion (HoldsAlways g) claims
-each_held g [] [] is holds = tt
-each_held g [] (v ∷ verdicts) is holds = absurd is
-each_held g (claim ∷ claims) [] is holds = absurd is
-each_held g (claim ∷ claims) (v ∷ verdicts) is holds = (held_always g claim v is.0 holds.0, each_held g claims verdicts is.1 holds.1)
+each_held : (wide : Bool) (g : TaskGraph) (claims : List Claim) (verdicts : List Verdict) → AllZip (IsVerdict wide g) claims verdicts → AllByRecursion HoldsFully verdicts → AllByRecursion (HoldsAlways g) claims
+each_held wide g [] [] is holds = tt
+each_held wide g [] (v ∷ verdicts) is holds = absurd is
+each_held wide g (claim ∷ claims) [] is holds = absurd is
+each_held wide g (claim ∷ claims) (v ∷ verdicts) is holds = (held_always wide g claim v is.0 holds.0, each_held wide g claims verdicts is.1 holds.1)
 
-pub all_held : (g : TaskGraph) (claims : List Claim) (verdicts : List Verdict) → AllZip (IsVerdict g) claims verdicts → All HoldsFully verdicts → All (HoldsAlways g) claims
-all_held g claims verdicts is holds =
-    All-from_recursion (HoldsAlways g) claims (each_held g claims verdicts is (recursion_from_All HoldsFully verdicts holds))
+pub all_held : (wide : Bool) (g : TaskGraph) (claims : List Claim) (verdicts : List Verdict) → AllZip (IsVerdict wide g) claims verdicts → All HoldsFully verdicts → All (HoldsAlways g) claims
+all_held wide g claims verdicts is holds =
+    All-from_recursion (HoldsAlways g) claims (each_held wide g claims verdicts is (recursion_from_All HoldsFully verdicts holds))

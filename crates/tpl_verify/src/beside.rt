@@ -3,10 +3,12 @@
 ghost use Rattle.std.specs.Prelude.{◌≡◌, ◌<◌, ℕ, length, map, IfOk, IfSome, Some, None, slice_get, slice_index_or};
 ghost use Rattle.std.specs.List.{All, AllZip};
 ghost use Rattle.tpl_graph.specs.Fits.{Fits};
+ghost use Rattle.tpl_model.specs.Certificate.{is_wide};
 ghost use Rattle.tpl_verify.specs.declared.verdict.Verdict.{Verdict};
 ghost use Rattle.tpl_verify.specs.Verdicts.{IsVerdict};
 ghost use Rattle.tpl_verify.specs.Beside.{IsVerdictAt};
 
+use crate::attend::Attend;
 use crate::limits::Limits;
 use crate::verdict::Verdict;
 use crate::verifying::verify_claim;
@@ -14,22 +16,28 @@ use std::alloc::{AllocError, Global};
 use std::thread;
 use std::thread::Threads;
 use tpl_graph::{Claim, Graph};
+use tpl_model::RuleSet;
 
 /// The verdict on the claim at this place; none where memory was refused.
-fn verdict_at(
+fn verdict_at<A: Attend>(
     alloc: Global,
     graph: &Graph,
     claims: &[Claim],
+    rules: RuleSet,
     limits: &Limits,
+    attend: &A,
     at: usize,
 ) -> Option<Verdict>
     requires claims { All (Fits graph.now.graph) claims.now }
     requires at { at < length claims.now }
-    ensures { IfSome result (IsVerdictAt graph.now.graph claims.now at) }
+    ensures { IfSome result (IsVerdictAt (is_wide rules) graph.now.graph claims.now at) }
 {
     let number = at as u64 + 1;
-    match verify_claim(alloc, graph, &claims[at], number, limits) {
-        Ok(verdict) => Some(verdict),
+    match verify_claim(alloc, graph, &claims[at], rules, number, limits) {
+        Ok(verdict) => {
+            attend.judged(at + 1, &verdict);
+            Some(verdict)
+        }
         Err(_) => None,
     }
 }
@@ -120,24 +128,27 @@ fn answers<R: Threads + Sync, F: Fn(usize) -> Option<Verdict> + Sync>(
 }
 
 /// The verdicts on the claims, as `verify` gives them, by at most this many threads beside each other. Each verdict
-/// comes from its graph, claim, number and limits alone, so they are the same for every number of threads.
-pub fn verify_beside<R: Threads + Sync>(
+/// comes from its graph, claim, rules, number and limits alone, so they are the same for every number of threads. Who attends is
+/// told of each verdict as soon as it is found.
+pub fn verify_beside<R: Threads + Sync, A: Attend>(
     rt: &R,
     alloc: Global,
     graph: &Graph,
     claims: &[Claim],
+    rules: RuleSet,
     limits: &Limits,
     jobs: usize,
+    attend: &A,
 ) -> Result<Vec<Verdict>, AllocError>
     requires claims { All (Fits graph.now.graph) claims.now }
     requires jobs { 0 < jobs }
     ensures { IfOk result (λ verdicts.
-        AllZip (IsVerdict graph.now.graph) claims.now verdicts.items) }
+        AllZip (IsVerdict (is_wide rules) graph.now.graph) claims.now verdicts.items) }
 {
     let answer = |at: usize| -> Option<Verdict>
         requires { All (Fits graph.now.graph) claims.now × (at < length claims.now) }
-        ensures { IfSome result (IsVerdictAt graph.entry.now.graph claims.entry.now at) }
-    { verdict_at(alloc, graph, claims, limits, at) };
+        ensures { IfSome result (IsVerdictAt (is_wide rules) graph.entry.now.graph claims.entry.now at) }
+    { verdict_at(alloc, graph, claims, rules, limits, attend, at) };
     let verdicts = answers(rt, alloc, claims.len(), jobs, &answer)?;
     Ok(verdicts)
 }

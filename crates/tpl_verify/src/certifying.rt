@@ -1,17 +1,17 @@
 //! The search for a certificate of one claim.
 
 ghost use Rattle.std.specs.Prelude.{◌≡◌, ◌≤◌, ◌∷◌, [], length, IfOk, IsTrue};
-ghost use Rattle.tpl_model.specs.Certificate.{Tree};
+ghost use Rattle.tpl_model.specs.Certificate.{Tree, is_wide};
 ghost use Rattle.tpl_cert.specs.Heights.{height};
 ghost use Rattle.tpl_graph.specs.Fits.{Fits};
 ghost use Rattle.tpl_verify.specs.Verdicts.{HoldsAlways, IsCertified, under};
 
 use std::alloc::{AllocError, Global};
 use std::slice;
-use tpl_analyser::{Depth, Form, Leaves, Missed, Unwatched, analyse_within};
+use tpl_analyser::{Budget, Depth, Form, Gap, Leaves, Unwatched, analyse_within};
 use tpl_cert::{Certificate, Node, Tree};
 use tpl_graph::{Claim, Graph};
-use tpl_model::Property;
+use tpl_model::{Property, RuleSet};
 
 /// How many splits the tree has above its deepest leaf.
 fn splits_of(tree: &Tree) -> u8
@@ -37,24 +37,25 @@ fn splits_in(certificate: &Certificate) -> u8
     splits_of(&trees[0])
 }
 
-/// Searches a certificate of the claim within these limits, and says how many splits it has above its deepest leaf.
+/// Searches a certificate of the claim within this budget, and says how many splits it has above its deepest leaf.
 /// `NotFound` doesn't say that the claim is false. `Memory` says that an allocation was refused.
 pub(crate) fn certify(
     alloc: Global,
     graph: &Graph,
     claim: &Claim,
+    rules: RuleSet,
     depth: Depth,
-    leaves: Leaves,
-) -> Result<u8, Missed>
+    budget: &mut Budget<Unwatched>,
+) -> Result<u8, Gap>
     requires { Fits graph.now.graph claim.now }
-    ensures certified { IfOk result (IsCertified graph.now.graph claim.now) }
+    ensures certified { IfOk result (IsCertified (is_wide rules) graph.now.graph claim.now) }
     ensures always { IfOk result (λ splits. HoldsAlways graph.now.graph claim.now) }
 {
     graph.valid_law();
     tpl_laws::soundness();
     let alone = slice::from_ref(claim);
     let most = depth.splits();
-    let certificate = analyse_within(alloc, graph, alone, most, Form::Slim, leaves, Unwatched)?;
+    let certificate = analyse_within(alloc, graph, alone, rules, most, Form::Slim, budget)?;
     Ok(splits_in(&certificate))
 }
 
@@ -65,6 +66,7 @@ pub(crate) fn is_certified(
     graph: &Graph,
     claim: &Claim,
     body: Property,
+    rules: RuleSet,
     depth: Depth,
     leaves: Leaves,
 ) -> Result<bool, AllocError>
@@ -76,9 +78,10 @@ pub(crate) fn is_certified(
     if !other.fits(graph) {
         return Ok(false);
     }
-    match certify(alloc, graph, &other, depth, leaves) {
+    let mut budget = Budget::new(Unwatched, leaves);
+    match certify(alloc, graph, &other, rules, depth, &mut budget) {
         Ok(_) => Ok(true),
-        Err(Missed::NotFound { .. }) => Ok(false),
-        Err(Missed::Memory) => Err(AllocError),
+        Err(Gap::NotFound { .. }) => Ok(false),
+        Err(Gap::Memory) => Err(AllocError),
     }
 }

@@ -6,14 +6,14 @@ ghost use Rattle.tpl_model.specs.Rules.{to_end};
 ghost use Rattle.tpl_graph.specs.Fits.{AreGivenOf, Fits};
 ghost use Rattle.tpl_verify.specs.Verdicts.{EndsAnyhow, HasNoLabel, IsEmpty, NeedsBegin};
 
-use crate::cancels::cancels_quiet;
 use crate::certifying::is_certified;
 use crate::verdict::Empty;
 use std::alloc::{AllocError, Global};
 use tpl_analyser::{Depth, Leaves};
 use tpl_checker::assumed;
 use tpl_graph::{Claim, Graph, Kind};
-use tpl_model::{Given, Property};
+use tpl_model::{Given, Property, RuleSet};
+use tpl_outline::cancels_quiet;
 use tpl_script::may;
 use tpl_words::{Finals, TaskId};
 
@@ -62,7 +62,7 @@ fn needed(body: Property) -> (Option<TaskId>, Option<TaskId>)
         }
         Property::After(_, second) => (Some(second), None),
         Property::Observed(task) => (Some(task), None),
-        Property::Never(_) => (None, None),
+        Property::Never(_) | Property::Runs(_) => (None, None),
         Property::Excludes(one, other) => (Some(one), Some(other)),
     }
 }
@@ -82,6 +82,7 @@ fn never_begins(
     alloc: Global,
     graph: &Graph,
     claim: &Claim,
+    rules: RuleSet,
     depth: Depth,
     task: Option<TaskId>,
 ) -> Result<Option<Empty>, AllocError>
@@ -92,7 +93,7 @@ fn never_begins(
         None => Ok(None),
         Some(task) => {
             let body = Property::Never(task);
-            let never = is_certified(alloc, graph, claim, body, depth, LEAVES)?;
+            let never = is_certified(alloc, graph, claim, body, rules, depth, LEAVES)?;
             if never {
                 Ok(Some(Empty::NeverBegins(task)))
             } else {
@@ -107,25 +108,26 @@ fn lacks_begin(
     alloc: Global,
     graph: &Graph,
     claim: &Claim,
+    rules: RuleSet,
     depth: Depth,
 ) -> Result<Option<Empty>, AllocError>
     ensures { IfOk result (λ found. IfSome found (IsEmpty graph.now.graph claim.now)) }
 {
     let (first, second) = needed(claim.body());
-    match never_begins(alloc, graph, claim, depth, first)? {
+    match never_begins(alloc, graph, claim, rules, depth, first)? {
         Some(empty) => Ok(Some(empty)),
-        None => never_begins(alloc, graph, claim, depth, second),
+        None => never_begins(alloc, graph, claim, rules, depth, second),
     }
 }
 
 /// The body of the task can't throw where this is given, whatever its subject does.
-fn throws_nowhere(graph: &Graph, given: &[Given], task: TaskId) -> bool
+fn throws_nowhere(graph: &Graph, given: &[Given], rules: RuleSet, task: TaskId) -> bool
     requires given { AreGivenOf graph.now.graph given.now }
     requires task { is_task graph.now.graph task.0 }
     ensures { IsTrue result → HasNoLabel graph.now.graph given.now task.0 }
 {
     graph.valid_law();
-    let view = assumed(graph, given).view(graph.own_token(task), EACH_END);
+    let view = assumed(graph, given, rules).view(graph.own_token(task), EACH_END);
     !may(graph.body(task), &view).thrown
 }
 
@@ -135,6 +137,7 @@ fn never_throws(
     alloc: Global,
     graph: &Graph,
     claim: &Claim,
+    rules: RuleSet,
     depth: Depth,
     task: TaskId,
 ) -> Result<bool, AllocError>
@@ -143,11 +146,11 @@ fn never_throws(
     ensures { IfOk result (λ never. IsTrue never
         → HasNoLabel graph.now.graph claim.now.given task.0) }
 {
-    if throws_nowhere(graph, claim.given(), task) {
+    if throws_nowhere(graph, claim.given(), rules, task) {
         return Ok(true);
     }
     let body = Property::Final(task, UNFAULTED);
-    let never = is_certified(alloc, graph, claim, body, depth, LEAVES)?;
+    let never = is_certified(alloc, graph, claim, body, rules, depth, LEAVES)?;
     Ok(never)
 }
 
@@ -156,6 +159,7 @@ fn lacks_exception(
     alloc: Global,
     graph: &Graph,
     claim: &Claim,
+    rules: RuleSet,
     depth: Depth,
 ) -> Result<Option<Empty>, AllocError>
     requires { Fits graph.now.graph claim.now }
@@ -163,7 +167,7 @@ fn lacks_exception(
 {
     match claim.body() {
         Property::Observed(task) => {
-            let never = never_throws(alloc, graph, claim, depth, task)?;
+            let never = never_throws(alloc, graph, claim, rules, depth, task)?;
             if never {
                 Ok(Some(Empty::NeverThrows))
             } else {
@@ -194,6 +198,7 @@ fn never_ends(
     alloc: Global,
     graph: &Graph,
     claim: &Claim,
+    rules: RuleSet,
     depth: Depth,
     task: TaskId,
 ) -> Result<Option<Empty>, AllocError>
@@ -202,7 +207,7 @@ fn never_ends(
 {
     if has_to_end(graph, task) {
         let body = Property::Final(task, NO_END);
-        let never = is_certified(alloc, graph, claim, body, depth, LEAVES)?;
+        let never = is_certified(alloc, graph, claim, body, rules, depth, LEAVES)?;
         if never {
             return Ok(Some(Empty::NeverKept));
         }
@@ -216,18 +221,19 @@ fn lacks_run(
     alloc: Global,
     graph: &Graph,
     claim: &Claim,
+    rules: RuleSet,
     depth: Depth,
 ) -> Result<Option<Empty>, AllocError>
     requires { Fits graph.now.graph claim.now }
     ensures { IfOk result (λ found. IfSome found (IsEmpty graph.now.graph claim.now)) }
 {
-    let view = assumed(graph, claim.given()).view(None, NO_END);
+    let view = assumed(graph, claim.given(), rules).view(None, NO_END);
     let mut left = MOST_TRIED;
     for number in 0..graph.len() {
         let task = TaskId(number as u16);
         if left > 0 && cancels_quiet(graph.body(task).body(), &view) {
             left -= 1;
-            if let Some(empty) = never_ends(alloc, graph, claim, depth, task)? {
+            if let Some(empty) = never_ends(alloc, graph, claim, rules, depth, task)? {
                 return Ok(Some(empty));
             }
         }
@@ -241,6 +247,7 @@ pub fn why_empty(
     alloc: Global,
     graph: &Graph,
     claim: &Claim,
+    rules: RuleSet,
     depth: Depth,
 ) -> Result<Option<Empty>, AllocError>
     requires { Fits graph.now.graph claim.now }
@@ -249,11 +256,11 @@ pub fn why_empty(
     if ends_anyhow(claim.body()) {
         return Ok(Some(Empty::NamesAllEnds));
     }
-    if let Some(empty) = lacks_begin(alloc, graph, claim, depth)? {
+    if let Some(empty) = lacks_begin(alloc, graph, claim, rules, depth)? {
         return Ok(Some(empty));
     }
-    if let Some(empty) = lacks_exception(alloc, graph, claim, depth)? {
+    if let Some(empty) = lacks_exception(alloc, graph, claim, rules, depth)? {
         return Ok(Some(empty));
     }
-    lacks_run(alloc, graph, claim, depth)
+    lacks_run(alloc, graph, claim, rules, depth)
 }

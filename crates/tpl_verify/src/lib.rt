@@ -1,8 +1,8 @@
 //! What is answered of each claim of a graph: it holds, it fails, or neither is known.
 #![tactic(auto)]
 
+mod attend;
 mod beside;
-mod cancels;
 mod certifying;
 mod empty;
 mod limits;
@@ -10,6 +10,7 @@ mod summing;
 mod verdict;
 mod verifying;
 
+pub use attend::{Attend, Unattended};
 pub use beside::verify_beside;
 pub use empty::why_empty;
 pub use limits::Limits;

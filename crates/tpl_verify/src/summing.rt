@@ -1,8 +1,8 @@
 //! What the verdicts on all claims come to.
 
 ghost use Rattle.std.specs.Prelude.{◌↔◌, IsTrue};
-ghost use Rattle.std.specs.List.{All, AllZip};
-ghost use Rattle.tpl_verify.specs.Verdicts.{HoldsAlways, HoldsFully, IsVerdict};
+ghost use Rattle.std.specs.List.{All};
+ghost use Rattle.tpl_verify.specs.Verdicts.{AreVerdicts, HoldsAlways, HoldsFully};
 
 use crate::verdict::Verdict;
 use tpl_graph::{Claim, Graph};
@@ -30,7 +30,7 @@ fn each_holds(verdicts: &[Verdict]) -> bool
 /// Whether by these verdicts on its claims each one holds, and none is known to be empty. If so, each claim holds in
 /// every run of the graph, for all inputs.
 pub fn all_hold(graph: &Graph, claims: &[Claim], verdicts: &[Verdict]) -> bool
-    requires { AllZip (IsVerdict graph.now.graph) claims.now verdicts.now }
+    requires { AreVerdicts graph.now.graph claims.now verdicts.now }
     ensures when { IsTrue result ↔ All HoldsFully verdicts.now }
     ensures sound { IsTrue result → All (HoldsAlways graph.now.graph) claims.now }
 {

@@ -3,6 +3,7 @@
 ghost use Rattle.std.specs.Prelude.{IfOk};
 ghost use Rattle.std.specs.List.{All, AllZip};
 ghost use Rattle.tpl_graph.specs.Fits.{Fits};
+ghost use Rattle.tpl_model.specs.Certificate.{is_wide};
 ghost use Rattle.tpl_verify.specs.Verdicts.{HoldsAlways, IsCertified, IsVerdict};
 
 use crate::certifying::certify;
@@ -10,8 +11,9 @@ use crate::empty::why_empty;
 use crate::limits::Limits;
 use crate::verdict::{Tried, Verdict};
 use std::alloc::{AllocError, Global};
-use tpl_analyser::{Depth, Missed, RanOut};
+use tpl_analyser::{Budget, Depth, Gap, RanOut, Unwatched};
 use tpl_graph::{Claim, Graph};
+use tpl_model::RuleSet;
 use tpl_refute::{Effort, refute};
 
 /// How many random runs are made before a certificate is searched: they refute most false claims.
@@ -45,15 +47,16 @@ fn held(
     alloc: Global,
     graph: &Graph,
     claim: &Claim,
+    rules: RuleSet,
     splits: u8,
     depth: Depth,
 ) -> Result<Verdict, AllocError>
     requires fits { Fits graph.now.graph claim.now }
-    requires certified { IsCertified graph.now.graph claim.now splits }
+    requires certified { IsCertified (is_wide rules) graph.now.graph claim.now splits }
     requires always { HoldsAlways graph.now.graph claim.now }
-    ensures { IfOk result (IsVerdict graph.now.graph claim.now) }
+    ensures { IfOk result (IsVerdict (is_wide rules) graph.now.graph claim.now) }
 {
-    let empty = why_empty(alloc, graph, claim, depth)?;
+    let empty = why_empty(alloc, graph, claim, rules, depth)?;
     Ok(Verdict::Holds { splits, empty })
 }
 
@@ -62,11 +65,12 @@ fn tried(
     alloc: Global,
     graph: &Graph,
     claim: &Claim,
+    rules: RuleSet,
     effort: Effort,
     ran_out: RanOut,
 ) -> Result<Verdict, AllocError>
     requires { Fits graph.now.graph claim.now }
-    ensures { IfOk result (IsVerdict graph.now.graph claim.now) }
+    ensures { IfOk result (IsVerdict (is_wide rules) graph.now.graph claim.now) }
 {
     let sought = refute(alloc, graph, claim, effort)?;
     match sought.found {
@@ -84,19 +88,21 @@ fn certified_or_tried(
     alloc: Global,
     graph: &Graph,
     claim: &Claim,
+    rules: RuleSet,
     number: u64,
     limits: &Limits,
 ) -> Result<Verdict, AllocError>
     requires { Fits graph.now.graph claim.now }
-    ensures { IfOk result (IsVerdict graph.now.graph claim.now) }
+    ensures { IfOk result (IsVerdict (is_wide rules) graph.now.graph claim.now) }
 {
-    match certify(alloc, graph, claim, limits.depth, limits.leaves) {
-        Ok(splits) => held(alloc, graph, claim, splits, limits.depth),
-        Err(Missed::NotFound { ran_out, .. }) => {
+    let mut budget = Budget::new(Unwatched, limits.leaves);
+    match certify(alloc, graph, claim, rules, limits.depth, &mut budget) {
+        Ok(splits) => held(alloc, graph, claim, rules, splits, limits.depth),
+        Err(Gap::NotFound { .. }) => {
             let effort = all_runs(limits, number);
-            tried(alloc, graph, claim, effort, ran_out)
+            tried(alloc, graph, claim, rules, effort, budget.ran_out())
         }
-        Err(Missed::Memory) => Err(AllocError),
+        Err(Gap::Memory) => Err(AllocError),
     }
 }
 
@@ -110,17 +116,18 @@ pub fn verify_claim(
     alloc: Global,
     graph: &Graph,
     claim: &Claim,
+    rules: RuleSet,
     number: u64,
     limits: &Limits,
 ) -> Result<Verdict, AllocError>
     requires { Fits graph.now.graph claim.now }
-    ensures { IfOk result (IsVerdict graph.now.graph claim.now) }
+    ensures { IfOk result (IsVerdict (is_wide rules) graph.now.graph claim.now) }
 {
     let effort = first_runs(limits, number);
     let first = refute(alloc, graph, claim, effort)?;
     match first.found {
         Some(run) => Ok(Verdict::Fails(run)),
-        None => certified_or_tried(alloc, graph, claim, number, limits),
+        None => certified_or_tried(alloc, graph, claim, rules, number, limits),
     }
 }
 
@@ -129,16 +136,17 @@ pub fn verify(
     alloc: Global,
     graph: &Graph,
     claims: &[Claim],
+    rules: RuleSet,
     limits: &Limits,
 ) -> Result<Vec<Verdict>, AllocError>
     requires { All (Fits graph.now.graph) claims.now }
     ensures { IfOk result (λ verdicts.
-        AllZip (IsVerdict graph.now.graph) claims.now verdicts.items) }
+        AllZip (IsVerdict (is_wide rules) graph.now.graph) claims.now verdicts.items) }
 {
     let mut verdicts = Vec::new(alloc);
     for at in 0..claims.len() {
         let number = at as u64 + 1;
-        let verdict = verify_claim(alloc, graph, &claims[at], number, limits)?;
+        let verdict = verify_claim(alloc, graph, &claims[at], rules, number, limits)?;
         verdicts.push(verdict)?;
     }
     Ok(verdicts)

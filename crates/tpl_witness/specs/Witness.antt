@@ -52,7 +52,7 @@ pub record IsRefutation (asked : Option ℕ) (doc : DocumentValue) (text : List 
   pub only : (other : DocumentValue) → Spells text other → other ≡ refuted_by doc inputs events
   pub journal : IsJournal doc.graph (lines doc.graph.names events) events
   pub audited : IsAuditedSo (length events) text
-  pub unproved : (certificate : List Tree) → Accepts doc.graph.graph doc.claims certificate → ⊥
+  pub unproved : (wide : Bool) (certificate : List Tree) → Accepts wide doc.graph.graph doc.claims certificate → ⊥
   pub json : List ℕ
   pub compact : json ≡ print (tokens json)
   pub ends : text ≡ json ++ codes "\n"

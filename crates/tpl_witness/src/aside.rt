@@ -1,23 +1,17 @@
-//! What is written aside, for people. No answer depends on it.
+//! What is told beside the answer, for people. No answer depends on it.
 
 use crate::search::Search;
 use std::alloc::{AllocError, Global};
-use std::io::Write;
-use tpl_journal::{Counting, write_whole};
+use tpl_commands::Listen;
 use tpl_refute::Sought;
 
-/// Writes the text as far as that can be.
-fn tell<P: Write>(text: &str, aside: &mut Counting<P>) {
-    let _ = write_whole(text.as_bytes(), aside);
-}
-
 /// Says how the search for a claim has ended.
-pub(crate) fn tell_end<P: Write>(
+pub(crate) fn tell_end<L: Listen>(
     alloc: Global,
     number: usize,
     search: Search,
     sought: &Sought,
-    aside: &mut Counting<P>,
+    listener: L,
 ) -> Result<(), AllocError> {
     let runs = sought.runs;
     let text = if sought.found.is_some() {
@@ -29,21 +23,37 @@ pub(crate) fn tell_end<P: Write>(
     } else {
         format!(in alloc; "claim {number}: not refuted in {runs} runs\n")?
     };
-    tell(text.as_str(), aside);
+    listener.tells(text.as_str());
     Ok(())
 }
 
 /// Shows the run after whose last event the claim fails.
-pub(crate) fn tell_run<P: Write>(
+pub(crate) fn tell_run<L: Listen>(
     alloc: Global,
     number: usize,
     journal: &str,
-    aside: &mut Counting<P>,
+    listener: L,
 ) -> Result<(), AllocError> {
     let text = match journal.strip_suffix("\n") {
         Some(events) => format!(in alloc; "{events} <- claim {number} fails here\n")?,
         None => format!(in alloc; "claim {number} fails before the first event\n")?,
     };
-    tell(text.as_str(), aside);
+    listener.tells(text.as_str());
+    Ok(())
+}
+
+/// Says how many claims there are, where the one that is asked for isn't there.
+pub(crate) fn tell_missing<L: Listen>(
+    alloc: Global,
+    number: usize,
+    count: usize,
+    listener: L,
+) -> Result<(), AllocError> {
+    let text = match count {
+        0 => format!(in alloc; "claim {number}: the document has no claim\n")?,
+        1 => format!(in alloc; "claim {number}: the document has 1 claim\n")?,
+        _ => format!(in alloc; "claim {number}: the document has {count} claims\n")?,
+    };
+    listener.tells(text.as_str());
     Ok(())
 }

@@ -9,8 +9,7 @@ ghost use Rattle.tpl_witness.specs.Witness.{IsFound};
 use crate::aside::tell_end;
 use crate::search::Search;
 use std::alloc::{AllocError, Global};
-use std::io::Write;
-use tpl_journal::Counting;
+use tpl_commands::Listen;
 use tpl_reader::Document;
 use tpl_refute::{Counterexample, Effort, refute};
 
@@ -32,11 +31,11 @@ fn share(search: Search, left: u64, claims: usize) -> u64 {
 }
 
 /// The first run that is found, claim by claim. Each claim has random numbers of its own.
-pub(crate) fn find<P: Write>(
+pub(crate) fn find<L: Listen>(
     alloc: Global,
     search: Search,
     document: &Document,
-    aside: &mut Counting<P>,
+    listener: L,
 ) -> Result<Option<Found>, AllocError>
     requires { All (Fits document.now.graph.graph) document.now.claims.items }
     ensures { IfOk result (λ o. IfSome o (λ found. IsFound search.claim (doc_of document.now)
@@ -56,7 +55,7 @@ pub(crate) fn find<P: Write>(
             let sought = refute(alloc, &document.graph, claim, effort)?;
             left = left.saturating_sub(events.saturating_sub(sought.left));
             if search.explain {
-                tell_end(alloc, number, search, &sought, aside)?;
+                tell_end(alloc, number, search, &sought, listener)?;
             }
             if let Some(run) = sought.found {
                 return Ok(Some(Found { number, run }));

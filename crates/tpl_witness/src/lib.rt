@@ -9,5 +9,7 @@ mod search;
 mod start;
 mod text;
 
+pub use journal::journal_text;
 pub use refuting::refute_document;
 pub use search::Search;
+pub use start::input_members;

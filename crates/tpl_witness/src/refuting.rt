@@ -1,35 +1,34 @@
 //! The search for runs in which the claims of a document fail, from a reader to a writer.
 
-ghost use Rattle.std.specs.Prelude.{◌≡◌, ◌+◌, ◌≤◌, IfOk, IfSome, string_bytes};
+ghost use Rattle.std.specs.Prelude.{◌≡◌, ◌+◌, ◌≤◌, IfOk, string_bytes};
 ghost use Rattle.std.specs.List.{All};
 ghost use Rattle.tpl_graph.specs.Fits.{Fits};
 ghost use Rattle.tpl_journal.specs.Counting.{calls_of};
 ghost use Rattle.tpl_reader.specs.Document.{Spells};
 ghost use Rattle.tpl_reader.specs.SeenDocument.{doc_of};
-ghost use Rattle.tpl_commands.specs.Finding.{IsFindingOf};
 ghost use Rattle.tpl_commands.specs.Responding.{longest, Responds};
 ghost use Rattle.tpl_witness.specs.Serving.{Refuted, Unrefuted};
 ghost use Rattle.tpl_witness.specs.Witness.{IsFound, IsSearched, Searches};
 
-use crate::aside::tell_run;
+use crate::aside::{tell_missing, tell_run};
 use crate::finding::{Found, find};
 use crate::journal::journal_text;
 use crate::search::{Search, has_claim};
 use crate::text::text_with;
 use std::alloc::{AllocError, Global};
 use std::io::{Read, Write};
-use tpl_commands::{Answer, Answered, Exit, Listen, put_answered, read_input, unread};
+use tpl_commands::{Answer, Answered, Command, Exit, Listen, respond, unread};
 use tpl_journal::{Counting, fault_is_no_journal, spells_run, text_is_unambiguous};
-use tpl_reader::{Document, LONGEST, one_document, read_document};
+use tpl_reader::{Document, LONGEST, one_document, read_document_heard};
 
 /// The document with the run that was found.
-fn refutation<P: Write>(
+fn refutation<L: Listen>(
     alloc: Global,
     search: Search,
+    listener: L,
     bytes: &[u8],
     document: &Document,
     found: Found,
-    aside: &mut Counting<P>,
 ) -> Result<Answer, AllocError>
     requires spelled { Spells bytes.now (doc_of document.now) }
     requires found { IsFound search.claim (doc_of document.now) found.number found.run.inputs
@@ -47,7 +46,7 @@ fn refutation<P: Write>(
     tpl_laws::soundness();
     let events = found.run.events.as_slice();
     let journal = journal_text(alloc, &document.graph, events)?;
-    tell_run(alloc, found.number, journal.as_str(), aside)?;
+    tell_run(alloc, found.number, journal.as_str(), listener)?;
     let text = text_with(alloc, bytes, document, &found.run.inputs, journal)?;
     if text.len() > LONGEST {
         return Ok(Answer {
@@ -62,12 +61,12 @@ fn refutation<P: Write>(
 }
 
 /// The answer to a document.
-fn answer_for<P: Write>(
+fn answer_for<L: Listen>(
     alloc: Global,
     search: Search,
+    listener: L,
     bytes: &[u8],
     document: &Document,
-    aside: &mut Counting<P>,
 ) -> Result<Answer, AllocError>
     requires spelled { Spells bytes.now (doc_of document.now) }
     requires claims { All (Fits document.now.graph.graph) document.now.claims.items }
@@ -76,14 +75,15 @@ fn answer_for<P: Write>(
 {
     if let Some(number) = search.claim {
         if !has_claim(document, number) {
+            tell_missing(alloc, number, document.claims.len(), listener)?;
             return Ok(Answer {
                 exit: Exit::Unreadable,
                 text: format!(in alloc; "unreadable: claim {number} Missing\n")?,
             });
         }
     }
-    match find(alloc, search, document, aside)? {
-        Some(found) => refutation(alloc, search, bytes, document, found, aside),
+    match find(alloc, search, document, listener)? {
+        Some(found) => refutation(alloc, search, listener, bytes, document, found),
         None => Ok(Answer {
             exit: Exit::Success,
             text: String::from_str(alloc, "not refuted\n")?,
@@ -91,48 +91,24 @@ fn answer_for<P: Write>(
     }
 }
 
-/// The answer to bytes.
-fn answer<P: Write>(
-    alloc: Global,
-    search: Search,
-    bytes: &[u8],
-    aside: &mut Counting<P>,
-) -> Result<Answered, AllocError>
-    ensures answer { IfOk result (λ it.
-        Searches search.claim bytes.now it.answer.exit (string_bytes it.answer.text)) }
-    ensures found { IfOk result (λ it. IfSome it.finding (IsFindingOf bytes.now)) }
-{
-    match read_document(alloc, bytes) {
-        Ok(document) => {
-            let answer = answer_for(alloc, search, bytes, &document, aside)?;
-            let finding = None;
-            Ok(Answered { answer, finding })
-        }
-        Err(fault) => unread(alloc, bytes, fault),
-    }
-}
-
-/// Reads a document and writes the answer to it.
-fn respond<L: Listen, I: Read, O: Write, P: Write>(
-    alloc: Global,
+/// The search for a run in which a claim fails, and who is told of it.
+#[derive(Drop)]
+struct Refuting<L> {
     search: Search,
     listener: L,
-    from: &mut Counting<I>,
-    to: &mut Counting<O>,
-    aside: &mut Counting<P>,
-) -> Exit
-    ensures responds { Responds (Searches search.claim) I.remaining from.old from.new
-        O.contents to.old to.new result }
-    ensures reads { calls_of from.new ≤ calls_of from.old + (longest + 2) }
-{
-    match read_input(alloc, from, to) {
-        Ok(bytes) => {
-            let answered = answer(alloc, search, &bytes, aside);
-            put_answered(answered, listener, &bytes, to)
-        }
-        Err(exit) => {
-            listener.unread(exit);
-            exit
+}
+
+impl<L: Listen> Command for Refuting<L> {
+    ghost answers = { λ this. Searches this.search.claim };
+
+    fn answer(&self, alloc: Global, bytes: &[u8]) -> Result<Answered, AllocError> {
+        match read_document_heard(alloc, bytes, self.listener) {
+            Ok(document) => {
+                let answer = answer_for(alloc, self.search, self.listener, bytes, &document)?;
+                let finding = None;
+                Ok(Answered { answer, finding })
+            }
+            Err(misread) => unread(alloc, bytes, misread),
         }
     }
 }
@@ -143,15 +119,14 @@ fn respond<L: Listen, I: Read, O: Write, P: Write>(
 /// `unreadable: claim N Missing`, and a document that is too long with its journal by `unreadable: too long`.
 ///
 /// The text is made whole before its first byte is written. A failed read ends the reading, and then nothing is
-/// written; after a failed write no more is. The run itself is written aside, for people, with the place where the
-/// claim fails; a failed write there changes nothing. Where the document can't be read, the listener is told why.
-pub fn refute_document<L: Listen, I: Read, O: Write, P: Write>(
+/// written; after a failed write no more is. The listener is told the run itself, with the place where the claim
+/// fails; and where the document can't be read, why.
+pub fn refute_document<L: Listen, I: Read, O: Write>(
     alloc: Global,
     search: Search,
     listener: L,
     from: &mut Counting<I>,
     to: &mut Counting<O>,
-    aside: &mut Counting<P>,
 ) -> Exit
     ensures responds { Responds (Searches search.claim) I.remaining from.old from.new
         O.contents to.old to.new result }
@@ -166,5 +141,5 @@ pub fn refute_document<L: Listen, I: Read, O: Write, P: Write>(
     ensures unrefuted { result ≡ Exit.Success → Unrefuted I.remaining from.old from.new
         O.contents to.old to.new search.claim }
 {
-    respond(alloc, search, listener, from, to, aside)
+    respond(&Refuting { search, listener }, alloc, listener, from, to)
 }

@@ -16,7 +16,7 @@ pub struct Search {
     pub events: u64,
     /// The seed of the random numbers. The same search is made for the same seed.
     pub seed: u64,
-    /// A line is to be written aside when the search for a claim has ended.
+    /// The listener is told when the search for a claim has ended.
     pub explain: bool,
 }
 

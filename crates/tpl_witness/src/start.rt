@@ -10,8 +10,8 @@ use std::alloc::{AllocError, Global};
 use tpl_graph::Graph;
 use tpl_words::{InputId, Inputs};
 
-/// A member for each input, with its value.
-fn input_members(
+/// A member for each input of the graph, with its value. Out of memory is the only error.
+pub fn input_members(
     alloc: Global,
     graph: &Graph,
     inputs: &Inputs,

@@ -10,7 +10,7 @@ pub const MOST_TOKENS: usize = 32;
 pub const MOST_INPUTS: usize = 16;
 
 /// The most work statements of a graph, the sites of its jobs.
-pub const MOST_SITES: u16 = 256;
+pub const MOST_SITES: usize = 256;
 
 /// The most arguments of a WhenAll or WhenAny task.
 pub const MOST_ARGUMENTS: usize = 256;

@@ -12,7 +12,7 @@ loop-number-preserved c =
     let g = c.args.graph.now.graph in
     let xs = c.args.last.now.rows.now in
     let ys = c.args.rows.now in
-    let same = same_finals c.subject.result c.subject-in-loop-number.result (not-false _ (sym c.if-ne-3.ensures)) in
+    let same = same_finals c.subject.result c.subject-in-loop-number.result (not-false _ (sym c.if-ne-4.ensures)) in
     λ t lt f. elim (cases_eq t c.loop-number.number) [
       | inl is ↦ subst (λ n. subject_set g xs n (kind g n) f ≡ subject_set g ys n (kind g n) f) (sym is)
           (sym (c.subject.ensures f) ∙ (ap (λ z. has z f) same ∙ c.subject-in-loop-number.ensures f))
@@ -24,4 +24,5 @@ returns c e t lt =
     same_view c.args.graph.now.graph c.args.last.now.assumed c.args.assumed.now c.args.last.now.rows.now c.args.rows.now t
     (same_lists _ same_possible c.args.last.now.assumed.inputs c.args.assumed.now.inputs (not-false _ (sym c.if-ne.ensures)))
     (same_lists _ beq_same c.args.last.now.assumed.quiet c.args.assumed.now.quiet (not-false _ (sym c.if-ne-2.ensures)))
+    (same_lists _ beq_same c.args.last.now.assumed.sure c.args.assumed.now.sure (not-false _ (sym c.if-ne-3.ensures)))
     (c.loop-number.invariant t (omega (arith, lt, c.loop-number-test.false, c.len-number-end.ensures.count)))

@@ -7,14 +7,13 @@ pub returns-in-Ok-clause-closes : goal.returns-in-Ok-clause-closes
 returns-in-Ok-clause-closes g c =
     let graph = c.args.graph.now.graph in
     let whole = c.is_whole.ensures.whole c.if-not-is_whole.false in
-    let agrees = c.agrees.ensures in
-    let agree = c.if-not-agrees.false in
+    let agrees = c.agrees.ensures.0 c.if-not-agrees.false in
     record {
       whole = whole;
-      claims = λ claims certificate accepts. c.soundness.ensures graph claims certificate c.valid_law.ensures.graph accepts c.args.inputs.now _ whole.run;
-      own = agrees.own agree;
+      claims = λ wide claims certificate accepts. c.soundness.ensures wide graph claims certificate c.valid_law.ensures.graph accepts c.args.inputs.now _ whole.run;
+      own = agrees.0;
       last = subst (λ (j : List Event). AllLast graph c.args.inputs.now c.args.seats.now j) c.journal.ensures.journal (c.in-Ok-true.ensures.0 c.in-Ok-true.field-0-test).1;
-      seats = agrees.seats agree;
-      seated = agrees.seated agree;
+      seats = agrees.2;
+      seated = agrees.1;
       told = c.in-Ok.ensures;
     }

@@ -3,4 +3,4 @@ use Rattle.tpl_verify.proofs.summing.all_hold.Goals as goal
 
 pub returns-clause-sound : goal.returns-clause-sound
 returns-clause-sound c so =
-    all_held c.args.graph.now.graph c.args.claims.now c.args.verdicts.now c.requires (c.each_holds.ensures.0 so)
+    all_held c.requires.0 c.args.graph.now.graph c.args.claims.now c.args.verdicts.now c.requires.1 (c.each_holds.ensures.0 so)

@@ -1,7 +1,6 @@
-use Rattle.std.proofs.Common.{◌∙◌, subst}
-use Rattle.std.proofs.lemmas.Result.{IfErr-weaker}
+use Rattle.std.proofs.Common.{subst, map}
+use Rattle.std.specs.Prelude.{IsPermutation}
 use mir.Syntax.{named}
-use Rattle.tpl_runtime.specs.Workers.{ComeBack}
 use Rattle.tpl_runtime.proofs.Crosses.{session_sync}
 use Rattle.tpl_runtime.proofs.session.Session.run.Goals as goal
 
@@ -10,5 +9,5 @@ run_crew-done-requires-sync-C g c κs within = record { shared = (session_sync (
 
 pub returns-clause-seats : goal.returns-clause-seats
 returns-clause-seats g c =
-    let count = c.run_crew-done.ensures.count ∙ c.in_default-seat_workers.ensures.count in
-    IfErr-weaker c.answer_of.result _ _ (λ e left. subst (λ n. ComeBack e.why n e.seats.items) count left.1) c.answer_of.ensures.left
+    c.answer_of.ensures.seats c.args.n
+    (subst (λ l. IsPermutation l (map (λ d. d.0.actor) c.run_crew-done.result.0.items)) c.in_default-seat_workers.ensures.all.actors c.run_crew-done.ensures.everyone)

@@ -1,0 +1,115 @@
+"""The files of docs/CI.md do what the page says, as far as a shell can: their steps are run one after another, as GitHub's
+runner and Azure's agent run them, in a folder with the program's archive and some documents. The calls of ready-made
+actions and tasks aren't run.
+"""
+import itertools
+import os
+import re
+import subprocess
+import tarfile
+import textwrap
+import xml.etree.ElementTree
+from pathlib import Path
+
+import pytest
+
+import pages
+from harness import LIMIT, TOP, Answer, Program
+
+YES, NO = 0, 1
+PAGE = (TOP / "docs/CI.md").read_text(encoding="utf-8")
+VERSION = (TOP / "VERSION").read_text(encoding="utf-8").strip()
+STEP = re.compile(r"( *(?:- )?)(?:run|script): \|\n")
+# how Azure's agent is told of a folder with programs; GitHub's runner reads a file
+PREPENDED = re.compile(r"^##vso\[task\.prependpath\](.+)$", re.MULTILINE)
+HOLDS = '{"version":1,"tasks":[{"name":"A","kind":"root","body":[]}],"claims":[{"final":"A","in":["RanToCompletion"]}]}'
+FAILS = HOLDS.replace("RanToCompletion", "Faulted")
+NO_DOCUMENT = "{"
+
+
+def steps_of(text: str):
+    """What a shell runs of a file: the lines below each key that stand further in than it."""
+    lines = text.splitlines(keepends=True)
+    for number, line in enumerate(lines, 1):
+        key = STEP.fullmatch(line)
+        if key:
+            further_in = " " * (len(key[1]) + 1)
+            yield textwrap.dedent("".join(itertools.takewhile(lambda it: it.startswith(further_in), lines[number:])))
+
+
+def files() -> dict[str, list[str]]:
+    """The steps of each file of the page that a shell runs."""
+    found = [it.text for it in pages.blocks(PAGE) if it.kind == "yaml"]
+    return {text.split("\n")[0]: list(steps_of(text)) for text in found}
+
+
+class Runner:
+    """A folder with the archive and documents, in which steps are run."""
+
+    def __init__(self, program: Program, folder: Path, documents: dict[str, str]):
+        self.folder, self.paths = folder, folder / "paths"
+        self.paths.touch()
+        (folder / "tools").mkdir()
+        name = f"taskgraph-{VERSION}-linux-x86_64"
+        with tarfile.open(folder / "tools" / f"{name}.tar.gz", "w:gz") as archive:
+            archive.add(program.path, f"{name}/taskgraph")
+        (folder / "graphs").mkdir()
+        for document, text in documents.items():
+            (folder / "graphs" / f"{document}.json").write_text(text, encoding="utf-8")
+
+    def run(self, step: str) -> Answer:
+        """Runs a step, with the folders that earlier ones named."""
+        path = [*self.paths.read_text(encoding="utf-8").splitlines(), os.environ["PATH"]]
+        environment = {**os.environ, "PATH": ":".join(path), "GITHUB_PATH": str(self.paths)}
+        words = ["bash", "--noprofile", "--norc", "-eo", "pipefail", "-c", step]
+        how = {"capture_output": True, "text": True, "timeout": LIMIT, "check": False}
+        ended = subprocess.run(words, cwd=self.folder, env=environment, **how)
+        with self.paths.open("a", encoding="utf-8") as paths:
+            paths.writelines(f"{it}\n" for it in PREPENDED.findall(ended.stdout))
+        return Answer(ended.returncode, ended.stdout, ended.stderr)
+
+    def reports(self) -> dict[str, tuple[int, int]]:
+        """How many tests each report has, and how many failed."""
+        suites = {it.stem: xml.etree.ElementTree.parse(it).getroot()[0] for it in (self.folder / "reports").glob("*.xml")}
+        return {name: (int(it.get("tests", "")), int(it.get("failures", ""))) for name, it in suites.items()}
+
+
+@pytest.mark.parametrize("steps", files().values(), ids=files())
+@pytest.mark.parametrize(
+    "documents, status, reports",
+    [
+        ({"one": HOLDS}, YES, {"one": (1, 0)}),
+        ({"one": HOLDS, "two": FAILS}, NO, {"one": (1, 0), "two": (1, 1)}),
+        ({"one": NO_DOCUMENT, "two": HOLDS}, NO, {"two": (1, 0)}),
+    ],
+    ids=["all-hold", "one-fails", "one-is-no-document"],
+)
+def test_steps(bare_program, tmp_path: Path, steps: list[str], documents: dict[str, str], status: int, reports: dict):
+    runner = Runner(bare_program, tmp_path, documents)
+    unpack, verify = steps
+    assert runner.run(unpack).exit == YES
+    answer = runner.run(verify)
+    assert answer.exit == status, answer
+    assert all(f"graphs/{it}.json" in answer.stdout for it in documents)
+    assert ("claim 1 fails" in answer.stdout) == (FAILS in documents.values())
+    assert runner.reports() == reports
+
+
+def test_each(bare_program, tmp_path: Path):
+    """The documents of a folder on lines."""
+    runner = Runner(bare_program, tmp_path, {"one": HOLDS, "three": FAILS, "two": NO_DOCUMENT})
+    (command,) = [it.text for it in pages.blocks(PAGE) if it.kind == "sh"]
+    for unpack in files().values():
+        assert runner.run(unpack[0]).exit == YES
+    answer = runner.run(command)
+    assert answer.exit == NO
+    assert [it.split()[:2] for it in answer.stdout.splitlines() if "claims" in it or "unreadable" in it] == [
+        ["1", "0"],
+        ["2", "1"],
+        ["3", "3"],
+    ]
+
+
+def test_archive_is_that_of_the_version():
+    names = set(re.findall(r"taskgraph-(\S+?)-linux-x86_64", PAGE))
+    assert names == {VERSION}

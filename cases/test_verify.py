@@ -1,0 +1,196 @@
+"""`verify` says of each claim what is so, in each of its three formats.
+
+verdicts/claims.toml has claims of which it was worked out by hand whether they hold. Of claims about graphs that are drawn
+by chance the verdicts agree with `analyse`, `check`, `refute` and `audit`, claim by claim. The same words give the same
+bytes for every number of jobs. The JSON is valid by schema/verify.schema.json and the JUnit by verdicts/junit.xsd, both
+say what the text says, and each run that is given is one in which the claim fails.
+
+The validators are Debian's python3-jsonschema and python3-lxml, which are installed where that can be done. Without the
+first nothing is tested of the schema, and that has failed; without the second that test is skipped.
+"""
+import importlib
+import json
+import random
+import re
+import sys
+import tomllib
+
+import pytest
+
+import debian
+from graphs import Drawn
+from harness import HERE, TOP, Answer, Program, slug
+from test_schema import jsonschema
+
+YES, NO = 0, 1
+FORMATS = ("text", "json", "junit")
+JOBS = ("1", "2", "8")
+DEPTH = "6"
+# how many graphs are drawn by chance, how many claims each has, and how many runs are tried for each
+DRAWN, CLAIMS, RUNS = 250, 4, "300"
+LIMIT = 300
+LINE = re.compile(r"claim (\d+) (holds|fails|empty|unknown): (.+)")
+# the verdicts that are a failure for a reporter of tests
+FAILURES = ("fails", "empty", "unknown")
+
+
+def tables() -> list[dict]:
+    """The documents of verdicts/claims.toml."""
+    return tomllib.loads((HERE / "verdicts/claims.toml").read_text(encoding="utf-8"))["document"]
+
+
+def bare(document: dict) -> dict:
+    """The document without its claims, its certificate, its start and its journal."""
+    return {name: it for name, it in document.items() if name not in ("claims", "certificate", "start", "journal")}
+
+
+def worked_out():
+    """Each document with its claims, and their verdicts."""
+    for table in tables():
+        document = bare(json.loads((TOP / table["file"]).read_text(encoding="utf-8")))
+        text = json.dumps({**document, "claims": [it["claim"] for it in table["claims"]]})
+        yield pytest.param(text, [it["verdict"] for it in table["claims"]], id=slug(table["file"].partition(".")[0]))
+
+
+def verify(program: Program, *words: str, text: str) -> Answer:
+    return program("verify", *words, given=text, limit=LIMIT)
+
+
+def verdicts(program: Program, *words: str, text: str) -> list[dict]:
+    """What the JSON says of each claim."""
+    answer = verify(program, *words, "--as", "json", text=text)
+    said = json.loads(answer.stdout)
+    assert answer.stdout == json.dumps(said, separators=(",", ":"), sort_keys=True) + "\n"
+    assert [it["claim"] for it in said["claims"]] == list(range(1, len(said["claims"]) + 1))
+    assert said["sums"] == sums(said["claims"])
+    assert answer.exit == (YES if said["sums"]["holds"] == said["sums"]["claims"] else NO)
+    return said["claims"]
+
+
+def sums(each: list[dict]) -> dict[str, int]:
+    """How many claims there are, and how many of each verdict."""
+    words = [it["verdict"] for it in each]
+    return {"claims": len(words), **{word: words.count(word) for word in ("holds", *FAILURES)}}
+
+
+def words_of(text: str) -> list[tuple[str, str, str]]:
+    """The number, the verdict and the claim of each line that has one in the text format."""
+    return [found.groups() for found in map(LINE.fullmatch, text.splitlines()) if found]
+
+
+def alone(text: str, number: int) -> dict:
+    """The document with one of its claims alone."""
+    document = json.loads(text)
+    return {**document, "claims": [document["claims"][number]]}
+
+
+def check_run(program: Program, text: str, said: dict):
+    """The run that is given is one of the graph, and the claim fails after its last event."""
+    run = said["run"]
+    start = {"start": {"inputs": run["inputs"]}} if run["inputs"] else {}
+    document = {**alone(text, said["claim"] - 1), **start, "journal": run["journal"]}
+    audit = program("audit", given=json.dumps(document))
+    assert run["events"] == run["journal"].count("\n")
+    assert (audit.exit, audit.stdout.splitlines()[1:]) == (NO, [f"claim 1 fails at {run['events']}"])
+
+
+def check_agrees(program: Program, text: str, said: dict):
+    """`analyse`, `check` and `refute` say the same of the claim, asked alone."""
+    document = json.dumps(alone(text, said["claim"] - 1))
+    found = program("analyse", "--depth", DEPTH, "--whole", "--slim", given=document, limit=LIMIT)
+    refuted = program("refute", "--claim", "1", "--runs", RUNS, given=document, limit=LIMIT)
+    if said["verdict"] in ("holds", "empty"):
+        assert program("check", given=found.stdout).stdout == "accepted\n"
+        few = program("analyse", "--depth", str(said["splits"]), given=document, limit=LIMIT)
+        assert (few.exit, refuted.exit) == (YES, YES)
+        return
+    assert (found.stdout, found.exit) == ("not found: claim 1\n", NO)
+    if said["verdict"] == "fails":
+        check_run(program, text, said)
+    else:
+        assert refuted.exit == YES
+
+
+class JUnit:
+    """The reader of JUnit's reports."""
+
+    def __init__(self, etree):
+        self.etree = etree
+        self.schema = etree.XMLSchema(etree.parse(str(HERE / "verdicts/junit.xsd")))
+
+    def read(self, text: str):
+        """The suites of a report, which is valid."""
+        suites = self.etree.fromstring(text.encode())
+        self.schema.assertValid(suites)
+        return suites
+
+
+@pytest.fixture(scope="module")
+def junit() -> JUnit:
+    """The reader of JUnit's reports, by python3-lxml."""
+    if sys.executable == debian.PYTHON and not debian.has_modules(debian.PYTHON, "lxml"):
+        debian.install("python3-lxml")
+        importlib.invalidate_caches()
+    return JUnit(pytest.importorskip("lxml.etree", reason="python3-lxml isn't there and can't be installed"))
+
+
+@pytest.fixture(scope="module")
+def described():
+    """The validator of the JSON."""
+    module = jsonschema()
+    assert module, "python3-jsonschema isn't there and can't be installed"
+    schema = json.loads((TOP / "schema/verify.schema.json").read_text(encoding="utf-8"))
+    module.Draft202012Validator.check_schema(schema)
+    return module.Draft202012Validator(schema)
+
+
+@pytest.mark.parametrize("text, wanted", worked_out())
+def test_worked_out(program, text: str, wanted: list[str]):
+    each = verdicts(program, text=text)
+    assert [it["verdict"] for it in each] == wanted
+    for said in each:
+        if said["verdict"] == "fails":
+            check_run(program, text, said)
+
+
+@pytest.mark.drawn(DRAWN)
+def test_drawn_graph(program, number: int):
+    graph = Drawn(random.Random(number))
+    text = json.dumps(graph.document(*(graph.claim() for _ in range(CLAIMS))))
+    plain = program("check", given=text)
+    if plain.stdout.startswith("unreadable:"):
+        answer = verify(program, text=text)
+        assert (answer.stdout, answer.exit) == (plain.stdout, plain.exit)
+        return
+    for said in verdicts(program, "--runs", RUNS, text=text):
+        check_agrees(program, text, said)
+
+
+@pytest.mark.parametrize("text, wanted", worked_out())
+def test_jobs(program, text: str, wanted: list[str]):
+    """The same bytes for every number of jobs, in each format."""
+    for form in FORMATS:
+        first, *others = (verify(program, "--as", form, "--jobs", jobs, "--runs", RUNS, text=text) for jobs in JOBS)
+        assert all((it.stdout, it.exit) == (first.stdout, first.exit) for it in others), form
+
+
+@pytest.mark.parametrize("text, wanted", worked_out())
+def test_formats_agree(program, junit, text: str, wanted: list[str]):
+    """The text, the JSON and the JUnit say the same of each claim."""
+    each = verdicts(program, text=text)
+    written = verify(program, text=text)
+    assert words_of(written.stdout) == [(str(it["claim"]), it["verdict"], it["text"]) for it in each]
+    last = written.stdout.splitlines()[-1]
+    assert last == ", ".join(f"{name} {count}" for name, count in sums(each).items())
+    suites = junit.read(verify(program, "--as", "junit", text=text).stdout)
+    (suite,) = suites
+    cases = suite.findall("testcase")
+    assert [it.get("name") for it in cases] == [f"claim {it['claim']}: {it['text']}" for it in each]
+    failed = [[it.get("type") for it in case] for case in cases]
+    assert failed == [[it["verdict"]] if it["verdict"] in FAILURES else [] for it in each]
+    assert (suite.get("tests"), suite.get("failures")) == (str(len(each)), str(sum(map(len, failed))))
+
+
+@pytest.mark.parametrize("text, wanted", worked_out())
+def test_schema(program, described, text: str, wanted: list[str]):
+    described.validate(json.loads(verify(program, "--as", "json", text=text).stdout))

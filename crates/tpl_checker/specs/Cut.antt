@@ -1,0 +1,16 @@
+-- How tasks in memory don't end.
+use Rattle.std.specs.Prelude.{ℕ, not, Bool, List}
+use Rattle.tpl_words.specs.declared.finals.Final.{Final}
+use Rattle.tpl_words.specs.declared.finals.Final.TheVariants.{RanToCompletion, Canceled, Faulted}
+use Rattle.tpl_words.specs.Members.{mem}
+use Rattle.tpl_checker.specs.declared.cut.Cut.{Cut}
+
+-- the tasks that don't end in this way
+abbrev pub excluded : Cut → Final → List ℕ
+excluded c RanToCompletion = c.not_ran
+excluded c Canceled = c.not_canceled
+excluded c Faulted = c.not_faulted
+
+-- t may end in f
+abbrev pub left_by : Cut → ℕ → Final → Bool
+left_by c t f = not (mem t (excluded c f))

@@ -1,0 +1,105 @@
+//! What is added to what `clap` says of a mistake: how a document is given, how options are written, which values there are.
+
+use clap::ArgMatches;
+use std::alloc::{AllocError, Global};
+
+/// How a text of `clap` begins, before a word that has no place.
+const UNEXPECTED: &str = "error: unexpected argument '";
+
+/// How a text of `clap` begins, before a word that names no command.
+const UNRECOGNIZED: &str = "error: unrecognized subcommand '";
+
+/// Whether this word stands at the front of the text, and a quotation mark behind it.
+fn is_quoted(text: &str, word: &str) -> bool {
+    match text.strip_prefix(word) {
+        Some(rest) => rest.starts_with('\''),
+        None => false,
+    }
+}
+
+/// Adds a word as a shell reads it.
+fn put_word(line: &mut String, word: &str) -> Result<(), AllocError> {
+    if word.contains(' ') {
+        write!(line, "\"{word}\"")
+    } else {
+        line.push_str(word)
+    }
+}
+
+/// The words without the one at this place, which follows as the file that standard input comes from.
+fn redirected(alloc: Global, words: &[&str], at: usize) -> Result<String, AllocError> {
+    let mut line = String::new(alloc);
+    for (number, word) in words.iter().enumerate() {
+        if number != at {
+            put_word(&mut line, word)?;
+            line.push_str(" ")?;
+        }
+    }
+    line.push_str("< ")?;
+    if let Some(file) = words.get(at) {
+        put_word(&mut line, file)?;
+    }
+    Ok(line)
+}
+
+/// What helps where the word at this place has none there: most often it is the name of a document's file.
+fn tip_for_word(alloc: Global, words: &[&str], at: usize) -> Result<String, AllocError> {
+    let word = words.get(at).copied().unwrap_or("");
+    if !word.starts_with('-') {
+        let line = redirected(alloc, words, at)?;
+        return format!(in alloc; "the document is read from standard input: {line}");
+    }
+    let tip = if word.starts_with("--") {
+        ""
+    } else {
+        "options are written out, with two hyphens"
+    };
+    String::from_str(alloc, tip)
+}
+
+/// What helps where a word names no command, if it looks like a file's name.
+fn tip_for_command(alloc: Global, word: &str) -> Result<String, AllocError> {
+    if !word.contains('.') && !word.contains('/') {
+        return Ok(String::new(alloc));
+    }
+    let line = redirected(alloc, &["taskgraph", "check", word], 2)?;
+    format!(in alloc; "the document is read from standard input, behind a command: {line}")
+}
+
+/// What helps where `clap` says this of one of the words; empty where nothing is known.
+fn tip(alloc: Global, text: &str, words: &[&str]) -> Result<String, AllocError> {
+    if let Some(named) = text.strip_prefix(UNEXPECTED) {
+        if let Some(at) = words.iter().position(|word| is_quoted(named, word)) {
+            return tip_for_word(alloc, words, at);
+        }
+    }
+    match (text.strip_prefix(UNRECOGNIZED), words.get(1)) {
+        (Some(named), Some(word)) if is_quoted(named, word) => tip_for_command(alloc, word),
+        _ => Ok(String::new(alloc)),
+    }
+}
+
+/// The text that `clap` has for these words, with what helps behind its first line.
+pub(crate) fn with_tip(alloc: Global, text: String, words: &[&str]) -> Result<String, AllocError> {
+    let tip = tip(alloc, text.as_str(), words)?;
+    match text.as_str().split_once("\n\n") {
+        Some((first, rest)) if !tip.is_empty() => {
+            format!(in alloc; "{first}\n\n  tip: {tip}\n\n{rest}")
+        }
+        _ => Ok(text),
+    }
+}
+
+/// What is said of words that `clap` takes and that mean nothing. Only the language of a picture is read behind it.
+pub(crate) fn no_meaning(alloc: Global, given: &ArgMatches<'_>) -> Result<String, AllocError> {
+    let language = match given.subcommand() {
+        Some((_, options)) => options.get_str("as"),
+        None => None,
+    };
+    match language {
+        Some(word) => format!(in alloc;
+            "error: invalid value '{word}' for '--as <LANGUAGE>'\n  [possible values: mermaid, dot]\n\nFor more information, try '--help'.\n"
+        ),
+        None => String::from_str(alloc, "error: no command\n"),
+    }
+}

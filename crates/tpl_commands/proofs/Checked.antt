@@ -1,0 +1,31 @@
+-- What the check says of a document's certificate.
+use Rattle.std.proofs.Common.{◌≡◌, ℕ, Bool, List, Result, Ok, Err, IfOk, IfErr, refl, sym, subst, inl, inr}
+use Rattle.std.specs.Prelude.{◌↔◌, IsOk}
+use Rattle.tpl_model.specs.Graph.{TaskGraph}
+use Rattle.tpl_model.specs.declared.claim.Property.{Property}
+use Rattle.tpl_model.specs.declared.fault.CertFault.{CertFault}
+use Rattle.tpl_model.specs.Certificate.{Tree, Accepts}
+use Rattle.tpl_model.specs.Claims.{Claim}
+use Rattle.tpl_laws.specs.Faults.{Branch, LeafFails, IsFirstFault, place}
+use Rattle.tpl_laws.specs.Verdict.{LeafFault, Breaks, ProvesNot, verdict}
+use Rattle.tpl_reader.specs.Document.{DocumentValue}
+use Rattle.tpl_commands.specs.Rules.{is_judged_widely}
+use Rattle.tpl_commands.specs.Checking.{ClaimsHold, IsCheckOf, NamesTask}
+
+leaf_names : (g : TaskGraph) (p : Property) (b : Branch) (why : LeafFault) (fault : CertFault) (claim leaf : ℕ) → LeafFails g p b why → fault ≡ place claim leaf why → NamesTask g fault
+leaf_names g p b (Breaks t rule) fault claim leaf fails at = subst (NamesTask g) (sym at) fails.0
+leaf_names g p b ProvesNot fault claim leaf fails at = subst (NamesTask g) (sym at) tt
+
+-- the task that the first fault names is the graph's
+names_task : (wide : Bool) (g : TaskGraph) (claims : List Claim) (trees : List Tree) (fault : CertFault) → IsFirstFault wide g claims trees fault → NamesTask g fault
+names_task wide g claims trees fault (inl shape) = subst (NamesTask g) (sym shape.at) tt
+names_task wide g claims trees fault (inr leaf) =
+    let one = leaf.1.fails in leaf_names g leaf.1.claim.body one.branch one.why fault _ _ one.fails one.at
+
+pub is_check_of : (doc : DocumentValue) (r : Result (Unit {0}) CertFault) → r ≡ verdict (is_judged_widely doc) doc.graph.graph doc.claims doc.certificate → (IsOk r ↔ Accepts (is_judged_widely doc) doc.graph.graph doc.claims doc.certificate) → IfOk r (λ x. ClaimsHold doc)
+    → IfErr r (IsFirstFault (is_judged_widely doc) doc.graph.graph doc.claims doc.certificate) → IsCheckOf doc r
+is_check_of doc (Ok x) is accepts hold first = record { verdict = sym is; accepted = accepts.0 refl; hold = hold }
+is_check_of doc (Err fault) is accepts hold first = (
+  record { verdict = sym is; first = first; not_accepted = λ accepted. let ok = accepts.1 accepted in cc },
+  names_task (is_judged_widely doc) doc.graph.graph doc.claims doc.certificate fault first,
+)

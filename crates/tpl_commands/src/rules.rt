@@ -1,0 +1,17 @@
+//! By which rules a document's certificates are judged.
+
+ghost use Rattle.std.specs.Prelude.{◌≡◌};
+ghost use Rattle.tpl_reader.specs.SeenDocument.{doc_of};
+ghost use Rattle.tpl_commands.specs.Rules.{rules_of};
+
+use tpl_model::RuleSet;
+use tpl_reader::Document;
+
+/// By which rules a document's certificates are judged: those of its version. Documents of versions 1
+/// and 2 are the only ones that are read.
+pub fn rules_of(document: &Document) -> RuleSet
+    ensures { result ≡ rules_of (doc_of document.now) }
+{
+    let _ = document;
+    RuleSet::Narrow
+}

@@ -1,0 +1,10 @@
+pub mod Lines
+pub mod Kept
+pub mod Ahead
+pub mod Taking
+pub mod Coming
+pub mod Said
+pub mod Slots
+pub mod Gathering
+pub mod Batches
+pub mod Serving

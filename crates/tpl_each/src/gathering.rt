@@ -1,0 +1,58 @@
+//! Lines that are answered together.
+
+ghost use Rattle.std.specs.Prelude.{◌≡◌, ◌≤◌, ◌^◌, ◌-◌, [], length};
+ghost use Rattle.tpl_journal.specs.Counting.{calls_of, counted, failures_of};
+ghost use Rattle.tpl_each.specs.Ahead.{coming};
+ghost use Rattle.tpl_each.specs.Gathering.{Gathers, is_failed};
+
+use crate::ahead::Ahead;
+use crate::next::{Next, next_line};
+use crate::slot::{Slot, Slots};
+use std::alloc::Global;
+use std::io::Read;
+use tpl_journal::Counting;
+
+/// What comes behind the lines that were gathered.
+#[derive(Clone, Copy, PartialEq, Eq, Debug)]
+pub(crate) enum Ends {
+    /// More lines may come.
+    More,
+    /// Nothing.
+    End,
+    /// A read failed.
+    Failed,
+    /// More reads were made than are counted.
+    Endless,
+}
+
+/// Reads at most so many lines, each into a slot without an answer.
+pub(crate) fn gather<R: Read>(
+    alloc: Global,
+    count: usize,
+    slots: &mut Slots,
+    ahead: &mut Ahead,
+    from: &mut Counting<R>,
+) -> Ends
+    requires count { count ≤ 64 }
+    requires empty { slots.old.items ≡ [] }
+    ensures gathers { Gathers (coming R.remaining ahead.old from.old)
+        (coming R.remaining ahead.new from.new) slots.new.items result }
+    ensures full { result ≡ Ends.More → length slots.new.items ≡ count }
+    ensures short { length slots.new.items ≤ count }
+    ensures failures { failures_of from.new ≡ counted (is_failed result) (failures_of from.old) }
+    ensures calls { result ≡ Ends.Endless → 2 ^ 64 - 1 ≤ calls_of from.new }
+{
+    for _ in 0..count {
+        match next_line(alloc, ahead, from) {
+            Next::Line(line) => slots.push(Slot::new(line)),
+            Next::Last(line) => {
+                slots.push(Slot::new(line));
+                return Ends::End;
+            }
+            Next::End => return Ends::End,
+            Next::Failed => return Ends::Failed,
+            Next::Endless => return Ends::Endless,
+        }
+    }
+    Ends::More
+}

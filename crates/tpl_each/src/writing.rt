@@ -1,0 +1,134 @@
+//! Answers, written with their numbers.
+
+ghost use Rattle.std.specs.Prelude.{◌≡◌, ◌+◌, ◌<◌, ◌≤◌, ◌^◌, ◌++◌, ℕ, List, true, length, map, take, drop, OnOk, OnErr, is_err};
+ghost use Rattle.std.specs.Io.KnownBytes.{Appends};
+ghost use Rattle.tpl_journal.specs.Counting.{contents_of, counted, failures_of};
+ghost use Rattle.tpl_journal.specs.Writing.{AppendsFront};
+ghost use Rattle.tpl_each.specs.Said.{head, headed, numbered};
+ghost use Rattle.tpl_each.specs.Slots.{said_of};
+
+use crate::ahead::break_in;
+use crate::slot::Slot;
+use arrayvec::ArrayString;
+use itoa::Buffer;
+use std::io::Write;
+use tpl_commands::Exit;
+use tpl_journal::{Counting, WriteFault, write_all, write_whole};
+
+/// The most bytes of what stands before a line: two numbers, of which no more is known here, and two spaces.
+const HEAD: usize = 82;
+
+/// What stands before each line of an answer.
+fn head(number: u64, exit: Exit) -> ArrayString<HEAD>
+    ensures { result.bytes ≡ head number exit }
+{
+    let mut digits = Buffer::new();
+    let mut head = ArrayString::new();
+    head.push_str(digits.format(number));
+    head.push_str(" ");
+    head.push_str(digits.format(exit.code()));
+    head.push_str(" ");
+    head
+}
+
+/// Writes what stands before each line of an answer.
+fn write_head<W: Write>(number: u64, exit: Exit, to: &mut Counting<W>) -> Result<(), WriteFault>
+    ensures ok { OnOk result (Appends (contents_of W.contents to.old)
+        (contents_of W.contents to.new) (head number exit)) }
+    ensures err { OnErr result (AppendsFront (contents_of W.contents to.old)
+        (contents_of W.contents to.new) (head number exit)) }
+    ensures failures { failures_of to.new ≡ counted (is_err result) (failures_of to.old) }
+{
+    let head = head(number, exit);
+    write_all(head.as_str().as_bytes(), to)
+}
+
+/// Writes a line behind its head.
+fn write_line<W: Write>(
+    number: u64,
+    exit: Exit,
+    line: &[u8],
+    to: &mut Counting<W>,
+) -> Result<(), WriteFault>
+    ensures ok { OnOk result (Appends (contents_of W.contents to.old)
+        (contents_of W.contents to.new) (head number exit ++ line.now)) }
+    ensures err { OnErr result (AppendsFront (contents_of W.contents to.old)
+        (contents_of W.contents to.new) (head number exit ++ line.now)) }
+    ensures failures { failures_of to.new ≡ counted (is_err result) (failures_of to.old) }
+{
+    write_head(number, exit, to)?;
+    write_all(line, to)
+}
+
+/// How many bytes the first line of a text has, with its line break.
+fn line_len(text: &[u8]) -> usize
+    requires { 0 < length text.now }
+    ensures some { 0 < result }
+    ensures within { result ≤ length text.now }
+    ensures headed { (before : List ℕ) → headed before true text.now
+        ≡ before ++ (take result text.now ++ headed before true (drop result text.now)) }
+{
+    match break_in(text) {
+        Some(place) => place + 1,
+        None => text.len(),
+    }
+}
+
+/// Writes a text with the head before each of its lines.
+fn write_text<W: Write>(
+    number: u64,
+    exit: Exit,
+    text: &[u8],
+    to: &mut Counting<W>,
+) -> Result<(), WriteFault>
+    ensures ok { OnOk result (Appends (contents_of W.contents to.old)
+        (contents_of W.contents to.new) (headed (head number exit) true text.now)) }
+    ensures err { OnErr result (AppendsFront (contents_of W.contents to.old)
+        (contents_of W.contents to.new) (headed (head number exit) true text.now)) }
+    ensures failures { failures_of to.new ≡ counted (is_err result) (failures_of to.old) }
+{
+    let mut rest = text;
+    while !rest.is_empty() {
+        let (line, more) = rest.split_at(line_len(rest));
+        write_line(number, exit, line, to)?;
+        rest = more;
+    }
+    Ok(())
+}
+
+/// Writes the answers of the slots, the first with this number.
+fn write_answers<W: Write>(
+    slots: &[Slot],
+    number: u64,
+    to: &mut Counting<W>,
+) -> Result<(), WriteFault>
+    requires { number + length slots.now < 2 ^ 64 }
+    ensures ok { OnOk result (Appends (contents_of W.contents to.old)
+        (contents_of W.contents to.new) (numbered number (map said_of slots.now))) }
+    ensures err { OnErr result (AppendsFront (contents_of W.contents to.old)
+        (contents_of W.contents to.new) (numbered number (map said_of slots.now))) }
+    ensures failures { failures_of to.new ≡ counted (is_err result) (failures_of to.old) }
+{
+    for at in 0..slots.len() {
+        let slot = &slots[at];
+        write_text(number + at as u64, slot.exit(), slot.text(), to)?;
+    }
+    Ok(())
+}
+
+/// Writes the answers of the slots, the first with this number, and flushes them.
+pub(crate) fn put_answers<W: Write>(
+    slots: &[Slot],
+    number: u64,
+    to: &mut Counting<W>,
+) -> Result<(), WriteFault>
+    requires { number + length slots.now < 2 ^ 64 }
+    ensures ok { OnOk result (Appends (contents_of W.contents to.old)
+        (contents_of W.contents to.new) (numbered number (map said_of slots.now))) }
+    ensures err { OnErr result (AppendsFront (contents_of W.contents to.old)
+        (contents_of W.contents to.new) (numbered number (map said_of slots.now))) }
+    ensures failures { failures_of to.new ≡ counted (is_err result) (failures_of to.old) }
+{
+    write_answers(slots, number, to)?;
+    write_whole(b"", to)
+}

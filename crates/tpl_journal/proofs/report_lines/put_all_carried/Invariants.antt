@@ -1,0 +1,10 @@
+use Rattle.std.proofs.Common.{◌++◌, take, flat_map}
+use Rattle.std.specs.Prelude.{codes}
+use Rattle.tpl_words.specs.declared.ids.TaskId.{TaskId}
+use Rattle.tpl_journal.specs.ReportText.{exception_text}
+use Rattle.tpl_journal.specs.Writing.{Writes}
+use Rattle.tpl_journal.proofs.report_lines.put_all_carried.Given as goal
+
+abbrev pub invariant-loop-task : goal.invariant-loop-task
+invariant-loop-task g l =
+    Writes g.W.Write.contents l.initial.to l.to (flat_map (λ (t : TaskId). codes " " ++ exception_text l.graph.names l.labels t.0) (take l.task-index l.tasks))

@@ -1,0 +1,258 @@
+-- A job has failed just where its task's label says so.
+use Rattle.std.proofs.Common.{◌≡◌, ℕ, zero, suc, ◌+◌, ◌≤◌, ◌++◌, ◌||◌, ◌⊎◌, inl, inr, Bool, true, false, cond, if◌then◌else◌, Option, Some, None, List, [], ◌∷◌, refl, sym, ap, ◌∙◌, subst, arith, flat_map, nat_eq, is_some, slice_index_or}
+use Rattle.std.proofs.lemmas.Bool.{cases_Bool, or_cases, or_left, or_right}
+use Rattle.tpl_words.proofs.MemberLemmas.{same_self, mem_append, mem_left, mem_right}
+use Rattle.std.proofs.lemmas.List.Recursion.{is_count_by}
+use Rattle.std.proofs.lemmas.List.Concat.{flat_map-cons}
+use Rattle.tpl_words.specs.Members.{mem}
+use Rattle.tpl_model.specs.Valid.{all_sites}
+use Rattle.tpl_laws.proofs.GraphDecided.{counted}
+use Rattle.tpl_laws.proofs.Execution.{IsKept, rest_keeps}
+use Rattle.tpl_words.proofs.Truths.{true_false}
+use Rattle.tpl_words.specs.declared.ids.SiteId.{SiteId}
+use Rattle.tpl_words.specs.declared.status.Label.{Label}
+use Rattle.tpl_words.specs.declared.status.Label.TheVariants.{WorkFailed}
+use Rattle.tpl_words.specs.declared.status.Actor.{Actor}
+use Rattle.tpl_words.specs.declared.status.Answer.TheVariants.{Done, Failed}
+use Rattle.tpl_script.specs.declared.outcome.Outcome.{Outcome}
+use Rattle.tpl_script.specs.declared.outcome.Outcome.TheVariants.{Threw, Acknowledged}
+use Rattle.tpl_script.specs.Statements.{Return, Throw, Check, Cancel, Start, Observe, Work, If, When, Statements, Nothing, ◌⨾◌, followed_by, sites, sites_of}
+use Rattle.tpl_script.specs.Paths.{cancellation, is_own}
+use Rattle.tpl_model.specs.Graph.{TaskGraph, Task, Root, task, kind, body}
+use Rattle.tpl_model.specs.declared.event.Act.{Act}
+use Rattle.tpl_model.specs.declared.event.Act.TheVariants.{Request, Release, Begin, Step, Worked, Leave, Close, Drop, Settle}
+use Rattle.tpl_model.specs.declared.event.Event.{Event}
+use Rattle.tpl_model.specs.Facts.{Ending, on, over, stepped, worked, outcome_in, outcome_of, has_final, subject_in, is_work, fails_by, rest, requested, failed, ending}
+use Rattle.tpl_model.specs.Rules.{Allows, Run, label, label_in}
+use Rattle.tpl_laws.proofs.Basics.{if_true, if_false, same_number}
+use Rattle.tpl_laws.proofs.Kept.{after}
+use Rattle.tpl_laws.proofs.Observing.{label_verdict}
+use Rattle.tpl_laws.specs.Runs.{FailedByItsLabel}
+
+abbrev Fails : ℕ → Option Outcome
+Fails site = let id : SiteId = record { 0 = site } in Some (Threw (WorkFailed id))
+
+-- a body that threw stays as it is
+threw_outcome : (o : Option Outcome) (left : Statements) (lb : Label) → outcome_of o left ≡ Some (Threw lb) → is_some o ≡ true
+threw_outcome (Some x) left lb e = refl
+threw_outcome None Nothing lb e = absurd (cc)
+threw_outcome None (s ⨾ more) lb e = absurd (cc)
+
+threw_stays : (g : TaskGraph) (v : List Bool) (h : List Event) (a : Actor) (x : Act) (t : ℕ) (lb : Label) → Allows g v h a x → outcome_in (rest g v h t) ≡ Some (Threw lb) → outcome_in (rest g v (after a x h) t) ≡ Some (Threw lb)
+threw_stays g v h a (Step s) t lb al e =
+    elim (cases_Bool (nat_eq s.0 t)) [
+      | inl q ↦ true_false (sym (threw_outcome (rest g v h s.0).outcome (rest g v h s.0).left lb (subst (λ z. outcome_in (rest g v h z) ≡ Some (Threw lb)) (sym (same_number s.0 t q)) e)) ∙ al.1)
+      | inr q ↦ ap outcome_in (if_false (nat_eq s.0 t) (stepped g v t (rest g v h t).left (requested g v h) (ending g v h)) (rest g v h t) q) ∙ e
+    ]
+threw_stays g v h a (Worked s w) t lb al e =
+    elim (cases_Bool (nat_eq s.0 t)) [
+      | inl q ↦ true_false (sym (threw_outcome (rest g v h s.0).outcome (rest g v h s.0).left lb (subst (λ z. outcome_in (rest g v h z) ≡ Some (Threw lb)) (sym (same_number s.0 t q)) e)) ∙ al.1)
+      | inr q ↦ ap outcome_in (if_false (nat_eq s.0 t) (worked w (rest g v h t).left) (rest g v h t) q) ∙ e
+    ]
+threw_stays g v h a (Request s) t lb al e = e
+threw_stays g v h a (Release s) t lb al e = e
+threw_stays g v h a (Begin s) t lb al e = e
+threw_stays g v h a (Leave s) t lb al e = e
+threw_stays g v h a (Close s) t lb al e = e
+threw_stays g v h a (Drop s) t lb al e = e
+threw_stays g v h a (Settle s) t lb al e = e
+
+-- the body whose job has failed
+fails_work : (site : ℕ) (left : Statements) → is_work site left ≡ true → outcome_in (worked Failed left) ≡ Fails site
+fails_work site Nothing e = true_false (sym e)
+fails_work site (Return ⨾ more) e = true_false (sym e)
+fails_work site (Throw l ⨾ more) e = true_false (sym e)
+fails_work site (Check k ⨾ more) e = true_false (sym e)
+fails_work site (Cancel k ⨾ more) e = true_false (sym e)
+fails_work site (Start c ⨾ more) e = true_false (sym e)
+fails_work site (Observe ⨾ more) e = true_false (sym e)
+fails_work site (Work n m ⨾ more) e = ap Fails (same_number n site e)
+fails_work site (If i x y ⨾ more) e = true_false (sym e)
+fails_work site (When f x y ⨾ more) e = true_false (sym e)
+
+-- no other act than the answer makes a body fail so
+goes_on : (left : Statements) (lb : Label) → outcome_in (on left) ≡ Some (Threw lb) → ⊥
+goes_on Nothing lb e = absurd (cc)
+goes_on (s ⨾ more) lb e = absurd (cc)
+
+no_step : (g : TaskGraph) (v : List Bool) (t : ℕ) (left : Statements) (req : ℕ → Bool) (en : ℕ → Option Ending) (site : ℕ) → outcome_in (stepped g v t left req en) ≡ Fails site → ⊥
+no_step g v t Nothing req en site e = goes_on Nothing _ e
+no_step g v t (Return ⨾ more) req en site e = absurd (cc)
+no_step g v t (Throw l ⨾ more) req en site e = absurd (cc)
+no_step g v t (Check k ⨾ more) req en site e = by_request (req k) (is_own (task g t).token k) e
+  where
+    by_request : (b c : Bool) → outcome_in (if b then over (if c then Acknowledged else cancellation None k) else on more) ≡ Fails site → ⊥
+    by_request true true q = absurd (cc)
+    by_request true false q = absurd (cc)
+    by_request false c q = goes_on more _ q
+no_step g v t (Cancel k ⨾ more) req en site e = goes_on more _ e
+no_step g v t (Start c ⨾ more) req en site e = goes_on more _ e
+no_step g v t (Observe ⨾ more) req en site e = goes_on more _ e
+no_step g v t (Work n m ⨾ more) req en site e = goes_on (Work n m ⨾ more) _ e
+no_step g v t (If i x y ⨾ more) req en site e = goes_on (followed_by (if slice_index_or v i false then x else y) more) _ e
+no_step g v t (When f x y ⨾ more) req en site e = goes_on (followed_by (if has_final f en (subject_in g (kind g t) en) then x else y) more) _ e
+
+abbrev site_in : Option Outcome → ℕ
+site_in (Some (Threw (WorkFailed s))) = s.0
+site_in o = 0
+
+work_site : (site : ℕ) (left : Statements) → outcome_in (worked Failed left) ≡ Fails site → is_work site left ≡ true
+work_site site Nothing e = absurd (goes_on Nothing _ e)
+work_site site (Return ⨾ more) e = absurd (goes_on (Return ⨾ more) _ e)
+work_site site (Throw l ⨾ more) e = absurd (goes_on (Throw l ⨾ more) _ e)
+work_site site (Check k ⨾ more) e = absurd (goes_on (Check k ⨾ more) _ e)
+work_site site (Cancel k ⨾ more) e = absurd (goes_on (Cancel k ⨾ more) _ e)
+work_site site (Start c ⨾ more) e = absurd (goes_on (Start c ⨾ more) _ e)
+work_site site (Observe ⨾ more) e = absurd (goes_on (Observe ⨾ more) _ e)
+work_site site (Work n m ⨾ more) e = subst (λ z. nat_eq n z ≡ true) (ap site_in e) (same_self n)
+work_site site (If i x y ⨾ more) e = absurd (goes_on (If i x y ⨾ more) _ e)
+work_site site (When f x y ⨾ more) e = absurd (goes_on (When f x y ⨾ more) _ e)
+
+threw_failed : (g : TaskGraph) (v : List Bool) (h : List Event) (site t : ℕ) → outcome_in (rest g v h t) ≡ Fails site → failed g v h site ≡ true
+threw_failed g v [] site t e = absurd (goes_on (body g t) _ e)
+threw_failed g v (x ∷ h) site t e = here (threw_failed g v h site t) x.act e
+  where
+    older : (outcome_in (rest g v h t) ≡ Fails site → failed g v h site ≡ true) → (act : Act) → outcome_in (rest g v h t) ≡ Fails site → fails_by site act (rest g v h) || failed g v h site ≡ true
+    older old act q = or_right (fails_by site act (rest g v h)) (failed g v h site) (old q)
+
+    here : (outcome_in (rest g v h t) ≡ Fails site → failed g v h site ≡ true) → (act : Act) → outcome_in (rest g v (after x.actor act h) t) ≡ Fails site → fails_by site act (rest g v h) || failed g v h site ≡ true
+    here old (Step s) q =
+        elim (cases_Bool (nat_eq s.0 t)) [
+          | inl n ↦ absurd (no_step g v t (rest g v h t).left (requested g v h) (ending g v h) site (sym (ap outcome_in (if_true (nat_eq s.0 t) (stepped g v t (rest g v h t).left (requested g v h) (ending g v h)) (rest g v h t) n)) ∙ q))
+          | inr n ↦ older old (Step s) (sym (ap outcome_in (if_false (nat_eq s.0 t) (stepped g v t (rest g v h t).left (requested g v h) (ending g v h)) (rest g v h t) n)) ∙ q)
+        ]
+    here old (Worked s Done) q =
+        elim (cases_Bool (nat_eq s.0 t)) [
+          | inl n ↦ absurd (no_done (rest g v h t).left (sym (ap outcome_in (if_true (nat_eq s.0 t) (worked Done (rest g v h t).left) (rest g v h t) n)) ∙ q))
+          | inr n ↦ older old (Worked s Done) (sym (ap outcome_in (if_false (nat_eq s.0 t) (worked Done (rest g v h t).left) (rest g v h t) n)) ∙ q)
+        ]
+      where
+        no_done : (left : Statements) → outcome_in (worked Done left) ≡ Fails site → ⊥
+        no_done Nothing e = goes_on Nothing _ e
+        no_done (s ⨾ more) e = goes_on more _ e
+    here old (Worked s Failed) q =
+        elim (cases_Bool (nat_eq s.0 t)) [
+          | inl n ↦
+              or_left (fails_by site (Worked s Failed) (rest g v h)) (failed g v h site)
+              (subst (λ z. is_work site (rest g v h z).left ≡ true) (sym (same_number s.0 t n)) (work_site site (rest g v h t).left (sym (ap outcome_in (if_true (nat_eq s.0 t) (worked Failed (rest g v h t).left) (rest g v h t) n)) ∙ q)))
+          | inr n ↦ older old (Worked s Failed) (sym (ap outcome_in (if_false (nat_eq s.0 t) (worked Failed (rest g v h t).left) (rest g v h t) n)) ∙ q)
+        ]
+    here old (Request s) q = older old (Request s) q
+    here old (Release s) q = older old (Release s) q
+    here old (Begin s) q = older old (Begin s) q
+    here old (Leave s) q = older old (Leave s) q
+    here old (Close s) q = older old (Close s) q
+    here old (Drop s) q = older old (Drop s) q
+    here old (Settle s) q = older old (Settle s) q
+
+-- a job that failed stands in the body of its task
+sites_ahead : (site : ℕ) (a more : Statements) → mem site (sites (followed_by a more)) ≡ true → (mem site (sites a) ≡ true) ⊎ (mem site (sites more) ≡ true)
+sites_ahead site Nothing more e = inr e
+sites_ahead site (s ⨾ a) more e =
+    elim (mem_append site (sites_of s) (sites (followed_by a more)) e) [
+      | inl x ↦ inl (mem_left site (sites_of s) (sites a) x)
+      | inr y ↦ elim (sites_ahead site a more y) [ inl z ↦ inl (mem_right site (sites_of s) (sites a) z) | inr z ↦ inr z ]
+    ]
+
+sites_kept : (site : ℕ) (whole : Statements) → IsKept (λ left. mem site (sites left) ≡ true → mem site (sites whole) ≡ true)
+sites_kept site whole = record {
+  empty = λ e. true_false (sym e);
+  tail = λ s more q e. q (mem_right site (sites_of s) (sites more) e);
+  first_if = λ i a b more q e. q (first a b more (sites_ahead site a more e));
+  second_if = λ i a b more q e. q (second a b more (sites_ahead site b more e));
+  first_when = λ f a b more q e. q (first a b more (sites_ahead site a more e));
+  second_when = λ f a b more q e. q (second a b more (sites_ahead site b more e));
+}
+  where
+    first : (a b more : Statements) → (mem site (sites a) ≡ true) ⊎ (mem site (sites more) ≡ true) → mem site ((sites a ++ sites b) ++ sites more) ≡ true
+    first a b more (inl x) = mem_left site (sites a ++ sites b) (sites more) (mem_left site (sites a) (sites b) x)
+    first a b more (inr y) = mem_right site (sites a ++ sites b) (sites more) y
+
+    second : (a b more : Statements) → (mem site (sites b) ≡ true) ⊎ (mem site (sites more) ≡ true) → mem site ((sites a ++ sites b) ++ sites more) ≡ true
+    second a b more (inl x) = mem_left site (sites a ++ sites b) (sites more) (mem_right site (sites a) (sites b) x)
+    second a b more (inr y) = mem_right site (sites a ++ sites b) (sites more) y
+
+next_work : (site : ℕ) (left : Statements) → is_work site left ≡ true → mem site (sites left) ≡ true
+next_work site Nothing x = true_false (sym x)
+next_work site (Return ⨾ more) x = true_false (sym x)
+next_work site (Throw l ⨾ more) x = true_false (sym x)
+next_work site (Check k ⨾ more) x = true_false (sym x)
+next_work site (Cancel k ⨾ more) x = true_false (sym x)
+next_work site (Start d ⨾ more) x = true_false (sym x)
+next_work site (Observe ⨾ more) x = true_false (sym x)
+next_work site (Work n m ⨾ more) x = or_left (nat_eq site n) (mem site (sites more)) (subst (λ z. nat_eq site z ≡ true) (sym (same_number n site x)) (same_self site))
+next_work site (If i a b ⨾ more) x = true_false (sym x)
+next_work site (When f a b ⨾ more) x = true_false (sym x)
+
+failed_stands : (g : TaskGraph) (v : List Bool) (h : List Event) (site : ℕ) → Run g v h → failed g v h site ≡ true → (t : ℕ) × (outcome_in (rest g v h t) ≡ Fails site) × (mem site (sites (body g t)) ≡ true)
+failed_stands g v [] site run e = true_false (sym e)
+failed_stands g v (x ∷ h) site run e =
+    elim (or_cases (fails_by site x.act (rest g v h)) (failed g v h site) e) [
+      | inl now ↦ here x.act now
+      | inr old ↦ let w = failed_stands g v h site run.0 old in (w.0, threw_stays g v h x.actor x.act w.0 _ run.1 w.1, w.2)
+    ]
+  where
+    here : (act : Act) → fails_by site act (rest g v h) ≡ true → (t : ℕ) × (outcome_in (rest g v (after x.actor act h) t) ≡ Fails site) × (mem site (sites (body g t)) ≡ true)
+    here (Worked t Failed) q = (
+      t.0,
+      ap outcome_in (if_true (nat_eq t.0 t.0) (worked Failed (rest g v h t.0).left) (rest g v h t.0) (same_self t.0)) ∙ fails_work site (rest g v h t.0).left q,
+      rest_keeps (λ left. mem site (sites left) ≡ true → mem site (sites (body g t.0)) ≡ true) (sites_kept site (body g t.0)) g v h t.0 (λ m. m) (next_work site (rest g v h t.0).left q),
+    )
+    here (Worked t Done) q = true_false (sym q)
+    here (Request s) q = true_false (sym q)
+    here (Release s) q = true_false (sym q)
+    here (Begin s) q = true_false (sym q)
+    here (Step s) q = true_false (sym q)
+    here (Leave s) q = true_false (sym q)
+    here (Close s) q = true_false (sym q)
+    here (Drop s) q = true_false (sym q)
+    here (Settle s) q = true_false (sym q)
+
+-- a site stands in one body
+counted_both : (site : ℕ) (xs ys : List ℕ) → counted site (xs ++ ys) ≡ counted site xs + counted site ys
+counted_both site [] ys = let none : 0 + counted site ys ≡ counted site ys = omega arith in sym none
+counted_both site (x ∷ xs) ys = by_test (nat_eq site x) (counted_both site xs ys)
+  where
+    by_test : (b : Bool) → counted site (xs ++ ys) ≡ counted site xs + counted site ys → cond b (1 + counted site (xs ++ ys)) (counted site (xs ++ ys)) ≡ cond b (1 + counted site xs) (counted site xs) + counted site ys
+    by_test true e = omega arith
+    by_test false e = e
+
+counted_there : (site : ℕ) (xs : List ℕ) → mem site xs ≡ true → 1 ≤ counted site xs
+counted_there site [] m = true_false (sym m)
+counted_there site (x ∷ xs) m = by_test (nat_eq site x) m (counted_there site xs)
+  where
+    by_test : (b : Bool) → b || mem site xs ≡ true → (mem site xs ≡ true → 1 ≤ counted site xs) → 1 ≤ cond b (1 + counted site xs) (counted site xs)
+    by_test true e f = omega arith
+    by_test false e f = f e
+
+module _ (site : ℕ) (d : Task) (none : sites d.body ≡ []) where
+  abbrev all : List Task → ℕ
+  all ts = counted site (flat_map (λ (t : Task). sites t.body) ts)
+
+  one_more : (x : Task) (ts : List Task) → all (x ∷ ts) ≡ counted site (sites x.body) + all ts
+  one_more x ts = ap (counted site) (flat_map-cons (λ (t : Task). sites t.body) x ts) ∙ counted_both site (sites x.body) (flat_map (λ (t : Task). sites t.body) ts)
+
+  in_none : mem site (sites d.body) ≡ true → ⊥
+  in_none m = true_false (sym (subst (λ z. mem site z ≡ true) none m))
+
+  held : (ts : List Task) (t : ℕ) → mem site (sites (slice_index_or ts t d).body) ≡ true → 1 ≤ all ts
+  held [] t m = absurd (in_none m)
+  held (x ∷ ts) zero m = let one = counted_there site (sites x.body) m in let sum = one_more x ts in omega arith
+  held (x ∷ ts) (suc t) m = let rest = held ts t m in let sum = one_more x ts in omega arith
+
+  one_owner : (ts : List Task) (t u : ℕ) → all ts ≤ 1 → mem site (sites (slice_index_or ts t d).body) ≡ true → mem site (sites (slice_index_or ts u d).body) ≡ true → t ≡ u
+  one_owner [] t u le m n = absurd (in_none m)
+  one_owner (x ∷ ts) zero zero le m n = refl
+  one_owner (x ∷ ts) zero (suc u) le m n = let one = counted_there site (sites x.body) m in let rest = held ts u n in let sum = one_more x ts in absurd (omega arith)
+  one_owner (x ∷ ts) (suc t) zero le m n = let one = counted_there site (sites x.body) n in let rest = held ts t m in let sum = one_more x ts in absurd (omega arith)
+  one_owner (x ∷ ts) (suc t) (suc u) le m n = let sum = one_more x ts in ap suc (one_owner ts t u (omega arith) m n)
+
+pub failed_by_its_label_lem : FailedByItsLabel
+failed_by_its_label_lem g v h site t valid run stands = (to, λ e. threw_failed g v h site.0 t (label_verdict (outcome_in (rest g v h t)) (WorkFailed site) e))
+  where
+    to : failed g v h site.0 ≡ true → label g v h t ≡ Some (WorkFailed site)
+    to e =
+        let w = failed_stands g v h site.0 run e in
+        let few : counted site.0 (all_sites g) ≤ 1 = subst (λ z. z ≤ 1) (sym (is_count_by (counted site.0) (nat_eq site.0) refl (λ _ _. refl) (all_sites g))) (valid.sites_once site.0) in
+        let same = one_owner site.0 (record { kind = Root; body = Nothing; token = None; options = 0 }) refl g.tasks w.0 t few w.2 stands in
+        subst (λ z. label g v h z ≡ Some (WorkFailed site)) same (ap label_in w.1)

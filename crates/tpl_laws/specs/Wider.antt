@@ -1,0 +1,26 @@
+-- What the wider rules accept besides.
+use Rattle.std.specs.Prelude.{◌≡◌, ℕ, Bool, true, false, List}
+use Rattle.tpl_words.specs.declared.finals.Final.{Final}
+use Rattle.tpl_model.specs.Graph.{TaskGraph}
+use Rattle.tpl_model.specs.declared.claim.Property.{Property}
+use Rattle.tpl_model.specs.Claims.{Claim}
+use Rattle.tpl_model.specs.Certificate.{Row, Tree, Assumed, Closed, Proves, Accepts}
+
+-- m assumes what l does, and maybe more
+pub record AssumesMore (l m : Assumed) : Type 0 where
+  pub possible : (i : ℕ) (value : Bool) → m.possible i value ≡ true → l.possible i value ≡ true
+  pub quiet : (k : ℕ) → l.quiet k ≡ true → m.quiet k ≡ true
+  pub cut : (t : ℕ) (f : Final) → m.cut t f ≡ true → l.cut t f ≡ true
+  pub ended : (t : ℕ) (f : Final) → m.ended t f ≡ true → l.ended t f ≡ true
+  pub sure : (site : ℕ) → l.sure site ≡ true → m.sure site ≡ true
+  pub wide : l.wide ≡ true → m.wide ≡ true
+
+-- rows that are closed stay so where more is assumed, and prove what they did
+abbrev pub MoreIsAssumed : Type 0
+MoreIsAssumed =
+    (g : TaskGraph) (l m : Assumed) (rows : List Row) → AssumesMore l m → Closed g l rows
+    → Closed g m rows × ((p : Property) → Proves g l rows p → Proves g m rows p)
+
+-- the wider rules accept what the others do
+abbrev pub WiderAccepts : Type 0
+WiderAccepts = (g : TaskGraph) (claims : List Claim) (trees : List Tree) → Accepts false g claims trees → Accepts true g claims trees

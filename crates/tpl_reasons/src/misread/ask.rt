@@ -1,0 +1,229 @@
+//! What is looked for in a document.
+
+use crate::misread::form::Form;
+use json::Value;
+use std::alloc::{AllocError, Global};
+use tpl_json::{bool_of, final_of, find, list_of, number_of, text_in, text_of};
+use tpl_parts::has_truths;
+use tpl_words::LONGEST_NAME;
+
+/// What is looked for.
+#[derive(Clone, Copy)]
+pub(crate) enum Ask<'v> {
+    /// A value of the wrong shape.
+    Misfit,
+    /// Any value of this form.
+    Form(Form),
+    /// This text, in this form.
+    Text(Form, &'v str),
+    /// The job of this site.
+    Job(&'v str),
+    /// Any statement.
+    Statement,
+    /// A declared name, a label or a site that is no name.
+    BadName,
+    /// An input, a token or a task that isn't declared.
+    Unknown,
+    /// An antecedent, an argument or a source that isn't declared before this number.
+    Later(usize),
+    /// An antecedent or argument that is a child.
+    Child,
+    /// A start of a task that is no child.
+    NoChild,
+    /// A task without a body where a body is spoken of.
+    NoBody,
+    /// What only a continuation may read.
+    Subject,
+    /// An option word for continuations alone.
+    ContinuationOption,
+    /// A list of more elements than it may have.
+    LongList,
+}
+
+fn is_name(name: &str) -> bool {
+    let bytes = name.as_bytes();
+    let digit_first = matches!(bytes.first(), None | Some(b'0'..=b'9'));
+    let plain = bytes
+        .iter()
+        .all(|byte| byte.is_ascii_alphanumeric() || *byte == b'_');
+    !digit_first && plain && bytes.len() <= LONGEST_NAME
+}
+
+/// The member's text; empty where there is none.
+pub(crate) fn text_or_empty<'v, 't>(value: &'v Value<'t>, member: &str) -> &'v str {
+    match text_in(value, member) {
+        Ok(text) => text,
+        Err(_) => "",
+    }
+}
+
+/// The name that an element of a list of inputs, tokens or tasks declares.
+pub(crate) fn declared_name<'v, 't>(element: &'v Value<'t>) -> &'v str {
+    match text_of(element) {
+        Ok(name) => name,
+        Err(_) => text_or_empty(element, "name"),
+    }
+}
+
+/// An empty list, lent as the document is.
+fn no_elements<'v, 't>(_document: &'v Value<'t>) -> &'v [Value<'t>] {
+    &[]
+}
+
+/// The elements of an array; none of any other value.
+fn elements_of<'v, 't>(value: &'v Value<'t>) -> &'v [Value<'t>] {
+    match value {
+        Value::Array(elements) => elements.as_slice(),
+        _ => no_elements(value),
+    }
+}
+
+/// The elements of a list of the document.
+pub(crate) fn list_in<'v, 't>(document: &'v Value<'t>, list: &str) -> &'v [Value<'t>] {
+    match find(document, list) {
+        None => no_elements(document),
+        Some(member) => elements_of(member),
+    }
+}
+
+/// The number of the element that declares the name, from 0; past all where none does.
+pub(crate) fn place(document: &Value<'_>, list: &str, name: &str) -> usize {
+    let elements = list_in(document, list);
+    for (index, element) in elements.iter().enumerate() {
+        if declared_name(element) == name {
+            return index;
+        }
+    }
+    elements.len()
+}
+
+/// The kind of the task of this name.
+pub(crate) fn kind_of<'v, 't>(document: &'v Value<'t>, name: &str) -> &'v str {
+    match list_in(document, "tasks").get(place(document, "tasks", name)) {
+        Some(task) => text_or_empty(task, "kind"),
+        None => "",
+    }
+}
+
+/// The first member that an object of the form may not have.
+pub(crate) fn stranger<'v>(form: Form, members: &'v [(&str, Value<'_>)]) -> Option<&'v str> {
+    for member in members {
+        if !form.names().contains(&member.0) {
+            return Some(member.0);
+        }
+    }
+    None
+}
+
+/// Whether it has the members that an object of the form has to have.
+fn has_needed(form: Form, value: &Value<'_>) -> bool {
+    let mut needed = form.names().iter().take(form.needed());
+    needed.all(|name| find(value, name).is_some())
+}
+
+/// Whether it is an object with all members that it must have, and none that it may not have.
+fn has_members(form: Form, value: &Value<'_>) -> bool {
+    match value {
+        Value::Object(members) => {
+            stranger(form, members.as_slice()).is_none() && has_needed(form, value)
+        }
+        _ => false,
+    }
+}
+
+fn is_long(form: Form, value: &Value<'_>) -> bool {
+    match (form.most(), list_of(value)) {
+        (Some(most), Ok(list)) => list.len() > most,
+        _ => false,
+    }
+}
+
+/// Whether it is a list with a number of elements that its form allows.
+fn has_length(form: Form, value: &Value<'_>) -> bool {
+    match (form, list_of(value)) {
+        (_, Err(_)) => false,
+        (Form::AfterPair | Form::Pair, Ok(list)) => list.len() == 2,
+        (Form::SomeFinals, Ok(list)) => !list.is_empty(),
+        _ => true,
+    }
+}
+
+/// Whether it is a text, and one of the form's words, where it has words.
+fn has_word(form: Form, value: &Value<'_>) -> bool {
+    match text_of(value) {
+        Ok(text) => form.words().is_empty() || form.words().contains(&text),
+        Err(_) => false,
+    }
+}
+
+/// Whether the value itself has the right shape, whatever is in it.
+fn fits(alloc: Global, form: Form, value: &Value<'_>) -> Result<bool, AllocError> {
+    match form {
+        Form::Anything => Ok(true),
+        Form::Version => Ok(matches!(number_of(value), Ok(1 | 2))),
+        Form::Truth => Ok(bool_of(value).is_ok()),
+        Form::Final | Form::Subject => Ok(final_of(value).is_ok()),
+        Form::Truths => match has_truths(alloc, value) {
+            Ok(has) => Ok(has),
+            Err(_) => Err(AllocError),
+        },
+        _ if !form.choices().is_empty() => Ok(false),
+        _ if form.is_list() => Ok(has_length(form, value)),
+        _ if form.is_object() => Ok(has_members(form, value)),
+        _ => Ok(has_word(form, value)),
+    }
+}
+
+/// Whether the option word is for continuations alone.
+fn is_for_continuations(word: &str) -> bool {
+    matches!(word, "LazyCancellation" | "ExecuteSynchronously")
+        || word.starts_with("NotOn")
+        || word.starts_with("OnlyOn")
+}
+
+/// Whether the text isn't declared.
+fn is_unknown(document: &Value<'_>, list: &str, text: &str) -> bool {
+    !list.is_empty() && place(document, list, text) == list_in(document, list).len()
+}
+
+fn is_asked_of_text(ask: Ask<'_>, document: &Value<'_>, form: Form, text: &str) -> bool {
+    let list = form.declared_in();
+    match ask {
+        Ask::Text(wanted, name) => form.is(wanted) && text == name,
+        Ask::BadName => form.declares() && !is_name(text),
+        Ask::Unknown => is_unknown(document, list, text),
+        Ask::Later(number) => {
+            matches!(form, Form::Argument | Form::Source) && place(document, list, text) >= number
+        }
+        Ask::Child => matches!(form, Form::Argument) && kind_of(document, text) == "child",
+        Ask::NoChild => matches!(form, Form::Child) && kind_of(document, text) != "child",
+        Ask::NoBody => {
+            matches!(form, Form::Begun) && matches!(kind_of(document, text), "all" | "any")
+        }
+        Ask::Subject => matches!(form, Form::Word) && text == "observe",
+        Ask::ContinuationOption => matches!(form, Form::Option) && is_for_continuations(text),
+        _ => false,
+    }
+}
+
+/// Whether the value is what is looked for.
+pub(crate) fn is_asked(
+    alloc: Global,
+    ask: Ask<'_>,
+    document: &Value<'_>,
+    form: Form,
+    value: &Value<'_>,
+) -> Result<bool, AllocError> {
+    match ask {
+        Ask::Misfit => Ok(!fits(alloc, form, value)?),
+        Ask::Form(wanted) => Ok(form.is(wanted)),
+        Ask::LongList => Ok(is_long(form, value)),
+        Ask::Job(site) => Ok(matches!(form, Form::Work) && text_or_empty(value, "work") == site),
+        Ask::Subject if matches!(form, Form::When) => Ok(true),
+        Ask::Statement => Ok(form.is_statement()),
+        _ => match text_of(value) {
+            Ok(text) => Ok(is_asked_of_text(ask, document, form, text)),
+            Err(_) => Ok(false),
+        },
+    }
+}

@@ -1,0 +1,362 @@
+//! What may stand at a place of a document, where a place is looked for.
+
+use json::Value;
+use tpl_cert::MOST_IN_CHAIN;
+use tpl_json::{find, text_in};
+use tpl_words::{MOST_ARGUMENTS, MOST_INPUTS, MOST_TOKENS};
+
+/// What may stand at a place of a document.
+#[derive(Clone, Copy)]
+pub(crate) enum Form {
+    /// The document, whose tasks, claims, trees and start are parts of their own.
+    Top,
+    /// The document, as far as its graph goes.
+    Graph,
+    Token,
+    LinkedToken,
+    /// A task, by its kind one of the three below.
+    Task,
+    Started,
+    Then,
+    Join,
+    /// A statement, one of the eight below.
+    Statement,
+    Word,
+    Throw,
+    Check,
+    Cancel,
+    StartChild,
+    Work,
+    If,
+    When,
+    /// A claim, one of the five below.
+    Claim,
+    FinalClaim,
+    AfterClaim,
+    ObservedClaim,
+    NeverClaim,
+    ExcludesClaim,
+    /// What a claim takes as given, one of the two below.
+    Given,
+    GivenInput,
+    GivenToken,
+    /// A tree of the certificate, one of the three below.
+    Tree,
+    SplitInput,
+    SplitEnd,
+    Leaf,
+    Row,
+    Start,
+    /// Lists whose elements are parts of their own.
+    Tasks,
+    Claims,
+    Trees,
+    GraphTasks,
+    Inputs,
+    Tokens,
+    Sources,
+    Arguments,
+    Statements,
+    Options,
+    TokenNames,
+    TaskNames,
+    Chain,
+    Givens,
+    SomeFinals,
+    Finals,
+    AfterPair,
+    Pair,
+    Rows,
+    Sites,
+    Version,
+    Truth,
+    /// True or false for each input.
+    Truths,
+    Journal,
+    Kind,
+    Final,
+    /// How the antecedent ended.
+    Subject,
+    Option,
+    NewInput,
+    NewToken,
+    NewTask,
+    Label,
+    Site,
+    InputName,
+    TokenName,
+    /// A token to which another is linked.
+    Source,
+    TaskName,
+    /// A task that another waits for.
+    Argument,
+    /// A task that a statement starts.
+    Child,
+    /// A task of whose body something is said.
+    Begun,
+    /// A site whose job is to fail.
+    FailingSite,
+    /// What no reader looks at, or another part has.
+    Anything,
+}
+
+/// What stands at a member, by its name, save where its object says otherwise.
+const MEMBERS: [(&str, Form); 48] = [
+    ("ends", Form::Finals),
+    ("runs", Form::Truth),
+    ("may_fail", Form::Truth),
+    ("is", Form::Truth),
+    ("before", Form::TaskNames),
+    ("past", Form::TaskNames),
+    ("chain", Form::Chain),
+    ("rows", Form::Rows),
+    ("yes", Form::Tree),
+    ("no", Form::Tree),
+    ("ran", Form::Tree),
+    ("canceled", Form::Tree),
+    ("faulted", Form::Tree),
+    ("name", Form::NewTask),
+    ("kind", Form::Kind),
+    ("after", Form::Argument),
+    ("of", Form::Arguments),
+    ("body", Form::Statements),
+    ("then", Form::Statements),
+    ("else", Form::Statements),
+    ("token", Form::TokenName),
+    ("check", Form::TokenName),
+    ("cancel", Form::TokenName),
+    ("quiet", Form::TokenName),
+    ("options", Form::Options),
+    ("work", Form::Site),
+    ("throw", Form::Label),
+    ("if", Form::InputName),
+    ("input", Form::InputName),
+    ("split_input", Form::InputName),
+    ("when", Form::Subject),
+    ("final", Form::TaskName),
+    ("split_end", Form::TaskName),
+    ("in", Form::SomeFinals),
+    ("observed", Form::Begun),
+    ("never", Form::Begun),
+    ("excludes", Form::Pair),
+    ("given", Form::Givens),
+    ("linked", Form::Sources),
+    ("version", Form::Version),
+    ("journal", Form::Journal),
+    ("tokens", Form::Tokens),
+    ("request", Form::TokenNames),
+    ("fail", Form::Sites),
+    ("inputs", Form::Inputs),
+    ("tasks", Form::Tasks),
+    ("claims", Form::Claims),
+    ("certificate", Form::Trees),
+];
+
+/// What stands at a member of this name.
+fn form_of(name: &str) -> Form {
+    for member in &MEMBERS {
+        if member.0 == name {
+            return member.1;
+        }
+    }
+    Form::Anything
+}
+
+impl Form {
+    /// The names of the members of an object of this form, first those that it has to have; none where it isn't the form of an
+    /// object.
+    pub(crate) fn names(self) -> &'static [&'static str] {
+        match self {
+            Form::Top => &[
+                "version",
+                "tasks",
+                "inputs",
+                "tokens",
+                "claims",
+                "certificate",
+                "journal",
+                "start",
+            ],
+            Form::Graph => &["inputs", "tokens", "tasks"],
+            Form::LinkedToken => &["name", "linked"],
+            Form::Task => &["name", "kind", "after", "of", "body", "token", "options"],
+            Form::Started => &["name", "kind", "body", "token", "options"],
+            Form::Then => &["name", "kind", "after", "body", "token", "options"],
+            Form::Join => &["name", "kind", "of"],
+            Form::Throw => &["throw"],
+            Form::Check => &["check"],
+            Form::Cancel => &["cancel"],
+            Form::StartChild => &["start"],
+            Form::Work => &["work", "may_fail"],
+            Form::If => &["if", "then", "else"],
+            Form::When => &["when", "then", "else"],
+            Form::FinalClaim => &["final", "in", "given"],
+            Form::AfterClaim => &["after", "given"],
+            Form::ObservedClaim => &["observed", "given"],
+            Form::NeverClaim => &["never", "given"],
+            Form::ExcludesClaim => &["excludes", "given"],
+            Form::GivenInput => &["input", "is"],
+            Form::GivenToken => &["quiet"],
+            Form::SplitInput => &["split_input", "yes", "no"],
+            Form::SplitEnd => &["split_end", "ran", "canceled", "faulted"],
+            Form::Leaf => &["rows"],
+            Form::Row => &["ends", "runs", "before", "past", "chain"],
+            Form::Start => &["inputs", "request", "fail"],
+            _ => &[],
+        }
+    }
+
+    /// Whether it is the form of an object with members of its own.
+    pub(crate) fn is_object(self) -> bool {
+        !self.names().is_empty()
+    }
+
+    /// How many of its members an object of this form has to have: those whose names come first.
+    pub(crate) fn needed(self) -> usize {
+        match self {
+            Form::Start => 0,
+            Form::Throw
+            | Form::Check
+            | Form::Cancel
+            | Form::StartChild
+            | Form::Work
+            | Form::AfterClaim
+            | Form::ObservedClaim
+            | Form::NeverClaim
+            | Form::ExcludesClaim
+            | Form::GivenToken
+            | Form::Leaf => 1,
+            Form::Started | Form::Join | Form::SplitInput => 3,
+            Form::Then | Form::SplitEnd => 4,
+            _ => 2,
+        }
+    }
+
+    /// The form of the member of this name.
+    pub(crate) fn member(self, name: &str) -> Form {
+        match self {
+            Form::Task if name != "name" && name != "kind" => Form::Anything,
+            Form::LinkedToken if name == "name" => Form::NewToken,
+            Form::AfterClaim if name == "after" => Form::AfterPair,
+            Form::Start if name == "inputs" => Form::Truths,
+            Form::Graph if name == "tasks" => Form::GraphTasks,
+            Form::StartChild => Form::Child,
+            _ => form_of(name),
+        }
+    }
+
+    /// The forms of which a value has one, as one of its members says.
+    pub(crate) fn choices(self) -> &'static [Form] {
+        match self {
+            Form::Statement => &[
+                Form::Throw,
+                Form::Check,
+                Form::Cancel,
+                Form::StartChild,
+                Form::Work,
+                Form::If,
+                Form::When,
+            ],
+            Form::Claim => &[
+                Form::FinalClaim,
+                Form::AfterClaim,
+                Form::ObservedClaim,
+                Form::NeverClaim,
+                Form::ExcludesClaim,
+            ],
+            Form::Given => &[Form::GivenInput, Form::GivenToken],
+            Form::Tree => &[Form::Leaf, Form::SplitInput, Form::SplitEnd],
+            _ => &[],
+        }
+    }
+
+    /// The name of the member by which an object of several forms has this one: the first.
+    pub(crate) fn key(self) -> &'static str {
+        self.names().first().unwrap_or(&"")
+    }
+
+    /// The form that the value has, where there are several; the same form, where it has none of them.
+    pub(crate) fn chosen(self, value: &Value<'_>) -> Form {
+        match (self, value) {
+            (Form::Task, _) => match text_in(value, "kind") {
+                Ok("root" | "child") => Form::Started,
+                Ok("then") => Form::Then,
+                Ok("all" | "any") => Form::Join,
+                _ => Form::Task,
+            },
+            (Form::Token, Value::Object(_)) => Form::LinkedToken,
+            (Form::Token, Value::String(_)) => Form::NewToken,
+            (Form::Statement, Value::String(_)) => Form::Word,
+            _ => {
+                for form in self.choices() {
+                    if find(value, form.key()).is_some() {
+                        return *form;
+                    }
+                }
+                self
+            }
+        }
+    }
+
+    /// The form of a list's element.
+    pub(crate) fn element(self, index: usize) -> Option<Form> {
+        match self {
+            Form::GraphTasks => Some(Form::Task),
+            Form::Inputs => Some(Form::NewInput),
+            Form::Tokens => Some(Form::Token),
+            Form::Sources => Some(Form::Source),
+            Form::Arguments => Some(Form::Argument),
+            Form::Statements => Some(Form::Statement),
+            Form::Options => Some(Form::Option),
+            Form::TokenNames => Some(Form::TokenName),
+            Form::TaskNames | Form::Chain => Some(Form::TaskName),
+            Form::Givens => Some(Form::Given),
+            Form::SomeFinals | Form::Finals => Some(Form::Final),
+            Form::AfterPair if index == 0 => Some(Form::TaskName),
+            Form::AfterPair | Form::Pair => Some(Form::Begun),
+            Form::Rows => Some(Form::Row),
+            Form::Sites => Some(Form::FailingSite),
+            _ => None,
+        }
+    }
+
+    /// The most elements of a list, where that is limited.
+    pub(crate) fn most(self) -> Option<usize> {
+        match self {
+            Form::Inputs => Some(MOST_INPUTS),
+            Form::Tokens | Form::Sources => Some(MOST_TOKENS),
+            Form::Arguments => Some(MOST_ARGUMENTS),
+            Form::Chain => Some(MOST_IN_CHAIN),
+            _ => None,
+        }
+    }
+
+    /// The list of the document that declares what a text of the form names; empty where none does.
+    pub(crate) fn declared_in(self) -> &'static str {
+        match self {
+            Form::InputName => "inputs",
+            Form::TokenName | Form::Source => "tokens",
+            Form::TaskName | Form::Argument | Form::Child | Form::Begun => "tasks",
+            _ => "",
+        }
+    }
+
+    /// Whether a text of the form is a name that it declares: of an input, a token or a task, a label or a site.
+    pub(crate) fn declares(self) -> bool {
+        matches!(
+            self,
+            Form::NewInput | Form::NewToken | Form::NewTask | Form::Label | Form::Site
+        )
+    }
+
+    /// Whether it is the form of a statement.
+    pub(crate) fn is_statement(self) -> bool {
+        let mut others = Form::Statement.choices().iter();
+        self.is(Form::Word) || others.any(|choice| choice.is(self))
+    }
+
+    /// Whether it is the same form.
+    pub(crate) fn is(self, other: Form) -> bool {
+        self as u8 == other as u8
+    }
+}

@@ -1,0 +1,170 @@
+//! What is wrong with claims, trees of the certificate, and where a run starts.
+
+use crate::misread::ask::{Ask, declared_name, list_in, place};
+use crate::misread::form::Form;
+use crate::misread::misfit::Line;
+use crate::misread::say::quoted;
+use crate::misread::walk::{Area, Spot, Teller};
+use json::Value;
+use std::alloc::AllocError;
+use tpl_cert::TreeFault;
+use tpl_json::{bool_in, find};
+use tpl_reader::{ClaimFault, StartFault};
+
+const NO_BODY: &str =
+    "is of kind \"all\" or \"any\": it has no body, so that it doesn't begin and throws nothing; name the tasks that it waits for";
+
+impl<'v, 't> Teller<'v, 't> {
+    /// The line about the first text of this form that is given twice.
+    fn given_line(self, area: Area, form: Form) -> Line {
+        for name in &self.texts(area, form)? {
+            let said = "stands twice in the given; take one out";
+            let line = self.tell(area, Ask::Text(form, name), 1, said)?;
+            if line.is_some() {
+                return Ok(line);
+            }
+        }
+        Ok(None)
+    }
+
+    /// The line about a fault of a claim.
+    pub(crate) fn claim_line(self, index: usize, fault: ClaimFault) -> Line {
+        let area = Area::Claim(index);
+        match fault {
+            ClaimFault::TooMany => {
+                let count = list_in(self.document, "claims").len();
+                let said = format!(in self.alloc;
+                    "it has {count} claims, and may have 64 at most"
+                )?;
+                self.line(Area::Top, "claims", said.as_str())
+            }
+            ClaimFault::Unknown => self.unknown_line(area),
+            ClaimFault::NoBody => self.tell(area, Ask::NoBody, 0, NO_BODY),
+            ClaimFault::GivenTwice => match self.given_line(area, Form::InputName)? {
+                None => self.given_line(area, Form::TokenName),
+                found => Ok(found),
+            },
+        }
+    }
+
+    /// The line about a fault of a tree.
+    pub(crate) fn tree_line(self, index: usize, fault: TreeFault) -> Line {
+        let area = Area::Tree(index);
+        match fault {
+            TreeFault::Shape => self.misfit_line(area),
+            TreeFault::Unknown => self.unknown_line(area),
+            TreeFault::Limit => match self.long_line(area)? {
+                None => {
+                    let path = self.path_of(area)?;
+                    self.line(
+                        area,
+                        path.as_str(),
+                        "a path of the tree has more than 6 splits",
+                    )
+                }
+                found => Ok(found),
+            },
+            TreeFault::Memory => Ok(None),
+        }
+    }
+
+    /// The values of the inputs where a run starts.
+    fn values(self) -> Option<&'v Value<'t>> {
+        find(find(self.document, "start")?, "inputs")
+    }
+
+    /// The line about the first value at the start of what is no input.
+    fn value_line(self) -> Line {
+        let Some(Value::Object(values)) = self.values() else {
+            return Ok(None);
+        };
+        for value in values.as_slice() {
+            let name = value.0;
+            if place(self.document, "inputs", name) == list_in(self.document, "inputs").len() {
+                return self.undeclared(Area::Start, "start.inputs", "inputs", name);
+            }
+        }
+        Ok(None)
+    }
+
+    fn job(self, site: &'v str) -> Result<Option<Spot<'v, 't>>, AllocError> {
+        self.find(Area::Graph, Ask::Job(site), 0)
+    }
+
+    /// The line about the first site at the start that no job has.
+    fn no_site_line(self) -> Line {
+        for (index, site) in self
+            .texts(Area::Start, Form::FailingSite)?
+            .iter()
+            .enumerate()
+        {
+            if self.job(site)?.is_none() {
+                let sites = self.texts(Area::Graph, Form::Site)?;
+                let said = self.says_unknown("sites", site, &sites)?;
+                let path = format!(in self.alloc; "start.fail[{index}]")?;
+                return self.line(Area::Start, path.as_str(), said.as_str());
+            }
+        }
+        Ok(None)
+    }
+
+    fn unknown_at_start(self) -> Line {
+        let value = self.value_line()?;
+        if value.is_some() {
+            return Ok(value);
+        }
+        match self.unknown_line(Area::Start)? {
+            None => self.no_site_line(),
+            found => Ok(found),
+        }
+    }
+
+    /// The line about the first input without a value.
+    fn missing_line(self) -> Line {
+        for input in list_in(self.document, "inputs") {
+            let name = declared_name(input);
+            let has_value = match self.values() {
+                Some(values) => find(values, name).is_some(),
+                None => false,
+            };
+            if !has_value {
+                let name = quoted(self.alloc, name)?;
+                let said = format!(in self.alloc;
+                    "the input {name} has no value; add {name}: true or {name}: false"
+                )?;
+                return self.line(Area::Start, "start.inputs", said.as_str());
+            }
+        }
+        Ok(None)
+    }
+
+    /// The line about the first site that is to fail and may not.
+    fn fail_line(self) -> Line {
+        for site in &self.texts(Area::Start, Form::FailingSite)? {
+            if let Some(job) = self.job(site)? {
+                if !matches!(bool_in(job.found.value, "may_fail"), Ok(true)) {
+                    let said = format!(in self.alloc;
+                        "may not fail; write \"may_fail\": true at {}, or take it out here",
+                        job.path
+                    )?;
+                    return self.tell(
+                        Area::Start,
+                        Ask::Text(Form::FailingSite, site),
+                        0,
+                        said.as_str(),
+                    );
+                }
+            }
+        }
+        Ok(None)
+    }
+
+    /// The line about a fault of where a run starts.
+    pub(crate) fn start_line(self, fault: StartFault) -> Line {
+        match fault {
+            StartFault::Unknown => self.unknown_at_start(),
+            StartFault::Missing => self.missing_line(),
+            StartFault::FailNot => self.fail_line(),
+        }
+    }
+}

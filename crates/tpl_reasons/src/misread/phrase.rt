@@ -1,0 +1,132 @@
+//! What may stand at a place of a document, in words.
+
+use crate::misread::form::Form;
+
+const KINDS: [&str; 5] = ["root", "child", "then", "all", "any"];
+
+const FINALS: [&str; 3] = ["RanToCompletion", "Canceled", "Faulted"];
+
+const OPTIONS: [&str; 15] = [
+    "None",
+    "PreferFairness",
+    "LongRunning",
+    "AttachedToParent",
+    "DenyChildAttach",
+    "HideScheduler",
+    "RunContinuationsAsynchronously",
+    "LazyCancellation",
+    "NotOnRanToCompletion",
+    "NotOnFaulted",
+    "NotOnCanceled",
+    "OnlyOnCanceled",
+    "OnlyOnFaulted",
+    "OnlyOnRanToCompletion",
+    "ExecuteSynchronously",
+];
+
+const WORDS: [&str; 2] = ["return", "observe"];
+
+impl Form {
+    /// The words of which a text of the form is one; none where it may be any text.
+    pub(crate) fn words(self) -> &'static [&'static str] {
+        match self {
+            Form::Kind => &KINDS,
+            Form::Final | Form::Subject => &FINALS,
+            Form::Option => &OPTIONS,
+            Form::Word => &WORDS,
+            _ => &[],
+        }
+    }
+
+    /// The word for what several forms make.
+    pub(crate) fn word(self) -> &'static str {
+        match self {
+            Form::Statement => "statement",
+            Form::Claim => "claim",
+            Form::Given => "given",
+            _ => "tree",
+        }
+    }
+
+    /// What an object is.
+    fn object(self) -> &'static str {
+        match self {
+            Form::Top => "a document, which is an object",
+            Form::Task => "a task, which is an object",
+            Form::Started => "a task of kind \"root\" or \"child\"",
+            Form::Then => "a task of kind \"then\"",
+            Form::Join => "a task of kind \"all\" or \"any\"",
+            Form::Row => "an object",
+            Form::FinalClaim
+            | Form::AfterClaim
+            | Form::ObservedClaim
+            | Form::NeverClaim
+            | Form::ExcludesClaim => "this claim (each says one thing)",
+            Form::Start => "the start, an object with \"inputs\", \"request\" and \"fail\"",
+            _ => "this object",
+        }
+    }
+
+    /// What a list is; nothing where it is no list.
+    fn list(self) -> &'static str {
+        match self {
+            Form::Tasks | Form::GraphTasks => "a list of tasks",
+            Form::Claims => "a list of claims",
+            Form::Trees => "a list of trees, one for each claim",
+            Form::Inputs => "a list of names",
+            Form::Tokens => "a list of tokens",
+            Form::Arguments | Form::TaskNames | Form::Chain => "a list of tasks' names",
+            Form::Sources | Form::TokenNames => "a list of tokens' names",
+            Form::Options => "a list of option words",
+            Form::Statements => "a list of statements, [] for an empty one",
+            Form::Givens => "a list of givens",
+            Form::SomeFinals => "a list of one final status or more",
+            Form::Finals => "a list of final statuses",
+            Form::AfterPair | Form::Pair => "a list of two tasks' names",
+            Form::Rows => "a list of rows, one for each task",
+            Form::Sites => "a list of sites' names",
+            _ => "",
+        }
+    }
+
+    /// Whether it is the form of a list.
+    pub(crate) fn is_list(self) -> bool {
+        !self.list().is_empty()
+    }
+
+    /// What a value is that is neither a list nor an object with members of its own.
+    fn other(self) -> &'static str {
+        match self {
+            Form::Token => "a token's name, or {\"name\": .., \"linked\": [..]}",
+            Form::Statement => "\"return\", \"observe\" or an object",
+            Form::Claim | Form::Tree => "an object",
+            Form::Given => "{\"input\": name, \"is\": true or false} or {\"quiet\": token}",
+            Form::Version => "1 or 2, written as an integer",
+            Form::Journal => "the journal, one text",
+            Form::Argument => {
+                "one task's name (for several tasks, name a task of kind \"all\" or \"any\")"
+            }
+            Form::Subject => {
+                "how the antecedent ended (to choose by an input, write \"if\" for \"when\")"
+            }
+            Form::Kind => "a kind",
+            Form::Final => "a final status",
+            Form::Option => "an option word",
+            Form::Word => "a statement of one word",
+            Form::Truth => "true or false",
+            Form::Truths => "an object with true or false for each input",
+            _ => "a name",
+        }
+    }
+
+    /// What may stand there.
+    pub(crate) fn noun(self) -> &'static str {
+        if self.is_list() {
+            self.list()
+        } else if self.is_object() {
+            self.object()
+        } else {
+            self.other()
+        }
+    }
+}

@@ -1,0 +1,28 @@
+use Rattle.std.proofs.Common.{map, ◌∙◌, ap, arith}
+use Rattle.std.proofs.lemmas.List.{map_push}
+use Rattle.serde_json.specs.View.{view}
+use Rattle.tpl_graph.specs.Fits.{Fits}
+use Rattle.tpl_verify.specs.Verdicts.{IsVerdict}
+use Rattle.tpl_verdicts.specs.Json.{IsClaimData}
+use Rattle.tpl_verdicts.proofs.EntryLemmas.{all_at, numbered_more, zip_at, zip_length}
+use Rattle.tpl_verdicts.proofs.json.claim_values.Goals as goal
+
+pub bounds-claims-at : goal.bounds-claims-at
+bounds-claims-at c =
+    let same = zip_length (IsVerdict c.requires.verdicts.0 c.args.graph.now.graph) c.args.claims.now c.args.verdicts.now c.requires.verdicts.1 in
+    let lt = c.loop-at-test.true in omega (arith, same, lt)
+
+pub claim_value-requires-clause-fits : goal.claim_value-requires-clause-fits
+claim_value-requires-clause-fits c =
+    let same = zip_length (IsVerdict c.requires.verdicts.0 c.args.graph.now.graph) c.args.claims.now c.args.verdicts.now c.requires.verdicts.1 in
+    let lt = c.loop-at-test.true in
+    all_at (Fits c.args.graph.now.graph) c.args.claims.now c.loop-at.at c.index-claims-at.result (omega (arith, same, lt)) c.index-claims-at.is c.requires.claims
+
+pub claim_value-requires-clause-verdict : goal.claim_value-requires-clause-verdict
+claim_value-requires-clause-verdict c =
+    (c.requires.verdicts.0, zip_at (IsVerdict c.requires.verdicts.0 c.args.graph.now.graph) c.args.claims.now c.args.verdicts.now c.loop-at.at c.index-claims-at.result c.index-verdicts-at.result c.loop-at-test.true c.index-claims-at.is c.index-verdicts-at.is c.requires.verdicts.1)
+
+pub loop-at-preserved : goal.loop-at-preserved
+loop-at-preserved c =
+    numbered_more (IsClaimData c.args.graph.now.names) c.args.verdicts.now (map view c.loop-at.values.items) (map view c.push.new.self.items) c.loop-at.at c.index-verdicts-at.result (view c.in_ok-value.value) c.loop-at-test.true c.index-verdicts-at.is c.loop-at.invariant c.in_ok-value.ensures
+    (ap (map view) c.in_ok-push.ensures.items ∙ map_push view c.loop-at.values.items c.in_ok-value.value)

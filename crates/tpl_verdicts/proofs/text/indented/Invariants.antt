@@ -1,0 +1,7 @@
+use Rattle.std.proofs.Common.{◌≡◌, take}
+use Rattle.std.specs.Prelude.{string_bytes, flat_map}
+use Rattle.tpl_verdicts.specs.Lines.{indented}
+use Rattle.tpl_verdicts.proofs.text.indented.Given as goal
+
+abbrev pub invariant-loop-line : goal.invariant-loop-line
+invariant-loop-line l = string_bytes l.text ≡ flat_map (λ line. indented (string_bytes line)) (take l.line-index l.lines)

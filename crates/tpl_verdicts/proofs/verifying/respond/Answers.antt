@@ -1,0 +1,12 @@
+use Rattle.std.proofs.Common.{List, ℕ, IfOk, subst, string_bytes}
+use Rattle.tpl_commands.proofs.Responses.{put_responds}
+use Rattle.tpl_verdicts.specs.Answer.{Verifies}
+use Rattle.tpl_verdicts.proofs.verifying.respond.Goals as goal
+
+pub returns-in-Ok-clause-responds : goal.returns-in-Ok-clause-responds
+returns-in-Ok-clause-responds g c =
+    let read = c.in-Ok.ensures.ok in
+    let style = c.args.asked.style in
+    let answered = subst (λ (bytes : List ℕ). IfOk c.answer-answered.result (λ it. Verifies style bytes it.answer.exit (string_bytes it.answer.text))) c.deref.ensures.value c.answer-answered.ensures.answer in
+    put_responds (Verifies style) g.I.Read.remaining c.args.from.now c.read_input.new.from g.O.Write.contents c.args.to.now c.read_input.new.to c.put_answered.new.to c.in-Ok.bytes.items c.answer-answered.result c.put_answered.result
+    read.0 read.1 read.2 answered c.put_answered.ensures

@@ -1,0 +1,48 @@
+-- What `verify` answers to a document.
+use Rattle.std.specs.Prelude.{◌≡◌, ◌⊎◌, ℕ, List, Option}
+use Rattle.std.specs.List.{All, AllZip}
+use Rattle.tpl_draft.specs.Named.{Names}
+use Rattle.tpl_journal.specs.declared.counting.Counting.{Counting}
+use Rattle.tpl_reader.specs.Document.{DocumentValue}
+use Rattle.tpl_commands.specs.declared.exit.Exit.{Exit}
+use Rattle.tpl_commands.specs.declared.exit.Exit.TheVariants.{Success, Failure}
+use Rattle.tpl_commands.specs.Documents.{Tells, ToDocument}
+use Rattle.tpl_commands.specs.Rules.{is_judged_widely}
+use Rattle.tpl_commands.specs.Responding.{Answers}
+use Rattle.tpl_verify.specs.declared.verdict.Verdict.{Verdict}
+use Rattle.tpl_verify.specs.Verdicts.{HoldsAlways, HoldsFully, IsVerdict}
+use Rattle.tpl_verdicts.specs.declared.style.Style.{Style}
+use Rattle.tpl_verdicts.specs.declared.style.Style.TheVariants.{Text, Json, Junit}
+use Rattle.tpl_verdicts.specs.Json.{IsJson}
+use Rattle.tpl_verdicts.specs.Junit.{IsJunit}
+use Rattle.tpl_verdicts.specs.Lines.{IsText}
+
+-- success, where by the verdicts each claim holds and none is empty; else failure
+abbrev pub IsExit : List Verdict → Exit → Type 0
+IsExit verdicts Success = All HoldsFully verdicts
+IsExit verdicts Failure = All HoldsFully verdicts → ⊥
+IsExit verdicts exit = ⊥
+
+-- the text says in this style what the verdicts are
+abbrev pub IsStyled : Style → Names → List Verdict → List ℕ → Type 0
+IsStyled Text names verdicts text = IsText names verdicts text
+IsStyled Json names verdicts text = IsJson names verdicts text
+IsStyled Junit names verdicts text = IsJunit verdicts text
+
+-- The text says what the verdicts on the document's claims are, each of which is true; with success each claim holds in
+-- each run.
+pub record IsVerified (style : Style) (doc : DocumentValue) (exit : Exit) (text : List ℕ) : Type 0 where
+  pub verdicts : List Verdict
+  pub true_of : AllZip (IsVerdict (is_judged_widely doc) doc.graph.graph) doc.claims verdicts
+  pub ends : IsExit verdicts exit
+  pub sound : exit ≡ Success → All (HoldsAlways doc.graph.graph) doc.claims
+  pub says : IsStyled style doc.graph.names verdicts text
+
+-- the answer of `verify` to bytes
+abbrev pub Verifies : Style → Answers
+Verifies style = ToDocument (IsVerified style)
+
+-- What was read spells a document, and the verdicts on its claims were written.
+abbrev pub Verified : {R W : Type 0} → (R → Option (List ℕ)) → Counting R → Counting R → (W → Option (List ℕ)) → Counting W → Counting W → Style → Exit → Type 0
+Verified remaining from_old from_new contents to_old to_new style exit =
+    Tells (λ doc text. IsVerified style doc exit text) remaining from_old from_new contents to_old to_new

@@ -1,0 +1,91 @@
+-- The verdicts as a JSON value.
+use Rattle.std.specs.Prelude.{◌≡◌, ℕ, Some, None, List, ◌++◌, codes, length}
+use Rattle.serde_json.specs.Data.{Data, Members, array, boolean, member, no_members, number, object, string, unsigned}
+use Rattle.serde_json.specs.Read.{read}
+use Rattle.serde_json.specs.View.{items_of}
+use Rattle.tpl_draft.specs.Named.{Names}
+use Rattle.tpl_journal.specs.Lines.{lines, task_name}
+use Rattle.tpl_analyser.specs.declared.ran_out.RanOut.{RanOut}
+use Rattle.tpl_analyser.specs.declared.ran_out.RanOut.TheVariants.{Depth, Leaves, Trees}
+use Rattle.tpl_refute.specs.declared.counterexample.Counterexample.{Counterexample}
+use Rattle.tpl_witness.specs.Filled.{AreFirst}
+use Rattle.tpl_verify.specs.declared.verdict.Empty as reasons
+use Rattle.tpl_verify.specs.declared.verdict.Empty.TheVariants.{NeverBegins, NamesAllEnds, NeverThrows, NeverKept}
+use Rattle.tpl_verify.specs.declared.verdict.Tried.{Tried}
+use Rattle.tpl_verify.specs.declared.verdict.Verdict.{Verdict}
+use Rattle.tpl_verify.specs.declared.verdict.Verdict.TheVariants as verdict
+use Rattle.tpl_verdicts.specs.declared.word.Word.TheVariants.{Holds, Fails, Empty, Unknown}
+use Rattle.tpl_verdicts.specs.Words.{count_of, word_text}
+use Rattle.tpl_verdicts.specs.Lines.{AreNumbered}
+
+-- a number as a JSON value
+abbrev pub number_data : ℕ → Data
+number_data n = number (unsigned n)
+
+-- why a claim says nothing, and which task never begins
+abbrev pub why_data : Names → reasons.Empty → Data
+why_data names (NeverBegins t) =
+    object (member (codes "task") (string (task_name names t)) (member (codes "why") (string (codes "NeverBegins")) no_members))
+why_data names NamesAllEnds = object (member (codes "why") (string (codes "NamesAllEnds")) no_members)
+why_data names NeverThrows = object (member (codes "why") (string (codes "NeverThrows")) no_members)
+why_data names NeverKept = object (member (codes "why") (string (codes "NeverKept")) no_members)
+
+-- what ran out in a search
+abbrev pub ran_out_word : RanOut → List ℕ
+ran_out_word Depth = codes "Depth"
+ran_out_word Leaves = codes "Leaves"
+ran_out_word Trees = codes "Trees"
+
+-- how far a claim was tried
+abbrev pub tried_data : Tried → Data
+tried_data tried =
+    object (member (codes "events_ran_out") (boolean tried.events_ran_out) (member (codes "ran_out") (string (ran_out_word tried.ran_out)) (member (codes "runs") (number_data tried.runs) no_members)))
+
+-- a run: how many events it has, the values of the inputs by their names, and the text of its journal
+abbrev pub IsRunData : Names → Counterexample → Data → Type 0
+IsRunData names run d =
+    (inputs : Members) × AreFirst names.inputs run.inputs (length names.inputs) inputs
+    × (d ≡ object (member (codes "events") (number_data (length run.events.items)) (member (codes "inputs") (object inputs) (member (codes "journal") (string (lines names run.events.items)) no_members))))
+
+-- the value for a claim that holds
+abbrev pub held_data : (n splits : ℕ) → (words : List ℕ) → Data
+held_data n splits words =
+    object (member (codes "claim") (number_data n) (member (codes "splits") (number_data splits) (member (codes "text") (string words) (member (codes "verdict") (string (word_text Holds)) no_members))))
+
+-- the value for a claim that holds and says nothing
+abbrev pub empty_data : (n : ℕ) → (why : Data) → (splits : ℕ) → (words : List ℕ) → Data
+empty_data n why splits words =
+    object (member (codes "claim") (number_data n) (member (codes "empty") why (member (codes "splits") (number_data splits) (member (codes "text") (string words) (member (codes "verdict") (string (word_text Empty)) no_members)))))
+
+-- the value for a claim that fails
+abbrev pub failed_data : (n : ℕ) → (run : Data) → (words : List ℕ) → Data
+failed_data n run words =
+    object (member (codes "claim") (number_data n) (member (codes "run") run (member (codes "text") (string words) (member (codes "verdict") (string (word_text Fails)) no_members))))
+
+-- the value for a claim of which nothing is known
+abbrev pub unknown_data : (n : ℕ) → (words : List ℕ) → (tried : Data) → Data
+unknown_data n words tried =
+    object (member (codes "claim") (number_data n) (member (codes "text") (string words) (member (codes "tried") tried (member (codes "verdict") (string (word_text Unknown)) no_members))))
+
+-- the value for the claim of this number says what its verdict says
+abbrev pub IsClaimData : Names → ℕ → Verdict → Data → Type 0
+IsClaimData names n (verdict.Holds splits None) d = (words : List ℕ) × (d ≡ held_data n splits words)
+IsClaimData names n (verdict.Holds splits (Some why)) d = (words : List ℕ) × (d ≡ empty_data n (why_data names why) splits words)
+IsClaimData names n (verdict.Fails run) d =
+    (words : List ℕ) × (there : Data) × IsRunData names run there × (d ≡ failed_data n there words)
+IsClaimData names n (verdict.Unknown tried) d = (words : List ℕ) × (d ≡ unknown_data n words (tried_data tried))
+
+-- how many claims there are, and how many of each word
+abbrev pub sums_data : List Verdict → Data
+sums_data verdicts =
+    object (member (codes "claims") (number_data (length verdicts)) (member (codes "empty") (number_data (count_of verdicts Empty)) (member (codes "fails") (number_data (count_of verdicts Fails)) (member (codes "holds") (number_data (count_of verdicts Holds)) (member (codes "unknown") (number_data (count_of verdicts Unknown)) no_members)))))
+
+-- the whole value, with one for each claim
+abbrev pub verdicts_data : List Data → List Verdict → Data
+verdicts_data claims verdicts = object (member (codes "claims") (array (items_of claims)) (member (codes "sums") (sums_data verdicts) no_members))
+
+-- the text is read as a value that says of each claim what its verdict says, in their order; a line break follows
+abbrev pub IsJson : Names → List Verdict → List ℕ → Type 0
+IsJson names verdicts text =
+    (claims : List Data) × (json : List ℕ) × AreNumbered (IsClaimData names) 1 verdicts claims
+    × (read json ≡ Some (verdicts_data claims verdicts)) × (text ≡ json ++ codes "\n")

@@ -1,0 +1,5 @@
+pub mod Words
+pub mod Lines
+pub mod Junit
+pub mod Json
+pub mod Answer

@@ -1,0 +1,32 @@
+-- The words for verdicts.
+use Rattle.std.specs.Prelude.{ℕ, Bool, true, false, Some, None, List, codes, count_by}
+use Rattle.tpl_verify.specs.declared.verdict.Verdict.{Verdict}
+use Rattle.tpl_verify.specs.declared.verdict.Verdict.TheVariants as verdict
+use Rattle.tpl_verdicts.specs.declared.word.Word.{Word}
+use Rattle.tpl_verdicts.specs.declared.word.Word.TheVariants.{Holds, Fails, Empty, Unknown}
+
+-- the word for a verdict
+abbrev pub word_of : Verdict → Word
+word_of (verdict.Holds splits None) = Holds
+word_of (verdict.Holds splits (Some why)) = Empty
+word_of (verdict.Fails run) = Fails
+word_of (verdict.Unknown tried) = Unknown
+
+-- the word as it is written
+abbrev pub word_text : Word → List ℕ
+word_text Holds = codes "holds"
+word_text Fails = codes "fails"
+word_text Empty = codes "empty"
+word_text Unknown = codes "unknown"
+
+-- both are the same word
+abbrev pub same_word : Word → Word → Bool
+same_word Holds Holds = true
+same_word Fails Fails = true
+same_word Empty Empty = true
+same_word Unknown Unknown = true
+same_word one other = false
+
+-- how many of the verdicts have this word
+abbrev pub count_of : List Verdict → Word → ℕ
+count_of verdicts word = count_by (λ v. same_word (word_of v) word) verdicts

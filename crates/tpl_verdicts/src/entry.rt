@@ -1,0 +1,16 @@
+//! What is said of a claim.
+
+use crate::word::Word;
+
+/// What is said of a claim.
+#[derive(Drop)]
+pub struct Entry {
+    /// Its number; the first claim has 1.
+    pub number: usize,
+    /// The word for the verdict on it.
+    pub word: Word,
+    /// The claim in words.
+    pub words: String,
+    /// The lines that belong to it, each with its line break.
+    pub lines: Vec<String>,
+}

@@ -1,0 +1,247 @@
+//! The verdicts as one JSON object.
+
+ghost use Rattle.std.specs.Prelude.{◌≡◌, codes, length, map, IfOk, string_bytes};
+ghost use Rattle.std.specs.List.{All};
+ghost use Rattle.serde_json.specs.Data.{member, no_members, object, string, Members};
+ghost use Rattle.serde_json.specs.View.{view};
+ghost use Rattle.tpl_graph.specs.Fits.{Fits};
+ghost use Rattle.tpl_journal.specs.Lines.{task_name, CanSpell};
+ghost use Rattle.tpl_model.specs.Graph.{is_task};
+ghost use Rattle.tpl_verify.specs.Verdicts.{AreVerdicts, IsEmpty, IsSomeVerdict};
+ghost use Rattle.tpl_witness.specs.Filled.{AreFirst};
+ghost use Rattle.tpl_verdicts.specs.Lines.{AreNumbered};
+ghost use Rattle.tpl_verdicts.specs.Json.{empty_data, failed_data, held_data, ran_out_word, sums_data, tried_data, unknown_data, verdicts_data, why_data, IsClaimData, IsJson, IsRunData};
+
+use crate::sums::count_of;
+use crate::word::Word;
+use serde_json::{Value, json};
+use std::alloc::{AllocError, Global};
+use tpl_analyser::RanOut;
+use tpl_graph::{Claim, Graph};
+use tpl_journal::spells_run;
+use tpl_reasons::claim_words;
+use tpl_refute::Counterexample;
+use tpl_verify::{Empty, Tried, Verdict};
+use tpl_witness::{input_members, journal_text};
+use tpl_words::{Inputs, TaskId};
+
+/// Why a claim says nothing, by a word.
+fn reason_value(alloc: Global, why: &str) -> Result<Value, AllocError>
+    ensures { IfOk result (λ v.
+        view v ≡ object (member (codes "why") (string why.now) no_members)) }
+{
+    json!(in alloc; {"why": why})
+}
+
+/// That a task never begins, by its name.
+fn never_value(alloc: Global, task: &str) -> Result<Value, AllocError>
+    ensures { IfOk result (λ v. view v ≡ object (member (codes "task") (string task.now)
+        (member (codes "why") (string (codes "NeverBegins")) no_members))) }
+{
+    json!(in alloc; {"task": task, "why": "NeverBegins"})
+}
+
+/// The name of a task whose begin the claim needs to say something.
+fn name_of(graph: &Graph, task: TaskId) -> &str
+    requires { is_task graph.now.graph task.0 }
+    ensures { result.now ≡ task_name graph.now.names task }
+{
+    graph.valid_law();
+    graph.name(task)
+}
+
+/// Why a claim says nothing.
+fn why_value(alloc: Global, graph: &Graph, claim: &Claim, why: Empty) -> Result<Value, AllocError>
+    requires fits { Fits graph.now.graph claim.now }
+    requires empty { IsEmpty graph.now.graph claim.now why }
+    ensures { IfOk result (λ v. view v ≡ why_data graph.now.names why) }
+{
+    let _ = claim;
+    match why {
+        Empty::NeverBegins(task) => never_value(alloc, name_of(graph, task)),
+        Empty::NamesAllEnds => reason_value(alloc, "NamesAllEnds"),
+        Empty::NeverThrows => reason_value(alloc, "NeverThrows"),
+        Empty::NeverKept => reason_value(alloc, "NeverKept"),
+    }
+}
+
+/// What ran out in a search.
+fn ran_out_word(ran_out: RanOut) -> &'static str
+    ensures { result.now ≡ ran_out_word ran_out }
+{
+    match ran_out {
+        RanOut::Depth => "Depth",
+        RanOut::Leaves => "Leaves",
+        RanOut::Trees => "Trees",
+    }
+}
+
+/// How far a claim was tried.
+fn tried_value(alloc: Global, tried: Tried) -> Result<Value, AllocError>
+    ensures { IfOk result (λ v. view v ≡ tried_data tried) }
+{
+    let (played, word, runs) = (
+        tried.events_ran_out,
+        ran_out_word(tried.ran_out),
+        tried.runs,
+    );
+    json!(in alloc; {"events_ran_out": played, "ran_out": word, "runs": runs})
+}
+
+/// The values of the inputs, by their names.
+fn inputs_value(alloc: Global, graph: &Graph, inputs: &Inputs) -> Result<Value, AllocError>
+    ensures { IfOk result (λ v. (ms : Members) × AreFirst graph.now.names.inputs inputs.now
+        (length graph.now.names.inputs) ms × (view v ≡ object ms)) }
+{
+    let members = input_members(alloc, graph, inputs)?;
+    Ok(Value::Object(members))
+}
+
+/// A run in which a claim fails.
+fn run_value(alloc: Global, graph: &Graph, run: &Counterexample) -> Result<Value, AllocError>
+    requires { All (CanSpell graph.now.graph) run.now.events.items }
+    ensures { IfOk result (λ v. IsRunData graph.now.names run.now (view v)) }
+{
+    let events = run.events.len();
+    let inputs = inputs_value(alloc, graph, &run.inputs)?;
+    let journal = journal_text(alloc, graph, &run.events)?;
+    json!(in alloc; {"events": events, "inputs": inputs, "journal": journal})
+}
+
+/// What is said of a claim that holds.
+fn held_value(alloc: Global, number: usize, splits: u8, text: String) -> Result<Value, AllocError>
+    ensures { IfOk result (λ v. view v ≡ held_data number splits (string_bytes text)) }
+{
+    json!(in alloc; {"claim": number, "splits": splits, "text": text, "verdict": "holds"})
+}
+
+/// What is said of a claim that holds and says nothing.
+fn empty_value(
+    alloc: Global,
+    number: usize,
+    empty: Value,
+    splits: u8,
+    text: String,
+) -> Result<Value, AllocError>
+    ensures { IfOk result (λ v.
+        view v ≡ empty_data number (view empty) splits (string_bytes text)) }
+{
+    json!(in alloc; {
+        "claim": number, "empty": empty, "splits": splits, "text": text, "verdict": "empty"
+    })
+}
+
+/// What is said of a claim that fails.
+fn failed_value(alloc: Global, number: usize, run: Value, text: String) -> Result<Value, AllocError>
+    ensures { IfOk result (λ v. view v ≡ failed_data number (view run) (string_bytes text)) }
+{
+    json!(in alloc; {"claim": number, "run": run, "text": text, "verdict": "fails"})
+}
+
+/// What is said of a claim of which nothing is known.
+fn unknown_value(
+    alloc: Global,
+    number: usize,
+    text: String,
+    tried: Value,
+) -> Result<Value, AllocError>
+    ensures { IfOk result (λ v. view v ≡ unknown_data number (string_bytes text) (view tried)) }
+{
+    json!(in alloc; {"claim": number, "text": text, "tried": tried, "verdict": "unknown"})
+}
+
+/// What is said of the claim of this number.
+fn claim_value(
+    alloc: Global,
+    graph: &Graph,
+    claim: &Claim,
+    number: usize,
+    verdict: &Verdict,
+) -> Result<Value, AllocError>
+    requires fits { Fits graph.now.graph claim.now }
+    requires verdict { IsSomeVerdict graph.now.graph claim.now verdict.now }
+    ensures { IfOk result (λ v. IsClaimData graph.now.names number verdict.now (view v)) }
+{
+    spells_run();
+    let text = claim_words(alloc, graph, claim)?;
+    match verdict {
+        Verdict::Holds {
+            splits,
+            empty: None,
+        } => held_value(alloc, number, *splits, text),
+        Verdict::Holds {
+            splits,
+            empty: Some(why),
+        } => {
+            let empty = why_value(alloc, graph, claim, *why)?;
+            empty_value(alloc, number, empty, *splits, text)
+        }
+        Verdict::Fails(run) => {
+            let run = run_value(alloc, graph, run)?;
+            failed_value(alloc, number, run, text)
+        }
+        Verdict::Unknown(tried) => {
+            let tried = tried_value(alloc, *tried)?;
+            unknown_value(alloc, number, text, tried)
+        }
+    }
+}
+
+/// What is said of each claim.
+fn claim_values(
+    alloc: Global,
+    graph: &Graph,
+    claims: &[Claim],
+    verdicts: &[Verdict],
+) -> Result<Vec<Value>, AllocError>
+    requires claims { All (Fits graph.now.graph) claims.now }
+    requires verdicts { AreVerdicts graph.now.graph claims.now verdicts.now }
+    ensures { IfOk result (λ values. AreNumbered (IsClaimData graph.now.names) 1 verdicts.now
+        (map view values.items)) }
+{
+    let mut values = Vec::new(alloc);
+    for at in 0..verdicts.len() {
+        let value = claim_value(alloc, graph, &claims[at], at + 1, &verdicts[at])?;
+        values.push(value)?;
+    }
+    Ok(values)
+}
+
+/// How many claims there are, and how many of each word.
+fn sums_value(alloc: Global, verdicts: &[Verdict]) -> Result<Value, AllocError>
+    ensures { IfOk result (λ v. view v ≡ sums_data verdicts.now) }
+{
+    let claims = verdicts.len();
+    let empty = count_of(verdicts, Word::Empty);
+    let fails = count_of(verdicts, Word::Fails);
+    let holds = count_of(verdicts, Word::Holds);
+    let unknown = count_of(verdicts, Word::Unknown);
+    json!(in alloc; {
+        "claims": claims, "empty": empty, "fails": fails, "holds": holds, "unknown": unknown
+    })
+}
+
+/// The whole value.
+fn whole_value(alloc: Global, claims: Vec<Value>, verdicts: &[Verdict]) -> Result<Value, AllocError>
+    ensures { IfOk result (λ v. view v ≡ verdicts_data (map view claims.items) verdicts.now) }
+{
+    let sums = sums_value(alloc, verdicts)?;
+    json!(in alloc; {"claims": claims, "sums": sums})
+}
+
+/// The verdicts on the claims as one line of JSON.
+pub(crate) fn json_of(
+    alloc: Global,
+    graph: &Graph,
+    claims: &[Claim],
+    verdicts: &[Verdict],
+) -> Result<String, AllocError>
+    requires claims { All (Fits graph.now.graph) claims.now }
+    requires verdicts { AreVerdicts graph.now.graph claims.now verdicts.now }
+    ensures { IfOk result (λ text. IsJson graph.now.names verdicts.now (string_bytes text)) }
+{
+    let values = claim_values(alloc, graph, claims, verdicts)?;
+    let mut text = whole_value(alloc, values, verdicts)?.to_string(alloc)?;
+    text.push_str("\n")?;
+    Ok(text)
+}

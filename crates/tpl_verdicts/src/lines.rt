@@ -1,0 +1,155 @@
+//! The lines that belong to a claim's line.
+
+ghost use Rattle.std.specs.Prelude.{◌≡◌, ◌++◌, map, IfOk, OnOk, string_bytes};
+ghost use Rattle.std.specs.List.{All};
+ghost use Rattle.tpl_graph.specs.Fits.{Fits};
+ghost use Rattle.tpl_journal.specs.Lines.{line, CanSpell};
+ghost use Rattle.tpl_verify.specs.Verdicts.{IsSomeVerdict};
+ghost use Rattle.tpl_verdicts.specs.Lines.{AreLines};
+
+use crate::searched::Searched;
+use std::alloc::{AllocError, Global};
+use std::slice;
+use tpl_graph::{Claim, Graph};
+use tpl_journal::spells_run;
+use tpl_model::{Event, Property};
+use tpl_reasons::{claim_words, input_words, obstacle_words, tried_words};
+use tpl_refute::Counterexample;
+use tpl_verify::{Empty, Tried, Verdict};
+use tpl_witness::journal_text;
+use tpl_words::Inputs;
+
+/// What may be done about a claim of which nothing is known.
+const NEXT: &str =
+    "it may hold: ask it under a `given`; it may fail: try more `--runs`, or another `--seed`\n";
+
+/// One line, as it is.
+fn one_line(alloc: Global, line: String) -> Result<Vec<String>, AllocError> {
+    let mut lines = Vec::new(alloc);
+    lines.push(line)?;
+    Ok(lines)
+}
+
+/// Why a claim that holds says nothing.
+fn empty_lines(alloc: Global, graph: &Graph, empty: Empty) -> Result<Vec<String>, AllocError> {
+    let line = match empty {
+        Empty::NeverBegins(task) => {
+            let never = Claim::new(Vec::new(alloc), Property::Never(task));
+            let words = claim_words(alloc, graph, &never)?;
+            format!(in alloc; "{words}\n")?
+        }
+        Empty::NamesAllEnds => String::from_str(alloc, "it names each way to end\n")?,
+        Empty::NeverThrows => {
+            String::from_str(alloc, "there is never an exception to observe\n")?
+        }
+        Empty::NeverKept => String::from_str(alloc, "no complete run keeps what is given\n")?,
+    };
+    one_line(alloc, line)
+}
+
+/// What was tried for a claim of which nothing is known, and what to do.
+fn unknown_lines(
+    alloc: Global,
+    graph: &Graph,
+    claim: &Claim,
+    searched: &Searched,
+    tried: Tried,
+) -> Result<Vec<String>, AllocError>
+    requires { Fits graph.now.graph claim.now }
+{
+    let words = tried_words(alloc, searched.depth, tried.ran_out)?;
+    let runs = tried.runs;
+    let most = if tried.events_ran_out {
+        ", and no more may be made"
+    } else {
+        ""
+    };
+    let mut lines = Vec::new(alloc);
+    lines.push(format!(in alloc; "{words}\n")?)?;
+    let obstacle = obstacle_words(alloc, graph, claim, searched.rules)?;
+    if !obstacle.is_empty() {
+        lines.push(obstacle)?;
+    }
+    lines.push(format!(in alloc; "it fails in none of {runs} random runs{most}\n")?)?;
+    lines.push(String::from_str(alloc, NEXT)?)?;
+    Ok(lines)
+}
+
+/// The line for the values of the inputs, if there are any.
+fn input_lines(alloc: Global, graph: &Graph, inputs: &Inputs) -> Result<Vec<String>, AllocError> {
+    if inputs.is_empty() {
+        return Ok(Vec::new(alloc));
+    }
+    let words = input_words(alloc, graph, inputs)?;
+    let line = format!(in alloc; "where {words}\n")?;
+    one_line(alloc, line)
+}
+
+/// The line of an event.
+fn event_line(alloc: Global, graph: &Graph, event: &Event) -> Result<String, AllocError>
+    requires { CanSpell graph.now.graph event.now }
+    ensures { IfOk result (λ text. string_bytes text ≡ line graph.now.names event.now) }
+{
+    journal_text(alloc, graph, slice::from_ref(event))
+}
+
+/// Adds the line of each event.
+fn add_events(
+    lines: &mut Vec<String>,
+    alloc: Global,
+    graph: &Graph,
+    events: &[Event],
+) -> Result<(), AllocError>
+    requires { All (CanSpell graph.now.graph) events.now }
+    ensures { OnOk result (map string_bytes lines.new.items
+        ≡ map string_bytes lines.old.items ++ map (line graph.now.names) events.now) }
+{
+    for event in events {
+        let line = event_line(alloc, graph, event)?;
+        lines.push(line)?;
+    }
+    Ok(())
+}
+
+/// The run, behind whose last event the claim of this number fails.
+fn failing_lines(
+    alloc: Global,
+    graph: &Graph,
+    number: usize,
+    run: &Counterexample,
+) -> Result<Vec<String>, AllocError>
+    requires { All (CanSpell graph.now.graph) run.now.events.items }
+    ensures { IfOk result (λ lines. AreLines graph.now.names number (Verdict.Fails run.now)
+        (map string_bytes lines.items)) }
+{
+    let mut lines = input_lines(alloc, graph, &run.inputs)?;
+    add_events(&mut lines, alloc, graph, &run.events)?;
+    lines.push(format!(in alloc; "claim {number} fails here\n")?)?;
+    Ok(lines)
+}
+
+/// The lines that belong to the line of the claim of this number.
+pub(crate) fn lines_of(
+    alloc: Global,
+    graph: &Graph,
+    claim: &Claim,
+    number: usize,
+    verdict: &Verdict,
+    searched: &Searched,
+) -> Result<Vec<String>, AllocError>
+    requires fits { Fits graph.now.graph claim.now }
+    requires verdict { IsSomeVerdict graph.now.graph claim.now verdict.now }
+    ensures { IfOk result (λ lines. AreLines graph.now.names number verdict.now
+        (map string_bytes lines.items)) }
+{
+    spells_run();
+    match verdict {
+        Verdict::Holds { empty: None, .. } => Ok(Vec::new(alloc)),
+        Verdict::Holds {
+            empty: Some(empty),
+            ..
+        } => empty_lines(alloc, graph, *empty),
+        Verdict::Fails(run) => failing_lines(alloc, graph, number, run),
+        Verdict::Unknown(tried) => unknown_lines(alloc, graph, claim, searched, *tried),
+    }
+}

@@ -1,0 +1,228 @@
+//! The verdicts on the claims of a document, from a reader to a writer.
+
+ghost use Rattle.std.specs.Prelude.{◌≡◌, ◌⊎◌, ◌+◌, ◌≤◌, ◌<◌, IfOk, IfSome, IsTrue, string_bytes};
+ghost use Rattle.std.specs.List.{All, AllZip};
+ghost use Rattle.tpl_graph.specs.Fits.{Fits};
+ghost use Rattle.tpl_journal.specs.Counting.{calls_of};
+ghost use Rattle.tpl_reader.specs.SeenDocument.{doc_of};
+ghost use Rattle.tpl_commands.specs.Exit.{is_verdict};
+ghost use Rattle.tpl_commands.specs.Finding.{IsAnswer, IsFindingOf};
+ghost use Rattle.tpl_commands.specs.Rules.{is_judged_widely};
+ghost use Rattle.tpl_commands.specs.Responding.{longest, Responds};
+ghost use Rattle.tpl_verify.specs.Verdicts.{AreVerdicts, HoldsAlways, IsVerdict};
+ghost use Rattle.tpl_verdicts.specs.Answer.{IsExit, IsStyled, IsVerified, Verified, Verifies};
+
+use crate::json::json_of;
+use crate::junit::junit_of;
+use crate::searched::Searched;
+use crate::style::Style;
+use crate::text::text_of;
+use crate::verification::Verification;
+use std::alloc::{AllocError, Global};
+use std::io::{Read, Write};
+use std::thread::Threads;
+use tpl_analyser::Depth;
+use tpl_commands::{
+    Answer, Answered, Command, Exit, Listen, put_answered, read_input, rules_of, unread,
+};
+use tpl_graph::{Claim, Graph};
+use tpl_journal::Counting;
+use tpl_reader::{Document, Hear, Unheard, read_document_heard};
+use tpl_verify::{Attend, Limits, Verdict, all_hold, verify, verify_beside};
+
+/// How the program ends with these verdicts.
+fn exit_of(graph: &Graph, claims: &[Claim], verdicts: &[Verdict]) -> Exit
+    requires { AreVerdicts graph.now.graph claims.now verdicts.now }
+    ensures ends { IsExit verdicts.now result }
+    ensures sound { result ≡ Exit.Success → All (HoldsAlways graph.now.graph) claims.now }
+    ensures answered { IsTrue (is_verdict result) }
+{
+    if all_hold(graph, claims, verdicts) {
+        Exit::Success
+    } else {
+        Exit::Failure
+    }
+}
+
+/// The verdicts in this style.
+fn styled(
+    alloc: Global,
+    style: Style,
+    graph: &Graph,
+    claims: &[Claim],
+    verdicts: &[Verdict],
+    searched: &Searched,
+) -> Result<String, AllocError>
+    requires claims { All (Fits graph.now.graph) claims.now }
+    requires verdicts { AreVerdicts graph.now.graph claims.now verdicts.now }
+    ensures { IfOk result (λ text.
+        IsStyled style graph.now.names verdicts.now (string_bytes text)) }
+{
+    match style {
+        Style::Text => text_of(alloc, graph, claims, verdicts, searched),
+        Style::Json => json_of(alloc, graph, claims, verdicts),
+        Style::Junit => junit_of(alloc, graph, claims, verdicts, searched),
+    }
+}
+
+/// The answer where these are the verdicts on the document's claims.
+fn answer_of(
+    alloc: Global,
+    depth: Depth,
+    style: Style,
+    document: &Document,
+    verdicts: &[Verdict],
+) -> Result<Answer, AllocError>
+    requires claims { All (Fits document.now.graph.graph) document.now.claims.items }
+    requires verdicts { AllZip (IsVerdict (is_judged_widely (doc_of document.now))
+        document.now.graph.graph) document.now.claims.items verdicts.now }
+    ensures { IfOk result (λ given.
+        IsVerified style (doc_of document.now) given.exit (string_bytes given.text)) }
+{
+    let graph = &document.graph;
+    let rules = rules_of(document);
+    let searched = Searched { depth, rules };
+    let text = styled(alloc, style, graph, &document.claims, verdicts, &searched)?;
+    let exit = exit_of(graph, &document.claims, verdicts);
+    Ok(Answer { exit, text })
+}
+
+/// The answer to a document.
+fn answer_for<T: Threads + Sync, A: Attend>(
+    rt: &T,
+    alloc: Global,
+    asked: Verification,
+    attend: &A,
+    document: &Document,
+) -> Result<Answer, AllocError>
+    requires jobs { 0 < asked.jobs }
+    requires claims { All (Fits document.now.graph.graph) document.now.claims.items }
+    ensures { IfOk result (λ given.
+        IsVerified asked.style (doc_of document.now) given.exit (string_bytes given.text)) }
+{
+    let (graph, claims) = (&document.graph, document.claims.as_slice());
+    let (rules, limits) = (rules_of(document), &asked.limits);
+    let verdicts = verify_beside(rt, alloc, graph, claims, rules, limits, asked.jobs, attend)?;
+    answer_of(alloc, limits.depth, asked.style, document, &verdicts)
+}
+
+/// The answer to bytes.
+fn answer<T: Threads + Sync, A: Attend, H: Hear>(
+    rt: &T,
+    alloc: Global,
+    asked: Verification,
+    attend: &A,
+    hear: H,
+    bytes: &[u8],
+) -> Result<Answered, AllocError>
+    requires jobs { 0 < asked.jobs }
+    ensures answer { IfOk result (λ it.
+        Verifies asked.style bytes.now it.answer.exit (string_bytes it.answer.text)) }
+    ensures found { IfOk result (λ it. IfSome it.finding (IsFindingOf bytes.now)) }
+{
+    match read_document_heard(alloc, bytes, hear) {
+        Ok(document) => {
+            let answer = answer_for(rt, alloc, asked, attend, &document)?;
+            let finding = None;
+            Ok(Answered { answer, finding })
+        }
+        Err(misread) => unread(alloc, bytes, misread),
+    }
+}
+
+/// The answer to bytes, with no thread of its own.
+fn answer_alone(
+    alloc: Global,
+    limits: &Limits,
+    style: Style,
+    bytes: &[u8],
+) -> Result<Answered, AllocError>
+    ensures answer { IfOk result (λ it.
+        Verifies style bytes.now it.answer.exit (string_bytes it.answer.text)) }
+    ensures found { IfOk result (λ it. IfSome it.finding (IsFindingOf bytes.now)) }
+    ensures follows { IfOk result (λ it. IfSome it.finding (λ finding.
+        IsAnswer finding it.answer.exit (string_bytes it.answer.text))) }
+{
+    match read_document_heard(alloc, bytes, Unheard) {
+        Ok(document) => {
+            let (graph, rules) = (&document.graph, rules_of(&document));
+            let verdicts = verify(alloc, graph, &document.claims, rules, limits)?;
+            let answer = answer_of(alloc, limits.depth, style, &document, &verdicts)?;
+            let finding = None;
+            Ok(Answered { answer, finding })
+        }
+        Err(misread) => unread(alloc, bytes, misread),
+    }
+}
+
+/// Answers each claim of a document, one after another, with no thread of its own.
+#[derive(Clone, Copy, Debug, Drop)]
+pub struct OneByOne {
+    /// How much is tried for each claim at most.
+    pub limits: Limits,
+    /// How the verdicts are written.
+    pub style: Style,
+}
+
+impl Command for OneByOne {
+    ghost answers = { λ this. Verifies this.style };
+
+    fn answer(&self, alloc: Global, bytes: &[u8]) -> Result<Answered, AllocError> {
+        answer_alone(alloc, &self.limits, self.style, bytes)
+    }
+}
+
+/// Reads a document and writes the answer to it.
+fn respond<T: Threads + Sync, A: Attend, L: Listen, I: Read, O: Write>(
+    rt: &T,
+    alloc: Global,
+    asked: Verification,
+    attend: &A,
+    listener: L,
+    from: &mut Counting<I>,
+    to: &mut Counting<O>,
+) -> Exit
+    requires jobs { 0 < asked.jobs }
+    ensures responds { Responds (Verifies asked.style) I.remaining from.old from.new
+        O.contents to.old to.new result }
+    ensures reads { calls_of from.new ≤ calls_of from.old + (longest + 2) }
+{
+    match read_input(alloc, from, to) {
+        Ok(bytes) => {
+            let answered = answer(rt, alloc, asked, attend, listener, &bytes);
+            put_answered(answered, listener, &bytes, to)
+        }
+        Err(exit) => {
+            listener.unread(exit);
+            exit
+        }
+    }
+}
+
+/// Reads a document to its end, at most 16,777,216 bytes, and writes a verdict on each of its claims: it holds, it fails,
+/// it is empty, or neither is known. Whatever the number of threads, the answer is the same.
+///
+/// The text is made whole before its first byte is written. A failed read ends the reading, and then nothing is
+/// written; after a failed write no more is. Who attends is told of each verdict as soon as it is found; where the
+/// document can't be read, the listener is told why.
+pub fn verify_document<T: Threads + Sync, A: Attend, L: Listen, I: Read, O: Write>(
+    rt: &T,
+    alloc: Global,
+    asked: Verification,
+    attend: &A,
+    listener: L,
+    from: &mut Counting<I>,
+    to: &mut Counting<O>,
+) -> Exit
+    requires jobs { 0 < asked.jobs }
+    ensures responds { Responds (Verifies asked.style) I.remaining from.old from.new
+        O.contents to.old to.new result }
+    ensures reads { calls_of from.new ≤ calls_of from.old + (longest + 2) }
+
+    // With success or failure a true verdict on each claim was written; with success each claim holds in each run of the
+    // graph, for all inputs and whatever comes from outside, and none is known to be empty.
+    ensures verified { (result ≡ Exit.Success) ⊎ (result ≡ Exit.Failure)
+        → Verified I.remaining from.old from.new O.contents to.old to.new asked.style result }
+{
+    respond(rt, alloc, asked, attend, listener, from, to)
+}
