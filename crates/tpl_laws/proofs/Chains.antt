@@ -71,7 +71,7 @@ at_end g v h a (Begin s) t e = true_false (sym e)
 at_end g v h a (Step s) t e = true_false (sym e)
 at_end g v h a (Worked s w) t e = true_false (sym e)
 
-no_settle : (k : TaskKind) (en : ℕ → Option Ending) → IsBody k → can_settle k en ≡ true → ⊥
+pub no_settle : (k : TaskKind) (en : ℕ → Option Ending) → IsBody k → can_settle k en ≡ true → ⊥
 no_settle Root en b c = true_false (sym c)
 no_settle Child en b c = true_false (sym c)
 no_settle (Continues d) en b c = true_false (sym c)

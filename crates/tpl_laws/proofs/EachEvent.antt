@@ -37,7 +37,7 @@ AllIs args en Canceled =
     × ((x : ℕ) × (mem x args ≡ true) × (final_in (en x) ≡ Some Canceled))
 AllIs args en Faulted = (x : ℕ) × (mem x args ≡ true) × (final_in (en x) ≡ Some Faulted)
 
-end_of : (o : Option Ending) → is_some o ≡ true → (f : Final) × (final_in o ≡ Some f)
+pub end_of : (o : Option Ending) → is_some o ≡ true → (f : Final) × (final_in o ≡ Some f)
 end_of None e = true_false (sym e)
 end_of (Some r) e = (r.final, refl)
 
@@ -69,14 +69,14 @@ all_step y args en RanToCompletion Canceled p w =
     ((λ x m. elim (mem_split x y args m) [ inl q ↦ (RanToCompletion, refl, ap (λ z. final_in (en z)) q ∙ p) | inr q ↦ w.0 x q ]), (w.1.0, mem_there w.1.0 y args w.1.1, w.1.2))
 all_step y args en RanToCompletion Faulted p w = (w.0, mem_there w.0 y args w.1, w.2)
 
-all_is : (args : List ℕ) (en : ℕ → Option Ending) → all_ended args en ≡ true → AllIs args en (all_final args en)
+pub all_is : (args : List ℕ) (en : ℕ → Option Ending) → all_ended args en ≡ true → AllIs args en (all_final args en)
 all_is [] en e = λ x m. true_false (sym m)
 all_is (y ∷ args) en e =
     let both = and_parts (is_some (en y)) (all_ended args en) e in
     let o = end_of (en y) both.0 in
     subst (λ z. AllIs (y ∷ args) en (worse z (all_final args en))) (sym o.1) (all_step y args en o.0 (all_final args en) o.1 (all_is args en both.1))
 
-all_may : (rows : List Row) (args : List ℕ) (en : ℕ → Option Ending) (f : Final) → all_ended args en ≡ true → ((x : ℕ) (e : Final) → final_in (en x) ≡ Some e → has (row rows x).ends e ≡ true) → AllIs args en f → AllMayEnd rows args f
+pub all_may : (rows : List Row) (args : List ℕ) (en : ℕ → Option Ending) (f : Final) → all_ended args en ≡ true → ((x : ℕ) (e : Final) → final_in (en x) ≡ Some e → has (row rows x).ends e ≡ true) → AllIs args en f → AllMayEnd rows args f
 all_may rows args en RanToCompletion a ends w = λ x m. ends x RanToCompletion (w x m)
 all_may rows args en Canceled a ends w =
     ((λ x m. let q = w.0 x m in (q.0, q.1, ends x q.0 q.2)), (w.1.0, w.1.1, ends w.1.0 Canceled w.1.2))
@@ -281,7 +281,7 @@ past_so g l rows v h t x r now i en d m = by_kind (kind g t) d ((now.closed t i)
     by_kind (WhenAll args) d c = inl (or_past c.0 (all_ended_mem args (ending g v h) c.0 d c.1) c.2)
     by_kind (WhenAny args) d c = let w = some_ended_mem args (ending g v h) d in inl (or_past w.0 w.2 (c w.0 w.1 (wins w.0 w.2)))
 
-ends_task : (g : TaskGraph) (v : List Bool) (h : List Event) (t : ℕ) (r : Ending) → Ends g v h t r → is_task g t
+pub ends_task : (g : TaskGraph) (v : List Bool) (h : List Event) (t : ℕ) (r : Ending) → Ends g v h t r → is_task g t
 ends_task g v h t r (drops i d f c) = i
 ends_task g v h t r (leaves i b) = i
 ends_task g v h t r (settled i c p w q) = i

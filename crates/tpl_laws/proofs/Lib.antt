@@ -3,6 +3,7 @@ pub mod Sources
 pub mod Kept
 pub mod Execution
 pub mod Ready
+pub mod Begins
 pub mod Follows
 pub mod Settling
 pub mod SettledBefore
@@ -11,6 +12,9 @@ pub mod RowsAreTrue
 pub mod EachEvent
 pub mod Chains
 pub mod Observing
+pub mod Telling
+pub mod WideRows
+pub mod WideEvents
 pub mod MainTheorem
 pub mod Sizes
 pub mod Bound

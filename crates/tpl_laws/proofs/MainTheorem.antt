@@ -19,7 +19,8 @@ use Rattle.tpl_laws.proofs.Kept.{after, requested_kept, failed_kept, final_kept}
 use Rattle.tpl_model.specs.Valid.{IsGraph}
 use Rattle.tpl_model.specs.Certificate.{Row, row, Assumed, Agrees, view, Closed, Tree, SplitInput, SplitEnd, Leaf, same, given_input, given_quiet, given_end, given_sure, assumed, with_input, with_end, NoneComplete, begins_itself, Proves, AcceptsTree, as_quiet, same_token, own_quiet, taken, assumed_for}
 use Rattle.tpl_laws.proofs.Execution.{passed}
-use Rattle.tpl_laws.proofs.Ready.{Ready, waiting_ready, IsBody}
+use Rattle.tpl_laws.proofs.Ready.{Ready, IsBody}
+use Rattle.tpl_laws.proofs.Begins.{Begins, begins}
 use Rattle.tpl_laws.proofs.Follows.{follows}
 use Rattle.tpl_laws.proofs.Settling.{has_subject_of}
 use Rattle.tpl_laws.proofs.Carrying.{carries_faulted}
@@ -39,23 +40,6 @@ use Rattle.tpl_words.proofs.Truths.{true_false}
 -- what holds of a run that agrees with a closed leaf
 now_of : (g : TaskGraph) (l : Assumed) (rows : List Row) (v : List Bool) (h : List Event) → IsGraph g → Closed g l rows → Run g v h → Agrees g l v h → Now g l rows v h
 now_of g l rows v h valid closed run agrees = record { valid = valid; closed = closed; run = run; agrees = agrees; true_rows = rows_are_true g l rows v h valid closed run agrees }
-
--- a task that begins is ready, and its own token isn't requested
-record Begins (g : TaskGraph) (v : List Bool) (h : List Event) (t : ℕ) : Type 0 where
-  task : is_task g t
-  ready : Ready g v h t (kind g t)
-  not_requested : token_requested g v h t ≡ false
-
-begins : (g : TaskGraph) (v : List Bool) (h : List Event) (a : Actor) (act : Act) (t : ℕ) → Run g v h → Allows g v h a act → begun_by act t ≡ true → Begins g v h t
-begins g v h a (Begin s) t run al b = subst (Begins g v h) (same_number s.0 t b) (record { task = al.0; ready = waiting_ready g v h s.0 run al.1; not_requested = al.2 })
-begins g v h a (Request s) t run al b = true_false (sym b)
-begins g v h a (Release s) t run al b = true_false (sym b)
-begins g v h a (Step s) t run al b = true_false (sym b)
-begins g v h a (Worked s w) t run al b = true_false (sym b)
-begins g v h a (Leave s) t run al b = true_false (sym b)
-begins g v h a (Close s) t run al b = true_false (sym b)
-begins g v h a (Drop s) t run al b = true_false (sym b)
-begins g v h a (Settle s) t run al b = true_false (sym b)
 
 before_holds : (g : TaskGraph) (l : Assumed) (rows : List Row) (v : List Bool) (h : List Event) → IsGraph g → Closed g l rows → Run g v h → Agrees g l v h → BeforeHolds g rows v h
 before_holds g l rows v [] valid closed run agrees = tt

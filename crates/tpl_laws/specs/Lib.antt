@@ -11,3 +11,4 @@ pub mod Decided
 pub mod Failing
 pub mod Faults
 pub mod Wider
+pub mod WiderSoundness

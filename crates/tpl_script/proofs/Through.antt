@@ -32,7 +32,7 @@ another_is w RanToCompletion q = elim (or_cases (w.subject Canceled) (w.subject 
 another_is w Canceled q = elim (or_cases (w.subject RanToCompletion) (w.subject Faulted) q) [ inl a ↦ (RanToCompletion, refl, a) | inr a ↦ (Faulted, refl, a) ]
 another_is w Faulted q = elim (or_cases (w.subject RanToCompletion) (w.subject Canceled) q) [ inl a ↦ (RanToCompletion, refl, a) | inr a ↦ (Canceled, refl, a) ]
 
-is_another : (w : Known) (f e : Final) → is_final f e ≡ false → w.subject e ≡ true → another w f ≡ true
+pub is_another : (w : Known) (f e : Final) → is_final f e ≡ false → w.subject e ≡ true → another w f ≡ true
 is_another w RanToCompletion RanToCompletion d s = true_false d
 is_another w RanToCompletion Canceled d s = or_left (w.subject Canceled) (w.subject Faulted) s
 is_another w RanToCompletion Faulted d s = or_right (w.subject Canceled) (w.subject Faulted) s

@@ -5,6 +5,7 @@ pub mod Seen
 pub mod Falls
 pub mod Paths
 pub mod Recursion
+pub mod Knowledge
 pub mod View
 pub mod Verdicts
 pub mod Ends

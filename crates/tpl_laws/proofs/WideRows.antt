@@ -1,0 +1,449 @@
+-- What a leaf that is closed by the wider rules says of a run, where a task begins or ends.
+use Rattle.std.proofs.Common.{◌≡◌, ℕ, ◌&&◌, ◌||◌, ◌⊎◌, inl, inr, not, Bool, true, false, if◌then◌else◌, Option, Some, None, List, [], ◌∷◌, refl, sym, ap, ◌∙◌, subst, nat_eq, is_some}
+use Rattle.std.proofs.lemmas.Bool.{cases_Bool, or_cases}
+use Rattle.tpl_words.proofs.Truths.{true_false}
+use Rattle.tpl_words.specs.declared.finals.Final.{Final}
+use Rattle.tpl_words.specs.declared.finals.Final.TheVariants.{RanToCompletion, Canceled, Faulted}
+use Rattle.tpl_words.specs.Finals.{has, is_final}
+use Rattle.tpl_words.specs.Members.{mem}
+use Rattle.tpl_script.specs.declared.outcome.Outcome.{Outcome}
+use Rattle.tpl_script.specs.declared.outcome.Outcome.TheVariants.{Returned, Threw, Acknowledged}
+use Rattle.tpl_script.specs.Statements.{Statement, Return, Throw, Check, Cancel, Start, Observe, Work, If, When, Statements, Nothing, ◌⨾◌}
+use Rattle.tpl_script.specs.Paths.{passes_start}
+use Rattle.tpl_script.specs.Knowledge.{Fact, IsSettled, IsRequested, Knowledge, ChildEnd, Reading, ending_as, ended_by, from}
+use Rattle.tpl_script.proofs.Known.{under_trans}
+use Rattle.tpl_script.proofs.KnownPaths.{told_by, later_on, is_burdened, burdens, facts_of, MayChoose, one, path_final, ending_as_falls, ending_one, end_known, within_some, known_where_started, chooses, burdened_start, start_burdens, later_started}
+use Rattle.tpl_model.specs.Graph.{TaskGraph, TaskKind, Root, Child, Continues, WhenAll, WhenAny, task, kind, body, options, is_task, attached, IsParent}
+use Rattle.tpl_words.specs.declared.status.Actor.{Actor}
+use Rattle.tpl_words.specs.declared.status.Answer.{Answer}
+use Rattle.tpl_words.specs.declared.status.Answer.TheVariants.{Done, Failed}
+use Rattle.tpl_model.specs.declared.event.Act.{Act}
+use Rattle.tpl_model.specs.declared.event.Act.TheVariants.{Request, Release, Begin, Step, Worked, Leave, Close, Drop, Settle}
+use Rattle.tpl_model.specs.declared.event.Event.{Event}
+use Rattle.tpl_model.specs.Facts.{Ending, begun, final_in, rest, started, starts_by, is_start, ending, ended_at_once, carried_in, gathered, own_atom, those_started, outcome_in, body_final, requested}
+use Rattle.tpl_model.specs.Rules.{final, MayDrop, MayNotStart, MayCancel, Allows, Run, works, Settled, ended, token_requested, token_requested_by}
+use Rattle.tpl_model.specs.Valid.{IsGraph}
+use Rattle.tpl_model.specs.Certificate.{Row, row, Assumed, Agrees, is_loud, view, may_end}
+use Rattle.tpl_model.specs.WiderRules.{WideRow, plain, begins_with, ends_with, once_ended, linked, child_end, reading, asked_of, known_at_end, known_at_start, own_among, may_run, WideRunsRule, Way, ByBody, RootDropped, ChildDropped, DroppedEarly, DroppedLate, NotAllowed, way_final, MayEndBy, OwnRequested, SettledBefore, KnownThere, BeforeBegin, HoldsBy, BeginRule, WidelyClosed}
+use Rattle.tpl_laws.specs.WiderSoundness.{FactHolds}
+use Rattle.tpl_laws.proofs.Basics.{if_true, if_false, some_none, the_some, is_some_of, same_number, mem_here}
+use Rattle.tpl_laws.proofs.Kept.{after, running_facts, ending_new, final_of, requested_kept, started_kept}
+use Rattle.tpl_laws.proofs.Execution.{pushed, passed, StartedBy, started_parent}
+use Rattle.tpl_laws.proofs.Ready.{Ready, begun_ready, waiting_ready, IsBody}
+use Rattle.tpl_laws.proofs.Follows.{Follows, follows}
+use Rattle.tpl_laws.proofs.Settling.{child_rules, has_subject_of, attached_child, settled_kept, all_over_mem}
+use Rattle.tpl_laws.proofs.Carrying.{Ends, drops, leaves, settled, BodyEnds, how_ends, carries_faulted, gathered_from, gathered_adds, gathered_keeps, those_mem, mem_those, body_faulted, carried_some}
+use Rattle.tpl_laws.proofs.RowsAreTrue.{left_verdict, view_fits, requested_loud}
+use Rattle.tpl_laws.proofs.EachEvent.{may_end_so}
+use Rattle.tpl_laws.proofs.Chains.{no_settle}
+use Rattle.tpl_laws.proofs.Telling.{ToldIn, linked_requested}
+
+-- what the rows say of a run
+pub record WideTrue (g : TaskGraph) (l : Assumed) (rows : List WideRow) (v : List Bool) (h : List Event) : Type 0 where
+  pub ends : (t : ℕ) (f : Final) → final g v h t ≡ Some f → has (row (plain rows) t).ends f ≡ true
+  pub runs : (t : ℕ) → is_some (begun h t) ≡ true → may_run rows t ≡ true
+  pub begin : (t : ℕ) (fact : Fact) → is_some (begun h t) ≡ true → begins_with rows t fact ≡ true → FactHolds g v h fact
+  pub end : (t : ℕ) (fact : Fact) → is_some (ending g v h t) ≡ true → ends_with rows t fact ≡ true → FactHolds g v h fact
+  pub told : (t : ℕ) → is_some (begun h t) ≡ true → ToldIn l.quiet (asked_of rows t) g v h t
+
+-- what holds before an event
+pub record WideNow (g : TaskGraph) (l : Assumed) (rows : List WideRow) (v : List Bool) (h : List Event) : Type 0 where
+  pub valid : IsGraph g
+  pub closed : WidelyClosed g l rows
+  pub run : Run g v h
+  pub agrees : Agrees g l v h
+  pub true_rows : WideTrue g l rows v h
+
+pub fact_kept : (g : TaskGraph) (v : List Bool) (h : List Event) (a : Actor) (x : Act) (fact : Fact) → IsGraph g → Run g v h → Allows g v h a x → FactHolds g v h fact → FactHolds g v (after a x h) fact
+fact_kept g v h a x (IsSettled t) valid run al e = settled_kept g v h a x t valid run al e
+fact_kept g v h a x (IsRequested k) valid run al e = requested_kept g v h a x k e
+
+-- a body passes the start of started children alone
+pushed_start : (c : ℕ) (left : Statements) (ps : List Statement) → passes_start c (pushed left ps) ≡ true → (is_start c left ≡ true) ⊎ (passes_start c ps ≡ true)
+pushed_start c Nothing ps e = inr e
+pushed_start c (Return ⨾ more) ps e = inr e
+pushed_start c (Throw l ⨾ more) ps e = inr e
+pushed_start c (Check k ⨾ more) ps e = inr e
+pushed_start c (Cancel k ⨾ more) ps e = inr e
+pushed_start c (Start d ⨾ more) ps e = or_cases (nat_eq d c) (passes_start c ps) e
+pushed_start c (Observe ⨾ more) ps e = inr e
+pushed_start c (Work s f ⨾ more) ps e = inr e
+pushed_start c (If i a b ⨾ more) ps e = inr e
+pushed_start c (When f a b ⨾ more) ps e = inr e
+
+work_no_start : (c : ℕ) (answer : Answer) (left : Statements) → works answer left ≡ true → is_start c left ≡ true → ⊥
+work_no_start c Done Nothing e q = true_false (sym q)
+work_no_start c Done (Return ⨾ more) e q = true_false (sym q)
+work_no_start c Done (Throw l ⨾ more) e q = true_false (sym q)
+work_no_start c Done (Check k ⨾ more) e q = true_false (sym q)
+work_no_start c Done (Cancel k ⨾ more) e q = true_false (sym q)
+work_no_start c Done (Start d ⨾ more) e q = true_false (sym e)
+work_no_start c Done (Observe ⨾ more) e q = true_false (sym q)
+work_no_start c Done (Work s f ⨾ more) e q = true_false (sym q)
+work_no_start c Done (If i a b ⨾ more) e q = true_false (sym q)
+work_no_start c Done (When f a b ⨾ more) e q = true_false (sym q)
+work_no_start c Failed Nothing e q = true_false (sym q)
+work_no_start c Failed (Return ⨾ more) e q = true_false (sym q)
+work_no_start c Failed (Throw l ⨾ more) e q = true_false (sym q)
+work_no_start c Failed (Check k ⨾ more) e q = true_false (sym q)
+work_no_start c Failed (Cancel k ⨾ more) e q = true_false (sym q)
+work_no_start c Failed (Start d ⨾ more) e q = true_false (sym e)
+work_no_start c Failed (Observe ⨾ more) e q = true_false (sym q)
+work_no_start c Failed (Work s f ⨾ more) e q = true_false (sym q)
+work_no_start c Failed (If i a b ⨾ more) e q = true_false (sym q)
+work_no_start c Failed (When f a b ⨾ more) e q = true_false (sym q)
+
+pub passes_started : (g : TaskGraph) (v : List Bool) (h : List Event) (p c : ℕ) → Run g v h → passes_start c (passed g v h p) ≡ true → started g v h c ≡ true
+passes_started g v [] p c run e = true_false (sym e)
+passes_started g v (ev ∷ h) p c run e = here (λ o. passes_started g v h p c run.0 o) ev.actor ev.act run.1 e
+  where
+    now : (a : Actor) (x : Act) → starts_by c x (rest g v h) ≡ true → started g v (after a x h) c ≡ true
+    now a x q = Rattle.std.proofs.lemmas.Bool.or_left (starts_by c x (rest g v h)) (started g v h c) q
+
+    here : (passes_start c (passed g v h p) ≡ true → started g v h c ≡ true) → (a : Actor) (x : Act) → Allows g v h a x → passes_start c (passed g v (after a x h) p) ≡ true → started g v (after a x h) c ≡ true
+    here old a (Step s) al q =
+        elim (cases_Bool (nat_eq s.0 p)) [
+          | inl same ↦
+              elim (pushed_start c (rest g v h p).left (passed g v h p) (subst (λ z. passes_start c z ≡ true) (if_true (nat_eq s.0 p) (pushed (rest g v h p).left (passed g v h p)) (passed g v h p) same) q)) [
+                | inl z ↦ now a (Step s) (subst (λ n. is_start c (rest g v h n).left ≡ true) (sym (same_number s.0 p same)) z)
+                | inr z ↦ started_kept g v h a (Step s) c (old z)
+              ]
+          | inr other ↦ started_kept g v h a (Step s) c (old (subst (λ z. passes_start c z ≡ true) (if_false (nat_eq s.0 p) (pushed (rest g v h p).left (passed g v h p)) (passed g v h p) other) q))
+        ]
+    here old a (Worked s w) al q =
+        elim (cases_Bool (nat_eq s.0 p)) [
+          | inl same ↦
+              elim (pushed_start c (rest g v h p).left (passed g v h p) (subst (λ z. passes_start c z ≡ true) (if_true (nat_eq s.0 p) (pushed (rest g v h p).left (passed g v h p)) (passed g v h p) same) q)) [
+                | inl z ↦ absurd (work_no_start c w (rest g v h p).left (subst (λ n. works w (rest g v h n).left ≡ true) (same_number s.0 p same) al.2) z)
+                | inr z ↦ started_kept g v h a (Worked s w) c (old z)
+              ]
+          | inr other ↦ started_kept g v h a (Worked s w) c (old (subst (λ z. passes_start c z ≡ true) (if_false (nat_eq s.0 p) (pushed (rest g v h p).left (passed g v h p)) (passed g v h p) other) q))
+        ]
+    here old a (Request s) al q = started_kept g v h a (Request s) c (old q)
+    here old a (Release s) al q = started_kept g v h a (Release s) c (old q)
+    here old a (Begin s) al q = started_kept g v h a (Begin s) c (old q)
+    here old a (Leave s) al q = started_kept g v h a (Leave s) c (old q)
+    here old a (Close s) al q = started_kept g v h a (Close s) c (old q)
+    here old a (Drop s) al q = started_kept g v h a (Drop s) c (old q)
+    here old a (Settle s) al q = started_kept g v h a (Settle s) c (old q)
+
+-- a task with a body that ended Faulted carries something
+pub faulted_carries : (g : TaskGraph) (v : List Bool) (h : List Event) (t : ℕ) (r : Ending) → Run g v h → IsBody (kind g t) → ending g v h t ≡ Some r → r.final ≡ Faulted → (x : ℕ) × (mem x r.carried ≡ true)
+faulted_carries g v [] t r run b e f = absurd (at_once (kind g t) b e)
+  where
+    at_once : (k : TaskKind) → IsBody k → ended_at_once k ≡ Some r → ⊥
+    at_once Root b e = some_none r (sym e)
+    at_once Child b e = some_none r (sym e)
+    at_once (Continues a) b e = some_none r (sym e)
+    at_once (WhenAll args) b e = b
+    at_once (WhenAny args) b e = b
+faulted_carries g v (x ∷ h) t r run b e f =
+    elim (ending_new g v h x.actor x.act t r e) [
+      | inl old ↦ faulted_carries g v h t r run.0 b old f
+      | inr new ↦ by_end (how_ends g v h x.actor x.act t r run.0 run.1 new.0 new.1)
+    ]
+  where
+    not_empty : (o : Option Outcome) → body_final [] o ≡ Faulted → ⊥
+    not_empty None q = absurd (cc)
+    not_empty (Some Returned) q = absurd (cc)
+    not_empty (Some Acknowledged) q = absurd (cc)
+    not_empty (Some (Threw l)) q = absurd (cc)
+
+    by_list : (cs : List ℕ) (o : Option Outcome) → body_final cs o ≡ Faulted → (x : ℕ) × (mem x cs ≡ true)
+    by_list [] o q = absurd (not_empty o q)
+    by_list (a ∷ cs) o q = (a, mem_here a a cs refl)
+
+    by_end : Ends g v h t r → (x : ℕ) × (mem x r.carried ≡ true)
+    by_end (drops i d c n) = absurd (two_ends (sym c ∙ f))
+      where
+        two_ends : Canceled ≡ Faulted → ⊥
+        two_ends e = absurd (cc)
+    by_end (leaves i w) = by_list r.carried (outcome_in (rest g v h t)) (sym w.final ∙ f)
+    by_end (settled i c place who s) = absurd (no_settle (kind g t) (ending g v h) b c)
+
+-- where tokens are known that are requested, and the own token isn't, it isn't among them
+pub not_among : (o : Option ℕ) (req known : ℕ → Bool) → token_requested_by o req ≡ false → ((k : ℕ) → known k ≡ true → req k ≡ true) → token_requested_by o known ≡ false
+not_among None req known e f = refl
+not_among (Some k) req known e f = elim (cases_Bool (known k)) [ inl q ↦ true_false (sym (f k q) ∙ e) | inr q ↦ q ]
+
+-- how the children ended that have
+abbrev pub end_or : Option Ending → Final
+end_or None = RanToCompletion
+end_or (Some e) = e.final
+
+may_choose : (b : Bool) (x : ChildEnd) (e : Final) → (b ≡ true → has x.ends e ≡ true) → MayChoose (if b then Some x else None) e
+may_choose true x e f = f refl
+may_choose false x e f = tt
+
+burdens_if : (b : Bool) (x : ChildEnd) (e : Final) → burdens (if b then Some x else None) e ≡ true → (b ≡ true) × (is_final Faulted e ≡ true)
+burdens_if true x e f = (refl, f)
+burdens_if false x e f = true_false (sym f)
+
+if_burdens : (b : Bool) (x : ChildEnd) (e : Final) → b ≡ true → is_final Faulted e ≡ true → burdens (if b then Some x else None) e ≡ true
+if_burdens true x e p f = f
+if_burdens false x e p f = true_false (sym p)
+
+facts_if : (b : Bool) (x : ChildEnd) (fact : Fact) → facts_of (if b then Some x else None) fact ≡ true → (b ≡ true) × (x.facts fact ≡ true)
+facts_if true x fact e = (refl, e)
+facts_if false x fact e = true_false (sym e)
+
+faulted_is : (f : Final) → is_final Faulted f ≡ true → f ≡ Faulted
+faulted_is RanToCompletion e = true_false (sym e)
+faulted_is Canceled e = true_false (sym e)
+faulted_is Faulted e = refl
+
+-- a way in which a task ends now, and its facts hold
+pub record WayTaken (g : TaskGraph) (l : Assumed) (rows : List WideRow) (v : List Bool) (h : List Event) (t : ℕ) (k : TaskKind) (f : Final) : Type 0 where
+  pub way : Way
+  pub may : MayEndBy g l rows t k way
+  pub final : way_final way ≡ f
+  pub holds : (fact : Fact) → HoldsBy g rows t k fact way → FactHolds g v h fact
+
+module _ (g : TaskGraph) (l : Assumed) (rows : List WideRow) (v : List Bool) (h : List Event) (now : WideNow g l rows v h) where
+  pub once_holds : (a : ℕ) (fact : Fact) → is_some (ending g v h a) ≡ true → once_ended rows a fact ≡ true → FactHolds g v h fact
+  once_holds a (IsSettled x) e m =
+      elim (or_cases (nat_eq x a) (mem x (row (plain rows) a).past) m) [
+        | inl q ↦ subst (λ z. Settled g v h z) (sym (same_number x a q)) (ended e)
+        | inr q ↦ now.true_rows.end a (IsSettled x) e q
+      ]
+  once_holds a (IsRequested k) e m = now.true_rows.end a (IsRequested k) e m
+
+  own_holds : (t : ℕ) (fact : Fact) → token_requested g v h t ≡ true → OwnRequested g t fact → FactHolds g v h fact
+  own_holds t (IsSettled x) e c = absurd c
+  own_holds t (IsRequested j) e c = by_token (task g t).token e c
+    where
+      by_token : (o : Option ℕ) → token_requested_by o (requested g v h) ≡ true → token_requested_by o (λ k. linked g k j) ≡ true → requested g v h j ≡ true
+      by_token None e c = true_false (sym c)
+      by_token (Some k) e c = linked_requested g v h k j e c
+
+  before_holds : (p : ℕ) (fact : Fact) → is_some (begun h p) ≡ true → SettledBefore rows p fact → FactHolds g v h fact
+  before_holds p (IsSettled x) b c = now.true_rows.begin p (IsSettled x) b c
+  before_holds p (IsRequested k) b c = absurd c
+
+  there_holds : (known : Knowledge) (fact : Fact) → ((k : ℕ) → known.requested k ≡ true → requested g v h k ≡ true) → KnownThere known fact → FactHolds g v h fact
+  there_holds known (IsSettled x) f c = absurd c
+  there_holds known (IsRequested k) f c = f k c
+
+  some_of_final : (a : ℕ) (f : Final) → final g v h a ≡ Some f → is_some (ending g v h a) ≡ true
+  some_of_final a f e = let w = final_of (ending g v h a) f e in is_some_of (ending g v h a) w.0 w.1
+
+  pub path_of : (t : ℕ) → is_some (begun h t) ≡ true → Follows (view g l (plain rows) t) (body g t) (rest g v h t) (passed g v h t)
+  path_of t b = follows g v h t (view g l (plain rows) t) now.run (view_fits g v h l (plain rows) t now.run now.agrees now.true_rows.ends b) (has_subject_of g t now.valid)
+
+  -- what is known at the start of a child that is started
+  start_known : (p c : ℕ) → StartedBy g v h c p → (known : Knowledge) × (known_at_start g l rows p c ≡ Some known) × ((k : ℕ) → known.requested k ≡ true → requested g v h k ≡ true)
+  start_known p c s =
+      let told = now.true_rows.told p s.begun in
+      let f = known_where_started c (reading g l rows p) (asked_of rows p) (body g p) (rest g v h p).outcome (rest g v h p).left (passed g v h p) (path_of p s.begun) told.1 s.passes in
+      (f.0, f.1, λ k m. told.0 k (f.2 k m))
+
+  -- a task that is ready, and whose token isn't requested, has a row that runs
+  pub ready_runs : (t : ℕ) → is_task g t → Ready g v h t (kind g t) → token_requested g v h t ≡ false → may_run rows t ≡ true
+  ready_runs t i r n = by_kind (kind g t) r (now.closed t i).runs
+    where
+      by_kind : (k : TaskKind) → Ready g v h t k → WideRunsRule g l rows t k → may_run rows t ≡ true
+      by_kind Root r c = c
+      by_kind Child r c =
+          let s = started_parent g v h t now.run r in
+          let f = start_known s.0 t s.1 in
+          c s.0 f.0 s.1.parent (now.true_rows.runs s.0 s.1.begun) f.1 (not_among (task g t).token (requested g v h) f.0.requested n f.2)
+      by_kind (Continues a) r c =
+          c r.0 (now.true_rows.ends a r.0 r.1) r.2
+          (not_among (task g t).token (requested g v h) _ n (λ k m. now.true_rows.end a (IsRequested k) (some_of_final a r.0 r.1) m))
+      by_kind (WhenAll args) r c = absurd r
+      by_kind (WhenAny args) r c = absurd r
+
+  -- and what its row says of its begin holds
+  pub ready_begins : (t : ℕ) (fact : Fact) → is_task g t → Ready g v h t (kind g t) → token_requested g v h t ≡ false → begins_with rows t fact ≡ true → FactHolds g v h fact
+  ready_begins t fact i r n m = by_kind (kind g t) fact r ((now.closed t i).begin (ready_runs t i r n) fact m)
+    where
+      by_kind : (k : TaskKind) (fact : Fact) → Ready g v h t k → BeginRule g l rows t k fact → FactHolds g v h fact
+      by_kind Root fact r c = absurd c
+      by_kind Child (IsSettled x) r c =
+          let s = started_parent g v h t now.run r in
+          now.true_rows.begin s.0 (IsSettled x) s.1.begun (c s.0 s.1.parent)
+      by_kind Child (IsRequested k) r c =
+          let s = started_parent g v h t now.run r in
+          let f = start_known s.0 t s.1 in
+          f.2 k (c s.0 f.0 s.1.parent f.1)
+      by_kind (Continues a) fact r c = once_holds a fact (some_of_final a r.0 r.1) c
+      by_kind (WhenAll args) fact r c = absurd r
+      by_kind (WhenAny args) fact r c = absurd r
+
+  -- what holds once a task of this kind has begun
+  ready_holds : (t : ℕ) (k : TaskKind) (fact : Fact) → Ready g v h t k → BeforeBegin g rows t k fact → FactHolds g v h fact
+  ready_holds t (Continues a) fact r c = once_holds a fact (some_of_final a r.0 r.1) c
+  ready_holds t Child fact r c = let s = started_parent g v h t now.run r in before_holds s.0 fact s.1.begun (c s.0 s.1.parent)
+  ready_holds t Root fact r c = absurd c
+  ready_holds t (WhenAll args) fact r c = absurd c
+  ready_holds t (WhenAny args) fact r c = absurd c
+
+  -- a task that is dropped ends in one of its ways
+  pub drop_way : (t : ℕ) → MayDrop g v h t → WayTaken g l rows v h t (kind g t) Canceled
+  drop_way t d =
+      elim d [
+        | inl a ↦ waiting (kind g t) (waiting_ready g v h t now.run a.0) a.1 (requested_loud g l v h t now.agrees a.1)
+        | inr b ↦ elim b [
+          | inl c ↦ cancels (kind g t) c.2 c.1 (requested_loud g l v h t now.agrees c.1)
+          | inr c ↦ not_starts (kind g t) c.1
+        ]
+      ]
+    where
+      late : (a : ℕ) (f : Final) → final g v h a ≡ Some f → token_requested g v h t ≡ true → is_loud g l t ≡ true → WayTaken g l rows v h t (Continues a) Canceled
+      late a f e q loud = record {
+        way = DroppedLate;
+        may = (loud, may_end_so (plain rows) a f (now.true_rows.ends a f e));
+        final = refl;
+        holds = λ fact c. elim c [ inl o ↦ own_holds t fact q o | inr o ↦ once_holds a fact (some_of_final a f e) o ];
+      }
+
+      waiting : (k : TaskKind) → Ready g v h t k → token_requested g v h t ≡ true → is_loud g l t ≡ true → WayTaken g l rows v h t k Canceled
+      waiting Root r q loud = record { way = RootDropped; may = loud; final = refl; holds = λ fact c. own_holds t fact q c }
+      waiting Child r q loud =
+          let s = started_parent g v h t now.run r in
+          let f = start_known s.0 t s.1 in
+          record {
+            way = ChildDropped s.0 f.0;
+            may = (loud, s.1.parent, now.true_rows.runs s.0 s.1.begun, f.1);
+            final = refl;
+            holds = λ fact c. elim c [
+              | inl o ↦ own_holds t fact q o
+              | inr o ↦ elim o [ inl b ↦ before_holds s.0 fact s.1.begun b | inr b ↦ there_holds f.0 fact f.2 b ]
+            ];
+          }
+      waiting (Continues a) r q loud = late a r.0 r.1 q loud
+      waiting (WhenAll args) r q loud = absurd r
+      waiting (WhenAny args) r q loud = absurd r
+
+      cancels : (k : TaskKind) → MayCancel g v h t k → token_requested g v h t ≡ true → is_loud g l t ≡ true → WayTaken g l rows v h t k Canceled
+      cancels (Continues a) (inl z) q loud = record { way = DroppedEarly; may = (loud, z); final = refl; holds = λ fact c. own_holds t fact q c }
+      cancels (Continues a) (inr z) q loud = late a z.0 z.1 q loud
+      cancels Root m q loud = absurd m
+      cancels Child m q loud = absurd m
+      cancels (WhenAll args) m q loud = absurd m
+      cancels (WhenAny args) m q loud = absurd m
+
+      not_starts : (k : TaskKind) → MayNotStart g v h t k → WayTaken g l rows v h t k Canceled
+      not_starts (Continues a) m = record {
+        way = NotAllowed;
+        may = (m.0, now.true_rows.ends a m.0 m.1, m.2);
+        final = refl;
+        holds = λ fact c. once_holds a fact (some_of_final a m.0 m.1) c;
+      }
+      not_starts Root m = absurd m
+      not_starts Child m = absurd m
+      not_starts (WhenAll args) m = absurd m
+      not_starts (WhenAny args) m = absurd m
+
+  -- a body that is over ends its task in one of its ways
+  module _ (t : ℕ) (r : Ending) (b : BodyEnds g v h t r) where
+    abbrev child : ℕ → Option ChildEnd
+    child c = child_end g rows t c
+
+    abbrev chosen : ℕ → Final
+    chosen c = end_or (ending g v h c)
+
+    abbrev an_end : ℕ → ChildEnd
+    an_end c = record { ends = (row (plain rows) c).ends; facts = ends_with rows c }
+
+    abbrev burdened : Bool
+    burdened = is_burdened child chosen (passed g v h t)
+
+    -- an attached child whose start the body passed has ended
+    child_over : (c : ℕ) → mem c (attached g t) ≡ true → passes_start c (passed g v h t) ≡ true → (e : Ending) × (ending g v h c ≡ Some e)
+    child_over c m p = the_some (ending g v h c) (all_over_mem (attached g t) (started g v h) (ending g v h) c b.over m (passes_started g v h t c now.run p))
+
+    ends_chosen : (c : ℕ) → passes_start c (passed g v h t) ≡ true → MayChoose (child c) (chosen c)
+    ends_chosen c p =
+        may_choose (mem c (attached g t)) (an_end c) (chosen c)
+        (λ m. let e = child_over c m p in
+            subst (λ z. has (row (plain rows) c).ends (end_or z) ≡ true) (sym e.1) (now.true_rows.ends c e.0.final (ap final_in e.1)))
+
+    -- a child that ended Faulted burdens the path, and its parent carries what it carried
+    burdened_ends : (o : Outcome) → outcome_in (rest g v h t) ≡ Some o → burdened ≡ true → r.final ≡ Faulted
+    burdened_ends o q e =
+        let s = burdened_start child chosen (passed g v h t) e in
+        let m = burdens_if (mem s.0 (attached g t)) (an_end s.0) (chosen s.0) s.2 in
+        let c = child_over s.0 m.0 s.1 in
+        let f : c.0.final ≡ Faulted = faulted_is c.0.final (subst (λ z. is_final Faulted (end_or z) ≡ true) c.1 m.1) in
+        let k : IsBody (kind g s.0) = subst IsBody (sym ((child_rules g t s.0 now.valid (attached_child g t s.0 m.0)).child t (attached_child g t s.0 m.0))) tt in
+        let x = faulted_carries g v h s.0 c.0 now.run k c.1 f in
+        let there = gathered_adds x.0 s.0 (own_atom t (outcome_in (rest g v h t))) (those_started (attached g t) (started g v h)) (ending g v h)
+            (mem_those s.0 (attached g t) (started g v h) m.0 (passes_started g v h t s.0 now.run s.1)) (subst (λ z. mem x.0 (carried_in z) ≡ true) (sym c.1) x.1) in
+        b.final ∙ body_faulted x.0 r.carried (outcome_in (rest g v h t)) (subst (λ z. mem x.0 z ≡ true) (sym b.carried) there)
+
+    -- what is carried where no child burdens the path is the body's own exception
+    carried_own : (a : ℕ) → burdened ≡ false → mem a r.carried ≡ true → mem a (own_atom t (outcome_in (rest g v h t))) ≡ true
+    carried_own a n m =
+        elim (gathered_from a (own_atom t (outcome_in (rest g v h t))) (those_started (attached g t) (started g v h)) (ending g v h) (subst (λ z. mem a z ≡ true) b.carried m)) [
+          | inl q ↦ q
+          | inr w ↦
+              let ms = those_mem w.0 (attached g t) (started g v h) w.1 in
+              let e = carried_some a (ending g v h w.0) w.2 in
+              let f = carries_faulted g v h w.0 a e.0 now.run e.1 e.2 in
+              let s = started_parent g v h w.0 now.run ms.1 in
+              let par = attached_child g t w.0 ms.0 in
+              let same = (child_rules g t w.0 now.valid par).one_parent s.0 t s.1.parent par in
+              let passes = subst (λ z. passes_start w.0 (passed g v h z) ≡ true) same s.1.passes in
+              let chose : is_final Faulted (chosen w.0) ≡ true = subst (λ z. is_final Faulted (end_or z) ≡ true) (sym e.1) (subst (λ z. is_final Faulted z ≡ true) (sym f) refl) in
+              true_false (sym (start_burdens child chosen (passed g v h t) w.0 passes (if_burdens (mem w.0 (attached g t)) (an_end w.0) (chosen w.0) ms.0 chose)) ∙ n)
+        ]
+
+    free_ends : (o : Outcome) → outcome_in (rest g v h t) ≡ Some o → burdened ≡ false → r.final ≡ path_final false o
+    free_ends o q n = b.final ∙ subst (λ z. body_final r.carried z ≡ path_final false o) (sym q) (by_list o q r.carried refl)
+      where
+        by_list : (o : Outcome) → outcome_in (rest g v h t) ≡ Some o → (cs : List ℕ) → r.carried ≡ cs → body_final cs (Some o) ≡ path_final false o
+        by_list (Threw l) q (a ∷ cs) c = refl
+        by_list (Threw l) q [] c =
+            true_false (sym (subst (λ z. mem t z ≡ true) (sym b.carried ∙ c) (gathered_keeps t (own_atom t (outcome_in (rest g v h t))) (those_started (attached g t) (started g v h)) (ending g v h) (subst (λ z. mem t (own_atom t z) ≡ true) (sym q) (mem_here t t [] refl)))))
+        by_list Returned q [] c = refl
+        by_list Returned q (a ∷ cs) c = true_false (sym (subst (λ z. mem a (own_atom t z) ≡ true) q (carried_own a n (subst (λ z. mem a z ≡ true) (sym c) (mem_here a a cs refl)))))
+        by_list Acknowledged q [] c = refl
+        by_list Acknowledged q (a ∷ cs) c = true_false (sym (subst (λ z. mem a (own_atom t z) ≡ true) q (carried_own a n (subst (λ z. mem a z ≡ true) (sym c) (mem_here a a cs refl)))))
+
+    final_so : (o : Outcome) → outcome_in (rest g v h t) ≡ Some o → path_final burdened o ≡ r.final
+    final_so o q =
+        elim (cases_Bool burdened) [
+          | inl e ↦ ap (λ z. path_final z o) e ∙ sym (burdened_ends o q e)
+          | inr e ↦ ap (λ z. path_final z o) e ∙ sym (free_ends o q e)
+        ]
+
+    -- what the path of the body knows at its end
+    abbrev path_knows : Knowledge
+    path_knows = record { requested = told_by (linked g) (asked_of rows t) (rest g v h t).outcome (passed g v h t); later = later_on child (passed g v h t) }
+
+    knows_requested : (k : ℕ) → path_knows.requested k ≡ true → requested g v h k ≡ true
+    knows_requested k e = (now.true_rows.told t b.begun).0 k e
+
+    knows_later : (fact : Fact) → path_knows.later fact ≡ true → FactHolds g v h fact
+    knows_later fact e =
+        let s = later_started child (passed g v h t) fact e in
+        let m = facts_if (mem s.0 (attached g t)) (an_end s.0) fact s.2 in
+        let c = child_over s.0 m.0 s.1 in
+        now.true_rows.end s.0 fact (is_some_of (ending g v h s.0) c.0 c.1) m.1
+
+    pub body_way : WayTaken g l rows v h t (kind g t) r.final
+    body_way =
+        let w = reading g l rows t in
+        let o = the_some (outcome_in (rest g v h t)) (elim b.left [ inl q ↦ left_verdict g v h t now.run q | inr q ↦ q ]) in
+        let f = path_final burdened o.0 in
+        let under = end_known (ending_as f) w (ending_as_falls f) (asked_of rows t) chosen (body g t) (rest g v h t).outcome (rest g v h t).left (passed g v h t) o.0 o.1
+            (path_of t b.begun) (chooses child chosen (passed g v h t) ends_chosen) (now.true_rows.told t b.begun).1 in
+        let whole = known_at_end g l rows t f in
+        let found = within_some whole path_knows (under_trans whole (ending_as f o.0 (one burdened path_knows)) (Some path_knows) under (ending_one burdened o.0 path_knows)) in
+        let ready = begun_ready g v h t now.run b.begun in
+        record {
+          way = ByBody r.final found.0;
+          may = (now.true_rows.runs t b.begun, subst (λ z. known_at_end g l rows t z ≡ Some found.0) (final_so o.0 o.1) found.1);
+          final = refl;
+          holds = λ fact c. elim c [
+            | inl m ↦ now.true_rows.begin t fact b.begun m
+            | inr d ↦ elim d [
+              | inl m ↦ ready_holds t (kind g t) fact ready m
+              | inr e ↦ elim e [
+                | inl m ↦ there_holds found.0 fact (λ k q. knows_requested k (found.2 k q)) m
+                | inr m ↦ knows_later fact (found.3 fact m)
+              ]
+            ]
+          ];
+        }

@@ -1,0 +1,37 @@
+-- What rows that speak of tokens promise.
+use Rattle.std.specs.Prelude.{◌≡◌, ℕ, ◌⊎◌, Bool, true, false, Some, List, [], ◌∷◌, is_some}
+use Rattle.tpl_words.specs.declared.finals.Final.{Final}
+use Rattle.tpl_words.specs.Finals.{has}
+use Rattle.tpl_words.specs.declared.status.Label.{Label}
+use Rattle.tpl_script.specs.Knowledge.{Fact, IsSettled, IsRequested}
+use Rattle.tpl_model.specs.Graph.{TaskGraph}
+use Rattle.tpl_model.specs.declared.event.Event.{Event}
+use Rattle.tpl_model.specs.Facts.{begun, begun_by, requested, ending}
+use Rattle.tpl_model.specs.Rules.{final, label, seen, Run, Settled, Complete}
+use Rattle.tpl_model.specs.Valid.{IsGraph}
+use Rattle.tpl_model.specs.Certificate.{row, Assumed, Agrees}
+use Rattle.tpl_model.specs.WiderRules.{WideRow, plain, begins_with, ends_with, may_run, WidelyClosed}
+
+-- a fact holds in a run so far
+abbrev pub FactHolds : TaskGraph → List Bool → List Event → Fact → Type 0
+FactHolds g v h (IsSettled x) = Settled g v h x
+FactHolds g v h (IsRequested k) = requested g v h k ≡ true
+
+-- what the rows of a closed leaf say is true of each run that agrees with it
+pub record WideRowsHold (g : TaskGraph) (rows : List WideRow) (v : List Bool) (h : List Event) : Type 0 where
+  pub ends : (t : ℕ) (f : Final) → final g v h t ≡ Some f → has (row (plain rows) t).ends f ≡ true
+  pub runs : (t : ℕ) → is_some (begun h t) ≡ true → may_run rows t ≡ true
+  pub end : (t : ℕ) (fact : Fact) → is_some (ending g v h t) ≡ true → ends_with rows t fact ≡ true → FactHolds g v h fact
+  pub observed : (t : ℕ) → ((row (plain rows) t).chain ≡ [] → ⊥) → Complete g v h → (lb : Label) → label g v h t ≡ Some lb → seen g v h t ≡ true
+
+-- where a task begins, each fact with which its row lets it begin holds in the list before
+abbrev pub BeginHolds : TaskGraph → List WideRow → List Bool → List Event → Type 0
+BeginHolds g rows v [] = Unit {0}
+BeginHolds g rows v (e ∷ h) =
+    ((t : ℕ) (fact : Fact) → begun_by e.act t ≡ true → begins_with rows t fact ≡ true → FactHolds g v h fact) × BeginHolds g rows v h
+
+-- the rows of a leaf that is closed by the wider rules are true of each run that agrees with it
+abbrev pub WideRowsAreTrue : Type 0
+WideRowsAreTrue =
+    (g : TaskGraph) (l : Assumed) (rows : List WideRow) (v : List Bool) (h : List Event)
+    → IsGraph g → WidelyClosed g l rows → Run g v h → Agrees g l v h → WideRowsHold g rows v h × BeginHolds g rows v h

@@ -1,0 +1,198 @@
+-- The wider rules for rows that speak of tokens too, and when a certificate of such rows is accepted.
+use Rattle.std.specs.Prelude.{◌≡◌, ℕ, ◌<◌, ◌&&◌, ◌||◌, ◌⊎◌, not, Bool, true, false, if◌then◌else◌, Option, Some, None, List, [], ◌∷◌, map, length, nat_eq, slice_index_or}
+use Rattle.tpl_words.specs.declared.finals.Final.{Final}
+use Rattle.tpl_words.specs.declared.finals.Final.TheVariants.{RanToCompletion, Canceled, Faulted}
+use Rattle.tpl_words.specs.Finals.{has}
+use Rattle.tpl_words.specs.Options.{allows, lazy_cancellation}
+use Rattle.tpl_words.specs.Members.{mem}
+use Rattle.tpl_script.specs.Knowledge.{Fact, IsSettled, IsRequested, Knowledge, ChildEnd, Reading, at_end, at_throw, at_start}
+use Rattle.tpl_model.specs.Graph.{TaskGraph, TaskKind, Root, Child, Continues, WhenAll, WhenAny, task, kind, body, options, is_task, is_token, attached, through, IsParent}
+use Rattle.tpl_model.specs.Rules.{token_requested_by}
+use Rattle.tpl_model.specs.declared.claim.Property.{Property}
+use Rattle.tpl_model.specs.declared.claim.Property.TheVariants.{Final as EndsIn, After, Observed, Never, Excludes, Runs}
+use Rattle.tpl_model.specs.Claims.{Claim}
+use Rattle.tpl_model.specs.Certificate.{Row, row, Assumed, assumed_for, with_input, with_end, end_left, is_loud, view, IsBelow, AllMayEnd, may_end, ChainRule, NoneComplete, Proves, IdsOfRows}
+
+-- a row that says of tokens too which ones are requested when the task begins, and when it has ended
+pub record WideRow : Type 0 where
+  pub row : Row
+  pub asked : List ℕ
+  pub asks : List ℕ
+
+-- the rows without their tokens
+abbrev pub plain : List WideRow → List Row
+plain rows = map (λ (r : WideRow). r.row) rows
+
+-- the row of the t-th task; past the last one an empty one
+abbrev pub wide_row : List WideRow → ℕ → WideRow
+wide_row rows t = slice_index_or rows t (record { row = row [] t; asked = []; asks = [] })
+
+-- the facts that hold when t begins, by its row
+abbrev pub begins_with : List WideRow → ℕ → Fact → Bool
+begins_with rows t (IsSettled x) = mem x (row (plain rows) t).before
+begins_with rows t (IsRequested k) = mem k (wide_row rows t).asked
+
+-- the facts that hold when t has ended, by its row
+abbrev pub ends_with : List WideRow → ℕ → Fact → Bool
+ends_with rows t (IsSettled x) = mem x (row (plain rows) t).past
+ends_with rows t (IsRequested k) = mem k (wide_row rows t).asks
+
+-- the same, and that t has ended
+abbrev pub once_ended : List WideRow → ℕ → Fact → Bool
+once_ended rows t (IsSettled x) = nat_eq x t || mem x (row (plain rows) t).past
+once_ended rows t (IsRequested k) = mem k (wide_row rows t).asks
+
+-- the tokens that are requested with k: k, those to which it is linked from, and so on
+abbrev pub linked : TaskGraph → ℕ → ℕ → Bool
+linked g k j = through g (nat_eq k) j
+
+-- how the child of t ends, if it is attached
+abbrev pub child_end : TaskGraph → List WideRow → ℕ → ℕ → Option ChildEnd
+child_end g rows t c = if mem c (attached g t) then Some (record { ends = (row (plain rows) c).ends; facts = ends_with rows c }) else None
+
+-- how the body of t is read
+abbrev pub reading : TaskGraph → Assumed → List WideRow → ℕ → Reading
+reading g l rows t = record { known = view g l (plain rows) t; linked = linked g; child = child_end g rows t }
+
+-- the tokens that t knows when it begins
+abbrev pub asked_of : List WideRow → ℕ → ℕ → Bool
+asked_of rows t k = mem k (wide_row rows t).asked
+
+-- what the paths of t have in common that end it so
+abbrev pub known_at_end : TaskGraph → Assumed → List WideRow → ℕ → Final → Option Knowledge
+known_at_end g l rows t f = at_end f (reading g l rows t) (asked_of rows t) (body g t)
+
+-- what the paths of p have in common where they start c
+abbrev pub known_at_start : TaskGraph → Assumed → List WideRow → ℕ → ℕ → Option Knowledge
+known_at_start g l rows p c = at_start c (reading g l rows p) (asked_of rows p) (body g p)
+
+-- the own token of t is among these
+abbrev pub own_among : TaskGraph → ℕ → (ℕ → Bool) → Bool
+own_among g t tokens = token_requested_by (task g t).token tokens
+
+-- the row of t says that it may begin
+abbrev pub may_run : List WideRow → ℕ → Bool
+may_run rows t = (row (plain rows) t).runs
+
+-- K1: a task that may begin has a row that runs. It doesn't begin where its own token is known to be requested
+abbrev pub WideRunsRule : TaskGraph → Assumed → List WideRow → ℕ → TaskKind → Type 0
+WideRunsRule g l rows t Root = may_run rows t ≡ true
+WideRunsRule g l rows t (Continues a) =
+    (f : Final) → has (row (plain rows) a).ends f ≡ true → allows (options g t) f ≡ true
+    → own_among g t (λ k. mem k (wide_row rows a).asks) ≡ false → may_run rows t ≡ true
+WideRunsRule g l rows t Child =
+    (p : ℕ) (known : Knowledge) → IsParent g p t → may_run rows p ≡ true → known_at_start g l rows p t ≡ Some known
+    → own_among g t known.requested ≡ false → may_run rows t ≡ true
+WideRunsRule g l rows t kind = Unit {0}
+
+-- a way in which a task with a body may end: its body does, and its paths that end so have this in common; or it is
+-- canceled before it begins, as a root; as a child of a parent whose paths have this in common where they start it; as
+-- a continuation before its antecedent has ended, after it, or since its options don't allow how that ended
+pub data Way : Type 0 where
+  ByBody : (final : Final) → (known : Knowledge) → Way
+  RootDropped : Way
+  ChildDropped : (parent : ℕ) → (known : Knowledge) → Way
+  DroppedEarly : Way
+  DroppedLate : Way
+  NotAllowed : Way
+
+-- how a task ends in this way
+abbrev pub way_final : Way → Final
+way_final (ByBody f known) = f
+way_final way = Canceled
+
+-- a task of this kind may end in this way
+abbrev pub MayEndBy : TaskGraph → Assumed → List WideRow → ℕ → TaskKind → Way → Type 0
+MayEndBy g l rows t kind (ByBody f known) = (may_run rows t ≡ true) × (known_at_end g l rows t f ≡ Some known)
+MayEndBy g l rows t Root RootDropped = is_loud g l t ≡ true
+MayEndBy g l rows t Child (ChildDropped p known) =
+    (is_loud g l t ≡ true) × IsParent g p t × (may_run rows p ≡ true) × (known_at_start g l rows p t ≡ Some known)
+MayEndBy g l rows t (Continues a) DroppedEarly = (is_loud g l t ≡ true) × (lazy_cancellation (options g t) ≡ false)
+MayEndBy g l rows t (Continues a) DroppedLate = (is_loud g l t ≡ true) × (may_end (plain rows) a ≡ true)
+MayEndBy g l rows t (Continues a) NotAllowed = (f : Final) × (has (row (plain rows) a).ends f ≡ true) × (allows (options g t) f ≡ false)
+MayEndBy g l rows t kind way = ⊥
+
+-- a way that what is assumed leaves to t
+abbrev pub IsWay : TaskGraph → Assumed → List WideRow → ℕ → Way → Type 0
+IsWay g l rows t way = (end_left l t (way_final way) ≡ true) × MayEndBy g l rows t (kind g t) way
+
+-- the own token of t is requested, and with it those that are linked to it
+abbrev pub OwnRequested : TaskGraph → ℕ → Fact → Type 0
+OwnRequested g t (IsSettled x) = ⊥
+OwnRequested g t (IsRequested j) = token_requested_by (task g t).token (λ k. linked g k j) ≡ true
+
+-- a task that is settled when p begins
+abbrev pub SettledBefore : List WideRow → ℕ → Fact → Type 0
+SettledBefore rows p (IsSettled x) = mem x (row (plain rows) p).before ≡ true
+SettledBefore rows p (IsRequested k) = ⊥
+
+-- a token that the paths know
+abbrev pub KnownThere : Knowledge → Fact → Type 0
+KnownThere known (IsSettled x) = ⊥
+KnownThere known (IsRequested k) = known.requested k ≡ true
+
+-- what holds once a task of this kind may begin, besides what its row says
+abbrev pub BeforeBegin : TaskGraph → List WideRow → ℕ → TaskKind → Fact → Type 0
+BeforeBegin g rows t (Continues a) fact = once_ended rows a fact ≡ true
+BeforeBegin g rows t Child fact = (p : ℕ) → IsParent g p t → SettledBefore rows p fact
+BeforeBegin g rows t kind fact = ⊥
+
+-- a fact that holds where t ended in this way
+abbrev pub HoldsBy : TaskGraph → List WideRow → ℕ → TaskKind → Fact → Way → Type 0
+HoldsBy g rows t kind fact (ByBody f known) =
+    (begins_with rows t fact ≡ true) ⊎ BeforeBegin g rows t kind fact ⊎ KnownThere known fact ⊎ (known.later fact ≡ true)
+HoldsBy g rows t kind fact RootDropped = OwnRequested g t fact
+HoldsBy g rows t kind fact (ChildDropped p known) = OwnRequested g t fact ⊎ SettledBefore rows p fact ⊎ KnownThere known fact
+HoldsBy g rows t kind fact DroppedEarly = OwnRequested g t fact
+HoldsBy g rows t kind fact DroppedLate = OwnRequested g t fact ⊎ BeforeBegin g rows t kind fact
+HoldsBy g rows t kind fact NotAllowed = BeforeBegin g rows t kind fact
+
+-- K2: how a task may end, its row has among its ends
+abbrev pub WideEndsRule : TaskGraph → Assumed → List WideRow → ℕ → TaskKind → Type 0
+WideEndsRule g l rows t (WhenAll args) =
+    (f : Final) → end_left l t f ≡ true → AllMayEnd (plain rows) args f → has (row (plain rows) t).ends f ≡ true
+WideEndsRule g l rows t (WhenAny args) =
+    (x : ℕ) → end_left l t RanToCompletion ≡ true → mem x args ≡ true → may_end (plain rows) x ≡ true → has (row (plain rows) t).ends RanToCompletion ≡ true
+WideEndsRule g l rows t kind = (way : Way) → IsWay g l rows t way → has (row (plain rows) t).ends (way_final way) ≡ true
+
+-- K3: what a row may say of when a task begins
+abbrev pub BeginRule : TaskGraph → Assumed → List WideRow → ℕ → TaskKind → Fact → Type 0
+BeginRule g l rows t Root fact = ⊥
+BeginRule g l rows t (Continues a) fact = once_ended rows a fact ≡ true
+BeginRule g l rows t Child (IsSettled x) = (p : ℕ) → IsParent g p t → mem x (row (plain rows) p).before ≡ true
+BeginRule g l rows t Child (IsRequested k) =
+    (p : ℕ) (known : Knowledge) → IsParent g p t → known_at_start g l rows p t ≡ Some known → known.requested k ≡ true
+BeginRule g l rows t kind fact = Unit {0}
+
+-- a task below t is settled
+abbrev pub SettledBelow : TaskGraph → ℕ → Fact → Type 0
+SettledBelow g t (IsSettled x) = IsBelow g t x
+SettledBelow g t (IsRequested k) = ⊥
+
+-- K4 and, for WhenAll and WhenAny, K5: what a row may say of when a task has ended
+abbrev pub EndRule : TaskGraph → Assumed → List WideRow → ℕ → TaskKind → Fact → Type 0
+EndRule g l rows t (WhenAll args) fact = (y : ℕ) × (mem y args ≡ true) × (once_ended rows y fact ≡ true)
+EndRule g l rows t (WhenAny args) fact = (y : ℕ) → mem y args ≡ true → may_end (plain rows) y ≡ true → once_ended rows y fact ≡ true
+EndRule g l rows t kind fact = SettledBelow g t fact ⊎ ((way : Way) → IsWay g l rows t way → HoldsBy g rows t kind fact way)
+
+-- the rules for the row of one task: runs is K1, ends K2, begin K3, end K4 and K5, chain K6
+pub record IsWidelyClosed (g : TaskGraph) (l : Assumed) (rows : List WideRow) (t : ℕ) : Type 0 where
+  pub runs : WideRunsRule g l rows t (kind g t)
+  pub ends : WideEndsRule g l rows t (kind g t)
+  pub begin : may_run rows t ≡ true → (fact : Fact) → begins_with rows t fact ≡ true → BeginRule g l rows t (kind g t) fact
+  pub end : (fact : Fact) → ends_with rows t fact ≡ true → EndRule g l rows t (kind g t) fact
+  pub chain : ChainRule g l (plain rows) t (row (plain rows) t).chain
+
+-- a leaf is closed
+abbrev pub WidelyClosed : TaskGraph → Assumed → List WideRow → Type 0
+WidelyClosed g l rows = (t : ℕ) → is_task g t → IsWidelyClosed g l rows t
+
+-- a closed leaf proves a claim
+abbrev pub WidelyProves : TaskGraph → Assumed → List WideRow → Property → Type 0
+WidelyProves g l rows (Observed t) =
+    ((row (plain rows) t.0).chain ≡ [] → ⊥)
+    ⊎ (has (row (plain rows) t.0).ends Faulted ≡ false)
+    ⊎ (may_run rows t.0 ≡ false)
+    ⊎ (at_throw (reading g l rows t.0) (asked_of rows t.0) (body g t.0) ≡ None)
+    ⊎ NoneComplete g (plain rows)
+WidelyProves g l rows p = Proves g l (plain rows) p
