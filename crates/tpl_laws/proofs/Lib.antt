@@ -12,10 +12,12 @@ pub mod RowsAreTrue
 pub mod EachEvent
 pub mod Chains
 pub mod Observing
+pub mod MainTheorem
 pub mod Telling
 pub mod WideRows
 pub mod WideEvents
-pub mod MainTheorem
+pub mod WideSound
+pub mod WideLaw
 pub mod Sizes
 pub mod Bound
 pub mod Prefixes

@@ -3,6 +3,7 @@ use Rattle.tpl_laws.proofs.Sources.{through_more, through_twice}
 use Rattle.tpl_words.specs.declared.finals.Final.{Final}
 use Rattle.tpl_words.specs.declared.finals.Final.TheVariants.{RanToCompletion, Canceled, Faulted}
 use Rattle.tpl_words.specs.Finals.{has, is_final}
+use Rattle.tpl_words.specs.Members.{mem}
 use Rattle.tpl_words.specs.declared.ids.TaskId.{TaskId}
 use Rattle.tpl_words.specs.declared.status.Label.{Label}
 use Rattle.tpl_script.specs.declared.outcome.Outcome.TheVariants.{Threw}
@@ -24,7 +25,7 @@ use Rattle.tpl_laws.proofs.Begins.{Begins, begins}
 use Rattle.tpl_laws.proofs.Follows.{follows}
 use Rattle.tpl_laws.proofs.Settling.{has_subject_of}
 use Rattle.tpl_laws.proofs.Carrying.{carries_faulted}
-use Rattle.tpl_laws.proofs.RowsAreTrue.{Now, verdict_path, view_fits, ready_runs, ready_before, agrees_before}
+use Rattle.tpl_laws.proofs.RowsAreTrue.{Now, Upheld, upheld, verdict_path, view_fits, ready_runs, ready_before, agrees_before}
 use Rattle.tpl_model.specs.declared.claim.Given.{Given}
 use Rattle.tpl_model.specs.declared.claim.Given.TheVariants.{Input, Quiet, Ended, Succeeds}
 use Rattle.tpl_model.specs.declared.claim.Property.{Property}
@@ -55,7 +56,7 @@ rows_lem g l rows v h valid closed run agrees =
         ends = now.true_rows.ends;
         runs = now.true_rows.runs;
         past = now.true_rows.past;
-        observed = λ t c complete lb e. chain_seen g l rows v h t lb now complete c e;
+        observed = λ t c complete lb e. chain_seen g l rows v h t lb (upheld g l rows v h now) complete c e;
       },
       before_holds g l rows v h valid closed run agrees,
     )
@@ -126,7 +127,7 @@ given_agrees wide g v h given i = record {
 }
 
 -- on the branch of an input's own value
-input_agrees : (g : TaskGraph) (l : Assumed) (v : List Bool) (h : List Event) (i : ℕ) (value : Bool) → input v i ≡ value → Agrees g l v h → Agrees g (with_input l i value) v h
+pub input_agrees : (g : TaskGraph) (l : Assumed) (v : List Bool) (h : List Event) (i : ℕ) (value : Bool) → input v i ≡ value → Agrees g l v h → Agrees g (with_input l i value) v h
 input_agrees g l v h i value e agrees = record {
   inputs = λ j. and_from (l.possible j (input v j)) (not (nat_eq i j) || same value (input v j)) (agrees.inputs j) (by_test j (nat_eq i j) refl);
   quiet = agrees.quiet;
@@ -144,7 +145,7 @@ input_agrees g l v h i value e agrees = record {
     by_test j false q = refl
 
 -- on the branch of a task's own end, or on any while it hasn't ended
-end_agrees : (g : TaskGraph) (l : Assumed) (v : List Bool) (h : List Event) (t : ℕ) (f : Final) → ((e : Final) → final g v h t ≡ Some e → is_final f e ≡ true) → Agrees g l v h → Agrees g (with_end l t f) v h
+pub end_agrees : (g : TaskGraph) (l : Assumed) (v : List Bool) (h : List Event) (t : ℕ) (f : Final) → ((e : Final) → final g v h t ≡ Some e → is_final f e ≡ true) → Agrees g l v h → Agrees g (with_end l t f) v h
 end_agrees g l v h t f ends agrees = record {
   inputs = agrees.inputs;
   quiet = agrees.quiet;
@@ -162,7 +163,7 @@ end_agrees g l v h t f ends agrees = record {
 abbrev pub Branch : TaskGraph → List Bool → List Event → ℕ → Final → Type 0
 Branch g v h t f = (e : Final) → final g v h t ≡ Some e → is_final f e ≡ true
 
-branch_of : (g : TaskGraph) (v : List Bool) (h : List Event) (t : ℕ) → Branch g v h t RanToCompletion ⊎ Branch g v h t Canceled ⊎ Branch g v h t Faulted
+pub branch_of : (g : TaskGraph) (v : List Bool) (h : List Event) (t : ℕ) → Branch g v h t RanToCompletion ⊎ Branch g v h t Canceled ⊎ Branch g v h t Faulted
 branch_of g v h t = by_end (final g v h t)
   where
     some_final : (x z : Final) → Some x ≡ Some z → x ≡ z
@@ -217,7 +218,7 @@ given_before g v h a x (Succeeds site ∷ given) al i = (
   given_before g v h a x given al i.1,
 )
 
-both_given : (g : TaskGraph) (v : List Bool) (h : List Event) (xs ys : List Given) → IsGiven g v h xs → IsGiven g v h ys → IsGiven g v h (xs ++ ys)
+pub both_given : (g : TaskGraph) (v : List Bool) (h : List Event) (xs ys : List Given) → IsGiven g v h xs → IsGiven g v h ys → IsGiven g v h (xs ++ ys)
 both_given g v h [] ys i j = j
 both_given g v h (Input n value ∷ xs) ys i j = (i.0, both_given g v h xs ys i.1 j)
 both_given g v h (Quiet k ∷ xs) ys i j = (i.0, both_given g v h xs ys i.1 j)
@@ -225,7 +226,7 @@ both_given g v h (Ended t ends ∷ xs) ys i j = (i.0, both_given g v h xs ys i.1
 both_given g v h (Succeeds site ∷ xs) ys i j = (i.0, both_given g v h xs ys i.1 j)
 
 -- what may be taken as given is, where the claim's given is and the own tokens aren't requested
-is_taken : (wide : Bool) (g : TaskGraph) (claim : Claim) (v : List Bool) (h : List Event) → IsGiven g v h claim.given → IsGiven g v h (own_quiet g claim.body) → IsGiven g v h (taken wide g claim)
+pub is_taken : (wide : Bool) (g : TaskGraph) (claim : Claim) (v : List Bool) (h : List Event) → IsGiven g v h claim.given → IsGiven g v h (own_quiet g claim.body) → IsGiven g v h (taken wide g claim)
 is_taken true g claim v h i q = both_given g v h (own_quiet g claim.body) claim.given q i
 is_taken false g claim v h i q = i
 
@@ -234,24 +235,26 @@ not_asked : (g : TaskGraph) (v : List Bool) (h : List Event) (o : Option ℕ) �
 not_asked g v h None e = tt
 not_asked g v h (Some k) e = (e, tt)
 
--- a leaf that agrees with a run so far, is closed and proves the property
-record ALeaf (g : TaskGraph) (v : List Bool) (h : List Event) (p : Property) : Type 0 where
-  assumes : Assumed
-  rows : List Row
-  now : Now g assumes rows v h
-  proves : Proves g assumes rows p
+-- what a leaf shows of a run: that an exception is observed, or what proves the property
+abbrev pub Shows : TaskGraph → Assumed → List Row → List Bool → List Event → Property → Type 0
+Shows g l rows v h (Observed t) = Complete g v h → (lb : Label) → label g v h t.0 ≡ Some lb → seen g v h t.0 ≡ true
+Shows g l rows v h p = Proves g l rows p
 
-a_leaf : (wide : Bool) (g : TaskGraph) (claim : Claim) (tree : Tree) (v : List Bool) (h : List Event) → IsGraph g → AcceptsTree g claim.body (assumed_for wide g claim) tree → Run g v h → IsGiven g v h claim.given → IsGiven g v h (own_quiet g claim.body) → ALeaf g v h claim.body
-a_leaf wide g claim tree v h valid acc run i q =
-    let w = some_leaf_lem wide g (taken wide g claim) tree v h (is_taken wide g claim v h i q) in
-    let c = accepted_leaf g claim.body (assumed_for wide g claim) w.0 tree w.1 acc w.2 in
-    record { assumes = w.0; rows = w.1; now = now_of g w.0 w.1 v h valid c.0 run w.3; proves = c.1 }
+-- a leaf that agrees with a run so far: its rows are true of it, a task that begins next begins as its row says, and it
+-- shows the property
+pub record ALeaf (g : TaskGraph) (v : List Bool) (h : List Event) (p : Property) : Type 0 where
+  pub assumes : Assumed
+  pub rows : List Row
+  pub upheld : Upheld g assumes rows v h
+  pub runs : (t : ℕ) → Begins g v h t → (row rows t).runs ≡ true
+  pub before : (t x : ℕ) → Begins g v h t → mem x (row rows t).before ≡ true → Settled g v h x
+  pub shows : Shows g assumes rows v h p
 
 -- where a task that is no child can't end, no run is complete
-never_complete : (g : TaskGraph) (l : Assumed) (rows : List Row) (v : List Bool) (h : List Event) → Now g l rows v h → NoneComplete g rows → Complete g v h → ⊥
+pub never_complete : (g : TaskGraph) (l : Assumed) (rows : List Row) (v : List Bool) (h : List Event) → Upheld g l rows v h → NoneComplete g rows → Complete g v h → ⊥
 never_complete g l rows v h now w complete =
     let e = the_some (ending g v h w.0) (complete w.0 w.1 (whatever (kind g w.0) (started g v h w.0) w.2)) in
-    true_false (sym (may_end_so rows w.0 e.0.final (now.true_rows.ends w.0 e.0.final (ap final_in e.1))) ∙ w.3)
+    true_false (sym (may_end_so rows w.0 e.0.final (now.ends w.0 e.0.final (ap final_in e.1))) ∙ w.3)
   where
     whatever : (k : TaskKind) (s : Bool) → to_end k false ≡ true → to_end k s ≡ true
     whatever Child s e = true_false (sym e)
@@ -261,12 +264,12 @@ never_complete g l rows v h now w complete =
     whatever (WhenAny args) s e = refl
 
 -- in a complete run a root or continuation that can't be canceled has begun
-never_canceled : (g : TaskGraph) (l : Assumed) (rows : List Row) (v : List Bool) (h : List Event) (t : ℕ) → Now g l rows v h → is_task g t → begins_itself (kind g t) ≡ true → has (row rows t).ends Canceled ≡ false → Complete g v h → is_some (begun h t) ≡ true
+never_canceled : (g : TaskGraph) (l : Assumed) (rows : List Row) (v : List Bool) (h : List Event) (t : ℕ) → Upheld g l rows v h → is_task g t → begins_itself (kind g t) ≡ true → has (row rows t).ends Canceled ≡ false → Complete g v h → is_some (begun h t) ≡ true
 never_canceled g l rows v h t now i b n complete =
     let k = by_kind (kind g t) b in
     let e = the_some (ending g v h t) (complete t i (k.1 (started g v h t))) in
     ended_begun g v h t e.0 now.run k.0 e.1
-    (λ c. true_false (sym (subst (λ z. has (row rows t).ends z ≡ true) c (now.true_rows.ends t e.0.final (ap final_in e.1))) ∙ n))
+    (λ c. true_false (sym (subst (λ z. has (row rows t).ends z ≡ true) c (now.ends t e.0.final (ap final_in e.1))) ∙ n))
   where
     by_kind : (k : TaskKind) → begins_itself k ≡ true → IsBody k × ((s : Bool) → to_end k s ≡ true)
     by_kind Root b = (tt, λ s. refl)
@@ -276,7 +279,7 @@ never_canceled g l rows v h t now i b n complete =
     by_kind (WhenAny args) b = true_false (sym b)
 
 -- in a complete run an exception is observed
-observed_holds : (g : TaskGraph) (l : Assumed) (rows : List Row) (v : List Bool) (h : List Event) (t : ℕ) (lb : Label) → Now g l rows v h → Complete g v h → label g v h t ≡ Some lb → Proves g l rows (Observed (record { 0 = t })) → seen g v h t ≡ true
+pub observed_holds : (g : TaskGraph) (l : Assumed) (rows : List Row) (v : List Bool) (h : List Event) (t : ℕ) (lb : Label) → Upheld g l rows v h → Complete g v h → label g v h t ≡ Some lb → Proves g l rows (Observed (record { 0 = t })) → seen g v h t ≡ true
 observed_holds g l rows v h t lb now complete e pr = by_proof pr
   where
     threw : outcome_in (rest g v h t) ≡ Some (Threw lb)
@@ -290,45 +293,65 @@ observed_holds g l rows v h t lb now complete e pr = by_proof pr
     by_proof (inr (inl no_fault)) =
         let q = the_some (ending g v h t) (begun_ends g v h t now.run complete has_begun) in
         let f = carries_faulted g v h t t q.0 now.run q.1 (carries_own g v h t lb q.0 now.run threw q.1) in
-        true_false (sym (now.true_rows.ends t Faulted (ap final_in q.1 ∙ ap Some f)) ∙ no_fault)
-    by_proof (inr (inr (inl no_run))) = true_false (sym (now.true_rows.runs t has_begun) ∙ no_run)
+        true_false (sym (now.ends t Faulted (ap final_in q.1 ∙ ap Some f)) ∙ no_fault)
+    by_proof (inr (inr (inl no_run))) = true_false (sym (now.runs t has_begun) ∙ no_run)
     by_proof (inr (inr (inr (inl no_throw)))) =
         let w = view g l rows t in
-        absurd (no_throw (lb, (passed g v h t, verdict_path w (body g t) (rest g v h t).outcome (rest g v h t).left (passed g v h t) (Threw lb) threw (follows g v h t w now.run (view_fits g v h l rows t now.run now.agrees now.true_rows.ends has_begun) (has_subject_of g t now.valid)))))
+        absurd (no_throw (lb, (passed g v h t, verdict_path w (body g t) (rest g v h t).outcome (rest g v h t).left (passed g v h t) (Threw lb) threw (follows g v h t w now.run (view_fits g v h l rows t now.run now.agrees now.ends has_begun) (has_subject_of g t now.valid)))))
     by_proof (inr (inr (inr (inr never)))) = absurd (never_complete g l rows v h now never.1 complete)
 
--- what an accepted tree proves holds
-module _ (wide : Bool) (g : TaskGraph) (given : List Given) (tree : Tree) (v : List Bool) (valid : IsGraph g) where
-  abbrev ATree : Property → Type 0
-  ATree p = AcceptsTree g p (assumed_for wide g (record { given = given; body = p })) tree
+-- what a closed leaf proves, it shows
+shows : (g : TaskGraph) (l : Assumed) (rows : List Row) (v : List Bool) (h : List Event) (p : Property) → Now g l rows v h → Proves g l rows p → Shows g l rows v h p
+shows g l rows v h (Observed t) now pr = λ complete lb e. observed_holds g l rows v h t.0 lb (upheld g l rows v h now) complete e pr
+shows g l rows v h (EndsIn t ends) now pr = pr
+shows g l rows v h (After a b) now pr = pr
+shows g l rows v h (Never t) now pr = pr
+shows g l rows v h (Excludes a b) now pr = pr
+shows g l rows v h (Runs t) now pr = pr
 
-  leaf_of : (p : Property) (h : List Event) → ATree p → Run g v h → IsGiven g v h given → IsGiven g v h (own_quiet g p) → ALeaf g v h p
-  leaf_of p h acc run i q = a_leaf wide g (record { given = given; body = p }) tree v h valid acc run i q
+a_leaf : (wide : Bool) (g : TaskGraph) (claim : Claim) (tree : Tree) (v : List Bool) (h : List Event) → IsGraph g → AcceptsTree g claim.body (assumed_for wide g claim) tree → Run g v h → IsGiven g v h claim.given → IsGiven g v h (own_quiet g claim.body) → ALeaf g v h claim.body
+a_leaf wide g claim tree v h valid acc run i q =
+    let w = some_leaf_lem wide g (taken wide g claim) tree v h (is_taken wide g claim v h i q) in
+    let c = accepted_leaf g claim.body (assumed_for wide g claim) w.0 tree w.1 acc w.2 in
+    let now = now_of g w.0 w.1 v h valid c.0 run w.3 in
+    record {
+      assumes = w.0;
+      rows = w.1;
+      upheld = upheld g w.0 w.1 v h now;
+      runs = λ t b. ready_runs g w.0 w.1 v h t now b.task b.ready;
+      before = λ t x b m. ready_before g w.0 w.1 v h t x now b.task b.ready m;
+      shows = shows g w.0 w.1 v h claim.body now c.1;
+    }
 
-  after_holds : (a b : TaskId) → ATree (After a b) → (h : List Event) → Run g v h → IsGiven g v h given → SettledAtBegin g v a.0 b.0 h
-  after_holds a b acc [] run i = tt
-  after_holds a b acc (e ∷ h) run i = ((λ s. here (begins g v h e.actor e.act b.0 run.0 run.1 s)), after_holds a b acc h run.0 old)
+-- what some leaf shows of each run so far in which the given is true, and the own token isn't requested, holds
+module _ (g : TaskGraph) (given : List Given) (v : List Bool) where
+  abbrev pub LeafOf : Property → Type 0
+  LeafOf p = (h : List Event) → Run g v h → IsGiven g v h given → IsGiven g v h (own_quiet g p) → ALeaf g v h p
+
+  after_holds : (a b : TaskId) → LeafOf (After a b) → (h : List Event) → Run g v h → IsGiven g v h given → SettledAtBegin g v a.0 b.0 h
+  after_holds a b leaf_of [] run i = tt
+  after_holds a b leaf_of (e ∷ h) run i = ((λ s. here (begins g v h e.actor e.act b.0 run.0 run.1 s)), after_holds a b leaf_of h run.0 old)
     where
       old : IsGiven g v h given
       old = given_before g v h e.actor e.act given run.1 i
 
       here : Begins g v h b.0 → Settled g v h a.0
       here w =
-          let l = leaf_of (After a b) h acc run.0 old (not_asked g v h (task g b.0).token w.not_requested) in
-          elim l.proves [
-            | inl no_run ↦ true_false (sym (ready_runs g l.assumes l.rows v h b.0 l.now w.task w.ready) ∙ no_run)
-            | inr m ↦ ready_before g l.assumes l.rows v h b.0 a.0 l.now w.task w.ready m
+          let l = leaf_of h run.0 old (not_asked g v h (task g b.0).token w.not_requested) in
+          elim l.shows [
+            | inl no_run ↦ true_false (sym (l.runs b.0 w) ∙ no_run)
+            | inr m ↦ l.before b.0 a.0 w m
           ]
 
-  never_holds : (t : TaskId) → ATree (Never t) → (h : List Event) → Run g v h → IsGiven g v h given → is_some (begun h t.0) ≡ false
-  never_holds t acc [] run i = refl
-  never_holds t acc (e ∷ h) run i =
+  never_holds : (t : TaskId) → LeafOf (Never t) → (h : List Event) → Run g v h → IsGiven g v h given → is_some (begun h t.0) ≡ false
+  never_holds t leaf_of [] run i = refl
+  never_holds t leaf_of (e ∷ h) run i =
       elim (cases_Bool (begun_by e.act t.0)) [
         | inl s ↦
             let w = begins g v h e.actor e.act t.0 run.0 run.1 s in
-            let l = leaf_of (Never t) h acc run.0 old (not_asked g v h (task g t.0).token w.not_requested) in
-            true_false (sym (ready_runs g l.assumes l.rows v h t.0 l.now w.task w.ready) ∙ l.proves)
-        | inr n ↦ ap is_some (if_false (begun_by e.act t.0) (Some e.actor) (begun h t.0) n) ∙ never_holds t acc h run.0 old
+            let l = leaf_of h run.0 old (not_asked g v h (task g t.0).token w.not_requested) in
+            true_false (sym (l.runs t.0 w) ∙ l.shows)
+        | inr n ↦ ap is_some (if_false (begun_by e.act t.0) (Some e.actor) (begun h t.0) n) ∙ never_holds t leaf_of h run.0 old
       ]
     where
       old : IsGiven g v h given
@@ -347,10 +370,10 @@ module _ (wide : Bool) (g : TaskGraph) (given : List Given) (tree : Tree) (v : L
           by_test true e = (elim w [ inl q ↦ subst (λ z. requested g v h z ≡ false) (same_number j k e) q | inr q ↦ q ], tt)
           by_test false e = tt
 
-  excludes_holds : (a b : TaskId) → ATree (Excludes a b) → (h : List Event) → Run g v h → IsGiven g v h given → is_some (begun h a.0) ≡ true → is_some (begun h b.0) ≡ true → ⊥
-  excludes_holds a b acc [] run i p q = true_false (sym p)
-  excludes_holds a b acc (e ∷ h) run i p q =
-      by_tests (λ x y. excludes_holds a b acc h run.0 (given_before g v h e.actor e.act given run.1 i) x y) (cases_Bool (begun_by e.act a.0)) (cases_Bool (begun_by e.act b.0))
+  excludes_holds : (a b : TaskId) → LeafOf (Excludes a b) → (h : List Event) → Run g v h → IsGiven g v h given → is_some (begun h a.0) ≡ true → is_some (begun h b.0) ≡ true → ⊥
+  excludes_holds a b leaf_of [] run i p q = true_false (sym p)
+  excludes_holds a b leaf_of (e ∷ h) run i p q =
+      by_tests (λ x y. excludes_holds a b leaf_of h run.0 (given_before g v h e.actor e.act given run.1 i) x y) (cases_Bool (begun_by e.act a.0)) (cases_Bool (begun_by e.act b.0))
     where
       old : IsGiven g v h given
       old = given_before g v h e.actor e.act given run.1 i
@@ -361,14 +384,14 @@ module _ (wide : Bool) (g : TaskGraph) (given : List Given) (tree : Tree) (v : L
       runs_here : (l : ALeaf g v h (Excludes a b)) (t : ℕ) → is_some (begun (e ∷ h) t) ≡ true → (row l.rows t).runs ≡ true
       runs_here l t s =
           elim (cases_Bool (begun_by e.act t)) [
-            | inl m ↦ let w = begins g v h e.actor e.act t run.0 run.1 m in ready_runs g l.assumes l.rows v h t l.now w.task w.ready
-            | inr n ↦ l.now.true_rows.runs t (begun_old t n s)
+            | inl m ↦ l.runs t (begins g v h e.actor e.act t run.0 run.1 m)
+            | inr n ↦ l.upheld.runs t (begun_old t n s)
           ]
 
       at_begin : (token_requested g v h a.0 ≡ false) ⊎ (token_requested g v h b.0 ≡ false) → ⊥
       at_begin w =
-          let l = leaf_of (Excludes a b) h acc run.0 old (own_of_two h a.0 b.0 w) in
-          elim l.proves [
+          let l = leaf_of h run.0 old (own_of_two h a.0 b.0 w) in
+          elim l.shows [
             | inl no_run ↦ true_false (sym (runs_here l a.0 p) ∙ no_run)
             | inr no_run ↦ true_false (sym (runs_here l b.0 q) ∙ no_run)
           ]
@@ -378,27 +401,26 @@ module _ (wide : Bool) (g : TaskGraph) (given : List Given) (tree : Tree) (v : L
       by_tests earlier (inr x) (inl y) = at_begin (inr (begins g v h e.actor e.act b.0 run.0 run.1 y).not_requested)
       by_tests earlier (inr x) (inr y) = earlier (begun_old a.0 x p) (begun_old b.0 y q)
 
-  property_holds : (p : Property) → ATree p → (h : List Event) → Run g v h → IsGiven g v h given → HoldsOf g v h p
-  property_holds (EndsIn t ends) acc h run i = let l = leaf_of (EndsIn t ends) h acc run i tt in λ f e. l.proves f (l.now.true_rows.ends t.0 f e)
-  property_holds (After a b) acc h run i = after_holds a b acc h run i
-  property_holds (Observed t) acc h run i =
-      let l = leaf_of (Observed t) h acc run i tt in
-      λ complete lb e. observed_holds g l.assumes l.rows v h t.0 lb l.now complete e l.proves
-  property_holds (Never t) acc h run i = never_holds t acc h run i
-  property_holds (Excludes a b) acc h run i =
+  pub property_holds : (p : Property) → LeafOf p → (h : List Event) → Run g v h → IsGiven g v h given → HoldsOf g v h p
+  property_holds (EndsIn t ends) leaf_of h run i = let l = leaf_of h run i tt in λ f e. l.shows f (l.upheld.ends t.0 f e)
+  property_holds (After a b) leaf_of h run i = after_holds a b leaf_of h run i
+  property_holds (Observed t) leaf_of h run i = (leaf_of h run i tt).shows
+  property_holds (Never t) leaf_of h run i = never_holds t leaf_of h run i
+  property_holds (Excludes a b) leaf_of h run i =
       elim (cases_Bool (is_some (begun h a.0) && is_some (begun h b.0))) [
-        | inl both ↦ let w = and_parts (is_some (begun h a.0)) (is_some (begun h b.0)) both in absurd (excludes_holds a b acc h run i w.0 w.1)
+        | inl both ↦ let w = and_parts (is_some (begun h a.0)) (is_some (begun h b.0)) both in absurd (excludes_holds a b leaf_of h run i w.0 w.1)
         | inr other ↦ other
       ]
-  property_holds (Runs t) acc h run i =
-      let l = leaf_of (Runs t) h acc run i tt in
-      λ complete. elim l.proves [
-        | inl w ↦ never_canceled g l.assumes l.rows v h t.0 l.now w.0 w.1 w.2 complete
-        | inr never ↦ absurd (never_complete g l.assumes l.rows v h l.now never complete)
+  property_holds (Runs t) leaf_of h run i =
+      let l = leaf_of h run i tt in
+      λ complete. elim l.shows [
+        | inl w ↦ never_canceled g l.assumes l.rows v h t.0 l.upheld w.0 w.1 w.2 complete
+        | inr never ↦ absurd (never_complete g l.assumes l.rows v h l.upheld never complete)
       ]
 
 claim_holds : (wide : Bool) (g : TaskGraph) (claim : Claim) (tree : Tree) (v : List Bool) (h : List Event) → IsGraph g → AcceptsTree g claim.body (assumed_for wide g claim) tree → Run g v h → Holds g claim v h
-claim_holds wide g claim tree v h valid acc run = λ i. property_holds wide g claim.given tree v valid claim.body acc h run i
+claim_holds wide g claim tree v h valid acc run =
+    λ i. property_holds g claim.given v claim.body (λ k r j q. a_leaf wide g claim tree v k valid acc r j q) h run i
 
 pub soundness_lem : Soundness
 soundness_lem wide g [] [] valid acc v h run = tt

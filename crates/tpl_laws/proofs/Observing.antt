@@ -27,7 +27,7 @@ use Rattle.tpl_laws.proofs.Ready.{Ready, begun_ready}
 use Rattle.tpl_laws.proofs.Follows.{Fits, follows}
 use Rattle.tpl_laws.proofs.Settling.{no_task, has_subject_of, attached_child}
 use Rattle.tpl_laws.proofs.Carrying.{begun_task, carries_faulted}
-use Rattle.tpl_laws.proofs.RowsAreTrue.{Now, verdict_path, view_fits, requested_loud, some_eq}
+use Rattle.tpl_laws.proofs.RowsAreTrue.{Upheld, verdict_path, view_fits, requested_loud, some_eq}
 use Rattle.tpl_laws.proofs.Chains.{carries_own, threw_begun, begun_ends, taken_over, any_carries, ended_as}
 use Rattle.std.proofs.lemmas.Bool.{cases_lt, cases_Bool, and_from, or_left, or_right}
 use Rattle.tpl_words.proofs.Truths.{true_false}
@@ -182,7 +182,7 @@ continues_task g r y k =
     no_root e = absurd (cc)
 
 -- the last of a chain observes what is carried to it
-pub reader_observes : (g : TaskGraph) (l : Assumed) (rows : List Row) (v : List Bool) (h : List Event) (r y a : ℕ) (q : Ending) → Now g l rows v h → Complete g v h → Reads g l rows r y → ending g v h y ≡ Some q → mem a q.carried ≡ true → seen g v h a ≡ true
+pub reader_observes : (g : TaskGraph) (l : Assumed) (rows : List Row) (v : List Bool) (h : List Event) (r y a : ℕ) (q : Ending) → Upheld g l rows v h → Complete g v h → Reads g l rows r y → ending g v h y ≡ Some q → mem a q.carried ≡ true → seen g v h a ≡ true
 reader_observes g l rows v h r y a q now complete reads e m =
     let o = the_some (ending g v h r) (complete r (continues_task g r y reads.after) (subst (λ z. to_end z (started g v h r) ≡ true) (sym reads.after) refl)) in
     elim (ended_as g v h r y o.0 now.run reads.after o.1) [
@@ -205,7 +205,7 @@ reader_observes g l rows v h r y a q now complete reads e m =
     by_body : is_some (begun h r) ≡ true → is_some (outcome_in (rest g v h r)) ≡ true → seen g v h a ≡ true
     by_body b d =
         let vd = the_some (outcome_in (rest g v h r)) d in
-        let full = view_fits g v h l rows r now.run now.agrees now.true_rows.ends b in
+        let full = view_fits g v h l rows r now.run now.agrees now.ends b in
         let w : Known = record { possible = l.possible; quiet = l.quiet; own = (task g r).token; subject = λ f. is_final f Faulted; sure = l.sure } in
         let fits : Fits g v h r w = record {
           own = refl;
@@ -218,7 +218,7 @@ reader_observes g l rows v h r y a q now complete reads e m =
         observed_by g v h r y a q now.run reads.after e m (reads.observes (passed g v h r) vd.0 path)
 
 -- a chain carries an exception to its reader
-pub chain_observes : (g : TaskGraph) (l : Assumed) (rows : List Row) (v : List Bool) (h : List Event) (chain : List ℕ) (y a : ℕ) (q : Ending) → Now g l rows v h → Complete g v h → Links g l rows y chain → ending g v h y ≡ Some q → mem a q.carried ≡ true → seen g v h a ≡ true
+pub chain_observes : (g : TaskGraph) (l : Assumed) (rows : List Row) (v : List Bool) (h : List Event) (chain : List ℕ) (y a : ℕ) (q : Ending) → Upheld g l rows v h → Complete g v h → Links g l rows y chain → ending g v h y ≡ Some q → mem a q.carried ≡ true → seen g v h a ≡ true
 chain_observes g l rows v h [] y a q now complete links e m = absurd links
 chain_observes g l rows v h (x ∷ []) y a q now complete links e m = reader_observes g l rows v h x y a q now complete links e m
 chain_observes g l rows v h (x ∷ z ∷ zs) y a q now complete links e m =
@@ -233,12 +233,12 @@ label_verdict (Some Acknowledged) lb e = some_none lb (sym e)
 label_verdict (Some (Threw x)) lb e = let s : x ≡ lb = cc in ap (λ z. Some (Threw z)) s
 
 -- in a complete run the exception that the body of a task with a chain threw is seen
-pub chain_seen : (g : TaskGraph) (l : Assumed) (rows : List Row) (v : List Bool) (h : List Event) (t : ℕ) (lb : Label) → Now g l rows v h → Complete g v h → ((row rows t).chain ≡ [] → ⊥) → label g v h t ≡ Some lb → seen g v h t ≡ true
+pub chain_seen : (g : TaskGraph) (l : Assumed) (rows : List Row) (v : List Bool) (h : List Event) (t : ℕ) (lb : Label) → Upheld g l rows v h → Complete g v h → ((row rows t).chain ≡ [] → ⊥) → label g v h t ≡ Some lb → seen g v h t ≡ true
 chain_seen g l rows v h t lb now complete some_chain e =
     let threw = label_verdict (outcome_in (rest g v h t)) lb e in
     let b = threw_begun g v h t lb now.run threw in
     let q = the_some (ending g v h t) (begun_ends g v h t now.run complete b) in
-    by_chain (row rows t).chain refl (now.closed t (begun_task g v h t now.run b)).chain q.0 q.1 (carries_own g v h t lb q.0 now.run threw q.1)
+    by_chain (row rows t).chain refl (now.chain t (begun_task g v h t now.run b)) q.0 q.1 (carries_own g v h t lb q.0 now.run threw q.1)
   where
     by_chain : (chain : List ℕ) → (row rows t).chain ≡ chain → ChainRule g l rows t chain → (q : Ending) → ending g v h t ≡ Some q → mem t q.carried ≡ true → seen g v h t ≡ true
     by_chain [] c r q e m = absurd (some_chain c)

@@ -21,7 +21,7 @@ use Rattle.tpl_laws.proofs.Basics.{if_false, some_none, is_some_of, same_number}
 use Rattle.tpl_laws.proofs.Kept.{after, running_facts, final_kept, requested_kept, failed_kept, final_of}
 use Rattle.tpl_words.specs.Finals.{has}
 use Rattle.tpl_model.specs.Valid.{IsGraph}
-use Rattle.tpl_model.specs.Certificate.{Row, row, Assumed, Agrees, is_loud, loud_token, one_ends, subject_ends, subject_set, view, RunsRule, BeforeRule, Closed}
+use Rattle.tpl_model.specs.Certificate.{Row, row, Assumed, Agrees, is_loud, loud_token, one_ends, subject_ends, subject_set, view, RunsRule, BeforeRule, ChainRule, Closed}
 use Rattle.tpl_laws.proofs.Execution.{passed, StartedBy, started_parent}
 use Rattle.tpl_laws.proofs.Ready.{Ready, begun_ready, any_winner}
 use Rattle.tpl_laws.proofs.Follows.{Fits, FollowsBy, follows}
@@ -152,6 +152,25 @@ pub record Now (g : TaskGraph) (l : Assumed) (rows : List Row) (v : List Bool) (
   pub run : Run g v h
   pub agrees : Agrees g l v h
   pub true_rows : AreTrue g rows v h
+
+-- rows whose ends and begins are true of a run, and whose chains lead to readers
+pub record Upheld (g : TaskGraph) (l : Assumed) (rows : List Row) (v : List Bool) (h : List Event) : Type 0 where
+  pub valid : IsGraph g
+  pub run : Run g v h
+  pub agrees : Agrees g l v h
+  pub ends : (t : ℕ) (f : Final) → final g v h t ≡ Some f → has (row rows t).ends f ≡ true
+  pub runs : (t : ℕ) → is_some (begun h t) ≡ true → (row rows t).runs ≡ true
+  pub chain : (t : ℕ) → is_task g t → ChainRule g l rows t (row rows t).chain
+
+pub upheld : (g : TaskGraph) (l : Assumed) (rows : List Row) (v : List Bool) (h : List Event) → Now g l rows v h → Upheld g l rows v h
+upheld g l rows v h now = record {
+  valid = now.valid;
+  run = now.run;
+  agrees = now.agrees;
+  ends = now.true_rows.ends;
+  runs = now.true_rows.runs;
+  chain = λ t i. (now.closed t i).chain;
+}
 
 -- a child that is started is started on a path of its parent
 pub starts_on_path : (g : TaskGraph) (l : Assumed) (rows : List Row) (v : List Bool) (h : List Event) (p c : ℕ) → Now g l rows v h → StartedBy g v h c p → MayStartChild (view g l rows p) (body g p) c

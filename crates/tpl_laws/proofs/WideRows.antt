@@ -6,13 +6,14 @@ use Rattle.tpl_words.specs.declared.finals.Final.{Final}
 use Rattle.tpl_words.specs.declared.finals.Final.TheVariants.{RanToCompletion, Canceled, Faulted}
 use Rattle.tpl_words.specs.Finals.{has, is_final}
 use Rattle.tpl_words.specs.Members.{mem}
+use Rattle.tpl_words.specs.declared.status.Label.{Label}
 use Rattle.tpl_script.specs.declared.outcome.Outcome.{Outcome}
 use Rattle.tpl_script.specs.declared.outcome.Outcome.TheVariants.{Returned, Threw, Acknowledged}
 use Rattle.tpl_script.specs.Statements.{Statement, Return, Throw, Check, Cancel, Start, Observe, Work, If, When, Statements, Nothing, ◌⨾◌}
 use Rattle.tpl_script.specs.Paths.{passes_start}
-use Rattle.tpl_script.specs.Knowledge.{Fact, IsSettled, IsRequested, Knowledge, ChildEnd, Reading, ending_as, ended_by, from}
+use Rattle.tpl_script.specs.Knowledge.{Fact, IsSettled, IsRequested, Knowledge, ChildEnd, Reading, all, ending_as, throwing, at_throw}
 use Rattle.tpl_script.proofs.Known.{under_trans}
-use Rattle.tpl_script.proofs.KnownPaths.{told_by, later_on, is_burdened, burdens, facts_of, MayChoose, one, path_final, ending_as_falls, ending_one, end_known, within_some, known_where_started, chooses, burdened_start, start_burdens, later_started}
+use Rattle.tpl_script.proofs.KnownPaths.{told_by, later_on, is_burdened, burdens, facts_of, MayChoose, one, all_one, path_final, ending_as_falls, throwing_falls, ending_one, end_known, within_some, known_where_started, chooses, burdened_start, start_burdens, later_started}
 use Rattle.tpl_model.specs.Graph.{TaskGraph, TaskKind, Root, Child, Continues, WhenAll, WhenAny, task, kind, body, options, is_task, attached, IsParent}
 use Rattle.tpl_words.specs.declared.status.Actor.{Actor}
 use Rattle.tpl_words.specs.declared.status.Answer.{Answer}
@@ -31,7 +32,7 @@ use Rattle.tpl_laws.proofs.Kept.{after, running_facts, ending_new, final_of, req
 use Rattle.tpl_laws.proofs.Execution.{pushed, passed, StartedBy, started_parent}
 use Rattle.tpl_laws.proofs.Ready.{Ready, begun_ready, waiting_ready, IsBody}
 use Rattle.tpl_laws.proofs.Follows.{Follows, follows}
-use Rattle.tpl_laws.proofs.Settling.{child_rules, has_subject_of, attached_child, settled_kept, all_over_mem}
+use Rattle.tpl_laws.proofs.Settling.{child_rules, has_subject_of, attached_child, settled_kept, all_over_mem, children_over}
 use Rattle.tpl_laws.proofs.Carrying.{Ends, drops, leaves, settled, BodyEnds, how_ends, carries_faulted, gathered_from, gathered_adds, gathered_keeps, those_mem, mem_those, body_faulted, carried_some}
 use Rattle.tpl_laws.proofs.RowsAreTrue.{left_verdict, view_fits, requested_loud}
 use Rattle.tpl_laws.proofs.EachEvent.{may_end_so}
@@ -335,6 +336,27 @@ module _ (g : TaskGraph) (l : Assumed) (rows : List WideRow) (v : List Bool) (h 
       not_starts (WhenAll args) m = absurd m
       not_starts (WhenAny args) m = absurd m
 
+  -- the ends of the attached children that a body started are ones of their rows
+  ends_chosen : (t : ℕ) → ((c : ℕ) → mem c (attached g t) ≡ true → started g v h c ≡ true → is_some (ending g v h c) ≡ true) → (c : ℕ) → passes_start c (passed g v h t) ≡ true → MayChoose (child_end g rows t c) (end_or (ending g v h c))
+  ends_chosen t over c p =
+      may_choose (mem c (attached g t)) (record { ends = (row (plain rows) c).ends; facts = ends_with rows c }) (end_or (ending g v h c))
+      (λ m. let e = the_some (ending g v h c) (over c m (passes_started g v h t c now.run p)) in
+          subst (λ z. has (row (plain rows) c).ends (end_or z) ≡ true) (sym e.1) (now.true_rows.ends c e.0.final (ap final_in e.1)))
+
+  -- where a body threw, and its task has ended, some path throws
+  pub throw_known : (t : ℕ) (lb : Label) → outcome_in (rest g v h t) ≡ Some (Threw lb) → is_some (begun h t) ≡ true → is_some (ending g v h t) ≡ true → (known : Knowledge) × (at_throw (reading g l rows t) (asked_of rows t) (body g t) ≡ Some known)
+  throw_known t lb o b e =
+      let w = reading g l rows t in
+      let chosen : ℕ → Final = λ c. end_or (ending g v h c) in
+      let told = (now.true_rows.told t b).1 in
+      let burdened = is_burdened w.child chosen (passed g v h t) in
+      let known : Knowledge = record { requested = told_by (linked g) (asked_of rows t) (rest g v h t).outcome (passed g v h t); later = later_on w.child (passed g v h t) } in
+      let under = end_known throwing w throwing_falls (asked_of rows t) chosen (body g t) (rest g v h t).outcome (rest g v h t).left (passed g v h t) (Threw lb) o
+          (path_of t b) (chooses w.child chosen (passed g v h t) (ends_chosen t (λ c m s. children_over g v h t c now.valid now.run e m s))) told in
+      let whole = at_throw w (asked_of rows t) (body g t) in
+      let found = within_some whole known (under_trans whole (all (one burdened known)) (Some known) under (all_one burdened known)) in
+      (found.0, found.1)
+
   -- a body that is over ends its task in one of its ways
   module _ (t : ℕ) (r : Ending) (b : BodyEnds g v h t r) where
     abbrev child : ℕ → Option ChildEnd
@@ -352,12 +374,6 @@ module _ (g : TaskGraph) (l : Assumed) (rows : List WideRow) (v : List Bool) (h 
     -- an attached child whose start the body passed has ended
     child_over : (c : ℕ) → mem c (attached g t) ≡ true → passes_start c (passed g v h t) ≡ true → (e : Ending) × (ending g v h c ≡ Some e)
     child_over c m p = the_some (ending g v h c) (all_over_mem (attached g t) (started g v h) (ending g v h) c b.over m (passes_started g v h t c now.run p))
-
-    ends_chosen : (c : ℕ) → passes_start c (passed g v h t) ≡ true → MayChoose (child c) (chosen c)
-    ends_chosen c p =
-        may_choose (mem c (attached g t)) (an_end c) (chosen c)
-        (λ m. let e = child_over c m p in
-            subst (λ z. has (row (plain rows) c).ends (end_or z) ≡ true) (sym e.1) (now.true_rows.ends c e.0.final (ap final_in e.1)))
 
     -- a child that ended Faulted burdens the path, and its parent carries what it carried
     burdened_ends : (o : Outcome) → outcome_in (rest g v h t) ≡ Some o → burdened ≡ true → r.final ≡ Faulted
@@ -428,7 +444,7 @@ module _ (g : TaskGraph) (l : Assumed) (rows : List WideRow) (v : List Bool) (h 
         let o = the_some (outcome_in (rest g v h t)) (elim b.left [ inl q ↦ left_verdict g v h t now.run q | inr q ↦ q ]) in
         let f = path_final burdened o.0 in
         let under = end_known (ending_as f) w (ending_as_falls f) (asked_of rows t) chosen (body g t) (rest g v h t).outcome (rest g v h t).left (passed g v h t) o.0 o.1
-            (path_of t b.begun) (chooses child chosen (passed g v h t) ends_chosen) (now.true_rows.told t b.begun).1 in
+            (path_of t b.begun) (chooses child chosen (passed g v h t) (ends_chosen t (λ c m s. all_over_mem (attached g t) (started g v h) (ending g v h) c b.over m s))) (now.true_rows.told t b.begun).1 in
         let whole = known_at_end g l rows t f in
         let found = within_some whole path_knows (under_trans whole (ending_as f o.0 (one burdened path_knows)) (Some path_knows) under (ending_one burdened o.0 path_knows)) in
         let ready = begun_ready g v h t now.run b.begun in

@@ -1,5 +1,5 @@
 -- What rows that speak of tokens promise.
-use Rattle.std.specs.Prelude.{◌≡◌, ℕ, ◌⊎◌, Bool, true, false, Some, List, [], ◌∷◌, is_some}
+use Rattle.std.specs.Prelude.{◌≡◌, ℕ, ◌⊎◌, Bool, true, false, Some, List, [], ◌∷◌, is_some, map}
 use Rattle.tpl_words.specs.declared.finals.Final.{Final}
 use Rattle.tpl_words.specs.Finals.{has}
 use Rattle.tpl_words.specs.declared.status.Label.{Label}
@@ -9,8 +9,11 @@ use Rattle.tpl_model.specs.declared.event.Event.{Event}
 use Rattle.tpl_model.specs.Facts.{begun, begun_by, requested, ending}
 use Rattle.tpl_model.specs.Rules.{final, label, seen, Run, Settled, Complete}
 use Rattle.tpl_model.specs.Valid.{IsGraph}
-use Rattle.tpl_model.specs.Certificate.{row, Assumed, Agrees}
-use Rattle.tpl_model.specs.WiderRules.{WideRow, plain, begins_with, ends_with, may_run, WidelyClosed}
+use Rattle.tpl_model.specs.declared.claim.Property.{Property}
+use Rattle.tpl_model.specs.Claims.{Claim, Holds}
+use Rattle.tpl_model.specs.Certificate.{Row, row, Tree, Assumed, Agrees, Closed, Proves, Accepts}
+use Rattle.tpl_model.specs.WiderRules.{WideRow, plain, begins_with, ends_with, may_run, WidelyClosed, WidelyProves, WideTree, WidelyAccepts, as_wide, as_wide_tree}
+use Rattle.tpl_laws.specs.Soundness.{Each}
 
 -- a fact holds in a run so far
 abbrev pub FactHolds : TaskGraph → List Bool → List Event → Fact → Type 0
@@ -35,3 +38,20 @@ abbrev pub WideRowsAreTrue : Type 0
 WideRowsAreTrue =
     (g : TaskGraph) (l : Assumed) (rows : List WideRow) (v : List Bool) (h : List Event)
     → IsGraph g → WidelyClosed g l rows → Run g v h → Agrees g l v h → WideRowsHold g rows v h × BeginHolds g rows v h
+
+-- where a certificate of such rows is accepted, each claim holds in each run
+abbrev pub WideSoundness : Type 0
+WideSoundness =
+    (g : TaskGraph) (claims : List Claim) (certificate : List WideTree) → IsGraph g → WidelyAccepts g claims certificate
+    → (v : List Bool) (h : List Event) → Run g v h → Each (λ claim. Holds g claim v h) claims
+
+-- rows that are closed without tokens are closed by the rules with tokens too, and prove what they did
+abbrev pub TokensAreMore : Type 0
+TokensAreMore =
+    (g : TaskGraph) (l : Assumed) (rows : List Row) → Closed g l rows
+    → WidelyClosed g l (as_wide rows) × ((p : Property) → Proves g l rows p → WidelyProves g l (as_wide rows) p)
+
+-- a certificate that is accepted without tokens is accepted with them
+abbrev pub TokensAcceptMore : Type 0
+TokensAcceptMore =
+    (g : TaskGraph) (claims : List Claim) (trees : List Tree) → Accepts true g claims trees → WidelyAccepts g claims (map as_wide_tree trees)

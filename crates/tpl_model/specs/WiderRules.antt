@@ -11,7 +11,7 @@ use Rattle.tpl_model.specs.Rules.{token_requested_by}
 use Rattle.tpl_model.specs.declared.claim.Property.{Property}
 use Rattle.tpl_model.specs.declared.claim.Property.TheVariants.{Final as EndsIn, After, Observed, Never, Excludes, Runs}
 use Rattle.tpl_model.specs.Claims.{Claim}
-use Rattle.tpl_model.specs.Certificate.{Row, row, Assumed, assumed_for, with_input, with_end, end_left, is_loud, view, IsBelow, AllMayEnd, may_end, ChainRule, NoneComplete, Proves, IdsOfRows}
+use Rattle.tpl_model.specs.Certificate.{Row, row, Tree, SplitInput, SplitEnd, Leaf, Assumed, assumed_for, with_input, with_end, end_left, is_loud, view, IsBelow, AllMayEnd, may_end, ChainRule, NoneComplete, Proves, IdsOfRows}
 
 -- a row that says of tokens too which ones are requested when the task begins, and when it has ended
 pub record WideRow : Type 0 where
@@ -196,3 +196,48 @@ WidelyProves g l rows (Observed t) =
     ⊎ (at_throw (reading g l rows t.0) (asked_of rows t.0) (body g t.0) ≡ None)
     ⊎ NoneComplete g (plain rows)
 WidelyProves g l rows p = Proves g l (plain rows) p
+
+-- each number is that of a token
+abbrev pub AllTokens : TaskGraph → List ℕ → Type 0
+AllTokens g [] = Unit {0}
+AllTokens g (k ∷ ks) = is_token g k × AllTokens g ks
+
+-- each token in the rows is the graph's
+abbrev pub TokensOfRows : TaskGraph → List WideRow → Type 0
+TokensOfRows g [] = Unit {0}
+TokensOfRows g (r ∷ rows) = AllTokens g r.asked × AllTokens g r.asks × TokensOfRows g rows
+
+-- a tree: splits on an input or on how a task ends, and leaves with a row for each task
+pub data WideTree : Type 0 where
+  OnInput : (input : ℕ) → (on_true : WideTree) → (on_false : WideTree) → WideTree
+  OnEnd : (task : ℕ) → (ran : WideTree) → (canceled : WideTree) → (faulted : WideTree) → WideTree
+  WideLeaf : (rows : List WideRow) → WideTree
+
+-- each leaf of the tree is closed and proves the claim
+abbrev pub AcceptsWideTree : TaskGraph → Property → Assumed → WideTree → Type 0
+AcceptsWideTree g p l (OnInput i on_true on_false) =
+    (i < g.inputs) × AcceptsWideTree g p (with_input l i true) on_true × AcceptsWideTree g p (with_input l i false) on_false
+AcceptsWideTree g p l (OnEnd t ran canceled faulted) =
+    is_task g t
+    × AcceptsWideTree g p (with_end l t RanToCompletion) ran
+    × AcceptsWideTree g p (with_end l t Canceled) canceled
+    × AcceptsWideTree g p (with_end l t Faulted) faulted
+AcceptsWideTree g p l (WideLeaf rows) =
+    (length rows ≡ length g.tasks) × IdsOfRows g (plain rows) × TokensOfRows g rows × WidelyClosed g l rows × WidelyProves g l rows p
+
+-- a certificate of such rows has one tree for each claim, and each is accepted
+abbrev pub WidelyAccepts : TaskGraph → List Claim → List WideTree → Type 0
+WidelyAccepts g [] [] = Unit {0}
+WidelyAccepts g (claim ∷ claims) (tree ∷ trees) = AcceptsWideTree g claim.body (assumed_for true g claim) tree × WidelyAccepts g claims trees
+WidelyAccepts g [] (tree ∷ trees) = ⊥
+WidelyAccepts g (claim ∷ claims) [] = ⊥
+
+-- rows that say nothing of tokens
+abbrev pub as_wide : List Row → List WideRow
+as_wide rows = map (λ (r : Row). record { row = r; asked = []; asks = [] }) rows
+
+-- a tree of them
+abbrev pub as_wide_tree : Tree → WideTree
+as_wide_tree (SplitInput i on_true on_false) = OnInput i (as_wide_tree on_true) (as_wide_tree on_false)
+as_wide_tree (SplitEnd t ran canceled faulted) = OnEnd t (as_wide_tree ran) (as_wide_tree canceled) (as_wide_tree faulted)
+as_wide_tree (Leaf rows) = WideLeaf (as_wide rows)

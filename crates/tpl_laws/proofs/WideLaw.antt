@@ -1,0 +1,235 @@
+-- Rows that are closed without tokens are closed with them.
+use Rattle.std.proofs.Common.{◌≡◌, ℕ, zero, suc, ◌&&◌, ◌||◌, ◌⊎◌, inl, inr, not, Bool, true, false, if◌then◌else◌, Option, Some, None, List, [], ◌∷◌, map, length, refl, sym, ap, ◌∙◌, subst, nat_eq, is_some}
+use Rattle.std.proofs.lemmas.Bool.{and_from, or_cases, or_left, or_right, not_from_false}
+use Rattle.tpl_words.proofs.MemberLemmas.{same_self}
+use Rattle.tpl_words.proofs.Truths.{true_false}
+use Rattle.tpl_words.specs.declared.finals.Final.{Final}
+use Rattle.tpl_words.specs.declared.finals.Final.TheVariants.{RanToCompletion, Canceled, Faulted}
+use Rattle.tpl_words.specs.Finals.{has}
+use Rattle.tpl_words.specs.Members.{mem}
+use Rattle.tpl_words.specs.Options.{allows, lazy_cancellation}
+use Rattle.tpl_script.specs.Paths.{MayThrow, MayStartChild}
+use Rattle.tpl_script.specs.Knowledge.{Fact, IsSettled, IsRequested, Knowledge, ChildEnd, at_throw}
+use Rattle.tpl_script.proofs.KnownReach.{MayFault, may_start, may_return, may_acknowledge, may_throw, may_fault}
+use Rattle.tpl_model.specs.Graph.{TaskGraph, TaskKind, Root, Child, Continues, WhenAll, WhenAny, task, kind, body, options, is_task, attached, IsParent}
+use Rattle.tpl_model.specs.declared.claim.Property.{Property}
+use Rattle.tpl_model.specs.declared.claim.Property.TheVariants.{Final as EndsIn, After, Observed, Never, Excludes, Runs}
+use Rattle.tpl_model.specs.Certificate.{Row, row, Tree, SplitInput, SplitEnd, Leaf, Assumed, assumed_for, with_input, with_end, end_left, is_loud, view, RunsRule, BodyMayEnd, MayEndAs, BeforeRule, may_end_early, may_end, may_win, PastRule, Closed, Proves, IdsOfRows, AcceptsTree}
+use Rattle.tpl_model.specs.WiderRules.{WideRow, plain, wide_row, begins_with, ends_with, once_ended, child_end, reading, asked_of, known_at_end, known_at_start, may_run, WideRunsRule, Way, ByBody, RootDropped, ChildDropped, DroppedEarly, DroppedLate, NotAllowed, way_final, MayEndBy, IsWay, SettledBefore, HoldsBy, WideEndsRule, BeginRule, SettledBelow, EndRule, IsWidelyClosed, WidelyClosed, WidelyProves, TokensOfRows, AcceptsWideTree, as_wide, as_wide_tree}
+use Rattle.tpl_laws.specs.WiderSoundness.{TokensAreMore, TokensAcceptMore}
+use Rattle.tpl_laws.proofs.Basics.{is_some_of}
+
+-- the rows are the same, and say nothing of tokens
+pub plain_wide : (rows : List Row) → plain (as_wide rows) ≡ rows
+plain_wide [] = refl
+plain_wide (r ∷ rows) = ap (λ z. r ∷ z) (plain_wide rows)
+
+no_tokens : (rows : List Row) (t : ℕ) → ((wide_row (as_wide rows) t).asked ≡ []) × ((wide_row (as_wide rows) t).asks ≡ [])
+no_tokens [] t = (refl, refl)
+no_tokens (r ∷ rows) zero = (refl, refl)
+no_tokens (r ∷ rows) (suc t) = no_tokens rows t
+
+same_length : (rows : List Row) → length (as_wide rows) ≡ length rows
+same_length [] = refl
+same_length (r ∷ rows) = ap suc (same_length rows)
+
+no_ids : (g : TaskGraph) (rows : List Row) → TokensOfRows g (as_wide rows)
+no_ids g [] = tt
+no_ids g (r ∷ rows) = (tt, tt, no_ids g rows)
+
+-- a task that may end has an end
+some_end : (rows : List Row) (t : ℕ) → may_end rows t ≡ true → (f : Final) × (has (row rows t).ends f ≡ true)
+some_end rows t e =
+    elim (or_cases (has (row rows t).ends RanToCompletion) (has (row rows t).ends Canceled || has (row rows t).ends Faulted) e) [
+      | inl q ↦ (RanToCompletion, q)
+      | inr d ↦ elim (or_cases (has (row rows t).ends Canceled) (has (row rows t).ends Faulted) d) [ inl q ↦ (Canceled, q) | inr q ↦ (Faulted, q) ]
+    ]
+
+none_of : {A : Type 0} (o : Option A) → (is_some o ≡ true → ⊥) → o ≡ None
+none_of None n = refl
+none_of (Some x) n = absurd (n refl)
+
+module _ (g : TaskGraph) (l : Assumed) (rows : List WideRow) (nothing : (t : ℕ) → ((wide_row rows t).asked ≡ []) × ((wide_row rows t).asks ≡ [])) (closed : Closed g l (plain rows)) where
+  abbrev flat : List Row
+  flat = plain rows
+
+  -- a start that is found is on a path
+  starts : (p c : ℕ) (known : Knowledge) → known_at_start g l rows p c ≡ Some known → MayStartChild (view g l flat p) (body g p) c
+  starts p c known e = may_start c (reading g l rows p) (asked_of rows p) (body g p) (is_some_of (known_at_start g l rows p c) known e)
+
+  faulted_child : (t c : ℕ) (b : Bool) → mem c (attached g t) ≡ b → MayFault (if b then Some (record { ends = (row flat c).ends; facts = ends_with rows c }) else None) → (mem c (attached g t) ≡ true) × (has (row flat c).ends Faulted ≡ true)
+  faulted_child t c true e m = (e, m)
+  faulted_child t c false e m = absurd m
+
+  -- an end that is found is one of a path
+  body_may : (t : ℕ) (f : Final) (known : Knowledge) → known_at_end g l rows t f ≡ Some known → BodyMayEnd g l flat t f
+  body_may t RanToCompletion known e = may_return (reading g l rows t) (asked_of rows t) (body g t) (is_some_of (known_at_end g l rows t RanToCompletion) known e)
+  body_may t Canceled known e = may_acknowledge (reading g l rows t) (asked_of rows t) (body g t) (is_some_of (known_at_end g l rows t Canceled) known e)
+  body_may t Faulted known e =
+      elim (may_fault (reading g l rows t) (asked_of rows t) (body g t) (is_some_of (known_at_end g l rows t Faulted) known e)) [
+        | inl q ↦ inl q
+        | inr q ↦ let w = faulted_child t q.0 (mem q.0 (attached g t)) refl q.2 in inr (q.0, w.0, q.1, w.1)
+      ]
+
+  runs_more : (t : ℕ) (k : TaskKind) → RunsRule g l flat t k → WideRunsRule g l rows t k
+  runs_more t Root c = c
+  runs_more t (Continues a) c = λ f e al n. c f e al
+  runs_more t Child c = λ p known par run e n. c p par run (starts p t known e)
+  runs_more t (WhenAll args) c = tt
+  runs_more t (WhenAny args) c = tt
+
+  -- a task that a started child is may run
+  child_runs : (t p : ℕ) (known : Knowledge) → is_task g t → kind g t ≡ Child → IsParent g p t → may_run rows p ≡ true → known_at_start g l rows p t ≡ Some known → may_run rows t ≡ true
+  child_runs t p known i k par run e = (subst (λ z. RunsRule g l flat t z) k (closed t i).runs) p par run (starts p t known e)
+
+  root_runs : (t : ℕ) → is_task g t → kind g t ≡ Root → may_run rows t ≡ true
+  root_runs t i k = subst (λ z. RunsRule g l flat t z) k (closed t i).runs
+
+  -- each way is one that the rules without tokens know
+  way_before : (t : ℕ) (k : TaskKind) (way : Way) → is_task g t → kind g t ≡ k → MayEndBy g l rows t k way → MayEndAs g l flat t k (way_final way) ⊎ ((args : List ℕ) × ((k ≡ WhenAll args) ⊎ (k ≡ WhenAny args)))
+  way_before t Root (ByBody f known) i k m = inl (m.0, inl (body_may t f known m.1))
+  way_before t Child (ByBody f known) i k m = inl (m.0, inl (body_may t f known m.1))
+  way_before t (Continues a) (ByBody f known) i k m = inl (inl (m.0, body_may t f known m.1))
+  way_before t (WhenAll args) (ByBody f known) i k m = inr (args, inl refl)
+  way_before t (WhenAny args) (ByBody f known) i k m = inr (args, inr refl)
+  way_before t Root RootDropped i k m = inl (root_runs t i k, inr (refl, m))
+  way_before t Child (ChildDropped p known) i k m = inl (child_runs t p known i k m.1 m.2 m.3, inr (refl, m.0))
+  way_before t (Continues a) DroppedEarly i k m = inl (inr (refl, inl m))
+  way_before t (Continues a) DroppedLate i k m = inl (inr (refl, inr (inl (m.0, some_end flat a m.1))))
+  way_before t (Continues a) NotAllowed i k m = inl (inr (refl, inr (inr m)))
+  way_before t Root (ChildDropped p known) i k m = absurd m
+  way_before t Root DroppedEarly i k m = absurd m
+  way_before t Root DroppedLate i k m = absurd m
+  way_before t Root NotAllowed i k m = absurd m
+  way_before t Child RootDropped i k m = absurd m
+  way_before t Child DroppedEarly i k m = absurd m
+  way_before t Child DroppedLate i k m = absurd m
+  way_before t Child NotAllowed i k m = absurd m
+  way_before t (Continues a) RootDropped i k m = absurd m
+  way_before t (Continues a) (ChildDropped p known) i k m = absurd m
+  way_before t (WhenAll args) RootDropped i k m = absurd m
+  way_before t (WhenAll args) (ChildDropped p known) i k m = absurd m
+  way_before t (WhenAll args) DroppedEarly i k m = absurd m
+  way_before t (WhenAll args) DroppedLate i k m = absurd m
+  way_before t (WhenAll args) NotAllowed i k m = absurd m
+  way_before t (WhenAny args) RootDropped i k m = absurd m
+  way_before t (WhenAny args) (ChildDropped p known) i k m = absurd m
+  way_before t (WhenAny args) DroppedEarly i k m = absurd m
+  way_before t (WhenAny args) DroppedLate i k m = absurd m
+  way_before t (WhenAny args) NotAllowed i k m = absurd m
+
+  abbrev EndsBefore : ℕ → TaskKind → Type 0
+  EndsBefore t k = (f : Final) → end_left l t f ≡ true → MayEndAs g l flat t k f → has (row flat t).ends f ≡ true
+
+  way_ends : (t : ℕ) (k : TaskKind) → is_task g t → kind g t ≡ k → ((args : List ℕ) → (k ≡ WhenAll args) ⊎ (k ≡ WhenAny args) → ⊥) → EndsBefore t k → (way : Way) → IsWay g l rows t way → has (row flat t).ends (way_final way) ≡ true
+  way_ends t k i same bodied c way w =
+      elim (way_before t k way i same (subst (λ z. MayEndBy g l rows t z way) same w.1)) [
+        | inl m ↦ c (way_final way) w.0 m
+        | inr a ↦ absurd (bodied a.0 a.1)
+      ]
+
+  ends_more : (t : ℕ) (k : TaskKind) → is_task g t → kind g t ≡ k → EndsBefore t k → WideEndsRule g l rows t k
+  ends_more t Root i same c = way_ends t Root i same (λ args e. elim e [ inl q ↦ absurd (cc) | inr q ↦ absurd (cc) ]) c
+  ends_more t Child i same c = way_ends t Child i same (λ args e. elim e [ inl q ↦ absurd (cc) | inr q ↦ absurd (cc) ]) c
+  ends_more t (Continues a) i same c = way_ends t (Continues a) i same (λ args e. elim e [ inl q ↦ absurd (cc) | inr q ↦ absurd (cc) ]) c
+  ends_more t (WhenAll args) i same c = c
+  ends_more t (WhenAny args) i same c = λ x cut m e. let f = some_end flat x e in c RanToCompletion cut (refl, (x, f.0, m, f.1))
+
+  no_member : (k : ℕ) (xs : List ℕ) → xs ≡ [] → mem k xs ≡ true → ⊥
+  no_member k [] q m = true_false (sym m)
+  no_member k (x ∷ xs) q m = absurd (cc)
+
+  or_once : (x y : ℕ) → (x ≡ y) ⊎ (mem x (row flat y).past ≡ true) → once_ended rows y (IsSettled x) ≡ true
+  or_once x y (inl q) = or_left (nat_eq x y) (mem x (row flat y).past) (subst (λ z. nat_eq x z ≡ true) q (same_self x))
+  or_once x y (inr q) = or_right (nat_eq x y) (mem x (row flat y).past) q
+
+  begin_more : (t : ℕ) (k : TaskKind) (x : ℕ) → BeforeRule g flat t k x → BeginRule g l rows t k (IsSettled x)
+  begin_more t Root x c = c
+  begin_more t (Continues a) x c = or_once x a c
+  begin_more t Child x c = c
+  begin_more t (WhenAll args) x c = tt
+  begin_more t (WhenAny args) x c = tt
+
+  -- what holds whatever way a child takes
+  child_holds : (t x : ℕ) → kind g t ≡ Child → ((p : ℕ) → IsParent g p t → mem x (row flat p).before ≡ true) → (way : Way) → IsWay g l rows t way → HoldsBy g rows t Child (IsSettled x) way
+  child_holds t x same f (ByBody e known) w = inr (inl f)
+  child_holds t x same f (ChildDropped p known) w = inr (inl (f p (subst (λ z. MayEndBy g l rows t z (ChildDropped p known)) same w.1).1))
+  child_holds t x same f RootDropped w = absurd (subst (λ z. MayEndBy g l rows t z RootDropped) same w.1)
+  child_holds t x same f DroppedEarly w = absurd (subst (λ z. MayEndBy g l rows t z DroppedEarly) same w.1)
+  child_holds t x same f DroppedLate w = absurd (subst (λ z. MayEndBy g l rows t z DroppedLate) same w.1)
+  child_holds t x same f NotAllowed w = absurd (subst (λ z. MayEndBy g l rows t z NotAllowed) same w.1)
+
+  -- and a continuation that isn't canceled early
+  late_holds : (t a x : ℕ) → is_task g t → kind g t ≡ Continues a → may_end_early g l flat t ≡ false → once_ended rows a (IsSettled x) ≡ true → (way : Way) → IsWay g l rows t way → HoldsBy g rows t (Continues a) (IsSettled x) way
+  late_holds t a x i same n o (ByBody e known) w = inr (inl o)
+  late_holds t a x i same n o DroppedLate w = inr o
+  late_holds t a x i same n o NotAllowed w = o
+  late_holds t a x i same n o DroppedEarly w =
+      let m = subst (λ z. MayEndBy g l rows t z DroppedEarly) same w.1 in
+      let has_it = subst (λ z. EndsBefore t z) same (closed t i).ends Canceled w.0 (inr (refl, inl m)) in
+      true_false (sym (and_from (is_loud g l t && not (lazy_cancellation (options g t))) (has (row flat t).ends Canceled) (and_from (is_loud g l t) (not (lazy_cancellation (options g t))) m.0 (not_from_false (lazy_cancellation (options g t)) m.1)) has_it) ∙ n)
+  late_holds t a x i same n o RootDropped w = absurd (subst (λ z. MayEndBy g l rows t z RootDropped) same w.1)
+  late_holds t a x i same n o (ChildDropped p known) w = absurd (subst (λ z. MayEndBy g l rows t z (ChildDropped p known)) same w.1)
+
+  end_more : (t : ℕ) (k : TaskKind) (x : ℕ) → is_task g t → kind g t ≡ k → PastRule g l flat t k x → EndRule g l rows t k (IsSettled x)
+  end_more t Root x i same c = inl c
+  end_more t Child x i same (inl c) = inr (child_holds t x same c)
+  end_more t Child x i same (inr c) = inl c
+  end_more t (Continues a) x i same (inl c) = inr (late_holds t a x i same c.0 (or_once x a c.1))
+  end_more t (Continues a) x i same (inr c) = inl c
+  end_more t (WhenAll args) x i same c = (c.0, c.1, or_once x c.0 c.2)
+  end_more t (WhenAny args) x i same c = λ y m e. or_once x y (c y m (or_right (not l.wide) (may_end flat y) e))
+
+  closed_more : WidelyClosed g l rows
+  closed_more t i = let c = closed t i in record {
+    runs = runs_more t (kind g t) c.runs;
+    ends = ends_more t (kind g t) i refl c.ends;
+    begin = λ run fact m. by_begin run fact m;
+    end = λ fact m. by_end fact m;
+    chain = c.chain;
+  }
+    where
+      by_begin : may_run rows t ≡ true → (fact : Fact) → begins_with rows t fact ≡ true → BeginRule g l rows t (kind g t) fact
+      by_begin run (IsSettled x) m = begin_more t (kind g t) x ((closed t i).before run x m)
+      by_begin run (IsRequested k) m = absurd (no_member k (wide_row rows t).asked (nothing t).0 m)
+
+      by_end : (fact : Fact) → ends_with rows t fact ≡ true → EndRule g l rows t (kind g t) fact
+      by_end (IsSettled x) m = end_more t (kind g t) x i refl ((closed t i).past x m)
+      by_end (IsRequested k) m = absurd (no_member k (wide_row rows t).asks (nothing t).1 m)
+
+proves_more : (g : TaskGraph) (l : Assumed) (rows : List WideRow) (p : Property) → Proves g l (plain rows) p → WidelyProves g l rows p
+proves_more g l rows (Observed t) (inl p) = inl p
+proves_more g l rows (Observed t) (inr (inl p)) = inr (inl p)
+proves_more g l rows (Observed t) (inr (inr (inl p))) = inr (inr (inl p))
+proves_more g l rows (Observed t) (inr (inr (inr (inl p)))) =
+    inr (inr (inr (inl (none_of (at_throw (reading g l rows t.0) (asked_of rows t.0) (body g t.0)) (λ e. p (may_throw (reading g l rows t.0) (asked_of rows t.0) (body g t.0) e))))))
+proves_more g l rows (Observed t) (inr (inr (inr (inr p)))) = inr (inr (inr (inr p.1)))
+proves_more g l rows (EndsIn t ends) p = p
+proves_more g l rows (After a b) p = p
+proves_more g l rows (Never t) p = p
+proves_more g l rows (Excludes a b) p = p
+proves_more g l rows (Runs t) p = p
+
+pub tokens_are_more_lem : TokensAreMore
+tokens_are_more_lem g l rows closed = (
+  closed_more g l (as_wide rows) (no_tokens rows) (subst (Closed g l) (sym (plain_wide rows)) closed),
+  λ p pr. proves_more g l (as_wide rows) p (subst (λ z. Proves g l z p) (sym (plain_wide rows)) pr),
+)
+
+tree_more : (g : TaskGraph) (p : Property) (l : Assumed) (tree : Tree) → AcceptsTree g p l tree → AcceptsWideTree g p l (as_wide_tree tree)
+tree_more g p l (SplitInput i a b) acc = (acc.0, tree_more g p (with_input l i true) a acc.1, tree_more g p (with_input l i false) b acc.2)
+tree_more g p l (SplitEnd t a b c) acc = (
+  acc.0,
+  tree_more g p (with_end l t RanToCompletion) a acc.1,
+  tree_more g p (with_end l t Canceled) b acc.2,
+  tree_more g p (with_end l t Faulted) c acc.3,
+)
+tree_more g p l (Leaf rows) acc =
+    let m = tokens_are_more_lem g l rows acc.2 in
+    (same_length rows ∙ acc.0, subst (IdsOfRows g) (sym (plain_wide rows)) acc.1, no_ids g rows, m.0, m.1 p acc.3)
+
+pub tokens_accept_more_lem : TokensAcceptMore
+tokens_accept_more_lem g [] [] acc = tt
+tokens_accept_more_lem g (claim ∷ claims) (tree ∷ trees) acc = (tree_more g claim.body (assumed_for true g claim) tree acc.0, tokens_accept_more_lem g claims trees acc.1)
+tokens_accept_more_lem g [] (tree ∷ trees) acc = acc
+tokens_accept_more_lem g (claim ∷ claims) [] acc = acc
