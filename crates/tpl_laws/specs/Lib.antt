@@ -12,3 +12,4 @@ pub mod Failing
 pub mod Faults
 pub mod Wider
 pub mod WiderSoundness
+pub mod WiderTests
