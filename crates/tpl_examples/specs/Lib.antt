@@ -13,3 +13,4 @@ pub mod CertificateWords
 pub mod Certificates
 pub mod RowRules
 pub mod WiderRules
+pub mod TokenRules

@@ -13,5 +13,6 @@ pub mod journals;
 pub mod links;
 pub mod many_tasks;
 pub mod row_rules;
+pub mod token_rules;
 pub mod valid_graphs;
 pub mod wider_rules;

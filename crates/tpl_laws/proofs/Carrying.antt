@@ -61,7 +61,7 @@ pub body_faulted : (x : ℕ) (atoms : List ℕ) (verdict : Option Outcome) → m
 body_faulted x [] verdict m = true_false (sym m)
 body_faulted x (a ∷ atoms) verdict m = refl
 
-worse_faulted : (o : Option Final) → worse o Faulted ≡ Faulted
+pub worse_faulted : (o : Option Final) → worse o Faulted ≡ Faulted
 worse_faulted None = refl
 worse_faulted (Some RanToCompletion) = refl
 worse_faulted (Some Canceled) = refl

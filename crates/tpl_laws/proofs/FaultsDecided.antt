@@ -23,18 +23,18 @@ use Rattle.tpl_laws.specs.PathLaws.{PathLaws}
 abbrev pub Clears : {A : Type 0} → Option A → Type 0 → Type 0
 Clears o P = (o ≡ None → P) × (P → o ≡ None)
 
-clear : {A : Type 0} → Clears {A = A} None (Unit {0})
+pub clear : {A : Type 0} → Clears {A = A} None (Unit {0})
 clear {A = A} = (λ e. tt, λ u. refl)
 
-clear_unless : {A : Type 0} (P Q : Type 0) (b : Bool) (x : A) (o : Option A) → Decides b P → Clears o Q → Clears (unless b x o) (P × Q)
+pub clear_unless : {A : Type 0} (P Q : Type 0) (b : Bool) (x : A) (o : Option A) → Decides b P → Clears o Q → Clears (unless b x o) (P × Q)
 clear_unless P Q true x o d c = (λ e. (d.0 refl, c.0 e), λ e. c.1 e.1)
 clear_unless P Q false x o d c = (λ e. absurd (cc), λ e. true_false (sym (d.1 e.0)))
 
-clear_or_else : {A : Type 0} (P Q : Type 0) (a b : Option A) → Clears a P → Clears b Q → Clears (or_else a b) (P × Q)
+pub clear_or_else : {A : Type 0} (P Q : Type 0) (a b : Option A) → Clears a P → Clears b Q → Clears (or_else a b) (P × Q)
 clear_or_else P Q None b c d = (λ e. (c.0 refl, d.0 e), λ e. d.1 e.1)
 clear_or_else P Q (Some x) b c d = (λ e. absurd (cc), λ e. c.1 e.0)
 
-clear_means : {A : Type 0} (P Q : Type 0) (o : Option A) → Clears o P → (P → Q) → (Q → P) → Clears o Q
+pub clear_means : {A : Type 0} (P Q : Type 0) (o : Option A) → Clears o P → (P → Q) → (Q → P) → Clears o Q
 clear_means P Q o c to back = (λ e. to (c.0 e), λ q. c.1 (back q))
 
 -- a row
@@ -83,7 +83,7 @@ module _ (paths : PathLaws) where
   )
 
   -- the rows of a leaf
-  clear_breaks : (t : ℕ) (P : Type 0) (o : Option Rule) → Clears o P → Clears (breaks t o) P
+  pub clear_breaks : (t : ℕ) (P : Type 0) (o : Option Rule) → Clears o P → Clears (breaks t o) P
   clear_breaks t P None c = (λ e. c.0 refl, λ p. refl)
   clear_breaks t P (Some rule) c = (λ e. absurd (cc), λ p. some_not (c.1 p))
     where

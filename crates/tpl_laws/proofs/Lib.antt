@@ -16,8 +16,8 @@ pub mod MainTheorem
 pub mod Telling
 pub mod WideRows
 pub mod WideEvents
+pub mod Destinies
 pub mod WideSound
-pub mod WideLaw
 pub mod Sizes
 pub mod Bound
 pub mod Prefixes
@@ -26,6 +26,7 @@ pub mod Deciding
 pub mod Parents
 pub mod RulesDecided
 pub mod FaultsDecided
+pub mod WiderDecided
 pub mod FirstFault
 pub mod ForCode
 pub mod AllowedDecided
@@ -33,4 +34,5 @@ pub mod AllowedSettled
 pub mod GraphDecided
 pub mod FailingLemmas
 pub mod Wider
+pub mod WideLaw
 pub mod Jobs

@@ -121,7 +121,7 @@ module _ (paths : PathLaws) where
       (both (is_loud g l t ≡ true) ((f : Final) × (has (row rows a).ends f ≡ true)) (is_loud g l t) (some_end (has (row rows a).ends)) (itself (is_loud g l t)) (some_end_of rows a))
       (some_end_both (λ f. has (row rows a).ends f ≡ true) (λ f. allows (options g t) f ≡ false) (has (row rows a).ends) (λ f. not (allows (options g t) f)) (λ f. itself (has (row rows a).ends f)) (λ f. opposite (allows (options g t) f))))
 
-  all_decided : (rows : List Row) (args : List ℕ) (f : Final) → Decides (all_may_end rows args f) (AllMayEnd rows args f)
+  pub all_decided : (rows : List Row) (args : List ℕ) (f : Final) → Decides (all_may_end rows args f) (AllMayEnd rows args f)
   all_decided rows args RanToCompletion = of_all (λ x. has (row rows x).ends RanToCompletion ≡ true) (λ x. has (row rows x).ends RanToCompletion) args (λ x. itself (has (row rows x).ends RanToCompletion))
   all_decided rows args Canceled =
       both ((x : ℕ) → mem x args ≡ true → ((f : Final) × (is_final f Faulted ≡ false) × (has (row rows x).ends f ≡ true))) ((x : ℕ) × (mem x args ≡ true) × (has (row rows x).ends Canceled ≡ true))
@@ -246,11 +246,11 @@ module _ (paths : PathLaws) where
   chain_lem g l rows t = chain_decided g l rows t (row rows t).chain
 
   -- it proves a claim
-  none_decided : (xs : List ℕ) → Decides (is_none xs) (xs ≡ [])
+  pub none_decided : (xs : List ℕ) → Decides (is_none xs) (xs ≡ [])
   none_decided [] = (λ e. refl, λ e. refl)
   none_decided (x ∷ xs) = (λ e. true_false (sym e), λ e. absurd (cc))
 
-  none_complete_decided : (g : TaskGraph) (rows : List Row) → Decides (none_complete g rows) (NoneComplete g rows)
+  pub none_complete_decided : (g : TaskGraph) (rows : List Row) → Decides (none_complete g rows) (NoneComplete g rows)
   none_complete_decided g rows =
       means ((x : ℕ) × is_task g x × ((to_end (kind g x) false ≡ true) × (may_end rows x ≡ false))) (NoneComplete g rows) (none_complete g rows)
       (below_some (λ x. (to_end (kind g x) false ≡ true) × (may_end rows x ≡ false)) (λ x. to_end (kind g x) false && not (may_end rows x)) (length g.tasks)

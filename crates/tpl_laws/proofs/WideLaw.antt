@@ -15,7 +15,10 @@ use Rattle.tpl_model.specs.Graph.{TaskGraph, TaskKind, Root, Child, Continues, W
 use Rattle.tpl_model.specs.declared.claim.Property.{Property}
 use Rattle.tpl_model.specs.declared.claim.Property.TheVariants.{Final as EndsIn, After, Observed, Never, Excludes, Runs}
 use Rattle.tpl_model.specs.Certificate.{Row, row, Tree, SplitInput, SplitEnd, Leaf, Assumed, assumed_for, with_input, with_end, end_left, is_loud, view, RunsRule, BodyMayEnd, MayEndAs, BeforeRule, may_end_early, may_end, may_win, PastRule, Closed, Proves, IdsOfRows, AcceptsTree}
-use Rattle.tpl_model.specs.WiderRules.{WideRow, plain, wide_row, begins_with, ends_with, once_ended, child_end, reading, asked_of, known_at_end, known_at_start, may_run, WideRunsRule, Way, ByBody, RootDropped, ChildDropped, DroppedEarly, DroppedLate, NotAllowed, way_final, MayEndBy, IsWay, SettledBefore, HoldsBy, WideEndsRule, BeginRule, SettledBelow, EndRule, IsWidelyClosed, WidelyClosed, WidelyProves, TokensOfRows, AcceptsWideTree, as_wide, as_wide_tree}
+use Rattle.tpl_model.specs.WiderRules.{WideRow, plain, wide_row, begins_with, ends_with, once_ended, child_end, reading, asked_of, known_at_end, known_at_start, may_run, WideRunsRule, Way, ByBody, RootDropped, ChildDropped, DroppedEarly, DroppedLate, NotAllowed, way_final, MayEndBy, IsWay, SettledBefore, HoldsBy, WideEndsRule, BeginRule, SettledBelow, EndRule, IsWidelyClosed, WidelyClosed, WidelyProves, TokensOfRows, narrowed, AcceptsWideTree, as_wide, as_wide_tree}
+use Rattle.tpl_laws.specs.Wider.{AssumesMore}
+use Rattle.tpl_laws.proofs.Wider.{more_is_assumed_lem}
+use Rattle.tpl_laws.proofs.Destinies.{narrowed_less}
 use Rattle.tpl_laws.specs.WiderSoundness.{TokensAreMore, TokensAcceptMore}
 use Rattle.tpl_laws.proofs.Basics.{is_some_of}
 
@@ -216,6 +219,17 @@ tokens_are_more_lem g l rows closed = (
   λ p pr. proves_more g l (as_wide rows) p (subst (λ z. Proves g l z p) (sym (plain_wide rows)) pr),
 )
 
+-- what is narrowed assumes more
+narrowed_more : (g : TaskGraph) (l : Assumed) → AssumesMore l (narrowed g l)
+narrowed_more g l = record {
+  possible = λ i value e. e;
+  quiet = λ k e. e;
+  cut = λ t f e. narrowed_less g (length g.tasks) l.cut t f e;
+  ended = λ t f e. e;
+  sure = λ site e. e;
+  wide = λ e. e;
+}
+
 tree_more : (g : TaskGraph) (p : Property) (l : Assumed) (tree : Tree) → AcceptsTree g p l tree → AcceptsWideTree g p l (as_wide_tree tree)
 tree_more g p l (SplitInput i a b) acc = (acc.0, tree_more g p (with_input l i true) a acc.1, tree_more g p (with_input l i false) b acc.2)
 tree_more g p l (SplitEnd t a b c) acc = (
@@ -225,8 +239,9 @@ tree_more g p l (SplitEnd t a b c) acc = (
   tree_more g p (with_end l t Faulted) c acc.3,
 )
 tree_more g p l (Leaf rows) acc =
-    let m = tokens_are_more_lem g l rows acc.2 in
-    (same_length rows ∙ acc.0, subst (IdsOfRows g) (sym (plain_wide rows)) acc.1, no_ids g rows, m.0, m.1 p acc.3)
+    let n = more_is_assumed_lem g l (narrowed g l) rows (narrowed_more g l) acc.2 in
+    let m = tokens_are_more_lem g (narrowed g l) rows n.0 in
+    (same_length rows ∙ acc.0, subst (IdsOfRows g) (sym (plain_wide rows)) acc.1, no_ids g rows, m.0, m.1 p (n.1 p acc.3))
 
 pub tokens_accept_more_lem : TokensAcceptMore
 tokens_accept_more_lem g [] [] acc = tt

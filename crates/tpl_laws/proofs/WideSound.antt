@@ -1,8 +1,10 @@
 -- What a certificate of rows with tokens proves holds.
-use Rattle.std.proofs.Common.{◌≡◌, ℕ, ◌⊎◌, inl, inr, Bool, true, false, Option, Some, None, List, [], ◌∷◌, refl, sym, ap, ◌∙◌, subst, is_some}
-use Rattle.std.proofs.lemmas.Bool.{cases_Bool}
+use Rattle.std.proofs.Common.{◌≡◌, ℕ, ◌&&◌, ◌||◌, ◌⊎◌, inl, inr, not, nat_eq, Bool, true, false, Option, Some, None, List, [], ◌∷◌, refl, sym, ap, ◌∙◌, subst, is_some}
+use Rattle.std.proofs.lemmas.Bool.{cases_Bool, and_from}
 use Rattle.tpl_words.proofs.Truths.{true_false}
+use Rattle.tpl_words.specs.declared.finals.Final.{Final}
 use Rattle.tpl_words.specs.declared.finals.Final.TheVariants.{RanToCompletion, Canceled, Faulted}
+use Rattle.tpl_words.specs.Finals.{is_final}
 use Rattle.tpl_words.specs.declared.status.Label.{Label}
 use Rattle.tpl_script.specs.declared.outcome.Outcome.{Outcome}
 use Rattle.tpl_script.specs.declared.outcome.Outcome.TheVariants.{Threw}
@@ -18,16 +20,17 @@ use Rattle.tpl_model.specs.declared.claim.Property.{Property}
 use Rattle.tpl_model.specs.declared.claim.Property.TheVariants.{Final as EndsIn, After, Observed, Never, Excludes, Runs}
 use Rattle.tpl_model.specs.Claims.{input, Claim, IsGiven, Holds}
 use Rattle.tpl_model.specs.Certificate.{Row, Assumed, Agrees, assumed, assumed_for, with_input, with_end, own_quiet, taken}
-use Rattle.tpl_model.specs.WiderRules.{WideRow, plain, reading, asked_of, child_end, WidelyClosed, WidelyProves, WideTree, OnInput, OnEnd, WideLeaf, AcceptsWideTree, WidelyAccepts}
+use Rattle.tpl_model.specs.WiderRules.{WideRow, plain, reading, asked_of, child_end, WidelyClosed, WidelyProves, WideTree, OnInput, OnEnd, WideLeaf, narrowed, AcceptsWideTree, WidelyAccepts}
 use Rattle.tpl_laws.specs.WiderSoundness.{WideRowsAreTrue, WideSoundness}
-use Rattle.tpl_laws.proofs.Basics.{some_none}
+use Rattle.tpl_laws.proofs.Basics.{some_none, same_number, final_self}
 use Rattle.tpl_laws.proofs.Execution.{passed}
 use Rattle.tpl_laws.proofs.RowsAreTrue.{Upheld}
 use Rattle.tpl_laws.proofs.Chains.{threw_begun, begun_ends}
 use Rattle.tpl_laws.proofs.Observing.{label_verdict, chain_seen}
 use Rattle.tpl_laws.proofs.WideRows.{WideNow, path_of, ready_runs, ready_begins, throw_known}
 use Rattle.tpl_laws.proofs.WideEvents.{wide_now, begin_holds}
-use Rattle.tpl_laws.proofs.MainTheorem.{Shows, ALeaf, never_complete, observed_holds, given_agrees, input_agrees, end_agrees, branch_of, is_taken, property_holds}
+use Rattle.tpl_laws.proofs.Destinies.{destiny, destiny_ended, narrowed_agrees}
+use Rattle.tpl_laws.proofs.MainTheorem.{Shows, ALeaf, never_complete, observed_holds, given_agrees, input_agrees, end_agrees, is_taken, property_holds}
 
 -- what chains need of rows with tokens
 wide_upheld : (g : TaskGraph) (l : Assumed) (rows : List WideRow) (v : List Bool) (h : List Event) → WideNow g l rows v h → Upheld g l (plain rows) v h
@@ -83,25 +86,43 @@ record AWideLeaf (g : TaskGraph) (p : Property) (v : List Bool) (h : List Event)
   closed : WidelyClosed g assumes rows
   proves : WidelyProves g assumes rows p
 
-some_leaf : (g : TaskGraph) (p : Property) (l : Assumed) (tree : WideTree) (v : List Bool) (h : List Event) → Agrees g l v h → AcceptsWideTree g p l tree → AWideLeaf g p v h
-some_leaf g p l (OnInput i a b) v h agrees acc =
-    elim (cases_Bool (input v i)) [
-      | inl e ↦ some_leaf g p (with_input l i true) a v h (input_agrees g l v h i true e agrees) acc.1
-      | inr e ↦ some_leaf g p (with_input l i false) b v h (input_agrees g l v h i false e agrees) acc.2
-    ]
-some_leaf g p l (OnEnd t a b c) v h agrees acc =
-    elim (branch_of g v h t) [
-      | inl e ↦ some_leaf g p (with_end l t RanToCompletion) a v h (end_agrees g l v h t RanToCompletion e agrees) acc.1
-      | inr d ↦ elim d [
-        | inl e ↦ some_leaf g p (with_end l t Canceled) b v h (end_agrees g l v h t Canceled e agrees) acc.2
-        | inr e ↦ some_leaf g p (with_end l t Faulted) c v h (end_agrees g l v h t Faulted e agrees) acc.3
+-- it is found by taking at each split on an end the branch by which the task is bound to end
+module _ (g : TaskGraph) (p : Property) (v : List Bool) (h : List Event) (valid : IsGraph g) (run : Run g v h) where
+  abbrev Bound : Assumed → Type 0
+  Bound l = (s : ℕ) → l.cut s (destiny g v h s) ≡ true
+
+  bound_end : (l : Assumed) (t : ℕ) (f : Final) → destiny g v h t ≡ f → Bound l → Bound (with_end l t f)
+  bound_end l t f e b = λ s. and_from (l.cut s (destiny g v h s)) (not (nat_eq t s) || is_final f (destiny g v h s)) (b s) (by_test s (nat_eq t s) refl)
+    where
+      by_test : (s : ℕ) (c : Bool) → nat_eq t s ≡ c → not c || is_final f (destiny g v h s) ≡ true
+      by_test s false q = refl
+      by_test s true q = subst (λ z. is_final f z ≡ true) (sym (ap (destiny g v h) (sym (same_number t s q)) ∙ e)) (final_self f)
+
+  takes_end : (l : Assumed) (t : ℕ) (f : Final) → destiny g v h t ≡ f → Agrees g l v h → Agrees g (with_end l t f) v h
+  takes_end l t f e agrees = end_agrees g l v h t f (λ z q. subst (λ w. is_final f w ≡ true) (sym e ∙ destiny_ended g v h t z q) (final_self f)) agrees
+
+  some_leaf : (l : Assumed) (tree : WideTree) → Agrees g l v h → Bound l → AcceptsWideTree g p l tree → AWideLeaf g p v h
+  some_leaf l (OnInput i a b) agrees bound acc =
+      elim (cases_Bool (input v i)) [
+        | inl e ↦ some_leaf (with_input l i true) a (input_agrees g l v h i true e agrees) bound acc.1
+        | inr e ↦ some_leaf (with_input l i false) b (input_agrees g l v h i false e agrees) bound acc.2
       ]
-    ]
-some_leaf g p l (WideLeaf rows) v h agrees acc = record { assumes = l; rows = rows; agrees = agrees; closed = acc.3; proves = acc.4 }
+  some_leaf l (OnEnd t a b c) agrees bound acc =
+      by_end (destiny g v h t) refl
+      (λ e. some_leaf (with_end l t RanToCompletion) a (takes_end l t RanToCompletion e agrees) (bound_end l t RanToCompletion e bound) acc.1)
+      (λ e. some_leaf (with_end l t Canceled) b (takes_end l t Canceled e agrees) (bound_end l t Canceled e bound) acc.2)
+      (λ e. some_leaf (with_end l t Faulted) c (takes_end l t Faulted e agrees) (bound_end l t Faulted e bound) acc.3)
+    where
+      by_end : (f : Final) → destiny g v h t ≡ f → (destiny g v h t ≡ RanToCompletion → AWideLeaf g p v h) → (destiny g v h t ≡ Canceled → AWideLeaf g p v h) → (destiny g v h t ≡ Faulted → AWideLeaf g p v h) → AWideLeaf g p v h
+      by_end RanToCompletion e x y z = x e
+      by_end Canceled e x y z = y e
+      by_end Faulted e x y z = z e
+  some_leaf l (WideLeaf rows) agrees bound acc =
+      record { assumes = narrowed g l; rows = rows; agrees = narrowed_agrees g v h valid run l agrees bound; closed = acc.3; proves = acc.4 }
 
 a_wide_leaf : (g : TaskGraph) (claim : Claim) (tree : WideTree) (v : List Bool) (h : List Event) → IsGraph g → AcceptsWideTree g claim.body (assumed_for true g claim) tree → Run g v h → IsGiven g v h claim.given → IsGiven g v h (own_quiet g claim.body) → ALeaf g v h claim.body
 a_wide_leaf g claim tree v h valid acc run i q =
-    let w = some_leaf g claim.body (assumed_for true g claim) tree v h (given_agrees true g v h (taken true g claim) (is_taken true g claim v h i q)) acc in
+    let w = some_leaf g claim.body v h valid run (assumed_for true g claim) tree (given_agrees true g v h (taken true g claim) (is_taken true g claim v h i q)) (λ s. refl) acc in
     let now = wide_now g w.assumes w.rows v h valid w.closed run w.agrees in
     record {
       assumes = w.assumes;

@@ -2,6 +2,7 @@
 
 ghost use Rattle.tpl_laws.specs.Faults.{FaultIsFirst};
 ghost use Rattle.tpl_laws.specs.PathLaws.{PathLaws};
+ghost use Rattle.tpl_laws.specs.WiderTests.{WideBrokenIsRight, WideLeafIsRight};
 ghost use Rattle.tpl_laws.specs.Decided.{RunsIsRight, EndsIsRight, BeforeIsRight, BelowIsRight, BelowInOnePass, ParentIsRight, PastIsRight, ChainIsRight, BrokenIsRight, FirstBrokenIsRight, ProvesIsRight, VerdictIsRight, VerdictIsSound};
 
 /// The recursion over a body finds what its paths say.
@@ -102,6 +103,20 @@ pub fn verdict_is_sound()
 /// A fault that the verdict names is the first one.
 pub fn fault_is_first()
     ensures { FaultIsFirst }
+{
+    path_laws();
+}
+
+/// The row of a task breaks none of the wider rules just where it keeps them all.
+pub fn wide_broken_is_right()
+    ensures { WideBrokenIsRight }
+{
+    path_laws();
+}
+
+/// A leaf of rows with tokens has no fault just where it is closed and proves the claim.
+pub fn wide_leaf_is_right()
+    ensures { WideLeafIsRight }
 {
     path_laws();
 }

@@ -1,5 +1,5 @@
 -- The wider rules for rows that speak of tokens too, and when a certificate of such rows is accepted.
-use Rattle.std.specs.Prelude.{◌≡◌, ℕ, ◌<◌, ◌&&◌, ◌||◌, ◌⊎◌, not, Bool, true, false, if◌then◌else◌, Option, Some, None, List, [], ◌∷◌, map, length, nat_eq, slice_index_or}
+use Rattle.std.specs.Prelude.{◌≡◌, ℕ, zero, suc, ◌<◌, ◌&&◌, ◌||◌, ◌⊎◌, not, Bool, true, false, if◌then◌else◌, Option, Some, None, List, [], ◌∷◌, map, length, nat_eq, slice_index_or}
 use Rattle.tpl_words.specs.declared.finals.Final.{Final}
 use Rattle.tpl_words.specs.declared.finals.Final.TheVariants.{RanToCompletion, Canceled, Faulted}
 use Rattle.tpl_words.specs.Finals.{has}
@@ -42,7 +42,7 @@ abbrev pub once_ended : List WideRow → ℕ → Fact → Bool
 once_ended rows t (IsSettled x) = nat_eq x t || mem x (row (plain rows) t).past
 once_ended rows t (IsRequested k) = mem k (wide_row rows t).asks
 
--- the tokens that are requested with k: k, those to which it is linked from, and so on
+-- the tokens that are requested with k: itself, each that is linked to it, and so on
 abbrev pub linked : TaskGraph → ℕ → ℕ → Bool
 linked g k j = through g (nat_eq k) j
 
@@ -197,6 +197,36 @@ WidelyProves g l rows (Observed t) =
     ⊎ NoneComplete g (plain rows)
 WidelyProves g l rows p = Proves g l (plain rows) p
 
+-- where a WhenAll task has these ends left, an argument may have this one
+abbrev pub keeps : (Final → Bool) → Final → Bool
+keeps left RanToCompletion = true
+keeps left Canceled = left Faulted || left Canceled
+keeps left Faulted = left Faulted
+
+-- what the ends that are left to t leave of others: where a continuation isn't canceled, its antecedent ended as its
+-- options allow, and the arguments of a WhenAll task ended no worse than it
+abbrev pub narrowed_by : TaskGraph → ℕ → TaskKind → (ℕ → Final → Bool) → ℕ → Final → Bool
+narrowed_by g t (Continues a) left s f = left s f && (left t Canceled || (not (nat_eq a s) || allows (options g t) f))
+narrowed_by g t (WhenAll args) left s f = left s f && (not (mem s args) || keeps (left t) f)
+narrowed_by g t kind left s f = left s f
+
+-- the same by the first n tasks, from the last of them to the first
+abbrev pub narrowed_from : TaskGraph → ℕ → (ℕ → Final → Bool) → ℕ → Final → Bool
+narrowed_from g zero left = left
+narrowed_from g (suc t) left = narrowed_from g t (narrowed_by g t (kind g t) left)
+
+-- what a leaf assumes where the ends that its splits left are narrowed by all tasks. Ends that are given aren't: a task
+-- may be bound to end otherwise, while what is given of it is still true
+abbrev pub narrowed : TaskGraph → Assumed → Assumed
+narrowed g l = record {
+  possible = l.possible;
+  quiet = l.quiet;
+  cut = narrowed_from g (length g.tasks) l.cut;
+  ended = l.ended;
+  sure = l.sure;
+  wide = l.wide;
+}
+
 -- each number is that of a token
 abbrev pub AllTokens : TaskGraph → List ℕ → Type 0
 AllTokens g [] = Unit {0}
@@ -213,7 +243,7 @@ pub data WideTree : Type 0 where
   OnEnd : (task : ℕ) → (ran : WideTree) → (canceled : WideTree) → (faulted : WideTree) → WideTree
   WideLeaf : (rows : List WideRow) → WideTree
 
--- each leaf of the tree is closed and proves the claim
+-- each leaf of the tree is closed and proves the claim, where the ends that its splits left are narrowed
 abbrev pub AcceptsWideTree : TaskGraph → Property → Assumed → WideTree → Type 0
 AcceptsWideTree g p l (OnInput i on_true on_false) =
     (i < g.inputs) × AcceptsWideTree g p (with_input l i true) on_true × AcceptsWideTree g p (with_input l i false) on_false
@@ -223,7 +253,7 @@ AcceptsWideTree g p l (OnEnd t ran canceled faulted) =
     × AcceptsWideTree g p (with_end l t Canceled) canceled
     × AcceptsWideTree g p (with_end l t Faulted) faulted
 AcceptsWideTree g p l (WideLeaf rows) =
-    (length rows ≡ length g.tasks) × IdsOfRows g (plain rows) × TokensOfRows g rows × WidelyClosed g l rows × WidelyProves g l rows p
+    (length rows ≡ length g.tasks) × IdsOfRows g (plain rows) × TokensOfRows g rows × WidelyClosed g (narrowed g l) rows × WidelyProves g (narrowed g l) rows p
 
 -- a certificate of such rows has one tree for each claim, and each is accepted
 abbrev pub WidelyAccepts : TaskGraph → List Claim → List WideTree → Type 0
