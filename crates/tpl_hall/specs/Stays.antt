@@ -1,5 +1,5 @@
 -- A worker's seat between the worker's sections under the lock.
-use Rattle.std.specs.Prelude.{◌≡◌, ℕ, ◌≤◌, Bool, List, length, Option, Some, None}
+use Rattle.std.specs.Prelude.{◌≡◌, ◌⊎◌, ℕ, ◌≤◌, Bool, List, length, Option, Some, None}
 use Rattle.tpl_model.specs.Graph.{TaskGraph}
 use Rattle.tpl_model.specs.Rules.{Complete as IsComplete}
 use Rattle.tpl_draft.specs.Named.{Named}
@@ -41,6 +41,10 @@ abbrev pub MayEnd : Ended → Journal → Type 0
 MayEnd Complete j = IsComplete j.graph j.inputs j.events
 MayEnd Halted j = Unit {0}
 MayEnd Stray j = Unit {0}
+
+-- how a worker goes whose work ends so: as it ends where its seat fits, else as stray
+abbrev pub GoesAs : Ended → Ended → Type 0 → Type 0
+GoesAs result ended fits = ((result ≡ ended) × fits) ⊎ ((result ≡ Stray) × (fits → ⊥))
 
 -- what a worker leaves that came with the first seat
 pub record Leaves (ended : Ended) (g : TaskGraph) (v : List Bool) (first seat : SeatView) : Type 0 where

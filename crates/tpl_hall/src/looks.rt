@@ -1,13 +1,12 @@
 //! Whether a seat fits the run, and what is reported to it.
 
-ghost use Rattle.std.specs.Prelude.{◌≡◌, ◌↔◌, ◌⊎◌, length, Some, IsTrue, IsFalse};
+ghost use Rattle.std.specs.Prelude.{◌≡◌, ◌↔◌, length, None, Some, IsTrue, IsFalse};
 ghost use Rattle.tpl_model.specs.Facts.{requested};
 ghost use Rattle.tpl_model.specs.Graph.{is_task, is_token};
 ghost use Rattle.tpl_hall.specs.Moves.{Fits, HasRoom, MatchLooked};
 ghost use Rattle.tpl_hall.specs.Sights.{IsSeen};
-ghost use Rattle.tpl_hall.specs.Stays.{Stays, GoesOn, MayGoOn, MayEnd, Leaves};
+ghost use Rattle.tpl_hall.specs.Stays.{Stays, GoesAs, GoesOn, MayGoOn, MayEnd, Leaves};
 ghost use Rattle.tpl_hall.specs.Views.{SeatView};
-ghost use Rattle.tpl_hall.specs.declared.sight.Ended.TheVariants.{Stray};
 ghost use Rattle.tpl_hall.specs.declared.sight.Sight.TheVariants.{At, Already};
 
 use crate::checks::{is_within, stands};
@@ -79,7 +78,7 @@ impl<'g, K: Drop> Hall<'g, K> {
     }
 
     /// Lets a worker go whose work ends so, and reports to it where the run is complete. Its seat has to fit once more;
-    /// else it goes as stray, with the events with which it came.
+    /// exactly where it doesn't, it goes as stray, with the events with which it came.
     pub fn let_go(
         &self,
         graph: &Graph,
@@ -93,7 +92,8 @@ impl<'g, K: Drop> Hall<'g, K> {
         ensures left { (first : SeatView) → Stays stint first seat.old
             → GoesOn (length self.now.core.events) first seat.old
             → Leaves result graph.now.graph inputs.now first seat.new }
-        ensures ended { (result ≡ ended) ⊎ (result ≡ Stray) }
+        ensures ended { GoesAs result ended (MayGoOn None self.now.core graph.now inputs.now
+            seat.old) }
     {
         if !self.fits(graph, inputs, seat) {
             seat.stray(stint);

@@ -1,33 +1,43 @@
 -- How requests are answered, and how a worker's sections end.
 use Rattle.std.specs.Prelude.{◌≡◌, ℕ, Bool, true, false, List, length, Option, Some, None}
-use Rattle.tpl_model.specs.Rules.{IsOutside}
+use Rattle.tpl_words.specs.declared.ids.TaskId.{TaskId}
+use Rattle.tpl_model.specs.declared.event.Act.TheVariants.{Step, Leave}
+use Rattle.tpl_model.specs.Rules.{IsOutside, Complete as IsComplete}
+use Rattle.tpl_run.specs.declared.run.Next.{Next}
+use Rattle.tpl_run.specs.declared.run.Next.TheVariants.{NotRunning, Silent, Work, Over as AtEnd}
+use Rattle.tpl_machine.specs.Reading.{next}
+use Rattle.tpl_items.specs.Items.{count_of}
 use Rattle.tpl_draft.specs.Named.{Named}
 use Rattle.tpl_machine.specs.Journal.{Journal}
 use Rattle.atomic_table.specs.Seated.{TableId}
 use Rattle.tpl_words.specs.declared.ids.TokenId.{TokenId}
-use Rattle.tpl_model.specs.Graph.{TaskGraph}
+use Rattle.tpl_model.specs.Graph.{TaskGraph, is_task}
 use Rattle.tpl_hall.specs.Growth.{Requests}
-use Rattle.tpl_hall.specs.Moves.{Fits, HasRoom, Moves, MatchAsked}
+use Rattle.tpl_hall.specs.Moves.{Fits, HasRoom, MayDo, MayAnswer, Moves, MatchAsked}
 use Rattle.tpl_hall.specs.Sights.{IsSeen}
 use Rattle.tpl_hall.specs.declared.sight.Sight.TheVariants.{Already as AlreadyRequested}
-use Rattle.tpl_hall.specs.Stays.{MayGoOn}
+use Rattle.tpl_hall.specs.Stays.{GoesAs, MayGoOn}
 use Rattle.tpl_hall.specs.Views.{SeatView}
 use Rattle.tpl_hall.specs.declared.sight.Asked.{Asked}
 use Rattle.tpl_hall.specs.declared.sight.Asked.TheVariants.{Place, Already, Halted as AskedHalted, Stray as AskedStray}
 use Rattle.tpl_hall.specs.declared.sight.Ended.{Ended}
 use Rattle.tpl_hall.specs.declared.sight.Ended.TheVariants.{Complete, Halted, Stray}
+use Rattle.tpl_runtime.specs.declared.shared.Held.{Held}
+use Rattle.tpl_runtime.specs.declared.shared.Held.TheVariants.{Free, Taken, Running}
+use Rattle.tpl_runtime.specs.declared.shared.Hand.{Hand}
+use Rattle.tpl_runtime.specs.declared.shared.Hand.TheVariants.{New, With, Called}
 use Rattle.tpl_runtime.specs.declared.shared.Turn.{Turn}
 use Rattle.tpl_runtime.specs.declared.shared.Turn.TheVariants.{Go, Call, Wait, Over}
 
 -- what is so of a turn: one fact where the worker's work ends, another for every other turn
-abbrev pub OnOver : {K W : Type 0} → Turn K W → (Ended → Type 0) → Type 0 → Type 0
+abbrev pub OnOver : {W : Type 0} → Turn W → (Ended → Type 0) → Type 0 → Type 0
 OnOver (Over ended) over on = over ended
-OnOver (Go hand) over on = on
+OnOver (Go held) over on = on
 OnOver (Call task item) over on = on
 OnOver Wait over on = on
 
 -- what is so of a turn that ends a worker's work
-abbrev pub IfOver : {K W : Type 0} → Turn K W → (Ended → Type 0) → Type 0
+abbrev pub IfOver : {W : Type 0} → Turn W → (Ended → Type 0) → Type 0
 IfOver turn over = OnOver turn over (Unit {0})
 
 -- what is done in a section: the run and the seat's list grew by the same acts, nothing was reported to the seat, and the pass is still of the session's queue
@@ -36,10 +46,75 @@ pub record Proceeds (queue passed : TableId) (seat seat' : SeatView) (j j' : Jou
   pub moves : Moves seat seat' j j'
   pub last : seat'.last ≡ seat.last
 
--- what a worker does next in a section: it ends its work there only as stray, and then the session is halted
-pub record PlaysOn {K W : Type 0} (turn : Turn K W) (halted : Bool) (queue passed : TableId) (seat seat' : SeatView) (j j' : Journal) : Type 0 where
+-- the run is complete
+abbrev pub IsDone : Journal → Type 0
+IsDone j = IsComplete j.graph j.inputs j.events
+
+-- a worker may go on with a task whose next is this: a statement that isn't a job may be passed by it, a job has an item of its site, or a body that is over may be left by it
+abbrev pub MayPass : Next → Journal → SeatView → TaskId → List ℕ → Type 0
+MayPass NotRunning j seat t sites = ⊥
+MayPass Silent j seat t sites = MayDo j seat (Step t)
+MayPass (Work site) j seat t sites = count_of sites site.0 ≡ 0 → ⊥
+MayPass AtEnd j seat t sites = MayDo j seat (Leave t)
+
+-- a worker may go on with the task that it runs, where items of these sites are left
+abbrev pub MayRun : Journal → SeatView → TaskId → List ℕ → Type 0
+MayRun j seat t sites = is_task j.graph t.0 × MayPass (next j.graph j.inputs j.events t.0) j seat t sites
+
+-- a worker may go on with what it holds: only a task that it runs may have gone on without it
+abbrev pub MayNext : Journal → SeatView → Held → List ℕ → Type 0
+MayNext j seat Free sites = Unit {0}
+MayNext j seat (Taken t) sites = Unit {0}
+MayNext j seat (Running t) sites = MayRun j seat t sites
+
+-- what a worker does next in a section: where it may go on, its work doesn't end; else it ends as stray, and then the session is halted
+pub record PlaysOn {W : Type 0} (turn : Turn W) (may : Type 0) (halted halted' : Bool) (queue passed : TableId) (seat seat' : SeatView) (j j' : Journal) : Type 0 where
   pub proceeds : Proceeds queue passed seat seat' j j'
-  pub over : IfOver turn (λ ended. (ended ≡ Stray) × (halted ≡ true))
+  pub turns : OnOver turn (λ ended. (ended ≡ Stray) × (may → ⊥) × (halted' ≡ true)) (may × (halted' ≡ halted))
+
+-- how a worker's work ends at this moment: Halted where the session is halted, else Complete where the run is, else not
+abbrev pub IsEnd : Option Ended → Bool → Type 0 → Type 0
+IsEnd (Some Halted) halted complete = halted ≡ true
+IsEnd (Some Complete) halted complete = (halted ≡ false) × complete
+IsEnd (Some Stray) halted complete = ⊥
+IsEnd None halted complete = (halted ≡ false) × (complete → ⊥)
+
+-- what becomes of a section in which a worker brings something: its work ends as stray where that is refused, and then the session is halted; else as it ends at this moment; else it goes on
+abbrev pub IsBrought : {W : Type 0} → Turn W → (may : Type 0) → (halted halted' : Bool) → (complete : Type 0) → Type 0
+IsBrought (Over Stray) may halted halted' complete = (may → ⊥) × (halted' ≡ true)
+IsBrought (Over Halted) may halted halted' complete = may × IsEnd (Some Halted) halted complete × (halted' ≡ halted)
+IsBrought (Over Complete) may halted halted' complete = may × IsEnd (Some Complete) halted complete × (halted' ≡ halted)
+IsBrought (Go held) may halted halted' complete = may × IsEnd None halted complete × (halted' ≡ halted)
+IsBrought (Call task item) may halted halted' complete = ⊥
+IsBrought Wait may halted halted' complete = ⊥
+
+-- what becomes of a section to which a worker comes with what it held: its work ends as it ends at this moment; else as stray where it may not go on, and then the session is halted; else it goes on
+abbrev pub IsHeld : {W : Type 0} → Turn W → (may : Type 0) → (halted halted' : Bool) → (complete : Type 0) → Type 0
+IsHeld (Over Stray) may halted halted' complete = IsEnd None halted complete × (may → ⊥) × (halted' ≡ true)
+IsHeld (Over Halted) may halted halted' complete = IsEnd (Some Halted) halted complete × (halted' ≡ halted)
+IsHeld (Over Complete) may halted halted' complete = IsEnd (Some Complete) halted complete × (halted' ≡ halted)
+IsHeld (Go held) may halted halted' complete = IsEnd None halted complete × may × (halted' ≡ halted)
+IsHeld (Call task item) may halted halted' complete = IsEnd None halted complete × may × (halted' ≡ halted)
+IsHeld Wait may halted halted' complete = IsEnd None halted complete × may × (halted' ≡ halted)
+
+-- what becomes of a section, by what the worker brings to it, where items of these sites are left
+abbrev pub IsPlayed : {K W : Type 0} → Hand K → Turn W → SeatView → (sites : List ℕ) → (j j' : Journal) → (halted halted' : Bool) → Type 0
+IsPlayed New turn seat sites j j' halted halted' = IsBrought turn (Unit {0}) halted halted' (IsDone j')
+IsPlayed (Called t receipt) turn seat sites j j' halted halted' = IsBrought turn (MayAnswer j seat t receipt) halted halted' (IsDone j')
+IsPlayed (With held) turn seat sites j j' halted halted' = IsHeld turn (MayNext j seat held sites) halted halted' (IsDone j)
+
+-- the turn of a worker whose section became this: a worker whose work ends goes as stray where its seat doesn't fit
+abbrev pub IsTurnOf : {W : Type 0} → (played turn : Turn W) → (fits : Type 0) → Type 0
+IsTurnOf played turn fits = OnOver played (λ ended. (gone : Ended) × (turn ≡ Over gone) × GoesAs gone ended fits) (turn ≡ played)
+
+-- one section of a worker whose section may begin: what becomes of it, and the seat after it, which has to fit the run where the worker's work ends
+pub record Turns {K W : Type 0} (hand : Hand K) (turn : Turn W) (graph : Named) (v : List Bool) (seat : SeatView) (sites : List ℕ) (j j' : Journal) (halted halted' : Bool) : Type 0 where
+  pub played : Turn W
+  pub left : SeatView
+  pub is_played : IsPlayed hand played seat sites j j' halted halted'
+  pub moves : Moves seat left j j'
+  pub last : left.last ≡ seat.last
+  pub turns : IsTurnOf played turn (MayGoOn None j' graph v left)
 
 -- what a request leaves of the seat, by its answer: with a place the event is in a run and in its list, and nothing was reported to it; where the token was requested before, only this was reported to it; else it is as it was
 abbrev pub Asks : TaskGraph → List Bool → SeatView → SeatView → TokenId → Asked → Type 0
@@ -65,16 +140,3 @@ IsAnswer AskedStray may halted requested = may → ⊥
 pub record MayTurn (seen : Option ℕ) (j : Journal) (graph : Named) (v : List Bool) (seat : SeatView) : Type 0 where
   pub inside : IsOutside seat.actor → ⊥
   pub goes_on : MayGoOn seen j graph v seat
-
--- how a worker's work ends at this moment: Halted where the session is halted, else Complete where the run is, else not
-abbrev pub IsEnd : Option Ended → Bool → Type 0 → Type 0
-IsEnd (Some Halted) halted complete = halted ≡ true
-IsEnd (Some Complete) halted complete = (halted ≡ false) × complete
-IsEnd (Some Stray) halted complete = ⊥
-IsEnd None halted complete = (halted ≡ false) × (complete → ⊥)
-
--- a worker's work ends as Complete only where the session isn't halted, and as Halted only where it is
-abbrev pub EndsInOrder : Ended → Bool → Type 0
-EndsInOrder Complete halted = halted ≡ false
-EndsInOrder Halted halted = halted ≡ true
-EndsInOrder Stray halted = Unit {0}

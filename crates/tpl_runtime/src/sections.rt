@@ -1,10 +1,12 @@
 //! What a worker does in a locked section: it begins a task, passes a statement, leaves a body, or looks for a job.
 
-ghost use Rattle.std.specs.Prelude.{◌≡◌};
-ghost use Rattle.tpl_runtime.specs.Turns.{PlaysOn};
+ghost use Rattle.std.specs.Prelude.{◌≡◌, map};
+ghost use Rattle.tpl_model.specs.declared.event.Act.TheVariants.{Step, Leave};
+ghost use Rattle.tpl_hall.specs.Moves.{MayDo};
+ghost use Rattle.tpl_runtime.specs.Turns.{MayNext, MayRun, PlaysOn};
 
 use crate::queue::{ItemPass, ItemQueue};
-use crate::shared::{Hand, Shared, Turn};
+use crate::shared::{Held, Shared, Turn};
 use std::sync::Wait;
 use tpl_hall::{Ended, Seat};
 use tpl_items::Item;
@@ -22,13 +24,13 @@ impl<'g, K: Drop, W: Item<K>> Shared<'g, K, W> {
         pass: &mut ItemPass<W>,
         seat: &mut Seat,
         task: TaskId,
-    ) -> Turn<K, W>
+    ) -> Turn<W>
         requires { pass.old.queue ≡ queue.now.id }
-        ensures { PlaysOn result self.new.halted queue.now.id pass.new.queue seat.old seat.new
-            self.old.hall.core self.new.hall.core }
+        ensures { PlaysOn result (Unit {0}) self.old.halted self.new.halted queue.now.id
+            pass.new.queue seat.old seat.new self.old.hall.core self.new.hall.core }
     {
         if self.act(rt, queue, pass, seat, Act::Begin(task)) {
-            return Turn::Go(Hand::Running(task));
+            return Turn::Go(Held::Running(task));
         }
         Turn::Go(self.hand_on(seat.actor()))
     }
@@ -41,13 +43,14 @@ impl<'g, K: Drop, W: Item<K>> Shared<'g, K, W> {
         pass: &mut ItemPass<W>,
         seat: &mut Seat,
         task: TaskId,
-    ) -> Turn<K, W>
+    ) -> Turn<W>
         requires { pass.old.queue ≡ queue.now.id }
-        ensures { PlaysOn result self.new.halted queue.now.id pass.new.queue seat.old seat.new
-            self.old.hall.core self.new.hall.core }
+        ensures { PlaysOn result (MayDo self.old.hall.core seat.old (Step task)) self.old.halted
+            self.new.halted queue.now.id pass.new.queue seat.old seat.new self.old.hall.core
+            self.new.hall.core }
     {
         if self.act(rt, queue, pass, seat, Act::Step(task)) {
-            return Turn::Go(Hand::Running(task));
+            return Turn::Go(Held::Running(task));
         }
         self.halt();
         Turn::Over(Ended::Stray)
@@ -61,10 +64,11 @@ impl<'g, K: Drop, W: Item<K>> Shared<'g, K, W> {
         pass: &mut ItemPass<W>,
         seat: &mut Seat,
         task: TaskId,
-    ) -> Turn<K, W>
+    ) -> Turn<W>
         requires { pass.old.queue ≡ queue.now.id }
-        ensures { PlaysOn result self.new.halted queue.now.id pass.new.queue seat.old seat.new
-            self.old.hall.core self.new.hall.core }
+        ensures { PlaysOn result (MayDo self.old.hall.core seat.old (Leave task)) self.old.halted
+            self.new.halted queue.now.id pass.new.queue seat.old seat.new self.old.hall.core
+            self.new.hall.core }
     {
         if self.act(rt, queue, pass, seat, Act::Leave(task)) {
             return Turn::Go(self.hand_on(seat.actor()));
@@ -81,10 +85,11 @@ impl<'g, K: Drop, W: Item<K>> Shared<'g, K, W> {
         pass: &mut ItemPass<W>,
         seat: &mut Seat,
         task: TaskId,
-    ) -> Turn<K, W>
+    ) -> Turn<W>
         requires { pass.old.queue ≡ queue.now.id }
-        ensures { PlaysOn result self.new.halted queue.now.id pass.new.queue seat.old seat.new
-            self.old.hall.core self.new.hall.core }
+        ensures { PlaysOn result (MayRun self.old.hall.core seat.old task (map W.site
+            self.old.stock.items)) self.old.halted self.new.halted queue.now.id pass.new.queue
+            seat.old seat.new self.old.hall.core self.new.hall.core }
     {
         let core = self.hall.core();
         if task.0 as usize >= core.graph().len() {
@@ -108,6 +113,24 @@ impl<'g, K: Drop, W: Item<K>> Shared<'g, K, W> {
         }
     }
 
+    /// Looks for a job.
+    fn look<R: Wait>(
+        &mut self,
+        rt: &R,
+        queue: &ItemQueue<W>,
+        pass: &mut ItemPass<W>,
+        seat: &mut Seat,
+    ) -> Turn<W>
+        requires { pass.old.queue ≡ queue.now.id }
+        ensures { PlaysOn result (Unit {0}) self.old.halted self.new.halted queue.now.id
+            pass.new.queue seat.old seat.new self.old.hall.core self.new.hall.core }
+    {
+        match self.find(rt, queue, pass, seat.actor()) {
+            Some(task) => Turn::Go(Held::Taken(task)),
+            None => Turn::Wait,
+        }
+    }
+
     /// Does what comes next for a worker that holds this: at most one event, and what is due after it.
     pub(crate) fn next<R: Wait>(
         &mut self,
@@ -115,24 +138,17 @@ impl<'g, K: Drop, W: Item<K>> Shared<'g, K, W> {
         queue: &ItemQueue<W>,
         pass: &mut ItemPass<W>,
         seat: &mut Seat,
-        hand: Hand<K>,
-    ) -> Turn<K, W>
+        held: Held,
+    ) -> Turn<W>
         requires { pass.old.queue ≡ queue.now.id }
-        ensures { PlaysOn result self.new.halted queue.now.id pass.new.queue seat.old seat.new
-            self.old.hall.core self.new.hall.core }
+        ensures { PlaysOn result (MayNext self.old.hall.core seat.old held (map W.site
+            self.old.stock.items)) self.old.halted self.new.halted queue.now.id pass.new.queue
+            seat.old seat.new self.old.hall.core self.new.hall.core }
     {
-        match hand {
-            Hand::Taken(task) => self.begin(rt, queue, pass, seat, task),
-            Hand::Running(task) => self.run_on(rt, queue, pass, seat, task),
-            Hand::Called(_task, _receipt) => {
-                self.halt();
-                Turn::Over(Ended::Stray)
-            }
-            Hand::New => Turn::Go(Hand::Free),
-            Hand::Free => match self.find(rt, queue, pass, seat.actor()) {
-                Some(task) => Turn::Go(Hand::Taken(task)),
-                None => Turn::Wait,
-            },
+        match held {
+            Held::Free => self.look(rt, queue, pass, seat),
+            Held::Taken(task) => self.begin(rt, queue, pass, seat, task),
+            Held::Running(task) => self.run_on(rt, queue, pass, seat, task),
         }
     }
 }

@@ -15,7 +15,7 @@ ghost use Rattle.tpl_hall.specs.declared.sight.Sight.TheVariants.{At};
 
 use crate::closing::{CloseFault, Report, settle};
 use crate::queue::{ItemPass, ItemQueue};
-use crate::shared::{Halting, Hand, Shared, Turn};
+use crate::shared::{Halting, Hand, Held, Shared, Turn};
 use std::alloc::Global;
 use std::marker::Model;
 use std::sync::{Condvar, Mutex, Wait};
@@ -137,9 +137,9 @@ impl<'g, K: Drop, W: Item<K>> Session<'g, K, W> {
         ensures { pass.new.queue ≡ self.now.queue }
     {
         match hand {
-            Hand::Free => match self.queue.take(rt, pass) {
-                Some(job) => Hand::Taken(job.task),
-                None => Hand::Free,
+            Hand::With(Held::Free) => match self.queue.take(rt, pass) {
+                Some(job) => Hand::With(Held::Taken(job.task)),
+                None => Hand::With(Held::Free),
             },
             hand => hand,
         }
@@ -161,7 +161,7 @@ impl<'g, K: Drop, W: Item<K>> Session<'g, K, W> {
         };
         let mut hand = Hand::New;
         for _ in rt.forever() {
-            let held = self.take(rt, &mut pass, hand);
+            let brought = self.take(rt, &mut pass, hand);
             let mut shared = self.shared.lock(rt);
             match shared.turn(
                 rt,
@@ -171,12 +171,12 @@ impl<'g, K: Drop, W: Item<K>> Session<'g, K, W> {
                 &mut pass,
                 &mut seat,
                 &mut stint,
-                held,
+                brought,
             ) {
-                Turn::Go(next) => {
+                Turn::Go(held) => {
                     drop(shared);
                     self.moved.notify_all();
-                    hand = next;
+                    hand = Hand::With(held);
                 }
                 Turn::Call(task, item) => {
                     drop(shared);
@@ -185,7 +185,7 @@ impl<'g, K: Drop, W: Item<K>> Session<'g, K, W> {
                 }
                 Turn::Wait => {
                     let _again = self.moved.wait(rt, shared);
-                    hand = Hand::Free;
+                    hand = Hand::With(Held::Free);
                 }
                 Turn::Over(ended) => {
                     drop(shared);

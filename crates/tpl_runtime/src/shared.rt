@@ -1,12 +1,13 @@
 //! What the session's lock guards.
 
-ghost use Rattle.std.specs.Prelude.{◌≡◌, ◌↔◌, ◌≤◌, ◌⊎◌, ◌++◌, ◌∷◌, [], Err, None, true, IfOk, IfErr, IfSome, IsFalse, OnOk, OnErr, vec_capacity, vec_len};
-ghost use Rattle.tpl_model.specs.Rules.{Complete, IsOutside};
+ghost use Rattle.std.specs.Prelude.{◌≡◌, ◌↔◌, ◌≤◌, ◌⊎◌, ◌++◌, ◌∷◌, [], Err, None, true, IfOk, IfErr, IfSome, IsTrue, IsFalse, OnOk, OnErr, vec_capacity, vec_len};
+ghost use Rattle.tpl_model.specs.Rules.{IsOutside};
 ghost use Rattle.tpl_model.specs.Valid.{bound};
 ghost use Rattle.tpl_hall.specs.Stays.{MayEnd};
 ghost use Rattle.tpl_hall.specs.Lists.{is_seated};
+ghost use Rattle.tpl_hall.specs.Moves.{MayDo, MayAnswer};
 ghost use Rattle.tpl_hall.specs.declared.seat.SeatFault.TheVariants.{BadActor, SeatTaken};
-ghost use Rattle.tpl_runtime.specs.Turns.{IsEnd, Proceeds};
+ghost use Rattle.tpl_runtime.specs.Turns.{IsDone, IsEnd, Proceeds};
 
 use crate::put::{put_after, put_all};
 use crate::queue::{ItemPass, ItemQueue};
@@ -20,26 +21,33 @@ use tpl_machine::Core;
 use tpl_model::Act;
 use tpl_words::{Actor, TaskId};
 
-/// What a worker holds when it comes to the lock.
-#[derive(Drop)]
-pub enum Hand<K> {
-    /// It comes for the first time.
-    New,
+/// What a worker holds when it has left the lock.
+#[derive(Clone, Copy)]
+pub enum Held {
     /// Nothing.
     Free,
     /// A task whose job it took, and that hasn't begun.
     Taken(TaskId),
     /// The task that it runs.
     Running(TaskId),
+}
+
+/// What a worker brings when it comes to the lock.
+#[derive(Drop)]
+pub enum Hand<K> {
+    /// Nothing: it comes for the first time.
+    New,
+    /// What it held.
+    With(Held),
     /// The task that it runs, and the receipt of the item that it has called.
     Called(TaskId, Receipt<K>),
 }
 
 /// What a worker does when it has left the lock.
 #[derive(Drop)]
-pub enum Turn<K, W> {
-    /// It comes again.
-    Go(Hand<K>),
+pub enum Turn<W> {
+    /// It comes again with this.
+    Go(Held),
     /// It calls this item of the task that it runs.
     Call(TaskId, W),
     /// It waits until something has happened.
@@ -85,8 +93,9 @@ impl<'g, K: Drop, W: Item<K>> Shared<'g, K, W> {
         seat: &mut Seat,
     )
         requires { pass.old.queue ≡ queue.now.id }
-        ensures { Proceeds queue.now.id pass.new.queue seat.old seat.new
+        ensures proceeds { Proceeds queue.now.id pass.new.queue seat.old seat.new
             self.old.hall.core self.new.hall.core }
+        ensures halted { self.new.halted ≡ self.old.halted }
     {
         self.hall.sweep(seat);
         put_all(rt, &self.hall, &mut self.stock, queue, pass);
@@ -103,8 +112,9 @@ impl<'g, K: Drop, W: Item<K>> Shared<'g, K, W> {
         from: usize,
     )
         requires { pass.old.queue ≡ queue.now.id }
-        ensures { Proceeds queue.now.id pass.new.queue seat.old seat.new
+        ensures proceeds { Proceeds queue.now.id pass.new.queue seat.old seat.new
             self.old.hall.core self.new.hall.core }
+        ensures halted { self.new.halted ≡ self.old.halted }
     {
         self.hall.sweep(seat);
         put_after(
@@ -128,8 +138,10 @@ impl<'g, K: Drop, W: Item<K>> Shared<'g, K, W> {
         act: Act,
     ) -> bool
         requires { pass.old.queue ≡ queue.now.id }
-        ensures { Proceeds queue.now.id pass.new.queue seat.old seat.new
+        ensures proceeds { Proceeds queue.now.id pass.new.queue seat.old seat.new
             self.old.hall.core self.new.hall.core }
+        ensures exact { IsTrue result ↔ MayDo self.old.hall.core seat.old act }
+        ensures halted { self.new.halted ≡ self.old.halted }
     {
         let from = seat.mine().len();
         match self.hall.step(seat, act) {
@@ -152,8 +164,10 @@ impl<'g, K: Drop, W: Item<K>> Shared<'g, K, W> {
         receipt: Receipt<K>,
     ) -> bool
         requires { pass.old.queue ≡ queue.now.id }
-        ensures { Proceeds queue.now.id pass.new.queue seat.old seat.new
+        ensures proceeds { Proceeds queue.now.id pass.new.queue seat.old seat.new
             self.old.hall.core self.new.hall.core }
+        ensures exact { IsTrue result ↔ MayAnswer self.old.hall.core seat.old task receipt }
+        ensures halted { self.new.halted ≡ self.old.halted }
     {
         let from = seat.mine().len();
         match self.hall.worked(seat, task, receipt) {
@@ -177,6 +191,7 @@ impl<'g, K: Drop, W: Item<K>> Shared<'g, K, W> {
         requires { pass.old.queue ≡ queue.now.id }
         ensures pass { pass.new.queue ≡ queue.now.id }
         ensures hall { self.new.hall.core ≡ self.old.hall.core }
+        ensures halted { self.new.halted ≡ self.old.halted }
     {
         let kept = self.stock.take_kept(actor);
         if kept.is_some() {
@@ -193,8 +208,7 @@ impl<'g, K: Drop, W: Item<K>> Shared<'g, K, W> {
     /// Whether the worker's work ends here: where the session is halted, or else the run complete.
     pub(crate) fn end_of(&self) -> Option<Ended>
         ensures may { IfSome result (λ ended. MayEnd ended self.now.hall.core) }
-        ensures order { let j = self.now.hall.core in IsEnd result self.now.halted (Complete j.graph
-            j.inputs j.events) }
+        ensures order { IsEnd result self.now.halted (IsDone self.now.hall.core) }
     {
         if self.halted {
             return Some(Ended::Halted);
@@ -206,12 +220,13 @@ impl<'g, K: Drop, W: Item<K>> Shared<'g, K, W> {
     }
 
     /// What a worker holds that has no task: a job that was kept for it, if there is one.
-    pub(crate) fn hand_on(&mut self, actor: Actor) -> Hand<K>
-        ensures { self.new.hall.core ≡ self.old.hall.core }
+    pub(crate) fn hand_on(&mut self, actor: Actor) -> Held
+        ensures hall { self.new.hall.core ≡ self.old.hall.core }
+        ensures halted { self.new.halted ≡ self.old.halted }
     {
         match self.stock.take_kept(actor) {
-            Some(task) => Hand::Taken(task),
-            None => Hand::Free,
+            Some(task) => Held::Taken(task),
+            None => Held::Free,
         }
     }
 

@@ -1,52 +1,69 @@
 //! A worker's locked section, from what it brings to what it does next.
 
-ghost use Rattle.std.specs.Prelude.{◌≡◌, true, IfNone};
+ghost use Rattle.std.specs.Prelude.{◌≡◌, map};
+ghost use Rattle.tpl_hall.specs.Moves.{MayAnswer};
 ghost use Rattle.tpl_hall.specs.Stays.{Stays, MayEnd, Leaves};
 ghost use Rattle.tpl_hall.specs.Views.{SeatView};
 ghost use Rattle.tpl_hall.specs.declared.sight.Ended.TheVariants.{Stray};
 ghost use Rattle.tpl_runtime.specs.declared.shared.Turn.TheVariants.{Over};
-ghost use Rattle.tpl_runtime.specs.Turns.{OnOver, IfOver, EndsInOrder, MayTurn, Proceeds};
+ghost use Rattle.tpl_runtime.specs.Turns.{OnOver, IfOver, IsDone, IsBrought, IsPlayed, MayTurn, Proceeds, Turns};
 
 use crate::queue::{ItemPass, ItemQueue};
-use crate::shared::{Hand, Shared, Turn, is_worker};
+use crate::shared::{Hand, Held, Shared, Turn, is_worker};
 use std::sync::Wait;
 use tpl_graph::Graph;
 use tpl_hall::{Ended, Seat, Stint};
 use tpl_items::Item;
-use tpl_words::Inputs;
+use tpl_jobs::Receipt;
+use tpl_words::{Inputs, TaskId};
 
 impl<'g, K: Drop, W: Item<K>> Shared<'g, K, W> {
-    /// Does the Worked event of a receipt that a worker brings, and what is due where it comes for the first time: it then
-    /// holds a job that was kept for it, if there is one. Returns what the worker holds, and whether something was done;
-    /// nothing where the receipt was refused.
+    /// A worker's first section: what is due, and then the test whether its work ends here. It holds a job that was kept
+    /// for it, if there is one.
+    fn come<R: Wait>(
+        &mut self,
+        rt: &R,
+        queue: &ItemQueue<W>,
+        pass: &mut ItemPass<W>,
+        seat: &mut Seat,
+    ) -> Turn<W>
+        requires { pass.old.queue ≡ queue.now.id }
+        ensures proceeds { Proceeds queue.now.id pass.new.queue seat.old seat.new
+            self.old.hall.core self.new.hall.core }
+        ensures plays { IsBrought result (Unit {0}) self.old.halted self.new.halted
+            (IsDone self.new.hall.core) }
+    {
+        self.enter(rt, queue, pass, seat);
+        match self.end_of() {
+            Some(ended) => Turn::Over(ended),
+            None => Turn::Go(self.hand_on(seat.actor())),
+        }
+    }
+
+    /// Does the Worked event of a receipt that a worker brings, and what is due after it, and then tests whether its work
+    /// ends here. The session is halted where the receipt is refused.
     fn bring<R: Wait>(
         &mut self,
         rt: &R,
         queue: &ItemQueue<W>,
         pass: &mut ItemPass<W>,
         seat: &mut Seat,
-        hand: Hand<K>,
-    ) -> Option<(Hand<K>, bool)>
+        task: TaskId,
+        receipt: Receipt<K>,
+    ) -> Turn<W>
         requires { pass.old.queue ≡ queue.now.id }
         ensures proceeds { Proceeds queue.now.id pass.new.queue seat.old seat.new
             self.old.hall.core self.new.hall.core }
-        ensures refused { IfNone result (self.new.halted ≡ true) }
+        ensures plays { IsBrought result (MayAnswer self.old.hall.core seat.old task receipt)
+            self.old.halted self.new.halted (IsDone self.new.hall.core) }
     {
-        match hand {
-            Hand::Called(task, receipt) => {
-                if self.answer(rt, queue, pass, seat, task, receipt) {
-                    return Some((Hand::Running(task), true));
-                }
-                self.halt();
-                None
-            }
-            Hand::New => {
-                self.enter(rt, queue, pass, seat);
-                Some((self.hand_on(seat.actor()), true))
-            }
-            Hand::Free => Some((Hand::Free, false)),
-            Hand::Taken(task) => Some((Hand::Taken(task), false)),
-            Hand::Running(task) => Some((Hand::Running(task), false)),
+        if !self.answer(rt, queue, pass, seat, task, receipt) {
+            self.halt();
+            return Turn::Over(Ended::Stray);
+        }
+        match self.end_of() {
+            Some(ended) => Turn::Over(ended),
+            None => Turn::Go(Held::Running(task)),
         }
     }
 
@@ -59,28 +76,28 @@ impl<'g, K: Drop, W: Item<K>> Shared<'g, K, W> {
         pass: &mut ItemPass<W>,
         seat: &mut Seat,
         hand: Hand<K>,
-    ) -> Turn<K, W>
+    ) -> Turn<W>
         requires { pass.old.queue ≡ queue.now.id }
         ensures proceeds { Proceeds queue.now.id pass.new.queue seat.old seat.new
             self.old.hall.core self.new.hall.core }
         ensures over { IfOver result (λ ended. MayEnd ended self.new.hall.core) }
-        ensures order { IfOver result (λ ended. EndsInOrder ended self.new.halted) }
+        ensures plays { IsPlayed hand result seat.old (map W.site self.old.stock.items)
+            self.old.hall.core self.new.hall.core self.old.halted self.new.halted }
     {
-        let Some((held, done)) = self.bring(rt, queue, pass, seat, hand) else {
-            return Turn::Over(Ended::Stray);
-        };
-        if let Some(ended) = self.end_of() {
-            return Turn::Over(ended);
+        match hand {
+            Hand::New => self.come(rt, queue, pass, seat),
+            Hand::Called(task, receipt) => self.bring(rt, queue, pass, seat, task, receipt),
+            Hand::With(held) => match self.end_of() {
+                Some(ended) => Turn::Over(ended),
+                None => self.next(rt, queue, pass, seat, held),
+            },
         }
-        if done {
-            return Turn::Go(held);
-        }
-        self.next(rt, queue, pass, seat, held)
     }
 
     /// One section of a worker's work. A seat that is stray comes first, then a receipt that is refused, then a session
-    /// that is halted, then a run that is complete. The seat is compared with the run where it comes for the first time and where its
-    /// work ends; between them it is enough that the run has not become shorter.
+    /// that is halted, then a run that is complete, and last a task that went on without its worker. The seat is compared
+    /// with the run where it comes for the first time and where its work ends; between them it is enough that the run has
+    /// not become shorter.
     pub fn turn<R: Wait>(
         &mut self,
         rt: &R,
@@ -91,7 +108,7 @@ impl<'g, K: Drop, W: Item<K>> Shared<'g, K, W> {
         seat: &mut Seat,
         stint: &mut Stint,
         hand: Hand<K>,
-    ) -> Turn<K, W>
+    ) -> Turn<W>
         requires { pass.old.queue ≡ queue.now.id }
         ensures pass { pass.new.queue ≡ queue.now.id }
         ensures actor { seat.new.actor ≡ seat.old.actor }
@@ -100,7 +117,9 @@ impl<'g, K: Drop, W: Item<K>> Shared<'g, K, W> {
             (Stays stint.new first seat.new) }
         ensures stray { (MayTurn stint.old.seen self.old.hall.core graph.now inputs.now seat.old → ⊥)
             → result ≡ Over Stray }
-        ensures order { IfOver result (λ ended. EndsInOrder ended self.new.halted) }
+        ensures plays { MayTurn stint.old.seen self.old.hall.core graph.now inputs.now seat.old
+            → Turns hand result graph.now inputs.now seat.old (map W.site self.old.stock.items)
+            self.old.hall.core self.new.hall.core self.old.halted self.new.halted }
     {
         if !is_worker(seat.actor()) || !self.hall.goes_on(graph, inputs, seat, *stint) {
             seat.stray(*stint);
@@ -109,7 +128,7 @@ impl<'g, K: Drop, W: Item<K>> Shared<'g, K, W> {
         let turn = self.play(rt, queue, pass, seat, hand);
         stint.seen = Some(self.hall.len());
         match turn {
-            Turn::Go(hand) => Turn::Go(hand),
+            Turn::Go(held) => Turn::Go(held),
             Turn::Call(task, item) => Turn::Call(task, item),
             Turn::Wait => Turn::Wait,
             Turn::Over(ended) => {

@@ -3,21 +3,21 @@ use Rattle.tpl_hall.proofs.MoveLemmas.{moves_one, moves_none, moves_trans}
 use Rattle.tpl_hall.specs.Views.{SeatView}
 use Rattle.tpl_runtime.proofs.shared.Shared.act.Goals as goal
 
-pub returns-in-Ok : goal.returns-in-Ok
-returns-in-Ok g c =
+pub returns-in-Ok-clause-proceeds : goal.returns-in-Ok-clause-proceeds
+returns-in-Ok-clause-proceeds g c =
     let ok = c.in-Ok.ensures in
     let was = c.args.self.now.hall.core in
     let done = c.step.new.self.core in
     record {
-      pass = c.finish.ensures.pass;
+      pass = c.finish.ensures.proceeds.pass;
       moves = moves_trans c.args.seat.now c.step.new.seat c.finish.new.seat was done c.finish.new.self.hall.core
           (moves_one c.args.seat.now c.step.new.seat was done c.args.act c.in-Ok._place ok.run ok.place ok.seat)
-          c.finish.ensures.moves;
-      last = c.finish.ensures.last ∙ ap (λ (s : SeatView). s.last) ok.seat;
+          c.finish.ensures.proceeds.moves;
+      last = c.finish.ensures.proceeds.last ∙ ap (λ (s : SeatView). s.last) ok.seat;
     }
 
-pub returns-in-Err : goal.returns-in-Err
-returns-in-Err g c =
+pub returns-in-Err-clause-proceeds : goal.returns-in-Err-clause-proceeds
+returns-in-Err-clause-proceeds g c =
     let same = c.in-Err.ensures.refused in
     record {
       pass = c.requires;

@@ -1,8 +1,8 @@
 use Rattle.tpl_hall.proofs.MoveLemmas.{moves_sweep}
 use Rattle.tpl_runtime.proofs.shared.Shared.enter.Goals as goal
 
-pub returns : goal.returns
-returns g c =
+pub returns-clause-proceeds : goal.returns-clause-proceeds
+returns-clause-proceeds g c =
     let s = c.sweep.ensures in
     record {
       pass = c.put_all.ensures;

@@ -1,4 +1,8 @@
+use Rattle.std.proofs.Common.{refl, sym, subst, None}
+use Rattle.tpl_hall.specs.Stays.{MayGoOn}
 use Rattle.tpl_hall.proofs.StayLemmas.{goes_on_moved}
+use Rattle.tpl_runtime.specs.Turns.{IsTurnOf}
+use Rattle.tpl_runtime.specs.declared.shared.Turn.TheVariants.{Go, Call, Wait, Over}
 use Rattle.tpl_runtime.proofs.TurnLemmas.{stays_on}
 use Rattle.tpl_runtime.proofs.shared.Shared.turn.Goals as goal
 
@@ -29,3 +33,55 @@ returns-in-Over-clause-stays g c = λ first stays.
 
 pub returns-then-not-is_worker-clause-stays : goal.returns-then-not-is_worker-clause-stays
 returns-then-not-is_worker-clause-stays g c = λ first stays. c.stray.ensures.left first stays c.args.graph.now.graph c.args.inputs.now
+
+pub returns-in-Go-clause-plays : goal.returns-in-Go-clause-plays
+returns-in-Go-clause-plays g c = λ may.
+    let done = c.play-turn.ensures in
+    let left = c.play-turn.new.seat in
+    record {
+      played = c.play-turn.result;
+      left = left;
+      is_played = done.plays;
+      moves = done.proceeds.moves;
+      last = done.proceeds.last;
+      turns = subst (λ t. IsTurnOf t (Go c.in-Go.held) (MayGoOn None c.play-turn.new.self.hall.core c.args.graph.now c.args.inputs.now left)) (sym c.in-Go.is) refl;
+    }
+
+pub returns-in-Call-clause-plays : goal.returns-in-Call-clause-plays
+returns-in-Call-clause-plays g c = λ may.
+    let done = c.play-turn.ensures in
+    let left = c.play-turn.new.seat in
+    record {
+      played = c.play-turn.result;
+      left = left;
+      is_played = done.plays;
+      moves = done.proceeds.moves;
+      last = done.proceeds.last;
+      turns = subst (λ t. IsTurnOf t (Call c.in-Call.task c.in-Call.item) (MayGoOn None c.play-turn.new.self.hall.core c.args.graph.now c.args.inputs.now left)) (sym c.in-Call.is) refl;
+    }
+
+pub returns-in-Wait-clause-plays : goal.returns-in-Wait-clause-plays
+returns-in-Wait-clause-plays g c = λ may.
+    let done = c.play-turn.ensures in
+    let left = c.play-turn.new.seat in
+    record {
+      played = c.play-turn.result;
+      left = left;
+      is_played = done.plays;
+      moves = done.proceeds.moves;
+      last = done.proceeds.last;
+      turns = subst (λ t. IsTurnOf t Wait (MayGoOn None c.play-turn.new.self.hall.core c.args.graph.now c.args.inputs.now left)) (sym c.in-Wait.is) refl;
+    }
+
+pub returns-in-Over-clause-plays : goal.returns-in-Over-clause-plays
+returns-in-Over-clause-plays g c = λ may.
+    let done = c.play-turn.ensures in
+    let left = c.play-turn.new.seat in
+    record {
+      played = c.play-turn.result;
+      left = left;
+      is_played = done.plays;
+      moves = done.proceeds.moves;
+      last = done.proceeds.last;
+      turns = subst (λ t. IsTurnOf t (Over c.let_go.result) (MayGoOn None c.play-turn.new.self.hall.core c.args.graph.now c.args.inputs.now left)) (sym c.in-Over.is) (c.let_go.result, refl, c.let_go.ensures.ended);
+    }
