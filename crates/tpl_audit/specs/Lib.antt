@@ -1,2 +1,3 @@
 pub mod Audit
+pub mod Ending
 pub mod Watching

@@ -9,6 +9,7 @@ use Rattle.tpl_reader.specs.Document.{DocumentValue, Spells}
 use Rattle.tpl_commands.specs.declared.exit.Exit.TheVariants.{Success}
 use Rattle.tpl_commands.specs.Auditing.{Audits, IsAuditOf}
 use Rattle.tpl_commands.specs.Documents.{Tells}
+use Rattle.tpl_commands.specs.Recorded.{times_of}
 use Rattle.tpl_commands.specs.Responding.{Answers}
 use Rattle.tpl_reader.specs.Starting.{inputs_of}
 use Rattle.tpl_trace.specs.declared.answering.Journal.{Journal}
@@ -27,11 +28,11 @@ abbrev pub IsJournalOf : DocumentValue → Journal → Type 0
 IsJournalOf doc (Run events) = HasRun doc events.items × All (CanSpell doc.graph.graph) events.items
 IsJournalOf doc (Other audit) = IsAuditOf doc audit × ((events : List Event) → HasRun doc events → ⊥)
 
--- the journal is a run, and this is its trace
+-- the journal is a run, and this is its trace, with the times that the document gives
 pub record IsTraced (doc : DocumentValue) (text : List ℕ) : Type 0 where
   pub events : List Event
   pub run : HasRun doc events
-  pub said : text ≡ trace_text doc.graph events
+  pub said : text ≡ trace_text doc.graph (times_of doc) events
 
 -- the bytes spell no document whose journal is a run
 abbrev pub SpellsNoRun : List ℕ → Type 0
