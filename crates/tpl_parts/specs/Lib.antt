@@ -1,3 +1,4 @@
+pub mod Versions
 pub mod NamedClaims
 pub mod SeenClaims
 pub mod Claims

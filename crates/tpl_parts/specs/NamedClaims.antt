@@ -5,6 +5,10 @@ use Rattle.tpl_words.specs.declared.finals.Finals.{Finals}
 pub data NamedGiven : Type 0 where
   GivenInput : (input : List ℕ) → (value : Bool) → NamedGiven
   GivenQuiet : (token : List ℕ) → NamedGiven
+  GivenEnded : (task : List ℕ) → (finals : Finals) → NamedGiven
+  GivenSucceeds : (site : List ℕ) → NamedGiven
+  GivenNoFailure : NamedGiven
+  GivenNoRequest : NamedGiven
 
 pub data NamedProperty : Type 0 where
   EndsIn : (task : List ℕ) → (finals : Finals) → NamedProperty
@@ -12,6 +16,7 @@ pub data NamedProperty : Type 0 where
   Observed : (task : List ℕ) → NamedProperty
   Never : (task : List ℕ) → NamedProperty
   Excludes : (first : List ℕ) → (second : List ℕ) → NamedProperty
+  Runs : (task : List ℕ) → NamedProperty
 
 pub record NamedClaim : Type 0 where
   pub given : List NamedGiven

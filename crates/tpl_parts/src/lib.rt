@@ -7,8 +7,10 @@ mod named;
 mod start;
 mod statements;
 mod tasks;
+mod version;
 
 pub use claims::claim_of;
 pub use named::{NamedClaim, NamedGiven, NamedProperty, NamedStart};
 pub use start::{has_truths, start_or_none};
 pub use tasks::{task_of, token_of};
+pub use version::Version;

@@ -1,5 +1,6 @@
 -- Of bytes that spell a document no fault is true.
 use Rattle.std.proofs.Common.{◌≡◌, ℕ, zero, suc, ◌-◌, ◌<◌, inl, inr, List, [], ◌∷◌, map, Bool, true, Option, Some, None, is_some, refl, sym, ap, subst, ◌∙◌, arith, true≢false}
+use Rattle.std.specs.Prelude.{◌||◌, false, filter}
 use Rattle.std.specs.Prelude.{slice_get}
 use Rattle.std.specs.List.{list_all}
 use Rattle.tpl_cert.proofs.OneTree.{chain_same}
@@ -17,10 +18,11 @@ use Rattle.tpl_cert.specs.declared.fault.TreeFault.{TreeFault}
 use Rattle.tpl_cert.specs.declared.fault.TreeFault.TheVariants as trees
 use Rattle.tpl_cert.specs.Laws.{ReadHasNoFault}
 use Rattle.tpl_cert.specs.Spelled.{ReadsAs, IsWrongTree}
+use Rattle.tpl_parts.specs.declared.version.Version.{Version}
 use Rattle.tpl_parts.specs.NamedClaims.{NamedClaim}
 use Rattle.tpl_parts.specs.Start.{NamedStart}
 use Rattle.tpl_reader.specs.Begin.{StartValue, may_all_fail, IsStartOf, IsWrongStart}
-use Rattle.tpl_reader.specs.Asked.{given_in, knows_claim, IsClaimOf, IsAsked, IsWrongClaim}
+use Rattle.tpl_reader.specs.Asked.{given_in, is_single, says_twice, knows_claim, IsClaimOf, IsAsked, IsWrongClaim}
 use Rattle.tpl_reader.specs.Top.{Members}
 use Rattle.tpl_parts.specs.TaskGrammar.{IsTask, IsNoTask}
 use Rattle.tpl_parts.specs.ClaimGrammar.{IsClaim, IsNoClaim}
@@ -62,7 +64,7 @@ well_shaped d s is (part.Task n) wrong =
     none_wrong IsTask IsNoTask is.members.tasks s.draft.tasks n tt (λ c x r no. no x r) is.tasks (subst (λ (m : Members). FirstWrong IsTask IsNoTask m.tasks n tt) same wrong.2)
 well_shaped d s is (part.Claim n) wrong =
     let same : wrong.0 ≡ is.members = top_same d wrong.0 is.members wrong.1 is.top in
-    none_wrong IsClaim IsNoClaim is.members.claims s.claims n tt (λ c x r no. no x r) is.claims (subst (λ (m : Members). FirstWrong IsClaim IsNoClaim m.claims n tt) same wrong.3)
+    none_wrong (IsClaim is.members.version) (IsNoClaim is.members.version) is.members.claims s.claims n tt (λ c x r no. no x r) is.claims (subst (λ (m : Members). FirstWrong (IsClaim m.version) (IsNoClaim m.version) m.claims n tt) same wrong.3)
 well_shaped d s is part.Start wrong =
     let same : wrong.0 ≡ is.members = top_same d wrong.0 is.members wrong.1 is.top in
     subst (λ (m : Members). IsNoStart m.start) same wrong.4 s.start is.start
@@ -101,7 +103,11 @@ all_known f (x ∷ xs) (y ∷ ys) e = rw (first_is (f x) (map f xs) y (map (λ y
     rest_is o os y ys e = cc
 
 claim_known : (n : Names) (s : NamedClaim) (claim : Claim) → IsClaimOf n s claim → knows_claim n s ≡ true
-claim_known n s claim is = rw (all_known (given_in n) s.given claim.given is.given, is.body) refl
+claim_known n s claim is = rw (all_known (given_in n) (filter is_single s.given) is.singles is.are_singles, is.body) refl
+
+both_false : (a b : Bool) → a ≡ false → b ≡ false → (a || b) ≡ false
+both_false true b e f = e
+both_false false b e f = f
 
 right_claim : (g : Named) (s : NamedClaim) (claim : Claim) (f : ClaimFault) → IsAsked g s claim → IsWrongClaim g s f → ⊥
 right_claim g s claim claims.TooMany is wrong = wrong
@@ -109,11 +115,11 @@ right_claim g s claim claims.Unknown is wrong = true≢false (sym (claim_known g
 right_claim g s claim claims.NoBody is wrong =
     true≢false (sym is.fits.bodies ∙ ap (λ (c : Claim). have_bodies g.graph c.body) (claim_of_same g.names s claim wrong.0 is.named wrong.1) ∙ wrong.2)
 right_claim g s claim claims.GivenTwice is wrong =
-    true≢false (sym wrong.3 ∙ ap (λ (c : Claim). given_twice c.given) (claim_of_same g.names s wrong.0 claim wrong.1 is.named) ∙ is.fits.once)
+    true≢false (sym wrong.3 ∙ ap (λ (c : Claim). given_twice c.given || says_twice s.given) (claim_of_same g.names s wrong.0 claim wrong.1 is.named) ∙ both_false (given_twice claim.given) (says_twice s.given) is.fits.once is.once)
 
-right_claims : (g : Named) (ss : List NamedClaim) (xs : List Claim) (n : ℕ) (f : ClaimFault) → AreAsked g ss xs → IsRefusedClaim g ss n f → ⊥
-right_claims g ss xs n f asked (inl many) = let few = asked.few in let more = many.0 in omega arith
-right_claims g ss xs n f asked (inr first) = none_wrong (IsAsked g) (IsWrongClaim g) ss xs n f (λ s x is wrong. right_claim g s x f is wrong) asked.each first.1
+right_claims : (v : Version) (g : Named) (ss : List NamedClaim) (xs : List Claim) (n : ℕ) (f : ClaimFault) → AreAsked v g ss xs → IsRefusedClaim v g ss n f → ⊥
+right_claims v g ss xs n f asked (inl many) = let few = asked.few in let more = many.0 in omega arith
+right_claims v g ss xs n f asked (inr first) = none_wrong (IsAsked g) (IsWrongClaim g) ss xs n f (λ s x is wrong. right_claim g s x f is wrong) asked.each first.1
 
 -- ---- the start
 
@@ -140,7 +146,7 @@ no_memory f is e = subst IsNoMemory e is
 module _ (faultless : ReadHasNoFault) (s : Spelled) (doc : DocumentValue) (is : IsDocument s doc) where
   not_refused : (e : ReadFault) → IsRefused s e → e ≡ faults.Memory
   not_refused (faults.Graph f) wrong = absurd (valid_graph s.draft is.valid f wrong)
-  not_refused (faults.Claim n f) wrong = absurd (right_claims (numbered s.draft) s.claims doc.claims n f (subst (λ (g : Named). AreAsked g s.claims doc.claims) is.graph is.claims) wrong.1)
+  not_refused (faults.Claim n f) wrong = absurd (right_claims s.version (numbered s.draft) s.claims doc.claims n f (subst (λ (g : Named). AreAsked s.version g s.claims doc.claims) is.graph is.claims) wrong.1)
   not_refused (faults.Certificate n f) wrong =
       let g = numbered s.draft in
       absurd (none_wrong (ReadsAs g.names) (IsWrongTree g.names) s.certificate doc.certificate n f (λ d t reads no. no_memory f wrong.2.0 (faultless g.names d t f reads no)) (subst (λ (g : Named). AllRead (ReadsAs g.names) s.certificate doc.certificate) is.graph is.certificate) wrong.2.1)

@@ -1,6 +1,7 @@
 pub mod Lookups
 pub mod Passes
 pub mod Asking
+pub mod Singles
 pub mod Shapes
 pub mod Begins
 pub mod Refusals

@@ -21,7 +21,7 @@ graph_refused s (faults.Claim n f) h = absurd h
 graph_refused s (faults.Certificate n f) h = absurd h
 graph_refused s (faults.Start f) h = absurd h
 
-pub claim_refused : (s : Spelled) (g : Named) (e : ReadFault) → IsValid s.draft → g ≡ numbered s.draft → ClaimFaults g s.claims e → IsRefused s e
+pub claim_refused : (s : Spelled) (g : Named) (e : ReadFault) → IsValid s.draft → g ≡ numbered s.draft → ClaimFaults s.version g s.claims e → IsRefused s e
 claim_refused s g (faults.Claim n f) v is h = (v, rw is at h)
 claim_refused s g faults.Memory v is h = tt
 claim_refused s g faults.TooLong v is h = absurd h
@@ -31,7 +31,7 @@ claim_refused s g (faults.Graph f) v is h = absurd h
 claim_refused s g (faults.Certificate n f) v is h = absurd h
 claim_refused s g (faults.Start f) v is h = absurd h
 
-pub tree_refused : (s : Spelled) (g : Named) (cs : List Claim) (e : ReadFault) → IsValid s.draft → g ≡ numbered s.draft → AreAsked g s.claims cs → TreeFaults g s.certificate e → IsRefused s e
+pub tree_refused : (s : Spelled) (g : Named) (cs : List Claim) (e : ReadFault) → IsValid s.draft → g ≡ numbered s.draft → AreAsked s.version g s.claims cs → TreeFaults g s.certificate e → IsRefused s e
 tree_refused s g cs (faults.Certificate n f) v is c h = (v, (cs, rw is at c), rw is at h)
 tree_refused s g cs faults.Memory v is c h = tt
 tree_refused s g cs faults.TooLong v is c h = absurd h
@@ -41,7 +41,7 @@ tree_refused s g cs (faults.Graph f) v is c h = absurd h
 tree_refused s g cs (faults.Claim n f) v is c h = absurd h
 tree_refused s g cs (faults.Start f) v is c h = absurd h
 
-pub start_refused : (s : Spelled) (g : Named) (cs : List Claim) (ts : List Tree) (e : ReadFault) → IsValid s.draft → g ≡ numbered s.draft → AreAsked g s.claims cs → AllRead (ReadsAs g.names) s.certificate ts → StartFaults g s.start e → IsRefused s e
+pub start_refused : (s : Spelled) (g : Named) (cs : List Claim) (ts : List Tree) (e : ReadFault) → IsValid s.draft → g ≡ numbered s.draft → AreAsked s.version g s.claims cs → AllRead (ReadsAs g.names) s.certificate ts → StartFaults g s.start e → IsRefused s e
 start_refused s g cs ts (faults.Start f) v is c t h = (v, (cs, rw is at c), (ts, rw is at t), rw is at h)
 start_refused s g cs ts faults.Memory v is c t h = tt
 start_refused s g cs ts faults.TooLong v is c t h = absurd h

@@ -8,9 +8,12 @@ use Rattle.tpl_json.specs.Grammar.{IfThere, IsTexts}
 use Rattle.tpl_json.proofs.Arrays.{bind_some, some_is, each_empty, each_nothing}
 use Rattle.tpl_json.proofs.Json.{some, some_none, only_is, string_is, texts_are, texts_read}
 use Rattle.tpl_parts.specs.Tasks.{token_at}
-use Rattle.tpl_reader.specs.Top.{Members, links_in, version_at, text_or_empty, top_at}
+use Rattle.tpl_parts.specs.declared.version.Version.{Version}
+use Rattle.tpl_parts.specs.declared.version.Version.TheVariants.{One, Two, Three}
+use Rattle.tpl_parts.specs.Versions.{has_links}
+use Rattle.tpl_reader.specs.Top.{Members, version_in, version_at, text_or_empty, top_at}
 use Rattle.tpl_parts.specs.TaskGrammar.{IsToken}
-use Rattle.tpl_reader.specs.TopGrammar.{version_with, IsTop}
+use Rattle.tpl_reader.specs.TopGrammar.{version_number, IsTop}
 use Rattle.tpl_parts.proofs.ClaimLaws.{list_sound, list_read}
 use Rattle.tpl_parts.proofs.TaskLaws.{token_sound, token_read}
 
@@ -29,28 +32,30 @@ number_is (string s) x e = absurd cc
 number_is (array ds) x e = absurd cc
 number_is (object ms) x e = absurd cc
 
-version_choice : (a b : Bool) (n : ℕ) (links : Bool) → (a ≡ true → n ≡ 1) → (b ≡ true → n ≡ 2) → cond a (Some false) (cond b (Some true) None) ≡ Some links → n ≡ version_with links
-version_choice true b n links p q e = p refl ∙ ap version_with (some_is false links e)
-version_choice false true n links p q e = q refl ∙ ap version_with (some_is true links e)
-version_choice false false n links p q e = absurd cc
+version_choice : (a b c : Bool) (n : ℕ) (v : Version) → (a ≡ true → n ≡ 1) → (b ≡ true → n ≡ 2) → (c ≡ true → n ≡ 3) → cond a (Some One) (cond b (Some Two) (cond c (Some Three) None)) ≡ Some v → n ≡ version_number v
+version_choice true b c n v p q r e = p refl ∙ ap version_number (some_is One v e)
+version_choice false true c n v p q r e = q refl ∙ ap version_number (some_is Two v e)
+version_choice false false true n v p q r e = r refl ∙ ap version_number (some_is Three v e)
+version_choice false false false n v p q r e = absurd cc
 
-version_sound : (d : Data) (links : Bool) → version_at d ≡ Some links → get (codes "version") d ≡ Some (number (unsigned (version_with links)))
-unfolding version_at links_in
-version_sound d links e =
-    let a = bind_some (option_and_then as_u64 (option_and_then as_number (get (codes "version") d))) links_in links e in
+version_sound : (d : Data) (v : Version) → version_at d ≡ Some v → get (codes "version") d ≡ Some (number (unsigned (version_number v)))
+unfolding version_at version_in
+version_sound d v e =
+    let a = bind_some (option_and_then as_u64 (option_and_then as_number (get (codes "version") d))) version_in v e in
     let b = bind_some (option_and_then as_number (get (codes "version") d)) as_u64 a.0 a.1 in
     let c = bind_some (get (codes "version") d) as_number b.0 b.1 in
     c.1 ∙ ap (λ (x : Data). some x) (number_is c.0 b.0 c.2) ∙ ap (λ (x : Num). some (number x)) (unsigned_is b.0 a.0 b.2)
-    ∙ ap (λ (x : ℕ). some (number (unsigned x))) (version_choice (a.0 == 1) (a.0 == 2) a.0 links (eqb-true a.0 1) (eqb-true a.0 2) a.2)
+    ∙ ap (λ (x : ℕ). some (number (unsigned x))) (version_choice (a.0 == 1) (a.0 == 2) (a.0 == 3) a.0 v (eqb-true a.0 1) (eqb-true a.0 2) (eqb-true a.0 3) a.2)
 
-links_read : (links : Bool) → links_in (version_with links) ≡ Some links
-unfolding links_in
-links_read false = refl
-links_read true = refl
+number_read : (v : Version) → version_in (version_number v) ≡ Some v
+unfolding version_in
+number_read One = refl
+number_read Two = refl
+number_read Three = refl
 
-version_read : (d : Data) (links : Bool) → get (codes "version") d ≡ Some (number (unsigned (version_with links))) → version_at d ≡ Some links
+version_read : (d : Data) (v : Version) → get (codes "version") d ≡ Some (number (unsigned (version_number v))) → version_at d ≡ Some v
 unfolding version_at
-version_read d links e = rw e (links_read links)
+version_read d v e = rw e (number_read v)
 
 -- ---- lists and texts that may be left out
 
@@ -97,19 +102,18 @@ top_sound d m e =
     let c = bind_some (list_or_none (get (codes "inputs") d)) _ m b.2 in
     let f = bind_some (each as_str c.0) _ m c.2 in
     let g = bind_some (list_or_none (get (codes "tokens") d)) _ m f.2 in
-    let h = bind_some (each (token_at b.0) g.0) _ m g.2 in
+    let h = bind_some (each (token_at (has_links b.0)) g.0) _ m g.2 in
     let i = bind_some (get (codes "tasks") d >>= list_in) _ m h.2 in
     let j = bind_some (list_or_none (get (codes "claims") d)) _ m i.2 in
     let k = bind_some (list_or_none (get (codes "certificate") d)) _ m j.2 in
     let l = bind_some (text_or_empty (get (codes "journal") d)) _ m k.2 in
     let tasks = bind_some (get (codes "tasks") d) list_in i.0 i.1 in
-    subst (λ (x : Members). IsTop d x) (some_is (record { inputs = f.0; tokens = h.0; tasks = i.0; claims = j.0; certificate = k.0; journal = l.0; start = get (codes "start") d }) m l.2)
+    subst (λ (x : Members). IsTop d x) (some_is (record { version = b.0; inputs = f.0; tokens = h.0; tasks = i.0; claims = j.0; certificate = k.0; journal = l.0; start = get (codes "start") d }) m l.2)
     (record {
       only = only_is _ _ a.1;
-      links = b.0;
       version = version_sound d b.0 b.1;
       inputs = names_there (get (codes "inputs") d) c.0 f.0 c.1 f.1;
-      tokens = list_sound (token_at b.0) (IsToken b.0) (token_sound b.0) (get (codes "tokens") d) g.0 h.0 g.1 h.1;
+      tokens = list_sound (token_at (has_links b.0)) (IsToken (has_links b.0)) (token_sound (has_links b.0)) (get (codes "tokens") d) g.0 h.0 g.1 h.1;
       tasks = tasks;
       claims = elements_there (get (codes "claims") d) j.0 j.1;
       certificate = elements_there (get (codes "certificate") d) k.0 k.1;
@@ -121,10 +125,11 @@ pub top_read : (d : Data) (m : Members) → IsTop d m → top_at d ≡ Some m
 unfolding top_at
 top_read d m is =
     let inputs = names_back (get (codes "inputs") d) m.inputs is.inputs in
-    let tokens = list_read (token_at is.links) (IsToken is.links) (token_read is.links) (get (codes "tokens") d) m.tokens is.tokens in
+    let links = has_links m.version in
+    let tokens = list_read (token_at links) (IsToken links) (token_read links) (get (codes "tokens") d) m.tokens is.tokens in
     rw (
       is.only,
-      version_read d is.links is.version,
+      version_read d m.version is.version,
       inputs.1,
       inputs.2,
       tokens.1,

@@ -8,6 +8,7 @@ use Rattle.tpl_reader.specs.Top.{Members}
 
 abbrev pub members_of : declared.Members → Members
 members_of m = record {
+  version = m.version;
   inputs = map string_bytes m.inputs.items;
   tokens = map token_of m.tokens.items;
   tasks = map view m.tasks.now;

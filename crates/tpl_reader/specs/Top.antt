@@ -4,10 +4,14 @@ use Rattle.serde_json.specs.Data.{Data}
 use Rattle.serde_json.specs.Find.{get, as_str, as_number, as_u64}
 use Rattle.tpl_json.specs.Members.{◌>>=◌, only_if, has_only, list_in, list_or_none, each}
 use Rattle.tpl_draft.specs.Draft.{Token}
+use Rattle.tpl_parts.specs.declared.version.Version.{Version}
+use Rattle.tpl_parts.specs.declared.version.Version.TheVariants.{One, Two, Three}
+use Rattle.tpl_parts.specs.Versions.{has_links}
 use Rattle.tpl_parts.specs.Tasks.{token_at}
 
 -- the members of a document
 pub record Members : Type 0 where
+  pub version : Version
   pub inputs : List (List ℕ)
   pub tokens : List Token
   pub tasks : List Data
@@ -16,29 +20,29 @@ pub record Members : Type 0 where
   pub journal : List ℕ
   pub start : Option Data
 
--- version 1, or version 2, which has links
-unfoldable pub links_in : ℕ → Option Bool
-links_in version = if version == 1 then Some false else (if version == 2 then Some true else None)
+-- the version of this number
+unfoldable pub version_in : ℕ → Option Version
+version_in number = if number == 1 then Some One else (if number == 2 then Some Two else (if number == 3 then Some Three else None))
 
 unfoldable pub text_or_empty : Option Data → Option (List ℕ)
 text_or_empty None = Some []
 text_or_empty (Some d) = as_str d
 
-unfoldable pub version_at : Data → Option Bool
+unfoldable pub version_at : Data → Option Version
 version_at d = do
-  version ← option_and_then as_u64 (option_and_then as_number (get (codes "version") d))
-  links_in version
+  number ← option_and_then as_u64 (option_and_then as_number (get (codes "version") d))
+  version_in number
 
 unfoldable pub top_at : Data → Option Members
 top_at d = do
   only ← only_if (has_only (codes "version" ∷ codes "inputs" ∷ codes "tokens" ∷ codes "tasks" ∷ codes "claims" ∷ codes "certificate" ∷ codes "journal" ∷ codes "start" ∷ []) d)
-  links ← version_at d
+  version ← version_at d
   names ← list_or_none (get (codes "inputs") d)
   inputs ← each as_str names
   list ← list_or_none (get (codes "tokens") d)
-  tokens ← each (token_at links) list
+  tokens ← each (token_at (has_links version)) list
   tasks ← get (codes "tasks") d >>= list_in
   claims ← list_or_none (get (codes "claims") d)
   certificate ← list_or_none (get (codes "certificate") d)
   journal ← text_or_empty (get (codes "journal") d)
-  Some (record { inputs = inputs; tokens = tokens; tasks = tasks; claims = claims; certificate = certificate; journal = journal; start = get (codes "start") d })
+  Some (record { version = version; inputs = inputs; tokens = tokens; tasks = tasks; claims = claims; certificate = certificate; journal = journal; start = get (codes "start") d })

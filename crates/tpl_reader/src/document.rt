@@ -6,6 +6,7 @@ ghost use Rattle.tpl_reader.specs.Starting.{inputs_of};
 
 use tpl_cert::Certificate;
 use tpl_graph::{Claim, Graph};
+use tpl_parts::Version;
 use tpl_words::{Inputs, SiteId, TokenId};
 
 /// Where a run starts.
@@ -22,9 +23,11 @@ pub struct Start {
 /// A document.
 #[derive(Drop)]
 pub struct Document {
+    /// Its version.
+    pub version: Version,
     /// The tasks, tokens and inputs.
     pub graph: Graph,
-    /// The claims, each of which can be asked of the graph: at most 64.
+    /// The claims, each of which can be asked of the graph: at most 64, or 1,024 in version 3.
     pub claims: Vec<Claim>,
     /// The trees of the certificate; how many there are is not tested.
     pub certificate: Certificate,

@@ -16,7 +16,7 @@ ghost use Rattle.tpl_parts.specs.SeenClaims.{claim_of};
 ghost use Rattle.tpl_parts.specs.SeenStart.{start_of};
 ghost use Rattle.tpl_reader.specs.SeenDocument.{value_of, doc_of, spelled_of, spelled_with};
 ghost use Rattle.tpl_json.specs.Grammar.{AllRead};
-ghost use Rattle.tpl_reader.specs.Document.{AreAsked, IsStarted, GraphFaults, ClaimFaults, TreeFaults, StartFaults, IsDocument, IsRefused, longest, Reads, Spells, IsFault};
+ghost use Rattle.tpl_reader.specs.Document.{most_claims, AreAsked, IsStarted, GraphFaults, ClaimFaults, TreeFaults, StartFaults, IsDocument, IsRefused, longest, Reads, Spells, IsFault};
 
 use crate::asked::claims_in;
 use crate::begin::start_in;
@@ -30,13 +30,20 @@ use std::alloc::Global;
 use tpl_cert::{Certificate, Tree, TreeFault};
 use tpl_graph::{Claim, Draft, Graph, Why};
 use tpl_json::{Miss, NotRead, value_from};
-use tpl_parts::{NamedClaim, NamedStart};
+use tpl_parts::{NamedClaim, NamedStart, Version};
 
 /// The most bytes of a document (this program's own limit).
 pub const LONGEST: usize = 16_777_216;
 
-/// The most claims of a document (this program's own limit).
-pub const MOST_CLAIMS: usize = 64;
+/// The most claims of a document of this version (this program's own limit).
+pub fn most_claims(version: Version) -> usize
+    ensures { result ≡ most_claims version }
+{
+    match version {
+        Version::One | Version::Two => 64,
+        Version::Three => 1_024,
+    }
+}
 
 fn graph_of(alloc: Global, draft: Draft) -> Result<Graph, ReadFault>
     ensures ok { IfOk result (λ g. IsValid (draft_of draft) × (g ≡ numbered (draft_of draft))) }
@@ -54,12 +61,18 @@ fn graph_of(alloc: Global, draft: Draft) -> Result<Graph, ReadFault>
     }
 }
 
-fn claims_for(alloc: Global, graph: &Graph, claims: &[NamedClaim]) -> Result<Vec<Claim>, ReadFault>
-    ensures ok { IfOk result (λ v. AreAsked graph.now (map claim_of claims.now) v.items) }
-    ensures err { IfErr result (ClaimFaults graph.now (map claim_of claims.now)) }
+fn claims_for(
+    alloc: Global,
+    version: Version,
+    graph: &Graph,
+    claims: &[NamedClaim],
+) -> Result<Vec<Claim>, ReadFault>
+    ensures ok { IfOk result (λ v. AreAsked version graph.now (map claim_of claims.now) v.items) }
+    ensures err { IfErr result (ClaimFaults version graph.now (map claim_of claims.now)) }
 {
-    if claims.len() > MOST_CLAIMS {
-        return Err(ReadFault::Claim(MOST_CLAIMS + 1, ClaimFault::TooMany));
+    let most = most_claims(version);
+    if claims.len() > most {
+        return Err(ReadFault::Claim(most + 1, ClaimFault::TooMany));
     }
     match claims_in(alloc, graph, claims) {
         Ok(claims) => Ok(claims),
@@ -110,19 +123,24 @@ struct Rest {
 }
 
 /// The rest of a document with this graph.
-fn rest_of(alloc: Global, graph: &Graph, named: &NamedRest<'_, '_>) -> Result<Rest, ReadFault>
-    ensures claims { IfOk result (λ r. AreAsked graph.now (map claim_of named.now.claims.items)
-        r.claims.items) }
+fn rest_of(
+    alloc: Global,
+    version: Version,
+    graph: &Graph,
+    named: &NamedRest<'_, '_>,
+) -> Result<Rest, ReadFault>
+    ensures claims { IfOk result (λ r. AreAsked version graph.now
+        (map claim_of named.now.claims.items) r.claims.items) }
     ensures trees { IfOk result (λ r. AllRead (ReadsAs graph.now.names)
         (map view named.now.certificate.now) r.trees.items) }
     ensures journal { IfOk result (λ r. string_bytes r.journal ≡ named.now.journal.now) }
     ensures start { IfOk result (λ r. IsStarted graph.now (option_map start_of named.now.start)
         (option_map value_of r.start)) }
     ensures err { IfErr result (λ e. (d : spec.Draft) → IsValid d → graph.now ≡ numbered d
-        → IsRefused (spelled_with d named.now) e) }
+        → IsRefused (spelled_with version d named.now) e) }
 {
     let journal = String::from_str(alloc, named.journal)?;
-    let claims = claims_for(alloc, graph, &named.claims)?;
+    let claims = claims_for(alloc, version, graph, &named.claims)?;
     let trees = trees_for(alloc, graph, named.certificate)?;
     let start = start_for(alloc, graph, &named.start)?;
     Ok(Rest {
@@ -140,8 +158,9 @@ fn document_of(alloc: Global, shaped: Shaped) -> Result<Document, ReadFault>
     ensures err { IfErr result (IsRefused (spelled_of shaped.entry)) }
 {
     let graph = graph_of(alloc, shaped.draft)?;
-    let rest = rest_of(alloc, &graph, &shaped.rest)?;
+    let rest = rest_of(alloc, shaped.version, &graph, &shaped.rest)?;
     Ok(Document {
+        version: shaped.version,
         graph,
         claims: rest.claims,
         certificate: Certificate::new(rest.trees),
@@ -175,7 +194,7 @@ fn document_from(alloc: Global, value: &Value<'_>) -> Result<Document, ReadFault
 }
 
 /// The document that the bytes spell: a JSON text in UTF-8 as `serde_json` reads it, of at most 16,777,216 bytes and 127
-/// levels, whose version is 1 or 2. Each claim can be asked of its graph, and each tree is within the limits, so that the
+/// levels, whose version is 1, 2 or 3. Each claim can be asked of its graph, and each tree is within the limits, so that the
 /// certificate can be checked. Else the least `ReadFault` that applies to the whole document, or `Memory`.
 pub fn read_document(alloc: Global, bytes: &[u8]) -> Result<Document, ReadFault>
     ensures ok { IfOk result (λ d. Spells bytes.now (doc_of d)) }

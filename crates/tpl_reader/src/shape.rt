@@ -23,7 +23,7 @@ use json::Value;
 use std::alloc::Global;
 use tpl_graph::{Draft, DraftTask};
 use tpl_json::{Miss, Shape};
-use tpl_parts::{NamedClaim, NamedStart, start_or_none};
+use tpl_parts::{NamedClaim, NamedStart, Version, start_or_none};
 
 /// What stands in a document beside its draft, with names.
 #[derive(Drop)]
@@ -37,6 +37,7 @@ pub(crate) struct NamedRest<'v, 't> {
 /// A document with names.
 #[derive(Drop)]
 pub(crate) struct Shaped<'v, 't> {
+    pub(crate) version: Version,
     pub(crate) draft: Draft,
     pub(crate) rest: NamedRest<'v, 't>,
 }
@@ -66,12 +67,13 @@ fn task_part(alloc: Global, values: &[Value<'_>]) -> Result<Vec<DraftTask>, Miss
 
 fn claim_part<'v, 't>(
     alloc: Global,
+    version: Version,
     values: &'v [Value<'t>],
 ) -> Result<Vec<NamedClaim<'v>>, Miss<Part>>
-    ensures { Takes result (λ v. AllRead IsClaim (map view values.now) (map claim_of v.items))
-        (WrongClaim (map view values.now)) }
+    ensures { Takes result (λ v. AllRead (IsClaim version) (map view values.now)
+        (map claim_of v.items)) (WrongClaim version (map view values.now)) }
 {
-    match claims_of(alloc, values) {
+    match claims_of(alloc, version, values) {
         Ok(claims) => Ok(claims),
         Err(Miss::Wrong((number, _))) => Err(Miss::Wrong(Part::Claim(number))),
         Err(Miss::Memory) => Err(Miss::Memory),
@@ -103,7 +105,7 @@ pub(crate) fn shape_of<'v, 't>(
 {
     let members = top_part(alloc, value)?;
     let tasks = task_part(alloc, members.tasks)?;
-    let claims = claim_part(alloc, members.claims)?;
+    let claims = claim_part(alloc, members.version, members.claims)?;
     let start = start_part(alloc, members.start)?;
     let draft = Draft {
         inputs: members.inputs,
@@ -116,5 +118,9 @@ pub(crate) fn shape_of<'v, 't>(
         journal: members.journal,
         start,
     };
-    Ok(Shaped { draft, rest })
+    Ok(Shaped {
+        version: members.version,
+        draft,
+        rest,
+    })
 }

@@ -10,7 +10,7 @@ ghost use Rattle.tpl_draft.specs.SeenTasks.{token_of, task_of};
 ghost use Rattle.tpl_parts.specs.SeenClaims.{claim_of};
 ghost use Rattle.tpl_reader.specs.SeenTop.{members_of};
 ghost use Rattle.tpl_parts.specs.Tasks.{token_at};
-ghost use Rattle.tpl_reader.specs.Top.{links_in, version_at, text_or_empty, top_at};
+ghost use Rattle.tpl_reader.specs.Top.{version_in, version_at, text_or_empty, top_at};
 ghost use Rattle.tpl_parts.specs.TaskGrammar.{IsTask, IsNoTask, AreShallow};
 ghost use Rattle.tpl_parts.specs.ClaimGrammar.{IsClaim, IsNoClaim};
 ghost use Rattle.tpl_reader.specs.Passes.{Passes, Here};
@@ -21,11 +21,12 @@ use tpl_graph::{DraftTask, DraftToken};
 use tpl_json::{
     Miss, Shape, find, has_only, list_of, list_or_none, member_in, number_of, owned_texts, text_of,
 };
-use tpl_parts::{NamedClaim, claim_of, task_of, token_of};
+use tpl_parts::{NamedClaim, Version, claim_of, task_of, token_of};
 
 /// The members of a document: its lists, of which those of tasks, claims and trees aren't read yet.
 #[derive(Drop)]
 pub(crate) struct Members<'v, 't> {
+    pub(crate) version: Version,
     pub(crate) inputs: Vec<String>,
     pub(crate) tokens: Vec<DraftToken>,
     pub(crate) tasks: &'v [Value<'t>],
@@ -35,28 +36,26 @@ pub(crate) struct Members<'v, 't> {
     pub(crate) start: Option<&'v Value<'t>>,
 }
 
-#[tactic(auto, unfolding(crate::specs::Top::links_in))]
-fn links_in(version: u64) -> Result<bool, Miss<Shape>>
-    ensures gives { Gives (λ b. b) result (links_in version) }
+#[tactic(auto, unfolding(crate::specs::Top::version_in))]
+fn version_in(number: u64) -> Result<Version, Miss<Shape>>
+    ensures gives { Gives (λ v. v) result (version_in number) }
     ensures shape { IfErr result IsShape }
 {
-    if version == 1 {
-        return Ok(false);
+    match number {
+        1 => Ok(Version::One),
+        2 => Ok(Version::Two),
+        3 => Ok(Version::Three),
+        _ => Err(Miss::Wrong(Shape)),
     }
-    if version == 2 {
-        return Ok(true);
-    }
-    Err(Miss::Wrong(Shape))
 }
 
-/// The version: whether tokens may be linked.
 #[tactic(auto, unfolding(crate::specs::Top::version_at))]
-fn version_of(value: &Value<'_>) -> Result<bool, Miss<Shape>>
-    ensures gives { Gives (λ b. b) result (version_at (view value.now)) }
+fn version_of(value: &Value<'_>) -> Result<Version, Miss<Shape>>
+    ensures gives { Gives (λ v. v) result (version_at (view value.now)) }
     ensures shape { IfErr result IsShape }
 {
-    let version = number_of(member_in(value, "version")?)?;
-    links_in(version)
+    let number = number_of(member_in(value, "version")?)?;
+    version_in(number)
 }
 
 fn tokens_of(
@@ -109,17 +108,18 @@ pub(crate) fn members_of<'v, 't>(
     ) {
         return Err(Miss::Wrong(Shape));
     }
-    let links = version_of(value)?;
+    let version = version_of(value)?;
     let names = list_or_none(value, "inputs")?;
     let inputs = owned_texts(alloc, names)?;
     let list = list_or_none(value, "tokens")?;
-    let tokens = tokens_of(alloc, links, list)?;
+    let tokens = tokens_of(alloc, version.has_links(), list)?;
     let tasks = list_of(member_in(value, "tasks")?)?;
     let claims = list_or_none(value, "claims")?;
     let certificate = list_or_none(value, "certificate")?;
     let journal = text_or_empty(value, "journal")?;
     let start = find(value, "start");
     Ok(Members {
+        version,
         inputs,
         tokens,
         tasks,
@@ -163,12 +163,13 @@ pub(crate) fn tasks_of(
 
 fn numbered_claim<'v, 't>(
     alloc: Global,
+    version: Version,
     number: usize,
     value: &'v Value<'t>,
 ) -> Result<NamedClaim<'v>, Miss<(usize, ())>>
-    ensures { Here IsClaim IsNoClaim (view value.now) number claim_of result }
+    ensures { Here (IsClaim version) (IsNoClaim version) (view value.now) number claim_of result }
 {
-    match claim_of(alloc, value) {
+    match claim_of(alloc, version, value) {
         Ok(claim) => Ok(claim),
         Err(Miss::Wrong(Shape)) => Err(Miss::Wrong((number, ()))),
         Err(Miss::Memory) => Err(Miss::Memory),
@@ -178,13 +179,15 @@ fn numbered_claim<'v, 't>(
 /// The claims with names, up to the first of the wrong shape.
 pub(crate) fn claims_of<'v, 't>(
     alloc: Global,
+    version: Version,
     values: &'v [Value<'t>],
 ) -> Result<Vec<NamedClaim<'v>>, Miss<(usize, ())>>
-    ensures { Passes IsClaim IsNoClaim (map view values.now) (λ v. map claim_of v.items) result }
+    ensures { Passes (IsClaim version) (IsNoClaim version) (map view values.now)
+        (λ v. map claim_of v.items) result }
 {
     let mut claims = Vec::new(alloc);
     for (index, value) in values.iter().enumerate() {
-        let one = numbered_claim(alloc, index + 1, value)?;
+        let one = numbered_claim(alloc, version, index + 1, value)?;
         claims.push(one)?;
     }
     Ok(claims)

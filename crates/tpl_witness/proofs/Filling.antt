@@ -5,6 +5,7 @@ use Rattle.serde_json.specs.Find.{get}
 use Rattle.serde_json.proofs.Views.{get_member-put}
 use Rattle.tpl_json.specs.Members.{list_in}
 use Rattle.tpl_json.specs.Grammar.{IfThere, IsArray, AllRead}
+use Rattle.tpl_parts.specs.Versions.{has_links}
 use Rattle.tpl_parts.specs.TaskGrammar.{IsToken}
 use Rattle.tpl_reader.specs.Top as top
 use Rattle.tpl_reader.specs.TopGrammar.{IsTop}
@@ -26,10 +27,9 @@ module _ (ms : Members) (m : top.Members) (is : IsTop (object ms) m) where
   pub top_start : (d : Data) → IsTop (at_start d) (record m { start = Some d })
   top_start d = record {
     only = only_put _ (codes "start") d ms refl is.only;
-    links = is.links;
     version = sym (other (codes "version") (codes "start") d ms refl) ∙ is.version;
     inputs = subst (λ (o : Option Data). IfThere o (λ x. list_in x ≡ Some (map string m.inputs)) (m.inputs ≡ [])) (other (codes "inputs") (codes "start") d ms refl) is.inputs;
-    tokens = subst (λ (o : Option Data). IfThere o (IsArray (λ ds. AllRead (IsToken is.links) ds m.tokens)) (m.tokens ≡ [])) (other (codes "tokens") (codes "start") d ms refl) is.tokens;
+    tokens = subst (λ (o : Option Data). IfThere o (IsArray (λ ds. AllRead (IsToken (has_links m.version)) ds m.tokens)) (m.tokens ≡ [])) (other (codes "tokens") (codes "start") d ms refl) is.tokens;
     tasks = (is.tasks.0, sym (other (codes "tasks") (codes "start") d ms refl) ∙ is.tasks.1, is.tasks.2);
     claims = subst (λ (o : Option Data). IfThere o (λ x. list_in x ≡ Some m.claims) (m.claims ≡ [])) (other (codes "claims") (codes "start") d ms refl) is.claims;
     certificate = subst (λ (o : Option Data). IfThere o (λ x. list_in x ≡ Some m.certificate) (m.certificate ≡ [])) (other (codes "certificate") (codes "start") d ms refl) is.certificate;
@@ -45,10 +45,9 @@ module _ (ms : Members) (m : top.Members) (is : IsTop (object ms) m) where
       let d = string text in
       record {
         only = only_put _ (codes "journal") d ms refl is.only;
-        links = is.links;
         version = sym (other (codes "version") (codes "journal") d ms refl) ∙ is.version;
         inputs = subst (λ (o : Option Data). IfThere o (λ x. list_in x ≡ Some (map string m.inputs)) (m.inputs ≡ [])) (other (codes "inputs") (codes "journal") d ms refl) is.inputs;
-        tokens = subst (λ (o : Option Data). IfThere o (IsArray (λ ds. AllRead (IsToken is.links) ds m.tokens)) (m.tokens ≡ [])) (other (codes "tokens") (codes "journal") d ms refl) is.tokens;
+        tokens = subst (λ (o : Option Data). IfThere o (IsArray (λ ds. AllRead (IsToken (has_links m.version)) ds m.tokens)) (m.tokens ≡ [])) (other (codes "tokens") (codes "journal") d ms refl) is.tokens;
         tasks = (is.tasks.0, sym (other (codes "tasks") (codes "journal") d ms refl) ∙ is.tasks.1, is.tasks.2);
         claims = subst (λ (o : Option Data). IfThere o (λ x. list_in x ≡ Some m.claims) (m.claims ≡ [])) (other (codes "claims") (codes "journal") d ms refl) is.claims;
         certificate = subst (λ (o : Option Data). IfThere o (λ x. list_in x ≡ Some m.certificate) (m.certificate ≡ [])) (other (codes "certificate") (codes "journal") d ms refl) is.certificate;
@@ -62,6 +61,7 @@ spelled_start : (ms : Members) (s : Spelled) (d : Data) (start : NamedStart) →
 spelled_start ms s d start is starts = record {
   members = record is.members { start = Some d };
   top = top_start ms is.members is.top d;
+  version = is.version;
   inputs = is.inputs;
   tokens = is.tokens;
   tasks = is.tasks;
@@ -75,6 +75,7 @@ spelled_journal : (ms : Members) (s : Spelled) (text : List ℕ) → IsSpelled (
 spelled_journal ms s text is = record {
   members = record is.members { journal = text };
   top = top_journal ms is.members is.top text;
+  version = is.version;
   inputs = is.inputs;
   tokens = is.tokens;
   tasks = is.tasks;
@@ -110,6 +111,7 @@ document_run : (s : Spelled) (doc : DocumentValue) (values : List Bool) (text : 
     → (has : IsStartWith doc.graph.names.inputs values old new)
     → IsDocument (record s { journal = text; start = Some (named_with (object has.inputs) s.start) }) (with_run doc values text)
 document_run s doc values text old new is count has = record {
+  version = is.version;
   valid = is.valid;
   graph = is.graph;
   claims = is.claims;

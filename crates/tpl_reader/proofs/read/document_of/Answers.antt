@@ -12,7 +12,7 @@ returns-in_err-rest-clause-err c =
 
 pub returns-clause-claims : goal.returns-clause-claims
 returns-clause-claims c =
-    all_fit c.in_ok-graph.graph _ c.in_ok-rest.rest.claims.items c.in_ok-rest.ensures.claims
+    all_fit c.args.shaped.version c.in_ok-graph.graph _ c.in_ok-rest.rest.claims.items c.in_ok-rest.ensures.claims
 
 pub returns-clause-trees : goal.returns-clause-trees
 returns-clause-trees c =
