@@ -174,12 +174,24 @@ fn one_given_text(alloc: Global, graph: &Graph, one: Given) -> Said {
     }
 }
 
+/// Whether it is given of each of several jobs that it doesn't fail.
+fn gives_all_jobs(graph: &Graph, given: &[Given]) -> bool {
+    let jobs = given.iter().filter(|one| matches!(one, Given::Succeeds(_))).count();
+    jobs > 1 && jobs == graph.site_count()
+}
+
 /// What a claim takes as given.
 fn given_text(alloc: Global, graph: &Graph, given: &[Given]) -> Said {
+    let all_jobs = gives_all_jobs(graph, given);
     let mut list = String::new(alloc);
     for one in given {
-        let text = one_given_text(alloc, graph, *one)?;
-        add_word(&mut list, " and ", text.as_str())?;
+        if !all_jobs || !matches!(one, Given::Succeeds(_)) {
+            let text = one_given_text(alloc, graph, *one)?;
+            add_word(&mut list, " and ", text.as_str())?;
+        }
+    }
+    if all_jobs {
+        add_word(&mut list, " and ", "no job fails")?;
     }
     Ok(list)
 }

@@ -27,23 +27,56 @@ impl<'v, 't> Teller<'v, 't> {
         Ok(None)
     }
 
+    /// The line about the first thing that is given twice.
+    fn given_twice_line(self, area: Area) -> Line {
+        for form in [
+            Form::InputName,
+            Form::TokenName,
+            Form::EndedTask,
+            Form::SureSite,
+            Form::GivenWord,
+        ] {
+            let line = self.given_line(area, form)?;
+            if line.is_some() {
+                return Ok(line);
+            }
+        }
+        Ok(None)
+    }
+
+    /// The line about the first site of what is given that no job has.
+    fn no_job_line(self, area: Area) -> Line {
+        for site in &self.texts(area, Form::SureSite)? {
+            if self.job(site)?.is_none() {
+                let sites = self.texts(Area::Graph, Form::Site)?;
+                let said = self.says_unknown("sites", site, &sites)?;
+                return match self.find(area, Ask::Text(Form::SureSite, site), 0)? {
+                    None => Ok(None),
+                    Some(spot) => self.line(area, spot.path.as_str(), said.as_str()),
+                };
+            }
+        }
+        Ok(None)
+    }
+
     /// The line about a fault of a claim.
     pub(crate) fn claim_line(self, index: usize, fault: ClaimFault) -> Line {
         let area = Area::Claim(index);
         match fault {
             ClaimFault::TooMany => {
                 let count = list_in(self.document, "claims").len();
+                let most = if self.third { 1024 } else { 64 };
                 let said = format!(in self.alloc;
-                    "it has {count} claims, and may have 64 at most"
+                    "it has {count} claims, and may have {most} at most"
                 )?;
                 self.line(Area::Top, "claims", said.as_str())
             }
-            ClaimFault::Unknown => self.unknown_line(area),
-            ClaimFault::NoBody => self.tell(area, Ask::NoBody, 0, NO_BODY),
-            ClaimFault::GivenTwice => match self.given_line(area, Form::InputName)? {
-                None => self.given_line(area, Form::TokenName),
+            ClaimFault::Unknown => match self.unknown_line(area)? {
+                None => self.no_job_line(area),
                 found => Ok(found),
             },
+            ClaimFault::NoBody => self.tell(area, Ask::NoBody, 0, NO_BODY),
+            ClaimFault::GivenTwice => self.given_twice_line(area),
         }
     }
 
