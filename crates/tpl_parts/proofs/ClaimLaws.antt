@@ -10,7 +10,9 @@ use Rattle.tpl_json.proofs.Arrays.{bind_some, some_is, each_cons, each_empty, ea
 use Rattle.tpl_json.proofs.Json.{some, some_none, only_is, string_is, text_is, bool_is, other, cons_same}
 use Rattle.tpl_json.proofs.FinalLaws.{finals_sound, finals_complete}
 use Rattle.tpl_parts.specs.declared.version.Version.{Version}
-use Rattle.tpl_parts.specs.Versions.{is_third}
+use Rattle.tpl_parts.specs.Versions.{is_third, claim_remarks}
+use Rattle.tpl_parts.specs.Remarks.{claim_name, note_at}
+use Rattle.tpl_parts.proofs.RemarkLaws.{no_remark, name_sound, name_read, note_sound, note_read}
 use Rattle.tpl_parts.specs.NamedClaims.{NamedGiven, GivenInput, GivenQuiet, GivenEnded, GivenSucceeds, GivenNoFailure, GivenNoRequest, NamedProperty, EndsIn, After, Observed, Never, Excludes, Runs, NamedClaim}
 use Rattle.tpl_parts.specs.Claims.{input_at, quiet_at, some_finals, ended_at, succeeds_at, given_word, end_or_job, later_given, given_at, final_claim, two_texts, after_claim, observed_claim, never_claim, excludes_claim, runs_claim, property_at, claim_at}
 use Rattle.tpl_parts.specs.ClaimGrammar.{IsGiven, AreSomeFinals, IsProperty, IsClaim}
@@ -165,10 +167,10 @@ given_read v d GivenNoRequest p = rw (p.1, p.0) request_read
 
 -- ---- what a claim says
 
-final_sound : (v : Version) (d : Data) (s : NamedProperty) → final_claim d ≡ Some s → IsProperty v d s
+final_sound : (v : Version) (d : Data) (s : NamedProperty) → final_claim v d ≡ Some s → IsProperty v d s
 unfolding final_claim
 final_sound v d s e =
-    let a = bind_some (only_if (has_only (codes "given" ∷ codes "final" ∷ codes "in" ∷ []) d)) _ s e in
+    let a = bind_some (only_if (has_only (codes "given" ∷ codes "final" ∷ codes "in" ∷ claim_remarks v) d)) _ s e in
     let b = bind_some (text_in (codes "final") d) _ s a.2 in
     let c = bind_some (get (codes "in") d >>= list_in) _ s b.2 in
     let f = bind_some (some_finals c.0) _ s c.2 in
@@ -193,32 +195,32 @@ pair_sound name d ds p e f =
     let m = bind_some (get name d) list_in ds e in
     (m.0, m.1, m.2 ∙ ap (λ (x : List Data). some x) (two_sound ds p f))
 
-after_sound : (v : Version) (d : Data) (s : NamedProperty) → after_claim d ≡ Some s → IsProperty v d s
+after_sound : (v : Version) (d : Data) (s : NamedProperty) → after_claim v d ≡ Some s → IsProperty v d s
 unfolding after_claim
 after_sound v d s e =
-    let a = bind_some (only_if (has_only (codes "given" ∷ codes "after" ∷ []) d)) _ s e in
+    let a = bind_some (only_if (has_only (codes "given" ∷ codes "after" ∷ claim_remarks v) d)) _ s e in
     let b = bind_some (get (codes "after") d >>= list_in) _ s a.2 in
     let c = bind_some (two_texts b.0) _ s b.2 in
     subst (λ (x : NamedProperty). IsProperty v d x) (some_is (After c.0.0 c.0.1) s c.2) (only_is _ _ a.1, pair_sound (codes "after") d b.0 c.0 b.1 c.1)
 
-observed_sound : (v : Version) (d : Data) (s : NamedProperty) → observed_claim d ≡ Some s → IsProperty v d s
+observed_sound : (v : Version) (d : Data) (s : NamedProperty) → observed_claim v d ≡ Some s → IsProperty v d s
 unfolding observed_claim
 observed_sound v d s e =
-    let a = bind_some (only_if (has_only (codes "given" ∷ codes "observed" ∷ []) d)) _ s e in
+    let a = bind_some (only_if (has_only (codes "given" ∷ codes "observed" ∷ claim_remarks v) d)) _ s e in
     let b = bind_some (text_in (codes "observed") d) _ s a.2 in
     subst (λ (x : NamedProperty). IsProperty v d x) (some_is (Observed b.0) s b.2) (only_is _ _ a.1, text_is (codes "observed") d b.0 b.1)
 
-never_sound : (v : Version) (d : Data) (s : NamedProperty) → never_claim d ≡ Some s → IsProperty v d s
+never_sound : (v : Version) (d : Data) (s : NamedProperty) → never_claim v d ≡ Some s → IsProperty v d s
 unfolding never_claim
 never_sound v d s e =
-    let a = bind_some (only_if (has_only (codes "given" ∷ codes "never" ∷ []) d)) _ s e in
+    let a = bind_some (only_if (has_only (codes "given" ∷ codes "never" ∷ claim_remarks v) d)) _ s e in
     let b = bind_some (text_in (codes "never") d) _ s a.2 in
     subst (λ (x : NamedProperty). IsProperty v d x) (some_is (Never b.0) s b.2) (only_is _ _ a.1, text_is (codes "never") d b.0 b.1)
 
-excludes_sound : (v : Version) (d : Data) (s : NamedProperty) → excludes_claim d ≡ Some s → IsProperty v d s
+excludes_sound : (v : Version) (d : Data) (s : NamedProperty) → excludes_claim v d ≡ Some s → IsProperty v d s
 unfolding excludes_claim
 excludes_sound v d s e =
-    let a = bind_some (only_if (has_only (codes "given" ∷ codes "excludes" ∷ []) d)) _ s e in
+    let a = bind_some (only_if (has_only (codes "given" ∷ codes "excludes" ∷ claim_remarks v) d)) _ s e in
     let b = bind_some (get (codes "excludes") d >>= list_in) _ s a.2 in
     let c = bind_some (two_texts b.0) _ s b.2 in
     subst (λ (x : NamedProperty). IsProperty v d x) (some_is (Excludes c.0.0 c.0.1) s c.2) (only_is _ _ a.1, pair_sound (codes "excludes") d b.0 c.0 b.1 c.1)
@@ -227,12 +229,12 @@ runs_sound : (v : Version) (d : Data) (s : NamedProperty) → runs_claim v d ≡
 unfolding runs_claim
 runs_sound v d s e =
     let t = bind_some (only_if (is_third v)) _ s e in
-    let a = bind_some (only_if (has_only (codes "given" ∷ codes "runs" ∷ []) d)) _ s t.2 in
+    let a = bind_some (only_if (has_only (codes "given" ∷ codes "runs" ∷ claim_remarks v) d)) _ s t.2 in
     let b = bind_some (text_in (codes "runs") d) _ s a.2 in
     subst (λ (x : NamedProperty). IsProperty v d x) (some_is (Runs b.0) s b.2) (only_is _ _ t.1, only_is _ _ a.1, text_is (codes "runs") d b.0 b.1)
 
 property_choice : (a b c f g : Bool) (v : Version) (d : Data) (s : NamedProperty)
-    → cond a (final_claim d) (cond b (after_claim d) (cond c (observed_claim d) (cond f (never_claim d) (cond g (runs_claim v d) (excludes_claim d))))) ≡ Some s → IsProperty v d s
+    → cond a (final_claim v d) (cond b (after_claim v d) (cond c (observed_claim v d) (cond f (never_claim v d) (cond g (runs_claim v d) (excludes_claim v d))))) ≡ Some s → IsProperty v d s
 property_choice true b c f g v d s e = final_sound v d s e
 property_choice false true c f g v d s e = after_sound v d s e
 property_choice false false true f g v d s e = observed_sound v d s e
@@ -249,29 +251,29 @@ property_read : (v : Version) (d : Data) (s : NamedProperty) → IsProperty v d 
 unfolding property_at final_claim after_claim observed_claim never_claim excludes_claim runs_claim two_texts text_in
 property_read v d (EndsIn task finals) p = rw (p.1, p.0, p.2.1, p.2.2.1, some_finals_read p.2.2.0 finals p.2.2.2) refl
 property_read v d (After a b) p =
-    let no_final : get (codes "final") d ≡ None = other _ (codes "final") d p.0 refl in
+    let no_final : get (codes "final") d ≡ None = other _ (codes "final") d p.0 (no_remark v (codes "final") refl) in
     rw (no_final, p.1.1, p.0, p.1.2) refl
 property_read v d (Observed task) p =
-    let no_final : get (codes "final") d ≡ None = other _ (codes "final") d p.0 refl in
-    let no_after : get (codes "after") d ≡ None = other _ (codes "after") d p.0 refl in
+    let no_final : get (codes "final") d ≡ None = other _ (codes "final") d p.0 (no_remark v (codes "final") refl) in
+    let no_after : get (codes "after") d ≡ None = other _ (codes "after") d p.0 (no_remark v (codes "after") refl) in
     rw (no_final, no_after, p.1, p.0) refl
 property_read v d (Never task) p =
-    let no_final : get (codes "final") d ≡ None = other _ (codes "final") d p.0 refl in
-    let no_after : get (codes "after") d ≡ None = other _ (codes "after") d p.0 refl in
-    let no_observed : get (codes "observed") d ≡ None = other _ (codes "observed") d p.0 refl in
+    let no_final : get (codes "final") d ≡ None = other _ (codes "final") d p.0 (no_remark v (codes "final") refl) in
+    let no_after : get (codes "after") d ≡ None = other _ (codes "after") d p.0 (no_remark v (codes "after") refl) in
+    let no_observed : get (codes "observed") d ≡ None = other _ (codes "observed") d p.0 (no_remark v (codes "observed") refl) in
     rw (no_final, no_after, no_observed, p.1, p.0) refl
 property_read v d (Excludes a b) p =
-    let no_final : get (codes "final") d ≡ None = other _ (codes "final") d p.0 refl in
-    let no_after : get (codes "after") d ≡ None = other _ (codes "after") d p.0 refl in
-    let no_observed : get (codes "observed") d ≡ None = other _ (codes "observed") d p.0 refl in
-    let no_never : get (codes "never") d ≡ None = other _ (codes "never") d p.0 refl in
-    let no_runs : get (codes "runs") d ≡ None = other _ (codes "runs") d p.0 refl in
+    let no_final : get (codes "final") d ≡ None = other _ (codes "final") d p.0 (no_remark v (codes "final") refl) in
+    let no_after : get (codes "after") d ≡ None = other _ (codes "after") d p.0 (no_remark v (codes "after") refl) in
+    let no_observed : get (codes "observed") d ≡ None = other _ (codes "observed") d p.0 (no_remark v (codes "observed") refl) in
+    let no_never : get (codes "never") d ≡ None = other _ (codes "never") d p.0 (no_remark v (codes "never") refl) in
+    let no_runs : get (codes "runs") d ≡ None = other _ (codes "runs") d p.0 (no_remark v (codes "runs") refl) in
     rw (no_final, no_after, no_observed, no_never, no_runs, p.1.1, p.0, p.1.2) refl
 property_read v d (Runs task) p =
-    let no_final : get (codes "final") d ≡ None = other _ (codes "final") d p.1 refl in
-    let no_after : get (codes "after") d ≡ None = other _ (codes "after") d p.1 refl in
-    let no_observed : get (codes "observed") d ≡ None = other _ (codes "observed") d p.1 refl in
-    let no_never : get (codes "never") d ≡ None = other _ (codes "never") d p.1 refl in
+    let no_final : get (codes "final") d ≡ None = other _ (codes "final") d p.1 (no_remark v (codes "final") refl) in
+    let no_after : get (codes "after") d ≡ None = other _ (codes "after") d p.1 (no_remark v (codes "after") refl) in
+    let no_observed : get (codes "observed") d ≡ None = other _ (codes "observed") d p.1 (no_remark v (codes "observed") refl) in
+    let no_never : get (codes "never") d ≡ None = other _ (codes "never") d p.1 (no_remark v (codes "never") refl) in
     rw (no_final, no_after, no_observed, no_never, p.2, p.0, p.1) refl
 
 -- ---- claims
@@ -281,15 +283,22 @@ unfolding claim_at
 claim_sound v d c e =
     let a = bind_some (property_at v d) _ c e in
     let b = bind_some (list_or_none (get (codes "given") d)) _ c a.2 in
-    let f = bind_some (each (given_at v) b.0) _ c b.2 in
-    subst (λ (x : NamedClaim). IsClaim v d x) (some_is (record { given = f.0; body = a.0 }) c f.2)
-    (record { property = property_sound v d a.0 a.1; given = list_sound (given_at v) (IsGiven v) (given_sound v) (get (codes "given") d) b.0 f.0 b.1 f.1 })
+    let name = bind_some (claim_name (get (codes "name") d)) _ c b.2 in
+    let note = bind_some (note_at (get (codes "note") d)) _ c name.2 in
+    let f = bind_some (each (given_at v) b.0) _ c note.2 in
+    subst (λ (x : NamedClaim). IsClaim v d x) (some_is (record { name = name.0; given = f.0; body = a.0 }) c f.2)
+    (record {
+      property = property_sound v d a.0 a.1;
+      given = list_sound (given_at v) (IsGiven v) (given_sound v) (get (codes "given") d) b.0 f.0 b.1 f.1;
+      name = name_sound (get (codes "name") d) name.0 name.1;
+      note = note_sound (get (codes "note") d) note.0 note.1;
+    })
 
 pub claim_read : (v : Version) (d : Data) (c : NamedClaim) → IsClaim v d c → claim_at v d ≡ Some c
 unfolding claim_at
 claim_read v d c is =
     let given = list_read (given_at v) (IsGiven v) (given_read v) (get (codes "given") d) c.given is.given in
-    rw (property_read v d c.body is.property, given.1, given.2) refl
+    rw (property_read v d c.body is.property, given.1, name_read (get (codes "name") d) c.name is.name, note_read (get (codes "note") d) is.note, given.2) refl
 
 pub no_claim : (v : Version) (d : Data) → claim_at v d ≡ None → (c : NamedClaim) → IsClaim v d c → ⊥
 no_claim v d e c is = some_none c (claim_at v d) (claim_read v d c is) e

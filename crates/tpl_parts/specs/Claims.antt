@@ -7,7 +7,8 @@ use Rattle.tpl_words.specs.declared.finals.Finals.{Finals}
 use Rattle.tpl_json.specs.Members.{◌>>=◌, only_if, has_only, text_in, list_in, list_or_none, each}
 use Rattle.tpl_json.specs.Finals.{no_finals, finals_at}
 use Rattle.tpl_parts.specs.declared.version.Version.{Version}
-use Rattle.tpl_parts.specs.Versions.{is_third}
+use Rattle.tpl_parts.specs.Versions.{is_third, claim_remarks}
+use Rattle.tpl_parts.specs.Remarks.{claim_name, note_at}
 use Rattle.tpl_parts.specs.NamedClaims.{NamedGiven, GivenInput, GivenQuiet, GivenEnded, GivenSucceeds, GivenNoFailure, GivenNoRequest, NamedProperty, EndsIn, After, Observed, Never, Excludes, Runs, NamedClaim}
 
 unfoldable pub input_at : Data → Option NamedGiven
@@ -64,9 +65,9 @@ given_at version d =
     else if is_third version then later_given d
     else None
 
-unfoldable pub final_claim : Data → Option NamedProperty
-final_claim d = do
-  only ← only_if (has_only (codes "given" ∷ codes "final" ∷ codes "in" ∷ []) d)
+unfoldable pub final_claim : Version → Data → Option NamedProperty
+final_claim version d = do
+  only ← only_if (has_only (codes "given" ∷ codes "final" ∷ codes "in" ∷ claim_remarks version) d)
   task ← text_in (codes "final") d
   list ← get (codes "in") d >>= list_in
   finals ← some_finals list
@@ -80,28 +81,28 @@ two_texts (a ∷ b ∷ []) = do
   Some (first, second)
 two_texts ds = None
 
-unfoldable pub after_claim : Data → Option NamedProperty
-after_claim d = do
-  only ← only_if (has_only (codes "given" ∷ codes "after" ∷ []) d)
+unfoldable pub after_claim : Version → Data → Option NamedProperty
+after_claim version d = do
+  only ← only_if (has_only (codes "given" ∷ codes "after" ∷ claim_remarks version) d)
   list ← get (codes "after") d >>= list_in
   pair ← two_texts list
   Some (After pair.0 pair.1)
 
-unfoldable pub observed_claim : Data → Option NamedProperty
-observed_claim d = do
-  only ← only_if (has_only (codes "given" ∷ codes "observed" ∷ []) d)
+unfoldable pub observed_claim : Version → Data → Option NamedProperty
+observed_claim version d = do
+  only ← only_if (has_only (codes "given" ∷ codes "observed" ∷ claim_remarks version) d)
   task ← text_in (codes "observed") d
   Some (Observed task)
 
-unfoldable pub never_claim : Data → Option NamedProperty
-never_claim d = do
-  only ← only_if (has_only (codes "given" ∷ codes "never" ∷ []) d)
+unfoldable pub never_claim : Version → Data → Option NamedProperty
+never_claim version d = do
+  only ← only_if (has_only (codes "given" ∷ codes "never" ∷ claim_remarks version) d)
   task ← text_in (codes "never") d
   Some (Never task)
 
-unfoldable pub excludes_claim : Data → Option NamedProperty
-excludes_claim d = do
-  only ← only_if (has_only (codes "given" ∷ codes "excludes" ∷ []) d)
+unfoldable pub excludes_claim : Version → Data → Option NamedProperty
+excludes_claim version d = do
+  only ← only_if (has_only (codes "given" ∷ codes "excludes" ∷ claim_remarks version) d)
   list ← get (codes "excludes") d >>= list_in
   pair ← two_texts list
   Some (Excludes pair.0 pair.1)
@@ -110,22 +111,24 @@ excludes_claim d = do
 unfoldable pub runs_claim : Version → Data → Option NamedProperty
 runs_claim version d = do
   third ← only_if (is_third version)
-  only ← only_if (has_only (codes "given" ∷ codes "runs" ∷ []) d)
+  only ← only_if (has_only (codes "given" ∷ codes "runs" ∷ claim_remarks version) d)
   task ← text_in (codes "runs") d
   Some (Runs task)
 
 unfoldable pub property_at : Version → Data → Option NamedProperty
 property_at version d =
-    if is_some (get (codes "final") d) then final_claim d
-    else if is_some (get (codes "after") d) then after_claim d
-    else if is_some (get (codes "observed") d) then observed_claim d
-    else if is_some (get (codes "never") d) then never_claim d
+    if is_some (get (codes "final") d) then final_claim version d
+    else if is_some (get (codes "after") d) then after_claim version d
+    else if is_some (get (codes "observed") d) then observed_claim version d
+    else if is_some (get (codes "never") d) then never_claim version d
     else if is_some (get (codes "runs") d) then runs_claim version d
-    else excludes_claim d
+    else excludes_claim version d
 
 unfoldable pub claim_at : Version → Data → Option NamedClaim
 claim_at version d = do
   body ← property_at version d
   list ← list_or_none (get (codes "given") d)
+  name ← claim_name (get (codes "name") d)
+  note ← note_at (get (codes "note") d)
   given ← each (given_at version) list
-  Some (record { given = given; body = body })
+  Some (record { name = name; given = given; body = body })

@@ -1,5 +1,5 @@
 -- Claims as they are spelled, with names.
-use Rattle.std.specs.Prelude.{ℕ, List, Bool}
+use Rattle.std.specs.Prelude.{ℕ, List, Option, Bool}
 use Rattle.tpl_words.specs.declared.finals.Finals.{Finals}
 
 pub data NamedGiven : Type 0 where
@@ -19,5 +19,6 @@ pub data NamedProperty : Type 0 where
   Runs : (task : List ℕ) → NamedProperty
 
 pub record NamedClaim : Type 0 where
+  pub name : Option (List ℕ)
   pub given : List NamedGiven
   pub body : NamedProperty

@@ -1,5 +1,6 @@
 -- What a claim with names in memory is seen as.
 use Rattle.std.specs.Prelude.{map}
+use Rattle.std.specs.Option.{option_map}
 use Rattle.tpl_parts.specs.declared.named.NamedGiven as given
 use Rattle.tpl_parts.specs.declared.named.NamedGiven.TheVariants as givens
 use Rattle.tpl_parts.specs.declared.named.NamedProperty as property
@@ -24,4 +25,4 @@ property_of (properties.Excludes a b) = Excludes a.now b.now
 property_of (properties.Runs task) = Runs task.now
 
 abbrev pub claim_of : claim.NamedClaim → NamedClaim
-claim_of c = record { given = map given_of c.given.items; body = property_of c.body }
+claim_of c = record { name = option_map (λ s. s.now) c.name; given = map given_of c.given.items; body = property_of c.body }

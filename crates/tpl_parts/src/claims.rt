@@ -9,6 +9,7 @@ ghost use Rattle.tpl_parts.specs.Claims.{input_at, quiet_at, some_finals, ended_
 
 use crate::lists::list_in;
 use crate::named::{NamedClaim, NamedGiven, NamedProperty};
+use crate::remarks::{claim_name, has_claim_members, note_of};
 use crate::version::Version;
 use json::Value;
 use std::alloc::Global;
@@ -147,11 +148,14 @@ fn givens_of<'v, 't>(
 }
 
 #[tactic(auto, unfolding(crate::specs::Claims::final_claim))]
-fn final_claim<'v, 't>(value: &'v Value<'t>) -> Result<NamedProperty<'v>, Miss<Shape>>
-    ensures gives { Gives property_of result (final_claim (view value.now)) }
+fn final_claim<'v, 't>(
+    version: Version,
+    value: &'v Value<'t>,
+) -> Result<NamedProperty<'v>, Miss<Shape>>
+    ensures gives { Gives property_of result (final_claim version (view value.now)) }
     ensures shape { IfErr result IsShape }
 {
-    if !has_only(value, &["given", "final", "in"]) {
+    if !has_claim_members(version, value, &["given", "final", "in"]) {
         return Err(Miss::Wrong(Shape));
     }
     let task = text_in(value, "final")?;
@@ -176,11 +180,14 @@ fn two_texts<'v, 't>(values: &'v [Value<'t>]) -> Result<(&'v str, &'v str), Miss
 }
 
 #[tactic(auto, unfolding(crate::specs::Claims::after_claim))]
-fn after_claim<'v, 't>(value: &'v Value<'t>) -> Result<NamedProperty<'v>, Miss<Shape>>
-    ensures gives { Gives property_of result (after_claim (view value.now)) }
+fn after_claim<'v, 't>(
+    version: Version,
+    value: &'v Value<'t>,
+) -> Result<NamedProperty<'v>, Miss<Shape>>
+    ensures gives { Gives property_of result (after_claim version (view value.now)) }
     ensures shape { IfErr result IsShape }
 {
-    if !has_only(value, &["given", "after"]) {
+    if !has_claim_members(version, value, &["given", "after"]) {
         return Err(Miss::Wrong(Shape));
     }
     let list = list_in(value, "after")?;
@@ -189,11 +196,14 @@ fn after_claim<'v, 't>(value: &'v Value<'t>) -> Result<NamedProperty<'v>, Miss<S
 }
 
 #[tactic(auto, unfolding(crate::specs::Claims::observed_claim))]
-fn observed_claim<'v, 't>(value: &'v Value<'t>) -> Result<NamedProperty<'v>, Miss<Shape>>
-    ensures gives { Gives property_of result (observed_claim (view value.now)) }
+fn observed_claim<'v, 't>(
+    version: Version,
+    value: &'v Value<'t>,
+) -> Result<NamedProperty<'v>, Miss<Shape>>
+    ensures gives { Gives property_of result (observed_claim version (view value.now)) }
     ensures shape { IfErr result IsShape }
 {
-    if !has_only(value, &["given", "observed"]) {
+    if !has_claim_members(version, value, &["given", "observed"]) {
         return Err(Miss::Wrong(Shape));
     }
     let task = text_in(value, "observed")?;
@@ -201,11 +211,14 @@ fn observed_claim<'v, 't>(value: &'v Value<'t>) -> Result<NamedProperty<'v>, Mis
 }
 
 #[tactic(auto, unfolding(crate::specs::Claims::never_claim))]
-fn never_claim<'v, 't>(value: &'v Value<'t>) -> Result<NamedProperty<'v>, Miss<Shape>>
-    ensures gives { Gives property_of result (never_claim (view value.now)) }
+fn never_claim<'v, 't>(
+    version: Version,
+    value: &'v Value<'t>,
+) -> Result<NamedProperty<'v>, Miss<Shape>>
+    ensures gives { Gives property_of result (never_claim version (view value.now)) }
     ensures shape { IfErr result IsShape }
 {
-    if !has_only(value, &["given", "never"]) {
+    if !has_claim_members(version, value, &["given", "never"]) {
         return Err(Miss::Wrong(Shape));
     }
     let task = text_in(value, "never")?;
@@ -213,11 +226,14 @@ fn never_claim<'v, 't>(value: &'v Value<'t>) -> Result<NamedProperty<'v>, Miss<S
 }
 
 #[tactic(auto, unfolding(crate::specs::Claims::excludes_claim))]
-fn excludes_claim<'v, 't>(value: &'v Value<'t>) -> Result<NamedProperty<'v>, Miss<Shape>>
-    ensures gives { Gives property_of result (excludes_claim (view value.now)) }
+fn excludes_claim<'v, 't>(
+    version: Version,
+    value: &'v Value<'t>,
+) -> Result<NamedProperty<'v>, Miss<Shape>>
+    ensures gives { Gives property_of result (excludes_claim version (view value.now)) }
     ensures shape { IfErr result IsShape }
 {
-    if !has_only(value, &["given", "excludes"]) {
+    if !has_claim_members(version, value, &["given", "excludes"]) {
         return Err(Miss::Wrong(Shape));
     }
     let list = list_in(value, "excludes")?;
@@ -234,7 +250,7 @@ fn runs_claim<'v, 't>(
     ensures gives { Gives property_of result (runs_claim version (view value.now)) }
     ensures shape { IfErr result IsShape }
 {
-    if !version.is_third() || !has_only(value, &["given", "runs"]) {
+    if !version.is_third() || !has_claim_members(version, value, &["given", "runs"]) {
         return Err(Miss::Wrong(Shape));
     }
     let task = text_in(value, "runs")?;
@@ -250,21 +266,21 @@ fn property_of<'v, 't>(
     ensures shape { IfErr result IsShape }
 {
     if find(value, "final").is_some() {
-        return final_claim(value);
+        return final_claim(version, value);
     }
     if find(value, "after").is_some() {
-        return after_claim(value);
+        return after_claim(version, value);
     }
     if find(value, "observed").is_some() {
-        return observed_claim(value);
+        return observed_claim(version, value);
     }
     if find(value, "never").is_some() {
-        return never_claim(value);
+        return never_claim(version, value);
     }
     if find(value, "runs").is_some() {
         return runs_claim(version, value);
     }
-    excludes_claim(value)
+    excludes_claim(version, value)
 }
 
 /// A claim with names. Errors: a wrong shape, and what another version has is one; out of memory.
@@ -278,6 +294,8 @@ pub fn claim_of<'v, 't>(
 {
     let body = property_of(version, value)?;
     let list = list_or_none(value, "given")?;
+    let name = claim_name(value)?;
+    note_of(value)?;
     let given = givens_of(alloc, version, list)?;
-    Ok(NamedClaim { given, body })
+    Ok(NamedClaim { name, given, body })
 }

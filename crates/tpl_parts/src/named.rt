@@ -40,6 +40,8 @@ pub enum NamedProperty<'v> {
 /// A claim.
 #[derive(Drop)]
 pub struct NamedClaim<'v> {
+    /// Its name, if it has one.
+    pub name: Option<&'v str>,
     /// What is taken as given.
     pub given: Vec<NamedGiven<'v>>,
     /// What is said then.

@@ -34,6 +34,7 @@ unknown_given g s faults.TooMany h = absurd h
 unknown_given g s faults.Unknown h = rw h refl
 unknown_given g s faults.NoBody h = absurd h
 unknown_given g s faults.GivenTwice h = absurd h
+unknown_given g s faults.NameTwice h = absurd h
 
 pub refuses_given : (g : Named) (s : NamedClaim) (e : Miss ClaimFault) → Refuses (IsUnknown (knows_given g.names s.given)) e → Refuses (IsWrongClaim g s) e
 refuses_given g s (miss.Wrong f) h = unknown_given g s f h

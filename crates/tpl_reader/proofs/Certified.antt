@@ -14,7 +14,9 @@ use Rattle.tpl_cert.specs.Written.{tree_data, named, certificate_data}
 use Rattle.tpl_parts.specs.Versions.{has_links}
 use Rattle.tpl_parts.specs.TaskGrammar.{IsToken}
 use Rattle.tpl_reader.specs.Top as top
-use Rattle.tpl_reader.specs.TopGrammar.{IsTop}
+use Rattle.tpl_parts.specs.RemarkGrammar.{IsText}
+use Rattle.tpl_parts.specs.EndGrammar.{IsEnds}
+use Rattle.tpl_reader.specs.TopGrammar.{AreTimesIfAny, IsTop}
 use Rattle.tpl_reader.specs.Document.{Spelled, IsSpelled, DocumentValue, IsDocument, Spells, longest}
 use Rattle.tpl_reader.specs.Laws.{IsReadBack, HoldsCertificate}
 use Rattle.tpl_json.proofs.Arrays.{elements-items_of}
@@ -25,7 +27,7 @@ use Rattle.tpl_reader.proofs.OneDocument.{value_same}
 -- ---- the members
 
 abbrev with_trees : top.Members → List Data → top.Members
-with_trees m ds = record { version = m.version; inputs = m.inputs; tokens = m.tokens; tasks = m.tasks; claims = m.claims; certificate = ds; journal = m.journal; start = m.start }
+with_trees m ds = record { version = m.version; inputs = m.inputs; tokens = m.tokens; tasks = m.tasks; claims = m.claims; certificate = ds; journal = m.journal; start = m.start; ended = m.ended; times = m.times }
 
 there : (ds : List Data) (o : Option Data) → o ≡ Some (array (items_of ds)) → IfThere o (λ x. list_in x ≡ Some ds) (ds ≡ [])
 there ds o e = subst (λ (z : Option Data). IfThere z (λ x. list_in x ≡ Some ds) (ds ≡ [])) (sym e) (ap (λ (xs : List Data). some xs) (elements-items_of ds))
@@ -43,6 +45,10 @@ top_put ms m ds is =
       certificate = there ds (get (codes "certificate") (object (put (codes "certificate") c ms))) (get_member-put (codes "certificate") c ms);
       journal = subst (λ (o : Option Data). IfThere o (λ x. x ≡ string m.journal) (m.journal ≡ [])) (other (codes "journal") (codes "certificate") c ms refl) is.journal;
       start = is.start ∙ other (codes "start") (codes "certificate") c ms refl;
+      note = subst (λ (o : Option Data). IfThere o IsText (Unit {0})) (other (codes "note") (codes "certificate") c ms refl) is.note;
+      ended = is.ended ∙ other (codes "ended") (codes "certificate") c ms refl;
+      ends = subst (λ (o : Option Data). IfThere o IsEnds (Unit {0})) (other (codes "ended") (codes "certificate") c ms refl) is.ends;
+      times = subst (λ (o : Option Data). AreTimesIfAny m.journal o m.times) (other (codes "times") (codes "certificate") c ms refl) is.times;
     }
 
 -- ---- the document
@@ -59,6 +65,8 @@ spelled_put ms s ds is = record {
   certificate = refl;
   journal = is.journal;
   start = is.start;
+  ended = is.ended;
+  times = is.times;
 }
 
 read_back : (n : Names) (trees : List Tree) → All (IsReadBack n) trees → AllRead (ReadsAs n) (map (λ t. tree_data (named n t)) trees) trees
@@ -72,9 +80,13 @@ document_put s doc trees is all = record {
   valid = is.valid;
   graph = is.graph;
   claims = is.claims;
+  names = is.names;
   certificate = read_back doc.graph.names trees all;
   journal = is.journal;
   start = is.start;
+  known = is.known;
+  ended = is.ended;
+  times = is.times;
 }
 
 pub is_read_back : (bytes with : List ℕ) (doc : DocumentValue) (trees : List Tree) → Spells bytes doc → All (IsReadBack doc.graph.names) trees → HoldsCertificate bytes (certificate_data doc.graph.names trees) with → length with ≤ longest → Spells with (record doc { certificate = trees })

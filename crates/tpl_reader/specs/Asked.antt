@@ -1,6 +1,7 @@
 -- Claims with ids in place of names, and what is wrong with one.
-use Rattle.std.specs.Prelude.{◌≡◌, ℕ, zero, suc, ◌&&◌, ◌||◌, Bool, true, false, List, [], ◌∷◌, ◌++◌, length, Option, Some, None, map, filter, is_some, option_map, Result, Ok, Err, if◌then◌else◌}
+use Rattle.std.specs.Prelude.{◌≡◌, ℕ, zero, suc, ◌&&◌, ◌||◌, Bool, true, false, List, [], ◌∷◌, ◌++◌, ◌-◌, length, take, Option, Some, None, map, filter, is_some, option_map, Result, Ok, Err, if◌then◌else◌}
 use Rattle.std.specs.List.{list_all, list_any}
+use Rattle.std.specs.Str.{bytes_eq}
 use Rattle.tpl_words.specs.declared.ids.TaskId.{TaskId}
 use Rattle.tpl_words.specs.declared.ids.TokenId.{TokenId}
 use Rattle.tpl_words.specs.declared.ids.InputId.{InputId}
@@ -14,8 +15,10 @@ use Rattle.tpl_graph.specs.Fits.{have_bodies, is_of_one_thing, given_twice, Fits
 use Rattle.tpl_draft.specs.Named.{Names, Named}
 use Rattle.tpl_cert.specs.Naming.{number_of}
 use Rattle.tpl_parts.specs.NamedClaims.{NamedGiven, GivenInput, GivenQuiet, GivenEnded, GivenSucceeds, GivenNoFailure, GivenNoRequest, NamedProperty, EndsIn, After, Observed, Never, Excludes, Runs, NamedClaim}
+use Rattle.tpl_json.specs.Grammar.{AllRead}
 use Rattle.tpl_json.specs.declared.miss.Miss.{Miss}
 use Rattle.tpl_json.specs.declared.miss.Miss.TheVariants as miss
+use Rattle.tpl_reader.specs.Passes.{FirstWrong}
 use Rattle.tpl_reader.specs.declared.fault.ClaimFault.{ClaimFault}
 use Rattle.tpl_reader.specs.declared.fault.ClaimFault.TheVariants as faults
 
@@ -132,6 +135,30 @@ IsWrongClaim g spelled faults.NoBody = (claim : Claim) × IsClaimOf g.names spel
 IsWrongClaim g spelled faults.GivenTwice =
     (claim : Claim) × IsClaimOf g.names spelled claim × (have_bodies g.graph claim.body ≡ true) × (given_twice claim.given || says_twice spelled.given ≡ true)
 
+IsWrongClaim g spelled faults.NameTwice = ⊥
+
+abbrev pub is_same_name : Option (List ℕ) → Option (List ℕ) → Bool
+is_same_name None other = false
+is_same_name (Some name) None = false
+is_same_name (Some name) (Some other) = bytes_eq name other
+
+-- one of these claims has the name of the claim
+abbrev pub has_name_of : List NamedClaim → NamedClaim → Bool
+has_name_of before c = list_any (λ b. is_same_name b.name c.name) before
+
+-- one of these has the name of an earlier one, or of one of those before
+abbrev pub name_again : List NamedClaim → List NamedClaim → Bool
+name_again before [] = false
+name_again before (c ∷ rest) = has_name_of before c || name_again (before ++ c ∷ []) rest
+
+abbrev pub name_twice : List NamedClaim → Bool
+name_twice claims = name_again [] claims
+
+-- what is wrong with a claim behind these: what is wrong with itself, and then that one of these has its name
+abbrev pub IsWrongBehind : Named → List NamedClaim → NamedClaim → ClaimFault → Type 0
+IsWrongBehind g before spelled faults.NameTwice = ((claim : Claim) × IsAsked g spelled claim) × (has_name_of before spelled ≡ true)
+IsWrongBehind g before spelled fault = IsWrongClaim g spelled fault
+
 -- the fault is one of these, unless memory ran out
 abbrev pub Refuses : {F : Type 0} → (F → Type 0) → Miss F → Type 0
 Refuses IsWrong (miss.Wrong f) = IsWrong f
@@ -145,3 +172,18 @@ Takes (Err e) IsTaken IsWrong = Refuses IsWrong e
 abbrev pub IsUnknown : Bool → ClaimFault → Type 0
 IsUnknown known faults.Unknown = known ≡ false
 IsUnknown known fault = ⊥
+
+-- the claims behind each other, as far as the first that can't be asked
+pub record AreAllAsked (g : Named) (spelled : List NamedClaim) (claims : List Claim) : Type 0 where
+  pub each : AllRead (IsAsked g) spelled claims
+  pub names : name_twice spelled ≡ false
+
+-- the n-th claim is the first that can't be asked
+pub record IsFirstNotAsked (g : Named) (spelled : List NamedClaim) (n : ℕ) (fault : ClaimFault) : Type 0 where
+  pub names : name_twice (take (n - 1) spelled) ≡ false
+  pub first : FirstWrong (IsAsked g) (IsWrongBehind g (take (n - 1) spelled)) spelled n fault
+
+abbrev pub PassesClaims : {X : Type 0} → Named → List NamedClaim → (X → List Claim) → Result X (Miss (ℕ × ClaimFault)) → Type 0
+PassesClaims g spelled view (Ok x) = AreAllAsked g spelled (view x)
+PassesClaims g spelled view (Err (miss.Wrong (n, fault))) = IsFirstNotAsked g spelled n fault
+PassesClaims g spelled view (Err miss.Memory) = Unit {0}

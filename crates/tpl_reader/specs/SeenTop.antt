@@ -16,4 +16,6 @@ members_of m = record {
   certificate = map view m.certificate.now;
   journal = m.journal.now;
   start = option_map (λ v. view v.now) m.start;
+  ended = option_map (λ v. view v.now) m.ended;
+  times = option_map (λ v. v.items) m.times;
 }

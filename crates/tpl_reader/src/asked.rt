@@ -1,12 +1,12 @@
 //! Claims with ids in place of names.
 
-ghost use Rattle.std.specs.Prelude.{◌≡◌, ◌||◌, map, length, IfOk, IfErr};
+ghost use Rattle.std.specs.Prelude.{◌≡◌, ◌||◌, false, map, length, IfOk, IfErr};
 ghost use Rattle.std.specs.List.{list_any};
+ghost use Rattle.std.specs.Option.{option_map};
 ghost use Rattle.tpl_graph.specs.Fits.{is_of_one_thing, given_twice};
 ghost use Rattle.tpl_json.specs.declared.miss.Miss.TheVariants.{Memory};
 ghost use Rattle.tpl_parts.specs.SeenClaims.{given_of, property_of, claim_of};
-ghost use Rattle.tpl_reader.specs.Asked.{task_in, token_in, input_in, site_in, given_in, pair_in, property_in, is_no_failure, is_no_request, is_single, with_jobs, with_tokens, with_all_jobs, with_all, AreSingles, knows_given, is_said_again, says_twice, IsAsked, IsWrongClaim, Takes, IsUnknown};
-ghost use Rattle.tpl_reader.specs.Passes.{Passes, Here};
+ghost use Rattle.tpl_reader.specs.Asked.{task_in, token_in, input_in, site_in, given_in, pair_in, property_in, is_no_failure, is_no_request, is_single, with_jobs, with_tokens, with_all_jobs, with_all, AreSingles, knows_given, is_said_again, says_twice, IsAsked, IsWrongClaim, is_same_name, has_name_of, IsWrongBehind, PassesClaims, Takes, IsUnknown};
 
 use crate::fault::ClaimFault;
 use std::alloc::Global;
@@ -294,20 +294,43 @@ fn claim_in(alloc: Global, graph: &Graph, claim: &NamedClaim) -> Result<Claim, M
     Ok(Claim::new(given, body))
 }
 
-fn numbered_claim(
+fn is_same_name(one: Option<&str>, other: Option<&str>) -> bool
+    ensures { result ≡ is_same_name (option_map (λ s. s.now) one.entry)
+        (option_map (λ s. s.now) other.entry) }
+{
+    match (one, other) {
+        (Some(one), Some(other)) => one == other,
+        _ => false,
+    }
+}
+
+fn has_name_of(before: &[NamedClaim], claim: &NamedClaim) -> bool
+    ensures { result ≡ has_name_of (map claim_of before.now) (claim_of claim.now) }
+{
+    for one in before {
+        if is_same_name(one.name, claim.name) {
+            return true;
+        }
+    }
+    false
+}
+
+/// The claim behind these.
+fn claim_behind(
     alloc: Global,
     graph: &Graph,
-    number: usize,
+    before: &[NamedClaim],
     claim: &NamedClaim,
-) -> Result<Claim, Miss<(usize, ClaimFault)>>
-    ensures { Here (IsAsked graph.now) (IsWrongClaim graph.now) (claim_of claim.now) number (λ c. c)
-        result }
+) -> Result<Claim, Miss<ClaimFault>>
+    ensures { Takes result (λ c. IsAsked graph.now (claim_of claim.now) c
+        × (has_name_of (map claim_of before.now) (claim_of claim.now) ≡ false))
+        (IsWrongBehind graph.now (map claim_of before.now) (claim_of claim.now)) }
 {
-    match claim_in(alloc, graph, claim) {
-        Ok(claim) => Ok(claim),
-        Err(Miss::Wrong(fault)) => Err(Miss::Wrong((number, fault))),
-        Err(Miss::Memory) => Err(Miss::Memory),
+    let asked = claim_in(alloc, graph, claim)?;
+    if has_name_of(before, claim) {
+        return Err(Miss::Wrong(ClaimFault::NameTwice));
     }
+    Ok(asked)
 }
 
 /// The claims with ids in place of names, as far as the first that can't be asked of the graph.
@@ -316,13 +339,15 @@ pub(crate) fn claims_in(
     graph: &Graph,
     claims: &[NamedClaim],
 ) -> Result<Vec<Claim>, Miss<(usize, ClaimFault)>>
-    ensures { Passes (IsAsked graph.now) (IsWrongClaim graph.now) (map claim_of claims.now)
-        (λ v. v.items) result }
+    ensures { PassesClaims graph.now (map claim_of claims.now) (λ v. v.items) result }
 {
     let mut asked = Vec::new(alloc);
     for (index, claim) in claims.iter().enumerate() {
-        let one = numbered_claim(alloc, graph, index + 1, claim)?;
-        asked.push(one)?;
+        match claim_behind(alloc, graph, &claims[..index], claim) {
+            Ok(one) => asked.push(one)?,
+            Err(Miss::Wrong(fault)) => return Err(Miss::Wrong((index + 1, fault))),
+            Err(Miss::Memory) => return Err(Miss::Memory),
+        }
     }
     Ok(asked)
 }

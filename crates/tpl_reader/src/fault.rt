@@ -41,6 +41,9 @@ pub enum ClaimFault {
     /// An input, a token, the end of a task or a job is given twice, or that no job fails, or that no token is requested.
     #[error("GivenTwice")]
     GivenTwice,
+    /// An earlier claim has its name.
+    #[error("NameTwice")]
+    NameTwice,
 }
 
 /// What is wrong with the start of a run. The least that applies is named, in this order.

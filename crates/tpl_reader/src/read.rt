@@ -1,6 +1,6 @@
 //! From bytes to a document.
 
-ghost use Rattle.std.specs.Prelude.{◌≡◌, ◌≤◌, ℕ, List, length, map, string_bytes, IfOk, IfErr};
+ghost use Rattle.std.specs.Prelude.{◌≡◌, ◌≤◌, ℕ, List, Option, true, length, map, string_bytes, IfOk, IfErr};
 ghost use Rattle.std.specs.List.{All};
 ghost use Rattle.std.specs.Option.{option_map};
 ghost use Rattle.serde_json.specs.Data.{depth};
@@ -16,12 +16,15 @@ ghost use Rattle.tpl_parts.specs.SeenClaims.{claim_of};
 ghost use Rattle.tpl_parts.specs.SeenStart.{start_of};
 ghost use Rattle.tpl_reader.specs.SeenDocument.{value_of, doc_of, spelled_of, spelled_with};
 ghost use Rattle.tpl_json.specs.Grammar.{AllRead};
-ghost use Rattle.tpl_reader.specs.Document.{most_claims, AreAsked, IsStarted, GraphFaults, ClaimFaults, TreeFaults, StartFaults, IsDocument, IsRefused, longest, Reads, Spells, IsFault};
+ghost use Rattle.tpl_reader.specs.Ends.{knows_ends, ends_in};
+ghost use Rattle.tpl_reader.specs.declared.fault.ReadFault.TheVariants.{Memory};
+ghost use Rattle.tpl_reader.specs.Document.{most_claims, AreAsked, IsStarted, GraphFaults, ClaimFaults, TreeFaults, BeginFaults, StartFaults, IsDocument, IsRefused, longest, Reads, Spells, IsFault};
 
 use crate::asked::claims_in;
 use crate::begin::start_in;
 use crate::document::{Document, Start};
-use crate::fault::{ClaimFault, ReadFault};
+use crate::ends::{ends_in, knows_ends};
+use crate::fault::{ClaimFault, ReadFault, StartFault};
 use crate::hear::{Hear, Misread, Unheard};
 use crate::shape::{NamedRest, Shaped, shape_of};
 use crate::trees::trees_in;
@@ -31,6 +34,7 @@ use tpl_cert::{Certificate, Tree, TreeFault};
 use tpl_graph::{Claim, Draft, Graph, Why};
 use tpl_json::{Miss, NotRead, value_from};
 use tpl_parts::{NamedClaim, NamedStart, Version};
+use tpl_words::{Final, TaskId};
 
 /// The most bytes of a document (this program's own limit).
 pub const LONGEST: usize = 16_777_216;
@@ -101,7 +105,7 @@ fn start_for(
 ) -> Result<Option<Start>, ReadFault>
     ensures ok { IfOk result (λ o. IsStarted graph.now (option_map start_of start.now)
         (option_map value_of o)) }
-    ensures err { IfErr result (StartFaults graph.now (option_map start_of start.now)) }
+    ensures err { IfErr result (BeginFaults graph.now (option_map start_of start.now)) }
 {
     match start {
         None => Ok(None),
@@ -113,13 +117,66 @@ fn start_for(
     }
 }
 
+/// The start, where the ends that were seen are those of tasks.
+fn start_beside(
+    alloc: Global,
+    graph: &Graph,
+    start: &Option<NamedStart>,
+    ended: Option<&Value<'_>>,
+) -> Result<Option<Start>, ReadFault>
+    ensures ok { IfOk result (λ o. IsStarted graph.now (option_map start_of start.now)
+        (option_map value_of o)) }
+    ensures known { IfOk result (λ _. knows_ends graph.now.names.tasks
+        (option_map (λ v. view v.now) ended.entry) ≡ true) }
+    ensures err { IfErr result (StartFaults graph.now (option_map start_of start.now)
+        (option_map (λ v. view v.now) ended.entry)) }
+{
+    if !knows_ends(graph, ended) {
+        return Err(ReadFault::Start(StartFault::Unknown));
+    }
+    match start_for(alloc, graph, start) {
+        Ok(start) => Ok(start),
+        Err(fault) => Err(fault),
+    }
+}
+
+/// The name of the claim, in memory of its own. Out of memory is the only error.
+fn name_of(alloc: Global, claim: &NamedClaim) -> Result<Option<String>, ReadFault>
+    ensures ok { IfOk result (λ o. option_map string_bytes o ≡ (claim_of claim.now).name) }
+    ensures err { IfErr result (λ e. e ≡ Memory) }
+{
+    match claim.name {
+        None => Ok(None),
+        Some(name) => {
+            let name = String::from_str(alloc, name)?;
+            Ok(Some(name))
+        }
+    }
+}
+
+/// The names of the claims, in memory of their own. Out of memory is the only error.
+fn names_of(alloc: Global, claims: &[NamedClaim]) -> Result<Vec<Option<String>>, ReadFault>
+    ensures ok { IfOk result (λ v. map (λ n. option_map string_bytes n) v.items
+        ≡ map (λ c. c.name) (map claim_of claims.now)) }
+    ensures err { IfErr result (λ e. e ≡ Memory) }
+{
+    let mut names = Vec::new(alloc);
+    for claim in claims {
+        let name = name_of(alloc, claim)?;
+        names.push(name)?;
+    }
+    Ok(names)
+}
+
 /// What a document has beside its graph.
 #[derive(Drop)]
 struct Rest {
     claims: Vec<Claim>,
+    names: Vec<Option<String>>,
     trees: Vec<Tree>,
     journal: String,
     start: Option<Start>,
+    ended: Vec<(TaskId, Final)>,
 }
 
 /// The rest of a document with this graph.
@@ -136,18 +193,28 @@ fn rest_of(
     ensures journal { IfOk result (λ r. string_bytes r.journal ≡ named.now.journal.now) }
     ensures start { IfOk result (λ r. IsStarted graph.now (option_map start_of named.now.start)
         (option_map value_of r.start)) }
-    ensures err { IfErr result (λ e. (d : spec.Draft) → IsValid d → graph.now ≡ numbered d
-        → IsRefused (spelled_with version d named.now) e) }
+    ensures names { IfOk result (λ r. map (λ n. option_map string_bytes n) r.names.items
+        ≡ map (λ c. c.name) (map claim_of named.now.claims.items)) }
+    ensures known { IfOk result (λ _. knows_ends graph.now.names.tasks
+        (option_map (λ v. view v.now) named.now.ended) ≡ true) }
+    ensures ended { IfOk result (λ r. r.ended.items ≡ ends_in graph.now.names.tasks
+        (option_map (λ v. view v.now) named.now.ended)) }
+    ensures err { IfErr result (λ e. (d : spec.Draft) (times : Option (List ℕ)) → IsValid d
+        → graph.now ≡ numbered d → IsRefused (spelled_with version d named.now times) e) }
 {
     let journal = String::from_str(alloc, named.journal)?;
     let claims = claims_for(alloc, version, graph, &named.claims)?;
     let trees = trees_for(alloc, graph, named.certificate)?;
-    let start = start_for(alloc, graph, &named.start)?;
+    let start = start_beside(alloc, graph, &named.start, named.ended)?;
+    let names = names_of(alloc, &named.claims)?;
+    let ended = ends_in(alloc, graph, named.ended)?;
     Ok(Rest {
         claims,
+        names,
         trees,
         journal,
         start,
+        ended,
     })
 }
 
@@ -163,9 +230,12 @@ fn document_of(alloc: Global, shaped: Shaped) -> Result<Document, ReadFault>
         version: shaped.version,
         graph,
         claims: rest.claims,
+        names: rest.names,
         certificate: Certificate::new(rest.trees),
         journal: rest.journal,
         start: rest.start,
+        ended: rest.ended,
+        times: shaped.times,
     })
 }
 

@@ -32,6 +32,7 @@ pub(crate) struct NamedRest<'v, 't> {
     pub(crate) certificate: &'v [Value<'t>],
     pub(crate) journal: &'v str,
     pub(crate) start: Option<NamedStart<'v, 't>>,
+    pub(crate) ended: Option<&'v Value<'t>>,
 }
 
 /// A document with names.
@@ -40,6 +41,7 @@ pub(crate) struct Shaped<'v, 't> {
     pub(crate) version: Version,
     pub(crate) draft: Draft,
     pub(crate) rest: NamedRest<'v, 't>,
+    pub(crate) times: Option<Vec<u64>>,
 }
 
 fn top_part<'v, 't>(alloc: Global, value: &'v Value<'t>) -> Result<Members<'v, 't>, Miss<Part>>
@@ -53,12 +55,16 @@ fn top_part<'v, 't>(alloc: Global, value: &'v Value<'t>) -> Result<Members<'v, '
     }
 }
 
-fn task_part(alloc: Global, values: &[Value<'_>]) -> Result<Vec<DraftTask>, Miss<Part>>
+fn task_part(
+    alloc: Global,
+    version: Version,
+    values: &[Value<'_>],
+) -> Result<Vec<DraftTask>, Miss<Part>>
     requires { AreShallow (map view values.now) }
-    ensures { Takes result (λ v. AllRead IsTask (map view values.now) (map task_of v.items))
-        (WrongTask (map view values.now)) }
+    ensures { Takes result (λ v. AllRead (IsTask version) (map view values.now)
+        (map task_of v.items)) (WrongTask version (map view values.now)) }
 {
-    match tasks_of(alloc, values) {
+    match tasks_of(alloc, version, values) {
         Ok(tasks) => Ok(tasks),
         Err(Miss::Wrong((number, _))) => Err(Miss::Wrong(Part::Task(number))),
         Err(Miss::Memory) => Err(Miss::Memory),
@@ -104,7 +110,7 @@ pub(crate) fn shape_of<'v, 't>(
         (IsMisshapen (view value.now)) }
 {
     let members = top_part(alloc, value)?;
-    let tasks = task_part(alloc, members.tasks)?;
+    let tasks = task_part(alloc, members.version, members.tasks)?;
     let claims = claim_part(alloc, members.version, members.claims)?;
     let start = start_part(alloc, members.start)?;
     let draft = Draft {
@@ -117,10 +123,12 @@ pub(crate) fn shape_of<'v, 't>(
         certificate: members.certificate,
         journal: members.journal,
         start,
+        ended: members.ended,
     };
     Ok(Shaped {
         version: members.version,
         draft,
         rest,
+        times: members.times,
     })
 }

@@ -43,4 +43,6 @@ returns c = record {
   certificate = refl;
   journal = refl;
   start = c.in_ok-start.ensures;
+  ended = refl;
+  times = refl;
 }

@@ -1,0 +1,20 @@
+-- The ends that were seen, of one task after another.
+use Rattle.std.proofs.Common.{◌≡◌, ℕ, zero, suc, ◌+◌, List, [], ◌∷◌, Option, Some, None, refl, sym, ap, ◌∙◌, add-one}
+use Rattle.std.specs.Prelude.{option_and_then, slice_get}
+use Rattle.serde_json.specs.Data.{Data}
+use Rattle.serde_json.specs.Find.{get}
+use Rattle.tpl_words.specs.declared.ids.TaskId.{TaskId}
+use Rattle.tpl_words.specs.declared.finals.Final.{Final}
+use Rattle.tpl_json.specs.Finals.{final_at}
+use Rattle.tpl_json.proofs.Arrays.{some_is}
+use Rattle.tpl_cert.specs.Written.{name_at}
+use Rattle.tpl_reader.specs.Ends.{with_end, ends_below}
+
+name_is : (names : List (List ℕ)) (i : ℕ) (name : List ℕ) → slice_get names i ≡ Some name → name_at names i ≡ name
+name_is [] i name e = absurd cc
+name_is (n ∷ names) zero name e = some_is n name e
+name_is (n ∷ names) (suc i) name e = name_is names i name e
+
+pub ends_more : (tasks : List (List ℕ)) (d : Data) (t : ℕ) (name : List ℕ) (o : Option Final) (ends : List (TaskId × Final)) → slice_get tasks t ≡ Some name → ends ≡ ends_below tasks d t → o ≡ option_and_then final_at (get name d)
+    → with_end (record { 0 = t }) o ends ≡ ends_below tasks d (t + 1)
+ends_more tasks d t name o ends named before is = rw (before, is, ← name_is tasks t name named, add-one) refl
