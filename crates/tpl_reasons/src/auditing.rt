@@ -181,7 +181,7 @@ pub(crate) fn run_text(
 
 /// At which event a claim fails, and whether no thread makes the run.
 fn fails_text(alloc: Global, document: &Document, failure: Failure) -> Said {
-    let claim = claim_text(alloc, &document.graph, &document.claims, failure.claim)?;
+    let claim = claim_text(alloc, document, failure.claim)?;
     if failure.place == 0 {
         return format!(in alloc; "{claim} fails before the first event\n");
     }

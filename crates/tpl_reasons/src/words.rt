@@ -3,6 +3,7 @@
 use std::alloc::{AllocError, Global};
 use tpl_graph::{Claim, Graph};
 use tpl_model::{Given, Property};
+use tpl_reader::Document;
 use tpl_words::{Actor, Final, Finals, InputId, Inputs, SiteId, TaskId, TaskSet, TokenId};
 
 /// A text; out of memory is the only error.
@@ -216,13 +217,22 @@ pub fn claim_words(alloc: Global, graph: &Graph, claim: &Claim) -> Result<String
     format!(in alloc; "{property}, where {given}")
 }
 
-/// The claim of this number, counted from 1: `claim 3 (B begins only after A is settled)`.
-pub(crate) fn claim_text(alloc: Global, graph: &Graph, claims: &[Claim], number: usize) -> Said {
-    for (at, claim) in claims.iter().enumerate() {
-        if at + 1 == number {
-            let words = claim_words(alloc, graph, claim)?;
-            return format!(in alloc; "claim {number} ({words})");
-        }
+/// The number of a claim and its name, if it has one: `claim 3 "B is last"`.
+fn number_text(alloc: Global, document: &Document, number: usize) -> Said {
+    match document.names.get(number.saturating_sub(1)) {
+        Some(Some(name)) => format!(in alloc; "claim {number} \"{name}\""),
+        _ => format!(in alloc; "claim {number}"),
     }
-    format!(in alloc; "claim {number}")
+}
+
+/// The claim of this number, counted from 1: `claim 3 "B is last" (B begins only after A is settled)`.
+pub(crate) fn claim_text(alloc: Global, document: &Document, number: usize) -> Said {
+    let named = number_text(alloc, document, number)?;
+    match document.claims.get(number.saturating_sub(1)) {
+        Some(claim) => {
+            let words = claim_words(alloc, &document.graph, claim)?;
+            format!(in alloc; "{named} ({words})")
+        }
+        None => Ok(named),
+    }
 }

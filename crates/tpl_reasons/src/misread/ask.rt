@@ -3,8 +3,9 @@
 use crate::misread::form::Form;
 use json::Value;
 use std::alloc::{AllocError, Global};
-use tpl_json::{bool_of, final_of, find, list_of, number_of, text_in, text_of};
-use tpl_parts::has_truths;
+use tpl_json::{Miss, Shape, bool_of, final_of, find, list_of, number_of, text_in, text_of};
+use tpl_parts::{has_ends, has_truths, is_claim_name};
+use tpl_reader::line_breaks;
 use tpl_words::LONGEST_NAME;
 
 /// What is looked for.
@@ -160,17 +161,46 @@ fn has_word(form: Form, value: &Value<'_>) -> bool {
     }
 }
 
+/// Whether it is a list of whole numbers, one for each line break of the journal, none less than the one before.
+fn has_times(document: &Value<'_>, value: &Value<'_>) -> bool {
+    let Ok(times) = list_of(value) else {
+        return false;
+    };
+    let mut before = 0;
+    for time in times {
+        match number_of(time) {
+            Ok(number) if number >= before => before = number,
+            _ => return false,
+        }
+    }
+    times.len() == line_breaks(text_or_empty(document, "journal"))
+}
+
+/// Whether the answer to a question that may run out of memory is yes.
+fn answered(answer: Result<bool, Miss<Shape>>) -> Result<bool, AllocError> {
+    match answer {
+        Ok(has) => Ok(has),
+        Err(_) => Err(AllocError),
+    }
+}
+
 /// Whether the value itself has the right shape, whatever is in it.
-fn fits(alloc: Global, third: bool, form: Form, value: &Value<'_>) -> Result<bool, AllocError> {
+fn fits(
+    alloc: Global,
+    document: &Value<'_>,
+    third: bool,
+    form: Form,
+    value: &Value<'_>,
+) -> Result<bool, AllocError> {
     match form {
         Form::Anything => Ok(true),
         Form::Version => Ok(matches!(number_of(value), Ok(1..=3))),
         Form::Truth => Ok(bool_of(value).is_ok()),
         Form::Final | Form::Subject => Ok(final_of(value).is_ok()),
-        Form::Truths => match has_truths(alloc, value) {
-            Ok(has) => Ok(has),
-            Err(_) => Err(AllocError),
-        },
+        Form::Truths => answered(has_truths(alloc, value)),
+        Form::Ends => answered(has_ends(alloc, value)),
+        Form::Times => Ok(has_times(document, value)),
+        Form::ClaimName => Ok(matches!(text_of(value), Ok(name) if is_claim_name(name))),
         _ if !form.choices(third).is_empty() => Ok(false),
         _ if form.is_list() => Ok(has_length(form, value)),
         _ if form.is_object() => Ok(has_members(third, form, value)),
@@ -220,7 +250,7 @@ pub(crate) fn is_asked(
     value: &Value<'_>,
 ) -> Result<bool, AllocError> {
     match ask {
-        Ask::Misfit => Ok(!fits(alloc, third, form, value)?),
+        Ask::Misfit => Ok(!fits(alloc, document, third, form, value)?),
         Ask::Form(wanted) => Ok(form.is(wanted)),
         Ask::LongList => Ok(is_long(form, value)),
         Ask::Job(site) => Ok(matches!(form, Form::Work) && text_or_empty(value, "work") == site),

@@ -104,12 +104,18 @@ pub(crate) enum Form {
     SureSite,
     /// A task of whose end something is given.
     EndedTask,
+    ClaimName,
+    Note,
+    /// How tasks were seen to end: a final status for each.
+    Ends,
+    /// When the lines of the journal were written.
+    Times,
     /// What no reader looks at, or another part has.
     Anything,
 }
 
 /// What stands at a member, by its name, save where its object says otherwise.
-const MEMBERS: [(&str, Form); 49] = [
+const MEMBERS: [(&str, Form); 52] = [
     ("ends", Form::Finals),
     ("runs", Form::Truth),
     ("may_fail", Form::Truth),
@@ -158,7 +164,10 @@ const MEMBERS: [(&str, Form); 49] = [
     ("tasks", Form::Tasks),
     ("claims", Form::Claims),
     ("certificate", Form::Trees),
+    ("ended", Form::Ends),
+    ("times", Form::Times),
     ("succeeds", Form::SureSite),
+    ("note", Form::Note),
 ];
 
 /// The forms of claims.
@@ -195,7 +204,31 @@ impl Form {
     /// What version 3 has in the place of what version 2 has.
     fn names_of_third(self) -> &'static [&'static str] {
         match self {
-            Form::RunsClaim => &["runs", "given"],
+            Form::Top => &[
+                "version",
+                "tasks",
+                "inputs",
+                "tokens",
+                "claims",
+                "certificate",
+                "journal",
+                "start",
+                "note",
+                "ended",
+                "times",
+            ],
+            Form::Task => &[
+                "name", "kind", "after", "of", "body", "token", "options", "note",
+            ],
+            Form::Started => &["name", "kind", "body", "token", "options", "note"],
+            Form::Then => &["name", "kind", "after", "body", "token", "options", "note"],
+            Form::Join => &["name", "kind", "of", "note"],
+            Form::FinalClaim => &["final", "in", "given", "name", "note"],
+            Form::AfterClaim => &["after", "given", "name", "note"],
+            Form::ObservedClaim => &["observed", "given", "name", "note"],
+            Form::NeverClaim => &["never", "given", "name", "note"],
+            Form::ExcludesClaim => &["excludes", "given", "name", "note"],
+            Form::RunsClaim => &["runs", "given", "name", "note"],
             Form::GivenEnd => &["ended", "in"],
             Form::GivenJob => &["succeeds"],
             _ => self.names_of_second(),
@@ -282,6 +315,7 @@ impl Form {
             Form::StartChild => Form::Child,
             Form::GivenEnd if name == "ended" => Form::EndedTask,
             Form::RunsClaim if name == "runs" => Form::Begun,
+            _ if name == "name" && self.is_claim() => Form::ClaimName,
             _ => form_of(name),
         }
     }
@@ -404,6 +438,11 @@ impl Form {
     pub(crate) fn is_statement(self) -> bool {
         let mut others = Form::Statement.choices(true).iter();
         self.is(Form::Word) || others.any(|choice| choice.is(self))
+    }
+
+    /// Whether it is the form of a claim that says one thing.
+    fn is_claim(self) -> bool {
+        CLAIMS.iter().any(|claim| claim.is(self))
     }
 
     /// Whether it is the same form.

@@ -92,6 +92,7 @@ impl Form {
             Form::AfterPair | Form::Pair => "a list of two tasks' names",
             Form::Rows => "a list of rows, one for each task",
             Form::Sites => "a list of sites' names",
+            Form::Times => "a list of whole numbers, one for each line break of the journal, none less than the one before",
             _ => "",
         }
     }
@@ -110,6 +111,9 @@ impl Form {
             Form::Given => "{\"input\": name, \"is\": true or false} or {\"quiet\": token}",
             Form::GivenWord => "a word for what is given of all",
             Form::Version => "1, 2 or 3, written as an integer",
+            Form::ClaimName => "a claim's name, 1 to 100 bytes of text without control characters",
+            Form::Note => "a note, which is a text",
+            Form::Ends => "an object with the final status of each task that was seen to end",
             Form::Journal => "the journal, one text",
             Form::Argument => {
                 "one task's name (for several tasks, name a task of kind \"all\" or \"any\")"
