@@ -50,6 +50,7 @@ fn styled(
     style: Style,
     graph: &Graph,
     claims: &[Claim],
+    names: &[Option<String>],
     verdicts: &[Verdict],
     searched: &Searched,
 ) -> Result<String, AllocError>
@@ -59,9 +60,9 @@ fn styled(
         IsStyled style graph.now.names verdicts.now (string_bytes text)) }
 {
     match style {
-        Style::Text => text_of(alloc, graph, claims, verdicts, searched),
-        Style::Json => json_of(alloc, graph, claims, verdicts),
-        Style::Junit => junit_of(alloc, graph, claims, verdicts, searched),
+        Style::Text => text_of(alloc, graph, claims, names, verdicts, searched),
+        Style::Json => json_of(alloc, graph, claims, names, verdicts),
+        Style::Junit => junit_of(alloc, graph, claims, names, verdicts, searched),
     }
 }
 
@@ -82,7 +83,8 @@ fn answer_of(
     let graph = &document.graph;
     let rules = rules_of(document);
     let searched = Searched { depth, rules };
-    let text = styled(alloc, style, graph, &document.claims, verdicts, &searched)?;
+    let (claims, names) = (&document.claims, &document.names);
+    let text = styled(alloc, style, graph, claims, names, verdicts, &searched)?;
     let exit = exit_of(graph, &document.claims, verdicts);
     Ok(Answer { exit, text })
 }
