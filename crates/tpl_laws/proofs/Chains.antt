@@ -43,7 +43,7 @@ unbegun_rest g v (e ∷ h) t run b =
     before : (x : Act) (o : Option Actor) → begun h t ≡ o → (if begun_by x t then Some e.actor else begun h t) ≡ None → begun h t ≡ None
     before x o same q = pick (begun_by x t) (begun h t) q
 
-none_of : (A : Type 0) (o : Option A) → (is_some o ≡ true → ⊥) → o ≡ None
+pub none_of : (A : Type 0) (o : Option A) → (is_some o ≡ true → ⊥) → o ≡ None
 none_of A None n = refl
 none_of A (Some x) n = absurd (n refl)
 

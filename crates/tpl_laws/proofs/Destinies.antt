@@ -22,6 +22,7 @@ use Rattle.tpl_laws.proofs.Ready.{Ready, begun_ready, IsBody, begun_body, drop_b
 use Rattle.tpl_laws.proofs.Settling.{no_task}
 use Rattle.tpl_laws.proofs.Carrying.{Ends, drops, leaves, settled, how_ends, worse_faulted}
 use Rattle.tpl_laws.proofs.Chains.{ended_begun}
+use Rattle.tpl_laws.proofs.WideRows.{end_or}
 
 -- how WhenAll ends where its arguments end so
 abbrev pub fold_all : List ℕ → (ℕ → Final) → Final
@@ -101,11 +102,6 @@ destiny_open g v h t valid e =
     ap (λ z. bound_to z (options g t) (kind g t) (bound_within g v h t)) e
     ∙ same_bound None (options g t) (kind g t) (bound_within g v h t) (destiny g v h)
       (λ x w. let less : x < t = waits_before g t x valid w in bound_same g v h valid t (suc x) x less (omega arith))
-
--- how a task has ended, or RanToCompletion
-abbrev end_or : Option Ending → Final
-end_or None = RanToCompletion
-end_or (Some e) = e.final
 
 -- a WhenAll task that has ended ended as its arguments did
 abbrev AllEnded : TaskGraph → List Bool → List Event → List ℕ → Final → Type 0

@@ -12,7 +12,8 @@ use Rattle.tpl_model.specs.declared.event.Act.{Act}
 use Rattle.tpl_model.specs.declared.event.Act.TheVariants.{Request, Release, Begin, Step, Worked, Leave, Close, Drop, Settle}
 use Rattle.tpl_model.specs.declared.event.Event.{Event}
 use Rattle.tpl_model.specs.Facts.{Rest, Ending, on, over, begun, stepped, worked, final_in, winner_of, rest, requested, failed, fails_by, is_work, ending, is_cancel, subject_in, subject_of, has_final, is_end, requested_itself}
-use Rattle.tpl_script.specs.Paths.{cancellation, Known, Passes, EndsPassing}
+use Rattle.tpl_script.specs.Paths.{cancellation, Known, Passes}
+pub use Rattle.tpl_script.proofs.KnownPaths.{FollowsBy}
 use Rattle.tpl_model.specs.Rules.{final, subject, MayStart, Allows, Run, steps, works}
 use Rattle.tpl_model.specs.Claims.{input}
 use Rattle.tpl_model.specs.Valid.{HasSubject}
@@ -83,10 +84,6 @@ has_subject g v h t a run b k =
     by_kind (WhenAll args) e f m = (a, f, refl, m)
 
 -- what is left of a body after these statements, or the verdict with which it ended
-abbrev pub FollowsBy : Known → Statements → Option Outcome → Statements → List Statement → Type 0
-FollowsBy w body None left ps = Passes w body ps left
-FollowsBy w body (Some verdict) left ps = (left ≡ Nothing) × EndsPassing w body ps verdict
-
 abbrev pub Follows : Known → Statements → Rest → List Statement → Type 0
 Follows w body r ps = FollowsBy w body r.outcome r.left ps
 

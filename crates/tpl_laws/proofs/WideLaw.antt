@@ -21,6 +21,7 @@ use Rattle.tpl_laws.proofs.Wider.{more_is_assumed_lem}
 use Rattle.tpl_laws.proofs.Destinies.{narrowed_less}
 use Rattle.tpl_laws.specs.WiderSoundness.{TokensAreMore, TokensAcceptMore}
 use Rattle.tpl_laws.proofs.Basics.{is_some_of}
+use Rattle.tpl_laws.proofs.Chains.{none_of}
 
 -- the rows are the same, and say nothing of tokens
 pub plain_wide : (rows : List Row) → plain (as_wide rows) ≡ rows
@@ -47,10 +48,6 @@ some_end rows t e =
       | inl q ↦ (RanToCompletion, q)
       | inr d ↦ elim (or_cases (has (row rows t).ends Canceled) (has (row rows t).ends Faulted) d) [ inl q ↦ (Canceled, q) | inr q ↦ (Faulted, q) ]
     ]
-
-none_of : {A : Type 0} (o : Option A) → (is_some o ≡ true → ⊥) → o ≡ None
-none_of None n = refl
-none_of (Some x) n = absurd (n refl)
 
 module _ (g : TaskGraph) (l : Assumed) (rows : List WideRow) (nothing : (t : ℕ) → ((wide_row rows t).asked ≡ []) × ((wide_row rows t).asks ≡ [])) (closed : Closed g l (plain rows)) where
   abbrev flat : List Row
@@ -205,7 +202,7 @@ proves_more g l rows (Observed t) (inl p) = inl p
 proves_more g l rows (Observed t) (inr (inl p)) = inr (inl p)
 proves_more g l rows (Observed t) (inr (inr (inl p))) = inr (inr (inl p))
 proves_more g l rows (Observed t) (inr (inr (inr (inl p)))) =
-    inr (inr (inr (inl (none_of (at_throw (reading g l rows t.0) (asked_of rows t.0) (body g t.0)) (λ e. p (may_throw (reading g l rows t.0) (asked_of rows t.0) (body g t.0) e))))))
+    inr (inr (inr (inl (none_of Knowledge (at_throw (reading g l rows t.0) (asked_of rows t.0) (body g t.0)) (λ e. p (may_throw (reading g l rows t.0) (asked_of rows t.0) (body g t.0) e))))))
 proves_more g l rows (Observed t) (inr (inr (inr (inr p)))) = inr (inr (inr (inr p.1)))
 proves_more g l rows (EndsIn t ends) p = p
 proves_more g l rows (After a b) p = p

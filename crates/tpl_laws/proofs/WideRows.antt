@@ -1,6 +1,6 @@
 -- What a leaf that is closed by the wider rules says of a run, where a task begins or ends.
 use Rattle.std.proofs.Common.{◌≡◌, ℕ, ◌&&◌, ◌||◌, ◌⊎◌, inl, inr, not, Bool, true, false, if◌then◌else◌, Option, Some, None, List, [], ◌∷◌, refl, sym, ap, ◌∙◌, subst, nat_eq, is_some}
-use Rattle.std.proofs.lemmas.Bool.{cases_Bool, or_cases}
+use Rattle.std.proofs.lemmas.Bool.{cases_Bool, or_cases, or_left}
 use Rattle.tpl_words.proofs.Truths.{true_false}
 use Rattle.tpl_words.specs.declared.finals.Final.{Final}
 use Rattle.tpl_words.specs.declared.finals.Final.TheVariants.{RanToCompletion, Canceled, Faulted}
@@ -27,7 +27,7 @@ use Rattle.tpl_model.specs.Valid.{IsGraph}
 use Rattle.tpl_model.specs.Certificate.{Row, row, Assumed, Agrees, is_loud, view, may_end}
 use Rattle.tpl_model.specs.WiderRules.{WideRow, plain, begins_with, ends_with, once_ended, linked, child_end, reading, asked_of, known_at_end, known_at_start, own_among, may_run, WideRunsRule, Way, ByBody, RootDropped, ChildDropped, DroppedEarly, DroppedLate, NotAllowed, way_final, MayEndBy, OwnRequested, SettledBefore, KnownThere, BeforeBegin, HoldsBy, BeginRule, WidelyClosed}
 use Rattle.tpl_laws.specs.WiderSoundness.{FactHolds}
-use Rattle.tpl_laws.proofs.Basics.{if_true, if_false, some_none, the_some, is_some_of, same_number, mem_here}
+use Rattle.tpl_laws.proofs.Basics.{final_same, if_true, if_false, some_none, the_some, is_some_of, same_number, mem_here}
 use Rattle.tpl_laws.proofs.Kept.{after, running_facts, ending_new, final_of, requested_kept, started_kept}
 use Rattle.tpl_laws.proofs.Execution.{pushed, passed, StartedBy, started_parent}
 use Rattle.tpl_laws.proofs.Ready.{Ready, begun_ready, waiting_ready, IsBody}
@@ -99,7 +99,7 @@ passes_started g v [] p c run e = true_false (sym e)
 passes_started g v (ev ∷ h) p c run e = here (λ o. passes_started g v h p c run.0 o) ev.actor ev.act run.1 e
   where
     now : (a : Actor) (x : Act) → starts_by c x (rest g v h) ≡ true → started g v (after a x h) c ≡ true
-    now a x q = Rattle.std.proofs.lemmas.Bool.or_left (starts_by c x (rest g v h)) (started g v h c) q
+    now a x q = or_left (starts_by c x (rest g v h)) (started g v h c) q
 
     here : (passes_start c (passed g v h p) ≡ true → started g v h c ≡ true) → (a : Actor) (x : Act) → Allows g v h a x → passes_start c (passed g v (after a x h) p) ≡ true → started g v (after a x h) c ≡ true
     here old a (Step s) al q =
@@ -167,7 +167,7 @@ pub not_among : (o : Option ℕ) (req known : ℕ → Bool) → token_requested_
 not_among None req known e f = refl
 not_among (Some k) req known e f = elim (cases_Bool (known k)) [ inl q ↦ true_false (sym (f k q) ∙ e) | inr q ↦ q ]
 
--- how the children ended that have
+-- how a task has ended, or RanToCompletion
 abbrev pub end_or : Option Ending → Final
 end_or None = RanToCompletion
 end_or (Some e) = e.final
@@ -187,11 +187,6 @@ if_burdens false x e p f = true_false (sym p)
 facts_if : (b : Bool) (x : ChildEnd) (fact : Fact) → facts_of (if b then Some x else None) fact ≡ true → (b ≡ true) × (x.facts fact ≡ true)
 facts_if true x fact e = (refl, e)
 facts_if false x fact e = true_false (sym e)
-
-faulted_is : (f : Final) → is_final Faulted f ≡ true → f ≡ Faulted
-faulted_is RanToCompletion e = true_false (sym e)
-faulted_is Canceled e = true_false (sym e)
-faulted_is Faulted e = refl
 
 -- a way in which a task ends now, and its facts hold
 pub record WayTaken (g : TaskGraph) (l : Assumed) (rows : List WideRow) (v : List Bool) (h : List Event) (t : ℕ) (k : TaskKind) (f : Final) : Type 0 where
@@ -381,7 +376,7 @@ module _ (g : TaskGraph) (l : Assumed) (rows : List WideRow) (v : List Bool) (h 
         let s = burdened_start child chosen (passed g v h t) e in
         let m = burdens_if (mem s.0 (attached g t)) (an_end s.0) (chosen s.0) s.2 in
         let c = child_over s.0 m.0 s.1 in
-        let f : c.0.final ≡ Faulted = faulted_is c.0.final (subst (λ z. is_final Faulted (end_or z) ≡ true) c.1 m.1) in
+        let f : c.0.final ≡ Faulted = sym (final_same Faulted c.0.final (subst (λ z. is_final Faulted (end_or z) ≡ true) c.1 m.1)) in
         let k : IsBody (kind g s.0) = subst IsBody (sym ((child_rules g t s.0 now.valid (attached_child g t s.0 m.0)).child t (attached_child g t s.0 m.0))) tt in
         let x = faulted_carries g v h s.0 c.0 now.run k c.1 f in
         let there = gathered_adds x.0 s.0 (own_atom t (outcome_in (rest g v h t))) (those_started (attached g t) (started g v h)) (ending g v h)

@@ -10,7 +10,7 @@ use Rattle.tpl_script.specs.declared.outcome.Outcome.{Outcome}
 use Rattle.tpl_script.specs.declared.outcome.Outcome.TheVariants.{Returned, Threw, Acknowledged}
 use Rattle.tpl_script.specs.Statements.{Statement, Return, Throw, Check, Cancel, Start, Observe, Work, If, When, Statements, Nothing, ◌⨾◌, followed_by}
 use Rattle.tpl_words.specs.declared.status.Label.TheVariants.{Thrown, WorkFailed}
-use Rattle.tpl_script.specs.Paths.{cancellation, Known, GoesOn, EndsAt, Passes, EndsPassing, is_start_of, passes_start}
+use Rattle.tpl_script.specs.Paths.{cancellation, outcome_of, Known, GoesOn, EndsAt, Passes, EndsPassing, is_start_of, passes_start}
 use Rattle.tpl_script.specs.Recursion.{another}
 use Rattle.tpl_script.specs.Knowledge.{Fact, Knowledge, Reached, ChildEnd, Reading, meet, when, with_tokens, with_facts, past_check, both, join, all, ends_well, behind_start, through, behind, collected, collected_in, ending_at, ended_by, ending_as, throwing, starting, from, unchosen, at_start}
 use Rattle.tpl_script.proofs.Through.{is_another}
@@ -389,12 +389,6 @@ abbrev pub FollowsBy : Known → Statements → Option Outcome → Statements �
 FollowsBy w body None left ps = Passes w body ps left
 FollowsBy w body (Some verdict) left ps = (left ≡ Nothing) × EndsPassing w body ps verdict
 
--- the outcome of a body: with nothing left it has returned
-abbrev pub outcome_left : Option Outcome → Statements → Option Outcome
-outcome_left (Some outcome) left = Some outcome
-outcome_left None Nothing = Some Returned
-outcome_left None (s ⨾ more) = None
-
 -- how a task ends whose path ends with this outcome, burdened or not
 abbrev pub path_final : Bool → Outcome → Final
 path_final true o = Faulted
@@ -419,7 +413,7 @@ module _ (pick : Outcome → Reached → Option Knowledge) (w : Reading) (falls 
   EndKnown o ps end = Under (ended_by pick w body (from tokens)) (pick end (one (is_burdened w.child chosen ps) (record { requested = told_by w.linked tokens o ps; later = later_on w.child ps })))
 
   -- what is found of the paths with this end is known on each of them
-  pub end_known : (o : Option Outcome) (left : Statements) (ps : List Statement) (end : Outcome) → outcome_left o left ≡ Some end → FollowsBy w.known body o left ps → Chooses w.child chosen ps → HeedsBy w.known.quiet w.linked tokens o ps → EndKnown o ps end
+  pub end_known : (o : Option Outcome) (left : Statements) (ps : List Statement) (end : Outcome) → outcome_of o left ≡ Some end → FollowsBy w.known body o left ps → Chooses w.child chosen ps → HeedsBy w.known.quiet w.linked tokens o ps → EndKnown o ps end
   end_known None (s ⨾ more) ps end e f c h = absurd (cc)
   end_known None Nothing ps end e f c h =
       let same : Returned ≡ end = cc in

@@ -18,6 +18,12 @@ is_own (Some own) k = nat_eq own k
 abbrev pub cancellation : Option ℕ → ℕ → Outcome
 cancellation own k = if is_own own k then Acknowledged else Threw (OperationCanceled (record { 0 = k }))
 
+-- the outcome of a body that is over: with nothing left it has returned
+abbrev pub outcome_of : Option Outcome → Statements → Option Outcome
+outcome_of (Some outcome) left = Some outcome
+outcome_of None Nothing = Some Returned
+outcome_of None (s ⨾ more) = None
+
 -- what is known of the runs in which a body is read: the values that an input may have, the tokens that are never
 -- requested, the own token, how the subject may have ended, and the sites whose jobs don't fail
 pub record Known : Type 0 where
