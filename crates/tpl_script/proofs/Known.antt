@@ -1,17 +1,13 @@
 -- What the recursion over a body says that its paths know, they do know.
-use Rattle.std.proofs.Common.{◌≡◌, ℕ, ◌⊎◌, inl, inr, ◌&&◌, ◌||◌, not, Bool, true, false, Option, Some, None, List, [], ◌∷◌, refl, sym, ap, ◌∙◌, subst, nat_eq, is_some}
-use Rattle.std.proofs.lemmas.Bool.{and_parts, and_from, or_cases, or_left, or_right, cases_Bool, not_from_false}
+use Rattle.std.proofs.Common.{◌≡◌, ℕ, inl, inr, ◌||◌, not, Bool, true, false, Option, Some, None, refl, sym, subst}
+use Rattle.std.proofs.lemmas.Bool.{and_parts, and_from, or_cases, or_left, or_right}
 use Rattle.tpl_words.proofs.Truths.{true_false}
-use Rattle.tpl_words.specs.declared.finals.Final.{Final}
-use Rattle.tpl_words.specs.declared.finals.Final.TheVariants.{RanToCompletion, Canceled, Faulted}
-use Rattle.tpl_words.specs.Finals.{has, is_final}
-use Rattle.tpl_script.specs.declared.outcome.Outcome.{Outcome}
-use Rattle.tpl_script.specs.declared.outcome.Outcome.TheVariants.{Returned, Threw, Acknowledged}
+use Rattle.tpl_words.specs.declared.finals.Final.TheVariants.{Faulted}
+use Rattle.tpl_words.specs.Finals.{has}
 use Rattle.tpl_script.specs.Statements.{Statement, Return, Throw, Check, Cancel, Start, Observe, Work, If, When, Statements, Nothing, ◌⨾◌, followed_by}
-use Rattle.tpl_script.specs.Paths.{cancellation, Known, GoesOn, EndsAt, Passes, EndsPassing, is_start_of, passes_start}
+use Rattle.tpl_script.specs.Paths.{Known}
 use Rattle.tpl_script.specs.Recursion.{another}
-use Rattle.tpl_script.specs.Knowledge.{Fact, Knowledge, Reached, ChildEnd, Reading, meet, when, with_tokens, with_facts, past_check, nowhere, both, join, all, ends_well, behind_start, through, behind, collected, collected_in, ending_at, ended_by, ending_as, throwing, starting, from, unchosen}
-use Rattle.tpl_script.proofs.Through.{is_another}
+use Rattle.tpl_script.specs.Knowledge.{Fact, Knowledge, Reached, ChildEnd, Reading, meet, when, with_tokens, with_facts, past_check, both, join, all, ends_well, behind_start, through, behind, collected, collected_in}
 
 -- the second paths are among the first ones: they have all that those have in common
 abbrev pub Under : Option Knowledge → Option Knowledge → Type 0
@@ -115,8 +111,7 @@ start_under : (c : Option ChildEnd) (r q : Reached) → UnderAll r q → UnderAl
 start_under None r q p = p
 start_under (Some c) r q p =
     let well = ends_well c in
-    let add = with_facts c.facts in
-    (
+    let add = with_facts c.facts in (
       when_under well well (add r.unburdened) (add q.unburdened) (λ e. e) (facts_under c.facts r.unburdened q.unburdened p.0),
       two_under well (has c.ends Faulted) (add r.burdened) (add (all r)) (add q.burdened) (add (all q))
           (facts_under c.facts r.burdened q.burdened p.1) (facts_under c.facts (all r) (all q) (all_under r q p)),
@@ -134,8 +129,7 @@ mutual
   behind_under w (Check k) r q p = (check_under w.known k r.unburdened q.unburdened p.0, check_under w.known k r.burdened q.burdened p.1)
   behind_under w (Cancel k) r q p =
       let loud = not (w.known.quiet k) in
-      let add = with_tokens (w.linked k) in
-      (
+      let add = with_tokens (w.linked k) in (
         when_under loud loud (add r.unburdened) (add q.unburdened) (λ e. e) (tokens_under (w.linked k) r.unburdened q.unburdened p.0),
         when_under loud loud (add r.burdened) (add q.burdened) (λ e. e) (tokens_under (w.linked k) r.burdened q.burdened p.1),
       )
@@ -191,8 +185,8 @@ collected_more ask w (s ⨾ a) more r =
     under_meet l x all_more
     (under_trans l (meet x y) x (meet_left (meet x y) z) (meet_left x y))
     (under_trans l (meet y z) all_more
-      (under_meet l y z (under_trans l (meet x y) y (meet_left (meet x y) z) (meet_right x y)) (meet_right (meet x y) z))
-      (collected_more ask w a more (behind w s r)))
+    (under_meet l y z (under_trans l (meet x y) y (meet_left (meet x y) z) (meet_right x y)) (meet_right (meet x y) z))
+    (collected_more ask w a more (behind w s r)))
 
 -- the paths of a body from a place on are among those of what is left from another
 pub record Covers (ask : Statement → Reached → Option Knowledge) (w : Reading) (body : Statements) (r : Reached) (left : Statements) (q : Reached) : Type 0 where

@@ -1,5 +1,5 @@
 -- What the recursion over a body finds at a place is known on each path to it.
-use Rattle.std.proofs.Common.{◌≡◌, ℕ, ◌⊎◌, inl, inr, ◌&&◌, ◌||◌, not, Bool, true, false, Option, Some, None, List, [], ◌∷◌, refl, sym, ap, ◌∙◌, subst, nat_eq, eqb→eq, T}
+use Rattle.std.proofs.Common.{◌≡◌, ℕ, inl, inr, ◌&&◌, ◌||◌, not, Bool, true, false, Option, Some, None, List, [], ◌∷◌, refl, sym, subst, nat_eq, eqb→eq, T}
 use Rattle.std.proofs.lemmas.Bool.{or_cases, or_left, or_right, and_from, not_from_false}
 use Rattle.tpl_words.proofs.Truths.{true_false}
 use Rattle.tpl_words.proofs.MemberLemmas.{same_self}
@@ -8,13 +8,13 @@ use Rattle.tpl_words.specs.declared.finals.Final.TheVariants.{RanToCompletion, C
 use Rattle.tpl_words.specs.Finals.{has, is_final}
 use Rattle.tpl_script.specs.declared.outcome.Outcome.{Outcome}
 use Rattle.tpl_script.specs.declared.outcome.Outcome.TheVariants.{Returned, Threw, Acknowledged}
-use Rattle.tpl_script.specs.Statements.{Statement, Return, Throw, Check, Cancel, Start, Observe, Work, If, When, Statements, Nothing, ◌⨾◌, followed_by}
+use Rattle.tpl_script.specs.Statements.{Statement, Return, Throw, Check, Cancel, Start, Observe, Work, If, When, Statements, Nothing, ◌⨾◌}
 use Rattle.tpl_words.specs.declared.status.Label.TheVariants.{Thrown, WorkFailed}
 use Rattle.tpl_script.specs.Paths.{cancellation, outcome_of, Known, GoesOn, EndsAt, Passes, EndsPassing, is_start_of, passes_start}
 use Rattle.tpl_script.specs.Recursion.{another}
 use Rattle.tpl_script.specs.Knowledge.{Fact, Knowledge, Reached, ChildEnd, Reading, meet, when, with_tokens, with_facts, past_check, both, join, all, ends_well, behind_start, through, behind, collected, collected_in, ending_at, ended_by, ending_as, throwing, starting, from, unchosen, at_start}
 use Rattle.tpl_script.proofs.Through.{is_another}
-use Rattle.tpl_script.proofs.Known.{Under, UnderAll, under_self, under_trans, meet_left, meet_right, under_meet, when_true, when_under, join_left, join_right, both_true, all_trans, all_self, all_under, tokens_under, Falls, Covers, covers_next, covers_list, covers_trans}
+use Rattle.tpl_script.proofs.Known.{Under, UnderAll, under_self, under_trans, meet_left, meet_right, when_true, when_under, all_self, all_under, tokens_under, Falls, Covers, covers_next, covers_list, covers_trans}
 
 -- the tokens that a path knows to be requested: those at its start and, with each cancel that it passes, the token's
 abbrev pub requested_on : (ℕ → ℕ → Bool) → (ℕ → Bool) → List Statement → ℕ → Bool
@@ -349,8 +349,8 @@ module _ (c : ℕ) (w : Reading) (tokens : ℕ → Bool) (body : Statements) whe
       let whole = at_start c w tokens body in
       let known = known_on u tokens ps in
       let under = under_trans whole (meet found then_) (Some known) k.asked
-          (under_trans (meet found then_) found (Some known) (meet_left found then_)
-          (under_trans found (all r) (Some known) (when_true (nat_eq d c) (all r) e) (all_one (is_burdened u.child chosen ps) known))) in
+      (under_trans (meet found then_) found (Some known) (meet_left found then_)
+      (under_trans found (all r) (Some known) (when_true (nat_eq d c) (all r) e) (all_one (is_burdened u.child chosen ps) known))) in
       let b = within_some whole known under in
       (b.0, b.1, b.2)
   here Return ps more left e p h = true_false (sym e)

@@ -1,9 +1,8 @@
 -- Where the recursion over what paths know finds paths, there are some.
-use Rattle.std.proofs.Common.{◌≡◌, ℕ, ◌⊎◌, inl, inr, ◌&&◌, ◌||◌, not, Bool, true, false, Option, Some, None, List, [], ◌∷◌, refl, sym, ap, ◌∙◌, subst, nat_eq, is_some}
+use Rattle.std.proofs.Common.{◌≡◌, ℕ, ◌⊎◌, inl, inr, ◌&&◌, ◌||◌, not, Bool, true, false, Option, Some, None, refl, sym, ◌∙◌, subst, nat_eq, is_some}
 use Rattle.std.proofs.lemmas.Bool.{and_parts, and_from, or_cases, or_left, or_right}
 use Rattle.tpl_words.proofs.MemberLemmas.{same_self}
 use Rattle.tpl_words.proofs.Truths.{true_false}
-use Rattle.tpl_words.specs.declared.finals.Final.{Final}
 use Rattle.tpl_words.specs.declared.finals.Final.TheVariants.{RanToCompletion, Canceled, Faulted}
 use Rattle.tpl_words.specs.Finals.{has}
 use Rattle.tpl_words.specs.declared.status.Label.TheVariants.{Thrown, WorkFailed}
@@ -11,7 +10,7 @@ use Rattle.tpl_script.specs.declared.outcome.Outcome.{Outcome}
 use Rattle.tpl_script.specs.declared.outcome.Outcome.TheVariants.{Returned, Threw, Acknowledged}
 use Rattle.tpl_script.specs.Statements.{Statement, Return, Throw, Check, Cancel, Start, Observe, Work, If, When, Statements, Nothing, ◌⨾◌}
 use Rattle.tpl_script.specs.Paths.{cancellation, Known, Path, MayEnd, MayThrow, MayStartChild}
-use Rattle.tpl_script.specs.Recursion.{another, gets_through, passes_by, stops, stops_at, may, none, is_throw, clean, reaches, reaches_in}
+use Rattle.tpl_script.specs.Recursion.{another, gets_through, passes_by, stops, stops_at, may, none, is_throw, reaches, reaches_in}
 use Rattle.tpl_script.specs.Ends.{is_return, is_acknowledgement}
 use Rattle.tpl_script.specs.Knowledge.{Knowledge, Reached, ChildEnd, Reading, meet, when, with_tokens, with_facts, past_check, both, join, all, ends_well, behind_start, through, behind, collected, collected_in, ending_at, ended_by, ending_as, throwing, starting, from, unchosen, at_end, at_throw, at_start}
 use Rattle.tpl_script.proofs.PathEnds.{is_returned, is_acknowledged, thrown_label}
@@ -380,11 +379,13 @@ module _ (w : Reading) where
         let o = cancellation w.known.own k in
         let told = both (with_tokens (w.linked k)) r in
         let q = when_some (not (w.known.quiet k)) (ending_as Faulted o told) e in
-        let f = fault_outcome o told q.1 in
-        (both_some (with_tokens (w.linked k)) r (tokens_some (w.linked k)) f.0, elim f.1 [
-          | inl t ↦ inl (and_from (not (w.known.quiet k)) (is_throw o) q.0 t)
-          | inr b ↦ inr (inl (tokens_some (w.linked k) r.burdened b))
-        ])
+        let f = fault_outcome o told q.1 in (
+          both_some (with_tokens (w.linked k)) r (tokens_some (w.linked k)) f.0,
+          elim f.1 [
+            | inl t ↦ inl (and_from (not (w.known.quiet k)) (is_throw o) q.0 t)
+            | inr b ↦ inr (inl (tokens_some (w.linked k) r.burdened b))
+          ],
+        )
     fault_reach_at (Work site m) r e =
         let q = when_some (m && not (w.known.sure site)) (all r) e in
         let b = and_parts m (not (w.known.sure site)) q.0 in
