@@ -9,7 +9,7 @@ use Rattle.tpl_script.specs.Knowledge.{Fact, IsSettled, IsRequested, Knowledge, 
 use Rattle.tpl_model.specs.Graph.{TaskGraph, TaskKind, Root, Child, Continues, WhenAll, WhenAny, task, kind, body, options, is_task, is_token, attached, through, IsParent}
 use Rattle.tpl_model.specs.Rules.{token_requested_by}
 use Rattle.tpl_model.specs.declared.claim.Property.{Property}
-use Rattle.tpl_model.specs.declared.claim.Property.TheVariants.{Final as EndsIn, After, Observed, Never, Excludes, Runs}
+use Rattle.tpl_model.specs.declared.claim.Property.TheVariants.{Observed}
 use Rattle.tpl_model.specs.Claims.{Claim}
 use Rattle.tpl_model.specs.Certificate.{Row, row, Tree, SplitInput, SplitEnd, Leaf, Assumed, assumed_for, with_input, with_end, end_left, is_loud, view, IsBelow, AllMayEnd, may_end, ChainRule, NoneComplete, Proves, IdsOfRows}
 
