@@ -1,5 +1,5 @@
 -- Where a task begins.
-use Rattle.std.proofs.Common.{◌≡◌, ℕ, ◌⊎◌, inl, inr, Bool, true, false, if◌then◌else◌, Option, Some, None, List, [], ◌∷◌, refl, sym, subst, nat_eq, is_some}
+use Rattle.std.proofs.Common.{◌≡◌, ℕ, ◌⊎◌, inl, inr, Bool, true, false, Some, None, List, refl, sym, subst, is_some}
 use Rattle.std.proofs.lemmas.Bool.{cases_Bool}
 use Rattle.tpl_words.proofs.Truths.{true_false}
 use Rattle.tpl_model.specs.Graph.{TaskGraph, kind, is_task}

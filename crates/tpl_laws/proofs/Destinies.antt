@@ -1,5 +1,5 @@
 -- How each task of a run is bound to end, by what has ended so far.
-use Rattle.std.proofs.Common.{◌≡◌, ℕ, zero, suc, ◌<◌, ◌&&◌, ◌||◌, ◌⊎◌, inl, inr, not, Bool, true, false, if◌then◌else◌, Option, Some, None, List, [], ◌∷◌, refl, sym, ap, ◌∙◌, subst, arith, nat_eq, is_some, length}
+use Rattle.std.proofs.Common.{◌≡◌, ℕ, zero, suc, ◌<◌, ◌||◌, ◌⊎◌, inl, inr, not, Bool, true, false, if◌then◌else◌, Option, Some, None, List, [], ◌∷◌, refl, sym, ap, ◌∙◌, subst, arith, nat_eq, is_some, length}
 use Rattle.std.proofs.lemmas.Bool.{cases_lt, cases_Bool, and_parts, and_from, or_left, or_right}
 use Rattle.tpl_words.proofs.MemberLemmas.{mem_split, mem_there}
 use Rattle.tpl_words.proofs.Truths.{true_false}
@@ -7,16 +7,16 @@ use Rattle.tpl_words.specs.declared.finals.Final.{Final}
 use Rattle.tpl_words.specs.declared.finals.Final.TheVariants.{RanToCompletion, Canceled, Faulted}
 use Rattle.tpl_words.specs.Members.{mem}
 use Rattle.tpl_words.specs.Options.{allows}
-use Rattle.tpl_model.specs.Graph.{TaskGraph, TaskKind, Root, Child, Continues, WhenAll, WhenAny, kind, options, is_task}
+use Rattle.tpl_model.specs.Graph.{TaskGraph, TaskKind, Root, Child, Continues, WhenAll, WhenAny, kind, options}
 use Rattle.tpl_words.specs.declared.status.Actor.{Actor}
 use Rattle.tpl_model.specs.declared.event.Act.{Act}
 use Rattle.tpl_model.specs.declared.event.Event.{Event}
-use Rattle.tpl_model.specs.Facts.{Ending, begun, ending, ended_at_once, final_in, all_final, worse, settled_as}
+use Rattle.tpl_model.specs.Facts.{Ending, ending, ended_at_once, final_in, all_final, worse, settled_as}
 use Rattle.tpl_model.specs.Rules.{final, MayStart, Allows, Run, can_settle, all_ended}
 use Rattle.tpl_model.specs.Valid.{IsGraph, ArePlaced, IsPlaced}
-use Rattle.tpl_model.specs.Certificate.{Assumed, Agrees, end_left}
+use Rattle.tpl_model.specs.Certificate.{Assumed, Agrees}
 use Rattle.tpl_model.specs.WiderRules.{keeps, narrowed_by, narrowed_from, narrowed}
-use Rattle.tpl_laws.proofs.Basics.{some_none, the_some, same_number, mem_here}
+use Rattle.tpl_laws.proofs.Basics.{some_none, same_number, mem_here}
 use Rattle.tpl_laws.proofs.Kept.{after, ending_new, final_kept, final_of}
 use Rattle.tpl_laws.proofs.Ready.{Ready, begun_ready, IsBody, begun_body, drop_body}
 use Rattle.tpl_laws.proofs.Settling.{no_task}
@@ -101,7 +101,7 @@ destiny_open : (g : TaskGraph) (v : List Bool) (h : List Event) (t : ℕ) → Is
 destiny_open g v h t valid e =
     ap (λ z. bound_to z (options g t) (kind g t) (bound_within g v h t)) e
     ∙ same_bound None (options g t) (kind g t) (bound_within g v h t) (destiny g v h)
-      (λ x w. let less : x < t = waits_before g t x valid w in bound_same g v h valid t (suc x) x less (omega arith))
+    (λ x w. let less : x < t = waits_before g t x valid w in bound_same g v h valid t (suc x) x less (omega arith))
 
 -- a WhenAll task that has ended ended as its arguments did
 abbrev AllEnded : TaskGraph → List Bool → List Event → List ℕ → Final → Type 0
@@ -112,8 +112,7 @@ fold_ended [] en e = ((λ x m. true_false (sym m)), refl)
 fold_ended (y ∷ args) en e =
     let s = and_parts (is_some (en y)) (all_ended args en) e in
     let r = fold_ended args en s.1 in
-    let first = some_end (en y) s.0 in
-    (
+    let first = some_end (en y) s.0 in (
       (λ x m. elim (mem_split x y args m) [ inl q ↦ subst (λ z. final_in (en z) ≡ Some (end_or (en z))) (sym q) first | inr q ↦ r.0 x q ]),
       ap (λ z. worse z (all_final args en)) first ∙ ap (worse (Some (end_or (en y)))) r.1,
     )

@@ -2,7 +2,6 @@
 use Rattle.tpl_laws.proofs.Sources.{through_here}
 use Rattle.tpl_words.specs.declared.finals.Final.{Final}
 use Rattle.tpl_words.specs.Finals.{is_final}
-use Rattle.tpl_script.specs.declared.outcome.Outcome.{Outcome}
 use Rattle.tpl_script.specs.Statements.{Statement, Return, Throw, Check, Cancel, Start, Observe, Work, If, When, Statements, Nothing, ◌⨾◌, followed_by, reads_nothing}
 use Rattle.tpl_model.specs.Graph.{TaskGraph, TaskKind, Root, Child, Continues, WhenAll, WhenAny, task, kind, body}
 use Rattle.tpl_words.specs.declared.status.Actor.{Actor}

@@ -10,7 +10,6 @@ use Rattle.tpl_script.specs.declared.outcome.Outcome.TheVariants.{Threw}
 use Rattle.tpl_model.specs.Graph.{TaskGraph, TaskKind, Root, Child, Continues, WhenAll, WhenAny, task, kind, body, is_task, through}
 use Rattle.tpl_words.specs.declared.status.Actor.{Actor}
 use Rattle.tpl_model.specs.declared.event.Act.{Act}
-use Rattle.tpl_model.specs.declared.event.Act.TheVariants.{Request, Release, Begin, Step, Worked, Leave, Close, Drop, Settle}
 use Rattle.tpl_model.specs.declared.event.Event.{Event}
 use Rattle.tpl_model.specs.Facts.{begun, begun_by, final_in, rest, requested, failed, started, ending, requested_itself, outcome_in}
 use Rattle.tpl_model.specs.Rules.{final, Allows, Run, Settled, seen, label, token_requested, token_requested_by, to_end, Complete}
@@ -20,7 +19,7 @@ use Rattle.tpl_laws.proofs.Kept.{after, requested_kept, failed_kept, final_kept}
 use Rattle.tpl_model.specs.Valid.{IsGraph}
 use Rattle.tpl_model.specs.Certificate.{Row, row, Assumed, Agrees, view, Closed, Tree, SplitInput, SplitEnd, Leaf, same, given_input, given_quiet, given_end, given_sure, assumed, with_input, with_end, NoneComplete, begins_itself, Proves, AcceptsTree, as_quiet, same_token, own_quiet, taken, assumed_for}
 use Rattle.tpl_laws.proofs.Execution.{passed}
-use Rattle.tpl_laws.proofs.Ready.{Ready, IsBody}
+use Rattle.tpl_laws.proofs.Ready.{IsBody}
 use Rattle.tpl_laws.proofs.Begins.{Begins, begins}
 use Rattle.tpl_laws.proofs.Follows.{follows}
 use Rattle.tpl_laws.proofs.Settling.{has_subject_of}

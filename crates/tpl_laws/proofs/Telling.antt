@@ -1,24 +1,24 @@
 -- What a body knows to be requested is.
-use Rattle.std.proofs.Common.{◌≡◌, ℕ, ◌||◌, ◌⊎◌, inl, inr, not, Bool, true, false, if◌then◌else◌, Option, Some, None, List, [], ◌∷◌, refl, sym, ap, ◌∙◌, subst, nat_eq, is_some}
-use Rattle.std.proofs.lemmas.Bool.{cases_Bool, or_cases, or_left, or_right, not_from_false}
+use Rattle.std.proofs.Common.{◌≡◌, ℕ, ◌||◌, inl, inr, not, Bool, true, false, if◌then◌else◌, Option, None, List, ◌∷◌, refl, sym, ap, ◌∙◌, subst, nat_eq}
+use Rattle.std.proofs.lemmas.Bool.{or_cases, or_left}
 use Rattle.tpl_words.proofs.MemberLemmas.{same_self}
 use Rattle.tpl_words.proofs.Truths.{true_false}
 use Rattle.tpl_script.specs.declared.outcome.Outcome.{Outcome}
 use Rattle.tpl_script.specs.Statements.{Statement, Return, Throw, Check, Cancel, Start, Observe, Work, If, When, Statements, Nothing, ◌⨾◌}
 use Rattle.tpl_script.specs.Paths.{cancellation}
-use Rattle.tpl_script.proofs.KnownPaths.{requested_on, Heeds, told_by, HeedsBy}
+use Rattle.tpl_script.proofs.KnownPaths.{requested_on, told_by, HeedsBy}
 use Rattle.tpl_words.specs.declared.status.Actor.{Actor}
 use Rattle.tpl_words.specs.declared.status.Answer.{Answer}
 use Rattle.tpl_words.specs.declared.status.Answer.TheVariants.{Done, Failed}
-use Rattle.tpl_model.specs.Graph.{TaskGraph, task, through}
+use Rattle.tpl_model.specs.Graph.{TaskGraph, task}
 use Rattle.tpl_model.specs.declared.event.Act.{Act}
 use Rattle.tpl_model.specs.declared.event.Act.TheVariants.{Request, Release, Begin, Step, Worked, Leave, Close, Drop, Settle}
 use Rattle.tpl_model.specs.declared.event.Event.{Event}
-use Rattle.tpl_model.specs.Facts.{Rest, Ending, on, over, begun, begun_by, is_cancel, stepped, worked, rest, requested, requested_itself, ending}
+use Rattle.tpl_model.specs.Facts.{Rest, Ending, on, over, begun, is_cancel, stepped, worked, rest, requested, requested_itself, ending}
 use Rattle.tpl_model.specs.Rules.{Allows, Run, steps, works}
 use Rattle.tpl_model.specs.WiderRules.{linked}
-use Rattle.tpl_laws.proofs.Basics.{if_true, if_false, same_number}
-use Rattle.tpl_laws.proofs.Kept.{id, after, not_some, running_facts, requested_kept}
+use Rattle.tpl_laws.proofs.Basics.{same_number}
+use Rattle.tpl_laws.proofs.Kept.{id, after, not_some, requested_kept}
 use Rattle.tpl_laws.proofs.Sources.{through_here, through_more, through_twice}
 use Rattle.tpl_laws.proofs.Execution.{pushed, passed}
 use Rattle.tpl_laws.proofs.Chains.{unbegun_rest}
@@ -114,12 +114,12 @@ module _ (quiet : ℕ → Bool) (tokens : ℕ → Bool) (g : TaskGraph) (v : Lis
   told_kept a (Worked s answer) al old =
       either_branch (requested g v (after a (Worked s answer) h)) (nat_eq s.0 t) (worked answer (rest g v h t).left) (rest g v h t) (pushed (rest g v h t).left (passed g v h t)) (passed g v h t)
       (λ q.
-          let al2 = subst (λ z. Allows g v h a (Worked (id z) answer)) (same_number s.0 t q) al in
-          work_told quiet (linked g) tokens g v t (ending g v h) (requested g v h) (requested g v (after a (Worked s answer) h))
-          (λ k r. requested_kept g v h a (Worked s answer) k r)
-          (λ k j r e. linked_requested g v (after a (Worked s answer) h) k j r e)
-          answer (rest g v h t).left (passed g v h t) al2.2
-          (subst (λ z. Told quiet (linked g) tokens (requested g v h) z (passed g v h t)) (not_some (rest g v h t).outcome al2.1) old))
+      let al2 = subst (λ z. Allows g v h a (Worked (id z) answer)) (same_number s.0 t q) al in
+      work_told quiet (linked g) tokens g v t (ending g v h) (requested g v h) (requested g v (after a (Worked s answer) h))
+      (λ k r. requested_kept g v h a (Worked s answer) k r)
+      (λ k j r e. linked_requested g v (after a (Worked s answer) h) k j r e)
+      answer (rest g v h t).left (passed g v h t) al2.2
+      (subst (λ z. Told quiet (linked g) tokens (requested g v h) z (passed g v h t)) (not_some (rest g v h t).outcome al2.1) old))
       (λ q. told_more quiet (linked g) tokens (requested g v h) (requested g v (after a (Worked s answer) h)) (rest g v h t).outcome (passed g v h t) (λ k r. requested_kept g v h a (Worked s answer) k r) old)
   told_kept a (Request s) al old = told_more quiet (linked g) tokens (requested g v h) (requested g v (after a (Request s) h)) (rest g v h t).outcome (passed g v h t) (λ k r. requested_kept g v h a (Request s) k r) old
   told_kept a (Release s) al old = told_more quiet (linked g) tokens (requested g v h) (requested g v (after a (Release s) h)) (rest g v h t).outcome (passed g v h t) (λ k r. requested_kept g v h a (Release s) k r) old

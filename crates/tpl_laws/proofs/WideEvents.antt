@@ -1,21 +1,20 @@
 -- Each event keeps rows true that are closed by the wider rules.
-use Rattle.std.proofs.Common.{◌≡◌, ℕ, ◌⊎◌, inl, inr, Bool, true, false, Option, Some, None, List, [], ◌∷◌, refl, sym, ap, ◌∙◌, subst, is_some, length}
-use Rattle.std.proofs.lemmas.Bool.{cases_lt, or_right}
+use Rattle.std.proofs.Common.{◌≡◌, ℕ, ◌⊎◌, inl, inr, Bool, true, Some, List, [], ◌∷◌, refl, sym, ap, ◌∙◌, subst, is_some, length}
+use Rattle.std.proofs.lemmas.Bool.{cases_lt}
 use Rattle.tpl_words.proofs.Truths.{true_false}
 use Rattle.tpl_words.specs.declared.finals.Final.{Final}
-use Rattle.tpl_words.specs.declared.finals.Final.TheVariants.{RanToCompletion, Canceled}
+use Rattle.tpl_words.specs.declared.finals.Final.TheVariants.{RanToCompletion}
 use Rattle.tpl_words.specs.Finals.{has}
-use Rattle.tpl_words.specs.Members.{mem}
 use Rattle.tpl_script.specs.Knowledge.{Fact, IsSettled, IsRequested}
 use Rattle.tpl_model.specs.Graph.{TaskGraph, TaskKind, Root, Child, Continues, WhenAll, WhenAny, kind, is_task}
 use Rattle.tpl_words.specs.declared.status.Actor.{Actor}
 use Rattle.tpl_model.specs.declared.event.Act.{Act}
 use Rattle.tpl_model.specs.declared.event.Event.{Event}
-use Rattle.tpl_model.specs.Facts.{Ending, begun, begun_by, final_in, ending, ended_at_once, all_final, settled_as}
+use Rattle.tpl_model.specs.Facts.{Ending, final_in, ending, ended_at_once, all_final, settled_as}
 use Rattle.tpl_model.specs.Rules.{final, Allows, Run, can_settle, ended}
 use Rattle.tpl_model.specs.Valid.{IsGraph}
-use Rattle.tpl_model.specs.Certificate.{row, Assumed, Agrees, end_left, AllMayEnd, may_end}
-use Rattle.tpl_model.specs.WiderRules.{WideRow, plain, begins_with, ends_with, once_ended, asked_of, may_run, Way, way_final, IsWay, HoldsBy, SettledBelow, WideEndsRule, EndRule, WidelyClosed}
+use Rattle.tpl_model.specs.Certificate.{row, Assumed, Agrees, end_left, AllMayEnd}
+use Rattle.tpl_model.specs.WiderRules.{WideRow, plain, ends_with, asked_of, Way, way_final, IsWay, HoldsBy, SettledBelow, WideEndsRule, EndRule, WidelyClosed}
 use Rattle.tpl_laws.specs.WiderSoundness.{FactHolds, BeginHolds}
 use Rattle.tpl_laws.proofs.Basics.{some_none, the_some, is_some_of}
 use Rattle.tpl_laws.proofs.Kept.{after, ending_new, final_of}
@@ -24,7 +23,7 @@ use Rattle.tpl_laws.proofs.Begins.{begun_now, begins}
 use Rattle.tpl_laws.proofs.Settling.{no_task, below_settled}
 use Rattle.tpl_laws.proofs.Carrying.{Ends, drops, leaves, settled, how_ends}
 use Rattle.tpl_laws.proofs.RowsAreTrue.{agrees_before, some_eq}
-use Rattle.tpl_laws.proofs.EachEvent.{end_of, all_ended_mem, some_ended_mem, all_is, all_may, may_end_so, ends_task}
+use Rattle.tpl_laws.proofs.EachEvent.{end_of, all_ended_mem, some_ended_mem, all_is, all_may, may_end_so}
 use Rattle.tpl_laws.proofs.Telling.{told_kept, told_first}
 use Rattle.tpl_laws.proofs.WideRows.{WideTrue, WideNow, WayTaken, fact_kept, once_holds, ready_runs, ready_begins, drop_way, body_way}
 

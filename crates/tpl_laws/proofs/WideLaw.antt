@@ -1,5 +1,5 @@
 -- Rows that are closed without tokens are closed with them.
-use Rattle.std.proofs.Common.{◌≡◌, ℕ, zero, suc, ◌&&◌, ◌||◌, ◌⊎◌, inl, inr, not, Bool, true, false, if◌then◌else◌, Option, Some, None, List, [], ◌∷◌, map, length, refl, sym, ap, ◌∙◌, subst, nat_eq, is_some}
+use Rattle.std.proofs.Common.{◌≡◌, ℕ, zero, suc, ◌&&◌, ◌||◌, ◌⊎◌, inl, inr, not, Bool, true, false, if◌then◌else◌, Some, None, List, [], ◌∷◌, length, refl, sym, ap, ◌∙◌, subst, nat_eq}
 use Rattle.std.proofs.lemmas.Bool.{and_from, or_cases, or_left, or_right, not_from_false}
 use Rattle.tpl_words.proofs.MemberLemmas.{same_self}
 use Rattle.tpl_words.proofs.Truths.{true_false}
@@ -7,15 +7,15 @@ use Rattle.tpl_words.specs.declared.finals.Final.{Final}
 use Rattle.tpl_words.specs.declared.finals.Final.TheVariants.{RanToCompletion, Canceled, Faulted}
 use Rattle.tpl_words.specs.Finals.{has}
 use Rattle.tpl_words.specs.Members.{mem}
-use Rattle.tpl_words.specs.Options.{allows, lazy_cancellation}
-use Rattle.tpl_script.specs.Paths.{MayThrow, MayStartChild}
-use Rattle.tpl_script.specs.Knowledge.{Fact, IsSettled, IsRequested, Knowledge, ChildEnd, at_throw}
+use Rattle.tpl_words.specs.Options.{lazy_cancellation}
+use Rattle.tpl_script.specs.Paths.{MayStartChild}
+use Rattle.tpl_script.specs.Knowledge.{Fact, IsSettled, IsRequested, Knowledge, at_throw}
 use Rattle.tpl_script.proofs.KnownReach.{MayFault, may_start, may_return, may_acknowledge, may_throw, may_fault}
-use Rattle.tpl_model.specs.Graph.{TaskGraph, TaskKind, Root, Child, Continues, WhenAll, WhenAny, task, kind, body, options, is_task, attached, IsParent}
+use Rattle.tpl_model.specs.Graph.{TaskGraph, TaskKind, Root, Child, Continues, WhenAll, WhenAny, kind, body, options, is_task, attached, IsParent}
 use Rattle.tpl_model.specs.declared.claim.Property.{Property}
 use Rattle.tpl_model.specs.declared.claim.Property.TheVariants.{Final as EndsIn, After, Observed, Never, Excludes, Runs}
-use Rattle.tpl_model.specs.Certificate.{Row, row, Tree, SplitInput, SplitEnd, Leaf, Assumed, assumed_for, with_input, with_end, end_left, is_loud, view, RunsRule, BodyMayEnd, MayEndAs, BeforeRule, may_end_early, may_end, may_win, PastRule, Closed, Proves, IdsOfRows, AcceptsTree}
-use Rattle.tpl_model.specs.WiderRules.{WideRow, plain, wide_row, begins_with, ends_with, once_ended, child_end, reading, asked_of, known_at_end, known_at_start, may_run, WideRunsRule, Way, ByBody, RootDropped, ChildDropped, DroppedEarly, DroppedLate, NotAllowed, way_final, MayEndBy, IsWay, SettledBefore, HoldsBy, WideEndsRule, BeginRule, SettledBelow, EndRule, IsWidelyClosed, WidelyClosed, WidelyProves, TokensOfRows, narrowed, AcceptsWideTree, as_wide, as_wide_tree}
+use Rattle.tpl_model.specs.Certificate.{Row, row, Tree, SplitInput, SplitEnd, Leaf, Assumed, assumed_for, with_input, with_end, end_left, is_loud, view, RunsRule, BodyMayEnd, MayEndAs, BeforeRule, may_end_early, may_end, PastRule, Closed, Proves, IdsOfRows, AcceptsTree}
+use Rattle.tpl_model.specs.WiderRules.{WideRow, plain, wide_row, begins_with, ends_with, once_ended, reading, asked_of, known_at_end, known_at_start, may_run, WideRunsRule, Way, ByBody, RootDropped, ChildDropped, DroppedEarly, DroppedLate, NotAllowed, way_final, MayEndBy, IsWay, HoldsBy, WideEndsRule, BeginRule, EndRule, WidelyClosed, WidelyProves, TokensOfRows, narrowed, AcceptsWideTree, as_wide, as_wide_tree}
 use Rattle.tpl_laws.specs.Wider.{AssumesMore}
 use Rattle.tpl_laws.proofs.Wider.{more_is_assumed_lem}
 use Rattle.tpl_laws.proofs.Destinies.{narrowed_less}

@@ -1,5 +1,5 @@
 -- What a leaf that is closed by the wider rules says of a run, where a task begins or ends.
-use Rattle.std.proofs.Common.{◌≡◌, ℕ, ◌&&◌, ◌||◌, ◌⊎◌, inl, inr, not, Bool, true, false, if◌then◌else◌, Option, Some, None, List, [], ◌∷◌, refl, sym, ap, ◌∙◌, subst, nat_eq, is_some}
+use Rattle.std.proofs.Common.{◌≡◌, ℕ, ◌⊎◌, inl, inr, Bool, true, false, if◌then◌else◌, Option, Some, None, List, [], ◌∷◌, refl, sym, ap, ◌∙◌, subst, nat_eq, is_some}
 use Rattle.std.proofs.lemmas.Bool.{cases_Bool, or_cases, or_left}
 use Rattle.tpl_words.proofs.Truths.{true_false}
 use Rattle.tpl_words.specs.declared.finals.Final.{Final}
@@ -11,24 +11,24 @@ use Rattle.tpl_script.specs.declared.outcome.Outcome.{Outcome}
 use Rattle.tpl_script.specs.declared.outcome.Outcome.TheVariants.{Returned, Threw, Acknowledged}
 use Rattle.tpl_script.specs.Statements.{Statement, Return, Throw, Check, Cancel, Start, Observe, Work, If, When, Statements, Nothing, ◌⨾◌}
 use Rattle.tpl_script.specs.Paths.{passes_start}
-use Rattle.tpl_script.specs.Knowledge.{Fact, IsSettled, IsRequested, Knowledge, ChildEnd, Reading, all, ending_as, throwing, at_throw}
+use Rattle.tpl_script.specs.Knowledge.{Fact, IsSettled, IsRequested, Knowledge, ChildEnd, all, ending_as, throwing, at_throw}
 use Rattle.tpl_script.proofs.Known.{under_trans}
 use Rattle.tpl_script.proofs.KnownPaths.{told_by, later_on, is_burdened, burdens, facts_of, MayChoose, one, all_one, path_final, ending_as_falls, throwing_falls, ending_one, end_known, within_some, known_where_started, chooses, burdened_start, start_burdens, later_started}
-use Rattle.tpl_model.specs.Graph.{TaskGraph, TaskKind, Root, Child, Continues, WhenAll, WhenAny, task, kind, body, options, is_task, attached, IsParent}
+use Rattle.tpl_model.specs.Graph.{TaskGraph, TaskKind, Root, Child, Continues, WhenAll, WhenAny, task, kind, body, is_task, attached}
 use Rattle.tpl_words.specs.declared.status.Actor.{Actor}
 use Rattle.tpl_words.specs.declared.status.Answer.{Answer}
 use Rattle.tpl_words.specs.declared.status.Answer.TheVariants.{Done, Failed}
 use Rattle.tpl_model.specs.declared.event.Act.{Act}
 use Rattle.tpl_model.specs.declared.event.Act.TheVariants.{Request, Release, Begin, Step, Worked, Leave, Close, Drop, Settle}
 use Rattle.tpl_model.specs.declared.event.Event.{Event}
-use Rattle.tpl_model.specs.Facts.{Ending, begun, final_in, rest, started, starts_by, is_start, ending, ended_at_once, carried_in, gathered, own_atom, those_started, outcome_in, body_final, requested}
+use Rattle.tpl_model.specs.Facts.{Ending, begun, final_in, rest, started, starts_by, is_start, ending, ended_at_once, carried_in, own_atom, those_started, outcome_in, body_final, requested}
 use Rattle.tpl_model.specs.Rules.{final, MayDrop, MayNotStart, MayCancel, Allows, Run, works, Settled, ended, token_requested, token_requested_by}
 use Rattle.tpl_model.specs.Valid.{IsGraph}
-use Rattle.tpl_model.specs.Certificate.{Row, row, Assumed, Agrees, is_loud, view, may_end}
-use Rattle.tpl_model.specs.WiderRules.{WideRow, plain, begins_with, ends_with, once_ended, linked, child_end, reading, asked_of, known_at_end, known_at_start, own_among, may_run, WideRunsRule, Way, ByBody, RootDropped, ChildDropped, DroppedEarly, DroppedLate, NotAllowed, way_final, MayEndBy, OwnRequested, SettledBefore, KnownThere, BeforeBegin, HoldsBy, BeginRule, WidelyClosed}
+use Rattle.tpl_model.specs.Certificate.{row, Assumed, Agrees, is_loud, view}
+use Rattle.tpl_model.specs.WiderRules.{WideRow, plain, begins_with, ends_with, once_ended, linked, child_end, reading, asked_of, known_at_end, known_at_start, may_run, WideRunsRule, Way, ByBody, RootDropped, ChildDropped, DroppedEarly, DroppedLate, NotAllowed, way_final, MayEndBy, OwnRequested, SettledBefore, KnownThere, BeforeBegin, HoldsBy, BeginRule, WidelyClosed}
 use Rattle.tpl_laws.specs.WiderSoundness.{FactHolds}
 use Rattle.tpl_laws.proofs.Basics.{final_same, if_true, if_false, some_none, the_some, is_some_of, same_number, mem_here}
-use Rattle.tpl_laws.proofs.Kept.{after, running_facts, ending_new, final_of, requested_kept, started_kept}
+use Rattle.tpl_laws.proofs.Kept.{after, ending_new, final_of, requested_kept, started_kept}
 use Rattle.tpl_laws.proofs.Execution.{pushed, passed, StartedBy, started_parent}
 use Rattle.tpl_laws.proofs.Ready.{Ready, begun_ready, waiting_ready, IsBody}
 use Rattle.tpl_laws.proofs.Follows.{Follows, follows}
@@ -336,7 +336,7 @@ module _ (g : TaskGraph) (l : Assumed) (rows : List WideRow) (v : List Bool) (h 
   ends_chosen t over c p =
       may_choose (mem c (attached g t)) (record { ends = (row (plain rows) c).ends; facts = ends_with rows c }) (end_or (ending g v h c))
       (λ m. let e = the_some (ending g v h c) (over c m (passes_started g v h t c now.run p)) in
-          subst (λ z. has (row (plain rows) c).ends (end_or z) ≡ true) (sym e.1) (now.true_rows.ends c e.0.final (ap final_in e.1)))
+      subst (λ z. has (row (plain rows) c).ends (end_or z) ≡ true) (sym e.1) (now.true_rows.ends c e.0.final (ap final_in e.1)))
 
   -- where a body threw, and its task has ended, some path throws
   pub throw_known : (t : ℕ) (lb : Label) → outcome_in (rest g v h t) ≡ Some (Threw lb) → is_some (begun h t) ≡ true → is_some (ending g v h t) ≡ true → (known : Knowledge) × (at_throw (reading g l rows t) (asked_of rows t) (body g t) ≡ Some known)
@@ -347,7 +347,7 @@ module _ (g : TaskGraph) (l : Assumed) (rows : List WideRow) (v : List Bool) (h 
       let burdened = is_burdened w.child chosen (passed g v h t) in
       let known : Knowledge = record { requested = told_by (linked g) (asked_of rows t) (rest g v h t).outcome (passed g v h t); later = later_on w.child (passed g v h t) } in
       let under = end_known throwing w throwing_falls (asked_of rows t) chosen (body g t) (rest g v h t).outcome (rest g v h t).left (passed g v h t) (Threw lb) o
-          (path_of t b) (chooses w.child chosen (passed g v h t) (ends_chosen t (λ c m s. children_over g v h t c now.valid now.run e m s))) told in
+      (path_of t b) (chooses w.child chosen (passed g v h t) (ends_chosen t (λ c m s. children_over g v h t c now.valid now.run e m s))) told in
       let whole = at_throw w (asked_of rows t) (body g t) in
       let found = within_some whole known (under_trans whole (all (one burdened known)) (Some known) under (all_one burdened known)) in
       (found.0, found.1)
@@ -380,7 +380,7 @@ module _ (g : TaskGraph) (l : Assumed) (rows : List WideRow) (v : List Bool) (h 
         let k : IsBody (kind g s.0) = subst IsBody (sym ((child_rules g t s.0 now.valid (attached_child g t s.0 m.0)).child t (attached_child g t s.0 m.0))) tt in
         let x = faulted_carries g v h s.0 c.0 now.run k c.1 f in
         let there = gathered_adds x.0 s.0 (own_atom t (outcome_in (rest g v h t))) (those_started (attached g t) (started g v h)) (ending g v h)
-            (mem_those s.0 (attached g t) (started g v h) m.0 (passes_started g v h t s.0 now.run s.1)) (subst (λ z. mem x.0 (carried_in z) ≡ true) (sym c.1) x.1) in
+        (mem_those s.0 (attached g t) (started g v h) m.0 (passes_started g v h t s.0 now.run s.1)) (subst (λ z. mem x.0 (carried_in z) ≡ true) (sym c.1) x.1) in
         b.final ∙ body_faulted x.0 r.carried (outcome_in (rest g v h t)) (subst (λ z. mem x.0 z ≡ true) (sym b.carried) there)
 
     -- what is carried where no child burdens the path is the body's own exception
@@ -439,7 +439,7 @@ module _ (g : TaskGraph) (l : Assumed) (rows : List WideRow) (v : List Bool) (h 
         let o = the_some (outcome_in (rest g v h t)) (elim b.left [ inl q ↦ left_verdict g v h t now.run q | inr q ↦ q ]) in
         let f = path_final burdened o.0 in
         let under = end_known (ending_as f) w (ending_as_falls f) (asked_of rows t) chosen (body g t) (rest g v h t).outcome (rest g v h t).left (passed g v h t) o.0 o.1
-            (path_of t b.begun) (chooses child chosen (passed g v h t) (ends_chosen t (λ c m s. all_over_mem (attached g t) (started g v h) (ending g v h) c b.over m s))) (now.true_rows.told t b.begun).1 in
+        (path_of t b.begun) (chooses child chosen (passed g v h t) (ends_chosen t (λ c m s. all_over_mem (attached g t) (started g v h) (ending g v h) c b.over m s))) (now.true_rows.told t b.begun).1 in
         let whole = known_at_end g l rows t f in
         let found = within_some whole path_knows (under_trans whole (ending_as f o.0 (one burdened path_knows)) (Some path_knows) under (ending_one burdened o.0 path_knows)) in
         let ready = begun_ready g v h t now.run b.begun in

@@ -1,33 +1,27 @@
 -- What a certificate of rows with tokens proves holds.
-use Rattle.std.proofs.Common.{◌≡◌, ℕ, ◌&&◌, ◌||◌, ◌⊎◌, inl, inr, not, nat_eq, Bool, true, false, Option, Some, None, List, [], ◌∷◌, refl, sym, ap, ◌∙◌, subst, is_some}
+use Rattle.std.proofs.Common.{◌≡◌, ℕ, ◌||◌, inl, inr, not, nat_eq, Bool, true, false, Some, List, [], ◌∷◌, refl, sym, ap, ◌∙◌, subst}
 use Rattle.std.proofs.lemmas.Bool.{cases_Bool, and_from}
-use Rattle.tpl_words.proofs.Truths.{true_false}
 use Rattle.tpl_words.specs.declared.finals.Final.{Final}
 use Rattle.tpl_words.specs.declared.finals.Final.TheVariants.{RanToCompletion, Canceled, Faulted}
 use Rattle.tpl_words.specs.Finals.{is_final}
 use Rattle.tpl_words.specs.declared.status.Label.{Label}
-use Rattle.tpl_script.specs.declared.outcome.Outcome.{Outcome}
-use Rattle.tpl_script.specs.declared.outcome.Outcome.TheVariants.{Threw}
-use Rattle.tpl_script.specs.Knowledge.{Fact, IsSettled, IsRequested, throwing, at_throw}
-use Rattle.tpl_script.proofs.Known.{under_trans}
-use Rattle.tpl_script.proofs.KnownPaths.{one, all_one, throwing_falls, end_known, within_some, chooses, is_burdened}
-use Rattle.tpl_model.specs.Graph.{TaskGraph, task, body}
+use Rattle.tpl_script.specs.Knowledge.{IsSettled}
+use Rattle.tpl_model.specs.Graph.{TaskGraph}
 use Rattle.tpl_model.specs.declared.event.Event.{Event}
-use Rattle.tpl_model.specs.Facts.{begun, rest, ending, outcome_in}
+use Rattle.tpl_model.specs.Facts.{rest, outcome_in}
 use Rattle.tpl_model.specs.Rules.{Run, label, seen, Complete}
 use Rattle.tpl_model.specs.Valid.{IsGraph}
 use Rattle.tpl_model.specs.declared.claim.Property.{Property}
 use Rattle.tpl_model.specs.declared.claim.Property.TheVariants.{Final as EndsIn, After, Observed, Never, Excludes, Runs}
-use Rattle.tpl_model.specs.Claims.{input, Claim, IsGiven, Holds}
-use Rattle.tpl_model.specs.Certificate.{Row, Assumed, Agrees, assumed, assumed_for, with_input, with_end, own_quiet, taken}
-use Rattle.tpl_model.specs.WiderRules.{WideRow, plain, reading, asked_of, child_end, WidelyClosed, WidelyProves, WideTree, OnInput, OnEnd, WideLeaf, narrowed, AcceptsWideTree, WidelyAccepts}
+use Rattle.tpl_model.specs.Claims.{input, Claim, IsGiven}
+use Rattle.tpl_model.specs.Certificate.{Assumed, Agrees, assumed_for, with_input, with_end, own_quiet, taken}
+use Rattle.tpl_model.specs.WiderRules.{WideRow, plain, WidelyClosed, WidelyProves, WideTree, OnInput, OnEnd, WideLeaf, narrowed, AcceptsWideTree}
 use Rattle.tpl_laws.specs.WiderSoundness.{WideRowsAreTrue, WideSoundness}
 use Rattle.tpl_laws.proofs.Basics.{some_none, same_number, final_self}
-use Rattle.tpl_laws.proofs.Execution.{passed}
 use Rattle.tpl_laws.proofs.RowsAreTrue.{Upheld}
 use Rattle.tpl_laws.proofs.Chains.{threw_begun, begun_ends}
 use Rattle.tpl_laws.proofs.Observing.{label_verdict, chain_seen}
-use Rattle.tpl_laws.proofs.WideRows.{WideNow, path_of, ready_runs, ready_begins, throw_known}
+use Rattle.tpl_laws.proofs.WideRows.{WideNow, ready_runs, ready_begins, throw_known}
 use Rattle.tpl_laws.proofs.WideEvents.{wide_now, begin_holds}
 use Rattle.tpl_laws.proofs.Destinies.{destiny, destiny_ended, narrowed_agrees}
 use Rattle.tpl_laws.proofs.MainTheorem.{Shows, ALeaf, never_complete, observed_holds, given_agrees, input_agrees, end_agrees, is_taken, property_holds}

@@ -1,7 +1,7 @@
 -- The wider rules for rows with tokens are decided by their tests.
-use Rattle.std.proofs.Common.{◌≡◌, ℕ, zero, suc, ◌+◌, ◌<◌, ◌≤◌, ◌⊎◌, inl, inr, ◌&&◌, ◌||◌, not, Bool, true, false, Option, Some, None, List, [], ◌∷◌, refl, sym, ap, ◌∙◌, subst, arith, nat_eq, is_some, length}
+use Rattle.std.proofs.Common.{◌≡◌, ℕ, zero, suc, ◌+◌, ◌<◌, ◌≤◌, ◌⊎◌, inl, inr, ◌&&◌, ◌||◌, not, Bool, true, false, Option, Some, None, List, [], refl, sym, subst, arith, is_some, length}
 use Rattle.std.specs.Prelude.{Decides}
-use Rattle.std.proofs.lemmas.Bool.{cases_lt, and_parts, and_from, or_cases, or_left, or_right}
+use Rattle.std.proofs.lemmas.Bool.{cases_lt}
 use Rattle.tpl_words.proofs.Truths.{true_false}
 use Rattle.tpl_words.specs.declared.finals.Final.{Final}
 use Rattle.tpl_words.specs.declared.finals.Final.TheVariants.{RanToCompletion, Canceled, Faulted}
@@ -9,24 +9,23 @@ use Rattle.tpl_words.specs.Finals.{has}
 use Rattle.tpl_words.specs.Members.{mem}
 use Rattle.tpl_words.specs.Options.{allows, lazy_cancellation}
 use Rattle.tpl_script.specs.Knowledge.{Fact, IsSettled, IsRequested, Knowledge, at_throw}
-use Rattle.tpl_model.specs.Graph.{TaskGraph, TaskKind, Root, Child, Continues, WhenAll, WhenAny, task, kind, body, options, is_task, some_in, IsParent}
+use Rattle.tpl_model.specs.Graph.{TaskGraph, TaskKind, Root, Child, Continues, WhenAll, WhenAny, task, kind, body, options, some_in, IsParent}
 use Rattle.tpl_model.specs.Rules.{token_requested_by}
 use Rattle.tpl_model.specs.Valid.{IsGraph}
 use Rattle.tpl_model.specs.declared.claim.Property.{Property}
 use Rattle.tpl_model.specs.declared.claim.Property.TheVariants.{Final as EndsIn, After, Observed, Never, Excludes, Runs}
-use Rattle.tpl_model.specs.declared.fault.Rule.{Rule}
 use Rattle.tpl_model.specs.declared.fault.Rule.TheVariants.{K1, K2, K3, K6}
-use Rattle.tpl_model.specs.Certificate.{row, Assumed, end_left, is_loud, IsBelow, AllMayEnd, ChainRule, may_end, NoneComplete, Proves}
+use Rattle.tpl_model.specs.Certificate.{row, Assumed, end_left, is_loud, AllMayEnd, ChainRule, may_end, NoneComplete}
 use Rattle.tpl_model.specs.WiderRules.{WideRow, plain, wide_row, begins_with, ends_with, once_ended, linked, reading, asked_of, known_at_end, known_at_start, own_among, may_run, WideRunsRule, Way, ByBody, RootDropped, ChildDropped, DroppedEarly, DroppedLate, NotAllowed, way_final, MayEndBy, IsWay, OwnRequested, SettledBefore, KnownThere, BeforeBegin, HoldsBy, WideEndsRule, BeginRule, SettledBelow, EndRule, IsWidelyClosed, WidelyClosed, WidelyProves}
 use Rattle.tpl_laws.specs.PathLaws.{PathLaws}
-use Rattle.tpl_laws.specs.RowTests.{implies, all_in, each_end, some_end, parent_of, by_parent, is_below, all_may_end, chain, is_none, none_complete, proves}
-use Rattle.tpl_laws.specs.Verdict.{or_else, unless, past_rule, LeafFault, ProvesNot, breaks}
+use Rattle.tpl_laws.specs.RowTests.{implies, all_in, each_end, some_end, all_may_end, chain, is_none, none_complete}
+use Rattle.tpl_laws.specs.Verdict.{unless, past_rule, ProvesNot, breaks}
 use Rattle.tpl_laws.specs.WiderTests.{if_known, each_begin, each_ending, wide_runs_by, each_drop, each_body_end, each_way, wide_ends_by, begin_by, own_requested, settled_before, known_there, before_begin, holds_by, settled_below, end_by, wide_broken, wide_proves, wide_first_broken, wide_leaf_fault}
 use Rattle.tpl_laws.proofs.AllowedDecided.{itself, denied as opposite}
 use Rattle.tpl_laws.proofs.Deciding.{denied, both, either, only_if, means, at_each_end, at_some_end, of_all, of_some}
 use Rattle.tpl_laws.proofs.Parents.{at_parent, below}
 use Rattle.tpl_laws.proofs.RulesDecided.{all_decided, none_decided, none_complete_decided, chain_lem, proves_lem}
-use Rattle.tpl_laws.proofs.FaultsDecided.{Clears, clear, clear_unless, clear_or_else, clear_means, clear_breaks, no_unless, passes}
+use Rattle.tpl_laws.proofs.FaultsDecided.{Clears, clear, clear_unless, clear_or_else, clear_means, clear_breaks}
 
 -- what is known, if there are paths
 at_known : (P : Knowledge → Type 0) (q : Knowledge → Bool) (o : Option Knowledge) → ((k : Knowledge) → Decides (q k) (P k)) → Decides (if_known o q) ((k : Knowledge) → o ≡ Some k → P k)

@@ -1,5 +1,5 @@
 -- What rows that speak of tokens promise.
-use Rattle.std.specs.Prelude.{◌≡◌, ℕ, ◌⊎◌, Bool, true, false, Some, List, [], ◌∷◌, is_some, map}
+use Rattle.std.specs.Prelude.{◌≡◌, ℕ, Bool, true, Some, List, [], ◌∷◌, is_some, map}
 use Rattle.tpl_words.specs.declared.finals.Final.{Final}
 use Rattle.tpl_words.specs.Finals.{has}
 use Rattle.tpl_words.specs.declared.status.Label.{Label}

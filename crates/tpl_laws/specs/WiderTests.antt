@@ -1,6 +1,5 @@
 -- The wider rules for rows that speak of tokens, as tests that compute.
-use Rattle.std.specs.Prelude.{◌≡◌, ℕ, zero, suc, ◌↔◌, ◌&&◌, ◌||◌, not, Bool, true, false, Option, Some, None, List, [], ◌∷◌, length, is_some, nat_eq}
-use Rattle.tpl_words.specs.declared.finals.Final.{Final}
+use Rattle.std.specs.Prelude.{◌≡◌, ℕ, zero, suc, ◌↔◌, ◌&&◌, ◌||◌, not, Bool, true, false, Option, Some, None, List, length, is_some}
 use Rattle.tpl_words.specs.declared.finals.Final.TheVariants.{RanToCompletion, Canceled, Faulted}
 use Rattle.tpl_words.specs.Finals.{has}
 use Rattle.tpl_words.specs.Members.{mem}
@@ -10,11 +9,11 @@ use Rattle.tpl_model.specs.Graph.{TaskGraph, TaskKind, Root, Child, Continues, W
 use Rattle.tpl_model.specs.Rules.{token_requested_by}
 use Rattle.tpl_model.specs.Valid.{IsGraph}
 use Rattle.tpl_model.specs.declared.claim.Property.{Property}
-use Rattle.tpl_model.specs.declared.claim.Property.TheVariants.{Final as EndsIn, After, Observed, Never, Excludes, Runs}
+use Rattle.tpl_model.specs.declared.claim.Property.TheVariants.{Observed}
 use Rattle.tpl_model.specs.declared.fault.Rule.{Rule}
 use Rattle.tpl_model.specs.declared.fault.Rule.TheVariants.{K1, K2, K3, K6}
 use Rattle.tpl_model.specs.Certificate.{row, Assumed, end_left, is_loud, may_end}
-use Rattle.tpl_model.specs.WiderRules.{WideRow, plain, wide_row, begins_with, ends_with, once_ended, linked, reading, asked_of, known_at_end, known_at_start, own_among, may_run, Way, ByBody, RootDropped, ChildDropped, DroppedEarly, DroppedLate, NotAllowed, way_final, IsWidelyClosed, WidelyClosed, WidelyProves}
+use Rattle.tpl_model.specs.WiderRules.{WideRow, plain, wide_row, begins_with, once_ended, linked, reading, asked_of, known_at_end, known_at_start, own_among, may_run, Way, ByBody, RootDropped, ChildDropped, DroppedEarly, DroppedLate, NotAllowed, way_final, IsWidelyClosed, WidelyClosed, WidelyProves}
 use Rattle.tpl_laws.specs.RowTests.{implies, all_in, each_end, some_end, parent_of, by_parent, is_below, all_may_end, chain, is_none, none_complete, proves}
 use Rattle.tpl_laws.specs.Verdict.{or_else, unless, past_rule, LeafFault, ProvesNot, breaks}
 
