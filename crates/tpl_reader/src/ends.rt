@@ -1,12 +1,13 @@
 //! How tasks were seen to end, with ids in place of names.
 
 ghost use Rattle.std.specs.Prelude.{◌≡◌, length, option_and_then, IfOk, IfErr, OnOk};
-ghost use Rattle.std.specs.List.{list_all};
+ghost use Rattle.std.specs.List.{All, list_all};
 ghost use Rattle.std.specs.Option.{option_map};
 ghost use Rattle.serde_json.specs.Find.{get};
 ghost use Rattle.tpl_json.specs.Finals.{final_at};
 ghost use Rattle.tpl_json.specs.View.{view};
 ghost use Rattle.tpl_cert.specs.Naming.{is_declared};
+ghost use Rattle.tpl_model.specs.Graph.{is_task};
 ghost use Rattle.tpl_reader.specs.Ends.{knows_ends, with_end, ends_below, ends_in};
 ghost use Rattle.tpl_reader.specs.declared.fault.ReadFault.TheVariants.{Memory};
 
@@ -71,6 +72,7 @@ fn ends_of(
 ) -> Result<Vec<(TaskId, Final)>, ReadFault>
     ensures ok { IfOk result (λ v. v.items ≡ ends_below graph.now.names.tasks (view value.now)
         (length graph.now.names.tasks)) }
+    ensures tasks { IfOk result (λ v. All (λ said. is_task graph.now.graph said.0.0) v.items) }
     ensures err { IfErr result (λ e. e ≡ Memory) }
 {
     graph.valid_law();
@@ -91,6 +93,7 @@ pub(crate) fn ends_in(
 ) -> Result<Vec<(TaskId, Final)>, ReadFault>
     ensures ok { IfOk result (λ v. v.items ≡ ends_in graph.now.names.tasks
         (option_map (λ v. view v.now) ended.entry)) }
+    ensures tasks { IfOk result (λ v. All (λ said. is_task graph.now.graph said.0.0) v.items) }
     ensures err { IfErr result (λ e. e ≡ Memory) }
 {
     match ended {

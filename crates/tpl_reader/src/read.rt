@@ -5,6 +5,7 @@ ghost use Rattle.std.specs.List.{All};
 ghost use Rattle.std.specs.Option.{option_map};
 ghost use Rattle.serde_json.specs.Data.{depth};
 ghost use Rattle.tpl_json.specs.View.{view};
+ghost use Rattle.tpl_model.specs.Graph.{is_task};
 ghost use Rattle.tpl_draft.specs.Draft as spec;
 ghost use Rattle.tpl_draft.specs.Numbered.{numbered};
 ghost use Rattle.tpl_draft.specs.Refusals.{IsValid};
@@ -199,6 +200,7 @@ fn rest_of(
         (option_map (λ v. view v.now) named.now.ended) ≡ true) }
     ensures ended { IfOk result (λ r. r.ended.items ≡ ends_in graph.now.names.tasks
         (option_map (λ v. view v.now) named.now.ended)) }
+    ensures tasks { IfOk result (λ r. All (λ said. is_task graph.now.graph said.0.0) r.ended.items) }
     ensures err { IfErr result (λ e. (d : spec.Draft) (times : Option (List ℕ)) → IsValid d
         → graph.now ≡ numbered d → IsRefused (spelled_with version d named.now times) e) }
 {
@@ -222,6 +224,7 @@ fn document_of(alloc: Global, shaped: Shaped) -> Result<Document, ReadFault>
     ensures ok { IfOk result (λ d. IsDocument (spelled_of shaped.entry) (doc_of d)) }
     ensures claims { IfOk result (λ d. All (Fits d.graph.graph) d.claims.items) }
     ensures trees { IfOk result (λ d. All IsWithinLimits d.certificate) }
+    ensures ended { IfOk result (λ d. All (λ said. is_task d.graph.graph said.0.0) d.ended.items) }
     ensures err { IfErr result (IsRefused (spelled_of shaped.entry)) }
 {
     let graph = graph_of(alloc, shaped.draft)?;
@@ -253,6 +256,7 @@ fn document_from(alloc: Global, value: &Value<'_>) -> Result<Document, ReadFault
         → Reads bytes (view value.now) → Spells bytes (doc_of d)) }
     ensures claims { IfOk result (λ d. All (Fits d.graph.graph) d.claims.items) }
     ensures trees { IfOk result (λ d. All IsWithinLimits d.certificate) }
+    ensures ended { IfOk result (λ d. All (λ said. is_task d.graph.graph said.0.0) d.ended.items) }
     ensures err { IfErr result (λ e. (bytes : List ℕ) → length bytes ≤ longest
         → Reads bytes (view value.now) → IsFault bytes e) }
 {
@@ -270,6 +274,7 @@ pub fn read_document(alloc: Global, bytes: &[u8]) -> Result<Document, ReadFault>
     ensures ok { IfOk result (λ d. Spells bytes.now (doc_of d)) }
     ensures claims { IfOk result (λ d. All (Fits d.graph.graph) d.claims.items) }
     ensures trees { IfOk result (λ d. All IsWithinLimits d.certificate) }
+    ensures ended { IfOk result (λ d. All (λ said. is_task d.graph.graph said.0.0) d.ended.items) }
     ensures err { IfErr result (IsFault bytes.now) }
 {
     match read_document_heard(alloc, bytes, Unheard) {
@@ -287,6 +292,7 @@ pub fn read_document_heard<H: Hear>(
     ensures ok { IfOk result (λ d. Spells bytes.now (doc_of d)) }
     ensures claims { IfOk result (λ d. All (Fits d.graph.graph) d.claims.items) }
     ensures trees { IfOk result (λ d. All IsWithinLimits d.certificate) }
+    ensures ended { IfOk result (λ d. All (λ said. is_task d.graph.graph said.0.0) d.ended.items) }
     ensures err { IfErr result (λ misread. IsFault bytes.now misread.fault) }
 {
     if bytes.len() > LONGEST {
