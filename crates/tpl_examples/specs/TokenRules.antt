@@ -14,7 +14,7 @@ use Rattle.tpl_model.specs.WiderRules.{WideRow, narrowed}
 use Rattle.tpl_laws.specs.Verdict.{LeafFault, Breaks, ProvesNot}
 use Rattle.tpl_laws.specs.WiderTests.{wide_leaf_fault}
 use Rattle.tpl_examples.specs.Words.{root, child, detached_child, continues, when_all, when_any, with_token, with_options, graph, with_tokens, returns, only_on_faulted, ran, canceled, faulted, ends_in, is_observed, never_begins, given_quiet, given_end}
-use Rattle.tpl_examples.specs.CertificateWords.{nothing, ran_or_canceled, ran_or_faulted, runs, ends, not_run, throws}
+use Rattle.tpl_examples.specs.CertificateWords.{nothing, ran_or_canceled, ran_or_faulted, ends, not_run, throws}
 
 -- what a leaf assumes for a claim
 abbrev pub for_claim : TaskGraph → List Given → Property → Assumed
