@@ -19,8 +19,9 @@ from test_verify import worked_out
 YES, NO, UNREADABLE, MEMORY, DEVICE = 0, 1, 3, 4, 5
 LINES, SEED = 10_000, 45
 JOBS = ("1", "2", "8")
-# how many runs are tried for each claim
+# how many runs are tried for each claim; and the words for one run by one thread
 RUNS = "300"
+FEW = ("--runs", "1", "--jobs", "1")
 LONGEST = 16_777_216
 ROOT = '{"version":1,"tasks":[{"name":"A","kind":"root","body":[%s]}]%s}'
 ENDS = '[{"final":"A","in":["RanToCompletion"]}]'
@@ -51,7 +52,21 @@ AUDITED = {
     (ROOT % ("", NEVER % "w1")).encode(): (UNREADABLE, "unreadable: journal line 1"),
     b"nothing": (UNREADABLE, "unreadable: not JSON"),
 }
-KINDS = {"check": CHECKED, "audit": AUDITED}
+# and what `verify` answers
+VERIFIED = {
+    b"": (UNREADABLE, "unreadable: not JSON"),
+    b"[]": (UNREADABLE, "unreadable: shape top"),
+    b'{"version":1,"tasks":[]}': (YES, "claims 0, holds 0, fails 0, empty 0, unknown 0"),
+    (ROOT % ('"return"', f',"claims":{ENDS}')).encode(): (
+        YES,
+        "claim 1 holds: A ends RanToCompletion\nclaims 1, holds 1, fails 0, empty 0, unknown 0",
+    ),
+    (ROOT % ("", ',"claims":[{"never":"A"}]')).encode(): (
+        NO,
+        "claim 1 fails: A never begins\n  w1 begin A\n  claim 1 fails here\nclaims 1, holds 0, fails 1, empty 0, unknown 0",
+    ),
+}
+KINDS = {"check": CHECKED, "audit": AUDITED, "verify": VERIFIED}
 
 
 def behind_heads(number: int, status: int, text: str) -> str:
@@ -92,7 +107,7 @@ def test_no_line(program, command: str):
     assert each(program, command, given=b"") == Answer(YES, "", "")
 
 
-@pytest.mark.parametrize("command", KINDS)
+@pytest.mark.parametrize("command", ("check", "audit"))
 def test_cases(program, command: str):
     """The cases of the command, each on a line."""
     cases = [it for it in all_cases() if it.words == (command,) and b"\r" not in it.stdin and it.stdout is not None]
@@ -131,27 +146,32 @@ def test_memory_is_that_of_the_lines(bare_program):
     assert cost.memory < len(text) // 4
 
 
-def test_each_refused_allocation(bare_program, library):
+@pytest.mark.parametrize("command", KINDS)
+def test_each_refused_allocation(bare_program, library, command: str):
     """Each line is answered as with ample memory or by `out of memory`."""
-    lines = [*CHECKED]
+    kinds, words = KINDS[command], FEW if command == "verify" else ()
     refuse = {"LD_PRELOAD": library("refuse.c")}
-    given = b"\n".join(lines) + b"\n"
-    whole = each(bare_program, "check", given=given, environment=refuse)
-    assert whole.stdout == wanted(CHECKED.values()).stdout
+    given = b"".join(line + b"\n" for line in kinds)
+    whole = each(bare_program, command, *words, given=given, environment=refuse)
+    assert whole.stdout == wanted(kinds.values()).stdout
     asked = int(whole.stderr.rpartition("\n")[2])
     for number in range(1, asked + 1):
         for rest in ({}, {"REFUSE_REST": "1"}):
-            answer = each(bare_program, "check", given=given, environment={**refuse, "REFUSED": str(number), **rest})
+            refusing = {**refuse, "REFUSED": str(number), **rest}
+            answer = each(bare_program, command, *words, given=given, environment=refusing)
             if (answer.stdout, answer.exit) != ("out of memory\n", MEMORY):
                 assert answer.exit == NO
-                check_lines(answer.stdout, CHECKED)
+                check_lines(answer.stdout, kinds)
 
 
 def check_lines(written: str, kinds: dict):
-    """Each line has its answer, or the one that memory was refused."""
-    for number, (line, answer) in enumerate(zip(written.splitlines(keepends=True), kinds.values()), 1):
-        assert line in (behind_heads(number, *answer), behind_heads(number, MEMORY, "out of memory")), number
-    assert written.count("\n") == len(kinds)
+    """Each document has its answer, or the one that memory was refused, and nothing else is written."""
+    for number, answer in enumerate(kinds.values(), 1):
+        texts = (behind_heads(number, *answer), behind_heads(number, MEMORY, "out of memory"))
+        found = [text for text in texts if written.startswith(text)]
+        assert found, number
+        written = written.removeprefix(found[0])
+    assert written == ""
 
 
 class Devices:

@@ -1,10 +1,15 @@
 """Each allocation of the program is refused in turn, alone and with all after it, for the first case of each file and some
 more: the answer is the same, or 'out of memory' with exit 4; or, where a run finds no thread for a worker, 'run: Spawn'
 with exit 5. refuse.c is what the program loads for that.
+
+So is each of `verify`, in each of its formats, for a document with a claim of each verdict.
 """
+import json
+
 import pytest
 
 from harness import Case, Program, case_named, cases_of, files
+from test_verify import FORMATS, words_of
 
 # beside the first case of each file
 MORE = {
@@ -25,6 +30,21 @@ MORE = {
         "all else of the document stays, its start and its certificate too",
     ],
 }
+# A requests B's token before it ends, so B never begins; but no certificate shows it.
+VERDICTS = json.dumps({
+    "version": 1,
+    "tokens": ["t"],
+    "tasks": [
+        {"name": "A", "kind": "root", "body": [{"cancel": "t"}]},
+        {"name": "B", "kind": "then", "after": "A", "token": "t", "body": []},
+    ],
+    "claims": [
+        {"final": "A", "in": ["RanToCompletion"]},
+        {"never": "A"},
+        {"final": "A", "in": ["RanToCompletion", "Canceled", "Faulted"]},
+        {"never": "B"},
+    ],
+})
 NO_MEMORY = ("out of memory\n", 4)
 NO_THREAD = ("run: Spawn\n", 5)
 
@@ -34,13 +54,24 @@ def chosen() -> list[Case]:
     return [case for file in files() for case in (cases_of(file)[0], *(case_named(file, it) for it in MORE.get(file, ())))]
 
 
+def verified() -> list[Case]:
+    """A claim of each verdict, in each format."""
+    words = ("verify", "--runs", "1", "--jobs", "1", "--as")
+    return [Case("verdicts", style, (*words, style), VERDICTS.encode(), 1, None, (), None) for style in FORMATS]
+
+
 def answered(program: Program, case: Case, refuse: str, **refusing: str) -> tuple[tuple[str, int], str]:
     """What the program writes, how it ends, and what refuse.c says: behind the last line of what the program says aside."""
     answer = program(*case.words, given=case.stdin, environment={"LD_PRELOAD": refuse, **refusing})
     return (answer.stdout, answer.exit), answer.stderr.rpartition("\n")[2]
 
 
-@pytest.mark.parametrize("case", chosen(), ids=str)
+def test_each_verdict(program):
+    verdicts = [verdict for _, verdict, _ in words_of(program("verify", given=VERDICTS).stdout)]
+    assert verdicts == ["holds", "fails", "empty", "unknown"]
+
+
+@pytest.mark.parametrize("case", [*chosen(), *verified()], ids=str)
 def test_each_refused_allocation(bare_program, library, case: Case):
     refuse = library("refuse.c")
     whole, asked = answered(bare_program, case, refuse)

@@ -191,6 +191,31 @@ def test_formats_agree(program, junit, text: str, wanted: list[str]):
     assert (suite.get("tests"), suite.get("failures")) == (str(len(each)), str(sum(map(len, failed))))
 
 
+@pytest.mark.parametrize(
+    "old, new",
+    [
+        (' tests="1"', ""),
+        (' failures="1"', ' failures="one"'),
+        (' hostname="localhost"', ' hostname=""'),
+        ("<properties/>", ""),
+        (' classname="claims"', ""),
+        ("<failure type=", "<failure kind="),
+        ("</failure>", "</failure><failure/>"),
+        ("<system-out/>", ""),
+        ("<testsuite ", "<suite "),
+    ],
+)
+def test_junit_is_refused(program, junit, old: str, new: str):
+    """The schema of JUnit's reports refuses one that is changed."""
+    claims = {"claims": [{"never": "A"}]}
+    document = json.dumps({"version": 1, "tasks": [{"name": "A", "kind": "root", "body": []}], **claims})
+    text = verify(program, "--as", "junit", text=document).stdout
+    junit.read(text)
+    assert old in text
+    with pytest.raises((junit.etree.DocumentInvalid, junit.etree.XMLSyntaxError)):
+        junit.read(text.replace(old, new, 1))
+
+
 @pytest.mark.parametrize("text, wanted", worked_out())
 def test_schema(program, described, text: str, wanted: list[str]):
     described.validate(json.loads(verify(program, "--as", "json", text=text).stdout))
