@@ -63,7 +63,7 @@ same_if_given option rows (Some c) None m n = absurd (m.0 n)
 same_if_given option rows (Some c) (Some d) m n = ap Some (same_number option 1 64 rows c d m.1 n.1)
 
 same_one_or_each : (rows : List Row) (one : Line) (each : Option ℕ → Line) (a b : Line) → IsOneOrEach rows one each a → IsOneOrEach rows one each b → a ≡ b
-same_one_or_each rows one each a b (inl m) (inl n) = m.1 ∙ sym n.1
+same_one_or_each rows one each a b (inl m) (inl n) = m.2 ∙ sym n.2
 same_one_or_each rows one each a b (inl m) (inr n) = absurd (m.0 n.0)
 same_one_or_each rows one each a b (inr m) (inl n) = absurd (n.0 m.0)
 same_one_or_each rows one each a b (inr (set, (j, is_j, m))) (inr (also, (k, is_k, n))) = m ∙ (ap each (same_if_given (codes "jobs") rows j k is_j is_k) ∙ sym n)
@@ -122,12 +122,12 @@ threads_within rows None is = tt
 threads_within rows (Some jobs) is = (is.1.least_of, is.1.limit)
 
 means_within : (s : Subcommand) (rows : List Row) (l : Line) → Means s rows l → IsWithin l
-means_within Check rows l (inl m) = subst IsWithin (sym m.1) tt
+means_within Check rows l (inl m) = subst IsWithin (sym m.2) tt
 means_within Check rows l (inr (set, (j, is_j, m))) = subst IsWithin (sym m) (threads_within rows j is_j)
 means_within Analyse rows l (d, is_d, (f, is_f, inl m)) = subst IsWithin (sym m.1) tt
 means_within Analyse rows l (d, is_d, (f, is_f, inr m)) = subst IsWithin (sym m.1) (searches_within d f)
 means_within Run rows l m = subst IsWithin (sym m.2) (m.1.least_of, m.1.limit)
-means_within Audit rows l (inl m) = subst IsWithin (sym m.1) tt
+means_within Audit rows l (inl m) = subst IsWithin (sym m.2) tt
 means_within Audit rows l (inr (set, (j, is_j, m))) = subst IsWithin (sym m) (threads_within rows j is_j)
 means_within Refute rows l (c, is_c, (r, is_r, (s, is_s, (x, is_x, m)))) = subst IsWithin (sym m) tt
 means_within Verify rows l (d, is_d, (r, is_r, (s, is_s, (j, is_j, (x, is_x, inl m))))) = subst IsWithin (sym m.1) (threads_within rows j is_j)
@@ -166,7 +166,12 @@ unknown_entered o name rows l e none is = none is.0 (ap (λ p. p.0) (some_same (
 pub as_asked : (s t : Subcommand) (rows : List Row) (r : Option Line) → s ≡ t → MatchOption r ((l : Line) → Means t rows l → ⊥) (Means t rows) → MatchOption r ((l : Line) → Means s rows l → ⊥) (Means s rows)
 as_asked s t rows r e m = subst (λ (u : Subcommand). MatchOption r ((l : Line) → Means u rows l → ⊥) (Means u rows)) (sym e) m
 
--- a document on each line is asked for, by no number of threads that may be
-pub wrong_jobs : (rows : List Row) (one : Line) (each : Option ℕ → Line) (l : Line) → IsSet (codes "each") rows → ((n : Option ℕ) → IsIfGiven (codes "jobs") rows n → ⊥) → IsOneOrEach rows one each l → ⊥
-wrong_jobs rows one each l set none (inl is) = is.0 set
-wrong_jobs rows one each l set none (inr (also, (jobs, is, m))) = none jobs is
+-- no number of threads that may be is given, and none isn't
+pub wrong_jobs : (rows : List Row) (one : Line) (each : Option ℕ → Line) (l : Line) → ((n : Option ℕ) → IsIfGiven (codes "jobs") rows n → ⊥) → IsOneOrEach rows one each l → ⊥
+wrong_jobs rows one each l none (inl is) = none None is.1
+wrong_jobs rows one each l none (inr (set, (jobs, is, m))) = none jobs is
+
+-- a number of threads is given, and no document on each line is asked for
+pub lone_jobs : (rows : List Row) (one : Line) (each : Option ℕ → Line) (l : Line) (jobs : ℕ) → (IsSet (codes "each") rows → ⊥) → IsIfGiven (codes "jobs") rows (Some jobs) → IsOneOrEach rows one each l → ⊥
+lone_jobs rows one each l jobs unset given (inl is) = given.0 is.1
+lone_jobs rows one each l jobs unset given (inr (set, more)) = unset set

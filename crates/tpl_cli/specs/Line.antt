@@ -41,10 +41,10 @@ abbrev pub search : ℕ → Form → lines.Line
 search depth Full = line.Analyse depth
 search depth Slim = line.AnalyseIn depth Slim
 
--- the line for one document, or that for a document on each line, which so many threads answer
+-- the line for one document, where no number of threads is given; or that for a document on each line, which so many answer
 abbrev pub IsOneOrEach : List Row → lines.Line → (Option ℕ → lines.Line) → lines.Line → Type 0
 IsOneOrEach rows one each l =
-    ((IsSet (codes "each") rows → ⊥) × (l ≡ one))
+    ((IsSet (codes "each") rows → ⊥) × (first_of (codes "jobs") rows ≡ None) × (l ≡ one))
     ⊎ (IsSet (codes "each") rows × ((jobs : Option ℕ) × IsIfGiven (codes "jobs") rows jobs × (l ≡ each jobs)))
 
 -- with these options the subcommand means this line

@@ -102,12 +102,15 @@ fn check_line(given: &ArgMatches<'_>) -> Option<Line>
         ((l : Line) → Means Subcommand.Check (rows_of (found_of given.now)) l → ⊥)
         (Means Subcommand.Check (rows_of (found_of given.now))) }
 {
-    if !is_set(given, "each") {
-        return Some(Line::Check);
+    let Some(jobs) = number_if_given(given, "jobs") else {
+        return None;
+    };
+    if is_set(given, "each") {
+        return Some(Line::CheckEach(jobs));
     }
-    match number_if_given(given, "jobs") {
-        Some(jobs) => Some(Line::CheckEach(jobs)),
-        None => None,
+    match jobs {
+        None => Some(Line::Check),
+        Some(_) => None,
     }
 }
 
@@ -139,12 +142,15 @@ fn audit_line(given: &ArgMatches<'_>) -> Option<Line>
         ((l : Line) → Means Subcommand.Audit (rows_of (found_of given.now)) l → ⊥)
         (Means Subcommand.Audit (rows_of (found_of given.now))) }
 {
-    if !is_set(given, "each") {
-        return Some(Line::Audit);
+    let Some(jobs) = number_if_given(given, "jobs") else {
+        return None;
+    };
+    if is_set(given, "each") {
+        return Some(Line::AuditEach(jobs));
     }
-    match number_if_given(given, "jobs") {
-        Some(jobs) => Some(Line::AuditEach(jobs)),
-        None => None,
+    match jobs {
+        None => Some(Line::Audit),
+        Some(_) => None,
     }
 }
 
