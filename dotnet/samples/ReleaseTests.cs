@@ -1,5 +1,7 @@
 using System;
+using System.Linq;
 using System.Threading;
+using System.Threading.Tasks;
 using TaskGraph;
 using Xunit;
 
@@ -17,8 +19,8 @@ namespace Sample
         [Fact]
         public void EveryRunKeepsTheClaims()
         {
-            new Release().Repaired().Certify();
-            new Release().Stoppable(CancellationToken.None).Certify();
+            new Release().Repaired().Verify();
+            new Release().Stoppable(CancellationToken.None).Verify();
         }
 
         // the certificate in the repository is still one of the graph
@@ -55,10 +57,13 @@ namespace Sample
             }
         }
 
-        // the release as it was first written: no certificate, and a run in which the claim fails
+        // the release as it was first written: a run in which the claim fails, no certificate, and a real run in which it fails
         [Fact]
         public void TheFirstReleaseRollsNothingBack()
         {
+            var fails = Assert.Throws<TaskGraphException>(() => new Release().Graph().Verify());
+            Assert.StartsWith("claim 1 fails: NoRollback and Notify don't both begin", fails.Message);
+            Assert.Equal(Verdict.Fails, new Release().Graph().Verdicts().Single().Verdict);
             var none = Assert.Throws<TaskGraphException>(() => new Release().Graph().Certify());
             Assert.StartsWith("not found: claim 1", none.Message);
             Assert.Contains("claim 1 fails here", none.Message);
@@ -66,6 +71,31 @@ namespace Sample
             Assert.True(run.Wait(5000));
             var wrong = Assert.Throws<TaskGraphException>(() => run.Audit());
             Assert.Contains("claim 1 fails", wrong.Message);
+        }
+
+        // shaken, it is refused in each run in which the deployment or the smoke test fails
+        [Fact]
+        public void ShakingFindsTheMistake()
+        {
+            int refused = 0;
+            for (int seed = 0; seed < 50; seed++)
+            {
+                TaskGraphBuilder g = new Release().Graph();
+                GraphRun run = g.Start(RunOptions.Shaken(seed));
+                Assert.True(run.Wait(5000));
+                bool hasReachedSwitch = run.EndOf(g["Switch"]) != TaskStatus.Canceled;
+                try
+                {
+                    run.Audit();
+                    Assert.True(hasReachedSwitch);
+                }
+                catch (TaskGraphException)
+                {
+                    Assert.True(!hasReachedSwitch);
+                    refused++;
+                }
+            }
+            Assert.Equal(24, refused);
         }
 
         // code that stays as it is, watched

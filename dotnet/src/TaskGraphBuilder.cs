@@ -207,6 +207,28 @@ namespace TaskGraph
             return ToJson(null, Claims.Texts);
         }
 
+        /// <summary>Demands that each claim holds in every run, and that none is empty: a test that needs nothing kept. A graph without
+        /// claims is accepted, and nothing is known of it then. Calls the program: see <see cref="TaskGraphProgram"/>.</summary>
+        /// <param name="depth">The most splits on a path of a certificate, 0 to 6.</param>
+        /// <param name="runs">How many random runs are tried for each claim, at most 1,000,000.</param>
+        /// <exception cref="TaskGraphException">A claim fails, is empty, or is unknown; or the document can't be read. With the verdict on
+        /// each claim in the program's words: those of a claim that fails have a run in which it does.</exception>
+        public void Verify(int depth = 6, int runs = 100000)
+        {
+            TaskGraphProgram.Demand(TaskGraphProgram.Verify(this, depth, runs));
+        }
+
+        /// <summary>Asks for the verdict on each claim, for a test of each or a report. Calls the program: see
+        /// <see cref="TaskGraphProgram"/>.</summary>
+        /// <param name="depth">The most splits on a path of a certificate, 0 to 6.</param>
+        /// <param name="runs">How many random runs are tried for each claim, at most 1,000,000.</param>
+        /// <returns>The verdicts, in the order of the claims.</returns>
+        /// <exception cref="TaskGraphException">The document can't be read: with the program's words.</exception>
+        public IReadOnlyList<ClaimVerdict> Verdicts(int depth = 6, int runs = 100000)
+        {
+            return ClaimVerdict.AllOf(TaskGraphProgram.Verify(this, depth, runs).Output);
+        }
+
         /// <summary>Searches for a certificate of the claims, has it checked, and gives the document with it, to be kept beside the
         /// code. Calls the program: see <see cref="TaskGraphProgram"/>.</summary>
         /// <param name="depth">The most splits on a path, 0 to 6.</param>

@@ -45,9 +45,30 @@ namespace TaskGraph
             return found.Output;
         }
 
+        /// <summary>The verdicts on the claims, as the program writes them, with its exit status: 0 where each claim holds and none is
+        /// empty.</summary>
+        internal static ProgramAnswer Verify(TaskGraphBuilder graph, int depth, int runs)
+        {
+            ProgramAnswer answer = Call("verify --explain --depth " + depth + " --runs " + runs, graph.ToJson());
+            if (answer.ExitCode != SaysNo)
+            {
+                Demand(answer);
+            }
+            return answer;
+        }
+
         internal static void Check(string document)
         {
             Demand(Call("check --explain", document));
+        }
+
+        /// <exception cref="TaskGraphException">The answer isn't yes: with the program's words.</exception>
+        internal static void Demand(ProgramAnswer answer)
+        {
+            if (answer.ExitCode != 0)
+            {
+                throw new TaskGraphException(answer.Output + answer.Error);
+            }
         }
 
         /// <summary>A run in which a claim fails, if a short search finds one.</summary>
@@ -67,14 +88,6 @@ namespace TaskGraph
             catch (IOException)
             {
                 // it ended without reading all: its exit status and standard error say why
-            }
-        }
-
-        private static void Demand(ProgramAnswer answer)
-        {
-            if (answer.ExitCode != 0)
-            {
-                throw new TaskGraphException(answer.Output + answer.Error);
             }
         }
 

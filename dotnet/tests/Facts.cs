@@ -24,7 +24,7 @@ namespace TaskGraph.Tests
         /// <summary>What is said of the first release, which the page docs/DOTNET.md shows.</summary>
         internal static void WriteFirstAnswer(TextWriter to)
         {
-            to.Write(Assert.Throws<TaskGraphException>(() => new Release().Graph().Certify()).Message);
+            to.Write(Assert.Throws<TaskGraphException>(() => new Release().Graph().Verify()).Message);
         }
 
         private static string Answer(Type type, MethodInfo fact)

@@ -15,6 +15,11 @@ namespace Xunit
             Demand(value, "true was expected");
         }
 
+        internal static void Equal<T>(T expected, T found)
+        {
+            Demand(Equals(expected, found), expected + " was expected: " + found);
+        }
+
         internal static void StartsWith(string expected, string text)
         {
             Demand(text.StartsWith(expected, StringComparison.Ordinal), "no beginning " + expected + ": " + text);
