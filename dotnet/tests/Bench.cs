@@ -3,6 +3,7 @@ using System.Collections.Generic;
 using System.Diagnostics;
 using System.IO;
 using System.Linq;
+using System.Runtime.InteropServices;
 using System.Threading;
 using System.Threading.Tasks;
 
@@ -15,6 +16,10 @@ namespace TaskGraph.Tests
         private const int Warm = 20;
         private const int Rounds = 5;
         private const double NanosecondsInMillisecond = 1e6;
+        private const double NanosecondsInSecond = 1e9;
+
+        // CLOCK_PROCESS_CPUTIME_ID of Linux; TotalProcessorTime of Mono goes by hundredths of a second
+        private const int ProcessorsClock = 2;
 
         private static readonly string[] Shapes = { "roots", "chain", "fan" };
 
@@ -24,6 +29,13 @@ namespace TaskGraph.Tests
             Declared,
             Recorded,
             WithJournal,
+        }
+
+        [StructLayout(LayoutKind.Sequential)]
+        private struct TimeSpec
+        {
+            internal long Seconds;
+            internal long Nanoseconds;
         }
 
         internal static void Write(TextWriter to, int repeats)
@@ -44,14 +56,28 @@ namespace TaskGraph.Tests
         {
             List<Action> runs = Enumerable.Range(0, repeats).Select(_ => Prepare(shape, manner)).ToList();
             GC.Collect();
-            TimeSpan used = Process.GetCurrentProcess().TotalProcessorTime;
+            double used = ProcessorTime();
             Stopwatch clock = Stopwatch.StartNew();
             runs.ForEach(it => it());
-            double wall = clock.Elapsed.TotalMilliseconds;
-            double processors = (Process.GetCurrentProcess().TotalProcessorTime - used).TotalMilliseconds;
+            double wall = clock.Elapsed.TotalMilliseconds * NanosecondsInMillisecond;
+            double processors = ProcessorTime() - used;
             double tasks = repeats * (double)Size;
-            return new[] { wall * NanosecondsInMillisecond / tasks, processors * NanosecondsInMillisecond / tasks };
+            return new[] { wall / tasks, processors / tasks };
         }
+
+        /// <summary>What all processors together have spent on this process, in nanoseconds.</summary>
+        private static double ProcessorTime()
+        {
+            TimeSpec now;
+            if (GetTime(ProcessorsClock, out now) != 0)
+            {
+                throw new InvalidOperationException("the clock of the processors can't be read");
+            }
+            return (now.Seconds * NanosecondsInSecond) + now.Nanoseconds;
+        }
+
+        [DllImport("libc", EntryPoint = "clock_gettime")]
+        private static extern int GetTime(int clock, out TimeSpec time);
 
         private static Action Prepare(string shape, Manner manner)
         {

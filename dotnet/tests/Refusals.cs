@@ -40,6 +40,7 @@ namespace TaskGraph.Tests
             Of("a foreign check in an async body", "Give the task that token", CheckForeign),
             Of("When for no end", "RanToCompletion, Canceled or Faulted", g => new Steps().When(TaskStatus.Running, Job("x"))),
             Of("a stored document without a certificate", "keep what Certify gives", g => g.Check(g.ToJson())),
+            Of("a program that isn't there", "name it by the environment variable TASKGRAPH", CallNowhere),
             Of("a second run", "build it again", g => { g.Run("A", Nothing); g.Start().Wait(); g.Start(); }),
             Of("a task after the start", "before that", g => { g.Run("A", Nothing); g.Start().Wait(); g.Run("B", Nothing); }),
             Of("the journal of a run that isn't recorded", "set to true", ReadUnrecorded),
@@ -103,6 +104,20 @@ namespace TaskGraph.Tests
             GraphToken stop = g.Token("stop");
             g.Run("A", new Steps().Check(stop).Work("x", () => Task.Delay(0)));
             g.ToJson();
+        }
+
+        private static void CallNowhere(TaskGraphBuilder g)
+        {
+            string named = Environment.GetEnvironmentVariable("TASKGRAPH");
+            Environment.SetEnvironmentVariable("TASKGRAPH", "/nowhere/taskgraph");
+            try
+            {
+                g.Verify();
+            }
+            finally
+            {
+                Environment.SetEnvironmentVariable("TASKGRAPH", named);
+            }
         }
 
         private static void ReadUnrecorded(TaskGraphBuilder g)
