@@ -73,6 +73,25 @@ namespace Sample
             Assert.Contains("claim 1 fails", wrong.Message);
         }
 
+        // the same without a marker
+        [Fact]
+        public void WhatFailsIsRolledBack()
+        {
+            TaskGraphBuilder g = new Release().Repaired();
+            g.Claims.Named("what fails is rolled back").Ended(g["Release"], TaskStatus.Faulted).Runs(g["Rollback"]);
+            g.Verify();
+        }
+
+        [Fact]
+        public void TheFirstReleaseIsFoundWithoutAMarker()
+        {
+            TaskGraphBuilder g = new Release().Graph();
+            g.Claims.Named("what fails is rolled back").Ended(g["Release"], TaskStatus.Faulted).Runs(g["Rollback"]);
+            ClaimVerdict found = g.Verdicts().Single(it => it.Name == "what fails is rolled back");
+            Assert.Equal(Verdict.Fails, found.Verdict);
+            Assert.Contains("drop Rollback", found.ToString());
+        }
+
         // shaken, it is refused in each run in which the deployment or the smoke test fails
         [Fact]
         public void ShakingFindsTheMistake()

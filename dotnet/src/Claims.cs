@@ -1,3 +1,4 @@
+using System;
 using System.Collections.Generic;
 using System.Linq;
 using System.Threading.Tasks;
@@ -9,10 +10,44 @@ namespace TaskGraph
     public sealed class Claims
     {
         internal readonly List<string> Texts = new List<string>();
+        private const int MostBeforeVersion3 = 64;
+
+        // the name of each claim, null for none
+        private readonly List<string> names = new List<string>();
+
+        // what the next claim says beside its sort: its name, its note and its given
         private readonly List<string> given = new List<string>();
+        private string name;
+        private string note;
+        private bool isOfVersion3;
 
         internal Claims()
         {
+        }
+
+        /// <summary>Whether only a document of version 3 says all this.</summary>
+        internal bool NeedVersion3
+        {
+            get { return isOfVersion3 || Texts.Count > MostBeforeVersion3; }
+        }
+
+        /// <summary>The next claim has this name, by which answers name it: 1 to 100 bytes of text, another one for each claim.</summary>
+        /// <exception cref="ArgumentException">It is empty, too long, has a control character, or is that of an earlier claim.</exception>
+        public Claims Named(string name)
+        {
+            if (names.Contains(Name.CheckedOfClaim(name)))
+            {
+                throw new ArgumentException("two claims are named " + name + "; give one another name");
+            }
+            this.name = name;
+            return this;
+        }
+
+        /// <summary>The next claim has this note, which is for readers alone.</summary>
+        public Claims WithNote(string note)
+        {
+            this.note = note;
+            return this;
         }
 
         /// <summary>The next claim speaks only of the runs in which nobody requests these tokens.</summary>
@@ -27,6 +62,35 @@ namespace TaskGraph
         {
             given.Add(Json.Object(Json.Member("input", Json.Text(input.Name)), Json.Member("is", Json.Bool(value))));
             return this;
+        }
+
+        /// <summary>The next claim speaks only of the runs in which the task, if it has ended, did so in one of these ways:
+        /// RanToCompletion, Canceled, Faulted.</summary>
+        public Claims Ended(GraphTask task, params TaskStatus[] ends)
+        {
+            return Give(Json.Object(Json.Member("ended", Json.Text(task.Name)), WaysOf(ends)));
+        }
+
+        /// <summary>The next claim speaks only of the runs in which the jobs of these sites don't fail.</summary>
+        public Claims Succeeds(params string[] sites)
+        {
+            foreach (string site in sites)
+            {
+                Give(Json.Object(Json.Member("succeeds", Json.Text(Name.Checked(site)))));
+            }
+            return this;
+        }
+
+        /// <summary>The next claim speaks only of the runs in which no job fails.</summary>
+        public Claims NoFailure()
+        {
+            return Give(Json.Text("no_failure"));
+        }
+
+        /// <summary>The next claim speaks only of the runs in which nobody requests a token.</summary>
+        public Claims NoRequest()
+        {
+            return Give(Json.Text("no_request"));
         }
 
         /// <summary>If the task has ended, it has done so in one of these ways: RanToCompletion, Canceled, Faulted.</summary>
@@ -47,6 +111,13 @@ namespace TaskGraph
             return Add(Json.Member("observed", Json.Text(task.Name)));
         }
 
+        /// <summary>If the run is complete, the task has begun.</summary>
+        public Claims Runs(GraphTask task)
+        {
+            isOfVersion3 = true;
+            return Add(Json.Member("runs", Json.Text(task.Name)));
+        }
+
         /// <summary>The task never begins.</summary>
         public Claims Never(GraphTask task)
         {
@@ -59,10 +130,29 @@ namespace TaskGraph
             return Add(Json.Member("excludes", Pair(one, other)));
         }
 
+        /// <summary>The name of the claim of this number, from 1; null for none.</summary>
+        internal string NameOf(int claim)
+        {
+            return names[claim - 1];
+        }
+
         internal static string FinalOf(GraphTask task, params TaskStatus[] ends)
         {
-            string ways = Json.List(ends.Select(it => Json.Text(it.ToString())));
-            return Json.Member("final", Json.Text(task.Name)) + "," + Json.Member("in", ways);
+            return Json.Member("final", Json.Text(task.Name)) + "," + WaysOf(ends);
+        }
+
+        /// <exception cref="InvalidOperationException">No claim stands behind a name, a note or a given.</exception>
+        internal void Check()
+        {
+            if (given.Count > 0 || name != null || note != null)
+            {
+                throw new InvalidOperationException("no claim stands behind the last name, note or given; add it, as Final(..)");
+            }
+        }
+
+        private static string WaysOf(TaskStatus[] ends)
+        {
+            return Json.Member("in", Json.List(ends.Select(it => Json.Text(it.ToString()))));
         }
 
         private static string Pair(GraphTask one, GraphTask other)
@@ -70,11 +160,38 @@ namespace TaskGraph
             return Json.List(new[] { Json.Text(one.Name), Json.Text(other.Name) });
         }
 
+        private Claims Give(string ofVersion3)
+        {
+            isOfVersion3 = true;
+            given.Add(ofVersion3);
+            return this;
+        }
+
         private Claims Add(string says)
         {
-            Texts.Add(given.Count == 0 ? Json.Object(says) : Json.Object(Json.Member("given", Json.List(given)), says));
+            isOfVersion3 |= name != null || note != null;
+            Texts.Add(Json.Object(About().Concat(new[] { says }).ToArray()));
+            names.Add(name);
             given.Clear();
+            name = note = null;
             return this;
+        }
+
+        /// <summary>What the next claim says beside its sort.</summary>
+        private IEnumerable<string> About()
+        {
+            if (name != null)
+            {
+                yield return Json.Member("name", Json.Text(name));
+            }
+            if (note != null)
+            {
+                yield return Json.Member("note", Json.Text(note));
+            }
+            if (given.Count > 0)
+            {
+                yield return Json.Member("given", Json.List(given));
+            }
         }
     }
 }

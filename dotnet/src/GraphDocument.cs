@@ -9,6 +9,7 @@ namespace TaskGraph.Internals
     {
         private const string Plain = "1";
         private const string WithLinkedTokens = "2";
+        private const string WithNotesAndNames = "3";
 
         private readonly TaskGraphBuilder graph;
 
@@ -20,7 +21,7 @@ namespace TaskGraph.Internals
         /// <summary>The document with these claims, and with a journal where there is one.</summary>
         internal string Write(string journal, IEnumerable<string> claims)
         {
-            return Write(claims, journal == null ? null : Json.Member("journal", Json.Text(journal.Replace("\n", "\\n"))));
+            return Write(claims, journal == null ? null : Json.Member("journal", Json.Text(journal)));
         }
 
         /// <summary>The document with its claims and a certificate of them.</summary>
@@ -31,8 +32,8 @@ namespace TaskGraph.Internals
 
         private string Write(IEnumerable<string> claims, string further)
         {
-            bool isLinked = graph.Tokens.Any(it => it.Sources.Length > 0);
-            var members = new List<string> { Json.Member("version", isLinked ? WithLinkedTokens : Plain) };
+            var members = new List<string> { Json.Member("version", Version()) };
+            AddNote(members, graph.Note);
             AddList(members, "inputs", graph.Inputs.Select(it => Json.Text(it.Name)));
             AddList(members, "tokens", graph.Tokens.Select(TokenOf));
             members.Add(Lines("tasks", graph.Tasks.Select(TaskOf)));
@@ -50,6 +51,22 @@ namespace TaskGraph.Internals
                 members.Add(further);
             }
             return "{" + string.Join(",\n ", members) + "}\n";
+        }
+
+        /// <summary>The least version that says all this.</summary>
+        private string Version()
+        {
+            bool isLinked = graph.Tokens.Any(it => it.Sources.Length > 0);
+            bool isNoted = graph.Note != null || graph.Tasks.Any(it => it.Note != null);
+            return isNoted || graph.Claims.NeedVersion3 ? WithNotesAndNames : isLinked ? WithLinkedTokens : Plain;
+        }
+
+        private static void AddNote(List<string> members, string note)
+        {
+            if (note != null)
+            {
+                members.Add(Json.Member("note", Json.Text(note)));
+            }
         }
 
         private static void AddList(List<string> members, string name, IEnumerable<string> items)
@@ -86,6 +103,7 @@ namespace TaskGraph.Internals
             {
                 Json.Member("name", Json.Text(task.Name)), Json.Member("kind", Json.Text(task.Kind.ToString().ToLowerInvariant())),
             };
+            AddNote(members, task.Note);
             if (task.Antecedent != null)
             {
                 members.Add(Json.Member("after", Json.Text(task.Antecedent.Name)));

@@ -27,6 +27,9 @@ namespace TaskGraph
         /// <summary>What has to hold in every run.</summary>
         public Claims Claims { get; private set; }
 
+        /// <summary>The note that stands at the top of the document, for readers alone; null for none.</summary>
+        public string Note { get; private set; }
+
         /// <summary>The tokens, in declared order.</summary>
         public IReadOnlyList<GraphToken> AllTokens
         {
@@ -61,6 +64,15 @@ namespace TaskGraph
                 }
                 return found;
             }
+        }
+
+        /// <summary>Gives the graph a note.</summary>
+        /// <returns>The graph.</returns>
+        public TaskGraphBuilder WithNote(string note)
+        {
+            DemandOpen("the note of the graph");
+            Note = note;
+            return this;
         }
 
         /// <summary>Declares a value that is fixed before the run.</summary>
@@ -226,7 +238,7 @@ namespace TaskGraph
         /// <exception cref="TaskGraphException">The document can't be read: with the program's words.</exception>
         public IReadOnlyList<ClaimVerdict> Verdicts(int depth = 6, int runs = 100000)
         {
-            return ClaimVerdict.AllOf(TaskGraphProgram.Verify(this, depth, runs).Output);
+            return ClaimVerdict.AllOf(TaskGraphProgram.Verify(this, depth, runs).Output, Claims.NameOf);
         }
 
         /// <summary>Searches for a certificate of the claims, has it checked, and gives the document with it, to be kept beside the
@@ -282,11 +294,7 @@ namespace TaskGraph
 
         internal GraphTask Add(GraphTask task)
         {
-            if (isComplete)
-            {
-                throw new InvalidOperationException(
-                    "the graph is complete, since its document was made or it was started; declare " + task.Name + " before that");
-            }
+            DemandOpen(task.Name);
             GraphRules.CheckNew(task);
             if (byName.ContainsKey(task.Name))
             {
@@ -301,6 +309,16 @@ namespace TaskGraph
             Tasks.Add(task);
             byName.Add(task.Name, task);
             return task;
+        }
+
+        /// <exception cref="InvalidOperationException">The graph is complete, so that this can't be declared any more.</exception>
+        internal void DemandOpen(string what)
+        {
+            if (isComplete)
+            {
+                throw new InvalidOperationException(
+                    "the graph is complete, since its document was made or it was started; declare " + what + " before that");
+            }
         }
 
         /// <summary>A name like this one that no task has: itself, or with a number behind it.</summary>
@@ -330,6 +348,7 @@ namespace TaskGraph
 
         private void Complete()
         {
+            Claims.Check();
             if (!isComplete)
             {
                 methods.ForEach(it => it.Check());

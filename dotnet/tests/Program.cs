@@ -42,6 +42,8 @@ namespace TaskGraph.Tests
             {
                 to.WriteLine(it.Key + "\t" + it.Value().ToJson().Replace("\n", ""));
             }
+            to.WriteLine("version3\t" + Version3.Declare().ToJson().Replace("\n", ""));
+            to.WriteLine("many claims\t" + Version3.DeclareMany().ToJson().Replace("\n", ""));
             foreach (KeyValuePair<int, Action<TaskGraphBuilder>> it in FromCSharp.All)
             {
                 var graph = new TaskGraphBuilder();

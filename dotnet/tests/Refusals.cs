@@ -39,6 +39,12 @@ namespace TaskGraph.Tests
             Of("a link without sources", "use Token(name)", g => g.Linked("l")),
             Of("a foreign check in an async body", "Give the task that token", CheckForeign),
             Of("When for no end", "RanToCompletion, Canceled or Faulted", g => new Steps().When(TaskStatus.Running, Job("x"))),
+            Of("a claim without a name", "1 to 100 bytes", g => g.Claims.Named("")),
+            Of("a claim's name of 101 bytes", "WithNote", g => g.Claims.Named(new string('\u00e4', 50) + "a")),
+            Of("a claim's name with a control character", "without control", g => g.Claims.Named("line\u0085end")),
+            Of("two claims of one name", "another name", NameTwice),
+            Of("a given without a claim", "as Final(..)", g => { g.Claims.NoFailure(); g.ToJson(); }),
+            Of("a note after the document", "before that", g => { g.ToJson(); g.WithNote("late"); }),
             Of("a stored document without a certificate", "keep what Certify gives", g => g.Check(g.ToJson())),
             Of("a program that isn't there", "name it by the environment variable TASKGRAPH", CallNowhere),
             Of("a second run", "build it again", g => { g.Run("A", Nothing); g.Start().Wait(); g.Start(); }),
@@ -90,6 +96,12 @@ namespace TaskGraph.Tests
             first.Start(child);
             second.Start(child);
             g.ToJson();
+        }
+
+        private static void NameTwice(TaskGraphBuilder g)
+        {
+            GraphTask task = g.Run("A", Nothing);
+            g.Claims.Named("same").Never(task).Named("same").Observed(task);
         }
 
         private static void TakeSourceTwice(TaskGraphBuilder g)
