@@ -96,7 +96,7 @@ namespace TaskGraph
         /// <summary>If the task has ended, it has done so in one of these ways: RanToCompletion, Canceled, Faulted.</summary>
         public Claims Final(GraphTask task, params TaskStatus[] ends)
         {
-            return Add(FinalOf(task, ends));
+            return Add(Json.Member("final", Json.Text(task.Name)) + "," + WaysOf(ends));
         }
 
         /// <summary>The second task begins only after the first one is settled.</summary>
@@ -134,11 +134,6 @@ namespace TaskGraph
         internal string NameOf(int claim)
         {
             return names[claim - 1];
-        }
-
-        internal static string FinalOf(GraphTask task, params TaskStatus[] ends)
-        {
-            return Json.Member("final", Json.Text(task.Name)) + "," + WaysOf(ends);
         }
 
         /// <exception cref="InvalidOperationException">No claim stands behind a name, a note or a given.</exception>

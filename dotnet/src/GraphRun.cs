@@ -78,10 +78,11 @@ namespace TaskGraph
             return true;
         }
 
-        /// <summary>The document of the graph with the journal of this run, to be kept for taskgraph audit and trace.</summary>
+        /// <summary>The document of the graph with the journal of this run and how each task was seen to end, to be kept for taskgraph
+        /// audit and trace.</summary>
         public string ToJson()
         {
-            return graph.ToJson(Journal, graph.Claims.Texts);
+            return graph.ToJson(Account());
         }
 
         /// <summary>Asks whether the run is one of the graph, is complete, has no claim that fails, and whether each task ended as the

@@ -10,7 +10,10 @@ namespace TaskGraph.Internals
         internal readonly string Journal;
         internal readonly IReadOnlyList<RunNote> Notes;
         internal readonly IReadOnlyList<long> Times;
-        internal readonly IReadOnlyDictionary<GraphTask, TaskStatus> Ends;
+
+        /// <summary>How each task that was seen to end did so, in declared order.</summary>
+        internal readonly IReadOnlyList<KeyValuePair<GraphTask, TaskStatus>> Ends;
+
         private readonly int seen;
         private readonly int records;
 
@@ -20,7 +23,8 @@ namespace TaskGraph.Internals
             Journal = writer.Write();
             Notes = writer.Notes;
             Times = writer.EventTimes.Select(it => (long)(it / ticksInMicrosecond)).ToArray();
-            Ends = graph.Tasks.Where(it => run.IsFinal[it.Id]).ToDictionary(it => it, it => run.Ends[it.Id]);
+            Ends = graph.Tasks.Where(it => run.IsFinal[it.Id])
+                .Select(it => new KeyValuePair<GraphTask, TaskStatus>(it, run.Ends[it.Id])).ToArray();
             seen = run.Seen.Length;
             records = run.Records.Length;
         }

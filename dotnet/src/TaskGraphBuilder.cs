@@ -216,7 +216,8 @@ namespace TaskGraph
         /// <summary>The document: the graph and its claims.</summary>
         public string ToJson()
         {
-            return ToJson(null, Claims.Texts);
+            Complete();
+            return new GraphDocument(this).Write();
         }
 
         /// <summary>Demands that each claim holds in every run, and that none is empty: a test that needs nothing kept. A graph without
@@ -286,10 +287,11 @@ namespace TaskGraph
             return NewRun(null);
         }
 
-        internal string ToJson(string journal, IEnumerable<string> claims)
+        /// <summary>The document with what was recorded of a run.</summary>
+        internal string ToJson(RunAccount run)
         {
             Complete();
-            return new GraphDocument(this).Write(journal, claims);
+            return new GraphDocument(this).WriteWith(run);
         }
 
         internal GraphTask Add(GraphTask task)
