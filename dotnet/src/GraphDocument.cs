@@ -1,4 +1,5 @@
 using System.Collections.Generic;
+using System.Globalization;
 using System.Linq;
 
 namespace TaskGraph.Internals
@@ -29,11 +30,13 @@ namespace TaskGraph.Internals
             return Write(LeastVersion(), Json.Member("certificate", certificate));
         }
 
-        /// <summary>The same with what was recorded of a run: the journal, and how each task was seen to end.</summary>
+        /// <summary>The same with what was recorded of a run: the journal, how each task was seen to end, and the times.</summary>
         internal string WriteWith(RunAccount run)
         {
             string ends = Json.Object(run.Ends.Select(it => Json.Member(it.Key.Name, Json.Text(it.Value.ToString()))).ToArray());
-            return Write(Version3, Json.Member("ended", ends), Json.Member("journal", Json.Text(run.Journal)));
+            string times = Json.List(run.Times.Select(it => it.ToString(CultureInfo.InvariantCulture)));
+            return Write(
+                Version3, Json.Member("ended", ends), Json.Member("times", times), Json.Member("journal", Json.Text(run.Journal)));
         }
 
         private string Write(string version, params string[] further)

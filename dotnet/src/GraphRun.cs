@@ -78,8 +78,8 @@ namespace TaskGraph
             return true;
         }
 
-        /// <summary>The document of the graph with the journal of this run and how each task was seen to end, to be kept for taskgraph
-        /// audit and trace.</summary>
+        /// <summary>The document of the graph with the journal of this run, how each task was seen to end, and the times, to be kept for
+        /// taskgraph audit and trace.</summary>
         public string ToJson()
         {
             return graph.ToJson(Account());

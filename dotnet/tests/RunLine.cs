@@ -16,7 +16,6 @@ namespace TaskGraph.Tests
             {
                 Json.Member("name", Json.Text(name)), Json.Member("ended", Json.Bool(hasEnded)), Json.Member("notes", notes),
                 Json.Member("document", run.ToJson().Replace("\n", "")),
-                Json.Member("times", Json.List(run.Times.Select(it => it.ToString()))),
             };
             if (begins != null)
             {
