@@ -2,7 +2,8 @@
 
 Two kinds of fenced blocks are run. A block `console` has commands, each behind `$ ` (with what stands between `<<END` and
 END), and below each what it writes; the exit status is the one that docs/OUTPUT.md gives for these lines. A block `json`
-is a document, or what stands in one behind its version; below it lines of this form say what the commands answer:
+is a document, or what stands in one behind its version, which is 3 where it doesn't say another; below it lines of this form
+say what the commands answer:
 
     `analyse --depth 1` finds a certificate.
     `check` says `accepted`.
@@ -112,7 +113,8 @@ def ending(answer: str, known: list[Row], command: str = "") -> tuple[int, str |
 
 def document(snippet: str) -> dict:
     """The document that a json block stands for."""
-    whole = snippet if snippet.lstrip().startswith("{") else '{"version": 2,' + snippet + "}"
+    # (of two members of one name the last counts)
+    whole = snippet if snippet.lstrip().startswith("{") else '{"version": 3,' + snippet + "}"
     return json.loads(whole)
 
 
