@@ -45,11 +45,12 @@ def bare(document: dict) -> dict:
 
 
 def worked_out():
-    """Each document with its claims, and their verdicts."""
+    """Each document with its claims, and their verdicts; in another version where a version is named."""
     for table in tables():
         document = bare(json.loads((TOP / table["file"]).read_text(encoding="utf-8")))
+        document["version"] = table.get("version", document["version"])
         text = json.dumps({**document, "claims": [it["claim"] for it in table["claims"]]})
-        yield pytest.param(text, [it["verdict"] for it in table["claims"]], id=slug(table["file"].partition(".")[0]))
+        yield pytest.param(text, [it["verdict"] for it in table["claims"]], id=slug(f"{table['file'].partition('.')[0]} {document['version']}"))
 
 
 def verify(program: Program, *words: str, text: str) -> Answer:
