@@ -74,9 +74,7 @@ class Graph:
         self.inputs = tuple(document.get("inputs", []))
         self.places = {task["name"]: place for place, task in enumerate(said)}
         self.tasks = tuple(map(self.task_of, said))
-        self.parents = {
-            self.places[it[1]]: place for place, task in enumerate(self.tasks) for it in statements_of(task.body) if it[0] == "start"
-        }
+        self.parents = {child: place for place in range(len(self.tasks)) for child in self.started_by(place)}
         self.attached = tuple(self.attached_to(place) for place in range(len(self.tasks)))
         links = [it if isinstance(it, dict) else {"name": it, "linked": []} for it in document.get("tokens", [])]
         self.sources = {it["name"]: tuple(it["linked"]) for it in links}
@@ -87,12 +85,15 @@ class Graph:
         of, options = (self.places[name] for name in said.get("of", [])), frozenset(said.get("options", []))
         return Task(said["name"], said["kind"], after, tuple(of), said.get("token"), options, body_of(said.get("body", [])))
 
+    def started_by(self, place: int) -> list[int]:
+        """The children that the body of a task starts, in the order of its text."""
+        return [self.places[it[1]] for it in statements_of(self.tasks[place].body) if it[0] == "start"]
+
     def attached_to(self, place: int) -> tuple[int, ...]:
-        """The attached children of a task, in the order of its body's text."""
-        task = self.tasks[place]
-        started = [self.places[it[1]] for it in statements_of(task.body) if it[0] == "start"]
-        may_attach = "DenyChildAttach" not in task.options
-        return tuple(child for child in started if may_attach and "AttachedToParent" in self.tasks[child].options)
+        """The attached children of a task, in the same order."""
+        may_attach = "DenyChildAttach" not in self.tasks[place].options
+        is_attached = lambda child: may_attach and "AttachedToParent" in self.tasks[child].options
+        return tuple(filter(is_attached, self.started_by(place)))
 
     def below(self, place: int) -> set[int]:
         """The attached children of a task, theirs, and so on."""

@@ -79,9 +79,9 @@ def test_claims_hold_or_fail():
     """Worked out by hand, of a job that may fail and a task that follows a failure."""
     after = {"name": "X", "kind": "then", "after": "A", "body": ["observe"], "options": ["OnlyOnFaulted"]}
     truth = Truth(document(root("A", {"work": "a", "may_fail": True}), after))
-    given = {"given": [{"ended": "A", "in": ["Faulted"]}]}
-    hold = [{"after": ["A", "X"]}, {"observed": "A"}, {"runs": "A"}, {**given, "runs": "X"}, {"given": ["no_failure"], "never": "X"}]
-    fail = [{"runs": "X"}, {"never": "X"}, {"given": ["no_failure"], "runs": "X"}, {**given, "never": "A"}, {"excludes": ["A", "X"]}]
+    faulted, calm = {"given": [{"ended": "A", "in": ["Faulted"]}]}, {"given": ["no_failure"]}
+    hold = [{"after": ["A", "X"]}, {"observed": "A"}, {"runs": "A"}, {**faulted, "runs": "X"}, {**calm, "never": "X"}]
+    fail = [{"runs": "X"}, {"never": "X"}, {**calm, "runs": "X"}, {**faulted, "never": "A"}, {"excludes": ["A", "X"]}]
     assert [truth.holds(it) for it in hold] == [True] * len(hold)
     assert [truth.holds(it) for it in fail] == [False] * len(fail)
 

@@ -50,7 +50,8 @@ def worked_out():
         document = bare(json.loads((TOP / table["file"]).read_text(encoding="utf-8")))
         document["version"] = table.get("version", document["version"])
         text = json.dumps({**document, "claims": [it["claim"] for it in table["claims"]]})
-        yield pytest.param(text, [it["verdict"] for it in table["claims"]], id=slug(f"{table['file'].partition('.')[0]} {document['version']}"))
+        name = f"{table['file'].partition('.')[0]} {document['version']}"
+        yield pytest.param(text, [it["verdict"] for it in table["claims"]], id=slug(name))
 
 
 def verify(program: Program, *words: str, text: str) -> Answer:
