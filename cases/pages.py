@@ -75,13 +75,14 @@ def commands(block: str) -> list[tuple[str, str]]:
 
 
 def pattern(line: str) -> re.Pattern:
-    """The lines that a row of docs/OUTPUT.md stands for: its words in capitals stand for any word, and WORDS for several."""
+    """The lines that a row of docs/OUTPUT.md stands for: its words in capitals stand for any word, and WORDS for several. A
+    claim that is told in words may have a name behind its number."""
     if line == "TREES":
         return re.compile(r"\[.*\]")
     if line == "DOCUMENT":
         return re.compile(r"\{.*\}")
     if line.endswith("WORDS"):
-        return re.compile(pattern(line.removesuffix("WORDS")).pattern + ".+")
+        return re.compile(pattern(line.removesuffix("WORDS")).pattern.replace("[^ \"]+", '[^ "]+(?: ".+")?', 1) + ".+")
     carried = r"(?: [^ ]+:[^ ]+)*" if line.startswith("task ") else ""
     return re.compile(r"[^ \"]+".join(map(re.escape, PLACE.split(line))) + carried)
 
