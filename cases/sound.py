@@ -179,12 +179,12 @@ class Comparison:
 
     def compare_versions(self, graph: Graph, asked: list[Asked]):
         """What is accepted in version 2 is accepted in version 3, with the same certificate."""
-        for it in asked:
-            if not it.is_wide and it.verdict(graph) == "accepted":
-                wider = Asked({**it.document, "version": 3}, it.tree)
-                said = self.checked([wider])[0] if self.program else wider.verdict(graph)
-                if said != "accepted":
-                    self.tell("accepted in version 2 and not in version 3:", wider.text())
+        narrow = [it for it in asked if not it.is_wide and it.verdict(graph) == "accepted"]
+        wider = [Asked({**it.document, "version": 3}, it.tree) for it in narrow]
+        said = self.checked(wider) if self.program else [it.verdict(graph) for it in wider]
+        for it, answer in zip(wider, said):
+            if answer != "accepted":
+                self.tell("accepted in version 2 and not in version 3:", it.text())
 
     def compare_search(self, truth: Truth, asked: Asked):
         """`analyse` finds a certificate exactly where the rules have one."""
