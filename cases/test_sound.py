@@ -13,7 +13,7 @@ from small import Graph
 from sound import Comparison, mistaken
 
 # how many graphs are compared
-DRAWN = 40
+DRAWN = 30
 # a graph that shows each mistake
 SHOWN = {
     Mistake.OWN_TOKEN_FOR_FINAL: 3,
