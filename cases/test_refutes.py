@@ -137,7 +137,7 @@ def without_run(document: dict) -> dict:
 def check_refutation(program: Program, text: str, wrote: str):
     """The document that was written for a claim that is refuted is as it has to be."""
     document = json.loads(wrote)
-    assert wrote == json.dumps(document, separators=(",", ":"), sort_keys=True) + "\n"
+    assert wrote == json.dumps(document, separators=(",", ":"), sort_keys=True, ensure_ascii=False) + "\n"
     assert without_run(document) == without_run(json.loads(text))
     assert unnested(document) is None, "no thread makes this run"
     audit = program("audit", given=wrote, limit=LIMIT)

@@ -62,7 +62,7 @@ def verdicts(program: Program, *words: str, text: str) -> list[dict]:
     """What the JSON says of each claim."""
     answer = verify(program, *words, "--as", "json", text=text)
     said = json.loads(answer.stdout)
-    assert answer.stdout == json.dumps(said, separators=(",", ":"), sort_keys=True) + "\n"
+    assert answer.stdout == json.dumps(said, separators=(",", ":"), sort_keys=True, ensure_ascii=False) + "\n"
     assert [it["claim"] for it in said["claims"]] == list(range(1, len(said["claims"]) + 1))
     assert said["sums"] == sums(said["claims"])
     assert answer.exit == (YES if said["sums"]["holds"] == said["sums"]["claims"] else NO)
