@@ -28,6 +28,8 @@ ROW = re.compile(r"^\| `([^`]+)` \| (\d) \|", re.MULTILINE)
 PROGRAM = "./taskgraph"
 # how a command shows what it says on standard error too
 ASIDE = "2>&1"
+# what a word in capitals stands for, and a claim's name behind its number
+WORD, NAMED = '[^ "]+', '(?: ".+")?'
 
 
 class Block(NamedTuple):
@@ -82,9 +84,9 @@ def pattern(line: str) -> re.Pattern:
     if line == "DOCUMENT":
         return re.compile(r"\{.*\}")
     if line.endswith("WORDS"):
-        return re.compile(pattern(line.removesuffix("WORDS")).pattern.replace("[^ \"]+", '[^ "]+(?: ".+")?', 1) + ".+")
+        return re.compile(pattern(line.removesuffix("WORDS")).pattern.replace(WORD, f"{WORD}{NAMED}", 1) + ".+")
     carried = r"(?: [^ ]+:[^ ]+)*" if line.startswith("task ") else ""
-    return re.compile(r"[^ \"]+".join(map(re.escape, PLACE.split(line))) + carried)
+    return re.compile(WORD.join(map(re.escape, PLACE.split(line))) + carried)
 
 
 def rows(text: str) -> list[Row]:
