@@ -207,7 +207,7 @@ class Comparison:
     def compare_refutation(self, truth: Truth, asked: Asked):
         """`refute` finds a run only of a claim that doesn't hold in all runs, and `audit` says the same of that run."""
         assert self.program
-        answer = self.program("refute", "--runs", FEW, given=json.dumps(asked.document))
+        answer = self.program("refute", "--claim", "1", "--runs", FEW, given=json.dumps(asked.document))
         self.counts["refuted"] += answer.exit
         if answer.exit == 0:
             return
