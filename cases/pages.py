@@ -23,13 +23,13 @@ from harness import LIMIT, TOP, Program
 FENCE = re.compile(r"^```(\w*)\n(.*?)^```\n", re.MULTILINE | re.DOTALL)
 SAYS = re.compile(r"`((?:check|analyse|run|audit)[^`]*)` (?:says `([^`]*)`|(finds a certificate))\.")
 LINK = re.compile(r"\]\((?!https?:|#)([^)#]+)")
+# words in capitals, what each of them stands for, and a claim's name behind its number
 PLACE = re.compile(r"[A-Z]{2,}|\b[NP]\b")
+WORD, NAMED = '[^ "]+', '(?: ".+")?'
 ROW = re.compile(r"^\| `([^`]+)` \| (\d) \|", re.MULTILINE)
 PROGRAM = "./taskgraph"
 # how a command shows what it says on standard error too
 ASIDE = "2>&1"
-# what a word in capitals stands for, and a claim's name behind its number
-WORD, NAMED = '[^ "]+', '(?: ".+")?'
 
 
 class Block(NamedTuple):
