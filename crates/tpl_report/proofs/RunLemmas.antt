@@ -1,6 +1,6 @@
 -- From a session's report to what is written of it.
 use Rattle.std.proofs.Common.{◌≡◌, ◌∙◌, ℕ, zero, suc, ◌<◌, Bool, true, false, List, [], ◌∷◌, length, length-append, map, Option, Some, None, Result, Ok, Err, codes, refl, sym, ap, subst, inl, inr, arith}
-use Rattle.std.specs.Prelude.{reverse, IfOk, MatchResult, string_bytes}
+use Rattle.std.specs.Prelude.{reverse, IfOk, IfErr, MatchResult, string_bytes}
 use Rattle.std.specs.declared.alloc.AllocError.{AllocError}
 use Rattle.tpl_model.specs.declared.fault.CertFault.{CertFault}
 use Rattle.tpl_commands.specs.declared.answer.Answer.{Answer}
@@ -13,13 +13,19 @@ use Rattle.tpl_reader.specs.Document.{DocumentValue}
 use Rattle.tpl_journal.specs.ReportText.{ReportValue, ReportText, IsReportOf}
 use Rattle.tpl_journal.specs.Writing.{Writes}
 use Rattle.tpl_runtime.specs.Reports.{each_below}
+use Rattle.tpl_runtime.specs.declared.closing.Report.{Report}
+use Rattle.tpl_report.specs.declared.fault.RunFault.{RunFault}
+use Rattle.tpl_report.specs.declared.fault.Stop.{Stop}
+use Rattle.tpl_report.specs.declared.fault.Stop.TheVariants.{Fault as Stopped, Memory as NoMemory}
+use Rattle.tpl_report.specs.Prevents.{StopsFor}
+use Rattle.tpl_report.specs.RunTexts.{fault_line}
 use Rattle.tpl_commands.specs.declared.exit.Exit.{Exit}
 use Rattle.tpl_commands.specs.declared.exit.Exit.TheVariants.{Success, Failure, Usage, Unreadable, Memory, Device, Fault}
 use Rattle.tpl_commands.specs.Checking.{IsAccepted, IsRefused, IsRefusal}
 use Rattle.tpl_report.specs.Made.{IsMadeBy, requests_of}
-use Rattle.tpl_report.specs.Reported.{IsReport}
+use Rattle.tpl_report.specs.Reported.{IsReport, told}
 use Rattle.tpl_commands.specs.Responding.{Puts}
-use Rattle.tpl_report.specs.Running.{report_exit, IsReported, RunsFrom, RunsWith, Runs, Completes, ServesRun}
+use Rattle.tpl_report.specs.Running.{report_exit, made_exit, made_text, IsReported, RunsFrom, RunsWith, Runs, Completes, ServesRun}
 use Rattle.tpl_reader.specs.Starting.{inputs_of}
 
 -- what holds of each number holds of what it is the number of
@@ -32,7 +38,7 @@ length-each_below f zero = refl
 length-each_below f (suc n) = omega (arith, length-append (each_below f n) (f n ∷ []), length-each_below f n)
 
 -- a report of a run can be written
-pub report_is_of : (n : Named) (inputs : List Bool) (r : ReportValue) → IsReport n inputs r → All (CanSpell n.graph) r.journal → IsReportOf n r
+report_is_of : (n : Named) (inputs : List Bool) (r : ReportValue) → IsReport n inputs r → All (CanSpell n.graph) r.journal → IsReportOf n r
 report_is_of n inputs r is events = record {
   statuses = ap length is.told.statuses ∙ length-each_below _ (length n.graph.tasks);
   carried = ap length is.told.carried ∙ length-each_below _ (length n.graph.tasks);
@@ -40,17 +46,17 @@ report_is_of n inputs r is events = record {
 }
 
 -- the exit of a report, with its text
-report_runs : (doc : DocumentValue) (inputs : List Bool) (workers : ℕ) (complete : Bool) (text : List ℕ) → IsReported doc inputs workers complete text → RunsWith doc inputs workers (report_exit complete) text
-report_runs doc inputs workers true text is = is
-report_runs doc inputs workers false text is = inl is
+report_runs : (doc : DocumentValue) (inputs : List Bool) (workers : ℕ) (prevents : Named → ℕ → RunFault → Type 0) (complete : Bool) (text : List ℕ) → IsReported doc inputs workers complete text → RunsWith doc inputs workers prevents (report_exit complete) text
+report_runs doc inputs workers prevents true text is = is
+report_runs doc inputs workers prevents false text is = inl is
 
-pub reported : {W : Type 0} (doc : DocumentValue) (inputs : List Bool) (workers : ℕ) (r : ReportValue) (contents : W → Option (List ℕ)) (old new : Counting W) (result : Exit) → IsAccepted doc → IsReport doc.graph inputs r
+reported : {W : Type 0} (doc : DocumentValue) (inputs : List Bool) (workers : ℕ) (prevents : Named → ℕ → RunFault → Type 0) (r : ReportValue) (contents : W → Option (List ℕ)) (old new : Counting W) (result : Exit) → IsAccepted doc → IsReport doc.graph inputs r
     → IsMadeBy doc.graph.graph inputs workers (requests_of doc.start) r.journal → Puts contents old new (report_exit r.complete) (ReportText doc.graph r) result
-    → Runs doc (Some inputs) workers contents old new result
-reported doc inputs workers r contents old new result accepted is made puts = record {
+    → Runs doc (Some inputs) workers prevents contents old new result
+reported doc inputs workers prevents r contents old new result accepted is made puts = record {
   exit = report_exit r.complete;
   text = ReportText doc.graph r;
-  runs = report_runs doc inputs workers r.complete (ReportText doc.graph r) (record {
+  runs = report_runs doc inputs workers prevents r.complete (ReportText doc.graph r) (record {
     accepted = accepted;
     report = r;
     of_run = is;
@@ -62,18 +68,38 @@ reported doc inputs workers r contents old new result accepted is made puts = re
   puts = puts;
 }
 
+-- what is made of a run can be written
+pub made_is_of : {K V : Type 0} (n : Named) (inputs : List Bool) (made : Result (Report K V) Stop) → IfOk made (λ r. IsReport n inputs (told r))
+    → IfOk made (λ r. All (CanSpell n.graph) r.journal.items) → IfOk made (λ r. IsReportOf n (told r))
+made_is_of n inputs (Ok r) is events = report_is_of n inputs (told r) is events
+made_is_of n inputs (Err stop) is events = tt
+
+-- what is made of a run, with its exit
+pub made_runs : {K V W : Type 0} (doc : DocumentValue) (inputs : List Bool) (workers : ℕ) (prevents : Named → ℕ → RunFault → Type 0) (made : Result (Report K V) Stop) (contents : W → Option (List ℕ))
+    (old new : Counting W) (result : Exit) → IsAccepted doc → IfOk made (λ r. IsReport doc.graph inputs (told r))
+    → IfOk made (λ r. IsMadeBy doc.graph.graph inputs workers (requests_of doc.start) r.journal.items) → IfErr made (StopsFor (prevents doc.graph workers))
+    → Puts contents old new (made_exit made) (made_text doc.graph made) result → Runs doc (Some inputs) workers prevents contents old new result
+made_runs doc inputs workers prevents (Ok r) contents old new result accepted is by stops puts = reported doc inputs workers prevents (told r) contents old new result accepted is by puts
+made_runs doc inputs workers prevents (Err NoMemory) contents old new result accepted is by stops puts = record { exit = Memory; text = codes "out of memory\n"; runs = refl; puts = puts }
+made_runs doc inputs workers prevents (Err (Stopped fault)) contents old new result accepted is by stops puts = record {
+  exit = Fault;
+  text = fault_line fault;
+  runs = record { accepted = accepted; fault = fault; why = stops; names = refl };
+  puts = puts;
+}
+
 -- the line for a certificate that is refused
-pub refused : {W : Type 0} (doc : DocumentValue) (inputs : List Bool) (workers : ℕ) (fault : CertFault) (contents : W → Option (List ℕ)) (old new : Counting W) (result : Exit) (r : Result Answer AllocError) → IsRefused doc fault
+pub refused : {W : Type 0} (doc : DocumentValue) (inputs : List Bool) (workers : ℕ) (prevents : Named → ℕ → RunFault → Type 0) (fault : CertFault) (contents : W → Option (List ℕ)) (old new : Counting W) (result : Exit) (r : Result Answer AllocError) → IsRefused doc fault
     → IfOk r (λ given. (given.exit ≡ Failure) × IsRefusal doc.graph.names.tasks fault (string_bytes given.text))
     → MatchResult r (λ given. Puts contents old new given.exit (string_bytes given.text) result) (λ _. Puts contents old new Memory (codes "out of memory\n") result)
-    → Runs doc (Some inputs) workers contents old new result
-refused doc inputs workers fault contents old new result (Ok given) wrong is puts = record {
+    → Runs doc (Some inputs) workers prevents contents old new result
+refused doc inputs workers prevents fault contents old new result (Ok given) wrong is puts = record {
   exit = Failure;
   text = string_bytes given.text;
   runs = inr (fault, wrong, is.1);
   puts = subst (λ (e : Exit). Puts contents old new e (string_bytes given.text) result) is.0 puts;
 }
-refused doc inputs workers fault contents old new result (Err e) wrong is puts = record {
+refused doc inputs workers prevents fault contents old new result (Err e) wrong is puts = record {
   exit = Memory;
   text = codes "out of memory\n";
   runs = refl;
@@ -82,44 +108,44 @@ refused doc inputs workers fault contents old new result (Err e) wrong is puts =
 
 -- what a run's end says of what was written
 
-success_completes : {W : Type 0} (doc : DocumentValue) (inputs : Option (List Bool)) (workers : ℕ) (contents : W → Option (List ℕ)) (old new : Counting W) (exit : Exit) (text : List ℕ) → inputs_of doc ≡ inputs → exit ≡ Success → RunsFrom doc inputs workers exit text → Writes contents old new text → Completes doc workers contents old new
-success_completes doc None workers contents old new exit text known e runs writes = let f = sym e ∙ runs.0 in absurd cc
-success_completes doc (Some inputs) workers contents old new Success text known e runs writes = record { inputs = inputs; known = known; text = text; reported = runs; writes = writes }
-success_completes doc (Some inputs) workers contents old new Failure text known e runs writes = absurd cc
-success_completes doc (Some inputs) workers contents old new Usage text known e runs writes = absurd cc
-success_completes doc (Some inputs) workers contents old new Unreadable text known e runs writes = absurd cc
-success_completes doc (Some inputs) workers contents old new Memory text known e runs writes = absurd cc
-success_completes doc (Some inputs) workers contents old new Device text known e runs writes = absurd cc
-success_completes doc (Some inputs) workers contents old new Fault text known e runs writes = absurd cc
+success_completes : {W : Type 0} (doc : DocumentValue) (inputs : Option (List Bool)) (workers : ℕ) (prevents : Named → ℕ → RunFault → Type 0) (contents : W → Option (List ℕ)) (old new : Counting W) (exit : Exit) (text : List ℕ) → inputs_of doc ≡ inputs → exit ≡ Success → RunsFrom doc inputs workers prevents exit text → Writes contents old new text → Completes doc workers contents old new
+success_completes doc None workers prevents contents old new exit text known e runs writes = let f = sym e ∙ runs.0 in absurd cc
+success_completes doc (Some inputs) workers prevents contents old new Success text known e runs writes = record { inputs = inputs; known = known; text = text; reported = runs; writes = writes }
+success_completes doc (Some inputs) workers prevents contents old new Failure text known e runs writes = absurd cc
+success_completes doc (Some inputs) workers prevents contents old new Usage text known e runs writes = absurd cc
+success_completes doc (Some inputs) workers prevents contents old new Unreadable text known e runs writes = absurd cc
+success_completes doc (Some inputs) workers prevents contents old new Memory text known e runs writes = absurd cc
+success_completes doc (Some inputs) workers prevents contents old new Device text known e runs writes = absurd cc
+success_completes doc (Some inputs) workers prevents contents old new Fault text known e runs writes = absurd cc
 
-pub run_completes : {W : Type 0} (doc : DocumentValue) (inputs : Option (List Bool)) (workers : ℕ) (contents : W → Option (List ℕ)) (old new : Counting W) (result : Exit) → inputs_of doc ≡ inputs → Runs doc inputs workers contents old new result → result ≡ Success → Completes doc workers contents old new
-run_completes doc inputs workers contents old new result known r e = go r.puts
+pub run_completes : {W : Type 0} (doc : DocumentValue) (inputs : Option (List Bool)) (workers : ℕ) (prevents : Named → ℕ → RunFault → Type 0) (contents : W → Option (List ℕ)) (old new : Counting W) (result : Exit) → inputs_of doc ≡ inputs → Runs doc inputs workers prevents contents old new result → result ≡ Success → Completes doc workers contents old new
+run_completes doc inputs workers prevents contents old new result known r e = go r.puts
   where
     go : Puts contents old new r.exit r.text result → Completes doc workers contents old new
-    go (inl w) = success_completes doc inputs workers contents old new r.exit r.text known (sym w.0 ∙ e) r.runs w.1
+    go (inl w) = success_completes doc inputs workers prevents contents old new r.exit r.text known (sym w.0 ∙ e) r.runs w.1
     go (inr f) = let d = sym e ∙ f.0 in absurd cc
 
-memory_writes : {W : Type 0} (doc : DocumentValue) (inputs : Option (List Bool)) (workers : ℕ) (contents : W → Option (List ℕ)) (old new : Counting W) (exit : Exit) (text : List ℕ) → exit ≡ Memory → RunsFrom doc inputs workers exit text → Writes contents old new text → Writes contents old new (codes "out of memory\n")
-memory_writes doc None workers contents old new exit text e runs writes = let f = sym e ∙ runs.0 in absurd cc
-memory_writes doc (Some inputs) workers contents old new Success text e runs writes = absurd cc
-memory_writes doc (Some inputs) workers contents old new Failure text e runs writes = absurd cc
-memory_writes doc (Some inputs) workers contents old new Usage text e runs writes = absurd cc
-memory_writes doc (Some inputs) workers contents old new Unreadable text e runs writes = absurd cc
-memory_writes doc (Some inputs) workers contents old new Memory text e runs writes = subst (λ (t : List ℕ). Writes contents old new t) runs writes
-memory_writes doc (Some inputs) workers contents old new Device text e runs writes = absurd cc
-memory_writes doc (Some inputs) workers contents old new Fault text e runs writes = absurd cc
+memory_writes : {W : Type 0} (doc : DocumentValue) (inputs : Option (List Bool)) (workers : ℕ) (prevents : Named → ℕ → RunFault → Type 0) (contents : W → Option (List ℕ)) (old new : Counting W) (exit : Exit) (text : List ℕ) → exit ≡ Memory → RunsFrom doc inputs workers prevents exit text → Writes contents old new text → Writes contents old new (codes "out of memory\n")
+memory_writes doc None workers prevents contents old new exit text e runs writes = let f = sym e ∙ runs.0 in absurd cc
+memory_writes doc (Some inputs) workers prevents contents old new Success text e runs writes = absurd cc
+memory_writes doc (Some inputs) workers prevents contents old new Failure text e runs writes = absurd cc
+memory_writes doc (Some inputs) workers prevents contents old new Usage text e runs writes = absurd cc
+memory_writes doc (Some inputs) workers prevents contents old new Unreadable text e runs writes = absurd cc
+memory_writes doc (Some inputs) workers prevents contents old new Memory text e runs writes = subst (λ (t : List ℕ). Writes contents old new t) runs writes
+memory_writes doc (Some inputs) workers prevents contents old new Device text e runs writes = absurd cc
+memory_writes doc (Some inputs) workers prevents contents old new Fault text e runs writes = absurd cc
 
-pub run_starves : {W : Type 0} (doc : DocumentValue) (inputs : Option (List Bool)) (workers : ℕ) (contents : W → Option (List ℕ)) (old new : Counting W) (result : Exit) → Runs doc inputs workers contents old new result → result ≡ Memory → Writes contents old new (codes "out of memory\n")
-run_starves doc inputs workers contents old new result r e = go r.puts
+pub run_starves : {W : Type 0} (doc : DocumentValue) (inputs : Option (List Bool)) (workers : ℕ) (prevents : Named → ℕ → RunFault → Type 0) (contents : W → Option (List ℕ)) (old new : Counting W) (result : Exit) → Runs doc inputs workers prevents contents old new result → result ≡ Memory → Writes contents old new (codes "out of memory\n")
+run_starves doc inputs workers prevents contents old new result r e = go r.puts
   where
     go : Puts contents old new r.exit r.text result → Writes contents old new (codes "out of memory\n")
-    go (inl w) = memory_writes doc inputs workers contents old new r.exit r.text (sym w.0 ∙ e) r.runs w.1
+    go (inl w) = memory_writes doc inputs workers prevents contents old new r.exit r.text (sym w.0 ∙ e) r.runs w.1
     go (inr f) = let d = sym e ∙ f.0 in absurd cc
 
 -- what a run leaves is what `run` says
-pub serves : {W : Type 0} (doc : DocumentValue) (inputs : Option (List Bool)) (workers : ℕ) (contents : W → Option (List ℕ)) (old new : Counting W) (result : Exit) → inputs_of doc ≡ inputs → Runs doc inputs workers contents old new result → ServesRun doc workers contents old new result
-serves doc inputs workers contents old new result known r = record {
-  runs = subst (λ i. Runs doc i workers contents old new result) (sym known) r;
-  complete = run_completes doc inputs workers contents old new result known r;
-  memory = run_starves doc inputs workers contents old new result r;
+pub serves : {W : Type 0} (doc : DocumentValue) (inputs : Option (List Bool)) (workers : ℕ) (prevents : Named → ℕ → RunFault → Type 0) (contents : W → Option (List ℕ)) (old new : Counting W) (result : Exit) → inputs_of doc ≡ inputs → Runs doc inputs workers prevents contents old new result → ServesRun doc workers prevents contents old new result
+serves doc inputs workers prevents contents old new result known r = record {
+  runs = subst (λ i. Runs doc i workers prevents contents old new result) (sym known) r;
+  complete = run_completes doc inputs workers prevents contents old new result known r;
+  memory = run_starves doc inputs workers prevents contents old new result r;
 }

@@ -1,18 +1,22 @@
 -- What `run` writes of a document.
-use Rattle.std.specs.Prelude.{◌≡◌, ◌⊎◌, ℕ, Bool, true, false, List, Option, Some, None, reverse, codes}
+use Rattle.std.specs.Prelude.{◌≡◌, ◌⊎◌, ℕ, Bool, true, false, List, Option, Some, None, Result, Ok, Err, reverse, codes}
 use Rattle.tpl_model.specs.declared.fault.CertFault.{CertFault}
 use Rattle.tpl_model.specs.Claims.{Holds}
 use Rattle.tpl_laws.specs.Soundness.{Each}
 use Rattle.tpl_journal.specs.declared.counting.Counting.{Counting}
+use Rattle.tpl_draft.specs.Named.{Named}
 use Rattle.tpl_reader.specs.Document.{DocumentValue}
 use Rattle.tpl_journal.specs.ReportText.{ReportValue, ReportText}
 use Rattle.tpl_journal.specs.Writing.{Writes}
 use Rattle.tpl_commands.specs.declared.exit.Exit.{Exit}
 use Rattle.tpl_commands.specs.declared.exit.Exit.TheVariants.{Success, Failure, Usage, Unreadable, Memory, Device, Fault}
+use Rattle.tpl_runtime.specs.declared.closing.Report.{Report}
 use Rattle.tpl_report.specs.declared.fault.RunFault.{RunFault}
+use Rattle.tpl_report.specs.declared.fault.Stop.{Stop}
+use Rattle.tpl_report.specs.declared.fault.Stop.TheVariants.{Fault as Stopped, Memory as NoMemory}
 use Rattle.tpl_commands.specs.Checking.{IsAccepted, IsRefused, IsRefusal}
 use Rattle.tpl_report.specs.Made.{IsMadeBy, requests_of}
-use Rattle.tpl_report.specs.Reported.{IsReport}
+use Rattle.tpl_report.specs.Reported.{IsReport, told}
 use Rattle.tpl_commands.specs.Responding.{Puts}
 use Rattle.tpl_report.specs.RunTexts.{fault_line}
 use Rattle.tpl_reader.specs.Starting.{inputs_of}
@@ -22,6 +26,18 @@ use Rattle.tpl_commands.specs.Texts.{unreadable_start}
 abbrev pub report_exit : Bool → Exit
 report_exit true = Success
 report_exit false = Failure
+
+-- the exit where this was made of a run
+abbrev pub made_exit : {K W : Type 0} → Result (Report K W) Stop → Exit
+made_exit (Ok report) = report_exit report.complete
+made_exit (Err NoMemory) = Memory
+made_exit (Err (Stopped fault)) = Fault
+
+-- the text of what was made of a run: the report, or the line for why there is none
+abbrev pub made_text : {K W : Type 0} → Named → Result (Report K W) Stop → List ℕ
+made_text n (Ok report) = ReportText n (told report)
+made_text n (Err NoMemory) = codes "out of memory\n"
+made_text n (Err (Stopped fault)) = fault_line fault
 
 -- The certificate is accepted, and the text is that of a report of a run with these inputs by this many
 -- workers, in which each token of `start` was requested and each claim of the document holds.
@@ -38,26 +54,33 @@ pub record IsReported (doc : DocumentValue) (inputs : List Bool) (workers : ℕ)
 abbrev pub IsCheckRefusal : DocumentValue → List ℕ → Type 0
 IsCheckRefusal doc text = (fault : CertFault) × IsRefused doc fault × IsRefusal doc.graph.names.tasks fault text
 
--- the exits and texts of a run with these inputs by this many workers
-abbrev pub RunsWith : DocumentValue → List Bool → ℕ → Exit → List ℕ → Type 0
-RunsWith doc inputs workers Success text = IsReported doc inputs workers true text
-RunsWith doc inputs workers Failure text = IsReported doc inputs workers false text ⊎ IsCheckRefusal doc text
-RunsWith doc inputs workers Usage text = ⊥
-RunsWith doc inputs workers Unreadable text = ⊥
-RunsWith doc inputs workers Memory text = text ≡ codes "out of memory\n"
-RunsWith doc inputs workers Device text = ⊥
-RunsWith doc inputs workers Fault text = (fault : RunFault) × (text ≡ fault_line fault)
+-- the certificate is accepted, and the line names a fault for which no run by this many workers is made
+pub record IsPrevented (doc : DocumentValue) (workers : ℕ) (prevents : Named → ℕ → RunFault → Type 0) (text : List ℕ) : Type 0 where
+  pub accepted : IsAccepted doc
+  pub fault : RunFault
+  pub why : prevents doc.graph workers fault
+  pub names : text ≡ fault_line fault
+
+-- the exits and texts of a run with these inputs by this many workers, that isn't made for these faults
+abbrev pub RunsWith : DocumentValue → List Bool → ℕ → (prevents : Named → ℕ → RunFault → Type 0) → Exit → List ℕ → Type 0
+RunsWith doc inputs workers prevents Success text = IsReported doc inputs workers true text
+RunsWith doc inputs workers prevents Failure text = IsReported doc inputs workers false text ⊎ IsCheckRefusal doc text
+RunsWith doc inputs workers prevents Usage text = ⊥
+RunsWith doc inputs workers prevents Unreadable text = ⊥
+RunsWith doc inputs workers prevents Memory text = text ≡ codes "out of memory\n"
+RunsWith doc inputs workers prevents Device text = ⊥
+RunsWith doc inputs workers prevents Fault text = IsPrevented doc workers prevents text
 
 -- the exits and texts of a run, where the inputs are known and where they aren't
-abbrev pub RunsFrom : DocumentValue → Option (List Bool) → ℕ → Exit → List ℕ → Type 0
-RunsFrom doc None workers exit text = (exit ≡ Unreadable) × (text ≡ unreadable_start (codes "Missing"))
-RunsFrom doc (Some inputs) workers exit text = RunsWith doc inputs workers exit text
+abbrev pub RunsFrom : DocumentValue → Option (List Bool) → ℕ → (prevents : Named → ℕ → RunFault → Type 0) → Exit → List ℕ → Type 0
+RunsFrom doc None workers prevents exit text = (exit ≡ Unreadable) × (text ≡ unreadable_start (codes "Missing"))
+RunsFrom doc (Some inputs) workers prevents exit text = RunsWith doc inputs workers prevents exit text
 
 -- the text was written whole, and so the run ends; or a write failed
-pub record Runs {W : Type 0} (doc : DocumentValue) (inputs : Option (List Bool)) (workers : ℕ) (contents : W → Option (List ℕ)) (old new : Counting W) (result : Exit) : Type 0 where
+pub record Runs {W : Type 0} (doc : DocumentValue) (inputs : Option (List Bool)) (workers : ℕ) (prevents : Named → ℕ → RunFault → Type 0) (contents : W → Option (List ℕ)) (old new : Counting W) (result : Exit) : Type 0 where
   pub exit : Exit
   pub text : List ℕ
-  pub runs : RunsFrom doc inputs workers exit text
+  pub runs : RunsFrom doc inputs workers prevents exit text
   pub puts : Puts contents old new exit text result
 
 -- the report that was written is of a run by this many workers, and says that it is complete
@@ -68,8 +91,8 @@ pub record Completes {W : Type 0} (doc : DocumentValue) (workers : ℕ) (content
   pub reported : IsReported doc inputs workers true text
   pub writes : Writes contents old new text
 
--- what `run` does with a document, by this many workers: success says that the report that was written is of a complete run, and the line for want of memory stands alone
-pub record ServesRun {W : Type 0} (doc : DocumentValue) (workers : ℕ) (contents : W → Option (List ℕ)) (old new : Counting W) (result : Exit) : Type 0 where
-  pub runs : Runs doc (inputs_of doc) workers contents old new result
+-- what `run` does with a document, by this many workers, that isn't made for these faults: success says that the report that was written is of a complete run, and the line for want of memory stands alone
+pub record ServesRun {W : Type 0} (doc : DocumentValue) (workers : ℕ) (prevents : Named → ℕ → RunFault → Type 0) (contents : W → Option (List ℕ)) (old new : Counting W) (result : Exit) : Type 0 where
+  pub runs : Runs doc (inputs_of doc) workers prevents contents old new result
   pub complete : result ≡ Success → Completes doc workers contents old new
   pub memory : result ≡ Memory → Writes contents old new (codes "out of memory\n")

@@ -1,7 +1,8 @@
 //! Who follows a run while it is made.
 
-ghost use Rattle.std.specs.Prelude.{◌≡◌, IfOk, map};
-ghost use Rattle.tpl_runtime.specs.Workers.{workers as first_workers, AllWorked};
+ghost use Rattle.std.specs.Prelude.{◌≡◌, ◌↔◌, IfOk, IfErr, OnOk, map};
+ghost use Rattle.tpl_runtime.specs.Workers.{workers as first_workers, AllWorked, ComeBack, IsCount};
+ghost use Rattle.tpl_runtime.specs.declared.run.RunWhy.TheVariants.{BadCount};
 
 use std::alloc::Global;
 use std::sync::Wait;
@@ -58,6 +59,9 @@ fn run_seen<'g, R: Threads + Wait + Sync, K: Drop + Send, W: Item<K> + Send, F: 
     ensures pass { IfOk result (λ r. r.1.queue ≡ session.now.queue) }
     ensures workers { IfOk result (λ r. map (λ d. d.0.actor) r.0.items ≡ first_workers workers) }
     ensures worked { IfOk result (λ r. AllWorked session.now r.0.items) }
+    ensures few { OnOk result (IsCount workers) }
+    ensures bad_count { IfErr result (λ e. (e.why ≡ BadCount) ↔ (IsCount workers → ⊥)) }
+    ensures seats { IfErr result (λ e. ComeBack e.why workers e.seats.items) }
 {
     thread::scope(
         thread::scope_env(),
@@ -68,6 +72,9 @@ fn run_seen<'g, R: Threads + Wait + Sync, K: Drop + Send, W: Item<K> + Send, F: 
             ensures workers { IfOk result (λ r. map (λ d. d.0.actor) r.0.items ≡ first_workers
                 workers) }
             ensures worked { IfOk result (λ r. AllWorked session.entry.now r.0.items) }
+            ensures few { OnOk result (IsCount workers) }
+            ensures bad_count { IfErr result (λ e. (e.why ≡ BadCount) ↔ (IsCount workers → ⊥)) }
+            ensures seats { IfErr result (λ e. ComeBack e.why workers e.seats.items) }
         {
             start(scope, follower, watcher);
             let done = session.run(rt, alloc, pass, workers);
@@ -96,6 +103,9 @@ pub(crate) fn run_followed<
     ensures workers { IfOk result (λ r. map (λ d. d.0.actor) r.0.items ≡ first_workers
         crew.entry.workers) }
     ensures worked { IfOk result (λ r. AllWorked session.now r.0.items) }
+    ensures few { OnOk result (IsCount crew.entry.workers) }
+    ensures bad_count { IfErr result (λ e. (e.why ≡ BadCount) ↔ (IsCount crew.entry.workers → ⊥)) }
+    ensures seats { IfErr result (λ e. ComeBack e.why crew.entry.workers e.seats.items) }
 {
     let Some(follower) = crew.follower else {
         return session.run(rt, alloc, pass, crew.workers);

@@ -1,10 +1,13 @@
 //! The tokens that are requested before the workers begin.
 
-ghost use Rattle.std.specs.Prelude.{◌≡◌, ◌||◌, ℕ, ◌<◌, [], ◌∷◌, true, false, length, map, slice_index_or, IfOk, IsTrue, OnOk};
+ghost use Rattle.std.specs.Prelude.{◌≡◌, ◌||◌, ℕ, ◌<◌, [], ◌∷◌, true, false, length, map, slice_index_or, IfOk, IfErr, IsTrue, OnOk};
 ghost use Rattle.std.specs.List.{All};
 ghost use Rattle.tpl_draft.specs.Ids.{token_number};
 ghost use Rattle.tpl_model.specs.Graph.{is_token};
 ghost use Rattle.tpl_report.specs.Made.{is_request, asks, HasAsked, HaveAsked, GoesOn};
+ghost use Rattle.tpl_report.specs.Prevents.{StopsFor, StopsSession};
+ghost use Rattle.tpl_report.specs.declared.fault.RunFault.TheVariants.{Mismatch};
+ghost use Rattle.tpl_report.specs.declared.fault.Stop.TheVariants.{Fault};
 ghost use Rattle.tpl_words.specs.declared.ids.TokenId.{TokenId};
 
 use crate::fault::{RunFault, Stop, seat_stop};
@@ -69,7 +72,8 @@ fn have_asked(graph: &Graph, events: &[(u32, Event)], token: TokenId) -> bool
 /// Passes over a token that these events requested. A session that is new has no other that is requested.
 fn passed_over(graph: &Graph, events: &[(u32, Event)], token: TokenId) -> Result<(), Stop>
     requires { is_token graph.now.graph token.0 }
-    ensures { OnOk result (HasAsked graph.now.graph events.now token.0) }
+    ensures asked { OnOk result (HasAsked graph.now.graph events.now token.0) }
+    ensures refused { IfErr result (λ stop. stop ≡ Fault Mismatch) }
 {
     if have_asked(graph, events, token) {
         Ok(())
@@ -94,6 +98,7 @@ fn request_one<'g, R: Wait, K: Drop, W: Item<K>>(
     ensures actor { seat.new.actor ≡ seat.old.actor }
     ensures list { OnOk result (GoesOn seat.old.mine seat.new.mine) }
     ensures asked { OnOk result (HasAsked graph.now.graph seat.new.mine token.0) }
+    ensures refused { IfErr result (λ stop. stop ≡ Fault Mismatch) }
 {
     match session.request(rt, seat, pass, token) {
         Asked::Place(_) => Ok(()),
@@ -118,6 +123,7 @@ fn request_all<'g, R: Wait, K: Drop, W: Item<K>>(
     ensures actor { seat.new.actor ≡ seat.old.actor }
     ensures asked { OnOk result (All (HasAsked graph.now.graph seat.new.mine) (map token_number
         tokens.now)) }
+    ensures refused { IfErr result (λ stop. stop ≡ Fault Mismatch) }
 {
     for token in tokens {
         request_one(rt, session, graph, seat, pass, *token)?;
@@ -149,6 +155,7 @@ pub(crate) fn first_seat<'g, R: Wait, K: Drop, W: Item<K>>(
     ensures pass { pass.new.queue ≡ session.now.queue }
     ensures asked { IfOk result (λ seats. HaveAsked graph.now.graph (map token_number tokens.now)
         seats.items) }
+    ensures stops { (n : ℕ) → IfErr result (StopsFor (StopsSession n)) }
 {
     match session.seat(rt, alloc, ASKER) {
         Ok(seat) => {

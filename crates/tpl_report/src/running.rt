@@ -1,6 +1,6 @@
 //! A document's run, from its items to a writer.
 
-ghost use Rattle.std.specs.Prelude.{◌≡◌, Some, map};
+ghost use Rattle.std.specs.Prelude.{◌≡◌, Some, map, IfOk};
 ghost use Rattle.std.specs.List.{All};
 ghost use Rattle.tpl_draft.specs.Ids.{token_number};
 ghost use Rattle.tpl_graph.specs.Fits.{Fits};
@@ -12,8 +12,9 @@ ghost use Rattle.tpl_commands.specs.Checking.{IsAccepted};
 ghost use Rattle.tpl_commands.specs.Loading.{RequestsTokens};
 ghost use Rattle.tpl_commands.specs.Responding.{Puts};
 ghost use Rattle.tpl_report.specs.Made.{requests_of};
+ghost use Rattle.tpl_report.specs.Prevents.{Prevents};
 ghost use Rattle.tpl_report.specs.Reported.{told};
-ghost use Rattle.tpl_report.specs.Running.{report_exit, Runs, ServesRun};
+ghost use Rattle.tpl_report.specs.Running.{made_exit, made_text, report_exit, Runs, ServesRun};
 ghost use Rattle.tpl_words.specs.declared.ids.TokenId.{TokenId};
 
 use crate::fault::Stop;
@@ -86,6 +87,22 @@ fn put_report<O: Write, K: Drop, W: Drop>(
     }
 }
 
+/// Writes what comes of a run: its report, or the line that names why there is none.
+fn put_made<O: Write, K: Drop, W: Drop>(
+    graph: &Graph,
+    made: Result<Report<K, W>, Stop>,
+    to: &mut Counting<O>,
+) -> Exit
+    requires { IfOk made (λ report. IsReportOf graph.now (told report)) }
+    ensures { Puts O.contents to.old to.new (made_exit made) (made_text graph.now made) result }
+{
+    match made {
+        Ok(report) => put_report(graph, &report, to),
+        Err(Stop::Memory) => put_out_of_memory(to),
+        Err(Stop::Fault(fault)) => put(Exit::Fault, fault.line().as_bytes(), to),
+    }
+}
+
 /// Makes the run of a document whose certificate is accepted, and writes what comes of it.
 fn run_with<R: Threads + Wait + Sync, K: Drop + Send, W: Item<K> + Send, O: Write, F: Follow>(
     rt: &R,
@@ -98,15 +115,12 @@ fn run_with<R: Threads + Wait + Sync, K: Drop + Send, W: Item<K> + Send, O: Writ
 ) -> Exit
     requires accepted { IsAccepted (doc_of document.now) }
     requires tokens { RequestsTokens (doc_of document.now) }
-    ensures { Runs (doc_of document.now) (Some inputs) crew.entry.workers O.contents to.old to.new
-        result }
+    ensures { Runs (doc_of document.now) (Some inputs) crew.entry.workers
+        (Prevents W.site W.may_fail items.items) O.contents to.old to.new result }
 {
     let graph = &document.graph;
-    match report_on(rt, alloc, graph, inputs, requests(document), items, crew) {
-        Ok(report) => put_report(graph, &report, to),
-        Err(Stop::Memory) => put_out_of_memory(to),
-        Err(Stop::Fault(fault)) => put(Exit::Fault, fault.line().as_bytes(), to),
-    }
+    let made = report_on(rt, alloc, graph, inputs, requests(document), items, crew);
+    put_made(graph, made, to)
 }
 
 /// Checks the certificate of a document, and makes its run where it is accepted.
@@ -121,8 +135,8 @@ fn check_and_run<R: Threads + Wait + Sync, K: Drop + Send, W: Item<K> + Send, O:
 ) -> Exit
     requires claims { All (Fits document.now.graph.graph) document.now.claims.items }
     requires tokens { RequestsTokens (doc_of document.now) }
-    ensures { Runs (doc_of document.now) (Some inputs) crew.entry.workers O.contents to.old to.new
-        result }
+    ensures { Runs (doc_of document.now) (Some inputs) crew.entry.workers
+        (Prevents W.site W.may_fail items.items) O.contents to.old to.new result }
 {
     let rules = rules_of(document);
     match check(
@@ -138,7 +152,7 @@ fn check_and_run<R: Threads + Wait + Sync, K: Drop + Send, W: Item<K> + Send, O:
 
 /// Makes the run of a document by this many workers, 1 to 64, who call the items, one for each work statement; and
 /// writes its report. The certificate is checked first: where it is refused, the check's line is written, and nothing
-/// is run. The tokens of `start` are requested before the workers begin. Where there is no `start` and the graph has
+/// is run. Where the items aren't the graph's, or there aren't 1 to 64 workers, the line names that. The tokens of `start` are requested before the workers begin. Where there is no `start` and the graph has
 /// inputs, the document can't be run. Nothing is written before the report is known, and writing it takes no memory, so
 /// the line `out of memory` stands alone; after a failed write nothing more is written.
 pub fn serve_run<R: Threads + Wait + Sync, K: Drop + Send, W: Item<K> + Send, O: Write>(
@@ -151,7 +165,8 @@ pub fn serve_run<R: Threads + Wait + Sync, K: Drop + Send, W: Item<K> + Send, O:
 ) -> Exit
     requires claims { All (Fits document.now.graph.graph) document.now.claims.items }
     requires tokens { RequestsTokens (doc_of document.now) }
-    ensures { ServesRun (doc_of document.now) workers O.contents to.old to.new result }
+    ensures { ServesRun (doc_of document.now) workers (Prevents W.site W.may_fail items.items)
+        O.contents to.old to.new result }
 {
     let crew: Crew<'_, Nobody> = Crew {
         workers,
@@ -177,7 +192,8 @@ pub fn serve_run_followed<
 ) -> Exit
     requires claims { All (Fits document.now.graph.graph) document.now.claims.items }
     requires tokens { RequestsTokens (doc_of document.now) }
-    ensures { ServesRun (doc_of document.now) crew.entry.workers O.contents to.old to.new result }
+    ensures { ServesRun (doc_of document.now) crew.entry.workers
+        (Prevents W.site W.may_fail items.items) O.contents to.old to.new result }
 {
     match document.inputs() {
         Some(inputs) => check_and_run(rt, alloc, document, inputs, items, crew, to),

@@ -1,13 +1,15 @@
 //! A session from its opening to its report.
 
-ghost use Rattle.std.specs.Prelude.{◌≡◌, ◌++◌, map, IfOk};
+ghost use Rattle.std.specs.Prelude.{◌≡◌, ◌++◌, map, IfOk, IfErr, OnOk};
 ghost use Rattle.std.specs.List.{All};
 ghost use Rattle.tpl_draft.specs.Ids.{token_number};
 ghost use Rattle.tpl_journal.specs.Lines.{CanSpell};
 ghost use Rattle.tpl_model.specs.Graph.{is_token};
 ghost use Rattle.tpl_queue.specs.Tally.{new_tally};
 ghost use Rattle.tpl_report.specs.Made.{HaveRun, IsMadeBy};
+ghost use Rattle.tpl_report.specs.Prevents.{Prevents, StopsFor, StopsSession};
 ghost use Rattle.tpl_report.specs.Reported.{told, IsReport};
+ghost use Rattle.tpl_runtime.specs.Workers.{IsCount};
 ghost use Rattle.tpl_words.specs.declared.ids.TokenId.{TokenId};
 
 use crate::fault::{Stop, close_stop, open_stop, run_stop};
@@ -36,6 +38,8 @@ pub(crate) fn report_on<R: Threads + Wait + Sync, K: Drop + Send, W: Item<K> + S
     ensures events { IfOk result (λ r. All (CanSpell graph.now.graph) r.journal.items) }
     ensures made { IfOk result (λ r. IsMadeBy graph.now.graph inputs crew.entry.workers
         (map token_number tokens.now) r.journal.items) }
+    ensures stops { IfErr result (StopsFor (Prevents W.site W.may_fail items.items graph.now
+        crew.entry.workers)) }
 {
     let places = if graph.len() == 0 { 1 } else { graph.len() };
     let (queue, pass) = JobQueue::new(alloc, places)?;
@@ -62,6 +66,7 @@ fn closed<'g, R: Threads + Wait + Sync, K: Drop + Send, W: Item<K> + Send, F: Fo
     ensures events { IfOk result (λ r. All (CanSpell graph.now.graph) r.journal.items) }
     ensures made { IfOk result (λ r. IsMadeBy graph.now.graph session.entry.inputs
         crew.entry.workers (map token_number tokens.now) r.journal.items) }
+    ensures stops { IfErr result (StopsFor (StopsSession crew.entry.workers)) }
 {
     let (seats, pass) = seats_after_run(rt, alloc, &session, graph, tokens, pass, crew)?;
     tpl_journal::spells_run();
@@ -87,6 +92,8 @@ fn seats_after_run<'g, R: Threads + Wait + Sync, K: Drop + Send, W: Item<K> + Se
     ensures pass { IfOk result (λ r. r.1.queue ≡ session.now.queue) }
     ensures seats { IfOk result (λ r. HaveRun graph.now.graph session.now.inputs
         crew.entry.workers (map token_number tokens.now) r.0.items) }
+    ensures count { OnOk result (IsCount crew.entry.workers) }
+    ensures stops { IfErr result (StopsFor (StopsSession crew.entry.workers)) }
 {
     let mut pass = pass;
     let seats = first_seat(rt, alloc, session, graph, &mut pass, tokens)?;

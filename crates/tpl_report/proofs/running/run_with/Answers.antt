@@ -1,15 +1,18 @@
 use Rattle.std.proofs.Common.{subst}
+use Rattle.std.specs.Prelude.{IfOk}
 use Rattle.tpl_reader.specs.SeenDocument.{doc_of}
 use Rattle.tpl_report.specs.Made.{IsMadeBy}
-use Rattle.tpl_report.specs.Reported.{told}
-use Rattle.tpl_report.proofs.RunLemmas.{report_is_of, reported}
+use Rattle.tpl_report.specs.Prevents.{Prevents}
+use Rattle.tpl_report.proofs.RunLemmas.{made_is_of, made_runs}
 use Rattle.tpl_report.proofs.running.run_with.Goals as goal
 
-pub put_report-requires : goal.put_report-requires
-put_report-requires g c = report_is_of c.args.document.now.graph c.args.inputs (told c.in-Ok.report) c.in-Ok.ensures.report c.in-Ok.ensures.events
+pub put_made-requires : goal.put_made-requires
+put_made-requires g c = made_is_of c.args.document.now.graph c.args.inputs _ c.report_on-made.ensures.report c.report_on-made.ensures.events
 
-pub returns-in-Ok : goal.returns-in-Ok
-returns-in-Ok g c =
+pub returns : goal.returns
+returns g c =
     let doc = doc_of c.args.document.now in
-    let made = subst (λ tokens. IsMadeBy doc.graph.graph c.args.inputs c.args.crew.workers tokens c.in-Ok.report.journal.items) c.requests.ensures.exact c.in-Ok.ensures.made in
-    reported doc c.args.inputs c.args.crew.workers (told c.in-Ok.report) g.O.Write.contents c.args.to.now c.put_report.new.to c.put_report.result c.requires.accepted c.in-Ok.ensures.report made c.put_report.ensures
+    let made = c.report_on-made.ensures in
+    let by = subst (λ tokens. IfOk c.report_on-made.result (λ r. IsMadeBy doc.graph.graph c.args.inputs c.args.crew.workers tokens r.journal.items)) c.requests.ensures.exact made.made in
+    made_runs doc c.args.inputs c.args.crew.workers (Prevents g.W.Item.site g.W.Item.may_fail c.args.items.items) c.report_on-made.result g.O.Write.contents c.args.to.now c.put_made.new.to c.put_made.result
+    c.requires.accepted made.report by made.stops c.put_made.ensures
