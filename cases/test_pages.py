@@ -51,10 +51,12 @@ def links():
 
 
 def lined_cases():
-    """The cases whose lines are those of docs/OUTPUT.md; a picture's are those of docs/PICTURES.md."""
+    """The cases whose lines are those of docs/OUTPUT.md; a picture's are those of docs/PICTURES.md, and those of many
+    documents have a number and an exit status in front."""
     for case in all_cases():
         is_picture = case.command == "draw" and case.exit == 0
-        if case.stdout is not None and case.exit != USAGE and not HELP & set(case.words) and not is_picture:
+        is_plain = not is_picture and "--each" not in case.words
+        if case.stdout is not None and case.exit != USAGE and not HELP & set(case.words) and is_plain:
             yield case
 
 

@@ -13,8 +13,8 @@ import pytest
 from harness import Answer, Case, Program, all_cases
 
 VERSION = re.compile(rb'("version"\s*:\s*)[12](?=\s*[,}])')
-# these show members and certificates of version 3 beside what version 2 says of them
-NEW = ("wider-documents", "wider-certificates")
+# these show members and certificates of version 3 beside what earlier versions say of them
+NEW = ("wider-documents", "wider-certificates", "version3-reading")
 # a certificate is found, which `check` accepts in version 3, and not in the version of the case
 FOUND = "found"
 # each case that is answered otherwise, and how

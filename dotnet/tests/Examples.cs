@@ -87,8 +87,8 @@ namespace TaskGraph.Tests
             var rollback = sw.ContinueWith("Rollback", Working("rollback"), OnlyOnFaulted);
             release.ContinueWith("Notify", Reading(), OnlyOnFaulted);
             var retire = release.ContinueWith("RetireBlue", Working("retire"), OnlyOnRanToCompletion);
-            var none = sw.ContinueWith("NoRollback", Nothing(), NotOnFaulted);
-            g.Claims.Excludes(rollback, retire).Excludes(rollback, none);
+            g.Claims.Excludes(rollback, retire)
+                .Named("a release that succeeds retires the old version").Ended(release, RanToCompletion).Runs(retire);
             return g;
         }
 
