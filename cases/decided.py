@@ -41,7 +41,8 @@ def settled(program: Program, text: str):
     found, ends, certify = called(program, "analyse", "--depth", DEPTH, text=text)
     if ends not in (0, 1):
         raise ValueError(f"{found!r} of {text}")
-    _, refutes, refute = called(program, "refute", *(["--runs", "2000"] if ends == 0 else []), text=text)
+    runs = ["--runs", "2000"] if ends == 0 else []
+    _, refutes, refute = called(program, "refute", "--claim", "1", *runs, text=text)
     if ends == 0 and refutes == 1:
         raise ValueError(f"both a certificate and a run: {text}")
     return "certified" if ends == 0 else "refuted" if refutes == 1 else "neither", certify, refute

@@ -1,6 +1,7 @@
 """Runs in which claims fail are searched for, over each document of examples/ and of the cases, claim by claim.
 
-A claim for which `analyse` finds a certificate is never refuted. Each claim of which a page of examples/ shows a run in
+A claim for which `analyse` finds a certificate is never refuted, also where all its runs are tried. Of a document with many
+claims the answer is that to the first one that fails, whichever are passed over. Each claim of which a page of examples/ shows a run in
 which it fails, or of which a case of `audit` says where it fails, is refuted within the runs that are tried unless told
 otherwise. The same words give the same text. Of two shortest runs each is found by some seed, and no longer one. Each
 document that is written is the one that was read but for the inputs and the journal; `audit` finds a run there, and
@@ -18,6 +19,7 @@ import pytest
 from graphs import Drawn
 from harness import TOP, Answer, Program, all_cases, cases_of, examples, slug
 from nested import unnested
+from test_verify import worked_out
 
 # a page shows a claim of a document with a journal in which it fails
 SHOWN = re.compile(r"^\$ examples/ask examples/(\S+\.json) '([^']*)' --journal", re.MULTILINE)
@@ -158,13 +160,25 @@ def test_false_claim(program, text: str):
 
 @pytest.mark.parametrize("text", claims())
 def test_claim(program, text: str):
-    """A claim that may be true or false."""
+    """A claim that may be true or false. Its runs are tried also where it has a certificate."""
     found = program("analyse", "--depth", DEPTH, given=text, limit=LIMIT)
-    answer = refute(program, "--runs", FEW, text=text)
+    answer = refute(program, "--claim", "1", "--runs", FEW, text=text)
     if found.exit == UNREADABLE:
         assert (answer.stdout, answer.exit) == (found.stdout, found.exit)
     elif found.exit != HOLDS and answer.exit == REFUTED:
         check_refutation(program, text, answer.stdout)
+    else:
+        assert answer == NOT_REFUTED
+
+
+@pytest.mark.parametrize("text, wanted", worked_out())
+def test_claims(program, text: str, wanted: list[str]):
+    """Claims that hold, fail or aren't known to do either, beside each other."""
+    answer = refute(program, "--runs", FEW, text=text)
+    if "fails" in wanted:
+        number = str(wanted.index("fails") + 1)
+        assert answer == refute(program, "--claim", number, "--runs", FEW, text=text)
+        assert answer.exit == REFUTED
     else:
         assert answer == NOT_REFUTED
 
@@ -182,7 +196,7 @@ def test_a_document_that_gets_too_long(program):
 def test_drawn_graph(program, number: int):
     graph = Drawn(random.Random(number))
     text = json.dumps(graph.document(graph.claim()))
-    answer = refute(program, "--runs", "300", text=text)
+    answer = refute(program, "--claim", "1", "--runs", "300", text=text)
     if answer.exit == REFUTED:
         check_refutation(program, text, answer.stdout)
     elif answer.exit == UNREADABLE:

@@ -107,7 +107,15 @@ def test_a_terminal_is_told_why_without_being_asked(program):
     assert asked and text.replace("\r\n", "\n") == asked
 
 
-@pytest.mark.parametrize("command, progress", [("run", r"[01] of 1 tasks have ended"), ("analyse", r"claim \d+: 0 leaves tried")])
+@pytest.mark.parametrize(
+    "command, progress",
+    [
+        ("run", r"[01] of 1 tasks have ended"),
+        ("analyse", r"claim \d+: 0 leaves tried"),
+        ("refute", r"claims with a verdict: \d+"),
+        ("verify", r"claims with a verdict: \d+"),
+    ],
+)
 def test_a_terminal_is_told_how_far_a_command_is(program, command: str, progress: str):
     text = on_terminal(program, command, stream="stderr", document=ONE_ROOT)
     assert re.fullmatch(rf"(\r{progress}\x1b\[K)+\r\x1b\[K", text)

@@ -109,23 +109,6 @@ fn run<R: Threads + Wait + Sync, I: Read, O: Write>(
     }
 }
 
-/// How many events a search for such a run plays at most, which takes some ten seconds.
-const PLAYED: u64 = 40_000_000;
-
-/// How many events it plays at most for each run that is asked for, where that is more.
-const PLAYED_A_RUN: u64 = 400;
-
-/// The search for a run in which a claim fails.
-fn search_of(claim: Option<u8>, runs: u32, seed: u32, explain: bool) -> Search {
-    Search {
-        claim: claim.map(usize::from),
-        runs,
-        events: PLAYED.max(u64::from(runs) * PLAYED_A_RUN),
-        seed: u64::from(seed),
-        explain,
-    }
-}
-
 /// How many threads work beside each other: as many as are asked for, or as there are processors; one where that isn't known.
 fn jobs_of<R: Threads>(threads: &R, asked: Option<u8>) -> usize
     requires { AreThreads asked }
@@ -189,8 +172,9 @@ fn answer<R: Threads + Wait + Sync, I: Read, O: Write>(
         Line::CheckEach(jobs) => answer_each(threads, alloc, Ask::Check, jobs, from, to),
         Line::AuditEach(jobs) => answer_each(threads, alloc, Ask::Audit, jobs, from, to),
         Line::Refute(claim, runs, seed, explain) => {
-            let search = search_of(claim, runs, seed, explain);
-            refute_document(alloc, search, teller, from, to)
+            let search = Search::new(claim.map(usize::from), runs, u64::from(seed), explain);
+            let progress = ClaimProgress::new(rt);
+            refute_document(alloc, search, searcher, &progress, from, to)
         }
         Line::Verify(depth, runs, seed, jobs, style) => {
             let limits = Limits::usual(depth, runs, u64::from(seed));

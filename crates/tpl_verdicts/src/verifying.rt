@@ -90,7 +90,7 @@ fn answer_of(
 }
 
 /// The answer to a document.
-fn answer_for<T: Threads + Sync, A: Attend>(
+fn answer_for<T: Threads + Sync, A: Attend + Sync>(
     rt: &T,
     alloc: Global,
     asked: Verification,
@@ -109,7 +109,7 @@ fn answer_for<T: Threads + Sync, A: Attend>(
 }
 
 /// The answer to bytes.
-fn answer<T: Threads + Sync, A: Attend, H: Hear>(
+fn answer<T: Threads + Sync, A: Attend + Sync, H: Hear>(
     rt: &T,
     alloc: Global,
     asked: Verification,
@@ -175,7 +175,7 @@ impl Command for OneByOne {
 }
 
 /// Reads a document and writes the answer to it.
-fn respond<T: Threads + Sync, A: Attend, L: Listen, I: Read, O: Write>(
+fn respond<T: Threads + Sync, A: Attend + Sync, L: Listen, I: Read, O: Write>(
     rt: &T,
     alloc: Global,
     asked: Verification,
@@ -207,7 +207,7 @@ fn respond<T: Threads + Sync, A: Attend, L: Listen, I: Read, O: Write>(
 /// The text is made whole before its first byte is written. A failed read ends the reading, and then nothing is
 /// written; after a failed write no more is. Who attends is told of each verdict as soon as it is found; where the
 /// document can't be read, the listener is told why.
-pub fn verify_document<T: Threads + Sync, A: Attend, L: Listen, I: Read, O: Write>(
+pub fn verify_document<T: Threads + Sync, A: Attend + Sync, L: Listen, I: Read, O: Write>(
     rt: &T,
     alloc: Global,
     asked: Verification,
