@@ -28,7 +28,6 @@ use Rattle.tpl_commands.specs.declared.exit.Exit.TheVariants.{Memory}
 use Rattle.tpl_commands.specs.declared.auditing.Audit.{Audit}
 use Rattle.tpl_commands.specs.declared.auditing.Audit.TheVariants.{NoStart, NoJournal, Judged}
 use Rattle.tpl_commands.specs.Auditing.{IsAudit, IsAudited, IsAuditAnswer, IsAuditOf, verdict_exit, verdict_text}
-use Rattle.tpl_commands.specs.Recorded.{ended_of}
 use Rattle.tpl_reader.specs.Starting.{inputs_of}
 use Rattle.tpl_witness.specs.Asking.{IsNumbered}
 use Rattle.tpl_witness.specs.Filled.{started}
@@ -88,9 +87,9 @@ module _ (doc : DocumentValue) (claim : Claim) (number : ℕ) (inputs : List Boo
   of_verdict verdict exit text is ends said =
       let same : events ≡ is.events = unambiguous doc.graph events is.events named journal.spelled is.journal.spelled is.journal.reads in
       let values : is.inputs ≡ inputs = the_same is.inputs inputs (sym is.known ∙ known) in
-      let judged = subst (λ (v : List Bool). IsVerdict doc.graph.graph v is.events doc.claims (ended_of doc) verdict) values is.audited in
-      let judged_so : IsVerdict doc.graph.graph inputs events doc.claims (ended_of doc) verdict = subst (λ (h : List Event). IsVerdict doc.graph.graph inputs h doc.claims (ended_of doc) verdict) (sym same) judged in
-      names_failure doc.graph.names doc.graph.graph doc.claims (ended_of doc) claim number inputs events numbered refutes prefix verdict exit text judged_so ends said
+      let judged = subst (λ (v : List Bool). IsVerdict doc.graph.graph v is.events doc.claims [] verdict) values is.audited in
+      let judged_so : IsVerdict doc.graph.graph inputs events doc.claims [] verdict = subst (λ (h : List Event). IsVerdict doc.graph.graph inputs h doc.claims [] verdict) (sym same) judged in
+      names_failure doc.graph.names doc.graph.graph doc.claims [] claim number inputs events numbered refutes prefix verdict exit text judged_so ends said
 
   of_audit : (audit : Audit) (exit : Exit) (text : List ℕ) → IsAuditOf (refuted_by doc inputs events) audit → IsAuditAnswer doc.graph.names audit exit text → (exit ≡ Memory) ⊎ NamesFailure doc.graph.names (length events) exit text
   of_audit NoStart exit text is said = let e : None ≡ Some inputs = sym is ∙ known in absurd cc

@@ -8,6 +8,7 @@ use Rattle.tpl_parts.specs.Versions.{has_links}
 use Rattle.tpl_parts.specs.TaskGrammar.{IsToken}
 use Rattle.tpl_parts.specs.RemarkGrammar.{IsText}
 use Rattle.tpl_parts.specs.EndGrammar.{IsEnds}
+use Rattle.tpl_reader.specs.Begin.{knows_members}
 use Rattle.tpl_reader.specs.Top as top
 use Rattle.tpl_reader.specs.TopGrammar.{AreTimesIfAny, IsTop}
 use Rattle.tpl_reader.specs.Document.{Spelled, IsSpelled, DocumentValue, IsDocument}
@@ -79,6 +80,7 @@ spelled_unseen old new s is unseen =
     subst (λ (d : Data). IsSpelled d (record s { ended = None; times = None })) (sym unseen.new_is) (spelled_in unseen.members s (subst (λ (d : Data). IsSpelled d s) unseen.old_is is) unseen.no_ended unseen.no_times)
 
 pub document_unseen : (s : Spelled) (doc : DocumentValue) → IsDocument s doc → IsDocument (record s { ended = None; times = None }) (record doc { ended = []; times = None })
+unfolding knows_members
 document_unseen s doc is = record {
   version = is.version;
   valid = is.valid;
