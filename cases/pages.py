@@ -25,6 +25,8 @@ LINK = re.compile(r"\]\((?!https?:|#)([^)#]+)")
 PLACE = re.compile(r"[A-Z]{2,}|\b[NP]\b")
 ROW = re.compile(r"^\| `([^`]+)` \| (\d) \|", re.MULTILINE)
 PROGRAM = "./taskgraph"
+# how a command shows what it says on standard error too
+ASIDE = "2>&1"
 
 
 class Block(NamedTuple):
@@ -144,7 +146,10 @@ class Desk:
         line = command.split("\n")[0]
         if re.search(rf"{re.escape(PROGRAM)} [^|]*(<<END|$)", line):
             *_, asked = re.findall(rf"{re.escape(PROGRAM)} (\w*)", line)
-            assert (ended.returncode, None) == ending(answer, self.known, asked)
+            status, unknown = ending(answer, self.known, asked)
+            assert ended.returncode == status
+            # (no row has what is said on standard error)
+            assert unknown is None or ASIDE in line
 
     def check_said(self, snippet: str, words: str, answer: str, finds: str):
         """A command says of a snippet what the page says."""
