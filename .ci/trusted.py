@@ -23,7 +23,7 @@ A proof shows that the code does what a definition says. Whether the definition 
 
 A sentence begins at clauses of functions, or at definitions. Whatever these name is counted with them, and whatever that names, definition by definition. A name that may be a definition or only a variable is counted. The bound of a type parameter counts if a clause names the parameter. A line counts if it isn't empty, an import or a comment. `Valid` 64 of 66 says that the file `specs/Valid.antt` has 66 such lines, of which 64 count; `Claims` 20, that all its 20 do.
 
-Beside the definitions stand the types that they take over from the code (statuses, events, claims and the like), and the toolchain with its library, which README.md names.
+Beside the definitions stand the types that they take over from the code (statuses, events, claims and the like), and the toolchain with its library, which PROOFS.md names.
 """
 
 
