@@ -1,8 +1,10 @@
-"""Each example, and a pipeline of 40 and one of 300 tasks, is drawn as it follows from the rules of docs/PICTURES.md.
+"""Each example, with its run and without, and a pipeline of 40 and one of 300 tasks, is drawn as it follows from the rules of
+docs/PICTURES.md.
 
 The rules are those of drawn.py. The pictures of the examples are also held against the files of pictures/, at which a
 person has looked, and Graphviz has to read what is written for it: one node for each task and token, one line for each
-edge. A certificate of these documents that has a tree for each claim is taken as accepted, and `check` has to say the same.
+edge. A certificate of these documents that has a tree for each claim is taken as accepted, and `check` has to say the same;
+their journals are taken as runs, and in that of a false claim the claim fails where its page says so.
 """
 import json
 import pathlib
@@ -15,34 +17,57 @@ from typing import NamedTuple
 import pytest
 
 import debian
-from drawn import LANGUAGES, accepted, edges, kept_picture, picture
-from harness import TOP, examples
+from drawn import LANGUAGES, Failure, accepted, drawn_examples, edges, kept_picture, picture
+from harness import TOP
 
 PIPELINES = {"pipeline-of-40": 8, "pipeline-of-300": 73}
+# a false claim of an example, the run that its page shows, and where the claim fails there
+FALSE = "examples/blue-green-wrong.json"
+FALSE_CLAIM = '{"excludes": ["NoRollback", "Notify"]}'
+FALSE_RUN = """w1 begin DeployGreen
+w1 worked DeployGreen failed
+w1 leave DeployGreen
+w1 drop Smoke
+w1 drop Switch
+w1 release NoRollback
+w1 settle Release
+w1 begin NoRollback
+w1 release Notify
+w2 begin Notify
+"""
+FAILS = Failure(claim=1, place=10)
 LIMIT = 300
 
 
 class Drawn(NamedTuple):
-    """A document, and whether its pictures are kept."""
+    """A document, where a claim of it fails in its run, and whether its pictures are kept."""
 
     name: str
-    text: str
+    document: dict
+    failure: Failure | None
     is_kept: bool
 
     @property
-    def document(self) -> dict:
-        return json.loads(self.text)
+    def text(self) -> str:
+        return json.dumps(self.document)
 
 
-def pipeline(shards: int) -> str:
-    """The text of a pipeline of so many shards."""
-    words = [str(TOP / "examples/pipeline"), str(shards)]
-    return subprocess.run(words, capture_output=True, text=True, check=True).stdout
+def made(script: str, *words: str, given: str = "") -> dict:
+    """The document that a script of the examples makes."""
+    ran = subprocess.run([str(TOP / script), *words], input=given, capture_output=True, text=True, check=True)
+    return json.loads(ran.stdout)
 
 
 def documents() -> list[Drawn]:
-    kept = [Drawn(file.stem, file.read_text(encoding="utf-8"), True) for file in examples()]
-    return [*kept, *(Drawn(name, pipeline(shards), False) for name, shards in PIPELINES.items())]
+    kept = [Drawn(name, document, None, True) for name, document in drawn_examples()]
+    refuted = made("examples/ask", str(TOP / FALSE), FALSE_CLAIM, "--journal", given=FALSE_RUN)
+    goes_on = {**refuted, "journal": refuted["journal"] + "w2 step Notify\n"}
+    return [
+        *kept,
+        Drawn("refuted", refuted, FAILS, False),
+        Drawn("refuted-before-the-end", goes_on, FAILS, False),
+        *(Drawn(name, made("examples/pipeline", str(shards)), None, False) for name, shards in PIPELINES.items()),
+    ]
 
 
 DOCUMENTS = [pytest.param(it, id=it.name) for it in documents()]
@@ -73,7 +98,7 @@ def check_read(dot: str, document: dict, text: str):
 def test_picture(program, graphviz, drawn: Drawn, language: str):
     answer = program("draw", "--as", language, given=drawn.text, limit=LIMIT)
     assert answer.exit == 0
-    assert answer.stdout == picture(drawn.document, language, accepted(drawn.document))
+    assert answer.stdout == picture(drawn.document, language, accepted(drawn.document), drawn.failure)
     if drawn.is_kept:
         kept: pathlib.Path = kept_picture(drawn.name, language)
         assert answer.stdout == kept.read_text(encoding="utf-8")

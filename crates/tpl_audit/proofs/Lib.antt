@@ -1,2 +1,3 @@
 pub mod WatchLemmas
 pub mod FailLemmas
+pub mod RefusedLemmas

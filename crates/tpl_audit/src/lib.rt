@@ -4,8 +4,10 @@
 mod auditing;
 mod failing;
 mod play;
+mod standing;
 mod verdict;
 mod watch;
 
 pub use auditing::audit;
+pub use standing::statuses_after;
 pub use verdict::{Failure, Verdict};

@@ -1,7 +1,8 @@
 -- What `audit` answers to a document.
-use Rattle.std.specs.Prelude.{◌≡◌, ℕ, Bool, true, false, List, Option, Some, None, ◌++◌, codes}
+use Rattle.std.specs.Prelude.{◌≡◌, ℕ, Bool, true, false, List, Option, Some, None, ◌++◌, codes, reverse}
 use Rattle.tpl_model.specs.declared.event.Event.{Event}
 use Rattle.tpl_model.specs.Certificate.{Accepts}
+use Rattle.tpl_model.specs.Rules as rules
 use Rattle.tpl_journal.specs.declared.reading_lines.JournalFault.{JournalFault}
 use Rattle.tpl_journal.specs.declared.reading_lines.JournalFault.TheVariants as broken
 use Rattle.tpl_journal.specs.Lines.{IsJournal, IsJournalFault}
@@ -59,6 +60,13 @@ pub record IsNoJournal (doc : DocumentValue) (fault : JournalFault) : Type 0 whe
   pub known : inputs_of doc ≡ Some inputs
   pub is : IsJournalFault doc.graph doc.journal fault
   pub other : fault ≡ broken.Memory → ⊥
+
+-- the journal's text is that of these events, and they are a run with the document's inputs
+pub record HasRun (doc : DocumentValue) (events : List Event) : Type 0 where
+  pub inputs : List Bool
+  pub known : inputs_of doc ≡ Some inputs
+  pub journal : IsJournal doc.graph doc.journal events
+  pub run : rules.Run doc.graph.graph inputs (reverse events)
 
 -- what the audit says of the document's journal
 abbrev pub IsAuditOf : DocumentValue → Audit → Type 0

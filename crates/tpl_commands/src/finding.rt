@@ -113,6 +113,7 @@ fn answer_to(
     found: &Found,
 ) -> Result<Answer, AllocError>
     requires spelled { Spells bytes.now (doc_of document.now) }
+    requires claims { All (Fits document.now.graph.graph) document.now.claims.items }
     requires found { IsFoundOf (doc_of document.now) found.now }
     ensures { IfOk result (λ given. IsAnswerTo (doc_of document.now) found.now given.exit
         (string_bytes given.text)) }

@@ -15,10 +15,10 @@ use Rattle.tpl_commands.specs.declared.exit.Exit.TheVariants.{Success}
 use Rattle.tpl_commands.specs.declared.auditing.Audit.{Audit}
 use Rattle.tpl_commands.specs.declared.auditing.Audit.TheVariants.{NoStart, NoJournal, Judged}
 use Rattle.tpl_commands.specs.declared.responding.Answered.{Answered}
-use Rattle.tpl_commands.specs.Auditing.{Audits, IsAudited, IsAuditAnswer, IsAuditOf, verdict_exit}
+use Rattle.tpl_commands.specs.Auditing.{Audits, HasRun, IsAudited, IsAuditAnswer, IsAuditOf, verdict_exit}
 use Rattle.tpl_commands.specs.Documents.{NoDocument}
 use Rattle.tpl_commands.specs.Responding.{Responds}
-use Rattle.tpl_trace.specs.Answer.{HasRun, IsTraced, SpellsNoRun, Traces, Traced}
+use Rattle.tpl_trace.specs.Answer.{IsTraced, SpellsNoRun, Traces, Traced}
 
 -- the audit doesn't succeed where the journal is no run
 verdict_never : (input : List ℕ) (doc : DocumentValue) (verdict : Verdict) → SpellsNoRun input → Spells input doc → IsAudited doc verdict → Success ≡ verdict_exit verdict → ⊥

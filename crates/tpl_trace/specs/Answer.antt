@@ -1,26 +1,17 @@
 -- What `trace` answers to a document.
-use Rattle.std.specs.Prelude.{◌≡◌, ◌⊎◌, ℕ, Bool, List, Option, Some, reverse}
+use Rattle.std.specs.Prelude.{◌≡◌, ◌⊎◌, ℕ, List, Option}
 use Rattle.std.specs.List.{All}
 use Rattle.tpl_model.specs.declared.event.Event.{Event}
-use Rattle.tpl_model.specs.Rules as rules
 use Rattle.tpl_journal.specs.declared.counting.Counting.{Counting}
-use Rattle.tpl_journal.specs.Lines.{CanSpell, IsJournal}
+use Rattle.tpl_journal.specs.Lines.{CanSpell}
 use Rattle.tpl_reader.specs.Document.{DocumentValue, Spells}
 use Rattle.tpl_commands.specs.declared.exit.Exit.TheVariants.{Success}
-use Rattle.tpl_commands.specs.Auditing.{Audits, IsAuditOf}
+use Rattle.tpl_commands.specs.Auditing.{Audits, HasRun, IsAuditOf}
 use Rattle.tpl_commands.specs.Documents.{Tells}
 use Rattle.tpl_commands.specs.Responding.{Answers}
-use Rattle.tpl_reader.specs.Starting.{inputs_of}
 use Rattle.tpl_trace.specs.declared.answering.Journal.{Journal}
 use Rattle.tpl_trace.specs.declared.answering.Journal.TheVariants.{Run, Other}
 use Rattle.tpl_trace.specs.Trace.{trace_text}
-
--- the journal's text is that of these events, and they are a run with the document's inputs
-pub record HasRun (doc : DocumentValue) (events : List Event) : Type 0 where
-  pub inputs : List Bool
-  pub known : inputs_of doc ≡ Some inputs
-  pub journal : IsJournal doc.graph doc.journal events
-  pub run : rules.Run doc.graph.graph inputs (reverse events)
 
 -- the journal is a run of these events, each of which can be spelled; or the audit says of it what no run has
 abbrev pub IsJournalOf : DocumentValue → Journal → Type 0
