@@ -76,7 +76,10 @@ one_meaning Analyse rows a b (d, is_d, (f, is_f, inl m)) (e, is_e, (g, is_g, inr
 one_meaning Analyse rows a b (d, is_d, (f, is_f, inr m)) (e, is_e, (g, is_g, inl n)) = absurd (m.0 n.0)
 one_meaning Analyse rows a b (d, is_d, (f, is_f, inr m)) (e, is_e, (g, is_g, inr n)) =
     rw (m.1, n.1, same_number (codes "depth") 0 6 rows d e is_d is_e, same_form rows f g is_f is_g) refl
-one_meaning Run rows a b m n = rw (m.2, n.2, same_number (codes "workers") 1 64 rows m.0 n.0 m.1 n.1) refl
+one_meaning Run rows a b (w, is_w, inl m) (u, is_u, inl n) = rw (m.1, n.1, same_number (codes "workers") 1 64 rows w u is_w is_u) refl
+one_meaning Run rows a b (w, is_w, inl m) (u, is_u, inr n) = absurd (n.0 m.0)
+one_meaning Run rows a b (w, is_w, inr m) (u, is_u, inl n) = absurd (m.0 n.0)
+one_meaning Run rows a b (w, is_w, inr m) (u, is_u, inr n) = rw (m.1, n.1, same_number (codes "workers") 1 64 rows w u is_w is_u) refl
 one_meaning Audit rows a b m n = same_one_or_each rows line.Audit line.AuditEach a b m n
 one_meaning Refute rows a b (c, is_c, (r, is_r, (s, is_s, (x, is_x, m)))) (d, is_d, (q, is_q, (t, is_t, (y, is_y, n)))) =
     rw (m, n, same_if_given (codes "claim") rows c d is_c is_d, same_number (codes "runs") 0 1000000 rows r q is_r is_q, same_number (codes "seed") 0 4294967295 rows s t is_s is_t, same_explained rows x y is_x is_y) refl
@@ -126,7 +129,8 @@ means_within Check rows l (inl m) = subst IsWithin (sym m.1) tt
 means_within Check rows l (inr (set, (j, is_j, m))) = subst IsWithin (sym m) (threads_within rows j is_j)
 means_within Analyse rows l (d, is_d, (f, is_f, inl m)) = subst IsWithin (sym m.1) tt
 means_within Analyse rows l (d, is_d, (f, is_f, inr m)) = subst IsWithin (sym m.1) (searches_within d f)
-means_within Run rows l m = subst IsWithin (sym m.2) (m.1.least_of, m.1.limit)
+means_within Run rows l (w, is_w, inl m) = subst IsWithin (sym m.1) (is_w.least_of, is_w.limit)
+means_within Run rows l (w, is_w, inr m) = subst IsWithin (sym m.1) (is_w.least_of, is_w.limit)
 means_within Audit rows l (inl m) = subst IsWithin (sym m.1) tt
 means_within Audit rows l (inr (set, (j, is_j, m))) = subst IsWithin (sym m) (threads_within rows j is_j)
 means_within Refute rows l (c, is_c, (r, is_r, (s, is_s, (x, is_x, m)))) = subst IsWithin (sym m) tt

@@ -54,7 +54,9 @@ Means Analyse rows l =
     (depth : ℕ) × IsGiven (codes "depth") 0 6 rows depth × ((form : Form) × IsForm rows form
     × ((IsSet (codes "whole") rows × (l ≡ line.Certify depth form))
     ⊎ ((IsSet (codes "whole") rows → ⊥) × (l ≡ search depth form))))
-Means Run rows l = (workers : ℕ) × IsGiven (codes "workers") 1 64 rows workers × (l ≡ line.Run workers)
+Means Run rows l =
+    (workers : ℕ) × IsGiven (codes "workers") 1 64 rows workers
+    × ((IsSet (codes "whole") rows × (l ≡ line.RunWhole workers)) ⊎ ((IsSet (codes "whole") rows → ⊥) × (l ≡ line.Run workers)))
 Means Audit rows l = IsOneOrEach rows line.Audit line.AuditEach l
 Means Refute rows l =
     (claim : Option ℕ) × IsIfGiven (codes "claim") rows claim
@@ -87,6 +89,7 @@ AreThreads (Some jobs) = (1 ≤ jobs) × (jobs ≤ 64)
 -- what a line asks for is within the limits of the command
 abbrev pub IsWithin : lines.Line → Type 0
 IsWithin (line.Run workers) = (1 ≤ workers) × (workers ≤ 64)
+IsWithin (line.RunWhole workers) = (1 ≤ workers) × (workers ≤ 64)
 IsWithin (line.Verify depth runs seed jobs style) = AreThreads jobs
 IsWithin (line.VerifyEach depth runs seed jobs style) = AreThreads jobs
 IsWithin (line.CheckEach jobs) = AreThreads jobs

@@ -24,9 +24,13 @@ searched = with_rule (with_rule (with_rule (new_app (codes "analyse")) (depth_ru
 abbrev pub analyse_command : App
 analyse_command = with_rule searched explain_rule
 
+-- `run` with the options for who makes the run and how it is told
+abbrev pub made_run : App
+made_run = with_rule (with_rule (new_app (codes "run")) workers_rule) whole_rule
+
 -- the subcommand `run`
 abbrev pub run_command : App
-run_command = with_rule (with_rule (new_app (codes "run")) workers_rule) explain_rule
+run_command = with_rule made_run explain_rule
 
 -- `audit` with the options for a document on each line
 abbrev pub audited : App

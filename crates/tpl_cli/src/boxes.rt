@@ -3,17 +3,20 @@
 ghost use Rattle.std.specs.Prelude.{◌≡◌, false};
 ghost use Rattle.std.specs.List.{All};
 ghost use Rattle.tpl_graph.specs.Fits.{Fits};
+ghost use Rattle.tpl_reader.specs.Document.{Spells};
 ghost use Rattle.tpl_reader.specs.SeenDocument.{doc_of};
 ghost use Rattle.tpl_commands.specs.Loading.{RequestsTokens};
 
-use std::alloc::Global;
+use std::alloc::{AllocError, Global};
 use std::io::Write;
 use std::sync::Wait;
 use std::thread::Threads;
 use tpl_jobs::{Work, WorkItem};
 use tpl_journal::Counting;
 use tpl_reader::Document;
-use tpl_report::{Crew, Exit, Follow, put_out_of_memory, serve_run_followed};
+use tpl_report::{
+    Crew, Exit, Follow, put_out_of_memory, serve_run_followed, serve_whole_run,
+};
 use tpl_words::{Answer, SiteId};
 
 /// The stamp of this program's boxes.
@@ -39,33 +42,40 @@ fn answer_of(document: &Document, site: SiteId, may_fail: bool) -> Answer
     }
 }
 
-/// Makes one box for each work statement, which answers `Failed` exactly where `start.fail` names it, and makes the run
-/// of the document with them.
-pub fn run_boxes<R: Threads + Wait + Sync, O: Write, F: Follow>(
-    rt: &R,
-    alloc: Global,
-    document: &Document,
-    crew: Crew<'_, F>,
-    to: &mut Counting<O>,
-) -> Exit
-    requires claims { All (Fits document.now.graph.graph) document.now.claims.items }
-    requires tokens { RequestsTokens (doc_of document.now) }
-{
+/// One box for each work statement, which answers `Failed` exactly where `start.fail` names it.
+fn boxes_of(alloc: Global, document: &Document) -> Result<Vec<WorkItem<Stamp>>, AllocError> {
     let mut items: Vec<WorkItem<Stamp>> = Vec::new(alloc);
     for number in 0..document.graph.site_count() {
         let site = SiteId(number as u16);
         let may_fail = document.graph.site_may_fail(site);
         let answer = answer_of(document, site, may_fail);
-        let Ok(work) = Box::new(alloc, move |_site: SiteId| -> Answer { answer }) else {
-            return put_out_of_memory(to);
-        };
-        let work: Work = work;
-        if items
-            .push(WorkItem::new(Stamp, site, may_fail, work))
-            .is_err()
-        {
-            return put_out_of_memory(to);
-        }
+        let work: Work = Box::new(alloc, move |_site: SiteId| -> Answer { answer })?;
+        items.push(WorkItem::new(Stamp, site, may_fail, work))?;
     }
-    serve_run_followed(rt, alloc, document, items, crew, to)
+    Ok(items)
+}
+
+/// Makes the run of the document that these bytes spell, with its boxes. It is told by its report, or as a whole by the
+/// document with the run in it.
+pub fn run_boxes<R: Threads + Wait + Sync, O: Write, F: Follow>(
+    rt: &R,
+    alloc: Global,
+    bytes: &[u8],
+    document: &Document,
+    is_whole: bool,
+    crew: Crew<'_, F>,
+    to: &mut Counting<O>,
+) -> Exit
+    requires spelled { Spells bytes.now (doc_of document.now) }
+    requires claims { All (Fits document.now.graph.graph) document.now.claims.items }
+    requires tokens { RequestsTokens (doc_of document.now) }
+{
+    let Ok(items) = boxes_of(alloc, document) else {
+        return put_out_of_memory(to);
+    };
+    if is_whole {
+        serve_whole_run(rt, alloc, bytes, document, items, crew, to)
+    } else {
+        serve_run_followed(rt, alloc, document, items, crew, to)
+    }
 }

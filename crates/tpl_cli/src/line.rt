@@ -32,6 +32,8 @@ pub enum Line {
     Certify(Depth, Form),
     /// Make a run of a document by this many workers, 1 to 64.
     Run(u16),
+    /// Make such a run, and write the document with it.
+    RunWhole(u16),
     /// Audit the journal of a document.
     Audit,
     /// Audit that of the document on each line, by so many threads, 1 to 64, or as many as there are processors.
@@ -154,9 +156,13 @@ fn run_line(given: &ArgMatches<'_>) -> Option<Line>
         ((l : Line) → Means Subcommand.Run (rows_of (found_of given.now)) l → ⊥)
         (Means Subcommand.Run (rows_of (found_of given.now))) }
 {
-    match number_in(given, "workers", 1, 64) {
-        Some(workers) => Some(Line::Run(workers as u16)),
-        None => None,
+    let Some(workers) = number_in(given, "workers", 1, 64) else {
+        return None;
+    };
+    if is_set(given, "whole") {
+        Some(Line::RunWhole(workers as u16))
+    } else {
+        Some(Line::Run(workers as u16))
     }
 }
 

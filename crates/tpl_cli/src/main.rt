@@ -16,6 +16,7 @@ ghost use Rattle.std.specs.List.{All};
 ghost use Rattle.tpl_graph.specs.Fits.{Fits};
 ghost use Rattle.tpl_cli.specs.Line.{AreThreads, IsWithin};
 ghost use Rattle.tpl_commands.specs.Loading.{RequestsTokens};
+ghost use Rattle.tpl_reader.specs.Document.{Spells};
 ghost use Rattle.tpl_reader.specs.SeenDocument.{doc_of};
 
 use crate::boxes::run_boxes;
@@ -72,14 +73,17 @@ fn given_order(rt: &HostRuntime) -> Result<Order, LineFault>
     Ok(Order { line, explains })
 }
 
-/// Makes the run of a document.
+/// Makes the run of the document that these bytes spell.
 fn run_document<R: Threads + Wait + Sync, O: Write>(
     rt: &HostRuntime,
     threads: &R,
     workers: u16,
+    is_whole: bool,
+    bytes: &[u8],
     document: &Document,
     to: &mut Counting<O>,
 ) -> Exit
+    requires spelled { Spells bytes.now (doc_of document.now) }
     requires claims { All (Fits document.now.graph.graph) document.now.claims.items }
     requires tokens { RequestsTokens (doc_of document.now) }
 {
@@ -87,7 +91,7 @@ fn run_document<R: Threads + Wait + Sync, O: Write>(
     let progress = RunProgress::new(rt, &document.graph, inputs);
     let follower = rt.stderr().is_terminal().then_some(&progress);
     let crew = Crew { workers, follower };
-    run_boxes(threads, rt.alloc(), document, crew, to)
+    run_boxes(threads, rt.alloc(), bytes, document, is_whole, crew, to)
 }
 
 /// Makes the run of the document that comes.
@@ -96,12 +100,13 @@ fn run<R: Threads + Wait + Sync, I: Read, O: Write>(
     threads: &R,
     teller: Teller<'_>,
     workers: u16,
+    is_whole: bool,
     from: &mut Counting<I>,
     to: &mut Counting<O>,
 ) -> Exit {
     match load_watched(rt.alloc(), teller, from, to) {
         Ok(Loaded { document, bytes }) => {
-            let exit = run_document(rt, threads, workers, &document, to);
+            let exit = run_document(rt, threads, workers, is_whole, &bytes, &document, to);
             teller.ran(exit, &bytes, document);
             exit
         }
@@ -184,7 +189,8 @@ fn answer<R: Threads + Wait + Sync, I: Read, O: Write>(
         Line::Certify(depth, form) => {
             serve_watched(alloc, Ask::Certify(depth, form), searcher, from, to)
         }
-        Line::Run(workers) => run(rt, threads, teller, workers, from, to),
+        Line::Run(workers) => run(rt, threads, teller, workers, false, from, to),
+        Line::RunWhole(workers) => run(rt, threads, teller, workers, true, from, to),
         Line::Audit => serve_watched(alloc, Ask::Audit, teller, from, to),
         Line::CheckEach(jobs) => answer_each(threads, alloc, Ask::Check, jobs, from, to),
         Line::AuditEach(jobs) => answer_each(threads, alloc, Ask::Audit, jobs, from, to),

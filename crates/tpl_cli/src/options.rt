@@ -33,15 +33,15 @@ pub(crate) fn slim<'a>(alloc: Global) -> Arg<'a>
         .help("Omits from the rows whatever the proof does not need")
 }
 
-/// The option for the whole document.
-pub(crate) fn whole<'a>(alloc: Global) -> Arg<'a>
+/// The option for the whole document, with what is in it.
+pub(crate) fn whole<'a>(alloc: Global, help: &'a str) -> Arg<'a>
     ensures rule { rule_of result ≡ whole_rule }
     ensures own { result.global ≡ false }
 {
     Arg::new(alloc, "whole")
         .long("whole")
         .action(ArgAction::SetTrue)
-        .help("Writes the whole document, with the certificate in it")
+        .help(help)
 }
 
 /// The option for how many workers make a run.

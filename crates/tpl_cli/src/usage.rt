@@ -3,7 +3,7 @@
 ghost use Rattle.std.specs.Prelude.{◌≡◌, false, IfOk};
 ghost use Rattle.clap.specs.Words.{app_of, with_subcommand};
 ghost use Rattle.clap.specs.declared.builder.command.Command.TheViews.{out-Command};
-ghost use Rattle.tpl_cli.specs.Usage.{analyse_command, audit_command, audited, batched_claims, check_command, checked, draw_command, no_command, refute_command, judged_claims, run_command, searched, spread_claims, taskgraph, trace_command, tried_claims, tried_runs, verify_command};
+ghost use Rattle.tpl_cli.specs.Usage.{analyse_command, audit_command, audited, batched_claims, check_command, checked, draw_command, no_command, refute_command, judged_claims, made_run, run_command, searched, spread_claims, taskgraph, trace_command, tried_claims, tried_runs, verify_command};
 
 use crate::options::{
     claim, depth, each, explain, jobs, language, runs, seed, slim, style, whole, workers,
@@ -66,7 +66,7 @@ fn searched<'a>(alloc: Global) -> Result<Command<'a>, AllocError>
         )
         .arg(depth(alloc, "2"))?
         .arg(slim(alloc))?
-        .arg(whole(alloc))
+        .arg(whole(alloc, "Writes the whole document, with the certificate in it"))
 }
 
 /// The subcommand that searches for a certificate.
@@ -87,18 +87,34 @@ fn with_analyse<'a>(alloc: Global, command: Command<'a>) -> Result<Command<'a>, 
     command.subcommand(analyse)
 }
 
-/// The command line so far, and the subcommand that makes a run.
+/// The subcommand `run`, with the options for who makes the run and how it is told.
+fn made_run<'a>(alloc: Global) -> Result<Command<'a>, AllocError>
+    ensures app { IfOk result (λ command. app_of command ≡ made_run) }
+    ensures own { IfOk result (λ command. (out-Command command).has_globals ≡ false) }
+{
+    Command::new(alloc, "run")
+        .about("Checks the document's certificate and makes a run of its graph")
+        .after_help("Example: ./taskgraph run --workers 2 < examples/one-root.json")
+        .arg(workers(alloc))?
+        .arg(whole(alloc, "Writes the whole document, with the run in it"))
+}
+
+/// The subcommand that makes a run.
+fn run<'a>(alloc: Global) -> Result<Command<'a>, AllocError>
+    ensures app { IfOk result (λ command. app_of command ≡ run_command) }
+    ensures own { IfOk result (λ command. (out-Command command).has_globals ≡ false) }
+{
+    let made = made_run(alloc)?;
+    made.arg(explain(alloc))
+}
+
+/// The command line so far, and that subcommand.
 fn with_run<'a>(alloc: Global, command: Command<'a>) -> Result<Command<'a>, AllocError>
     ensures { IfOk result (λ more. app_of more ≡ with_subcommand (app_of command.entry)
         run_command.top) }
 {
-    command.subcommand(
-        Command::new(alloc, "run")
-            .about("Checks the document's certificate and makes a run of its graph")
-            .after_help("Example: ./taskgraph run --workers 2 < examples/one-root.json")
-            .arg(workers(alloc))?
-            .arg(explain(alloc))?,
-    )
+    let run = run(alloc)?;
+    command.subcommand(run)
 }
 
 /// The subcommand `audit`, with the options for a document on each line.

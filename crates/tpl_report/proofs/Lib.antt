@@ -2,3 +2,4 @@ pub mod AskLemmas
 pub mod CrewLemmas
 pub mod ReceiptLemmas
 pub mod RunLemmas
+pub mod WholeLemmas

@@ -3,3 +3,4 @@ pub mod Reported
 pub mod Running
 pub mod RunTexts
 pub mod Faults
+pub mod Whole

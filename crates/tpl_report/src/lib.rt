@@ -6,6 +6,7 @@ mod following;
 mod requests;
 mod running;
 mod session;
+mod whole;
 
 pub use fault::RunFault;
 pub use following::{Crew, Follow};
@@ -16,3 +17,4 @@ pub use tpl_commands::{
 };
 pub use tpl_journal::write_report;
 pub use tpl_runtime::Watcher;
+pub use whole::serve_whole_run;

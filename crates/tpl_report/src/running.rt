@@ -32,7 +32,7 @@ use tpl_runtime::{Item, Report};
 use tpl_words::{Inputs, TokenId};
 
 /// The tokens that are requested first.
-fn requests(document: &Document) -> &[TokenId]
+pub(crate) fn requests(document: &Document) -> &[TokenId]
     requires { RequestsTokens (doc_of document.now) }
     ensures tokens { All (λ (k : TokenId). is_token document.now.graph.graph k.0) result.now }
     ensures exact { map token_number result.now ≡ requests_of (doc_of document.now).start }
@@ -60,7 +60,7 @@ fn told<'a, K: Drop, W: Drop>(report: &'a Report<K, W>) -> Told<'a>
 }
 
 /// Success, where the run is complete.
-fn report_exit(complete: bool) -> Exit
+pub(crate) fn report_exit(complete: bool) -> Exit
     ensures { result ≡ report_exit complete }
 {
     if complete {

@@ -53,8 +53,9 @@ fn filled(
     Ok(document)
 }
 
-/// A document with these inputs and this journal, as JSON with no space between its tokens, and a line break.
-pub(crate) fn text_with(
+/// A document with these inputs and this journal, as JSON with no space between its tokens, and a line break. Out of memory
+/// is the only error.
+pub fn text_with(
     alloc: Global,
     bytes: &[u8],
     document: &Document,
