@@ -1,6 +1,8 @@
 pub mod Bodies
 pub mod OptionWords
 pub mod Truths
+pub mod Ends
+pub mod RemarkLaws
 pub mod BodyLaws
 pub mod TaskLaws
 pub mod ClaimLaws

@@ -1,5 +1,5 @@
 -- The start of a run is read exactly where it is spelled.
-use Rattle.std.proofs.Common.{◌≡◌, [], ◌∷◌, Bool, true, false, cond, Option, Some, None, codes, is_some, refl, sym, subst}
+use Rattle.std.proofs.Common.{◌≡◌, [], ◌∷◌, Bool, true, false, cond, Option, Some, None, codes, refl, sym, subst}
 use Rattle.tpl_words.proofs.Truths.{and_first, and_second}
 use Rattle.serde_json.specs.Data.{Data, Members, no_members, member, null, boolean, number, string, array, object}
 use Rattle.serde_json.specs.Find.{get, as_bool}
@@ -7,20 +7,17 @@ use Rattle.tpl_json.specs.Members.{only_if, has_only, texts_in}
 use Rattle.tpl_json.specs.Grammar.{IfThere}
 use Rattle.tpl_json.proofs.Arrays.{bind_some, some_is}
 use Rattle.tpl_json.proofs.Json.{some_none, only_is, bool_is, texts_sound, texts_complete}
-use Rattle.tpl_parts.specs.Start.{NamedStart, all_truths, has_truths, truths_or_none, start_at, start_or_none}
+use Rattle.tpl_parts.specs.Start.{NamedStart, all_values, has_truths, truths_or_none, start_at, start_or_none}
+use Rattle.tpl_parts.proofs.Ends.{is_truth, there}
 use Rattle.tpl_parts.specs.StartGrammar.{AreTruths, IsTruths, IsStart, IsStartIfAny}
 
-there : {A : Type 0} (o : Option A) → is_some o ≡ true → (x : A) × (o ≡ Some x)
-there None e = absurd cc
-there (Some x) e = (x, refl)
-
-truths_sound : (ms : Members) → all_truths ms ≡ true → AreTruths ms
+truths_sound : (ms : Members) → all_values is_truth ms ≡ true → AreTruths ms
 truths_sound no_members e = tt
 truths_sound (member name d ms) e =
-    let b = there (as_bool d) (and_first (is_some (as_bool d)) (all_truths ms) e) in
-    ((b.0, some_is d (boolean b.0) (bool_is (Some d) b.0 b.1)), truths_sound ms (and_second (is_some (as_bool d)) (all_truths ms) e))
+    let b = there (as_bool d) (and_first (is_truth d) (all_values is_truth ms) e) in
+    ((b.0, some_is d (boolean b.0) (bool_is (Some d) b.0 b.1)), truths_sound ms (and_second (is_truth d) (all_values is_truth ms) e))
 
-truths_read : (ms : Members) → AreTruths ms → all_truths ms ≡ true
+truths_read : (ms : Members) → AreTruths ms → all_values is_truth ms ≡ true
 truths_read no_members p = refl
 truths_read (member name d ms) p = rw (p.0.1, truths_read ms p.1) refl
 

@@ -15,6 +15,10 @@ use Rattle.tpl_json.proofs.Json.{some, cons_same, some_none, only_is, string_is,
 use Rattle.tpl_parts.specs.Statements.{body_at}
 use Rattle.tpl_parts.specs.Tasks.{option_at, options_at, text_or_none, work_at, root_at, child_at, then_at, args_at, all_at, any_at, kind_at, task_at, linked_at, plain_at, token_at}
 use Rattle.tpl_parts.specs.BodyGrammar.{IsBody}
+use Rattle.tpl_parts.specs.declared.version.Version.{Version}
+use Rattle.tpl_parts.specs.Versions.{task_remarks}
+use Rattle.tpl_parts.specs.Remarks.{note_at}
+use Rattle.tpl_parts.proofs.RemarkLaws.{note_sound, note_read}
 use Rattle.tpl_parts.specs.TaskGrammar.{AreOptions, IsWork, IsKind, IsTask, IsToken}
 use Rattle.tpl_parts.proofs.BodyLaws.{body_sound, body_complete}
 
@@ -98,73 +102,74 @@ work_sound d w e =
 kind_named : (word other : List ℕ) (d : Data) → get (codes "kind") d ≡ Some (string word) → word ≡ other → HasText d (codes "kind") other
 kind_named word other d e same = e ∙ ap (λ (x : List ℕ). some (string x)) same
 
-root_sound : (d : Data) (k : Kind) → HasText d (codes "kind") (codes "root") → root_at d ≡ Some k → IsKind k d
+root_sound : (v : Version) (d : Data) (k : Kind) → HasText d (codes "kind") (codes "root") → root_at v d ≡ Some k → IsKind v k d
 unfolding root_at
-root_sound d k is e =
-    let a = bind_some (only_if (has_only (codes "name" ∷ codes "kind" ∷ codes "body" ∷ codes "token" ∷ codes "options" ∷ []) d)) _ k e in
+root_sound v d k is e =
+    let a = bind_some (only_if (has_only (codes "name" ∷ codes "kind" ∷ codes "body" ∷ codes "token" ∷ codes "options" ∷ task_remarks v) d)) _ k e in
     let b = bind_some (work_at d) _ k a.2 in
-    subst (λ (x : Kind). IsKind x d) (some_is (Root b.0) k b.2) (only_is _ _ a.1, is, work_sound d b.0 b.1)
+    subst (λ (x : Kind). IsKind v x d) (some_is (Root b.0) k b.2) (only_is _ _ a.1, is, work_sound d b.0 b.1)
 
-child_sound : (d : Data) (k : Kind) → HasText d (codes "kind") (codes "child") → child_at d ≡ Some k → IsKind k d
+child_sound : (v : Version) (d : Data) (k : Kind) → HasText d (codes "kind") (codes "child") → child_at v d ≡ Some k → IsKind v k d
 unfolding child_at
-child_sound d k is e =
-    let a = bind_some (only_if (has_only (codes "name" ∷ codes "kind" ∷ codes "body" ∷ codes "token" ∷ codes "options" ∷ []) d)) _ k e in
+child_sound v d k is e =
+    let a = bind_some (only_if (has_only (codes "name" ∷ codes "kind" ∷ codes "body" ∷ codes "token" ∷ codes "options" ∷ task_remarks v) d)) _ k e in
     let b = bind_some (work_at d) _ k a.2 in
-    subst (λ (x : Kind). IsKind x d) (some_is (Child b.0) k b.2) (only_is _ _ a.1, is, work_sound d b.0 b.1)
+    subst (λ (x : Kind). IsKind v x d) (some_is (Child b.0) k b.2) (only_is _ _ a.1, is, work_sound d b.0 b.1)
 
-then_sound : (d : Data) (k : Kind) → HasText d (codes "kind") (codes "then") → then_at d ≡ Some k → IsKind k d
+then_sound : (v : Version) (d : Data) (k : Kind) → HasText d (codes "kind") (codes "then") → then_at v d ≡ Some k → IsKind v k d
 unfolding then_at
-then_sound d k is e =
-    let a = bind_some (only_if (has_only (codes "name" ∷ codes "kind" ∷ codes "after" ∷ codes "body" ∷ codes "token" ∷ codes "options" ∷ []) d)) _ k e in
+then_sound v d k is e =
+    let a = bind_some (only_if (has_only (codes "name" ∷ codes "kind" ∷ codes "after" ∷ codes "body" ∷ codes "token" ∷ codes "options" ∷ task_remarks v) d)) _ k e in
     let b = bind_some (text_in (codes "after") d) _ k a.2 in
     let c = bind_some (work_at d) _ k b.2 in
-    subst (λ (x : Kind). IsKind x d) (some_is (Continues b.0 c.0) k c.2) (only_is _ _ a.1, is, text_is (codes "after") d b.0 b.1, work_sound d c.0 c.1)
+    subst (λ (x : Kind). IsKind v x d) (some_is (Continues b.0 c.0) k c.2) (only_is _ _ a.1, is, text_is (codes "after") d b.0 b.1, work_sound d c.0 c.1)
 
-args_sound : (d : Data) (args : List (List ℕ)) → args_at d ≡ Some args → HasOnly (codes "name" ∷ codes "kind" ∷ codes "of" ∷ []) d × HasMember d (codes "of") (IsTexts args)
+args_sound : (v : Version) (d : Data) (args : List (List ℕ)) → args_at v d ≡ Some args → HasOnly (codes "name" ∷ codes "kind" ∷ codes "of" ∷ task_remarks v) d × HasMember d (codes "of") (IsTexts args)
 unfolding args_at
-args_sound d args e =
-    let a = bind_some (only_if (has_only (codes "name" ∷ codes "kind" ∷ codes "of" ∷ []) d)) _ args e in
+args_sound v d args e =
+    let a = bind_some (only_if (has_only (codes "name" ∷ codes "kind" ∷ codes "of" ∷ task_remarks v) d)) _ args e in
     let b = bind_some (get (codes "of") d >>= list_in) _ args a.2 in
     let m = bind_some (get (codes "of") d) list_in b.0 b.1 in
     (only_is _ _ a.1, (m.0, m.1, m.2 ∙ ap (λ (x : List Data). some x) (texts_are b.0 args b.2)))
 
-all_sound : (d : Data) (k : Kind) → HasText d (codes "kind") (codes "all") → all_at d ≡ Some k → IsKind k d
+all_sound : (v : Version) (d : Data) (k : Kind) → HasText d (codes "kind") (codes "all") → all_at v d ≡ Some k → IsKind v k d
 unfolding all_at
-all_sound d k is e =
-    let a = bind_some (args_at d) _ k e in
-    let b = args_sound d a.0 a.1 in
-    subst (λ (x : Kind). IsKind x d) (some_is (WhenAll a.0) k a.2) (b.0, is, b.1)
+all_sound v d k is e =
+    let a = bind_some (args_at v d) _ k e in
+    let b = args_sound v d a.0 a.1 in
+    subst (λ (x : Kind). IsKind v x d) (some_is (WhenAll a.0) k a.2) (b.0, is, b.1)
 
-any_sound : (d : Data) (k : Kind) → HasText d (codes "kind") (codes "any") → any_at d ≡ Some k → IsKind k d
+any_sound : (v : Version) (d : Data) (k : Kind) → HasText d (codes "kind") (codes "any") → any_at v d ≡ Some k → IsKind v k d
 unfolding any_at
-any_sound d k is e =
-    let a = bind_some (args_at d) _ k e in
-    let b = args_sound d a.0 a.1 in
-    subst (λ (x : Kind). IsKind x d) (some_is (WhenAny a.0) k a.2) (b.0, is, b.1)
+any_sound v d k is e =
+    let a = bind_some (args_at v d) _ k e in
+    let b = args_sound v d a.0 a.1 in
+    subst (λ (x : Kind). IsKind v x d) (some_is (WhenAny a.0) k a.2) (b.0, is, b.1)
 
-kind_choice : (a b c f g : Bool) (word : List ℕ) (d : Data) (k : Kind) → get (codes "kind") d ≡ Some (string word)
+kind_choice : (a b c f g : Bool) (v : Version) (word : List ℕ) (d : Data) (k : Kind) → get (codes "kind") d ≡ Some (string word)
     → (a ≡ true → word ≡ codes "root") → (b ≡ true → word ≡ codes "child") → (c ≡ true → word ≡ codes "then") → (f ≡ true → word ≡ codes "all") → (g ≡ true → word ≡ codes "any")
-    → cond a (root_at d) (cond b (child_at d) (cond c (then_at d) (cond f (all_at d) (cond g (any_at d) None)))) ≡ Some k → IsKind k d
-kind_choice true b c f g word d k is p q r s t e = root_sound d k (kind_named word _ d is (p refl)) e
-kind_choice false true c f g word d k is p q r s t e = child_sound d k (kind_named word _ d is (q refl)) e
-kind_choice false false true f g word d k is p q r s t e = then_sound d k (kind_named word _ d is (r refl)) e
-kind_choice false false false true g word d k is p q r s t e = all_sound d k (kind_named word _ d is (s refl)) e
-kind_choice false false false false true word d k is p q r s t e = any_sound d k (kind_named word _ d is (t refl)) e
-kind_choice false false false false false word d k is p q r s t e = absurd cc
+    → cond a (root_at v d) (cond b (child_at v d) (cond c (then_at v d) (cond f (all_at v d) (cond g (any_at v d) None)))) ≡ Some k → IsKind v k d
+kind_choice true b c f g v word d k is p q r s t e = root_sound v d k (kind_named word _ d is (p refl)) e
+kind_choice false true c f g v word d k is p q r s t e = child_sound v d k (kind_named word _ d is (q refl)) e
+kind_choice false false true f g v word d k is p q r s t e = then_sound v d k (kind_named word _ d is (r refl)) e
+kind_choice false false false true g v word d k is p q r s t e = all_sound v d k (kind_named word _ d is (s refl)) e
+kind_choice false false false false true v word d k is p q r s t e = any_sound v d k (kind_named word _ d is (t refl)) e
+kind_choice false false false false false v word d k is p q r s t e = absurd cc
 
-kind_sound : (word : List ℕ) (d : Data) (k : Kind) → get (codes "kind") d ≡ Some (string word) → kind_at word d ≡ Some k → IsKind k d
+kind_sound : (v : Version) (word : List ℕ) (d : Data) (k : Kind) → get (codes "kind") d ≡ Some (string word) → kind_at v word d ≡ Some k → IsKind v k d
 unfolding kind_at
-kind_sound word d k is e =
-    kind_choice _ _ _ _ _ word d k is (bytes_eq-Decides word (codes "root")).0 (bytes_eq-Decides word (codes "child")).0 (bytes_eq-Decides word (codes "then")).0 (bytes_eq-Decides word (codes "all")).0 (bytes_eq-Decides word (codes "any")).0 e
+kind_sound v word d k is e =
+    kind_choice _ _ _ _ _ v word d k is (bytes_eq-Decides word (codes "root")).0 (bytes_eq-Decides word (codes "child")).0 (bytes_eq-Decides word (codes "then")).0 (bytes_eq-Decides word (codes "all")).0 (bytes_eq-Decides word (codes "any")).0 e
 
-pub task_sound : (d : Data) (t : Task) → task_at d ≡ Some t → IsTask d t
+pub task_sound : (v : Version) (d : Data) (t : Task) → task_at v d ≡ Some t → IsTask v d t
 unfolding task_at
-task_sound d t e =
+task_sound v d t e =
     let a = bind_some (text_in (codes "name") d) _ t e in
     let b = bind_some (text_in (codes "kind") d) _ t a.2 in
-    let c = bind_some (kind_at b.0 d) _ t b.2 in
-    subst (λ (x : Task). IsTask d x) (some_is (record { name = a.0; kind = c.0 }) t c.2)
-    (text_is (codes "name") d a.0 a.1, kind_sound b.0 d c.0 (text_is (codes "kind") d b.0 b.1) c.1)
+    let note = bind_some (note_at (get (codes "note") d)) _ t b.2 in
+    let c = bind_some (kind_at v b.0 d) _ t note.2 in
+    subst (λ (x : Task). IsTask v d x) (some_is (record { name = a.0; kind = c.0 }) t c.2)
+    (text_is (codes "name") d a.0 a.1, kind_sound v b.0 d c.0 (text_is (codes "kind") d b.0 b.1) c.1, note_sound (get (codes "note") d) note.0 note.1)
 
 -- ---- what is spelled is read
 
@@ -177,9 +182,9 @@ work_read d w le is =
     let options = options_back (get (codes "options") d) w.options is.options in
     rw (body_read d w.body le is.body, is.token, token_back w.token, options.1, options.2) refl
 
-args_read : (d : Data) (args : List (List ℕ)) → HasOnly (codes "name" ∷ codes "kind" ∷ codes "of" ∷ []) d → HasMember d (codes "of") (IsTexts args) → args_at d ≡ Some args
+args_read : (v : Version) (d : Data) (args : List (List ℕ)) → HasOnly (codes "name" ∷ codes "kind" ∷ codes "of" ∷ task_remarks v) d → HasMember d (codes "of") (IsTexts args) → args_at v d ≡ Some args
 unfolding args_at
-args_read d args only m = rw (only, m.1, m.2) (texts_read args)
+args_read v d args only m = rw (only, m.1, m.2) (texts_read args)
 
 kind_word : Kind → List ℕ
 kind_word (Root w) = codes "root"
@@ -188,28 +193,28 @@ kind_word (Continues a w) = codes "then"
 kind_word (WhenAll args) = codes "all"
 kind_word (WhenAny args) = codes "any"
 
-kind_text : (d : Data) (k : Kind) → IsKind k d → HasText d (codes "kind") (kind_word k)
+kind_text : (v : Version) (d : Data) (k : Kind) → IsKind v k d → HasText d (codes "kind") (kind_word k)
 unfolding kind_word
-kind_text d (Root w) is = is.1
-kind_text d (Child w) is = is.1
-kind_text d (Continues a w) is = is.1
-kind_text d (WhenAll args) is = is.1
-kind_text d (WhenAny args) is = is.1
+kind_text v d (Root w) is = is.1
+kind_text v d (Child w) is = is.1
+kind_text v d (Continues a w) is = is.1
+kind_text v d (WhenAll args) is = is.1
+kind_text v d (WhenAny args) is = is.1
 
-kind_read : (d : Data) (k : Kind) → depth d ≤ 127 → IsKind k d → kind_at (kind_word k) d ≡ Some k
+kind_read : (v : Version) (d : Data) (k : Kind) → depth d ≤ 127 → IsKind v k d → kind_at v (kind_word k) d ≡ Some k
 unfolding kind_at root_at child_at then_at all_at any_at kind_word text_in
-kind_read d (Root w) le is = rw (is.0, work_read d w le is.2) refl
-kind_read d (Child w) le is = rw (is.0, work_read d w le is.2) refl
-kind_read d (Continues a w) le is = rw (is.0, is.2, work_read d w le is.3) refl
-kind_read d (WhenAll args) le is = rw (args_read d args is.0 is.2) refl
-kind_read d (WhenAny args) le is = rw (args_read d args is.0 is.2) refl
+kind_read v d (Root w) le is = rw (is.0, work_read d w le is.2) refl
+kind_read v d (Child w) le is = rw (is.0, work_read d w le is.2) refl
+kind_read v d (Continues a w) le is = rw (is.0, is.2, work_read d w le is.3) refl
+kind_read v d (WhenAll args) le is = rw (args_read v d args is.0 is.2) refl
+kind_read v d (WhenAny args) le is = rw (args_read v d args is.0 is.2) refl
 
-pub task_read : (d : Data) (t : Task) → depth d ≤ 127 → IsTask d t → task_at d ≡ Some t
+pub task_read : (v : Version) (d : Data) (t : Task) → depth d ≤ 127 → IsTask v d t → task_at v d ≡ Some t
 unfolding task_at text_in
-task_read d t le is = rw (is.0, kind_text d t.kind is.1, kind_read d t.kind le is.1) refl
+task_read v d t le is = rw (is.0, kind_text v d t.kind is.1, note_read (get (codes "note") d) is.2, kind_read v d t.kind le is.1) refl
 
-pub no_task : (d : Data) → task_at d ≡ None → depth d ≤ 127 → (t : Task) → IsTask d t → ⊥
-no_task d e le t is = some_none t (task_at d) (task_read d t le is) e
+pub no_task : (v : Version) (d : Data) → task_at v d ≡ None → depth d ≤ 127 → (t : Task) → IsTask v d t → ⊥
+no_task v d e le t is = some_none t (task_at v d) (task_read v d t le is) e
 
 -- ---- tokens
 

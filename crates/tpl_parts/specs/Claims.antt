@@ -1,11 +1,15 @@
 -- Reading claims with names. `None` is a wrong shape.
 use Rattle.std.specs.Prelude.{ℕ, List, [], ◌∷◌, Option, Some, None, codes, is_some, if◌then◌else◌}
-use Rattle.serde_json.specs.Data.{Data}
+use Rattle.std.specs.Str.{bytes_eq}
+use Rattle.serde_json.specs.Data.{Data, null, boolean, number, string, array, object}
 use Rattle.serde_json.specs.Find.{get, as_str, as_bool}
 use Rattle.tpl_words.specs.declared.finals.Finals.{Finals}
 use Rattle.tpl_json.specs.Members.{◌>>=◌, only_if, has_only, text_in, list_in, list_or_none, each}
 use Rattle.tpl_json.specs.Finals.{no_finals, finals_at}
-use Rattle.tpl_parts.specs.NamedClaims.{NamedGiven, GivenInput, GivenQuiet, NamedProperty, EndsIn, After, Observed, Never, Excludes, NamedClaim}
+use Rattle.tpl_parts.specs.declared.version.Version.{Version}
+use Rattle.tpl_parts.specs.Versions.{is_third, claim_remarks}
+use Rattle.tpl_parts.specs.Remarks.{claim_name, note_at}
+use Rattle.tpl_parts.specs.NamedClaims.{NamedGiven, GivenInput, GivenQuiet, GivenEnded, GivenSucceeds, GivenNoFailure, GivenNoRequest, NamedProperty, EndsIn, After, Observed, Never, Excludes, Runs, NamedClaim}
 
 unfoldable pub input_at : Data → Option NamedGiven
 input_at d = do
@@ -20,17 +24,50 @@ quiet_at d = do
   name ← text_in (codes "quiet") d
   Some (GivenQuiet name)
 
-unfoldable pub given_at : Data → Option NamedGiven
-given_at d = if is_some (get (codes "input") d) then input_at d else quiet_at d
-
 -- the statuses of a list that has one
 unfoldable pub some_finals : List Data → Option Finals
 some_finals [] = None
 some_finals (d ∷ ds) = finals_at no_finals (d ∷ ds)
 
-unfoldable pub final_claim : Data → Option NamedProperty
-final_claim d = do
-  only ← only_if (has_only (codes "given" ∷ codes "final" ∷ codes "in" ∷ []) d)
+unfoldable pub ended_at : Data → Option NamedGiven
+ended_at d = do
+  only ← only_if (has_only (codes "ended" ∷ codes "in" ∷ []) d)
+  task ← text_in (codes "ended") d
+  list ← get (codes "in") d >>= list_in
+  finals ← some_finals list
+  Some (GivenEnded task finals)
+
+unfoldable pub succeeds_at : Data → Option NamedGiven
+succeeds_at d = do
+  only ← only_if (has_only (codes "succeeds" ∷ []) d)
+  name ← text_in (codes "succeeds") d
+  Some (GivenSucceeds name)
+
+unfoldable pub given_word : List ℕ → Option NamedGiven
+given_word word = if bytes_eq word (codes "no_failure") then Some GivenNoFailure else (if bytes_eq word (codes "no_request") then Some GivenNoRequest else None)
+
+unfoldable pub end_or_job : Data → Option NamedGiven
+end_or_job d = if is_some (get (codes "ended") d) then ended_at d else succeeds_at d
+
+-- what only version 3 has
+unfoldable pub later_given : Data → Option NamedGiven
+later_given null = None
+later_given (boolean b) = None
+later_given (number n) = None
+later_given (string s) = given_word s
+later_given (array ds) = None
+later_given (object ms) = end_or_job (object ms)
+
+unfoldable pub given_at : Version → Data → Option NamedGiven
+given_at version d =
+    if is_some (get (codes "input") d) then input_at d
+    else if is_some (get (codes "quiet") d) then quiet_at d
+    else if is_third version then later_given d
+    else None
+
+unfoldable pub final_claim : Version → Data → Option NamedProperty
+final_claim version d = do
+  only ← only_if (has_only (codes "given" ∷ codes "final" ∷ codes "in" ∷ claim_remarks version) d)
   task ← text_in (codes "final") d
   list ← get (codes "in") d >>= list_in
   finals ← some_finals list
@@ -44,43 +81,54 @@ two_texts (a ∷ b ∷ []) = do
   Some (first, second)
 two_texts ds = None
 
-unfoldable pub after_claim : Data → Option NamedProperty
-after_claim d = do
-  only ← only_if (has_only (codes "given" ∷ codes "after" ∷ []) d)
+unfoldable pub after_claim : Version → Data → Option NamedProperty
+after_claim version d = do
+  only ← only_if (has_only (codes "given" ∷ codes "after" ∷ claim_remarks version) d)
   list ← get (codes "after") d >>= list_in
   pair ← two_texts list
   Some (After pair.0 pair.1)
 
-unfoldable pub observed_claim : Data → Option NamedProperty
-observed_claim d = do
-  only ← only_if (has_only (codes "given" ∷ codes "observed" ∷ []) d)
+unfoldable pub observed_claim : Version → Data → Option NamedProperty
+observed_claim version d = do
+  only ← only_if (has_only (codes "given" ∷ codes "observed" ∷ claim_remarks version) d)
   task ← text_in (codes "observed") d
   Some (Observed task)
 
-unfoldable pub never_claim : Data → Option NamedProperty
-never_claim d = do
-  only ← only_if (has_only (codes "given" ∷ codes "never" ∷ []) d)
+unfoldable pub never_claim : Version → Data → Option NamedProperty
+never_claim version d = do
+  only ← only_if (has_only (codes "given" ∷ codes "never" ∷ claim_remarks version) d)
   task ← text_in (codes "never") d
   Some (Never task)
 
-unfoldable pub excludes_claim : Data → Option NamedProperty
-excludes_claim d = do
-  only ← only_if (has_only (codes "given" ∷ codes "excludes" ∷ []) d)
+unfoldable pub excludes_claim : Version → Data → Option NamedProperty
+excludes_claim version d = do
+  only ← only_if (has_only (codes "given" ∷ codes "excludes" ∷ claim_remarks version) d)
   list ← get (codes "excludes") d >>= list_in
   pair ← two_texts list
   Some (Excludes pair.0 pair.1)
 
-unfoldable pub property_at : Data → Option NamedProperty
-property_at d =
-    if is_some (get (codes "final") d) then final_claim d
-    else if is_some (get (codes "after") d) then after_claim d
-    else if is_some (get (codes "observed") d) then observed_claim d
-    else if is_some (get (codes "never") d) then never_claim d
-    else excludes_claim d
+-- a claim that only version 3 has
+unfoldable pub runs_claim : Version → Data → Option NamedProperty
+runs_claim version d = do
+  third ← only_if (is_third version)
+  only ← only_if (has_only (codes "given" ∷ codes "runs" ∷ claim_remarks version) d)
+  task ← text_in (codes "runs") d
+  Some (Runs task)
 
-unfoldable pub claim_at : Data → Option NamedClaim
-claim_at d = do
-  body ← property_at d
+unfoldable pub property_at : Version → Data → Option NamedProperty
+property_at version d =
+    if is_some (get (codes "final") d) then final_claim version d
+    else if is_some (get (codes "after") d) then after_claim version d
+    else if is_some (get (codes "observed") d) then observed_claim version d
+    else if is_some (get (codes "never") d) then never_claim version d
+    else if is_some (get (codes "runs") d) then runs_claim version d
+    else excludes_claim version d
+
+unfoldable pub claim_at : Version → Data → Option NamedClaim
+claim_at version d = do
+  body ← property_at version d
   list ← list_or_none (get (codes "given") d)
-  given ← each given_at list
-  Some (record { given = given; body = body })
+  name ← claim_name (get (codes "name") d)
+  note ← note_at (get (codes "note") d)
+  given ← each (given_at version) list
+  Some (record { name = name; given = given; body = body })

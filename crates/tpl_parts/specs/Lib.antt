@@ -1,11 +1,16 @@
+pub mod Versions
+pub mod Remarks
 pub mod NamedClaims
 pub mod SeenClaims
 pub mod Claims
 pub mod Statements
 pub mod Tasks
 pub mod Start
+pub mod Ends
 pub mod SeenStart
+pub mod RemarkGrammar
 pub mod BodyGrammar
 pub mod TaskGrammar
 pub mod ClaimGrammar
 pub mod StartGrammar
+pub mod EndGrammar

@@ -10,9 +10,10 @@ pub record NamedStart : Type 0 where
   pub request : List (List ℕ)
   pub fail : List (List ℕ)
 
-abbrev pub all_truths : Members → Bool
-all_truths no_members = true
-all_truths (member key d ms) = is_some (as_bool d) && all_truths ms
+-- the value of each member passes the test
+abbrev pub all_values : (Data → Bool) → Members → Bool
+all_values p no_members = true
+all_values p (member key d ms) = p d && all_values p ms
 
 -- an object whose members are all true or false
 unfoldable pub has_truths : Data → Bool
@@ -21,7 +22,7 @@ has_truths (boolean b) = false
 has_truths (number n) = false
 has_truths (string s) = false
 has_truths (array ds) = false
-has_truths (object ms) = all_truths ms
+has_truths (object ms) = all_values (λ d. is_some (as_bool d)) ms
 
 unfoldable pub truths_or_none : Option Data → Option (Option Data)
 truths_or_none None = Some None

@@ -8,6 +8,9 @@ use Rattle.serde_json.specs.Find.{get}
 use Rattle.tpl_words.specs.Options.{words}
 use Rattle.tpl_draft.specs.Draft.{Worked, Kind, Root, Child, Continues, WhenAll, WhenAny, Task, Token}
 use Rattle.tpl_json.specs.Grammar.{HasOnly, HasMember, HasText, IfThere, IsArray, IsTexts}
+use Rattle.tpl_parts.specs.declared.version.Version.{Version}
+use Rattle.tpl_parts.specs.Versions.{task_remarks}
+use Rattle.tpl_parts.specs.RemarkGrammar.{HasNote}
 use Rattle.tpl_parts.specs.BodyGrammar.{IsBody}
 
 -- option words, whose union these options are
@@ -25,25 +28,25 @@ pub record IsWork (work : Worked) (d : Data) : Type 0 where
   pub options : IfThere (get (codes "options") d) (IsArray (AreOptions work.options)) (work.options ≡ 0)
 
 -- the members beside the name, by the kind
-abbrev pub IsKind : Kind → Data → Type 0
-IsKind (Root work) d =
-    HasOnly (codes "name" ∷ codes "kind" ∷ codes "body" ∷ codes "token" ∷ codes "options" ∷ []) d × HasText d (codes "kind") (codes "root") × IsWork work d
-IsKind (Child work) d =
-    HasOnly (codes "name" ∷ codes "kind" ∷ codes "body" ∷ codes "token" ∷ codes "options" ∷ []) d × HasText d (codes "kind") (codes "child") × IsWork work d
-IsKind (Continues antecedent work) d =
-    HasOnly (codes "name" ∷ codes "kind" ∷ codes "after" ∷ codes "body" ∷ codes "token" ∷ codes "options" ∷ []) d × HasText d (codes "kind") (codes "then")
+abbrev pub IsKind : Version → Kind → Data → Type 0
+IsKind version (Root work) d =
+    HasOnly (codes "name" ∷ codes "kind" ∷ codes "body" ∷ codes "token" ∷ codes "options" ∷ task_remarks version) d × HasText d (codes "kind") (codes "root") × IsWork work d
+IsKind version (Child work) d =
+    HasOnly (codes "name" ∷ codes "kind" ∷ codes "body" ∷ codes "token" ∷ codes "options" ∷ task_remarks version) d × HasText d (codes "kind") (codes "child") × IsWork work d
+IsKind version (Continues antecedent work) d =
+    HasOnly (codes "name" ∷ codes "kind" ∷ codes "after" ∷ codes "body" ∷ codes "token" ∷ codes "options" ∷ task_remarks version) d × HasText d (codes "kind") (codes "then")
     × HasText d (codes "after") antecedent × IsWork work d
-IsKind (WhenAll args) d =
-    HasOnly (codes "name" ∷ codes "kind" ∷ codes "of" ∷ []) d × HasText d (codes "kind") (codes "all") × HasMember d (codes "of") (IsTexts args)
-IsKind (WhenAny args) d =
-    HasOnly (codes "name" ∷ codes "kind" ∷ codes "of" ∷ []) d × HasText d (codes "kind") (codes "any") × HasMember d (codes "of") (IsTexts args)
+IsKind version (WhenAll args) d =
+    HasOnly (codes "name" ∷ codes "kind" ∷ codes "of" ∷ task_remarks version) d × HasText d (codes "kind") (codes "all") × HasMember d (codes "of") (IsTexts args)
+IsKind version (WhenAny args) d =
+    HasOnly (codes "name" ∷ codes "kind" ∷ codes "of" ∷ task_remarks version) d × HasText d (codes "kind") (codes "any") × HasMember d (codes "of") (IsTexts args)
 
-abbrev pub IsTask : Data → Task → Type 0
-IsTask d task = HasText d (codes "name") task.name × IsKind task.kind d
+abbrev pub IsTask : Version → Data → Task → Type 0
+IsTask version d task = HasText d (codes "name") task.name × IsKind version task.kind d × HasNote d
 
 -- the value spells no task
-abbrev pub IsNoTask : Data → Unit {0} → Type 0
-IsNoTask d u = (task : Task) → IsTask d task → ⊥
+abbrev pub IsNoTask : Version → Data → Unit {0} → Type 0
+IsNoTask version d u = (task : Task) → IsTask version d task → ⊥
 
 -- the values nest at most 127 deep, as each part of a text does
 abbrev pub AreShallow : List Data → Type 0

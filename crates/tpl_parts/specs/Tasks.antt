@@ -8,6 +8,9 @@ use Rattle.serde_json.specs.Find.{get, as_str}
 use Rattle.tpl_words.specs.Options.{words}
 use Rattle.tpl_json.specs.Members.{◌>>=◌, only_if, has_only, text_in, list_in, list_or_none, each}
 use Rattle.tpl_draft.specs.Draft.{Worked, Kind, Root, Child, Continues, WhenAll, WhenAny, Task, Token}
+use Rattle.tpl_parts.specs.declared.version.Version.{Version}
+use Rattle.tpl_parts.specs.Versions.{task_remarks}
+use Rattle.tpl_parts.specs.Remarks.{note_at}
 use Rattle.tpl_parts.specs.Statements.{body_at}
 
 -- the bits of an option word
@@ -39,59 +42,60 @@ work_at d = do
   options ← options_at 0 list
   Some (record { body = body; token = token; options = options })
 
-unfoldable pub root_at : Data → Option Kind
-root_at d = do
-  only ← only_if (has_only (codes "name" ∷ codes "kind" ∷ codes "body" ∷ codes "token" ∷ codes "options" ∷ []) d)
+unfoldable pub root_at : Version → Data → Option Kind
+root_at version d = do
+  only ← only_if (has_only (codes "name" ∷ codes "kind" ∷ codes "body" ∷ codes "token" ∷ codes "options" ∷ task_remarks version) d)
   work ← work_at d
   Some (Root work)
 
-unfoldable pub child_at : Data → Option Kind
-child_at d = do
-  only ← only_if (has_only (codes "name" ∷ codes "kind" ∷ codes "body" ∷ codes "token" ∷ codes "options" ∷ []) d)
+unfoldable pub child_at : Version → Data → Option Kind
+child_at version d = do
+  only ← only_if (has_only (codes "name" ∷ codes "kind" ∷ codes "body" ∷ codes "token" ∷ codes "options" ∷ task_remarks version) d)
   work ← work_at d
   Some (Child work)
 
-unfoldable pub then_at : Data → Option Kind
-then_at d = do
-  only ← only_if (has_only (codes "name" ∷ codes "kind" ∷ codes "after" ∷ codes "body" ∷ codes "token" ∷ codes "options" ∷ []) d)
+unfoldable pub then_at : Version → Data → Option Kind
+then_at version d = do
+  only ← only_if (has_only (codes "name" ∷ codes "kind" ∷ codes "after" ∷ codes "body" ∷ codes "token" ∷ codes "options" ∷ task_remarks version) d)
   antecedent ← text_in (codes "after") d
   work ← work_at d
   Some (Continues antecedent work)
 
 -- the texts of an array
-unfoldable pub args_at : Data → Option (List (List ℕ))
-args_at d = do
-  only ← only_if (has_only (codes "name" ∷ codes "kind" ∷ codes "of" ∷ []) d)
+unfoldable pub args_at : Version → Data → Option (List (List ℕ))
+args_at version d = do
+  only ← only_if (has_only (codes "name" ∷ codes "kind" ∷ codes "of" ∷ task_remarks version) d)
   list ← get (codes "of") d >>= list_in
   each as_str list
 
-unfoldable pub all_at : Data → Option Kind
-all_at d = do
-  args ← args_at d
+unfoldable pub all_at : Version → Data → Option Kind
+all_at version d = do
+  args ← args_at version d
   Some (WhenAll args)
 
-unfoldable pub any_at : Data → Option Kind
-any_at d = do
-  args ← args_at d
+unfoldable pub any_at : Version → Data → Option Kind
+any_at version d = do
+  args ← args_at version d
   Some (WhenAny args)
 
-unfoldable pub kind_at : List ℕ → Data → Option Kind
-kind_at kind d =
-    if bytes_eq kind (codes "root") then root_at d
-    else if bytes_eq kind (codes "child") then child_at d
-    else if bytes_eq kind (codes "then") then then_at d
-    else if bytes_eq kind (codes "all") then all_at d
-    else if bytes_eq kind (codes "any") then any_at d
+unfoldable pub kind_at : Version → List ℕ → Data → Option Kind
+kind_at version kind d =
+    if bytes_eq kind (codes "root") then root_at version d
+    else if bytes_eq kind (codes "child") then child_at version d
+    else if bytes_eq kind (codes "then") then then_at version d
+    else if bytes_eq kind (codes "all") then all_at version d
+    else if bytes_eq kind (codes "any") then any_at version d
     else None
 
-unfoldable pub task_at : Data → Option Task
-task_at d = do
+unfoldable pub task_at : Version → Data → Option Task
+task_at version d = do
   name ← text_in (codes "name") d
   word ← text_in (codes "kind") d
-  kind ← kind_at word d
+  note ← note_at (get (codes "note") d)
+  kind ← kind_at version word d
   Some (record { name = name; kind = kind })
 
--- a token is a name, or under version 2 also an object that links it
+-- a token is a name, or since version 2 also an object that links it
 unfoldable pub linked_at : Data → Option Token
 linked_at d = do
   only ← only_if (has_only (codes "name" ∷ codes "linked" ∷ []) d)

@@ -5,10 +5,12 @@ ghost use Rattle.serde_json.specs.Find.{get};
 ghost use Rattle.tpl_json.specs.View.{view};
 ghost use Rattle.tpl_json.specs.Members.{Gives, each, IsShape};
 ghost use Rattle.tpl_parts.specs.SeenClaims.{given_of, property_of, claim_of};
-ghost use Rattle.tpl_parts.specs.Claims.{input_at, quiet_at, given_at, some_finals, final_claim, two_texts, after_claim, observed_claim, never_claim, excludes_claim, property_at, claim_at};
+ghost use Rattle.tpl_parts.specs.Claims.{input_at, quiet_at, some_finals, ended_at, succeeds_at, given_word, end_or_job, later_given, given_at, final_claim, two_texts, after_claim, observed_claim, never_claim, excludes_claim, runs_claim, property_at, claim_at};
 
 use crate::lists::list_in;
 use crate::named::{NamedClaim, NamedGiven, NamedProperty};
+use crate::remarks::{claim_name, has_claim_members, note_of};
+use crate::version::Version;
 use json::Value;
 use std::alloc::Global;
 use tpl_json::{Miss, Shape, bool_in, finals_of, find, has_only, list_or_none, text_in, text_of};
@@ -39,31 +41,6 @@ fn quiet_of<'v, 't>(value: &'v Value<'t>) -> Result<NamedGiven<'v>, Miss<Shape>>
     Ok(NamedGiven::Quiet(name))
 }
 
-#[tactic(auto, unfolding(crate::specs::Claims::given_at))]
-fn given_of<'v, 't>(value: &'v Value<'t>) -> Result<NamedGiven<'v>, Miss<Shape>>
-    ensures gives { Gives given_of result (given_at (view value.now)) }
-    ensures shape { IfErr result IsShape }
-{
-    if find(value, "input").is_some() {
-        return input_of(value);
-    }
-    quiet_of(value)
-}
-
-fn givens_of<'v, 't>(
-    alloc: Global,
-    values: &'v [Value<'t>],
-) -> Result<Vec<NamedGiven<'v>>, Miss<Shape>>
-    ensures { Gives (λ v. map given_of v.items) result (each given_at (map view values.now)) }
-{
-    let mut given = Vec::new(alloc);
-    for value in values {
-        let one = given_of(value)?;
-        given.push(one)?;
-    }
-    Ok(given)
-}
-
 #[tactic(auto, unfolding(crate::specs::Claims::some_finals))]
 fn some_finals(values: &[Value<'_>]) -> Result<Finals, Miss<Shape>>
     ensures gives { Gives (λ f. f) result (some_finals (map view values.now)) }
@@ -75,12 +52,110 @@ fn some_finals(values: &[Value<'_>]) -> Result<Finals, Miss<Shape>>
     }
 }
 
-#[tactic(auto, unfolding(crate::specs::Claims::final_claim))]
-fn final_claim<'v, 't>(value: &'v Value<'t>) -> Result<NamedProperty<'v>, Miss<Shape>>
-    ensures gives { Gives property_of result (final_claim (view value.now)) }
+#[tactic(auto, unfolding(crate::specs::Claims::ended_at))]
+fn ended_of<'v, 't>(value: &'v Value<'t>) -> Result<NamedGiven<'v>, Miss<Shape>>
+    ensures gives { Gives given_of result (ended_at (view value.now)) }
     ensures shape { IfErr result IsShape }
 {
-    if !has_only(value, &["given", "final", "in"]) {
+    if !has_only(value, &["ended", "in"]) {
+        return Err(Miss::Wrong(Shape));
+    }
+    let task = text_in(value, "ended")?;
+    let list = list_in(value, "in")?;
+    let finals = some_finals(list)?;
+    Ok(NamedGiven::Ended(task, finals))
+}
+
+#[tactic(auto, unfolding(crate::specs::Claims::succeeds_at))]
+fn succeeds_of<'v, 't>(value: &'v Value<'t>) -> Result<NamedGiven<'v>, Miss<Shape>>
+    ensures gives { Gives given_of result (succeeds_at (view value.now)) }
+    ensures shape { IfErr result IsShape }
+{
+    if !has_only(value, &["succeeds"]) {
+        return Err(Miss::Wrong(Shape));
+    }
+    let name = text_in(value, "succeeds")?;
+    Ok(NamedGiven::Succeeds(name))
+}
+
+#[tactic(auto, unfolding(crate::specs::Claims::given_word))]
+fn given_word<'v>(word: &'v str) -> Result<NamedGiven<'v>, Miss<Shape>>
+    ensures gives { Gives given_of result (given_word word.now) }
+    ensures shape { IfErr result IsShape }
+{
+    match word {
+        "no_failure" => Ok(NamedGiven::NoFailure),
+        "no_request" => Ok(NamedGiven::NoRequest),
+        _ => Err(Miss::Wrong(Shape)),
+    }
+}
+
+#[tactic(auto, unfolding(crate::specs::Claims::end_or_job))]
+fn end_or_job<'v, 't>(value: &'v Value<'t>) -> Result<NamedGiven<'v>, Miss<Shape>>
+    ensures gives { Gives given_of result (end_or_job (view value.now)) }
+    ensures shape { IfErr result IsShape }
+{
+    if find(value, "ended").is_some() {
+        return ended_of(value);
+    }
+    succeeds_of(value)
+}
+
+/// What only version 3 has.
+#[tactic(auto, unfolding(crate::specs::Claims::later_given))]
+fn later_given<'v, 't>(value: &'v Value<'t>) -> Result<NamedGiven<'v>, Miss<Shape>>
+    ensures gives { Gives given_of result (later_given (view value.now)) }
+    ensures shape { IfErr result IsShape }
+{
+    match value {
+        Value::String(word) => given_word(word),
+        Value::Object(_) => end_or_job(value),
+        _ => Err(Miss::Wrong(Shape)),
+    }
+}
+
+#[tactic(auto, unfolding(crate::specs::Claims::given_at))]
+fn given_of<'v, 't>(version: Version, value: &'v Value<'t>) -> Result<NamedGiven<'v>, Miss<Shape>>
+    ensures gives { Gives given_of result (given_at version (view value.now)) }
+    ensures shape { IfErr result IsShape }
+{
+    if find(value, "input").is_some() {
+        return input_of(value);
+    }
+    if find(value, "quiet").is_some() {
+        return quiet_of(value);
+    }
+    if version.is_third() {
+        return later_given(value);
+    }
+    Err(Miss::Wrong(Shape))
+}
+
+fn givens_of<'v, 't>(
+    alloc: Global,
+    version: Version,
+    values: &'v [Value<'t>],
+) -> Result<Vec<NamedGiven<'v>>, Miss<Shape>>
+    ensures { Gives (λ v. map given_of v.items) result (each (given_at version)
+        (map view values.now)) }
+{
+    let mut given = Vec::new(alloc);
+    for value in values {
+        let one = given_of(version, value)?;
+        given.push(one)?;
+    }
+    Ok(given)
+}
+
+#[tactic(auto, unfolding(crate::specs::Claims::final_claim))]
+fn final_claim<'v, 't>(
+    version: Version,
+    value: &'v Value<'t>,
+) -> Result<NamedProperty<'v>, Miss<Shape>>
+    ensures gives { Gives property_of result (final_claim version (view value.now)) }
+    ensures shape { IfErr result IsShape }
+{
+    if !has_claim_members(version, value, &["given", "final", "in"]) {
         return Err(Miss::Wrong(Shape));
     }
     let task = text_in(value, "final")?;
@@ -105,11 +180,14 @@ fn two_texts<'v, 't>(values: &'v [Value<'t>]) -> Result<(&'v str, &'v str), Miss
 }
 
 #[tactic(auto, unfolding(crate::specs::Claims::after_claim))]
-fn after_claim<'v, 't>(value: &'v Value<'t>) -> Result<NamedProperty<'v>, Miss<Shape>>
-    ensures gives { Gives property_of result (after_claim (view value.now)) }
+fn after_claim<'v, 't>(
+    version: Version,
+    value: &'v Value<'t>,
+) -> Result<NamedProperty<'v>, Miss<Shape>>
+    ensures gives { Gives property_of result (after_claim version (view value.now)) }
     ensures shape { IfErr result IsShape }
 {
-    if !has_only(value, &["given", "after"]) {
+    if !has_claim_members(version, value, &["given", "after"]) {
         return Err(Miss::Wrong(Shape));
     }
     let list = list_in(value, "after")?;
@@ -118,11 +196,14 @@ fn after_claim<'v, 't>(value: &'v Value<'t>) -> Result<NamedProperty<'v>, Miss<S
 }
 
 #[tactic(auto, unfolding(crate::specs::Claims::observed_claim))]
-fn observed_claim<'v, 't>(value: &'v Value<'t>) -> Result<NamedProperty<'v>, Miss<Shape>>
-    ensures gives { Gives property_of result (observed_claim (view value.now)) }
+fn observed_claim<'v, 't>(
+    version: Version,
+    value: &'v Value<'t>,
+) -> Result<NamedProperty<'v>, Miss<Shape>>
+    ensures gives { Gives property_of result (observed_claim version (view value.now)) }
     ensures shape { IfErr result IsShape }
 {
-    if !has_only(value, &["given", "observed"]) {
+    if !has_claim_members(version, value, &["given", "observed"]) {
         return Err(Miss::Wrong(Shape));
     }
     let task = text_in(value, "observed")?;
@@ -130,11 +211,14 @@ fn observed_claim<'v, 't>(value: &'v Value<'t>) -> Result<NamedProperty<'v>, Mis
 }
 
 #[tactic(auto, unfolding(crate::specs::Claims::never_claim))]
-fn never_claim<'v, 't>(value: &'v Value<'t>) -> Result<NamedProperty<'v>, Miss<Shape>>
-    ensures gives { Gives property_of result (never_claim (view value.now)) }
+fn never_claim<'v, 't>(
+    version: Version,
+    value: &'v Value<'t>,
+) -> Result<NamedProperty<'v>, Miss<Shape>>
+    ensures gives { Gives property_of result (never_claim version (view value.now)) }
     ensures shape { IfErr result IsShape }
 {
-    if !has_only(value, &["given", "never"]) {
+    if !has_claim_members(version, value, &["given", "never"]) {
         return Err(Miss::Wrong(Shape));
     }
     let task = text_in(value, "never")?;
@@ -142,11 +226,14 @@ fn never_claim<'v, 't>(value: &'v Value<'t>) -> Result<NamedProperty<'v>, Miss<S
 }
 
 #[tactic(auto, unfolding(crate::specs::Claims::excludes_claim))]
-fn excludes_claim<'v, 't>(value: &'v Value<'t>) -> Result<NamedProperty<'v>, Miss<Shape>>
-    ensures gives { Gives property_of result (excludes_claim (view value.now)) }
+fn excludes_claim<'v, 't>(
+    version: Version,
+    value: &'v Value<'t>,
+) -> Result<NamedProperty<'v>, Miss<Shape>>
+    ensures gives { Gives property_of result (excludes_claim version (view value.now)) }
     ensures shape { IfErr result IsShape }
 {
-    if !has_only(value, &["given", "excludes"]) {
+    if !has_claim_members(version, value, &["given", "excludes"]) {
         return Err(Miss::Wrong(Shape));
     }
     let list = list_in(value, "excludes")?;
@@ -154,33 +241,61 @@ fn excludes_claim<'v, 't>(value: &'v Value<'t>) -> Result<NamedProperty<'v>, Mis
     Ok(NamedProperty::Excludes(first, second))
 }
 
+/// A claim that only version 3 has.
+#[tactic(auto, unfolding(crate::specs::Claims::runs_claim))]
+fn runs_claim<'v, 't>(
+    version: Version,
+    value: &'v Value<'t>,
+) -> Result<NamedProperty<'v>, Miss<Shape>>
+    ensures gives { Gives property_of result (runs_claim version (view value.now)) }
+    ensures shape { IfErr result IsShape }
+{
+    if !version.is_third() || !has_claim_members(version, value, &["given", "runs"]) {
+        return Err(Miss::Wrong(Shape));
+    }
+    let task = text_in(value, "runs")?;
+    Ok(NamedProperty::Runs(task))
+}
+
 #[tactic(auto, unfolding(crate::specs::Claims::property_at))]
-fn property_of<'v, 't>(value: &'v Value<'t>) -> Result<NamedProperty<'v>, Miss<Shape>>
-    ensures gives { Gives property_of result (property_at (view value.now)) }
+fn property_of<'v, 't>(
+    version: Version,
+    value: &'v Value<'t>,
+) -> Result<NamedProperty<'v>, Miss<Shape>>
+    ensures gives { Gives property_of result (property_at version (view value.now)) }
     ensures shape { IfErr result IsShape }
 {
     if find(value, "final").is_some() {
-        return final_claim(value);
+        return final_claim(version, value);
     }
     if find(value, "after").is_some() {
-        return after_claim(value);
+        return after_claim(version, value);
     }
     if find(value, "observed").is_some() {
-        return observed_claim(value);
+        return observed_claim(version, value);
     }
     if find(value, "never").is_some() {
-        return never_claim(value);
+        return never_claim(version, value);
     }
-    excludes_claim(value)
+    if find(value, "runs").is_some() {
+        return runs_claim(version, value);
+    }
+    excludes_claim(version, value)
 }
 
-/// A claim with names. Errors: a wrong shape; out of memory.
+/// A claim with names. Errors: a wrong shape, and what another version has is one; out of memory.
 #[tactic(auto, unfolding(crate::specs::Claims::claim_at))]
-pub fn claim_of<'v, 't>(alloc: Global, value: &'v Value<'t>) -> Result<NamedClaim<'v>, Miss<Shape>>
-    ensures { Gives claim_of result (claim_at (view value.now)) }
+pub fn claim_of<'v, 't>(
+    alloc: Global,
+    version: Version,
+    value: &'v Value<'t>,
+) -> Result<NamedClaim<'v>, Miss<Shape>>
+    ensures { Gives claim_of result (claim_at version (view value.now)) }
 {
-    let body = property_of(value)?;
+    let body = property_of(version, value)?;
     let list = list_or_none(value, "given")?;
-    let given = givens_of(alloc, list)?;
-    Ok(NamedClaim { given, body })
+    let name = claim_name(value)?;
+    note_of(value)?;
+    let given = givens_of(alloc, version, list)?;
+    Ok(NamedClaim { name, given, body })
 }

@@ -4,11 +4,15 @@
 mod claims;
 mod lists;
 mod named;
+mod remarks;
 mod start;
 mod statements;
 mod tasks;
+mod version;
 
 pub use claims::claim_of;
 pub use named::{NamedClaim, NamedGiven, NamedProperty, NamedStart};
-pub use start::{has_truths, start_or_none};
+pub use remarks::{has_only_beside, is_claim_name, note_of};
+pub use start::{has_ends, has_truths, start_or_none};
 pub use tasks::{task_of, token_of};
+pub use version::Version;

@@ -10,6 +10,14 @@ pub enum NamedGiven<'v> {
     Input(&'v str, bool),
     /// The token is never requested.
     Quiet(&'v str),
+    /// If the task has ended, it has done so in one of these ways.
+    Ended(&'v str, Finals),
+    /// The job of this site doesn't fail.
+    Succeeds(&'v str),
+    /// No job fails.
+    NoFailure,
+    /// No token is requested.
+    NoRequest,
 }
 
 /// What a claim says.
@@ -25,11 +33,15 @@ pub enum NamedProperty<'v> {
     Never(&'v str),
     /// The two tasks don't both begin.
     Excludes(&'v str, &'v str),
+    /// The task begins.
+    Runs(&'v str),
 }
 
 /// A claim.
 #[derive(Drop)]
 pub struct NamedClaim<'v> {
+    /// Its name, if it has one.
+    pub name: Option<&'v str>,
     /// What is taken as given.
     pub given: Vec<NamedGiven<'v>>,
     /// What is said then.

@@ -1,22 +1,24 @@
 //! Reading where a run starts, with names.
 
-ghost use Rattle.std.specs.Prelude.{◌≡◌, Some};
+ghost use Rattle.std.specs.Prelude.{◌≡◌, Some, is_some};
 ghost use Rattle.std.specs.Option.{option_map};
 ghost use Rattle.std.specs.List.{list_all};
 ghost use Rattle.std.specs.BTreeMap.{values};
 ghost use Rattle.json.specs.Value.{members_view};
 ghost use Rattle.serde_json.specs.Data.{no_members};
-ghost use Rattle.serde_json.specs.Find.{get};
+ghost use Rattle.serde_json.specs.Find.{get, as_bool};
+ghost use Rattle.tpl_json.specs.Finals.{final_at};
 ghost use Rattle.tpl_json.specs.View.{members_from, view};
 ghost use Rattle.tpl_json.specs.Members.{Gives};
-ghost use Rattle.tpl_parts.specs.Start.{all_truths, has_truths, truths_or_none, start_at, start_or_none};
+ghost use Rattle.tpl_parts.specs.Start.{all_values, has_truths, truths_or_none, start_at, start_or_none};
 ghost use Rattle.tpl_parts.specs.SeenStart.{start_of};
+ghost use Rattle.tpl_parts.specs.Ends.{has_ends};
 
 use crate::named::NamedStart;
 use json::Value;
 use std::alloc::Global;
 use std::collections::BTreeMap;
-use tpl_json::{Miss, Shape, find, has_only, texts_in};
+use tpl_json::{Miss, Shape, final_of, find, has_only, texts_in};
 
 fn are_all(truths: &BTreeMap<&str, bool>) -> bool
     ensures { result ≡ list_all (λ b. b) (values truths.now) }
@@ -26,7 +28,7 @@ fn are_all(truths: &BTreeMap<&str, bool>) -> bool
 
 /// Whether the members are all true or false; of several of one name the last counts.
 fn all_truths(alloc: Global, members: &[(&str, Value<'_>)]) -> Result<bool, Miss<Shape>>
-    ensures { Gives (λ b. b) result (Some (all_truths
+    ensures { Gives (λ b. b) result (Some (all_values (λ d. is_some (as_bool d))
         (members_from (members_view members.now) no_members))) }
 {
     let mut truths = BTreeMap::new(alloc);
@@ -44,6 +46,30 @@ pub fn has_truths(alloc: Global, value: &Value<'_>) -> Result<bool, Miss<Shape>>
 {
     match value {
         Value::Object(members) => all_truths(alloc, members.as_slice()),
+        _ => Ok(false),
+    }
+}
+
+/// Whether the members are all final statuses; of several of one name the last counts.
+fn all_ends(alloc: Global, members: &[(&str, Value<'_>)]) -> Result<bool, Miss<Shape>>
+    ensures { Gives (λ b. b) result (Some (all_values (λ d. is_some (final_at d))
+        (members_from (members_view members.now) no_members))) }
+{
+    let mut ends = BTreeMap::new(alloc);
+    for member in members {
+        drop(ends.insert(member.0, final_of(&member.1).is_ok())?);
+    }
+    Ok(are_all(&ends))
+}
+
+/// Whether the value is an object whose members are all final statuses; of several of one name the last counts. Out of
+/// memory is the only error.
+#[tactic(auto, unfolding(crate::specs::Ends::has_ends))]
+pub fn has_ends(alloc: Global, value: &Value<'_>) -> Result<bool, Miss<Shape>>
+    ensures { Gives (λ b. b) result (Some (has_ends (view value.now))) }
+{
+    match value {
+        Value::Object(members) => all_ends(alloc, members.as_slice()),
         _ => Ok(false),
     }
 }

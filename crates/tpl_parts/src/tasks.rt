@@ -9,7 +9,9 @@ ghost use Rattle.tpl_json.specs.Members.{Gives, each, IsShape};
 ghost use Rattle.tpl_parts.specs.Tasks.{option_at, options_at, text_or_none, work_at, root_at, child_at, then_at, args_at, all_at, any_at, kind_at, task_at, linked_at, plain_at, token_at};
 
 use crate::lists::list_in;
+use crate::remarks::{has_task_members, note_of};
 use crate::statements::body_of;
+use crate::version::Version;
 use json::Value;
 use std::alloc::Global;
 use tpl_graph::{DraftKind, DraftTask, DraftToken, DraftWork};
@@ -72,10 +74,14 @@ fn work_of(alloc: Global, value: &Value<'_>) -> Result<DraftWork, Miss<Shape>>
 }
 
 #[tactic(auto, unfolding(crate::specs::Tasks::root_at))]
-fn root_of(alloc: Global, value: &Value<'_>) -> Result<DraftKind, Miss<Shape>>
-    ensures { Gives kind_of result (root_at (view value.now)) }
+fn root_of(alloc: Global, version: Version, value: &Value<'_>) -> Result<DraftKind, Miss<Shape>>
+    ensures { Gives kind_of result (root_at version (view value.now)) }
 {
-    if !has_only(value, &["name", "kind", "body", "token", "options"]) {
+    if !has_task_members(
+        version,
+        value,
+        &["name", "kind", "body", "token", "options"],
+    ) {
         return Err(Miss::Wrong(Shape));
     }
     let work = work_of(alloc, value)?;
@@ -83,10 +89,14 @@ fn root_of(alloc: Global, value: &Value<'_>) -> Result<DraftKind, Miss<Shape>>
 }
 
 #[tactic(auto, unfolding(crate::specs::Tasks::child_at))]
-fn child_of(alloc: Global, value: &Value<'_>) -> Result<DraftKind, Miss<Shape>>
-    ensures { Gives kind_of result (child_at (view value.now)) }
+fn child_of(alloc: Global, version: Version, value: &Value<'_>) -> Result<DraftKind, Miss<Shape>>
+    ensures { Gives kind_of result (child_at version (view value.now)) }
 {
-    if !has_only(value, &["name", "kind", "body", "token", "options"]) {
+    if !has_task_members(
+        version,
+        value,
+        &["name", "kind", "body", "token", "options"],
+    ) {
         return Err(Miss::Wrong(Shape));
     }
     let work = work_of(alloc, value)?;
@@ -94,10 +104,11 @@ fn child_of(alloc: Global, value: &Value<'_>) -> Result<DraftKind, Miss<Shape>>
 }
 
 #[tactic(auto, unfolding(crate::specs::Tasks::then_at))]
-fn then_of(alloc: Global, value: &Value<'_>) -> Result<DraftKind, Miss<Shape>>
-    ensures { Gives kind_of result (then_at (view value.now)) }
+fn then_of(alloc: Global, version: Version, value: &Value<'_>) -> Result<DraftKind, Miss<Shape>>
+    ensures { Gives kind_of result (then_at version (view value.now)) }
 {
-    if !has_only(
+    if !has_task_members(
+        version,
         value,
         &["name", "kind", "after", "body", "token", "options"],
     ) {
@@ -110,10 +121,10 @@ fn then_of(alloc: Global, value: &Value<'_>) -> Result<DraftKind, Miss<Shape>>
 }
 
 #[tactic(auto, unfolding(crate::specs::Tasks::args_at))]
-fn args_of(alloc: Global, value: &Value<'_>) -> Result<Vec<String>, Miss<Shape>>
-    ensures { Gives (λ v. map string_bytes v.items) result (args_at (view value.now)) }
+fn args_of(alloc: Global, version: Version, value: &Value<'_>) -> Result<Vec<String>, Miss<Shape>>
+    ensures { Gives (λ v. map string_bytes v.items) result (args_at version (view value.now)) }
 {
-    if !has_only(value, &["name", "kind", "of"]) {
+    if !has_task_members(version, value, &["name", "kind", "of"]) {
         return Err(Miss::Wrong(Shape));
     }
     let list = list_in(value, "of")?;
@@ -121,43 +132,49 @@ fn args_of(alloc: Global, value: &Value<'_>) -> Result<Vec<String>, Miss<Shape>>
 }
 
 #[tactic(auto, unfolding(crate::specs::Tasks::all_at))]
-fn all_of(alloc: Global, value: &Value<'_>) -> Result<DraftKind, Miss<Shape>>
-    ensures { Gives kind_of result (all_at (view value.now)) }
+fn all_of(alloc: Global, version: Version, value: &Value<'_>) -> Result<DraftKind, Miss<Shape>>
+    ensures { Gives kind_of result (all_at version (view value.now)) }
 {
-    let args = args_of(alloc, value)?;
+    let args = args_of(alloc, version, value)?;
     Ok(DraftKind::All(args))
 }
 
 #[tactic(auto, unfolding(crate::specs::Tasks::any_at))]
-fn any_of(alloc: Global, value: &Value<'_>) -> Result<DraftKind, Miss<Shape>>
-    ensures { Gives kind_of result (any_at (view value.now)) }
+fn any_of(alloc: Global, version: Version, value: &Value<'_>) -> Result<DraftKind, Miss<Shape>>
+    ensures { Gives kind_of result (any_at version (view value.now)) }
 {
-    let args = args_of(alloc, value)?;
+    let args = args_of(alloc, version, value)?;
     Ok(DraftKind::Any(args))
 }
 
 #[tactic(auto, unfolding(crate::specs::Tasks::kind_at))]
-fn kind_of(alloc: Global, kind: &str, value: &Value<'_>) -> Result<DraftKind, Miss<Shape>>
-    ensures { Gives kind_of result (kind_at kind.now (view value.now)) }
+fn kind_of(
+    alloc: Global,
+    version: Version,
+    kind: &str,
+    value: &Value<'_>,
+) -> Result<DraftKind, Miss<Shape>>
+    ensures { Gives kind_of result (kind_at version kind.now (view value.now)) }
 {
     match kind {
-        "root" => root_of(alloc, value),
-        "child" => child_of(alloc, value),
-        "then" => then_of(alloc, value),
-        "all" => all_of(alloc, value),
-        "any" => any_of(alloc, value),
+        "root" => root_of(alloc, version, value),
+        "child" => child_of(alloc, version, value),
+        "then" => then_of(alloc, version, value),
+        "all" => all_of(alloc, version, value),
+        "any" => any_of(alloc, version, value),
         _ => Err(Miss::Wrong(Shape)),
     }
 }
 
 /// A task with names. Errors: a wrong shape, and bodies past 127 levels have one; out of memory.
 #[tactic(auto, unfolding(crate::specs::Tasks::task_at))]
-pub fn task_of(alloc: Global, value: &Value<'_>) -> Result<DraftTask, Miss<Shape>>
-    ensures { Gives task_of result (task_at (view value.now)) }
+pub fn task_of(alloc: Global, version: Version, value: &Value<'_>) -> Result<DraftTask, Miss<Shape>>
+    ensures { Gives task_of result (task_at version (view value.now)) }
 {
     let name = text_in(value, "name")?;
     let word = text_in(value, "kind")?;
-    let kind = kind_of(alloc, word, value)?;
+    note_of(value)?;
+    let kind = kind_of(alloc, version, word, value)?;
     let name = String::from_str(alloc, name)?;
     Ok(DraftTask { name, kind })
 }

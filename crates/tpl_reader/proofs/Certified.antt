@@ -11,9 +11,12 @@ use Rattle.tpl_json.specs.Members.{list_in}
 use Rattle.tpl_json.specs.Grammar.{IfThere, IsArray, AllRead}
 use Rattle.tpl_cert.specs.Spelled.{ReadsAs}
 use Rattle.tpl_cert.specs.Written.{tree_data, named, certificate_data}
+use Rattle.tpl_parts.specs.Versions.{has_links}
 use Rattle.tpl_parts.specs.TaskGrammar.{IsToken}
 use Rattle.tpl_reader.specs.Top as top
-use Rattle.tpl_reader.specs.TopGrammar.{IsTop}
+use Rattle.tpl_parts.specs.RemarkGrammar.{IsText}
+use Rattle.tpl_parts.specs.EndGrammar.{IsEnds}
+use Rattle.tpl_reader.specs.TopGrammar.{AreTimesIfAny, IsTop}
 use Rattle.tpl_reader.specs.Document.{Spelled, IsSpelled, DocumentValue, IsDocument, Spells, longest}
 use Rattle.tpl_reader.specs.Laws.{IsReadBack, HoldsCertificate}
 use Rattle.tpl_json.proofs.Arrays.{elements-items_of}
@@ -24,7 +27,7 @@ use Rattle.tpl_reader.proofs.OneDocument.{value_same}
 -- ---- the members
 
 abbrev with_trees : top.Members → List Data → top.Members
-with_trees m ds = record { inputs = m.inputs; tokens = m.tokens; tasks = m.tasks; claims = m.claims; certificate = ds; journal = m.journal; start = m.start }
+with_trees m ds = record { version = m.version; inputs = m.inputs; tokens = m.tokens; tasks = m.tasks; claims = m.claims; certificate = ds; journal = m.journal; start = m.start; ended = m.ended; times = m.times }
 
 there : (ds : List Data) (o : Option Data) → o ≡ Some (array (items_of ds)) → IfThere o (λ x. list_in x ≡ Some ds) (ds ≡ [])
 there ds o e = subst (λ (z : Option Data). IfThere z (λ x. list_in x ≡ Some ds) (ds ≡ [])) (sym e) (ap (λ (xs : List Data). some xs) (elements-items_of ds))
@@ -34,15 +37,18 @@ top_put ms m ds is =
     let c = array (items_of ds) in
     record {
       only = only_put _ (codes "certificate") c ms refl is.only;
-      links = is.links;
       version = sym (other (codes "version") (codes "certificate") c ms refl) ∙ is.version;
       inputs = subst (λ (o : Option Data). IfThere o (λ x. list_in x ≡ Some (map string m.inputs)) (m.inputs ≡ [])) (other (codes "inputs") (codes "certificate") c ms refl) is.inputs;
-      tokens = subst (λ (o : Option Data). IfThere o (IsArray (λ ds. AllRead (IsToken is.links) ds m.tokens)) (m.tokens ≡ [])) (other (codes "tokens") (codes "certificate") c ms refl) is.tokens;
+      tokens = subst (λ (o : Option Data). IfThere o (IsArray (λ ds. AllRead (IsToken (has_links m.version)) ds m.tokens)) (m.tokens ≡ [])) (other (codes "tokens") (codes "certificate") c ms refl) is.tokens;
       tasks = (is.tasks.0, sym (other (codes "tasks") (codes "certificate") c ms refl) ∙ is.tasks.1, is.tasks.2);
       claims = subst (λ (o : Option Data). IfThere o (λ x. list_in x ≡ Some m.claims) (m.claims ≡ [])) (other (codes "claims") (codes "certificate") c ms refl) is.claims;
       certificate = there ds (get (codes "certificate") (object (put (codes "certificate") c ms))) (get_member-put (codes "certificate") c ms);
       journal = subst (λ (o : Option Data). IfThere o (λ x. x ≡ string m.journal) (m.journal ≡ [])) (other (codes "journal") (codes "certificate") c ms refl) is.journal;
       start = is.start ∙ other (codes "start") (codes "certificate") c ms refl;
+      note = subst (λ (o : Option Data). IfThere o IsText (Unit {0})) (other (codes "note") (codes "certificate") c ms refl) is.note;
+      ended = is.ended ∙ other (codes "ended") (codes "certificate") c ms refl;
+      ends = subst (λ (o : Option Data). IfThere o IsEnds (Unit {0})) (other (codes "ended") (codes "certificate") c ms refl) is.ends;
+      times = subst (λ (o : Option Data). AreTimesIfAny m.journal o m.times) (other (codes "times") (codes "certificate") c ms refl) is.times;
     }
 
 -- ---- the document
@@ -51,6 +57,7 @@ spelled_put : (ms : Members) (s : Spelled) (ds : List Data) → IsSpelled (objec
 spelled_put ms s ds is = record {
   members = with_trees is.members ds;
   top = top_put ms is.members ds is.top;
+  version = is.version;
   inputs = is.inputs;
   tokens = is.tokens;
   tasks = is.tasks;
@@ -58,6 +65,8 @@ spelled_put ms s ds is = record {
   certificate = refl;
   journal = is.journal;
   start = is.start;
+  ended = is.ended;
+  times = is.times;
 }
 
 read_back : (n : Names) (trees : List Tree) → All (IsReadBack n) trees → AllRead (ReadsAs n) (map (λ t. tree_data (named n t)) trees) trees
@@ -67,12 +76,17 @@ read_back n (t ∷ trees) all = (all 0 t (omega arith), read_back n trees (λ k 
 document_put : (s : Spelled) (doc : DocumentValue) (trees : List Tree) → IsDocument s doc → All (IsReadBack doc.graph.names) trees
     → IsDocument (record s { certificate = map (λ t. tree_data (named doc.graph.names t)) trees }) (record doc { certificate = trees })
 document_put s doc trees is all = record {
+  version = is.version;
   valid = is.valid;
   graph = is.graph;
   claims = is.claims;
+  names = is.names;
   certificate = read_back doc.graph.names trees all;
   journal = is.journal;
   start = is.start;
+  known = is.known;
+  ended = is.ended;
+  times = is.times;
 }
 
 pub is_read_back : (bytes with : List ℕ) (doc : DocumentValue) (trees : List Tree) → Spells bytes doc → All (IsReadBack doc.graph.names) trees → HoldsCertificate bytes (certificate_data doc.graph.names trees) with → length with ≤ longest → Spells with (record doc { certificate = trees })

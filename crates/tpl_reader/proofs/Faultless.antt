@@ -1,5 +1,7 @@
 -- Of bytes that spell a document no fault is true.
-use Rattle.std.proofs.Common.{◌≡◌, ℕ, zero, suc, ◌-◌, ◌<◌, inl, inr, List, [], ◌∷◌, map, Bool, true, Option, Some, None, is_some, refl, sym, ap, subst, ◌∙◌, arith, true≢false}
+use Rattle.std.proofs.Common.{◌≡◌, ℕ, zero, suc, ◌-◌, ◌<◌, inl, inr, List, [], ◌∷◌, map, Bool, true, Option, Some, None, is_some, refl, sym, ap, subst, ◌∙◌, append-nil, append_assoc, arith, true≢false}
+use Rattle.std.specs.Prelude.{◌||◌, ◌++◌, take, false, filter}
+use Rattle.tpl_json.proofs.Arrays.{some_is}
 use Rattle.std.specs.Prelude.{slice_get}
 use Rattle.std.specs.List.{list_all}
 use Rattle.tpl_cert.proofs.OneTree.{chain_same}
@@ -17,10 +19,12 @@ use Rattle.tpl_cert.specs.declared.fault.TreeFault.{TreeFault}
 use Rattle.tpl_cert.specs.declared.fault.TreeFault.TheVariants as trees
 use Rattle.tpl_cert.specs.Laws.{ReadHasNoFault}
 use Rattle.tpl_cert.specs.Spelled.{ReadsAs, IsWrongTree}
+use Rattle.tpl_parts.specs.declared.version.Version.{Version}
 use Rattle.tpl_parts.specs.NamedClaims.{NamedClaim}
 use Rattle.tpl_parts.specs.Start.{NamedStart}
 use Rattle.tpl_reader.specs.Begin.{StartValue, may_all_fail, IsStartOf, IsWrongStart}
-use Rattle.tpl_reader.specs.Asked.{given_in, knows_claim, IsClaimOf, IsAsked, IsWrongClaim}
+use Rattle.tpl_reader.specs.Asked.{given_in, is_single, says_twice, knows_claim, has_name_of, name_again, name_twice, IsClaimOf, IsAsked, IsWrongClaim, IsWrongBehind}
+use Rattle.tpl_reader.specs.Ends.{knows_ends}
 use Rattle.tpl_reader.specs.Top.{Members}
 use Rattle.tpl_parts.specs.TaskGrammar.{IsTask, IsNoTask}
 use Rattle.tpl_parts.specs.ClaimGrammar.{IsClaim, IsNoClaim}
@@ -34,7 +38,7 @@ use Rattle.tpl_reader.specs.declared.fault.StartFault.{StartFault}
 use Rattle.tpl_reader.specs.declared.fault.StartFault.TheVariants as starts
 use Rattle.tpl_reader.specs.declared.fault.ReadFault.{ReadFault}
 use Rattle.tpl_reader.specs.declared.fault.ReadFault.TheVariants as faults
-use Rattle.tpl_reader.specs.Document.{Spelled, IsSpelled, IsMisshapen, IsNoStart, IsNoMemory, DocumentValue, IsStarted, AreAsked, IsRefusedClaim, IsWrongBegin, IsRefused, IsDocument, Reads, Spells, IsFault}
+use Rattle.tpl_reader.specs.Document.{Spelled, IsSpelled, IsMisshapen, IsNoStart, IsNoMemory, DocumentValue, IsStarted, AreAsked, IsRefusedClaim, IsWrongBegin, IsWrongSeen, IsRefused, IsDocument, Reads, Spells, IsFault}
 use Rattle.tpl_reader.proofs.OneDocument.{top_same, spelled_same, claim_of_same, shallow, value_same}
 
 -- ---- an element that is read isn't wrong
@@ -59,10 +63,10 @@ well_shaped : (d : Data) (s : Spelled) → IsSpelled d s → (p : Part) → IsMi
 well_shaped d s is part.Top wrong = wrong is.members is.top
 well_shaped d s is (part.Task n) wrong =
     let same : wrong.0 ≡ is.members = top_same d wrong.0 is.members wrong.1 is.top in
-    none_wrong IsTask IsNoTask is.members.tasks s.draft.tasks n tt (λ c x r no. no x r) is.tasks (subst (λ (m : Members). FirstWrong IsTask IsNoTask m.tasks n tt) same wrong.2)
+    none_wrong (IsTask is.members.version) (IsNoTask is.members.version) is.members.tasks s.draft.tasks n tt (λ c x r no. no x r) is.tasks (subst (λ (m : Members). FirstWrong (IsTask m.version) (IsNoTask m.version) m.tasks n tt) same wrong.2)
 well_shaped d s is (part.Claim n) wrong =
     let same : wrong.0 ≡ is.members = top_same d wrong.0 is.members wrong.1 is.top in
-    none_wrong IsClaim IsNoClaim is.members.claims s.claims n tt (λ c x r no. no x r) is.claims (subst (λ (m : Members). FirstWrong IsClaim IsNoClaim m.claims n tt) same wrong.3)
+    none_wrong (IsClaim is.members.version) (IsNoClaim is.members.version) is.members.claims s.claims n tt (λ c x r no. no x r) is.claims (subst (λ (m : Members). FirstWrong (IsClaim m.version) (IsNoClaim m.version) m.claims n tt) same wrong.3)
 well_shaped d s is part.Start wrong =
     let same : wrong.0 ≡ is.members = top_same d wrong.0 is.members wrong.1 is.top in
     subst (λ (m : Members). IsNoStart m.start) same wrong.4 s.start is.start
@@ -101,19 +105,50 @@ all_known f (x ∷ xs) (y ∷ ys) e = rw (first_is (f x) (map f xs) y (map (λ y
     rest_is o os y ys e = cc
 
 claim_known : (n : Names) (s : NamedClaim) (claim : Claim) → IsClaimOf n s claim → knows_claim n s ≡ true
-claim_known n s claim is = rw (all_known (given_in n) s.given claim.given is.given, is.body) refl
+claim_known n s claim is = rw (all_known (given_in n) (filter is_single s.given) is.singles is.are_singles, is.body) refl
+
+both_false : (a b : Bool) → a ≡ false → b ≡ false → (a || b) ≡ false
+both_false true b e f = e
+both_false false b e f = f
 
 right_claim : (g : Named) (s : NamedClaim) (claim : Claim) (f : ClaimFault) → IsAsked g s claim → IsWrongClaim g s f → ⊥
 right_claim g s claim claims.TooMany is wrong = wrong
 right_claim g s claim claims.Unknown is wrong = true≢false (sym (claim_known g.names s claim is.named) ∙ wrong)
 right_claim g s claim claims.NoBody is wrong =
     true≢false (sym is.fits.bodies ∙ ap (λ (c : Claim). have_bodies g.graph c.body) (claim_of_same g.names s claim wrong.0 is.named wrong.1) ∙ wrong.2)
+right_claim g s claim claims.NameTwice is wrong = wrong
 right_claim g s claim claims.GivenTwice is wrong =
-    true≢false (sym wrong.3 ∙ ap (λ (c : Claim). given_twice c.given) (claim_of_same g.names s wrong.0 claim wrong.1 is.named) ∙ is.fits.once)
+    true≢false (sym wrong.3 ∙ ap (λ (c : Claim). given_twice c.given || says_twice s.given) (claim_of_same g.names s wrong.0 claim wrong.1 is.named) ∙ both_false (given_twice claim.given) (says_twice s.given) is.fits.once is.once)
 
-right_claims : (g : Named) (ss : List NamedClaim) (xs : List Claim) (n : ℕ) (f : ClaimFault) → AreAsked g ss xs → IsRefusedClaim g ss n f → ⊥
-right_claims g ss xs n f asked (inl many) = let few = asked.few in let more = many.0 in omega arith
-right_claims g ss xs n f asked (inr first) = none_wrong (IsAsked g) (IsWrongClaim g) ss xs n f (λ s x is wrong. right_claim g s x f is wrong) asked.each first.1
+or_true : (a b : Bool) → b ≡ true → (a || b) ≡ true
+or_true true b e = refl
+or_true false b e = e
+
+twice_among : (before cs : List NamedClaim) (k : ℕ) (c : NamedClaim) → slice_get cs k ≡ Some c → has_name_of (before ++ take k cs) c ≡ true → name_again before cs ≡ true
+twice_among before [] k c e has = absurd cc
+twice_among before (b ∷ cs) zero c e has =
+    let same : b ≡ c = some_is b c e in
+    ap (λ x. x || name_again (before ++ b ∷ []) cs) (ap (has_name_of before) same ∙ ap (λ bs. has_name_of bs c) (sym (append-nil before)) ∙ has)
+twice_among before (b ∷ cs) (suc k) c e has =
+    or_true (has_name_of before b) (name_again (before ++ b ∷ []) cs) (twice_among (before ++ b ∷ []) cs k c e (ap (λ bs. has_name_of bs c) (append_assoc before (b ∷ []) (take k cs)) ∙ has))
+
+-- an earlier claim's name stands twice among those as far as this one
+twice_here : (cs : List NamedClaim) (k : ℕ) (c : NamedClaim) → slice_get cs k ≡ Some c → has_name_of (take k cs) c ≡ true → name_twice cs ≡ true
+twice_here cs k c e has = twice_among [] cs k c e has
+
+right_behind : (g : Named) (before : List NamedClaim) (s : NamedClaim) (claim : Claim) (f : ClaimFault) → (has_name_of before s ≡ true → ⊥) → IsAsked g s claim → IsWrongBehind g before s f → ⊥
+right_behind g before s claim claims.TooMany own is wrong = wrong
+right_behind g before s claim claims.Unknown own is wrong = right_claim g s claim claims.Unknown is wrong
+right_behind g before s claim claims.NoBody own is wrong = right_claim g s claim claims.NoBody is wrong
+right_behind g before s claim claims.GivenTwice own is wrong = right_claim g s claim claims.GivenTwice is wrong
+right_behind g before s claim claims.NameTwice own is wrong = own wrong.1
+
+right_claims : (v : Version) (g : Named) (ss : List NamedClaim) (xs : List Claim) (n : ℕ) (f : ClaimFault) → AreAsked v g ss xs → IsRefusedClaim v g ss n f → ⊥
+right_claims v g ss xs n f asked (inl many) = let few = asked.few in let more = many.0 in omega arith
+right_claims v g ss xs n f asked (inr first) =
+    let wrong = first.1.first in
+    let is = read_at (IsAsked g) ss xs (n - 1) wrong.wrong asked.asked.each wrong.stands in
+    right_behind g (take (n - 1) ss) wrong.wrong is.0 f (λ has. true≢false (sym (twice_here ss (n - 1) wrong.wrong wrong.stands has) ∙ asked.asked.names)) is.1 wrong.why
 
 -- ---- the start
 
@@ -132,6 +167,12 @@ right_begin g None start f is wrong = wrong
 right_begin g (Some s) None f is wrong = is
 right_begin g (Some s) (Some start) f is wrong = right_start g s start f is wrong
 
+right_seen : (g : Named) (s : Option NamedStart) (start : Option StartValue) (ended : Option Data) (f : StartFault) → IsStarted g s start → knows_ends g.names.tasks ended ≡ true → IsWrongSeen g s ended f → ⊥
+right_seen g s start ended starts.Unknown is known (inl unknown) = true≢false (sym known ∙ unknown)
+right_seen g s start ended starts.Unknown is known (inr wrong) = right_begin g s start starts.Unknown is wrong
+right_seen g s start ended starts.Missing is known wrong = right_begin g s start starts.Missing is wrong.1
+right_seen g s start ended starts.FailNot is known wrong = right_begin g s start starts.FailNot is wrong.1
+
 -- ---- the whole
 
 no_memory : (f : TreeFault) → IsNoMemory f → f ≡ trees.Memory → ⊥
@@ -140,11 +181,11 @@ no_memory f is e = subst IsNoMemory e is
 module _ (faultless : ReadHasNoFault) (s : Spelled) (doc : DocumentValue) (is : IsDocument s doc) where
   not_refused : (e : ReadFault) → IsRefused s e → e ≡ faults.Memory
   not_refused (faults.Graph f) wrong = absurd (valid_graph s.draft is.valid f wrong)
-  not_refused (faults.Claim n f) wrong = absurd (right_claims (numbered s.draft) s.claims doc.claims n f (subst (λ (g : Named). AreAsked g s.claims doc.claims) is.graph is.claims) wrong.1)
+  not_refused (faults.Claim n f) wrong = absurd (right_claims s.version (numbered s.draft) s.claims doc.claims n f (subst (λ (g : Named). AreAsked s.version g s.claims doc.claims) is.graph is.claims) wrong.1)
   not_refused (faults.Certificate n f) wrong =
       let g = numbered s.draft in
       absurd (none_wrong (ReadsAs g.names) (IsWrongTree g.names) s.certificate doc.certificate n f (λ d t reads no. no_memory f wrong.2.0 (faultless g.names d t f reads no)) (subst (λ (g : Named). AllRead (ReadsAs g.names) s.certificate doc.certificate) is.graph is.certificate) wrong.2.1)
-  not_refused (faults.Start f) wrong = absurd (right_begin (numbered s.draft) s.start doc.start f (subst (λ (g : Named). IsStarted g s.start doc.start) is.graph is.start) wrong.3)
+  not_refused (faults.Start f) wrong = absurd (right_seen (numbered s.draft) s.start doc.start s.ended f (subst (λ (g : Named). IsStarted g s.start doc.start) is.graph is.start) (subst (λ (g : Named). knows_ends g.names.tasks s.ended ≡ true) is.graph is.known) wrong.3)
   not_refused faults.Memory wrong = refl
   not_refused faults.TooLong wrong = absurd wrong
   not_refused faults.NotJson wrong = absurd wrong

@@ -1,6 +1,9 @@
 pub mod Lookups
 pub mod Passes
 pub mod Asking
+pub mod Singles
+pub mod NamesOnce
+pub mod EndLaws
 pub mod Shapes
 pub mod Begins
 pub mod Refusals

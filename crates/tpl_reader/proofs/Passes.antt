@@ -19,7 +19,7 @@ read_more R g es i e xs x lt all r = rw (map_more g es i e lt) (snoc R (map g (t
 pub read_all : {X D A : Type 0} (R : D → A → Type 0) (g : X → D) (es : List X) (i : ℕ) (xs : List A) → length es ≤ i → AllRead R (map g (take i es)) xs → AllRead R (map g es) xs
 read_all R g es i xs le all = rw (take_all i es le) at all
 
-take_map : {X D : Type 0} (g : X → D) (i : ℕ) (es : List X) → take i (map g es) ≡ map g (take i es)
+pub take_map : {X D : Type 0} (g : X → D) (i : ℕ) (es : List X) → take i (map g es) ≡ map g (take i es)
 take_map g zero es = refl
 take_map g (suc i) [] = refl
 take_map g (suc i) (e ∷ es) = ap (λ xs. g e ∷ xs) (take_map g i es)

@@ -1,7 +1,9 @@
 -- Which document bytes spell, and what is wrong with bytes that spell none.
-use Rattle.std.specs.Prelude.{◌≡◌, ◌≤◌, ◌<◌, ℕ, ◌⊎◌, List, Option, Some, None, length, IsUtf8}
+use Rattle.std.specs.Prelude.{◌≡◌, ◌≤◌, ◌<◌, ◌+◌, ℕ, ◌⊎◌, Bool, true, false, List, Option, Some, None, length, map, IsUtf8}
 use Rattle.serde_json.specs.Data.{Data}
 use Rattle.serde_json.specs.Read.{read}
+use Rattle.tpl_words.specs.declared.ids.TaskId.{TaskId}
+use Rattle.tpl_words.specs.declared.finals.Final.{Final}
 use Rattle.tpl_model.specs.Claims.{Claim}
 use Rattle.tpl_model.specs.Certificate.{Tree}
 use Rattle.tpl_draft.specs.Draft.{Task, Draft}
@@ -11,15 +13,18 @@ use Rattle.tpl_draft.specs.Refusals.{IsValid, IsLeast}
 use Rattle.tpl_cert.specs.declared.fault.TreeFault.{TreeFault}
 use Rattle.tpl_cert.specs.declared.fault.TreeFault.TheVariants as trees
 use Rattle.tpl_cert.specs.Spelled.{ReadsAs, IsWrongTree}
+use Rattle.tpl_parts.specs.declared.version.Version.{Version}
+use Rattle.tpl_parts.specs.declared.version.Version.TheVariants.{One, Two, Three}
 use Rattle.tpl_parts.specs.NamedClaims.{NamedClaim}
 use Rattle.tpl_parts.specs.Start.{NamedStart}
 use Rattle.tpl_reader.specs.Begin.{StartValue, IsStartOf, IsWrongStart}
+use Rattle.tpl_reader.specs.Ends.{knows_ends, ends_in}
 use Rattle.tpl_reader.specs.Top.{Members}
 use Rattle.tpl_parts.specs.TaskGrammar.{IsTask, IsNoTask}
 use Rattle.tpl_parts.specs.ClaimGrammar.{IsClaim, IsNoClaim}
 use Rattle.tpl_parts.specs.StartGrammar.{IsStartIfAny}
 use Rattle.tpl_reader.specs.TopGrammar.{IsTop}
-use Rattle.tpl_reader.specs.Asked.{IsAsked, IsWrongClaim}
+use Rattle.tpl_reader.specs.Asked.{AreAllAsked, IsFirstNotAsked}
 use Rattle.tpl_json.specs.Grammar.{AllRead}
 use Rattle.tpl_reader.specs.Passes.{FirstWrong}
 use Rattle.tpl_reader.specs.declared.fault.Part.{Part}
@@ -27,28 +32,35 @@ use Rattle.tpl_reader.specs.declared.fault.Part.TheVariants as part
 use Rattle.tpl_reader.specs.declared.fault.ClaimFault.{ClaimFault}
 use Rattle.tpl_reader.specs.declared.fault.ClaimFault.TheVariants.{TooMany}
 use Rattle.tpl_reader.specs.declared.fault.StartFault.{StartFault}
+use Rattle.tpl_reader.specs.declared.fault.StartFault.TheVariants as starts
 use Rattle.tpl_reader.specs.declared.fault.ReadFault.{ReadFault}
 use Rattle.tpl_reader.specs.declared.fault.ReadFault.TheVariants as faults
 
 -- a document as it is spelled, with names
 pub record Spelled : Type 0 where
+  pub version : Version
   pub draft : Draft
   pub claims : List NamedClaim
   pub certificate : List Data
   pub journal : List ℕ
   pub start : Option NamedStart
+  pub ended : Option Data
+  pub times : Option (List ℕ)
 
 -- the value spells the document with names
 pub record IsSpelled (d : Data) (s : Spelled) : Type 0 where
   pub members : Members
   pub top : IsTop d members
+  pub version : s.version ≡ members.version
   pub inputs : s.draft.inputs ≡ members.inputs
   pub tokens : s.draft.tokens ≡ members.tokens
-  pub tasks : AllRead IsTask members.tasks s.draft.tasks
-  pub claims : AllRead IsClaim members.claims s.claims
+  pub tasks : AllRead (IsTask members.version) members.tasks s.draft.tasks
+  pub claims : AllRead (IsClaim members.version) members.claims s.claims
   pub certificate : s.certificate ≡ members.certificate
   pub journal : s.journal ≡ members.journal
   pub start : IsStartIfAny members.start s.start
+  pub ended : s.ended ≡ members.ended
+  pub times : s.times ≡ members.times
 
 -- the value spells no top of a document
 abbrev pub IsNoTop : Data → Type 0
@@ -65,29 +77,33 @@ abbrev pub WrongStart : Option Data → Part → Type 0
 WrongStart d part.Start = IsNoStart d
 WrongStart d p = ⊥
 
-abbrev pub WrongTask : List Data → Part → Type 0
-WrongTask ds (part.Task n) = FirstWrong IsTask IsNoTask ds n tt
-WrongTask ds p = ⊥
+abbrev pub WrongTask : Version → List Data → Part → Type 0
+WrongTask version ds (part.Task n) = FirstWrong (IsTask version) (IsNoTask version) ds n tt
+WrongTask version ds p = ⊥
 
-abbrev pub WrongClaim : List Data → Part → Type 0
-WrongClaim ds (part.Claim n) = FirstWrong IsClaim IsNoClaim ds n tt
-WrongClaim ds p = ⊥
+abbrev pub WrongClaim : Version → List Data → Part → Type 0
+WrongClaim version ds (part.Claim n) = FirstWrong (IsClaim version) (IsNoClaim version) ds n tt
+WrongClaim version ds p = ⊥
 
 -- the first part of the wrong shape
 abbrev pub IsMisshapen : Data → Part → Type 0
 IsMisshapen d part.Top = IsNoTop d
-IsMisshapen d (part.Task n) = (m : Members) × IsTop d m × FirstWrong IsTask IsNoTask m.tasks n tt
-IsMisshapen d (part.Claim n) = (m : Members) × IsTop d m × ((ts : List Task) × AllRead IsTask m.tasks ts) × FirstWrong IsClaim IsNoClaim m.claims n tt
-IsMisshapen d part.Start = (m : Members) × IsTop d m × ((ts : List Task) × AllRead IsTask m.tasks ts) × ((cs : List NamedClaim) × AllRead IsClaim m.claims cs) × IsNoStart m.start
+IsMisshapen d (part.Task n) = (m : Members) × IsTop d m × FirstWrong (IsTask m.version) (IsNoTask m.version) m.tasks n tt
+IsMisshapen d (part.Claim n) = (m : Members) × IsTop d m × ((ts : List Task) × AllRead (IsTask m.version) m.tasks ts) × FirstWrong (IsClaim m.version) (IsNoClaim m.version) m.claims n tt
+IsMisshapen d part.Start = (m : Members) × IsTop d m × ((ts : List Task) × AllRead (IsTask m.version) m.tasks ts) × ((cs : List NamedClaim) × AllRead (IsClaim m.version) m.claims cs) × IsNoStart m.start
 
 -- ---- with ids in place of names
 
 pub record DocumentValue : Type 0 where
+  pub version : Version
   pub graph : Named
   pub claims : List Claim
+  pub names : List (Option (List ℕ))
   pub certificate : List Tree
   pub journal : List ℕ
   pub start : Option StartValue
+  pub ended : List (TaskId × Final)
+  pub times : Option (List ℕ)
 
 abbrev pub IsStarted : Named → Option NamedStart → Option StartValue → Type 0
 IsStarted g None None = Unit {0}
@@ -95,33 +111,46 @@ IsStarted g None (Some t) = ⊥
 IsStarted g (Some s) None = ⊥
 IsStarted g (Some s) (Some t) = IsStartOf g s t
 
--- at most 64 claims, each of which can be asked of the graph
-pub record AreAsked (g : Named) (spelled : List NamedClaim) (claims : List Claim) : Type 0 where
-  pub few : length spelled ≤ 64
-  pub each : AllRead (IsAsked g) spelled claims
+-- the most claims of a document
+abbrev pub most_claims : Version → ℕ
+most_claims One = 64
+most_claims Two = 64
+most_claims Three = 1024
+
+-- not too many claims, each of which can be asked of the graph, and no two of one name
+pub record AreAsked (version : Version) (g : Named) (spelled : List NamedClaim) (claims : List Claim) : Type 0 where
+  pub few : length spelled ≤ most_claims version
+  pub asked : AreAllAsked g spelled claims
 
 -- the document that is spelled
 pub record IsDocument (s : Spelled) (doc : DocumentValue) : Type 0 where
+  pub version : doc.version ≡ s.version
   pub valid : IsValid s.draft
   pub graph : doc.graph ≡ numbered s.draft
-  pub claims : AreAsked doc.graph s.claims doc.claims
+  pub claims : AreAsked s.version doc.graph s.claims doc.claims
+  pub names : doc.names ≡ map (λ c. c.name) s.claims
   pub certificate : AllRead (ReadsAs doc.graph.names) s.certificate doc.certificate
   pub journal : doc.journal ≡ s.journal
   pub start : IsStarted doc.graph s.start doc.start
+  pub known : knows_ends doc.graph.names.tasks s.ended ≡ true
+  pub ended : doc.ended ≡ ends_in doc.graph.names.tasks s.ended
+  pub times : doc.times ≡ s.times
 
--- the 65th claim is one too many; else the n-th is the first that can't be asked
-abbrev pub IsRefusedClaim : Named → List NamedClaim → ℕ → ClaimFault → Type 0
-IsRefusedClaim g ss n f = ((64 < length ss) × (n ≡ 65) × (f ≡ TooMany)) ⊎ ((length ss ≤ 64) × FirstWrong (IsAsked g) (IsWrongClaim g) ss n f)
+-- the first claim past the most is one too many; else the n-th is the first that can't be asked
+abbrev pub IsRefusedClaim : Version → Named → List NamedClaim → ℕ → ClaimFault → Type 0
+IsRefusedClaim version g ss n f =
+    ((most_claims version < length ss) × (n ≡ most_claims version + 1) × (f ≡ TooMany))
+    ⊎ ((length ss ≤ most_claims version) × IsFirstNotAsked g ss n f)
 
 abbrev pub GraphFaults : Draft → ReadFault → Type 0
 GraphFaults d (faults.Graph f) = IsLeast d f
 GraphFaults d faults.Memory = Unit {0}
 GraphFaults d e = ⊥
 
-abbrev pub ClaimFaults : Named → List NamedClaim → ReadFault → Type 0
-ClaimFaults g ss (faults.Claim n f) = IsRefusedClaim g ss n f
-ClaimFaults g ss faults.Memory = Unit {0}
-ClaimFaults g ss e = ⊥
+abbrev pub ClaimFaults : Version → Named → List NamedClaim → ReadFault → Type 0
+ClaimFaults version g ss (faults.Claim n f) = IsRefusedClaim version g ss n f
+ClaimFaults version g ss faults.Memory = Unit {0}
+ClaimFaults version g ss e = ⊥
 
 -- the fault isn't `Memory`
 abbrev pub IsNoMemory : TreeFault → Type 0
@@ -139,10 +168,20 @@ abbrev pub IsWrongBegin : Named → Option NamedStart → StartFault → Type 0
 IsWrongBegin g None f = ⊥
 IsWrongBegin g (Some s) f = IsWrongStart g s f
 
-abbrev pub StartFaults : Named → Option NamedStart → ReadFault → Type 0
-StartFaults g s (faults.Start f) = IsWrongBegin g s f
-StartFaults g s faults.Memory = Unit {0}
-StartFaults g s e = ⊥
+-- what is wrong with a start, or with the ends that were seen: a name that isn't a task's
+abbrev pub IsWrongSeen : Named → Option NamedStart → Option Data → StartFault → Type 0
+IsWrongSeen g s ended starts.Unknown = (knows_ends g.names.tasks ended ≡ false) ⊎ IsWrongBegin g s starts.Unknown
+IsWrongSeen g s ended f = (knows_ends g.names.tasks ended ≡ true) × IsWrongBegin g s f
+
+abbrev pub BeginFaults : Named → Option NamedStart → ReadFault → Type 0
+BeginFaults g s (faults.Start f) = IsWrongBegin g s f
+BeginFaults g s faults.Memory = Unit {0}
+BeginFaults g s e = ⊥
+
+abbrev pub StartFaults : Named → Option NamedStart → Option Data → ReadFault → Type 0
+StartFaults g s ended (faults.Start f) = IsWrongSeen g s ended f
+StartFaults g s ended faults.Memory = Unit {0}
+StartFaults g s ended e = ⊥
 
 abbrev pub Trees : Named → List Data → Type 0
 Trees g ds = (ts : List Tree) × AllRead (ReadsAs g.names) ds ts
@@ -150,9 +189,9 @@ Trees g ds = (ts : List Tree) × AllRead (ReadsAs g.names) ds ts
 -- what is wrong with a document of the right shape: the graph, then a claim, then a tree, then the start
 abbrev pub IsRefused : Spelled → ReadFault → Type 0
 IsRefused s (faults.Graph f) = IsLeast s.draft f
-IsRefused s (faults.Claim n f) = IsValid s.draft × IsRefusedClaim (numbered s.draft) s.claims n f
-IsRefused s (faults.Certificate n f) = IsValid s.draft × ((cs : List Claim) × AreAsked (numbered s.draft) s.claims cs) × TreeFaults (numbered s.draft) s.certificate (faults.Certificate n f)
-IsRefused s (faults.Start f) = IsValid s.draft × ((cs : List Claim) × AreAsked (numbered s.draft) s.claims cs) × Trees (numbered s.draft) s.certificate × StartFaults (numbered s.draft) s.start (faults.Start f)
+IsRefused s (faults.Claim n f) = IsValid s.draft × IsRefusedClaim s.version (numbered s.draft) s.claims n f
+IsRefused s (faults.Certificate n f) = IsValid s.draft × ((cs : List Claim) × AreAsked s.version (numbered s.draft) s.claims cs) × TreeFaults (numbered s.draft) s.certificate (faults.Certificate n f)
+IsRefused s (faults.Start f) = IsValid s.draft × ((cs : List Claim) × AreAsked s.version (numbered s.draft) s.claims cs) × Trees (numbered s.draft) s.certificate × StartFaults (numbered s.draft) s.start s.ended (faults.Start f)
 IsRefused s faults.Memory = Unit {0}
 IsRefused s faults.TooLong = ⊥
 IsRefused s faults.NotJson = ⊥

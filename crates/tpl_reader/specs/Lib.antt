@@ -4,6 +4,7 @@ pub mod Top
 pub mod TopGrammar
 pub mod SeenTop
 pub mod Begin
+pub mod Ends
 pub mod Document
 pub mod SeenDocument
 pub mod Starting

@@ -8,6 +8,7 @@ use Rattle.tpl_reader.specs.Top.{Members}
 
 abbrev pub members_of : declared.Members → Members
 members_of m = record {
+  version = m.version;
   inputs = map string_bytes m.inputs.items;
   tokens = map token_of m.tokens.items;
   tasks = map view m.tasks.now;
@@ -15,4 +16,6 @@ members_of m = record {
   certificate = map view m.certificate.now;
   journal = m.journal.now;
   start = option_map (λ v. view v.now) m.start;
+  ended = option_map (λ v. view v.now) m.ended;
+  times = option_map (λ v. v.items) m.times;
 }

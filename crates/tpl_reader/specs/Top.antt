@@ -1,13 +1,19 @@
 -- Reading a document as far as its shape goes.
-use Rattle.std.specs.Prelude.{◌==◌, ℕ, List, [], ◌∷◌, Option, Some, None, Bool, true, false, codes, option_and_then, if◌then◌else◌}
+use Rattle.std.specs.Prelude.{◌==◌, ◌&&◌, ℕ, List, [], ◌∷◌, length, count_by, Option, Some, None, Bool, true, false, codes, nat_eq, nat_le, option_and_then, if◌then◌else◌}
 use Rattle.serde_json.specs.Data.{Data}
 use Rattle.serde_json.specs.Find.{get, as_str, as_number, as_u64}
 use Rattle.tpl_json.specs.Members.{◌>>=◌, only_if, has_only, list_in, list_or_none, each}
 use Rattle.tpl_draft.specs.Draft.{Token}
+use Rattle.tpl_parts.specs.declared.version.Version.{Version}
+use Rattle.tpl_parts.specs.declared.version.Version.TheVariants.{One, Two, Three}
+use Rattle.tpl_parts.specs.Versions.{has_links}
+use Rattle.tpl_parts.specs.Remarks.{note_at}
+use Rattle.tpl_parts.specs.Ends.{has_ends}
 use Rattle.tpl_parts.specs.Tasks.{token_at}
 
 -- the members of a document
 pub record Members : Type 0 where
+  pub version : Version
   pub inputs : List (List ℕ)
   pub tokens : List Token
   pub tasks : List Data
@@ -15,30 +21,73 @@ pub record Members : Type 0 where
   pub certificate : List Data
   pub journal : List ℕ
   pub start : Option Data
+  pub ended : Option Data
+  pub times : Option (List ℕ)
 
--- version 1, or version 2, which has links
-unfoldable pub links_in : ℕ → Option Bool
-links_in version = if version == 1 then Some false else (if version == 2 then Some true else None)
+-- the version of this number
+unfoldable pub version_in : ℕ → Option Version
+version_in number = if number == 1 then Some One else (if number == 2 then Some Two else (if number == 3 then Some Three else None))
 
 unfoldable pub text_or_empty : Option Data → Option (List ℕ)
 text_or_empty None = Some []
 text_or_empty (Some d) = as_str d
 
-unfoldable pub version_at : Data → Option Bool
+unfoldable pub version_at : Data → Option Version
 version_at d = do
-  version ← option_and_then as_u64 (option_and_then as_number (get (codes "version") d))
-  links_in version
+  number ← option_and_then as_u64 (option_and_then as_number (get (codes "version") d))
+  version_in number
+
+-- the members that version 3 adds
+abbrev pub added : Version → List (List ℕ)
+added One = []
+added Two = []
+added Three = codes "note" ∷ codes "ended" ∷ codes "times" ∷ []
+
+-- how tasks were seen to end, if that is said
+unfoldable pub ends_or_none : Option Data → Option (Option Data)
+ends_or_none None = Some None
+ends_or_none (Some d) = if has_ends d then Some (Some d) else None
+
+unfoldable pub whole_at : Data → Option ℕ
+whole_at d = option_and_then as_u64 (as_number d)
+
+-- none is less than the one before, and the first none than this
+abbrev pub never_fall : ℕ → List ℕ → Bool
+never_fall before [] = true
+never_fall before (time ∷ rest) = nat_le before time && never_fall time rest
+
+abbrev pub is_line_break : ℕ → Bool
+is_line_break byte = nat_eq byte 10
+
+-- how many line breaks a text has
+abbrev pub line_breaks : List ℕ → ℕ
+line_breaks text = count_by is_line_break text
+
+abbrev pub are_times : List ℕ → List ℕ → Bool
+are_times journal times = nat_eq (length times) (line_breaks journal) && never_fall 0 times
+
+-- when each line of the journal was written, if that is said
+unfoldable pub times_or_none : List ℕ → Option Data → Option (Option (List ℕ))
+times_or_none journal None = Some None
+times_or_none journal (Some d) = do
+  list ← list_in d
+  times ← each whole_at list
+  fit ← only_if (are_times journal times)
+  Some (Some times)
 
 unfoldable pub top_at : Data → Option Members
 top_at d = do
-  only ← only_if (has_only (codes "version" ∷ codes "inputs" ∷ codes "tokens" ∷ codes "tasks" ∷ codes "claims" ∷ codes "certificate" ∷ codes "journal" ∷ codes "start" ∷ []) d)
-  links ← version_at d
+  version ← version_at d
+  only ← only_if (has_only (codes "version" ∷ codes "inputs" ∷ codes "tokens" ∷ codes "tasks" ∷ codes "claims" ∷ codes "certificate" ∷ codes "journal" ∷ codes "start" ∷ added version) d)
+  note ← note_at (get (codes "note") d)
+  ended ← ends_or_none (get (codes "ended") d)
   names ← list_or_none (get (codes "inputs") d)
   inputs ← each as_str names
   list ← list_or_none (get (codes "tokens") d)
-  tokens ← each (token_at links) list
+  tokens ← each (token_at (has_links version)) list
   tasks ← get (codes "tasks") d >>= list_in
   claims ← list_or_none (get (codes "claims") d)
   certificate ← list_or_none (get (codes "certificate") d)
   journal ← text_or_empty (get (codes "journal") d)
-  Some (record { inputs = inputs; tokens = tokens; tasks = tasks; claims = claims; certificate = certificate; journal = journal; start = get (codes "start") d })
+  times ← times_or_none journal (get (codes "times") d)
+  Some (record { version = version; inputs = inputs; tokens = tokens; tasks = tasks; claims = claims; certificate = certificate; journal = journal; start = get (codes "start") d; ended = ended; times = times })

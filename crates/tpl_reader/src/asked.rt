@@ -1,10 +1,12 @@
 //! Claims with ids in place of names.
 
-ghost use Rattle.std.specs.Prelude.{◌≡◌, map, Some, is_some};
-ghost use Rattle.std.specs.List.{list_all};
+ghost use Rattle.std.specs.Prelude.{◌≡◌, ◌||◌, false, map, length, IfOk, IfErr};
+ghost use Rattle.std.specs.List.{list_any};
+ghost use Rattle.std.specs.Option.{option_map};
+ghost use Rattle.tpl_graph.specs.Fits.{is_of_one_thing, given_twice};
+ghost use Rattle.tpl_json.specs.declared.miss.Miss.TheVariants.{Memory};
 ghost use Rattle.tpl_parts.specs.SeenClaims.{given_of, property_of, claim_of};
-ghost use Rattle.tpl_reader.specs.Asked.{task_in, token_in, input_in, given_in, pair_in, property_in, IsClaimOf, knows_claim, IsAsked, IsWrongClaim, Takes, IsUnknown};
-ghost use Rattle.tpl_reader.specs.Passes.{Passes, Here};
+ghost use Rattle.tpl_reader.specs.Asked.{task_in, token_in, input_in, site_in, given_in, pair_in, property_in, is_no_failure, is_no_request, is_single, with_jobs, with_tokens, with_all_jobs, with_all, AreSingles, knows_given, is_said_again, says_twice, IsAsked, IsWrongClaim, is_same_name, has_name_of, IsWrongBehind, PassesClaims, Takes, IsUnknown};
 
 use crate::fault::ClaimFault;
 use std::alloc::Global;
@@ -12,7 +14,7 @@ use tpl_graph::{Claim, Graph, given_twice, have_bodies};
 use tpl_json::Miss;
 use tpl_model::{Given, Property};
 use tpl_parts::{NamedClaim, NamedGiven, NamedProperty};
-use tpl_words::{InputId, TaskId, TokenId};
+use tpl_words::{InputId, SiteId, TaskId, TokenId};
 
 #[tactic(auto, using(crate::proofs::Lookups::task_is))]
 fn task_in(graph: &Graph, name: &str) -> Option<TaskId>
@@ -35,6 +37,14 @@ fn input_in(graph: &Graph, name: &str) -> Option<InputId>
     graph.input(name)
 }
 
+#[tactic(auto, using(crate::proofs::Lookups::site_is))]
+fn site_in(graph: &Graph, name: &str) -> Option<SiteId>
+    ensures { result ≡ site_in graph.now.names name.now }
+{
+    graph.site(name)
+}
+
+/// What is given of a single thing.
 fn given_in(graph: &Graph, given: &NamedGiven) -> Option<Given>
     ensures { result ≡ given_in graph.now.names (given_of given.now) }
 {
@@ -47,6 +57,15 @@ fn given_in(graph: &Graph, given: &NamedGiven) -> Option<Given>
             Some(token) => Some(Given::Quiet(token)),
             None => None,
         },
+        NamedGiven::Ended(name, finals) => match task_in(graph, name) {
+            Some(task) => Some(Given::Ended(task, *finals)),
+            None => None,
+        },
+        NamedGiven::Succeeds(name) => match site_in(graph, name) {
+            Some(site) => Some(Given::Succeeds(site)),
+            None => None,
+        },
+        NamedGiven::NoFailure | NamedGiven::NoRequest => None,
     }
 }
 
@@ -84,26 +103,175 @@ fn property_in(graph: &Graph, body: &NamedProperty) -> Option<Property>
             Some((a, b)) => Some(Property::Excludes(a, b)),
             None => None,
         },
+        NamedProperty::Runs(task) => match task_in(graph, task) {
+            Some(task) => Some(Property::Runs(task)),
+            None => None,
+        },
     }
 }
 
-fn givens_in(
+fn is_single(given: &NamedGiven) -> bool
+    ensures { result ≡ is_single (given_of given.now) }
+{
+    !matches!(given, NamedGiven::NoFailure | NamedGiven::NoRequest)
+}
+
+/// What is given of single things.
+fn singles_in(
     alloc: Global,
     graph: &Graph,
     given: &[NamedGiven],
 ) -> Result<Vec<Given>, Miss<ClaimFault>>
-    ensures { Takes result (λ v. map (given_in graph.now.names) (map given_of given.now)
-        ≡ map (λ x. Some x) v.items) (IsUnknown (list_all
-        (λ x. is_some (given_in graph.now.names x)) (map given_of given.now))) }
+    ensures { Takes result (λ v. AreSingles graph.now.names (map given_of given.now) v.items)
+        (IsUnknown (knows_given graph.now.names (map given_of given.now))) }
 {
     let mut found = Vec::new(alloc);
     for one in given {
-        match given_in(graph, one) {
-            None => return Err(Miss::Wrong(ClaimFault::Unknown)),
-            Some(one) => found.push(one)?,
+        if is_single(one) {
+            match given_in(graph, one) {
+                None => return Err(Miss::Wrong(ClaimFault::Unknown)),
+                Some(one) => found.push(one)?,
+            }
         }
     }
     Ok(found)
+}
+
+fn is_no_failure(given: &NamedGiven) -> bool
+    ensures { result ≡ is_no_failure (given_of given.now) }
+{
+    matches!(given, NamedGiven::NoFailure)
+}
+
+fn says_no_failure(given: &[NamedGiven]) -> bool
+    ensures { result ≡ list_any is_no_failure (map given_of given.now) }
+{
+    for one in given {
+        if is_no_failure(one) {
+            return true;
+        }
+    }
+    false
+}
+
+fn is_no_request(given: &NamedGiven) -> bool
+    ensures { result ≡ is_no_request (given_of given.now) }
+{
+    matches!(given, NamedGiven::NoRequest)
+}
+
+fn says_no_request(given: &[NamedGiven]) -> bool
+    ensures { result ≡ list_any is_no_request (map given_of given.now) }
+{
+    for one in given {
+        if is_no_request(one) {
+            return true;
+        }
+    }
+    false
+}
+
+fn is_said_again(one: &NamedGiven, rest: &[NamedGiven]) -> bool
+    ensures { result ≡ is_said_again (given_of one.now) (map given_of rest.now) }
+{
+    match one {
+        NamedGiven::NoFailure => says_no_failure(rest),
+        NamedGiven::NoRequest => says_no_request(rest),
+        _ => false,
+    }
+}
+
+/// Whether no failure is given twice, or no request.
+fn says_twice(given: &[NamedGiven]) -> bool
+    ensures { result ≡ says_twice (map given_of given.now) }
+{
+    for (index, one) in given.iter().enumerate() {
+        if is_said_again(one, &given[index + 1..]) {
+            return true;
+        }
+    }
+    false
+}
+
+/// Whether a thing is given twice, or that no job fails, or that no token is requested.
+fn is_given_twice(singles: &[Given], said: &[NamedGiven]) -> bool
+    ensures { result ≡ (given_twice singles.now || says_twice (map given_of said.now)) }
+{
+    given_twice(singles) || says_twice(said)
+}
+
+/// Whether something is given of the same thing already.
+fn is_given(given: &[Given], one: Given) -> bool
+    ensures { result ≡ list_any (is_of_one_thing one) given.now }
+{
+    given.iter().any(|other| given_twice(&[*other, one]))
+}
+
+/// Every job succeeds too.
+fn with_jobs(graph: &Graph, singles: Vec<Given>) -> Result<Vec<Given>, Miss<ClaimFault>>
+    ensures ok { IfOk result (λ v. v.items
+        ≡ with_jobs (length graph.now.names.sites) singles.items) }
+    ensures err { IfErr result (λ e. e ≡ Memory) }
+{
+    let mut given = singles;
+    for index in 0..graph.site_count() {
+        let one = Given::Succeeds(SiteId(index as u16));
+        if !is_given(&given, one) {
+            given.push(one)?;
+        }
+    }
+    Ok(given)
+}
+
+/// Every token is quiet too.
+fn with_tokens(graph: &Graph, singles: Vec<Given>) -> Result<Vec<Given>, Miss<ClaimFault>>
+    ensures ok { IfOk result (λ v. v.items
+        ≡ with_tokens (length graph.now.names.tokens) singles.items) }
+    ensures err { IfErr result (λ e. e ≡ Memory) }
+{
+    graph.valid_law();
+    let mut given = singles;
+    for index in 0..graph.token_count() {
+        let one = Given::Quiet(TokenId(index as u8));
+        if !is_given(&given, one) {
+            given.push(one)?;
+        }
+    }
+    Ok(given)
+}
+
+fn with_all_jobs(
+    graph: &Graph,
+    said: &[NamedGiven],
+    given: Vec<Given>,
+) -> Result<Vec<Given>, Miss<ClaimFault>>
+    ensures ok { IfOk result (λ v. v.items
+        ≡ with_all_jobs graph.now.names (map given_of said.now) given.items) }
+    ensures err { IfErr result (λ e. e ≡ Memory) }
+{
+    if says_no_failure(said) {
+        with_jobs(graph, given)
+    } else {
+        Ok(given)
+    }
+}
+
+/// What is given of single things, and of every job and every token where no failure and no request are given.
+fn with_all(
+    graph: &Graph,
+    said: &[NamedGiven],
+    given: Vec<Given>,
+) -> Result<Vec<Given>, Miss<ClaimFault>>
+    ensures ok { IfOk result (λ v. v.items
+        ≡ with_all graph.now.names (map given_of said.now) given.items) }
+    ensures err { IfErr result (λ e. e ≡ Memory) }
+{
+    let given = with_all_jobs(graph, said, given)?;
+    if says_no_request(said) {
+        with_tokens(graph, given)
+    } else {
+        Ok(given)
+    }
 }
 
 fn claim_in(alloc: Global, graph: &Graph, claim: &NamedClaim) -> Result<Claim, Miss<ClaimFault>>
@@ -111,7 +279,7 @@ fn claim_in(alloc: Global, graph: &Graph, claim: &NamedClaim) -> Result<Claim, M
         (IsWrongClaim graph.now (claim_of claim.now)) }
 {
     graph.valid_law();
-    let given = givens_in(alloc, graph, &claim.given)?;
+    let singles = singles_in(alloc, graph, &claim.given)?;
     let body = match property_in(graph, &claim.body) {
         None => return Err(Miss::Wrong(ClaimFault::Unknown)),
         Some(body) => body,
@@ -119,26 +287,50 @@ fn claim_in(alloc: Global, graph: &Graph, claim: &NamedClaim) -> Result<Claim, M
     if !have_bodies(graph, body) {
         return Err(Miss::Wrong(ClaimFault::NoBody));
     }
-    if given_twice(&given) {
+    if is_given_twice(&singles, &claim.given) {
         return Err(Miss::Wrong(ClaimFault::GivenTwice));
     }
+    let given = with_all(graph, &claim.given, singles)?;
     Ok(Claim::new(given, body))
 }
 
-fn numbered_claim(
+fn is_same_name(one: Option<&str>, other: Option<&str>) -> bool
+    ensures { result ≡ is_same_name (option_map (λ s. s.now) one.entry)
+        (option_map (λ s. s.now) other.entry) }
+{
+    match (one, other) {
+        (Some(one), Some(other)) => one == other,
+        _ => false,
+    }
+}
+
+fn has_name_of(before: &[NamedClaim], claim: &NamedClaim) -> bool
+    ensures { result ≡ has_name_of (map claim_of before.now) (claim_of claim.now) }
+{
+    for one in before {
+        if is_same_name(one.name, claim.name) {
+            return true;
+        }
+    }
+    false
+}
+
+/// The claim behind these.
+fn claim_behind(
     alloc: Global,
     graph: &Graph,
-    number: usize,
+    before: &[NamedClaim],
     claim: &NamedClaim,
-) -> Result<Claim, Miss<(usize, ClaimFault)>>
-    ensures { Here (IsAsked graph.now) (IsWrongClaim graph.now) (claim_of claim.now) number (λ c. c)
-        result }
+) -> Result<Claim, Miss<ClaimFault>>
+    ensures { Takes result (λ c. IsAsked graph.now (claim_of claim.now) c
+        × (has_name_of (map claim_of before.now) (claim_of claim.now) ≡ false))
+        (IsWrongBehind graph.now (map claim_of before.now) (claim_of claim.now)) }
 {
-    match claim_in(alloc, graph, claim) {
-        Ok(claim) => Ok(claim),
-        Err(Miss::Wrong(fault)) => Err(Miss::Wrong((number, fault))),
-        Err(Miss::Memory) => Err(Miss::Memory),
+    let asked = claim_in(alloc, graph, claim)?;
+    if has_name_of(before, claim) {
+        return Err(Miss::Wrong(ClaimFault::NameTwice));
     }
+    Ok(asked)
 }
 
 /// The claims with ids in place of names, as far as the first that can't be asked of the graph.
@@ -147,13 +339,15 @@ pub(crate) fn claims_in(
     graph: &Graph,
     claims: &[NamedClaim],
 ) -> Result<Vec<Claim>, Miss<(usize, ClaimFault)>>
-    ensures { Passes (IsAsked graph.now) (IsWrongClaim graph.now) (map claim_of claims.now)
-        (λ v. v.items) result }
+    ensures { PassesClaims graph.now (map claim_of claims.now) (λ v. v.items) result }
 {
     let mut asked = Vec::new(alloc);
     for (index, claim) in claims.iter().enumerate() {
-        let one = numbered_claim(alloc, graph, index + 1, claim)?;
-        asked.push(one)?;
+        match claim_behind(alloc, graph, &claims[..index], claim) {
+            Ok(one) => asked.push(one)?,
+            Err(Miss::Wrong(fault)) => return Err(Miss::Wrong((index + 1, fault))),
+            Err(Miss::Memory) => return Err(Miss::Memory),
+        }
     }
     Ok(asked)
 }

@@ -6,7 +6,8 @@ ghost use Rattle.tpl_reader.specs.Starting.{inputs_of};
 
 use tpl_cert::Certificate;
 use tpl_graph::{Claim, Graph};
-use tpl_words::{Inputs, SiteId, TokenId};
+use tpl_parts::Version;
+use tpl_words::{Final, Inputs, SiteId, TaskId, TokenId};
 
 /// Where a run starts.
 #[derive(Drop)]
@@ -22,16 +23,24 @@ pub struct Start {
 /// A document.
 #[derive(Drop)]
 pub struct Document {
+    /// Its version.
+    pub version: Version,
     /// The tasks, tokens and inputs.
     pub graph: Graph,
-    /// The claims, each of which can be asked of the graph: at most 64.
+    /// The claims, each of which can be asked of the graph: at most 64, or 1,024 in version 3.
     pub claims: Vec<Claim>,
+    /// The names of the claims, one for each, as far as they have any; no two have the same.
+    pub names: Vec<Option<String>>,
     /// The trees of the certificate; how many there are is not tested.
     pub certificate: Certificate,
     /// A journal, which is not read yet; empty where there is none.
     pub journal: String,
     /// Where a run starts, if that is said.
     pub start: Option<Start>,
+    /// How tasks of a real run were seen to end, in the order in which they are declared; empty where nothing is said.
+    pub ended: Vec<(TaskId, Final)>,
+    /// When each line of the journal was written, in microseconds from the start, if that is said.
+    pub times: Option<Vec<u64>>,
 }
 
 impl Document {

@@ -29,7 +29,7 @@ pub enum Part {
 /// What is wrong with a claim. The least that applies is named, in this order.
 #[derive(Clone, Copy, Debug, PartialEq, Eq, Error)]
 pub enum ClaimFault {
-    /// More than 64 claims; at the 65th.
+    /// More than 64 claims, or 1,024 in version 3; at the first one too many.
     #[error("TooMany")]
     TooMany,
     /// A name isn't the graph's.
@@ -38,9 +38,12 @@ pub enum ClaimFault {
     /// It says of a WhenAll or WhenAny task, which has no body, what can only be said of a body.
     #[error("NoBody")]
     NoBody,
-    /// An input or a token is given twice.
+    /// An input, a token, the end of a task or a job is given twice, or that no job fails, or that no token is requested.
     #[error("GivenTwice")]
     GivenTwice,
+    /// An earlier claim has its name.
+    #[error("NameTwice")]
+    NameTwice,
 }
 
 /// What is wrong with the start of a run. The least that applies is named, in this order.

@@ -4,6 +4,7 @@
 mod asked;
 mod begin;
 mod document;
+mod ends;
 mod fault;
 mod hear;
 mod laws;
@@ -16,5 +17,7 @@ pub use document::{Document, Start};
 pub use fault::{ClaimFault, Part, ReadFault, StartFault};
 pub use hear::{Hear, Misread, Unheard};
 pub use laws::{certificate_is_read_back, one_document};
-pub use read::{LONGEST, MOST_CLAIMS, read_document, read_document_heard};
+pub use read::{LONGEST, most_claims, read_document, read_document_heard};
+pub use top::line_breaks;
 pub use tpl_json::NotRead;
+pub use tpl_parts::Version;

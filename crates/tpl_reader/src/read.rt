@@ -1,10 +1,11 @@
 //! From bytes to a document.
 
-ghost use Rattle.std.specs.Prelude.{◌≡◌, ◌≤◌, ℕ, List, length, map, string_bytes, IfOk, IfErr};
+ghost use Rattle.std.specs.Prelude.{◌≡◌, ◌≤◌, ℕ, List, Option, true, length, map, string_bytes, IfOk, IfErr};
 ghost use Rattle.std.specs.List.{All};
 ghost use Rattle.std.specs.Option.{option_map};
 ghost use Rattle.serde_json.specs.Data.{depth};
 ghost use Rattle.tpl_json.specs.View.{view};
+ghost use Rattle.tpl_model.specs.Graph.{is_task};
 ghost use Rattle.tpl_draft.specs.Draft as spec;
 ghost use Rattle.tpl_draft.specs.Numbered.{numbered};
 ghost use Rattle.tpl_draft.specs.Refusals.{IsValid};
@@ -16,12 +17,15 @@ ghost use Rattle.tpl_parts.specs.SeenClaims.{claim_of};
 ghost use Rattle.tpl_parts.specs.SeenStart.{start_of};
 ghost use Rattle.tpl_reader.specs.SeenDocument.{value_of, doc_of, spelled_of, spelled_with};
 ghost use Rattle.tpl_json.specs.Grammar.{AllRead};
-ghost use Rattle.tpl_reader.specs.Document.{AreAsked, IsStarted, GraphFaults, ClaimFaults, TreeFaults, StartFaults, IsDocument, IsRefused, longest, Reads, Spells, IsFault};
+ghost use Rattle.tpl_reader.specs.Ends.{knows_ends, ends_in};
+ghost use Rattle.tpl_reader.specs.declared.fault.ReadFault.TheVariants.{Memory};
+ghost use Rattle.tpl_reader.specs.Document.{most_claims, AreAsked, IsStarted, GraphFaults, ClaimFaults, TreeFaults, BeginFaults, StartFaults, IsDocument, IsRefused, longest, Reads, Spells, IsFault};
 
 use crate::asked::claims_in;
 use crate::begin::start_in;
 use crate::document::{Document, Start};
-use crate::fault::{ClaimFault, ReadFault};
+use crate::ends::{ends_in, knows_ends};
+use crate::fault::{ClaimFault, ReadFault, StartFault};
 use crate::hear::{Hear, Misread, Unheard};
 use crate::shape::{NamedRest, Shaped, shape_of};
 use crate::trees::trees_in;
@@ -30,13 +34,21 @@ use std::alloc::Global;
 use tpl_cert::{Certificate, Tree, TreeFault};
 use tpl_graph::{Claim, Draft, Graph, Why};
 use tpl_json::{Miss, NotRead, value_from};
-use tpl_parts::{NamedClaim, NamedStart};
+use tpl_parts::{NamedClaim, NamedStart, Version};
+use tpl_words::{Final, TaskId};
 
 /// The most bytes of a document (this program's own limit).
 pub const LONGEST: usize = 16_777_216;
 
-/// The most claims of a document (this program's own limit).
-pub const MOST_CLAIMS: usize = 64;
+/// The most claims of a document of this version (this program's own limit).
+pub fn most_claims(version: Version) -> usize
+    ensures { result ≡ most_claims version }
+{
+    match version {
+        Version::One | Version::Two => 64,
+        Version::Three => 1_024,
+    }
+}
 
 fn graph_of(alloc: Global, draft: Draft) -> Result<Graph, ReadFault>
     ensures ok { IfOk result (λ g. IsValid (draft_of draft) × (g ≡ numbered (draft_of draft))) }
@@ -54,12 +66,18 @@ fn graph_of(alloc: Global, draft: Draft) -> Result<Graph, ReadFault>
     }
 }
 
-fn claims_for(alloc: Global, graph: &Graph, claims: &[NamedClaim]) -> Result<Vec<Claim>, ReadFault>
-    ensures ok { IfOk result (λ v. AreAsked graph.now (map claim_of claims.now) v.items) }
-    ensures err { IfErr result (ClaimFaults graph.now (map claim_of claims.now)) }
+fn claims_for(
+    alloc: Global,
+    version: Version,
+    graph: &Graph,
+    claims: &[NamedClaim],
+) -> Result<Vec<Claim>, ReadFault>
+    ensures ok { IfOk result (λ v. AreAsked version graph.now (map claim_of claims.now) v.items) }
+    ensures err { IfErr result (ClaimFaults version graph.now (map claim_of claims.now)) }
 {
-    if claims.len() > MOST_CLAIMS {
-        return Err(ReadFault::Claim(MOST_CLAIMS + 1, ClaimFault::TooMany));
+    let most = most_claims(version);
+    if claims.len() > most {
+        return Err(ReadFault::Claim(most + 1, ClaimFault::TooMany));
     }
     match claims_in(alloc, graph, claims) {
         Ok(claims) => Ok(claims),
@@ -88,7 +106,7 @@ fn start_for(
 ) -> Result<Option<Start>, ReadFault>
     ensures ok { IfOk result (λ o. IsStarted graph.now (option_map start_of start.now)
         (option_map value_of o)) }
-    ensures err { IfErr result (StartFaults graph.now (option_map start_of start.now)) }
+    ensures err { IfErr result (BeginFaults graph.now (option_map start_of start.now)) }
 {
     match start {
         None => Ok(None),
@@ -100,36 +118,105 @@ fn start_for(
     }
 }
 
+/// The start, where the ends that were seen are those of tasks.
+fn start_beside(
+    alloc: Global,
+    graph: &Graph,
+    start: &Option<NamedStart>,
+    ended: Option<&Value<'_>>,
+) -> Result<Option<Start>, ReadFault>
+    ensures ok { IfOk result (λ o. IsStarted graph.now (option_map start_of start.now)
+        (option_map value_of o)) }
+    ensures known { IfOk result (λ _. knows_ends graph.now.names.tasks
+        (option_map (λ v. view v.now) ended.entry) ≡ true) }
+    ensures err { IfErr result (StartFaults graph.now (option_map start_of start.now)
+        (option_map (λ v. view v.now) ended.entry)) }
+{
+    if !knows_ends(graph, ended) {
+        return Err(ReadFault::Start(StartFault::Unknown));
+    }
+    match start_for(alloc, graph, start) {
+        Ok(start) => Ok(start),
+        Err(fault) => Err(fault),
+    }
+}
+
+/// The name of the claim, in memory of its own. Out of memory is the only error.
+fn name_of(alloc: Global, claim: &NamedClaim) -> Result<Option<String>, ReadFault>
+    ensures ok { IfOk result (λ o. option_map string_bytes o ≡ (claim_of claim.now).name) }
+    ensures err { IfErr result (λ e. e ≡ Memory) }
+{
+    match claim.name {
+        None => Ok(None),
+        Some(name) => {
+            let name = String::from_str(alloc, name)?;
+            Ok(Some(name))
+        }
+    }
+}
+
+/// The names of the claims, in memory of their own. Out of memory is the only error.
+fn names_of(alloc: Global, claims: &[NamedClaim]) -> Result<Vec<Option<String>>, ReadFault>
+    ensures ok { IfOk result (λ v. map (λ n. option_map string_bytes n) v.items
+        ≡ map (λ c. c.name) (map claim_of claims.now)) }
+    ensures err { IfErr result (λ e. e ≡ Memory) }
+{
+    let mut names = Vec::new(alloc);
+    for claim in claims {
+        let name = name_of(alloc, claim)?;
+        names.push(name)?;
+    }
+    Ok(names)
+}
+
 /// What a document has beside its graph.
 #[derive(Drop)]
 struct Rest {
     claims: Vec<Claim>,
+    names: Vec<Option<String>>,
     trees: Vec<Tree>,
     journal: String,
     start: Option<Start>,
+    ended: Vec<(TaskId, Final)>,
 }
 
 /// The rest of a document with this graph.
-fn rest_of(alloc: Global, graph: &Graph, named: &NamedRest<'_, '_>) -> Result<Rest, ReadFault>
-    ensures claims { IfOk result (λ r. AreAsked graph.now (map claim_of named.now.claims.items)
-        r.claims.items) }
+fn rest_of(
+    alloc: Global,
+    version: Version,
+    graph: &Graph,
+    named: &NamedRest<'_, '_>,
+) -> Result<Rest, ReadFault>
+    ensures claims { IfOk result (λ r. AreAsked version graph.now
+        (map claim_of named.now.claims.items) r.claims.items) }
     ensures trees { IfOk result (λ r. AllRead (ReadsAs graph.now.names)
         (map view named.now.certificate.now) r.trees.items) }
     ensures journal { IfOk result (λ r. string_bytes r.journal ≡ named.now.journal.now) }
     ensures start { IfOk result (λ r. IsStarted graph.now (option_map start_of named.now.start)
         (option_map value_of r.start)) }
-    ensures err { IfErr result (λ e. (d : spec.Draft) → IsValid d → graph.now ≡ numbered d
-        → IsRefused (spelled_with d named.now) e) }
+    ensures names { IfOk result (λ r. map (λ n. option_map string_bytes n) r.names.items
+        ≡ map (λ c. c.name) (map claim_of named.now.claims.items)) }
+    ensures known { IfOk result (λ _. knows_ends graph.now.names.tasks
+        (option_map (λ v. view v.now) named.now.ended) ≡ true) }
+    ensures ended { IfOk result (λ r. r.ended.items ≡ ends_in graph.now.names.tasks
+        (option_map (λ v. view v.now) named.now.ended)) }
+    ensures tasks { IfOk result (λ r. All (λ said. is_task graph.now.graph said.0.0) r.ended.items) }
+    ensures err { IfErr result (λ e. (d : spec.Draft) (times : Option (List ℕ)) → IsValid d
+        → graph.now ≡ numbered d → IsRefused (spelled_with version d named.now times) e) }
 {
     let journal = String::from_str(alloc, named.journal)?;
-    let claims = claims_for(alloc, graph, &named.claims)?;
+    let claims = claims_for(alloc, version, graph, &named.claims)?;
     let trees = trees_for(alloc, graph, named.certificate)?;
-    let start = start_for(alloc, graph, &named.start)?;
+    let start = start_beside(alloc, graph, &named.start, named.ended)?;
+    let names = names_of(alloc, &named.claims)?;
+    let ended = ends_in(alloc, graph, named.ended)?;
     Ok(Rest {
         claims,
+        names,
         trees,
         journal,
         start,
+        ended,
     })
 }
 
@@ -137,16 +224,21 @@ fn document_of(alloc: Global, shaped: Shaped) -> Result<Document, ReadFault>
     ensures ok { IfOk result (λ d. IsDocument (spelled_of shaped.entry) (doc_of d)) }
     ensures claims { IfOk result (λ d. All (Fits d.graph.graph) d.claims.items) }
     ensures trees { IfOk result (λ d. All IsWithinLimits d.certificate) }
+    ensures ended { IfOk result (λ d. All (λ said. is_task d.graph.graph said.0.0) d.ended.items) }
     ensures err { IfErr result (IsRefused (spelled_of shaped.entry)) }
 {
     let graph = graph_of(alloc, shaped.draft)?;
-    let rest = rest_of(alloc, &graph, &shaped.rest)?;
+    let rest = rest_of(alloc, shaped.version, &graph, &shaped.rest)?;
     Ok(Document {
+        version: shaped.version,
         graph,
         claims: rest.claims,
+        names: rest.names,
         certificate: Certificate::new(rest.trees),
         journal: rest.journal,
         start: rest.start,
+        ended: rest.ended,
+        times: shaped.times,
     })
 }
 
@@ -164,6 +256,7 @@ fn document_from(alloc: Global, value: &Value<'_>) -> Result<Document, ReadFault
         → Reads bytes (view value.now) → Spells bytes (doc_of d)) }
     ensures claims { IfOk result (λ d. All (Fits d.graph.graph) d.claims.items) }
     ensures trees { IfOk result (λ d. All IsWithinLimits d.certificate) }
+    ensures ended { IfOk result (λ d. All (λ said. is_task d.graph.graph said.0.0) d.ended.items) }
     ensures err { IfErr result (λ e. (bytes : List ℕ) → length bytes ≤ longest
         → Reads bytes (view value.now) → IsFault bytes e) }
 {
@@ -175,12 +268,13 @@ fn document_from(alloc: Global, value: &Value<'_>) -> Result<Document, ReadFault
 }
 
 /// The document that the bytes spell: a JSON text in UTF-8 as `serde_json` reads it, of at most 16,777,216 bytes and 127
-/// levels, whose version is 1 or 2. Each claim can be asked of its graph, and each tree is within the limits, so that the
+/// levels, whose version is 1, 2 or 3. Each claim can be asked of its graph, and each tree is within the limits, so that the
 /// certificate can be checked. Else the least `ReadFault` that applies to the whole document, or `Memory`.
 pub fn read_document(alloc: Global, bytes: &[u8]) -> Result<Document, ReadFault>
     ensures ok { IfOk result (λ d. Spells bytes.now (doc_of d)) }
     ensures claims { IfOk result (λ d. All (Fits d.graph.graph) d.claims.items) }
     ensures trees { IfOk result (λ d. All IsWithinLimits d.certificate) }
+    ensures ended { IfOk result (λ d. All (λ said. is_task d.graph.graph said.0.0) d.ended.items) }
     ensures err { IfErr result (IsFault bytes.now) }
 {
     match read_document_heard(alloc, bytes, Unheard) {
@@ -198,6 +292,7 @@ pub fn read_document_heard<H: Hear>(
     ensures ok { IfOk result (λ d. Spells bytes.now (doc_of d)) }
     ensures claims { IfOk result (λ d. All (Fits d.graph.graph) d.claims.items) }
     ensures trees { IfOk result (λ d. All IsWithinLimits d.certificate) }
+    ensures ended { IfOk result (λ d. All (λ said. is_task d.graph.graph said.0.0) d.ended.items) }
     ensures err { IfErr result (λ misread. IsFault bytes.now misread.fault) }
 {
     if bytes.len() > LONGEST {

@@ -23,7 +23,7 @@ use json::Value;
 use std::alloc::Global;
 use tpl_graph::{Draft, DraftTask};
 use tpl_json::{Miss, Shape};
-use tpl_parts::{NamedClaim, NamedStart, start_or_none};
+use tpl_parts::{NamedClaim, NamedStart, Version, start_or_none};
 
 /// What stands in a document beside its draft, with names.
 #[derive(Drop)]
@@ -32,13 +32,16 @@ pub(crate) struct NamedRest<'v, 't> {
     pub(crate) certificate: &'v [Value<'t>],
     pub(crate) journal: &'v str,
     pub(crate) start: Option<NamedStart<'v, 't>>,
+    pub(crate) ended: Option<&'v Value<'t>>,
 }
 
 /// A document with names.
 #[derive(Drop)]
 pub(crate) struct Shaped<'v, 't> {
+    pub(crate) version: Version,
     pub(crate) draft: Draft,
     pub(crate) rest: NamedRest<'v, 't>,
+    pub(crate) times: Option<Vec<u64>>,
 }
 
 fn top_part<'v, 't>(alloc: Global, value: &'v Value<'t>) -> Result<Members<'v, 't>, Miss<Part>>
@@ -52,12 +55,16 @@ fn top_part<'v, 't>(alloc: Global, value: &'v Value<'t>) -> Result<Members<'v, '
     }
 }
 
-fn task_part(alloc: Global, values: &[Value<'_>]) -> Result<Vec<DraftTask>, Miss<Part>>
+fn task_part(
+    alloc: Global,
+    version: Version,
+    values: &[Value<'_>],
+) -> Result<Vec<DraftTask>, Miss<Part>>
     requires { AreShallow (map view values.now) }
-    ensures { Takes result (λ v. AllRead IsTask (map view values.now) (map task_of v.items))
-        (WrongTask (map view values.now)) }
+    ensures { Takes result (λ v. AllRead (IsTask version) (map view values.now)
+        (map task_of v.items)) (WrongTask version (map view values.now)) }
 {
-    match tasks_of(alloc, values) {
+    match tasks_of(alloc, version, values) {
         Ok(tasks) => Ok(tasks),
         Err(Miss::Wrong((number, _))) => Err(Miss::Wrong(Part::Task(number))),
         Err(Miss::Memory) => Err(Miss::Memory),
@@ -66,12 +73,13 @@ fn task_part(alloc: Global, values: &[Value<'_>]) -> Result<Vec<DraftTask>, Miss
 
 fn claim_part<'v, 't>(
     alloc: Global,
+    version: Version,
     values: &'v [Value<'t>],
 ) -> Result<Vec<NamedClaim<'v>>, Miss<Part>>
-    ensures { Takes result (λ v. AllRead IsClaim (map view values.now) (map claim_of v.items))
-        (WrongClaim (map view values.now)) }
+    ensures { Takes result (λ v. AllRead (IsClaim version) (map view values.now)
+        (map claim_of v.items)) (WrongClaim version (map view values.now)) }
 {
-    match claims_of(alloc, values) {
+    match claims_of(alloc, version, values) {
         Ok(claims) => Ok(claims),
         Err(Miss::Wrong((number, _))) => Err(Miss::Wrong(Part::Claim(number))),
         Err(Miss::Memory) => Err(Miss::Memory),
@@ -102,8 +110,8 @@ pub(crate) fn shape_of<'v, 't>(
         (IsMisshapen (view value.now)) }
 {
     let members = top_part(alloc, value)?;
-    let tasks = task_part(alloc, members.tasks)?;
-    let claims = claim_part(alloc, members.claims)?;
+    let tasks = task_part(alloc, members.version, members.tasks)?;
+    let claims = claim_part(alloc, members.version, members.claims)?;
     let start = start_part(alloc, members.start)?;
     let draft = Draft {
         inputs: members.inputs,
@@ -115,6 +123,12 @@ pub(crate) fn shape_of<'v, 't>(
         certificate: members.certificate,
         journal: members.journal,
         start,
+        ended: members.ended,
     };
-    Ok(Shaped { draft, rest })
+    Ok(Shaped {
+        version: members.version,
+        draft,
+        rest,
+        times: members.times,
+    })
 }

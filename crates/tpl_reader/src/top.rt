@@ -1,16 +1,16 @@
 //! Reading a document as far as its shape goes.
 
-ghost use Rattle.std.specs.Prelude.{◌≡◌, ◌≤◌, map, codes, string_bytes, option_and_then, IfErr};
+ghost use Rattle.std.specs.Prelude.{◌≡◌, ◌≤◌, ◌∷◌, map, codes, string_bytes, option_and_then, IfErr};
 ghost use Rattle.std.specs.Option.{option_map};
 ghost use Rattle.serde_json.specs.Data.{depth};
 ghost use Rattle.serde_json.specs.Find.{get, as_number, as_u64};
 ghost use Rattle.tpl_json.specs.View.{view};
-ghost use Rattle.tpl_json.specs.Members.{Gives, each, IsShape};
+ghost use Rattle.tpl_json.specs.Members.{Gives, each, has_only, IsShape};
 ghost use Rattle.tpl_draft.specs.SeenTasks.{token_of, task_of};
 ghost use Rattle.tpl_parts.specs.SeenClaims.{claim_of};
 ghost use Rattle.tpl_reader.specs.SeenTop.{members_of};
 ghost use Rattle.tpl_parts.specs.Tasks.{token_at};
-ghost use Rattle.tpl_reader.specs.Top.{links_in, version_at, text_or_empty, top_at};
+ghost use Rattle.tpl_reader.specs.Top.{version_in, version_at, text_or_empty, added, ends_or_none, is_line_break, line_breaks, never_fall, are_times, whole_at, times_or_none, top_at};
 ghost use Rattle.tpl_parts.specs.TaskGrammar.{IsTask, IsNoTask, AreShallow};
 ghost use Rattle.tpl_parts.specs.ClaimGrammar.{IsClaim, IsNoClaim};
 ghost use Rattle.tpl_reader.specs.Passes.{Passes, Here};
@@ -19,13 +19,16 @@ use json::Value;
 use std::alloc::Global;
 use tpl_graph::{DraftTask, DraftToken};
 use tpl_json::{
-    Miss, Shape, find, has_only, list_of, list_or_none, member_in, number_of, owned_texts, text_of,
+    Miss, Shape, find, list_of, list_or_none, member_in, number_of, owned_texts, text_of,
 };
-use tpl_parts::{NamedClaim, claim_of, task_of, token_of};
+use tpl_parts::{
+    NamedClaim, Version, claim_of, has_ends, has_only_beside, note_of, task_of, token_of,
+};
 
 /// The members of a document: its lists, of which those of tasks, claims and trees aren't read yet.
 #[derive(Drop)]
 pub(crate) struct Members<'v, 't> {
+    pub(crate) version: Version,
     pub(crate) inputs: Vec<String>,
     pub(crate) tokens: Vec<DraftToken>,
     pub(crate) tasks: &'v [Value<'t>],
@@ -33,30 +36,30 @@ pub(crate) struct Members<'v, 't> {
     pub(crate) certificate: &'v [Value<'t>],
     pub(crate) journal: &'v str,
     pub(crate) start: Option<&'v Value<'t>>,
+    pub(crate) ended: Option<&'v Value<'t>>,
+    pub(crate) times: Option<Vec<u64>>,
 }
 
-#[tactic(auto, unfolding(crate::specs::Top::links_in))]
-fn links_in(version: u64) -> Result<bool, Miss<Shape>>
-    ensures gives { Gives (λ b. b) result (links_in version) }
+#[tactic(auto, unfolding(crate::specs::Top::version_in))]
+fn version_in(number: u64) -> Result<Version, Miss<Shape>>
+    ensures gives { Gives (λ v. v) result (version_in number) }
     ensures shape { IfErr result IsShape }
 {
-    if version == 1 {
-        return Ok(false);
+    match number {
+        1 => Ok(Version::One),
+        2 => Ok(Version::Two),
+        3 => Ok(Version::Three),
+        _ => Err(Miss::Wrong(Shape)),
     }
-    if version == 2 {
-        return Ok(true);
-    }
-    Err(Miss::Wrong(Shape))
 }
 
-/// The version: whether tokens may be linked.
 #[tactic(auto, unfolding(crate::specs::Top::version_at))]
-fn version_of(value: &Value<'_>) -> Result<bool, Miss<Shape>>
-    ensures gives { Gives (λ b. b) result (version_at (view value.now)) }
+fn version_of(value: &Value<'_>) -> Result<Version, Miss<Shape>>
+    ensures gives { Gives (λ v. v) result (version_at (view value.now)) }
     ensures shape { IfErr result IsShape }
 {
-    let version = number_of(member_in(value, "version")?)?;
-    links_in(version)
+    let number = number_of(member_in(value, "version")?)?;
+    version_in(number)
 }
 
 fn tokens_of(
@@ -86,15 +89,117 @@ fn text_or_empty<'v, 't>(value: &'v Value<'t>, name: &str) -> Result<&'v str, Mi
     }
 }
 
-/// The members of a document.
-#[tactic(auto, unfolding(crate::specs::Top::top_at))]
-pub(crate) fn members_of<'v, 't>(
+/// The members that version 3 adds.
+fn added(version: Version) -> &'static [&'static str]
+    ensures { map (λ s. s.now) result.now ≡ added version }
+{
+    match version {
+        Version::One | Version::Two => &[],
+        Version::Three => &["note", "ended", "times"],
+    }
+}
+
+/// How tasks were seen to end, if that is said.
+#[tactic(auto, unfolding(crate::specs::Top::ends_or_none))]
+fn ends_or_none<'v, 't>(
     alloc: Global,
     value: &'v Value<'t>,
-) -> Result<Members<'v, 't>, Miss<Shape>>
-    ensures { Gives members_of result (top_at (view value.now)) }
+) -> Result<Option<&'v Value<'t>>, Miss<Shape>>
+    ensures { Gives (λ o. option_map (λ v. view v.now) o) result
+        (ends_or_none (get (codes "ended") (view value.now))) }
 {
-    if !has_only(
+    match find(value, "ended") {
+        None => Ok(None),
+        Some(ended) => {
+            if has_ends(alloc, ended)? {
+                Ok(Some(ended))
+            } else {
+                Err(Miss::Wrong(Shape))
+            }
+        }
+    }
+}
+
+fn is_line_break(byte: u8) -> bool
+    ensures { result ≡ is_line_break byte }
+{
+    byte == b'\n'
+}
+
+/// How many line breaks the text has.
+pub fn line_breaks(text: &str) -> usize
+    ensures { result ≡ line_breaks text.now }
+{
+    text.as_bytes()
+        .iter()
+        .filter(|byte| is_line_break(**byte))
+        .count()
+}
+
+/// Whether none is less than the one before.
+fn never_fall(times: &[u64]) -> bool
+    ensures { result ≡ never_fall 0 times.now }
+{
+    let mut before = 0;
+    for time in times {
+        if *time < before {
+            return false;
+        }
+        before = *time;
+    }
+    true
+}
+
+/// Whether these are times of the lines of this journal: one for each line break, none less than the one before.
+fn are_times(journal: &str, times: &[u64]) -> bool
+    ensures { result ≡ are_times journal.now times.now }
+{
+    times.len() == line_breaks(journal) && never_fall(times)
+}
+
+/// The whole numbers of an array.
+fn wholes_of(alloc: Global, values: &[Value<'_>]) -> Result<Vec<u64>, Miss<Shape>>
+    ensures { Gives (λ v. v.items) result (each whole_at (map view values.now)) }
+{
+    let mut numbers = Vec::new(alloc);
+    for value in values {
+        let number = number_of(value)?;
+        numbers.push(number)?;
+    }
+    Ok(numbers)
+}
+
+/// When each line of the journal was written, if that is said.
+#[tactic(auto, unfolding(crate::specs::Top::times_or_none))]
+fn times_or_none(
+    alloc: Global,
+    journal: &str,
+    value: &Value<'_>,
+) -> Result<Option<Vec<u64>>, Miss<Shape>>
+    ensures { Gives (λ o. option_map (λ v. v.items) o) result
+        (times_or_none journal.now (get (codes "times") (view value.now))) }
+{
+    match find(value, "times") {
+        None => Ok(None),
+        Some(list) => {
+            let list = list_of(list)?;
+            let times = wholes_of(alloc, list)?;
+            if are_times(journal, &times) {
+                Ok(Some(times))
+            } else {
+                Err(Miss::Wrong(Shape))
+            }
+        }
+    }
+}
+
+/// Whether the value is an object with no other members than those of a document of the version.
+fn has_members(version: Version, value: &Value<'_>) -> bool
+    ensures { result ≡ has_only (codes "version" ∷ codes "inputs" ∷ codes "tokens" ∷ codes "tasks"
+        ∷ codes "claims" ∷ codes "certificate" ∷ codes "journal" ∷ codes "start"
+        ∷ added version) (view value.now) }
+{
+    has_only_beside(
         value,
         &[
             "version",
@@ -106,20 +211,36 @@ pub(crate) fn members_of<'v, 't>(
             "journal",
             "start",
         ],
-    ) {
+        added(version),
+    )
+}
+
+/// The members of a document.
+#[tactic(auto, unfolding(crate::specs::Top::top_at))]
+pub(crate) fn members_of<'v, 't>(
+    alloc: Global,
+    value: &'v Value<'t>,
+) -> Result<Members<'v, 't>, Miss<Shape>>
+    ensures { Gives members_of result (top_at (view value.now)) }
+{
+    let version = version_of(value)?;
+    if !has_members(version, value) {
         return Err(Miss::Wrong(Shape));
     }
-    let links = version_of(value)?;
+    note_of(value)?;
+    let ended = ends_or_none(alloc, value)?;
     let names = list_or_none(value, "inputs")?;
     let inputs = owned_texts(alloc, names)?;
     let list = list_or_none(value, "tokens")?;
-    let tokens = tokens_of(alloc, links, list)?;
+    let tokens = tokens_of(alloc, version.has_links(), list)?;
     let tasks = list_of(member_in(value, "tasks")?)?;
     let claims = list_or_none(value, "claims")?;
     let certificate = list_or_none(value, "certificate")?;
     let journal = text_or_empty(value, "journal")?;
+    let times = times_or_none(alloc, journal, value)?;
     let start = find(value, "start");
     Ok(Members {
+        version,
         inputs,
         tokens,
         tasks,
@@ -127,18 +248,21 @@ pub(crate) fn members_of<'v, 't>(
         certificate,
         journal,
         start,
+        ended,
+        times,
     })
 }
 
 fn numbered_task(
     alloc: Global,
+    version: Version,
     number: usize,
     value: &Value<'_>,
 ) -> Result<DraftTask, Miss<(usize, ())>>
     requires { depth (view value.now) ≤ 127 }
-    ensures { Here IsTask IsNoTask (view value.now) number task_of result }
+    ensures { Here (IsTask version) (IsNoTask version) (view value.now) number task_of result }
 {
-    match task_of(alloc, value) {
+    match task_of(alloc, version, value) {
         Ok(task) => Ok(task),
         Err(Miss::Wrong(Shape)) => Err(Miss::Wrong((number, ()))),
         Err(Miss::Memory) => Err(Miss::Memory),
@@ -148,14 +272,16 @@ fn numbered_task(
 /// The tasks with names, up to the first of the wrong shape.
 pub(crate) fn tasks_of(
     alloc: Global,
+    version: Version,
     values: &[Value<'_>],
 ) -> Result<Vec<DraftTask>, Miss<(usize, ())>>
     requires { AreShallow (map view values.now) }
-    ensures { Passes IsTask IsNoTask (map view values.now) (λ v. map task_of v.items) result }
+    ensures { Passes (IsTask version) (IsNoTask version) (map view values.now)
+        (λ v. map task_of v.items) result }
 {
     let mut tasks = Vec::new(alloc);
     for (index, value) in values.iter().enumerate() {
-        let one = numbered_task(alloc, index + 1, value)?;
+        let one = numbered_task(alloc, version, index + 1, value)?;
         tasks.push(one)?;
     }
     Ok(tasks)
@@ -163,12 +289,13 @@ pub(crate) fn tasks_of(
 
 fn numbered_claim<'v, 't>(
     alloc: Global,
+    version: Version,
     number: usize,
     value: &'v Value<'t>,
 ) -> Result<NamedClaim<'v>, Miss<(usize, ())>>
-    ensures { Here IsClaim IsNoClaim (view value.now) number claim_of result }
+    ensures { Here (IsClaim version) (IsNoClaim version) (view value.now) number claim_of result }
 {
-    match claim_of(alloc, value) {
+    match claim_of(alloc, version, value) {
         Ok(claim) => Ok(claim),
         Err(Miss::Wrong(Shape)) => Err(Miss::Wrong((number, ()))),
         Err(Miss::Memory) => Err(Miss::Memory),
@@ -178,13 +305,15 @@ fn numbered_claim<'v, 't>(
 /// The claims with names, up to the first of the wrong shape.
 pub(crate) fn claims_of<'v, 't>(
     alloc: Global,
+    version: Version,
     values: &'v [Value<'t>],
 ) -> Result<Vec<NamedClaim<'v>>, Miss<(usize, ())>>
-    ensures { Passes IsClaim IsNoClaim (map view values.now) (λ v. map claim_of v.items) result }
+    ensures { Passes (IsClaim version) (IsNoClaim version) (map view values.now)
+        (λ v. map claim_of v.items) result }
 {
     let mut claims = Vec::new(alloc);
     for (index, value) in values.iter().enumerate() {
-        let one = numbered_claim(alloc, index + 1, value)?;
+        let one = numbered_claim(alloc, version, index + 1, value)?;
         claims.push(one)?;
     }
     Ok(claims)

@@ -6,4 +6,4 @@ use Rattle.tpl_parts.specs.Claims.{given_at}
 use Rattle.tpl_parts.proofs.claims.givens_of.Given as goal
 
 abbrev pub invariant-loop-value : goal.invariant-loop-value
-invariant-loop-value l = each given_at (map view (take l.value-index l.values)) ≡ Some (map given_of l.given.items)
+invariant-loop-value l = each (given_at l.version) (map view (take l.value-index l.values)) ≡ Some (map given_of l.given.items)

@@ -35,6 +35,7 @@ pub returns : goal.returns
 returns c = record {
   members = members_of c.in_ok-members.members;
   top = c.in_ok-members.ensures;
+  version = refl;
   inputs = refl;
   tokens = refl;
   tasks = c.in_ok-tasks.ensures;
@@ -42,4 +43,6 @@ returns c = record {
   certificate = refl;
   journal = refl;
   start = c.in_ok-start.ensures;
+  ended = refl;
+  times = refl;
 }

@@ -10,8 +10,8 @@ use Rattle.tpl_reader.proofs.top.claims_of.Goals as goal
 pub returns-in_err-one : goal.returns-in_err-one
 returns-in_err-one c =
     let p = err_from_is_err_and c.from_residual.result c.from_residual.ensures.1 in
-    rw (p.1, p.2) (halts_here IsClaim IsNoClaim view c.args.values.now c.loop-index.index c.index-values-index.result _ c.in_err-one.field-0.0 c.loop-index-test.true c.loop-index.invariant (rw (← c.index-values-index.is) c.in_err-one.ensures))
+    rw (p.1, p.2) (halts_here (IsClaim c.args.version) (IsNoClaim c.args.version) view c.args.values.now c.loop-index.index c.index-values-index.result _ c.in_err-one.field-0.0 c.loop-index-test.true c.loop-index.invariant (rw (← c.index-values-index.is) c.in_err-one.ensures))
 
 pub loop-index-preserved : goal.loop-index-preserved
 loop-index-preserved c =
-    rw (c.in_ok-push.ensures.items, map_push claim_of c.loop-index.claims.items c.in_ok-one.one) (read_more IsClaim view c.args.values.now c.loop-index.index c.index-values-index.result (map claim_of c.loop-index.claims.items) (claim_of c.in_ok-one.one) c.loop-index-test.true c.loop-index.invariant (rw (← c.index-values-index.is) c.in_ok-one.ensures))
+    rw (c.in_ok-push.ensures.items, map_push claim_of c.loop-index.claims.items c.in_ok-one.one) (read_more (IsClaim c.args.version) view c.args.values.now c.loop-index.index c.index-values-index.result (map claim_of c.loop-index.claims.items) (claim_of c.in_ok-one.one) c.loop-index-test.true c.loop-index.invariant (rw (← c.index-values-index.is) c.in_ok-one.ensures))

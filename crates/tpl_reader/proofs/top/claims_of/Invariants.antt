@@ -6,4 +6,4 @@ use Rattle.tpl_json.specs.Grammar.{AllRead}
 use Rattle.tpl_reader.proofs.top.claims_of.Given as goal
 
 abbrev pub invariant-loop-index : goal.invariant-loop-index
-invariant-loop-index l = AllRead IsClaim (map view (take l.index l.values)) (map claim_of l.claims.items)
+invariant-loop-index l = AllRead (IsClaim l.version) (map view (take l.index l.values)) (map claim_of l.claims.items)

@@ -6,4 +6,4 @@ use Rattle.tpl_json.specs.Grammar.{AllRead}
 use Rattle.tpl_reader.proofs.top.tasks_of.Given as goal
 
 abbrev pub invariant-loop-index : goal.invariant-loop-index
-invariant-loop-index l = AllRead IsTask (map view (take l.index l.values)) (map task_of l.tasks.items)
+invariant-loop-index l = AllRead (IsTask l.version) (map view (take l.index l.values)) (map task_of l.tasks.items)

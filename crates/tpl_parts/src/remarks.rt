@@ -1,0 +1,122 @@
+//! Reading what stands in a document for its readers: notes, and the names of claims.
+
+ghost use Rattle.std.specs.Prelude.{◌≡◌, ◌++◌, map, codes, IfErr};
+ghost use Rattle.std.specs.Char.{is_control};
+ghost use Rattle.std.specs.List.{list_all, list_any};
+ghost use Rattle.std.specs.Option.{option_map};
+ghost use Rattle.std.specs.Str.{chars};
+ghost use Rattle.serde_json.specs.Find.{get};
+ghost use Rattle.tpl_json.specs.View.{view};
+ghost use Rattle.tpl_json.specs.Members.{Gives, has_only, is_one_of, IsShape};
+ghost use Rattle.tpl_parts.specs.Versions.{task_remarks, claim_remarks};
+ghost use Rattle.tpl_parts.specs.Remarks.{is_claim_name, claim_name, note_at};
+
+use crate::version::Version;
+use json::Value;
+use tpl_json::{Miss, Shape, find, text_of};
+
+/// The most bytes of a claim's name (this program's own limit).
+const LONGEST_CLAIM_NAME: usize = 100;
+
+fn is_one_of(names: &[&str], key: &str) -> bool
+    ensures { result ≡ is_one_of (map (λ s. s.now) names.now) key.now }
+{
+    match names {
+        [] => false,
+        [first, rest @ ..] => key == *first || is_one_of(rest, key),
+    }
+}
+
+fn is_one_of_either(names: &[&str], more: &[&str], key: &str) -> bool
+    ensures { result ≡ is_one_of (map (λ s. s.now) names.now ++ map (λ s. s.now) more.now) key.now }
+{
+    match names {
+        [] => is_one_of(more, key),
+        [first, rest @ ..] => key == *first || is_one_of_either(rest, more, key),
+    }
+}
+
+fn members_within(names: &[&str], more: &[&str], members: &[(&str, Value<'_>)]) -> bool
+    ensures { result ≡ list_all (λ m. is_one_of
+        (map (λ s. s.now) names.now ++ map (λ s. s.now) more.now) m.0.now) members.now }
+{
+    members
+        .iter()
+        .all(|member| is_one_of_either(names, more, member.0))
+}
+
+/// Whether the value is an object with no other members than these and those.
+#[tactic(auto, unfolding(tpl_json::specs::Members::has_only))]
+pub fn has_only_beside(value: &Value<'_>, names: &[&str], more: &[&str]) -> bool
+    ensures { result ≡ has_only (map (λ s. s.now) names.now ++ map (λ s. s.now) more.now)
+        (view value.now) }
+{
+    match value {
+        Value::Object(members) => members_within(names, more, members.as_slice()),
+        _ => false,
+    }
+}
+
+/// Whether the value is an object with no other members than these, and those that version 3 adds to a task.
+pub(crate) fn has_task_members(version: Version, value: &Value<'_>, names: &[&str]) -> bool
+    ensures { result ≡ has_only (map (λ s. s.now) names.now ++ task_remarks version)
+        (view value.now) }
+{
+    has_only_beside(value, names, version.task_remarks())
+}
+
+/// Whether the value is an object with no other members than these, and those that version 3 adds to each claim.
+pub(crate) fn has_claim_members(version: Version, value: &Value<'_>, names: &[&str]) -> bool
+    ensures { result ≡ has_only (map (λ s. s.now) names.now ++ claim_remarks version)
+        (view value.now) }
+{
+    has_only_beside(value, names, version.claim_remarks())
+}
+
+fn has_control(text: &str) -> bool
+    ensures { result ≡ list_any is_control (chars text.now) }
+{
+    text.chars().any(|letter| letter.is_control())
+}
+
+/// Whether the text can be the name of a claim: 1 to 100 bytes, and no control character.
+pub fn is_claim_name(name: &str) -> bool
+    ensures { result ≡ is_claim_name name.now }
+{
+    !name.is_empty() && name.len() <= LONGEST_CLAIM_NAME && !has_control(name)
+}
+
+/// The name of the claim, if it has one.
+#[tactic(auto, unfolding(crate::specs::Remarks::claim_name))]
+pub(crate) fn claim_name<'v, 't>(value: &'v Value<'t>) -> Result<Option<&'v str>, Miss<Shape>>
+    ensures gives { Gives (λ o. option_map (λ s. s.now) o) result
+        (claim_name (get (codes "name") (view value.now))) }
+    ensures shape { IfErr result IsShape }
+{
+    match find(value, "name") {
+        None => Ok(None),
+        Some(member) => {
+            let name = text_of(member)?;
+            if is_claim_name(name) {
+                Ok(Some(name))
+            } else {
+                Err(Miss::Wrong(Shape))
+            }
+        }
+    }
+}
+
+/// The note, which is a text if it is there, and is left out here.
+#[tactic(auto, unfolding(crate::specs::Remarks::note_at))]
+pub fn note_of(value: &Value<'_>) -> Result<(), Miss<Shape>>
+    ensures gives { Gives (λ u. u) result (note_at (get (codes "note") (view value.now))) }
+    ensures shape { IfErr result IsShape }
+{
+    match find(value, "note") {
+        None => Ok(()),
+        Some(member) => {
+            let _text = text_of(member)?;
+            Ok(())
+        }
+    }
+}
