@@ -6,6 +6,7 @@ pub mod Inputs
 pub mod LineBreak
 pub mod LoadLemmas
 pub mod Responses
+pub mod RunLemmas
 pub mod TakenBack
 pub mod Whole
 pub mod WrittenTrees

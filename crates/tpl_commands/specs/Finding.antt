@@ -59,7 +59,7 @@ IsAnswerTo doc (Searched search) exit text =
     IsSearching search.depth search.form doc exit text × IsOutcomeText doc.graph.names search.outcome text
 IsAnswerTo doc (Certified search) exit text =
     IsCertifying search.depth search.form doc exit text × IsWholeText doc.graph.names search.outcome text
-IsAnswerTo doc (Audited audit) exit text = IsAudit doc exit text × IsAuditAnswer audit exit text
+IsAnswerTo doc (Audited audit) exit text = IsAudit doc exit text × IsAuditAnswer doc.graph.names audit exit text
 
 -- the answer to bytes for which this was found
 abbrev pub IsAnswer : Finding → Exit → List ℕ → Type 0

@@ -1,5 +1,7 @@
 -- The lines that the program writes.
 use Rattle.std.specs.Prelude.{ℕ, Bool, true, false, List, ◌++◌, codes, decimal}
+use Rattle.tpl_words.specs.declared.status.Status.{Status}
+use Rattle.tpl_words.specs.Statuses.{status_name}
 use Rattle.tpl_model.specs.declared.fault.Rule.{Rule}
 use Rattle.tpl_model.specs.declared.fault.Rule.TheVariants.{K1, K2, K3, K4, K5, K6}
 
@@ -36,6 +38,10 @@ ended false = codes "run not complete\n"
 -- the line for the first place at which a claim fails
 abbrev pub claim_fails : ℕ → ℕ → List ℕ
 claim_fails claim place = codes "claim " ++ (decimal claim ++ (codes " fails at " ++ (decimal place ++ codes "\n")))
+
+-- the line for a task of this name that has not ended as the document says
+abbrev pub task_ended : List ℕ → Status → List ℕ
+task_ended name status = codes "task " ++ (name ++ (codes " ended " ++ (status_name status ++ codes "\n")))
 
 -- the line for the first event that isn't allowed
 abbrev pub not_allowed : ℕ → List ℕ

@@ -44,6 +44,7 @@ claim_word claim.TooMany = codes "TooMany"
 claim_word claim.Unknown = codes "Unknown"
 claim_word claim.NoBody = codes "NoBody"
 claim_word claim.GivenTwice = codes "GivenTwice"
+claim_word claim.NameTwice = codes "NameTwice"
 
 -- the word for what is wrong with a tree
 abbrev pub tree_word : TreeFault → Option (List ℕ)

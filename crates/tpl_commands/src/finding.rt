@@ -5,6 +5,8 @@ ghost use Rattle.std.specs.List.{All};
 ghost use Rattle.tpl_graph.specs.Fits.{Fits};
 ghost use Rattle.tpl_reader.specs.Document.{Spells};
 ghost use Rattle.tpl_reader.specs.SeenDocument.{doc_of};
+ghost use Rattle.tpl_audit.specs.Ending.{AreTasksOf};
+ghost use Rattle.tpl_commands.specs.Recorded.{ended_of};
 ghost use Rattle.tpl_commands.specs.Finding.{IsAnswer, IsAnswerTo, IsAskedFor, IsFindingOf, IsFoundFor, IsFoundOf};
 
 use crate::answer::Answer;
@@ -56,6 +58,7 @@ fn found_in<T: Watch>(
     document: &Document,
 ) -> Result<Found, AllocError>
     requires claims { All (Fits document.now.graph.graph) document.now.claims.items }
+    requires tasks { AreTasksOf document.now.graph.graph (ended_of (doc_of document.now)) }
     ensures found { IfOk result (IsFoundOf (doc_of document.now)) }
     ensures asked { IfOk result (IsFoundFor ask) }
 {
@@ -113,6 +116,7 @@ fn answer_to(
     found: &Found,
 ) -> Result<Answer, AllocError>
     requires spelled { Spells bytes.now (doc_of document.now) }
+    requires claims { All (Fits document.now.graph.graph) document.now.claims.items }
     requires found { IsFoundOf (doc_of document.now) found.now }
     ensures { IfOk result (λ given. IsAnswerTo (doc_of document.now) found.now given.exit
         (string_bytes given.text)) }
@@ -122,7 +126,7 @@ fn answer_to(
         Found::Drawn(language, verdict) => drawing_answer(alloc, document, *language, verdict),
         Found::Searched(searched) => found_answer(alloc, document, searched),
         Found::Certified(searched) => certified_answer(alloc, bytes, document, searched),
-        Found::Audited(audited) => audit_answer(alloc, *audited),
+        Found::Audited(audited) => audit_answer(alloc, document, *audited),
     }
 }
 

@@ -5,13 +5,14 @@ ghost use Rattle.tpl_reader.specs.SeenDocument.{doc_of};
 ghost use Rattle.tpl_commands.specs.Rules.{rules_of};
 
 use tpl_model::RuleSet;
-use tpl_reader::Document;
+use tpl_reader::{Document, Version};
 
-/// By which rules a document's certificates are judged: those of its version. Documents of versions 1
-/// and 2 are the only ones that are read.
+/// By which rules a document's certificates are judged: by the wide ones since version 3.
 pub fn rules_of(document: &Document) -> RuleSet
     ensures { result ≡ rules_of (doc_of document.now) }
 {
-    let _ = document;
-    RuleSet::Narrow
+    match document.version {
+        Version::One | Version::Two => RuleSet::Narrow,
+        Version::Three => RuleSet::Wide,
+    }
 }

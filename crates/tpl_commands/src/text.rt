@@ -1,10 +1,11 @@
 //! The lines that the program writes.
 
 ghost use Rattle.std.specs.Prelude.{◌≡◌, ◌++◌, IfOk, string_bytes};
-ghost use Rattle.tpl_commands.specs.Texts.{rule_name, refused_shape, refused_leaf, refused_claim, not_found, ended, claim_fails, not_allowed, unreadable, unreadable_part, unreadable_at, unreadable_graph, unreadable_start};
+ghost use Rattle.tpl_commands.specs.Texts.{rule_name, refused_shape, refused_leaf, refused_claim, not_found, ended, claim_fails, task_ended, not_allowed, unreadable, unreadable_part, unreadable_at, unreadable_graph, unreadable_start};
 
 use std::alloc::{AllocError, Global};
 use tpl_model::Rule;
+use tpl_words::Status;
 
 /// The rule as it is printed.
 fn rule_name(rule: Rule) -> &'static str
@@ -73,6 +74,19 @@ pub(crate) fn failing(
 {
     let ended = ended(complete);
     format!(in alloc; "{ended}claim {claim} fails at {place}\n")
+}
+
+/// The lines so far, and the one for a task that has not ended as the document says.
+pub(crate) fn task_ended(
+    alloc: Global,
+    so_far: &str,
+    name: &str,
+    status: Status,
+) -> Result<String, AllocError>
+    ensures { IfOk result (λ text. string_bytes text ≡ so_far.now ++ task_ended name.now status) }
+{
+    let status = status.name();
+    format!(in alloc; "{so_far}task {name} ended {status}\n")
 }
 
 pub(crate) fn not_allowed(alloc: Global, place: usize) -> Result<String, AllocError>

@@ -51,6 +51,7 @@ fn claim_word(fault: ClaimFault) -> &'static str
         ClaimFault::Unknown => "Unknown",
         ClaimFault::NoBody => "NoBody",
         ClaimFault::GivenTwice => "GivenTwice",
+        ClaimFault::NameTwice => "NameTwice",
     }
 }
 

@@ -1,0 +1,25 @@
+//! What a document says of a real run of its graph.
+
+ghost use Rattle.std.specs.Prelude.{◌≡◌};
+ghost use Rattle.tpl_reader.specs.SeenDocument.{doc_of};
+ghost use Rattle.tpl_commands.specs.Recorded.{ended_of, times_of};
+
+use tpl_reader::Document;
+use tpl_words::{Final, TaskId};
+
+/// How tasks were seen to end in a real run: empty where nothing is said.
+pub fn ended_of(document: &Document) -> &[(TaskId, Final)]
+    ensures { result.now ≡ ended_of (doc_of document.now) }
+{
+    document.ended.as_slice()
+}
+
+/// When each event of a real run came, in microseconds from its start; empty where that isn't said.
+pub fn times_of(document: &Document) -> &[u64]
+    ensures { result.now ≡ times_of (doc_of document.now) }
+{
+    match &document.times {
+        Some(times) => times.as_slice(),
+        None => &[],
+    }
+}
