@@ -5,6 +5,8 @@ use Rattle.std.proofs.lemmas.Bool.{or_cases, eqb-true, ltb-true, ltb-false, lt-l
 use Rattle.std.proofs.lemmas.List.{take_all, reverse-append, length-reverse, take-append-drop}
 use Rattle.std.proofs.lemmas.List.Elements.{All-head, All-tail, All-nil, All-more}
 use Rattle.std.proofs.lemmas.Option.{slice_get-get_or}
+use Rattle.tpl_words.specs.declared.finals.Final.{Final}
+use Rattle.tpl_words.specs.declared.ids.TaskId.{TaskId}
 use Rattle.tpl_model.specs.Graph.{TaskGraph, is_token}
 use Rattle.tpl_model.specs.declared.event.Event.{Event}
 use Rattle.tpl_model.specs.declared.claim.Given.{Given}
@@ -179,11 +181,11 @@ front_run g v events p prefix run =
     let parts : reverse (drop p events) ++ first_events events p ≡ reverse events = sym (reverse-append (take p events) (drop p events)) ∙ ap reverse (take-append-drop p events) in
     prefix g v (reverse (drop p events)) (first_events events p) (subst (Run g v) (sym parts) run)
 
-pub sound_verdict : (wide : Bool) (g : TaskGraph) (v : List Bool) (events : List Event) (claims : List Claim) (verdict : Verdict) (certificate : List Tree) → Soundness → PrefixIsRun → IsGraph g → IsVerdict g v events claims verdict → Accepts wide g claims certificate → FindsNoFailure verdict
-sound_verdict wide g v events claims (Ran complete None) certificate sound prefix valid is accepted = refl
-sound_verdict wide g v events claims (Ran complete (Some failure)) certificate sound prefix valid is accepted =
+pub sound_verdict : (wide : Bool) (g : TaskGraph) (v : List Bool) (events : List Event) (claims : List Claim) (ended : List (TaskId × Final)) (verdict : Verdict) (certificate : List Tree) → Soundness → PrefixIsRun → IsGraph g → IsVerdict g v events claims ended verdict → Accepts wide g claims certificate → FindsNoFailure verdict
+sound_verdict wide g v events claims ended (Ran complete None other_end) certificate sound prefix valid is accepted = refl
+sound_verdict wide g v events claims ended (Ran complete (Some failure) other_end) certificate sound prefix valid is accepted =
     let f = is.failure in
     let hold = sound wide g claims certificate valid accepted v (first_events events failure.place) (front_run g v events failure.place prefix is.run) in
     absurd (f.fails (each_at (λ claim. Holds g claim v (first_events events failure.place)) claims f.before f.claim hold f.there))
-sound_verdict wide g v events claims (NotAllowed place) certificate sound prefix valid is accepted = tt
-sound_verdict wide g v events claims Memory certificate sound prefix valid is accepted = tt
+sound_verdict wide g v events claims ended (NotAllowed place) certificate sound prefix valid is accepted = tt
+sound_verdict wide g v events claims ended Memory certificate sound prefix valid is accepted = tt

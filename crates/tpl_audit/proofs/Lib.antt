@@ -1,2 +1,4 @@
 pub mod WatchLemmas
 pub mod FailLemmas
+pub mod EndLemmas
+pub mod RefusedLemmas

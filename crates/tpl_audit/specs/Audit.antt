@@ -2,12 +2,16 @@
 use Rattle.std.specs.Prelude.{◌≡◌, ℕ, suc, ◌<◌, ◌≤◌, ◌↔◌, Bool, true, Option, Some, None, List, length, take, reverse, slice_get, nat_lt, if◌then◌else◌}
 use Rattle.std.specs.List.{All}
 use Rattle.tpl_model.specs.Graph.{TaskGraph}
+use Rattle.tpl_words.specs.declared.finals.Final.{Final}
+use Rattle.tpl_words.specs.declared.ids.TaskId.{TaskId}
 use Rattle.tpl_model.specs.declared.event.Event.{Event}
 use Rattle.tpl_model.specs.Rules.{Allows, Run, Complete}
 use Rattle.tpl_model.specs.Claims.{Claim, Holds}
 use Rattle.tpl_audit.specs.declared.verdict.Failure.{Failure}
+use Rattle.tpl_audit.specs.declared.verdict.OtherEnd.{OtherEnd}
 use Rattle.tpl_audit.specs.declared.verdict.Verdict.{Verdict}
 use Rattle.tpl_audit.specs.declared.verdict.Verdict.TheVariants.{Run as Ran, NotAllowed, Memory}
+use Rattle.tpl_audit.specs.Ending.{FirstOtherEnd}
 
 -- the first events of a list, the newest first
 abbrev pub first_events : List Event → ℕ → List Event
@@ -41,10 +45,11 @@ better None (Some place) claim = Some (record { place = place; claim = claim })
 better (Some failure) (Some place) claim = if nat_lt place failure.place then Some (record { place = place; claim = claim }) else Some failure
 
 -- the events are a run
-pub record IsAudited (g : TaskGraph) (v : List Bool) (events : List Event) (claims : List Claim) (complete : Bool) (fails : Option Failure) : Type 0 where
+pub record IsAudited (g : TaskGraph) (v : List Bool) (events : List Event) (claims : List Claim) (ended : List (TaskId × Final)) (complete : Bool) (fails : Option Failure) (other_end : Option OtherEnd) : Type 0 where
   pub run : Run g v (reverse events)
   pub completeness : (complete ≡ true) ↔ Complete g v (reverse events)
   pub failure : FirstFails g v events claims fails
+  pub ends : FirstOtherEnd g v (reverse events) ended other_end
 
 -- The event at this place is the first that isn't allowed after those before it. Places count from 1.
 pub record IsFirstRefused (g : TaskGraph) (v : List Bool) (events : List Event) (place : ℕ) : Type 0 where
@@ -56,13 +61,13 @@ pub record IsFirstRefused (g : TaskGraph) (v : List Bool) (events : List Event) 
   pub refused : Allows g v (first_events events before) event.actor event.act → ⊥
 
 -- the verdict on a list of events
-abbrev pub IsVerdict : TaskGraph → List Bool → List Event → List Claim → Verdict → Type 0
-IsVerdict g v events claims (Ran complete fails) = IsAudited g v events claims complete fails
-IsVerdict g v events claims (NotAllowed place) = IsFirstRefused g v events place
-IsVerdict g v events claims Memory = Unit {0}
+abbrev pub IsVerdict : TaskGraph → List Bool → List Event → List Claim → List (TaskId × Final) → Verdict → Type 0
+IsVerdict g v events claims ended (Ran complete fails other_end) = IsAudited g v events claims ended complete fails other_end
+IsVerdict g v events claims ended (NotAllowed place) = IsFirstRefused g v events place
+IsVerdict g v events claims ended Memory = Unit {0}
 
 -- no claim fails, where the events are a run
 abbrev pub FindsNoFailure : Verdict → Type 0
-FindsNoFailure (Ran complete fails) = fails ≡ None
+FindsNoFailure (Ran complete fails other_end) = fails ≡ None
 FindsNoFailure (NotAllowed place) = Unit {0}
 FindsNoFailure Memory = Unit {0}

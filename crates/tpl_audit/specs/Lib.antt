@@ -1,2 +1,4 @@
 pub mod Audit
+pub mod Ending
+pub mod Standing
 pub mod Watching

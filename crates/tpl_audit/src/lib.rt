@@ -1,11 +1,15 @@
-//! Whether recorded events are a run of a graph, and where a claim about it fails first.
+//! Whether recorded events are a run of a graph, where a claim about it fails first, and which task ended otherwise than is
+//! said of it.
 #![tactic(auto)]
 
 mod auditing;
+mod ending;
 mod failing;
 mod play;
+mod standing;
 mod verdict;
 mod watch;
 
 pub use auditing::audit;
-pub use verdict::{Failure, Verdict};
+pub use standing::statuses_after;
+pub use verdict::{Failure, OtherEnd, Verdict};

@@ -1,5 +1,7 @@
 //! What an audit says.
 
+use tpl_words::{Final, Status, TaskId};
+
 /// A claim that doesn't hold.
 #[derive(Clone, Copy, PartialEq, Eq, Debug)]
 pub struct Failure {
@@ -7,6 +9,17 @@ pub struct Failure {
     pub place: usize,
     /// Which one, counted from 1.
     pub claim: usize,
+}
+
+/// A task that ended otherwise than is said of it, or has not ended.
+#[derive(Clone, Copy, PartialEq, Eq, Debug)]
+pub struct OtherEnd {
+    /// The task.
+    pub task: TaskId,
+    /// How it is said to have ended.
+    pub said: Final,
+    /// Where it stands after the last event.
+    pub status: Status,
 }
 
 /// What an audit says of a list of events.
@@ -18,6 +31,8 @@ pub enum Verdict {
         complete: bool,
         /// The first place at which a claim doesn't hold, and the least claim there.
         fails: Option<Failure>,
+        /// The first task, in declared order, that has not ended as is said of it.
+        other_end: Option<OtherEnd>,
     },
     /// An event isn't allowed after those before it.
     NotAllowed {

@@ -1,12 +1,12 @@
 //! The places from which a run is complete, tokens are requested, and jobs have failed.
 
-ghost use Rattle.std.specs.Prelude.{◌≡◌, ℕ, ◌<◌, ◌≤◌, length, IsTrue, None};
+ghost use Rattle.std.specs.Prelude.{◌≡◌, ℕ, ◌<◌, ◌≤◌, [], length, IsTrue, None};
 ghost use Rattle.tpl_model.specs.Graph.{is_token};
 ghost use Rattle.tpl_model.specs.Facts.{failed, requested};
 ghost use Rattle.tpl_model.specs.Valid.{all_sites};
 ghost use Rattle.tpl_laws.specs.Allowed.{is_complete};
 ghost use Rattle.tpl_laws.specs.Failing.{or_now};
-ghost use Rattle.tpl_audit.specs.Watching.{failure_noted_after, may_fail, may_request, noted_after, noted_at};
+ghost use Rattle.tpl_audit.specs.Watching.{failure_noted_after, may_fail, may_request, noted_after, noted_at, IsWatched};
 
 use tpl_claims::has_failed;
 use tpl_machine::Core;
@@ -85,7 +85,7 @@ fn note_requests<C: Core>(asked: &mut [Option<usize>; MOST_TOKENS], core: &C, pl
 
 impl Watch {
     /// Nothing is noted yet.
-    pub(crate) fn new() -> Watch
+    fn new() -> Watch
         ensures complete { result.complete ≡ None }
         ensures asked { (k : ℕ) → noted_at result.asked k ≡ None }
         ensures failed { (site : ℕ) → noted_at result.failed site ≡ None }
@@ -97,8 +97,22 @@ impl Watch {
         }
     }
 
+    /// What is noted at the start of a run, before its first event.
+    pub(crate) fn at_start<C: Core>(core: &C) -> Watch
+        requires { (C.journal core.now).events ≡ [] }
+        ensures { let j = C.journal core.now in
+            IsWatched j.graph j.inputs j.events result.complete result.asked result.failed }
+    {
+        tpl_laws::complete_is_noted();
+        tpl_laws::request_is_noted();
+        tpl_laws::job_is_noted();
+        let mut watch = Watch::new();
+        watch.note(core, 0);
+        watch
+    }
+
     /// Notes what is true at this place, before the first event, at which no job has failed.
-    pub(crate) fn note<C: Core>(&mut self, core: &C, place: usize)
+    fn note<C: Core>(&mut self, core: &C, place: usize)
         ensures complete { let j = C.journal core.now in self.new.complete
             ≡ or_now self.old.complete (is_complete j.graph j.inputs j.events) place }
         ensures asked { let j = C.journal core.now in (k : ℕ) → is_token j.graph k

@@ -1,4 +1,4 @@
-use Rattle.std.proofs.Common.{◌≡◌, ℕ, ◌<◌, length, ap, ◌∙◌, arith}
+use Rattle.std.proofs.Common.{◌≡◌, length, ap, ◌∙◌, arith}
 use Rattle.tpl_model.specs.Valid.{all_sites}
 use Rattle.tpl_graph.proofs.ReaderLemmas.{length-numbers_from}
 use Rattle.tpl_audit.proofs.watch.note_failures.Goals as goal
