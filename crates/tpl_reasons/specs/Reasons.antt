@@ -13,7 +13,7 @@ use Rattle.tpl_commands.specs.declared.finding.Found.TheVariants.{Checked, Drawn
 use Rattle.tpl_commands.specs.declared.searching.Outcome.{Outcome}
 use Rattle.tpl_commands.specs.declared.searching.Outcome.TheVariants.{Certificate, Missed}
 use Rattle.tpl_reasons.specs.declared.reason.Reason.{Reason}
-use Rattle.tpl_reasons.specs.declared.reason.Reason.TheVariants.{Unreadable, Unchecked, NotFound, NoStart, NoJournal, NotAllowed, Fails, NotComplete, NothingAsked}
+use Rattle.tpl_reasons.specs.declared.reason.Reason.TheVariants.{Unreadable, Unchecked, NotFound, NoStart, NoJournal, NotAllowed, Fails, EndsOtherwise, NotComplete, NothingAsked}
 
 -- where there is no claim, a yes says nothing
 abbrev pub yes_reason : List Claim → Option Reason
@@ -30,12 +30,13 @@ abbrev pub search_reason : List Claim → Outcome → Option Reason
 search_reason claims (Certificate trees) = yes_reason claims
 search_reason claims (Missed claim ran_out) = Some (NotFound claim)
 
--- why events aren't a complete run in which each claim holds
+-- why events aren't a complete run in which each claim holds and each task ended as the document says
 abbrev pub verdict_reason : Verdict → Option Reason
 verdict_reason (ruled.NotAllowed place) = Some (NotAllowed place)
-verdict_reason (ruled.Run complete (Some failure)) = Some (Fails failure)
-verdict_reason (ruled.Run true None) = None
-verdict_reason (ruled.Run false None) = Some NotComplete
+verdict_reason (ruled.Run complete (Some failure) other_end) = Some (Fails failure other_end)
+verdict_reason (ruled.Run complete None (Some other)) = Some (EndsOtherwise other complete)
+verdict_reason (ruled.Run true None None) = None
+verdict_reason (ruled.Run false None None) = Some NotComplete
 verdict_reason ruled.Memory = None
 
 -- why the audit says no

@@ -1,4 +1,4 @@
-//! Why a journal can't be read, isn't a run, isn't complete, or shows that a claim fails.
+//! Why a journal can't be read, isn't a run, isn't complete, or shows that a claim fails or a task ended otherwise.
 
 ghost use Rattle.std.specs.Prelude.{◌≡◌};
 ghost use Rattle.tpl_reasons.specs.Reasons.{audit_reason, verdict_reason};
@@ -9,7 +9,7 @@ use crate::reason::Reason;
 use crate::refusal::refusal_text;
 use crate::words::{Said, claim_text, input_name, name};
 use std::alloc::{AllocError, Global};
-use tpl_audit::{Failure, Verdict};
+use tpl_audit::{Failure, OtherEnd, Verdict};
 use tpl_commands::Audit;
 use tpl_fast::Fast;
 use tpl_graph::Kind;
@@ -25,10 +25,15 @@ fn verdict_reason(verdict: Verdict) -> Option<Reason>
 {
     match verdict {
         Verdict::NotAllowed { place } => Some(Reason::NotAllowed(place)),
-        Verdict::Run { complete, fails } => match fails {
-            Some(failure) => Some(Reason::Fails(failure)),
-            None if complete => None,
-            None => Some(Reason::NotComplete),
+        Verdict::Run {
+            complete,
+            fails,
+            other_end,
+        } => match (fails, other_end) {
+            (Some(failure), other) => Some(Reason::Fails(failure, other)),
+            (None, Some(other)) => Some(Reason::EndsOtherwise { other, complete }),
+            (None, None) if complete => None,
+            (None, None) => Some(Reason::NotComplete),
         },
         Verdict::Memory => None,
     }
@@ -125,9 +130,58 @@ pub(crate) fn not_allowed_text(alloc: Global, document: &Document, number: usize
     format!(in alloc; "{line} isn't allowed there: {why}")
 }
 
+/// What to do about a task that the run ends in another way.
+const ENDED_OTHERWISE: &str =
+    "the journal is a run of the graph, but the real task ended otherwise: most often by something that the document doesn't have, as an exception, a timeout that cancels, or an attached child; add it to the document, or correct `ended`\n";
+
+/// What to do about a task that doesn't end in the run.
+const NOT_ENDED: &str =
+    "the journal is a run of the graph, but the task doesn't end in it: events may be missing at its end, or the real task did something that the document doesn't have; complete the journal or the document, or correct `ended`\n";
+
+/// How a task should have ended, how it stands at the end of the run, and what to do.
+fn other_end_text(alloc: Global, document: &Document, other: OtherEnd) -> Said {
+    let advice = match other.status {
+        Status::Completed(_) => ENDED_OTHERWISE,
+        _ => NOT_ENDED,
+    };
+    let task = name(&document.graph, other.task);
+    let (said, status) = (other.said.name(), other.status.name());
+    format!(in alloc;
+        "`ended` says that {task} ended {said}, but at the end of the journal it is {status}\n{advice}"
+    )
+}
+
+/// What is said of a task that has not ended as the document says, in a run that may not be complete.
+pub(crate) fn ends_otherwise_text(
+    alloc: Global,
+    document: &Document,
+    other: OtherEnd,
+    complete: bool,
+) -> Said {
+    let mut text = other_end_text(alloc, document, other)?;
+    if !complete {
+        text.push_str(not_complete_text(alloc, document)?.as_str())?;
+    }
+    Ok(text)
+}
+
+/// At which event a claim fails, and what is said of a task that has not ended as the document says, if there is one.
+pub(crate) fn run_text(
+    alloc: Global,
+    document: &Document,
+    failure: Failure,
+    other_end: Option<OtherEnd>,
+) -> Said {
+    let mut text = fails_text(alloc, document, failure)?;
+    if let Some(other) = other_end {
+        text.push_str(other_end_text(alloc, document, other)?.as_str())?;
+    }
+    Ok(text)
+}
+
 /// At which event a claim fails, and whether no thread makes the run.
-pub(crate) fn fails_text(alloc: Global, document: &Document, failure: Failure) -> Said {
-    let claim = claim_text(alloc, &document.graph, &document.claims, failure.claim)?;
+fn fails_text(alloc: Global, document: &Document, failure: Failure) -> Said {
+    let claim = claim_text(alloc, document, failure.claim)?;
     if failure.place == 0 {
         return format!(in alloc; "{claim} fails before the first event\n");
     }

@@ -113,7 +113,7 @@ fn proved_if(property: Property) -> &'static str {
 /// Why a leaf doesn't prove its claim.
 fn unproved_text(alloc: Global, document: &Document, claim: usize, leaf: usize) -> Said {
     let graph = &document.graph;
-    let number = claim_text(alloc, graph, &document.claims, claim)?;
+    let number = claim_text(alloc, document, claim)?;
     let Some(asked) = document.claims.get(claim.saturating_sub(1)) else {
         return Ok(number);
     };
@@ -143,7 +143,7 @@ fn refusal_text(alloc: Global, document: &Document, fault: CertFault) -> Said {
             task,
             rule,
         } => {
-            let number = claim_text(alloc, graph, &document.claims, claim)?;
+            let number = claim_text(alloc, document, claim)?;
             let rule = rule_text(alloc, graph, rule, task)?;
             let rows = rows_of(document.certificate.trees(), claim, leaf).unwrap_or(&[]);
             let row = row_text(alloc, graph, rows, task)?;

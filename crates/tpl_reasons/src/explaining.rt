@@ -9,7 +9,8 @@ ghost use Rattle.tpl_reasons.specs.Hidden.{IsShown};
 ghost use Rattle.tpl_reasons.specs.Reasons.{found_reason, reason_of};
 
 use crate::auditing::{
-    audit_reason, fails_text, no_journal_text, no_start_text, not_allowed_text, not_complete_text,
+    audit_reason, ends_otherwise_text, no_journal_text, no_start_text, not_allowed_text,
+    not_complete_text, run_text,
 };
 use crate::checking::{check_reason, fault_text};
 use crate::reason::Reason;
@@ -81,7 +82,10 @@ fn found_text(alloc: Global, document: &Document, found: &Found, reason: Reason)
         Reason::NoStart => no_start_text(alloc, document),
         Reason::NoJournal(fault) => no_journal_text(alloc, document, fault),
         Reason::NotAllowed(line) => not_allowed_text(alloc, document, line),
-        Reason::Fails(failure) => fails_text(alloc, document, failure),
+        Reason::Fails(failure, other_end) => run_text(alloc, document, failure, other_end),
+        Reason::EndsOtherwise { other, complete } => {
+            ends_otherwise_text(alloc, document, other, complete)
+        }
         Reason::NotComplete => not_complete_text(alloc, document),
         Reason::NothingAsked if document.graph.len() == 0 => String::from_str(alloc, NO_TASK),
         Reason::NothingAsked => String::from_str(alloc, NO_CLAIM),

@@ -22,4 +22,5 @@ pub use misread::{no_document_text, no_json_text, twice_text};
 pub use obstacle::obstacle_words;
 pub use reason::Reason;
 pub use searching::tried_words;
+pub use shown::said_name;
 pub use words::{claim_words, input_words};

@@ -51,7 +51,7 @@ pub fn no_document_text(
     document: &Value<'_>,
     fault: ReadFault,
 ) -> Result<String, AllocError> {
-    let teller = Teller { alloc, document };
+    let teller = Teller::new(alloc, document);
     let area = area_of(fault);
     let mut text = match line_of(teller, area, fault)? {
         Some(line) => line,
@@ -66,5 +66,5 @@ pub fn no_document_text(
 /// The line about the first object of a document that has two members of one name, if one has. Out of memory is the only
 /// error.
 pub fn twice_text(alloc: Global, document: &Value<'_>) -> Result<Option<String>, AllocError> {
-    Teller { alloc, document }.member_twice_line(Area::Top)
+    Teller::new(alloc, document).member_twice_line(Area::Top)
 }

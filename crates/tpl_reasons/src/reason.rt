@@ -1,6 +1,6 @@
 //! What an explanation is made of.
 
-use tpl_audit::Failure;
+use tpl_audit::{Failure, OtherEnd};
 use tpl_journal::JournalFault;
 use tpl_model::CertFault;
 use tpl_reader::ReadFault;
@@ -20,8 +20,15 @@ pub enum Reason {
     NoJournal(JournalFault),
     /// The first event that isn't allowed after those before it.
     NotAllowed(usize),
-    /// Where a claim fails first.
-    Fails(Failure),
+    /// Where a claim fails first, and the first task that has not ended as the document says, if there is one.
+    Fails(Failure, Option<OtherEnd>),
+    /// The first task that has not ended as the document says. The journal is a run in which no claim fails.
+    EndsOtherwise {
+        /// The task, and how it stands.
+        other: OtherEnd,
+        /// The run is complete.
+        complete: bool,
+    },
     /// The journal is a run, and a task of it has not ended.
     NotComplete,
     /// There is no claim, so nothing is shown.

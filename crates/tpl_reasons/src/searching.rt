@@ -70,7 +70,7 @@ fn each_text(alloc: Global, document: &Document, depth: Depth, missed: usize) ->
             is_found(alloc, &document.graph, &document.claims, rules, at, depth)?
         };
         lines.push_str(if found { "found: " } else { "not found: " })?;
-        let claim = claim_text(alloc, &document.graph, &document.claims, number)?;
+        let claim = claim_text(alloc, document, number)?;
         lines.push_str(claim.as_str())?;
         lines.push_str("\n")?;
     }
@@ -117,7 +117,7 @@ fn missed_text(
     requires claims { All (Fits document.now.graph.graph) document.now.claims.items }
 {
     let graph = &document.graph;
-    let claim = claim_text(alloc, graph, &document.claims, number)?;
+    let claim = claim_text(alloc, document, number)?;
     let tried = tried_words(alloc, depth, ran_out)?;
     let obstacle = match document.claims.get(number.saturating_sub(1)) {
         Some(claim) => obstacle_words(alloc, graph, claim, rules_of(document))?,

@@ -79,6 +79,13 @@ fn shown(alloc: Global, text: &str) -> Said
     Ok(shown)
 }
 
+/// The name of a claim as a terminal shows it. Out of memory is the only error.
+pub fn said_name(alloc: Global, name: &str) -> Result<String, AllocError>
+    ensures { IfOk result (λ shown. IsShown (string_bytes shown)) }
+{
+    shown(alloc, name)
+}
+
 /// The text as a terminal shows it; where there is none, where to look: so that no reason is without words.
 pub(crate) fn said(alloc: Global, text: &str) -> Said
     ensures words { IfOk result (λ said. string_bytes said ≢ []) }

@@ -3,6 +3,7 @@
 use std::alloc::{AllocError, Global};
 use tpl_graph::{Claim, Graph};
 use tpl_model::{Given, Property};
+use tpl_reader::Document;
 use tpl_words::{Actor, Final, Finals, InputId, Inputs, SiteId, TaskId, TaskSet, TokenId};
 
 /// A text; out of memory is the only error.
@@ -174,12 +175,27 @@ fn one_given_text(alloc: Global, graph: &Graph, one: Given) -> Said {
     }
 }
 
+/// Whether it is given of each of several jobs that it doesn't fail.
+fn gives_all_jobs(graph: &Graph, given: &[Given]) -> bool {
+    let jobs = given
+        .iter()
+        .filter(|one| matches!(one, Given::Succeeds(_)))
+        .count();
+    jobs > 1 && jobs == graph.site_count()
+}
+
 /// What a claim takes as given.
 fn given_text(alloc: Global, graph: &Graph, given: &[Given]) -> Said {
+    let all_jobs = gives_all_jobs(graph, given);
     let mut list = String::new(alloc);
     for one in given {
-        let text = one_given_text(alloc, graph, *one)?;
-        add_word(&mut list, " and ", text.as_str())?;
+        if !all_jobs || !matches!(one, Given::Succeeds(_)) {
+            let text = one_given_text(alloc, graph, *one)?;
+            add_word(&mut list, " and ", text.as_str())?;
+        }
+    }
+    if all_jobs {
+        add_word(&mut list, " and ", "no job fails")?;
     }
     Ok(list)
 }
@@ -204,13 +220,22 @@ pub fn claim_words(alloc: Global, graph: &Graph, claim: &Claim) -> Result<String
     format!(in alloc; "{property}, where {given}")
 }
 
-/// The claim of this number, counted from 1: `claim 3 (B begins only after A is settled)`.
-pub(crate) fn claim_text(alloc: Global, graph: &Graph, claims: &[Claim], number: usize) -> Said {
-    for (at, claim) in claims.iter().enumerate() {
-        if at + 1 == number {
-            let words = claim_words(alloc, graph, claim)?;
-            return format!(in alloc; "claim {number} ({words})");
-        }
+/// The number of a claim and its name, if it has one: `claim 3 "B is last"`.
+fn number_text(alloc: Global, document: &Document, number: usize) -> Said {
+    match document.names.get(number.saturating_sub(1)) {
+        Some(Some(name)) => format!(in alloc; "claim {number} \"{name}\""),
+        _ => format!(in alloc; "claim {number}"),
     }
-    format!(in alloc; "claim {number}")
+}
+
+/// The claim of this number, counted from 1: `claim 3 "B is last" (B begins only after A is settled)`.
+pub(crate) fn claim_text(alloc: Global, document: &Document, number: usize) -> Said {
+    let named = number_text(alloc, document, number)?;
+    match document.claims.get(number.saturating_sub(1)) {
+        Some(claim) => {
+            let words = claim_words(alloc, &document.graph, claim)?;
+            format!(in alloc; "{named} ({words})")
+        }
+        None => Ok(named),
+    }
 }

@@ -3,8 +3,9 @@
 use crate::misread::form::Form;
 use json::Value;
 use std::alloc::{AllocError, Global};
-use tpl_json::{bool_of, final_of, find, list_of, number_of, text_in, text_of};
-use tpl_parts::has_truths;
+use tpl_json::{Miss, Shape, bool_of, final_of, find, list_of, number_of, text_in, text_of};
+use tpl_parts::{has_ends, has_truths, is_claim_name};
+use tpl_reader::line_breaks;
 use tpl_words::LONGEST_NAME;
 
 /// What is looked for.
@@ -106,9 +107,13 @@ pub(crate) fn kind_of<'v, 't>(document: &'v Value<'t>, name: &str) -> &'v str {
 }
 
 /// The first member that an object of the form may not have.
-pub(crate) fn stranger<'v>(form: Form, members: &'v [(&str, Value<'_>)]) -> Option<&'v str> {
+pub(crate) fn stranger<'v>(
+    third: bool,
+    form: Form,
+    members: &'v [(&str, Value<'_>)],
+) -> Option<&'v str> {
     for member in members {
-        if !form.names().contains(&member.0) {
+        if !form.names(third).contains(&member.0) {
             return Some(member.0);
         }
     }
@@ -116,16 +121,16 @@ pub(crate) fn stranger<'v>(form: Form, members: &'v [(&str, Value<'_>)]) -> Opti
 }
 
 /// Whether it has the members that an object of the form has to have.
-fn has_needed(form: Form, value: &Value<'_>) -> bool {
-    let mut needed = form.names().iter().take(form.needed());
+fn has_needed(third: bool, form: Form, value: &Value<'_>) -> bool {
+    let mut needed = form.names(third).iter().take(form.needed());
     needed.all(|name| find(value, name).is_some())
 }
 
 /// Whether it is an object with all members that it must have, and none that it may not have.
-fn has_members(form: Form, value: &Value<'_>) -> bool {
+fn has_members(third: bool, form: Form, value: &Value<'_>) -> bool {
     match value {
         Value::Object(members) => {
-            stranger(form, members.as_slice()).is_none() && has_needed(form, value)
+            stranger(third, form, members.as_slice()).is_none() && has_needed(third, form, value)
         }
         _ => false,
     }
@@ -156,20 +161,49 @@ fn has_word(form: Form, value: &Value<'_>) -> bool {
     }
 }
 
+/// Whether it is a list of whole numbers, one for each line break of the journal, none less than the one before.
+fn has_times(document: &Value<'_>, value: &Value<'_>) -> bool {
+    let Ok(times) = list_of(value) else {
+        return false;
+    };
+    let mut before = 0;
+    for time in times {
+        match number_of(time) {
+            Ok(number) if number >= before => before = number,
+            _ => return false,
+        }
+    }
+    times.len() == line_breaks(text_or_empty(document, "journal"))
+}
+
+/// Whether the answer to a question that may run out of memory is yes.
+fn answered(answer: Result<bool, Miss<Shape>>) -> Result<bool, AllocError> {
+    match answer {
+        Ok(has) => Ok(has),
+        Err(_) => Err(AllocError),
+    }
+}
+
 /// Whether the value itself has the right shape, whatever is in it.
-fn fits(alloc: Global, form: Form, value: &Value<'_>) -> Result<bool, AllocError> {
+fn fits(
+    alloc: Global,
+    document: &Value<'_>,
+    third: bool,
+    form: Form,
+    value: &Value<'_>,
+) -> Result<bool, AllocError> {
     match form {
         Form::Anything => Ok(true),
-        Form::Version => Ok(matches!(number_of(value), Ok(1 | 2))),
+        Form::Version => Ok(matches!(number_of(value), Ok(1..=3))),
         Form::Truth => Ok(bool_of(value).is_ok()),
         Form::Final | Form::Subject => Ok(final_of(value).is_ok()),
-        Form::Truths => match has_truths(alloc, value) {
-            Ok(has) => Ok(has),
-            Err(_) => Err(AllocError),
-        },
-        _ if !form.choices().is_empty() => Ok(false),
+        Form::Truths => answered(has_truths(alloc, value)),
+        Form::Ends => answered(has_ends(alloc, value)),
+        Form::Times => Ok(has_times(document, value)),
+        Form::ClaimName => Ok(matches!(text_of(value), Ok(name) if is_claim_name(name))),
+        _ if !form.choices(third).is_empty() => Ok(false),
         _ if form.is_list() => Ok(has_length(form, value)),
-        _ if form.is_object() => Ok(has_members(form, value)),
+        _ if form.is_object() => Ok(has_members(third, form, value)),
         _ => Ok(has_word(form, value)),
     }
 }
@@ -211,11 +245,12 @@ pub(crate) fn is_asked(
     alloc: Global,
     ask: Ask<'_>,
     document: &Value<'_>,
+    third: bool,
     form: Form,
     value: &Value<'_>,
 ) -> Result<bool, AllocError> {
     match ask {
-        Ask::Misfit => Ok(!fits(alloc, form, value)?),
+        Ask::Misfit => Ok(!fits(alloc, document, third, form, value)?),
         Ask::Form(wanted) => Ok(form.is(wanted)),
         Ask::LongList => Ok(is_long(form, value)),
         Ask::Job(site) => Ok(matches!(form, Form::Work) && text_or_empty(value, "work") == site),

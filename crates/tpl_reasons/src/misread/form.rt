@@ -29,17 +29,21 @@ pub(crate) enum Form {
     Work,
     If,
     When,
-    /// A claim, one of the five below.
+    /// A claim, one of the six below; the last in version 3 alone.
     Claim,
     FinalClaim,
     AfterClaim,
     ObservedClaim,
     NeverClaim,
     ExcludesClaim,
-    /// What a claim takes as given, one of the two below.
+    RunsClaim,
+    /// What a claim takes as given, one of the two below, or in version 3 of the five.
     Given,
     GivenInput,
     GivenToken,
+    GivenEnd,
+    GivenJob,
+    GivenWord,
     /// A tree of the certificate, one of the three below.
     Tree,
     SplitInput,
@@ -96,12 +100,22 @@ pub(crate) enum Form {
     Begun,
     /// A site whose job is to fail.
     FailingSite,
+    /// A site whose job is given not to fail.
+    SureSite,
+    /// A task of whose end something is given.
+    EndedTask,
+    ClaimName,
+    Note,
+    /// How tasks were seen to end: a final status for each.
+    Ends,
+    /// When the lines of the journal were written.
+    Times,
     /// What no reader looks at, or another part has.
     Anything,
 }
 
 /// What stands at a member, by its name, save where its object says otherwise.
-const MEMBERS: [(&str, Form); 48] = [
+const MEMBERS: [(&str, Form); 52] = [
     ("ends", Form::Finals),
     ("runs", Form::Truth),
     ("may_fail", Form::Truth),
@@ -150,6 +164,20 @@ const MEMBERS: [(&str, Form); 48] = [
     ("tasks", Form::Tasks),
     ("claims", Form::Claims),
     ("certificate", Form::Trees),
+    ("ended", Form::Ends),
+    ("times", Form::Times),
+    ("succeeds", Form::SureSite),
+    ("note", Form::Note),
+];
+
+/// The forms of claims.
+const CLAIMS: [Form; 6] = [
+    Form::FinalClaim,
+    Form::AfterClaim,
+    Form::ObservedClaim,
+    Form::NeverClaim,
+    Form::ExcludesClaim,
+    Form::RunsClaim,
 ];
 
 /// What stands at a member of this name.
@@ -163,9 +191,51 @@ fn form_of(name: &str) -> Form {
 }
 
 impl Form {
-    /// The names of the members of an object of this form, first those that it has to have; none where it isn't the form of an
-    /// object.
-    pub(crate) fn names(self) -> &'static [&'static str] {
+    /// The names of the members of an object of this form in a document of version 1 or 2, or of version 3; first those
+    /// that it has to have. None where it isn't the form of an object.
+    pub(crate) fn names(self, third: bool) -> &'static [&'static str] {
+        if third {
+            self.names_of_third()
+        } else {
+            self.names_of_second()
+        }
+    }
+
+    /// What version 3 has in the place of what version 2 has.
+    fn names_of_third(self) -> &'static [&'static str] {
+        match self {
+            Form::Top => &[
+                "version",
+                "tasks",
+                "inputs",
+                "tokens",
+                "claims",
+                "certificate",
+                "journal",
+                "start",
+                "note",
+                "ended",
+                "times",
+            ],
+            Form::Task => &[
+                "name", "kind", "after", "of", "body", "token", "options", "note",
+            ],
+            Form::Started => &["name", "kind", "body", "token", "options", "note"],
+            Form::Then => &["name", "kind", "after", "body", "token", "options", "note"],
+            Form::Join => &["name", "kind", "of", "note"],
+            Form::FinalClaim => &["final", "in", "given", "name", "note"],
+            Form::AfterClaim => &["after", "given", "name", "note"],
+            Form::ObservedClaim => &["observed", "given", "name", "note"],
+            Form::NeverClaim => &["never", "given", "name", "note"],
+            Form::ExcludesClaim => &["excludes", "given", "name", "note"],
+            Form::RunsClaim => &["runs", "given", "name", "note"],
+            Form::GivenEnd => &["ended", "in"],
+            Form::GivenJob => &["succeeds"],
+            _ => self.names_of_second(),
+        }
+    }
+
+    fn names_of_second(self) -> &'static [&'static str] {
         match self {
             Form::Top => &[
                 "version",
@@ -208,7 +278,7 @@ impl Form {
 
     /// Whether it is the form of an object with members of its own.
     pub(crate) fn is_object(self) -> bool {
-        !self.names().is_empty()
+        !self.names(true).is_empty()
     }
 
     /// How many of its members an object of this form has to have: those whose names come first.
@@ -224,7 +294,9 @@ impl Form {
             | Form::ObservedClaim
             | Form::NeverClaim
             | Form::ExcludesClaim
+            | Form::RunsClaim
             | Form::GivenToken
+            | Form::GivenJob
             | Form::Leaf => 1,
             Form::Started | Form::Join | Form::SplitInput => 3,
             Form::Then | Form::SplitEnd => 4,
@@ -241,12 +313,15 @@ impl Form {
             Form::Start if name == "inputs" => Form::Truths,
             Form::Graph if name == "tasks" => Form::GraphTasks,
             Form::StartChild => Form::Child,
+            Form::GivenEnd if name == "ended" => Form::EndedTask,
+            Form::RunsClaim if name == "runs" => Form::Begun,
+            _ if name == "name" && self.is_claim() => Form::ClaimName,
             _ => form_of(name),
         }
     }
 
     /// The forms of which a value has one, as one of its members says.
-    pub(crate) fn choices(self) -> &'static [Form] {
+    pub(crate) fn choices(self, third: bool) -> &'static [Form] {
         match self {
             Form::Statement => &[
                 Form::Throw,
@@ -257,12 +332,19 @@ impl Form {
                 Form::If,
                 Form::When,
             ],
+            Form::Claim if third => &CLAIMS,
             Form::Claim => &[
                 Form::FinalClaim,
                 Form::AfterClaim,
                 Form::ObservedClaim,
                 Form::NeverClaim,
                 Form::ExcludesClaim,
+            ],
+            Form::Given if third => &[
+                Form::GivenInput,
+                Form::GivenToken,
+                Form::GivenEnd,
+                Form::GivenJob,
             ],
             Form::Given => &[Form::GivenInput, Form::GivenToken],
             Form::Tree => &[Form::Leaf, Form::SplitInput, Form::SplitEnd],
@@ -272,11 +354,11 @@ impl Form {
 
     /// The name of the member by which an object of several forms has this one: the first.
     pub(crate) fn key(self) -> &'static str {
-        self.names().first().unwrap_or(&"")
+        self.names(true).first().unwrap_or(&"")
     }
 
     /// The form that the value has, where there are several; the same form, where it has none of them.
-    pub(crate) fn chosen(self, value: &Value<'_>) -> Form {
+    pub(crate) fn chosen(self, third: bool, value: &Value<'_>) -> Form {
         match (self, value) {
             (Form::Task, _) => match text_in(value, "kind") {
                 Ok("root" | "child") => Form::Started,
@@ -287,8 +369,9 @@ impl Form {
             (Form::Token, Value::Object(_)) => Form::LinkedToken,
             (Form::Token, Value::String(_)) => Form::NewToken,
             (Form::Statement, Value::String(_)) => Form::Word,
+            (Form::Given, Value::String(_)) if third => Form::GivenWord,
             _ => {
-                for form in self.choices() {
+                for form in self.choices(third) {
                     if find(value, form.key()).is_some() {
                         return *form;
                     }
@@ -336,7 +419,9 @@ impl Form {
         match self {
             Form::InputName => "inputs",
             Form::TokenName | Form::Source => "tokens",
-            Form::TaskName | Form::Argument | Form::Child | Form::Begun => "tasks",
+            Form::TaskName | Form::Argument | Form::Child | Form::Begun | Form::EndedTask => {
+                "tasks"
+            }
             _ => "",
         }
     }
@@ -351,8 +436,13 @@ impl Form {
 
     /// Whether it is the form of a statement.
     pub(crate) fn is_statement(self) -> bool {
-        let mut others = Form::Statement.choices().iter();
+        let mut others = Form::Statement.choices(true).iter();
         self.is(Form::Word) || others.any(|choice| choice.is(self))
+    }
+
+    /// Whether it is the form of a claim that says one thing.
+    fn is_claim(self) -> bool {
+        CLAIMS.iter().any(|claim| claim.is(self))
     }
 
     /// Whether it is the same form.

@@ -55,15 +55,15 @@ impl<'v, 't> Teller<'v, 't> {
 
     /// What is said of a member that an object may not have; empty where there is none.
     fn says_stranger(self, form: Form, object: &[(&str, Value<'_>)]) -> Result<String, AllocError> {
-        let Some(key) = stranger(form, object) else {
+        let Some(key) = stranger(self.third, form, object) else {
             return Ok(String::new(self.alloc));
         };
-        let near = question(self.alloc, key, form.names())?;
+        let near = question(self.alloc, key, form.names(self.third))?;
         let key = quoted(self.alloc, key)?;
-        let all = listed(self.alloc, form.names())?;
+        let all = listed(self.alloc, form.names(self.third))?;
         format!(in self.alloc;
             "{key} is no member of {}{near}; its members are {all}",
-            form.noun()
+            form.noun(self.third)
         )
     }
 
@@ -74,10 +74,15 @@ impl<'v, 't> Teller<'v, 't> {
         object: &[(&str, Value<'_>)],
     ) -> Result<String, AllocError> {
         let mut text = self.says_stranger(found.form, object)?;
-        for name in found.form.names().iter().take(found.form.needed()) {
+        for name in found
+            .form
+            .names(self.third)
+            .iter()
+            .take(found.form.needed())
+        {
             if find(found.value, name).is_none() {
                 let and = if text.is_empty() { "" } else { "; " };
-                let noun = found.form.member(name).noun();
+                let noun = found.form.member(name).noun(self.third);
                 write!(text, "{and}the member \"{name}\" is missing: {noun}")?;
             }
         }
@@ -86,7 +91,7 @@ impl<'v, 't> Teller<'v, 't> {
 
     /// What is said of an object that has none of the members by which its form is known.
     fn says_no_key(self, form: Form, object: &[(&str, Value<'_>)]) -> Result<String, AllocError> {
-        let keys = form.choices().iter().map(|choice| choice.key());
+        let keys = form.choices(self.third).iter().map(|choice| choice.key());
         let names: Vec<&str> = keys.collect(self.alloc)?;
         let first = match object.first() {
             Some(member) => member.0,
@@ -95,7 +100,7 @@ impl<'v, 't> Teller<'v, 't> {
         let near = question(self.alloc, first, &names)?;
         let first = quoted(self.alloc, first)?;
         let all = listed(self.alloc, &names)?;
-        let (word, noun) = (form.word(), form.noun());
+        let (word, noun) = (form.word(), form.noun(self.third));
         format!(in self.alloc;
             "{first} doesn't make a {word}{near}; it must be {noun}, with one of {all}"
         )
@@ -104,7 +109,7 @@ impl<'v, 't> Teller<'v, 't> {
     /// What is said of a text that isn't one of the words.
     fn says_word(self, form: Form, text: &str) -> Result<String, AllocError> {
         let is_key = Form::Statement
-            .choices()
+            .choices(self.third)
             .iter()
             .any(|choice| choice.key() == text);
         if is_key && matches!(form, Form::Word) {
@@ -113,7 +118,7 @@ impl<'v, 't> Teller<'v, 't> {
         let near = question(self.alloc, text, form.words())?;
         let text = quoted(self.alloc, text)?;
         let all = listed(self.alloc, form.words())?;
-        let noun = form.noun();
+        let noun = form.noun(self.third);
         format!(in self.alloc; "{text} is not {noun}{near}; it must be one of {all}")
     }
 
@@ -124,12 +129,12 @@ impl<'v, 't> Teller<'v, 't> {
             Value::Object(object) if form.is_object() => {
                 self.says_members(found, object.as_slice())
             }
-            Value::Object(object) if !form.choices().is_empty() => {
+            Value::Object(object) if !form.choices(self.third).is_empty() => {
                 self.says_no_key(form, object.as_slice())
             }
             Value::String(text) if !form.words().is_empty() => self.says_word(form, text),
             _ => {
-                let (shown, noun) = (shown(self.alloc, found.value)?, form.noun());
+                let (shown, noun) = (shown(self.alloc, found.value)?, form.noun(self.third));
                 format!(in self.alloc; "it must be {noun}, not {shown}")
             }
         }

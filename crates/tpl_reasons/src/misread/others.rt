@@ -1,6 +1,6 @@
 //! What is wrong with claims, trees of the certificate, and where a run starts.
 
-use crate::misread::ask::{Ask, declared_name, list_in, place};
+use crate::misread::ask::{Ask, declared_name, list_in, place, text_or_empty};
 use crate::misread::form::Form;
 use crate::misread::misfit::Line;
 use crate::misread::say::quoted;
@@ -27,23 +27,77 @@ impl<'v, 't> Teller<'v, 't> {
         Ok(None)
     }
 
+    /// The line about the first thing that is given twice.
+    fn given_twice_line(self, area: Area) -> Line {
+        for form in [
+            Form::InputName,
+            Form::TokenName,
+            Form::EndedTask,
+            Form::SureSite,
+            Form::GivenWord,
+        ] {
+            let line = self.given_line(area, form)?;
+            if line.is_some() {
+                return Ok(line);
+            }
+        }
+        Ok(None)
+    }
+
+    /// The line about a claim's name that an earlier one has.
+    fn claim_twice_line(self, index: usize) -> Line {
+        let claims = list_in(self.document, "claims");
+        let Some(claim) = claims.get(index) else {
+            return Ok(None);
+        };
+        let name = text_or_empty(claim, "name");
+        for (first, earlier) in claims.iter().take(index).enumerate() {
+            if text_or_empty(earlier, "name") == name {
+                let name = quoted(self.alloc, name)?;
+                let said = format!(in self.alloc;
+                    "{name} is the name of claims[{first}] too; each has a name of its own"
+                )?;
+                let path = format!(in self.alloc; "claims[{index}].name")?;
+                return self.line(Area::Claim(index), path.as_str(), said.as_str());
+            }
+        }
+        Ok(None)
+    }
+
+    /// The line about the first site of what is given that no job has.
+    fn no_job_line(self, area: Area) -> Line {
+        for site in &self.texts(area, Form::SureSite)? {
+            if self.job(site)?.is_none() {
+                let sites = self.texts(Area::Graph, Form::Site)?;
+                let said = self.says_unknown("sites", site, &sites)?;
+                return match self.find(area, Ask::Text(Form::SureSite, site), 0)? {
+                    None => Ok(None),
+                    Some(spot) => self.line(area, spot.path.as_str(), said.as_str()),
+                };
+            }
+        }
+        Ok(None)
+    }
+
     /// The line about a fault of a claim.
     pub(crate) fn claim_line(self, index: usize, fault: ClaimFault) -> Line {
         let area = Area::Claim(index);
         match fault {
             ClaimFault::TooMany => {
                 let count = list_in(self.document, "claims").len();
+                let most = if self.third { 1024 } else { 64 };
                 let said = format!(in self.alloc;
-                    "it has {count} claims, and may have 64 at most"
+                    "it has {count} claims, and may have {most} at most"
                 )?;
                 self.line(Area::Top, "claims", said.as_str())
             }
-            ClaimFault::Unknown => self.unknown_line(area),
-            ClaimFault::NoBody => self.tell(area, Ask::NoBody, 0, NO_BODY),
-            ClaimFault::GivenTwice => match self.given_line(area, Form::InputName)? {
-                None => self.given_line(area, Form::TokenName),
+            ClaimFault::Unknown => match self.unknown_line(area)? {
+                None => self.no_job_line(area),
                 found => Ok(found),
             },
+            ClaimFault::NoBody => self.tell(area, Ask::NoBody, 0, NO_BODY),
+            ClaimFault::GivenTwice => self.given_twice_line(area),
+            ClaimFault::NameTwice => self.claim_twice_line(index),
         }
     }
 
@@ -108,13 +162,31 @@ impl<'v, 't> Teller<'v, 't> {
         Ok(None)
     }
 
+    /// The line about the first end that was seen of what is no task.
+    fn ended_line(self) -> Line {
+        let Some(Value::Object(ends)) = find(self.document, "ended") else {
+            return Ok(None);
+        };
+        for end in ends.as_slice() {
+            let name = end.0;
+            if place(self.document, "tasks", name) == list_in(self.document, "tasks").len() {
+                return self.undeclared(Area::Top, "ended", "tasks", name);
+            }
+        }
+        Ok(None)
+    }
+
     fn unknown_at_start(self) -> Line {
         let value = self.value_line()?;
         if value.is_some() {
             return Ok(value);
         }
-        match self.unknown_line(Area::Start)? {
-            None => self.no_site_line(),
+        let unknown = self.unknown_line(Area::Start)?;
+        if unknown.is_some() {
+            return Ok(unknown);
+        }
+        match self.no_site_line()? {
+            None => self.ended_line(),
             found => Ok(found),
         }
     }

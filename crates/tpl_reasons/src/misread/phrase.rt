@@ -26,6 +26,11 @@ const OPTIONS: [&str; 15] = [
 
 const WORDS: [&str; 2] = ["return", "observe"];
 
+const GIVEN: &str =
+    "{\"input\": name, \"is\": true or false}, {\"quiet\": token}, {\"ended\": task, \"in\": [..]}, {\"succeeds\": site}, \"no_failure\" or \"no_request\"";
+
+const GIVEN_WORDS: [&str; 2] = ["no_failure", "no_request"];
+
 impl Form {
     /// The words of which a text of the form is one; none where it may be any text.
     pub(crate) fn words(self) -> &'static [&'static str] {
@@ -34,6 +39,7 @@ impl Form {
             Form::Final | Form::Subject => &FINALS,
             Form::Option => &OPTIONS,
             Form::Word => &WORDS,
+            Form::GivenWord => &GIVEN_WORDS,
             _ => &[],
         }
     }
@@ -61,7 +67,8 @@ impl Form {
             | Form::AfterClaim
             | Form::ObservedClaim
             | Form::NeverClaim
-            | Form::ExcludesClaim => "this claim (each says one thing)",
+            | Form::ExcludesClaim
+            | Form::RunsClaim => "this claim (each says one thing)",
             Form::Start => "the start, an object with \"inputs\", \"request\" and \"fail\"",
             _ => "this object",
         }
@@ -85,6 +92,8 @@ impl Form {
             Form::AfterPair | Form::Pair => "a list of two tasks' names",
             Form::Rows => "a list of rows, one for each task",
             Form::Sites => "a list of sites' names",
+            Form::Times =>
+                "a list of whole numbers, one for each line break of the journal, none less than the one before",
             _ => "",
         }
     }
@@ -101,7 +110,11 @@ impl Form {
             Form::Statement => "\"return\", \"observe\" or an object",
             Form::Claim | Form::Tree => "an object",
             Form::Given => "{\"input\": name, \"is\": true or false} or {\"quiet\": token}",
-            Form::Version => "1 or 2, written as an integer",
+            Form::GivenWord => "a word for what is given of all",
+            Form::Version => "1, 2 or 3, written as an integer",
+            Form::ClaimName => "a claim's name, 1 to 100 bytes of text without control characters",
+            Form::Note => "a note, which is a text",
+            Form::Ends => "an object with the final status of each task that was seen to end",
             Form::Journal => "the journal, one text",
             Form::Argument => {
                 "one task's name (for several tasks, name a task of kind \"all\" or \"any\")"
@@ -120,8 +133,10 @@ impl Form {
     }
 
     /// What may stand there.
-    pub(crate) fn noun(self) -> &'static str {
-        if self.is_list() {
+    pub(crate) fn noun(self, third: bool) -> &'static str {
+        if third && self.is(Form::Given) {
+            GIVEN
+        } else if self.is_list() {
             self.list()
         } else if self.is_object() {
             self.object()

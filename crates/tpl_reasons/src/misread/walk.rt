@@ -5,7 +5,7 @@ use crate::misread::form::Form;
 use crate::misread::say::add_word;
 use json::Value;
 use std::alloc::{AllocError, Global};
-use tpl_json::find;
+use tpl_json::{find, number_of};
 
 /// More levels than a document has.
 const LEVELS: u32 = 128;
@@ -65,6 +65,7 @@ pub(crate) struct Spot<'v, 't> {
 struct Walk<'v, 't> {
     alloc: Global,
     document: &'v Value<'t>,
+    third: bool,
     ask: Ask<'v>,
     /// How many places are still to be passed over.
     skip: usize,
@@ -78,7 +79,15 @@ type Search<'v, 't> = Result<Option<Found<'v, 't>>, AllocError>;
 
 impl<'v, 't> Walk<'v, 't> {
     fn ends_at(&mut self, found: Found<'v, 't>) -> Result<bool, AllocError> {
-        if !is_asked(self.alloc, self.ask, self.document, found.form, found.value)? {
+        let (document, third) = (self.document, self.third);
+        if !is_asked(
+            self.alloc,
+            self.ask,
+            document,
+            third,
+            found.form,
+            found.value,
+        )? {
             return Ok(false);
         }
         if self.skip == 0 {
@@ -93,7 +102,7 @@ impl<'v, 't> Walk<'v, 't> {
 
     #[cycle(walk)]
     fn visit(&mut self, levels: u32, form: Form, value: &'v Value<'t>) -> Search<'v, 't> {
-        let form = form.chosen(value);
+        let form = form.chosen(self.third, value);
         if self.ends_at(Found { form, value })? {
             return Ok(Some(Found { form, value }));
         }
@@ -122,7 +131,7 @@ impl<'v, 't> Walk<'v, 't> {
 
     #[cycle(walk)]
     fn visit_members(&mut self, levels: u32, form: Form, value: &'v Value<'t>) -> Search<'v, 't> {
-        for name in form.names() {
+        for name in form.names(self.third) {
             if let Some(inner) = find(value, name) {
                 if let Some(found) = self.visit(levels, form.member(name), inner)? {
                     self.steps.push(Step::Member(name))?;
@@ -139,9 +148,27 @@ impl<'v, 't> Walk<'v, 't> {
 pub(crate) struct Teller<'v, 't> {
     pub(crate) alloc: Global,
     pub(crate) document: &'v Value<'t>,
+    /// Whether the document is of version 3.
+    pub(crate) third: bool,
+}
+
+/// Whether the document is of version 3.
+fn is_third(document: &Value<'_>) -> bool {
+    match find(document, "version") {
+        Some(version) => matches!(number_of(version), Ok(3)),
+        None => false,
+    }
 }
 
 impl<'v, 't> Teller<'v, 't> {
+    pub(crate) fn new(alloc: Global, document: &'v Value<'t>) -> Teller<'v, 't> {
+        Teller {
+            alloc,
+            document,
+            third: is_third(document),
+        }
+    }
+
     /// The value where the part of the document stands, and its form.
     pub(crate) fn part(self, area: Area) -> Option<Found<'v, 't>> {
         let (form, value) = match area {
@@ -175,6 +202,7 @@ impl<'v, 't> Teller<'v, 't> {
         Walk {
             alloc: self.alloc,
             document: self.document,
+            third: self.third,
             ask,
             skip,
             passed: Vec::new(self.alloc),
