@@ -11,7 +11,7 @@ use Rattle.tpl_draft.specs.Named.{antecedent_of, args_of}
 use Rattle.tpl_draw.specs.declared.edge.Edge.{Edge}
 use Rattle.tpl_draw.specs.declared.edge.Tie.TheVariants.{After, Argument, Own}
 use Rattle.tpl_draw.specs.Below.{below}
-use Rattle.tpl_draw.specs.Edges.{acts, from_each, task_edges}
+use Rattle.tpl_draw.specs.Edges.{acts, edge_token, from_each, task_edges}
 
 -- first one list is added, then another
 pub both_added : {A : Type 0} (old now new first second : List A) → now ≡ old ++ first → new ≡ now ++ second → new ≡ old ++ (first ++ second)
@@ -32,7 +32,7 @@ numbers_listed number None = refl
 numbers_listed number (Some a) = refl
 
 -- the edges of a task are added: of its token, what it continues, what it waits for, and its body
-pub task_edges_added : (g : TaskGraph) (t : ℕ) (token : Option TokenId) (before : Option TaskId) (arguments : List TaskId) (script : Statements) (old own after waits new : List Edge) → option_map token_number token ≡ (task g t).token → option_map task_number before ≡ antecedent_of (kind g t) → map task_number arguments ≡ args_of (kind g t) → script ≡ body g t → own ≡ old ++ from_each Own (map token_number (option_to_list token)) t → after ≡ own ++ from_each After (map task_number (option_to_list before)) t → waits ≡ after ++ from_each Argument (map task_number arguments) t → new ≡ waits ++ acts t script → new ≡ old ++ task_edges g t
+pub task_edges_added : (g : TaskGraph) (t : ℕ) (token : Option TokenId) (before : Option TaskId) (arguments : List TaskId) (script : Statements) (old own after waits new : List Edge) → option_map token_number token ≡ edge_token g (task g t).token → option_map task_number before ≡ antecedent_of (kind g t) → map task_number arguments ≡ args_of (kind g t) → script ≡ body g t → own ≡ old ++ from_each Own (map token_number (option_to_list token)) t → after ≡ own ++ from_each After (map task_number (option_to_list before)) t → waits ≡ after ++ from_each Argument (map task_number arguments) t → new ≡ waits ++ acts t script → new ≡ old ++ task_edges g t
 task_edges_added g t token before arguments script old own after waits new is_token is_before is_arguments is_script e₁ e₂ e₃ e₄ =
     rw (← is_token, ← is_before, ← is_arguments, ← is_script, ← numbers_listed token_number token, ← numbers_listed task_number before)
     (both_added old waits new _ (acts t script)

@@ -1,6 +1,7 @@
 -- The edges of a graph.
-use Rattle.std.specs.Prelude.{ℕ, List, [], ◌∷◌, ◌++◌, length, map}
+use Rattle.std.specs.Prelude.{ℕ, zero, suc, Bool, Option, Some, None, List, [], ◌∷◌, ◌++◌, length, map, nat_lt, if◌then◌else◌}
 use Rattle.std.specs.Option.{option_to_list}
+use Rattle.tpl_words.specs.Members.{mem}
 use Rattle.tpl_script.specs.Statements.{Statement, Statements, Nothing, ◌⨾◌, Start, Cancel as Request, If, When}
 use Rattle.tpl_model.specs.Graph.{TaskGraph, task, kind, body, sources}
 use Rattle.tpl_draft.specs.Named.{antecedent_of, args_of}
@@ -30,10 +31,28 @@ abbrev mutual
   acts_of t (When f first second) = acts t first ++ acts t second
   acts_of t s = []
 
+-- the token is the task's own
+abbrev pub owns : TaskGraph → ℕ → ℕ → Bool
+owns g k t = mem k (option_to_list (task g t).token)
+
+-- how many of the first n tasks have the token as their own
+abbrev pub owners : TaskGraph → ℕ → ℕ → ℕ
+owners g k zero = 0
+owners g k (suc n) = if owns g k n then suc (owners g k n) else owners g k n
+
+-- more than eight tasks have the token as their own: it stands at each of them, and not at an edge
+abbrev pub is_crowded : TaskGraph → ℕ → Bool
+is_crowded g k = nat_lt 8 (owners g k (length g.tasks))
+
+-- a task's own token, where an edge leads to the task
+abbrev pub edge_token : TaskGraph → Option ℕ → Option ℕ
+edge_token g None = None
+edge_token g (Some k) = if is_crowded g k then None else Some k
+
 -- the edges of a task: of its own token, what it continues, what it waits for, and what its body does
 abbrev pub task_edges : TaskGraph → ℕ → List Edge
 task_edges g t =
-    from_each Own (option_to_list (task g t).token) t
+    from_each Own (option_to_list (edge_token g (task g t).token)) t
     ++ from_each After (option_to_list (antecedent_of (kind g t))) t
     ++ from_each Argument (args_of (kind g t)) t
     ++ acts t (body g t)

@@ -1,9 +1,8 @@
 -- The text of a picture.
-use Rattle.std.specs.Prelude.{ℕ, Bool, true, false, not, ◌&&◌, List, [], ◌∷◌, ◌++◌, length, codes, flat_map, slice_index_or, if◌then◌else◌}
+use Rattle.std.specs.Prelude.{ℕ, Bool, true, false, not, ◌&&◌, Option, Some, None, List, [], ◌∷◌, ◌++◌, length, codes, flat_map, slice_index_or, if◌then◌else◌}
 use Rattle.tpl_words.specs.declared.finals.Final.TheVariants.{RanToCompletion, Canceled, Faulted}
-use Rattle.tpl_words.specs.declared.finals.Finals.{Finals}
 use Rattle.tpl_words.specs.Options.{allows, attached_to_parent, deny_child_attach, lazy_cancellation, execute_synchronously}
-use Rattle.tpl_model.specs.Graph.{TaskGraph, kind, options}
+use Rattle.tpl_model.specs.Graph.{TaskGraph, task, kind, options}
 use Rattle.tpl_draft.specs.Named.{Names, Named}
 use Rattle.tpl_graph.specs.Rows.{kind_of}
 use Rattle.tpl_graph.specs.declared.row.Kind.{Kind}
@@ -13,9 +12,12 @@ use Rattle.tpl_draw.specs.declared.language.Language.TheVariants.{Mermaid, Dot}
 use Rattle.tpl_draw.specs.declared.edge.Tie.{Tie}
 use Rattle.tpl_draw.specs.declared.edge.Tie.TheVariants.{After, Argument, Child, Cancel, Own, Link}
 use Rattle.tpl_draw.specs.declared.edge.Edge.{Edge}
+use Rattle.tpl_draw.specs.declared.shown.Shown.{Shown}
+use Rattle.tpl_draw.specs.declared.shown.Shown.TheVariants.{Endings, Run}
 use Rattle.tpl_draw.specs.Below.{below}
-use Rattle.tpl_draw.specs.Edges.{edges}
-use Rattle.tpl_draw.specs.Marks.{mark_at}
+use Rattle.tpl_draw.specs.Edges.{edges, is_crowded}
+use Rattle.tpl_draw.specs.Legend.{legend}
+use Rattle.tpl_draw.specs.Shown.{border_line, has_border, line_break, mark, status_line}
 
 -- the name of the t-th task; empty past the last one
 abbrev pub task_name : Names → ℕ → List ℕ
@@ -30,26 +32,36 @@ abbrev pub token_node : Language → List ℕ → List ℕ
 token_node Mermaid name = codes "  k_" ++ (name ++ (codes ">\"" ++ (name ++ codes "<br/>token\"]:::token\n")))
 token_node Dot name = codes "  k_" ++ (name ++ (codes " [label=\"" ++ (name ++ codes "\\ntoken\", shape=note];\n")))
 
--- the node of a task in Mermaid, whose shape says its kind, and its mark how it may end
-abbrev pub mermaid_node : Kind → (name mark : List ℕ) → List ℕ
-mermaid_node kinds.Root name mark = codes "  t_" ++ (name ++ (codes "[\"" ++ (name ++ (codes "<br/>root\"]" ++ (mark ++ codes "\n")))))
-mermaid_node kinds.Child name mark = codes "  t_" ++ (name ++ (codes "(\"" ++ (name ++ (codes "<br/>child\")" ++ (mark ++ codes "\n")))))
-mermaid_node kinds.Then name mark = codes "  t_" ++ (name ++ (codes "([\"" ++ (name ++ (codes "<br/>then\"])" ++ (mark ++ codes "\n")))))
-mermaid_node kinds.All name mark = codes "  t_" ++ (name ++ (codes "{{\"" ++ (name ++ (codes "<br/>all\"}}" ++ (mark ++ codes "\n")))))
-mermaid_node kinds.Any name mark = codes "  t_" ++ (name ++ (codes "{\"" ++ (name ++ (codes "<br/>any\"}" ++ (mark ++ codes "\n")))))
+-- a task's own token as a line of its node, where more than eight tasks have it
+abbrev pub token_line_at : Language → Named → Option ℕ → List ℕ
+token_line_at language n None = []
+token_line_at language n (Some k) =
+    if is_crowded n.graph k then line_break language ++ (codes "token " ++ token_name n.names k) else []
 
--- the node of a task in DOT, whose shape says its kind, and its mark how it may end
-abbrev pub dot_node : Kind → (name mark : List ℕ) → List ℕ
-dot_node kinds.Root name mark = codes "  t_" ++ (name ++ (codes " [label=\"" ++ (name ++ (codes "\\nroot\", shape=box" ++ (mark ++ codes "];\n")))))
-dot_node kinds.Child name mark = codes "  t_" ++ (name ++ (codes " [label=\"" ++ (name ++ (codes "\\nchild\", shape=Mrecord" ++ (mark ++ codes "];\n")))))
-dot_node kinds.Then name mark = codes "  t_" ++ (name ++ (codes " [label=\"" ++ (name ++ (codes "\\nthen\", shape=ellipse" ++ (mark ++ codes "];\n")))))
-dot_node kinds.All name mark = codes "  t_" ++ (name ++ (codes " [label=\"" ++ (name ++ (codes "\\nall\", shape=hexagon" ++ (mark ++ codes "];\n")))))
-dot_node kinds.Any name mark = codes "  t_" ++ (name ++ (codes " [label=\"" ++ (name ++ (codes "\\nany\", shape=diamond" ++ (mark ++ codes "];\n")))))
+-- what stands below the kind of a task at its node: its token and its status
+abbrev pub lines_below : Language → Named → Shown → ℕ → List ℕ
+lines_below language n shown t = token_line_at language n (task n.graph t).token ++ status_line language shown t
+
+-- the node of a task in Mermaid, whose shape says its kind; with further lines, and a mark
+abbrev pub mermaid_node : Kind → (name lines mark : List ℕ) → List ℕ
+mermaid_node kinds.Root name lines mark = codes "  t_" ++ (name ++ (codes "[\"" ++ (name ++ (codes "<br/>root" ++ (lines ++ (codes "\"]" ++ (mark ++ codes "\n")))))))
+mermaid_node kinds.Child name lines mark = codes "  t_" ++ (name ++ (codes "(\"" ++ (name ++ (codes "<br/>child" ++ (lines ++ (codes "\")" ++ (mark ++ codes "\n")))))))
+mermaid_node kinds.Then name lines mark = codes "  t_" ++ (name ++ (codes "([\"" ++ (name ++ (codes "<br/>then" ++ (lines ++ (codes "\"])" ++ (mark ++ codes "\n")))))))
+mermaid_node kinds.All name lines mark = codes "  t_" ++ (name ++ (codes "{{\"" ++ (name ++ (codes "<br/>all" ++ (lines ++ (codes "\"}}" ++ (mark ++ codes "\n")))))))
+mermaid_node kinds.Any name lines mark = codes "  t_" ++ (name ++ (codes "{\"" ++ (name ++ (codes "<br/>any" ++ (lines ++ (codes "\"}" ++ (mark ++ codes "\n")))))))
+
+-- the node of a task in DOT, whose shape says its kind; with further lines, and a mark
+abbrev pub dot_node : Kind → (name lines mark : List ℕ) → List ℕ
+dot_node kinds.Root name lines mark = codes "  t_" ++ (name ++ (codes " [label=\"" ++ (name ++ (codes "\\nroot" ++ (lines ++ (codes "\", shape=box" ++ (mark ++ codes "];\n")))))))
+dot_node kinds.Child name lines mark = codes "  t_" ++ (name ++ (codes " [label=\"" ++ (name ++ (codes "\\nchild" ++ (lines ++ (codes "\", shape=Mrecord" ++ (mark ++ codes "];\n")))))))
+dot_node kinds.Then name lines mark = codes "  t_" ++ (name ++ (codes " [label=\"" ++ (name ++ (codes "\\nthen" ++ (lines ++ (codes "\", shape=ellipse" ++ (mark ++ codes "];\n")))))))
+dot_node kinds.All name lines mark = codes "  t_" ++ (name ++ (codes " [label=\"" ++ (name ++ (codes "\\nall" ++ (lines ++ (codes "\", shape=hexagon" ++ (mark ++ codes "];\n")))))))
+dot_node kinds.Any name lines mark = codes "  t_" ++ (name ++ (codes " [label=\"" ++ (name ++ (codes "\\nany" ++ (lines ++ (codes "\", shape=diamond" ++ (mark ++ codes "];\n")))))))
 
 -- the node of a task, in either language
-abbrev pub task_node : Language → Kind → (name mark : List ℕ) → List ℕ
-task_node Mermaid k name mark = mermaid_node k name mark
-task_node Dot k name mark = dot_node k name mark
+abbrev pub task_node : Language → Kind → (name lines mark : List ℕ) → List ℕ
+task_node Mermaid k name lines mark = mermaid_node k name lines mark
+task_node Dot k name lines mark = dot_node k name lines mark
 
 -- the option word that says after which ends of its antecedent a continuation starts, by whether it may after each:
 -- after it ran to completion, was canceled, faulted
@@ -167,10 +179,11 @@ edge_line language n e =
 abbrev pub token_line : Language → Named → ℕ → List ℕ
 token_line language n k = token_node language (token_name n.names k)
 
--- the line of the t-th task, coloured by how it may end
-abbrev pub task_line : Language → Named → List Finals → ℕ → List ℕ
-task_line language n ends t =
-    task_node language (kind_of (kind n.graph t)) (task_name n.names t) (mark_at language ends t)
+-- the lines of the t-th task: its node, and in Mermaid its border
+abbrev pub task_lines : Language → Named → Shown → ℕ → List ℕ
+task_lines language n shown t =
+    task_node language (kind_of (kind n.graph t)) (task_name n.names t) (lines_below language n shown t) (mark language shown t)
+    ++ border_line language (has_border shown t) (task_name n.names t)
 
 -- before the first node
 abbrev pub opening : Language → List ℕ
@@ -181,9 +194,9 @@ opening Dot =
     ++ codes "  node [fontname=\"sans-serif\", fontsize=11, height=0.3, margin=\"0.08,0.04\"];\n"
     ++ codes "  edge [fontname=\"sans-serif\", fontsize=9, arrowsize=0.7];\n"
 
--- after the last edge
-abbrev pub closing : Language → List ℕ
-closing Mermaid =
+-- the classes of how tasks may end, or of how they stand in a run
+abbrev pub classes : Shown → List ℕ
+classes (Endings ends) =
     codes "  classDef token fill:#eee,stroke:#888\n"
     ++ codes "  classDef canceled fill:#f0c848,color:#000\n"
     ++ codes "  classDef faulted fill:#ee7560,color:#000\n"
@@ -191,13 +204,24 @@ closing Mermaid =
     ++ codes "  classDef ran_or_canceled fill:#fff8d0,color:#000\n"
     ++ codes "  classDef ran_or_faulted fill:#ffdfd0,color:#000\n"
     ++ codes "  classDef any_end fill:#e0d0ec,color:#000\n"
-closing Dot = codes "}\n"
+classes (Run moment) =
+    codes "  classDef token fill:#eee,stroke:#888\n"
+    ++ codes "  classDef canceled fill:#f0c848,color:#000\n"
+    ++ codes "  classDef faulted fill:#ee7560,color:#000\n"
+    ++ codes "  classDef ran fill:#d5ebd0,color:#000\n"
+    ++ codes "  classDef running fill:#cfe2f7,color:#000\n"
 
--- a node for each token, a node for each task, coloured by how it may end, a line for each edge
-abbrev pub picture : Language → Named → List Finals → List ℕ
-picture language n ends =
+-- after the last edge and the legend
+abbrev pub closing : Language → Shown → List ℕ
+closing Mermaid shown = classes shown
+closing Dot shown = codes "}\n"
+
+-- a node for each token, a node for each task with what is shown of it, a line for each edge, and a legend
+abbrev pub picture : Language → Named → Shown → List ℕ
+picture language n shown =
     opening language
     ++ below (token_line language n) (length n.graph.tokens)
-    ++ below (task_line language n ends) (length n.graph.tasks)
+    ++ below (task_lines language n shown) (length n.graph.tasks)
     ++ flat_map (edge_line language n) (edges n.graph)
-    ++ closing language
+    ++ legend language shown
+    ++ closing language shown

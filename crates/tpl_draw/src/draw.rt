@@ -1,18 +1,26 @@
 //! The picture of a graph.
 
 ghost use Rattle.std.specs.Prelude.{◌≡◌, ◌++◌, length, flat_map, IfOk, OnOk, string_bytes};
+ghost use Rattle.std.specs.Option.{option_map};
+ghost use Rattle.tpl_draft.specs.Ids.{token_number};
+ghost use Rattle.tpl_graph.specs.Rows.{kind_of};
+ghost use Rattle.tpl_model.specs.Graph.{is_task, kind};
 ghost use Rattle.tpl_draw.specs.Below.{below};
 ghost use Rattle.tpl_draw.specs.Edges.{edges};
-ghost use Rattle.tpl_draw.specs.Picture.{closing, edge_line, opening, picture, task_line, token_line};
+ghost use Rattle.tpl_draw.specs.Legend.{legend};
+ghost use Rattle.tpl_draw.specs.Picture.{classes, closing, edge_line, lines_below, opening, picture, task_lines, task_name, task_node, token_line, token_line_at};
+ghost use Rattle.tpl_draw.specs.Shown.{mark};
 
 use crate::edge::Edge;
-use crate::edges::edges;
+use crate::edges::{edges, is_crowded};
 use crate::language::Language;
+use crate::legend::legend;
 use crate::lines::{edge_line, name_of, task_node, token_node};
-use crate::marks::mark_at;
+use crate::showing::{add_status_line, border_line, has_border, line_break, mark};
+use crate::shown::Shown;
 use std::alloc::{AllocError, Global};
 use tpl_graph::Graph;
-use tpl_words::{Finals, TaskId};
+use tpl_words::{TaskId, TokenId};
 
 /// What stands before the first node.
 fn opening(language: Language) -> &'static str
@@ -26,14 +34,26 @@ fn opening(language: Language) -> &'static str
     }
 }
 
-/// What stands after the last edge.
-fn closing(language: Language) -> &'static str
-    ensures { result.now ≡ closing language }
+/// The classes of how tasks may end, or of how they stand in a run.
+fn classes(shown: &Shown) -> &'static str
+    ensures { result.now ≡ classes shown.now }
 {
-    match language {
-        Language::Mermaid => {
+    match shown {
+        Shown::Endings(_) => {
             "  classDef token fill:#eee,stroke:#888\n  classDef canceled fill:#f0c848,color:#000\n  classDef faulted fill:#ee7560,color:#000\n  classDef canceled_or_faulted fill:#c596da,color:#000\n  classDef ran_or_canceled fill:#fff8d0,color:#000\n  classDef ran_or_faulted fill:#ffdfd0,color:#000\n  classDef any_end fill:#e0d0ec,color:#000\n"
         }
+        Shown::Run(_) => {
+            "  classDef token fill:#eee,stroke:#888\n  classDef canceled fill:#f0c848,color:#000\n  classDef faulted fill:#ee7560,color:#000\n  classDef ran fill:#d5ebd0,color:#000\n  classDef running fill:#cfe2f7,color:#000\n"
+        }
+    }
+}
+
+/// What stands after the last edge and the legend.
+fn closing(language: Language, shown: &Shown) -> &'static str
+    ensures { result.now ≡ closing language shown.now }
+{
+    match language {
+        Language::Mermaid => classes(shown),
         Language::Dot => "}\n",
     }
 }
@@ -55,22 +75,94 @@ fn add_tokens(
     Ok(())
 }
 
-/// Adds the node of each task, coloured by how it may end.
+/// A task's own token as a line of its node, where more than eight tasks have it.
+fn token_line_at(
+    alloc: Global,
+    language: Language,
+    graph: &Graph,
+    own: Option<TokenId>,
+) -> Result<String, AllocError>
+    ensures { IfOk result (λ text. string_bytes text
+        ≡ token_line_at language graph.now (option_map token_number own)) }
+{
+    match own {
+        Some(token) if is_crowded(graph, token) => {
+            let break_line = line_break(language);
+            let name = name_of(graph, true, u16::from(token.0));
+            format!(in alloc; "{break_line}token {name}")
+        }
+        _ => Ok(String::new(alloc)),
+    }
+}
+
+/// What stands below the kind of a task at its node: its token and its status.
+fn lines_below(
+    alloc: Global,
+    language: Language,
+    graph: &Graph,
+    shown: &Shown,
+    task: TaskId,
+) -> Result<String, AllocError>
+    requires { is_task graph.now.graph task.0 }
+    ensures { IfOk result (λ text. string_bytes text
+        ≡ lines_below language graph.now shown.now task.0) }
+{
+    let mut text = token_line_at(alloc, language, graph, graph.own_token(task))?;
+    add_status_line(&mut text, language, shown, task)?;
+    Ok(text)
+}
+
+/// The node of a task.
+fn node_of(
+    alloc: Global,
+    language: Language,
+    graph: &Graph,
+    shown: &Shown,
+    task: TaskId,
+) -> Result<String, AllocError>
+    requires { is_task graph.now.graph task.0 }
+    ensures { IfOk result (λ line. string_bytes line ≡ task_node language
+        (kind_of (kind graph.now.graph task.0)) (task_name graph.now.names task.0)
+        (lines_below language graph.now shown.now task.0) (mark language shown.now task.0)) }
+{
+    let lines = lines_below(alloc, language, graph, shown, task)?;
+    let mark = mark(alloc, language, shown, task)?;
+    let name = name_of(graph, false, task.0);
+    let kind = graph.kind(task);
+    task_node(alloc, language, kind, name, lines.as_str(), mark.as_str())
+}
+
+/// Adds the lines of a task: its node, and in Mermaid its border.
+fn add_task(
+    text: &mut String,
+    alloc: Global,
+    language: Language,
+    graph: &Graph,
+    shown: &Shown,
+    task: TaskId,
+) -> Result<(), AllocError>
+    requires { is_task graph.now.graph task.0 }
+    ensures { OnOk result (string_bytes text.new ≡ string_bytes text.old
+        ++ task_lines language graph.now shown.now task.0) }
+{
+    text.push_str(node_of(alloc, language, graph, shown, task)?.as_str())?;
+    let name = name_of(graph, false, task.0);
+    text.push_str(border_line(alloc, language, has_border(shown, task), name)?.as_str())
+}
+
+/// Adds the lines of each task.
 fn add_tasks(
     text: &mut String,
     alloc: Global,
     language: Language,
     graph: &Graph,
-    ends: &[Finals],
+    shown: &Shown,
 ) -> Result<(), AllocError>
     ensures { OnOk result (string_bytes text.new ≡ string_bytes text.old
-        ++ below (task_line language graph.now ends.now) (length graph.now.graph.tasks)) }
+        ++ below (task_lines language graph.now shown.now) (length graph.now.graph.tasks)) }
 {
     for number in 0..graph.len() {
-        let name = name_of(graph, false, number as u16);
-        let kind = graph.kind(TaskId(number as u16));
-        let mark = mark_at(language, ends, number);
-        text.push_str(task_node(alloc, language, kind, name, mark)?.as_str())?;
+        add_task(text, alloc, language, graph, shown, TaskId(number as u16))?;
     }
     Ok(())
 }
@@ -92,40 +184,54 @@ fn add_edges(
     Ok(())
 }
 
-/// Adds the nodes, the edges, and what stands after the last edge.
+/// Adds the nodes and the edges.
 fn add_lines(
     text: &mut String,
     alloc: Global,
     language: Language,
     graph: &Graph,
-    ends: &[Finals],
+    shown: &Shown,
 ) -> Result<(), AllocError>
     ensures { OnOk result (string_bytes text.new ≡ string_bytes text.old
         ++ below (token_line language graph.now) (length graph.now.graph.tokens)
-        ++ below (task_line language graph.now ends.now) (length graph.now.graph.tasks)
-        ++ flat_map (edge_line language graph.now) (edges graph.now.graph)
-        ++ closing language) }
+        ++ below (task_lines language graph.now shown.now) (length graph.now.graph.tasks)
+        ++ flat_map (edge_line language graph.now) (edges graph.now.graph)) }
 {
     let edges = edges(alloc, graph)?;
     add_tokens(text, alloc, language, graph)?;
-    add_tasks(text, alloc, language, graph, ends)?;
-    add_edges(text, alloc, language, graph, &edges)?;
-    text.push_str(closing(language))
+    add_tasks(text, alloc, language, graph, shown)?;
+    add_edges(text, alloc, language, graph, &edges)
+}
+
+/// Adds the legend, and what stands after it.
+fn add_closing(
+    text: &mut String,
+    alloc: Global,
+    language: Language,
+    shown: &Shown,
+) -> Result<(), AllocError>
+    ensures { OnOk result (string_bytes text.new ≡ string_bytes text.old
+        ++ legend language shown.now ++ closing language shown.now) }
+{
+    text.push_str(legend(alloc, language, shown)?.as_str())?;
+    text.push_str(closing(language, shown))
 }
 
 /// The picture of a graph: a node for each token and each task, then an edge for each link of a token, for each task's
 /// own token, for what it continues and what it waits for, and for each child that its body starts and each token
-/// that it requests. A task that may end otherwise than by running to completion is coloured by its place in `ends`;
-/// past the end of these none is. Out of memory is the only error.
+/// that it requests. A token that more than eight tasks have as their own is written at each of them instead. The nodes
+/// of tasks show how they may end, or how they stand in a run, and a legend says what that means. Out of memory is the
+/// only error.
 pub fn picture(
     alloc: Global,
     language: Language,
     graph: &Graph,
-    ends: &[Finals],
+    shown: &Shown,
 ) -> Result<String, AllocError>
-    ensures { IfOk result (λ text. string_bytes text ≡ picture language graph.now ends.now) }
+    ensures { IfOk result (λ text. string_bytes text ≡ picture language graph.now shown.now) }
 {
     let mut text = String::from_str(alloc, opening(language))?;
-    add_lines(&mut text, alloc, language, graph, ends)?;
+    add_lines(&mut text, alloc, language, graph, shown)?;
+    add_closing(&mut text, alloc, language, shown)?;
     Ok(text)
 }

@@ -1,12 +1,12 @@
 //! The edges of a graph.
 
 ghost use Rattle.std.specs.Prelude.{◌≡◌, ◌∷◌, ◌++◌, [], length, map, IfOk, OnOk};
-ghost use Rattle.std.specs.Option.{option_to_list};
+ghost use Rattle.std.specs.Option.{option_map, option_to_list};
 ghost use Rattle.tpl_script.specs.Seen.{statement_of};
 ghost use Rattle.tpl_model.specs.Graph.{is_task, is_token};
 ghost use Rattle.tpl_draft.specs.Ids.{task_number, token_number};
 ghost use Rattle.tpl_draw.specs.Below.{below};
-ghost use Rattle.tpl_draw.specs.Edges.{acts, acts_of, edge, edges, from_each, task_edges, token_edges};
+ghost use Rattle.tpl_draw.specs.Edges.{acts, acts_of, edge, edge_token, edges, from_each, is_crowded, owners, owns, task_edges, token_edges};
 
 use crate::edge::{Edge, Tie};
 use std::alloc::{AllocError, Global};
@@ -85,6 +85,51 @@ fn add_act(found: &mut Vec<Edge>, task: TaskId, statement: &Stmt) -> Result<(), 
     }
 }
 
+/// The token is the task's own.
+fn owns(graph: &Graph, token: TokenId, task: TaskId) -> bool
+    requires { is_task graph.now.graph task.0 }
+    ensures { result ≡ owns graph.now.graph token.0 task.0 }
+{
+    match graph.own_token(task) {
+        Some(own) => own.0 == token.0,
+        None => false,
+    }
+}
+
+/// How many tasks have the token as their own.
+fn owners(graph: &Graph, token: TokenId) -> usize
+    ensures { result ≡ owners graph.now.graph token.0 (length graph.now.graph.tasks) }
+{
+    let mut count = 0;
+    for number in 0..graph.len() {
+        if owns(graph, token, TaskId(number as u16)) {
+            count += 1;
+        }
+    }
+    count
+}
+
+/// More than so many tasks have a token as their own where it stands at each of them, and not at an edge.
+const MOST_OWNERS: usize = 8;
+
+/// The token stands at each task that has it as its own, and not at an edge.
+pub(crate) fn is_crowded(graph: &Graph, token: TokenId) -> bool
+    ensures { result ≡ is_crowded graph.now.graph token.0 }
+{
+    owners(graph, token) > MOST_OWNERS
+}
+
+/// A task's own token, where an edge leads to the task.
+fn edge_token(graph: &Graph, own: Option<TokenId>) -> Option<TokenId>
+    ensures { option_map token_number result
+        ≡ edge_token graph.now.graph (option_map token_number own) }
+{
+    match own {
+        Some(token) if !is_crowded(graph, token) => Some(token),
+        _ => None,
+    }
+}
+
 /// Adds an edge from a task's own token, if it has one.
 fn add_own(found: &mut Vec<Edge>, token: Option<TokenId>, to: TaskId) -> Result<(), AllocError>
     ensures { OnOk result (found.new.items ≡ found.old.items
@@ -112,7 +157,7 @@ fn add_task(found: &mut Vec<Edge>, graph: &Graph, task: TaskId) -> Result<(), Al
     requires { is_task graph.now.graph task.0 }
     ensures { OnOk result (found.new.items ≡ found.old.items ++ task_edges graph.now.graph task.0) }
 {
-    add_own(found, graph.own_token(task), task)?;
+    add_own(found, edge_token(graph, graph.own_token(task)), task)?;
     add_after(found, graph.antecedent(task), task)?;
     add_arguments(found, graph.args(task), task)?;
     add_acts(found, task, graph.body(task).body())

@@ -66,14 +66,21 @@ fn mermaid_closing(kind: Kind) -> &'static str
     }
 }
 
-/// The node of a task in Mermaid, whose shape says its kind, and its mark how it may end.
-fn mermaid_node(alloc: Global, kind: Kind, name: &str, mark: &str) -> Result<String, AllocError>
-    ensures { IfOk result (λ line. string_bytes line ≡ mermaid_node kind name.now mark.now) }
+/// The node of a task in Mermaid, whose shape says its kind; with further lines, and a mark.
+fn mermaid_node(
+    alloc: Global,
+    kind: Kind,
+    name: &str,
+    lines: &str,
+    mark: &str,
+) -> Result<String, AllocError>
+    ensures { IfOk result (λ line. string_bytes line
+        ≡ mermaid_node kind name.now lines.now mark.now) }
 {
     let opening = mermaid_opening(kind);
     let word = kind_word(kind);
     let closing = mermaid_closing(kind);
-    format!(in alloc; "  t_{name}{opening}\"{name}<br/>{word}\"{closing}{mark}\n")
+    format!(in alloc; "  t_{name}{opening}\"{name}<br/>{word}{lines}\"{closing}{mark}\n")
 }
 
 /// The shape in DOT that says a task's kind.
@@ -89,13 +96,19 @@ fn dot_shape(kind: Kind) -> &'static str
     }
 }
 
-/// The node of a task in DOT, whose shape says its kind, and its mark how it may end.
-fn dot_node(alloc: Global, kind: Kind, name: &str, mark: &str) -> Result<String, AllocError>
-    ensures { IfOk result (λ line. string_bytes line ≡ dot_node kind name.now mark.now) }
+/// The node of a task in DOT, whose shape says its kind; with further lines, and a mark.
+fn dot_node(
+    alloc: Global,
+    kind: Kind,
+    name: &str,
+    lines: &str,
+    mark: &str,
+) -> Result<String, AllocError>
+    ensures { IfOk result (λ line. string_bytes line ≡ dot_node kind name.now lines.now mark.now) }
 {
     let word = kind_word(kind);
     let shape = dot_shape(kind);
-    format!(in alloc; "  t_{name} [label=\"{name}\\n{word}\", shape={shape}{mark}];\n")
+    format!(in alloc; "  t_{name} [label=\"{name}\\n{word}{lines}\", shape={shape}{mark}];\n")
 }
 
 /// The node of a task.
@@ -104,13 +117,15 @@ pub(crate) fn task_node(
     language: Language,
     kind: Kind,
     name: &str,
+    lines: &str,
     mark: &str,
 ) -> Result<String, AllocError>
-    ensures { IfOk result (λ line. string_bytes line ≡ task_node language kind name.now mark.now) }
+    ensures { IfOk result (λ line. string_bytes line
+        ≡ task_node language kind name.now lines.now mark.now) }
 {
     match language {
-        Language::Mermaid => mermaid_node(alloc, kind, name, mark),
-        Language::Dot => dot_node(alloc, kind, name, mark),
+        Language::Mermaid => mermaid_node(alloc, kind, name, lines, mark),
+        Language::Dot => dot_node(alloc, kind, name, lines, mark),
     }
 }
 
