@@ -52,7 +52,7 @@ pub(crate) fn judge(
 {
     tpl_laws::prefix_is_run();
     let alone = slice::from_ref(claim);
-    match audit(alloc, graph, inputs.copy(), events.as_slice(), alone) {
+    match audit(alloc, graph, inputs.copy(), events.as_slice(), alone, &[]) {
         Verdict::Run {
             fails: Some(failure),
             ..

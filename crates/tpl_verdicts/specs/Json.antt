@@ -1,6 +1,6 @@
 -- The verdicts as a JSON value.
-use Rattle.std.specs.Prelude.{◌≡◌, ℕ, Some, None, List, ◌++◌, codes, length}
-use Rattle.serde_json.specs.Data.{Data, Members, array, boolean, member, no_members, number, object, string, unsigned}
+use Rattle.std.specs.Prelude.{◌≡◌, ◌⊎◌, ℕ, Some, None, List, ◌++◌, codes, length}
+use Rattle.serde_json.specs.Data.{Data, Members, array, boolean, member, no_members, number, object, put, string, unsigned}
 use Rattle.serde_json.specs.Read.{read}
 use Rattle.serde_json.specs.View.{items_of}
 use Rattle.tpl_draft.specs.Named.{Names}
@@ -75,6 +75,14 @@ IsClaimData names n (verdict.Fails run) d =
     (words : List ℕ) × (there : Data) × IsRunData names run there × (d ≡ failed_data n there words)
 IsClaimData names n (verdict.Unknown tried) d = (words : List ℕ) × (d ≡ unknown_data n words (tried_data tried))
 
+-- the value with the name of the claim, if it has one
+abbrev pub IsNamed : Data → Data → Type 0
+IsNamed plain d = (d ≡ plain) ⊎ ((name : List ℕ) × (ms : Members) × (plain ≡ object ms) × (d ≡ object (put (codes "name") (string name) ms)))
+
+-- the value for the claim of this number says what its verdict says, and its name, if it has one
+abbrev pub IsNamedData : Names → ℕ → Verdict → Data → Type 0
+IsNamedData names n v d = (plain : Data) × IsClaimData names n v plain × IsNamed plain d
+
 -- how many claims there are, and how many of each word
 abbrev pub sums_data : List Verdict → Data
 sums_data verdicts =
@@ -87,5 +95,5 @@ verdicts_data claims verdicts = object (member (codes "claims") (array (items_of
 -- the text is read as a value that says of each claim what its verdict says, in their order; a line break follows
 abbrev pub IsJson : Names → List Verdict → List ℕ → Type 0
 IsJson names verdicts text =
-    (claims : List Data) × (json : List ℕ) × AreNumbered (IsClaimData names) 1 verdicts claims
+    (claims : List Data) × (json : List ℕ) × AreNumbered (IsNamedData names) 1 verdicts claims
     × (read json ≡ Some (verdicts_data claims verdicts)) × (text ≡ json ++ codes "\n")

@@ -29,7 +29,7 @@ outcome_text Unknown lines = failure_text Unknown lines
 -- the test case of a claim
 abbrev pub case_text : Entry → List ℕ
 case_text entry =
-    codes "<testcase classname=\"claims\" name=\"claim " ++ (decimal entry.number ++ (codes ": " ++ (string_bytes entry.words ++ (codes "\" time=\"0\"" ++ outcome_text entry.word (flat_map (λ line. string_bytes line) entry.lines.items)))))
+    codes "<testcase classname=\"claims\" name=\"claim " ++ (decimal entry.number ++ (string_bytes entry.title ++ (codes ": " ++ (string_bytes entry.words ++ (codes "\" time=\"0\"" ++ outcome_text entry.word (flat_map (λ line. string_bytes line) entry.lines.items))))))
 
 -- what stands before the first test case
 abbrev pub opening : List Verdict → List ℕ

@@ -37,10 +37,10 @@ pub record IsEntry (names : Names) (number : ℕ) (v : Verdict) (entry : Entry) 
 abbrev pub indented : List ℕ → List ℕ
 indented text = codes "  " ++ text
 
--- the line for a claim: its number, the word for the verdict, and the claim in words; then the lines that belong to it
+-- the line for a claim: its number, its name if it has one, the word for the verdict, and the claim in words; then the lines that belong to it
 abbrev pub entry_text : Entry → List ℕ
 entry_text entry =
-    codes "claim " ++ (decimal entry.number ++ (codes " " ++ (word_text entry.word ++ (codes ": " ++ (string_bytes entry.words ++ (codes "\n" ++ flat_map (λ line. indented (string_bytes line)) entry.lines.items))))))
+    codes "claim " ++ (decimal entry.number ++ (string_bytes entry.title ++ (codes " " ++ (word_text entry.word ++ (codes ": " ++ (string_bytes entry.words ++ (codes "\n" ++ flat_map (λ line. indented (string_bytes line)) entry.lines.items)))))))
 
 -- the last line: how many claims there are, and how many of each word
 abbrev pub sums_line : List Verdict → List ℕ

@@ -12,14 +12,26 @@ use crate::searched::Searched;
 use crate::word::word_of;
 use std::alloc::{AllocError, Global};
 use tpl_graph::{Claim, Graph};
-use tpl_reasons::claim_words;
+use tpl_reasons::{claim_words, said_name};
 use tpl_verify::Verdict;
 
-/// What is said of the claim of this number.
+/// The name of a claim in quotes behind a space; nothing for a claim without a name.
+fn title_of(alloc: Global, name: Option<&Option<String>>) -> Result<String, AllocError> {
+    match name {
+        Some(Some(name)) => {
+            let name = said_name(alloc, name.as_str())?;
+            format!(in alloc; " \"{name}\"")
+        }
+        _ => Ok(String::new(alloc)),
+    }
+}
+
+/// What is said of the claim of this number, which has this name, if any.
 fn entry_of(
     alloc: Global,
     graph: &Graph,
     claim: &Claim,
+    name: Option<&Option<String>>,
     number: usize,
     verdict: &Verdict,
     searched: &Searched,
@@ -28,10 +40,12 @@ fn entry_of(
     requires verdict { IsSomeVerdict graph.now.graph claim.now verdict.now }
     ensures { IfOk result (IsEntry graph.now.names number verdict.now) }
 {
+    let title = title_of(alloc, name)?;
     let words = claim_words(alloc, graph, claim)?;
     let lines = lines_of(alloc, graph, claim, number, verdict, searched)?;
     Ok(Entry {
         number,
+        title,
         word: word_of(verdict),
         words,
         lines,
@@ -43,6 +57,7 @@ pub(crate) fn entries(
     alloc: Global,
     graph: &Graph,
     claims: &[Claim],
+    names: &[Option<String>],
     verdicts: &[Verdict],
     searched: &Searched,
 ) -> Result<Vec<Entry>, AllocError>
@@ -53,7 +68,8 @@ pub(crate) fn entries(
 {
     let mut entries = Vec::new(alloc);
     for at in 0..verdicts.len() {
-        let entry = entry_of(alloc, graph, &claims[at], at + 1, &verdicts[at], searched)?;
+        let (claim, name) = (&claims[at], names.get(at));
+        let entry = entry_of(alloc, graph, claim, name, at + 1, &verdicts[at], searched)?;
         entries.push(entry)?;
     }
     Ok(entries)

@@ -7,6 +7,8 @@ use crate::word::Word;
 pub struct Entry {
     /// Its number; the first claim has 1.
     pub number: usize,
+    /// Its name in quotes behind a space, where it has one; else nothing.
+    pub title: String,
     /// The word for the verdict on it.
     pub word: Word,
     /// The claim in words.

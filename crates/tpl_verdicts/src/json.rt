@@ -10,7 +10,7 @@ ghost use Rattle.tpl_model.specs.Graph.{is_task};
 ghost use Rattle.tpl_verify.specs.Verdicts.{AreVerdicts, IsEmpty, IsSomeVerdict};
 ghost use Rattle.tpl_witness.specs.Filled.{AreFirst};
 ghost use Rattle.tpl_verdicts.specs.Lines.{AreNumbered};
-ghost use Rattle.tpl_verdicts.specs.Json.{empty_data, failed_data, held_data, ran_out_word, sums_data, tried_data, unknown_data, verdicts_data, why_data, IsClaimData, IsJson, IsRunData};
+ghost use Rattle.tpl_verdicts.specs.Json.{empty_data, failed_data, held_data, ran_out_word, sums_data, tried_data, unknown_data, verdicts_data, why_data, IsClaimData, IsNamed, IsNamedData, IsJson, IsRunData};
 
 use crate::sums::count_of;
 use crate::word::Word;
@@ -187,21 +187,49 @@ fn claim_value(
     }
 }
 
+/// The value with this name of its claim.
+fn named(alloc: Global, value: Value, name: &str) -> Result<Value, AllocError>
+    ensures { IfOk result (λ v. IsNamed (view value) (view v)) }
+{
+    let mut value = value;
+    if let Some(members) = value.as_object_mut() {
+        let key = String::from_str(alloc, "name")?;
+        drop(members.insert(key, Value::String(String::from_str(alloc, name)?))?);
+    }
+    Ok(value)
+}
+
+/// The value with the name of its claim, if that has one.
+fn with_name(
+    alloc: Global,
+    value: Value,
+    name: Option<&Option<String>>,
+) -> Result<Value, AllocError>
+    ensures { IfOk result (λ v. IsNamed (view value) (view v)) }
+{
+    match name {
+        Some(Some(name)) => named(alloc, value, name.as_str()),
+        _ => Ok(value),
+    }
+}
+
 /// What is said of each claim.
 fn claim_values(
     alloc: Global,
     graph: &Graph,
     claims: &[Claim],
+    names: &[Option<String>],
     verdicts: &[Verdict],
 ) -> Result<Vec<Value>, AllocError>
     requires claims { All (Fits graph.now.graph) claims.now }
     requires verdicts { AreVerdicts graph.now.graph claims.now verdicts.now }
-    ensures { IfOk result (λ values. AreNumbered (IsClaimData graph.now.names) 1 verdicts.now
+    ensures { IfOk result (λ values. AreNumbered (IsNamedData graph.now.names) 1 verdicts.now
         (map view values.items)) }
 {
     let mut values = Vec::new(alloc);
     for at in 0..verdicts.len() {
-        let value = claim_value(alloc, graph, &claims[at], at + 1, &verdicts[at])?;
+        let plain = claim_value(alloc, graph, &claims[at], at + 1, &verdicts[at])?;
+        let value = with_name(alloc, plain, names.get(at))?;
         values.push(value)?;
     }
     Ok(values)
@@ -234,13 +262,14 @@ pub(crate) fn json_of(
     alloc: Global,
     graph: &Graph,
     claims: &[Claim],
+    names: &[Option<String>],
     verdicts: &[Verdict],
 ) -> Result<String, AllocError>
     requires claims { All (Fits graph.now.graph) claims.now }
     requires verdicts { AreVerdicts graph.now.graph claims.now verdicts.now }
     ensures { IfOk result (λ text. IsJson graph.now.names verdicts.now (string_bytes text)) }
 {
-    let values = claim_values(alloc, graph, claims, verdicts)?;
+    let values = claim_values(alloc, graph, claims, names, verdicts)?;
     let mut text = whole_value(alloc, values, verdicts)?.to_string(alloc)?;
     text.push_str("\n")?;
     Ok(text)

@@ -42,10 +42,12 @@ fn escaped_entry(alloc: Global, entry: &Entry) -> Result<Entry, AllocError>
     ensures { IfOk result (λ other.
         (other.number ≡ entry.now.number) × (other.word ≡ entry.now.word)) }
 {
+    let title = escaped(alloc, entry.title.as_str())?;
     let words = escaped(alloc, entry.words.as_str())?;
     let lines = escaped_lines(alloc, &entry.lines)?;
     Ok(Entry {
         number: entry.number,
+        title,
         word: entry.word,
         words,
         lines,
@@ -102,9 +104,10 @@ fn case_text(alloc: Global, entry: &Entry) -> Result<String, AllocError>
 {
     let lines = joined(alloc, &entry.lines)?;
     let outcome = outcome_text(alloc, entry.word, lines.as_str())?;
-    let (number, words) = (entry.number, entry.words.as_str());
+    let (number, title) = (entry.number, entry.title.as_str());
+    let words = entry.words.as_str();
     format!(in alloc;
-        "<testcase classname=\"claims\" name=\"claim {number}: {words}\" time=\"0\"{outcome}"
+        "<testcase classname=\"claims\" name=\"claim {number}{title}: {words}\" time=\"0\"{outcome}"
     )
 }
 
@@ -113,6 +116,7 @@ fn cases(
     alloc: Global,
     graph: &Graph,
     claims: &[Claim],
+    names: &[Option<String>],
     verdicts: &[Verdict],
     searched: &Searched,
 ) -> Result<Vec<Entry>, AllocError>
@@ -120,7 +124,7 @@ fn cases(
     requires verdicts { AreVerdicts graph.now.graph claims.now verdicts.now }
     ensures { IfOk result (λ cases. AreNumbered IsCase 1 verdicts.now cases.items) }
 {
-    let entries = entries(alloc, graph, claims, verdicts, searched)?;
+    let entries = entries(alloc, graph, claims, names, verdicts, searched)?;
     let mut cases = Vec::new(alloc);
     for entry in &entries {
         let case = escaped_entry(alloc, entry)?;
@@ -156,6 +160,7 @@ pub(crate) fn junit_of(
     alloc: Global,
     graph: &Graph,
     claims: &[Claim],
+    names: &[Option<String>],
     verdicts: &[Verdict],
     searched: &Searched,
 ) -> Result<String, AllocError>
@@ -163,7 +168,7 @@ pub(crate) fn junit_of(
     requires verdicts { AreVerdicts graph.now.graph claims.now verdicts.now }
     ensures { IfOk result (λ text. IsJunit verdicts.now (string_bytes text)) }
 {
-    let cases = cases(alloc, graph, claims, verdicts, searched)?;
+    let cases = cases(alloc, graph, claims, names, verdicts, searched)?;
     let mut text = opening(alloc, verdicts)?;
     add_cases(&mut text, alloc, &cases)?;
     text.push_str(CLOSING)?;

@@ -58,12 +58,7 @@ fn unknown_lines(
     requires { Fits graph.now.graph claim.now }
 {
     let words = tried_words(alloc, searched.depth, tried.ran_out)?;
-    let runs = tried.runs;
-    let most = if tried.events_ran_out {
-        ", and no more may be made"
-    } else {
-        ""
-    };
+    let (runs, most) = (tried.runs, tried.most());
     let mut lines = Vec::new(alloc);
     lines.push(format!(in alloc; "{words}\n")?)?;
     let obstacle = obstacle_words(alloc, graph, claim, searched.rules)?;

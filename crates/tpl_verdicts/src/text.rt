@@ -32,8 +32,9 @@ fn entry_text(alloc: Global, entry: &Entry) -> Result<String, AllocError>
     ensures { IfOk result (λ text. string_bytes text ≡ entry_text entry.now) }
 {
     let lines = indented(alloc, &entry.lines)?;
-    let (number, word, words) = (entry.number, entry.word.text(), entry.words.as_str());
-    format!(in alloc; "claim {number} {word}: {words}\n{lines}")
+    let (number, title) = (entry.number, entry.title.as_str());
+    let (word, words) = (entry.word.text(), entry.words.as_str());
+    format!(in alloc; "claim {number}{title} {word}: {words}\n{lines}")
 }
 
 /// Adds the lines for each claim.
@@ -52,6 +53,7 @@ pub(crate) fn text_of(
     alloc: Global,
     graph: &Graph,
     claims: &[Claim],
+    names: &[Option<String>],
     verdicts: &[Verdict],
     searched: &Searched,
 ) -> Result<String, AllocError>
@@ -59,7 +61,7 @@ pub(crate) fn text_of(
     requires verdicts { AreVerdicts graph.now.graph claims.now verdicts.now }
     ensures { IfOk result (λ text. IsText graph.now.names verdicts.now (string_bytes text)) }
 {
-    let entries = entries(alloc, graph, claims, verdicts, searched)?;
+    let entries = entries(alloc, graph, claims, names, verdicts, searched)?;
     let mut text = String::new(alloc);
     add_entries(&mut text, alloc, &entries)?;
     text.push_str(sums_line(alloc, verdicts)?.as_str())?;

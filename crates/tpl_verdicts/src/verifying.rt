@@ -50,6 +50,7 @@ fn styled(
     style: Style,
     graph: &Graph,
     claims: &[Claim],
+    names: &[Option<String>],
     verdicts: &[Verdict],
     searched: &Searched,
 ) -> Result<String, AllocError>
@@ -59,9 +60,9 @@ fn styled(
         IsStyled style graph.now.names verdicts.now (string_bytes text)) }
 {
     match style {
-        Style::Text => text_of(alloc, graph, claims, verdicts, searched),
-        Style::Json => json_of(alloc, graph, claims, verdicts),
-        Style::Junit => junit_of(alloc, graph, claims, verdicts, searched),
+        Style::Text => text_of(alloc, graph, claims, names, verdicts, searched),
+        Style::Json => json_of(alloc, graph, claims, names, verdicts),
+        Style::Junit => junit_of(alloc, graph, claims, names, verdicts, searched),
     }
 }
 
@@ -82,13 +83,14 @@ fn answer_of(
     let graph = &document.graph;
     let rules = rules_of(document);
     let searched = Searched { depth, rules };
-    let text = styled(alloc, style, graph, &document.claims, verdicts, &searched)?;
+    let (claims, names) = (&document.claims, &document.names);
+    let text = styled(alloc, style, graph, claims, names, verdicts, &searched)?;
     let exit = exit_of(graph, &document.claims, verdicts);
     Ok(Answer { exit, text })
 }
 
 /// The answer to a document.
-fn answer_for<T: Threads + Sync, A: Attend>(
+fn answer_for<T: Threads + Sync, A: Attend + Sync>(
     rt: &T,
     alloc: Global,
     asked: Verification,
@@ -107,7 +109,7 @@ fn answer_for<T: Threads + Sync, A: Attend>(
 }
 
 /// The answer to bytes.
-fn answer<T: Threads + Sync, A: Attend, H: Hear>(
+fn answer<T: Threads + Sync, A: Attend + Sync, H: Hear>(
     rt: &T,
     alloc: Global,
     asked: Verification,
@@ -173,7 +175,7 @@ impl Command for OneByOne {
 }
 
 /// Reads a document and writes the answer to it.
-fn respond<T: Threads + Sync, A: Attend, L: Listen, I: Read, O: Write>(
+fn respond<T: Threads + Sync, A: Attend + Sync, L: Listen, I: Read, O: Write>(
     rt: &T,
     alloc: Global,
     asked: Verification,
@@ -205,7 +207,7 @@ fn respond<T: Threads + Sync, A: Attend, L: Listen, I: Read, O: Write>(
 /// The text is made whole before its first byte is written. A failed read ends the reading, and then nothing is
 /// written; after a failed write no more is. Who attends is told of each verdict as soon as it is found; where the
 /// document can't be read, the listener is told why.
-pub fn verify_document<T: Threads + Sync, A: Attend, L: Listen, I: Read, O: Write>(
+pub fn verify_document<T: Threads + Sync, A: Attend + Sync, L: Listen, I: Read, O: Write>(
     rt: &T,
     alloc: Global,
     asked: Verification,

@@ -40,3 +40,9 @@ at_place (v ∷ verdicts) (p ∷ places) (suc i) verdict e there =
     let rest : places ≡ map (λ w. Some w) verdicts = cc in
     let more = at_place verdicts places i verdict rest there in
     (let lt = more.0 in omega arith, more.1)
+
+-- what is at a place, where it can only be this
+pub only_there : (verdicts : List Verdict) (i : ℕ) (it : Verdict) → i < length verdicts → ((v : Verdict) → slice_get verdicts i ≡ Some v → v ≡ it) → slice_get verdicts i ≡ Some it
+only_there [] i it lt is = absurd (omega arith)
+only_there (v ∷ verdicts) zero it lt is = ap Some (is v refl)
+only_there (v ∷ verdicts) (suc i) it lt is = only_there verdicts i it (omega arith) is

@@ -107,9 +107,9 @@ fn filled<R: Threads + Sync, F: Fn(usize) -> Option<Verdict> + Sync>(
     Ok(places)
 }
 
-/// What the function answers at each of the first places, by at most this many threads beside each other. Whatever
-/// their number, each answer is one of the same call. An error where one of the calls has no answer.
-fn answers<R: Threads + Sync, F: Fn(usize) -> Option<Verdict> + Sync>(
+/// What the function answers at each of the first places, by at most this many threads beside each other. An error where
+/// one of the calls has no answer.
+pub fn answers<R: Threads + Sync, F: Fn(usize) -> Option<Verdict> + Sync>(
     rt: &R,
     alloc: Global,
     count: usize,
@@ -121,16 +121,23 @@ fn answers<R: Threads + Sync, F: Fn(usize) -> Option<Verdict> + Sync>(
     ensures count { IfOk result (λ verdicts. length verdicts.items ≡ count) }
     ensures each { IfOk result (λ verdicts. (i : ℕ) (verdict : Verdict)
         → slice_get verdicts.items i ≡ Some verdict → F.post answer.now i (Some verdict)) }
+
+    // Where the function has one answer at each place, these are its answers, whatever the number of threads.
+    ensures same { (one : ℕ → Verdict)
+        → ((i : ℕ) (verdict : Verdict) → i < count → F.post answer.now i (Some verdict)
+        → verdict ≡ one i)
+        → IfOk result (λ verdicts. (i : ℕ) → i < count
+        → slice_get verdicts.items i ≡ Some (one i)) }
 {
     let places = filled(rt, alloc, count, jobs, answer)?;
     let all = taken(alloc, places)?;
     Ok(all)
 }
 
-/// The verdicts on the claims, as `verify` gives them, by at most this many threads beside each other. Each verdict
-/// comes from its graph, claim, rules, number and limits alone, so they are the same for every number of threads. Who attends is
-/// told of each verdict as soon as it is found.
-pub fn verify_beside<R: Threads + Sync, A: Attend>(
+/// The verdicts on the claims, as [`verify_claim`] gives them, by at most this many threads beside each other. Each comes
+/// from its graph, claim, rules, number and limits alone, and so they are the same for every number of threads, as
+/// [`answers`] says. Who attends is told of each verdict as soon as it is found.
+pub fn verify_beside<R: Threads + Sync, A: Attend + Sync>(
     rt: &R,
     alloc: Global,
     graph: &Graph,

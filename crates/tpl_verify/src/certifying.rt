@@ -6,9 +6,10 @@ ghost use Rattle.tpl_cert.specs.Heights.{height};
 ghost use Rattle.tpl_graph.specs.Fits.{Fits};
 ghost use Rattle.tpl_verify.specs.Verdicts.{HoldsAlways, IsCertified, under};
 
+use crate::limits::FEW_LEAVES;
 use std::alloc::{AllocError, Global};
 use std::slice;
-use tpl_analyser::{Budget, Depth, Form, Gap, Leaves, Unwatched, analyse_within};
+use tpl_analyser::{Budget, Depth, Form, Gap, Unwatched, analyse_within};
 use tpl_cert::{Certificate, Node, Tree};
 use tpl_graph::{Claim, Graph};
 use tpl_model::{Property, RuleSet};
@@ -59,8 +60,7 @@ pub(crate) fn certify(
     Ok(splits_in(&certificate))
 }
 
-/// Under what the claim takes as given, this property holds in each run: a certificate says so, which is found within
-/// these limits.
+/// Under what the claim takes as given, this property holds in each run: a certificate says so, which a quick search finds.
 pub(crate) fn is_certified(
     alloc: Global,
     graph: &Graph,
@@ -68,7 +68,6 @@ pub(crate) fn is_certified(
     body: Property,
     rules: RuleSet,
     depth: Depth,
-    leaves: Leaves,
 ) -> Result<bool, AllocError>
     ensures { IfOk result (λ found. IsTrue found
         → HoldsAlways graph.now.graph (under claim.now.given body)) }
@@ -78,7 +77,7 @@ pub(crate) fn is_certified(
     if !other.fits(graph) {
         return Ok(false);
     }
-    let mut budget = Budget::new(Unwatched, leaves);
+    let mut budget = Budget::new(Unwatched, FEW_LEAVES);
     match certify(alloc, graph, &other, rules, depth, &mut budget) {
         Ok(_) => Ok(true),
         Err(Gap::NotFound { .. }) => Ok(false),

@@ -9,19 +9,13 @@ ghost use Rattle.tpl_verify.specs.Verdicts.{EndsAnyhow, HasNoLabel, IsEmpty, Nee
 use crate::certifying::is_certified;
 use crate::verdict::Empty;
 use std::alloc::{AllocError, Global};
-use tpl_analyser::{Depth, Leaves};
+use tpl_analyser::Depth;
 use tpl_checker::assumed;
 use tpl_graph::{Claim, Graph, Kind};
 use tpl_model::{Given, Property, RuleSet};
 use tpl_outline::cancels_quiet;
 use tpl_script::may;
 use tpl_words::{Finals, TaskId};
-
-/// How many leaves are tried for each claim that makes another one empty.
-const LEAVES: Leaves = Leaves {
-    in_order: 2_000,
-    directed: 500,
-};
 
 /// The most tasks of which it is tried whether they never end.
 const MOST_TRIED: usize = 32;
@@ -93,7 +87,7 @@ fn never_begins(
         None => Ok(None),
         Some(task) => {
             let body = Property::Never(task);
-            let never = is_certified(alloc, graph, claim, body, rules, depth, LEAVES)?;
+            let never = is_certified(alloc, graph, claim, body, rules, depth)?;
             if never {
                 Ok(Some(Empty::NeverBegins(task)))
             } else {
@@ -150,7 +144,7 @@ fn never_throws(
         return Ok(true);
     }
     let body = Property::Final(task, UNFAULTED);
-    let never = is_certified(alloc, graph, claim, body, rules, depth, LEAVES)?;
+    let never = is_certified(alloc, graph, claim, body, rules, depth)?;
     Ok(never)
 }
 
@@ -207,7 +201,7 @@ fn never_ends(
 {
     if has_to_end(graph, task) {
         let body = Property::Final(task, NO_END);
-        let never = is_certified(alloc, graph, claim, body, rules, depth, LEAVES)?;
+        let never = is_certified(alloc, graph, claim, body, rules, depth)?;
         if never {
             return Ok(Some(Empty::NeverKept));
         }

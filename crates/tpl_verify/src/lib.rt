@@ -11,9 +11,9 @@ mod verdict;
 mod verifying;
 
 pub use attend::{Attend, Unattended};
-pub use beside::verify_beside;
+pub use beside::{answers, verify_beside};
 pub use empty::why_empty;
 pub use limits::Limits;
 pub use summing::all_hold;
 pub use verdict::{Empty, Tried, Verdict};
-pub use verifying::{verify, verify_claim};
+pub use verifying::{judge_claim, verify, verify_claim};

@@ -1,5 +1,7 @@
 //! What is answered of a claim.
 
+ghost use Rattle.std.specs.Prelude.{◌≡◌, codes, if◌then◌else◌};
+
 use tpl_analyser::RanOut;
 use tpl_refute::Counterexample;
 use tpl_words::TaskId;
@@ -42,4 +44,18 @@ pub struct Tried {
     pub runs: u32,
     /// The events that may be played were used up before the runs.
     pub events_ran_out: bool,
+}
+
+impl Tried {
+    /// What is said behind the number of runs.
+    pub fn most(self) -> &'static str
+        ensures { result.now
+            ≡ (if self.events_ran_out then codes ", and no more may be made" else codes "") }
+    {
+        if self.events_ran_out {
+            ", and no more may be made"
+        } else {
+            ""
+        }
+    }
 }

@@ -16,33 +16,7 @@ use tpl_graph::{Claim, Graph};
 use tpl_model::RuleSet;
 use tpl_refute::{Effort, refute};
 
-/// How many random runs are made before a certificate is searched: they refute most false claims.
-const FIRST_RUNS: u32 = 1_000;
-
-/// These runs may play this part of the events that all may.
-const FIRST_PART: u64 = 200;
-
-/// The first random runs for the claim of this number. Those of all runs begin with the same ones.
-fn first_runs(limits: &Limits, number: u64) -> Effort {
-    Effort {
-        runs: limits.runs.min(FIRST_RUNS),
-        events: limits.events / FIRST_PART,
-        seed: limits.seed,
-        stream: number,
-    }
-}
-
-/// All random runs for the claim of this number.
-fn all_runs(limits: &Limits, number: u64) -> Effort {
-    Effort {
-        runs: limits.runs,
-        events: limits.events,
-        seed: limits.seed,
-        stream: number,
-    }
-}
-
-/// The verdict on a claim for which a certificate was found.
+/// The verdict on a claim for which a certificate was found: why it says nothing, if so, is searched too.
 fn held(
     alloc: Global,
     graph: &Graph,
@@ -60,7 +34,7 @@ fn held(
     Ok(Verdict::Holds { splits, empty })
 }
 
-/// The verdict on a claim for which no certificate was found, after all random runs.
+/// The verdict on a claim for which no certificate was found, after these random runs.
 fn tried(
     alloc: Global,
     graph: &Graph,
@@ -83,7 +57,7 @@ fn tried(
     }
 }
 
-/// The verdict on a claim that the first random runs didn't refute.
+/// The verdict on a claim that the first random runs didn't refute. It isn't asked whether it says nothing.
 fn certified_or_tried(
     alloc: Global,
     graph: &Graph,
@@ -97,9 +71,12 @@ fn certified_or_tried(
 {
     let mut budget = Budget::new(Unwatched, limits.leaves);
     match certify(alloc, graph, claim, rules, limits.depth, &mut budget) {
-        Ok(splits) => held(alloc, graph, claim, rules, splits, limits.depth),
+        Ok(splits) => Ok(Verdict::Holds {
+            splits,
+            empty: None,
+        }),
         Err(Gap::NotFound { .. }) => {
-            let effort = all_runs(limits, number);
+            let effort = limits.all_runs(number);
             tried(alloc, graph, claim, rules, effort, budget.ran_out())
         }
         Err(Gap::Memory) => Err(AllocError),
@@ -110,8 +87,28 @@ fn certified_or_tried(
 /// certificate, with few splits before many, then all random runs. The number only chooses the random numbers, so the
 /// answer depends on the graph, the claim, its number and the limits alone. Out of memory is the only error.
 ///
-/// `Holds` is said only of a claim that holds in each run of the graph, and why it is empty only where that is certified.
-/// `Fails` is said only with a run in which it doesn't hold. `Unknown` promises nothing.
+/// `Holds` is said only of a claim that holds in each run of the graph; it isn't asked whether it says nothing. `Fails` is
+/// said only with a run in which it doesn't hold. `Unknown` promises nothing.
+pub fn judge_claim(
+    alloc: Global,
+    graph: &Graph,
+    claim: &Claim,
+    rules: RuleSet,
+    number: u64,
+    limits: &Limits,
+) -> Result<Verdict, AllocError>
+    requires { Fits graph.now.graph claim.now }
+    ensures { IfOk result (IsVerdict (is_wide rules) graph.now.graph claim.now) }
+{
+    let first = refute(alloc, graph, claim, limits.first_runs(number))?;
+    match first.found {
+        Some(run) => Ok(Verdict::Fails(run)),
+        None => certified_or_tried(alloc, graph, claim, rules, number, limits),
+    }
+}
+
+/// The verdict on the claim of this number, as [`judge_claim`] gives it; of a claim that holds also why it is empty, where
+/// that is certified.
 pub fn verify_claim(
     alloc: Global,
     graph: &Graph,
@@ -123,11 +120,10 @@ pub fn verify_claim(
     requires { Fits graph.now.graph claim.now }
     ensures { IfOk result (IsVerdict (is_wide rules) graph.now.graph claim.now) }
 {
-    let effort = first_runs(limits, number);
-    let first = refute(alloc, graph, claim, effort)?;
-    match first.found {
-        Some(run) => Ok(Verdict::Fails(run)),
-        None => certified_or_tried(alloc, graph, claim, rules, number, limits),
+    match judge_claim(alloc, graph, claim, rules, number, limits)? {
+        Verdict::Holds { splits, .. } => held(alloc, graph, claim, rules, splits, limits.depth),
+        Verdict::Fails(run) => Ok(Verdict::Fails(run)),
+        Verdict::Unknown(tried) => Ok(Verdict::Unknown(tried)),
     }
 }
 

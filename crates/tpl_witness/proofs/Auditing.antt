@@ -6,7 +6,10 @@ use Rattle.std.proofs.lemmas.List.{reverse-append, take_all}
 use Rattle.std.proofs.lemmas.Option.{get_or_from_slice_get, slice_get_within}
 use Rattle.tpl_commands.proofs.TakenBack.{unreadable_never}
 use Rattle.tpl_laws.specs.Runs.{PrefixIsRun}
+use Rattle.tpl_words.specs.declared.finals.Final.{Final}
+use Rattle.tpl_words.specs.declared.ids.TaskId.{TaskId}
 use Rattle.tpl_model.specs.Graph.{TaskGraph}
+use Rattle.tpl_draft.specs.Named.{Names}
 use Rattle.tpl_model.specs.declared.event.Event.{Event}
 use Rattle.tpl_model.specs.Claims.{Claim, Holds}
 use Rattle.tpl_model.specs.Rules.{Run}
@@ -49,18 +52,20 @@ is_allowed g claim v events place prefix refused r =
     ap reverse (next_event events refused.before refused.event refused.there) ∙ reverse-append (take refused.before events) (refused.event ∷ []) in
     refused.refused (subst (Run g v) parts (front_run g v events (suc refused.before) prefix r.run)).1
 
-module _ (g : TaskGraph) (claims : List Claim) (claim : Claim) (number : ℕ) (inputs : List Bool) (events : List Event) (numbered : IsNumbered claims number claim) (refutes : Refutes g claim inputs events) where
+module _ (names : Names) (g : TaskGraph) (claims : List Claim) (ended : List (TaskId × Final)) (claim : Claim) (number : ℕ) (inputs : List Bool) (events : List Event) (numbered : IsNumbered claims number claim) (refutes : Refutes g claim inputs events) where
   never_all : FirstFails g inputs events claims None → ⊥
   never_all none =
       let all : AllHoldAt g inputs events claims (length events) = none (length events) (omega arith) in
       let holds = there (λ c. Holds g c inputs (first_events events (length events))) claims numbered.0 claim all numbered.2 in
       refutes.fails (subst (Holds g claim inputs) (ap reverse (take_all (length events) events (omega arith))) holds)
 
-  names_failure : PrefixIsRun → (verdict : Verdict) (exit : Exit) (text : List ℕ) → IsVerdict g inputs events claims verdict → exit ≡ verdict_exit verdict → text ≡ verdict_text verdict
-      → (exit ≡ Memory) ⊎ NamesFailure (length events) exit text
-  names_failure prefix (ruled.Run complete None) exit text is ends said = absurd (never_all is.failure)
-  names_failure prefix (ruled.Run complete (Some failure)) exit text is ends said =
-      inr (record { ends = ends; complete = complete; failure = failure; early = is.failure.within; said = said })
+  names_failure : PrefixIsRun → (verdict : Verdict) (exit : Exit) (text : List ℕ) → IsVerdict g inputs events claims ended verdict → exit ≡ verdict_exit verdict → text ≡ verdict_text names verdict
+      → (exit ≡ Memory) ⊎ NamesFailure names (length events) exit text
+  names_failure prefix (ruled.Run complete None other_end) exit text is ends said = absurd (never_all is.failure)
+  names_failure prefix (ruled.Run complete (Some failure) None) exit text is ends said =
+      inr (record { ends = ends; complete = complete; failure = failure; early = is.failure.within; other_end = None; said = said })
+  names_failure prefix (ruled.Run complete (Some failure) (Some other)) exit text is ends said =
+      inr (record { ends = ends; complete = complete; failure = failure; early = is.failure.within; other_end = Some other; said = said })
   names_failure prefix (ruled.NotAllowed place) exit text is ends said = absurd (is_allowed g claim inputs events place prefix is refutes)
   names_failure prefix ruled.Memory exit text is ends said = inl ends
 
@@ -78,20 +83,20 @@ module _ (doc : DocumentValue) (claim : Claim) (number : ℕ) (inputs : List Boo
   known : inputs_of (refuted_by doc inputs events) ≡ Some inputs
   known = ap (λ v. Some v) (started_inputs doc.start inputs)
 
-  of_verdict : (verdict : Verdict) (exit : Exit) (text : List ℕ) → IsAudited (refuted_by doc inputs events) verdict → exit ≡ verdict_exit verdict → text ≡ verdict_text verdict → (exit ≡ Memory) ⊎ NamesFailure (length events) exit text
+  of_verdict : (verdict : Verdict) (exit : Exit) (text : List ℕ) → IsAudited (refuted_by doc inputs events) verdict → exit ≡ verdict_exit verdict → text ≡ verdict_text doc.graph.names verdict → (exit ≡ Memory) ⊎ NamesFailure doc.graph.names (length events) exit text
   of_verdict verdict exit text is ends said =
       let same : events ≡ is.events = unambiguous doc.graph events is.events named journal.spelled is.journal.spelled is.journal.reads in
       let values : is.inputs ≡ inputs = the_same is.inputs inputs (sym is.known ∙ known) in
-      let judged = subst (λ (v : List Bool). IsVerdict doc.graph.graph v is.events doc.claims verdict) values is.audited in
-      let judged_so : IsVerdict doc.graph.graph inputs events doc.claims verdict = subst (λ (h : List Event). IsVerdict doc.graph.graph inputs h doc.claims verdict) (sym same) judged in
-      names_failure doc.graph.graph doc.claims claim number inputs events numbered refutes prefix verdict exit text judged_so ends said
+      let judged = subst (λ (v : List Bool). IsVerdict doc.graph.graph v is.events doc.claims [] verdict) values is.audited in
+      let judged_so : IsVerdict doc.graph.graph inputs events doc.claims [] verdict = subst (λ (h : List Event). IsVerdict doc.graph.graph inputs h doc.claims [] verdict) (sym same) judged in
+      names_failure doc.graph.names doc.graph.graph doc.claims [] claim number inputs events numbered refutes prefix verdict exit text judged_so ends said
 
-  of_audit : (audit : Audit) (exit : Exit) (text : List ℕ) → IsAuditOf (refuted_by doc inputs events) audit → IsAuditAnswer audit exit text → (exit ≡ Memory) ⊎ NamesFailure (length events) exit text
+  of_audit : (audit : Audit) (exit : Exit) (text : List ℕ) → IsAuditOf (refuted_by doc inputs events) audit → IsAuditAnswer doc.graph.names audit exit text → (exit ≡ Memory) ⊎ NamesFailure doc.graph.names (length events) exit text
   of_audit NoStart exit text is said = let e : None ≡ Some inputs = sym is ∙ known in absurd cc
   of_audit (Judged verdict) exit text is said = of_verdict verdict exit text is said.0 said.1
   of_audit (NoJournal fault) exit text is said = absurd (no_journal doc.graph (lines doc.graph.names events) fault events named is.is is.other journal)
 
-  pub audited_so : (bytes : List ℕ) → SpellsOneDocument → SpelledHasNoFault → Spells bytes (refuted_by doc inputs events) → IsAuditedSo (length events) bytes
+  pub audited_so : (bytes : List ℕ) → SpellsOneDocument → SpelledHasNoFault → Spells bytes (refuted_by doc inputs events) → IsAuditedSo doc.graph.names (length events) bytes
   audited_so bytes one faultless spelled exit text (inl found) =
       let is : IsAudit (refuted_by doc inputs events) exit text = subst (λ (d : DocumentValue). IsAudit d exit text) (one bytes (refuted_by doc inputs events) found.0 spelled found.1) found.2 in
       of_audit is.0 exit text is.1 is.2

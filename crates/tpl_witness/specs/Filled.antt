@@ -1,7 +1,8 @@
 -- A document in which the inputs and the journal are filled in.
-use Rattle.std.specs.Prelude.{◌≡◌, ◌≤◌, ℕ, ◌<◌, Bool, true, false, List, [], length, Option, Some, None, codes, slice_index_or}
-use Rattle.serde_json.specs.Data.{Data, Members, no_members, boolean, string, object, put, members_depth}
-use Rattle.serde_json.specs.Find.{get_member}
+use Rattle.std.specs.Prelude.{◌≡◌, ◌≤◌, ℕ, ◌<◌, Bool, true, false, List, [], length, Option, Some, None, codes, slice_index_or, if◌then◌else◌}
+use Rattle.std.specs.Str.{bytes_eq}
+use Rattle.serde_json.specs.Data.{Data, Members, no_members, member, boolean, string, object, put, members_depth}
+use Rattle.serde_json.specs.Find.{get, get_member}
 use Rattle.tpl_cert.specs.Written.{name_at}
 use Rattle.tpl_reader.specs.Begin.{StartValue, declares}
 use Rattle.tpl_parts.specs.StartGrammar.{AreTruths}
@@ -12,9 +13,9 @@ abbrev pub started : Option StartValue → List Bool → StartValue
 started None inputs = record { inputs = inputs; request = []; fail = [] }
 started (Some start) inputs = record start { inputs = inputs }
 
--- the document with these inputs and this journal, and all else as it was
+-- the document with these inputs and this journal, without what was seen of another run, and all else as it was
 abbrev pub with_run : DocumentValue → List Bool → List ℕ → DocumentValue
-with_run doc inputs journal = record doc { journal = journal; start = Some (started doc.start inputs) }
+with_run doc inputs journal = record doc { journal = journal; start = Some (started doc.start inputs); ended = []; times = None }
 
 -- the bytes are a text of the document, which may be longer than one that is read
 abbrev pub IsTextOf : List ℕ → DocumentValue → Type 0
@@ -45,6 +46,23 @@ pub record IsStartWith (names : List (List ℕ)) (values : List Bool) (old : Opt
   pub inputs : Members
   pub all : AreFirst names values (length names) inputs
   pub new_is : new ≡ object (put (codes "inputs") (object inputs) members)
+
+-- the members without the first of this name
+abbrev pub without : List ℕ → Members → Members
+without k no_members = no_members
+without k (member l e ms) = if bytes_eq k l then ms else member l e (without k ms)
+
+-- the document without what was seen of a run
+pub record IsUnseen (old new : Data) : Type 0 where
+  pub members : Members
+  pub old_is : old ≡ object members
+  pub no_ended : get (codes "ended") (object (without (codes "ended") members)) ≡ None
+  pub no_times : get (codes "times") (object (without (codes "times") (without (codes "ended") members))) ≡ None
+  pub new_is : new ≡ object (without (codes "times") (without (codes "ended") members))
+
+-- what the bytes read as, without what was seen of a run
+abbrev pub IsUnseenOf : List ℕ → Data → Type 0
+IsUnseenOf bytes d = (old : Data) × Reads bytes old × IsUnseen old d
 
 -- the document with this start and this journal
 pub record IsFilled (start : Data) (journal : List ℕ) (old new : Data) : Type 0 where

@@ -7,11 +7,14 @@ use Rattle.tpl_model.specs.Certificate.{Tree, Accepts}
 use Rattle.tpl_model.specs.Claims.{Claim}
 use Rattle.tpl_journal.specs.Lines.{IsJournal, lines}
 use Rattle.tpl_audit.specs.declared.verdict.Failure.{Failure}
+use Rattle.tpl_audit.specs.declared.verdict.OtherEnd.{OtherEnd}
+use Rattle.tpl_audit.specs.declared.verdict.Verdict.TheVariants as ruled
+use Rattle.tpl_draft.specs.Named.{Names}
 use Rattle.tpl_refute.specs.Refuting.{Refutes}
 use Rattle.tpl_reader.specs.Document.{DocumentValue, Spells, longest}
 use Rattle.tpl_commands.specs.declared.exit.Exit.{Exit}
 use Rattle.tpl_commands.specs.declared.exit.Exit.TheVariants.{Success, Failure as Failed, Usage, Unreadable, Memory, Device, Fault}
-use Rattle.tpl_commands.specs.Auditing.{Audits, run_text}
+use Rattle.tpl_commands.specs.Auditing.{Audits, verdict_text}
 use Rattle.tpl_commands.specs.Documents.{ToDocument}
 use Rattle.tpl_commands.specs.Responding.{Answers}
 use Rattle.tpl_commands.specs.Texts.{unreadable, unreadable_part}
@@ -30,16 +33,18 @@ abbrev pub refuted_by : DocumentValue → List Bool → List Event → DocumentV
 refuted_by doc inputs events = with_run doc inputs (lines doc.graph.names events)
 
 -- the audit names a claim that fails at this place or before
-pub record NamesFailure (place : ℕ) (exit : Exit) (text : List ℕ) : Type 0 where
+pub record NamesFailure (names : Names) (place : ℕ) (exit : Exit) (text : List ℕ) : Type 0 where
   pub ends : exit ≡ Failed
   pub complete : Bool
   pub failure : Failure
   pub early : failure.place ≤ place
-  pub said : text ≡ run_text complete (Some failure)
+  pub other_end : Option OtherEnd
+  pub said : text ≡ verdict_text names (ruled.Run complete (Some failure) other_end)
 
 -- whatever the audit answers to a document of these bytes, memory aside, it names a claim that fails
-abbrev pub IsAuditedSo : ℕ → List ℕ → Type 0
-IsAuditedSo place bytes = (exit : Exit) (text : List ℕ) → Audits bytes exit text → (exit ≡ Memory) ⊎ NamesFailure place exit text
+abbrev pub IsAuditedSo : Names → ℕ → List ℕ → Type 0
+IsAuditedSo names place bytes =
+    (exit : Exit) (text : List ℕ) → Audits bytes exit text → (exit ≡ Memory) ⊎ NamesFailure names place exit text
 
 -- The text spells the document itself with a run that refutes a claim, and no other document: its journal is that run.
 -- It is one line, JSON with no space between its tokens, and a line break.
@@ -51,7 +56,7 @@ pub record IsRefutation (asked : Option ℕ) (doc : DocumentValue) (text : List 
   pub spelled : Spells text (refuted_by doc inputs events)
   pub only : (other : DocumentValue) → Spells text other → other ≡ refuted_by doc inputs events
   pub journal : IsJournal doc.graph (lines doc.graph.names events) events
-  pub audited : IsAuditedSo (length events) text
+  pub audited : IsAuditedSo doc.graph.names (length events) text
   pub unproved : (wide : Bool) (certificate : List Tree) → Accepts wide doc.graph.graph doc.claims certificate → ⊥
   pub json : List ℕ
   pub compact : json ≡ print (tokens json)

@@ -1,27 +1,23 @@
 //! What is told beside the answer, for people. No answer depends on it.
 
-use crate::search::Search;
 use std::alloc::{AllocError, Global};
 use tpl_commands::Listen;
-use tpl_refute::Sought;
+use tpl_verify::Verdict;
 
 /// Says how the search for a claim has ended.
 pub(crate) fn tell_end<L: Listen>(
     alloc: Global,
     number: usize,
-    search: Search,
-    sought: &Sought,
+    verdict: &Verdict,
     listener: L,
 ) -> Result<(), AllocError> {
-    let runs = sought.runs;
-    let text = if sought.found.is_some() {
-        format!(in alloc; "claim {number}: refuted within {runs} runs\n")?
-    } else if runs < search.runs {
-        format!(in alloc;
-            "claim {number}: not refuted in {runs} runs; there its share of the events was played\n"
-        )?
-    } else {
-        format!(in alloc; "claim {number}: not refuted in {runs} runs\n")?
+    let text = match verdict {
+        Verdict::Holds { .. } => format!(in alloc; "claim {number}: it holds, by a certificate\n")?,
+        Verdict::Fails(_) => format!(in alloc; "claim {number}: it fails in a run\n")?,
+        Verdict::Unknown(tried) => {
+            let (runs, most) = (tried.runs, tried.most());
+            format!(in alloc; "claim {number}: it fails in none of {runs} random runs{most}\n")?
+        }
     };
     listener.tells(text.as_str());
     Ok(())

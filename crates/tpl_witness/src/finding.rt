@@ -9,9 +9,10 @@ ghost use Rattle.tpl_witness.specs.Witness.{IsFound};
 use crate::aside::tell_end;
 use crate::search::Search;
 use std::alloc::{AllocError, Global};
-use tpl_commands::Listen;
+use tpl_commands::{Listen, rules_of};
 use tpl_reader::Document;
-use tpl_refute::{Counterexample, Effort, refute};
+use tpl_refute::Counterexample;
+use tpl_verify::{Attend, Verdict, judge_claim};
 
 /// A run in which a claim fails.
 #[derive(Drop)]
@@ -22,42 +23,29 @@ pub(crate) struct Found {
     pub(crate) run: Counterexample,
 }
 
-/// How many of the events that are left may be played for the next claim, where this many are to come with it.
-fn share(search: Search, left: u64, claims: usize) -> u64 {
-    match search.claim {
-        Some(_) => left,
-        None => left / (claims as u64).max(1),
-    }
-}
-
-/// The first run that is found, claim by claim. Each claim has random numbers of its own.
-pub(crate) fn find<L: Listen>(
+/// The first run that is found, claim by claim. Each claim has random numbers and limits of its own. Who attends is told
+/// of the verdict on each claim.
+pub(crate) fn find<L: Listen, A: Attend>(
     alloc: Global,
     search: Search,
     document: &Document,
     listener: L,
+    attend: &A,
 ) -> Result<Option<Found>, AllocError>
     requires { All (Fits document.now.graph.graph) document.now.claims.items }
     ensures { IfOk result (λ o. IfSome o (λ found. IsFound search.claim (doc_of document.now)
         found.number found.run.inputs found.run.events.items)) }
 {
-    let mut left = search.events;
+    let (graph, rules, limits) = (&document.graph, rules_of(document), &search.limits);
     for (index, claim) in document.claims.iter().enumerate() {
         let number = index + 1;
         if search.asks(number) {
-            let events = share(search, left, document.claims.len().saturating_sub(index));
-            let effort = Effort {
-                runs: search.runs,
-                events,
-                seed: search.seed,
-                stream: number as u64,
-            };
-            let sought = refute(alloc, &document.graph, claim, effort)?;
-            left = left.saturating_sub(events.saturating_sub(sought.left));
+            let verdict = judge_claim(alloc, graph, claim, rules, number as u64, limits)?;
+            attend.judged(number, &verdict);
             if search.explain {
-                tell_end(alloc, number, search, &sought, listener)?;
+                tell_end(alloc, number, &verdict, listener)?;
             }
-            if let Some(run) = sought.found {
+            if let Verdict::Fails(run) = verdict {
                 return Ok(Some(Found { number, run }));
             }
         }

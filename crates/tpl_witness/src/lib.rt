@@ -13,3 +13,4 @@ pub use journal::journal_text;
 pub use refuting::refute_document;
 pub use search::Search;
 pub use start::input_members;
+pub use text::text_with;

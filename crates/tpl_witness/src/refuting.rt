@@ -20,6 +20,7 @@ use std::io::{Read, Write};
 use tpl_commands::{Answer, Answered, Command, Exit, Listen, respond, unread};
 use tpl_journal::{Counting, fault_is_no_journal, spells_run, text_is_unambiguous};
 use tpl_reader::{Document, LONGEST, one_document, read_document_heard};
+use tpl_verify::Attend;
 
 /// The document with the run that was found.
 fn refutation<L: Listen>(
@@ -61,10 +62,11 @@ fn refutation<L: Listen>(
 }
 
 /// The answer to a document.
-fn answer_for<L: Listen>(
+fn answer_for<L: Listen, A: Attend>(
     alloc: Global,
     search: Search,
     listener: L,
+    attend: &A,
     bytes: &[u8],
     document: &Document,
 ) -> Result<Answer, AllocError>
@@ -82,7 +84,7 @@ fn answer_for<L: Listen>(
             });
         }
     }
-    match find(alloc, search, document, listener)? {
+    match find(alloc, search, document, listener, attend)? {
         Some(found) => refutation(alloc, search, listener, bytes, document, found),
         None => Ok(Answer {
             exit: Exit::Success,
@@ -93,18 +95,20 @@ fn answer_for<L: Listen>(
 
 /// The search for a run in which a claim fails, and who is told of it.
 #[derive(Drop)]
-struct Refuting<L> {
+struct Refuting<'a, L, A> {
     search: Search,
     listener: L,
+    attend: &'a A,
 }
 
-impl<L: Listen> Command for Refuting<L> {
+impl<L: Listen, A: Attend> Command for Refuting<'_, L, A> {
     ghost answers = { λ this. Searches this.search.claim };
 
     fn answer(&self, alloc: Global, bytes: &[u8]) -> Result<Answered, AllocError> {
         match read_document_heard(alloc, bytes, self.listener) {
             Ok(document) => {
-                let answer = answer_for(alloc, self.search, self.listener, bytes, &document)?;
+                let (search, attend) = (self.search, self.attend);
+                let answer = answer_for(alloc, search, self.listener, attend, bytes, &document)?;
                 let finding = None;
                 Ok(Answered { answer, finding })
             }
@@ -120,11 +124,12 @@ impl<L: Listen> Command for Refuting<L> {
 ///
 /// The text is made whole before its first byte is written. A failed read ends the reading, and then nothing is
 /// written; after a failed write no more is. The listener is told the run itself, with the place where the claim
-/// fails; and where the document can't be read, why.
-pub fn refute_document<L: Listen, I: Read, O: Write>(
+/// fails; and where the document can't be read, why. Who attends is told of the verdict on each claim that was searched.
+pub fn refute_document<L: Listen, A: Attend, I: Read, O: Write>(
     alloc: Global,
     search: Search,
     listener: L,
+    attend: &A,
     from: &mut Counting<I>,
     to: &mut Counting<O>,
 ) -> Exit
@@ -141,5 +146,10 @@ pub fn refute_document<L: Listen, I: Read, O: Write>(
     ensures unrefuted { result ≡ Exit.Success → Unrefuted I.remaining from.old from.new
         O.contents to.old to.new search.claim }
 {
-    respond(&Refuting { search, listener }, alloc, listener, from, to)
+    let command = Refuting {
+        search,
+        listener,
+        attend,
+    };
+    respond(&command, alloc, listener, from, to)
 }

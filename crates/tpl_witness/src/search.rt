@@ -1,26 +1,39 @@
 //! What is searched.
 
-ghost use Rattle.std.specs.Prelude.{◌↔◌, IsTrue, length};
+ghost use Rattle.std.specs.Prelude.{◌≡◌, ◌↔◌, IsTrue, length};
 ghost use Rattle.tpl_witness.specs.Asking.{IsAsked, IsThere};
 
 use tpl_reader::Document;
+use tpl_verify::Limits;
 
 /// Which claims are searched for runs in which they fail, and how long.
 #[derive(Clone, Copy, Debug, Drop)]
 pub struct Search {
     /// The number of the only claim that is searched, where the first claim has number 1; none, where each is.
     pub claim: Option<usize>,
-    /// The most runs for each claim.
-    pub runs: u32,
-    /// How many events are played at most in the whole search. Each claim that is searched has its share of what is left.
-    pub events: u64,
-    /// The seed of the random numbers. The same search is made for the same seed.
-    pub seed: u64,
+    /// How much is tried for each claim at most.
+    pub limits: Limits,
     /// The listener is told when the search for a claim has ended.
     pub explain: bool,
 }
 
 impl Search {
+    /// Tries at most so many random runs by the numbers of this seed: for one claim these alone; where each claim is
+    /// searched, a certificate is searched quickly too, and no more runs are tried for a claim that has one.
+    pub fn new(claim: Option<usize>, runs: u32, seed: u64, explain: bool) -> Search
+        ensures { result.claim ≡ claim }
+    {
+        let limits = match claim {
+            Some(_) => Limits::of_runs(runs, seed),
+            None => Limits::quick(runs, seed),
+        };
+        Search {
+            claim,
+            limits,
+            explain,
+        }
+    }
+
     /// The claim of this number is searched.
     pub(crate) fn asks(&self, number: usize) -> bool
         ensures { IsTrue result ↔ IsAsked self.now.claim number }

@@ -7,7 +7,7 @@ ghost use Rattle.serde_json.specs.Data.{depth};
 ghost use Rattle.serde_json.specs.View.{view};
 ghost use Rattle.tpl_reader.specs.Document.{Reads, Spells};
 ghost use Rattle.tpl_reader.specs.SeenDocument.{doc_of};
-ghost use Rattle.tpl_witness.specs.Filled.{HasForm, IsFilled, IsTextOf, with_run};
+ghost use Rattle.tpl_witness.specs.Filled.{HasForm, IsUnseen, IsUnseenOf, IsFilled, IsTextOf, with_run};
 
 use crate::start::start_with;
 use serde_json::Value;
@@ -16,7 +16,7 @@ use tpl_reader::Document;
 use tpl_words::Inputs;
 
 /// What the bytes of a document read as.
-fn value_of(alloc: Global, bytes: &[u8], document: &Document) -> Result<Value, AllocError>
+fn read_value(alloc: Global, bytes: &[u8], document: &Document) -> Result<Value, AllocError>
     requires { Spells bytes.now (doc_of document.now) }
     ensures reads { IfOk result (λ v. Reads bytes.now (view v)) }
     ensures nests { IfOk result (λ v. depth (view v) ≤ 127) }
@@ -32,6 +32,30 @@ fn value_of(alloc: Global, bytes: &[u8], document: &Document) -> Result<Value, A
             }
         }
     }
+}
+
+/// The document without what was seen of a run: how tasks ended, and when the lines of the journal were written.
+fn without_seen(document: Value) -> Value
+    requires { HasForm (view document) }
+    ensures { IsUnseen (view document) (view result) }
+{
+    let mut document = document;
+    if let Some(members) = document.as_object_mut() {
+        drop(members.remove("ended"));
+        drop(members.remove("times"));
+    }
+    document
+}
+
+/// What the bytes of a document read as, without what was seen of a run.
+fn value_of(alloc: Global, bytes: &[u8], document: &Document) -> Result<Value, AllocError>
+    requires { Spells bytes.now (doc_of document.now) }
+    ensures reads { IfOk result (λ v. IsUnseenOf bytes.now (view v)) }
+    ensures form { IfOk result (λ v. HasForm (view v)) }
+    ensures nests { IfOk result (λ v. depth (view v) ≤ 127) }
+{
+    let value = read_value(alloc, bytes, document)?;
+    Ok(without_seen(value))
 }
 
 /// The document with this start and this journal.
@@ -53,8 +77,9 @@ fn filled(
     Ok(document)
 }
 
-/// A document with these inputs and this journal, as JSON with no space between its tokens, and a line break.
-pub(crate) fn text_with(
+/// A document with these inputs and this journal, as JSON with no space between its tokens, and a line break. Out of memory
+/// is the only error.
+pub fn text_with(
     alloc: Global,
     bytes: &[u8],
     document: &Document,

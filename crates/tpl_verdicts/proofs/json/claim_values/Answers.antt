@@ -3,7 +3,7 @@ use Rattle.std.proofs.lemmas.List.{map_push}
 use Rattle.serde_json.specs.View.{view}
 use Rattle.tpl_graph.specs.Fits.{Fits}
 use Rattle.tpl_verify.specs.Verdicts.{IsVerdict}
-use Rattle.tpl_verdicts.specs.Json.{IsClaimData}
+use Rattle.tpl_verdicts.specs.Json.{IsNamedData}
 use Rattle.tpl_verdicts.proofs.EntryLemmas.{all_at, numbered_more, zip_at, zip_length}
 use Rattle.tpl_verdicts.proofs.json.claim_values.Goals as goal
 
@@ -24,5 +24,5 @@ claim_value-requires-clause-verdict c =
 
 pub loop-at-preserved : goal.loop-at-preserved
 loop-at-preserved c =
-    numbered_more (IsClaimData c.args.graph.now.names) c.args.verdicts.now (map view c.loop-at.values.items) (map view c.push.new.self.items) c.loop-at.at c.index-verdicts-at.result (view c.in_ok-value.value) c.loop-at-test.true c.index-verdicts-at.is c.loop-at.invariant c.in_ok-value.ensures
+    numbered_more (IsNamedData c.args.graph.now.names) c.args.verdicts.now (map view c.loop-at.values.items) (map view c.push.new.self.items) c.loop-at.at c.index-verdicts-at.result (view c.in_ok-value.value) c.loop-at-test.true c.index-verdicts-at.is c.loop-at.invariant (view c.in_ok-plain.plain, c.in_ok-plain.ensures, c.in_ok-value.ensures)
     (ap (map view) c.in_ok-push.ensures.items ∙ map_push view c.loop-at.values.items c.in_ok-value.value)
