@@ -1,6 +1,5 @@
 pub mod CrossingLemmas
 pub mod EntryLemmas
 pub mod NoFloat
-pub mod RunLemmas
 pub mod Tracing
 pub mod TrackLemmas

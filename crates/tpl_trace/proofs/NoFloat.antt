@@ -11,8 +11,9 @@ use Rattle.tpl_model.specs.declared.event.Act.TheVariants.{Request, Release, Beg
 use Rattle.tpl_model.specs.declared.event.Event.{Event}
 use Rattle.tpl_draft.specs.Named.{Named, antecedent_of}
 use Rattle.tpl_journal.specs.Lines.{task_name}
+use Rattle.tpl_trace.specs.declared.moment.Moment.{Moment}
 use Rattle.tpl_trace.specs.Marks.{slice_mark, arrow_start, arrow_end, track_mark}
-use Rattle.tpl_trace.specs.Trace.{may_end, releases, some_ends, acts_in, track_of, track_name, body_track, body_mark, crosses, new_track, new_tracks, arrows, arrow_to, marks, event_marks, marks_from, trace_data}
+use Rattle.tpl_trace.specs.Trace.{may_end, releases, some_ends, acts_in, track_of, track_name, body_track, body_mark, crosses, new_track, new_tracks, arrows, arrows_from, arrow_to, marks, event_marks, marks_from, trace_data}
 
 abbrev IsWhole : List Data → Type 0
 IsWhole ds = items_have_float (items_of ds) ≡ false
@@ -34,24 +35,24 @@ arrows_whole : (g : TaskGraph) (t track time place : ℕ) (h : List Event) → I
 arrows_whole g t track time place [] = refl
 arrows_whole g t track time place (e ∷ later) = arrow_whole (may_end t e.act) (releases g t e.act) track time place _ (arrows_whole g t track time (suc place) later)
 
-arrow_to_whole : (a : Option ℕ) (track time : ℕ) (past : List Event) → IsWhole (arrow_to a track time past)
-arrow_to_whole a track time past = go (some_ends a past)
+arrow_to_whole : (a : Option ℕ) (here : Moment) (past : List Event) → IsWhole (arrow_to a here past)
+arrow_to_whole a here past = go (some_ends a past)
   where
-    go : (b : Bool) → IsWhole (if b then arrow_end time track time ∷ [] else [])
+    go : (b : Bool) → IsWhole (if b then arrow_end (suc here.before) here.track here.time ∷ [] else [])
     go true = refl
     go false = refl
 
-marks_whole : (n : Named) (x : Act) (track time : ℕ) (past later : List Event) → IsWhole (marks n x track time past later)
-marks_whole n (Request k) track time past later = refl
-marks_whole n (Release c) track time past later = arrow_to_whole (antecedent_of (kind n.graph c.0)) track time past
-marks_whole n (Begin t) track time past later = refl
-marks_whole n (Step t) track time past later = refl
-marks_whole n (Worked t answer) track time past later = refl
-marks_whole n (Leave t) track time past later =
-    whole_append (arrows n.graph t.0 track time (suc time) later) (slice_mark (codes "E") (task_name n.names t) track time ∷ []) (arrows_whole n.graph t.0 track time (suc time) later) refl
-marks_whole n (Close t) track time past later = arrows_whole n.graph t.0 track time (suc time) later
-marks_whole n (Drop t) track time past later = arrows_whole n.graph t.0 track time (suc time) later
-marks_whole n (Settle t) track time past later = arrows_whole n.graph t.0 track time (suc time) later
+marks_whole : (n : Named) (x : Act) (here : Moment) (past later : List Event) → IsWhole (marks n x here past later)
+marks_whole n (Request k) here past later = refl
+marks_whole n (Release c) here past later = arrow_to_whole (antecedent_of (kind n.graph c.0)) here past
+marks_whole n (Begin t) here past later = refl
+marks_whole n (Step t) here past later = refl
+marks_whole n (Worked t answer) here past later = refl
+marks_whole n (Leave t) here past later =
+    whole_append (arrows_from n.graph t.0 here later) (slice_mark (codes "E") (task_name n.names t) here.track here.time ∷ []) (arrows_whole n.graph t.0 here.track here.time (suc (suc here.before)) later) refl
+marks_whole n (Close t) here past later = arrows_whole n.graph t.0 here.track here.time (suc (suc here.before)) later
+marks_whole n (Drop t) here past later = arrows_whole n.graph t.0 here.track here.time (suc (suc here.before)) later
+marks_whole n (Settle t) here past later = arrows_whole n.graph t.0 here.track here.time (suc (suc here.before)) later
 
 track_whole : (past : List Event) (a : Actor) → IsWhole (new_track past a)
 track_whole past a = go (acts_in a past)
@@ -75,12 +76,12 @@ body_whole n h a (Close t) = refl
 body_whole n h a (Drop t) = refl
 body_whole n h a (Settle t) = refl
 
-from_whole : (n : Named) (h past later : List Event) → IsWhole (marks_from n h past later)
-from_whole n h past [] = refl
-from_whole n h past (e ∷ later) =
-    whole_append (event_marks n h past e later) (marks_from n h (past ++ (e ∷ [])) later)
-    (whole_append (new_tracks n h past e) _ (whole_append (new_track past e.actor) _ (track_whole past e.actor) (body_whole n h e.actor e.act)) (marks_whole n e.act _ _ past later))
-    (from_whole n h (past ++ (e ∷ [])) later)
+from_whole : (n : Named) (times : List ℕ) (h past later : List Event) → IsWhole (marks_from n times h past later)
+from_whole n times h past [] = refl
+from_whole n times h past (e ∷ later) =
+    whole_append (event_marks n times h past e later) (marks_from n times h (past ++ (e ∷ [])) later)
+    (whole_append (new_tracks n h past e) _ (whole_append (new_track past e.actor) _ (track_whole past e.actor) (body_whole n h e.actor e.act)) (marks_whole n e.act _ past later))
+    (from_whole n times h (past ++ (e ∷ [])) later)
 
-pub no_float : (n : Named) (h : List Event) → has_float (trace_data n h) ≡ false
-no_float n h = rw (from_whole n h [] h) refl
+pub no_float : (n : Named) (times : List ℕ) (h : List Event) → has_float (trace_data n times h) ≡ false
+no_float n times h = rw (from_whole n times h [] h) refl

@@ -15,18 +15,18 @@ use Rattle.tpl_commands.specs.declared.exit.Exit.TheVariants.{Success}
 use Rattle.tpl_commands.specs.declared.auditing.Audit.{Audit}
 use Rattle.tpl_commands.specs.declared.auditing.Audit.TheVariants.{NoStart, NoJournal, Judged}
 use Rattle.tpl_commands.specs.declared.responding.Answered.{Answered}
-use Rattle.tpl_commands.specs.Auditing.{Audits, IsAudited, IsAuditAnswer, IsAuditOf, verdict_exit}
+use Rattle.tpl_commands.specs.Auditing.{Audits, HasRun, IsAudited, IsAuditAnswer, IsAuditOf, verdict_exit}
 use Rattle.tpl_commands.specs.Documents.{NoDocument}
 use Rattle.tpl_commands.specs.Responding.{Responds}
-use Rattle.tpl_trace.specs.Answer.{HasRun, IsTraced, SpellsNoRun, Traces, Traced}
+use Rattle.tpl_trace.specs.Answer.{IsTraced, SpellsNoRun, Traces, Traced}
 
 -- the audit doesn't succeed where the journal is no run
 verdict_never : (input : List ℕ) (doc : DocumentValue) (verdict : Verdict) → SpellsNoRun input → Spells input doc → IsAudited doc verdict → Success ≡ verdict_exit verdict → ⊥
-verdict_never input doc (ruled.Run complete fails) none spelled is ends = none doc is.events spelled (record { inputs = is.inputs; known = is.known; journal = is.journal; run = is.audited.run })
+verdict_never input doc (ruled.Run complete fails other) none spelled is ends = none doc is.events spelled (record { inputs = is.inputs; known = is.known; journal = is.journal; run = is.audited.run })
 verdict_never input doc (ruled.NotAllowed place) none spelled is ends = absurd cc
 verdict_never input doc ruled.Memory none spelled is ends = absurd cc
 
-audit_never : (input : List ℕ) (doc : DocumentValue) (audit : Audit) (text : List ℕ) → SpellsNoRun input → Spells input doc → IsAuditOf doc audit → IsAuditAnswer audit Success text → ⊥
+audit_never : (input : List ℕ) (doc : DocumentValue) (audit : Audit) (text : List ℕ) → SpellsNoRun input → Spells input doc → IsAuditOf doc audit → IsAuditAnswer doc.graph.names audit Success text → ⊥
 audit_never input doc NoStart text none spelled is said = let e = said.0 in absurd cc
 audit_never input doc (Judged verdict) text none spelled is said = verdict_never input doc verdict none spelled is said.0
 audit_never input doc (NoJournal fault) text none spelled is said = let e = said.0 in absurd cc
@@ -41,7 +41,7 @@ drawn input text (inl is) = (is.0, is.1, is.2)
 drawn input text (inr is) = absurd (audits_never input text is.0 is.1)
 
 -- what is answered where the journal of a document that was read is no run
-pub other_traces : SpellsOneDocument → (input : List ℕ) (doc : DocumentValue) (audit : Audit) (exit : Exit) (text : List ℕ) → Spells input doc → IsAuditOf doc audit → ((events : List Event) → HasRun doc events → ⊥) → IsAuditAnswer audit exit text → Traces input exit text
+pub other_traces : SpellsOneDocument → (input : List ℕ) (doc : DocumentValue) (audit : Audit) (exit : Exit) (text : List ℕ) → Spells input doc → IsAuditOf doc audit → ((events : List Event) → HasRun doc events → ⊥) → IsAuditAnswer doc.graph.names audit exit text → Traces input exit text
 other_traces one input doc audit exit text spelled is none said =
     inr ((λ other events also run. none events (subst (λ (d : DocumentValue). HasRun d events) (one input doc other spelled also) run)), inl (doc, spelled, (audit, is, said)))
 

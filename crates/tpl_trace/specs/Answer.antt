@@ -1,37 +1,29 @@
 -- What `trace` answers to a document.
-use Rattle.std.specs.Prelude.{◌≡◌, ◌⊎◌, ℕ, Bool, List, Option, Some, reverse}
+use Rattle.std.specs.Prelude.{◌≡◌, ◌⊎◌, ℕ, List, Option}
 use Rattle.std.specs.List.{All}
 use Rattle.tpl_model.specs.declared.event.Event.{Event}
-use Rattle.tpl_model.specs.Rules as rules
 use Rattle.tpl_journal.specs.declared.counting.Counting.{Counting}
-use Rattle.tpl_journal.specs.Lines.{CanSpell, IsJournal}
+use Rattle.tpl_journal.specs.Lines.{CanSpell}
 use Rattle.tpl_reader.specs.Document.{DocumentValue, Spells}
 use Rattle.tpl_commands.specs.declared.exit.Exit.TheVariants.{Success}
-use Rattle.tpl_commands.specs.Auditing.{Audits, IsAuditOf}
+use Rattle.tpl_commands.specs.Auditing.{Audits, HasRun, IsAuditOf}
 use Rattle.tpl_commands.specs.Documents.{Tells}
+use Rattle.tpl_commands.specs.Recorded.{times_of}
 use Rattle.tpl_commands.specs.Responding.{Answers}
-use Rattle.tpl_reader.specs.Starting.{inputs_of}
 use Rattle.tpl_trace.specs.declared.answering.Journal.{Journal}
 use Rattle.tpl_trace.specs.declared.answering.Journal.TheVariants.{Run, Other}
 use Rattle.tpl_trace.specs.Trace.{trace_text}
-
--- the journal's text is that of these events, and they are a run with the document's inputs
-pub record HasRun (doc : DocumentValue) (events : List Event) : Type 0 where
-  pub inputs : List Bool
-  pub known : inputs_of doc ≡ Some inputs
-  pub journal : IsJournal doc.graph doc.journal events
-  pub run : rules.Run doc.graph.graph inputs (reverse events)
 
 -- the journal is a run of these events, each of which can be spelled; or the audit says of it what no run has
 abbrev pub IsJournalOf : DocumentValue → Journal → Type 0
 IsJournalOf doc (Run events) = HasRun doc events.items × All (CanSpell doc.graph.graph) events.items
 IsJournalOf doc (Other audit) = IsAuditOf doc audit × ((events : List Event) → HasRun doc events → ⊥)
 
--- the journal is a run, and this is its trace
+-- the journal is a run, and this is its trace, with the times that the document gives
 pub record IsTraced (doc : DocumentValue) (text : List ℕ) : Type 0 where
   pub events : List Event
   pub run : HasRun doc events
-  pub said : text ≡ trace_text doc.graph events
+  pub said : text ≡ trace_text doc.graph (times_of doc) events
 
 -- the bytes spell no document whose journal is a run
 abbrev pub SpellsNoRun : List ℕ → Type 0

@@ -1,5 +1,6 @@
--- The trace of a run: for each event its entries. The time of an event is its place, in microseconds.
-use Rattle.std.specs.Prelude.{ℕ, suc, ◌+◌, ◌&&◌, ◌||◌, Bool, false, if◌then◌else◌, Option, Some, None, List, [], ◌∷◌, ◌++◌, length, codes, decimal, is_some, nat_eq}
+-- The trace of a run: for each event its entries. The time of an event is the one that is given for it, or else its place,
+-- in microseconds.
+use Rattle.std.specs.Prelude.{ℕ, suc, ◌+◌, ◌&&◌, ◌||◌, Bool, false, if◌then◌else◌, Option, Some, None, List, [], ◌∷◌, ◌++◌, length, codes, decimal, is_some, nat_eq, slice_index_or}
 use Rattle.serde_json.specs.Data.{Data, array, object, no_members, member}
 use Rattle.serde_json.specs.View.{items_of}
 use Rattle.serde_json.specs.Written.{compact_text}
@@ -13,6 +14,7 @@ use Rattle.tpl_model.specs.declared.event.Event.{Event}
 use Rattle.tpl_model.specs.Facts.{begun, begun_by, left_by}
 use Rattle.tpl_draft.specs.Named.{Named, antecedent_of}
 use Rattle.tpl_journal.specs.Lines.{task_name, token_name}
+use Rattle.tpl_trace.specs.declared.moment.Moment.{Moment}
 use Rattle.tpl_trace.specs.Marks.{process_mark, track_mark, slice_mark, instant_mark, arrow_start, arrow_end}
 
 -- the number of an actor's track: those of the seats outside come behind those of 64 workers
@@ -109,54 +111,65 @@ arrows g t track time place (e ∷ later) =
     if may_end t e.act then []
     else ((if releases g t e.act then arrow_start place track time ∷ [] else []) ++ arrows g t track time (suc place) later)
 
+-- the arrows from an event that ended the task to the later events
+abbrev pub arrows_from : TaskGraph → ℕ → Moment → (later : List Event) → List Data
+arrows_from g t here later = arrows g t here.track here.time (suc (suc here.before)) later
+
 -- the end of the arrow to the release of a continuation of the task, which starts at the last act before it that may
 -- end the task
-abbrev pub arrow_to : Option ℕ → (track time : ℕ) → (past : List Event) → List Data
-arrow_to t track time past = if some_ends t past then arrow_end time track time ∷ [] else []
+abbrev pub arrow_to : Option ℕ → Moment → (past : List Event) → List Data
+arrow_to t here past = if some_ends t past then arrow_end (suc here.before) here.track here.time ∷ [] else []
 
 abbrev pub instant : (verb name : List ℕ) → (track time : ℕ) → Data
 instant verb name track time = instant_mark (verb ++ (codes " " ++ name)) track time
 
 -- The entries of an act. A body's slice goes from its begin to its leave; requests, releases, closes, drops and settles
 -- are instants; steps and answers of jobs have no entry.
-abbrev pub marks : Named → Act → (track time : ℕ) → (past later : List Event) → List Data
-marks n (Request k) track time past later = instant (codes "request") (token_name n.names k) track time ∷ []
-marks n (Release c) track time past later =
-    instant (codes "release") (task_name n.names c) track time ∷ arrow_to (antecedent_of (kind n.graph c.0)) track time past
-marks n (Begin t) track time past later = slice_mark (codes "B") (task_name n.names t) track time ∷ []
-marks n (Step t) track time past later = []
-marks n (Worked t answer) track time past later = []
-marks n (Leave t) track time past later =
-    arrows n.graph t.0 track time (suc time) later ++ (slice_mark (codes "E") (task_name n.names t) track time ∷ [])
-marks n (Close t) track time past later =
-    instant (codes "close") (task_name n.names t) track time ∷ arrows n.graph t.0 track time (suc time) later
-marks n (Drop t) track time past later =
-    instant (codes "drop") (task_name n.names t) track time ∷ arrows n.graph t.0 track time (suc time) later
-marks n (Settle t) track time past later =
-    instant (codes "settle") (task_name n.names t) track time ∷ arrows n.graph t.0 track time (suc time) later
+abbrev pub marks : Named → Act → Moment → (past later : List Event) → List Data
+marks n (Request k) here past later = instant (codes "request") (token_name n.names k) here.track here.time ∷ []
+marks n (Release c) here past later =
+    instant (codes "release") (task_name n.names c) here.track here.time ∷ arrow_to (antecedent_of (kind n.graph c.0)) here past
+marks n (Begin t) here past later = slice_mark (codes "B") (task_name n.names t) here.track here.time ∷ []
+marks n (Step t) here past later = []
+marks n (Worked t answer) here past later = []
+marks n (Leave t) here past later =
+    arrows_from n.graph t.0 here later ++ (slice_mark (codes "E") (task_name n.names t) here.track here.time ∷ [])
+marks n (Close t) here past later =
+    instant (codes "close") (task_name n.names t) here.track here.time ∷ arrows_from n.graph t.0 here later
+marks n (Drop t) here past later =
+    instant (codes "drop") (task_name n.names t) here.track here.time ∷ arrows_from n.graph t.0 here later
+marks n (Settle t) here past later =
+    instant (codes "settle") (task_name n.names t) here.track here.time ∷ arrows_from n.graph t.0 here later
 
 -- the names of tracks that stand before the entries of an event
 abbrev pub new_tracks : Named → (h past : List Event) → Event → List Data
 new_tracks n h past e = new_track past e.actor ++ body_mark n h e.actor e.act
 
--- the entries of an event of a run, on its track and at its place; before the first one on a track stands the track's
--- name
-abbrev pub event_marks : Named → (h past : List Event) → Event → (later : List Event) → List Data
-event_marks n h past e later = new_tracks n h past e ++ marks n e.act (track_in h e.actor e.act) (suc (length past)) past later
+-- the time of the event behind this many others, in microseconds: the one that is given for it, else its place
+abbrev pub time_of : (times : List ℕ) → (before : ℕ) → ℕ
+time_of times before = slice_index_or times before (suc before)
+
+-- where the entries of an event of a run stand: on its track, behind so many others, at its time
+abbrev pub moment_of : (times : List ℕ) → (h : List Event) → Event → (before : ℕ) → Moment
+moment_of times h e before = record { track = track_in h e.actor e.act; before = before; time = time_of times before }
+
+-- the entries of an event of a run; before the first one on a track stands the track's name
+abbrev pub event_marks : Named → (times : List ℕ) → (h past : List Event) → Event → (later : List Event) → List Data
+event_marks n times h past e later = new_tracks n h past e ++ marks n e.act (moment_of times h e (length past)) past later
 
 -- the entries of each of the later events of a run
-abbrev pub marks_from : Named → (h past later : List Event) → List Data
-marks_from n h past [] = []
-marks_from n h past (e ∷ later) = event_marks n h past e later ++ marks_from n h (past ++ (e ∷ [])) later
+abbrev pub marks_from : Named → (times : List ℕ) → (h past later : List Event) → List Data
+marks_from n times h past [] = []
+marks_from n times h past (e ∷ later) = event_marks n times h past e later ++ marks_from n times h (past ++ (e ∷ [])) later
 
 -- the whole trace: the name of the process, and the entries of each event
-abbrev pub entries : Named → List Event → List Data
-entries n h = process_mark (codes "taskgraph") ∷ marks_from n h [] h
+abbrev pub entries : Named → (times : List ℕ) → List Event → List Data
+entries n times h = process_mark (codes "taskgraph") ∷ marks_from n times h [] h
 
 -- the trace of these events as a JSON value
-abbrev pub trace_data : Named → List Event → Data
-trace_data n h = object (member (codes "traceEvents") (array (items_of (entries n h))) no_members)
+abbrev pub trace_data : Named → (times : List ℕ) → List Event → Data
+trace_data n times h = object (member (codes "traceEvents") (array (items_of (entries n times h))) no_members)
 
 -- the trace of these events as a text of one line
-abbrev pub trace_text : Named → List Event → List ℕ
-trace_text n h = compact_text (trace_data n h) ++ codes "\n"
+abbrev pub trace_text : Named → (times : List ℕ) → List Event → List ℕ
+trace_text n times h = compact_text (trace_data n times h) ++ codes "\n"

@@ -16,7 +16,8 @@ use std::alloc::{AllocError, Global};
 use std::io::{Read, Write};
 use tpl_audit::{Verdict, audit};
 use tpl_commands::{
-    Answer, Answered, Audit, Command, Exit, Finding, Found, Listen, audit_answer, respond, unread,
+    Answer, Answered, Audit, Command, Exit, Finding, Found, Listen, audit_answer, respond,
+    times_of, unread,
 };
 use tpl_journal::{Counting, JournalFault, fault_is_no_journal, read_journal, text_is_unambiguous};
 use tpl_model::Event;
@@ -42,7 +43,7 @@ fn journal_with(alloc: Global, document: &Document, inputs: Inputs) -> Result<Jo
     fault_is_no_journal();
     tpl_laws::prefix_is_run();
     match read_journal(alloc, &document.graph, document.journal.as_str()) {
-        Ok(events) => match audit(alloc, &document.graph, inputs, events.as_slice(), &[]) {
+        Ok(events) => match audit(alloc, &document.graph, inputs, events.as_slice(), &[], &[]) {
             Verdict::Run { .. } => Ok(Journal::Run(events)),
             Verdict::NotAllowed { place } => {
                 Ok(Journal::Other(Audit::Judged(Verdict::NotAllowed { place })))
@@ -79,13 +80,14 @@ fn traced(alloc: Global, bytes: &[u8], document: Document) -> Result<Answered, A
     match journal_of(alloc, &document)? {
         Journal::Run(events) => {
             let exit = Exit::Success;
-            let text = trace_text(alloc, &document.graph, events.as_slice())?;
+            let times = times_of(&document);
+            let text = trace_text(alloc, &document.graph, events.as_slice(), times)?;
             let answer = Answer { exit, text };
             let finding = None;
             Ok(Answered { answer, finding })
         }
         Journal::Other(audit) => {
-            let answer = audit_answer(alloc, audit)?;
+            let answer = audit_answer(alloc, &document, audit)?;
             let finding = Some(Finding::Read(document, Found::Audited(audit)));
             Ok(Answered { answer, finding })
         }

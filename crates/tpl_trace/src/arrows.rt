@@ -1,14 +1,15 @@
 //! The arrows of a trace, from the end of a task to the releases of its continuations.
 
-ghost use Rattle.std.specs.Prelude.{◌≡◌, ◌++◌, ◌<◌, ◌≤◌, drop, length, map, suc, OnOk};
+ghost use Rattle.std.specs.Prelude.{◌≡◌, ◌++◌, ◌<◌, drop, length, map, suc, OnOk};
 ghost use Rattle.std.specs.List.{All};
 ghost use Rattle.serde_json.specs.View.{view};
 ghost use Rattle.tpl_journal.specs.Lines.{CanSpell, HasId};
 ghost use Rattle.tpl_model.specs.Graph.{is_task, kind};
 ghost use Rattle.tpl_draft.specs.Named.{antecedent_of};
-ghost use Rattle.tpl_trace.specs.Trace.{arrow_to, arrows, may_end, releases, some_may_end};
+ghost use Rattle.tpl_trace.specs.Trace.{arrow_to, arrows_from, may_end, releases, some_may_end};
 
 use crate::marks::{arrow_end, arrow_start};
+use crate::moment::Moment;
 use serde_json::Value;
 use std::alloc::{AllocError, Global};
 use tpl_graph::Graph;
@@ -51,28 +52,28 @@ fn releases(graph: &Graph, task: TaskId, act: Act) -> bool
     }
 }
 
-/// Adds the arrows that start on this track at this time, where the task ended, and end at an event from `at` on.
+/// Adds the arrows that start here, where the task ended, and end at a later event.
 pub(crate) fn add_arrows(
     entries: &mut Vec<Value>,
     alloc: Global,
     graph: &Graph,
     task: TaskId,
-    track: u32,
+    here: Moment,
     events: &[Event],
-    time: usize,
 ) -> Result<(), AllocError>
     requires events { All (CanSpell graph.now.graph) events.now }
-    requires time { time ≤ length events.now }
+    requires here { here.before < length events.now }
     ensures { OnOk result (map view entries.new.items ≡ map view entries.old.items
-        ++ arrows graph.now.graph task.0 track time (suc time) (drop time events.now)) }
+        ++ arrows_from graph.now.graph task.0 here (drop (suc here.before) events.now)) }
 {
-    for before in time..events.len() {
+    let first = here.before + 1;
+    for before in first..events.len() {
         let act = events[before].act;
         if may_end(task, act) {
             return Ok(());
         }
         if releases(graph, task, act) {
-            entries.push(arrow_start(alloc, before + 1, track, time)?)?;
+            entries.push(arrow_start(alloc, before + 1, here.track, here.time)?)?;
         }
     }
     Ok(())
@@ -84,17 +85,17 @@ pub(crate) fn add_arrow_end(
     alloc: Global,
     graph: &Graph,
     task: TaskId,
-    track: u32,
-    time: usize,
+    here: Moment,
     past: &[Event],
 ) -> Result<(), AllocError>
-    requires { is_task graph.now.graph task.0 }
+    requires task { is_task graph.now.graph task.0 }
+    requires here { here.before < usize.MAX }
     ensures { OnOk result (map view entries.new.items ≡ map view entries.old.items
-        ++ arrow_to (antecedent_of (kind graph.now.graph task.0)) track time past.now) }
+        ++ arrow_to (antecedent_of (kind graph.now.graph task.0)) here past.now) }
 {
     if let Some(antecedent) = graph.antecedent(task) {
         if some_may_end(antecedent, past) {
-            entries.push(arrow_end(alloc, time, track, time)?)?;
+            entries.push(arrow_end(alloc, here.before + 1, here.track, here.time)?)?;
         }
     }
     Ok(())

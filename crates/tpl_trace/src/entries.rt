@@ -6,11 +6,12 @@ ghost use Rattle.serde_json.specs.View.{view};
 ghost use Rattle.tpl_draft.specs.Named.{antecedent_of};
 ghost use Rattle.tpl_journal.specs.Lines.{CanSpell, HasId, task_name, token_name};
 ghost use Rattle.tpl_model.specs.Graph.{is_task, is_token, kind};
-ghost use Rattle.tpl_trace.specs.Trace.{arrow_to, arrows, entries, instant, marks, marks_from, new_tracks};
+ghost use Rattle.tpl_trace.specs.Trace.{arrow_to, arrows_from, entries, instant, marks, marks_from, new_tracks};
 
 use crate::arrows::{add_arrow_end, add_arrows};
 use crate::bodies::{add_body_track, track_in};
 use crate::marks::{instant, process_mark, slice_mark};
+use crate::moment::{Moment, time_of};
 use crate::tracks::add_new_track;
 use serde_json::Value;
 use std::alloc::{AllocError, Global};
@@ -35,48 +36,46 @@ fn token_name_of(graph: &Graph, token: TokenId) -> &str
     graph.token_name(token)
 }
 
-/// Adds the entries of the event behind this many others: those of its act, on this track and at its place.
+/// Adds the entries of an event: those of its act, which stand here.
 fn add_marks(
     entries: &mut Vec<Value>,
     alloc: Global,
     graph: &Graph,
     act: Act,
-    track: u32,
+    here: Moment,
     events: &[Event],
-    before: usize,
 ) -> Result<(), AllocError>
-    requires before { before < length events.now }
+    requires here { here.before < length events.now }
     requires act { HasId graph.now.graph act }
     requires events { All (CanSpell graph.now.graph) events.now }
     ensures { OnOk result (map view entries.new.items ≡ map view entries.old.items
-        ++ marks graph.now act track (suc before) (take before events.now)
-        (drop (suc before) events.now)) }
+        ++ marks graph.now act here (take here.before events.now)
+        (drop (suc here.before) events.now)) }
 {
-    let time = before + 1;
     match act {
         Act::Request(token) => {
             let name = token_name_of(graph, token);
-            entries.push(instant(alloc, "request", name, track, time)?)?;
+            entries.push(instant(alloc, "request", name, here.track, here.time)?)?;
             Ok(())
         }
         Act::Release(task) => {
-            add_release(entries, alloc, graph, task, track, time, &events[..before])
+            add_release(entries, alloc, graph, task, here, &events[..here.before])
         }
         Act::Begin(task) => {
             let name = name_of(graph, task);
-            entries.push(slice_mark(alloc, "B", name, track, time)?)?;
+            entries.push(slice_mark(alloc, "B", name, here.track, here.time)?)?;
             Ok(())
         }
         Act::Step(_) | Act::Worked(_, _) => Ok(()),
         Act::Leave(task) => {
-            add_arrows(entries, alloc, graph, task, track, events, time)?;
+            add_arrows(entries, alloc, graph, task, here, events)?;
             let name = name_of(graph, task);
-            entries.push(slice_mark(alloc, "E", name, track, time)?)?;
+            entries.push(slice_mark(alloc, "E", name, here.track, here.time)?)?;
             Ok(())
         }
-        Act::Close(task) => add_end(entries, alloc, graph, "close", task, track, events, time),
-        Act::Drop(task) => add_end(entries, alloc, graph, "drop", task, track, events, time),
-        Act::Settle(task) => add_end(entries, alloc, graph, "settle", task, track, events, time),
+        Act::Close(task) => add_end(entries, alloc, graph, "close", task, here, events),
+        Act::Drop(task) => add_end(entries, alloc, graph, "drop", task, here, events),
+        Act::Settle(task) => add_end(entries, alloc, graph, "settle", task, here, events),
     }
 }
 
@@ -86,18 +85,18 @@ fn add_release(
     alloc: Global,
     graph: &Graph,
     task: TaskId,
-    track: u32,
-    time: usize,
+    here: Moment,
     past: &[Event],
 ) -> Result<(), AllocError>
-    requires { is_task graph.now.graph task.0 }
+    requires task { is_task graph.now.graph task.0 }
+    requires here { here.before < usize.MAX }
     ensures { OnOk result (map view entries.new.items ≡ map view entries.old.items
-        ++ instant (codes "release") (task_name graph.now.names task) track time
-        ∷ arrow_to (antecedent_of (kind graph.now.graph task.0)) track time past.now) }
+        ++ instant (codes "release") (task_name graph.now.names task) here.track here.time
+        ∷ arrow_to (antecedent_of (kind graph.now.graph task.0)) here past.now) }
 {
     let name = name_of(graph, task);
-    entries.push(instant(alloc, "release", name, track, time)?)?;
-    add_arrow_end(entries, alloc, graph, task, track, time, past)
+    entries.push(instant(alloc, "release", name, here.track, here.time)?)?;
+    add_arrow_end(entries, alloc, graph, task, here, past)
 }
 
 /// Adds an instant at which a task ended, and the arrows from there.
@@ -107,20 +106,19 @@ fn add_end(
     graph: &Graph,
     verb: &str,
     task: TaskId,
-    track: u32,
+    here: Moment,
     events: &[Event],
-    time: usize,
 ) -> Result<(), AllocError>
     requires task { is_task graph.now.graph task.0 }
     requires events { All (CanSpell graph.now.graph) events.now }
-    requires time { time ≤ length events.now }
+    requires here { here.before < length events.now }
     ensures { OnOk result (map view entries.new.items ≡ map view entries.old.items
-        ++ instant verb.now (task_name graph.now.names task) track time
-        ∷ arrows graph.now.graph task.0 track time (suc time) (drop time events.now)) }
+        ++ instant verb.now (task_name graph.now.names task) here.track here.time
+        ∷ arrows_from graph.now.graph task.0 here (drop (suc here.before) events.now)) }
 {
     let name = name_of(graph, task);
-    entries.push(instant(alloc, verb, name, track, time)?)?;
-    add_arrows(entries, alloc, graph, task, track, events, time)
+    entries.push(instant(alloc, verb, name, here.track, here.time)?)?;
+    add_arrows(entries, alloc, graph, task, here, events)
 }
 
 /// Adds the names of tracks that stand before the entries of the event behind this many others.
@@ -147,31 +145,39 @@ fn add_all(
     alloc: Global,
     graph: &Graph,
     events: &[Event],
+    times: &[u64],
 ) -> Result<(), AllocError>
     requires { All (CanSpell graph.now.graph) events.now }
     ensures { OnOk result (map view entries.new.items ≡ map view entries.old.items
-        ++ marks_from graph.now events.now [] events.now) }
+        ++ marks_from graph.now times.now events.now [] events.now) }
 {
     for before in 0..events.len() {
         let event = events[before];
         add_new_tracks(entries, alloc, graph, events, before, event)?;
         let track = track_in(events, event.actor, event.act);
-        add_marks(entries, alloc, graph, event.act, track, events, before)?;
+        let time = time_of(times, before);
+        let here = Moment {
+            track,
+            before,
+            time,
+        };
+        add_marks(entries, alloc, graph, event.act, here, events)?;
     }
     Ok(())
 }
 
-/// The name of the process, and the entries of each event.
+/// The name of the process, and the entries of each event, at these times where there are any.
 pub(crate) fn entries(
     alloc: Global,
     graph: &Graph,
     events: &[Event],
+    times: &[u64],
 ) -> Result<Vec<Value>, AllocError>
     requires { All (CanSpell graph.now.graph) events.now }
-    ensures { IfOk result (λ list. map view list.items ≡ entries graph.now events.now) }
+    ensures { IfOk result (λ list. map view list.items ≡ entries graph.now times.now events.now) }
 {
     let mut list = Vec::new(alloc);
     list.push(process_mark(alloc, "taskgraph")?)?;
-    add_all(&mut list, alloc, graph, events)?;
+    add_all(&mut list, alloc, graph, events, times)?;
     Ok(list)
 }

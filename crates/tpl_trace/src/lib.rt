@@ -6,6 +6,7 @@ mod arrows;
 mod bodies;
 mod entries;
 mod marks;
+mod moment;
 mod text;
 mod tracks;
 

@@ -33,14 +33,14 @@ pub(crate) fn slice_mark(
     phase: &str,
     name: &str,
     track: u32,
-    time: usize,
+    time: u64,
 ) -> Result<Value, AllocError>
     ensures { IfOk result (λ v. view v ≡ slice_mark phase.now name.now track time) }
 {
     json!(in alloc; {"name": name, "ph": phase, "pid": PROCESS, "tid": track, "ts": time})
 }
 
-fn instant_mark(alloc: Global, name: &str, track: u32, time: usize) -> Result<Value, AllocError>
+fn instant_mark(alloc: Global, name: &str, track: u32, time: u64) -> Result<Value, AllocError>
     ensures { IfOk result (λ v. view v ≡ instant_mark name.now track time) }
 {
     json!(in alloc; {
@@ -54,7 +54,7 @@ pub(crate) fn instant(
     verb: &str,
     name: &str,
     track: u32,
-    time: usize,
+    time: u64,
 ) -> Result<Value, AllocError>
     ensures { IfOk result (λ v. view v ≡ instant verb.now name.now track time) }
 {
@@ -67,7 +67,7 @@ pub(crate) fn arrow_start(
     alloc: Global,
     id: usize,
     track: u32,
-    time: usize,
+    time: u64,
 ) -> Result<Value, AllocError>
     ensures { IfOk result (λ v. view v ≡ arrow_start id track time) }
 {
@@ -82,7 +82,7 @@ pub(crate) fn arrow_end(
     alloc: Global,
     id: usize,
     track: u32,
-    time: usize,
+    time: u64,
 ) -> Result<Value, AllocError>
     ensures { IfOk result (λ v. view v ≡ arrow_end id track time) }
 {

@@ -20,16 +20,19 @@ fn trace_value(alloc: Global, entries: Vec<Value>) -> Result<Value, AllocError>
     json!(in alloc; {"traceEvents": entries})
 }
 
-/// The trace of the events as one line of JSON, with its line break.
+/// The trace of the events as one line of JSON, with its line break. The times are those of the events, in microseconds; an
+/// event for which there is none is shown at its place.
 pub(crate) fn trace_text(
     alloc: Global,
     graph: &Graph,
     events: &[Event],
+    times: &[u64],
 ) -> Result<String, AllocError>
     requires { All (CanSpell graph.now.graph) events.now }
-    ensures { IfOk result (λ text. string_bytes text ≡ trace_text graph.now events.now) }
+    ensures { IfOk result (λ text. string_bytes text
+        ≡ trace_text graph.now times.now events.now) }
 {
-    let list = entries(alloc, graph, events)?;
+    let list = entries(alloc, graph, events, times)?;
     let mut text = trace_value(alloc, list)?.to_string(alloc)?;
     text.push_str("\n")?;
     Ok(text)

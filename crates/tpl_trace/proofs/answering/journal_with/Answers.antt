@@ -2,7 +2,7 @@ use Rattle.std.proofs.Common.{subst, List}
 use Rattle.tpl_audit.specs.Audit.{IsFirstRefused}
 use Rattle.tpl_model.specs.declared.event.Event.{Event}
 use Rattle.tpl_reader.specs.SeenDocument.{doc_of}
-use Rattle.tpl_trace.proofs.RunLemmas.{no_run}
+use Rattle.tpl_commands.proofs.RunLemmas.{no_run}
 use Rattle.tpl_trace.proofs.answering.journal_with.Goals as goal
 
 pub returns-in-NotAllowed : goal.returns-in-NotAllowed

@@ -9,7 +9,8 @@ pub returns : goal.returns
 returns c =
     let n = c.args.graph.now in
     let h = c.args.events.now in
-    let value : view c.in_ok-trace_value.field-0 ≡ trace_data n h =
+    let times = c.args.times.now in
+    let value : view c.in_ok-trace_value.field-0 ≡ trace_data n times h =
     c.in_ok-trace_value.ensures ∙ ap (λ ds. object (member (codes "traceEvents") (array (items_of ds)) no_members)) c.in_ok-list.ensures in
     let text = rw value at c.in_ok-text.ensures.text in
-    c.in_ok-push_str.ensures.bytes ∙ ap (λ bytes. bytes ++ codes "\n") (text (no_float n h))
+    c.in_ok-push_str.ensures.bytes ∙ ap (λ bytes. bytes ++ codes "\n") (text (no_float n times h))
