@@ -3,3 +3,4 @@ pub mod CrewLemmas
 pub mod ReceiptLemmas
 pub mod RunLemmas
 pub mod StopLemmas
+pub mod TellLemmas

@@ -4,3 +4,4 @@ pub mod Running
 pub mod RunTexts
 pub mod Faults
 pub mod Prevents
+pub mod Telling

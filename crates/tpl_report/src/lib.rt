@@ -6,10 +6,12 @@ mod following;
 mod requests;
 mod running;
 mod session;
+mod telling;
 
 pub use fault::RunFault;
 pub use following::{Crew, Follow};
 pub use running::{serve_run, serve_run_followed};
+pub use telling::Telling;
 pub use tpl_analyser::{Depth, Form};
 pub use tpl_commands::{
     Answer, Ask, Exit, load, put_answer, put_out_of_memory, read_input, serve, serve_watched,

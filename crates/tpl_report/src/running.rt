@@ -1,33 +1,34 @@
 //! A document's run, from its items to a writer.
 
-ghost use Rattle.std.specs.Prelude.{◌≡◌, Some, map, IfOk};
+ghost use Rattle.std.specs.Prelude.{◌≡◌, Some, map, IfOk, MatchResult};
 ghost use Rattle.std.specs.List.{All};
 ghost use Rattle.tpl_draft.specs.Ids.{token_number};
 ghost use Rattle.tpl_graph.specs.Fits.{Fits};
 ghost use Rattle.tpl_model.specs.Graph.{is_token};
 ghost use Rattle.tpl_reader.specs.SeenDocument.{doc_of};
-ghost use Rattle.tpl_journal.specs.Carried.{said};
-ghost use Rattle.tpl_journal.specs.ReportText.{IsReportOf, ReportText};
+ghost use Rattle.tpl_reader.specs.Starting.{inputs_of};
+ghost use Rattle.tpl_journal.specs.Lines.{CanSpell};
 ghost use Rattle.tpl_commands.specs.Checking.{IsAccepted};
 ghost use Rattle.tpl_commands.specs.Loading.{RequestsTokens};
 ghost use Rattle.tpl_commands.specs.Responding.{Puts};
 ghost use Rattle.tpl_report.specs.Made.{requests_of};
 ghost use Rattle.tpl_report.specs.Prevents.{Prevents};
-ghost use Rattle.tpl_report.specs.Reported.{told};
-ghost use Rattle.tpl_report.specs.Running.{made_exit, made_text, report_exit, Runs, ServesRun};
+ghost use Rattle.tpl_report.specs.Reported.{told, IsReport};
+ghost use Rattle.tpl_report.specs.Running.{stop_exit, stop_text, Runs, ServesRun};
+ghost use Rattle.tpl_report.specs.Telling.{IsToldOf, PutsTelling};
 ghost use Rattle.tpl_words.specs.declared.ids.TokenId.{TokenId};
 
 use crate::fault::Stop;
 use crate::following::{Crew, Follow, Nobody};
 use crate::session::report_on;
+use crate::telling::{Telling, put_told};
 use std::alloc::Global;
 use std::io::Write;
 use std::sync::Wait;
 use std::thread::Threads;
 use tpl_checker::check;
 use tpl_commands::{Exit, put, put_answer, put_out_of_memory, refused_answer, rules_of};
-use tpl_graph::Graph;
-use tpl_journal::{Counting, Report as Told, write_report};
+use tpl_journal::Counting;
 use tpl_reader::Document;
 use tpl_runtime::{Item, Report};
 use tpl_words::{Inputs, TokenId};
@@ -44,60 +45,26 @@ fn requests(document: &Document) -> &[TokenId]
     }
 }
 
-/// The values of a session's report that are written.
-fn told<'a, K: Drop, W: Drop>(report: &'a Report<K, W>) -> Told<'a>
-    ensures { said result ≡ told report.now }
-{
-    Told {
-        complete: report.complete,
-        statuses: report.statuses.as_slice(),
-        labels: report.labels.as_slice(),
-        carried: report.carried.as_slice(),
-        unseen: report.unseen.as_slice(),
-        called: report.receipts.len(),
-        returned: report.items.len(),
-        journal: report.journal.as_slice(),
-    }
-}
-
-/// Success, where the run is complete.
-fn report_exit(complete: bool) -> Exit
-    ensures { result ≡ report_exit complete }
-{
-    if complete {
-        Exit::Success
-    } else {
-        Exit::Failure
-    }
-}
-
-/// Writes the text of a report.
-fn put_report<O: Write, K: Drop, W: Drop>(
-    graph: &Graph,
-    report: &Report<K, W>,
-    to: &mut Counting<O>,
-) -> Exit
-    requires { IsReportOf graph.now (told report.now) }
-    ensures { Puts O.contents to.old to.new (report_exit report.now.complete)
-        (ReportText graph.now (told report.now)) result }
-{
-    match write_report(graph, &told(report), to) {
-        Ok(()) => report_exit(report.complete),
-        Err(_) => Exit::Device,
-    }
-}
-
-/// Writes what comes of a run: its report, or the line that names why there is none.
+/// Writes what comes of a run: what tells it, or the line that names why there is none.
 fn put_made<O: Write, K: Drop, W: Drop>(
-    graph: &Graph,
+    alloc: Global,
+    telling: Telling<'_>,
+    document: &Document,
+    inputs: &Inputs,
     made: Result<Report<K, W>, Stop>,
     to: &mut Counting<O>,
 ) -> Exit
-    requires { IfOk made (λ report. IsReportOf graph.now (told report)) }
-    ensures { Puts O.contents to.old to.new (made_exit made) (made_text graph.now made) result }
+    requires told { IsToldOf telling (doc_of document.now) }
+    requires inputs { inputs_of (doc_of document.now) ≡ Some inputs.now }
+    requires report { IfOk made (λ r. IsReport document.now.graph inputs.now (told r)) }
+    requires events { IfOk made (λ r. All (CanSpell document.now.graph.graph) r.journal.items) }
+    ensures { MatchResult made
+        (λ r. PutsTelling telling.entry (doc_of document.now) inputs.now (told r) O.contents to.old
+        to.new result)
+        (λ stop. Puts O.contents to.old to.new (stop_exit stop) (stop_text stop) result) }
 {
     match made {
-        Ok(report) => put_report(graph, &report, to),
+        Ok(report) => put_told(alloc, telling, document, inputs, &report, to),
         Err(Stop::Memory) => put_out_of_memory(to),
         Err(Stop::Fault(fault)) => put(Exit::Fault, fault.line().as_bytes(), to),
     }
@@ -107,35 +74,49 @@ fn put_made<O: Write, K: Drop, W: Drop>(
 fn run_with<R: Threads + Wait + Sync, K: Drop + Send, W: Item<K> + Send, O: Write, F: Follow>(
     rt: &R,
     alloc: Global,
+    telling: Telling<'_>,
     document: &Document,
     inputs: Inputs,
     items: Vec<W>,
     crew: Crew<'_, F>,
     to: &mut Counting<O>,
 ) -> Exit
+    requires told { IsToldOf telling (doc_of document.now) }
+    requires inputs { inputs_of (doc_of document.now) ≡ Some inputs }
     requires accepted { IsAccepted (doc_of document.now) }
     requires tokens { RequestsTokens (doc_of document.now) }
-    ensures { Runs (doc_of document.now) (Some inputs) crew.entry.workers
+    ensures { Runs telling.entry (doc_of document.now) (Some inputs) crew.entry.workers
         (Prevents W.site W.may_fail items.items) O.contents to.old to.new result }
 {
-    let graph = &document.graph;
-    let made = report_on(rt, alloc, graph, inputs, requests(document), items, crew);
-    put_made(graph, made, to)
+    let values = inputs.copy();
+    let made = report_on(
+        rt,
+        alloc,
+        &document.graph,
+        inputs,
+        requests(document),
+        items,
+        crew,
+    );
+    put_made(alloc, telling, document, &values, made, to)
 }
 
 /// Checks the certificate of a document, and makes its run where it is accepted.
 fn check_and_run<R: Threads + Wait + Sync, K: Drop + Send, W: Item<K> + Send, O: Write, F: Follow>(
     rt: &R,
     alloc: Global,
+    telling: Telling<'_>,
     document: &Document,
     inputs: Inputs,
     items: Vec<W>,
     crew: Crew<'_, F>,
     to: &mut Counting<O>,
 ) -> Exit
+    requires told { IsToldOf telling (doc_of document.now) }
+    requires inputs { inputs_of (doc_of document.now) ≡ Some inputs }
     requires claims { All (Fits document.now.graph.graph) document.now.claims.items }
     requires tokens { RequestsTokens (doc_of document.now) }
-    ensures { Runs (doc_of document.now) (Some inputs) crew.entry.workers
+    ensures { Runs telling.entry (doc_of document.now) (Some inputs) crew.entry.workers
         (Prevents W.site W.may_fail items.items) O.contents to.old to.new result }
 {
     let rules = rules_of(document);
@@ -145,7 +126,7 @@ fn check_and_run<R: Threads + Wait + Sync, K: Drop + Send, W: Item<K> + Send, O:
         &document.certificate,
         rules,
     ) {
-        Ok(()) => run_with(rt, alloc, document, inputs, items, crew, to),
+        Ok(()) => run_with(rt, alloc, telling, document, inputs, items, crew, to),
         Err(fault) => put_answer(refused_answer(alloc, &document.graph, fault), to),
     }
 }
@@ -165,17 +146,18 @@ pub fn serve_run<R: Threads + Wait + Sync, K: Drop + Send, W: Item<K> + Send, O:
 ) -> Exit
     requires claims { All (Fits document.now.graph.graph) document.now.claims.items }
     requires tokens { RequestsTokens (doc_of document.now) }
-    ensures { ServesRun (doc_of document.now) workers (Prevents W.site W.may_fail items.items)
-        O.contents to.old to.new result }
+    ensures { ServesRun Telling.Report (doc_of document.now) workers
+        (Prevents W.site W.may_fail items.items) O.contents to.old to.new result }
 {
     let crew: Crew<'_, Nobody> = Crew {
         workers,
         follower: None,
     };
-    serve_run_followed(rt, alloc, document, items, crew, to)
+    serve_run_followed(rt, alloc, Telling::Report, document, items, crew, to)
 }
 
-/// Makes the run of a document as [`serve_run`] does, which somebody may follow.
+/// Makes the run of a document as [`serve_run`] does, which somebody may follow, and tells it as is asked for. What tells it
+/// is known before its first byte is written.
 pub fn serve_run_followed<
     R: Threads + Wait + Sync,
     K: Drop + Send,
@@ -185,18 +167,20 @@ pub fn serve_run_followed<
 >(
     rt: &R,
     alloc: Global,
+    telling: Telling<'_>,
     document: &Document,
     items: Vec<W>,
     crew: Crew<'_, F>,
     to: &mut Counting<O>,
 ) -> Exit
+    requires told { IsToldOf telling (doc_of document.now) }
     requires claims { All (Fits document.now.graph.graph) document.now.claims.items }
     requires tokens { RequestsTokens (doc_of document.now) }
-    ensures { ServesRun (doc_of document.now) crew.entry.workers
+    ensures { ServesRun telling.entry (doc_of document.now) crew.entry.workers
         (Prevents W.site W.may_fail items.items) O.contents to.old to.new result }
 {
     match document.inputs() {
-        Some(inputs) => check_and_run(rt, alloc, document, inputs, items, crew, to),
+        Some(inputs) => check_and_run(rt, alloc, telling, document, inputs, items, crew, to),
         None => put(Exit::Unreadable, b"unreadable: start Missing\n", to),
     }
 }

@@ -6,4 +6,4 @@ use Rattle.tpl_report.proofs.running.serve_run_followed.Goals as goal
 
 pub returns-in-Some : goal.returns-in-Some
 returns-in-Some g c =
-    serves (doc_of c.args.document.now) (Some c.in-Some.inputs) c.args.crew.workers (Prevents g.W.Item.site g.W.Item.may_fail c.args.items.items) g.O.Write.contents c.args.to.now c.check_and_run.new.to c.check_and_run.result (sym c.inputs.ensures ∙ c.in-Some.is) c.check_and_run.ensures
+    serves c.args.telling (doc_of c.args.document.now) (Some c.in-Some.inputs) c.args.crew.workers (Prevents g.W.Item.site g.W.Item.may_fail c.args.items.items) g.O.Write.contents c.args.to.now c.check_and_run.new.to c.check_and_run.result (sym c.inputs.ensures ∙ c.in-Some.is) c.check_and_run.ensures
