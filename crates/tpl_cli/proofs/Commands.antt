@@ -18,3 +18,15 @@ still_own old a (Err e) is own adds = tt
 pub with_command : (old sub : Command) (app : App) (r : Result Command AllocError) → app_of sub ≡ app → (out-Command sub).has_globals ≡ false → IfOk r (λ new. AddsSubcommand old sub new) → IfOk r (λ new. app_of new ≡ with_subcommand (app_of old) app.top)
 with_command old sub app (Ok new) is own adds = adds.shape own ∙ ap (λ (a : App). with_subcommand (app_of old) a.top) is
 with_command old sub app (Err e) is own adds = tt
+
+-- one option more, and one subcommand more, where what is there has another name
+pub and_option : {new old app : App} {rule other : Rule} → new ≡ with_rule old rule → old ≡ app → rule ≡ other → new ≡ with_rule app other
+and_option is same same_rule = is ∙ ap₂ with_rule same same_rule
+
+pub and_subcommand : {new old app sub other : App} → new ≡ with_subcommand old sub.top → old ≡ app → sub ≡ other → new ≡ with_subcommand app other.top
+and_subcommand is same same_sub = is ∙ ap₂ (λ (a b : App). with_subcommand a b.top) same same_sub
+
+-- the command under another name
+pub renamed : {a b : App} (r : Result Command AllocError) → IfOk r (λ new. app_of new ≡ a) → a ≡ b → IfOk r (λ new. app_of new ≡ b)
+renamed (Ok new) is e = is ∙ e
+renamed (Err fault) is e = tt

@@ -103,6 +103,6 @@ pub some_number : (found : Found) (option t : Text) → Some t ≡ first_value f
 some_number found option t gives none = let e = gives ∙ (first_value-rows found option ∙ none) in absurd cc
 
 -- what is given is no number in the range
-pub wrong_number : (option : Text) (rows : List Row) (number : Option ℕ) → (first_of option rows ≡ None → ⊥) → ((n : ℕ) → IsGiven option 1 64 rows n → ⊥) → IsIfGiven option rows number → ⊥
-wrong_number option rows None some none is = some is
-wrong_number option rows (Some n) some none is = none n is.1
+pub wrong_number : (option : Text) (most : ℕ) (rows : List Row) (number : Option ℕ) → (first_of option rows ≡ None → ⊥) → ((n : ℕ) → IsGiven option 1 most rows n → ⊥) → IsIfGiven option most rows number → ⊥
+wrong_number option most rows None some none is = some is
+wrong_number option most rows (Some n) some none is = none n is.1

@@ -56,17 +56,17 @@ same_explained rows true false m n = absurd (n m)
 same_explained rows false true m n = absurd (m n)
 same_explained rows false false m n = refl
 
-same_if_given : (option : Text) (rows : List Row) (a b : Option ℕ) → IsIfGiven option rows a → IsIfGiven option rows b → a ≡ b
-same_if_given option rows None None m n = refl
-same_if_given option rows None (Some c) m n = absurd (n.0 m)
-same_if_given option rows (Some c) None m n = absurd (m.0 n)
-same_if_given option rows (Some c) (Some d) m n = ap Some (same_number option 1 64 rows c d m.1 n.1)
+same_if_given : (option : Text) (most : ℕ) (rows : List Row) (a b : Option ℕ) → IsIfGiven option most rows a → IsIfGiven option most rows b → a ≡ b
+same_if_given option most rows None None m n = refl
+same_if_given option most rows None (Some c) m n = absurd (n.0 m)
+same_if_given option most rows (Some c) None m n = absurd (m.0 n)
+same_if_given option most rows (Some c) (Some d) m n = ap Some (same_number option 1 most rows c d m.1 n.1)
 
 same_one_or_each : (rows : List Row) (one : Line) (each : Option ℕ → Line) (a b : Line) → IsOneOrEach rows one each a → IsOneOrEach rows one each b → a ≡ b
-same_one_or_each rows one each a b (inl m) (inl n) = m.1 ∙ sym n.1
+same_one_or_each rows one each a b (inl m) (inl n) = m.2 ∙ sym n.2
 same_one_or_each rows one each a b (inl m) (inr n) = absurd (m.0 n.0)
 same_one_or_each rows one each a b (inr m) (inl n) = absurd (n.0 m.0)
-same_one_or_each rows one each a b (inr (set, (j, is_j, m))) (inr (also, (k, is_k, n))) = m ∙ (ap each (same_if_given (codes "jobs") rows j k is_j is_k) ∙ sym n)
+same_one_or_each rows one each a b (inr (set, (j, is_j, m))) (inr (also, (k, is_k, n))) = m ∙ (ap each (same_if_given (codes "jobs") 64 rows j k is_j is_k) ∙ sym n)
 
 one_meaning : (s : Subcommand) (rows : List Row) (a b : Line) → Means s rows a → Means s rows b → a ≡ b
 one_meaning Check rows a b m n = same_one_or_each rows line.Check line.CheckEach a b m n
@@ -76,16 +76,19 @@ one_meaning Analyse rows a b (d, is_d, (f, is_f, inl m)) (e, is_e, (g, is_g, inr
 one_meaning Analyse rows a b (d, is_d, (f, is_f, inr m)) (e, is_e, (g, is_g, inl n)) = absurd (m.0 n.0)
 one_meaning Analyse rows a b (d, is_d, (f, is_f, inr m)) (e, is_e, (g, is_g, inr n)) =
     rw (m.1, n.1, same_number (codes "depth") 0 6 rows d e is_d is_e, same_form rows f g is_f is_g) refl
-one_meaning Run rows a b m n = rw (m.2, n.2, same_number (codes "workers") 1 64 rows m.0 n.0 m.1 n.1) refl
+one_meaning Run rows a b (w, is_w, inl m) (u, is_u, inl n) = rw (m.1, n.1, same_number (codes "workers") 1 64 rows w u is_w is_u) refl
+one_meaning Run rows a b (w, is_w, inl m) (u, is_u, inr n) = absurd (n.0 m.0)
+one_meaning Run rows a b (w, is_w, inr m) (u, is_u, inl n) = absurd (m.0 n.0)
+one_meaning Run rows a b (w, is_w, inr m) (u, is_u, inr n) = rw (m.1, n.1, same_number (codes "workers") 1 64 rows w u is_w is_u) refl
 one_meaning Audit rows a b m n = same_one_or_each rows line.Audit line.AuditEach a b m n
 one_meaning Refute rows a b (c, is_c, (r, is_r, (s, is_s, (x, is_x, m)))) (d, is_d, (q, is_q, (t, is_t, (y, is_y, n)))) =
-    rw (m, n, same_if_given (codes "claim") rows c d is_c is_d, same_number (codes "runs") 0 1000000 rows r q is_r is_q, same_number (codes "seed") 0 4294967295 rows s t is_s is_t, same_explained rows x y is_x is_y) refl
+    rw (m, n, same_if_given (codes "claim") 1024 rows c d is_c is_d, same_number (codes "runs") 0 1000000 rows r q is_r is_q, same_number (codes "seed") 0 4294967295 rows s t is_s is_t, same_explained rows x y is_x is_y) refl
 one_meaning Verify rows a b (d, is_d, (r, is_r, (s, is_s, (j, is_j, (x, is_x, inl m))))) (e, is_e, (q, is_q, (t, is_t, (k, is_k, (y, is_y, inl n))))) =
-    rw (m.1, n.1, same_number (codes "depth") 0 6 rows d e is_d is_e, same_number (codes "runs") 0 1000000 rows r q is_r is_q, same_number (codes "seed") 0 4294967295 rows s t is_s is_t, same_if_given (codes "jobs") rows j k is_j is_k, same_named style_word rows x y same_style is_x is_y) refl
+    rw (m.1, n.1, same_number (codes "depth") 0 6 rows d e is_d is_e, same_number (codes "runs") 0 1000000 rows r q is_r is_q, same_number (codes "seed") 0 4294967295 rows s t is_s is_t, same_if_given (codes "jobs") 64 rows j k is_j is_k, same_named style_word rows x y same_style is_x is_y) refl
 one_meaning Verify rows a b (d, is_d, (r, is_r, (s, is_s, (j, is_j, (x, is_x, inl m))))) (e, is_e, (q, is_q, (t, is_t, (k, is_k, (y, is_y, inr n))))) = absurd (m.0 n.0)
 one_meaning Verify rows a b (d, is_d, (r, is_r, (s, is_s, (j, is_j, (x, is_x, inr m))))) (e, is_e, (q, is_q, (t, is_t, (k, is_k, (y, is_y, inl n))))) = absurd (n.0 m.0)
 one_meaning Verify rows a b (d, is_d, (r, is_r, (s, is_s, (j, is_j, (x, is_x, inr m))))) (e, is_e, (q, is_q, (t, is_t, (k, is_k, (y, is_y, inr n))))) =
-    rw (m.1, n.1, same_number (codes "depth") 0 6 rows d e is_d is_e, same_number (codes "runs") 0 1000000 rows r q is_r is_q, same_number (codes "seed") 0 4294967295 rows s t is_s is_t, same_if_given (codes "jobs") rows j k is_j is_k, same_named style_word rows x y same_style is_x is_y) refl
+    rw (m.1, n.1, same_number (codes "depth") 0 6 rows d e is_d is_e, same_number (codes "runs") 0 1000000 rows r q is_r is_q, same_number (codes "seed") 0 4294967295 rows s t is_s is_t, same_if_given (codes "jobs") 64 rows j k is_j is_k, same_named style_word rows x y same_style is_x is_y) refl
 one_meaning Draw rows a b m n = rw (m.2, n.2, same_named language_word rows m.0 n.0 same_language m.1 n.1) refl
 one_meaning Trace rows a b m n = m ∙ sym n
 
@@ -117,17 +120,18 @@ searches_within : (depth : ℕ) (form : Form) → IsWithin (search depth form)
 searches_within depth Full = tt
 searches_within depth Slim = tt
 
-threads_within : (rows : List Row) (jobs : Option ℕ) → IsIfGiven (codes "jobs") rows jobs → AreThreads jobs
+threads_within : (rows : List Row) (jobs : Option ℕ) → IsIfGiven (codes "jobs") 64 rows jobs → AreThreads jobs
 threads_within rows None is = tt
 threads_within rows (Some jobs) is = (is.1.least_of, is.1.limit)
 
 means_within : (s : Subcommand) (rows : List Row) (l : Line) → Means s rows l → IsWithin l
-means_within Check rows l (inl m) = subst IsWithin (sym m.1) tt
+means_within Check rows l (inl m) = subst IsWithin (sym m.2) tt
 means_within Check rows l (inr (set, (j, is_j, m))) = subst IsWithin (sym m) (threads_within rows j is_j)
 means_within Analyse rows l (d, is_d, (f, is_f, inl m)) = subst IsWithin (sym m.1) tt
 means_within Analyse rows l (d, is_d, (f, is_f, inr m)) = subst IsWithin (sym m.1) (searches_within d f)
-means_within Run rows l m = subst IsWithin (sym m.2) (m.1.least_of, m.1.limit)
-means_within Audit rows l (inl m) = subst IsWithin (sym m.1) tt
+means_within Run rows l (w, is_w, inl m) = subst IsWithin (sym m.1) (is_w.least_of, is_w.limit)
+means_within Run rows l (w, is_w, inr m) = subst IsWithin (sym m.1) (is_w.least_of, is_w.limit)
+means_within Audit rows l (inl m) = subst IsWithin (sym m.2) tt
 means_within Audit rows l (inr (set, (j, is_j, m))) = subst IsWithin (sym m) (threads_within rows j is_j)
 means_within Refute rows l (c, is_c, (r, is_r, (s, is_s, (x, is_x, m)))) = subst IsWithin (sym m) tt
 means_within Verify rows l (d, is_d, (r, is_r, (s, is_s, (j, is_j, (x, is_x, inl m))))) = subst IsWithin (sym m.1) (threads_within rows j is_j)
@@ -166,7 +170,12 @@ unknown_entered o name rows l e none is = none is.0 (ap (λ p. p.0) (some_same (
 pub as_asked : (s t : Subcommand) (rows : List Row) (r : Option Line) → s ≡ t → MatchOption r ((l : Line) → Means t rows l → ⊥) (Means t rows) → MatchOption r ((l : Line) → Means s rows l → ⊥) (Means s rows)
 as_asked s t rows r e m = subst (λ (u : Subcommand). MatchOption r ((l : Line) → Means u rows l → ⊥) (Means u rows)) (sym e) m
 
--- a document on each line is asked for, by no number of threads that may be
-pub wrong_jobs : (rows : List Row) (one : Line) (each : Option ℕ → Line) (l : Line) → IsSet (codes "each") rows → ((n : Option ℕ) → IsIfGiven (codes "jobs") rows n → ⊥) → IsOneOrEach rows one each l → ⊥
-wrong_jobs rows one each l set none (inl is) = is.0 set
-wrong_jobs rows one each l set none (inr (also, (jobs, is, m))) = none jobs is
+-- no number of threads that may be is given, and none isn't
+pub wrong_jobs : (rows : List Row) (one : Line) (each : Option ℕ → Line) (l : Line) → ((n : Option ℕ) → IsIfGiven (codes "jobs") 64 rows n → ⊥) → IsOneOrEach rows one each l → ⊥
+wrong_jobs rows one each l none (inl is) = none None is.1
+wrong_jobs rows one each l none (inr (set, (jobs, is, m))) = none jobs is
+
+-- a number of threads is given, and no document on each line is asked for
+pub lone_jobs : (rows : List Row) (one : Line) (each : Option ℕ → Line) (l : Line) (jobs : ℕ) → (IsSet (codes "each") rows → ⊥) → IsIfGiven (codes "jobs") 64 rows (Some jobs) → IsOneOrEach rows one each l → ⊥
+lone_jobs rows one each l jobs unset given (inl is) = given.0 is.1
+lone_jobs rows one each l jobs unset given (inr (set, more)) = unset set

@@ -27,9 +27,9 @@ IsForm rows Full = IsSet (codes "slim") rows → ⊥
 IsForm rows Slim = IsSet (codes "slim") rows
 
 -- the number from 1 to 64 that is given for the option, if one is
-abbrev pub IsIfGiven : Text → List Row → Option ℕ → Type 0
-IsIfGiven option rows None = first_of option rows ≡ None
-IsIfGiven option rows (Some number) = (first_of option rows ≡ None → ⊥) × IsGiven option 1 64 rows number
+abbrev pub IsIfGiven : Text → ℕ → List Row → Option ℕ → Type 0
+IsIfGiven option most rows None = first_of option rows ≡ None
+IsIfGiven option most rows (Some number) = (first_of option rows ≡ None → ⊥) × IsGiven option 1 most rows number
 
 -- lines are asked for on the standard error
 abbrev pub IsExplained : List Row → Bool → Type 0
@@ -41,11 +41,11 @@ abbrev pub search : ℕ → Form → lines.Line
 search depth Full = line.Analyse depth
 search depth Slim = line.AnalyseIn depth Slim
 
--- the line for one document, or that for a document on each line, which so many threads answer
+-- the line for one document, where no number of threads is given; or that for a document on each line, which so many answer
 abbrev pub IsOneOrEach : List Row → lines.Line → (Option ℕ → lines.Line) → lines.Line → Type 0
 IsOneOrEach rows one each l =
-    ((IsSet (codes "each") rows → ⊥) × (l ≡ one))
-    ⊎ (IsSet (codes "each") rows × ((jobs : Option ℕ) × IsIfGiven (codes "jobs") rows jobs × (l ≡ each jobs)))
+    ((IsSet (codes "each") rows → ⊥) × (first_of (codes "jobs") rows ≡ None) × (l ≡ one))
+    ⊎ (IsSet (codes "each") rows × ((jobs : Option ℕ) × IsIfGiven (codes "jobs") 64 rows jobs × (l ≡ each jobs)))
 
 -- with these options the subcommand means this line
 abbrev pub Means : Subcommand → List Row → lines.Line → Type 0
@@ -54,10 +54,12 @@ Means Analyse rows l =
     (depth : ℕ) × IsGiven (codes "depth") 0 6 rows depth × ((form : Form) × IsForm rows form
     × ((IsSet (codes "whole") rows × (l ≡ line.Certify depth form))
     ⊎ ((IsSet (codes "whole") rows → ⊥) × (l ≡ search depth form))))
-Means Run rows l = (workers : ℕ) × IsGiven (codes "workers") 1 64 rows workers × (l ≡ line.Run workers)
+Means Run rows l =
+    (workers : ℕ) × IsGiven (codes "workers") 1 64 rows workers
+    × ((IsSet (codes "whole") rows × (l ≡ line.RunWhole workers)) ⊎ ((IsSet (codes "whole") rows → ⊥) × (l ≡ line.Run workers)))
 Means Audit rows l = IsOneOrEach rows line.Audit line.AuditEach l
 Means Refute rows l =
-    (claim : Option ℕ) × IsIfGiven (codes "claim") rows claim
+    (claim : Option ℕ) × IsIfGiven (codes "claim") 1024 rows claim
     × ((runs : ℕ) × IsGiven (codes "runs") 0 1000000 rows runs
     × ((seed : ℕ) × IsGiven (codes "seed") 0 4294967295 rows seed
     × ((explain : Bool) × IsExplained rows explain × (l ≡ line.Refute claim runs seed explain))))
@@ -65,7 +67,7 @@ Means Verify rows l =
     (depth : ℕ) × IsGiven (codes "depth") 0 6 rows depth
     × ((runs : ℕ) × IsGiven (codes "runs") 0 1000000 rows runs
     × ((seed : ℕ) × IsGiven (codes "seed") 0 4294967295 rows seed
-    × ((jobs : Option ℕ) × IsIfGiven (codes "jobs") rows jobs
+    × ((jobs : Option ℕ) × IsIfGiven (codes "jobs") 64 rows jobs
     × ((style : _) × IsStyle rows style × (((IsSet (codes "each") rows → ⊥) × (l ≡ line.Verify depth runs seed jobs style))
     ⊎ (IsSet (codes "each") rows × (l ≡ line.VerifyEach depth runs seed jobs style)))))))
 Means Draw rows l = (language : _) × IsLanguage rows language × (l ≡ line.Draw language)
@@ -87,6 +89,7 @@ AreThreads (Some jobs) = (1 ≤ jobs) × (jobs ≤ 64)
 -- what a line asks for is within the limits of the command
 abbrev pub IsWithin : lines.Line → Type 0
 IsWithin (line.Run workers) = (1 ≤ workers) × (workers ≤ 64)
+IsWithin (line.RunWhole workers) = (1 ≤ workers) × (workers ≤ 64)
 IsWithin (line.Verify depth runs seed jobs style) = AreThreads jobs
 IsWithin (line.VerifyEach depth runs seed jobs style) = AreThreads jobs
 IsWithin (line.CheckEach jobs) = AreThreads jobs

@@ -46,7 +46,7 @@ workers_rule = numbered (codes "workers") (codes "4" ∷ []) 1 64
 
 -- the option `--claim`
 abbrev pub claim_rule : Rule
-claim_rule = numbered (codes "claim") [] 1 64
+claim_rule = numbered (codes "claim") [] 1 1024
 
 -- the option `--runs`
 abbrev pub runs_rule : Rule

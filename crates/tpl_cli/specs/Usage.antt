@@ -8,61 +8,34 @@ use Rattle.tpl_cli.specs.Options.{claim_rule, depth_rule, each_rule, explain_rul
 abbrev pub no_command : App
 no_command = on_top (λ s. record s { subcommand_required = true; has_version = true }) (new_app (codes "taskgraph"))
 
--- `check` with the options for a document on each line
-abbrev pub checked : App
-checked = with_rule (with_rule (new_app (codes "check")) each_rule) jobs_rule
-
 -- the subcommand `check`
 abbrev pub check_command : App
-check_command = with_rule checked explain_rule
-
--- `analyse` with the options for which certificate is wanted
-abbrev pub searched : App
-searched = with_rule (with_rule (with_rule (new_app (codes "analyse")) (depth_rule (codes "2"))) slim_rule) whole_rule
+check_command = with_rule (with_rule (with_rule (new_app (codes "check")) each_rule) jobs_rule) explain_rule
 
 -- the subcommand `analyse`
 abbrev pub analyse_command : App
-analyse_command = with_rule searched explain_rule
+analyse_command =
+    with_rule (with_rule (with_rule (with_rule (new_app (codes "analyse")) (depth_rule (codes "2"))) slim_rule) whole_rule) explain_rule
 
 -- the subcommand `run`
 abbrev pub run_command : App
-run_command = with_rule (with_rule (new_app (codes "run")) workers_rule) explain_rule
-
--- `audit` with the options for a document on each line
-abbrev pub audited : App
-audited = with_rule (with_rule (new_app (codes "audit")) each_rule) jobs_rule
+run_command = with_rule (with_rule (with_rule (new_app (codes "run")) workers_rule) whole_rule) explain_rule
 
 -- the subcommand `audit`
 abbrev pub audit_command : App
-audit_command = with_rule audited explain_rule
-
--- `refute` with the options for which runs are tried
-abbrev pub tried_runs : App
-tried_runs = with_rule (with_rule (with_rule (new_app (codes "refute")) claim_rule) runs_rule) seed_rule
+audit_command = with_rule (with_rule (with_rule (new_app (codes "audit")) each_rule) jobs_rule) explain_rule
 
 -- the subcommand `refute`
 abbrev pub refute_command : App
-refute_command = with_rule tried_runs explain_rule
+refute_command = with_rule (with_rule (with_rule (with_rule (new_app (codes "refute")) claim_rule) runs_rule) seed_rule) explain_rule
 
 -- `verify` with the options for how much is tried
 abbrev pub tried_claims : App
 tried_claims = with_rule (with_rule (with_rule (new_app (codes "verify")) (depth_rule (codes "6"))) runs_rule) seed_rule
 
--- and with the option for how many threads search
-abbrev pub spread_claims : App
-spread_claims = with_rule tried_claims jobs_rule
-
--- and with the option for how its verdicts are written
-abbrev pub judged_claims : App
-judged_claims = with_rule spread_claims style_rule
-
--- and with the option for a document on each line
-abbrev pub batched_claims : App
-batched_claims = with_rule judged_claims each_rule
-
 -- the subcommand `verify`
 abbrev pub verify_command : App
-verify_command = with_rule batched_claims explain_rule
+verify_command = with_rule (with_rule (with_rule (with_rule tried_claims jobs_rule) style_rule) each_rule) explain_rule
 
 -- the subcommand `draw`
 abbrev pub draw_command : App

@@ -5,6 +5,7 @@ ghost use Rattle.std.specs.List.{All};
 ghost use Rattle.tpl_graph.specs.Fits.{Fits};
 ghost use Rattle.tpl_reader.specs.SeenDocument.{doc_of};
 ghost use Rattle.tpl_commands.specs.Loading.{RequestsTokens};
+ghost use Rattle.tpl_report.specs.Telling.{IsToldOf};
 
 use std::alloc::Global;
 use std::io::Write;
@@ -13,7 +14,7 @@ use std::thread::Threads;
 use tpl_jobs::{Work, WorkItem};
 use tpl_journal::Counting;
 use tpl_reader::Document;
-use tpl_report::{Crew, Exit, Follow, put_out_of_memory, serve_run_followed};
+use tpl_report::{Crew, Exit, Follow, Telling, put_out_of_memory, serve_run_followed};
 use tpl_words::{Answer, SiteId};
 
 /// The stamp of this program's boxes.
@@ -40,14 +41,16 @@ fn answer_of(document: &Document, site: SiteId, may_fail: bool) -> Answer
 }
 
 /// Makes one box for each work statement, which answers `Failed` exactly where `start.fail` names it, and makes the run
-/// of the document with them.
+/// of the document with them, which is told so.
 pub fn run_boxes<R: Threads + Wait + Sync, O: Write, F: Follow>(
     rt: &R,
     alloc: Global,
+    telling: Telling<'_>,
     document: &Document,
     crew: Crew<'_, F>,
     to: &mut Counting<O>,
 ) -> Exit
+    requires told { IsToldOf telling (doc_of document.now) }
     requires claims { All (Fits document.now.graph.graph) document.now.claims.items }
     requires tokens { RequestsTokens (doc_of document.now) }
 {
@@ -67,5 +70,5 @@ pub fn run_boxes<R: Threads + Wait + Sync, O: Write, F: Follow>(
             return put_out_of_memory(to);
         }
     }
-    serve_run_followed(rt, alloc, document, items, crew, to)
+    serve_run_followed(rt, alloc, telling, document, items, crew, to)
 }

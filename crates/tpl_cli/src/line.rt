@@ -23,7 +23,7 @@ pub enum Line {
     /// Check the certificate of a document.
     Check,
     /// Check that of the document on each line, by so many threads, 1 to 64, or as many as there are processors.
-    CheckEach(Option<u8>),
+    CheckEach(Option<u16>),
     /// Search for a certificate of a document's claims with at most this many splits on each path.
     Analyse(Depth),
     /// Search for a certificate of this form.
@@ -32,19 +32,21 @@ pub enum Line {
     Certify(Depth, Form),
     /// Make a run of a document by this many workers, 1 to 64.
     Run(u16),
+    /// Make such a run, and write the document with it.
+    RunWhole(u16),
     /// Audit the journal of a document.
     Audit,
     /// Audit that of the document on each line, by so many threads, 1 to 64, or as many as there are processors.
-    AuditEach(Option<u8>),
-    /// Search for a run in which a claim doesn't hold: the claim, 1 to 64, or each; how many runs are tried for it, at
+    AuditEach(Option<u16>),
+    /// Search for a run in which a claim doesn't hold: the claim, 1 to 1,024, or each; how many runs are tried for it, at
     /// most 1,000,000; where the random numbers begin; and whether lines are asked for on the standard error.
-    Refute(Option<u8>, u32, u32, bool),
+    Refute(Option<u16>, u32, u32, bool),
     /// Answer each claim of a document: the most splits on each path of a certificate; how many runs are tried for a
     /// claim, at most 1,000,000; where the random numbers begin; how many threads search, 1 to 64, or as many as there
     /// are processors; and how the verdicts are written.
-    Verify(Depth, u32, u32, Option<u8>, Style),
+    Verify(Depth, u32, u32, Option<u16>, Style),
     /// The same of the document on each line, by so many threads beside each other.
-    VerifyEach(Depth, u32, u32, Option<u8>, Style),
+    VerifyEach(Depth, u32, u32, Option<u16>, Style),
     /// Draw the graph of a document in this language.
     Draw(Language),
     /// Write the journal of a document for a trace viewer.
@@ -102,12 +104,15 @@ fn check_line(given: &ArgMatches<'_>) -> Option<Line>
         ((l : Line) → Means Subcommand.Check (rows_of (found_of given.now)) l → ⊥)
         (Means Subcommand.Check (rows_of (found_of given.now))) }
 {
-    if !is_set(given, "each") {
-        return Some(Line::Check);
+    let Some(jobs) = number_if_given(given, "jobs", 64) else {
+        return None;
+    };
+    if is_set(given, "each") {
+        return Some(Line::CheckEach(jobs));
     }
-    match number_if_given(given, "jobs") {
-        Some(jobs) => Some(Line::CheckEach(jobs)),
-        None => None,
+    match jobs {
+        None => Some(Line::Check),
+        Some(_) => None,
     }
 }
 
@@ -139,12 +144,15 @@ fn audit_line(given: &ArgMatches<'_>) -> Option<Line>
         ((l : Line) → Means Subcommand.Audit (rows_of (found_of given.now)) l → ⊥)
         (Means Subcommand.Audit (rows_of (found_of given.now))) }
 {
-    if !is_set(given, "each") {
-        return Some(Line::Audit);
+    let Some(jobs) = number_if_given(given, "jobs", 64) else {
+        return None;
+    };
+    if is_set(given, "each") {
+        return Some(Line::AuditEach(jobs));
     }
-    match number_if_given(given, "jobs") {
-        Some(jobs) => Some(Line::AuditEach(jobs)),
-        None => None,
+    match jobs {
+        None => Some(Line::Audit),
+        Some(_) => None,
     }
 }
 
@@ -154,22 +162,26 @@ fn run_line(given: &ArgMatches<'_>) -> Option<Line>
         ((l : Line) → Means Subcommand.Run (rows_of (found_of given.now)) l → ⊥)
         (Means Subcommand.Run (rows_of (found_of given.now))) }
 {
-    match number_in(given, "workers", 1, 64) {
-        Some(workers) => Some(Line::Run(workers as u16)),
-        None => None,
+    let Some(workers) = number_in(given, "workers", 1, 64) else {
+        return None;
+    };
+    if is_set(given, "whole") {
+        Some(Line::RunWhole(workers as u16))
+    } else {
+        Some(Line::Run(workers as u16))
     }
 }
 
-/// The number from 1 to 64 that is given for the option: one, none, or a number out of range.
-fn number_if_given(given: &ArgMatches<'_>, option: &str) -> Option<Option<u8>>
+/// The number from 1 to this one that is given for the option: one, none, or a number out of range.
+fn number_if_given(given: &ArgMatches<'_>, option: &str, most: u16) -> Option<Option<u16>>
     ensures { MatchOption result
-        ((n : Option ℕ) → IsIfGiven option.now (rows_of (found_of given.now)) n → ⊥)
-        (IsIfGiven option.now (rows_of (found_of given.now))) }
+        ((n : Option ℕ) → IsIfGiven option.now most (rows_of (found_of given.now)) n → ⊥)
+        (IsIfGiven option.now most (rows_of (found_of given.now))) }
 {
     match given.get_str(option) {
         None => Some(None),
-        Some(_) => match number_in(given, option, 1, 64) {
-            Some(number) => Some(Some(number as u8)),
+        Some(_) => match number_in(given, option, 1, u32::from(most)) {
+            Some(number) => Some(Some(number as u16)),
             None => None,
         },
     }
@@ -181,7 +193,7 @@ fn refute_line(given: &ArgMatches<'_>) -> Option<Line>
         ((l : Line) → Means Subcommand.Refute (rows_of (found_of given.now)) l → ⊥)
         (Means Subcommand.Refute (rows_of (found_of given.now))) }
 {
-    let Some(claim) = number_if_given(given, "claim") else {
+    let Some(claim) = number_if_given(given, "claim", 1024) else {
         return None;
     };
     let Some(runs) = number_in(given, "runs", 0, 1_000_000) else {
@@ -212,7 +224,7 @@ fn verify_line(given: &ArgMatches<'_>) -> Option<Line>
     let Some(seed) = number_in(given, "seed", 0, 4_294_967_295) else {
         return None;
     };
-    let Some(jobs) = number_if_given(given, "jobs") else {
+    let Some(jobs) = number_if_given(given, "jobs", 64) else {
         return None;
     };
     let Some(style) = style_in(given) else {

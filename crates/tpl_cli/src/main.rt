@@ -16,7 +16,9 @@ ghost use Rattle.std.specs.List.{All};
 ghost use Rattle.tpl_graph.specs.Fits.{Fits};
 ghost use Rattle.tpl_cli.specs.Line.{AreThreads, IsWithin};
 ghost use Rattle.tpl_commands.specs.Loading.{RequestsTokens};
+ghost use Rattle.tpl_reader.specs.Document.{DocumentValue, Spells};
 ghost use Rattle.tpl_reader.specs.SeenDocument.{doc_of};
+ghost use Rattle.tpl_report.specs.Telling.{IsToldOf};
 
 use crate::boxes::run_boxes;
 use crate::devices::{Noting, say_unwritten, say_what_failed};
@@ -33,7 +35,7 @@ use tpl_commands::{Ask, Exit, Loaded, load_watched, put_out_of_memory, serve_wat
 use tpl_each::{MOST_JOBS, Question, serve_each};
 use tpl_journal::Counting;
 use tpl_reader::Document;
-use tpl_report::Crew;
+use tpl_report::{Crew, Telling};
 use tpl_trace::trace_document;
 use tpl_verdicts::{OneByOne, Verification, verify_document};
 use tpl_verify::Limits;
@@ -72,14 +74,16 @@ fn given_order(rt: &HostRuntime) -> Result<Order, LineFault>
     Ok(Order { line, explains })
 }
 
-/// Makes the run of a document.
+/// Makes the run of a document, which is told so.
 fn run_document<R: Threads + Wait + Sync, O: Write>(
     rt: &HostRuntime,
     threads: &R,
     workers: u16,
+    telling: Telling<'_>,
     document: &Document,
     to: &mut Counting<O>,
 ) -> Exit
+    requires told { IsToldOf telling (doc_of document.now) }
     requires claims { All (Fits document.now.graph.graph) document.now.claims.items }
     requires tokens { RequestsTokens (doc_of document.now) }
 {
@@ -87,7 +91,18 @@ fn run_document<R: Threads + Wait + Sync, O: Write>(
     let progress = RunProgress::new(rt, &document.graph, inputs);
     let follower = rt.stderr().is_terminal().then_some(&progress);
     let crew = Crew { workers, follower };
-    run_boxes(threads, rt.alloc(), document, crew, to)
+    run_boxes(threads, rt.alloc(), telling, document, crew, to)
+}
+
+/// How the run of the document that these bytes spell is told.
+fn telling_of(is_whole: bool, bytes: &[u8]) -> Telling<'_>
+    ensures { (doc : DocumentValue) → Spells bytes.now doc → IsToldOf result doc }
+{
+    if is_whole {
+        Telling::Whole(bytes)
+    } else {
+        Telling::Report
+    }
 }
 
 /// Makes the run of the document that comes.
@@ -96,12 +111,14 @@ fn run<R: Threads + Wait + Sync, I: Read, O: Write>(
     threads: &R,
     teller: Teller<'_>,
     workers: u16,
+    is_whole: bool,
     from: &mut Counting<I>,
     to: &mut Counting<O>,
 ) -> Exit {
     match load_watched(rt.alloc(), teller, from, to) {
         Ok(Loaded { document, bytes }) => {
-            let exit = run_document(rt, threads, workers, &document, to);
+            let telling = telling_of(is_whole, &bytes);
+            let exit = run_document(rt, threads, workers, telling, &document, to);
             teller.ran(exit, &bytes, document);
             exit
         }
@@ -109,25 +126,8 @@ fn run<R: Threads + Wait + Sync, I: Read, O: Write>(
     }
 }
 
-/// How many events a search for such a run plays at most, which takes some ten seconds.
-const PLAYED: u64 = 40_000_000;
-
-/// How many events it plays at most for each run that is asked for, where that is more.
-const PLAYED_A_RUN: u64 = 400;
-
-/// The search for a run in which a claim fails.
-fn search_of(claim: Option<u8>, runs: u32, seed: u32, explain: bool) -> Search {
-    Search {
-        claim: claim.map(usize::from),
-        runs,
-        events: PLAYED.max(u64::from(runs) * PLAYED_A_RUN),
-        seed: u64::from(seed),
-        explain,
-    }
-}
-
 /// How many threads work beside each other: as many as are asked for, or as there are processors; one where that isn't known.
-fn jobs_of<R: Threads>(threads: &R, asked: Option<u8>) -> usize
+fn jobs_of<R: Threads>(threads: &R, asked: Option<u16>) -> usize
     requires { AreThreads asked }
     ensures some { 0 < result }
     ensures most { result ≤ 64 }
@@ -146,7 +146,7 @@ fn answer_each<R: Threads + Sync, I: Read, O: Write>(
     threads: &R,
     alloc: Global,
     ask: Ask,
-    jobs: Option<u8>,
+    jobs: Option<u16>,
     from: &mut Counting<I>,
     to: &mut Counting<O>,
 ) -> Exit
@@ -184,13 +184,15 @@ fn answer<R: Threads + Wait + Sync, I: Read, O: Write>(
         Line::Certify(depth, form) => {
             serve_watched(alloc, Ask::Certify(depth, form), searcher, from, to)
         }
-        Line::Run(workers) => run(rt, threads, teller, workers, from, to),
+        Line::Run(workers) => run(rt, threads, teller, workers, false, from, to),
+        Line::RunWhole(workers) => run(rt, threads, teller, workers, true, from, to),
         Line::Audit => serve_watched(alloc, Ask::Audit, teller, from, to),
         Line::CheckEach(jobs) => answer_each(threads, alloc, Ask::Check, jobs, from, to),
         Line::AuditEach(jobs) => answer_each(threads, alloc, Ask::Audit, jobs, from, to),
         Line::Refute(claim, runs, seed, explain) => {
-            let search = search_of(claim, runs, seed, explain);
-            refute_document(alloc, search, teller, from, to)
+            let search = Search::new(claim.map(usize::from), runs, u64::from(seed), explain);
+            let progress = ClaimProgress::new(rt);
+            refute_document(alloc, search, searcher, &progress, from, to)
         }
         Line::Verify(depth, runs, seed, jobs, style) => {
             let limits = Limits::usual(depth, runs, u64::from(seed));

@@ -33,15 +33,15 @@ pub(crate) fn slim<'a>(alloc: Global) -> Arg<'a>
         .help("Omits from the rows whatever the proof does not need")
 }
 
-/// The option for the whole document.
-pub(crate) fn whole<'a>(alloc: Global) -> Arg<'a>
+/// The option for the whole document, with what is in it.
+pub(crate) fn whole<'a>(alloc: Global, help: &'a str) -> Arg<'a>
     ensures rule { rule_of result ≡ whole_rule }
     ensures own { result.global ≡ false }
 {
     Arg::new(alloc, "whole")
         .long("whole")
         .action(ArgAction::SetTrue)
-        .help("Writes the whole document, with the certificate in it")
+        .help(help)
 }
 
 /// The option for how many workers make a run.
@@ -65,8 +65,8 @@ pub(crate) fn claim<'a>(alloc: Global) -> Arg<'a>
     Arg::new(alloc, "claim")
         .long("claim")
         .value_name("N")
-        .help("The claim, 1 to 64; every claim if it is left out")
-        .value_parser(value_parser!(u32).range(1..=64))
+        .help("The claim, 1 to 1024; every claim if it is left out")
+        .value_parser(value_parser!(u32).range(1..=1024))
 }
 
 /// The option for how many runs are tried.

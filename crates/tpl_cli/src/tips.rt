@@ -90,16 +90,35 @@ pub(crate) fn with_tip(alloc: Global, text: String, words: &[&str]) -> Result<St
     }
 }
 
-/// What is said of words that `clap` takes and that mean nothing. Only the language of a picture is read behind it.
+/// The options that have a word behind `--as`, by their subcommands: what the help calls the word, and which there are.
+const NAMED: [(&str, &str, &str); 2] = [
+    ("draw", "LANGUAGE", "mermaid, dot"),
+    ("verify", "STYLE", "text, json, junit"),
+];
+
+/// What is said of a word behind `--as` that names nothing there.
+fn unnamed(alloc: Global, subcommand: &str, word: &str) -> Result<String, AllocError> {
+    for (owner, name, values) in NAMED {
+        if owner == subcommand {
+            return format!(in alloc;
+                "error: invalid value '{word}' for '--as <{name}>'\n  [possible values: {values}]\n\nFor more information, try '--help'.\n"
+            );
+        }
+    }
+    Ok(String::new(alloc))
+}
+
+/// What is said of words that `clap` takes and that mean nothing: a word behind `--as` names nothing, or a number of
+/// threads is given where no document on each line is asked for.
 pub(crate) fn no_meaning(alloc: Global, given: &ArgMatches<'_>) -> Result<String, AllocError> {
-    let language = match given.subcommand() {
-        Some((_, options)) => options.get_str("as"),
-        None => None,
+    let Some((subcommand, options)) = given.subcommand() else {
+        return String::from_str(alloc, "error: no command\n");
     };
-    match language {
-        Some(word) => format!(in alloc;
-            "error: invalid value '{word}' for '--as <LANGUAGE>'\n  [possible values: mermaid, dot]\n\nFor more information, try '--help'.\n"
+    match options.get_str("as") {
+        Some(word) => unnamed(alloc, subcommand, word),
+        None => String::from_str(
+            alloc,
+            "error: the argument '--jobs <N>' is taken only with '--each'\n\nFor more information, try '--help'.\n",
         ),
-        None => String::from_str(alloc, "error: no command\n"),
     }
 }

@@ -1,18 +1,18 @@
 //! How the words of the command line are written.
 
 ghost use Rattle.std.specs.Prelude.{◌≡◌, false, IfOk};
-ghost use Rattle.clap.specs.Words.{app_of, with_subcommand};
+ghost use Rattle.clap.specs.Words.{app_of, rule_of, with_rule, with_subcommand};
 ghost use Rattle.clap.specs.declared.builder.command.Command.TheViews.{out-Command};
-ghost use Rattle.tpl_cli.specs.Usage.{analyse_command, audit_command, audited, batched_claims, check_command, checked, draw_command, no_command, refute_command, judged_claims, run_command, searched, spread_claims, taskgraph, trace_command, tried_claims, tried_runs, verify_command};
+ghost use Rattle.tpl_cli.specs.Usage.{analyse_command, audit_command, check_command, draw_command, no_command, refute_command, run_command, taskgraph, trace_command, verify_command};
 
 use crate::options::{
     claim, depth, each, explain, jobs, language, runs, seed, slim, style, whole, workers,
 };
-use clap::Command;
+use clap::{Arg, Command};
 use std::alloc::{AllocError, Global};
 
 /// The version of the program, which the file `VERSION` says too.
-const VERSION: &str = "0.3.0";
+const VERSION: &str = "0.4.0";
 
 /// The command line without its subcommands. One of them has to stand there.
 fn no_command<'a>(alloc: Global) -> Command<'a>
@@ -24,16 +24,24 @@ fn no_command<'a>(alloc: Global) -> Command<'a>
         .subcommand_required(true)
 }
 
-/// The subcommand `check`, with the options for a document on each line.
-fn checked<'a>(alloc: Global) -> Result<Command<'a>, AllocError>
-    ensures app { IfOk result (λ command. app_of command ≡ checked) }
-    ensures own { IfOk result (λ command. (out-Command command).has_globals ≡ false) }
+/// The subcommand with one option more.
+fn with_option<'a>(command: Command<'a>, option: Arg<'a>) -> Result<Command<'a>, AllocError>
+    requires command { (out-Command command).has_globals ≡ false }
+    requires option { option.global ≡ false }
+    ensures app { IfOk result (λ more.
+        app_of more ≡ with_rule (app_of command.entry) (rule_of option.entry)) }
+    ensures own { IfOk result (λ more. (out-Command more).has_globals ≡ false) }
 {
-    Command::new(alloc, "check")
-        .about("Checks the document's certificate")
-        .after_help("Example: ./taskgraph check < examples/one-root.json")
-        .arg(each(alloc))?
-        .arg(jobs(alloc))
+    command.arg(option)
+}
+
+/// The command line with one subcommand more.
+fn with_subcommand<'a>(command: Command<'a>, other: Command<'a>) -> Result<Command<'a>, AllocError>
+    requires { (out-Command other).has_globals ≡ false }
+    ensures { IfOk result (λ more.
+        app_of more ≡ with_subcommand (app_of command.entry) (app_of other.entry).top) }
+{
+    command.subcommand(other)
 }
 
 /// The subcommand that checks a certificate.
@@ -41,32 +49,12 @@ fn check<'a>(alloc: Global) -> Result<Command<'a>, AllocError>
     ensures app { IfOk result (λ command. app_of command ≡ check_command) }
     ensures own { IfOk result (λ command. (out-Command command).has_globals ≡ false) }
 {
-    let checked = checked(alloc)?;
-    checked.arg(explain(alloc))
-}
-
-/// The command line so far, and that subcommand.
-fn with_check<'a>(alloc: Global, command: Command<'a>) -> Result<Command<'a>, AllocError>
-    ensures { IfOk result (λ more. app_of more ≡ with_subcommand (app_of command.entry)
-        check_command.top) }
-{
-    let check = check(alloc)?;
-    command.subcommand(check)
-}
-
-/// The subcommand `analyse`, with the options for which certificate is wanted.
-fn searched<'a>(alloc: Global) -> Result<Command<'a>, AllocError>
-    ensures app { IfOk result (λ command. app_of command ≡ searched) }
-    ensures own { IfOk result (λ command. (out-Command command).has_globals ≡ false) }
-{
-    Command::new(alloc, "analyse")
-        .about("Searches for a certificate for the document's claims")
-        .after_help(
-            "Example: ./taskgraph analyse --whole < examples/either-or.json | ./taskgraph check",
-        )
-        .arg(depth(alloc, "2"))?
-        .arg(slim(alloc))?
-        .arg(whole(alloc))
+    let command = Command::new(alloc, "check")
+        .about("Checks the document's certificate")
+        .after_help("Example: ./taskgraph check < examples/one-root.json");
+    let command = with_option(command, each(alloc))?;
+    let command = with_option(command, jobs(alloc))?;
+    with_option(command, explain(alloc))
 }
 
 /// The subcommand that searches for a certificate.
@@ -74,45 +62,37 @@ fn analyse<'a>(alloc: Global) -> Result<Command<'a>, AllocError>
     ensures app { IfOk result (λ command. app_of command ≡ analyse_command) }
     ensures own { IfOk result (λ command. (out-Command command).has_globals ≡ false) }
 {
-    let searched = searched(alloc)?;
-    searched.arg(explain(alloc))
+    let command = Command::new(alloc, "analyse")
+        .about("Searches for a certificate for the document's claims")
+        .after_help(
+            "Example: ./taskgraph analyse --whole < examples/either-or.json | ./taskgraph check",
+        );
+    let command = with_option(command, depth(alloc, "2"))?;
+    let command = with_option(command, slim(alloc))?;
+    let command = with_option(
+        command,
+        whole(
+            alloc,
+            "Writes the whole document, with the certificate in it",
+        ),
+    )?;
+    with_option(command, explain(alloc))
 }
 
-/// The command line so far, and that subcommand.
-fn with_analyse<'a>(alloc: Global, command: Command<'a>) -> Result<Command<'a>, AllocError>
-    ensures { IfOk result (λ more. app_of more ≡ with_subcommand (app_of command.entry)
-        analyse_command.top) }
-{
-    let analyse = analyse(alloc)?;
-    command.subcommand(analyse)
-}
-
-/// The command line so far, and the subcommand that makes a run.
-fn with_run<'a>(alloc: Global, command: Command<'a>) -> Result<Command<'a>, AllocError>
-    ensures { IfOk result (λ more. app_of more ≡ with_subcommand (app_of command.entry)
-        run_command.top) }
-{
-    command.subcommand(
-        Command::new(alloc, "run")
-            .about("Checks the document's certificate and makes a run of its graph")
-            .after_help("Example: ./taskgraph run --workers 2 < examples/one-root.json")
-            .arg(workers(alloc))?
-            .arg(explain(alloc))?,
-    )
-}
-
-/// The subcommand `audit`, with the options for a document on each line.
-fn audited<'a>(alloc: Global) -> Result<Command<'a>, AllocError>
-    ensures app { IfOk result (λ command. app_of command ≡ audited) }
+/// The subcommand that makes a run.
+fn run<'a>(alloc: Global) -> Result<Command<'a>, AllocError>
+    ensures app { IfOk result (λ command. app_of command ≡ run_command) }
     ensures own { IfOk result (λ command. (out-Command command).has_globals ≡ false) }
 {
-    Command::new(alloc, "audit")
-        .about("Audits the document's journal")
-        .after_help(
-            "Example: examples/ask examples/one-root.json '{\"never\":\"A\"}' | ./taskgraph refute | ./taskgraph audit",
-        )
-        .arg(each(alloc))?
-        .arg(jobs(alloc))
+    let command = Command::new(alloc, "run")
+        .about("Checks the document's certificate and makes a run of its graph")
+        .after_help("Example: ./taskgraph run --workers 2 < examples/one-root.json");
+    let command = with_option(command, workers(alloc))?;
+    let command = with_option(
+        command,
+        whole(alloc, "Writes the whole document, with the run in it"),
+    )?;
+    with_option(command, explain(alloc))
 }
 
 /// The subcommand that audits a journal.
@@ -120,32 +100,14 @@ fn audit<'a>(alloc: Global) -> Result<Command<'a>, AllocError>
     ensures app { IfOk result (λ command. app_of command ≡ audit_command) }
     ensures own { IfOk result (λ command. (out-Command command).has_globals ≡ false) }
 {
-    let audited = audited(alloc)?;
-    audited.arg(explain(alloc))
-}
-
-/// The command line so far, and that subcommand.
-fn with_audit<'a>(alloc: Global, command: Command<'a>) -> Result<Command<'a>, AllocError>
-    ensures { IfOk result (λ more. app_of more ≡ with_subcommand (app_of command.entry)
-        audit_command.top) }
-{
-    let audit = audit(alloc)?;
-    command.subcommand(audit)
-}
-
-/// The subcommand `refute`, with the options for which runs are tried.
-fn tried_runs<'a>(alloc: Global) -> Result<Command<'a>, AllocError>
-    ensures app { IfOk result (λ command. app_of command ≡ tried_runs) }
-    ensures own { IfOk result (λ command. (out-Command command).has_globals ≡ false) }
-{
-    Command::new(alloc, "refute")
-        .about("Searches for a run in which a claim fails")
+    let command = Command::new(alloc, "audit")
+        .about("Audits the document's journal")
         .after_help(
-            "Example: examples/ask examples/one-root.json '{\"never\":\"A\"}' | ./taskgraph refute --explain",
-        )
-        .arg(claim(alloc))?
-        .arg(runs(alloc))?
-        .arg(seed(alloc))
+            "Example: examples/ask examples/one-root.json '{\"never\":\"A\"}' | ./taskgraph refute | ./taskgraph audit",
+        );
+    let command = with_option(command, each(alloc))?;
+    let command = with_option(command, jobs(alloc))?;
+    with_option(command, explain(alloc))
 }
 
 /// The subcommand that searches for a run in which a claim fails.
@@ -153,57 +115,15 @@ fn refute<'a>(alloc: Global) -> Result<Command<'a>, AllocError>
     ensures app { IfOk result (λ command. app_of command ≡ refute_command) }
     ensures own { IfOk result (λ command. (out-Command command).has_globals ≡ false) }
 {
-    let tried = tried_runs(alloc)?;
-    tried.arg(explain(alloc))
-}
-
-/// The command line so far, and that subcommand.
-fn with_refute<'a>(alloc: Global, command: Command<'a>) -> Result<Command<'a>, AllocError>
-    ensures { IfOk result (λ more. app_of more ≡ with_subcommand (app_of command.entry)
-        refute_command.top) }
-{
-    let refute = refute(alloc)?;
-    command.subcommand(refute)
-}
-
-/// The subcommand `verify`, with the options for how much is tried.
-fn tried_claims<'a>(alloc: Global) -> Result<Command<'a>, AllocError>
-    ensures app { IfOk result (λ command. app_of command ≡ tried_claims) }
-    ensures own { IfOk result (λ command. (out-Command command).has_globals ≡ false) }
-{
-    Command::new(alloc, "verify")
-        .about("Answers each of the document's claims: it holds, fails, is empty, or is unknown")
-        .after_help("Example: ./taskgraph verify --as junit < examples/either-or.json")
-        .arg(depth(alloc, "6"))?
-        .arg(runs(alloc))?
-        .arg(seed(alloc))
-}
-
-/// The subcommand `verify`, with the option for how many threads search, too.
-fn spread_claims<'a>(alloc: Global) -> Result<Command<'a>, AllocError>
-    ensures app { IfOk result (λ command. app_of command ≡ spread_claims) }
-    ensures own { IfOk result (λ command. (out-Command command).has_globals ≡ false) }
-{
-    let tried = tried_claims(alloc)?;
-    tried.arg(jobs(alloc))
-}
-
-/// The subcommand `verify`, with the option for how its verdicts are written, too.
-fn judged_claims<'a>(alloc: Global) -> Result<Command<'a>, AllocError>
-    ensures app { IfOk result (λ command. app_of command ≡ judged_claims) }
-    ensures own { IfOk result (λ command. (out-Command command).has_globals ≡ false) }
-{
-    let spread = spread_claims(alloc)?;
-    spread.arg(style(alloc))
-}
-
-/// The subcommand `verify`, with the option for a document on each line, too.
-fn batched_claims<'a>(alloc: Global) -> Result<Command<'a>, AllocError>
-    ensures app { IfOk result (λ command. app_of command ≡ batched_claims) }
-    ensures own { IfOk result (λ command. (out-Command command).has_globals ≡ false) }
-{
-    let judged = judged_claims(alloc)?;
-    judged.arg(each(alloc))
+    let command = Command::new(alloc, "refute")
+        .about("Searches for a run in which a claim fails")
+        .after_help(
+            "Example: examples/ask examples/one-root.json '{\"never\":\"A\"}' | ./taskgraph refute --explain",
+        );
+    let command = with_option(command, claim(alloc))?;
+    let command = with_option(command, runs(alloc))?;
+    let command = with_option(command, seed(alloc))?;
+    with_option(command, explain(alloc))
 }
 
 /// The subcommand that answers each claim.
@@ -211,59 +131,53 @@ fn verify<'a>(alloc: Global) -> Result<Command<'a>, AllocError>
     ensures app { IfOk result (λ command. app_of command ≡ verify_command) }
     ensures own { IfOk result (λ command. (out-Command command).has_globals ≡ false) }
 {
-    let batched = batched_claims(alloc)?;
-    batched.arg(explain(alloc))
+    let command = Command::new(alloc, "verify")
+        .about("Answers each of the document's claims: it holds, fails, is empty, or is unknown")
+        .after_help("Example: ./taskgraph verify --as junit < examples/either-or.json");
+    let command = with_option(command, depth(alloc, "6"))?;
+    let command = with_option(command, runs(alloc))?;
+    let command = with_option(command, seed(alloc))?;
+    let command = with_option(command, jobs(alloc))?;
+    let command = with_option(command, style(alloc))?;
+    let command = with_option(command, each(alloc))?;
+    with_option(command, explain(alloc))
 }
 
-/// The command line so far, and that subcommand.
-fn with_verify<'a>(alloc: Global, command: Command<'a>) -> Result<Command<'a>, AllocError>
-    ensures { IfOk result (λ more. app_of more ≡ with_subcommand (app_of command.entry)
-        verify_command.top) }
+/// The subcommand that draws a graph.
+fn draw<'a>(alloc: Global) -> Result<Command<'a>, AllocError>
+    ensures app { IfOk result (λ command. app_of command ≡ draw_command) }
+    ensures own { IfOk result (λ command. (out-Command command).has_globals ≡ false) }
 {
-    let verify = verify(alloc)?;
-    command.subcommand(verify)
+    let command = Command::new(alloc, "draw")
+        .about("Draws the document's graph")
+        .after_help("Example: ./taskgraph draw --as dot < examples/saga.json");
+    let command = with_option(command, language(alloc))?;
+    with_option(command, explain(alloc))
 }
 
-/// The command line so far, and the subcommand that draws a graph.
-fn with_draw<'a>(alloc: Global, command: Command<'a>) -> Result<Command<'a>, AllocError>
-    ensures { IfOk result (λ more. app_of more ≡ with_subcommand (app_of command.entry)
-        draw_command.top) }
+/// The subcommand that writes a journal for a trace viewer.
+fn trace<'a>(alloc: Global) -> Result<Command<'a>, AllocError>
+    ensures app { IfOk result (λ command. app_of command ≡ trace_command) }
+    ensures own { IfOk result (λ command. (out-Command command).has_globals ≡ false) }
 {
-    command.subcommand(
-        Command::new(alloc, "draw")
-            .about("Draws the document's graph")
-            .after_help("Example: ./taskgraph draw --as dot < examples/saga.json")
-            .arg(language(alloc))?
-            .arg(explain(alloc))?,
-    )
-}
-
-/// The command line so far, and the subcommand that writes a journal for a trace viewer.
-fn with_trace<'a>(alloc: Global, command: Command<'a>) -> Result<Command<'a>, AllocError>
-    ensures { IfOk result (λ more. app_of more ≡ with_subcommand (app_of command.entry)
-        trace_command.top) }
-{
-    command.subcommand(
-        Command::new(alloc, "trace")
-            .about("Writes the document's journal for a trace viewer")
-            .after_help(
-                "Example: examples/ask examples/one-root.json '{\"never\":\"A\"}' | ./taskgraph refute | ./taskgraph trace",
-            )
-            .arg(explain(alloc))?,
-    )
+    let command = Command::new(alloc, "trace")
+        .about("Writes the document's journal for a trace viewer")
+        .after_help(
+            "Example: examples/ask examples/one-root.json '{\"never\":\"A\"}' | ./taskgraph refute | ./taskgraph trace",
+        );
+    with_option(command, explain(alloc))
 }
 
 /// The command line.
 pub(crate) fn taskgraph<'a>(alloc: Global) -> Result<Command<'a>, AllocError>
     ensures { IfOk result (λ command. app_of command ≡ taskgraph) }
 {
-    let checks = with_check(alloc, no_command(alloc))?;
-    let searches = with_analyse(alloc, checks)?;
-    let runs = with_run(alloc, searches)?;
-    let audits = with_audit(alloc, runs)?;
-    let refutes = with_refute(alloc, audits)?;
-    let verifies = with_verify(alloc, refutes)?;
-    let draws = with_draw(alloc, verifies)?;
-    let all = with_trace(alloc, draws)?;
-    Ok(all)
+    let command = with_subcommand(no_command(alloc), check(alloc)?)?;
+    let command = with_subcommand(command, analyse(alloc)?)?;
+    let command = with_subcommand(command, run(alloc)?)?;
+    let command = with_subcommand(command, audit(alloc)?)?;
+    let command = with_subcommand(command, refute(alloc)?)?;
+    let command = with_subcommand(command, verify(alloc)?)?;
+    let command = with_subcommand(command, draw(alloc)?)?;
+    with_subcommand(command, trace(alloc)?)
 }

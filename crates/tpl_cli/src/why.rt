@@ -122,6 +122,9 @@ impl Listen for Teller<'_> {
     }
 
     fn tells(self, line: &str) {
+        if self.shows {
+            clear(self.rt);
+        }
         let _ = eprint!(self.rt; "{line}");
     }
 }

@@ -1,4 +1,4 @@
 use Rattle.tpl_cli.proofs.line.run_line.Goals as goal
 
-pub returns-in-None : goal.returns-in-None
-returns-in-None c l is = c.in-None.ensures is.0 is.1
+pub returns-in_default : goal.returns-in_default
+returns-in_default c l is = c.in_default.ensures is.0 is.1

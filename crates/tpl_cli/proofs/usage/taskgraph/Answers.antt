@@ -1,22 +1,15 @@
-use Rattle.std.proofs.Common.{ap, ◌∙◌}
+use Rattle.std.proofs.Common.{ap₂}
 use Rattle.clap.specs.Words.{App, with_subcommand}
-use Rattle.tpl_cli.specs.Usage.{analyse_command, audit_command, check_command, draw_command, refute_command, run_command, trace_command, verify_command}
+use Rattle.tpl_cli.proofs.Commands.{and_subcommand, renamed}
 use Rattle.tpl_cli.proofs.usage.taskgraph.Goals as goal
 
 pub returns : goal.returns
 returns c =
-    c.in_ok-all.ensures
-    ∙ ap (λ (a : App). with_subcommand a trace_command.top)
-    (c.in_ok-draws.ensures
-    ∙ ap (λ (a : App). with_subcommand a draw_command.top)
-    (c.in_ok-verifies.ensures
-    ∙ ap (λ (a : App). with_subcommand a verify_command.top)
-    (c.in_ok-refutes.ensures
-    ∙ ap (λ (a : App). with_subcommand a refute_command.top)
-    (c.in_ok-audits.ensures
-    ∙ ap (λ (a : App). with_subcommand a audit_command.top)
-    (c.in_ok-runs.ensures
-    ∙ ap (λ (a : App). with_subcommand a run_command.top)
-    (c.in_ok-searches.ensures
-    ∙ ap (λ (a : App). with_subcommand a analyse_command.top)
-    (c.in_ok-checks.ensures ∙ ap (λ (a : App). with_subcommand a check_command.top) c.no_command.ensures)))))))
+    let check = and_subcommand c.in_ok-command.ensures c.no_command.ensures c.in_ok-check.ensures.app in
+    let analyse = and_subcommand c.in_ok-command-2.ensures check c.in_ok-analyse.ensures.app in
+    let run = and_subcommand c.in_ok-command-3.ensures analyse c.in_ok-run.ensures.app in
+    let audit = and_subcommand c.in_ok-command-4.ensures run c.in_ok-audit.ensures.app in
+    let refute = and_subcommand c.in_ok-command-5.ensures audit c.in_ok-refute.ensures.app in
+    let verify = and_subcommand c.in_ok-command-6.ensures refute c.in_ok-verify.ensures.app in
+    let draw = and_subcommand c.in_ok-command-7.ensures verify c.in_ok-draw.ensures.app in
+    renamed c.with_subcommand-8.result c.with_subcommand-8.ensures (ap₂ (λ (a b : App). with_subcommand a b.top) draw c.in_ok-trace.ensures.app)
