@@ -23,7 +23,7 @@ namespace Sample
             new Release().Stoppable(CancellationToken.None).Verify();
         }
 
-        // the certificate in the repository is still one of the graph
+        // what Certify returned is kept, in a file beside the code, and still fits; here it is made anew
         [Fact]
         public void TheStoredCertificateFits()
         {
@@ -71,6 +71,25 @@ namespace Sample
             Assert.True(run.Wait(5000));
             var wrong = Assert.Throws<TaskGraphException>(() => run.Audit());
             Assert.Contains("claim 1 fails", wrong.Message);
+        }
+
+        // the same without a marker
+        [Fact]
+        public void WhatFailsIsRolledBack()
+        {
+            TaskGraphBuilder g = new Release().Repaired();
+            g.Claims.Named("what fails is rolled back").Ended(g["Release"], TaskStatus.Faulted).Runs(g["Rollback"]);
+            g.Verify();
+        }
+
+        [Fact]
+        public void TheFirstReleaseIsFoundWithoutAMarker()
+        {
+            TaskGraphBuilder g = new Release().Graph();
+            g.Claims.Named("what fails is rolled back").Ended(g["Release"], TaskStatus.Faulted).Runs(g["Rollback"]);
+            ClaimVerdict found = g.Verdicts().Single(it => it.Name == "what fails is rolled back");
+            Assert.Equal(Verdict.Fails, found.Verdict);
+            Assert.Contains("drop Rollback", found.ToString());
         }
 
         // shaken, it is refused in each run in which the deployment or the smoke test fails

@@ -194,9 +194,7 @@ namespace TaskGraph.Internals
         /// <summary>A job threw: by its token, so that it counts as done and the check behind it ends the body; or it failed.</summary>
         private void PutThrown(Step step, Exception thrown)
         {
-            var canceled = thrown as OperationCanceledException;
-            if (canceled != null && step.Token != null && canceled.CancellationToken == step.Token.CancellationToken
-                && canceled.CancellationToken.IsCancellationRequested)
+            if (step.Token != null && step.Token.IsStop(thrown))
             {
                 Put(RecordKind.Done);
                 recorder.Check(task.Id, worker, step.Token.Id);
@@ -240,7 +238,7 @@ namespace TaskGraph.Internals
         /// <summary>The antecedent, or the winner where the antecedent is a WhenAny task.</summary>
         private Task Subject()
         {
-            return task.Antecedent.Kind == TaskKind.Any ? ((Task<Task>)antecedent).Result : antecedent;
+            return task.Antecedent.Kind == TaskKind.Any ? Winner.Of(antecedent) : antecedent;
         }
 
         private void Put(RecordKind kind)

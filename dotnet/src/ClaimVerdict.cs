@@ -11,18 +11,27 @@ namespace TaskGraph
     {
         private const string Indent = "  ";
 
-        private static readonly Regex First = new Regex("^claim ([0-9]+) (holds|empty|fails|unknown): (.*)$");
+        // the name of a claim stands in quotes, and may have quotes and more itself; its words have none
+        private static readonly Regex First = new Regex("^claim ([0-9]+)(?: \".*\")? (holds|empty|fails|unknown): ([^\"]*)$");
 
-        private ClaimVerdict(int claim, Verdict verdict, string text, IReadOnlyList<string> lines)
+        private readonly string first;
+
+        private ClaimVerdict(string first, IReadOnlyList<string> lines, Func<int, string> nameOf)
         {
-            Claim = claim;
-            Verdict = verdict;
-            Text = text;
+            GroupCollection found = First.Match(first).Groups;
+            this.first = first;
+            Claim = int.Parse(found[1].Value);
+            Name = nameOf(Claim);
+            Verdict = (Verdict)Enum.Parse(typeof(Verdict), found[2].Value, ignoreCase: true);
+            Text = found[3].Value;
             Lines = lines;
         }
 
         /// <summary>The number of the claim, from 1, in the order in which they were declared.</summary>
         public int Claim { get; private set; }
+
+        /// <summary>The claim's name; null for none.</summary>
+        public string Name { get; private set; }
 
         /// <summary>What is known of it.</summary>
         public Verdict Verdict { get; private set; }
@@ -37,24 +46,22 @@ namespace TaskGraph
         /// <summary>Gives the words of the program.</summary>
         public override string ToString()
         {
-            string first = "claim " + Claim + " " + Verdict.ToString().ToLowerInvariant() + ": " + Text;
             return string.Join("\n" + Indent, new[] { first }.Concat(Lines));
         }
 
         /// <summary>The verdicts that taskgraph verify wrote as text.</summary>
-        internal static IReadOnlyList<ClaimVerdict> AllOf(string output)
+        internal static IReadOnlyList<ClaimVerdict> AllOf(string output, Func<int, string> nameOf)
         {
             string[] lines = output.Split('\n');
-            return Enumerable.Range(0, lines.Length).Where(it => First.IsMatch(lines[it])).Select(it => Of(lines, it)).ToArray();
+            IEnumerable<int> firsts = Enumerable.Range(0, lines.Length).Where(it => First.IsMatch(lines[it]));
+            return firsts.Select(it => new ClaimVerdict(lines[it], Further(lines, it), nameOf)).ToArray();
         }
 
-        private static ClaimVerdict Of(string[] lines, int place)
+        /// <summary>The lines that belong to the claim whose first line stands here.</summary>
+        private static string[] Further(string[] lines, int place)
         {
-            GroupCollection found = First.Match(lines[place]).Groups;
-            var verdict = (Verdict)Enum.Parse(typeof(Verdict), found[2].Value, ignoreCase: true);
-            string[] further = lines.Skip(place + 1).TakeWhile(it => it.StartsWith(Indent, StringComparison.Ordinal)).ToArray();
-            return new ClaimVerdict(
-                int.Parse(found[1].Value), verdict, found[3].Value, further.Select(it => it.Substring(Indent.Length)).ToArray());
+            IEnumerable<string> indented = lines.Skip(place + 1).TakeWhile(it => it.StartsWith(Indent, StringComparison.Ordinal));
+            return indented.Select(it => it.Substring(Indent.Length)).ToArray();
         }
     }
 }

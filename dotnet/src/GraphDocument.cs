@@ -1,6 +1,6 @@
 using System.Collections.Generic;
+using System.Globalization;
 using System.Linq;
-using System.Threading.Tasks;
 
 namespace TaskGraph.Internals
 {
@@ -9,6 +9,7 @@ namespace TaskGraph.Internals
     {
         private const string Plain = "1";
         private const string WithLinkedTokens = "2";
+        private const string Version3 = "3";
 
         private readonly TaskGraphBuilder graph;
 
@@ -17,39 +18,62 @@ namespace TaskGraph.Internals
             this.graph = graph;
         }
 
-        /// <summary>The document with these claims, and with a journal where there is one.</summary>
-        internal string Write(string journal, IEnumerable<string> claims)
+        /// <summary>The graph and its claims.</summary>
+        internal string Write()
         {
-            return Write(claims, journal == null ? null : Json.Member("journal", Json.Text(journal.Replace("\n", "\\n"))));
+            return Write(LeastVersion());
         }
 
-        /// <summary>The document with its claims and a certificate of them.</summary>
+        /// <summary>The same with a certificate of the claims.</summary>
         internal string WriteWith(string certificate)
         {
-            return Write(graph.Claims.Texts, Json.Member("certificate", certificate));
+            return Write(LeastVersion(), Json.Member("certificate", certificate));
         }
 
-        private string Write(IEnumerable<string> claims, string further)
+        /// <summary>The same with what was recorded of a run: the journal as far as it says what happened, how each task was seen to end,
+        /// and the times.</summary>
+        internal string WriteWith(RunAccount run)
         {
-            bool isLinked = graph.Tokens.Any(it => it.Sources.Length > 0);
-            var members = new List<string> { Json.Member("version", isLinked ? WithLinkedTokens : Plain) };
+            string ends = Json.Object(run.Ends.Select(it => Json.Member(it.Key.Name, Json.Text(it.Value.ToString()))).ToArray());
+            string times = Json.List(run.Times.Take(run.Sayable).Select(it => it.ToString(CultureInfo.InvariantCulture)));
+            string journal = Json.Text(run.SayableJournal);
+            return Write(Version3, Json.Member("ended", ends), Json.Member("times", times), Json.Member("journal", journal));
+        }
+
+        private string Write(string version, params string[] further)
+        {
+            var members = new List<string> { Json.Member("version", version) };
+            AddNote(members, graph.Note);
             AddList(members, "inputs", graph.Inputs.Select(it => Json.Text(it.Name)));
             AddList(members, "tokens", graph.Tokens.Select(TokenOf));
             members.Add(Lines("tasks", graph.Tasks.Select(TaskOf)));
-            if (claims.Any())
+            if (graph.Claims.Texts.Count > 0)
             {
-                members.Add(Lines("claims", claims));
+                members.Add(Lines("claims", graph.Claims.Texts));
             }
             if (graph.Inputs.Count > 0)
             {
                 string values = Json.Object(graph.Inputs.Select(it => Json.Member(it.Name, Json.Bool(it.Value))).ToArray());
                 members.Add(Json.Member("start", Json.Object(Json.Member("inputs", values))));
             }
-            if (further != null)
-            {
-                members.Add(further);
-            }
+            members.AddRange(further);
             return "{" + string.Join(",\n ", members) + "}\n";
+        }
+
+        /// <summary>The least version that says all of the graph and its claims.</summary>
+        private string LeastVersion()
+        {
+            bool isLinked = graph.Tokens.Any(it => it.Sources.Length > 0);
+            bool isNoted = graph.Note != null || graph.Tasks.Any(it => it.Note != null);
+            return isNoted || graph.Claims.NeedVersion3 ? Version3 : isLinked ? WithLinkedTokens : Plain;
+        }
+
+        private static void AddNote(List<string> members, string note)
+        {
+            if (note != null)
+            {
+                members.Add(Json.Member("note", Json.Text(note)));
+            }
         }
 
         private static void AddList(List<string> members, string name, IEnumerable<string> items)
@@ -86,6 +110,7 @@ namespace TaskGraph.Internals
             {
                 Json.Member("name", Json.Text(task.Name)), Json.Member("kind", Json.Text(task.Kind.ToString().ToLowerInvariant())),
             };
+            AddNote(members, task.Note);
             if (task.Antecedent != null)
             {
                 members.Add(Json.Member("after", Json.Text(task.Antecedent.Name)));

@@ -20,6 +20,16 @@ namespace TaskGraph.Internals
             return OptionWords.Allow(task.Options, antecedent);
         }
 
+        /// <exception cref="ArgumentException">No task ends so.</exception>
+        internal static void CheckFinal(TaskStatus final)
+        {
+            if (final != TaskStatus.RanToCompletion && final != TaskStatus.Canceled && final != TaskStatus.Faulted)
+            {
+                throw new ArgumentException(
+                    "a task ends in RanToCompletion, Canceled or Faulted, and not in " + final + "; name one of these");
+            }
+        }
+
         /// <summary>Checks a task that is to be declared.</summary>
         /// <exception cref="ArgumentException">It can't be declared so.</exception>
         internal static void CheckNew(GraphTask task)
@@ -40,11 +50,13 @@ namespace TaskGraph.Internals
 
         /// <summary>Works out what is known once all tasks and steps are declared.</summary>
         /// <exception cref="ArgumentException">A child isn't started, or is started twice; a site stands twice; an async body
-        /// checks another token than its task's own.</exception>
+        /// checks another token than its task's own; a body looks at an antecedent where there is none, or names a token or an input
+        /// of another graph.</exception>
         internal static void Complete(IList<GraphTask> tasks)
         {
             foreach (GraphTask task in tasks.Where(it => it.Body != null))
             {
+                CheckBody(task);
                 CompleteBody(task);
             }
             GraphTask lost = tasks.FirstOrDefault(it => it.Kind == TaskKind.Child && it.Parent == null);
@@ -74,8 +86,23 @@ namespace TaskGraph.Internals
             }
         }
 
+        private static void CheckBody(GraphTask task)
+        {
+            if (task.Kind != TaskKind.Then && task.Body.LooksAtSubject)
+            {
+                throw new ArgumentException(
+                    task.Name + " has Observe or When in its steps, and continues no task; make it by ContinueWith of the task it looks at");
+            }
+            foreach (Step step in task.Body.All)
+            {
+                task.Graph.DemandOwn(step.Token);
+                task.Graph.DemandOwn(step.Input);
+            }
+        }
+
         private static void CompleteBody(GraphTask task)
         {
+            task.Body.Close();
             task.IsAsync = task.Body.IsAsync;
             if (task.IsAsync && task.Body.All.Any(it => it.Kind == StepKind.Check && it.Token != task.Token))
             {

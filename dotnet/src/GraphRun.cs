@@ -78,10 +78,12 @@ namespace TaskGraph
             return true;
         }
 
-        /// <summary>The document of the graph with the journal of this run, to be kept for taskgraph audit and trace.</summary>
+        /// <summary>The document of the graph with the journal of this run, how each task was seen to end, and the times, to be kept for
+        /// taskgraph audit and trace. Where <see cref="Audit"/> refuses the run since no journal says what happened, the journal ends before
+        /// that, so that taskgraph audit refuses it too.</summary>
         public string ToJson()
         {
-            return graph.ToJson(Journal, graph.Claims.Texts);
+            return graph.ToJson(Account());
         }
 
         /// <summary>Asks whether the run is one of the graph, is complete, has no claim that fails, and whether each task ended as the
@@ -94,12 +96,18 @@ namespace TaskGraph
 
         /// <summary>Says that this is the real task, which code that is watched has made. To be called before anything continues it:
         /// <c>var deploy = run.Is(d, Task.Run(run.Body(d, it => it.Work(Deploy))));</c></summary>
+        /// <exception cref="ArgumentException">The task is of another graph.</exception>
+        /// <exception cref="InvalidOperationException">It has a real task already.</exception>
         public T Is<T>(GraphTask task, T real)
             where T : Task
         {
             if (real == null)
             {
                 throw new ArgumentNullException(nameof(real));
+            }
+            if (this[graph.DemandOwn(task)] != null)
+            {
+                throw new InvalidOperationException(task.Name + " has a real task already; declare another task for this one");
             }
             recorder.Made(task.Id, real);
             return real;
@@ -111,9 +119,23 @@ namespace TaskGraph
             return () => Watched(task, null, body);
         }
 
+        /// <summary>Wraps the body of a root or a child that gives a result.</summary>
+        public Func<T> Body<T>(GraphTask task, Func<WatchedBody, T> body)
+        {
+            DemandNoTask<T>("BodyAsync");
+            return () => Watched(task, null, body);
+        }
+
         /// <summary>Wraps the body of a continuation for Task.ContinueWith.</summary>
         public Action<Task> Next(GraphTask task, Action<WatchedBody> body)
         {
+            return antecedent => Watched(task, antecedent, body);
+        }
+
+        /// <summary>Wraps the body of a continuation that gives a result.</summary>
+        public Func<Task, T> Next<T>(GraphTask task, Func<WatchedBody, T> body)
+        {
+            DemandNoTask<T>("NextAsync");
             return antecedent => Watched(task, antecedent, body);
         }
 
@@ -124,9 +146,21 @@ namespace TaskGraph
             return () => WatchedAsync(task, null, body);
         }
 
+        /// <summary>Wraps the body of a root that is an async method with a result, for Task.Run.</summary>
+        public Func<Task<T>> BodyAsync<T>(GraphTask task, Func<WatchedBody, Task<T>> body)
+        {
+            return () => WatchedAsync(task, null, body);
+        }
+
         /// <summary>Wraps the body of a continuation that is an async method, for Task.ContinueWith. The graph's task is the unwrapped
         /// one: ContinueWith(..).Unwrap().</summary>
         public Func<Task, Task> NextAsync(GraphTask task, Func<WatchedBody, Task> body)
+        {
+            return antecedent => WatchedAsync(task, antecedent, body);
+        }
+
+        /// <summary>Wraps the body of a continuation that is an async method with a result: ContinueWith(..).Unwrap().</summary>
+        public Func<Task, Task<T>> NextAsync<T>(GraphTask task, Func<WatchedBody, Task<T>> body)
         {
             return antecedent => WatchedAsync(task, antecedent, body);
         }
@@ -261,30 +295,70 @@ namespace TaskGraph
             return graph.Tasks.Select(it => this[it]).FirstOrDefault(it => it != null && !it.IsCompleted);
         }
 
+        /// <exception cref="InvalidOperationException">The body returns a Task, and so is over only once that has ended.</exception>
+        private static void DemandNoTask<T>(string call)
+        {
+            if (typeof(Task).IsAssignableFrom(typeof(T)))
+            {
+                throw new InvalidOperationException("a body that returns a Task is an async method; wrap it by " + call);
+            }
+        }
+
         private void Watched(GraphTask task, Task antecedent, Action<WatchedBody> body)
         {
-            int worker = recorder.Begin(task.Id);
+            WatchedBody watched = BeginWatched(task, antecedent);
             try
             {
-                body(new WatchedBody(this, task, antecedent, worker));
+                body(watched);
             }
             finally
             {
-                recorder.Put(RecordKind.Over, task.Id, worker);
+                watched.End();
+            }
+        }
+
+        private T Watched<T>(GraphTask task, Task antecedent, Func<WatchedBody, T> body)
+        {
+            WatchedBody watched = BeginWatched(task, antecedent);
+            try
+            {
+                return body(watched);
+            }
+            finally
+            {
+                watched.End();
             }
         }
 
         private async Task WatchedAsync(GraphTask task, Task antecedent, Func<WatchedBody, Task> body)
         {
-            int worker = recorder.Begin(task.Id);
+            WatchedBody watched = BeginWatched(task, antecedent);
             try
             {
-                await body(new WatchedBody(this, task, antecedent, worker)).ConfigureAwait(false);
+                await body(watched).ConfigureAwait(false);
             }
             finally
             {
-                recorder.Put(RecordKind.Over, task.Id, worker);
+                watched.End();
             }
+        }
+
+        private async Task<T> WatchedAsync<T>(GraphTask task, Task antecedent, Func<WatchedBody, Task<T>> body)
+        {
+            WatchedBody watched = BeginWatched(task, antecedent);
+            try
+            {
+                return await body(watched).ConfigureAwait(false);
+            }
+            finally
+            {
+                watched.End();
+            }
+        }
+
+        private WatchedBody BeginWatched(GraphTask task, Task antecedent)
+        {
+            return new WatchedBody(this, task, antecedent, recorder.Begin(graph.DemandOwn(task).Id));
         }
     }
 }

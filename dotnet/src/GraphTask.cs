@@ -45,6 +45,18 @@ namespace TaskGraph
         /// <summary>The task's name in the document.</summary>
         public string Name { get; internal set; }
 
+        /// <summary>The note that stands in the document, for readers alone; null for none.</summary>
+        public string Note { get; private set; }
+
+        /// <summary>Gives the task a note.</summary>
+        /// <returns>The task.</returns>
+        public GraphTask WithNote(string note)
+        {
+            Graph.DemandOpen("the note of " + Name);
+            Note = note;
+            return this;
+        }
+
         internal bool Has(TaskContinuationOptions option)
         {
             return (Options & option) == option;

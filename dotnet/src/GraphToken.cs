@@ -1,3 +1,4 @@
+using System;
 using System.Linq;
 using System.Threading;
 
@@ -33,6 +34,22 @@ namespace TaskGraph
         public static implicit operator CancellationToken(GraphToken token)
         {
             return token == null ? CancellationToken.None : token.CancellationToken;
+        }
+
+        /// <exception cref="ArgumentException">The token's source isn't known here.</exception>
+        internal void DemandSource()
+        {
+            if (Source == null)
+            {
+                throw new ArgumentException("the source of " + Name + " isn't known here; declare it by Token(name, source)");
+            }
+        }
+
+        /// <summary>Whether this is what a job throws that stops by this token, which is requested.</summary>
+        internal bool IsStop(Exception thrown)
+        {
+            var canceled = thrown as OperationCanceledException;
+            return canceled != null && canceled.CancellationToken == CancellationToken && CancellationToken.IsCancellationRequested;
         }
 
         /// <summary>Whether a request of this token requests the other one too: it is the other one, or a source of it.</summary>

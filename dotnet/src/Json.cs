@@ -1,13 +1,17 @@
 using System.Collections.Generic;
+using System.Linq;
 
 namespace TaskGraph.Internals
 {
-    /// <summary>Writes JSON. Texts are names, and so need no escapes.</summary>
+    /// <summary>Writes JSON.</summary>
     internal static class Json
     {
-        internal static string Text(string name)
+        private const char FirstPlain = ' ';
+
+        internal static string Text(string text)
         {
-            return "\"" + name + "\"";
+            string escaped = text.Replace("\\", "\\\\").Replace("\"", "\\\"").Replace("\n", "\\n");
+            return "\"" + (escaped.Any(IsControl) ? string.Concat(escaped.Select(Escaped)) : escaped) + "\"";
         }
 
         internal static string Bool(bool value)
@@ -28,6 +32,16 @@ namespace TaskGraph.Internals
         internal static string Object(params string[] members)
         {
             return "{" + string.Join(",", members) + "}";
+        }
+
+        private static bool IsControl(char it)
+        {
+            return it < FirstPlain;
+        }
+
+        private static string Escaped(char it)
+        {
+            return IsControl(it) ? "\\u" + ((int)it).ToString("x4") : it.ToString();
         }
     }
 }

@@ -208,24 +208,36 @@ namespace TaskGraph
             return this;
         }
 
-        /// <exception cref="InvalidOperationException">It ends in a Try without Catch and Finally.</exception>
+        internal string Name
+        {
+            get { return name; }
+        }
+
+        /// <exception cref="InvalidOperationException">It is empty, or ends in a Try without Catch and Finally.</exception>
         internal void Check()
         {
             if (open != null)
             {
                 open.Check();
+                return;
             }
+            DemandStatement();
         }
 
         /// <summary>The tasks whose WhenAll ends as the block does.</summary>
         private GraphTask[] Parts()
         {
             Settle();
+            DemandStatement();
+            return parts.ToArray();
+        }
+
+        private void DemandStatement()
+        {
             if (parts.Count == 0)
             {
                 throw new InvalidOperationException("a method, and a try block, has a statement at least: add an Await");
             }
-            return parts.ToArray();
         }
 
         /// <summary>Closes a try that more follows.</summary>

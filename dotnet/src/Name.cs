@@ -1,4 +1,6 @@
 using System;
+using System.Linq;
+using System.Text;
 
 namespace TaskGraph.Internals
 {
@@ -6,6 +8,7 @@ namespace TaskGraph.Internals
     internal static class Name
     {
         private const int Longest = 32;
+        private const int MostBytesOfClaim = 100;
 
         /// <summary>Gives the name back.</summary>
         /// <exception cref="ArgumentException">It isn't 1 to 32 ASCII letters, digits or '_', or begins with a digit.</exception>
@@ -15,6 +18,19 @@ namespace TaskGraph.Internals
             {
                 throw new ArgumentException(
                     "a name is 1 to 32 ASCII letters, digits or '_', and doesn't begin with a digit; give another one than '" + name + "'");
+            }
+            return name;
+        }
+
+        /// <summary>Gives the name of a claim back.</summary>
+        /// <exception cref="ArgumentException">It isn't 1 to 100 bytes of text without control characters.</exception>
+        internal static string CheckedOfClaim(string name)
+        {
+            int bytes = name == null ? 0 : Encoding.UTF8.GetByteCount(name);
+            if (bytes == 0 || bytes > MostBytesOfClaim || name.Any(char.IsControl))
+            {
+                throw new ArgumentException(
+                    "the name of a claim is 1 to 100 bytes of text without control characters; say what is longer by WithNote");
             }
             return name;
         }

@@ -1,27 +1,23 @@
-using System.Collections.Generic;
+using System;
 using System.Linq;
 using System.Text.RegularExpressions;
-using System.Threading.Tasks;
 
 namespace TaskGraph.Internals
 {
-    /// <summary>The documents by which a run is audited: its journal with the graph's claims, and with a claim for each task that says
-    /// how it was seen to end, since a journal itself doesn't say that.</summary>
+    /// <summary>Audits a run: its journal, and how each task was seen to end, since a journal itself doesn't say that.</summary>
     internal sealed class RunAudit
     {
-        private const int MostClaims = 64;
+        private static readonly Regex Otherwise = new Regex("^task ([A-Za-z0-9_]+) ended ([A-Za-z]+)$", RegexOptions.Multiline);
 
-        private static readonly Regex Failing = new Regex(@"^claim (\d+) fails", RegexOptions.Multiline);
+        private const string NotComplete = "run not complete";
 
         private readonly TaskGraphBuilder graph;
         private readonly RunAccount account;
-        private readonly KeyValuePair<GraphTask, TaskStatus>[] ends;
 
         internal RunAudit(TaskGraphBuilder graph, RunAccount account)
         {
             this.graph = graph;
             this.account = account;
-            ends = account.Ends.OrderBy(it => it.Key.Id).ToArray();
         }
 
         /// <summary>What no journal can say of the run; null where there is no such thing.</summary>
@@ -30,49 +26,43 @@ namespace TaskGraph.Internals
             get { return account.Notes.FirstOrDefault(it => it.Kind == RunNoteKind.WinnerLookedAt || it.Kind == RunNoteKind.Unexplained); }
         }
 
-        /// <summary>The documents: the graph's claims and then those of the ends, as many in each as a document may have.</summary>
-        internal IEnumerable<string> Documents
-        {
-            get
-            {
-                List<string> claims = graph.Claims.Texts.Concat(ends.Select(it => EndClaim(it.Key, it.Value))).ToList();
-                for (int first = 0; first == 0 || first < claims.Count; first += MostClaims)
-                {
-                    yield return graph.ToJson(account.Journal, claims.Skip(first).Take(MostClaims));
-                }
-            }
-        }
-
-        /// <exception cref="TaskGraphException">The program says no to one of the documents, or no journal says what happened.</exception>
+        /// <exception cref="TaskGraphException">The program says no, or no journal says what happened.</exception>
         internal void Demand()
         {
             if (Unsayable != null)
             {
                 throw new TaskGraphException("no journal says what happened: " + Unsayable.Text + "\n" + Told());
             }
-            int first = 0;
-            foreach (string document in Documents)
+            ProgramAnswer answer = TaskGraphProgram.Call("audit --explain", graph.ToJson(account));
+            if (answer.ExitCode != 0)
             {
-                ProgramAnswer answer = TaskGraphProgram.Call("audit --explain", document);
-                if (answer.ExitCode != 0)
-                {
-                    throw new TaskGraphException(OtherEnd(answer, first) + answer.Output + answer.Error + Told());
-                }
-                first += MostClaims;
+                throw new TaskGraphException(OtherEnd(answer) + answer.Output + answer.Error + Hint(answer) + Told());
             }
         }
 
-        private static string EndClaim(GraphTask task, TaskStatus end)
+        /// <summary>Where a task was seen to end otherwise than the journal says, that in words.</summary>
+        private string OtherEnd(ProgramAnswer answer)
         {
-            return Json.Object(Claims.FinalOf(task, end));
+            Match found = Otherwise.Match(answer.Output);
+            if (!found.Success)
+            {
+                return "";
+            }
+            string name = found.Groups[1].Value;
+            string seen = account.Ends.Single(it => it.Key.Name == name).Value.ToString();
+            return "the task " + name + " ended " + seen + ", and by the journal it is " + found.Groups[2].Value + "\n";
         }
 
-        /// <summary>Where the claim that fails says how a task was seen to end, that in words.</summary>
-        private string OtherEnd(ProgramAnswer answer, int first)
+        /// <summary>What to call where the run isn't complete.</summary>
+        private string Hint(ProgramAnswer answer)
         {
-            Match failing = Failing.Match(answer.Output);
-            int end = failing.Success ? int.Parse(failing.Groups[1].Value) - 1 + first - graph.Claims.Texts.Count : -1;
-            return end < 0 ? "" : "the task " + ends[end].Key.Name + " ended " + ends[end].Value + ", and by the journal otherwise\n";
+            if (!answer.Output.StartsWith(NotComplete, StringComparison.Ordinal))
+            {
+                return "";
+            }
+            return account.Unmade.Count == 0
+                ? "before Audit, call Wait, which gives true once every task has ended\n"
+                : "hand the real task to Is: " + string.Join(", ", account.Unmade.Select(it => it.Name)) + "\n";
         }
 
         private string Told()

@@ -10,10 +10,12 @@ namespace TaskGraph
     /// <summary>What the body of a task does, step by step.</summary>
     /// <remarks>The steps are written into the document and they are what runs, so a body can't differ from its declaration.
     /// Code that touches no task and no token is one job: <see cref="Work(string, Action, bool)"/>. A body with a job that is
-    /// awaited is an async method: its task is that of Task.Run(async ..), or of ContinueWith(async ..).Unwrap().</remarks>
+    /// awaited is an async method: its task is that of Task.Run(async ..), or of ContinueWith(async ..).Unwrap(). Steps are added
+    /// before the document of their graph is made and before it is started.</remarks>
     public sealed class Steps
     {
         internal readonly List<Step> List = new List<Step>();
+        private bool isClosed;
 
         /// <summary>Ends the body, as a return statement does.</summary>
         public Steps Return()
@@ -37,17 +39,14 @@ namespace TaskGraph
         /// <summary>Ends the body where the token is requested: CancellationToken.ThrowIfCancellationRequested.</summary>
         public Steps Check(GraphToken token)
         {
-            return Add(new Step { Kind = StepKind.Check, Token = NotNull(token) });
+            return Add(new Step { Kind = StepKind.Check, Token = NotNull(token, nameof(token)) });
         }
 
         /// <summary>Requests the token: CancellationTokenSource.Cancel.</summary>
         /// <exception cref="ArgumentException">The token's source isn't known here.</exception>
         public Steps Cancel(GraphToken token)
         {
-            if (NotNull(token).Source == null)
-            {
-                throw new ArgumentException("the source of " + token.Name + " isn't known here; declare it by Token(name, source)");
-            }
+            NotNull(token, nameof(token)).DemandSource();
             return Add(new Step { Kind = StepKind.Cancel, Token = token });
         }
 
@@ -76,6 +75,7 @@ namespace TaskGraph
         /// <param name="mayFail">Whether the job may throw.</param>
         public Steps Work(string site, Action job, bool mayFail = false)
         {
+            NotNull(job, nameof(job));
             return AddJob(site, null, _ => job(), null, mayFail);
         }
 
@@ -83,20 +83,22 @@ namespace TaskGraph
         /// <see cref="Observe"/> stand before it.</summary>
         public Steps Work(string site, Action<Task> job, bool mayFail = false)
         {
-            return AddJob(site, null, job, null, mayFail);
+            return AddJob(site, null, NotNull(job, nameof(job)), null, mayFail);
         }
 
         /// <summary>Does a job that may stop by the token, and then checks the token. Where the job throws the
         /// OperationCanceledException of the requested token, it counts as done, and the check ends the body.</summary>
         public Steps Work(string site, GraphToken token, Action<CancellationToken> job, bool mayFail = false)
         {
-            CancellationToken real = NotNull(token);
+            CancellationToken real = NotNull(token, nameof(token));
+            NotNull(job, nameof(job));
             return AddJob(site, token, _ => job(real), null, mayFail).Check(token);
         }
 
         /// <summary>Awaits a job.</summary>
         public Steps Work(string site, Func<Task> job, bool mayFail = false)
         {
+            NotNull(job, nameof(job));
             return AddJob(site, null, null, _ => job(), mayFail);
         }
 
@@ -104,14 +106,15 @@ namespace TaskGraph
         /// <see cref="Observe"/> stand before it.</summary>
         public Steps Work(string site, Func<Task, Task> job, bool mayFail = false)
         {
-            return AddJob(site, null, null, job, mayFail);
+            return AddJob(site, null, null, NotNull(job, nameof(job)), mayFail);
         }
 
         /// <summary>Awaits a job that may stop by the token, and then checks the token. Where the job throws the
         /// OperationCanceledException of the requested token, it counts as done, and the check ends the body.</summary>
         public Steps Work(string site, GraphToken token, Func<CancellationToken, Task> job, bool mayFail = false)
         {
-            CancellationToken real = NotNull(token);
+            CancellationToken real = NotNull(token, nameof(token));
+            NotNull(job, nameof(job));
             return AddJob(site, token, null, _ => job(real), mayFail).Check(token);
         }
 
@@ -135,10 +138,7 @@ namespace TaskGraph
         /// <param name="otherwise">What is done where it didn't; nothing if left out.</param>
         public Steps When(TaskStatus final, Steps then, Steps otherwise = null)
         {
-            if (final < TaskStatus.RanToCompletion)
-            {
-                throw new ArgumentException("a task ends in RanToCompletion, Canceled or Faulted; ask When for one of these");
-            }
+            GraphRules.CheckFinal(final);
             if (then == null)
             {
                 throw new ArgumentNullException(nameof(then));
@@ -149,7 +149,10 @@ namespace TaskGraph
         /// <summary>Adds the steps of another list.</summary>
         public Steps Append(Steps other)
         {
-            List.AddRange(other.List);
+            foreach (Step step in NotNull(other, nameof(other)).List.ToArray())
+            {
+                Add(step);
+            }
             return this;
         }
 
@@ -170,8 +173,24 @@ namespace TaskGraph
             get { return All.Any(it => it.Kind == StepKind.Observe || it.Kind == StepKind.When); }
         }
 
+        /// <summary>Takes no more steps, since the graph is complete.</summary>
+        internal void Close()
+        {
+            isClosed = true;
+            foreach (Step branch in List.Where(it => it.IsBranch))
+            {
+                branch.Then.Close();
+                branch.Otherwise.Close();
+            }
+        }
+
         private Steps Add(Step step)
         {
+            if (isClosed)
+            {
+                throw new InvalidOperationException(
+                    "the graph of these steps is complete, since its document was made or it was started; add steps before that");
+            }
             List.Add(step);
             return this;
         }
@@ -184,13 +203,14 @@ namespace TaskGraph
             });
         }
 
-        private static GraphToken NotNull(GraphToken token)
+        private static T NotNull<T>(T given, string name)
+            where T : class
         {
-            if (token == null)
+            if (given == null)
             {
-                throw new ArgumentNullException(nameof(token));
+                throw new ArgumentNullException(name);
             }
-            return token;
+            return given;
         }
     }
 }

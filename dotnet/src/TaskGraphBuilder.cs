@@ -21,11 +21,14 @@ namespace TaskGraph
         /// <summary>Makes a graph without tasks.</summary>
         public TaskGraphBuilder()
         {
-            Claims = new Claims();
+            Claims = new Claims(this);
         }
 
         /// <summary>What has to hold in every run.</summary>
         public Claims Claims { get; private set; }
+
+        /// <summary>The note that stands at the top of the document, for readers alone; null for none.</summary>
+        public string Note { get; private set; }
 
         /// <summary>The tokens, in declared order.</summary>
         public IReadOnlyList<GraphToken> AllTokens
@@ -57,10 +60,21 @@ namespace TaskGraph
                 GraphTask found;
                 if (!byName.TryGetValue(name, out found))
                 {
-                    throw new KeyNotFoundException("no task " + name + "; there are " + string.Join(", ", Tasks.Select(it => it.Name)));
+                    string there = "no task " + name + "; there are " + string.Join(", ", Tasks.Select(it => it.Name));
+                    bool isMethod = methods.Any(it => it.Name == name);
+                    throw new KeyNotFoundException(isMethod ? there + "; call AsTask of the method " + name + " to make its task" : there);
                 }
                 return found;
             }
+        }
+
+        /// <summary>Gives the graph a note.</summary>
+        /// <returns>The graph.</returns>
+        public TaskGraphBuilder WithNote(string note)
+        {
+            DemandOpen("the note of the graph");
+            Note = note;
+            return this;
         }
 
         /// <summary>Declares a value that is fixed before the run.</summary>
@@ -99,6 +113,10 @@ namespace TaskGraph
             if (sources.Length == 0)
             {
                 throw new ArgumentException("a linked token has a source; without one, use Token(name)");
+            }
+            foreach (GraphToken token in sources)
+            {
+                DemandOwn(NotNull(token, nameof(sources)));
             }
             var source = CancellationTokenSource.CreateLinkedTokenSource(sources.Select(it => it.CancellationToken).ToArray());
             return AddToken(name, source, source.Token, sources);
@@ -179,17 +197,17 @@ namespace TaskGraph
         /// <summary>Waits for all of these tasks: Task.WhenAll.</summary>
         public GraphTask WhenAll(string name, params GraphTask[] tasks)
         {
-            return Add(new GraphTask { Name = name, Kind = TaskKind.All, Of = tasks });
+            return Add(new GraphTask { Name = name, Kind = TaskKind.All, Of = Copied(tasks) });
         }
 
         /// <summary>Waits for one of these tasks: Task.WhenAny.</summary>
         public GraphTask WhenAny(string name, params GraphTask[] tasks)
         {
-            if (tasks.Length == 0)
+            if (NotNull(tasks, nameof(tasks)).Length == 0)
             {
                 throw new ArgumentException("Task.WhenAny refuses an empty list; give WhenAny a task at least");
             }
-            return Add(new GraphTask { Name = name, Kind = TaskKind.Any, Of = tasks });
+            return Add(new GraphTask { Name = name, Kind = TaskKind.Any, Of = Copied(tasks) });
         }
 
         /// <summary>Declares a method as it is written today, by awaits, try, catch and finally.</summary>
@@ -204,7 +222,8 @@ namespace TaskGraph
         /// <summary>The document: the graph and its claims.</summary>
         public string ToJson()
         {
-            return ToJson(null, Claims.Texts);
+            Complete();
+            return new GraphDocument(this).Write();
         }
 
         /// <summary>Demands that each claim holds in every run, and that none is empty: a test that needs nothing kept. A graph without
@@ -226,7 +245,7 @@ namespace TaskGraph
         /// <exception cref="TaskGraphException">The document can't be read: with the program's words.</exception>
         public IReadOnlyList<ClaimVerdict> Verdicts(int depth = 6, int runs = 100000)
         {
-            return ClaimVerdict.AllOf(TaskGraphProgram.Verify(this, depth, runs).Output);
+            return ClaimVerdict.AllOf(TaskGraphProgram.Verify(this, depth, runs).Output, Claims.NameOf);
         }
 
         /// <summary>Searches for a certificate of the claims, has it checked, and gives the document with it, to be kept beside the
@@ -274,19 +293,51 @@ namespace TaskGraph
             return NewRun(null);
         }
 
-        internal string ToJson(string journal, IEnumerable<string> claims)
+        /// <summary>The document with what was recorded of a run.</summary>
+        internal string ToJson(RunAccount run)
         {
             Complete();
-            return new GraphDocument(this).Write(journal, claims);
+            return new GraphDocument(this).WriteWith(run);
+        }
+
+        /// <exception cref="ArgumentException">The task is of another graph.</exception>
+        internal GraphTask DemandOwn(GraphTask task)
+        {
+            if (NotNull(task, nameof(task)).Graph != this)
+            {
+                throw OfOther("task", task.Name, "take that of this graph by its name, as g[\"" + task.Name + "\"]");
+            }
+            return task;
+        }
+
+        /// <exception cref="ArgumentException">The token, if there is one, is of another graph.</exception>
+        internal GraphToken DemandOwn(GraphToken token)
+        {
+            if (token != null && !Tokens.Contains(token))
+            {
+                throw OfOther("token", token.Name, "declare one of this graph by Token or Linked");
+            }
+            return token;
+        }
+
+        /// <exception cref="ArgumentException">The input, if there is one, is of another graph.</exception>
+        internal GraphInput DemandOwn(GraphInput input)
+        {
+            if (input != null && !Inputs.Contains(input))
+            {
+                throw OfOther("input", input.Name, "declare one of this graph by Input");
+            }
+            return input;
         }
 
         internal GraphTask Add(GraphTask task)
         {
-            if (isComplete)
+            DemandOpen(task.Name);
+            foreach (GraphTask awaited in GraphRules.AwaitedBy(task))
             {
-                throw new InvalidOperationException(
-                    "the graph is complete, since its document was made or it was started; declare " + task.Name + " before that");
+                DemandOwn(awaited);
             }
+            DemandOwn(task.Token);
             GraphRules.CheckNew(task);
             if (byName.ContainsKey(task.Name))
             {
@@ -303,6 +354,16 @@ namespace TaskGraph
             return task;
         }
 
+        /// <exception cref="InvalidOperationException">The graph is complete, so that this can't be declared any more.</exception>
+        internal void DemandOpen(string what)
+        {
+            if (isComplete)
+            {
+                throw new InvalidOperationException(
+                    "the graph is complete, since its document was made or it was started; declare " + what + " before that");
+            }
+        }
+
         /// <summary>A name like this one that no task has: itself, or with a number behind it.</summary>
         internal string FreeName(string name)
         {
@@ -312,6 +373,27 @@ namespace TaskGraph
                 free = name + number;
             }
             return free;
+        }
+
+        private static ArgumentException OfOther(string what, string name, string instead)
+        {
+            return new ArgumentException("the " + what + " " + name + " is of another graph; " + instead);
+        }
+
+        private static T NotNull<T>(T given, string name)
+            where T : class
+        {
+            if (given == null)
+            {
+                throw new ArgumentNullException(name);
+            }
+            return given;
+        }
+
+        /// <summary>The same tasks, whatever the caller does with the array.</summary>
+        private static GraphTask[] Copied(GraphTask[] tasks)
+        {
+            return (GraphTask[])NotNull(tasks, nameof(tasks)).Clone();
         }
 
         private GraphToken AddToken(string name, CancellationTokenSource source, CancellationToken token, GraphToken[] sources)
@@ -330,6 +412,7 @@ namespace TaskGraph
 
         private void Complete()
         {
+            Claims.Check();
             if (!isComplete)
             {
                 methods.ForEach(it => it.Check());
@@ -345,6 +428,7 @@ namespace TaskGraph
                 throw new InvalidOperationException("the graph ran already; build it again for another run");
             }
             Complete();
+            Inputs.ForEach(it => it.Fix());
             StartedRun = new GraphRun(this, options ?? new RunOptions());
             return StartedRun;
         }

@@ -10,13 +10,18 @@ namespace TaskGraph
 {
     /// <summary>Calls the program taskgraph.</summary>
     /// <remarks>The environment variable TASKGRAPH names it, by one word or several: <c>taskgraph</c>, <c>wsl taskgraph</c>,
-    /// <c>docker run -i --rm taskgraph</c>. Without it the program taskgraph is looked for on the path.</remarks>
+    /// <c>docker run -i --rm taskgraph</c>; or it is the path of a file, which may have spaces. Without it the program taskgraph is
+    /// looked for on the path.</remarks>
     public static class TaskGraphProgram
     {
         private const string Variable = "TASKGRAPH";
         private const string Default = "taskgraph";
         private const int SaysNo = 1;
         private const int RefutingRuns = 10000;
+        private const int MostSplits = 6;
+        private const int MostRuns = 1000000;
+
+        private static readonly Encoding Utf8 = new UTF8Encoding(false);
 
         /// <summary>Calls the program with these words, and the document on standard input.</summary>
         /// <exception cref="InvalidOperationException">There is no such program.</exception>
@@ -34,6 +39,7 @@ namespace TaskGraph
 
         internal static string Certify(TaskGraphBuilder graph, int depth)
         {
+            DemandRange(nameof(depth), depth, 0, MostSplits);
             string document = graph.ToJson();
             ProgramAnswer found = Call("analyse --whole --explain --depth " + depth, document);
             if (found.ExitCode == SaysNo)
@@ -49,6 +55,8 @@ namespace TaskGraph
         /// empty.</summary>
         internal static ProgramAnswer Verify(TaskGraphBuilder graph, int depth, int runs)
         {
+            DemandRange(nameof(depth), depth, 0, MostSplits);
+            DemandRange(nameof(runs), runs, 0, MostRuns);
             ProgramAnswer answer = Call("verify --explain --depth " + depth + " --runs " + runs, graph.ToJson());
             if (answer.ExitCode != SaysNo)
             {
@@ -77,9 +85,17 @@ namespace TaskGraph
             return Call("refute --runs " + RefutingRuns, document).Error;
         }
 
+        private static void DemandRange(string name, int value, int least, int most)
+        {
+            if (value < least || value > most)
+            {
+                throw new ArgumentOutOfRangeException(name, name + " is " + least + " to " + most + ", and not " + value);
+            }
+        }
+
         private static void Send(Process process, string document)
         {
-            byte[] bytes = new UTF8Encoding(false).GetBytes(document);
+            byte[] bytes = Utf8.GetBytes(document);
             try
             {
                 process.StandardInput.BaseStream.Write(bytes, 0, bytes.Length);
@@ -94,11 +110,13 @@ namespace TaskGraph
         private static Process Begin(string words)
         {
             string named = Environment.GetEnvironmentVariable(Variable);
-            string asked = string.IsNullOrWhiteSpace(named) ? Default : named;
-            string[] program = asked.Split(new[] { ' ' }, StringSplitOptions.RemoveEmptyEntries);
+            bool isNamed = !string.IsNullOrWhiteSpace(named);
+            string[] program = isNamed ? WordsOf(named) : new[] { Default };
             var start = new ProcessStartInfo(program[0], string.Join(" ", program.Skip(1).Concat(new[] { words })))
             {
                 RedirectStandardInput = true, RedirectStandardOutput = true, RedirectStandardError = true, UseShellExecute = false,
+                // whatever the locale is
+                StandardOutputEncoding = Utf8, StandardErrorEncoding = Utf8,
             };
             try
             {
@@ -106,9 +124,16 @@ namespace TaskGraph
             }
             catch (Win32Exception thrown)
             {
-                string why = "the program " + program[0] + " can't be started: " + thrown.Message;
-                throw new InvalidOperationException(why + "; name it by the environment variable " + Variable, thrown);
+                string why = isNamed
+                    ? "the program " + program[0] + ", which the environment variable " + Variable + " names, can't be started"
+                    : "the environment variable " + Variable + " isn't set, and no program " + Default + " is on the path";
+                throw new InvalidOperationException(why + "; set " + Variable + " to the program's path", thrown);
             }
+        }
+
+        private static string[] WordsOf(string named)
+        {
+            return File.Exists(named) ? new[] { named } : named.Split(new[] { ' ' }, StringSplitOptions.RemoveEmptyEntries);
         }
     }
 }

@@ -149,11 +149,8 @@ namespace TaskGraph.Internals
             {
                 return None;
             }
-            Task real = Run.Real[task.Id];
-            var plain = real as Task<Task>;
-            // a WhenAny over tasks with results is a Task<Task<..>>
-            object winner = plain != null ? plain.Result : real.GetType().GetProperty("Result").GetValue(real, null);
-            return Array.FindIndex(task.Of, it => ReferenceEquals(Run.Real[it.Id], winner));
+            Task winner = Winner.Of(Run.Real[task.Id]);
+            return winner == null ? None : Array.FindIndex(task.Of, it => Run.Real[it.Id] == winner);
         }
 
         private void ReadSeen()

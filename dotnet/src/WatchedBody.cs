@@ -1,4 +1,5 @@
 using System;
+using System.Threading;
 using System.Threading.Tasks;
 using TaskGraph.Internals;
 
@@ -25,31 +26,63 @@ namespace TaskGraph
         /// <summary>Does a job.</summary>
         public void Work(Action job)
         {
-            try
-            {
-                job();
-            }
-            catch (Exception)
-            {
-                Put(RecordKind.Failed);
-                throw;
-            }
-            Put(RecordKind.Done);
+            Watch(null, job);
+        }
+
+        /// <summary>Does a job that gives a result.</summary>
+        public T Work<T>(Func<T> job)
+        {
+            T result = default(T);
+            Watch(null, () => { result = job(); });
+            return result;
+        }
+
+        /// <summary>Does a job that may stop by the token, and then checks the token, as
+        /// <see cref="Steps.Work(string, GraphToken, Action{CancellationToken}, bool)"/> declares it.</summary>
+        public void Work(GraphToken token, Action<CancellationToken> job)
+        {
+            Watch(token, () => job(token));
+            Check(token);
+        }
+
+        /// <summary>Does a job that gives a result and may stop by the token, and then checks the token.</summary>
+        public T Work<T>(GraphToken token, Func<CancellationToken, T> job)
+        {
+            T result = default(T);
+            Watch(token, () => { result = job(token); });
+            Check(token);
+            return result;
         }
 
         /// <summary>Awaits a job.</summary>
-        public async Task WorkAsync(Func<Task> job)
+        public Task WorkAsync(Func<Task> job)
         {
-            try
-            {
-                await job().ConfigureAwait(false);
-            }
-            catch (Exception)
-            {
-                Put(RecordKind.Failed);
-                throw;
-            }
-            Put(RecordKind.Done);
+            return WatchAsync(null, job);
+        }
+
+        /// <summary>Awaits a job that gives a result.</summary>
+        public async Task<T> WorkAsync<T>(Func<Task<T>> job)
+        {
+            Task<T> made = null;
+            await WatchAsync(null, () => made = job()).ConfigureAwait(false);
+            return made.Result;
+        }
+
+        /// <summary>Awaits a job that may stop by the token, and then checks the token, as
+        /// <see cref="Steps.Work(string, GraphToken, Func{CancellationToken, Task}, bool)"/> declares it.</summary>
+        public async Task WorkAsync(GraphToken token, Func<CancellationToken, Task> job)
+        {
+            await WatchAsync(token, () => job(token)).ConfigureAwait(false);
+            Check(token);
+        }
+
+        /// <summary>Awaits a job that gives a result and may stop by the token, and then checks the token.</summary>
+        public async Task<T> WorkAsync<T>(GraphToken token, Func<CancellationToken, Task<T>> job)
+        {
+            Task<T> made = null;
+            await WatchAsync(token, () => made = job(token)).ConfigureAwait(false);
+            Check(token);
+            return made.Result;
         }
 
         /// <summary>Checks a token: CancellationToken.ThrowIfCancellationRequested.</summary>
@@ -62,8 +95,10 @@ namespace TaskGraph
         }
 
         /// <summary>Requests a token: CancellationTokenSource.Cancel.</summary>
+        /// <exception cref="ArgumentException">The token's source isn't known here.</exception>
         public void Cancel(GraphToken token)
         {
+            token.DemandSource();
             Put(RecordKind.CancelCalled, token.Id);
             try
             {
@@ -85,10 +120,16 @@ namespace TaskGraph
             return run.Is(child, start());
         }
 
-        /// <summary>Reads the exception of the antecedent: Task.Exception.</summary>
+        /// <summary>Reads the exception of the antecedent, or of the winner where the antecedent is declared as a WhenAny task:
+        /// Task.Exception.</summary>
+        /// <exception cref="InvalidOperationException">The body has no antecedent.</exception>
         public AggregateException Observe()
         {
-            AggregateException exception = Antecedent.Exception;
+            if (Antecedent == null)
+            {
+                throw new InvalidOperationException(task.Name + " continues no task, so that there is nothing to observe; wrap by Next");
+            }
+            AggregateException exception = Subject().Exception;
             Put(RecordKind.Step);
             return exception;
         }
@@ -97,6 +138,58 @@ namespace TaskGraph
         public void Step()
         {
             Put(RecordKind.Step);
+        }
+
+        /// <summary>The body is over.</summary>
+        internal void End()
+        {
+            Put(RecordKind.Over);
+        }
+
+        private Task Subject()
+        {
+            bool isOfAny = task.Antecedent != null && task.Antecedent.Kind == TaskKind.Any;
+            return (isOfAny ? Winner.Of(Antecedent) : null) ?? Antecedent;
+        }
+
+        private void Watch(GraphToken token, Action job)
+        {
+            try
+            {
+                job();
+            }
+            catch (Exception thrown)
+            {
+                PutThrown(token, thrown);
+                throw;
+            }
+            Put(RecordKind.Done);
+        }
+
+        private async Task WatchAsync(GraphToken token, Func<Task> job)
+        {
+            try
+            {
+                await job().ConfigureAwait(false);
+            }
+            catch (Exception thrown)
+            {
+                PutThrown(token, thrown);
+                throw;
+            }
+            Put(RecordKind.Done);
+        }
+
+        /// <summary>A job threw: by its token, so that it counts as done and the check behind it ends the body; or it failed.</summary>
+        private void PutThrown(GraphToken token, Exception thrown)
+        {
+            if (token == null || !token.IsStop(thrown))
+            {
+                Put(RecordKind.Failed);
+                return;
+            }
+            Put(RecordKind.Done);
+            run.Recorder.Check(task.Id, worker, token.Id);
         }
 
         private void Put(RecordKind kind, int target = 0)

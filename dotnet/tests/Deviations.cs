@@ -28,11 +28,13 @@ namespace TaskGraph.Tests
             { "declared-stop", DeclaredStop },
         };
 
+        /// <summary>Writes for each program its name, the answer, and the document of the run.</summary>
         internal static void Write(TextWriter to)
         {
             foreach (KeyValuePair<string, Func<GraphRun>> it in All)
             {
-                to.WriteLine(it.Key + "\t" + Answer(it.Value()));
+                GraphRun run = it.Value();
+                to.WriteLine(it.Key + "\t" + Answer(run) + "\t" + run.ToJson().Replace("\n", ""));
             }
         }
 

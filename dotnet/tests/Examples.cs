@@ -87,8 +87,8 @@ namespace TaskGraph.Tests
             var rollback = sw.ContinueWith("Rollback", Working("rollback"), OnlyOnFaulted);
             release.ContinueWith("Notify", Reading(), OnlyOnFaulted);
             var retire = release.ContinueWith("RetireBlue", Working("retire"), OnlyOnRanToCompletion);
-            var none = sw.ContinueWith("NoRollback", Nothing(), NotOnFaulted);
-            g.Claims.Excludes(rollback, retire).Excludes(rollback, none);
+            g.Claims.Excludes(rollback, retire)
+                .Named("a release that succeeds retires the old version").Ended(release, RanToCompletion).Runs(retire);
             return g;
         }
 
@@ -105,16 +105,15 @@ namespace TaskGraph.Tests
             var rollback = release.ContinueWith("Rollback", Working("rollback"), OnlyOnFaulted);
             release.ContinueWith("Notify", Reading(), OnlyOnFaulted);
             var retire = release.ContinueWith("RetireBlue", Working("retire"), OnlyOnRanToCompletion);
-            var noRollback = rollback.ContinueWith("RollbackSkipped", Nothing(), OnlyOnCanceled);
-            var noRetire = retire.ContinueWith("RetireSkipped", Nothing(), OnlyOnCanceled);
-            g.Claims.Excludes(rollback, retire);
+            g.Claims.Named("not both").Excludes(rollback, retire);
             if (withToken)
             {
-                g.Claims.Quiet(stop).Excludes(noRollback, noRetire);
+                g.Claims.Named("one of them, unless somebody stops").NoRequest().Ended(rollback, Canceled).Runs(retire);
             }
             else
             {
-                g.Claims.Excludes(noRollback, noRetire).Final(rollback, RanToCompletion, Canceled).Final(retire, RanToCompletion, Canceled);
+                g.Claims.Named("one of them").Ended(rollback, Canceled).Runs(retire)
+                    .Final(rollback, RanToCompletion, Canceled).Final(retire, RanToCompletion, Canceled);
             }
             return g;
         }
@@ -264,13 +263,15 @@ namespace TaskGraph.Tests
             var confirm = ship.ContinueWith("Confirm", Working("confirm"), OnlyOnRanToCompletion);
             var refund = ship.ContinueWith("Refund", new Steps().Observe().Work("refund", Job), OnlyOnFaulted);
             var failed = charge.ContinueWith("ChargeFailed", new Steps().Observe().Return(), OnlyOnFaulted);
-            var not = charge.ContinueWith("ChargeNotDone", Nothing(), NotOnRanToCompletion);
             var ended = g.WhenAll("Ended", confirm, refund, failed);
             var unreserved = reserve.ContinueWith("ReserveFailed", Reading(), OnlyOnFaulted);
             var close = ended.ContinueWith("Close", Working("close"));
-            g.Claims.Excludes(confirm, refund).Excludes(refund, not).Excludes(refund, failed).Excludes(confirm, unreserved)
+            g.Claims.Excludes(confirm, refund)
+                .Named("refund only what was charged").Ended(charge, Canceled, Faulted).Never(refund)
+                .Excludes(refund, failed).Excludes(confirm, unreserved)
                 .After(charge, refund).Observed(reserve).Observed(charge).Observed(ship).Final(close, RanToCompletion)
-                .Final(refund, RanToCompletion, Canceled).After(refund, close).Final(ended, Canceled);
+                .Final(refund, RanToCompletion, Canceled).After(refund, close).Final(ended, Canceled)
+                .Named("confirmed if nothing fails").NoFailure().Runs(confirm);
             return g;
         }
 

@@ -30,6 +30,7 @@ namespace TaskGraph.Tests
                     case "first-answer": Facts.WriteFirstAnswer(to); break;
                     case "facts": Facts.Write(to); break;
                     case "quiet": Quiet.Write(to); break;
+                    case "times": Times.Write(to); break;
                     default: throw new ArgumentException("no such test: " + words[0]);
                 }
             }
@@ -42,6 +43,8 @@ namespace TaskGraph.Tests
             {
                 to.WriteLine(it.Key + "\t" + it.Value().ToJson().Replace("\n", ""));
             }
+            to.WriteLine("version3\t" + Version3.Declare().ToJson().Replace("\n", ""));
+            to.WriteLine("many claims\t" + Version3.DeclareMany().ToJson().Replace("\n", ""));
             foreach (KeyValuePair<int, Action<TaskGraphBuilder>> it in FromCSharp.All)
             {
                 var graph = new TaskGraphBuilder();

@@ -39,8 +39,45 @@ namespace TaskGraph.Tests
             Of("a link without sources", "use Token(name)", g => g.Linked("l")),
             Of("a foreign check in an async body", "Give the task that token", CheckForeign),
             Of("When for no end", "RanToCompletion, Canceled or Faulted", g => new Steps().When(TaskStatus.Running, Job("x"))),
+            Of("Observe in a root", "make it by ContinueWith", g => { g.Run("A", new Steps().Observe()); g.ToJson(); }),
+            Of("When in a branch of a root", "make it by ContinueWith", LookInRoot),
+            Of("a job that is null", "job", g => g.Run("A", (Action)null)),
+            Of("a WhenAll over null", "task", g => g.WhenAll("All", new GraphTask[] { null })),
+            Of("a WhenAll over a task of another graph", "as g[\"Foreign\"]", g => g.WhenAll("All", Foreign())),
+            Of("a claim on a task of another graph", "as g[\"Foreign\"]", g => g.Claims.Never(Foreign())),
+            Of("a claim on null", "task", g => g.Claims.After(g.Run("A", Nothing), null)),
+            Of("a task with a token of another graph", "by Token or Linked", g => g.Run("A", Nothing, ForeignToken())),
+            Of("a link to a token of another graph", "by Token or Linked", g => g.Linked("l", ForeignToken())),
+            Of("a check of a token of another graph", "by Token or Linked", CheckOfOther),
+            Of("a claim with a token of another graph", "by Token or Linked", g => g.Claims.Quiet(ForeignToken())),
+            Of("a claim with an input of another graph", "by Input", g => g.Claims.Given(ForeignInput(), true)),
+            Of("a branch on an input of another graph", "by Input", BranchOnOther),
+            Of("a claim of no end", "name RanToCompletion, Canceled or Faulted", g => g.Claims.Final(g.Run("A", Nothing))),
+            Of("a given of no end", "name RanToCompletion, Canceled or Faulted", g => g.Claims.Ended(g.Run("A", Nothing))),
+            Of("a claim of Running", "name one of these", g => g.Claims.Final(g.Run("A", Nothing), TaskStatus.Running)),
+            Of("a claim without a name", "1 to 100 bytes", g => g.Claims.Named("")),
+            Of("a claim's name of 101 bytes", "WithNote", g => g.Claims.Named(new string('\u00e4', 50) + "a")),
+            Of("a claim's name with a control character", "without control", g => g.Claims.Named("line\u0085end")),
+            Of("two claims of one name", "another name", NameTwice),
+            Of("a given without a claim", "as Final(..)", g => { g.Claims.NoFailure(); g.ToJson(); }),
+            Of("a note after the document", "before that", g => { g.ToJson(); g.WithNote("late"); }),
             Of("a stored document without a certificate", "keep what Certify gives", g => g.Check(g.ToJson())),
-            Of("a program that isn't there", "name it by the environment variable TASKGRAPH", CallNowhere),
+            Of("a program that isn't there", "set TASKGRAPH to the program's path", g => CallWith(g, "TASKGRAPH", "/nowhere/taskgraph")),
+            Of("a program that isn't named", "TASKGRAPH isn't set", CallUnnamed),
+            Of("seven splits", "depth is 0 to 6", g => g.Certify(depth: 7)),
+            Of("a search with seven splits", "depth is 0 to 6", g => g.Verify(depth: 7)),
+            Of("a million runs and one", "runs is 0 to 1000000", g => g.Verdicts(runs: 1000001)),
+            Of("a step after the document", "before that", AddStepLate),
+            Of("a step of a branch after the document", "before that", AddBranchStepLate),
+            Of("a value after the start", "before Start", g => { GraphInput dry = g.Input("dry"); g.Start(); dry.Value = true; }),
+            Of("an audit before the end", "call Wait", AuditEarly),
+            Of("an audit without a real task", "hand the real task to Is: B", AuditWithoutTask),
+            Of("two real tasks of one", "declare another task", g => { g.Run("A", Nothing); Is(g, "A"); }),
+            Of("an async body wrapped by Body", "wrap it by BodyAsync", g => WrapTask(g, isContinuation: false)),
+            Of("an async body wrapped by Next", "wrap it by NextAsync", g => WrapTask(g, isContinuation: true)),
+            Of("a watched root that observes", "wrap by Next", ObserveInRoot),
+            Of("a watched cancel of a foreign token", "Token(name, source)", CancelForeign),
+            Of("a real task of another graph", "as g[\"Foreign\"]", g => g.Watch().Is(Foreign(), Task.Delay(0))),
             Of("a second run", "build it again", g => { g.Run("A", Nothing); g.Start().Wait(); g.Start(); }),
             Of("a task after the start", "before that", g => { g.Run("A", Nothing); g.Start().Wait(); g.Run("B", Nothing); }),
             Of("the journal of a run that isn't recorded", "set to true", ReadUnrecorded),
@@ -50,6 +87,8 @@ namespace TaskGraph.Tests
             Of("a Try at the end alone", "Catch or a Finally", g => { g.Method("M").Try(it => it.Await("A", Nothing)); g.ToJson(); }),
             Of("two Catches", "tell the exceptions apart", CatchTwice),
             Of("an empty method", "add an Await", g => Use(g.Method("M").AsTask())),
+            Of("a document with an empty method", "add an Await", g => { g.Method("M"); g.ToJson(); }),
+            Of("a method's task that isn't made", "call AsTask of the method M", g => { g.Method("M").Await("A", Nothing); Use(g["M"]); }),
             Of("a retry of one attempt", "use Await", g => g.Method("M").Retry("A", 1, _ => Task.Delay(0))),
             Of("a statement after the method's task", "before AsTask is called", AddAfterTask),
         };
@@ -92,6 +131,12 @@ namespace TaskGraph.Tests
             g.ToJson();
         }
 
+        private static void NameTwice(TaskGraphBuilder g)
+        {
+            GraphTask task = g.Run("A", Nothing);
+            g.Claims.Named("same").Never(task).Named("same").Observed(task);
+        }
+
         private static void TakeSourceTwice(TaskGraphBuilder g)
         {
             var source = new CancellationTokenSource();
@@ -106,18 +151,150 @@ namespace TaskGraph.Tests
             g.ToJson();
         }
 
-        private static void CallNowhere(TaskGraphBuilder g)
+        private static void LookInRoot(TaskGraphBuilder g)
         {
-            string named = Environment.GetEnvironmentVariable("TASKGRAPH");
-            Environment.SetEnvironmentVariable("TASKGRAPH", "/nowhere/taskgraph");
+            GraphInput dry = g.Input("dry");
+            g.StartNew("A", new Steps().If(dry, new Steps(), new Steps().When(TaskStatus.Faulted, new Steps())));
+            g.ToJson();
+        }
+
+        private static GraphTask Foreign()
+        {
+            return new TaskGraphBuilder().Run("Foreign", Nothing);
+        }
+
+        private static GraphToken ForeignToken()
+        {
+            return new TaskGraphBuilder().Token("foreign");
+        }
+
+        private static GraphInput ForeignInput()
+        {
+            return new TaskGraphBuilder().Input("foreign");
+        }
+
+        private static void CheckOfOther(TaskGraphBuilder g)
+        {
+            // the name is that of a token of this graph
+            g.Token("foreign");
+            g.Run("A", new Steps().Check(ForeignToken()));
+            g.ToJson();
+        }
+
+        private static void BranchOnOther(TaskGraphBuilder g)
+        {
+            g.Input("foreign");
+            g.Run("A", new Steps().If(ForeignInput(), new Steps()));
+            g.ToJson();
+        }
+
+        private static void CallUnnamed(TaskGraphBuilder g)
+        {
+            string path = Environment.GetEnvironmentVariable("PATH");
+            string folder = Environment.CurrentDirectory;
+            Environment.SetEnvironmentVariable("PATH", "/nowhere");
+            // Mono looks there too
+            Environment.CurrentDirectory = "/";
+            try
+            {
+                CallWith(g, "TASKGRAPH", null);
+            }
+            finally
+            {
+                Environment.SetEnvironmentVariable("PATH", path);
+                Environment.CurrentDirectory = folder;
+            }
+        }
+
+        private static void CallWith(TaskGraphBuilder g, string variable, string value)
+        {
+            string before = Environment.GetEnvironmentVariable(variable);
+            Environment.SetEnvironmentVariable(variable, value);
             try
             {
                 g.Verify();
             }
             finally
             {
-                Environment.SetEnvironmentVariable("TASKGRAPH", named);
+                Environment.SetEnvironmentVariable(variable, before);
             }
+        }
+
+        private static void AddStepLate(TaskGraphBuilder g)
+        {
+            var steps = new Steps();
+            g.Run("A", steps);
+            g.ToJson();
+            steps.Work("late", Nothing);
+        }
+
+        private static void AddBranchStepLate(TaskGraphBuilder g)
+        {
+            var branch = new Steps();
+            g.Run("A", new Steps().If(g.Input("dry"), branch));
+            g.ToJson();
+            branch.Append(Job("late"));
+        }
+
+        private static void AuditEarly(TaskGraphBuilder g)
+        {
+            var release = new ManualResetEventSlim();
+            g.Run("A", () => release.Wait());
+            GraphRun run = g.Start();
+            try
+            {
+                run.Audit();
+            }
+            finally
+            {
+                release.Set();
+            }
+        }
+
+        private static void AuditWithoutTask(TaskGraphBuilder g)
+        {
+            GraphTask a = g.Run("A", Nothing);
+            a.ContinueWith("B", Ignore);
+            GraphRun run = g.Watch();
+            run.Is(a, Task.Run(run.Body(a, it => it.Work(Nothing))));
+            run.Wait();
+            run.Audit();
+        }
+
+        private static void WrapTask(TaskGraphBuilder g, bool isContinuation)
+        {
+            GraphTask a = g.Run("A", Nothing);
+            GraphRun run = g.Watch();
+            if (isContinuation)
+            {
+                GC.KeepAlive(run.Next(a, it => it.WorkAsync(() => Task.Delay(0))));
+            }
+            else
+            {
+                GC.KeepAlive(run.Body(a, it => it.WorkAsync(() => Task.Delay(0))));
+            }
+        }
+
+        private static void ObserveInRoot(TaskGraphBuilder g)
+        {
+            GraphTask a = g.Run("A", Nothing);
+            GraphRun run = g.Watch();
+            run.Body(a, it => { it.Observe(); })();
+        }
+
+        private static void CancelForeign(TaskGraphBuilder g)
+        {
+            GraphToken foreign = g.Token("t", CancellationToken.None);
+            GraphTask a = g.Run("A", Nothing);
+            GraphRun run = g.Watch();
+            run.Body(a, it => it.Cancel(foreign))();
+        }
+
+        private static void Is(TaskGraphBuilder g, string name)
+        {
+            GraphRun run = g.Watch();
+            run.Is(g[name], Task.Delay(0));
+            run.Is(g[name], Task.Delay(0));
         }
 
         private static void ReadUnrecorded(TaskGraphBuilder g)

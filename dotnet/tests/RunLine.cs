@@ -11,13 +11,11 @@ namespace TaskGraph.Tests
     {
         internal static void Write(TextWriter to, string name, GraphRun run, bool hasEnded, Beginnings begins = null)
         {
-            RunAudit audit = run.NewAudit();
             string notes = Json.List(run.Notes.Select(it => Json.Text(it.ToString())));
-            string documents = Json.List(audit.Documents.Select(it => it.Replace("\n", "")));
             var members = new List<string>
             {
                 Json.Member("name", Json.Text(name)), Json.Member("ended", Json.Bool(hasEnded)), Json.Member("notes", notes),
-                Json.Member("documents", documents), Json.Member("times", Json.List(run.Times.Select(it => it.ToString()))),
+                Json.Member("document", run.ToJson().Replace("\n", "")), Json.Member("journal", Json.Text(run.Journal)),
             };
             if (begins != null)
             {
