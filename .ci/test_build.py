@@ -6,7 +6,7 @@ import time
 
 import pytest
 
-from small import called, create, root_of
+from small_repository import called, create, root_of
 
 SCRIPTS = ("taskgraph", "prove", ".ci/crates.py", ".ci/compile", ".ci/compiling.py")
 LIBRARY = """//! A number.

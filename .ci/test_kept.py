@@ -4,7 +4,7 @@ import re
 import subprocess
 import sys
 
-from small import called, create, git, root_of
+from small_repository import called, create, git, root_of
 
 SCRIPTS = (".ci/crates.py", ".ci/edits.py", ".ci/kept.py", ".ci/wrong", ".ci/wrong.py")
 EXACT, WIDE = "ensures { result ≡ 1 }", "ensures { result ≤ 9 }"

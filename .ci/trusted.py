@@ -82,10 +82,10 @@ SENTENCES = [
     ),
     Sentence(
         "`run` reports a run in which each claim holds, and `audit` says whether a journal is one",
-        "The clauses of `tpl_report::serve_run` and `tpl_commands::load`; `audited` of `serve`, and `responds` where it is asked "
+        "The clauses of `tpl_report::serve_run_followed` and `tpl_commands::load`; `audited` of `serve`, and `responds` where it is asked "
         "for an audit (`Auditing.Audits`).",
         (
-            Clauses("tpl_report/src/running.rt", "serve_run"),
+            Clauses("tpl_report/src/running.rt", "serve_run_followed"),
             Clauses("tpl_commands/src/loading.rt", "load"),
             Clauses(SERVE, "serve", ("audited",)),
             ANSWERED,

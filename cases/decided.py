@@ -1,8 +1,8 @@
 #!/usr/bin/env python3
 """Counts how many claims of generated graphs are settled: by a certificate, by a run in which they fail, or by neither.
 
-There are 200 graphs of 4 to 12 tasks, of all kinds, with 4 claims each, always the same ones. This measures and judges
-nothing, but that no claim is both. The last line is what was counted.
+There are 200 graphs of 4 to 12 tasks, of all kinds, with 4 claims each, always the same ones: of the five kinds that each
+version has. This measures and judges nothing, but that no claim is both. The last line is what was counted.
 """
 import argparse
 import json
@@ -14,19 +14,19 @@ import time
 from graphs import Drawn
 from harness import TOP, Program
 
-GRAPHS, CLAIMS, SEED = 200, 4, 26
+GRAPHS, CLAIMS, SEED, VERSION = 200, 4, 26, 3
 DEPTH = "3"
 # seconds for an answer
 LIMIT = 600
 
 
-def documents(count: int, seed: int):
-    """A name and a document for each claim of so many graphs."""
+def documents(count: int, seed: int, version: int):
+    """A name and a document for each claim of so many graphs, in this version."""
     chance = random.Random(seed)
     for number in range(count):
         drawn = Drawn(chance)
         for letter in "abcd"[:CLAIMS]:
-            yield f"{number}{letter}", drawn.document(drawn.claim())
+            yield f"{number}{letter}", {**drawn.document(drawn.claim()), "version": version}
 
 
 def called(program: Program, *words: str, text: str):
@@ -41,7 +41,8 @@ def settled(program: Program, text: str):
     found, ends, certify = called(program, "analyse", "--depth", DEPTH, text=text)
     if ends not in (0, 1):
         raise ValueError(f"{found!r} of {text}")
-    _, refutes, refute = called(program, "refute", *(["--runs", "2000"] if ends == 0 else []), text=text)
+    runs = ["--runs", "2000"] if ends == 0 else []
+    _, refutes, refute = called(program, "refute", "--claim", "1", *runs, text=text)
     if ends == 0 and refutes == 1:
         raise ValueError(f"both a certificate and a run: {text}")
     return "certified" if ends == 0 else "refuted" if refutes == 1 else "neither", certify, refute
@@ -52,13 +53,14 @@ def main() -> int:
     parser.add_argument("--program", type=pathlib.Path, default=TOP / "taskgraph", help="the script taskgraph, if none is named")
     parser.add_argument("--graphs", type=int, default=GRAPHS, help="how many graphs (%(default)s)")
     parser.add_argument("--seed", type=int, default=SEED, help="by which number they are drawn (%(default)s)")
+    parser.add_argument("--version", type=int, default=VERSION, help="the version of the documents (%(default)s)")
     parser.add_argument("--keep", type=pathlib.Path, metavar="FOLDER", help="write the documents that are settled by neither")
     given = parser.parse_args()
     program = Program(given.program)
     counts = dict.fromkeys(("certified", "refuted", "neither"), 0)
     times: dict[str, list[float]] = {name: [] for name in counts}
     certify = []
-    for name, document in documents(given.graphs, given.seed):
+    for name, document in documents(given.graphs, given.seed, given.version):
         text = json.dumps(document)
         how, first, second = settled(program, text)
         counts[how] += 1

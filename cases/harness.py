@@ -2,13 +2,14 @@
 import base64
 import dataclasses
 import functools
+import json
 import os
 import pathlib
 import re
 import shlex
 import subprocess
 import tomllib
-from collections.abc import Mapping
+from collections.abc import Iterator, Mapping
 
 HERE = pathlib.Path(__file__).resolve().parent
 TOP = HERE.parent
@@ -20,6 +21,12 @@ COMMANDS = ("check", "analyse", "run", "audit", "refute", "verify", "draw", "tra
 LIMIT = 120
 # the exit status where the words are wrong
 USAGE = 2
+# a page of examples/ shows a claim of a document with a journal in which it fails
+SHOWN = re.compile(
+    r"^\$ examples/ask examples/(\S+\.json) '([^']*)' --journal <<END \| \./taskgraph audit\n"
+    r"((?:.+\n)*?)END\nrun .+\nclaim 1 fails at (\d+)$",
+    re.MULTILINE,
+)
 
 
 @dataclasses.dataclass(frozen=True)
@@ -53,6 +60,22 @@ class Program:
         )
         written, said = (it.decode(errors="surrogateescape") for it in (ended.stdout, ended.stderr))
         return Answer(ended.returncode, written, said)
+
+
+def compact(value) -> str:
+    """A JSON value as the program writes it: in one line, the members by their names."""
+    return json.dumps(value, separators=(",", ":"), sort_keys=True, ensure_ascii=False) + "\n"
+
+
+def whole_run(program: Program, document: dict, workers: int, limit: float = LIMIT) -> tuple[dict, str]:
+    """The document with the run that `run --whole` makes of it, and its text, which differs in nothing else."""
+    answer = program("run", "--whole", "--workers", str(workers), given=json.dumps(document), limit=limit)
+    assert answer.exit == 0, answer.stdout
+    ran = json.loads(answer.stdout)
+    start: dict = {"inputs": {}, **document.get("start", {})}
+    assert ran == {**document, "start": start, "journal": ran["journal"]}
+    assert answer.stdout == compact(ran)
+    return ran, answer.stdout
 
 
 def built(crate: str) -> pathlib.Path:
@@ -136,3 +159,22 @@ def case_named(file: str, name: str) -> Case:
 def examples() -> list[pathlib.Path]:
     """The documents of examples/."""
     return sorted((TOP / "examples").glob("*.json"))
+
+
+@dataclasses.dataclass(frozen=True)
+class Failing:
+    """A document with one false claim, a journal in which that fails, and after how many events it does."""
+
+    name: str
+    document: dict
+    place: int
+
+
+def failing_runs() -> Iterator[Failing]:
+    """The runs in which a claim fails that the pages of examples/ show."""
+    for page in sorted((TOP / "examples").glob("*.md")):
+        for file, claim, journal, place in SHOWN.findall(page.read_text(encoding="utf-8")):
+            document = json.loads((TOP / "examples" / file).read_text(encoding="utf-8"))
+            kept = {name: it for name, it in document.items() if name != "certificate"}
+            asked = {**kept, "claims": [json.loads(claim)], "journal": journal}
+            yield Failing(slug(f"{page.stem} {claim}"), asked, int(place))

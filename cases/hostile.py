@@ -36,6 +36,8 @@ COMMANDS = ("check", "analyse", "run", "audit", "refute", "verify", "draw", "tra
 
 # the limits of a document
 MOST_TASKS, MOST_ARGUMENTS, MOST_CLAIMS, MOST_STATEMENTS = 1_024, 256, 64, 64
+# and those of version 3, and of jobs and tokens
+MOST_WIDE_CLAIMS, MOST_SITES, MOST_TOKENS = 1_024, 256, 32
 # what the smallest document may take beside its bytes, in bytes
 BASE = 16 << 20
 # how long a document is read again and again to find what a reading takes, in seconds
@@ -145,6 +147,22 @@ def long_bodies():
     return document([root(name, *["return"] * MOST_STATEMENTS) for name in names], *claims)
 
 
+def given_ends():
+    """Claims that are given the end of each of as many tasks as may be."""
+    names = numbered("T", MOST_TASKS)
+    given = [{"ended": name, "in": ["Faulted"]} for name in names]
+    return document(list(map(root, names)), *[{"given": given, "never": "T0"}] * 400, version=3)
+
+
+def given_words():
+    """As many claims as may be with names, for each of which no job fails and nobody requests a token."""
+    tokens = numbered("K", MOST_TOKENS)
+    tasks = [root(f"T{number}", {"work": f"s{number}", "may_fail": True}) for number in range(MOST_SITES)]
+    names = [str(number).rjust(100, "n") for number in range(MOST_WIDE_CLAIMS)]
+    claims = [{"name": name, "given": ["no_failure", "no_request"], "runs": "T0"} for name in names]
+    return document(tasks, *claims, version=3, tokens=tokens)
+
+
 def small_objects(longest=16 << 20):
     """Rows that are small objects, as many as fit."""
     row = {"ends": [], "runs": True}
@@ -181,7 +199,6 @@ class Hostile:
     bytes: int
 
 
-
 def ran(task):
     """The claim that a task ends in no other way."""
     return {"final": task, "in": ["RanToCompletion"]}
@@ -196,8 +213,11 @@ DEAR = (
     Hostile("exceptions of all roots in a chain", ("audit",), lambda: with_run(all_exceptions()), 0, "run complete\n", 100, 24),
     Hostile("a run to be shortened", ("refute",), lambda: throwing_chain(60, 128, ran("A127")), 1, "{", 150, 24),
     Hostile("a long run to be shortened", ("refute",), long_line, 1, "{", 250, 24),
-    Hostile("true claims over long bodies", ("refute",), long_bodies, 0, "not refuted\n", 1_500, 16),
+    Hostile("a true claim over long bodies", ("refute", "--claim", "1"), long_bodies, 0, "not refuted\n", 1_500, 16),
+    Hostile("certified claims over long bodies", ("refute",), long_bodies, 0, "not refuted\n", 1_500, 16),
     Hostile("small objects", ("check",), small_objects, 1, "refused: shape claim 1\n", 5, 40),
+    Hostile("all ends given to many claims", ("check",), given_ends, 1, "refused: shape claim 1\n", 5, 40),
+    Hostile("all jobs and tokens given to all claims", ("check",), given_words, 1, "refused: shape claim 1\n", 1_000, 24),
     Hostile("small objects, one of them wrong", ("check", "--explain"), wrong_object, 3, "unreadable: ", 15, 130),
 )
 
@@ -313,6 +333,7 @@ SHORT = {
     "nested bodies": text_of(nested_bodies()),
     "nested arrays": "[" * 127 + "]" * 127,
     "a chain that carries exceptions": text_of(throwing_chain(8, 24)),
+    "its run": text_of(with_run(throwing_chain(8, 24))),
 }
 
 

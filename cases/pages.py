@@ -2,7 +2,8 @@
 
 Two kinds of fenced blocks are run. A block `console` has commands, each behind `$ ` (with what stands between `<<END` and
 END), and below each what it writes; the exit status is the one that docs/OUTPUT.md gives for these lines. A block `json`
-is a document, or what stands in one behind its version; below it lines of this form say what the commands answer:
+is a document, or what stands in one behind its version, which is 3 where it doesn't say another; below it lines of this form
+say what the commands answer:
 
     `analyse --depth 1` finds a certificate.
     `check` says `accepted`.
@@ -22,8 +23,14 @@ from harness import LIMIT, TOP, Program
 FENCE = re.compile(r"^```(\w*)\n(.*?)^```\n", re.MULTILINE | re.DOTALL)
 SAYS = re.compile(r"`((?:check|analyse|run|audit)[^`]*)` (?:says `([^`]*)`|(finds a certificate))\.")
 LINK = re.compile(r"\]\((?!https?:|#)([^)#]+)")
+# words in capitals, what each of them stands for, and a claim's name behind its number
 PLACE = re.compile(r"[A-Z]{2,}|\b[NP]\b")
+WORD, NAMED = '[^ "]+', '(?: ".+")?'
 ROW = re.compile(r"^\| `([^`]+)` \| (\d) \|", re.MULTILINE)
+# how a page says what a picture was made by; the texts of a picture, before Graphviz has drawn it and after
+DRAWN = re.compile(r"^    (.+) \| dot -Tsvg > docs/pictures/(.+)$", re.MULTILINE)
+OF_DOT = re.compile(r'\blabel="([^"]*)"|<td[^>]*>([^<]*)</td>')
+OF_SVG = re.compile(r"<text[^>]*>([^<]*)</text>")
 PROGRAM = "./taskgraph"
 # how a command shows what it says on standard error too
 ASIDE = "2>&1"
@@ -74,15 +81,16 @@ def commands(block: str) -> list[tuple[str, str]]:
 
 
 def pattern(line: str) -> re.Pattern:
-    """The lines that a row of docs/OUTPUT.md stands for: its words in capitals stand for any word, and WORDS for several."""
+    """The lines that a row of docs/OUTPUT.md stands for: its words in capitals stand for any word, and WORDS for several. A
+    claim that is told in words may have a name behind its number."""
     if line == "TREES":
         return re.compile(r"\[.*\]")
     if line == "DOCUMENT":
         return re.compile(r"\{.*\}")
     if line.endswith("WORDS"):
-        return re.compile(pattern(line.removesuffix("WORDS")).pattern + ".+")
+        return re.compile(pattern(line.removesuffix("WORDS")).pattern.replace(WORD, f"{WORD}{NAMED}", 1) + ".+")
     carried = r"(?: [^ ]+:[^ ]+)*" if line.startswith("task ") else ""
-    return re.compile(r"[^ \"]+".join(map(re.escape, PLACE.split(line))) + carried)
+    return re.compile(WORD.join(map(re.escape, PLACE.split(line))) + carried)
 
 
 def rows(text: str) -> list[Row]:
@@ -112,8 +120,24 @@ def ending(answer: str, known: list[Row], command: str = "") -> tuple[int, str |
 
 def document(snippet: str) -> dict:
     """The document that a json block stands for."""
-    whole = snippet if snippet.lstrip().startswith("{") else '{"version": 2,' + snippet + "}"
+    # (of two members of one name the last counts)
+    whole = snippet if snippet.lstrip().startswith("{") else '{"version": 3,' + snippet + "}"
     return json.loads(whole)
+
+
+def drawn() -> dict[str, str]:
+    """The pictures of docs/PICTURES.md, each with the command that draws it for Graphviz."""
+    return {name: command for command, name in DRAWN.findall((TOP / "docs/PICTURES.md").read_text(encoding="utf-8"))}
+
+
+def texts_of_dot(text: str) -> list[str]:
+    """What is written at the nodes and edges of a graph for Graphviz, and in its legend."""
+    return [line for label, cell in OF_DOT.findall(text) for line in (label or cell).split("\\n")]
+
+
+def texts_of_svg(text: str) -> list[str]:
+    """The same of a picture that Graphviz made."""
+    return OF_SVG.findall(text)
 
 
 class Desk:

@@ -3,9 +3,10 @@
 Each graph is run by 1 to 16 workers, where inputs, requests and the jobs that fail are drawn too. The report says that the
 run is complete. Its journal begins with the requests, in their order, but for a link that is requested by them, and just
 the jobs that are to fail have failed. It is a run, in which each task ends as the report says, and just those exceptions
-are observed by nobody that the report names. Of a journal with another character somewhere, `audit` names the first line
-that is no event, as is read here by the rules of docs/FORMAT.md; where each line is one, the line that was changed or a
-later one isn't allowed, or it is a run.
+are observed by nobody that the report names. The journal with which `run --whole` writes a document is a run of it too.
+Where other ends were seen, `audit` names the first task that has one, as it stands by stood.py. Of a journal with another
+character somewhere, `audit` names the first line that is no event, as is read here by the rules of
+docs/FORMAT.md; where each line is one, the line that was changed or a later one isn't allowed, or it is a run.
 """
 import functools
 import json
@@ -17,10 +18,13 @@ import pytest
 
 from chance import LINK, Wide
 from graphs import FINALS
-from harness import Answer, Program
+from harness import Answer, Program, whole_run
+from stood import statuses
 
 # of the graphs that are run
 COUNT, TASKS, WORKERS = 500, (4, 30), 16
+# how many of them are written with their run, and of how many it is said how their tasks ended
+WHOLE, SEEN = 100, 200
 # how many journals are made of each run by another character, and what it may be
 CHANGES = 2
 CHARACTERS = "wo0123456789 \t+-ABCKTabcdefghiklmnoprstuvwxyz"
@@ -138,6 +142,33 @@ def test_graph(program, run, number: int):
     for name in report.unobserved:
         audit = asked(program, "audit", document=drawn.document({"observed": name}, **kept))
         assert (audit.stdout, audit.exit) == (f"run complete\nclaim 1 fails at {report.count}\n", 1), name
+
+
+@pytest.mark.drawn(WHOLE)
+def test_whole_run(program, number: int):
+    chance = random.Random(number)
+    drawn, workers = Wide(chance, *TASKS), chance.randint(1, WORKERS)
+    _, text = whole_run(program, drawn.document(start=drawn.start()), workers)
+    audit = program("audit", given=text)
+    assert (audit.stdout, audit.exit) == ("run complete\n", 0)
+
+
+@pytest.mark.drawn(SEEN)
+def test_ends_that_were_seen(program, number: int):
+    """The first task that stands otherwise after the run, or after a beginning of it, is named."""
+    chance = random.Random(number)
+    drawn = Wide(chance, *TASKS)
+    ran, _ = whole_run(program, drawn.document(start=drawn.start()), WORKERS)
+    lines = ran["journal"].splitlines(keepends=True)
+    place = chance.choice((len(lines), chance.randint(0, len(lines))))
+    document = {**ran, "version": 3, "journal": "".join(lines[:place])}
+    stand = {name: it for name, it in statuses(document).items() if chance.random() < 0.5}
+    ended = {name: it if it in FINALS and chance.random() < 0.9 else chance.choice(FINALS) for name, it in stand.items()}
+    first = next((name for name, it in stand.items() if ended[name] != it), None)
+    said = f"task {first} ended {stand[first]}\n" if first else ""
+    plain = asked(program, "audit", document=document)
+    answer = asked(program, "audit", document={**document, "ended": dict(reversed(ended.items()))})
+    assert (answer.stdout, answer.exit) == (plain.stdout + said, 1 if first else plain.exit)
 
 
 # ---- journals with another character

@@ -62,8 +62,9 @@ class Runner:
         path = [*self.paths.read_text(encoding="utf-8").splitlines(), os.environ["PATH"]]
         environment = {**os.environ, "PATH": ":".join(path), "GITHUB_PATH": str(self.paths)}
         words = ["bash", "--noprofile", "--norc", "-eo", "pipefail", "-c", step]
-        how = {"capture_output": True, "text": True, "timeout": LIMIT, "check": False}
-        ended = subprocess.run(words, cwd=self.folder, env=environment, **how)
+        ended = subprocess.run(
+            words, cwd=self.folder, env=environment, capture_output=True, text=True, timeout=LIMIT, check=False
+        )
         with self.paths.open("a", encoding="utf-8") as paths:
             paths.writelines(f"{it}\n" for it in PREPENDED.findall(ended.stdout))
         return Answer(ended.returncode, ended.stdout, ended.stderr)
@@ -110,6 +111,7 @@ def test_each(bare_program, tmp_path: Path):
     ]
 
 
-def test_archive_is_that_of_the_version():
-    names = set(re.findall(r"taskgraph-(\S+?)-linux-x86_64", PAGE))
-    assert names == {VERSION}
+@pytest.mark.parametrize("page", ["README.md", "docs/CI.md", "docs/FIRST-PIPELINE.md"])
+def test_archive_is_that_of_the_version(page: str):
+    text = (TOP / page).read_text(encoding="utf-8")
+    assert set(re.findall(r"taskgraph-(\S+?)-linux-x86_64", text)) == {VERSION}

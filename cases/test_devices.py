@@ -24,7 +24,12 @@ CHOSEN = {
         "one root that returns; the certificate of the document is not used",
         "the first claim has a certificate and the second has none",
     ],
-    "runs": ["an attached child that throws", "a job that is to fail"],
+    "runs": [
+        "an attached child that throws",
+        "a job that is to fail",
+        "the document with the run, in which a start and a journal are put",
+        "no document where the certificate is refused",
+    ],
     "audits": ["a synchronous continuation on another worker", "a WhenAll task of nothing has ended before the first event"],
     "refutes": ["a claim that holds"],
     "draws": ["no tasks"],

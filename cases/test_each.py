@@ -156,8 +156,8 @@ def test_each_refused_allocation(bare_program, library, command: str):
     assert whole.stdout == wanted(kinds.values()).stdout
     asked = int(whole.stderr.rpartition("\n")[2])
     for number in range(1, asked + 1):
-        for rest in ({}, {"REFUSE_REST": "1"}):
-            refusing = {**refuse, "REFUSED": str(number), **rest}
+        alone = {**refuse, "REFUSED": str(number)}
+        for refusing in (alone, {**alone, "REFUSE_REST": "1"}):
             answer = each(bare_program, command, *words, given=given, environment=refusing)
             if (answer.stdout, answer.exit) != ("out of memory\n", MEMORY):
                 assert answer.exit == NO

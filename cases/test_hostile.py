@@ -1,6 +1,7 @@
 """What hostile.py asks: dear documents, a small stack, a full file, and valgrind."""
-import hostile
 import pytest
+
+import hostile
 
 
 @pytest.mark.parametrize("dear", hostile.DEAR, ids=lambda it: f"{it.words[0]}, {it.name}")

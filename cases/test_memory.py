@@ -24,11 +24,19 @@ MORE = {
         "LazyCancellation lets a continuation keep what is past its antecedent",
         "two continuations on opposite ends, split on the end",
     ],
-    "runs": ["seven tasks by one worker", "a job that is to fail"],
+    "runs": [
+        "seven tasks by one worker",
+        "a job that is to fail",
+        "the document with the run in place of another one, and with all else of its start",
+        "what was seen of another run goes with its journal",
+    ],
+    "draws": ["a claim that fails in a run, and the moment at which it does, in Mermaid"],
     "refutes": [
         "no run is tried",
         "all else of the document stays, its start and its certificate too",
+        "what was seen of another run goes with its journal",
     ],
+    "version3-ended": ["the times are those of the document, and arrows are numbered by places"],
 }
 # A requests B's token before it ends, so B never begins; but no certificate shows it.
 VERDICTS = json.dumps({
@@ -67,7 +75,7 @@ def answered(program: Program, case: Case, refuse: str, **refusing: str) -> tupl
 
 
 def test_each_verdict(program):
-    verdicts = [verdict for _, verdict, _ in words_of(program("verify", given=VERDICTS).stdout)]
+    verdicts = [verdict for _, _, verdict, _ in words_of(program("verify", given=VERDICTS).stdout)]
     assert verdicts == ["holds", "fails", "empty", "unknown"]
 
 

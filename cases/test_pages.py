@@ -1,8 +1,10 @@
 """What the pages show is so: those of the top folder, docs/, examples/, schema/ and cases/.
 
-Their blocks are run as `pages` tells. Each link to a file has to lead to one. Each line of docs/OUTPUT.md is also held
-against the cases of this folder: each line that they expect is one of the page's, with its exit status.
+Their blocks are run as `pages` tells. Each link to a file has to lead to one. Each picture has the texts of what the command
+below it draws. Each line of docs/OUTPUT.md is also held against the cases of this folder: each line that they expect is one
+of the page's, with its exit status.
 """
+import collections
 import pathlib
 
 import pytest
@@ -51,10 +53,12 @@ def links():
 
 
 def lined_cases():
-    """The cases whose lines are those of docs/OUTPUT.md; a picture's are those of docs/PICTURES.md."""
+    """The cases whose lines are those of docs/OUTPUT.md; a picture's are those of docs/PICTURES.md, and those of many
+    documents have a number and an exit status in front."""
     for case in all_cases():
         is_picture = case.command == "draw" and case.exit == 0
-        if case.stdout is not None and case.exit != USAGE and not HELP & set(case.words) and not is_picture:
+        is_plain = not is_picture and "--each" not in case.words
+        if case.stdout is not None and case.exit != USAGE and not HELP & set(case.words) and is_plain:
             yield case
 
 
@@ -71,6 +75,17 @@ def test_snippet(desk, snippet: str, words: str, answer: str, finds: str):
 @pytest.mark.parametrize("folder, link", links())
 def test_link(folder: pathlib.Path, link: str):
     assert (folder / link).exists()
+
+
+@pytest.mark.parametrize("name, command", pages.drawn().items())
+def test_picture(desk, name: str, command: str):
+    drawn = desk.shell(command)
+    picture = (TOP / "docs/pictures" / name).read_text(encoding="utf-8")
+    assert collections.Counter(pages.texts_of_svg(picture)) == collections.Counter(pages.texts_of_dot(drawn.stdout))
+
+
+def test_each_picture_has_a_command():
+    assert set(pages.drawn()) == {it.name for it in (TOP / "docs/pictures").iterdir()}
 
 
 @pytest.mark.parametrize("case", lined_cases(), ids=str)

@@ -1,11 +1,15 @@
-"""Each example, and a pipeline of 40 and one of 300 tasks, is drawn as it follows from the rules of docs/PICTURES.md.
+"""Each example, with its run and without, with one that `run --whole` writes, and with each run in which a claim fails by its
+page, a pipeline of 40 and one of 300 tasks, and runs of graphs that are drawn by chance are drawn as it follows from the
+rules of docs/PICTURES.md.
 
 The rules are those of drawn.py. The pictures of the examples are also held against the files of pictures/, at which a
 person has looked, and Graphviz has to read what is written for it: one node for each task and token, one line for each
-edge. A certificate of these documents that has a tree for each claim is taken as accepted, and `check` has to say the same.
+edge. A certificate of these documents that has a tree for each claim is taken as accepted, and `check` has to say the same;
+their journals are taken as runs, and in that of a false claim the claim fails where its page says so.
 """
 import json
 import pathlib
+import random
 import re
 import shutil
 import subprocess
@@ -15,34 +19,49 @@ from typing import NamedTuple
 import pytest
 
 import debian
-from drawn import LANGUAGES, accepted, edges, kept_picture, picture
-from harness import TOP, examples
+from chance import Wide
+from drawn import LANGUAGES, Failure, accepted, drawn_examples, edges, kept_picture, picture
+from harness import TOP, Answer, Program, failing_runs, whole_run
 
 PIPELINES = {"pipeline-of-40": 8, "pipeline-of-300": 73}
+# a run in which a claim fails, and an event that may follow it there
+FAILED, FURTHER = "exactly-one-excludes-Rollback-Notify", "w1 step Notify\n"
+WORKERS = 4
 LIMIT = 300
+# of graphs that are drawn by chance, and how many runs are tried for a claim of each
+DRAWN, TASKS, FEW = 50, (4, 14), "200"
+REFUTED = 1
 
 
 class Drawn(NamedTuple):
-    """A document, and whether its pictures are kept."""
+    """A document, where a claim of it fails in its run, and whether its pictures are kept."""
 
     name: str
-    text: str
+    document: dict
+    failure: Failure | None
     is_kept: bool
 
     @property
-    def document(self) -> dict:
-        return json.loads(self.text)
+    def text(self) -> str:
+        return json.dumps(self.document)
 
 
-def pipeline(shards: int) -> str:
-    """The text of a pipeline of so many shards."""
-    words = [str(TOP / "examples/pipeline"), str(shards)]
-    return subprocess.run(words, capture_output=True, text=True, check=True).stdout
+def pipeline(shards: int) -> dict:
+    """The pipeline that the script of the examples makes."""
+    ran = subprocess.run([str(TOP / "examples/pipeline"), str(shards)], capture_output=True, text=True, check=True)
+    return json.loads(ran.stdout)
 
 
 def documents() -> list[Drawn]:
-    kept = [Drawn(file.stem, file.read_text(encoding="utf-8"), True) for file in examples()]
-    return [*kept, *(Drawn(name, pipeline(shards), False) for name, shards in PIPELINES.items())]
+    failing = {it.name: (it.document, Failure(claim=1, place=it.place)) for it in failing_runs()}
+    document, failure = failing[FAILED]
+    goes_on = {**document, "journal": document["journal"] + FURTHER}
+    return [
+        *(Drawn(name, document, None, True) for name, document in drawn_examples()),
+        *(Drawn(name, *shown, False) for name, shown in failing.items()),
+        Drawn(f"{FAILED}-before-the-end", goes_on, failure, False),
+        *(Drawn(name, pipeline(shards), None, False) for name, shards in PIPELINES.items()),
+    ]
 
 
 DOCUMENTS = [pytest.param(it, id=it.name) for it in documents()]
@@ -73,12 +92,52 @@ def check_read(dot: str, document: dict, text: str):
 def test_picture(program, graphviz, drawn: Drawn, language: str):
     answer = program("draw", "--as", language, given=drawn.text, limit=LIMIT)
     assert answer.exit == 0
-    assert answer.stdout == picture(drawn.document, language, accepted(drawn.document))
+    assert answer.stdout == picture(drawn.document, language, accepted(drawn.document), drawn.failure)
     if drawn.is_kept:
         kept: pathlib.Path = kept_picture(drawn.name, language)
         assert answer.stdout == kept.read_text(encoding="utf-8")
     if graphviz and language == "dot":
         check_read(graphviz, drawn.document, answer.stdout)
+
+
+@pytest.mark.parametrize("drawn", [pytest.param(it, id=it.name) for it in documents() if accepted(it.document)])
+def test_run(program, drawn: Drawn):
+    """What `run --whole` writes is drawn."""
+    ran, text = whole_run(program, drawn.document, WORKERS, LIMIT)
+    answer = program("draw", given=text, limit=LIMIT)
+    assert (answer.exit, answer.stdout) == (0, picture(ran, "mermaid", True))
+
+
+@pytest.mark.parametrize("language", LANGUAGES)
+@pytest.mark.drawn(DRAWN)
+def test_run_of_a_drawn_graph(program, number: int, language: str):
+    """Its end, and a moment before it."""
+    chance = random.Random(number)
+    drawn = Wide(chance, *TASKS)
+    ran, _ = whole_run(program, drawn.document(start=drawn.start()), WORKERS)
+    lines = ran["journal"].splitlines(keepends=True)
+    for place in (len(lines), chance.randint(1, len(lines))):
+        document = {**ran, "journal": "".join(lines[:place])}
+        answer = program("draw", "--as", language, given=json.dumps(document))
+        assert (answer.exit, answer.stdout) == (0, picture(document, language, True))
+
+
+def refuted(program: Program, number: int) -> Answer:
+    """What `refute` answers to a claim about a graph that is drawn by chance."""
+    drawn = Wide(random.Random(number), *TASKS)
+    return program("refute", "--runs", FEW, given=json.dumps(drawn.document(drawn.claim())))
+
+
+def test_refutations_of_drawn_graphs(program):
+    """By the last event of each journal the claim fails."""
+    answers = [refuted(program, number) for number in range(DRAWN)]
+    texts = [it.stdout for it in answers if it.exit == REFUTED]
+    assert len(texts) > DRAWN // 2
+    for text in texts:
+        document = json.loads(text)
+        failure = Failure(claim=1, place=document["journal"].count("\n"))
+        answer = program("draw", given=text)
+        assert (answer.exit, answer.stdout) == (0, picture(document, "mermaid", False, failure))
 
 
 @pytest.mark.parametrize("drawn", DOCUMENTS)

@@ -1,12 +1,13 @@
 """Runs in which claims fail are searched for, over each document of examples/ and of the cases, claim by claim.
 
-A claim for which `analyse` finds a certificate is never refuted. Each claim of which a page of examples/ shows a run in
-which it fails, or of which a case of `audit` says where it fails, is refuted within the runs that are tried unless told
-otherwise. The same words give the same text. Of two shortest runs each is found by some seed, and no longer one. Each
-document that is written is the one that was read but for the inputs and the journal; `audit` finds a run there, and
-that the claim fails after its last event; and `check` refuses the document. In each run bodies nest, also in those of
-graphs that are drawn by chance; no run is found where only one that no thread makes would do; and a large document is
-answered before the time is over.
+A claim for which `analyse` finds a certificate is never refuted, also where all its runs are tried. Of a document with many
+claims the answer is that to the first one that fails, whichever are passed over. Each claim of which a page of examples/
+shows a run in which it fails, or of which a case of `audit` says where it fails, is refuted within the runs that are tried
+unless told otherwise. The same words give the same text. Of two shortest runs each is found by some seed, and no longer
+one. Each document that is written is the one that was read but for the inputs and the journal, and without what was seen of
+another run; `audit` finds a run there, and that the claim fails after its last event; and `check` refuses the document. In
+each run bodies nest, also in those of graphs that are drawn by chance; no run is found where only one that no thread makes
+would do; and a large document is answered before the time is over.
 """
 import json
 import random
@@ -16,11 +17,10 @@ import time
 import pytest
 
 from graphs import Drawn
-from harness import TOP, Answer, Program, all_cases, cases_of, examples, slug
+from harness import Answer, Program, all_cases, cases_of, compact, examples, failing_runs
 from nested import unnested
+from test_verify import worked_out
 
-# a page shows a claim of a document with a journal in which it fails
-SHOWN = re.compile(r"^\$ examples/ask examples/(\S+\.json) '([^']*)' --journal", re.MULTILINE)
 FAILS = re.compile(r"claim (\d+) fails at")
 # how many runs are tried where none is to be found
 FEW = "2000"
@@ -29,6 +29,8 @@ LONGEST = 16_777_216
 LIMIT = 300
 # the exit statuses of a claim that isn't refuted, of one that is, and of a document that can't be read
 HOLDS, REFUTED, UNREADABLE = 0, 1, 3
+# what was seen of another run, which isn't written
+SEEN = ("ended", "times")
 NOT_REFUTED = Answer(HOLDS, "not refuted\n", "")
 # Two of ten roots may begin in either order, and by both the claim fails. No run is shorter, and the other roots aren't needed.
 EITHER = json.dumps({
@@ -82,17 +84,15 @@ ENDED_WITHIN = 60
 
 
 def alone(document: dict, claim: dict) -> str:
-    """The document with this claim only."""
-    kept = {name: it for name, it in document.items() if name not in ("certificate", "journal")}
+    """The document with this claim only, and without a journal."""
+    kept = {name: it for name, it in document.items() if name not in ("certificate", "journal", "times")}
     return json.dumps({**kept, "claims": [claim]})
 
 
 def false_claims():
     """Documents with one claim each, of which it is known that it fails in some run."""
-    for page in sorted((TOP / "examples").glob("*.md")):
-        for file, claim in SHOWN.findall(page.read_text(encoding="utf-8")):
-            document = json.loads((TOP / "examples" / file).read_text(encoding="utf-8"))
-            yield pytest.param(alone(document, json.loads(claim)), id=slug(f"{page.name} {claim}"))
+    for shown in failing_runs():
+        yield pytest.param(alone(shown.document, shown.document["claims"][0]), id=shown.name)
     for case in cases_of("audits"):
         fails = FAILS.search(case.stdout or "")
         if fails:
@@ -137,8 +137,9 @@ def without_run(document: dict) -> dict:
 def check_refutation(program: Program, text: str, wrote: str):
     """The document that was written for a claim that is refuted is as it has to be."""
     document = json.loads(wrote)
-    assert wrote == json.dumps(document, separators=(",", ":"), sort_keys=True) + "\n"
-    assert without_run(document) == without_run(json.loads(text))
+    assert wrote == compact(document)
+    read = {name: it for name, it in json.loads(text).items() if name not in SEEN}
+    assert without_run(document) == without_run(read)
     assert unnested(document) is None, "no thread makes this run"
     audit = program("audit", given=wrote, limit=LIMIT)
     (head, *fails), events = audit.stdout.splitlines(), document["journal"].count("\n")
@@ -158,13 +159,25 @@ def test_false_claim(program, text: str):
 
 @pytest.mark.parametrize("text", claims())
 def test_claim(program, text: str):
-    """A claim that may be true or false."""
+    """A claim that may be true or false. Its runs are tried also where it has a certificate."""
     found = program("analyse", "--depth", DEPTH, given=text, limit=LIMIT)
-    answer = refute(program, "--runs", FEW, text=text)
+    answer = refute(program, "--claim", "1", "--runs", FEW, text=text)
     if found.exit == UNREADABLE:
         assert (answer.stdout, answer.exit) == (found.stdout, found.exit)
     elif found.exit != HOLDS and answer.exit == REFUTED:
         check_refutation(program, text, answer.stdout)
+    else:
+        assert answer == NOT_REFUTED
+
+
+@pytest.mark.parametrize("text, wanted", worked_out())
+def test_claims(program, text: str, wanted: list[str]):
+    """Claims that hold, fail or aren't known to do either, beside each other."""
+    answer = refute(program, "--runs", FEW, text=text)
+    if "fails" in wanted:
+        number = str(wanted.index("fails") + 1)
+        assert answer == refute(program, "--claim", number, "--runs", FEW, text=text)
+        assert answer.exit == REFUTED
     else:
         assert answer == NOT_REFUTED
 
@@ -182,7 +195,7 @@ def test_a_document_that_gets_too_long(program):
 def test_drawn_graph(program, number: int):
     graph = Drawn(random.Random(number))
     text = json.dumps(graph.document(graph.claim()))
-    answer = refute(program, "--runs", "300", text=text)
+    answer = refute(program, "--claim", "1", "--runs", "300", text=text)
     if answer.exit == REFUTED:
         check_refutation(program, text, answer.stdout)
     elif answer.exit == UNREADABLE:

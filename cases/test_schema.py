@@ -13,10 +13,20 @@ import pytest
 import debian
 from harness import TOP, all_cases, examples
 
-# shapes that are wrong and that no schema sees: JSON numbers have no notation, and the last of two members counts
+# shapes that are wrong and that no schema sees: JSON numbers have no notation, the last of two members counts, a text's
+# length is that of its characters, and no number is compared with another
 UNSEEN = {
     "a version with a fraction that is zero",
     "a version with an exponent",
+    "a name of 51 letters in 101 bytes",
+    "a name of 51 letters in 102 bytes",
+    "a name of 34 letters in 101 bytes",
+    "a time too few",
+    "a journal with a time too few",
+    "times of fewer lines",
+    "a time too many",
+    "times without a journal",
+    "times that fall",
 }
 
 

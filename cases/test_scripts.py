@@ -107,9 +107,18 @@ def test_a_terminal_is_told_why_without_being_asked(program):
     assert asked and text.replace("\r\n", "\n") == asked
 
 
-@pytest.mark.parametrize("command, progress", [("run", r"[01] of 1 tasks have ended"), ("analyse", r"claim \d+: 0 leaves tried")])
-def test_a_terminal_is_told_how_far_a_command_is(program, command: str, progress: str):
-    text = on_terminal(program, command, stream="stderr", document=ONE_ROOT)
+@pytest.mark.parametrize(
+    "words, progress",
+    [
+        ("run", r"[01] of 1 tasks have ended"),
+        ("run --whole", r"[01] of 1 tasks have ended"),
+        ("analyse", r"claim \d+: 0 leaves tried"),
+        ("refute", r"claims with a verdict: \d+"),
+        ("verify", r"claims with a verdict: \d+"),
+    ],
+)
+def test_a_terminal_is_told_how_far_a_command_is(program, words: str, progress: str):
+    text = on_terminal(program, *words.split(), stream="stderr", document=ONE_ROOT)
     assert re.fullmatch(rf"(\r{progress}\x1b\[K)+\r\x1b\[K", text)
 
 
@@ -128,18 +137,21 @@ def test_pages_are_read_block_by_block():
 
 
 def test_snippets_stand_behind_the_version():
-    assert pages.document('"tasks": []') == {"version": 2, "tasks": []}
+    assert pages.document('"tasks": []') == {"version": 3, "tasks": []}
+    assert pages.document('"version": 2, "tasks": []') == {"version": 2, "tasks": []}
     assert pages.document('{"version": 1}') == {"version": 1}
 
 
 def test_lines_of_the_output_page_stand_for_others():
-    lines = [("claim N fails at P", 1), ("TREES", 0), ("run complete", 0), ("task NAME STATUS", 0)]
+    lines = [("claim N fails at P", 1), ("TREES", 0), ("run complete", 0), ("task NAME STATUS", 0), ("claim N empty: WORDS", 1)]
     known = pages.rows("".join(f"| `{line}` | {status} | x |\n" for line, status in lines))
     assert pages.ending("run complete\n", known) == (0, None)
     assert pages.ending("run complete\nclaim 2 fails at 14\n", known) == (1, None)
     assert pages.ending("task A Faulted A:WorkFailed(s) B:x\n", known) == (0, None)
     assert pages.ending("[1]\n", known) == (0, None)
     assert pages.ending("claim two\n", known) == (0, "claim two")
+    assert pages.ending('claim 3 "one of them" empty: A never begins\n', known) == (1, None)
+    assert pages.ending('claim 3 "one of them" fails at 2\n', known) == (0, 'claim 3 "one of them" fails at 2')
 
 
 def test_a_wrong_page_fails(program, tmp_path):

@@ -1,22 +1,27 @@
-"""The journal of each example, and of each run of one that the program makes, is traced as it follows from the rules of
+"""The journal of each example, and of each run of one that `run --whole` writes, is traced as it follows from the rules of
 docs/PICTURES.md.
 
-The rules are those of traced.py. The traces of the examples' own journals are also held against the files of traces/, at
-which a person has looked. Each trace is read back as a viewer does, with a stack for each track, of which each end closes
-the innermost slice: its slices have to be the bodies that the journal begins and leaves, on the tracks of those who do it,
-and each arrow has to lead from the ending of a task to the release of one that continues it. Some runs have bodies of one
-worker that don't nest.
+The rules are those of traced.py. Runs of graphs that are drawn by chance are traced by them too, with times and without.
+What `run --whole` writes is the example with a run, in which `audit` finds no claim that fails. The traces of the examples'
+own journals are also held against the files of traces/, at which a person has looked. Each trace is read back as a viewer
+does, with a stack for each track, of which each end closes the innermost slice: its slices have to be the bodies that the
+journal begins and leaves, on the tracks of those who do it, and each arrow has to lead from the ending of a task to the
+release of one that continues it. Some runs have bodies of one worker that don't nest.
 """
 import json
+import random
 
 import pytest
 
+from chance import Wide
 from drawn import accepted
-from harness import Program, examples
+from harness import Answer, Program, examples, whole_run
 from traced import ENDINGS, kept_trace, trace
 
 WORKERS = (1, 4)
 LIMIT = 300
+# of graphs that are drawn by chance, and the end of the times that their events have
+DRAWN, TASKS, LATEST = 50, (4, 14), 100
 # Three roots, and a continuation that the worker which ended A begins. By hand: which journal, and which bodies have a track
 # of their own.
 CROSSED = {
@@ -115,7 +120,19 @@ def test_example(program, name: str):
 @pytest.mark.parametrize("workers", WORKERS)
 @pytest.mark.parametrize("name", [name for name, it in DOCUMENTS.items() if accepted(it)])
 def test_run(program, name: str, workers: int):
-    report = program("run", "--workers", str(workers), given=json.dumps(DOCUMENTS[name]), limit=LIMIT).stdout
-    _, head, events = report.partition("\njournal ")
-    assert head, report
-    check_trace(program, {**DOCUMENTS[name], "journal": events.partition("\n")[2]})
+    ran, text = whole_run(program, DOCUMENTS[name], workers, LIMIT)
+    assert program("audit", given=text, limit=LIMIT) == Answer(0, "run complete\n", "")
+    assert program("trace", given=text, limit=LIMIT).stdout == check_trace(program, ran)
+
+
+@pytest.mark.drawn(DRAWN)
+def test_run_of_a_drawn_graph(program, number: int):
+    """By the places of its events, and by times, of which some are the same."""
+    chance = random.Random(number)
+    drawn = Wide(chance, *TASKS)
+    ran, _ = whole_run(program, drawn.document(start=drawn.start()), chance.randint(*WORKERS))
+    check_trace(program, ran)
+    times = sorted(chance.randrange(LATEST) for _ in ran["journal"].splitlines())
+    timed = {**ran, "version": 3, "times": times}
+    answer = program("trace", given=json.dumps(timed))
+    assert (answer.exit, answer.stdout) == (0, trace(timed))

@@ -19,7 +19,7 @@ import pytest
 
 import debian
 from graphs import Drawn
-from harness import HERE, TOP, Answer, Program, slug
+from harness import HERE, TOP, Answer, Program, compact, slug
 from test_schema import jsonschema
 
 YES, NO = 0, 1
@@ -29,7 +29,7 @@ DEPTH = "6"
 # how many graphs are drawn by chance, how many claims each has, and how many runs are tried for each
 DRAWN, CLAIMS, RUNS = 250, 4, "300"
 LIMIT = 300
-LINE = re.compile(r"claim (\d+) (holds|fails|empty|unknown): (.+)")
+LINE = re.compile(r'claim (\d+)(?: "(.+)")? (holds|fails|empty|unknown): (.+)')
 # the verdicts that are a failure for a reporter of tests
 FAILURES = ("fails", "empty", "unknown")
 
@@ -45,11 +45,13 @@ def bare(document: dict) -> dict:
 
 
 def worked_out():
-    """Each document with its claims, and their verdicts."""
+    """Each document with its claims, and their verdicts; in another version where a version is named."""
     for table in tables():
         document = bare(json.loads((TOP / table["file"]).read_text(encoding="utf-8")))
+        document["version"] = table.get("version", document["version"])
         text = json.dumps({**document, "claims": [it["claim"] for it in table["claims"]]})
-        yield pytest.param(text, [it["verdict"] for it in table["claims"]], id=slug(table["file"].partition(".")[0]))
+        name = f"{table['file'].partition('.')[0]} {document['version']}"
+        yield pytest.param(text, [it["verdict"] for it in table["claims"]], id=slug(name))
 
 
 def verify(program: Program, *words: str, text: str) -> Answer:
@@ -60,7 +62,7 @@ def verdicts(program: Program, *words: str, text: str) -> list[dict]:
     """What the JSON says of each claim."""
     answer = verify(program, *words, "--as", "json", text=text)
     said = json.loads(answer.stdout)
-    assert answer.stdout == json.dumps(said, separators=(",", ":"), sort_keys=True) + "\n"
+    assert answer.stdout == compact(said)
     assert [it["claim"] for it in said["claims"]] == list(range(1, len(said["claims"]) + 1))
     assert said["sums"] == sums(said["claims"])
     assert answer.exit == (YES if said["sums"]["holds"] == said["sums"]["claims"] else NO)
@@ -73,9 +75,14 @@ def sums(each: list[dict]) -> dict[str, int]:
     return {"claims": len(words), **{word: words.count(word) for word in ("holds", *FAILURES)}}
 
 
-def words_of(text: str) -> list[tuple[str, str, str]]:
-    """The number, the verdict and the claim of each line that has one in the text format."""
+def words_of(text: str) -> list[tuple[str | None, ...]]:
+    """The number, the name or None, the verdict and the claim of each line that has one in the text format."""
     return [found.groups() for found in map(LINE.fullmatch, text.splitlines()) if found]
+
+
+def quoted(said: dict) -> str:
+    """The name of a claim as it stands behind its number."""
+    return f' "{said["name"]}"' if "name" in said else ""
 
 
 def alone(text: str, number: int) -> dict:
@@ -179,13 +186,13 @@ def test_formats_agree(program, junit, text: str, wanted: list[str]):
     """The text, the JSON and the JUnit say the same of each claim."""
     each = verdicts(program, text=text)
     written = verify(program, text=text)
-    assert words_of(written.stdout) == [(str(it["claim"]), it["verdict"], it["text"]) for it in each]
+    assert words_of(written.stdout) == [(str(it["claim"]), it.get("name"), it["verdict"], it["text"]) for it in each]
     last = written.stdout.splitlines()[-1]
     assert last == ", ".join(f"{name} {count}" for name, count in sums(each).items())
     suites = junit.read(verify(program, "--as", "junit", text=text).stdout)
     (suite,) = suites
     cases = suite.findall("testcase")
-    assert [it.get("name") for it in cases] == [f"claim {it['claim']}: {it['text']}" for it in each]
+    assert [it.get("name") for it in cases] == [f"claim {it['claim']}{quoted(it)}: {it['text']}" for it in each]
     failed = [[it.get("type") for it in case] for case in cases]
     assert failed == [[it["verdict"]] if it["verdict"] in FAILURES else [] for it in each]
     assert (suite.get("tests"), suite.get("failures")) == (str(len(each)), str(sum(map(len, failed))))

@@ -6,7 +6,7 @@ import math
 import pathlib
 import sys
 
-from harness import HERE, TOP, examples
+from harness import HERE, TOP, compact, examples
 
 TRACES = HERE / "traces"
 SEATS_BEHIND = 64
@@ -64,9 +64,10 @@ def entries(document):
     """Each entry, in the order in which they stand."""
     yield {"args": {"name": "taskgraph"}, "name": "process_name", "ph": "M", "pid": 1}
     drawn, named, alone = list(arrows(document)), set(), crossing(document)
+    times = document.get("times", range(1, len(list(events(document))) + 1))
     number = {task["name"]: at for at, task in enumerate(document["tasks"])}
     for place, actor, verb, name in events(document):
-        tid = track(actor)
+        tid, time = track(actor), times[place - 1]
         called = ("worker " if actor[0] == "w" else "outside ") + actor[1:]
         if actor not in named:
             yield {"args": {"name": called}, "name": "thread_name", "ph": "M", "pid": 1, "tid": tid}
@@ -76,19 +77,18 @@ def entries(document):
             if verb == "begin":
                 yield {"args": {"name": f"{called}: {name}"}, "name": "thread_name", "ph": "M", "pid": 1, "tid": tid}
         if verb == "begin":
-            yield entry("B", name, tid, place)
+            yield entry("B", name, tid, time)
         if verb in INSTANTS:
-            yield entry("i", f"{verb} {name}", tid, place, s="t")
-        yield from (arrow("s", end, tid, place) for start, end in drawn if start == place)
-        yield from (arrow("f", place, tid, place, bp="e") for _, end in drawn if end == place)
+            yield entry("i", f"{verb} {name}", tid, time, s="t")
+        yield from (arrow("s", end, tid, time) for start, end in drawn if start == place)
+        yield from (arrow("f", place, tid, time, bp="e") for _, end in drawn if end == place)
         if verb == "leave":
-            yield entry("E", name, tid, place)
+            yield entry("E", name, tid, time)
 
 
 def trace(document):
     """The text of the trace."""
-    value = {"traceEvents": list(entries(document))}
-    return json.dumps(value, separators=(",", ":"), sort_keys=True) + "\n"
+    return compact({"traceEvents": list(entries(document))})
 
 
 def kept_trace(name: str) -> pathlib.Path:

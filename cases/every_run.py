@@ -1,0 +1,320 @@
+"""All runs of a small graph, by the rules of docs/PROFILE.md alone, and the claims that hold in each of them.
+
+Who does what is left out: a worker may have any number of bodies open, so for each order of acts there are workers.
+"""
+import itertools
+from typing import NamedTuple
+
+from small import CANCELED, FAULTED, RAN, Graph
+
+# how far a task has come; the rest of TaskStatus lies between the last two
+WAITING, CREATED, READY, RUNNING, CLOSING, ENDED = "waiting", "created", "ready", "running", "closing", "ended"
+OPENING = {"root": READY, "child": CREATED}
+# how a body was over; nothing, if it isn't
+RETURNED, THREW, ACKNOWLEDGED = ("returned",), "threw", ("acknowledged",)
+
+
+class TooManyStates(Exception):
+    """The graph has more states than are gone through."""
+
+
+class Task(NamedTuple):
+    """A task so far: what is left of its body and how that was over, whether it has begun, how it ended and whose exceptions
+    it carries, and of a WhenAny task the winner."""
+
+    phase: str
+    left: tuple
+    over: tuple = ()
+    has_begun: bool = False
+    final: str | None = None
+    carried: tuple[int, ...] = ()
+    winner: int | None = None
+
+
+class State(NamedTuple):
+    """A run so far, as far as it matters for what follows and for claims: the tasks, the tokens that were requested
+    themselves, and the tasks whose exceptions were observed."""
+
+    tasks: tuple[Task, ...]
+    asked: frozenset[str] = frozenset()
+    seen: frozenset[int] = frozenset()
+
+    def with_task(self, place: int, **changed):
+        tasks = list(self.tasks)
+        tasks[place] = tasks[place]._replace(**changed)
+        return self._replace(tasks=tuple(tasks))
+
+
+class Facts(NamedTuple):
+    """What claims and what is given speak of."""
+
+    finals: tuple[str | None, ...]
+    begun: frozenset[int]
+    requested: frozenset[str]
+    # the sites whose jobs answered failed
+    failed: frozenset[str]
+    # the tasks whose bodies threw an exception that wasn't observed
+    unread: frozenset[int]
+    is_complete: bool
+
+
+class Begin(NamedTuple):
+    """A task begins: what is so then, and which tasks were settled before."""
+
+    task: int
+    facts: Facts
+    settled: frozenset[int]
+
+
+class Runs:
+    """All runs of a graph with these values of its inputs."""
+
+    def __init__(self, graph: Graph, inputs: dict[str, bool], most: int):
+        self.graph, self.inputs = graph, inputs
+        self.facts: set[Facts] = set()
+        self.begins: set[Begin] = set()
+        self.count = self.explore(most)
+
+    def explore(self, most: int) -> int:
+        """Goes through all states, and says how many there are."""
+        first = self.opening()
+        known, left = {first}, [first]
+        while left:
+            state = left.pop()
+            self.facts.add(self.facts_of(state))
+            for following in self.following(state):
+                if following not in known:
+                    known.add(following)
+                    left.append(following)
+            if len(known) > most:
+                raise TooManyStates
+        return len(known)
+
+    def opening(self) -> State:
+        """Before the first event. WhenAll of nothing has ended."""
+        tasks = []
+        for task in self.graph.tasks:
+            is_over = task.kind == "all" and not task.of
+            tasks.append(Task(ENDED if is_over else OPENING.get(task.kind, WAITING), task.body, final=RAN if is_over else None))
+        state = State(tuple(tasks))
+        for place in self.graph.having("any"):
+            ended = (it for it in self.graph.tasks[place].of if state.tasks[it].final)
+            state = state.with_task(place, winner=next(ended, None))
+        return state
+
+    # ---- what may happen next
+
+    def following(self, state: State):
+        """The states after each event that is allowed."""
+        requested = self.requested(state)
+        for token in self.graph.sources:
+            if token not in requested:
+                yield state._replace(asked=state.asked | {token})
+        for place, task in enumerate(state.tasks):
+            if task.phase == RUNNING:
+                yield from self.in_body(state, place, requested)
+            elif task.phase != ENDED:
+                yield from self.outside_body(state, place, requested)
+
+    def requested(self, state: State) -> frozenset[str]:
+        return self.graph.requested_with(state.asked)
+
+    def outside_body(self, state: State, place: int, requested):
+        """A task that isn't running and hasn't ended is released, begun, dropped, closed or settled."""
+        task, now = self.graph.tasks[place], state.tasks[place]
+        is_stopped = task.token in requested
+        if now.phase == READY and is_stopped:
+            yield self.ended(state, place, CANCELED)
+        elif now.phase == READY:
+            yield self.begun(state, place)
+        elif now.phase == CLOSING and self.is_alone(state, place):
+            yield self.body_ended(state, place)
+        elif now.phase == WAITING and task.kind == "then":
+            yield from self.continuation(state, place, is_stopped)
+        elif now.phase == WAITING:
+            yield from self.settled(state, place)
+
+    def continuation(self, state: State, place: int, is_stopped: bool):
+        """A continuation that waits for its activation is released or dropped."""
+        task = self.graph.tasks[place]
+        final = state.tasks[task.antecedent].final
+        if final and task.may_follow(final) and not is_stopped:
+            yield state.with_task(place, phase=READY)
+        may_stop = is_stopped and (not task.is_lazy or final)
+        if may_stop or final and not task.may_follow(final):
+            yield self.ended(state, place, CANCELED)
+
+    def settled(self, state: State, place: int):
+        """A WhenAll or WhenAny task that waits ends where all, or one, of its tasks have."""
+        task = self.graph.tasks[place]
+        finals = [state.tasks[it].final for it in task.of]
+        if task.kind == "any" and any(finals):
+            yield self.ended(state, place, RAN)
+        if task.kind == "all" and all(finals):
+            worst = FAULTED if FAULTED in finals else CANCELED if CANCELED in finals else RAN
+            yield self.ended(state, place, worst, self.gathered(state, (), task.of))
+
+    def begun(self, state: State, place: int) -> State:
+        """The task begins, which is noted."""
+        after = state.with_task(place, phase=RUNNING, has_begun=True)
+        settled = frozenset(it for it in range(len(state.tasks)) if self.is_settled(state, it))
+        self.begins.add(Begin(place, self.facts_of(after), settled))
+        return after
+
+    def in_body(self, state: State, place: int, requested):
+        """A running task passes its next statement, or its body is left."""
+        now = state.tasks[place]
+        if now.over or not now.left:
+            left = state.with_task(place, phase=CLOSING, over=now.over or RETURNED)
+            yield self.body_ended(left, place) if self.is_alone(left, place) else left
+            return
+        statement, more = now.left[0], now.left[1:]
+        passed = state.with_task(place, left=more)
+        word = statement[0]
+        if word == "work":
+            yield passed
+            if statement[2]:
+                yield state.with_task(place, left=(), over=(THREW, statement[1]))
+        elif word in ("return", "throw", "check"):
+            over = self.over_by(statement, self.graph.tasks[place].token, requested)
+            yield state.with_task(place, left=(), over=over) if over else passed
+        elif word in ("if", "when"):
+            yield state.with_task(place, left=self.chosen(state, place, statement) + more)
+        else:
+            yield self.acted(passed, place, statement)
+
+    def over_by(self, statement: tuple, own: str | None, requested):
+        """How the body is over by this statement, or None."""
+        if statement[0] == "return":
+            return RETURNED
+        if statement[0] == "throw":
+            return (THREW, None)
+        if statement[1] not in requested:
+            return None
+        return ACKNOWLEDGED if statement[1] == own else (THREW, None)
+
+    def chosen(self, state: State, place: int, statement: tuple) -> tuple:
+        """The list of statements that a branch takes."""
+        word, what, first, second = statement
+        if word == "if":
+            return first if self.inputs[what] else second
+        subject = self.subject(state, place)
+        return first if subject is not None and state.tasks[subject].final == what else second
+
+    def acted(self, passed: State, place: int, statement: tuple) -> State:
+        """A statement that requests, starts or observes was passed."""
+        word = statement[0]
+        if word == "cancel":
+            return passed._replace(asked=passed.asked | {statement[1]})
+        if word == "start":
+            return passed.with_task(self.graph.places[statement[1]], phase=READY)
+        subject = self.subject(passed, place)
+        carried = () if subject is None else passed.tasks[subject].carried
+        return passed._replace(seen=passed.seen.union(carried))
+
+    # ---- how tasks end
+
+    def subject(self, state: State, place: int) -> int | None:
+        """Whose end and exceptions a continuation sees: its antecedent, or the winner where that is a WhenAny task."""
+        after = self.graph.tasks[place].after
+        if after is None or self.graph.tasks[after].kind != "any":
+            return after
+        return state.tasks[after].winner
+
+    def is_alone(self, state: State, place: int) -> bool:
+        """Each attached child that was started has ended."""
+        return all(state.tasks[it].phase in (CREATED, ENDED) for it in self.graph.attached[place])
+
+    def gathered(self, state: State, atoms: tuple[int, ...], tasks) -> tuple[int, ...]:
+        """These exceptions, then what these tasks carry, each once."""
+        carried = (atom for it in tasks for atom in state.tasks[it].carried)
+        return tuple(dict.fromkeys((*atoms, *carried)))
+
+    def body_ended(self, state: State, place: int) -> State:
+        """The body is over and the task's attached children have ended."""
+        over = state.tasks[place].over
+        atoms = self.gathered(state, (place,) if over[0] == THREW else (), self.graph.attached[place])
+        final = FAULTED if atoms else CANCELED if over == ACKNOWLEDGED else RAN
+        return self.ended(state, place, final, atoms)
+
+    def ended(self, state: State, place: int, final: str, carried: tuple[int, ...] = ()) -> State:
+        """The task ends, and wins the WhenAny tasks none of whose tasks has ended before."""
+        after = state.with_task(place, phase=ENDED, final=final, carried=carried)
+        for other in self.graph.having("any"):
+            if place in self.graph.tasks[other].of and after.tasks[other].winner is None:
+                after = after.with_task(other, winner=place)
+        return after
+
+    # ---- what is so
+
+    def is_settled(self, state: State, place: int) -> bool:
+        """It has ended, or is a child that isn't started and whose parent is settled."""
+        phase = state.tasks[place].phase
+        return phase == ENDED or phase == CREATED and self.is_settled(state, self.graph.parents[place])
+
+    def facts_of(self, state: State) -> Facts:
+        threw = [place for place, it in enumerate(state.tasks) if it.over and it.over[0] == THREW]
+        failed = (state.tasks[place].over[1] for place in threw)
+        return Facts(
+            tuple(it.final for it in state.tasks),
+            frozenset(place for place, it in enumerate(state.tasks) if it.has_begun),
+            self.requested(state),
+            frozenset(site for site in failed if site is not None),
+            frozenset(threw) - state.seen,
+            all(it.phase in (ENDED, CREATED) for it in state.tasks),
+        )
+
+
+def is_given(graph: Graph, facts: Facts, given) -> bool:
+    """What is given, but for inputs, is true of a run so far."""
+    if given == "no_failure":
+        return not facts.failed
+    if given == "no_request":
+        return not facts.requested
+    if "quiet" in given:
+        return given["quiet"] not in facts.requested
+    if "succeeds" in given:
+        return given["succeeds"] not in facts.failed
+    if "ended" in given:
+        return facts.finals[graph.places[given["ended"]]] in (None, *given["in"])
+    return True
+
+
+class Truth:
+    """Which claims hold in every run of a graph."""
+
+    def __init__(self, document: dict, most: int = 30_000):
+        self.graph = Graph(document)
+        values = itertools.product((False, True), repeat=len(self.graph.inputs))
+        self.all = [Runs(self.graph, dict(zip(self.graph.inputs, each)), most) for each in values]
+
+    def holds(self, claim: dict) -> bool:
+        """The claim holds in every run that agrees with what it takes as given."""
+        return all(self.holds_in(runs, claim) for runs in self.all if self.agrees(runs, claim))
+
+    def agrees(self, runs: Runs, claim: dict) -> bool:
+        """The inputs have the values that the claim takes as given."""
+        values = [it for it in claim.get("given", []) if isinstance(it, dict) and "input" in it]
+        return all(runs.inputs[it["input"]] == it["is"] for it in values)
+
+    def holds_in(self, runs: Runs, claim: dict) -> bool:
+        given = claim.get("given", [])
+        taken = lambda facts: all(is_given(self.graph, facts, it) for it in given)
+        if "after" in claim:
+            first, second = (self.graph.places[it] for it in claim["after"])
+            return all(first in it.settled for it in runs.begins if it.task == second and taken(it.facts))
+        return all(self.is_so(facts, claim) for facts in runs.facts if taken(facts))
+
+    def is_so(self, facts: Facts, claim: dict) -> bool:
+        """What a claim other than `after` says is true of a run so far."""
+        place = lambda name: self.graph.places[name]
+        if "final" in claim:
+            return facts.finals[place(claim["final"])] in (None, *claim["in"])
+        if "observed" in claim:
+            return not facts.is_complete or place(claim["observed"]) not in facts.unread
+        if "never" in claim:
+            return place(claim["never"]) not in facts.begun
+        if "runs" in claim:
+            return not facts.is_complete or place(claim["runs"]) in facts.begun
+        first, second = claim["excludes"]
+        return not {place(first), place(second)} <= facts.begun

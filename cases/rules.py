@@ -1,0 +1,491 @@
+"""When a certificate of a small graph is accepted, by the rules of docs/CERTIFICATES.md alone; and a search by these rules.
+
+For trying out what compares a checker with all runs, a mistake can be planted in the rules.
+"""
+import dataclasses
+import enum
+from typing import NamedTuple
+
+from small import CANCELED, FAULTED, FINALS, RAN, WITH_BODY, Graph
+
+RETURNED, THROWN, ACKNOWLEDGED = "returned", "thrown", "acknowledged"
+BY_BODY = {RAN: RETURNED, FAULTED: THROWN, CANCELED: ACKNOWLEDGED}
+
+
+class Mistake(enum.Enum):
+    """A mistake that can be planted in the wider rules."""
+
+    OWN_TOKEN_FOR_FINAL = "the task's own token is quiet for final"
+    OWN_TOKEN_FOR_OBSERVED = "the task's own token is quiet for observed"
+    OWN_TOKEN_FOR_RUNS = "the task's own token is quiet for runs"
+    OWN_TOKENS_FOR_EXCLUDES = "the own tokens of both tasks are quiet for excludes, though they are two"
+    RUNS_OF_CHILD = "runs is proved of a child that isn't canceled"
+    RUNS_OF_CANCELED = "runs is proved of a task that may be canceled"
+    CHILD_WITHOUT_ENDS = "no run is complete where a child can't end"
+    ONE_SUCCEEDS_FOR_ALL = "a job that succeeds is taken for all jobs"
+    ARGUMENT_LEFT_OUT = "the first argument of WhenAny is left out, though it has an end"
+    UNION_FOR_ANY = "past WhenAny stands what is past one of its arguments"
+    ENDED_AS_OTHERS = "what is given of the end of one task is taken for all tasks"
+
+
+@dataclasses.dataclass
+class Row:
+    """What a leaf says of one task."""
+
+    ends: set[str] = dataclasses.field(default_factory=set)
+    runs: bool = False
+    before: set[int] = dataclasses.field(default_factory=set)
+    past: set[int] = dataclasses.field(default_factory=set)
+    chain: list[int] = dataclasses.field(default_factory=list)
+
+
+class Branches(NamedTuple):
+    """A split: on an input, with its two trees, or on how a task ends, with its three."""
+
+    word: str
+    what: str
+    trees: tuple
+
+
+# the members of a split's trees
+MEMBERS = {"split_input": ("yes", "no"), "split_end": ("ran", "canceled", "faulted")}
+# the values of an input, in this order
+VALUES = (True, False)
+
+
+def split_on(tree: dict) -> Branches | None:
+    """The split of a tree of a document, or None for a leaf."""
+    word = next((it for it in MEMBERS if it in tree), None)
+    return Branches(word, tree[word], tuple(tree[it] for it in MEMBERS[word])) if word else None
+
+
+# ---- the paths of a body
+
+
+class Paths:
+    """What the paths of a body do: how they end, whether each that ends observes, and which children they start."""
+
+    def __init__(self, leaf, body: tuple, own: str | None, subject):
+        self.leaf, self.own, self.subject = leaf, own, subject
+        # each way to end, with whether the path has observed
+        self.endings: set[tuple[str, bool]] = set()
+        self.starts: set[int] = set()
+        self.endings |= {(RETURNED, has_observed) for has_observed in self.through(body, {False})}
+
+    @property
+    def ends(self) -> set[str]:
+        return {it for it, _ in self.endings}
+
+    @property
+    def must_observe(self) -> bool:
+        return all(has_observed for _, has_observed in self.endings)
+
+    def through(self, body: tuple, live: set[bool]) -> set[bool]:
+        """Whether the paths that pass all statements have observed, of those before them that had or hadn't."""
+        for statement in body:
+            if not live:
+                return live
+            live = self.past(statement, live)
+        return live
+
+    def end(self, how: str, live: set[bool]):
+        self.endings |= {(how, has_observed) for has_observed in live}
+
+    def past(self, statement: tuple, live: set[bool]) -> set[bool]:
+        """The paths that pass a statement."""
+        word = statement[0]
+        if word in ("if", "when"):
+            lists = [it for it, may_take in zip(statement[2:], self.choices(statement)) if may_take]
+            return set().union(*(self.through(it, live) for it in lists))
+        if word in ("return", "throw"):
+            self.end(RETURNED if word == "return" else THROWN, live)
+            return set()
+        if word == "check" and self.leaf.is_loud(statement[1]):
+            self.end(ACKNOWLEDGED if statement[1] == self.own else THROWN, live)
+        if word == "work" and statement[2] and not self.leaf.succeeds(statement[1]):
+            self.end(THROWN, live)
+        if word == "start":
+            self.starts.add(self.leaf.graph.places[statement[1]])
+        if word == "cancel" and not self.leaf.is_loud(statement[1]):
+            return set()
+        return {True} if word == "observe" else live
+
+    def choices(self, statement: tuple) -> tuple[bool, bool]:
+        """Whether a branch may take its first list and its second."""
+        word, what = statement[:2]
+        if word == "if":
+            return True in self.leaf.possible[what], False in self.leaf.possible[what]
+        return what in self.subject, bool(self.subject - {what})
+
+
+# ---- what a leaf assumes
+
+
+def own_tokens(graph: Graph, claim: dict, mistakes) -> set[str]:
+    """The own tokens that may be taken as quiet for a claim, by the wider rules."""
+    names = claim.get("after", [])[1:] or [claim[it] for it in ("never",) if it in claim]
+    mistaken = {
+        "final": Mistake.OWN_TOKEN_FOR_FINAL,
+        "observed": Mistake.OWN_TOKEN_FOR_OBSERVED,
+        "runs": Mistake.OWN_TOKEN_FOR_RUNS,
+    }
+    names += [claim[word] for word, mistake in mistaken.items() if word in claim and mistake in mistakes]
+    if "excludes" in claim:
+        both = [graph.tasks[graph.places[it]].token for it in claim["excludes"]]
+        is_one = both[0] == both[1] or Mistake.OWN_TOKENS_FOR_EXCLUDES in mistakes
+        return {it for it in both if it} if is_one else set()
+    return {it for it in (graph.tasks[graph.places[name]].token for name in names) if it}
+
+
+@dataclasses.dataclass(frozen=True)
+class Leaf:
+    """What a leaf of a certificate assumes, and by which rules it is judged."""
+
+    graph: Graph
+    possible: dict[str, frozenset[bool]]
+    quiet: frozenset[str]
+    # of each task the ends that aren't cut off
+    cut: tuple[frozenset[str], ...]
+    sure: frozenset[str]
+    is_wide: bool
+    mistakes: frozenset[Mistake]
+
+    def is_loud(self, token: str | None) -> bool:
+        return token is not None and token not in self.quiet
+
+    def succeeds(self, site: str) -> bool:
+        return site in self.sure or bool(self.sure) and Mistake.ONE_SUCCEEDS_FOR_ALL in self.mistakes
+
+    def with_input(self, name: str, value: bool):
+        return dataclasses.replace(self, possible={**self.possible, name: self.possible[name] & {value}})
+
+    def with_end(self, place: int, ends):
+        cut = [it & set(ends) if at == place else it for at, it in enumerate(self.cut)]
+        return dataclasses.replace(self, cut=tuple(cut))
+
+    def split(self, word: str, what: str):
+        """What is assumed in each branch of a split."""
+        if word == "split_input":
+            return [self.with_input(what, it) for it in VALUES]
+        return [self.with_end(self.graph.places[what], {it}) for it in FINALS]
+
+
+def assumed(graph: Graph, claim: dict, is_wide: bool, mistakes=frozenset()) -> Leaf:
+    """What a certificate assumes for a claim, before its splits."""
+    every = frozenset(FINALS)
+    leaf = Leaf(
+        graph,
+        {it: frozenset((True, False)) for it in graph.inputs},
+        frozenset(),
+        tuple(every for _ in graph.tasks),
+        frozenset(),
+        is_wide,
+        frozenset(mistakes),
+    )
+    taken = [*claim.get("given", []), *({"quiet": it} for it in own_tokens(graph, claim, mistakes) if is_wide)]
+    for given in taken:
+        leaf = with_given(leaf, given)
+    return leaf
+
+
+def with_given(leaf: Leaf, given) -> Leaf:
+    """What is assumed besides where this is given."""
+    graph = leaf.graph
+    if given == "no_failure":
+        return dataclasses.replace(leaf, sure=frozenset(graph.sites))
+    if given == "no_request":
+        return dataclasses.replace(leaf, quiet=frozenset(graph.sources))
+    if "quiet" in given:
+        return dataclasses.replace(leaf, quiet=leaf.quiet | graph.with_sources(given["quiet"]))
+    if "succeeds" in given:
+        return dataclasses.replace(leaf, sure=leaf.sure | {given["succeeds"]})
+    if "ended" in given:
+        for place in range(len(graph.tasks)) if Mistake.ENDED_AS_OTHERS in leaf.mistakes else [graph.places[given["ended"]]]:
+            leaf = leaf.with_end(place, given["in"])
+        return leaf
+    return leaf.with_input(given["input"], given["is"])
+
+
+# ---- the rules
+
+
+class Rules:
+    """The rules K1 to K6 for the rows of a leaf."""
+
+    def __init__(self, leaf: Leaf, rows: list[Row]):
+        self.leaf, self.rows, self.graph = leaf, rows, leaf.graph
+
+    def subject(self, place: int) -> set[str]:
+        """How the subject of a task may have ended."""
+        task = self.graph.tasks[place]
+        if task.after is None:
+            return set()
+        after = self.graph.tasks[task.after]
+        if after.kind == "any":
+            return set().union(*(self.rows[it].ends for it in after.of))
+        return self.rows[task.after].ends - task.excluded
+
+    def paths(self, place: int) -> Paths:
+        task = self.graph.tasks[place]
+        return Paths(self.leaf, task.body, task.token, self.subject(place))
+
+    def is_loud(self, place: int) -> bool:
+        return self.leaf.is_loud(self.graph.tasks[place].token)
+
+    def must_run(self, place: int) -> bool:
+        """What K1 asks of `runs`."""
+        task = self.graph.tasks[place]
+        if task.kind == "child":
+            parent = self.graph.parents[place]
+            return self.rows[parent].runs and place in self.paths(parent).starts
+        may_follow = task.kind == "then" and bool(self.rows[task.antecedent].ends - task.excluded)
+        return task.kind == "root" or may_follow
+
+    def must_end(self, place: int) -> set[str]:
+        """What K2 asks of `ends`."""
+        task = self.graph.tasks[place]
+        by_kind = {"all": self.all_ends, "any": self.any_ends}
+        ends = by_kind[task.kind](task.of) if task.kind in by_kind else self.own_ends(place)
+        return ends & self.leaf.cut[place]
+
+    def own_ends(self, place: int) -> set[str]:
+        """How a task with a body may end."""
+        task = self.graph.tasks[place]
+        ends: set[str] = set()
+        if self.rows[place].runs:
+            paths = self.paths(place)
+            ends |= {final for final, how in BY_BODY.items() if how in paths.ends}
+            if any(FAULTED in self.rows[it].ends for it in self.graph.attached[place] if it in paths.starts):
+                ends.add(FAULTED)
+            if task.kind != "then" and self.is_loud(place):
+                ends.add(CANCELED)
+        if task.kind == "then" and self.may_be_dropped(place):
+            ends.add(CANCELED)
+        return ends
+
+    def may_be_dropped(self, place: int) -> bool:
+        """A continuation may be canceled without its body."""
+        task = self.graph.tasks[place]
+        before = self.rows[task.antecedent].ends
+        return self.is_loud(place) and (not task.is_lazy or bool(before)) or bool(before & task.excluded)
+
+    def all_ends(self, of) -> set[str]:
+        each, ends = [self.rows[it].ends for it in of], set()
+        if all(RAN in it for it in each):
+            ends.add(RAN)
+        if all(it - {FAULTED} for it in each) and any(CANCELED in it for it in each):
+            ends.add(CANCELED)
+        if all(each) and any(FAULTED in it for it in each):
+            ends.add(FAULTED)
+        return ends
+
+    def any_ends(self, of) -> set[str]:
+        return {RAN} if any(self.rows[it].ends for it in of) else set()
+
+    def may_stand_before(self, place: int) -> set[int]:
+        """What K3 allows in `before`."""
+        task, every = self.graph.tasks[place], set(range(len(self.rows)))
+        if not self.rows[place].runs or task.kind in ("all", "any"):
+            return every
+        if task.kind == "child":
+            return self.rows[self.graph.parents[place]].before
+        return {task.antecedent} | self.rows[task.antecedent].past if task.kind == "then" else set()
+
+    def may_stand_past(self, place: int) -> set[int]:
+        """What K4 and K5 allow in `past`."""
+        task, below = self.graph.tasks[place], self.graph.below(place)
+        if task.kind in ("all", "any"):
+            return self.past_many(task)
+        if task.kind == "child":
+            return self.rows[self.graph.parents[place]].before | below
+        is_early = self.is_loud(place) and not task.is_lazy and CANCELED in self.rows[place].ends
+        if task.kind == "root" or is_early:
+            return below
+        return {task.antecedent} | self.rows[task.antecedent].past | below
+
+    def past_many(self, task) -> set[int]:
+        """What may stand past WhenAll and WhenAny."""
+        of = list(task.of)
+        if task.kind == "any" and Mistake.ARGUMENT_LEFT_OUT in self.leaf.mistakes:
+            of = of[1:] or of
+        if task.kind == "any" and self.leaf.is_wide:
+            of = [it for it in of if self.rows[it].ends]
+        each = [{it} | self.rows[it].past for it in of]
+        is_union = task.kind == "all" or Mistake.UNION_FOR_ANY in self.leaf.mistakes
+        if is_union:
+            return set().union(*each)
+        return set.intersection(*each) if each else set(range(len(self.rows)))
+
+    def takes_over(self, place: int) -> list[int]:
+        """The tasks that take over what a task carries."""
+        parents = [it for it, attached in enumerate(self.graph.attached) if place in attached]
+        return [*parents, *(it for it in self.graph.having("all") if place in self.graph.tasks[it].of)]
+
+    def reads(self, reader: int, place: int) -> bool:
+        """A continuation reads the exception of the task wherever that is faulted."""
+        task = self.graph.tasks[reader]
+        is_next = task.kind == "then" and task.after == place and task.may_follow(FAULTED) and not self.is_loud(reader)
+        return is_next and Paths(self.leaf, task.body, task.token, {FAULTED}).must_observe
+
+    def is_chain(self, place: int, chain: list[int]) -> bool:
+        """What K6 asks of `chain`."""
+        if not chain:
+            return True
+        *between, last = chain
+        for it in between:
+            if it not in self.takes_over(place):
+                return False
+            place = it
+        return self.reads(last, place)
+
+    def broken(self) -> tuple[int, str] | None:
+        """The first task whose row breaks a rule, and the rule."""
+        for place, row in enumerate(self.rows):
+            kept = {
+                "K1": row.runs or not self.must_run(place),
+                "K2": self.must_end(place) <= row.ends,
+                "K3": row.before <= self.may_stand_before(place) or not row.runs,
+                "K4": row.past <= self.may_stand_past(place),
+                "K6": self.is_chain(place, row.chain),
+            }
+            rule = next((it for it, is_kept in kept.items() if not is_kept), None)
+            if rule:
+                return place, "K5" if rule == "K4" and self.graph.tasks[place].kind in ("all", "any") else rule
+        return None
+
+    # ---- what a closed leaf proves
+
+    def proves(self, claim: dict) -> bool:
+        place = lambda name: self.graph.places[name]
+        if "final" in claim:
+            return self.rows[place(claim["final"])].ends <= set(claim["in"])
+        if "after" in claim:
+            first, second = map(place, claim["after"])
+            return not self.rows[second].runs or first in self.rows[second].before
+        if "observed" in claim:
+            return self.proves_observed(place(claim["observed"]))
+        if "runs" in claim:
+            return self.proves_runs(place(claim["runs"]))
+        names = [claim["never"]] if "never" in claim else claim["excludes"]
+        return not all(self.rows[place(it)].runs for it in names)
+
+    def proves_observed(self, place: int) -> bool:
+        row = self.rows[place]
+        is_calm = FAULTED not in row.ends or not row.runs or THROWN not in self.paths(place).ends
+        return bool(row.chain) or is_calm or self.leaf.is_wide and self.is_none_complete()
+
+    def proves_runs(self, place: int) -> bool:
+        mistakes = self.leaf.mistakes
+        kinds = WITH_BODY if Mistake.RUNS_OF_CHILD in mistakes else ("root", "then")
+        is_sure = CANCELED not in self.rows[place].ends or Mistake.RUNS_OF_CANCELED in mistakes
+        return self.graph.tasks[place].kind in kinds and is_sure or self.is_none_complete()
+
+    def is_none_complete(self) -> bool:
+        """A task that has to end can't: so no run is complete."""
+        has_to_end = lambda task: task.kind != "child" or Mistake.CHILD_WITHOUT_ENDS in self.leaf.mistakes
+        return any(has_to_end(task) and not row.ends for task, row in zip(self.graph.tasks, self.rows))
+
+
+# ---- the least rows, and a search
+
+
+def least(leaf: Leaf) -> list[Row]:
+    """The rows with the least `ends` and `runs` and the greatest `before` and `past`, and a chain wherever there is one."""
+    rows = [Row() for _ in leaf.graph.tasks]
+    rules = Rules(leaf, rows)
+    is_new = True
+    while is_new:
+        is_new = False
+        for place, row in enumerate(rows):
+            runs, ends = row.runs or rules.must_run(place), row.ends | rules.must_end(place)
+            is_new = is_new or (runs, ends) != (row.runs, row.ends)
+            row.runs, row.ends = runs, ends
+    for place, row in enumerate(rows):
+        row.before = set(rules.may_stand_before(place))
+        row.past = set(rules.may_stand_past(place))
+        row.chain = chain_of(rules, place) or []
+    return rows
+
+
+def chain_of(rules: Rules, place: int) -> list[int] | None:
+    """A shortest chain from a task to a reader of its exception."""
+    chains, known = [[place]], {place}
+    while chains:
+        *_, last = chain = chains.pop(0)
+        reader = next((it for it in rules.graph.having("then") if rules.reads(it, last)), None)
+        if reader is not None:
+            return [*chain[1:], reader]
+        chains += [[*chain, it] for it in rules.takes_over(last) if it not in known]
+        known.update(rules.takes_over(last))
+    return None
+
+
+def row_text(graph: Graph, row: Row) -> dict:
+    """A row as a document has it."""
+    names = lambda places: [graph.tasks[it].name for it in places]
+    return {
+        "before": names(sorted(row.before)),
+        "chain": names(row.chain),
+        "ends": [it for it in FINALS if it in row.ends],
+        "past": names(sorted(row.past)),
+        "runs": row.runs,
+    }
+
+
+def row_of(graph: Graph, said: dict) -> Row:
+    """A row of a document."""
+    places = lambda member: [graph.places[it] for it in said.get(member, [])]
+    return Row(set(said["ends"]), said["runs"], set(places("before")), set(places("past")), places("chain"))
+
+
+def search(leaf: Leaf, claim: dict, depth: int, used=frozenset()) -> dict | None:
+    """A tree with at most so many splits on a path that proves the claim, or None."""
+    rows = least(leaf)
+    if Rules(leaf, rows).proves(claim):
+        return {"rows": [row_text(leaf.graph, it) for it in rows]}
+    if not depth:
+        return None
+    splits = [("split_input", it) for it in leaf.graph.inputs] + [("split_end", it.name) for it in leaf.graph.tasks]
+    for word, what in splits:
+        if (word, what) not in used:
+            trees = searched(leaf.split(word, what), claim, depth - 1, used | {(word, what)})
+            if trees:
+                return {word: what, **dict(zip(MEMBERS[word], trees))}
+    return None
+
+
+def searched(leaves, claim: dict, depth: int, used) -> list[dict] | None:
+    """A tree for each of these leaves, or None."""
+    trees = []
+    for leaf in leaves:
+        tree = search(leaf, claim, depth, used)
+        if tree is None:
+            return None
+        trees.append(tree)
+    return trees
+
+
+# ---- what is said of a certificate
+
+
+def leaves_of(leaf: Leaf, tree: dict):
+    """The leaves of a tree from left to right: what each assumes, and its rows."""
+    split = split_on(tree)
+    if split is None:
+        yield leaf, [row_of(leaf.graph, it) for it in tree["rows"]]
+        return
+    for branch, below in zip(leaf.split(split.word, split.what), split.trees):
+        yield from leaves_of(branch, below)
+
+
+def verdict(graph: Graph, claim: dict, tree: dict, is_wide: bool, mistakes=frozenset()) -> str:
+    """What `check` answers to a document with this claim and this tree alone."""
+    for number, (leaf, rows) in enumerate(leaves_of(assumed(graph, claim, is_wide, mistakes), tree), 1):
+        rules = Rules(leaf, rows)
+        fault = rules.broken()
+        if fault:
+            place, rule = fault
+            return f"refused: not closed claim 1 leaf {number} task {graph.tasks[place].name} rule {rule}"
+        if not rules.proves(claim):
+            return f"refused: claim 1 leaf {number}"
+    return "accepted"

@@ -1,0 +1,275 @@
+#!/usr/bin/env python3
+"""Compares what the program answers to small graphs with all their runs.
+
+Graphs are drawn by chance, and claims of each kind about them, with each kind of given. All runs of a graph are gone through
+(every_run.py), and the rules of certificates are tried out beside (rules.py). Then it has to be so that
+
+- the program accepts a certificate exactly where the rules do, and says the same of one that it refuses: the best that the
+  rules permit, and such in which a row is another;
+- `analyse` finds one exactly where the rules have one, and it is accepted;
+- a claim whose certificate is accepted holds in all runs, and no run in which it fails is found by `refute`;
+- each run that is found, or made by `run`, is one of them.
+
+With --mistake a mistake is planted in the rules, and the program isn't asked: it is counted how often a claim that doesn't
+hold gets a certificate. The last line is what was counted; the exit status is 1 where something isn't as it has to be.
+"""
+import argparse
+import collections
+import copy
+import itertools
+import json
+import pathlib
+import random
+import re
+import sys
+from typing import NamedTuple
+
+from chance import Wide
+from every_run import TooManyStates, Truth
+from graphs import FINALS
+from harness import TOP, Program
+from rules import Mistake, assumed, least, row_text, search, split_on, verdict
+from small import Graph
+
+GRAPHS, SEED, TASKS = 60, 0, (2, 6)
+# splits on a path of what is searched for
+DEPTH = 1
+# graphs with more states are passed over
+STATES = 20_000
+# of each graph: claims for which `analyse` and `refute` are asked, and certificates with another row for each claim
+ASKED, CHANGED = 4, 2
+# how many runs are tried for a claim that may be true
+FEW = "300"
+# the newest version, and the one before it, which has neither `runs` nor the new kinds of given
+VERSIONS = (3, 2)
+
+
+class Small(Wide):
+    """A small graph with claims of each kind."""
+
+    def claims(self, version: int) -> list[dict]:
+        """Claims of each kind about each of the tasks, each with something given or nothing."""
+        every = [task["name"] for task in self.tasks]
+        bodies = [task["name"] for task in self.having("root", "then", "child")]
+        said = [{"final": it, "in": self.chance.sample(FINALS, self.chance.randint(1, 2))} for it in every]
+        said += [{"after": [a, b]} for a in every for b in bodies if a != b]
+        said += [{word: it} for it in bodies for word in ("observed", "never", *(["runs"] if version > 2 else []))]
+        said += [{"excludes": [a, b]} for a, b in itertools.combinations(bodies, 2)]
+        return [self.given(claim, version) for claim in said]
+
+    def given(self, claim: dict, version: int) -> dict:
+        """The claim, with nothing given in half of the cases."""
+        kinds = self.kinds_of_given(version)
+        given = self.chance.sample(kinds, min(len(kinds), self.chance.choice((0, 0, 1, 1, 2))))
+        return {"given": given, **claim} if given else claim
+
+    def kinds_of_given(self, version: int) -> list:
+        """What may be given in this version, each input, token, task and job once."""
+        chance = self.chance
+        kinds: list = [{"input": it, "is": chance.random() < 0.5} for it in self.inputs]
+        kinds += [{"quiet": it} for it in self.tokens]
+        if version > 2:
+            kinds += [{"ended": it["name"], "in": chance.sample(FINALS, chance.randint(1, 2))} for it in self.tasks]
+            kinds += [{"succeeds": f"S{number}"} for number in range(1, self.sites + 1)]
+            kinds += ["no_failure", "no_request"]
+        return kinds
+
+
+class Asked(NamedTuple):
+    """A claim about a graph, in a version of documents, with a tree for it."""
+
+    document: dict
+    tree: dict
+
+    @property
+    def claim(self) -> dict:
+        return self.document["claims"][0]
+
+    @property
+    def is_wide(self) -> bool:
+        return self.document["version"] > 2
+
+    def verdict(self, graph: Graph) -> str:
+        """What the rules say."""
+        return verdict(graph, self.claim, self.tree, self.is_wide)
+
+    def text(self) -> str:
+        return json.dumps({**self.document, "certificate": [self.tree]}, separators=(",", ":"))
+
+
+def documents(drawn: Small, versions=VERSIONS) -> list[dict]:
+    """A document for each claim about the graph, in each version."""
+    return [{**drawn.document(claim), "version": version} for version in versions for claim in drawn.claims(version)]
+
+
+def best_tree(graph: Graph, document: dict, depth: int) -> dict:
+    """The tree that the rules have for the claim; where they have none, the leaf with the best rows."""
+    (claim,) = document["claims"]
+    leaf = assumed(graph, claim, document["version"] > 2)
+    return search(leaf, claim, depth) or {"rows": [row_text(graph, it) for it in least(leaf)]}
+
+
+def changed(chance: random.Random, drawn: Small, tree: dict) -> dict:
+    """The tree with another row in one of its leaves."""
+    tree = leaf = copy.deepcopy(tree)
+    while (split := split_on(leaf)) is not None:
+        leaf = chance.choice(split.trees)
+    row = chance.choice(leaf["rows"])
+    member = chance.choice(["ends", "ends", "runs", "before", "past", "chain"])
+    if member == "runs":
+        row["runs"] = not row["runs"]
+    else:
+        names = FINALS if member == "ends" else [task["name"] for task in drawn.tasks]
+        one = chance.choice(names)
+        row[member] = [it for it in row[member] if it != one] if one in row[member] else [*row[member], one]
+    return tree
+
+
+class Comparison:
+    """What was counted, and what isn't as it has to be."""
+
+    def __init__(self, program: Program | None, depth: int = DEPTH, states: int = STATES):
+        self.program, self.depth, self.states = program, depth, states
+        self.counts: collections.Counter[str] = collections.Counter()
+        self.wrong: list[str] = []
+
+    def compare(self, number: int):
+        """Compares what is said of the graph of a number, with claims of both versions."""
+        chance = random.Random(number)
+        drawn = Small(chance, *TASKS)
+        each = documents(drawn)
+        try:
+            truth = Truth(each[0], self.states)
+        except TooManyStates:
+            self.counts["too large"] += 1
+            return
+        self.counts["graphs"] += 1
+        asked = [Asked(document, best_tree(truth.graph, document, self.depth)) for document in each]
+        others = [Asked(it.document, changed(chance, drawn, it.tree)) for it in asked for _ in range(CHANGED)]
+        self.compare_certificates(truth, [*asked, *others])
+        self.compare_versions(truth.graph, asked)
+        for it in chance.sample(asked, min(len(asked), ASKED)) if self.program else []:
+            self.compare_search(truth, it)
+            self.compare_refutation(truth, it)
+        if self.program:
+            self.compare_run(truth, drawn)
+
+    def tell(self, what: str, *more):
+        self.counts["wrong"] += 1
+        self.wrong.append(" ".join(map(str, (what, *more))))
+
+    def compare_certificates(self, truth: Truth, asked: list[Asked]):
+        """`check` answers as the rules do, and what is accepted holds in all runs."""
+        answers = [it.verdict(truth.graph) for it in asked]
+        said = self.checked(asked) if self.program else answers
+        for it, wanted, answer in zip(asked, answers, said):
+            self.counts["certificates"] += 1
+            self.counts["accepted"] += answer == "accepted"
+            if answer != wanted:
+                self.tell("check says", answer, "and the rules say", wanted, "of", it.text())
+            if "accepted" in (answer, wanted) and not truth.holds(it.claim):
+                self.tell("accepted, and there is a run in which it fails:", it.text())
+
+    def checked(self, asked: list[Asked]) -> list[str]:
+        """What `check` answers to each of the documents."""
+        assert self.program
+        answer = self.program("check", "--each", given="".join(it.text() + "\n" for it in asked))
+        lines = answer.stdout.splitlines()
+        return [line.split(" ", 2)[2] for line in lines] if len(lines) == len(asked) else [answer.stdout] * len(asked)
+
+    def compare_versions(self, graph: Graph, asked: list[Asked]):
+        """What is accepted in version 2 is accepted in version 3, with the same certificate."""
+        narrow = [it for it in asked if not it.is_wide and it.verdict(graph) == "accepted"]
+        wider = [Asked({**it.document, "version": 3}, it.tree) for it in narrow]
+        said = self.checked(wider) if self.program else [it.verdict(graph) for it in wider]
+        for it, answer in zip(wider, said):
+            if answer != "accepted":
+                self.tell("accepted in version 2 and not in version 3:", it.text())
+
+    def compare_search(self, truth: Truth, asked: Asked):
+        """`analyse` finds a certificate exactly where the rules have one."""
+        assert self.program
+        answer = self.program("analyse", "--depth", str(self.depth), given=json.dumps(asked.document))
+        is_there = asked.verdict(truth.graph) == "accepted"
+        self.counts["searched"] += 1
+        if answer.exit == 1 and not is_there:
+            return
+        if answer.exit != 0 or not is_there:
+            self.tell("analyse says", answer.stdout, "and the rules have", asked.tree, "for", asked.text())
+            return
+        (tree,) = json.loads(answer.stdout)
+        found = Asked(asked.document, tree)
+        if found.verdict(truth.graph) != "accepted" or self.checked([found]) != ["accepted"]:
+            self.tell("found, and not accepted:", found.text())
+        if not truth.holds(asked.claim):
+            self.tell("found, and there is a run in which it fails:", found.text())
+
+    def compare_refutation(self, truth: Truth, asked: Asked):
+        """`refute` finds a run only of a claim that doesn't hold in all runs, and `audit` says the same of that run."""
+        assert self.program
+        answer = self.program("refute", "--claim", "1", "--runs", FEW, given=json.dumps(asked.document))
+        self.counts["refuted"] += answer.exit
+        if answer.exit == 0:
+            return
+        audit = self.program("audit", given=answer.stdout)
+        if truth.holds(asked.claim) or "claim 1 fails" not in audit.stdout:
+            self.tell("refuted", answer.stdout, "which", audit.stdout)
+
+    def compare_run(self, truth: Truth, drawn: Small):
+        """`run` makes one of the runs: so the tasks end in one of them, and the same exceptions aren't observed."""
+        assert self.program
+        start = drawn.start()
+        text = json.dumps(drawn.document(start=start))
+        report = self.program("run", "--workers", "3", given=text).stdout
+        ends = re.findall(r"(?m)^task \w+ (\w+)", report)
+        finals = tuple(it if it in FINALS else None for it in ends)
+        unread = frozenset(truth.graph.places[it] for it in re.findall(r"(?m)^unobserved (\w+):", report))
+        each = (facts for runs in truth.all if runs.inputs == start["inputs"] for facts in runs.facts)
+        if not any(it.is_complete and (it.finals, it.unread) == (finals, unread) for it in each):
+            self.tell("no run ends as that of `run`:", report, "of", text)
+
+
+def mistaken(number: int, mistake: Mistake, depth: int = DEPTH, states: int = STATES) -> dict | None:
+    """A document with a claim that doesn't hold about the graph of a number and a certificate for it, by rules in which there
+    is a mistake; None where it has none."""
+    drawn = Small(random.Random(number), *TASKS)
+    each = documents(drawn, (3,))
+    try:
+        truth = Truth(each[0], states)
+    except TooManyStates:
+        return None
+    for document in each:
+        (claim,) = document["claims"]
+        if truth.holds(claim):
+            continue
+        tree = search(assumed(truth.graph, claim, True, {mistake}), claim, depth)
+        if tree and verdict(truth.graph, claim, tree, True, {mistake}) == "accepted":
+            return {**document, "certificate": [tree]}
+    return None
+
+
+def main() -> int:
+    parser = argparse.ArgumentParser(description=__doc__, formatter_class=argparse.RawDescriptionHelpFormatter)
+    parser.add_argument("--program", type=pathlib.Path, default=TOP / "taskgraph", help="the script taskgraph, if none is named")
+    parser.add_argument("--graphs", type=int, default=GRAPHS, help="how many graphs (%(default)s)")
+    parser.add_argument("--seed", type=int, default=SEED, help="the number of the first graph (%(default)s)")
+    parser.add_argument("--depth", type=int, default=DEPTH, help="splits on a path of what is searched for (%(default)s)")
+    parser.add_argument("--states", type=int, default=STATES, help="pass over graphs with more states (%(default)s)")
+    parser.add_argument("--alone", action="store_true", help="compare the rules with all runs, and don't ask the program")
+    parser.add_argument("--mistake", choices=[it.name for it in Mistake], help="plant this mistake in the rules")
+    given = parser.parse_args()
+    numbers = range(given.seed, given.seed + given.graphs)
+    if given.mistake:
+        found = [it for it in numbers if mistaken(it, Mistake[given.mistake], given.depth, given.states)]
+        print(f"of {given.graphs} graphs {len(found)} show the mistake" + (f", first {found[0]}" if found else ""))
+        return 0 if found else 1
+    comparison = Comparison(None if given.alone else Program(given.program), given.depth, given.states)
+    for number in numbers:
+        comparison.compare(number)
+    print(*comparison.wrong, sep="\n")
+    print(", ".join(f"{count} {what}" for what, count in sorted(comparison.counts.items())))
+    return 1 if comparison.wrong else 0
+
+
+if __name__ == "__main__":
+    sys.exit(main())

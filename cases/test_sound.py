@@ -1,0 +1,94 @@
+"""What the program says of small graphs is compared with all their runs, as sound.py does.
+
+Each mistake that is planted in the rules shows in one of the graphs: a claim that doesn't hold gets a certificate, which the
+program refuses. `./sound.py --mistake` says which graphs show it.
+"""
+import json
+
+import pytest
+
+from every_run import Runs, Truth
+from rules import Mistake, verdict
+from small import Graph
+from sound import Comparison, mistaken
+
+# how many graphs are compared
+DRAWN = 30
+# a graph that shows each mistake
+SHOWN = {
+    Mistake.OWN_TOKEN_FOR_FINAL: 3,
+    Mistake.OWN_TOKEN_FOR_OBSERVED: 39,
+    Mistake.OWN_TOKEN_FOR_RUNS: 3,
+    Mistake.OWN_TOKENS_FOR_EXCLUDES: 193,
+    Mistake.RUNS_OF_CHILD: 8,
+    Mistake.RUNS_OF_CANCELED: 3,
+    Mistake.CHILD_WITHOUT_ENDS: 21,
+    Mistake.ONE_SUCCEEDS_FOR_ALL: 7,
+    Mistake.ARGUMENT_LEFT_OUT: 3,
+    Mistake.UNION_FOR_ANY: 3,
+    Mistake.ENDED_AS_OTHERS: 3,
+}
+
+
+@pytest.mark.drawn(DRAWN)
+def test_drawn_graph(program, number: int):
+    comparison = Comparison(program)
+    comparison.compare(number)
+    assert comparison.wrong == []
+
+
+@pytest.mark.parametrize("mistake", Mistake, ids=lambda it: it.name)
+def test_mistake_shows(program, mistake: Mistake):
+    document = mistaken(SHOWN[mistake], mistake)
+    assert document, "no claim that doesn't hold has a certificate"
+    (claim,), (tree,) = document["claims"], document["certificate"]
+    graph = Graph(document)
+    assert verdict(graph, claim, tree, True, {mistake}) == "accepted"
+    said = verdict(graph, claim, tree, True)
+    answer = program("check", given=json.dumps(document))
+    assert said.startswith("refused: ") and (answer.stdout, answer.exit) == (f"{said}\n", 1)
+
+
+# ---- how runs are gone through
+
+
+def document(*tasks: dict, tokens=(), inputs=()) -> dict:
+    return {"version": 3, "inputs": list(inputs), "tokens": list(tokens), "tasks": list(tasks)}
+
+
+def root(name: str, *body, **more) -> dict:
+    return {"name": name, "kind": "root", "body": list(body), **more}
+
+
+def test_states_are_counted():
+    """A root that returns is ready, running before and behind its statement, or has ended; of two each stands in one of four."""
+    one, other = root("A", "return"), root("B", "return")
+    assert Runs(Graph(document(one)), {}, 100).count == 4
+    assert Runs(Graph(document(one, other)), {}, 100).count == 16
+
+
+def test_a_token_is_requested_at_any_moment():
+    """Requested before the task begins it cancels it; behind that it doesn't, since the body checks nothing."""
+    (runs,) = Truth(document(root("A", token="k"), tokens=["k"])).all
+    ends = {(it.finals, it.begun, it.requested) for it in runs.facts if it.is_complete}
+    ran, begun, asked = ("RanToCompletion",), frozenset([0]), frozenset("k")
+    assert ends == {(ran, begun, frozenset()), (ran, begun, asked), (("Canceled",), frozenset(), asked)}
+
+
+def test_claims_hold_or_fail():
+    """Worked out by hand, of a job that may fail and a task that follows a failure."""
+    after = {"name": "X", "kind": "then", "after": "A", "body": ["observe"], "options": ["OnlyOnFaulted"]}
+    truth = Truth(document(root("A", {"work": "a", "may_fail": True}), after))
+    faulted, calm = {"given": [{"ended": "A", "in": ["Faulted"]}]}, {"given": ["no_failure"]}
+    hold = [{"after": ["A", "X"]}, {"observed": "A"}, {"runs": "A"}, {**faulted, "runs": "X"}, {**calm, "never": "X"}]
+    fail = [{"runs": "X"}, {"never": "X"}, {**calm, "runs": "X"}, {**faulted, "never": "A"}, {"excludes": ["A", "X"]}]
+    assert [truth.holds(it) for it in hold] == [True] * len(hold)
+    assert [truth.holds(it) for it in fail] == [False] * len(fail)
+
+
+def test_inputs_have_each_value():
+    body = {"if": "dry", "then": [{"throw": "no"}], "else": []}
+    truth = Truth(document(root("A", body), inputs=["dry"]))
+    ran, faulted = {"final": "A", "in": ["RanToCompletion"]}, {"final": "A", "in": ["Faulted"]}
+    wet, dry = ({"given": [{"input": "dry", "is": it}]} for it in (False, True))
+    assert [truth.holds(it) for it in (ran, {**wet, **ran}, {**dry, **faulted}, {**dry, **ran})] == [False, True, True, False]
