@@ -9,11 +9,10 @@ use Rattle.tpl_words.specs.declared.status.Label.{Label}
 use Rattle.tpl_words.proofs.Truths.{true_false}
 use Rattle.std.proofs.lemmas.Bool.{cases_Bool}
 use Rattle.tpl_script.specs.declared.outcome.Outcome.TheVariants.{Threw}
-use Rattle.tpl_script.specs.Paths.{Known, MayThrow}
 use Rattle.tpl_model.specs.declared.event.Event.{Event}
 use Rattle.tpl_model.specs.declared.claim.Given.{Given}
 use Rattle.tpl_model.specs.declared.claim.Property.TheVariants.{Final as EndsIn}
-use Rattle.tpl_model.specs.Graph.{TaskGraph, body, task}
+use Rattle.tpl_model.specs.Graph.{TaskGraph, body}
 use Rattle.tpl_model.specs.Facts.{ending, final_in, outcome_in, rest}
 use Rattle.tpl_model.specs.Rules.{label}
 use Rattle.tpl_model.specs.Valid.{IsGraph}
@@ -28,47 +27,45 @@ use Rattle.tpl_laws.proofs.Carrying.{carries_faulted}
 use Rattle.tpl_laws.proofs.Chains.{carries_own, threw_begun, begun_ends}
 use Rattle.tpl_laws.proofs.Observing.{label_verdict}
 use Rattle.tpl_laws.proofs.MainTheorem.{given_agrees}
-use Rattle.tpl_verify.specs.Verdicts.{HoldsAlways, HasNoLabel, under}
-
--- no more is known than is true of each run in which this is given, whatever the subject does
-pub record KnowsGiven (wide : Bool) (g : TaskGraph) (given : List Given) (t : ℕ) (w : Known) : Type 0 where
-  pub own : w.own ≡ (task g t).token
-  pub possible : w.possible ≡ (assumed wide g given).possible
-  pub quiet : w.quiet ≡ (assumed wide g given).quiet
-  pub sure : w.sure ≡ (assumed wide g given).sure
-  pub subject : (f : Final) → w.subject f ≡ true
+use Rattle.tpl_verify.specs.Verdicts.{HoldsAlways, HasNoLabel, ThrowsNowhere, each_end, known_under, under}
 
 -- each way to end is one of these
-pub each_end : (f : Final) → has (record { ran = true; canceled = true; faulted = true }) f ≡ true
-each_end RanToCompletion = refl
-each_end Canceled = refl
-each_end Faulted = refl
+each_end_in : (f : Final) → has each_end f ≡ true
+each_end_in RanToCompletion = refl
+each_end_in Canceled = refl
+each_end_in Faulted = refl
 
 pub not_both : (b : Bool) → IsTrue (not b) → IsTrue b → ⊥
 not_both true n b = cc
 not_both false n b = cc
 
+pub not_true : (b : Bool) → (IsTrue b → ⊥) → IsTrue (not b)
+not_true true never = absurd (never refl)
+not_true false never = refl
+
 no_label : (o : Option Label) → ((lb : Label) → o ≡ Some lb → ⊥) → o ≡ None
 no_label None none = refl
 no_label (Some lb) none = absurd (none lb refl)
 
-known_fits : (wide : Bool) (g : TaskGraph) (given : List Given) (t : ℕ) (w : Known) (v : List Bool) (h : List Event) → KnowsGiven wide g given t w → IsGiven g v h given → Fits g v h t w
-known_fits wide g given t w v h knows is =
+-- what is known is true of each run in which this is given
+known_fits : (wide : Bool) (g : TaskGraph) (given : List Given) (t : ℕ) (v : List Bool) (h : List Event) → IsGiven g v h given → Fits g v h t (known_under wide g given t)
+known_fits wide g given t v h is =
     let agrees = given_agrees wide g v h given is in
     record {
-      own = knows.own;
-      inputs = λ i. subst (λ (p : ℕ → Bool → Bool). p i (input v i) ≡ true) (sym knows.possible) (agrees.inputs i);
-      quiet = λ k r. subst (λ (q : ℕ → Bool). q k ≡ false) (sym knows.quiet) (elim (cases_Bool ((assumed wide g given).quiet k)) [ inl q ↦ true_false (sym r ∙ agrees.quiet k q) | inr q ↦ q ]);
-      subject = λ s f e q. knows.subject f;
-      jobs = λ site e. subst (λ (q : ℕ → Bool). q site ≡ false) (sym knows.sure) (elim (cases_Bool ((assumed wide g given).sure site)) [ inl q ↦ true_false (sym e ∙ agrees.jobs site q) | inr q ↦ q ]);
+      own = refl;
+      inputs = λ i. agrees.inputs i;
+      quiet = λ k r. elim (cases_Bool ((assumed wide g given).quiet k)) [ inl q ↦ true_false (sym r ∙ agrees.quiet k q) | inr q ↦ q ];
+      subject = λ s f e q. each_end_in f;
+      jobs = λ site e. elim (cases_Bool ((assumed wide g given).sure site)) [ inl q ↦ true_false (sym e ∙ agrees.jobs site q) | inr q ↦ q ];
     }
 
 -- no path of the body throws
-pub throws_nowhere : (wide : Bool) (g : TaskGraph) (given : List Given) (t : ℕ) (w : Known) → IsGraph g → KnowsGiven wide g given t w → (MayThrow w (body g t) → ⊥) → HasNoLabel g given t
-throws_nowhere wide g given t w valid knows none v h run complete is =
+pub throws_nowhere : (wide : Bool) (g : TaskGraph) (given : List Given) (t : ℕ) → IsGraph g → ThrowsNowhere wide g given t → HasNoLabel g given t
+throws_nowhere wide g given t valid none v h run complete is =
     no_label (label g v h t) (λ lb e.
+    let w = known_under wide g given t in
     let threw = label_verdict (outcome_in (rest g v h t)) lb e in
-    none (lb, (passed g v h t, verdict_path w (body g t) (rest g v h t).outcome (rest g v h t).left (passed g v h t) (Threw lb) threw (follows g v h t w run (known_fits wide g given t w v h knows is) (has_subject_of g t valid)))))
+    none (lb, (passed g v h t, verdict_path w (body g t) (rest g v h t).outcome (rest g v h t).left (passed g v h t) (Threw lb) threw (follows g v h t w run (known_fits wide g given t v h is) (has_subject_of g t valid)))))
 
 -- the task never ends faulted
 pub never_faults : (g : TaskGraph) (given : List Given) (t : TaskId) (ends : Finals) → has ends Faulted ≡ false → HoldsAlways g (under given (EndsIn t ends)) → HasNoLabel g given t.0

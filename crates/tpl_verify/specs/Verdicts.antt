@@ -1,15 +1,18 @@
 -- What is answered of a claim: it holds, it fails, or neither is known.
-use Rattle.std.specs.Prelude.{◌≡◌, ℕ, ◌⊎◌, Bool, true, List, [], ◌∷◌, Option, None, Some, IfSome}
+use Rattle.std.specs.Prelude.{◌≡◌, ℕ, ◌⊎◌, Bool, true, List, [], ◌∷◌, Option, None, Some, IfSome, IsTrue, is_some}
 use Rattle.std.specs.List.{AllZip}
 use Rattle.tpl_words.specs.declared.ids.TaskId.{TaskId}
+use Rattle.tpl_words.specs.declared.finals.Finals.{Finals}
+use Rattle.tpl_words.specs.Finals.{has}
+use Rattle.tpl_script.specs.Paths.{Known, MayThrow}
 use Rattle.tpl_model.specs.declared.event.Event.{Event}
 use Rattle.tpl_model.specs.declared.claim.Given.{Given}
 use Rattle.tpl_model.specs.declared.claim.Property.{Property}
 use Rattle.tpl_model.specs.declared.claim.Property.TheVariants.{Final as EndsIn, After, Observed, Never, Excludes, Runs}
-use Rattle.tpl_model.specs.Graph.{TaskGraph}
+use Rattle.tpl_model.specs.Graph.{TaskGraph, body, task}
 use Rattle.tpl_model.specs.Rules.{Run, Complete, label}
 use Rattle.tpl_model.specs.Claims.{Claim, IsGiven, Holds}
-use Rattle.tpl_model.specs.Certificate.{Tree, Accepts}
+use Rattle.tpl_model.specs.Certificate.{Tree, Accepts, assumed}
 use Rattle.tpl_cert.specs.Heights.{height}
 use Rattle.tpl_refute.specs.Refuting.{Refutes}
 use Rattle.tpl_verify.specs.declared.verdict.Empty.{Empty}
@@ -50,6 +53,32 @@ EndsAnyhow body = ⊥
 abbrev pub HasNoLabel : TaskGraph → List Given → ℕ → Type 0
 HasNoLabel g given t = (v : List Bool) (h : List Event) → Run g v h → Complete g v h → IsGiven g v h given → label g v h t ≡ None
 
+-- each way to end
+abbrev pub each_end : Finals
+each_end = record { ran = true; canceled = true; faulted = true }
+
+-- what is known of the runs in which this is given, however the task's subject ended
+abbrev pub known_under : Bool → TaskGraph → List Given → ℕ → Known
+known_under wide g given t = record {
+  possible = (assumed wide g given).possible;
+  quiet = (assumed wide g given).quiet;
+  own = (task g t).token;
+  subject = has each_end;
+  sure = (assumed wide g given).sure;
+}
+
+-- no path of the task's body throws where this is given
+abbrev pub ThrowsNowhere : Bool → TaskGraph → List Given → ℕ → Type 0
+ThrowsNowhere wide g given t = MayThrow (known_under wide g given t) (body g t) → ⊥
+
+-- the claim speaks of the exception of a body of which no path throws
+abbrev pub LacksThrow : Bool → TaskGraph → Claim → Type 0
+LacksThrow wide g claim = (t : TaskId) × (claim.body ≡ Observed t) × ThrowsNowhere wide g claim.given t.0
+
+-- that the claim says nothing is seen without a certificate
+abbrev pub IsPlainlyEmpty : Bool → TaskGraph → Claim → Type 0
+IsPlainlyEmpty wide g claim = EndsAnyhow claim.body ⊎ LacksThrow wide g claim
+
 -- what is given is true of no complete run
 abbrev pub IsNeverKept : TaskGraph → List Given → Type 0
 IsNeverKept g given = (v : List Bool) (h : List Event) → Run g v h → Complete g v h → IsGiven g v h given → ⊥
@@ -61,11 +90,19 @@ IsEmpty g claim NamesAllEnds = EndsAnyhow claim.body
 IsEmpty g claim NeverThrows = (t : TaskId) × (claim.body ≡ Observed t) × HasNoLabel g claim.given t.0
 IsEmpty g claim NeverKept = IsNeverKept g claim.given
 
--- the claim holds always, by a certificate with this many splits, and where it says nothing that is certified too
+-- the claim holds always, by a certificate with this many splits; where it is said to say nothing, it does, and where
+-- that is plain, it is said
 pub record IsHeld (wide : Bool) (g : TaskGraph) (claim : Claim) (splits : ℕ) (why : Option Empty) : Type 0 where
   pub always : HoldsAlways g claim
   pub certified : IsCertified wide g claim splits
   pub empty : IfSome why (IsEmpty g claim)
+  pub plain : IsPlainlyEmpty wide g claim → IsTrue (is_some why)
+
+-- a true verdict on a claim of which it isn't asked whether it says nothing
+abbrev pub IsJudged : Bool → TaskGraph → Claim → Verdict → Type 0
+IsJudged wide g claim (verdict.Holds splits empty) = HoldsAlways g claim × IsCertified wide g claim splits
+IsJudged wide g claim (verdict.Fails run) = Refutes g claim run.inputs run.events.items
+IsJudged wide g claim (verdict.Unknown tried) = Unit {0}
 
 -- a true verdict on a claim
 abbrev pub IsVerdict : Bool → TaskGraph → Claim → Verdict → Type 0

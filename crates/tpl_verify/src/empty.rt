@@ -1,10 +1,11 @@
 //! Why a claim that holds says nothing.
 
-ghost use Rattle.std.specs.Prelude.{◌≡◌, ◌↔◌, Bool, true, IsTrue, IfOk, IfSome};
+ghost use Rattle.std.specs.Prelude.{◌≡◌, ◌↔◌, Bool, true, IsTrue, IfOk, IfSome, is_some};
 ghost use Rattle.tpl_model.specs.Graph.{is_task, kind};
 ghost use Rattle.tpl_model.specs.Rules.{to_end};
+ghost use Rattle.tpl_model.specs.Certificate.{is_wide};
 ghost use Rattle.tpl_graph.specs.Fits.{AreGivenOf, Fits};
-ghost use Rattle.tpl_verify.specs.Verdicts.{EndsAnyhow, HasNoLabel, IsEmpty, NeedsBegin};
+ghost use Rattle.tpl_verify.specs.Verdicts.{EndsAnyhow, HasNoLabel, IsEmpty, IsPlainlyEmpty, LacksThrow, NeedsBegin, ThrowsNowhere};
 
 use crate::certifying::is_certified;
 use crate::verdict::Empty;
@@ -118,9 +119,8 @@ fn lacks_begin(
 fn throws_nowhere(graph: &Graph, given: &[Given], rules: RuleSet, task: TaskId) -> bool
     requires given { AreGivenOf graph.now.graph given.now }
     requires task { is_task graph.now.graph task.0 }
-    ensures { IsTrue result → HasNoLabel graph.now.graph given.now task.0 }
+    ensures { IsTrue result ↔ ThrowsNowhere (is_wide rules) graph.now.graph given.now task.0 }
 {
-    graph.valid_law();
     let view = assumed(graph, given, rules).view(graph.own_token(task), EACH_END);
     !may(graph.body(task), &view).thrown
 }
@@ -137,9 +137,12 @@ fn never_throws(
 ) -> Result<bool, AllocError>
     requires fits { Fits graph.now.graph claim.now }
     requires task { is_task graph.now.graph task.0 }
-    ensures { IfOk result (λ never. IsTrue never
+    ensures never { IfOk result (λ never. IsTrue never
         → HasNoLabel graph.now.graph claim.now.given task.0) }
+    ensures nowhere { IfOk result (λ never.
+        ThrowsNowhere (is_wide rules) graph.now.graph claim.now.given task.0 → IsTrue never) }
 {
+    graph.valid_law();
     if throws_nowhere(graph, claim.given(), rules, task) {
         return Ok(true);
     }
@@ -157,7 +160,9 @@ fn lacks_exception(
     depth: Depth,
 ) -> Result<Option<Empty>, AllocError>
     requires { Fits graph.now.graph claim.now }
-    ensures { IfOk result (λ found. IfSome found (IsEmpty graph.now.graph claim.now)) }
+    ensures empty { IfOk result (λ found. IfSome found (IsEmpty graph.now.graph claim.now)) }
+    ensures plain { IfOk result (λ found. LacksThrow (is_wide rules) graph.now.graph claim.now
+        → IsTrue (is_some found)) }
 {
     match claim.body() {
         Property::Observed(task) => {
@@ -235,8 +240,9 @@ fn lacks_run(
     Ok(None)
 }
 
-/// Why the claim says nothing, where that is certified by trees with at most this many splits on each path. None
-/// promises nothing.
+/// Why the claim says nothing, where that is certified by trees with at most this many splits on each path. None promises
+/// only that the claim doesn't let its task end anyhow, and doesn't speak of the exception of a body of which no path throws.
+/// Out of memory is the only error.
 pub fn why_empty(
     alloc: Global,
     graph: &Graph,
@@ -245,7 +251,9 @@ pub fn why_empty(
     depth: Depth,
 ) -> Result<Option<Empty>, AllocError>
     requires { Fits graph.now.graph claim.now }
-    ensures { IfOk result (λ found. IfSome found (IsEmpty graph.now.graph claim.now)) }
+    ensures empty { IfOk result (λ found. IfSome found (IsEmpty graph.now.graph claim.now)) }
+    ensures plain { IfOk result (λ found. IsPlainlyEmpty (is_wide rules) graph.now.graph claim.now
+        → IsTrue (is_some found)) }
 {
     if ends_anyhow(claim.body()) {
         return Ok(Some(Empty::NamesAllEnds));

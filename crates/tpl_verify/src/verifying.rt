@@ -4,7 +4,7 @@ ghost use Rattle.std.specs.Prelude.{IfOk};
 ghost use Rattle.std.specs.List.{All, AllZip};
 ghost use Rattle.tpl_graph.specs.Fits.{Fits};
 ghost use Rattle.tpl_model.specs.Certificate.{is_wide};
-ghost use Rattle.tpl_verify.specs.Verdicts.{HoldsAlways, IsCertified, IsVerdict};
+ghost use Rattle.tpl_verify.specs.Verdicts.{HoldsAlways, IsCertified, IsJudged, IsVerdict};
 
 use crate::certifying::certify;
 use crate::empty::why_empty;
@@ -44,7 +44,7 @@ fn tried(
     ran_out: RanOut,
 ) -> Result<Verdict, AllocError>
     requires { Fits graph.now.graph claim.now }
-    ensures { IfOk result (IsVerdict (is_wide rules) graph.now.graph claim.now) }
+    ensures { IfOk result (IsJudged (is_wide rules) graph.now.graph claim.now) }
 {
     let sought = refute(alloc, graph, claim, effort)?;
     match sought.found {
@@ -67,7 +67,7 @@ fn certified_or_tried(
     limits: &Limits,
 ) -> Result<Verdict, AllocError>
     requires { Fits graph.now.graph claim.now }
-    ensures { IfOk result (IsVerdict (is_wide rules) graph.now.graph claim.now) }
+    ensures { IfOk result (IsJudged (is_wide rules) graph.now.graph claim.now) }
 {
     let mut budget = Budget::new(Unwatched, limits.leaves);
     match certify(alloc, graph, claim, rules, limits.depth, &mut budget) {
@@ -98,7 +98,7 @@ pub fn judge_claim(
     limits: &Limits,
 ) -> Result<Verdict, AllocError>
     requires { Fits graph.now.graph claim.now }
-    ensures { IfOk result (IsVerdict (is_wide rules) graph.now.graph claim.now) }
+    ensures { IfOk result (IsJudged (is_wide rules) graph.now.graph claim.now) }
 {
     let first = refute(alloc, graph, claim, limits.first_runs(number))?;
     match first.found {
