@@ -21,7 +21,9 @@ impl Search {
     /// Tries at most so many random runs by the numbers of this seed: for one claim these alone; where each claim is
     /// searched, a certificate is searched quickly too, and no more runs are tried for a claim that has one.
     pub fn new(claim: Option<usize>, runs: u32, seed: u64, explain: bool) -> Search
-        ensures { result.claim ≡ claim }
+        ensures claim { result.claim ≡ claim }
+        ensures limits { (result.limits.runs ≡ runs) × (result.limits.seed ≡ seed) }
+        ensures explain { result.explain ≡ explain }
     {
         let limits = match claim {
             Some(_) => Limits::of_runs(runs, seed),
