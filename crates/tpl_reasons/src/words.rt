@@ -166,7 +166,7 @@ fn one_given_text(alloc: Global, graph: &Graph, one: Given) -> Said {
         }
         Given::Ended(task, ends) => {
             let (task, ends) = (name(graph, task), ends_text(alloc, ends)?);
-            format!(in alloc; "{task} ends {ends}, if it ends")
+            format!(in alloc; "{task} ends {ends} or not at all")
         }
         Given::Succeeds(site) => {
             let site = site_name(graph, site);
