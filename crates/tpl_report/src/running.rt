@@ -133,9 +133,10 @@ fn check_and_run<R: Threads + Wait + Sync, K: Drop + Send, W: Item<K> + Send, O:
 
 /// Makes the run of a document by this many workers, 1 to 64, who call the items, one for each work statement; and
 /// writes its report. The certificate is checked first: where it is refused, the check's line is written, and nothing
-/// is run. Where the items aren't the graph's, or there aren't 1 to 64 workers, the line names that. The tokens of `start` are requested before the workers begin. Where there is no `start` and the graph has
-/// inputs, the document can't be run. Nothing is written before the report is known, and writing it takes no memory, so
-/// the line `out of memory` stands alone; after a failed write nothing more is written.
+/// is run. Where the items aren't the graph's, or there aren't 1 to 64 workers, the line names that. The tokens of
+/// `start` are requested before the workers begin. Where there is no `start` and the graph has inputs, the document
+/// can't be run. Nothing is written before the report is known, and writing it takes no memory, so that the line
+/// `out of memory` stands alone; after a failed write nothing more is written.
 pub fn serve_run<R: Threads + Wait + Sync, K: Drop + Send, W: Item<K> + Send, O: Write>(
     rt: &R,
     alloc: Global,

@@ -29,8 +29,9 @@ use tpl_words::Inputs;
 pub enum Telling<'a> {
     /// By its report.
     Report,
-    /// By the document that these bytes spell, with the inputs and the journal of the run in place of its own, as one line of
-    /// JSON. Where that would be longer than what is read, the line `too long` stands in its place.
+    /// By the document that these bytes spell, with the inputs and the journal of the run in place of its own, and without
+    /// what was seen of another run (`ended`, `times`), as one line of JSON. Where that would be longer than what is read,
+    /// the line `too long` stands in its place.
     Whole(&'a [u8]),
 }
 
