@@ -1,0 +1,4 @@
+pub mod TokenBits
+pub mod Meets
+pub mod Asks
+pub mod GatheredSoFar

@@ -1,0 +1,57 @@
+//! Facts that stay true once they are.
+
+ghost use Rattle.std.specs.Prelude.{◌≡◌, ◌&&◌, ◌||◌, false};
+ghost use Rattle.tpl_script.specs.Knowledge.{Fact};
+ghost use Rattle.tpl_paths.specs.Facts.{has_fact};
+
+use crate::token_set::TokenSet;
+use tpl_words::TaskSet;
+
+/// Facts that stay true once they are: tasks that are settled, and tokens that are requested.
+#[derive(Drop)]
+pub struct Facts {
+    pub tasks: TaskSet,
+    pub tokens: TokenSet,
+}
+
+impl Facts {
+    /// No fact.
+    pub fn none() -> Facts
+        ensures { (f : Fact) → has_fact result f ≡ false }
+    {
+        Facts {
+            tasks: TaskSet::empty(),
+            tokens: TokenSet::empty(),
+        }
+    }
+
+    /// A copy.
+    pub fn copy(&self) -> Facts
+        ensures { result ≡ self.now }
+    {
+        Facts {
+            tasks: self.tasks.copy(),
+            tokens: self.tokens,
+        }
+    }
+
+    /// The facts of either.
+    pub fn union(&self, other: &Facts) -> Facts
+        ensures { (f : Fact) → has_fact result f ≡ (has_fact self.now f || has_fact other.now f) }
+    {
+        Facts {
+            tasks: self.tasks.union(&other.tasks),
+            tokens: self.tokens.union(other.tokens),
+        }
+    }
+
+    /// The facts of both.
+    pub fn intersection(&self, other: &Facts) -> Facts
+        ensures { (f : Fact) → has_fact result f ≡ (has_fact self.now f && has_fact other.now f) }
+    {
+        Facts {
+            tasks: self.tasks.intersection(&other.tasks),
+            tokens: self.tokens.intersection(other.tokens),
+        }
+    }
+}
