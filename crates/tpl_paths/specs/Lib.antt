@@ -5,3 +5,4 @@ pub mod Reached
 pub mod Reading
 pub mod Asked
 pub mod Gathered
+pub mod Agreement

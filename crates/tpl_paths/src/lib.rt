@@ -1,6 +1,8 @@
 //! What the paths of a body know, found in one walk over it.
 #![tactic(auto)]
 
+ghost use Rattle.tpl_paths.specs.Agreement.{AgreeingReadings};
+
 mod asked;
 mod facts;
 mod gathered;
@@ -16,3 +18,8 @@ pub use knowledge::Knowledge;
 pub use reading::{ChildEnd, Reading};
 pub use token_set::TokenSet;
 pub use walk::{known_at_end, known_at_start, known_at_throw};
+
+/// Two readings that agree on the tokens of a body find the same in it.
+pub fn readings_agree()
+    ensures { AgreeingReadings }
+{}
