@@ -1,6 +1,6 @@
 //! Facts that stay true once they are.
 
-ghost use Rattle.std.specs.Prelude.{◌≡◌, ◌&&◌, ◌||◌, false};
+ghost use Rattle.std.specs.Prelude.{◌≡◌, ◌↔◌, ◌&&◌, ◌||◌, true, false, IsTrue};
 ghost use Rattle.tpl_script.specs.Knowledge.{Fact};
 ghost use Rattle.tpl_paths.specs.Facts.{has_fact};
 
@@ -53,5 +53,12 @@ impl Facts {
             tasks: self.tasks.intersection(&other.tasks),
             tokens: self.tokens.intersection(other.tokens),
         }
+    }
+    /// Each fact is one of the others.
+    pub fn is_subset(&self, other: &Facts) -> bool
+        ensures { IsTrue result ↔ ((f : Fact) → has_fact self.now f ≡ true
+            → has_fact other.now f ≡ true) }
+    {
+        self.tasks.is_subset(&other.tasks) && self.tokens.is_subset(other.tokens)
     }
 }

@@ -1,6 +1,6 @@
 //! Sets of tokens, of one size.
 
-ghost use Rattle.std.specs.Prelude.{◌≡◌, ℕ, ◌<◌, ◌&&◌, ◌||◌, nat_eq};
+ghost use Rattle.std.specs.Prelude.{◌≡◌, ◌↔◌, ℕ, ◌<◌, ◌&&◌, ◌||◌, true, nat_eq, IsTrue};
 ghost use Rattle.tpl_paths.specs.TokenSet.{has_token, no_tokens};
 
 use tpl_words::{MOST_TOKENS, TokenId};
@@ -51,5 +51,11 @@ impl TokenSet {
         TokenSet {
             bits: self.bits & other.bits,
         }
+    }
+    /// Each member is one of the other set.
+    pub fn is_subset(self, other: TokenSet) -> bool
+        ensures { IsTrue result ↔ ((k : ℕ) → has_token self k ≡ true → has_token other k ≡ true) }
+    {
+        self.bits & other.bits == self.bits
     }
 }
