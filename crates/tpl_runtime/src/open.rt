@@ -82,6 +82,8 @@ impl<'g, K: Drop, W: Item<K>> Session<'g, K, W> {
                     children,
                     seats,
                     halted: false,
+                    calls: 0,
+                    waiting: 0,
                 }),
                 moved: Condvar::new(),
                 queue,

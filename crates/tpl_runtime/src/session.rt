@@ -15,7 +15,7 @@ ghost use Rattle.tpl_hall.specs.declared.sight.Sight.TheVariants.{At};
 
 use crate::closing::{CloseFault, Report, settle};
 use crate::queue::{ItemPass, ItemQueue};
-use crate::shared::{Halting, Hand, Held, Shared, Turn};
+use crate::shared::{Halting, Hand, Held, Shared, Turn, Wakes};
 use std::alloc::Global;
 use std::marker::Model;
 use std::sync::{Condvar, Mutex, Wait};
@@ -145,6 +145,18 @@ impl<'g, K: Drop, W: Item<K>> Session<'g, K, W> {
         }
     }
 
+    /// Wakes workers that wait, as far as the jobs of a section call them.
+    fn wake(&self, wakes: Wakes) {
+        match wakes {
+            Wakes::All => self.moved.notify_all(),
+            Wakes::Some(count) => {
+                for _ in 0..count {
+                    self.moved.notify_one();
+                }
+            }
+        }
+    }
+
     /// Works until the run is complete, the session is halted, or the seat is found to be of another run. Items are
     /// called outside the lock.
     pub fn work<R: Wait>(&self, rt: &R, seat: Seat, pass: ItemPass<W>) -> (Seat, ItemPass<W>, Ended)
@@ -174,17 +186,22 @@ impl<'g, K: Drop, W: Item<K>> Session<'g, K, W> {
                 brought,
             ) {
                 Turn::Go(held) => {
+                    let wakes = shared.wakes();
                     drop(shared);
-                    self.moved.notify_all();
+                    self.wake(wakes);
                     hand = Hand::With(held);
                 }
                 Turn::Call(task, item) => {
+                    let wakes = shared.wakes();
                     drop(shared);
-                    self.moved.notify_all();
+                    self.wake(wakes);
                     hand = Hand::Called(task, item.call());
                 }
                 Turn::Wait => {
-                    let _again = self.moved.wait(rt, shared);
+                    shared.waits();
+                    let mut again = self.moved.wait(rt, shared);
+                    again.comes_back();
+                    drop(again);
                     hand = Hand::With(Held::Free);
                 }
                 Turn::Over(ended) => {
@@ -226,6 +243,8 @@ impl<'g, K: Drop, W: Item<K>> Session<'g, K, W> {
             children: _,
             seats: made,
             halted: _,
+            calls: _,
+            waiting: _,
         } = shared.into_inner();
         let items = stock.into_items();
         settle(
