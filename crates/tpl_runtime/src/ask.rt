@@ -55,7 +55,14 @@ impl<'g, K: Drop, W: Item<K>> Shared<'g, K, W> {
         };
         self.hall.sweep(seat);
         self.hall.run_law();
-        put_all(rt, &self.hall, &mut self.stock, queue, pass);
+        let _all = put_all(
+            rt,
+            &self.hall,
+            &mut self.stock,
+            queue,
+            pass,
+            seat.actor(),
+        );
         Asked::Place(place)
     }
 }

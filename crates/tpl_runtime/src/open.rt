@@ -82,6 +82,7 @@ impl<'g, K: Drop, W: Item<K>> Session<'g, K, W> {
                     children,
                     seats,
                     halted: false,
+                    calls: 0,
                 }),
                 moved: Condvar::new(),
                 queue,

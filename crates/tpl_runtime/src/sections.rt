@@ -15,8 +15,33 @@ use tpl_model::Act;
 use tpl_words::TaskId;
 
 impl<'g, K: Drop, W: Item<K>> Shared<'g, K, W> {
-    /// Begins a task, if it may begin. Where it may not, as it was dropped meanwhile, the worker holds a job that was kept
-    /// for it, if there is one.
+    /// Takes jobs until the task of one begins. Where there is none, the worker waits, unless its work ends.
+    fn begin_next<R: Wait>(
+        &mut self,
+        rt: &R,
+        queue: &ItemQueue<W>,
+        pass: &mut ItemPass<W>,
+        seat: &mut Seat,
+    ) -> Turn<W>
+        requires { pass.old.queue ≡ queue.now.id }
+        ensures { PlaysOn result (Unit {0}) self.old.halted self.new.halted queue.now.id
+            pass.new.queue seat.old seat.new self.old.hall.core self.new.hall.core }
+    {
+        for _ in rt.forever() {
+            let Some(task) = self.find(rt, queue, pass, seat.actor()) else {
+                return match self.end_of() {
+                    Some(_) => Turn::Go(Held::Free),
+                    None => Turn::Wait,
+                };
+            };
+            if self.act(rt, queue, pass, seat, Act::Begin(task)) {
+                return Turn::Go(Held::Running(task));
+            }
+        }
+        unreachable!()
+    }
+
+    /// Begins a task, if it may begin. Where it may not, as it was dropped meanwhile, the worker takes its next job.
     fn begin<R: Wait>(
         &mut self,
         rt: &R,
@@ -32,7 +57,7 @@ impl<'g, K: Drop, W: Item<K>> Shared<'g, K, W> {
         if self.act(rt, queue, pass, seat, Act::Begin(task)) {
             return Turn::Go(Held::Running(task));
         }
-        Turn::Go(self.hand_on(seat.actor()))
+        self.begin_next(rt, queue, pass, seat)
     }
 
     /// Passes the next statement, which isn't a job.
@@ -56,7 +81,7 @@ impl<'g, K: Drop, W: Item<K>> Shared<'g, K, W> {
         Turn::Over(Ended::Stray)
     }
 
-    /// Leaves a body that is over.
+    /// Leaves a body that is over, and begins the next task in the same section.
     fn leave<R: Wait>(
         &mut self,
         rt: &R,
@@ -71,7 +96,7 @@ impl<'g, K: Drop, W: Item<K>> Shared<'g, K, W> {
             self.new.hall.core }
     {
         if self.act(rt, queue, pass, seat, Act::Leave(task)) {
-            return Turn::Go(self.hand_on(seat.actor()));
+            return self.begin_next(rt, queue, pass, seat);
         }
         self.halt();
         Turn::Over(Ended::Stray)
@@ -113,25 +138,8 @@ impl<'g, K: Drop, W: Item<K>> Shared<'g, K, W> {
         }
     }
 
-    /// Looks for a job.
-    fn look<R: Wait>(
-        &mut self,
-        rt: &R,
-        queue: &ItemQueue<W>,
-        pass: &mut ItemPass<W>,
-        seat: &mut Seat,
-    ) -> Turn<W>
-        requires { pass.old.queue ≡ queue.now.id }
-        ensures { PlaysOn result (Unit {0}) self.old.halted self.new.halted queue.now.id
-            pass.new.queue seat.old seat.new self.old.hall.core self.new.hall.core }
-    {
-        match self.find(rt, queue, pass, seat.actor()) {
-            Some(task) => Turn::Go(Held::Taken(task)),
-            None => Turn::Wait,
-        }
-    }
-
-    /// Does what comes next for a worker that holds this: at most one event, and what is due after it.
+    /// Does what comes next for a worker that holds this: an event, and what is due after it. Where it leaves a task it
+    /// begins the next one too.
     pub(crate) fn next<R: Wait>(
         &mut self,
         rt: &R,
@@ -146,7 +154,7 @@ impl<'g, K: Drop, W: Item<K>> Shared<'g, K, W> {
             seat.old seat.new self.old.hall.core self.new.hall.core }
     {
         match held {
-            Held::Free => self.look(rt, queue, pass, seat),
+            Held::Free => self.begin_next(rt, queue, pass, seat),
             Held::Taken(task) => self.begin(rt, queue, pass, seat, task),
             Held::Running(task) => self.run_on(rt, queue, pass, seat, task),
         }

@@ -145,6 +145,13 @@ impl<'g, K: Drop, W: Item<K>> Session<'g, K, W> {
         }
     }
 
+    /// Wakes all workers that wait, if the jobs of a section call any.
+    fn wake(&self, wakes: bool) {
+        if wakes {
+            self.moved.notify_all();
+        }
+    }
+
     /// Works until the run is complete, the session is halted, or the seat is found to be of another run. Items are
     /// called outside the lock.
     pub fn work<R: Wait>(&self, rt: &R, seat: Seat, pass: ItemPass<W>) -> (Seat, ItemPass<W>, Ended)
@@ -174,16 +181,20 @@ impl<'g, K: Drop, W: Item<K>> Session<'g, K, W> {
                 brought,
             ) {
                 Turn::Go(held) => {
+                    let wakes = shared.wakes();
                     drop(shared);
-                    self.moved.notify_all();
+                    self.wake(wakes);
                     hand = Hand::With(held);
                 }
                 Turn::Call(task, item) => {
+                    let wakes = shared.wakes();
                     drop(shared);
-                    self.moved.notify_all();
+                    self.wake(wakes);
                     hand = Hand::Called(task, item.call());
                 }
                 Turn::Wait => {
+                    let wakes = shared.wakes();
+                    self.wake(wakes);
                     let _again = self.moved.wait(rt, shared);
                     hand = Hand::With(Held::Free);
                 }
@@ -226,6 +237,7 @@ impl<'g, K: Drop, W: Item<K>> Session<'g, K, W> {
             children: _,
             seats: made,
             halted: _,
+            calls: _,
         } = shared.into_inner();
         let items = stock.into_items();
         settle(

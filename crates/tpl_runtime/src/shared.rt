@@ -57,7 +57,7 @@ pub enum Turn<W> {
 }
 
 /// What lies under the lock: the run, the items that weren't called and the jobs that no worker has, the children of each
-/// task, who has a seat, and whether the session is halted.
+/// task, who has a seat, whether the session is halted, and how many workers the section's jobs call.
 #[derive(Drop)]
 pub struct Shared<'g, K, W> {
     pub(crate) hall: Hall<'g, K>,
@@ -65,6 +65,7 @@ pub struct Shared<'g, K, W> {
     pub(crate) children: Children,
     pub(crate) seats: Vec<Actor>,
     pub(crate) halted: bool,
+    pub(crate) calls: usize,
 }
 
 /// That a session was halted. What halts one makes it, and nothing else does.
@@ -98,7 +99,15 @@ impl<'g, K: Drop, W: Item<K>> Shared<'g, K, W> {
         ensures halted { self.new.halted ≡ self.old.halted }
     {
         self.hall.sweep(seat);
-        put_all(rt, &self.hall, &mut self.stock, queue, pass);
+        let calls = put_all(
+            rt,
+            &self.hall,
+            &mut self.stock,
+            queue,
+            pass,
+            seat.actor(),
+        );
+        self.calls = self.calls.saturating_add(calls);
     }
 
     /// What ends each section in which something was done: a sweep, and then the jobs of the tasks that the section made
@@ -117,15 +126,17 @@ impl<'g, K: Drop, W: Item<K>> Shared<'g, K, W> {
         ensures halted { self.new.halted ≡ self.old.halted }
     {
         self.hall.sweep(seat);
-        put_after(
+        let calls = put_after(
             rt,
             &self.hall,
             &mut self.stock,
             &self.children,
             queue,
             pass,
+            seat.actor(),
             seat.since(from),
         );
+        self.calls = self.calls.saturating_add(calls);
     }
 
     /// Does an act, if it may be done, and what ends the section. True where the act was done.
@@ -199,9 +210,11 @@ impl<'g, K: Drop, W: Item<K>> Shared<'g, K, W> {
         }
         let shelved = self.stock.take_shelved();
         if shelved.is_some() {
+            self.calls = self.calls.saturating_sub(1);
             return shelved;
         }
         let job = queue.take(rt, pass)?;
+        self.calls = self.calls.saturating_sub(1);
         Some(job.task)
     }
 
@@ -228,6 +241,13 @@ impl<'g, K: Drop, W: Item<K>> Shared<'g, K, W> {
             Some(task) => Held::Taken(task),
             None => Held::Free,
         }
+    }
+
+    /// Whether workers that wait are woken for the jobs that were put since this was last asked.
+    pub fn wakes(&mut self) -> bool {
+        let calls = self.calls;
+        self.calls = 0;
+        calls != 0
     }
 
     /// Workers leave at their next section.
