@@ -3,7 +3,7 @@ use Rattle.std.proofs.Common.{◌≡◌, ℕ, ◌⊎◌, inl, inr, Bool, true, f
 use Rattle.std.proofs.lemmas.Bool.{cases_Bool}
 use Rattle.tpl_words.proofs.Truths.{true_false}
 use Rattle.tpl_words.specs.declared.finals.Final.{Final}
-use Rattle.tpl_words.specs.declared.finals.Final.TheVariants.{Canceled}
+use Rattle.tpl_words.specs.declared.finals.Final.TheVariants.{RanToCompletion, Canceled}
 use Rattle.tpl_words.specs.Options.{allows}
 use Rattle.tpl_words.specs.declared.status.Label.{Label}
 use Rattle.tpl_script.specs.declared.outcome.Outcome.TheVariants.{Threw}
@@ -14,7 +14,7 @@ use Rattle.tpl_words.specs.declared.status.Actor.{Actor}
 use Rattle.tpl_model.specs.declared.event.Act.{Act}
 use Rattle.tpl_model.specs.declared.event.Act.TheVariants.{Request, Release, Begin, Step, Worked, Leave, Close, Drop, Settle}
 use Rattle.tpl_model.specs.declared.event.Event.{Event}
-use Rattle.tpl_model.specs.Facts.{Ending, on, over, begun, begun_by, ends_by, rest, requested, started, ending, ended_at_once, carried_in, own_atom, those_started, outcome_in, settled_as}
+use Rattle.tpl_model.specs.Facts.{Ending, on, over, begun, begun_by, ends_by, rest, requested, started, ending, ended_at_once, final_in, carried_in, own_atom, those_started, outcome_in, settled_as}
 use Rattle.tpl_model.specs.Rules.{final, IsRunning, MayDrop, MayNotStart, MayCancel, Allows, Run, can_settle, all_ended, ended, token_requested, token_requested_by, Complete, to_end}
 use Rattle.tpl_laws.proofs.Basics.{some_none, the_some, is_some_of, mem_here}
 use Rattle.tpl_laws.proofs.Kept.{after, not_some, running_facts, drop_facts, ending_new, ending_kept, final_kept, requested_kept, started_kept, begun_kept}
@@ -171,17 +171,25 @@ all_carries g v (ev ∷ h) t y args r run k m e =
           | inr n ↦ by_end (how_ends g v h a x t r run.0 al n.0 n.1)
         ]
 
--- WhenAny carries nothing
-pub any_carries : (g : TaskGraph) (v : List Bool) (h : List Event) (t : ℕ) (args : List ℕ) (r : Ending) → Run g v h → kind g t ≡ WhenAny args → ending g v h t ≡ Some r → r.carried ≡ []
-any_carries g v [] t args r run k e = some_none r (sym e ∙ ap ended_at_once k)
-any_carries g v (ev ∷ h) t args r run k e = here (λ o. any_carries g v h t args r run.0 k o) ev.actor ev.act run.1 e
-  where
-    by_end : Ends g v h t r → r.carried ≡ []
-    by_end (drops i d f c) = c
-    by_end (leaves i b) = absurd (subst IsBody k (begun_body g v h t run.0 b.begun))
-    by_end (settled i c place who q) = sym (ap carried_in (subst (λ z. settled_as z place who (ending g v h) ≡ Some r) k q))
+-- WhenAny runs to completion and carries nothing
+abbrev pub EndsAsAny : Ending → Type 0
+EndsAsAny r = (r.carried ≡ []) × (r.final ≡ RanToCompletion)
 
-    here : (ending g v h t ≡ Some r → r.carried ≡ []) → (a : Actor) (x : Act) → Allows g v h a x → ending g v (after a x h) t ≡ Some r → r.carried ≡ []
+pub any_ends : (g : TaskGraph) (v : List Bool) (h : List Event) (t : ℕ) (args : List ℕ) (r : Ending) → Run g v h → kind g t ≡ WhenAny args → ending g v h t ≡ Some r → EndsAsAny r
+any_ends g v [] t args r run k e = some_none r (sym e ∙ ap ended_at_once k)
+any_ends g v (ev ∷ h) t args r run k e = here (λ o. any_ends g v h t args r run.0 k o) ev.actor ev.act run.1 e
+  where
+    some_final : (x z : Final) → Some x ≡ Some z → x ≡ z
+    some_final x z w = cc
+
+    by_end : Ends g v h t r → EndsAsAny r
+    by_end (drops i d f c) = absurd (subst IsBody k (drop_body g v h t run.0 d))
+    by_end (leaves i b) = absurd (subst IsBody k (begun_body g v h t run.0 b.begun))
+    by_end (settled i c place who q) =
+        let e = subst (λ z. settled_as z place who (ending g v h) ≡ Some r) k q in
+        (sym (ap carried_in e), sym (some_final RanToCompletion r.final (ap final_in e)))
+
+    here : (ending g v h t ≡ Some r → EndsAsAny r) → (a : Actor) (x : Act) → Allows g v h a x → ending g v (after a x h) t ≡ Some r → EndsAsAny r
     here old a x al z =
         elim (ending_new g v h a x t r z) [
           | inl o ↦ old o

@@ -14,8 +14,8 @@ use Rattle.tpl_model.specs.declared.event.Event.{Event}
 use Rattle.tpl_model.specs.Facts.{Ending, ending, ended_at_once, final_in, all_final, worse, settled_as}
 use Rattle.tpl_model.specs.Rules.{final, MayStart, Allows, Run, can_settle, all_ended}
 use Rattle.tpl_model.specs.Valid.{IsGraph, ArePlaced, IsPlaced}
-use Rattle.tpl_model.specs.Certificate.{Assumed, Agrees}
-use Rattle.tpl_model.specs.WiderRules.{keeps, narrowed_by, narrowed_from, narrowed}
+use Rattle.tpl_model.specs.Certificate.{end_left}
+use Rattle.tpl_model.specs.WiderRules.{WideAssumed, WideAgrees, keeps, narrowed_by, narrowed_from, narrowed}
 use Rattle.tpl_laws.proofs.Basics.{some_none, same_number, mem_here}
 use Rattle.tpl_laws.proofs.Kept.{after, ending_new, final_kept, final_of}
 use Rattle.tpl_laws.proofs.Ready.{Ready, begun_ready, IsBody, begun_body, drop_body}
@@ -270,15 +270,21 @@ module _ (g : TaskGraph) (v : List Bool) (h : List Event) (valid : IsGraph g) (r
   left_from (suc t) cut left = left_from t (narrowed_by g t (kind g t) cut) (left_by cut t (kind g t) refl left)
 
   -- a run agrees with what is left, narrowed
-  pub narrowed_agrees : (l : Assumed) → Agrees g l v h → Left l.cut → Agrees g (narrowed g l) v h
+  pub narrowed_agrees : (l : WideAssumed) → WideAgrees g l v h → Left l.assumed.cut → WideAgrees g (narrowed g l) v h
   narrowed_agrees l ag left = record {
-    inputs = ag.inputs;
-    quiet = ag.quiet;
-    ends = λ t f e.
-        let both = and_parts (l.cut t f) (l.ended t f) (ag.ends t f e) in
-        and_from (narrowed_from g (length g.tasks) l.cut t f) (l.ended t f) (subst (λ z. narrowed_from g (length g.tasks) l.cut t z ≡ true) (destiny_ended g v h t f e) (left_from (length g.tasks) l.cut left t)) both.1;
-    jobs = ag.jobs;
+    agrees = record {
+      inputs = ag.agrees.inputs;
+      quiet = ag.agrees.quiet;
+      ends = ends_left;
+      jobs = ag.agrees.jobs;
+    };
+    winners = ag.winners;
   }
+    where
+      ends_left : (t : ℕ) (f : Final) → final g v h t ≡ Some f → end_left (narrowed g l).assumed t f ≡ true
+      ends_left t f e =
+          let both = and_parts (l.assumed.cut t f) (l.assumed.ended t f) (ag.agrees.ends t f e) in
+          and_from (narrowed_from g (length g.tasks) l.assumed.cut t f) (l.assumed.ended t f) (subst (λ z. narrowed_from g (length g.tasks) l.assumed.cut t z ≡ true) (destiny_ended g v h t f e) (left_from (length g.tasks) l.assumed.cut left t)) both.1
 
 -- what is narrowed was left before
 pub narrowed_less : (g : TaskGraph) (n : ℕ) (cut : ℕ → Final → Bool) (s : ℕ) (f : Final) → narrowed_from g n cut s f ≡ true → cut s f ≡ true

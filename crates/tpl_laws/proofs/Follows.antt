@@ -33,7 +33,7 @@ pub record Fits (g : TaskGraph) (v : List Bool) (h : List Event) (t : ℕ) (w : 
   pub subject : (s : ℕ) (f : Final) → subject g v h t ≡ Some s → final g v h s ≡ Some f → w.subject f ≡ true
   pub jobs : (site : ℕ) → failed g v h site ≡ true → w.sure site ≡ false
 
-winner_some : (o : Option Ending) (s : ℕ) → winner_of o ≡ Some s → (r : Ending) × (o ≡ Some r) × (r.winner ≡ Some s)
+pub winner_some : (o : Option Ending) (s : ℕ) → winner_of o ≡ Some s → (r : Ending) × (o ≡ Some r) × (r.winner ≡ Some s)
 winner_some None s e = some_none s (sym e)
 winner_some (Some r) s e = (r, refl, e)
 

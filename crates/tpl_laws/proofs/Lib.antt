@@ -16,6 +16,7 @@ pub mod MainTheorem
 pub mod Telling
 pub mod WideRows
 pub mod WideEvents
+pub mod WideChains
 pub mod Destinies
 pub mod WideSound
 pub mod Sizes

@@ -55,7 +55,7 @@ rows_lem g l rows v h valid closed run agrees =
         ends = now.true_rows.ends;
         runs = now.true_rows.runs;
         past = now.true_rows.past;
-        observed = λ t c complete lb e. chain_seen g l rows v h t lb (upheld g l rows v h now) complete c e;
+        observed = λ t c complete lb e. chain_seen g l rows v h t lb (upheld g l rows v h now) (λ s i. (now.closed s i).chain) complete c e;
       },
       before_holds g l rows v h valid closed run agrees,
     )
@@ -278,8 +278,8 @@ never_canceled g l rows v h t now i b n complete =
     by_kind (WhenAny args) b = true_false (sym b)
 
 -- in a complete run an exception is observed
-pub observed_holds : (g : TaskGraph) (l : Assumed) (rows : List Row) (v : List Bool) (h : List Event) (t : ℕ) (lb : Label) → Upheld g l rows v h → Complete g v h → label g v h t ≡ Some lb → Proves g l rows (Observed (record { 0 = t })) → seen g v h t ≡ true
-observed_holds g l rows v h t lb now complete e pr = by_proof pr
+pub observed_holds : (g : TaskGraph) (l : Assumed) (rows : List Row) (v : List Bool) (h : List Event) (t : ℕ) (lb : Label) → Upheld g l rows v h → (((row rows t).chain ≡ [] → ⊥) → seen g v h t ≡ true) → Complete g v h → label g v h t ≡ Some lb → Proves g l rows (Observed (record { 0 = t })) → seen g v h t ≡ true
+observed_holds g l rows v h t lb now by_chain complete e pr = by_proof pr
   where
     threw : outcome_in (rest g v h t) ≡ Some (Threw lb)
     threw = label_verdict (outcome_in (rest g v h t)) lb e
@@ -288,7 +288,7 @@ observed_holds g l rows v h t lb now complete e pr = by_proof pr
     has_begun = threw_begun g v h t lb now.run threw
 
     by_proof : Proves g l rows (Observed (record { 0 = t })) → seen g v h t ≡ true
-    by_proof (inl chain) = chain_seen g l rows v h t lb now complete chain e
+    by_proof (inl chain) = by_chain chain
     by_proof (inr (inl no_fault)) =
         let q = the_some (ending g v h t) (begun_ends g v h t now.run complete has_begun) in
         let f = carries_faulted g v h t t q.0 now.run q.1 (carries_own g v h t lb q.0 now.run threw q.1) in
@@ -301,7 +301,9 @@ observed_holds g l rows v h t lb now complete e pr = by_proof pr
 
 -- what a closed leaf proves, it shows
 shows : (g : TaskGraph) (l : Assumed) (rows : List Row) (v : List Bool) (h : List Event) (p : Property) → Now g l rows v h → Proves g l rows p → Shows g l rows v h p
-shows g l rows v h (Observed t) now pr = λ complete lb e. observed_holds g l rows v h t.0 lb (upheld g l rows v h now) complete e pr
+shows g l rows v h (Observed t) now pr = λ complete lb e.
+    let up = upheld g l rows v h now in
+    observed_holds g l rows v h t.0 lb up (λ c. chain_seen g l rows v h t.0 lb up (λ s i. (now.closed s i).chain) complete c e) complete e pr
 shows g l rows v h (EndsIn t ends) now pr = pr
 shows g l rows v h (After a b) now pr = pr
 shows g l rows v h (Never t) now pr = pr

@@ -1,5 +1,5 @@
 -- The exception of a task with a chain is observed in each complete run.
-use Rattle.std.proofs.Common.{◌≡◌, ℕ, ◌⊎◌, inl, inr, Bool, true, Option, Some, None, List, [], ◌∷◌, refl, sym, ap, ◌∙◌, subst, nat_eq, is_some, length}
+use Rattle.std.proofs.Common.{◌≡◌, ℕ, ◌⊎◌, inl, inr, Bool, true, false, Option, Some, None, List, [], ◌∷◌, refl, sym, ap, ◌∙◌, subst, nat_eq, is_some, length}
 use Rattle.tpl_words.specs.declared.finals.Final.{Final}
 use Rattle.tpl_words.specs.declared.finals.Final.TheVariants.{Faulted}
 use Rattle.tpl_words.specs.Finals.{is_final}
@@ -9,7 +9,7 @@ use Rattle.tpl_script.specs.declared.outcome.Outcome.{Outcome}
 use Rattle.tpl_script.specs.declared.outcome.Outcome.TheVariants.{Returned, Threw, Acknowledged}
 use Rattle.tpl_words.specs.Members.{mem}
 use Rattle.tpl_script.specs.Statements.{Statement, Return, Throw, Check, Cancel, Start, Observe, Work, If, When, Statements, Nothing, ◌⨾◌, starts}
-use Rattle.tpl_model.specs.Graph.{TaskGraph, TaskKind, Root, Child, Continues, WhenAll, WhenAny, task, kind, body, options, is_task}
+use Rattle.tpl_model.specs.Graph.{TaskGraph, TaskKind, Root, Child, Continues, WhenAll, WhenAny, kind, body, options, is_task}
 use Rattle.tpl_words.specs.declared.status.Actor.{Actor}
 use Rattle.tpl_words.specs.declared.status.Answer.{Answer}
 use Rattle.tpl_words.specs.declared.status.Answer.TheVariants.{Done, Failed}
@@ -17,18 +17,18 @@ use Rattle.tpl_model.specs.declared.event.Act.{Act}
 use Rattle.tpl_model.specs.declared.event.Act.TheVariants.{Request, Release, Begin, Step, Worked, Leave, Close, Drop, Settle}
 use Rattle.tpl_model.specs.declared.event.Event.{Event}
 use Rattle.tpl_model.specs.Facts.{Ending, begun, final_in, rest, started, ending, subject_in, subject_of, carried_in, outcome_in, is_observe}
-use Rattle.tpl_model.specs.Rules.{final, subject, MayStart, Allows, Run, works, seen, sees, carried_by, label, label_in, Complete, to_end}
-use Rattle.tpl_script.specs.Paths.{Known, passes_observe}
+use Rattle.tpl_model.specs.Rules.{final, subject, Allows, Run, works, seen, sees, carried_by, label, label_in, Complete, to_end}
+use Rattle.tpl_script.specs.Paths.{MustObserve, passes_observe}
+use Rattle.tpl_laws.specs.RowTests.{faulted_view}
 use Rattle.tpl_laws.proofs.Basics.{if_true, if_false, some_none, the_some, same_number}
 use Rattle.tpl_laws.proofs.Kept.{id, after, running_facts, ending_kept, begun_kept, final_of}
-use Rattle.tpl_model.specs.Certificate.{Row, row, Assumed, TakesOver, Reads, Links, ChainRule}
+use Rattle.tpl_model.specs.Certificate.{Row, row, Assumed, is_loud, TakesOver, Reads, Links, ChainRule}
 use Rattle.tpl_laws.proofs.Execution.{passed, pushed}
-use Rattle.tpl_laws.proofs.Ready.{Ready, begun_ready}
-use Rattle.tpl_laws.proofs.Follows.{Fits, follows}
+use Rattle.tpl_laws.proofs.Follows.{Fits, follows, subject_kept, has_subject}
 use Rattle.tpl_laws.proofs.Settling.{no_task, has_subject_of, attached_child}
 use Rattle.tpl_laws.proofs.Carrying.{begun_task, carries_faulted}
 use Rattle.tpl_laws.proofs.RowsAreTrue.{Upheld, verdict_path, view_fits, requested_loud, some_eq}
-use Rattle.tpl_laws.proofs.Chains.{carries_own, threw_begun, begun_ends, taken_over, any_carries, ended_as}
+use Rattle.tpl_laws.proofs.Chains.{carries_own, threw_begun, begun_ends, taken_over, any_ends, ended_as}
 use Rattle.std.proofs.lemmas.Bool.{cases_lt, cases_Bool, and_from, or_left, or_right}
 use Rattle.tpl_words.proofs.Truths.{true_false}
 
@@ -95,32 +95,37 @@ subject_is : (g : TaskGraph) (v : List Bool) (h : List Event) (r y a : ℕ) (q :
 subject_is g v h r y a q run k e m = ap (λ z. subject_in g z (ending g v h)) k ∙ by_kind (kind g y) refl
   where
     by_kind : (k2 : TaskKind) → kind g y ≡ k2 → subject_of k2 y (ending g v h y) ≡ Some y
-    by_kind (WhenAny args) k2 = true_false (sym (subst (λ z. mem a z ≡ true) (any_carries g v h y args q run k2 e) m))
+    by_kind (WhenAny args) k2 = true_false (sym (subst (λ z. mem a z ≡ true) ((any_ends g v h y args q run k2 e).0) m))
     by_kind Root k2 = refl
     by_kind Child k2 = refl
     by_kind (Continues c) k2 = refl
     by_kind (WhenAll args) k2 = refl
 
--- where a continuation of y has passed Observe, what y carries is seen
-pub observed_by : (g : TaskGraph) (v : List Bool) (h : List Event) (r y a : ℕ) (q : Ending) → Run g v h → kind g r ≡ Continues y → ending g v h y ≡ Some q → mem a q.carried ≡ true → passes_observe (passed g v h r) ≡ true → seen g v h a ≡ true
-observed_by g v [] r y a q run k e m p = true_false (sym p)
-observed_by g v (ev ∷ h) r y a q run k e m p = here (λ o. λ q' e' m'. observed_by g v h r y a q' run.0 k e' m' o) ev.actor ev.act run.1 e p
+-- the task y has ended so, and r sees it
+abbrev Sees : TaskGraph → List Bool → List Event → ℕ → ℕ → Ending → Type 0
+Sees g v h r y q = (subject g v h r ≡ Some y) × (ending g v h y ≡ Some q)
+
+-- where a continuation that sees y has passed Observe, what y carries is seen
+pub observed_by : (g : TaskGraph) (v : List Bool) (h : List Event) (r n y a : ℕ) (q : Ending) → Run g v h → kind g r ≡ Continues n → Sees g v h r y q → mem a q.carried ≡ true → passes_observe (passed g v h r) ≡ true → seen g v h a ≡ true
+observed_by g v [] r n y a q run k e m p = true_false (sym p)
+observed_by g v (ev ∷ h) r n y a q run k e m p = here (λ o. λ e'. observed_by g v h r n y a q run.0 k e' m o) ev.actor ev.act run.1 e p
   where
     some_ending : (p q : Ending) → Some p ≡ Some q → p ≡ q
     some_ending p q e = cc
 
-    -- the antecedent had ended before
-    antecedent : (x : Actor) (act : Act) → Allows g v h x act → ending g v (after x act h) y ≡ Some q → is_some (begun h r) ≡ true → (ending g v h y ≡ Some q)
-    antecedent x act al e2 b =
-        let ready : MayStart g v h r (Continues y) = subst (λ z. Ready g v h r z) k (begun_ready g v h r run.0 b) in
-        let w = final_of (ending g v h y) ready.0 ready.1 in
-        w.1 ∙ ap Some (some_ending w.0 q (sym (ending_kept g v h x act y w.0 al w.1) ∙ e2))
+    -- once it had begun it saw y
+    saw : (x : Actor) (act : Act) → Allows g v h x act → Sees g v (after x act h) r y q → is_some (begun h r) ≡ true → Sees g v h r y q
+    saw x act al e2 b =
+        let s = has_subject g v h r n run.0 b k in
+        let same = some_eq s.0 y (sym (subject_kept g v h x act r s.0 al s.2) ∙ e2.0) in
+        let w = final_of (ending g v h y) s.1 (subst (λ z. final g v h z ≡ Some s.1) same s.3) in
+        (s.2 ∙ ap Some same, w.1 ∙ ap Some (some_ending w.0 q (sym (ending_kept g v h x act y w.0 al w.1) ∙ e2.1)))
 
-    older : (passes_observe (passed g v h r) ≡ true → (q' : Ending) → ending g v h y ≡ Some q' → mem a q'.carried ≡ true → seen g v h a ≡ true) → (x : Actor) (act : Act) → Allows g v h x act → ending g v (after x act h) y ≡ Some q → passes_observe (passed g v h r) ≡ true → seen g v (after x act h) a ≡ true
+    older : (passes_observe (passed g v h r) ≡ true → Sees g v h r y q → seen g v h a ≡ true) → (x : Actor) (act : Act) → Allows g v h x act → Sees g v (after x act h) r y q → passes_observe (passed g v h r) ≡ true → seen g v (after x act h) a ≡ true
     older old x act al e2 o =
-        or_right (sees g v h act a) (seen g v h a) (old o q (antecedent x act al e2 (passed_begun g v h r run.0 o)) m)
+        or_right (sees g v h act a) (seen g v h a) (old o (saw x act al e2 (passed_begun g v h r run.0 o)))
 
-    here : (passes_observe (passed g v h r) ≡ true → (q' : Ending) → ending g v h y ≡ Some q' → mem a q'.carried ≡ true → seen g v h a ≡ true) → (x : Actor) (act : Act) → Allows g v h x act → ending g v (after x act h) y ≡ Some q → passes_observe (passed g v (after x act h) r) ≡ true → seen g v (after x act h) a ≡ true
+    here : (passes_observe (passed g v h r) ≡ true → Sees g v h r y q → seen g v h a ≡ true) → (x : Actor) (act : Act) → Allows g v h x act → Sees g v (after x act h) r y q → passes_observe (passed g v (after x act h) r) ≡ true → seen g v (after x act h) a ≡ true
     here old x (Step s) al e2 o =
         elim (cases_Bool (nat_eq s.0 r)) [
           | inl same ↦
@@ -128,12 +133,11 @@ observed_by g v (ev ∷ h) r y a q run k e m p = here (λ o. λ q' e' m'. observ
                 | inl now ↦
                     let s_is = same_number s.0 r same in
                     let b = subst (λ z. is_some (begun h z) ≡ true) s_is (running_facts g v h x s.0 al.0).2 in
-                    let ended_before = antecedent x (Step s) al e2 b in
-                    let sub = subject_is g v h r y a q run.0 k ended_before m in
+                    let sees_y = saw x (Step s) al e2 b in
                     or_left (sees g v h (Step s) a) (seen g v h a)
                     (subst (λ z. sees g v h (Step (id z)) a ≡ true) (sym s_is)
                     (and_from (is_observe (rest g v h r).left) (carried_by g v h (subject g v h r) a) now
-                    (subst (λ z. carried_by g v h z a ≡ true) (sym sub) (subst (λ z. mem a (carried_in z) ≡ true) (sym ended_before) m))))
+                    (subst (λ z. carried_by g v h z a ≡ true) (sym sees_y.0) (subst (λ z. mem a (carried_in z) ≡ true) (sym sees_y.1) m))))
                 | inr o2 ↦ older old x (Step s) al e2 o2
               ]
           | inr other ↦ older old x (Step s) al e2 (subst (λ z. passes_observe z ≡ true) (if_false (nat_eq s.0 r) (pushed (rest g v h r).left (passed g v h r)) (passed g v h r) other) o)
@@ -156,7 +160,7 @@ observed_by g v (ev ∷ h) r y a q run k e m p = here (λ o. λ q' e' m'. observ
     here old x (Settle s) al e2 o = older old x (Settle s) al e2 o
 
 -- what takes over, and what continues, is a task of the graph
-takes_task : (g : TaskGraph) (x y : ℕ) → TakesOver g x y → is_task g x
+pub takes_task : (g : TaskGraph) (x y : ℕ) → TakesOver g x y → is_task g x
 takes_task g x y w =
     elim (cases_lt x (length g.tasks)) [
       | inl lt ↦ lt
@@ -181,41 +185,53 @@ continues_task g r y k =
     no_root : Root ≡ Continues y → ⊥
     no_root e = absurd (cc)
 
--- the last of a chain observes what is carried to it
-pub reader_observes : (g : TaskGraph) (l : Assumed) (rows : List Row) (v : List Bool) (h : List Event) (r y a : ℕ) (q : Ending) → Upheld g l rows v h → Complete g v h → Reads g l rows r y → ending g v h y ≡ Some q → mem a q.carried ≡ true → seen g v h a ≡ true
-reader_observes g l rows v h r y a q now complete reads e m =
-    let o = the_some (ending g v h r) (complete r (continues_task g r y reads.after) (subst (λ z. to_end z (started g v h r) ≡ true) (sym reads.after) refl)) in
-    elim (ended_as g v h r y o.0 now.run reads.after o.1) [
+-- a continuation that surely begins and sees y observes what y carries
+pub seer_observes : (g : TaskGraph) (l : Assumed) (rows : List Row) (v : List Bool) (h : List Event) (r n y a : ℕ) (q : Ending) → Upheld g l rows v h → Complete g v h → kind g r ≡ Continues n → ((f : Final) → final g v h n ≡ Some f → allows (options g r) f ≡ true) → is_loud g l r ≡ false → MustObserve (faulted_view g l r) (body g r) → Sees g v h r y q → mem a q.carried ≡ true → seen g v h a ≡ true
+seer_observes g l rows v h r n y a q now complete k allowed not_loud observes e m =
+    let o = the_some (ending g v h r) (complete r (continues_task g r n k) (subst (λ z. to_end z (started g v h r) ≡ true) (sym k) refl)) in
+    elim (ended_as g v h r n o.0 now.run k o.1) [
       | inl b ↦ by_body b.0 b.1
       | inr c ↦ elim c [
-        | inl p ↦ true_false (sym (requested_loud g l v h r now.agrees p) ∙ reads.not_loud)
-        | inr p ↦ true_false (sym reads.on_faulted ∙ ap (allows (options g r)) (sym (end_is p.0 p.1)) ∙ p.2)
+        | inl p ↦ true_false (sym (requested_loud g l v h r now.agrees p) ∙ not_loud)
+        | inr p ↦ true_false (sym (allowed p.0 p.1) ∙ p.2)
       ]
     ]
   where
     faulted : q.final ≡ Faulted
-    faulted = carries_faulted g v h y a q now.run e m
+    faulted = carries_faulted g v h y a q now.run e.1 m
 
     some_final : (x z : Final) → Some x ≡ Some z → x ≡ z
     some_final x z w = cc
 
     end_is : (f : Final) → final g v h y ≡ Some f → f ≡ Faulted
-    end_is f p = some_final f Faulted (sym p ∙ ap final_in e ∙ ap Some faulted)
+    end_is f p = some_final f Faulted (sym p ∙ ap final_in e.1 ∙ ap Some faulted)
 
     by_body : is_some (begun h r) ≡ true → is_some (outcome_in (rest g v h r)) ≡ true → seen g v h a ≡ true
     by_body b d =
         let vd = the_some (outcome_in (rest g v h r)) d in
         let full = view_fits g v h l rows r now.run now.agrees now.ends b in
-        let w : Known = record { possible = l.possible; quiet = l.quiet; own = (task g r).token; subject = λ f. is_final f Faulted; sure = l.sure } in
+        let w = faulted_view g l r in
         let fits : Fits g v h r w = record {
           own = refl;
           inputs = full.inputs;
           quiet = full.quiet;
-          subject = λ s f p z. let same = some_eq y s (sym (subject_is g v h r y a q now.run reads.after e m) ∙ p) in subst (λ n. is_final n Faulted ≡ true) (sym (end_is f (subst (λ n. final g v h n ≡ Some f) (sym same) z))) refl;
+          subject = λ s f p z. let same = some_eq y s (sym e.0 ∙ p) in subst (λ n. is_final n Faulted ≡ true) (sym (end_is f (subst (λ n. final g v h n ≡ Some f) (sym same) z))) refl;
           jobs = full.jobs;
         } in
         let path = verdict_path w (body g r) (rest g v h r).outcome (rest g v h r).left (passed g v h r) vd.0 vd.1 (follows g v h r w now.run fits (has_subject_of g r now.valid)) in
-        observed_by g v h r y a q now.run reads.after e m (reads.observes (passed g v h r) vd.0 path)
+        observed_by g v h r n y a q now.run k e m (observes (passed g v h r) vd.0 path)
+
+-- the last of a chain observes what is carried to it
+pub reader_observes : (g : TaskGraph) (l : Assumed) (rows : List Row) (v : List Bool) (h : List Event) (r y a : ℕ) (q : Ending) → Upheld g l rows v h → Complete g v h → Reads g l rows r y → ending g v h y ≡ Some q → mem a q.carried ≡ true → seen g v h a ≡ true
+reader_observes g l rows v h r y a q now complete reads e m =
+    seer_observes g l rows v h r y y a q now complete reads.after
+    (λ f p. subst (λ z. allows (options g r) z ≡ true) (sym (end_is f p)) reads.on_faulted) reads.not_loud reads.observes (subject_is g v h r y a q now.run reads.after e m, e) m
+  where
+    some_final : (x z : Final) → Some x ≡ Some z → x ≡ z
+    some_final x z w = cc
+
+    end_is : (f : Final) → final g v h y ≡ Some f → f ≡ Faulted
+    end_is f p = some_final f Faulted (sym p ∙ ap final_in e ∙ ap Some (carries_faulted g v h y a q now.run e m))
 
 -- a chain carries an exception to its reader
 pub chain_observes : (g : TaskGraph) (l : Assumed) (rows : List Row) (v : List Bool) (h : List Event) (chain : List ℕ) (y a : ℕ) (q : Ending) → Upheld g l rows v h → Complete g v h → Links g l rows y chain → ending g v h y ≡ Some q → mem a q.carried ≡ true → seen g v h a ≡ true
@@ -232,13 +248,18 @@ label_verdict (Some Returned) lb e = some_none lb (sym e)
 label_verdict (Some Acknowledged) lb e = some_none lb (sym e)
 label_verdict (Some (Threw x)) lb e = let s : x ≡ lb = cc in ap (λ z. Some (Threw z)) s
 
--- in a complete run the exception that the body of a task with a chain threw is seen
-pub chain_seen : (g : TaskGraph) (l : Assumed) (rows : List Row) (v : List Bool) (h : List Event) (t : ℕ) (lb : Label) → Upheld g l rows v h → Complete g v h → ((row rows t).chain ≡ [] → ⊥) → label g v h t ≡ Some lb → seen g v h t ≡ true
-chain_seen g l rows v h t lb now complete some_chain e =
+-- in a complete run the exception that a body threw is seen where what its task carries is
+pub thrown_seen : (g : TaskGraph) (v : List Bool) (h : List Event) (t : ℕ) (lb : Label) → Run g v h → Complete g v h → label g v h t ≡ Some lb → (is_task g t → (q : Ending) → ending g v h t ≡ Some q → mem t q.carried ≡ true → seen g v h t ≡ true) → seen g v h t ≡ true
+thrown_seen g v h t lb run complete e f =
     let threw = label_verdict (outcome_in (rest g v h t)) lb e in
-    let b = threw_begun g v h t lb now.run threw in
-    let q = the_some (ending g v h t) (begun_ends g v h t now.run complete b) in
-    by_chain (row rows t).chain refl (now.chain t (begun_task g v h t now.run b)) q.0 q.1 (carries_own g v h t lb q.0 now.run threw q.1)
+    let b = threw_begun g v h t lb run threw in
+    let q = the_some (ending g v h t) (begun_ends g v h t run complete b) in
+    f (begun_task g v h t run b) q.0 q.1 (carries_own g v h t lb q.0 run threw q.1)
+
+-- the one that the body of a task with a chain threw is
+pub chain_seen : (g : TaskGraph) (l : Assumed) (rows : List Row) (v : List Bool) (h : List Event) (t : ℕ) (lb : Label) → Upheld g l rows v h → ((s : ℕ) → is_task g s → ChainRule g l rows s (row rows s).chain) → Complete g v h → ((row rows t).chain ≡ [] → ⊥) → label g v h t ≡ Some lb → seen g v h t ≡ true
+chain_seen g l rows v h t lb now chains complete some_chain e =
+    thrown_seen g v h t lb now.run complete e (λ i q en m. by_chain (row rows t).chain refl (chains t i) q en m)
   where
     by_chain : (chain : List ℕ) → (row rows t).chain ≡ chain → ChainRule g l rows t chain → (q : Ending) → ending g v h t ≡ Some q → mem t q.carried ≡ true → seen g v h t ≡ true
     by_chain [] c r q e m = absurd (some_chain c)

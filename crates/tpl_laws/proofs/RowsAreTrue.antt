@@ -21,7 +21,7 @@ use Rattle.tpl_laws.proofs.Basics.{if_false, some_none, is_some_of, same_number}
 use Rattle.tpl_laws.proofs.Kept.{after, running_facts, final_kept, requested_kept, failed_kept, final_of}
 use Rattle.tpl_words.specs.Finals.{has}
 use Rattle.tpl_model.specs.Valid.{IsGraph}
-use Rattle.tpl_model.specs.Certificate.{Row, row, Assumed, Agrees, is_loud, loud_token, one_ends, subject_ends, subject_set, view, RunsRule, BeforeRule, ChainRule, Closed}
+use Rattle.tpl_model.specs.Certificate.{Row, row, Assumed, Agrees, is_loud, loud_token, one_ends, subject_ends, subject_set, view, RunsRule, BeforeRule, Closed}
 use Rattle.tpl_laws.proofs.Execution.{passed, StartedBy, started_parent}
 use Rattle.tpl_laws.proofs.Ready.{Ready, begun_ready, any_winner}
 use Rattle.tpl_laws.proofs.Follows.{Fits, FollowsBy, follows}
@@ -80,7 +80,7 @@ verdict_path w body (Some verdict) left ps end e f = let s : verdict ≡ end = c
 verdict_path w body None Nothing ps end e f = let s : Returned ≡ end = cc in inl (f, sym s)
 verdict_path w body None (s ⨾ more) ps end e f = some_none end (sym e)
 
-one_ends_mem : (args : List ℕ) (rows : List Row) (s : ℕ) (f : Final) → mem s args ≡ true → has (row rows s).ends f ≡ true → one_ends args rows f ≡ true
+pub one_ends_mem : (args : List ℕ) (rows : List Row) (s : ℕ) (f : Final) → mem s args ≡ true → has (row rows s).ends f ≡ true → one_ends args rows f ≡ true
 one_ends_mem [] rows s f m e = true_false (sym m)
 one_ends_mem (x ∷ args) rows s f m e =
     elim (mem_split s x args m) [
@@ -153,14 +153,13 @@ pub record Now (g : TaskGraph) (l : Assumed) (rows : List Row) (v : List Bool) (
   pub agrees : Agrees g l v h
   pub true_rows : AreTrue g rows v h
 
--- rows whose ends and begins are true of a run, and whose chains lead to readers
+-- rows whose ends and begins are true of a run
 pub record Upheld (g : TaskGraph) (l : Assumed) (rows : List Row) (v : List Bool) (h : List Event) : Type 0 where
   pub valid : IsGraph g
   pub run : Run g v h
   pub agrees : Agrees g l v h
   pub ends : (t : ℕ) (f : Final) → final g v h t ≡ Some f → has (row rows t).ends f ≡ true
   pub runs : (t : ℕ) → is_some (begun h t) ≡ true → (row rows t).runs ≡ true
-  pub chain : (t : ℕ) → is_task g t → ChainRule g l rows t (row rows t).chain
 
 pub upheld : (g : TaskGraph) (l : Assumed) (rows : List Row) (v : List Bool) (h : List Event) → Now g l rows v h → Upheld g l rows v h
 upheld g l rows v h now = record {
@@ -169,7 +168,6 @@ upheld g l rows v h now = record {
   agrees = now.agrees;
   ends = now.true_rows.ends;
   runs = now.true_rows.runs;
-  chain = λ t i. (now.closed t i).chain;
 }
 
 -- a child that is started is started on a path of its parent

@@ -52,7 +52,7 @@ module _ (paths : PathLaws) where
   starts_it : (c : ℕ) (w : Known) (script : Statements) → Decides (reaches c w script) (MayStartChild w script c)
   starts_it c w script = ((paths.may_start c w script).0, (paths.may_start c w script).1)
 
-  observes_it : (w : Known) (script : Statements) → Decides (must_observe w script) (MustObserve w script)
+  pub observes_it : (w : Known) (script : Statements) → Decides (must_observe w script) (MustObserve w script)
   observes_it w script = ((paths.must_observe w script).0, (paths.must_observe w script).1)
 
   -- it runs
@@ -212,7 +212,7 @@ module _ (paths : PathLaws) where
   argument_decided y (WhenAll args) = (λ e. (args, refl, e), λ e. subst (λ z. is_argument y z ≡ true) (sym e.1) e.2)
   argument_decided y (WhenAny args) = (λ e. true_false (sym e), λ e. absurd (let q = e.1 in (cc)))
 
-  takes_decided : (g : TaskGraph) (x y : ℕ) → Decides (takes_over g x y) (TakesOver g x y)
+  pub takes_decided : (g : TaskGraph) (x y : ℕ) → Decides (takes_over g x y) (TakesOver g x y)
   takes_decided g x y =
       either (mem y (attached g x) ≡ true) ((args : List ℕ) × (kind g x ≡ WhenAll args) × (mem y args ≡ true)) (mem y (attached g x)) (is_argument y (kind g x)) (itself (mem y (attached g x))) (argument_decided y (kind g x))
 
@@ -224,7 +224,7 @@ module _ (paths : PathLaws) where
   continues_decided y (WhenAll args) = (λ e. true_false (sym e), λ e. absurd (cc))
   continues_decided y (WhenAny args) = (λ e. true_false (sym e), λ e. absurd (cc))
 
-  reads_decided : (g : TaskGraph) (l : Assumed) (rows : List Row) (r y : ℕ) → Decides (reads g l r y) (Reads g l rows r y)
+  pub reads_decided : (g : TaskGraph) (l : Assumed) (rows : List Row) (r y : ℕ) → Decides (reads g l r y) (Reads g l rows r y)
   reads_decided g l rows r y =
       means ((kind g r ≡ Continues y) × ((allows (options g r) Faulted ≡ true) × ((is_loud g l r ≡ false) × MustObserve (faulted_view g l r) (body g r)))) (Reads g l rows r y) (reads g l r y)
       (both (kind g r ≡ Continues y) ((allows (options g r) Faulted ≡ true) × ((is_loud g l r ≡ false) × MustObserve (faulted_view g l r) (body g r))) (continues y (kind g r)) (allows (options g r) Faulted && (not (is_loud g l r) && must_observe (faulted_view g l r) (body g r))) (continues_decided y (kind g r))

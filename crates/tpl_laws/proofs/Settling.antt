@@ -77,6 +77,18 @@ mem_filter f c (x ∷ xs) m = pick (λ n. mem_filter f c xs n) (f x) m
     pick old true n = elim (mem_split c x (filter f xs) n) [ inl q ↦ or_left (nat_eq c x) (mem c xs) (subst (λ z. nat_eq c z ≡ true) q (same_self c)) | inr q ↦ or_right (nat_eq c x) (mem c xs) (old q) ]
     pick old false n = or_right (nat_eq c x) (mem c xs) (old n)
 
+pub filter_mem : (f : ℕ → Bool) (c : ℕ) (xs : List ℕ) → mem c xs ≡ true → f c ≡ true → mem c (filter f xs) ≡ true
+filter_mem f c [] m e = m
+filter_mem f c (x ∷ xs) m e =
+    elim (mem_split c x xs m) [
+      | inl q ↦ subst (λ b. mem c (if b then x ∷ filter f xs else filter f xs) ≡ true) (sym (subst (λ z. f z ≡ true) q e)) (or_left (nat_eq c x) (mem c (filter f xs)) (subst (λ z. nat_eq c z ≡ true) q (same_self c)))
+      | inr q ↦ pick (f x) (filter_mem f c xs q e)
+    ]
+  where
+    pick : (b : Bool) → mem c (filter f xs) ≡ true → mem c (if b then x ∷ filter f xs else filter f xs) ≡ true
+    pick true n = or_right (nat_eq c x) (mem c (filter f xs)) n
+    pick false n = n
+
 pub attached_child : (g : TaskGraph) (p c : ℕ) → mem c (attached g p) ≡ true → IsParent g p c
 attached_child g p c m = mem_filter (λ d. attached_to_parent (options g d) && not (deny_child_attach (options g p))) c (starts (body g p)) m
 

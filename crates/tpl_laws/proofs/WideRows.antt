@@ -1,5 +1,5 @@
 -- What a leaf that is closed by the wider rules says of a run, where a task begins or ends.
-use Rattle.std.proofs.Common.{◌≡◌, ℕ, ◌⊎◌, inl, inr, Bool, true, false, if◌then◌else◌, Option, Some, None, List, [], ◌∷◌, refl, sym, ap, ◌∙◌, subst, nat_eq, is_some}
+use Rattle.std.proofs.Common.{◌≡◌, ℕ, ◌⊎◌, inl, inr, Bool, true, false, if◌then◌else◌, Option, Some, None, List, [], ◌∷◌, filter, refl, sym, ap, ◌∙◌, subst, nat_eq, is_some}
 use Rattle.std.proofs.lemmas.Bool.{cases_Bool, or_cases, or_left}
 use Rattle.tpl_words.proofs.Truths.{true_false}
 use Rattle.tpl_words.specs.declared.finals.Final.{Final}
@@ -14,50 +14,74 @@ use Rattle.tpl_script.specs.Paths.{passes_start}
 use Rattle.tpl_script.specs.Knowledge.{Fact, IsSettled, IsRequested, Knowledge, ChildEnd, all, ending_as, throwing, at_throw}
 use Rattle.tpl_script.proofs.Known.{under_trans}
 use Rattle.tpl_script.proofs.KnownPaths.{told_by, later_on, is_burdened, burdens, facts_of, MayChoose, one, all_one, path_final, ending_as_falls, throwing_falls, ending_one, end_known, within_some, known_where_started, chooses, burdened_start, start_burdens, later_started}
-use Rattle.tpl_model.specs.Graph.{TaskGraph, TaskKind, Root, Child, Continues, WhenAll, WhenAny, task, kind, body, is_task, attached}
+use Rattle.tpl_model.specs.Graph.{TaskGraph, TaskKind, Root, Child, Continues, WhenAll, WhenAny, task, kind, body, options, is_task, attached}
 use Rattle.tpl_words.specs.declared.status.Actor.{Actor}
 use Rattle.tpl_words.specs.declared.status.Answer.{Answer}
 use Rattle.tpl_words.specs.declared.status.Answer.TheVariants.{Done, Failed}
 use Rattle.tpl_model.specs.declared.event.Act.{Act}
 use Rattle.tpl_model.specs.declared.event.Act.TheVariants.{Request, Release, Begin, Step, Worked, Leave, Close, Drop, Settle}
 use Rattle.tpl_model.specs.declared.event.Event.{Event}
-use Rattle.tpl_model.specs.Facts.{Ending, begun, final_in, rest, started, starts_by, is_start, ending, ended_at_once, carried_in, own_atom, those_started, outcome_in, body_final, requested}
+use Rattle.tpl_model.specs.Facts.{Ending, begun, final_in, rest, started, starts_by, is_start, ending, ended_at_once, carried_in, own_atom, those_started, outcome_in, body_final, requested, subject_in, subject_of}
 use Rattle.tpl_model.specs.Rules.{final, MayDrop, MayNotStart, MayCancel, Allows, Run, works, Settled, ended, token_requested, token_requested_by}
 use Rattle.tpl_model.specs.Valid.{IsGraph}
-use Rattle.tpl_model.specs.Certificate.{row, Assumed, Agrees, is_loud, view}
-use Rattle.tpl_model.specs.WiderRules.{WideRow, plain, begins_with, ends_with, once_ended, linked, child_end, reading, asked_of, known_at_end, known_at_start, may_run, WideRunsRule, Way, ByBody, RootDropped, ChildDropped, DroppedEarly, DroppedLate, NotAllowed, way_final, MayEndBy, OwnRequested, SettledBefore, KnownThere, BeforeBegin, HoldsBy, BeginRule, WidelyClosed}
+use Rattle.tpl_model.specs.Certificate.{row, is_loud, subject_ends, subject_set}
+use Rattle.tpl_model.specs.WiderRules.{WideRow, plain, begins_with, ends_with, once_ended, linked, child_end, WideAssumed, WideAgrees, with_winners, subject_left, wide_view, reading, asked_of, known_at_end, known_at_start, may_run, WideRunsRule, Way, ByBody, RootDropped, ChildDropped, DroppedEarly, DroppedLate, NotAllowed, way_final, MayEndBy, OwnRequested, SettledBefore, KnownThere, BeforeBegin, HoldsBy, BeginRule, WidelyClosed}
 use Rattle.tpl_laws.specs.WiderSoundness.{FactHolds}
 use Rattle.tpl_laws.proofs.Basics.{final_same, if_true, if_false, some_none, the_some, is_some_of, same_number, mem_here}
 use Rattle.tpl_laws.proofs.Kept.{after, ending_new, final_of, requested_kept, started_kept}
 use Rattle.tpl_laws.proofs.Execution.{pushed, passed, StartedBy, started_parent}
-use Rattle.tpl_laws.proofs.Ready.{Ready, begun_ready, waiting_ready, IsBody}
-use Rattle.tpl_laws.proofs.Follows.{Follows, follows}
-use Rattle.tpl_laws.proofs.Settling.{child_rules, has_subject_of, attached_child, settled_kept, all_over_mem, children_over}
+use Rattle.tpl_laws.proofs.Ready.{Ready, begun_ready, waiting_ready, IsBody, any_winner}
+use Rattle.tpl_laws.proofs.Follows.{Fits, Follows, follows, winner_some}
+use Rattle.tpl_laws.proofs.Settling.{child_rules, has_subject_of, attached_child, filter_mem, settled_kept, all_over_mem, children_over}
 use Rattle.tpl_laws.proofs.Carrying.{Ends, drops, leaves, settled, BodyEnds, how_ends, carries_faulted, gathered_from, gathered_adds, gathered_keeps, those_mem, mem_those, body_faulted, carried_some}
-use Rattle.tpl_laws.proofs.RowsAreTrue.{left_verdict, view_fits, requested_loud}
+use Rattle.tpl_laws.proofs.RowsAreTrue.{left_verdict, view_fits, one_ends_mem, requested_loud, some_eq}
 use Rattle.tpl_laws.proofs.EachEvent.{may_end_so}
 use Rattle.tpl_laws.proofs.Chains.{no_settle}
 use Rattle.tpl_laws.proofs.Telling.{ToldIn, linked_requested}
 
 -- what the rows say of a run
-pub record WideTrue (g : TaskGraph) (l : Assumed) (rows : List WideRow) (v : List Bool) (h : List Event) : Type 0 where
+pub record WideTrue (g : TaskGraph) (l : WideAssumed) (rows : List WideRow) (v : List Bool) (h : List Event) : Type 0 where
   pub ends : (t : ℕ) (f : Final) → final g v h t ≡ Some f → has (row (plain rows) t).ends f ≡ true
   pub runs : (t : ℕ) → is_some (begun h t) ≡ true → may_run rows t ≡ true
   pub begin : (t : ℕ) (fact : Fact) → is_some (begun h t) ≡ true → begins_with rows t fact ≡ true → FactHolds g v h fact
   pub end : (t : ℕ) (fact : Fact) → is_some (ending g v h t) ≡ true → ends_with rows t fact ≡ true → FactHolds g v h fact
-  pub told : (t : ℕ) → is_some (begun h t) ≡ true → ToldIn l.quiet (asked_of rows t) g v h t
+  pub told : (t : ℕ) → is_some (begun h t) ≡ true → ToldIn l.assumed.quiet (asked_of rows t) g v h t
 
 -- what holds before an event
-pub record WideNow (g : TaskGraph) (l : Assumed) (rows : List WideRow) (v : List Bool) (h : List Event) : Type 0 where
+pub record WideNow (g : TaskGraph) (l : WideAssumed) (rows : List WideRow) (v : List Bool) (h : List Event) : Type 0 where
   pub valid : IsGraph g
   pub closed : WidelyClosed g l rows
   pub run : Run g v h
-  pub agrees : Agrees g l v h
+  pub agrees : WideAgrees g l v h
   pub true_rows : WideTrue g l rows v h
 
 pub fact_kept : (g : TaskGraph) (v : List Bool) (h : List Event) (a : Actor) (x : Act) (fact : Fact) → IsGraph g → Run g v h → Allows g v h a x → FactHolds g v h fact → FactHolds g v (after a x h) fact
 fact_kept g v h a x (IsSettled t) valid run al e = settled_kept g v h a x t valid run al e
 fact_kept g v h a x (IsRequested k) valid run al e = requested_kept g v h a x k e
+
+-- how the subject of a task that has begun has ended is left to it
+left_fits : (g : TaskGraph) (l : WideAssumed) (rows : List WideRow) (v : List Bool) (h : List Event) (t : ℕ) → Run g v h → WideAgrees g l v h → ((s : ℕ) (f : Final) → final g v h s ≡ Some f → has (row (plain rows) s).ends f ≡ true) → is_some (begun h t) ≡ true → Fits g v h t (wide_view g l rows t)
+left_fits g l rows v h t run agrees ends b =
+    let fits = view_fits g v h l.assumed (plain rows) t run agrees.agrees ends b in
+    record { own = fits.own; inputs = fits.inputs; quiet = fits.quiet; subject = by_kind (kind g t) fits.subject; jobs = fits.jobs }
+  where
+    of_kind : (a : ℕ) (k : TaskKind) → kind g a ≡ k → ((s : ℕ) (f : Final) → subject_of k a (ending g v h a) ≡ Some s → final g v h s ≡ Some f → subject_ends k (options g t) a (plain rows) f ≡ true) → (s : ℕ) (f : Final) → subject_of k a (ending g v h a) ≡ Some s → final g v h s ≡ Some f → subject_ends (with_winners (l.wins a) k) (options g t) a (plain rows) f ≡ true
+    of_kind a (WhenAny args) k old s f p q =
+        let r = winner_some (ending g v h a) s p in
+        let w = any_winner g v h a args r.0 run k r.1 in
+        let same = some_eq w.0 s (sym w.2 ∙ r.2) in
+        one_ends_mem (filter (l.wins a) args) (plain rows) s f (filter_mem (l.wins a) s args (subst (λ z. mem z args ≡ true) same w.3) (agrees.winners a s p)) (ends s f q)
+    of_kind a Root k old s f p q = old s f p q
+    of_kind a Child k old s f p q = old s f p q
+    of_kind a (Continues c) k old s f p q = old s f p q
+    of_kind a (WhenAll args) k old s f p q = old s f p q
+
+    by_kind : (k : TaskKind) → ((s : ℕ) (f : Final) → subject_in g k (ending g v h) ≡ Some s → final g v h s ≡ Some f → subject_set g (plain rows) t k f ≡ true) → (s : ℕ) (f : Final) → subject_in g k (ending g v h) ≡ Some s → final g v h s ≡ Some f → subject_left g l rows t k f ≡ true
+    by_kind (Continues a) old s f p q = of_kind a (kind g a) refl old s f p q
+    by_kind Root old s f p q = some_none s (sym p)
+    by_kind Child old s f p q = some_none s (sym p)
+    by_kind (WhenAll args) old s f p q = some_none s (sym p)
+    by_kind (WhenAny args) old s f p q = some_none s (sym p)
 
 -- a body passes the start of started children alone
 pushed_start : (c : ℕ) (left : Statements) (ps : List Statement) → passes_start c (pushed left ps) ≡ true → (is_start c left ≡ true) ⊎ (passes_start c ps ≡ true)
@@ -189,13 +213,13 @@ facts_if true x fact e = (refl, e)
 facts_if false x fact e = true_false (sym e)
 
 -- a way in which a task ends now, and its facts hold
-pub record WayTaken (g : TaskGraph) (l : Assumed) (rows : List WideRow) (v : List Bool) (h : List Event) (t : ℕ) (k : TaskKind) (f : Final) : Type 0 where
+pub record WayTaken (g : TaskGraph) (l : WideAssumed) (rows : List WideRow) (v : List Bool) (h : List Event) (t : ℕ) (k : TaskKind) (f : Final) : Type 0 where
   pub way : Way
   pub may : MayEndBy g l rows t k way
   pub final : way_final way ≡ f
   pub holds : (fact : Fact) → HoldsBy g rows t k fact way → FactHolds g v h fact
 
-module _ (g : TaskGraph) (l : Assumed) (rows : List WideRow) (v : List Bool) (h : List Event) (now : WideNow g l rows v h) where
+module _ (g : TaskGraph) (l : WideAssumed) (rows : List WideRow) (v : List Bool) (h : List Event) (now : WideNow g l rows v h) where
   pub once_holds : (a : ℕ) (fact : Fact) → is_some (ending g v h a) ≡ true → once_ended rows a fact ≡ true → FactHolds g v h fact
   once_holds a (IsSettled x) e m =
       elim (or_cases (nat_eq x a) (mem x (row (plain rows) a).past) m) [
@@ -223,8 +247,8 @@ module _ (g : TaskGraph) (l : Assumed) (rows : List WideRow) (v : List Bool) (h 
   some_of_final : (a : ℕ) (f : Final) → final g v h a ≡ Some f → is_some (ending g v h a) ≡ true
   some_of_final a f e = let w = final_of (ending g v h a) f e in is_some_of (ending g v h a) w.0 w.1
 
-  pub path_of : (t : ℕ) → is_some (begun h t) ≡ true → Follows (view g l (plain rows) t) (body g t) (rest g v h t) (passed g v h t)
-  path_of t b = follows g v h t (view g l (plain rows) t) now.run (view_fits g v h l (plain rows) t now.run now.agrees now.true_rows.ends b) (has_subject_of g t now.valid)
+  pub path_of : (t : ℕ) → is_some (begun h t) ≡ true → Follows (wide_view g l rows t) (body g t) (rest g v h t) (passed g v h t)
+  path_of t b = follows g v h t (wide_view g l rows t) now.run (left_fits g l rows v h t now.run now.agrees now.true_rows.ends b) (has_subject_of g t now.valid)
 
   -- what is known at the start of a child that is started
   start_known : (p c : ℕ) → StartedBy g v h c p → (known : Knowledge) × (known_at_start g l rows p c ≡ Some known) × ((k : ℕ) → known.requested k ≡ true → requested g v h k ≡ true)
@@ -278,14 +302,14 @@ module _ (g : TaskGraph) (l : Assumed) (rows : List WideRow) (v : List Bool) (h 
   pub drop_way : (t : ℕ) → MayDrop g v h t → WayTaken g l rows v h t (kind g t) Canceled
   drop_way t d =
       elim d [
-        | inl a ↦ waiting (kind g t) (waiting_ready g v h t now.run a.0) a.1 (requested_loud g l v h t now.agrees a.1)
+        | inl a ↦ waiting (kind g t) (waiting_ready g v h t now.run a.0) a.1 (requested_loud g l.assumed v h t now.agrees.agrees a.1)
         | inr b ↦ elim b [
-          | inl c ↦ cancels (kind g t) c.2 c.1 (requested_loud g l v h t now.agrees c.1)
+          | inl c ↦ cancels (kind g t) c.2 c.1 (requested_loud g l.assumed v h t now.agrees.agrees c.1)
           | inr c ↦ not_starts (kind g t) c.1
         ]
       ]
     where
-      late : (a : ℕ) (f : Final) → final g v h a ≡ Some f → token_requested g v h t ≡ true → is_loud g l t ≡ true → WayTaken g l rows v h t (Continues a) Canceled
+      late : (a : ℕ) (f : Final) → final g v h a ≡ Some f → token_requested g v h t ≡ true → is_loud g l.assumed t ≡ true → WayTaken g l rows v h t (Continues a) Canceled
       late a f e q loud = record {
         way = DroppedLate;
         may = (loud, may_end_so (plain rows) a f (now.true_rows.ends a f e));
@@ -293,7 +317,7 @@ module _ (g : TaskGraph) (l : Assumed) (rows : List WideRow) (v : List Bool) (h 
         holds = λ fact c. elim c [ inl o ↦ own_holds t fact q o | inr o ↦ once_holds a fact (some_of_final a f e) o ];
       }
 
-      waiting : (k : TaskKind) → Ready g v h t k → token_requested g v h t ≡ true → is_loud g l t ≡ true → WayTaken g l rows v h t k Canceled
+      waiting : (k : TaskKind) → Ready g v h t k → token_requested g v h t ≡ true → is_loud g l.assumed t ≡ true → WayTaken g l rows v h t k Canceled
       waiting Root r q loud = record { way = RootDropped; may = loud; final = refl; holds = λ fact c. own_holds t fact q c }
       waiting Child r q loud =
           let s = started_parent g v h t now.run r in
@@ -311,7 +335,7 @@ module _ (g : TaskGraph) (l : Assumed) (rows : List WideRow) (v : List Bool) (h 
       waiting (WhenAll args) r q loud = absurd r
       waiting (WhenAny args) r q loud = absurd r
 
-      cancels : (k : TaskKind) → MayCancel g v h t k → token_requested g v h t ≡ true → is_loud g l t ≡ true → WayTaken g l rows v h t k Canceled
+      cancels : (k : TaskKind) → MayCancel g v h t k → token_requested g v h t ≡ true → is_loud g l.assumed t ≡ true → WayTaken g l rows v h t k Canceled
       cancels (Continues a) (inl z) q loud = record { way = DroppedEarly; may = (loud, z); final = refl; holds = λ fact c. own_holds t fact q c }
       cancels (Continues a) (inr z) q loud = late a z.0 z.1 q loud
       cancels Root m q loud = absurd m

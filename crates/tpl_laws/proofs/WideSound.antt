@@ -1,5 +1,5 @@
 -- What a certificate of rows with tokens proves holds.
-use Rattle.std.proofs.Common.{◌≡◌, ℕ, ◌||◌, inl, inr, not, nat_eq, Bool, true, false, Some, List, [], ◌∷◌, refl, sym, ap, ◌∙◌, subst}
+use Rattle.std.proofs.Common.{◌≡◌, ℕ, ◌||◌, inl, inr, not, nat_eq, Bool, true, false, Option, Some, None, List, [], ◌∷◌, refl, sym, ap, ◌∙◌, subst}
 use Rattle.std.proofs.lemmas.Bool.{cases_Bool, and_from}
 use Rattle.tpl_words.specs.declared.finals.Final.{Final}
 use Rattle.tpl_words.specs.declared.finals.Final.TheVariants.{RanToCompletion, Canceled, Faulted}
@@ -8,34 +8,24 @@ use Rattle.tpl_words.specs.declared.status.Label.{Label}
 use Rattle.tpl_script.specs.Knowledge.{IsSettled}
 use Rattle.tpl_model.specs.Graph.{TaskGraph}
 use Rattle.tpl_model.specs.declared.event.Event.{Event}
-use Rattle.tpl_model.specs.Facts.{rest, outcome_in}
+use Rattle.tpl_model.specs.Facts.{rest, ending, outcome_in, winner_of}
 use Rattle.tpl_model.specs.Rules.{Run, label, seen, Complete}
 use Rattle.tpl_model.specs.Valid.{IsGraph}
 use Rattle.tpl_model.specs.declared.claim.Property.{Property}
 use Rattle.tpl_model.specs.declared.claim.Property.TheVariants.{Final as EndsIn, After, Observed, Never, Excludes, Runs}
 use Rattle.tpl_model.specs.Claims.{input, Claim, IsGiven}
-use Rattle.tpl_model.specs.Certificate.{Assumed, Agrees, assumed_for, with_input, with_end, own_quiet, taken}
-use Rattle.tpl_model.specs.WiderRules.{WideRow, plain, WidelyClosed, WidelyProves, WideTree, OnInput, OnEnd, WideLeaf, narrowed, AcceptsWideTree}
+use Rattle.tpl_model.specs.Certificate.{same, own_quiet, taken}
+use Rattle.tpl_model.specs.WiderRules.{WideRow, plain, WideAssumed, WideAgrees, WidelyClosed, WidelyProves, WideTree, OnInput, OnEnd, OnWinner, WideLeaf, narrowed, input_split, end_split, winner_split, AcceptsWideTree, widely_assumed}
 use Rattle.tpl_laws.specs.WiderSoundness.{WideRowsAreTrue, WideSoundness}
 use Rattle.tpl_laws.proofs.Basics.{some_none, same_number, final_self}
-use Rattle.tpl_laws.proofs.RowsAreTrue.{Upheld}
+use Rattle.tpl_laws.proofs.RowsAreTrue.{Upheld, some_eq}
 use Rattle.tpl_laws.proofs.Chains.{threw_begun, begun_ends}
-use Rattle.tpl_laws.proofs.Observing.{label_verdict, chain_seen}
+use Rattle.tpl_laws.proofs.Observing.{label_verdict}
 use Rattle.tpl_laws.proofs.WideRows.{WideNow, ready_runs, ready_begins, throw_known}
 use Rattle.tpl_laws.proofs.WideEvents.{wide_now, begin_holds}
+use Rattle.tpl_laws.proofs.WideChains.{wide_upheld, wide_chain_seen}
 use Rattle.tpl_laws.proofs.Destinies.{destiny, destiny_ended, narrowed_agrees}
 use Rattle.tpl_laws.proofs.MainTheorem.{Shows, ALeaf, never_complete, observed_holds, given_agrees, input_agrees, end_agrees, is_taken, property_holds}
-
--- what chains need of rows with tokens
-wide_upheld : (g : TaskGraph) (l : Assumed) (rows : List WideRow) (v : List Bool) (h : List Event) → WideNow g l rows v h → Upheld g l (plain rows) v h
-wide_upheld g l rows v h now = record {
-  valid = now.valid;
-  run = now.run;
-  agrees = now.agrees;
-  ends = now.true_rows.ends;
-  runs = now.true_rows.runs;
-  chain = λ t i. (now.closed t i).chain;
-}
 
 pub wide_rows_lem : WideRowsAreTrue
 wide_rows_lem g l rows v h valid closed run agrees =
@@ -44,28 +34,30 @@ wide_rows_lem g l rows v h valid closed run agrees =
         ends = now.true_rows.ends;
         runs = now.true_rows.runs;
         end = now.true_rows.end;
-        observed = λ t c complete lb e. chain_seen g l (plain rows) v h t lb (wide_upheld g l rows v h now) complete c e;
+        observed = λ t c complete lb e. wide_chain_seen g l rows v h now complete t lb c e;
       },
       begin_holds g l rows v h valid closed run agrees,
     )
 
 -- what a closed leaf proves, it shows
-wide_shows : (g : TaskGraph) (l : Assumed) (rows : List WideRow) (v : List Bool) (h : List Event) (p : Property) → WideNow g l rows v h → WidelyProves g l rows p → Shows g l (plain rows) v h p
+wide_shows : (g : TaskGraph) (l : WideAssumed) (rows : List WideRow) (v : List Bool) (h : List Event) (p : Property) → WideNow g l rows v h → WidelyProves g l rows p → Shows g l.assumed (plain rows) v h p
 wide_shows g l rows v h (Observed t) now pr = λ complete lb e. by_proof lb complete e pr
   where
-    up : Upheld g l (plain rows) v h
+    up : Upheld g l.assumed (plain rows) v h
     up = wide_upheld g l rows v h now
 
     by_proof : (lb : Label) → Complete g v h → label g v h t.0 ≡ Some lb → WidelyProves g l rows (Observed t) → seen g v h t.0 ≡ true
-    by_proof lb complete e (inl c) = observed_holds g l (plain rows) v h t.0 lb up complete e (inl c)
-    by_proof lb complete e (inr (inl c)) = observed_holds g l (plain rows) v h t.0 lb up complete e (inr (inl c))
-    by_proof lb complete e (inr (inr (inl c))) = observed_holds g l (plain rows) v h t.0 lb up complete e (inr (inr (inl c)))
+    by_proof lb complete e (inl c) = wide_chain_seen g l rows v h now complete t.0 lb c e
+    by_proof lb complete e (inr (inl c)) =
+        observed_holds g l.assumed (plain rows) v h t.0 lb up (λ c. wide_chain_seen g l rows v h now complete t.0 lb c e) complete e (inr (inl c))
+    by_proof lb complete e (inr (inr (inl c))) =
+        observed_holds g l.assumed (plain rows) v h t.0 lb up (λ c. wide_chain_seen g l rows v h now complete t.0 lb c e) complete e (inr (inr (inl c)))
     by_proof lb complete e (inr (inr (inr (inl none)))) =
         let threw = label_verdict (outcome_in (rest g v h t.0)) lb e in
         let b = threw_begun g v h t.0 lb now.run threw in
         let w = throw_known g l rows v h now t.0 lb threw b (begun_ends g v h t.0 now.run complete b) in
         some_none w.0 (sym w.1 ∙ none)
-    by_proof lb complete e (inr (inr (inr (inr never)))) = absurd (never_complete g l (plain rows) v h up never complete)
+    by_proof lb complete e (inr (inr (inr (inr never)))) = absurd (never_complete g l.assumed (plain rows) v h up never complete)
 wide_shows g l rows v h (EndsIn t ends) now pr = pr
 wide_shows g l rows v h (After a b) now pr = pr
 wide_shows g l rows v h (Never t) now pr = pr
@@ -74,52 +66,86 @@ wide_shows g l rows v h (Runs t) now pr = pr
 
 -- a leaf of an accepted tree that agrees with a run so far
 record AWideLeaf (g : TaskGraph) (p : Property) (v : List Bool) (h : List Event) : Type 0 where
-  assumes : Assumed
+  assumes : WideAssumed
   rows : List WideRow
-  agrees : Agrees g assumes v h
+  agrees : WideAgrees g assumes v h
   closed : WidelyClosed g assumes rows
   proves : WidelyProves g assumes rows p
 
--- it is found by taking at each split on an end the branch by which the task is bound to end
+-- it is found by taking at each split on an end the branch by which the task is bound to end, and at each split on a
+-- winner the branch of the winner, or either while there is none
 module _ (g : TaskGraph) (p : Property) (v : List Bool) (h : List Event) (valid : IsGraph g) (run : Run g v h) where
-  abbrev Bound : Assumed → Type 0
-  Bound l = (s : ℕ) → l.cut s (destiny g v h s) ≡ true
+  abbrev Bound : WideAssumed → Type 0
+  Bound l = (s : ℕ) → l.assumed.cut s (destiny g v h s) ≡ true
 
-  bound_end : (l : Assumed) (t : ℕ) (f : Final) → destiny g v h t ≡ f → Bound l → Bound (with_end l t f)
-  bound_end l t f e b = λ s. and_from (l.cut s (destiny g v h s)) (not (nat_eq t s) || is_final f (destiny g v h s)) (b s) (by_test s (nat_eq t s) refl)
+  bound_end : (l : WideAssumed) (t : ℕ) (f : Final) → destiny g v h t ≡ f → Bound l → Bound (end_split l t f)
+  bound_end l t f e b = λ s. and_from (l.assumed.cut s (destiny g v h s)) (not (nat_eq t s) || is_final f (destiny g v h s)) (b s) (by_test s (nat_eq t s) refl)
     where
       by_test : (s : ℕ) (c : Bool) → nat_eq t s ≡ c → not c || is_final f (destiny g v h s) ≡ true
       by_test s false q = refl
       by_test s true q = subst (λ z. is_final f z ≡ true) (sym (ap (destiny g v h) (sym (same_number t s q)) ∙ e)) (final_self f)
 
-  takes_end : (l : Assumed) (t : ℕ) (f : Final) → destiny g v h t ≡ f → Agrees g l v h → Agrees g (with_end l t f) v h
-  takes_end l t f e agrees = end_agrees g l v h t f (λ z q. subst (λ w. is_final f w ≡ true) (sym e ∙ destiny_ended g v h t z q) (final_self f)) agrees
+  takes_end : (l : WideAssumed) (t : ℕ) (f : Final) → destiny g v h t ≡ f → WideAgrees g l v h → WideAgrees g (end_split l t f) v h
+  takes_end l t f e agrees = record {
+    agrees = end_agrees g l.assumed v h t f (λ z q. subst (λ w. is_final f w ≡ true) (sym e ∙ destiny_ended g v h t z q) (final_self f)) agrees.agrees;
+    winners = agrees.winners;
+  }
 
-  some_leaf : (l : Assumed) (tree : WideTree) → Agrees g l v h → Bound l → AcceptsWideTree g p l tree → AWideLeaf g p v h
+  takes_input : (l : WideAssumed) (i : ℕ) (value : Bool) → input v i ≡ value → WideAgrees g l v h → WideAgrees g (input_split l i value) v h
+  takes_input l i value e agrees = record { agrees = input_agrees g l.assumed v h i value e agrees.agrees; winners = agrees.winners }
+
+  -- this branch has the winner of n, if there is one
+  abbrev HasWinner : ℕ → ℕ → Bool → Type 0
+  HasWinner n x value = (w : ℕ) → winner_of (ending g v h n) ≡ Some w → same value (nat_eq x w) ≡ true
+
+  takes_winner : (l : WideAssumed) (n x : ℕ) (value : Bool) → HasWinner n x value → WideAgrees g l v h → WideAgrees g (winner_split l n x value) v h
+  takes_winner l n x value won agrees = record {
+    agrees = agrees.agrees;
+    winners = λ m w e. and_from (l.wins m w) (not (nat_eq n m) || same value (nat_eq x w)) (agrees.winners m w e) (by_test m w e (nat_eq n m) refl);
+  }
+    where
+      by_test : (m w : ℕ) → winner_of (ending g v h m) ≡ Some w → (c : Bool) → nat_eq n m ≡ c → not c || same value (nat_eq x w) ≡ true
+      by_test m w e false q = refl
+      by_test m w e true q = won w (subst (λ z. winner_of (ending g v h z) ≡ Some w) (sym (same_number n m q)) e)
+
+  by_winner : (n x : ℕ) (A : Type 0) (o : Option ℕ) → winner_of (ending g v h n) ≡ o → (HasWinner n x true → A) → (HasWinner n x false → A) → A
+  by_winner n x A None q on_yes on_no = on_yes (λ w e. some_none w (sym e ∙ q))
+  by_winner n x A (Some s) q on_yes on_no =
+      elim (cases_Bool (nat_eq x s)) [
+        | inl c ↦ on_yes (λ w e. subst (λ z. nat_eq x z ≡ true) (some_eq s w (sym q ∙ e)) c)
+        | inr c ↦ on_no (λ w e. subst (λ z. not (nat_eq x z) ≡ true) (some_eq s w (sym q ∙ e)) (ap not c))
+      ]
+
+  some_leaf : (l : WideAssumed) (tree : WideTree) → WideAgrees g l v h → Bound l → AcceptsWideTree g p l tree → AWideLeaf g p v h
   some_leaf l (OnInput i a b) agrees bound acc =
       elim (cases_Bool (input v i)) [
-        | inl e ↦ some_leaf (with_input l i true) a (input_agrees g l v h i true e agrees) bound acc.1
-        | inr e ↦ some_leaf (with_input l i false) b (input_agrees g l v h i false e agrees) bound acc.2
+        | inl e ↦ some_leaf (input_split l i true) a (takes_input l i true e agrees) bound acc.1
+        | inr e ↦ some_leaf (input_split l i false) b (takes_input l i false e agrees) bound acc.2
       ]
   some_leaf l (OnEnd t a b c) agrees bound acc =
       by_end (destiny g v h t) refl
-      (λ e. some_leaf (with_end l t RanToCompletion) a (takes_end l t RanToCompletion e agrees) (bound_end l t RanToCompletion e bound) acc.1)
-      (λ e. some_leaf (with_end l t Canceled) b (takes_end l t Canceled e agrees) (bound_end l t Canceled e bound) acc.2)
-      (λ e. some_leaf (with_end l t Faulted) c (takes_end l t Faulted e agrees) (bound_end l t Faulted e bound) acc.3)
+      (λ e. some_leaf (end_split l t RanToCompletion) a (takes_end l t RanToCompletion e agrees) (bound_end l t RanToCompletion e bound) acc.1)
+      (λ e. some_leaf (end_split l t Canceled) b (takes_end l t Canceled e agrees) (bound_end l t Canceled e bound) acc.2)
+      (λ e. some_leaf (end_split l t Faulted) c (takes_end l t Faulted e agrees) (bound_end l t Faulted e bound) acc.3)
     where
       by_end : (f : Final) → destiny g v h t ≡ f → (destiny g v h t ≡ RanToCompletion → AWideLeaf g p v h) → (destiny g v h t ≡ Canceled → AWideLeaf g p v h) → (destiny g v h t ≡ Faulted → AWideLeaf g p v h) → AWideLeaf g p v h
       by_end RanToCompletion e x y z = x e
       by_end Canceled e x y z = y e
       by_end Faulted e x y z = z e
+  some_leaf l (OnWinner n x a b) agrees bound acc =
+      by_winner n x (AWideLeaf g p v h) (winner_of (ending g v h n)) refl
+      (λ won. some_leaf (winner_split l n x true) a (takes_winner l n x true won agrees) bound acc.1)
+      (λ won. some_leaf (winner_split l n x false) b (takes_winner l n x false won agrees) bound acc.2)
   some_leaf l (WideLeaf rows) agrees bound acc =
       record { assumes = narrowed g l; rows = rows; agrees = narrowed_agrees g v h valid run l agrees bound; closed = acc.3; proves = acc.4 }
 
-a_wide_leaf : (g : TaskGraph) (claim : Claim) (tree : WideTree) (v : List Bool) (h : List Event) → IsGraph g → AcceptsWideTree g claim.body (assumed_for true g claim) tree → Run g v h → IsGiven g v h claim.given → IsGiven g v h (own_quiet g claim.body) → ALeaf g v h claim.body
+a_wide_leaf : (g : TaskGraph) (claim : Claim) (tree : WideTree) (v : List Bool) (h : List Event) → IsGraph g → AcceptsWideTree g claim.body (widely_assumed g claim) tree → Run g v h → IsGiven g v h claim.given → IsGiven g v h (own_quiet g claim.body) → ALeaf g v h claim.body
 a_wide_leaf g claim tree v h valid acc run i q =
-    let w = some_leaf g claim.body v h valid run (assumed_for true g claim) tree (given_agrees true g v h (taken true g claim) (is_taken true g claim v h i q)) (λ s. refl) acc in
+    let w = some_leaf g claim.body v h valid run (widely_assumed g claim) tree
+    (record { agrees = given_agrees true g v h (taken true g claim) (is_taken true g claim v h i q); winners = λ n x e. refl }) (λ s. refl) acc in
     let now = wide_now g w.assumes w.rows v h valid w.closed run w.agrees in
     record {
-      assumes = w.assumes;
+      assumes = w.assumes.assumed;
       rows = plain w.rows;
       upheld = wide_upheld g w.assumes w.rows v h now;
       runs = λ t b. ready_runs g w.assumes w.rows v h now t b.task b.ready b.not_requested;

@@ -19,12 +19,12 @@ use Rattle.tpl_laws.specs.Soundness.{Soundness}
 use Rattle.tpl_laws.proofs.MainTheorem.{soundness_lem}
 
 -- u knows what w does, and maybe more
-record KnowsMore (w u : Known) : Type 0 where
-  own : u.own ≡ w.own
-  possible : (i : ℕ) (value : Bool) → u.possible i value ≡ true → w.possible i value ≡ true
-  loud : (k : ℕ) → u.quiet k ≡ false → w.quiet k ≡ false
-  subject : (f : Final) → u.subject f ≡ true → w.subject f ≡ true
-  unsure : (site : ℕ) → u.sure site ≡ false → w.sure site ≡ false
+pub record KnowsMore (w u : Known) : Type 0 where
+  pub own : u.own ≡ w.own
+  pub possible : (i : ℕ) (value : Bool) → u.possible i value ≡ true → w.possible i value ≡ true
+  pub loud : (k : ℕ) → u.quiet k ≡ false → w.quiet k ≡ false
+  pub subject : (f : Final) → u.subject f ≡ true → w.subject f ≡ true
+  pub unsure : (site : ℕ) → u.sure site ≡ false → w.sure site ≡ false
 
 goes_on : (w u : Known) (s : Statement) (more left : Statements) → KnowsMore w u → GoesOn u s more left → GoesOn w s more left
 goes_on w u Return more left k g = g
@@ -60,13 +60,13 @@ path w u body ps (Some outcome) k (inl p) = inl (passes w u body ps _ k p.0, p.1
 path w u body [] (Some outcome) k (inr p) = absurd p
 path w u body (s ∷ ps) (Some outcome) k (inr p) = inr (p.0, passes w u body ps _ k p.1, ends_at w u s outcome k p.2)
 
-may_end_more : (w u : Known) (body : Statements) (outcome : Outcome) → KnowsMore w u → MayEnd u body outcome → MayEnd w body outcome
+pub may_end_more : (w u : Known) (body : Statements) (outcome : Outcome) → KnowsMore w u → MayEnd u body outcome → MayEnd w body outcome
 may_end_more w u body outcome k m = (m.0, path w u body m.0 (Some outcome) k m.1)
 
-may_throw_more : (w u : Known) (body : Statements) → KnowsMore w u → MayThrow u body → MayThrow w body
+pub may_throw_more : (w u : Known) (body : Statements) → KnowsMore w u → MayThrow u body → MayThrow w body
 may_throw_more w u body k m = (m.0, may_end_more w u body _ k m.1)
 
-may_start_more : (w u : Known) (body : Statements) (c : ℕ) → KnowsMore w u → MayStartChild u body c → MayStartChild w body c
+pub may_start_more : (w u : Known) (body : Statements) (c : ℕ) → KnowsMore w u → MayStartChild u body c → MayStartChild w body c
 may_start_more w u body c k m = (m.0, m.1, path w u body m.0 m.1 k m.2, m.3)
 
 unless_so : (b c : Bool) → (b ≡ true → c ≡ true) → c ≡ false → b ≡ false

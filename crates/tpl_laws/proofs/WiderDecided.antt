@@ -1,5 +1,5 @@
 -- The wider rules for rows with tokens are decided by their tests.
-use Rattle.std.proofs.Common.{◌≡◌, ℕ, zero, suc, ◌+◌, ◌<◌, ◌≤◌, ◌⊎◌, inl, inr, ◌&&◌, ◌||◌, not, Bool, true, false, Option, Some, None, List, [], refl, sym, subst, arith, is_some, length}
+use Rattle.std.proofs.Common.{◌≡◌, ℕ, zero, suc, ◌+◌, ◌<◌, ◌≤◌, ◌⊎◌, inl, inr, ◌&&◌, ◌||◌, not, Bool, true, false, Option, Some, None, List, [], ◌∷◌, refl, sym, subst, arith, nat_eq, is_some, length}
 use Rattle.std.specs.Prelude.{Decides}
 use Rattle.std.proofs.lemmas.Bool.{cases_lt}
 use Rattle.tpl_words.proofs.Truths.{true_false}
@@ -8,6 +8,8 @@ use Rattle.tpl_words.specs.declared.finals.Final.TheVariants.{RanToCompletion, C
 use Rattle.tpl_words.specs.Finals.{has}
 use Rattle.tpl_words.specs.Members.{mem}
 use Rattle.tpl_words.specs.Options.{allows, lazy_cancellation}
+use Rattle.tpl_script.specs.Paths.{MustObserve}
+use Rattle.tpl_script.specs.Recursion.{must_observe}
 use Rattle.tpl_script.specs.Knowledge.{Fact, IsSettled, IsRequested, Knowledge, at_throw}
 use Rattle.tpl_model.specs.Graph.{TaskGraph, TaskKind, Root, Child, Continues, WhenAll, WhenAny, task, kind, body, options, some_in, IsParent}
 use Rattle.tpl_model.specs.Rules.{token_requested_by}
@@ -15,16 +17,16 @@ use Rattle.tpl_model.specs.Valid.{IsGraph}
 use Rattle.tpl_model.specs.declared.claim.Property.{Property}
 use Rattle.tpl_model.specs.declared.claim.Property.TheVariants.{Final as EndsIn, After, Observed, Never, Excludes, Runs}
 use Rattle.tpl_model.specs.declared.fault.Rule.TheVariants.{K1, K2, K3, K6}
-use Rattle.tpl_model.specs.Certificate.{row, Assumed, end_left, is_loud, AllMayEnd, ChainRule, may_end, NoneComplete}
-use Rattle.tpl_model.specs.WiderRules.{WideRow, plain, wide_row, begins_with, ends_with, once_ended, linked, reading, asked_of, known_at_end, known_at_start, own_among, may_run, WideRunsRule, Way, ByBody, RootDropped, ChildDropped, DroppedEarly, DroppedLate, NotAllowed, way_final, MayEndBy, IsWay, OwnRequested, SettledBefore, KnownThere, BeforeBegin, HoldsBy, WideEndsRule, BeginRule, SettledBelow, EndRule, IsWidelyClosed, WidelyClosed, WidelyProves}
+use Rattle.tpl_model.specs.Certificate.{row, end_left, is_loud, AllMayEnd, may_end, TakesOver, Reads, NoneComplete}
+use Rattle.tpl_model.specs.WiderRules.{WideRow, plain, wide_row, begins_with, ends_with, once_ended, linked, WideAssumed, kind_left, reading, asked_of, known_at_end, known_at_start, own_among, may_run, WideRunsRule, Way, ByBody, RootDropped, ChildDropped, DroppedEarly, DroppedLate, NotAllowed, way_final, MayEndBy, IsWay, OwnRequested, SettledBefore, KnownThere, BeforeBegin, HoldsBy, WideEndsRule, BeginRule, SettledBelow, EndRule, IsWonBy, ReadsWinner, WideLinks, WideChainRule, IsWidelyClosed, WidelyClosed, WidelyProves}
 use Rattle.tpl_laws.specs.PathLaws.{PathLaws}
-use Rattle.tpl_laws.specs.RowTests.{implies, all_in, each_end, some_end, all_may_end, chain, is_none, none_complete}
+use Rattle.tpl_laws.specs.RowTests.{implies, all_in, each_end, some_end, all_may_end, takes_over, faulted_view, reads, is_none, none_complete}
 use Rattle.tpl_laws.specs.Verdict.{unless, past_rule, ProvesNot, breaks}
-use Rattle.tpl_laws.specs.WiderTests.{if_known, each_begin, each_ending, wide_runs_by, each_drop, each_body_end, each_way, wide_ends_by, begin_by, own_requested, settled_before, known_there, before_begin, holds_by, settled_below, end_by, wide_broken, wide_proves, wide_first_broken, wide_leaf_fault}
+use Rattle.tpl_laws.specs.WiderTests.{if_known, each_begin, each_ending, wide_runs_by, each_drop, each_body_end, each_way, wide_ends_by, begin_by, own_requested, settled_before, known_there, before_begin, holds_by, settled_below, end_by, is_won_by, reads_winner, wide_links, wide_chain, wide_broken, wide_proves, wide_first_broken, wide_leaf_fault}
 use Rattle.tpl_laws.proofs.AllowedDecided.{itself, denied as opposite}
-use Rattle.tpl_laws.proofs.Deciding.{denied, both, either, only_if, means, at_each_end, at_some_end, of_all, of_some}
+use Rattle.tpl_laws.proofs.Deciding.{denied, same, both, either, only_if, means, at_each_end, at_some_end, of_all, of_some}
 use Rattle.tpl_laws.proofs.Parents.{at_parent, below}
-use Rattle.tpl_laws.proofs.RulesDecided.{all_decided, none_decided, none_complete_decided, chain_lem, proves_lem}
+use Rattle.tpl_laws.proofs.RulesDecided.{observes_it, all_decided, takes_decided, reads_decided, none_decided, none_complete_decided, proves_lem}
 use Rattle.tpl_laws.proofs.FaultsDecided.{Clears, clear, clear_unless, clear_or_else, clear_means, clear_breaks}
 
 -- what is known, if there are paths
@@ -61,7 +63,7 @@ ending_decided rows t P q d =
     (λ e. by_fact (λ f. ends_with rows t f ≡ true → P f) e.0 e.1)
     (λ f. ((λ x m. f (IsSettled x) m), (λ k m. f (IsRequested k) m)))
 
-module _ (g : TaskGraph) (l : Assumed) (rows : List WideRow) (t : ℕ) (valid : IsGraph g) where
+module _ (g : TaskGraph) (l : WideAssumed) (rows : List WideRow) (t : ℕ) (valid : IsGraph g) where
   -- it runs, unless its token is known
   unless_known : (o : Option ℕ) (tokens : ℕ → Bool) (r : Bool) → Decides (implies (not (token_requested_by o tokens)) r) (token_requested_by o tokens ≡ false → r ≡ true)
   unless_known o tokens r = only_if (token_requested_by o tokens ≡ false) (r ≡ true) (not (token_requested_by o tokens)) r (opposite (token_requested_by o tokens)) (itself r)
@@ -91,46 +93,46 @@ module _ (g : TaskGraph) (l : Assumed) (rows : List WideRow) (t : ℕ) (valid : 
 
   -- each way to end
   module _ (P : Way → Type 0) (q : Way → Bool) (d : (way : Way) → Decides (q way) (P way)) where
-    bodies_decided : Decides (each_body_end g l rows t q) (may_run rows t ≡ true → (f : Final) → end_left l t f ≡ true → (known : Knowledge) → known_at_end g l rows t f ≡ Some known → P (ByBody f known))
+    bodies_decided : Decides (each_body_end g l rows t q) (may_run rows t ≡ true → (f : Final) → end_left l.assumed t f ≡ true → (known : Knowledge) → known_at_end g l rows t f ≡ Some known → P (ByBody f known))
     bodies_decided =
-        let test : Final → Bool = λ f. implies (end_left l t f) (if_known (known_at_end g l rows t f) (λ known. q (ByBody f known))) in
-        only_if (may_run rows t ≡ true) ((f : Final) → end_left l t f ≡ true → (known : Knowledge) → known_at_end g l rows t f ≡ Some known → P (ByBody f known)) (may_run rows t) (each_end test) (itself (may_run rows t))
-        (at_each_end (λ f. end_left l t f ≡ true → (known : Knowledge) → known_at_end g l rows t f ≡ Some known → P (ByBody f known)) test
-        (λ f. only_if (end_left l t f ≡ true) ((known : Knowledge) → known_at_end g l rows t f ≡ Some known → P (ByBody f known)) (end_left l t f) (if_known (known_at_end g l rows t f) (λ known. q (ByBody f known))) (itself (end_left l t f))
+        let test : Final → Bool = λ f. implies (end_left l.assumed t f) (if_known (known_at_end g l rows t f) (λ known. q (ByBody f known))) in
+        only_if (may_run rows t ≡ true) ((f : Final) → end_left l.assumed t f ≡ true → (known : Knowledge) → known_at_end g l rows t f ≡ Some known → P (ByBody f known)) (may_run rows t) (each_end test) (itself (may_run rows t))
+        (at_each_end (λ f. end_left l.assumed t f ≡ true → (known : Knowledge) → known_at_end g l rows t f ≡ Some known → P (ByBody f known)) test
+        (λ f. only_if (end_left l.assumed t f ≡ true) ((known : Knowledge) → known_at_end g l rows t f ≡ Some known → P (ByBody f known)) (end_left l.assumed t f) (if_known (known_at_end g l rows t f) (λ known. q (ByBody f known))) (itself (end_left l.assumed t f))
         (at_known (λ known. P (ByBody f known)) (λ known. q (ByBody f known)) (known_at_end g l rows t f) (λ known. d (ByBody f known)))))
 
     -- the ways of a kind to be canceled before it begins
     abbrev Drops : TaskKind → Type 0
-    Drops Root = is_loud g l t ≡ true → P RootDropped
-    Drops Child = (p : ℕ) → IsParent g p t → (is_loud g l t ≡ true) × (may_run rows p ≡ true) → (known : Knowledge) → known_at_start g l rows p t ≡ Some known → P (ChildDropped p known)
+    Drops Root = is_loud g l.assumed t ≡ true → P RootDropped
+    Drops Child = (p : ℕ) → IsParent g p t → (is_loud g l.assumed t ≡ true) × (may_run rows p ≡ true) → (known : Knowledge) → known_at_start g l rows p t ≡ Some known → P (ChildDropped p known)
     Drops (Continues a) =
-        ((is_loud g l t ≡ true) × (lazy_cancellation (options g t) ≡ false) → P DroppedEarly)
-        × (((is_loud g l t ≡ true) × (may_end (plain rows) a ≡ true) → P DroppedLate)
+        ((is_loud g l.assumed t ≡ true) × (lazy_cancellation (options g t) ≡ false) → P DroppedEarly)
+        × (((is_loud g l.assumed t ≡ true) × (may_end (plain rows) a ≡ true) → P DroppedLate)
         × (((f : Final) × ((has (row (plain rows) a).ends f ≡ true) × (allows (options g t) f ≡ false))) → P NotAllowed))
     Drops (WhenAll args) = Unit {0}
     Drops (WhenAny args) = Unit {0}
 
     drops_decided : (k : TaskKind) → Decides (each_drop g l rows t k q) (Drops k)
-    drops_decided Root = only_if (is_loud g l t ≡ true) (P RootDropped) (is_loud g l t) (q RootDropped) (itself (is_loud g l t)) (d RootDropped)
+    drops_decided Root = only_if (is_loud g l.assumed t ≡ true) (P RootDropped) (is_loud g l.assumed t) (q RootDropped) (itself (is_loud g l.assumed t)) (d RootDropped)
     drops_decided Child =
-        at_parent g t (λ p. (is_loud g l t ≡ true) × (may_run rows p ≡ true) → (known : Knowledge) → known_at_start g l rows p t ≡ Some known → P (ChildDropped p known))
-        (λ p. implies (is_loud g l t && may_run rows p) (if_known (known_at_start g l rows p t) (λ known. q (ChildDropped p known)))) valid
-        (λ p. only_if ((is_loud g l t ≡ true) × (may_run rows p ≡ true)) ((known : Knowledge) → known_at_start g l rows p t ≡ Some known → P (ChildDropped p known)) (is_loud g l t && may_run rows p) (if_known (known_at_start g l rows p t) (λ known. q (ChildDropped p known)))
-        (both (is_loud g l t ≡ true) (may_run rows p ≡ true) (is_loud g l t) (may_run rows p) (itself (is_loud g l t)) (itself (may_run rows p)))
+        at_parent g t (λ p. (is_loud g l.assumed t ≡ true) × (may_run rows p ≡ true) → (known : Knowledge) → known_at_start g l rows p t ≡ Some known → P (ChildDropped p known))
+        (λ p. implies (is_loud g l.assumed t && may_run rows p) (if_known (known_at_start g l rows p t) (λ known. q (ChildDropped p known)))) valid
+        (λ p. only_if ((is_loud g l.assumed t ≡ true) × (may_run rows p ≡ true)) ((known : Knowledge) → known_at_start g l rows p t ≡ Some known → P (ChildDropped p known)) (is_loud g l.assumed t && may_run rows p) (if_known (known_at_start g l rows p t) (λ known. q (ChildDropped p known)))
+        (both (is_loud g l.assumed t ≡ true) (may_run rows p ≡ true) (is_loud g l.assumed t) (may_run rows p) (itself (is_loud g l.assumed t)) (itself (may_run rows p)))
         (at_known (λ known. P (ChildDropped p known)) (λ known. q (ChildDropped p known)) (known_at_start g l rows p t) (λ known. d (ChildDropped p known))))
     drops_decided (Continues a) =
-        let early = is_loud g l t && not (lazy_cancellation (options g t)) in
-        let late = is_loud g l t && may_end (plain rows) a in
+        let early = is_loud g l.assumed t && not (lazy_cancellation (options g t)) in
+        let late = is_loud g l.assumed t && may_end (plain rows) a in
         let other = some_end (λ f. has (row (plain rows) a).ends f && not (allows (options g t) f)) in
-        let Early = (is_loud g l t ≡ true) × (lazy_cancellation (options g t) ≡ false) in
-        let Late = (is_loud g l t ≡ true) × (may_end (plain rows) a ≡ true) in
+        let Early = (is_loud g l.assumed t ≡ true) × (lazy_cancellation (options g t) ≡ false) in
+        let Late = (is_loud g l.assumed t ≡ true) × (may_end (plain rows) a ≡ true) in
         let Other = (f : Final) × ((has (row (plain rows) a).ends f ≡ true) × (allows (options g t) f ≡ false)) in
         both (Early → P DroppedEarly) ((Late → P DroppedLate) × (Other → P NotAllowed)) (implies early (q DroppedEarly)) (implies late (q DroppedLate) && implies other (q NotAllowed))
         (only_if Early (P DroppedEarly) early (q DroppedEarly)
-        (both (is_loud g l t ≡ true) (lazy_cancellation (options g t) ≡ false) (is_loud g l t) (not (lazy_cancellation (options g t))) (itself (is_loud g l t)) (opposite (lazy_cancellation (options g t))))
+        (both (is_loud g l.assumed t ≡ true) (lazy_cancellation (options g t) ≡ false) (is_loud g l.assumed t) (not (lazy_cancellation (options g t))) (itself (is_loud g l.assumed t)) (opposite (lazy_cancellation (options g t))))
         (d DroppedEarly))
         (both (Late → P DroppedLate) (Other → P NotAllowed) (implies late (q DroppedLate)) (implies other (q NotAllowed))
-        (only_if Late (P DroppedLate) late (q DroppedLate) (both (is_loud g l t ≡ true) (may_end (plain rows) a ≡ true) (is_loud g l t) (may_end (plain rows) a) (itself (is_loud g l t)) (itself (may_end (plain rows) a))) (d DroppedLate))
+        (only_if Late (P DroppedLate) late (q DroppedLate) (both (is_loud g l.assumed t ≡ true) (may_end (plain rows) a ≡ true) (is_loud g l.assumed t) (may_end (plain rows) a) (itself (is_loud g l.assumed t)) (itself (may_end (plain rows) a))) (d DroppedLate))
         (only_if Other (P NotAllowed) other (q NotAllowed)
         (at_some_end (λ f. (has (row (plain rows) a).ends f ≡ true) × (allows (options g t) f ≡ false)) (λ f. has (row (plain rows) a).ends f && not (allows (options g t) f))
         (λ f. both (has (row (plain rows) a).ends f ≡ true) (allows (options g t) f ≡ false) (has (row (plain rows) a).ends f) (not (allows (options g t) f)) (itself (has (row (plain rows) a).ends f)) (opposite (allows (options g t) f))))
@@ -139,10 +141,10 @@ module _ (g : TaskGraph) (l : Assumed) (rows : List WideRow) (t : ℕ) (valid : 
     drops_decided (WhenAny args) = (λ e. tt, λ u. refl)
 
     abbrev AllWays : TaskKind → Type 0
-    AllWays k = (way : Way) → (end_left l t (way_final way) ≡ true) × MayEndBy g l rows t k way → P way
+    AllWays k = (way : Way) → (end_left l.assumed t (way_final way) ≡ true) × MayEndBy g l rows t k way → P way
 
     abbrev Parts : TaskKind → Type 0
-    Parts k = (may_run rows t ≡ true → (f : Final) → end_left l t f ≡ true → (known : Knowledge) → known_at_end g l rows t f ≡ Some known → P (ByBody f known)) × (end_left l t Canceled ≡ true → Drops k)
+    Parts k = (may_run rows t ≡ true → (f : Final) → end_left l.assumed t f ≡ true → (known : Knowledge) → known_at_end g l rows t f ≡ Some known → P (ByBody f known)) × (end_left l.assumed t Canceled ≡ true → Drops k)
 
     to_ways : (k : TaskKind) → Parts k → AllWays k
     to_ways k e (ByBody f known) w = e.0 w.1.0 f w.0 known w.1.1
@@ -156,7 +158,7 @@ module _ (g : TaskGraph) (l : Assumed) (rows : List WideRow) (t : ℕ) (valid : 
     from_ways : (k : TaskKind) → AllWays k → Parts k
     from_ways k f = ((λ run e cut known s. f (ByBody e known) (cut, (run, s))), λ cut. drops k f cut)
       where
-        drops : (k : TaskKind) → AllWays k → end_left l t Canceled ≡ true → Drops k
+        drops : (k : TaskKind) → AllWays k → end_left l.assumed t Canceled ≡ true → Drops k
         drops Root f cut = λ loud. f RootDropped (cut, loud)
         drops Child f cut = λ p par both known s. f (ChildDropped p known) (cut, (both.0, par, both.1, s))
         drops (Continues a) f cut = ((λ e. f DroppedEarly (cut, e)), ((λ e. f DroppedLate (cut, e)), (λ e. f NotAllowed (cut, (e.0, e.1.0, e.1.1)))))
@@ -166,9 +168,9 @@ module _ (g : TaskGraph) (l : Assumed) (rows : List WideRow) (t : ℕ) (valid : 
     ways_decided : Decides (each_way g l rows t q) ((way : Way) → IsWay g l rows t way → P way)
     ways_decided =
         means (Parts (kind g t)) ((way : Way) → IsWay g l rows t way → P way) (each_way g l rows t q)
-        (both (may_run rows t ≡ true → (f : Final) → end_left l t f ≡ true → (known : Knowledge) → known_at_end g l rows t f ≡ Some known → P (ByBody f known)) (end_left l t Canceled ≡ true → Drops (kind g t)) (each_body_end g l rows t q) (implies (end_left l t Canceled) (each_drop g l rows t (kind g t) q))
+        (both (may_run rows t ≡ true → (f : Final) → end_left l.assumed t f ≡ true → (known : Knowledge) → known_at_end g l rows t f ≡ Some known → P (ByBody f known)) (end_left l.assumed t Canceled ≡ true → Drops (kind g t)) (each_body_end g l rows t q) (implies (end_left l.assumed t Canceled) (each_drop g l rows t (kind g t) q))
         bodies_decided
-        (only_if (end_left l t Canceled ≡ true) (Drops (kind g t)) (end_left l t Canceled) (each_drop g l rows t (kind g t) q) (itself (end_left l t Canceled)) (drops_decided (kind g t))))
+        (only_if (end_left l.assumed t Canceled ≡ true) (Drops (kind g t)) (end_left l.assumed t Canceled) (each_drop g l rows t (kind g t) q) (itself (end_left l.assumed t Canceled)) (drops_decided (kind g t))))
         (to_ways (kind g t)) (from_ways (kind g t))
 
   way_has : Decides (each_way g l rows t (λ way. has (row (plain rows) t).ends (way_final way))) ((way : Way) → IsWay g l rows t way → has (row (plain rows) t).ends (way_final way) ≡ true)
@@ -176,13 +178,13 @@ module _ (g : TaskGraph) (l : Assumed) (rows : List WideRow) (t : ℕ) (valid : 
 
   ends_decided : PathLaws → (k : TaskKind) → Decides (wide_ends_by g l rows t k) (WideEndsRule g l rows t k)
   ends_decided paths (WhenAll args) =
-      at_each_end (λ f. end_left l t f ≡ true → AllMayEnd (plain rows) args f → has (row (plain rows) t).ends f ≡ true) (λ f. implies (end_left l t f) (implies (all_may_end (plain rows) args f) (has (row (plain rows) t).ends f)))
-      (λ f. only_if (end_left l t f ≡ true) (AllMayEnd (plain rows) args f → has (row (plain rows) t).ends f ≡ true) (end_left l t f) (implies (all_may_end (plain rows) args f) (has (row (plain rows) t).ends f)) (itself (end_left l t f))
+      at_each_end (λ f. end_left l.assumed t f ≡ true → AllMayEnd (plain rows) args f → has (row (plain rows) t).ends f ≡ true) (λ f. implies (end_left l.assumed t f) (implies (all_may_end (plain rows) args f) (has (row (plain rows) t).ends f)))
+      (λ f. only_if (end_left l.assumed t f ≡ true) (AllMayEnd (plain rows) args f → has (row (plain rows) t).ends f ≡ true) (end_left l.assumed t f) (implies (all_may_end (plain rows) args f) (has (row (plain rows) t).ends f)) (itself (end_left l.assumed t f))
       (only_if (AllMayEnd (plain rows) args f) (has (row (plain rows) t).ends f ≡ true) (all_may_end (plain rows) args f) (has (row (plain rows) t).ends f) (all_decided paths (plain rows) args f) (itself (has (row (plain rows) t).ends f))))
   ends_decided paths (WhenAny args) =
       let it = has (row (plain rows) t).ends RanToCompletion in
-      means (end_left l t RanToCompletion ≡ true → (x : ℕ) × (mem x args ≡ true) × (may_end (plain rows) x ≡ true) → it ≡ true) (WideEndsRule g l rows t (WhenAny args)) (wide_ends_by g l rows t (WhenAny args))
-      (only_if (end_left l t RanToCompletion ≡ true) ((x : ℕ) × (mem x args ≡ true) × (may_end (plain rows) x ≡ true) → it ≡ true) (end_left l t RanToCompletion) (implies (some_in (may_end (plain rows)) args) it) (itself (end_left l t RanToCompletion))
+      means (end_left l.assumed t RanToCompletion ≡ true → (x : ℕ) × (mem x args ≡ true) × (may_end (plain rows) x ≡ true) → it ≡ true) (WideEndsRule g l rows t (WhenAny args)) (wide_ends_by g l rows t (WhenAny args))
+      (only_if (end_left l.assumed t RanToCompletion ≡ true) ((x : ℕ) × (mem x args ≡ true) × (may_end (plain rows) x ≡ true) → it ≡ true) (end_left l.assumed t RanToCompletion) (implies (some_in (may_end (plain rows)) args) it) (itself (end_left l.assumed t RanToCompletion))
       (only_if ((x : ℕ) × (mem x args ≡ true) × (may_end (plain rows) x ≡ true)) (it ≡ true) (some_in (may_end (plain rows)) args) it
       (of_some (λ x. may_end (plain rows) x ≡ true) (may_end (plain rows)) args (λ x. itself (may_end (plain rows) x))) (itself it)))
       (λ f x cut m e. f cut (x, m, e))
@@ -259,32 +261,71 @@ module _ (g : TaskGraph) (l : Assumed) (rows : List WideRow) (t : ℕ) (valid : 
   end_decided Child f = way_holds Child f
   end_decided (Continues a) f = way_holds (Continues a) f
 
+  -- a chain leads to its reader
+  won_decided : (k : TaskKind) (y : ℕ) → Decides (is_won_by k y) (IsWonBy k y)
+  won_decided (WhenAny args) y =
+      both (mem y args ≡ true) ((x : ℕ) → mem x args ≡ true → x ≡ y) (mem y args) (all_in (λ x. nat_eq x y) args) (itself (mem y args)) (of_all (λ x. x ≡ y) (λ x. nat_eq x y) args (λ x. same x y))
+  won_decided Root y = nothing
+  won_decided Child y = nothing
+  won_decided (Continues a) y = nothing
+  won_decided (WhenAll args) y = nothing
+
+  winner_decided : PathLaws → (r y : ℕ) (k : TaskKind) → Decides (reads_winner g l r y k) (ReadsWinner g l rows r y k)
+  winner_decided paths r y (Continues n) =
+      let Won = IsWonBy (kind_left g l n) y in
+      let Allowed = allows (options g r) RanToCompletion ≡ true in
+      let Quiet_ = is_loud g l.assumed r ≡ false in
+      let w = faulted_view g l.assumed r in
+      let observes = must_observe w (body g r) in
+      means (Won × (Allowed × (Quiet_ × MustObserve w (body g r)))) (ReadsWinner g l rows r y (Continues n)) (reads_winner g l r y (Continues n))
+      (both Won (Allowed × (Quiet_ × MustObserve w (body g r))) (is_won_by (kind_left g l n) y) (allows (options g r) RanToCompletion && (not (is_loud g l.assumed r) && observes)) (won_decided (kind_left g l n) y)
+      (both Allowed (Quiet_ × MustObserve w (body g r)) (allows (options g r) RanToCompletion) (not (is_loud g l.assumed r) && observes) (itself (allows (options g r) RanToCompletion))
+      (both Quiet_ (MustObserve w (body g r)) (not (is_loud g l.assumed r)) observes (opposite (is_loud g l.assumed r)) (observes_it paths w (body g r)))))
+      (λ e. (e.0, e.1.0, e.1.1.0, e.1.1.1))
+      (λ e. (e.0, (e.1, (e.2, e.3))))
+  winner_decided paths r y Root = nothing
+  winner_decided paths r y Child = nothing
+  winner_decided paths r y (WhenAll args) = nothing
+  winner_decided paths r y (WhenAny args) = nothing
+
+  links_decided : PathLaws → (y : ℕ) (xs : List ℕ) → Decides (wide_links g l y xs) (WideLinks g l rows y xs)
+  links_decided paths y [] = nothing
+  links_decided paths y (x ∷ []) =
+      either (Reads g l.assumed (plain rows) x y) (ReadsWinner g l rows x y (kind g x)) (reads g l.assumed x y) (reads_winner g l x y (kind g x)) (reads_decided paths g l.assumed (plain rows) x y) (winner_decided paths x y (kind g x))
+  links_decided paths y (x ∷ z ∷ zs) =
+      both (TakesOver g x y) (WideLinks g l rows x (z ∷ zs)) (takes_over g x y) (wide_links g l x (z ∷ zs)) (takes_decided paths g x y) (links_decided paths x (z ∷ zs))
+
+  chain_decided : PathLaws → (xs : List ℕ) → Decides (wide_chain g l t xs) (WideChainRule g l rows t xs)
+  chain_decided paths [] = (λ e. tt, λ u. refl)
+  chain_decided paths (x ∷ xs) = links_decided paths t (x ∷ xs)
+
   -- no rule is broken just where all are kept
   pub wide_broken_lem : PathLaws → Clears (wide_broken g l rows t) (IsWidelyClosed g l rows t)
   wide_broken_lem paths =
       let k = kind g t in
       let Runs_ = WideRunsRule g l rows t k in
-      let Ends_ = WideEndsRule g l rows t k in
+      let Ends_ = WideEndsRule g l rows t (kind_left g l t) in
       let Begin_ = may_run rows t ≡ true → (f : Fact) → begins_with rows t f ≡ true → BeginRule g l rows t k f in
-      let End_ = (f : Fact) → ends_with rows t f ≡ true → EndRule g l rows t k f in
-      let Chain_ = ChainRule g l (plain rows) t (row (plain rows) t).chain in
-      let last = unless (chain g l (plain rows) t) K6 None in
-      let past = unless (each_ending rows t (end_by g l rows t k)) (past_rule k) last in
+      let End_ = (f : Fact) → ends_with rows t f ≡ true → EndRule g l rows t (kind_left g l t) f in
+      let chain = (row (plain rows) t).chain in
+      let Chain_ = WideChainRule g l rows t chain in
+      let last = unless (wide_chain g l t chain) K6 None in
+      let past = unless (each_ending rows t (end_by g l rows t (kind_left g l t))) (past_rule k) last in
       let begin = unless (implies (may_run rows t) (each_begin rows t (begin_by g l rows t k))) K3 past in
-      let ends = unless (wide_ends_by g l rows t k) K2 begin in
+      let ends = unless (wide_ends_by g l rows t (kind_left g l t)) K2 begin in
       clear_means (Runs_ × (Ends_ × (Begin_ × (End_ × (Chain_ × Unit {0}))))) (IsWidelyClosed g l rows t) (wide_broken g l rows t)
       (clear_unless Runs_ (Ends_ × (Begin_ × (End_ × (Chain_ × Unit {0})))) (wide_runs_by g l rows t k) K1 ends (runs_decided k)
-      (clear_unless Ends_ (Begin_ × (End_ × (Chain_ × Unit {0}))) (wide_ends_by g l rows t k) K2 begin (ends_decided paths k)
+      (clear_unless Ends_ (Begin_ × (End_ × (Chain_ × Unit {0}))) (wide_ends_by g l rows t (kind_left g l t)) K2 begin (ends_decided paths (kind_left g l t))
       (clear_unless Begin_ (End_ × (Chain_ × Unit {0})) (implies (may_run rows t) (each_begin rows t (begin_by g l rows t k))) K3 past
       (only_if (may_run rows t ≡ true) ((f : Fact) → begins_with rows t f ≡ true → BeginRule g l rows t k f) (may_run rows t) (each_begin rows t (begin_by g l rows t k)) (itself (may_run rows t))
       (begin_decided rows t (BeginRule g l rows t k) (begin_by g l rows t k) (begins_decided k)))
-      (clear_unless End_ (Chain_ × Unit {0}) (each_ending rows t (end_by g l rows t k)) (past_rule k) last (ending_decided rows t (EndRule g l rows t k) (end_by g l rows t k) (end_decided k))
-      (clear_unless Chain_ (Unit {0}) (chain g l (plain rows) t) K6 None (chain_lem paths g l (plain rows) t) clear)))))
+      (clear_unless End_ (Chain_ × Unit {0}) (each_ending rows t (end_by g l rows t (kind_left g l t))) (past_rule k) last (ending_decided rows t (EndRule g l rows t (kind_left g l t)) (end_by g l rows t (kind_left g l t)) (end_decided (kind_left g l t)))
+      (clear_unless Chain_ (Unit {0}) (wide_chain g l t chain) K6 None (chain_decided paths chain) clear)))))
       (λ e. record { runs = e.0; ends = e.1.0; begin = e.1.1.0; end = e.1.1.1.0; chain = e.1.1.1.1.0 })
       (λ e. (e.runs, (e.ends, (e.begin, (e.end, (e.chain, tt))))))
 
 -- the rows of a leaf
-wide_first : (paths : PathLaws) (g : TaskGraph) (l : Assumed) (rows : List WideRow) → IsGraph g → (t n : ℕ) → Clears (wide_first_broken g l rows t n) ((x : ℕ) → t ≤ x → x < t + n → IsWidelyClosed g l rows x)
+wide_first : (paths : PathLaws) (g : TaskGraph) (l : WideAssumed) (rows : List WideRow) → IsGraph g → (t n : ℕ) → Clears (wide_first_broken g l rows t n) ((x : ℕ) → t ≤ x → x < t + n → IsWidelyClosed g l rows x)
 wide_first paths g l rows valid t zero = (λ e x a b. absurd (omega arith), λ f. refl)
 wide_first paths g l rows valid t (suc n) =
     clear_means (IsWidelyClosed g l rows t × ((x : ℕ) → suc t ≤ x → x < suc t + n → IsWidelyClosed g l rows x)) ((x : ℕ) → t ≤ x → x < t + suc n → IsWidelyClosed g l rows x) (wide_first_broken g l rows t (suc n))
@@ -296,7 +337,7 @@ some_decided : (o : Option Knowledge) → Decides (not (is_some o)) (o ≡ None)
 some_decided None = (λ e. refl, λ e. refl)
 some_decided (Some k) = (λ e. true_false (sym e), λ e. absurd (cc))
 
-wide_proves_lem : (paths : PathLaws) (g : TaskGraph) (l : Assumed) (rows : List WideRow) (p : Property) → Decides (wide_proves g l rows p) (WidelyProves g l rows p)
+wide_proves_lem : (paths : PathLaws) (g : TaskGraph) (l : WideAssumed) (rows : List WideRow) (p : Property) → Decides (wide_proves g l rows p) (WidelyProves g l rows p)
 wide_proves_lem paths g l rows (Observed t) =
     let thrown = at_throw (reading g l rows t.0) (asked_of rows t.0) (body g t.0) in
     let faulted = has (row (plain rows) t.0).ends Faulted in
@@ -306,13 +347,13 @@ wide_proves_lem paths g l rows (Observed t) =
     (either (faulted ≡ false) ((may_run rows t.0 ≡ false) ⊎ (thrown ≡ None) ⊎ NoneComplete g (plain rows)) (not faulted) (not (may_run rows t.0) || (not (is_some thrown) || none_complete g (plain rows))) (opposite faulted)
     (either (may_run rows t.0 ≡ false) ((thrown ≡ None) ⊎ NoneComplete g (plain rows)) (not (may_run rows t.0)) (not (is_some thrown) || none_complete g (plain rows)) (opposite (may_run rows t.0))
     (either (thrown ≡ None) (NoneComplete g (plain rows)) (not (is_some thrown)) (none_complete g (plain rows)) (some_decided thrown) (none_complete_decided paths g (plain rows)))))
-wide_proves_lem paths g l rows (EndsIn t ends) = proves_lem paths g l (plain rows) (EndsIn t ends)
-wide_proves_lem paths g l rows (After a b) = proves_lem paths g l (plain rows) (After a b)
-wide_proves_lem paths g l rows (Never t) = proves_lem paths g l (plain rows) (Never t)
-wide_proves_lem paths g l rows (Excludes a b) = proves_lem paths g l (plain rows) (Excludes a b)
-wide_proves_lem paths g l rows (Runs t) = proves_lem paths g l (plain rows) (Runs t)
+wide_proves_lem paths g l rows (EndsIn t ends) = proves_lem paths g l.assumed (plain rows) (EndsIn t ends)
+wide_proves_lem paths g l rows (After a b) = proves_lem paths g l.assumed (plain rows) (After a b)
+wide_proves_lem paths g l rows (Never t) = proves_lem paths g l.assumed (plain rows) (Never t)
+wide_proves_lem paths g l rows (Excludes a b) = proves_lem paths g l.assumed (plain rows) (Excludes a b)
+wide_proves_lem paths g l rows (Runs t) = proves_lem paths g l.assumed (plain rows) (Runs t)
 
-pub wide_leaf_lem : (paths : PathLaws) (g : TaskGraph) (p : Property) (l : Assumed) (rows : List WideRow) → IsGraph g → Clears (wide_leaf_fault g p l rows) (WidelyClosed g l rows × WidelyProves g l rows p)
+pub wide_leaf_lem : (paths : PathLaws) (g : TaskGraph) (p : Property) (l : WideAssumed) (rows : List WideRow) → IsGraph g → Clears (wide_leaf_fault g p l rows) (WidelyClosed g l rows × WidelyProves g l rows p)
 wide_leaf_lem paths g p l rows valid =
     clear_means (((x : ℕ) → 0 ≤ x → x < 0 + length g.tasks → IsWidelyClosed g l rows x) × (WidelyProves g l rows p × Unit {0})) (WidelyClosed g l rows × WidelyProves g l rows p) (wide_leaf_fault g p l rows)
     (clear_or_else ((x : ℕ) → 0 ≤ x → x < 0 + length g.tasks → IsWidelyClosed g l rows x) (WidelyProves g l rows p × Unit {0}) (wide_first_broken g l rows 0 (length g.tasks)) (unless (wide_proves g l rows p) ProvesNot None)

@@ -11,8 +11,8 @@ use Rattle.tpl_model.specs.Rules.{final, label, seen, Run, Settled, Complete}
 use Rattle.tpl_model.specs.Valid.{IsGraph}
 use Rattle.tpl_model.specs.declared.claim.Property.{Property}
 use Rattle.tpl_model.specs.Claims.{Claim, Holds}
-use Rattle.tpl_model.specs.Certificate.{Row, row, Tree, Assumed, Agrees, Closed, Proves, Accepts}
-use Rattle.tpl_model.specs.WiderRules.{WideRow, plain, begins_with, ends_with, may_run, WidelyClosed, WidelyProves, WideTree, WidelyAccepts, as_wide, as_wide_tree}
+use Rattle.tpl_model.specs.Certificate.{Row, row, Tree, Closed, Proves, Accepts}
+use Rattle.tpl_model.specs.WiderRules.{WideRow, plain, begins_with, ends_with, WideAssumed, WideAgrees, may_run, WidelyClosed, WidelyProves, WideTree, WidelyAccepts, as_wide, as_wide_tree}
 use Rattle.tpl_laws.specs.Soundness.{Each}
 
 -- a fact holds in a run so far
@@ -36,8 +36,8 @@ BeginHolds g rows v (e ∷ h) =
 -- the rows of a leaf that is closed by the wider rules are true of each run that agrees with it
 abbrev pub WideRowsAreTrue : Type 0
 WideRowsAreTrue =
-    (g : TaskGraph) (l : Assumed) (rows : List WideRow) (v : List Bool) (h : List Event)
-    → IsGraph g → WidelyClosed g l rows → Run g v h → Agrees g l v h → WideRowsHold g rows v h × BeginHolds g rows v h
+    (g : TaskGraph) (l : WideAssumed) (rows : List WideRow) (v : List Bool) (h : List Event)
+    → IsGraph g → WidelyClosed g l rows → Run g v h → WideAgrees g l v h → WideRowsHold g rows v h × BeginHolds g rows v h
 
 -- where a certificate of such rows is accepted, each claim holds in each run
 abbrev pub WideSoundness : Type 0
@@ -45,11 +45,11 @@ WideSoundness =
     (g : TaskGraph) (claims : List Claim) (certificate : List WideTree) → IsGraph g → WidelyAccepts g claims certificate
     → (v : List Bool) (h : List Event) → Run g v h → Each (λ claim. Holds g claim v h) claims
 
--- rows that are closed without tokens are closed by the rules with tokens too, and prove what they did
+-- rows that are closed without tokens are closed by the rules with tokens too, whoever may win, and prove what they did
 abbrev pub TokensAreMore : Type 0
 TokensAreMore =
-    (g : TaskGraph) (l : Assumed) (rows : List Row) → Closed g l rows
-    → WidelyClosed g l (as_wide rows) × ((p : Property) → Proves g l rows p → WidelyProves g l (as_wide rows) p)
+    (g : TaskGraph) (l : WideAssumed) (rows : List Row) → Closed g l.assumed rows
+    → WidelyClosed g l (as_wide rows) × ((p : Property) → Proves g l.assumed rows p → WidelyProves g l (as_wide rows) p)
 
 -- a certificate that is accepted without tokens is accepted with them
 abbrev pub TokensAcceptMore : Type 0

@@ -1,9 +1,10 @@
 -- The wider rules for rows that speak of tokens, as tests that compute.
-use Rattle.std.specs.Prelude.{◌≡◌, ℕ, zero, suc, ◌↔◌, ◌&&◌, ◌||◌, not, Bool, true, false, Option, Some, None, List, length, is_some}
+use Rattle.std.specs.Prelude.{◌≡◌, ℕ, zero, suc, ◌↔◌, ◌&&◌, ◌||◌, not, Bool, true, false, Option, Some, None, List, [], ◌∷◌, nat_eq, length, is_some}
 use Rattle.tpl_words.specs.declared.finals.Final.TheVariants.{RanToCompletion, Canceled, Faulted}
 use Rattle.tpl_words.specs.Finals.{has}
 use Rattle.tpl_words.specs.Members.{mem}
 use Rattle.tpl_words.specs.Options.{allows, lazy_cancellation}
+use Rattle.tpl_script.specs.Recursion.{must_observe}
 use Rattle.tpl_script.specs.Knowledge.{Fact, IsSettled, IsRequested, Knowledge, at_throw}
 use Rattle.tpl_model.specs.Graph.{TaskGraph, TaskKind, Root, Child, Continues, WhenAll, WhenAny, task, kind, body, options, some_in}
 use Rattle.tpl_model.specs.Rules.{token_requested_by}
@@ -12,9 +13,9 @@ use Rattle.tpl_model.specs.declared.claim.Property.{Property}
 use Rattle.tpl_model.specs.declared.claim.Property.TheVariants.{Observed}
 use Rattle.tpl_model.specs.declared.fault.Rule.{Rule}
 use Rattle.tpl_model.specs.declared.fault.Rule.TheVariants.{K1, K2, K3, K6}
-use Rattle.tpl_model.specs.Certificate.{row, Assumed, end_left, is_loud, may_end}
-use Rattle.tpl_model.specs.WiderRules.{WideRow, plain, wide_row, begins_with, once_ended, linked, reading, asked_of, known_at_end, known_at_start, own_among, may_run, Way, ByBody, RootDropped, ChildDropped, DroppedEarly, DroppedLate, NotAllowed, way_final, IsWidelyClosed, WidelyClosed, WidelyProves}
-use Rattle.tpl_laws.specs.RowTests.{implies, all_in, each_end, some_end, parent_of, by_parent, is_below, all_may_end, chain, is_none, none_complete, proves}
+use Rattle.tpl_model.specs.Certificate.{row, end_left, is_loud, may_end}
+use Rattle.tpl_model.specs.WiderRules.{WideRow, plain, wide_row, begins_with, once_ended, linked, WideAssumed, kind_left, reading, asked_of, known_at_end, known_at_start, own_among, may_run, Way, ByBody, RootDropped, ChildDropped, DroppedEarly, DroppedLate, NotAllowed, way_final, IsWidelyClosed, WidelyClosed, WidelyProves}
+use Rattle.tpl_laws.specs.RowTests.{implies, all_in, each_end, some_end, parent_of, by_parent, is_below, all_may_end, takes_over, faulted_view, reads, is_none, none_complete, proves}
 use Rattle.tpl_laws.specs.Verdict.{or_else, unless, past_rule, LeafFault, ProvesNot, breaks}
 
 -- what is known passes the test, if there are paths
@@ -31,7 +32,7 @@ abbrev pub each_ending : List WideRow → ℕ → (Fact → Bool) → Bool
 each_ending rows t test = all_in (λ x. test (IsSettled x)) (row (plain rows) t).past && all_in (λ k. test (IsRequested k)) (wide_row rows t).asks
 
 -- a task that may begin has a row that runs
-abbrev pub wide_runs_by : TaskGraph → Assumed → List WideRow → ℕ → TaskKind → Bool
+abbrev pub wide_runs_by : TaskGraph → WideAssumed → List WideRow → ℕ → TaskKind → Bool
 wide_runs_by g l rows t Root = may_run rows t
 wide_runs_by g l rows t (Continues a) =
     each_end (λ f. implies (has (row (plain rows) a).ends f) (implies (allows (options g t) f) (implies (not (own_among g t (λ k. mem k (wide_row rows a).asks))) (may_run rows t))))
@@ -41,32 +42,32 @@ wide_runs_by g l rows t Child =
 wide_runs_by g l rows t kind = true
 
 -- each way in which a task of this kind may be canceled before it begins passes the test
-abbrev pub each_drop : TaskGraph → Assumed → List WideRow → ℕ → TaskKind → (Way → Bool) → Bool
-each_drop g l rows t Root test = implies (is_loud g l t) (test RootDropped)
+abbrev pub each_drop : TaskGraph → WideAssumed → List WideRow → ℕ → TaskKind → (Way → Bool) → Bool
+each_drop g l rows t Root test = implies (is_loud g l.assumed t) (test RootDropped)
 each_drop g l rows t Child test =
-    by_parent (parent_of g t) (λ p. implies (is_loud g l t && may_run rows p) (if_known (known_at_start g l rows p t) (λ known. test (ChildDropped p known))))
+    by_parent (parent_of g t) (λ p. implies (is_loud g l.assumed t && may_run rows p) (if_known (known_at_start g l rows p t) (λ known. test (ChildDropped p known))))
 each_drop g l rows t (Continues a) test =
-    implies (is_loud g l t && not (lazy_cancellation (options g t))) (test DroppedEarly)
-    && (implies (is_loud g l t && may_end (plain rows) a) (test DroppedLate)
+    implies (is_loud g l.assumed t && not (lazy_cancellation (options g t))) (test DroppedEarly)
+    && (implies (is_loud g l.assumed t && may_end (plain rows) a) (test DroppedLate)
     && implies (some_end (λ f. has (row (plain rows) a).ends f && not (allows (options g t) f))) (test NotAllowed))
 each_drop g l rows t kind test = true
 
 -- each way in which its body may end it does
-abbrev pub each_body_end : TaskGraph → Assumed → List WideRow → ℕ → (Way → Bool) → Bool
-each_body_end g l rows t test = implies (may_run rows t) (each_end (λ f. implies (end_left l t f) (if_known (known_at_end g l rows t f) (λ known. test (ByBody f known)))))
+abbrev pub each_body_end : TaskGraph → WideAssumed → List WideRow → ℕ → (Way → Bool) → Bool
+each_body_end g l rows t test = implies (may_run rows t) (each_end (λ f. implies (end_left l.assumed t f) (if_known (known_at_end g l rows t f) (λ known. test (ByBody f known)))))
 
 -- each way that is left to it does
-abbrev pub each_way : TaskGraph → Assumed → List WideRow → ℕ → (Way → Bool) → Bool
-each_way g l rows t test = each_body_end g l rows t test && implies (end_left l t Canceled) (each_drop g l rows t (kind g t) test)
+abbrev pub each_way : TaskGraph → WideAssumed → List WideRow → ℕ → (Way → Bool) → Bool
+each_way g l rows t test = each_body_end g l rows t test && implies (end_left l.assumed t Canceled) (each_drop g l rows t (kind g t) test)
 
 -- its row has each of its ends
-abbrev pub wide_ends_by : TaskGraph → Assumed → List WideRow → ℕ → TaskKind → Bool
-wide_ends_by g l rows t (WhenAll args) = each_end (λ f. implies (end_left l t f) (implies (all_may_end (plain rows) args f) (has (row (plain rows) t).ends f)))
-wide_ends_by g l rows t (WhenAny args) = implies (end_left l t RanToCompletion) (implies (some_in (may_end (plain rows)) args) (has (row (plain rows) t).ends RanToCompletion))
+abbrev pub wide_ends_by : TaskGraph → WideAssumed → List WideRow → ℕ → TaskKind → Bool
+wide_ends_by g l rows t (WhenAll args) = each_end (λ f. implies (end_left l.assumed t f) (implies (all_may_end (plain rows) args f) (has (row (plain rows) t).ends f)))
+wide_ends_by g l rows t (WhenAny args) = implies (end_left l.assumed t RanToCompletion) (implies (some_in (may_end (plain rows)) args) (has (row (plain rows) t).ends RanToCompletion))
 wide_ends_by g l rows t kind = each_way g l rows t (λ way. has (row (plain rows) t).ends (way_final way))
 
 -- what may be said of when it begins
-abbrev pub begin_by : TaskGraph → Assumed → List WideRow → ℕ → TaskKind → Fact → Bool
+abbrev pub begin_by : TaskGraph → WideAssumed → List WideRow → ℕ → TaskKind → Fact → Bool
 begin_by g l rows t Root fact = false
 begin_by g l rows t (Continues a) fact = once_ended rows a fact
 begin_by g l rows t Child (IsSettled x) = by_parent (parent_of g t) (λ p. mem x (row (plain rows) p).before)
@@ -110,44 +111,67 @@ settled_below g t (IsSettled x) = is_below g t x
 settled_below g t (IsRequested k) = false
 
 -- what may be said of when it has ended
-abbrev pub end_by : TaskGraph → Assumed → List WideRow → ℕ → TaskKind → Fact → Bool
+abbrev pub end_by : TaskGraph → WideAssumed → List WideRow → ℕ → TaskKind → Fact → Bool
 end_by g l rows t (WhenAll args) fact = some_in (λ y. once_ended rows y fact) args
 end_by g l rows t (WhenAny args) fact = all_in (λ y. implies (may_end (plain rows) y) (once_ended rows y fact)) args
 end_by g l rows t kind fact = settled_below g t fact || each_way g l rows t (holds_by g rows t kind fact)
 
+-- y alone may win a task of this kind
+abbrev pub is_won_by : TaskKind → ℕ → Bool
+is_won_by (WhenAny args) y = mem y args && all_in (λ x. nat_eq x y) args
+is_won_by kind y = false
+
+-- r, a task of this kind, continues a WhenAny task that y alone may win, and reads y's exception
+abbrev pub reads_winner : TaskGraph → WideAssumed → ℕ → ℕ → TaskKind → Bool
+reads_winner g l r y (Continues n) =
+    is_won_by (kind_left g l n) y
+    && (allows (options g r) RanToCompletion && (not (is_loud g l.assumed r) && must_observe (faulted_view g l.assumed r) (body g r)))
+reads_winner g l r y kind = false
+
+-- the tasks of a chain from y on take over one after another, and the last one reads, itself or behind WhenAny
+abbrev pub wide_links : TaskGraph → WideAssumed → ℕ → List ℕ → Bool
+wide_links g l y [] = false
+wide_links g l y (x ∷ []) = reads g l.assumed x y || reads_winner g l x y (kind g x)
+wide_links g l y (x ∷ z ∷ zs) = takes_over g x y && wide_links g l x (z ∷ zs)
+
+-- a chain is empty or leads from t to its reader
+abbrev pub wide_chain : TaskGraph → WideAssumed → ℕ → List ℕ → Bool
+wide_chain g l t [] = true
+wide_chain g l t (x ∷ chain) = wide_links g l t (x ∷ chain)
+
 -- the first rule that the row of t breaks
-abbrev pub wide_broken : TaskGraph → Assumed → List WideRow → ℕ → Option Rule
+abbrev pub wide_broken : TaskGraph → WideAssumed → List WideRow → ℕ → Option Rule
 wide_broken g l rows t =
     unless (wide_runs_by g l rows t (kind g t)) K1
-    (unless (wide_ends_by g l rows t (kind g t)) K2
+    (unless (wide_ends_by g l rows t (kind_left g l t)) K2
     (unless (implies (may_run rows t) (each_begin rows t (begin_by g l rows t (kind g t)))) K3
-    (unless (each_ending rows t (end_by g l rows t (kind g t))) (past_rule (kind g t))
-    (unless (chain g l (plain rows) t) K6 None))))
+    (unless (each_ending rows t (end_by g l rows t (kind_left g l t))) (past_rule (kind g t))
+    (unless (wide_chain g l t (row (plain rows) t).chain) K6 None))))
 
 -- a closed leaf proves the claim
-abbrev pub wide_proves : TaskGraph → Assumed → List WideRow → Property → Bool
+abbrev pub wide_proves : TaskGraph → WideAssumed → List WideRow → Property → Bool
 wide_proves g l rows (Observed t) =
     not (is_none (row (plain rows) t.0).chain)
     || (not (has (row (plain rows) t.0).ends Faulted)
     || (not (may_run rows t.0)
     || (not (is_some (at_throw (reading g l rows t.0) (asked_of rows t.0) (body g t.0))) || none_complete g (plain rows))))
-wide_proves g l rows p = proves g l (plain rows) p
+wide_proves g l rows p = proves g l.assumed (plain rows) p
 
 -- the first task, of n from t on, whose row breaks a rule
-abbrev pub wide_first_broken : TaskGraph → Assumed → List WideRow → ℕ → ℕ → Option LeafFault
+abbrev pub wide_first_broken : TaskGraph → WideAssumed → List WideRow → ℕ → ℕ → Option LeafFault
 wide_first_broken g l rows t zero = None
 wide_first_broken g l rows t (suc n) = or_else (breaks t (wide_broken g l rows t)) (wide_first_broken g l rows (suc t) n)
 
 -- the first fault of a leaf
-abbrev pub wide_leaf_fault : TaskGraph → Property → Assumed → List WideRow → Option LeafFault
+abbrev pub wide_leaf_fault : TaskGraph → Property → WideAssumed → List WideRow → Option LeafFault
 wide_leaf_fault g p l rows = or_else (wide_first_broken g l rows 0 (length g.tasks)) (unless (wide_proves g l rows p) ProvesNot None)
 
 -- the row of a task breaks no rule just where it keeps them all
 abbrev pub WideBrokenIsRight : Type 0
-WideBrokenIsRight = (g : TaskGraph) (l : Assumed) (rows : List WideRow) (t : ℕ) → IsGraph g → (wide_broken g l rows t ≡ None) ↔ IsWidelyClosed g l rows t
+WideBrokenIsRight = (g : TaskGraph) (l : WideAssumed) (rows : List WideRow) (t : ℕ) → IsGraph g → (wide_broken g l rows t ≡ None) ↔ IsWidelyClosed g l rows t
 
 -- a leaf has no fault just where it is closed and proves the claim
 abbrev pub WideLeafIsRight : Type 0
 WideLeafIsRight =
-    (g : TaskGraph) (p : Property) (l : Assumed) (rows : List WideRow) → IsGraph g
+    (g : TaskGraph) (p : Property) (l : WideAssumed) (rows : List WideRow) → IsGraph g
     → (wide_leaf_fault g p l rows ≡ None) ↔ (WidelyClosed g l rows × WidelyProves g l rows p)

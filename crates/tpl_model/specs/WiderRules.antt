@@ -1,17 +1,20 @@
 -- The wider rules for rows that speak of tokens too, and when a certificate of such rows is accepted.
-use Rattle.std.specs.Prelude.{◌≡◌, ℕ, zero, suc, ◌<◌, ◌&&◌, ◌||◌, ◌⊎◌, not, Bool, true, false, if◌then◌else◌, Option, Some, None, List, [], ◌∷◌, map, length, nat_eq, slice_index_or}
+use Rattle.std.specs.Prelude.{◌≡◌, ℕ, zero, suc, ◌<◌, ◌&&◌, ◌||◌, ◌⊎◌, not, Bool, true, false, if◌then◌else◌, Option, Some, None, List, [], ◌∷◌, map, filter, length, nat_eq, slice_index_or}
 use Rattle.tpl_words.specs.declared.finals.Final.{Final}
 use Rattle.tpl_words.specs.declared.finals.Final.TheVariants.{RanToCompletion, Canceled, Faulted}
-use Rattle.tpl_words.specs.Finals.{has}
+use Rattle.tpl_words.specs.Finals.{has, is_final}
 use Rattle.tpl_words.specs.Options.{allows, lazy_cancellation}
 use Rattle.tpl_words.specs.Members.{mem}
+use Rattle.tpl_script.specs.Paths.{Known, MustObserve}
 use Rattle.tpl_script.specs.Knowledge.{Fact, IsSettled, IsRequested, Knowledge, ChildEnd, Reading, at_end, at_throw, at_start}
 use Rattle.tpl_model.specs.Graph.{TaskGraph, TaskKind, Root, Child, Continues, WhenAll, WhenAny, task, kind, body, options, is_task, is_token, attached, through, IsParent}
+use Rattle.tpl_model.specs.declared.event.Event.{Event}
+use Rattle.tpl_model.specs.Facts.{winner_of, ending}
 use Rattle.tpl_model.specs.Rules.{token_requested_by}
 use Rattle.tpl_model.specs.declared.claim.Property.{Property}
 use Rattle.tpl_model.specs.declared.claim.Property.TheVariants.{Observed}
 use Rattle.tpl_model.specs.Claims.{Claim}
-use Rattle.tpl_model.specs.Certificate.{Row, row, Tree, SplitInput, SplitEnd, Leaf, Assumed, assumed_for, with_input, with_end, end_left, is_loud, view, IsBelow, AllMayEnd, may_end, ChainRule, NoneComplete, Proves, IdsOfRows}
+use Rattle.tpl_model.specs.Certificate.{Row, row, Tree, SplitInput, SplitEnd, Leaf, Assumed, Agrees, same, assumed_for, with_input, with_end, end_left, is_loud, subject_ends, view, IsBelow, AllMayEnd, may_end, TakesOver, Reads, NoneComplete, Proves, IdsOfRows}
 
 -- a row that says of tokens too which ones are requested when the task begins, and when it has ended
 pub record WideRow : Type 0 where
@@ -50,20 +53,48 @@ linked g k j = through g (nat_eq k) j
 abbrev pub child_end : TaskGraph → List WideRow → ℕ → ℕ → Option ChildEnd
 child_end g rows t c = if mem c (attached g t) then Some (record { ends = (row (plain rows) c).ends; facts = ends_with rows c }) else None
 
+-- what a leaf assumes, and which arguments of a WhenAny task may win it
+pub record WideAssumed : Type 0 where
+  pub assumed : Assumed
+  pub wins : ℕ → ℕ → Bool
+
+-- a run so far contradicts nothing of it: the winner of a WhenAny task that has ended may win
+pub record WideAgrees (g : TaskGraph) (l : WideAssumed) (v : List Bool) (h : List Event) : Type 0 where
+  pub agrees : Agrees g l.assumed v h
+  pub winners : (n x : ℕ) → winner_of (ending g v h n) ≡ Some x → l.wins n x ≡ true
+
+-- a kind, of WhenAny with those arguments alone that may win
+abbrev pub with_winners : (ℕ → Bool) → TaskKind → TaskKind
+with_winners may_win (WhenAny args) = WhenAny (filter may_win args)
+with_winners may_win kind = kind
+
+-- the same of the t-th task
+abbrev pub kind_left : TaskGraph → WideAssumed → ℕ → TaskKind
+kind_left g l t = with_winners (l.wins t) (kind g t)
+
+-- how the subject of a task of this kind may have ended, behind WhenAny by the row of an argument that may win
+abbrev pub subject_left : TaskGraph → WideAssumed → List WideRow → ℕ → TaskKind → Final → Bool
+subject_left g l rows t (Continues a) f = subject_ends (kind_left g l a) (options g t) a (plain rows) f
+subject_left g l rows t kind f = false
+
+-- what is known of the runs in which the body of t is read
+abbrev pub wide_view : TaskGraph → WideAssumed → List WideRow → ℕ → Known
+wide_view g l rows t = record (view g l.assumed (plain rows) t) { subject = subject_left g l rows t (kind g t) }
+
 -- how the body of t is read
-abbrev pub reading : TaskGraph → Assumed → List WideRow → ℕ → Reading
-reading g l rows t = record { known = view g l (plain rows) t; linked = linked g; child = child_end g rows t }
+abbrev pub reading : TaskGraph → WideAssumed → List WideRow → ℕ → Reading
+reading g l rows t = record { known = wide_view g l rows t; linked = linked g; child = child_end g rows t }
 
 -- the tokens that t knows when it begins
 abbrev pub asked_of : List WideRow → ℕ → ℕ → Bool
 asked_of rows t k = mem k (wide_row rows t).asked
 
 -- what the paths of t have in common that end it so
-abbrev pub known_at_end : TaskGraph → Assumed → List WideRow → ℕ → Final → Option Knowledge
+abbrev pub known_at_end : TaskGraph → WideAssumed → List WideRow → ℕ → Final → Option Knowledge
 known_at_end g l rows t f = at_end f (reading g l rows t) (asked_of rows t) (body g t)
 
 -- what the paths of p have in common where they start c
-abbrev pub known_at_start : TaskGraph → Assumed → List WideRow → ℕ → ℕ → Option Knowledge
+abbrev pub known_at_start : TaskGraph → WideAssumed → List WideRow → ℕ → ℕ → Option Knowledge
 known_at_start g l rows p c = at_start c (reading g l rows p) (asked_of rows p) (body g p)
 
 -- the own token of t is among these
@@ -75,7 +106,7 @@ abbrev pub may_run : List WideRow → ℕ → Bool
 may_run rows t = (row (plain rows) t).runs
 
 -- K1: a task that may begin has a row that runs. It doesn't begin where its own token is known to be requested
-abbrev pub WideRunsRule : TaskGraph → Assumed → List WideRow → ℕ → TaskKind → Type 0
+abbrev pub WideRunsRule : TaskGraph → WideAssumed → List WideRow → ℕ → TaskKind → Type 0
 WideRunsRule g l rows t Root = may_run rows t ≡ true
 WideRunsRule g l rows t (Continues a) =
     (f : Final) → has (row (plain rows) a).ends f ≡ true → allows (options g t) f ≡ true
@@ -102,19 +133,19 @@ way_final (ByBody f known) = f
 way_final way = Canceled
 
 -- a task of this kind may end in this way
-abbrev pub MayEndBy : TaskGraph → Assumed → List WideRow → ℕ → TaskKind → Way → Type 0
+abbrev pub MayEndBy : TaskGraph → WideAssumed → List WideRow → ℕ → TaskKind → Way → Type 0
 MayEndBy g l rows t kind (ByBody f known) = (may_run rows t ≡ true) × (known_at_end g l rows t f ≡ Some known)
-MayEndBy g l rows t Root RootDropped = is_loud g l t ≡ true
+MayEndBy g l rows t Root RootDropped = is_loud g l.assumed t ≡ true
 MayEndBy g l rows t Child (ChildDropped p known) =
-    (is_loud g l t ≡ true) × IsParent g p t × (may_run rows p ≡ true) × (known_at_start g l rows p t ≡ Some known)
-MayEndBy g l rows t (Continues a) DroppedEarly = (is_loud g l t ≡ true) × (lazy_cancellation (options g t) ≡ false)
-MayEndBy g l rows t (Continues a) DroppedLate = (is_loud g l t ≡ true) × (may_end (plain rows) a ≡ true)
+    (is_loud g l.assumed t ≡ true) × IsParent g p t × (may_run rows p ≡ true) × (known_at_start g l rows p t ≡ Some known)
+MayEndBy g l rows t (Continues a) DroppedEarly = (is_loud g l.assumed t ≡ true) × (lazy_cancellation (options g t) ≡ false)
+MayEndBy g l rows t (Continues a) DroppedLate = (is_loud g l.assumed t ≡ true) × (may_end (plain rows) a ≡ true)
 MayEndBy g l rows t (Continues a) NotAllowed = (f : Final) × (has (row (plain rows) a).ends f ≡ true) × (allows (options g t) f ≡ false)
 MayEndBy g l rows t kind way = ⊥
 
 -- a way that what is assumed leaves to t
-abbrev pub IsWay : TaskGraph → Assumed → List WideRow → ℕ → Way → Type 0
-IsWay g l rows t way = (end_left l t (way_final way) ≡ true) × MayEndBy g l rows t (kind g t) way
+abbrev pub IsWay : TaskGraph → WideAssumed → List WideRow → ℕ → Way → Type 0
+IsWay g l rows t way = (end_left l.assumed t (way_final way) ≡ true) × MayEndBy g l rows t (kind g t) way
 
 -- the own token of t is requested, and with it those that are linked to it
 abbrev pub OwnRequested : TaskGraph → ℕ → Fact → Type 0
@@ -148,15 +179,15 @@ HoldsBy g rows t kind fact DroppedLate = OwnRequested g t fact ⊎ BeforeBegin g
 HoldsBy g rows t kind fact NotAllowed = BeforeBegin g rows t kind fact
 
 -- K2: how a task may end, its row has among its ends
-abbrev pub WideEndsRule : TaskGraph → Assumed → List WideRow → ℕ → TaskKind → Type 0
+abbrev pub WideEndsRule : TaskGraph → WideAssumed → List WideRow → ℕ → TaskKind → Type 0
 WideEndsRule g l rows t (WhenAll args) =
-    (f : Final) → end_left l t f ≡ true → AllMayEnd (plain rows) args f → has (row (plain rows) t).ends f ≡ true
+    (f : Final) → end_left l.assumed t f ≡ true → AllMayEnd (plain rows) args f → has (row (plain rows) t).ends f ≡ true
 WideEndsRule g l rows t (WhenAny args) =
-    (x : ℕ) → end_left l t RanToCompletion ≡ true → mem x args ≡ true → may_end (plain rows) x ≡ true → has (row (plain rows) t).ends RanToCompletion ≡ true
+    (x : ℕ) → end_left l.assumed t RanToCompletion ≡ true → mem x args ≡ true → may_end (plain rows) x ≡ true → has (row (plain rows) t).ends RanToCompletion ≡ true
 WideEndsRule g l rows t kind = (way : Way) → IsWay g l rows t way → has (row (plain rows) t).ends (way_final way) ≡ true
 
 -- K3: what a row may say of when a task begins
-abbrev pub BeginRule : TaskGraph → Assumed → List WideRow → ℕ → TaskKind → Fact → Type 0
+abbrev pub BeginRule : TaskGraph → WideAssumed → List WideRow → ℕ → TaskKind → Fact → Type 0
 BeginRule g l rows t Root fact = ⊥
 BeginRule g l rows t (Continues a) fact = once_ended rows a fact ≡ true
 BeginRule g l rows t Child (IsSettled x) = (p : ℕ) → IsParent g p t → mem x (row (plain rows) p).before ≡ true
@@ -170,32 +201,58 @@ SettledBelow g t (IsSettled x) = IsBelow g t x
 SettledBelow g t (IsRequested k) = ⊥
 
 -- K4 and, for WhenAll and WhenAny, K5: what a row may say of when a task has ended
-abbrev pub EndRule : TaskGraph → Assumed → List WideRow → ℕ → TaskKind → Fact → Type 0
+abbrev pub EndRule : TaskGraph → WideAssumed → List WideRow → ℕ → TaskKind → Fact → Type 0
 EndRule g l rows t (WhenAll args) fact = (y : ℕ) × (mem y args ≡ true) × (once_ended rows y fact ≡ true)
 EndRule g l rows t (WhenAny args) fact = (y : ℕ) → mem y args ≡ true → may_end (plain rows) y ≡ true → once_ended rows y fact ≡ true
 EndRule g l rows t kind fact = SettledBelow g t fact ⊎ ((way : Way) → IsWay g l rows t way → HoldsBy g rows t kind fact way)
 
+-- y alone may win a task of this kind
+abbrev pub IsWonBy : TaskKind → ℕ → Type 0
+IsWonBy (WhenAny args) y = (mem y args ≡ true) × ((x : ℕ) → mem x args ≡ true → x ≡ y)
+IsWonBy kind y = ⊥
+
+-- r, a task of this kind, continues a WhenAny task that y alone may win, and reads y's exception wherever y is faulted
+abbrev pub ReadsWinner : TaskGraph → WideAssumed → List WideRow → ℕ → ℕ → TaskKind → Type 0
+ReadsWinner g l rows r y (Continues n) =
+    IsWonBy (kind_left g l n) y
+    × (allows (options g r) RanToCompletion ≡ true)
+    × (is_loud g l.assumed r ≡ false)
+    × MustObserve (record (wide_view g l rows r) { subject = λ f. is_final f Faulted }) (body g r)
+ReadsWinner g l rows r y kind = ⊥
+
+-- the tasks of a chain from y on take its exception over, one after another, and the last one reads it, itself or
+-- behind WhenAny
+abbrev pub WideLinks : TaskGraph → WideAssumed → List WideRow → ℕ → List ℕ → Type 0
+WideLinks g l rows y [] = ⊥
+WideLinks g l rows y (x ∷ []) = Reads g l.assumed (plain rows) x y ⊎ ReadsWinner g l rows x y (kind g x)
+WideLinks g l rows y (x ∷ z ∷ zs) = TakesOver g x y × WideLinks g l rows x (z ∷ zs)
+
+-- K6: a chain is empty or leads from t to its reader
+abbrev pub WideChainRule : TaskGraph → WideAssumed → List WideRow → ℕ → List ℕ → Type 0
+WideChainRule g l rows t [] = Unit {0}
+WideChainRule g l rows t (x ∷ chain) = WideLinks g l rows t (x ∷ chain)
+
 -- the rules for the row of one task: runs is K1, ends K2, begin K3, end K4 and K5, chain K6
-pub record IsWidelyClosed (g : TaskGraph) (l : Assumed) (rows : List WideRow) (t : ℕ) : Type 0 where
+pub record IsWidelyClosed (g : TaskGraph) (l : WideAssumed) (rows : List WideRow) (t : ℕ) : Type 0 where
   pub runs : WideRunsRule g l rows t (kind g t)
-  pub ends : WideEndsRule g l rows t (kind g t)
+  pub ends : WideEndsRule g l rows t (kind_left g l t)
   pub begin : may_run rows t ≡ true → (fact : Fact) → begins_with rows t fact ≡ true → BeginRule g l rows t (kind g t) fact
-  pub end : (fact : Fact) → ends_with rows t fact ≡ true → EndRule g l rows t (kind g t) fact
-  pub chain : ChainRule g l (plain rows) t (row (plain rows) t).chain
+  pub end : (fact : Fact) → ends_with rows t fact ≡ true → EndRule g l rows t (kind_left g l t) fact
+  pub chain : WideChainRule g l rows t (row (plain rows) t).chain
 
 -- a leaf is closed
-abbrev pub WidelyClosed : TaskGraph → Assumed → List WideRow → Type 0
+abbrev pub WidelyClosed : TaskGraph → WideAssumed → List WideRow → Type 0
 WidelyClosed g l rows = (t : ℕ) → is_task g t → IsWidelyClosed g l rows t
 
 -- a closed leaf proves a claim
-abbrev pub WidelyProves : TaskGraph → Assumed → List WideRow → Property → Type 0
+abbrev pub WidelyProves : TaskGraph → WideAssumed → List WideRow → Property → Type 0
 WidelyProves g l rows (Observed t) =
     ((row (plain rows) t.0).chain ≡ [] → ⊥)
     ⊎ (has (row (plain rows) t.0).ends Faulted ≡ false)
     ⊎ (may_run rows t.0 ≡ false)
     ⊎ (at_throw (reading g l rows t.0) (asked_of rows t.0) (body g t.0) ≡ None)
     ⊎ NoneComplete g (plain rows)
-WidelyProves g l rows p = Proves g l (plain rows) p
+WidelyProves g l rows p = Proves g l.assumed (plain rows) p
 
 -- where a WhenAll task has these ends left, an argument may have this one
 abbrev pub keeps : (Final → Bool) → Final → Bool
@@ -217,15 +274,8 @@ narrowed_from g (suc t) left = narrowed_from g t (narrowed_by g t (kind g t) lef
 
 -- what a leaf assumes where the ends that its splits left are narrowed by all tasks. Ends that are given aren't: a task
 -- may be bound to end otherwise, while what is given of it is still true
-abbrev pub narrowed : TaskGraph → Assumed → Assumed
-narrowed g l = record {
-  possible = l.possible;
-  quiet = l.quiet;
-  cut = narrowed_from g (length g.tasks) l.cut;
-  ended = l.ended;
-  sure = l.sure;
-  wide = l.wide;
-}
+abbrev pub narrowed : TaskGraph → WideAssumed → WideAssumed
+narrowed g l = record l { assumed = record l.assumed { cut = narrowed_from g (length g.tasks) l.assumed.cut } }
 
 -- each number is that of a token
 abbrev pub AllTokens : TaskGraph → List ℕ → Type 0
@@ -237,28 +287,51 @@ abbrev pub TokensOfRows : TaskGraph → List WideRow → Type 0
 TokensOfRows g [] = Unit {0}
 TokensOfRows g (r ∷ rows) = AllTokens g r.asked × AllTokens g r.asks × TokensOfRows g rows
 
--- a tree: splits on an input or on how a task ends, and leaves with a row for each task
+-- a tree: splits on an input, on how a task ends or on whether an argument wins a WhenAny task, and leaves with a row
+-- for each task
 pub data WideTree : Type 0 where
   OnInput : (input : ℕ) → (on_true : WideTree) → (on_false : WideTree) → WideTree
   OnEnd : (task : ℕ) → (ran : WideTree) → (canceled : WideTree) → (faulted : WideTree) → WideTree
+  OnWinner : (task : ℕ) → (argument : ℕ) → (on_yes : WideTree) → (on_no : WideTree) → WideTree
   WideLeaf : (rows : List WideRow) → WideTree
 
+-- on a branch of a split on an input, on how t ends, and on whether x wins n
+abbrev pub input_split : WideAssumed → ℕ → Bool → WideAssumed
+input_split l i value = record l { assumed = with_input l.assumed i value }
+
+abbrev pub end_split : WideAssumed → ℕ → Final → WideAssumed
+end_split l t f = record l { assumed = with_end l.assumed t f }
+
+abbrev pub winner_split : WideAssumed → ℕ → ℕ → Bool → WideAssumed
+winner_split l n x value = record l { wins = λ m y. l.wins m y && (not (nat_eq n m) || same value (nat_eq x y)) }
+
+-- a task of this kind may have the winner x
+abbrev pub MayHaveWinner : TaskKind → ℕ → Type 0
+MayHaveWinner (WhenAny args) x = mem x args ≡ true
+MayHaveWinner kind x = ⊥
+
 -- each leaf of the tree is closed and proves the claim, where the ends that its splits left are narrowed
-abbrev pub AcceptsWideTree : TaskGraph → Property → Assumed → WideTree → Type 0
+abbrev pub AcceptsWideTree : TaskGraph → Property → WideAssumed → WideTree → Type 0
 AcceptsWideTree g p l (OnInput i on_true on_false) =
-    (i < g.inputs) × AcceptsWideTree g p (with_input l i true) on_true × AcceptsWideTree g p (with_input l i false) on_false
+    (i < g.inputs) × AcceptsWideTree g p (input_split l i true) on_true × AcceptsWideTree g p (input_split l i false) on_false
 AcceptsWideTree g p l (OnEnd t ran canceled faulted) =
     is_task g t
-    × AcceptsWideTree g p (with_end l t RanToCompletion) ran
-    × AcceptsWideTree g p (with_end l t Canceled) canceled
-    × AcceptsWideTree g p (with_end l t Faulted) faulted
+    × AcceptsWideTree g p (end_split l t RanToCompletion) ran
+    × AcceptsWideTree g p (end_split l t Canceled) canceled
+    × AcceptsWideTree g p (end_split l t Faulted) faulted
+AcceptsWideTree g p l (OnWinner n x on_yes on_no) =
+    MayHaveWinner (kind g n) x × AcceptsWideTree g p (winner_split l n x true) on_yes × AcceptsWideTree g p (winner_split l n x false) on_no
 AcceptsWideTree g p l (WideLeaf rows) =
     (length rows ≡ length g.tasks) × IdsOfRows g (plain rows) × TokensOfRows g rows × WidelyClosed g (narrowed g l) rows × WidelyProves g (narrowed g l) rows p
+
+-- what a certificate of such rows assumes for a claim, before its splits: each argument may win
+abbrev pub widely_assumed : TaskGraph → Claim → WideAssumed
+widely_assumed g claim = record { assumed = assumed_for true g claim; wins = λ n x. true }
 
 -- a certificate of such rows has one tree for each claim, and each is accepted
 abbrev pub WidelyAccepts : TaskGraph → List Claim → List WideTree → Type 0
 WidelyAccepts g [] [] = Unit {0}
-WidelyAccepts g (claim ∷ claims) (tree ∷ trees) = AcceptsWideTree g claim.body (assumed_for true g claim) tree × WidelyAccepts g claims trees
+WidelyAccepts g (claim ∷ claims) (tree ∷ trees) = AcceptsWideTree g claim.body (widely_assumed g claim) tree × WidelyAccepts g claims trees
 WidelyAccepts g [] (tree ∷ trees) = ⊥
 WidelyAccepts g (claim ∷ claims) [] = ⊥
 
