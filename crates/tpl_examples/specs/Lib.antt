@@ -14,3 +14,4 @@ pub mod Certificates
 pub mod RowRules
 pub mod WiderRules
 pub mod TokenRules
+pub mod WinnerRules

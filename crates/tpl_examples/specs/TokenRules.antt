@@ -9,16 +9,16 @@ use Rattle.tpl_model.specs.Graph.{TaskGraph, Token, Plain, Linked}
 use Rattle.tpl_model.specs.declared.fault.Rule.TheVariants.{K1, K2, K3, K4, K5}
 use Rattle.tpl_model.specs.declared.claim.Given.{Given}
 use Rattle.tpl_model.specs.declared.claim.Property.{Property}
-use Rattle.tpl_model.specs.Certificate.{Row, Assumed, assumed_for, with_end}
-use Rattle.tpl_model.specs.WiderRules.{WideRow, narrowed}
+use Rattle.tpl_model.specs.Certificate.{Row}
+use Rattle.tpl_model.specs.WiderRules.{WideRow, WideAssumed, widely_assumed, narrowed, end_split}
 use Rattle.tpl_laws.specs.Verdict.{LeafFault, Breaks, ProvesNot}
 use Rattle.tpl_laws.specs.WiderTests.{wide_leaf_fault}
 use Rattle.tpl_examples.specs.Words.{root, child, detached_child, continues, when_all, when_any, with_token, with_options, graph, with_tokens, returns, only_on_faulted, ran, canceled, faulted, ends_in, is_observed, never_begins, given_quiet, given_end}
 use Rattle.tpl_examples.specs.CertificateWords.{nothing, ran_or_canceled, ran_or_faulted, ends, not_run, throws}
 
 -- what a leaf assumes for a claim
-abbrev pub for_claim : TaskGraph → List Given → Property → Assumed
-for_claim g facts says = assumed_for true g (record { given = facts; body = says })
+abbrev pub for_claim : TaskGraph → List Given → Property → WideAssumed
+for_claim g facts says = widely_assumed g (record { given = facts; body = says })
 
 -- the fault of a leaf with these rows, if it has one
 abbrev pub fault : TaskGraph → List Given → Property → List WideRow → Option LeafFault
@@ -26,7 +26,7 @@ fault g facts says rows = wide_leaf_fault g says (for_claim g facts says) rows
 
 -- the same in the branch of a split on how t ends, with what the splits left narrowed
 abbrev pub in_branch : TaskGraph → List Given → Property → ℕ → Final → List WideRow → Option LeafFault
-in_branch g facts says t f rows = wide_leaf_fault g says (narrowed g (with_end (for_claim g facts says) t f)) rows
+in_branch g facts says t f rows = wide_leaf_fault g says (narrowed g (end_split (for_claim g facts says) t f)) rows
 
 -- a row without tokens, and one with those that are requested at its begin and at its end
 abbrev pub plainly : Row → WideRow

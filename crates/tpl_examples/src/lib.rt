@@ -16,3 +16,4 @@ pub mod row_rules;
 pub mod token_rules;
 pub mod valid_graphs;
 pub mod wider_rules;
+pub mod winner_rules;
