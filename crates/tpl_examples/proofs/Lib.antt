@@ -1,2 +1,3 @@
 pub mod Computed
 mod Roots
+mod WinnerNeeded

@@ -9,10 +9,10 @@ use Rattle.tpl_model.specs.declared.fault.Rule.TheVariants.{K1, K2, K5, K6}
 use Rattle.tpl_model.specs.declared.claim.Given.{Given}
 use Rattle.tpl_model.specs.declared.claim.Property.{Property}
 use Rattle.tpl_model.specs.Certificate.{Row}
-use Rattle.tpl_model.specs.WiderRules.{WideRow, winner_split}
+use Rattle.tpl_model.specs.WiderRules.{WideRow, WideTree, OnInput, OnEnd, OnWinner, WideLeaf, winner_split, WidelyAccepts}
 use Rattle.tpl_laws.specs.Verdict.{LeafFault, Breaks, ProvesNot}
 use Rattle.tpl_laws.specs.WiderTests.{wide_leaf_fault}
-use Rattle.tpl_examples.specs.Words.{root, child, continues, when_all, when_any, with_token, with_options, graph, with_tokens, returns, not_on_faulted, only_on_faulted, ran, faulted, ends_in, begins_after, is_observed, given_quiet}
+use Rattle.tpl_examples.specs.Words.{root, child, continues, when_all, when_any, with_token, with_options, graph, with_tokens, returns, not_on_faulted, only_on_faulted, ran, faulted, ends_in, begins_after, is_observed, given_quiet, claim}
 use Rattle.tpl_examples.specs.CertificateWords.{nothing, runs, ends, not_run, throws, observes}
 use Rattle.tpl_examples.specs.TokenRules.{for_claim, fault, plainly}
 
@@ -46,6 +46,22 @@ SplitOnWinner =
     × (fault races [] (begins_after 1 4) (races_rows (ends ran) []) ≡ Some ProvesNot)
     × (won races [] (begins_after 1 4) 2 0 false (races_rows (not_run nothing) []) ≡ Some (Breaks 4 K1))
     × (won races [] (begins_after 1 4) 2 0 true (races_rows (runs ran (1 ∷ []) [] []) (1 ∷ [])) ≡ Some (Breaks 2 K5))
+
+-- the certificate, and one that has no split on a winner
+abbrev pub races_tree : WideTree
+races_tree = OnWinner 2 0 (WideLeaf (races_rows (not_run nothing) [])) (WideLeaf (races_rows (runs ran (1 ∷ []) [] []) (1 ∷ [])))
+
+abbrev pub NoWinners : WideTree → Type 0
+NoWinners (OnInput i on_true on_false) = NoWinners on_true × NoWinners on_false
+NoWinners (OnEnd t ran canceled faulted) = NoWinners ran × NoWinners canceled × NoWinners faulted
+NoWinners (OnWinner n x on_yes on_no) = ⊥
+NoWinners (WideLeaf rows) = Unit {0}
+
+-- the first is accepted, and none of the others
+abbrev pub SplitIsNeeded : Type 0
+SplitIsNeeded =
+    WidelyAccepts races (claim (begins_after 1 4) ∷ []) (races_tree ∷ [])
+    × ((tree : WideTree) → NoWinners tree → WidelyAccepts races (claim (begins_after 1 4) ∷ []) (tree ∷ []) → ⊥)
 
 -- the body behind a WhenAny task reads how its winner ended, and not how the others did
 abbrev pub reads_end : TaskGraph

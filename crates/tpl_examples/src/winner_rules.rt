@@ -1,11 +1,18 @@
 //! Worked leaves on the branches of splits on a winner.
 
-ghost use Rattle.tpl_examples.specs.WinnerRules.{SplitOnWinner, WinnerIsRead, StuckWinner, SplitsAreIntersected, ChainBehindWinner};
+ghost use Rattle.tpl_examples.specs.WinnerRules.{SplitOnWinner, SplitIsNeeded, WinnerIsRead, StuckWinner, SplitsAreIntersected, ChainBehindWinner};
 
 /// A split on who wins shows what no leaf without it does.
 pub fn split_on_winner()
     ensures { SplitOnWinner }
 {}
+
+/// A certificate with this split is accepted for a claim, and none without a split on a winner is.
+pub fn split_is_needed()
+    ensures { SplitIsNeeded }
+{
+    tpl_laws::wide_leaf_is_right();
+}
 
 /// A body behind WhenAny reads how an argument ended that may win.
 pub fn winner_is_read()
