@@ -303,7 +303,7 @@ class TestFirstRound:
 
     def trial(self, *answers):
         """A trial of these edits, and the functions of each check, which answers so: a line for each function's path."""
-        made = wrong.Trial("tpl_words", self.GIVEN)
+        made = wrong.Trial("tpl_model", self.GIVEN)
         made.name, made.crate, made.texts = "two", with_proof(), crate().texts
         left, asked = list(answers), []
 
@@ -425,7 +425,7 @@ class TestBeside:
         with pytest.raises(wrong.PutOff):
             lanes.__enter__()
         assert (lanes.busy, lanes.waiting) == (0, [])
-        trial = wrong.Trial("tpl_words", [])
+        trial = wrong.Trial("tpl_model", [])
         assert trial.ran(["echo", "yes"], ".") == ("yes\n", 0)
         monkeypatch.setattr(wrong.LANES, "until", time.time() + 0.2)
         with pytest.raises(wrong.PutOff):
@@ -594,6 +594,6 @@ class TestTold:
         assert wrong.stubbed(made, made.texts, set()) == made.texts
 
     def test_words(self):
-        how = wrong.asked(["--jobs", "3", "--kept", "tpl_words"])
-        assert (how.jobs, how.names, how.kept, how.list, how.beside) == (3, ["tpl_words"], True, False, None)
+        how = wrong.asked(["--jobs", "3", "--kept", "tpl_model"])
+        assert (how.jobs, how.names, how.kept, how.list, how.beside) == (3, ["tpl_model"], True, False, None)
         assert "tpl_fast" in wrong.asked([]).names

@@ -94,8 +94,8 @@ SENTENCES = [
     ),
     Sentence(
         "`refute` writes the document with a run in which a claim fails",
-        "The clauses of `tpl_witness::refute_document`.",
-        (Clauses("tpl_witness/src/refuting.rt", "refute_document"),),
+        "The clauses of `tpl_verify::refute_document`.",
+        (Clauses("tpl_verify/src/refuting.rt", "refute_document"),),
     ),
     Sentence(
         "What `verify` says of a claim is so: it holds in every run, it fails in a run that is shown, or it says nothing",

@@ -1,7 +1,7 @@
 -- Rows of which only some tasks are left.
 use Rattle.std.proofs.Common.{◌≡◌, ℕ, true, ◌&&◌, List, sym, ◌∙◌}
-use Rattle.tpl_words.proofs.Truths.{and_second}
-use Rattle.tpl_words.specs.Members.{mem}
+use Rattle.tpl_model.proofs.Truths.{and_second}
+use Rattle.tpl_model.specs.Members.{mem}
 use Rattle.tpl_model.specs.declared.claim.Property.{Property}
 use Rattle.tpl_model.specs.Certificate.{Row}
 use Rattle.tpl_analyser.specs.Slim.{IsUsed, IsSlimRow}

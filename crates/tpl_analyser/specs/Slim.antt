@@ -1,7 +1,7 @@
 -- Trees whose rows say no more of where tasks are settled than the claim's proof uses.
 use Rattle.std.specs.Prelude.{◌≡◌, ℕ, true, List, [], ◌∷◌}
 use Rattle.std.specs.List.{All}
-use Rattle.tpl_words.specs.Members.{mem}
+use Rattle.tpl_model.specs.Members.{mem}
 use Rattle.tpl_model.specs.declared.claim.Property.{Property}
 use Rattle.tpl_model.specs.declared.claim.Property.TheVariants.{After}
 use Rattle.tpl_model.specs.Claims.{Claim}

@@ -1,7 +1,6 @@
 //! Which inputs a body asks for.
 
-use tpl_script::{Body, Stmt};
-use tpl_words::InputId;
+use tpl_model::{Body, InputId, Stmt};
 
 /// The body branches on the input, on some path or on none.
 #[cycle(asked)]

@@ -10,9 +10,8 @@ ghost use Rattle.tpl_analyser.specs.Questions.{IsReady};
 use crate::question::Question;
 use crate::split::{Split, Splits, Turn};
 use tpl_checker::Assumptions;
-use tpl_model::Property;
+use tpl_model::{Final, Finals, InputId, Property, TaskId};
 use tpl_outline::{Beyond, NO_END, Outline, Setting, has_chain, is_proved, outline_under};
-use tpl_words::{Final, Finals, InputId, TaskId};
 
 /// A branch of the search.
 #[derive(Drop)]

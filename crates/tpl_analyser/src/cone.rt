@@ -4,9 +4,8 @@ use crate::asked::asks_for;
 use crate::split::{Split, Splits};
 use tpl_checker::Assumptions;
 use tpl_graph::Graph;
-use tpl_model::Property;
+use tpl_model::{InputId, Property, TaskId, TaskSet};
 use tpl_outline::{Beyond, bearing_tasks};
-use tpl_words::{InputId, TaskId, TaskSet};
 
 /// What bears on a property.
 #[derive(Drop)]

@@ -2,13 +2,12 @@
 
 ghost use Rattle.std.specs.Prelude.{◌≡◌, ℕ, true, ◌&&◌, IfOk};
 ghost use Rattle.std.specs.List.{All};
-ghost use Rattle.tpl_words.specs.Members.{mem};
+ghost use Rattle.tpl_model.specs.Members.{mem};
 ghost use Rattle.tpl_analyser.specs.Slim.{AreOfForm, IsSlimRow, IsUsed};
 
 use std::alloc::{AllocError, Global};
 use tpl_cert::Row;
-use tpl_model::Property;
-use tpl_words::{MOST_TASKS, TaskSet};
+use tpl_model::{MOST_TASKS, Property, TaskSet};
 
 /// How much the rows of a certificate say in `before` and `past`.
 #[derive(Clone, Copy, Debug, Drop, PartialEq, Eq)]

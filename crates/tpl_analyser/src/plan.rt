@@ -13,7 +13,7 @@ use crate::leaf::leaf;
 use crate::question::Question;
 use std::alloc::{AllocError, Global};
 use tpl_cert::{Node, Tree};
-use tpl_words::{Final, InputId, TaskId};
+use tpl_model::{Final, InputId, TaskId};
 
 /// The plan with no split.
 pub(crate) fn no_split(alloc: Global) -> Tree

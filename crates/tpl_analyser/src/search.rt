@@ -17,7 +17,7 @@ use crate::split::Split;
 use crate::watch::Watch;
 use std::alloc::{AllocError, Global};
 use tpl_cert::Tree;
-use tpl_words::{Final, InputId, TaskId};
+use tpl_model::{Final, InputId, TaskId};
 
 /// How far a search may go on.
 #[derive(Clone, Copy)]

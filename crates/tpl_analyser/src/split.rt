@@ -8,7 +8,7 @@ use std::alloc::{AllocError, Global};
 use tpl_checker::Assumptions;
 use tpl_graph::Graph;
 use tpl_outline::Beyond;
-use tpl_words::{Final, InputId, MOST_INPUTS, MOST_TASKS, TaskId, TaskSet};
+use tpl_model::{Final, InputId, MOST_INPUTS, MOST_TASKS, TaskId, TaskSet};
 
 /// The most branches of a split.
 const MOST_BRANCHES: usize = 3;

@@ -5,8 +5,8 @@ use Rattle.std.proofs.lemmas.Bool.{or_cases, eqb-true, ltb-true, ltb-false, lt-l
 use Rattle.std.proofs.lemmas.List.{take_all, reverse-append, length-reverse, take-append-drop}
 use Rattle.std.proofs.lemmas.List.Elements.{All-head, All-tail, All-nil, All-more}
 use Rattle.std.proofs.lemmas.Option.{slice_get-get_or}
-use Rattle.tpl_words.specs.declared.finals.Final.{Final}
-use Rattle.tpl_words.specs.declared.ids.TaskId.{TaskId}
+use Rattle.tpl_model.specs.declared.finals.Final.{Final}
+use Rattle.tpl_model.specs.declared.ids.TaskId.{TaskId}
 use Rattle.tpl_model.specs.Graph.{TaskGraph, is_token}
 use Rattle.tpl_model.specs.declared.event.Event.{Event}
 use Rattle.tpl_model.specs.declared.claim.Given.{Given}

@@ -1,3 +1,4 @@
+pub mod HoldsLemmas
 pub mod WatchLemmas
 pub mod FailLemmas
 pub mod EndLemmas

@@ -2,8 +2,8 @@
 use Rattle.std.specs.Prelude.{◌≡◌, ℕ, suc, ◌<◌, ◌≤◌, ◌↔◌, Bool, true, Option, Some, None, List, length, take, reverse, slice_get, nat_lt, if◌then◌else◌}
 use Rattle.std.specs.List.{All}
 use Rattle.tpl_model.specs.Graph.{TaskGraph}
-use Rattle.tpl_words.specs.declared.finals.Final.{Final}
-use Rattle.tpl_words.specs.declared.ids.TaskId.{TaskId}
+use Rattle.tpl_model.specs.declared.finals.Final.{Final}
+use Rattle.tpl_model.specs.declared.ids.TaskId.{TaskId}
 use Rattle.tpl_model.specs.declared.event.Event.{Event}
 use Rattle.tpl_model.specs.Rules.{Allows, Run, Complete}
 use Rattle.tpl_model.specs.Claims.{Claim, Holds}

@@ -1,8 +1,8 @@
 -- Whether tasks ended as is said of them.
 use Rattle.std.specs.Prelude.{◌≡◌, ◌<◌, Bool, Option, Some, None, List, nat_lt, if◌then◌else◌}
 use Rattle.std.specs.List.{All, Contains}
-use Rattle.tpl_words.specs.declared.finals.Final.{Final}
-use Rattle.tpl_words.specs.declared.ids.TaskId.{TaskId}
+use Rattle.tpl_model.specs.declared.finals.Final.{Final}
+use Rattle.tpl_model.specs.declared.ids.TaskId.{TaskId}
 use Rattle.tpl_model.specs.Graph.{TaskGraph, is_task}
 use Rattle.tpl_model.specs.Rules.{final, status}
 use Rattle.tpl_model.specs.declared.event.Event.{Event}

@@ -1,6 +1,6 @@
 -- How tasks stand after a run.
 use Rattle.std.specs.Prelude.{ℕ, zero, suc, Bool, List, [], ◌∷◌, ◌++◌, length}
-use Rattle.tpl_words.specs.declared.status.Status.{Status}
+use Rattle.tpl_model.specs.declared.status.Status.{Status}
 use Rattle.tpl_model.specs.Graph.{TaskGraph}
 use Rattle.tpl_model.specs.declared.event.Event.{Event}
 use Rattle.tpl_model.specs.Rules.{status}

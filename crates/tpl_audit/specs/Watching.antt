@@ -4,7 +4,7 @@ use Rattle.tpl_model.specs.Graph.{TaskGraph, is_token}
 use Rattle.tpl_model.specs.declared.event.Event.{Event}
 use Rattle.tpl_model.specs.declared.event.Act.{Act}
 use Rattle.tpl_model.specs.declared.event.Act.TheVariants.{Request, Step, Worked}
-use Rattle.tpl_words.specs.declared.status.Answer.TheVariants.{Failed}
+use Rattle.tpl_model.specs.declared.status.Answer.TheVariants.{Failed}
 use Rattle.tpl_model.specs.Valid.{all_sites}
 use Rattle.tpl_model.specs.Facts.{requested, failed}
 use Rattle.tpl_laws.specs.Allowed.{is_complete}

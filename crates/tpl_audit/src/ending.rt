@@ -6,7 +6,7 @@ ghost use Rattle.tpl_audit.specs.Ending.{AreTasksOf, FirstOtherEnd, first_of};
 
 use crate::verdict::OtherEnd;
 use tpl_machine::Core;
-use tpl_words::{Final, Status, TaskId};
+use tpl_model::{Final, Status, TaskId};
 
 /// The task, if it has not ended as is said of it.
 fn other_end<C: Core>(core: &C, task: TaskId, said: Final) -> Option<OtherEnd>

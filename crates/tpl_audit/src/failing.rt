@@ -10,7 +10,7 @@ ghost use Rattle.tpl_audit.specs.Watching.{noted_of, IsWatched};
 
 use crate::verdict::Failure;
 use crate::watch::Watch;
-use tpl_claims::{Claim, is_true_of};
+use crate::{Claim, is_true_of};
 use tpl_machine::Core;
 use tpl_model::{Given, Property};
 

@@ -10,8 +10,7 @@ use std::alloc::{AllocError, Global};
 use tpl_fast::Fast;
 use tpl_graph::Graph;
 use tpl_machine::Core;
-use tpl_model::Event;
-use tpl_words::{Inputs, Status, TaskId};
+use tpl_model::{Event, Inputs, Status, TaskId};
 
 /// Does the events of a run, from its start.
 fn replay<C: Core>(core: &mut C, events: &[Event])

@@ -1,6 +1,6 @@
 //! What an audit says.
 
-use tpl_words::{Final, Status, TaskId};
+use tpl_model::{Final, Status, TaskId};
 
 /// A claim that doesn't hold.
 #[derive(Clone, Copy, PartialEq, Eq, Debug)]

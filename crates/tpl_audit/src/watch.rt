@@ -8,10 +8,9 @@ ghost use Rattle.tpl_laws.specs.Allowed.{is_complete};
 ghost use Rattle.tpl_laws.specs.Failing.{or_now};
 ghost use Rattle.tpl_audit.specs.Watching.{failure_noted_after, may_fail, may_request, noted_after, noted_at, IsWatched};
 
-use tpl_claims::has_failed;
+use crate::has_failed;
 use tpl_machine::Core;
-use tpl_model::Act;
-use tpl_words::{Answer, MOST_SITES, MOST_TOKENS, SiteId, TokenId};
+use tpl_model::{Act, Answer, MOST_SITES, MOST_TOKENS, SiteId, TokenId};
 
 /// The place from which the run is complete, for each token that from which it is requested, and for
 /// each job that from which it has failed.

@@ -2,14 +2,14 @@
 use Rattle.std.proofs.Common.{◌≡◌, ℕ, List, [], ◌∷◌, map, Bool, true, false, refl, ap}
 use Rattle.std.specs.List.{All, list_all, list_any}
 use Rattle.std.proofs.lemmas.List.Elements.{All-nil, All-cons, All-head, All-tail}
-use Rattle.tpl_words.proofs.Truths.{and_first, and_second}
+use Rattle.tpl_model.proofs.Truths.{and_first, and_second}
 use Rattle.serde_json.specs.Data.{Data, string, array}
 use Rattle.serde_json.specs.View.{items_of}
-use Rattle.tpl_words.specs.declared.finals.Final.{Final}
-use Rattle.tpl_words.specs.declared.finals.Final.TheVariants.{RanToCompletion, Canceled, Faulted}
-use Rattle.tpl_words.specs.Finals.{has, is_final, final_name}
-use Rattle.tpl_words.specs.Members.{mem}
-use Rattle.tpl_words.specs.TaskSet.{IsTaskSet}
+use Rattle.tpl_model.specs.declared.finals.Final.{Final}
+use Rattle.tpl_model.specs.declared.finals.Final.TheVariants.{RanToCompletion, Canceled, Faulted}
+use Rattle.tpl_model.specs.Finals.{has, is_final, final_name}
+use Rattle.tpl_model.specs.Members.{mem}
+use Rattle.tpl_model.specs.TaskSet.{IsTaskSet}
 use Rattle.tpl_model.specs.Certificate.{Row, Tree}
 use Rattle.tpl_model.specs.Certificate as tree
 use Rattle.tpl_draft.specs.Named.{Names}

@@ -3,7 +3,7 @@ use Rattle.std.proofs.Common.{◌≡◌, ℕ, true, List, [], ◌∷◌, Option,
 use Rattle.std.specs.List.{list_all}
 use Rattle.std.proofs.lemmas.Bool.{and_from}
 use Rattle.serde_json.specs.Data.{Data}
-use Rattle.tpl_words.specs.TaskSet.{SetsAreTheirMembers}
+use Rattle.tpl_model.specs.TaskSet.{SetsAreTheirMembers}
 use Rattle.tpl_model.specs.Certificate.{Row, Tree}
 use Rattle.tpl_model.specs.Certificate as tree
 use Rattle.tpl_draft.specs.Named.{Names}

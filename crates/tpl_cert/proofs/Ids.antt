@@ -3,7 +3,7 @@ use Rattle.std.proofs.Common.{ℕ, ◌<◌, List, [], ◌∷◌, length, get_or,
 use Rattle.std.specs.List.{All, list_all}
 use Rattle.std.proofs.lemmas.List.{map-id}
 use Rattle.std.proofs.lemmas.List.Elements.{All-head, All-tail}
-use Rattle.tpl_words.specs.TaskSet.{IsTaskSet}
+use Rattle.tpl_model.specs.TaskSet.{IsTaskSet}
 use Rattle.tpl_model.specs.Certificate.{Row}
 use Rattle.tpl_cert.specs.declared.fault.TreeToFault.{TreeToFault}
 use Rattle.tpl_cert.specs.declared.fault.TreeToFault.TheVariants as faults

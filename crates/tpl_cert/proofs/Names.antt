@@ -5,8 +5,8 @@ use Rattle.std.proofs.lemmas.List.{map_more, map_push}
 use Rattle.std.proofs.lemmas.List.Folds.{list_all-append, list_any-append}
 use Rattle.std.proofs.lemmas.List.Quantifiers.{position-Some}
 use Rattle.std.specs.Str.{bytes_eq}
-use Rattle.tpl_words.specs.Members.{mem}
-use Rattle.tpl_words.specs.TaskSet.{IsTaskSet}
+use Rattle.tpl_model.specs.Members.{mem}
+use Rattle.tpl_model.specs.TaskSet.{IsTaskSet}
 use Rattle.tpl_cert.specs.declared.fault.TreeFault.{TreeFault}
 use Rattle.tpl_cert.specs.declared.fault.TreeFault.TheVariants as faults
 use Rattle.tpl_model.specs.Certificate.{Row}

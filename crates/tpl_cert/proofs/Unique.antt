@@ -6,7 +6,7 @@ use Rattle.std.proofs.lemmas.List.Sums.{position_or_len_is}
 use Rattle.std.proofs.lemmas.List.Folds.{list_any-append}
 use Rattle.std.proofs.lemmas.Bool.{ltb-true, lt-ltb}
 use Rattle.tpl_graph.proofs.PlaceLaws.{once_more, same_name}
-use Rattle.tpl_words.proofs.Truths.{or_first, or_second}
+use Rattle.tpl_model.proofs.Truths.{or_first, or_second}
 use Rattle.tpl_draft.specs.Names.{has_name, with_name, twice_after, some_twice}
 use Rattle.tpl_cert.specs.Naming.{number_of}
 use Rattle.tpl_cert.specs.Written.{name_at, is_id}

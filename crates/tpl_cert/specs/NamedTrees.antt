@@ -1,6 +1,6 @@
 -- Certificate trees as they are spelled: names are texts, lists of bytes.
 use Rattle.std.specs.Prelude.{ℕ, List, Bool}
-use Rattle.tpl_words.specs.declared.finals.Finals.{Finals}
+use Rattle.tpl_model.specs.declared.finals.Finals.{Finals}
 
 -- what a leaf says of one task: how it may end, whether it may begin, what is settled when it begins and when it has ended, and who reads its exception
 pub record NamedRow : Type 0 where

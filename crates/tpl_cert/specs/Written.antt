@@ -7,8 +7,8 @@ use Rattle.json.specs.Written.{Written}
 use Rattle.serde_json.specs.Written.{outline}
 use Rattle.serde_json.specs.Data.{Data, string, boolean, array, object, no_members, member}
 use Rattle.serde_json.specs.View.{items_of}
-use Rattle.tpl_words.specs.declared.finals.Finals.{Finals}
-use Rattle.tpl_words.specs.TaskSet.{IsTaskSet}
+use Rattle.tpl_model.specs.declared.finals.Finals.{Finals}
+use Rattle.tpl_model.specs.TaskSet.{IsTaskSet}
 use Rattle.tpl_model.specs.Certificate.{Row, Tree}
 use Rattle.tpl_model.specs.Certificate as tree
 use Rattle.tpl_draft.specs.Named.{Names}

@@ -8,7 +8,7 @@ pub fn one_reading()
     ensures one { SpellsOneTree }
     ensures faultless { ReadHasNoFault }
 {
-    tpl_words::sets_are_their_members();
+    tpl_model::sets_are_their_members();
 }
 
 /// The array that is written for trees within the limits nests little enough for a text of it to be read.

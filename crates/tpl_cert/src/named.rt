@@ -1,6 +1,6 @@
 //! Certificate trees as they are spelled, with names.
 
-use tpl_words::Finals;
+use tpl_model::Finals;
 
 /// A row of a leaf.
 #[derive(Drop)]

@@ -12,7 +12,7 @@ use crate::row::Row;
 use crate::tree::{Node, Tree};
 use std::alloc::Global;
 use tpl_graph::Graph;
-use tpl_words::{InputId, TaskId, TaskSet};
+use tpl_model::{InputId, TaskId, TaskSet};
 
 fn input_in(graph: &Graph, name: &str) -> Result<InputId, TreeFault>
     ensures finds { Finds result (is_declared graph.now.names.inputs name.now)

@@ -4,7 +4,7 @@ ghost use Rattle.std.specs.Prelude.{◌≡◌, map};
 ghost use Rattle.tpl_draft.specs.Ids.{task_number};
 
 use std::marker::Model;
-use tpl_words::{Finals, TaskId, TaskSet};
+use tpl_model::{Finals, TaskId, TaskSet};
 
 /// What a leaf says of one task. Contracts see it with sets and lists of the tasks' numbers.
 #[derive(Drop)]

@@ -10,7 +10,7 @@ ghost use Rattle.serde_json.specs.Read.{read};
 ghost use Rattle.serde_json.specs.View.{items_of};
 ghost use Rattle.serde_json.specs.Written.{compact_text};
 ghost use Rattle.tpl_draft.specs.Ids.{task_number};
-ghost use Rattle.tpl_words.specs.TaskSet.{IsTaskSet};
+ghost use Rattle.tpl_model.specs.TaskSet.{IsTaskSet};
 ghost use Rattle.tpl_cert.specs.Heights.{height};
 ghost use Rattle.tpl_cert.specs.Spelled.{SpellsTree};
 ghost use Rattle.tpl_cert.specs.Written.{texts_data, word_if, words_of, row_data, leaf_data, tree_data, name_at, is_id, named_row, named, certificate_data, has_row_ids, has_ids, AreTaskSets, HasTaskSets, Writes, Puts, PutsValue};
@@ -21,7 +21,7 @@ use crate::tree::{Node, Tree};
 use json::Writer;
 use std::alloc::{AllocError, Global};
 use tpl_graph::Graph;
-use tpl_words::{Finals, InputId, TaskId, TaskSet};
+use tpl_model::{Finals, InputId, TaskId, TaskSet};
 
 fn input_name(graph: &Graph, input: InputId) -> Result<&str, TreeToFault>
     ensures writes { Writes result (is_id graph.now.names.inputs input.0)

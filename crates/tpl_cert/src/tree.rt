@@ -5,7 +5,7 @@ ghost use Rattle.tpl_cert.specs.Trees.{node_of};
 
 use crate::row::Row;
 use std::marker::Model;
-use tpl_words::{InputId, TaskId};
+use tpl_model::{InputId, TaskId};
 
 /// A certificate tree. Contracts see what it says, apart from how it lies in memory.
 #[cycle(tree)]

@@ -2,14 +2,14 @@
 use Rattle.std.proofs.Common.{◌≡◌, ℕ, zero, suc, ◌<◌, ◌&&◌, ◌||◌, inl, inr, not, Bool, true, false, List, [], ◌∷◌, length, refl, sym, ap, ◌∙◌, subst, nat_eq, slice_index_or, slice_set, replicate, arith}
 use Rattle.std.proofs.lemmas.List.{get_or-set_same, get_or-set_other}
 use Rattle.std.proofs.lemmas.Bool.Decides.{eqb_tells}
-use Rattle.tpl_words.specs.declared.finals.Final.{Final}
-use Rattle.tpl_words.specs.declared.finals.Final.TheVariants.{RanToCompletion, Canceled, Faulted}
-use Rattle.tpl_words.specs.Members.{mem}
-use Rattle.tpl_script.specs.declared.view.Possible.{Possible}
-use Rattle.tpl_script.specs.View.{may_have}
-use Rattle.tpl_words.specs.declared.finals.Finals.{Finals}
-use Rattle.tpl_words.specs.Finals.{has, is_final}
-use Rattle.tpl_words.proofs.MemberLemmas.{same_either_way}
+use Rattle.tpl_model.specs.declared.finals.Final.{Final}
+use Rattle.tpl_model.specs.declared.finals.Final.TheVariants.{RanToCompletion, Canceled, Faulted}
+use Rattle.tpl_model.specs.Members.{mem}
+use Rattle.tpl_model.specs.declared.view.Possible.{Possible}
+use Rattle.tpl_model.specs.View.{may_have}
+use Rattle.tpl_model.specs.declared.finals.Finals.{Finals}
+use Rattle.tpl_model.specs.Finals.{has, is_final}
+use Rattle.tpl_model.proofs.MemberLemmas.{same_either_way}
 use Rattle.tpl_model.specs.Certificate.{same, with_input, with_end, is_wide}
 use Rattle.tpl_checker.specs.declared.assumptions.Assumptions.{Assumptions}
 use Rattle.tpl_checker.specs.declared.cut.Cut.{Cut}

@@ -2,14 +2,14 @@
 use Rattle.std.proofs.Common.{◌≡◌, ℕ, zero, suc, ◌≤◌, ◌&&◌, ◌||◌, inl, inr, Bool, true, false, Option, Some, None, List, [], ◌∷◌, refl, sym, ap, ◌∙◌, subst, length, drop, arith}
 use Rattle.std.specs.Option.{option_map}
 use Rattle.std.proofs.lemmas.Bool.{and_from}
-use Rattle.tpl_words.proofs.MemberLemmas.{mem_here, mem_split, mem_there}
-use Rattle.tpl_words.proofs.Truths.{same_tests, true_false}
-use Rattle.tpl_words.specs.declared.finals.Final.{Final}
-use Rattle.tpl_words.specs.declared.finals.Final.TheVariants.{RanToCompletion, Canceled, Faulted}
-use Rattle.tpl_words.specs.declared.ids.TaskId.{TaskId}
-use Rattle.tpl_words.specs.Members.{mem}
-use Rattle.tpl_words.specs.TaskSet.{IsSubset}
-use Rattle.tpl_words.specs.Finals.{has, is_final}
+use Rattle.tpl_model.proofs.MemberLemmas.{mem_here, mem_split, mem_there}
+use Rattle.tpl_model.proofs.Truths.{same_tests, true_false}
+use Rattle.tpl_model.specs.declared.finals.Final.{Final}
+use Rattle.tpl_model.specs.declared.finals.Final.TheVariants.{RanToCompletion, Canceled, Faulted}
+use Rattle.tpl_model.specs.declared.ids.TaskId.{TaskId}
+use Rattle.tpl_model.specs.Members.{mem}
+use Rattle.tpl_model.specs.TaskSet.{IsSubset}
+use Rattle.tpl_model.specs.Finals.{has, is_final}
 use Rattle.tpl_model.specs.Graph.{some_in}
 use Rattle.tpl_model.specs.Certificate.{Row, row, one_ends}
 use Rattle.tpl_draft.specs.Ids.{task_number}

@@ -3,15 +3,15 @@ use Rattle.std.proofs.Common.{◌≡◌, ℕ, suc, ◌+◌, ◌<◌, ◌&&◌, �
 use Rattle.std.proofs.lemmas.Bool.{cases_lt, cases_Bool}
 use Rattle.std.proofs.lemmas.Bool.Decides.{eqb_tells}
 use Rattle.std.proofs.lemmas.List.{get_or-set_same, get_or-set_other, length-set}
-use Rattle.tpl_words.specs.Members.{mem}
+use Rattle.tpl_model.specs.Members.{mem}
 use Rattle.std.specs.Prelude.{◌==◌}
 use Rattle.tpl_laws.proofs.Settling.{attached_child, child_task}
-use Rattle.tpl_words.proofs.Truths.{true_false}
+use Rattle.tpl_model.proofs.Truths.{true_false}
 use Rattle.tpl_laws.proofs.Parents.{parent_before}
-use Rattle.tpl_words.specs.declared.ids.TaskId.{TaskId}
+use Rattle.tpl_model.specs.declared.ids.TaskId.{TaskId}
 use Rattle.tpl_draft.specs.Ids.{task_number}
-use Rattle.tpl_words.specs.Options.{attached_to_parent, deny_child_attach}
-use Rattle.tpl_script.specs.Statements.{Statements, starts}
+use Rattle.tpl_model.specs.Options.{attached_to_parent, deny_child_attach}
+use Rattle.tpl_model.specs.Statements.{Statements, starts}
 use Rattle.tpl_model.specs.Graph.{TaskGraph, attached, options, IsParent}
 use Rattle.tpl_model.specs.Valid.{IsGraph}
 use Rattle.tpl_model.specs.Certificate.{IsBelow, child, deeper}

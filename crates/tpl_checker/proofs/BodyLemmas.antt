@@ -3,15 +3,15 @@ use Rattle.std.proofs.Common.{◌≡◌, ℕ, suc, ◌+◌, ◌<◌, ◌↔◌, 
 use Rattle.std.proofs.lemmas.Bool.Decides.{eqb_tells}
 use Rattle.std.proofs.lemmas.Bool.{eqb-true, cases_Bool, or_cases, and_parts}
 use Rattle.tpl_laws.proofs.Settling.{child_task}
-use Rattle.tpl_words.proofs.MemberLemmas.{mem_here, mem_left, mem_right}
-use Rattle.tpl_words.proofs.Truths.{true_false, same_tests}
-use Rattle.tpl_script.proofs.PathEnds.{is_acknowledged, is_returned, thrown_label}
-use Rattle.tpl_script.proofs.Through.{no_clean}
-use Rattle.tpl_words.specs.Members.{mem}
-use Rattle.tpl_script.specs.declared.outcome.Outcome.TheVariants.{Returned, Threw, Acknowledged}
-use Rattle.tpl_script.specs.Statements.{Statement, Statements, Return, Throw, Check, Cancel, Start, Observe, Work, If, When, Nothing, ◌⨾◌, starts, starts_of}
-use Rattle.tpl_script.specs.Paths.{Known, Path, MayEnd, MayThrow, MayStartChild}
-use Rattle.tpl_script.specs.Recursion.{may, none, is_throw, passes_by, another, reaches, reaches_in, MayIsRight, MayStartIsRight}
+use Rattle.tpl_model.proofs.MemberLemmas.{mem_here, mem_left, mem_right}
+use Rattle.tpl_model.proofs.Truths.{true_false, same_tests}
+use Rattle.tpl_model.proofs.PathEnds.{is_acknowledged, is_returned, thrown_label}
+use Rattle.tpl_model.proofs.Through.{no_clean}
+use Rattle.tpl_model.specs.Members.{mem}
+use Rattle.tpl_model.specs.declared.outcome.Outcome.TheVariants.{Returned, Threw, Acknowledged}
+use Rattle.tpl_model.specs.Statements.{Statement, Statements, Return, Throw, Check, Cancel, Start, Observe, Work, If, When, Nothing, ◌⨾◌, starts, starts_of}
+use Rattle.tpl_model.specs.Paths.{Known, Path, MayEnd, MayThrow, MayStartChild}
+use Rattle.tpl_model.specs.Recursion.{may, none, is_throw, passes_by, another, reaches, reaches_in, MayIsRight, MayStartIsRight}
 use Rattle.tpl_model.specs.Graph.{TaskGraph, body, IsParent}
 use Rattle.tpl_model.specs.Valid.{IsGraph}
 use Rattle.tpl_model.specs.Certificate.{Row, Assumed, view}

@@ -2,12 +2,12 @@
 use Rattle.std.proofs.Common.{◌≡◌, ℕ, ◌<◌, ◌≤◌, inl, inr, Bool, true, false, if◌then◌else◌, None, List, [], ◌∷◌, filter, length, map, sym, ap, subst}
 use Rattle.std.proofs.lemmas.Bool.{cases_lt}
 use Rattle.std.proofs.lemmas.List.{get_or_past}
-use Rattle.tpl_words.proofs.MemberLemmas.{mem_split, mem_here, mem_there, mem_append}
-use Rattle.tpl_words.proofs.Truths.{true_false}
+use Rattle.tpl_model.proofs.MemberLemmas.{mem_split, mem_here, mem_there, mem_append}
+use Rattle.tpl_model.proofs.Truths.{true_false}
 use Rattle.tpl_laws.proofs.Settling.{child_task, attached_child}
-use Rattle.tpl_words.specs.declared.ids.TaskId.{TaskId}
-use Rattle.tpl_words.specs.Members.{mem}
-use Rattle.tpl_script.specs.Statements.{Statement, Statements, Return, Throw, Check, Cancel, Start, Observe, Work, If, When, Nothing, ◌⨾◌, starts, starts_of}
+use Rattle.tpl_model.specs.declared.ids.TaskId.{TaskId}
+use Rattle.tpl_model.specs.Members.{mem}
+use Rattle.tpl_model.specs.Statements.{Statement, Statements, Return, Throw, Check, Cancel, Start, Observe, Work, If, When, Nothing, ◌⨾◌, starts, starts_of}
 use Rattle.tpl_model.specs.Graph.{TaskGraph, Root, body, options, attached, is_task, IsParent}
 use Rattle.tpl_model.specs.Valid.{IsGraph, IdsOf, IdsWithin}
 use Rattle.tpl_draft.specs.Ids.{task_number}

@@ -2,13 +2,13 @@
 use Rattle.std.proofs.Common.{◌≡◌, ℕ, ◌<◌, ◌&&◌, inl, inr, Bool, true, false, List, [], ◌∷◌, length, nat_lt, refl, sym, ap, ◌∙◌, slice_index_or, arith}
 use Rattle.std.proofs.lemmas.Bool.{and_parts, cases_lt}
 use Rattle.std.specs.Cmp.Lexicographic.{pointwise}
-use Rattle.tpl_words.proofs.Truths.{beq_same, true_false}
-use Rattle.tpl_words.specs.declared.finals.Final.{Final}
-use Rattle.tpl_words.specs.declared.finals.Finals.{Finals}
-use Rattle.tpl_script.specs.declared.view.Possible.{Possible}
-use Rattle.tpl_script.specs.View.{may_have}
-use Rattle.tpl_script.specs.Paths.{Known}
-use Rattle.tpl_script.specs.Recursion.{may, none, is_throw, reaches}
+use Rattle.tpl_model.proofs.Truths.{beq_same, true_false}
+use Rattle.tpl_model.specs.declared.finals.Final.{Final}
+use Rattle.tpl_model.specs.declared.finals.Finals.{Finals}
+use Rattle.tpl_model.specs.declared.view.Possible.{Possible}
+use Rattle.tpl_model.specs.View.{may_have}
+use Rattle.tpl_model.specs.Paths.{Known}
+use Rattle.tpl_model.specs.Recursion.{may, none, is_throw, reaches}
 use Rattle.tpl_model.specs.Graph.{TaskGraph, task, kind, body}
 use Rattle.tpl_model.specs.Certificate.{Row, Assumed, view, subject_set}
 use Rattle.tpl_laws.specs.RowTests.{is_return, is_acknowledgement}

@@ -1,9 +1,9 @@
 -- What is settled after some of a list of tasks, or after each.
 use Rattle.std.proofs.Common.{◌≡◌, ℕ, ◌+◌, ◌<◌, ◌&&◌, ◌||◌, Bool, true, false, List, drop, length, map, refl, sym, ap, ◌∙◌, subst, nat_eq, slice_index_or}
 use Rattle.std.proofs.lemmas.List.{drop_more}
-use Rattle.tpl_words.proofs.Truths.{and_assoc, and_true}
-use Rattle.tpl_words.specs.declared.ids.TaskId.{TaskId}
-use Rattle.tpl_words.specs.Members.{mem}
+use Rattle.tpl_model.proofs.Truths.{and_assoc, and_true}
+use Rattle.tpl_model.specs.declared.ids.TaskId.{TaskId}
+use Rattle.tpl_model.specs.Members.{mem}
 use Rattle.tpl_model.specs.Graph.{some_in}
 use Rattle.tpl_model.specs.Certificate.{Row, row, Assumed, may_win}
 use Rattle.tpl_draft.specs.Ids.{task_number}

@@ -1,10 +1,10 @@
 -- What a leaf in memory assumes.
 use Rattle.std.specs.Prelude.{ℕ, true, false, not, ◌&&◌, ◌||◌, Bool, nat_eq, Option, Some, None, List, [], ◌∷◌, ◌<◌, slice_index_or}
-use Rattle.tpl_words.specs.declared.finals.Finals.{Finals}
-use Rattle.tpl_words.specs.Finals.{has}
-use Rattle.tpl_words.specs.declared.ids.TokenId.{TokenId}
-use Rattle.tpl_script.specs.declared.view.Possible.{Possible}
-use Rattle.tpl_script.specs.View.{may_have}
+use Rattle.tpl_model.specs.declared.finals.Finals.{Finals}
+use Rattle.tpl_model.specs.Finals.{has}
+use Rattle.tpl_model.specs.declared.ids.TokenId.{TokenId}
+use Rattle.tpl_model.specs.declared.view.Possible.{Possible}
+use Rattle.tpl_model.specs.View.{may_have}
 use Rattle.tpl_model.specs.declared.claim.Given.{Given}
 use Rattle.tpl_model.specs.declared.claim.Given.TheVariants.{Input, Quiet, Ended, Succeeds}
 use Rattle.tpl_model.specs.Certificate.{Assumed, with_input, is_wide}

@@ -1,6 +1,6 @@
 -- The tasks below each task, in memory.
 use Rattle.std.specs.Prelude.{◌≡◌, ℕ, ◌<◌, [], slice_index_or}
-use Rattle.tpl_words.specs.Members.{mem}
+use Rattle.tpl_model.specs.Members.{mem}
 use Rattle.tpl_model.specs.Graph.{TaskGraph}
 use Rattle.tpl_laws.specs.RowTests.{is_below}
 use Rattle.tpl_checker.specs.declared.below.Below.{Below}

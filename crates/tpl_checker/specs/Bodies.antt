@@ -1,8 +1,8 @@
 -- How the bodies may end in the runs of a leaf, and which children they may start.
 use Rattle.std.specs.Prelude.{◌≡◌, ℕ, ◌&&◌, true, List, length, nat_lt}
-use Rattle.tpl_words.specs.Members.{mem}
-use Rattle.tpl_script.specs.Statements.{starts}
-use Rattle.tpl_script.specs.Recursion.{may, none, is_throw, reaches}
+use Rattle.tpl_model.specs.Members.{mem}
+use Rattle.tpl_model.specs.Statements.{starts}
+use Rattle.tpl_model.specs.Recursion.{may, none, is_throw, reaches}
 use Rattle.tpl_model.specs.Graph.{TaskGraph, body}
 use Rattle.tpl_model.specs.Certificate.{Row, Assumed, view}
 use Rattle.tpl_laws.specs.RowTests.{is_return, is_acknowledgement}

@@ -1,8 +1,8 @@
 -- How tasks in memory don't end.
 use Rattle.std.specs.Prelude.{ℕ, not, Bool, List}
-use Rattle.tpl_words.specs.declared.finals.Final.{Final}
-use Rattle.tpl_words.specs.declared.finals.Final.TheVariants.{RanToCompletion, Canceled, Faulted}
-use Rattle.tpl_words.specs.Members.{mem}
+use Rattle.tpl_model.specs.declared.finals.Final.{Final}
+use Rattle.tpl_model.specs.declared.finals.Final.TheVariants.{RanToCompletion, Canceled, Faulted}
+use Rattle.tpl_model.specs.Members.{mem}
 use Rattle.tpl_checker.specs.declared.cut.Cut.{Cut}
 
 -- the tasks that don't end in this way

@@ -2,18 +2,18 @@
 
 ghost use Rattle.std.specs.Prelude.{◌≡◌, ◌<◌, ℕ, ◌&&◌, Bool, true};
 ghost use Rattle.std.specs.Option.{option_map};
-ghost use Rattle.tpl_words.specs.Finals.{has, is_final};
+ghost use Rattle.tpl_model.specs.Finals.{has, is_final};
 ghost use Rattle.tpl_draft.specs.Ids.{token_number};
-ghost use Rattle.tpl_script.specs.View.{known, may_have};
+ghost use Rattle.tpl_model.specs.View.{known, may_have};
 ghost use Rattle.tpl_model.specs.Certificate.{same, with_input, with_end, end_left, is_loud, is_wide};
 ghost use Rattle.tpl_model.specs.Graph.{is_task};
 ghost use Rattle.tpl_checker.specs.Assumptions.{assumed_of, nothing_assumed, with_quiet, with_ended, with_sure};
 
 use crate::cut::Cut;
 use tpl_graph::Graph;
-use tpl_model::RuleSet;
-use tpl_script::{Possible, View};
-use tpl_words::{Final, Finals, InputId, MOST_SITES, SiteId, TaskId, TokenId};
+use tpl_model::{
+    Final, Finals, InputId, MOST_SITES, Possible, RuleSet, SiteId, TaskId, TokenId, View,
+};
 
 /// The one of these values that is `value`, if it is among them.
 fn narrowed(possible: Possible, value: bool) -> Possible

@@ -9,7 +9,7 @@ use crate::parents::parent;
 use crate::rows::{implies, row, settled_after, within};
 use tpl_cert::Row;
 use tpl_graph::{Graph, Role};
-use tpl_words::{TaskId, TaskSet};
+use tpl_model::{TaskId, TaskSet};
 
 /// What stands before a task whose row runs may be taken as settled when it begins.
 pub(crate) fn before(graph: &Graph, rows: &[Row], task: TaskId) -> bool

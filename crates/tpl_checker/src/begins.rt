@@ -12,7 +12,7 @@ use crate::parents::parent;
 use crate::rows::{allowed, implies, row, some_end};
 use tpl_cert::Row;
 use tpl_graph::{Graph, Role};
-use tpl_words::TaskId;
+use tpl_model::TaskId;
 
 /// The row runs, if it is a root's, or its antecedent may end in a way that the options let the
 /// continuation run after, or its parent may start it.

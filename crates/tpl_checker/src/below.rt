@@ -1,7 +1,7 @@
 //! The attached children of each task, theirs, and so on.
 
 ghost use Rattle.std.specs.Prelude.{◌≡◌, ◌<◌, ℕ, false, slice_index_or, []};
-ghost use Rattle.tpl_words.specs.Members.{mem};
+ghost use Rattle.tpl_model.specs.Members.{mem};
 ghost use Rattle.tpl_model.specs.Graph.{is_task};
 ghost use Rattle.tpl_laws.specs.RowTests.{below_by, is_below, parent_of};
 ghost use Rattle.tpl_checker.specs.Below.{AreBelow};
@@ -10,7 +10,7 @@ use crate::parents::parent;
 use crate::rows::{is_member, with_if};
 use std::array;
 use tpl_graph::Graph;
-use tpl_words::{TaskId, TaskSet};
+use tpl_model::{TaskId, TaskSet};
 
 /// The tasks below each task of a graph: its attached children, theirs, and so on. It is 128
 /// kilobytes long, and made once for all leaves.

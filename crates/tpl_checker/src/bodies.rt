@@ -1,7 +1,7 @@
 //! How the bodies may end in the runs of a leaf, and which children they may start.
 
 ghost use Rattle.std.specs.Prelude.{◌≡◌, ◌<◌, ◌&&◌, ◌||◌, ℕ, ◌+◌, [], nat_eq, length};
-ghost use Rattle.tpl_words.specs.Members.{mem};
+ghost use Rattle.tpl_model.specs.Members.{mem};
 ghost use Rattle.tpl_model.specs.Graph.{is_task};
 ghost use Rattle.tpl_checker.specs.Assumptions.{assumed_of};
 ghost use Rattle.tpl_checker.specs.Bodies.{AreBodies, AreFirstBodies};
@@ -11,7 +11,7 @@ use crate::rows::with_if;
 use crate::view::view;
 use tpl_cert::Row;
 use tpl_graph::Graph;
-use tpl_words::{TaskId, TaskSet};
+use tpl_model::{TaskId, TaskSet};
 
 /// How the bodies may end in the runs of a leaf, and which children they may start: the tasks of which
 /// some path returns, throws or acknowledges a cancellation, and the children that some path starts. A
@@ -72,12 +72,12 @@ impl Bodies {
             → AreFirstBodies graph.now.graph (assumed_of assumed.now) rows.now (task.0 + 1) result }
     {
         graph.valid_law();
-        tpl_script::may_is_right();
-        tpl_script::may_start_is_right();
+        tpl_model::may_is_right();
+        tpl_model::may_start_is_right();
         let view = view(graph, assumed, rows, task);
         let body = graph.body(task);
-        let verdicts = tpl_script::may(body, &view);
-        let started = tpl_script::may_start_all(body, &view);
+        let verdicts = tpl_model::may(body, &view);
+        let started = tpl_model::may_start_all(body, &view);
         Bodies {
             returned: with_if(self.returned, task, verdicts.returned),
             thrown: with_if(self.thrown, task, verdicts.thrown),

@@ -1,7 +1,7 @@
 //! The chain of a row leads to a continuation that reads its task's exception (the rule K6).
 
 ghost use Rattle.std.specs.Prelude.{◌≡◌, IsTrue, length, map};
-ghost use Rattle.tpl_script.specs.Recursion.{must_observe};
+ghost use Rattle.tpl_model.specs.Recursion.{must_observe};
 ghost use Rattle.tpl_model.specs.Graph.{is_task, attached, body, kind};
 ghost use Rattle.tpl_model.specs.Certificate.{row};
 ghost use Rattle.tpl_draft.specs.Ids.{task_number};
@@ -15,7 +15,7 @@ use crate::rows::{is_member, row};
 use crate::view::faulted_view;
 use tpl_cert::Row;
 use tpl_graph::{Graph, Role};
-use tpl_words::{Final, TaskId};
+use tpl_model::{Final, TaskId};
 
 /// The chain of the row of the task, if it has one, leads to a reader.
 pub(crate) fn chain(graph: &Graph, assumed: &Assumptions, rows: &[Row], task: TaskId) -> bool
@@ -76,8 +76,8 @@ fn observes(graph: &Graph, assumed: &Assumptions, reader: TaskId) -> bool
     ensures { result ≡ must_observe (faulted_view graph.now.graph (assumed_of assumed.now) reader.0)
         (body graph.now.graph reader.0) }
 {
-    tpl_script::must_observe_is_right();
-    tpl_script::must_observe(graph.body(reader), &faulted_view(graph, assumed, reader))
+    tpl_model::must_observe_is_right();
+    tpl_model::must_observe(graph.body(reader), &faulted_view(graph, assumed, reader))
 }
 
 /// The task takes over what the other carries: it is the parent of an attached child, or waits for

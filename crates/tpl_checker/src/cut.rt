@@ -1,11 +1,11 @@
 //! How tasks don't end.
 
 ghost use Rattle.std.specs.Prelude.{◌≡◌, ◌<◌, ◌&&◌, ◌||◌, ℕ, not, nat_eq, true};
-ghost use Rattle.tpl_words.specs.Finals.{has};
+ghost use Rattle.tpl_model.specs.Finals.{has};
 ghost use Rattle.tpl_checker.specs.Cut.{left_by};
 
 use crate::rows::with_if;
-use tpl_words::{Final, Finals, MOST_TASKS, TaskId, TaskSet};
+use tpl_model::{Final, Finals, MOST_TASKS, TaskId, TaskSet};
 
 /// For each way to end the tasks that don't end so, 384 bytes long.
 #[derive(Drop)]

@@ -1,10 +1,10 @@
 //! A row has each way in which its task may end (the rule K2).
 
 ghost use Rattle.std.specs.Prelude.{◌≡◌, ◌&&◌, ◌||◌, ℕ, length, map, not};
-ghost use Rattle.tpl_words.specs.Finals.{has, is_final};
-ghost use Rattle.tpl_words.specs.Members.{mem};
-ghost use Rattle.tpl_words.specs.declared.finals.Final.TheVariants as finals;
-ghost use Rattle.tpl_script.specs.Recursion.{reaches};
+ghost use Rattle.tpl_model.specs.Finals.{has, is_final};
+ghost use Rattle.tpl_model.specs.Members.{mem};
+ghost use Rattle.tpl_model.specs.declared.finals.Final.TheVariants as finals;
+ghost use Rattle.tpl_model.specs.Recursion.{reaches};
 ghost use Rattle.tpl_model.specs.Graph.{TaskGraph, is_task, kind, body, attached, some_in, Root, Child, Continues, WhenAny};
 ghost use Rattle.tpl_model.specs.Certificate.{row, Assumed, end_left, view};
 ghost use Rattle.tpl_draft.specs.Ids.{task_number};
@@ -19,7 +19,7 @@ use crate::rows::{excluded, implies, row, some_end};
 use crate::view::{NO_END, ends_of_one};
 use tpl_cert::Row;
 use tpl_graph::{Graph, Role};
-use tpl_words::{Final, Finals, TaskId, TaskSet};
+use tpl_model::{Final, Finals, TaskId, TaskSet};
 
 /// Each way in which the task may end stands in its row, but for those that the leaf leaves out.
 pub(crate) fn ends(

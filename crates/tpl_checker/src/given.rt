@@ -2,7 +2,7 @@
 
 ghost use Rattle.std.specs.Prelude.{◌≡◌, ◌<◌, ℕ, ◌++◌, ◌||◌, false, [], if◌then◌else◌, List, map, slice_index_or, IfSome};
 ghost use Rattle.std.specs.Option.{option_map};
-ghost use Rattle.tpl_words.specs.Members.{mem};
+ghost use Rattle.tpl_model.specs.Members.{mem};
 ghost use Rattle.tpl_model.specs.Certificate.{as_quiet, assumed, assumed_for, given_quiet, is_wide, own_quiet};
 ghost use Rattle.tpl_model.specs.declared.claim.Given.{Given};
 ghost use Rattle.tpl_model.specs.declared.claim.Property.TheVariants.{Excludes};
@@ -14,8 +14,7 @@ ghost use Rattle.tpl_checker.specs.Assumptions.{assumed_of, nothing_assumed, wit
 
 use crate::assumptions::Assumptions;
 use tpl_graph::{Claim, Graph};
-use tpl_model::{Given, Property, RuleSet};
-use tpl_words::{TaskId, TokenId};
+use tpl_model::{Given, Property, RuleSet, TaskId, TokenId};
 
 /// What is assumed for a claim by these rules, before any split: what it takes as given, and by the
 /// wide ones for a claim about a beginning that the own token of the task that begins isn't requested.

@@ -11,7 +11,7 @@ use crate::bodies::Bodies;
 use crate::view::subject;
 use tpl_cert::Row;
 use tpl_graph::Graph;
-use tpl_words::TaskId;
+use tpl_model::TaskId;
 
 /// A leaf whose bodies were read: what it assumes, its rows, and how the bodies may end in its runs.
 #[derive(Drop)]

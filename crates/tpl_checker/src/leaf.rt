@@ -22,8 +22,7 @@ use crate::property::proves;
 use crate::shape::rows_fit;
 use tpl_cert::Row;
 use tpl_graph::{Graph, Role};
-use tpl_model::{Property, Rule};
-use tpl_words::TaskId;
+use tpl_model::{Property, Rule, TaskId};
 
 /// Why a leaf fails.
 #[derive(Clone, Copy)]

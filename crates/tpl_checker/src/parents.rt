@@ -7,7 +7,7 @@ ghost use Rattle.tpl_draft.specs.Ids.{task_number};
 ghost use Rattle.tpl_laws.specs.RowTests.{parent_of};
 
 use tpl_graph::Graph;
-use tpl_words::TaskId;
+use tpl_model::TaskId;
 
 /// The task whose body starts a child, if there is one.
 pub fn parent(graph: &Graph, task: TaskId) -> Option<TaskId>

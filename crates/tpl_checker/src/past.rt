@@ -1,7 +1,7 @@
 //! What a row has past its task is settled when the task has ended (the rules K4 and K5).
 
 ghost use Rattle.std.specs.Prelude.{◌≡◌, ◌&&◌, ◌||◌, ◌<◌, ◌≤◌, ℕ, length, nat_eq, map};
-ghost use Rattle.tpl_words.specs.Members.{mem};
+ghost use Rattle.tpl_model.specs.Members.{mem};
 ghost use Rattle.tpl_model.specs.Graph.{is_task, some_in, Child, Continues};
 ghost use Rattle.tpl_model.specs.Certificate.{Assumed, may_end_early, may_win, row};
 ghost use Rattle.tpl_draft.specs.Ids.{task_number};
@@ -16,7 +16,7 @@ use crate::parents::parent;
 use crate::rows::{may_end, row, settled_after, within};
 use tpl_cert::Row;
 use tpl_graph::{Graph, Role};
-use tpl_words::{TaskId, TaskSet};
+use tpl_model::{TaskId, TaskSet};
 
 /// Whether each member of a row's `past` may be taken as settled when the task has ended. Where the
 /// task has a body that goes for what is below it, since a parent ends after its attached children.

@@ -1,7 +1,7 @@
 //! What a closed leaf proves.
 
 ghost use Rattle.std.specs.Prelude.{◌≡◌, ◌&&◌, not, false, length};
-ghost use Rattle.tpl_words.specs.Finals.{has};
+ghost use Rattle.tpl_model.specs.Finals.{has};
 ghost use Rattle.tpl_model.specs.Graph.{is_task, kind};
 ghost use Rattle.tpl_model.specs.Rules.{to_end};
 ghost use Rattle.tpl_model.specs.Certificate.{Assumed, begins_itself, may_end};
@@ -16,8 +16,7 @@ use crate::bodies::Bodies;
 use crate::rows::{implies, may_end, row};
 use tpl_cert::Row;
 use tpl_graph::{Graph, Kind};
-use tpl_model::Property;
-use tpl_words::{Finals, TaskId};
+use tpl_model::{Finals, Property, TaskId};
 
 /// The rows of a closed leaf prove the claim's property.
 pub(crate) fn proves(

@@ -1,15 +1,15 @@
 //! The rows of a leaf, and the tasks that a graph relates to one.
 
 ghost use Rattle.std.specs.Prelude.{◌≡◌, ℕ, ◌<◌, ◌≤◌, ◌&&◌, ◌||◌, length, nat_eq, Bool, map, not};
-ghost use Rattle.tpl_words.specs.Finals.{has};
-ghost use Rattle.tpl_words.specs.Members.{mem};
-ghost use Rattle.tpl_words.specs.Options.{allows};
+ghost use Rattle.tpl_model.specs.Finals.{has};
+ghost use Rattle.tpl_model.specs.Members.{mem};
+ghost use Rattle.tpl_model.specs.Options.{allows};
 ghost use Rattle.tpl_model.specs.Certificate.{may_end, row};
 ghost use Rattle.tpl_draft.specs.Ids.{task_number};
 ghost use Rattle.tpl_laws.specs.RowTests.{all_in, implies, some_end};
 
 use tpl_cert::Row;
-use tpl_words::{Final, Finals, Options, TaskId, TaskSet};
+use tpl_model::{Final, Finals, Options, TaskId, TaskSet};
 
 /// The row of a task.
 pub(crate) fn row(rows: &[Row], task: TaskId) -> &Row

@@ -1,15 +1,14 @@
 //! Trees that fit their graph: each leaf has one row for each task, and each id is the graph's.
 
 ghost use Rattle.std.specs.Prelude.{◌≡◌, ◌&&◌, ℕ, length, map, nat_lt};
-ghost use Rattle.tpl_words.specs.Members.{mem};
+ghost use Rattle.tpl_model.specs.Members.{mem};
 ghost use Rattle.tpl_draft.specs.Ids.{task_number};
 ghost use Rattle.tpl_laws.specs.Verdict.{fits, has_tasks, misfit, rows_fit};
 
 use crate::rows::within;
 use tpl_cert::{Node, Row, Tree};
 use tpl_graph::{Claim, Graph};
-use tpl_model::CertFault;
-use tpl_words::{TaskId, TaskSet};
+use tpl_model::{CertFault, TaskId, TaskSet};
 
 /// Each leaf of the tree has one row for each task, and each id in it is the graph's.
 pub(crate) fn fits(graph: &Graph, tree: &Tree) -> bool

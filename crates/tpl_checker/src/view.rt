@@ -1,10 +1,10 @@
 //! What is known of the runs of a leaf in which a body is read.
 
 ghost use Rattle.std.specs.Prelude.{◌≡◌, ◌||◌, ℕ, Bool, length, map};
-ghost use Rattle.tpl_words.specs.Finals.{has, is_final};
+ghost use Rattle.tpl_model.specs.Finals.{has, is_final};
 ghost use Rattle.tpl_model.specs.Graph.{is_task, kind};
 ghost use Rattle.tpl_model.specs.Certificate.{subject_set, one_ends, view};
-ghost use Rattle.tpl_script.specs.View.{known};
+ghost use Rattle.tpl_model.specs.View.{known};
 ghost use Rattle.tpl_draft.specs.Ids.{task_number};
 ghost use Rattle.tpl_laws.specs.RowTests.{faulted_view};
 ghost use Rattle.tpl_checker.specs.Assumptions.{assumed_of};
@@ -14,8 +14,7 @@ use crate::assumptions::Assumptions;
 use crate::rows::{allowed, row};
 use tpl_cert::Row;
 use tpl_graph::{Graph, Role};
-use tpl_script::View;
-use tpl_words::{Final, Finals, TaskId};
+use tpl_model::{Final, Finals, TaskId, View};
 
 /// No way to end.
 pub(crate) const NO_END: Finals = Finals {

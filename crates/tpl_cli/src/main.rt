@@ -38,9 +38,8 @@ use tpl_reader::Document;
 use tpl_report::{Crew, Telling};
 use tpl_trace::trace_document;
 use tpl_verdicts::{OneByOne, Verification, verify_document};
-use tpl_verify::Limits;
-use tpl_witness::{Search, refute_document};
-use tpl_words::Inputs;
+use tpl_verify::{Limits, Search, refute_document};
+use tpl_model::Inputs;
 
 /// The words of the command line, the program's own name first.
 fn words(rt: &HostRuntime) -> Result<Vec<String>, LineFault> {

@@ -10,7 +10,7 @@ use tpl_graph::Graph;
 use tpl_machine::Core;
 use tpl_report::{Follow, Watcher};
 use tpl_verify::{Attend, Verdict};
-use tpl_words::{Inputs, TaskId};
+use tpl_model::{Inputs, TaskId};
 
 /// How long it takes until the line is written again, in milliseconds.
 const PAUSE: u64 = 20;

@@ -1,8 +1,8 @@
 -- Journals that are no run, and what is shown of those that are one.
 use Rattle.std.proofs.Common.{◌≡◌, ◌∙◌, ℕ, List, [], ◌∷◌, length, Bool, true, false, Option, Some, nat_eq, reverse, refl, sym, subst, arith}
 use Rattle.std.proofs.lemmas.Bool.{eqb-true, eq-eqb}
-use Rattle.tpl_words.specs.declared.finals.Final.{Final}
-use Rattle.tpl_words.specs.declared.ids.TaskId.{TaskId}
+use Rattle.tpl_model.specs.declared.finals.Final.{Final}
+use Rattle.tpl_model.specs.declared.ids.TaskId.{TaskId}
 use Rattle.tpl_audit.specs.declared.verdict.Failure.{Failure}
 use Rattle.tpl_audit.specs.declared.verdict.OtherEnd.{OtherEnd}
 use Rattle.tpl_audit.specs.Audit.{IsAudited, IsFirstRefused}

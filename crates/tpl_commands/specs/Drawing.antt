@@ -1,6 +1,6 @@
 -- What `draw` answers to a document.
 use Rattle.std.specs.Prelude.{◌≡◌, ℕ, ◌-◌, Bool, List, [], length, slice_get, Option, Some, None, Result, Ok, Err}
-use Rattle.tpl_words.specs.declared.finals.Finals.{Finals}
+use Rattle.tpl_model.specs.declared.finals.Finals.{Finals}
 use Rattle.tpl_model.specs.declared.event.Event.{Event}
 use Rattle.tpl_model.specs.declared.fault.CertFault.{CertFault}
 use Rattle.tpl_model.specs.Claims.{Claim}

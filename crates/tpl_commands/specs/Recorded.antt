@@ -1,7 +1,7 @@
 -- What a document says of a real run of its graph.
 use Rattle.std.specs.Prelude.{ℕ, List, [], unwrap_or}
-use Rattle.tpl_words.specs.declared.finals.Final.{Final}
-use Rattle.tpl_words.specs.declared.ids.TaskId.{TaskId}
+use Rattle.tpl_model.specs.declared.finals.Final.{Final}
+use Rattle.tpl_model.specs.declared.ids.TaskId.{TaskId}
 use Rattle.tpl_reader.specs.Document.{DocumentValue}
 
 -- how tasks were seen to end in it

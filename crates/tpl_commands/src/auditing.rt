@@ -23,7 +23,7 @@ use tpl_audit::{Failure, OtherEnd, Verdict, audit};
 use tpl_graph::Graph;
 use tpl_journal::{JournalFault, read_journal};
 use tpl_reader::Document;
-use tpl_words::Inputs;
+use tpl_model::Inputs;
 
 /// What the audit says of a document's journal.
 #[derive(Clone, Copy)]

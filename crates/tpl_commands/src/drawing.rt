@@ -18,9 +18,8 @@ use tpl_audit::{Failure, Verdict, audit, statuses_after};
 use tpl_draw::{Failing, Language, Moment, Shown, endings, picture};
 use tpl_graph::Claim;
 use tpl_journal::{JournalFault, fault_is_no_journal, read_journal, text_is_unambiguous};
-use tpl_model::{CertFault, Event};
+use tpl_model::{CertFault, Event, Finals, Inputs};
 use tpl_reader::Document;
-use tpl_words::{Finals, Inputs};
 
 /// The picture of the document's graph: of its run, where its journal is one; else coloured where its certificate is
 /// accepted.

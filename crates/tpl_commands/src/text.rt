@@ -4,8 +4,7 @@ ghost use Rattle.std.specs.Prelude.{◌≡◌, ◌++◌, IfOk, string_bytes};
 ghost use Rattle.tpl_commands.specs.Texts.{rule_name, refused_shape, refused_leaf, refused_claim, not_found, ended, claim_fails, task_ended, not_allowed, unreadable, unreadable_part, unreadable_at, unreadable_graph, unreadable_start};
 
 use std::alloc::{AllocError, Global};
-use tpl_model::Rule;
-use tpl_words::Status;
+use tpl_model::{Rule, Status};
 
 /// The rule as it is printed.
 fn rule_name(rule: Rule) -> &'static str

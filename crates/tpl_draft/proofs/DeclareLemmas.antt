@@ -3,7 +3,7 @@ use Rattle.std.proofs.Common.{◌≡◌, subst, ℕ, zero, suc, ◌<◌, Bool, t
 use Rattle.std.proofs.lemmas.Option.{slice_get-map, slice_get_within}
 use Rattle.std.specs.Option.{option_map}
 use Rattle.std.specs.Prelude.{Option, Some, None, slice_get, take}
-use Rattle.tpl_words.proofs.Truths.{or_true}
+use Rattle.tpl_model.proofs.Truths.{or_true}
 use Rattle.tpl_draft.specs.declared.fault.Why.TheVariants as why
 use Rattle.tpl_draft.specs.Draft.{Draft, Task}
 use Rattle.tpl_draft.specs.Names.{has_name, some_twice}

@@ -1,15 +1,15 @@
 -- The loop over a list of statements that puts ids in place of names.
 use Rattle.std.proofs.Common.{◌≡◌, ℕ, ◌+◌, ◌<◌, ◌≤◌, ◌++◌, List, [], ◌∷◌, length, drop, get_or, refl, sym, ap, ◌∙◌}
 use Rattle.std.proofs.lemmas.List.{drop_all}
-use Rattle.tpl_script.proofs.Levels.{followed_by-nothing}
-use Rattle.tpl_script.proofs.Fronts.{ahead_assoc}
-use Rattle.tpl_script.specs.Statements.{◌⨾◌, followed_by}
-use Rattle.tpl_script.specs.declared.body.Stmt.{Stmt}
+use Rattle.tpl_model.proofs.Levels.{followed_by-nothing}
+use Rattle.tpl_model.proofs.Fronts.{ahead_assoc}
+use Rattle.tpl_model.specs.Statements.{◌⨾◌, followed_by}
+use Rattle.tpl_model.specs.declared.body.Stmt.{Stmt}
 use Rattle.tpl_draft.specs.declared.draft.DraftStmt.{DraftStmt}
 use Rattle.tpl_draft.specs.Draft.{Lines}
 use Rattle.tpl_draft.specs.Named.{Names}
 use Rattle.tpl_draft.specs.Numbered.{script_in, statement_in}
-use Rattle.tpl_script.specs.Seen.{statement_of, statements_of}
+use Rattle.tpl_model.specs.Seen.{statement_of, statements_of}
 use Rattle.tpl_draft.specs.SeenDraft.{line_of, lines_of}
 use Rattle.tpl_draft.proofs.AskLemmas.{split_at}
 

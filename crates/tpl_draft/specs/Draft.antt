@@ -1,6 +1,6 @@
 -- Drafts of graphs without memory: names are lists of bytes.
 use Rattle.std.specs.Prelude.{ℕ, ◌+◌, max, Bool, List, [], ◌∷◌, ◌++◌, Option, Some, None}
-use Rattle.tpl_words.specs.declared.finals.Final.{Final}
+use Rattle.tpl_model.specs.declared.finals.Final.{Final}
 
 mutual
   -- a statement with names

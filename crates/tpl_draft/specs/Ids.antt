@@ -1,9 +1,9 @@
 -- The numbers of ids.
 use Rattle.std.specs.Prelude.{ℕ}
-use Rattle.tpl_words.specs.declared.ids.TaskId.{TaskId}
-use Rattle.tpl_words.specs.declared.ids.TokenId.{TokenId}
-use Rattle.tpl_words.specs.declared.ids.InputId.{InputId}
-use Rattle.tpl_words.specs.declared.ids.SiteId.{SiteId}
+use Rattle.tpl_model.specs.declared.ids.TaskId.{TaskId}
+use Rattle.tpl_model.specs.declared.ids.TokenId.{TokenId}
+use Rattle.tpl_model.specs.declared.ids.InputId.{InputId}
+use Rattle.tpl_model.specs.declared.ids.SiteId.{SiteId}
 
 -- the number of a task
 abbrev pub task_number : TaskId → ℕ

@@ -1,6 +1,6 @@
 -- A task graph with its names, and what its readers answer.
 use Rattle.std.specs.Prelude.{ℕ, suc, zero, ◌++◌, Bool, Option, Some, None, List, [], ◌∷◌, flat_map}
-use Rattle.tpl_script.specs.Statements.{Statement, Statements, Nothing, ◌⨾◌, Work, If, When}
+use Rattle.tpl_model.specs.Statements.{Statement, Statements, Nothing, ◌⨾◌, Work, If, When}
 use Rattle.tpl_model.specs.Graph.{TaskGraph, TaskKind, Continues, WhenAll, WhenAny}
 
 -- the names of a graph as bytes, each list in the order of its numbers

@@ -1,8 +1,8 @@
 -- What a draft spells: the graph in which each name is its number in declared order.
 use Rattle.std.specs.Prelude.{ℕ, ◌≤◌, List, [], ◌∷◌, Option, Some, None, map, flat_map, length}
 use Rattle.std.specs.Option.{option_map}
-use Rattle.tpl_script.specs.Statements.{Statement, Statements}
-use Rattle.tpl_script.specs.Statements as script
+use Rattle.tpl_model.specs.Statements.{Statement, Statements}
+use Rattle.tpl_model.specs.Statements as script
 use Rattle.tpl_model.specs.Graph as graph
 use Rattle.tpl_draft.specs.declared.sort.Sort.{Sort}
 use Rattle.tpl_draft.specs.declared.sort.Sort.TheVariants.{Labels, Sites}

@@ -1,9 +1,9 @@
 -- Why a draft spells no graph: each refusal, where it applies, and which one is answered.
 use Rattle.std.specs.Prelude.{◌≡◌, ℕ, suc, zero, ◌<◌, ◌⊎◌, ◌&&◌, ◌||◌, Bool, true, false, not, ◌==◌, List, [], ◌∷◌, ◌++◌, Option, Some, None, map, length, take, slice_get, nat_eq, nat_lt, nat_le, is_some, sum_by, if◌then◌else◌}
 use Rattle.std.specs.List.{list_any, list_all}
-use Rattle.tpl_words.specs.declared.limits.TheConstants.{LONGEST_NAME, MOST_ARGUMENTS, MOST_INPUTS, MOST_LEVELS, MOST_SITES, MOST_STATEMENTS, MOST_TASKS, MOST_TOKENS}
-use Rattle.tpl_words.specs.Options.{has_bits, excludes_all, long_and_sync}
-use Rattle.tpl_script.specs.Statements.{starts}
+use Rattle.tpl_model.specs.declared.limits.TheConstants.{LONGEST_NAME, MOST_ARGUMENTS, MOST_INPUTS, MOST_LEVELS, MOST_SITES, MOST_STATEMENTS, MOST_TASKS, MOST_TOKENS}
+use Rattle.tpl_model.specs.Options.{has_bits, excludes_all, long_and_sync}
+use Rattle.tpl_model.specs.Statements.{starts}
 use Rattle.tpl_model.specs.Graph as graph
 use Rattle.tpl_model.specs.Valid.{option_words}
 use Rattle.tpl_draft.specs.declared.fault.OptionsFault.{OptionsFault}

@@ -10,7 +10,7 @@ ghost use Rattle.tpl_draft.specs.SeenTasks.{task_of};
 
 use crate::draft::{DraftBody, DraftKind, DraftStmt, DraftTask};
 use crate::names::Names;
-use tpl_words::LONGEST_NAME;
+use tpl_model::LONGEST_NAME;
 
 /// The names that a draft declares.
 #[derive(Drop)]

@@ -4,7 +4,7 @@ ghost use Rattle.std.specs.Prelude.{◌≡◌};
 ghost use Rattle.tpl_draft.specs.SeenDraft.{lines_of};
 
 use std::marker::Model;
-use tpl_words::{Final, Options};
+use tpl_model::{Final, Options};
 
 /// A statement with names (Task Parallel Library guide: exception handling, task cancellation, child tasks).
 #[cycle(draft)]

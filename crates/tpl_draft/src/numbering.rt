@@ -1,7 +1,7 @@
 //! Bodies with ids in place of names.
 
 ghost use Rattle.std.specs.Prelude.{◌≡◌, IfOk};
-ghost use Rattle.tpl_script.specs.Seen.{statement_of};
+ghost use Rattle.tpl_model.specs.Seen.{statement_of};
 ghost use Rattle.tpl_draft.specs.Names.{place};
 ghost use Rattle.tpl_draft.specs.Numbered.{script_in, statement_in, AreFew};
 ghost use Rattle.tpl_draft.specs.SeenDraft.{line_of};
@@ -10,8 +10,7 @@ ghost use Rattle.tpl_draft.specs.Tables.{seen};
 use crate::draft::{DraftBody, DraftStmt};
 use crate::names::Tables;
 use std::alloc::{AllocError, Global};
-use tpl_script::{Body, Stmt};
-use tpl_words::{InputId, LabelId, SiteId, TaskId, TokenId};
+use tpl_model::{Body, InputId, LabelId, SiteId, Stmt, TaskId, TokenId};
 
 /// The task of a name.
 pub fn task_id(tables: &Tables, name: &str) -> TaskId

@@ -1,6 +1,6 @@
 //! What a token comes from.
 
-use tpl_words::TokenId;
+use tpl_model::TokenId;
 
 /// A token, of a source of its own or of one that is linked to other tokens.
 #[derive(Drop)]

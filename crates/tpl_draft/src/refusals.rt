@@ -22,7 +22,7 @@ use crate::names::Names;
 use crate::origin::Origin;
 use crate::starter::Starter;
 use std::slice;
-use tpl_words::TokenId;
+use tpl_model::TokenId;
 
 /// The refusals that are tested for each task by itself, with the tables that the tests read.
 #[derive(Clone, Copy)]

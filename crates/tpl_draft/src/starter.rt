@@ -1,6 +1,6 @@
 //! Who starts a task.
 
-use tpl_words::TaskId;
+use tpl_model::TaskId;
 
 /// Which start statements name a task.
 #[derive(Clone, Copy)]

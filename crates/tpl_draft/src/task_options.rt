@@ -3,14 +3,14 @@
 ghost use Rattle.std.specs.Prelude.{◌≡◌};
 ghost use Rattle.std.specs.Int.RustNames.{bit_or};
 ghost use Rattle.bitflags.specs.Sets.{find_name};
-ghost use Rattle.tpl_words.specs.Options.{words, task_words, continuation_words};
+ghost use Rattle.tpl_model.specs.Options.{words, task_words, continuation_words};
 ghost use Rattle.tpl_draft.specs.Names.{or_zero};
 ghost use Rattle.tpl_draft.specs.Refusals as spec;
 ghost use Rattle.tpl_draft.specs.SeenTasks.{task_of};
 
 use crate::draft::{DraftKind, DraftTask};
 use crate::fault::OptionsFault;
-use tpl_words::{OptionFault, Options};
+use tpl_model::{OptionFault, Options};
 
 /// The options with those of a word.
 fn with(options: Options, word: &str) -> Options

@@ -11,7 +11,7 @@ ghost use Rattle.tpl_draft.specs.SeenTasks.{draft_of, task_of, token_of};
 use crate::draft::{Draft, DraftKind, DraftTask, DraftToken};
 use crate::limits::{Room, room_behind};
 use crate::refusals::{linked_to, waits_for};
-use tpl_words::{
+use tpl_model::{
     MOST_ARGUMENTS, MOST_INPUTS, MOST_LEVELS, MOST_SITES, MOST_STATEMENTS, MOST_TASKS, MOST_TOKENS,
 };
 

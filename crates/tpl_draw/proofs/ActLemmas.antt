@@ -1,10 +1,10 @@
 -- What a body does, statement by statement.
 use Rattle.std.proofs.Common.{◌≡◌, ℕ, ◌+◌, ◌<◌, ◌≤◌, List, ◌++◌, length, drop, get_or, sym, ap, ◌∙◌, append_assoc, append-nil}
 use Rattle.std.proofs.lemmas.List.{drop_all}
-use Rattle.tpl_script.specs.declared.body.Stmt.{Stmt}
-use Rattle.tpl_script.specs.Statements.{Statements}
-use Rattle.tpl_script.specs.Seen.{statement_of, statements_of}
-use Rattle.tpl_script.proofs.Lists.{split_at}
+use Rattle.tpl_model.specs.declared.body.Stmt.{Stmt}
+use Rattle.tpl_model.specs.Statements.{Statements}
+use Rattle.tpl_model.specs.Seen.{statement_of, statements_of}
+use Rattle.tpl_model.proofs.Lists.{split_at}
 use Rattle.tpl_draw.specs.declared.edge.Edge.{Edge}
 use Rattle.tpl_draw.specs.Edges.{acts, acts_of}
 

@@ -2,9 +2,9 @@
 use Rattle.std.proofs.Common.{◌≡◌, ℕ, ◌+◌, List, ◌++◌, Option, Some, None, Result, Ok, Err, OnOk, map, refl, ap, ◌∙◌, add-one, append_assoc}
 use Rattle.std.specs.Prelude.{is_ok, if◌then◌else◌}
 use Rattle.std.specs.Option.{option_map, option_to_list}
-use Rattle.tpl_words.specs.declared.ids.TaskId.{TaskId}
-use Rattle.tpl_words.specs.declared.ids.TokenId.{TokenId}
-use Rattle.tpl_script.specs.Statements.{Statements}
+use Rattle.tpl_model.specs.declared.ids.TaskId.{TaskId}
+use Rattle.tpl_model.specs.declared.ids.TokenId.{TokenId}
+use Rattle.tpl_model.specs.Statements.{Statements}
 use Rattle.tpl_model.specs.Graph.{TaskGraph, task, kind, body}
 use Rattle.tpl_draft.specs.Ids.{task_number, token_number}
 use Rattle.tpl_draft.specs.Named.{antecedent_of, args_of}

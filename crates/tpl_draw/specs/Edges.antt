@@ -1,8 +1,8 @@
 -- The edges of a graph.
 use Rattle.std.specs.Prelude.{ℕ, zero, suc, Bool, Option, Some, None, List, [], ◌∷◌, ◌++◌, length, map, nat_lt, if◌then◌else◌}
 use Rattle.std.specs.Option.{option_to_list}
-use Rattle.tpl_words.specs.Members.{mem}
-use Rattle.tpl_script.specs.Statements.{Statement, Statements, Nothing, ◌⨾◌, Start, Cancel as Request, If, When}
+use Rattle.tpl_model.specs.Members.{mem}
+use Rattle.tpl_model.specs.Statements.{Statement, Statements, Nothing, ◌⨾◌, Start, Cancel as Request, If, When}
 use Rattle.tpl_model.specs.Graph.{TaskGraph, task, kind, body, sources}
 use Rattle.tpl_draft.specs.Named.{antecedent_of, args_of}
 use Rattle.tpl_draw.specs.declared.edge.Tie.{Tie}

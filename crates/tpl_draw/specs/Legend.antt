@@ -1,7 +1,7 @@
 -- What says what the colours of a picture mean.
 use Rattle.std.specs.Prelude.{ℕ, Bool, true, false, not, ◌&&◌, Option, Some, None, List, [], ◌∷◌, ◌++◌, codes, decimal, flat_map, if◌then◌else◌}
 use Rattle.std.specs.List.{list_any}
-use Rattle.tpl_words.specs.declared.finals.Finals.{Finals}
+use Rattle.tpl_model.specs.declared.finals.Finals.{Finals}
 use Rattle.tpl_draw.specs.declared.language.Language.{Language}
 use Rattle.tpl_draw.specs.declared.language.Language.TheVariants.{Mermaid, Dot}
 use Rattle.tpl_draw.specs.declared.shown.Failing.{Failing}

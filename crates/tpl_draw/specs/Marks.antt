@@ -1,9 +1,9 @@
 -- How the node of a task is coloured.
 use Rattle.std.specs.Prelude.{ℕ, Bool, true, false, List, [], ◌∷◌, ◌++◌, codes}
-use Rattle.tpl_words.specs.declared.finals.Final.TheVariants.{RanToCompletion, Canceled, Faulted}
-use Rattle.tpl_words.specs.declared.finals.Finals.{Finals}
-use Rattle.tpl_words.specs.declared.status.Status.{Status}
-use Rattle.tpl_words.specs.declared.status.Status.TheVariants.{Running, WaitingForChildrenToComplete, Completed}
+use Rattle.tpl_model.specs.declared.finals.Final.TheVariants.{RanToCompletion, Canceled, Faulted}
+use Rattle.tpl_model.specs.declared.finals.Finals.{Finals}
+use Rattle.tpl_model.specs.declared.status.Status.{Status}
+use Rattle.tpl_model.specs.declared.status.Status.TheVariants.{Running, WaitingForChildrenToComplete, Completed}
 use Rattle.tpl_draw.specs.declared.language.Language.{Language}
 use Rattle.tpl_draw.specs.declared.language.Language.TheVariants.{Mermaid, Dot}
 

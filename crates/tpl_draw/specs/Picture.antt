@@ -1,7 +1,7 @@
 -- The text of a picture.
 use Rattle.std.specs.Prelude.{ℕ, Bool, true, false, not, ◌&&◌, Option, Some, None, List, [], ◌∷◌, ◌++◌, length, codes, flat_map, slice_index_or, if◌then◌else◌}
-use Rattle.tpl_words.specs.declared.finals.Final.TheVariants.{RanToCompletion, Canceled, Faulted}
-use Rattle.tpl_words.specs.Options.{allows, attached_to_parent, deny_child_attach, lazy_cancellation, execute_synchronously}
+use Rattle.tpl_model.specs.declared.finals.Final.TheVariants.{RanToCompletion, Canceled, Faulted}
+use Rattle.tpl_model.specs.Options.{allows, attached_to_parent, deny_child_attach, lazy_cancellation, execute_synchronously}
 use Rattle.tpl_model.specs.Graph.{TaskGraph, task, kind, options}
 use Rattle.tpl_draft.specs.Named.{Names, Named}
 use Rattle.tpl_graph.specs.Rows.{kind_of}

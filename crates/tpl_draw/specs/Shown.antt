@@ -1,8 +1,8 @@
 -- What the nodes of tasks show.
 use Rattle.std.specs.Prelude.{ℕ, Bool, true, false, ◌||◌, Option, Some, None, List, [], ◌++◌, codes, nat_eq, slice_index_or}
-use Rattle.tpl_words.specs.declared.status.Status.{Status}
-use Rattle.tpl_words.specs.declared.status.Status.TheVariants.{Created}
-use Rattle.tpl_words.specs.Statuses.{status_name}
+use Rattle.tpl_model.specs.declared.status.Status.{Status}
+use Rattle.tpl_model.specs.declared.status.Status.TheVariants.{Created}
+use Rattle.tpl_model.specs.Statuses.{status_name}
 use Rattle.tpl_model.specs.declared.claim.Property.{Property}
 use Rattle.tpl_model.specs.declared.claim.Property.TheVariants.{Final as EndsIn, After, Observed, Never, Excludes, Runs}
 use Rattle.tpl_draw.specs.declared.language.Language.{Language}

@@ -20,7 +20,7 @@ use crate::showing::{add_status_line, border_line, has_border, line_break, mark}
 use crate::shown::Shown;
 use std::alloc::{AllocError, Global};
 use tpl_graph::Graph;
-use tpl_words::{TaskId, TokenId};
+use tpl_model::{TaskId, TokenId};
 
 /// What stands before the first node.
 fn opening(language: Language) -> &'static str

@@ -2,7 +2,7 @@
 
 ghost use Rattle.std.specs.Prelude.{◌≡◌, ◌∷◌, ◌++◌, [], length, map, IfOk, OnOk};
 ghost use Rattle.std.specs.Option.{option_map, option_to_list};
-ghost use Rattle.tpl_script.specs.Seen.{statement_of};
+ghost use Rattle.tpl_model.specs.Seen.{statement_of};
 ghost use Rattle.tpl_model.specs.Graph.{is_task, is_token};
 ghost use Rattle.tpl_draft.specs.Ids.{task_number, token_number};
 ghost use Rattle.tpl_draw.specs.Below.{below};
@@ -11,8 +11,7 @@ ghost use Rattle.tpl_draw.specs.Edges.{acts, acts_of, edge, edge_token, edges, f
 use crate::edge::{Edge, Tie};
 use std::alloc::{AllocError, Global};
 use tpl_graph::Graph;
-use tpl_script::{Body, Stmt};
-use tpl_words::{TaskId, TokenId};
+use tpl_model::{Body, Stmt, TaskId, TokenId};
 
 /// Adds an edge.
 fn add_edge(found: &mut Vec<Edge>, tie: Tie, from: u16, to: u16) -> Result<(), AllocError>

@@ -6,7 +6,7 @@ ghost use Rattle.tpl_draw.specs.Endings.{either, endings, ends, no_ends, tree_en
 
 use std::alloc::{AllocError, Global};
 use tpl_cert::{Node, Row, Tree};
-use tpl_words::Finals;
+use tpl_model::Finals;
 
 /// No way to end.
 pub(crate) fn no_ends() -> Finals

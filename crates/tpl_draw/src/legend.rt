@@ -8,7 +8,7 @@ use crate::language::Language;
 use crate::marks::paint;
 use crate::shown::{Failing, Moment, Shown};
 use std::alloc::{AllocError, Global};
-use tpl_words::Finals;
+use tpl_model::Finals;
 
 /// The sets of endings that have a class or colour, in the order of the legend.
 fn painted_endings() -> [Finals; 6]

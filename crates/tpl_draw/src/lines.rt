@@ -9,7 +9,7 @@ use crate::edge::{Edge, Tie};
 use crate::language::Language;
 use std::alloc::{AllocError, Global};
 use tpl_graph::{Graph, Kind};
-use tpl_words::{Final, Options, TaskId, TokenId};
+use tpl_model::{Final, Options, TaskId, TokenId};
 
 /// The node of a token.
 pub(crate) fn token_node(

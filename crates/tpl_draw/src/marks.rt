@@ -5,7 +5,7 @@ ghost use Rattle.tpl_draw.specs.Marks.{dot_paint, dot_status_paint, mermaid_pain
 
 use crate::language::Language;
 use std::alloc::{AllocError, Global};
-use tpl_words::{Final, Finals, Status};
+use tpl_model::{Final, Finals, Status};
 
 /// The class of a task by whether it may run to completion, be canceled, fault; none where it can only run to
 /// completion, or nothing is said.

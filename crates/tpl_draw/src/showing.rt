@@ -8,8 +8,7 @@ use crate::language::Language;
 use crate::marks::{paint, painted, status_paint};
 use crate::shown::{Failing, Moment, Shown};
 use std::alloc::{AllocError, Global};
-use tpl_model::Property;
-use tpl_words::{Status, TaskId};
+use tpl_model::{Property, Status, TaskId};
 
 /// The claim says something of the task.
 fn is_said_of(says: Property, task: TaskId) -> bool

@@ -1,7 +1,6 @@
 //! What the nodes of tasks show.
 
-use tpl_model::Property;
-use tpl_words::{Finals, Status};
+use tpl_model::{Finals, Property, Status};
 
 /// A claim that fails.
 #[derive(Clone, Copy, PartialEq, Eq, Debug)]

@@ -2,10 +2,10 @@
 use Rattle.std.proofs.Common.{◌≡◌, ℕ, zero, suc, ◌≤◌, true, false, [], refl, sym, subst, arith, length}
 use Rattle.std.specs.Prelude.{replicate, slice_index_or, flat_map, count_by, nat_eq}
 use Rattle.std.proofs.lemmas.List.{length-replicate}
-use Rattle.tpl_words.specs.Members.{mem}
-use Rattle.tpl_words.specs.Options.{has_bits, excludes_all, long_and_sync}
-use Rattle.tpl_script.specs.Statements.{Nothing, starts, sites}
-use Rattle.tpl_script.specs.Limits.{IsWithinLimits}
+use Rattle.tpl_model.specs.Members.{mem}
+use Rattle.tpl_model.specs.Options.{has_bits, excludes_all, long_and_sync}
+use Rattle.tpl_model.specs.Statements.{Nothing, starts, sites}
+use Rattle.tpl_model.specs.Limits.{IsWithinLimits}
 use Rattle.tpl_model.specs.Graph.{Task, Child, body, IsParent}
 use Rattle.tpl_model.specs.Valid.{IdsOf, OwnToken, IsPlaced, option_words, HasBody, HasSubject, IsTask, IsGraph}
 use Rattle.tpl_examples.specs.Words.{root, returns}

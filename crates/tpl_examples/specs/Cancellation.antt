@@ -1,8 +1,8 @@
 -- Requested tokens: what they stop, and what they don't.
 use Rattle.std.specs.Prelude.{◌≡◌, true, false, Some, None, List, [], ◌∷◌}
-use Rattle.tpl_words.specs.declared.finals.Final.TheVariants.{RanToCompletion, Canceled, Faulted}
-use Rattle.tpl_words.specs.declared.status.Status.TheVariants.{WaitingToRun, Running, Completed}
-use Rattle.tpl_script.specs.Statements.{Return, Throw, Check, Cancel, Nothing, ◌⨾◌}
+use Rattle.tpl_model.specs.declared.finals.Final.TheVariants.{RanToCompletion, Canceled, Faulted}
+use Rattle.tpl_model.specs.declared.status.Status.TheVariants.{WaitingToRun, Running, Completed}
+use Rattle.tpl_model.specs.Statements.{Return, Throw, Check, Cancel, Nothing, ◌⨾◌}
 use Rattle.tpl_model.specs.Graph.{TaskGraph, Plain}
 use Rattle.tpl_model.specs.declared.event.Event.{Event}
 use Rattle.tpl_model.specs.Facts.{ending, requested}

@@ -1,8 +1,8 @@
 -- Short words, in which the worked certificates are written beside those of Words: tasks with their options, rows, and
 -- lists of one claim.
 use Rattle.std.specs.Prelude.{ℕ, true, false, None, List, [], ◌∷◌}
-use Rattle.tpl_words.specs.declared.finals.Finals.{Finals}
-use Rattle.tpl_script.specs.Statements.{Throw, Observe, Statements, Nothing, ◌⨾◌}
+use Rattle.tpl_model.specs.declared.finals.Finals.{Finals}
+use Rattle.tpl_model.specs.Statements.{Throw, Observe, Statements, Nothing, ◌⨾◌}
 use Rattle.tpl_model.specs.Graph.{TaskGraph, Task, Token, Child, Continues}
 use Rattle.tpl_model.specs.declared.fault.Rule.{Rule}
 use Rattle.tpl_model.specs.declared.fault.CertFault.{CertFault}

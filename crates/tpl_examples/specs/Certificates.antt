@@ -1,7 +1,7 @@
 -- Worked certificates: what is said of each.
 use Rattle.std.specs.Prelude.{◌≡◌, ℕ, true, false, Ok, Err, List, [], ◌∷◌}
-use Rattle.tpl_words.specs.declared.finals.Finals.{Finals}
-use Rattle.tpl_script.specs.Statements.{Return, Throw, Check, Cancel, Start, Work, If, Statements, Nothing, ◌⨾◌}
+use Rattle.tpl_model.specs.declared.finals.Finals.{Finals}
+use Rattle.tpl_model.specs.Statements.{Return, Throw, Check, Cancel, Start, Work, If, Statements, Nothing, ◌⨾◌}
 use Rattle.tpl_model.specs.Graph.{TaskGraph, Task, Token, Plain, Linked}
 use Rattle.tpl_model.specs.declared.fault.Rule.TheVariants.{K1, K2, K3, K4, K6}
 use Rattle.tpl_model.specs.declared.fault.CertFault.TheVariants.{Shape, ClaimNot}

@@ -1,8 +1,8 @@
 -- Children: which are waited for, and what their parents take over.
 use Rattle.std.specs.Prelude.{◌≡◌, true, false, Some, None, List, [], ◌∷◌}
-use Rattle.tpl_words.specs.declared.finals.Final.TheVariants.{RanToCompletion, Canceled, Faulted}
-use Rattle.tpl_words.specs.declared.status.Status.TheVariants.{Created, WaitingToRun, WaitingForChildrenToComplete, Completed}
-use Rattle.tpl_script.specs.Statements.{Return, Throw, Check, Start, If, Nothing, ◌⨾◌}
+use Rattle.tpl_model.specs.declared.finals.Final.TheVariants.{RanToCompletion, Canceled, Faulted}
+use Rattle.tpl_model.specs.declared.status.Status.TheVariants.{Created, WaitingToRun, WaitingForChildrenToComplete, Completed}
+use Rattle.tpl_model.specs.Statements.{Return, Throw, Check, Start, If, Nothing, ◌⨾◌}
 use Rattle.tpl_model.specs.Graph.{TaskGraph, Plain}
 use Rattle.tpl_model.specs.declared.event.Event.{Event}
 use Rattle.tpl_model.specs.Facts.{ending, started}

@@ -1,6 +1,6 @@
 -- Claims that hold in a run, and claims that fail at a place of it.
 use Rattle.std.specs.Prelude.{◌≡◌, true, false, List, [], ◌∷◌}
-use Rattle.tpl_script.specs.Statements.{Return, Throw, Check, Start, Observe, Work, If, Nothing, ◌⨾◌}
+use Rattle.tpl_model.specs.Statements.{Return, Throw, Check, Start, Observe, Work, If, Nothing, ◌⨾◌}
 use Rattle.tpl_model.specs.Graph.{TaskGraph, Plain}
 use Rattle.tpl_model.specs.declared.event.Event.{Event}
 use Rattle.tpl_model.specs.Rules.{seen, Run, Complete}

@@ -1,8 +1,8 @@
 -- WhenAll and WhenAny tasks.
 use Rattle.std.specs.Prelude.{◌≡◌, true, false, Some, None, List, [], ◌∷◌}
-use Rattle.tpl_words.specs.declared.finals.Final.TheVariants.{RanToCompletion, Canceled, Faulted}
-use Rattle.tpl_words.specs.declared.status.Status.TheVariants.{WaitingForActivation, Completed}
-use Rattle.tpl_script.specs.Statements.{Throw, Observe, When, Nothing, ◌⨾◌}
+use Rattle.tpl_model.specs.declared.finals.Final.TheVariants.{RanToCompletion, Canceled, Faulted}
+use Rattle.tpl_model.specs.declared.status.Status.TheVariants.{WaitingForActivation, Completed}
+use Rattle.tpl_model.specs.Statements.{Throw, Observe, When, Nothing, ◌⨾◌}
 use Rattle.tpl_model.specs.Graph.{TaskGraph, Plain}
 use Rattle.tpl_model.specs.declared.event.Event.{Event}
 use Rattle.tpl_model.specs.Facts.{ending, winner_of}

@@ -1,8 +1,8 @@
 -- Continuations: when they start, on which worker, and what they read.
 use Rattle.std.specs.Prelude.{◌≡◌, ℕ, true, false, Some, None, List, [], ◌∷◌, bit_or}
-use Rattle.tpl_words.specs.declared.finals.Final.TheVariants.{RanToCompletion, Canceled, Faulted}
-use Rattle.tpl_words.specs.declared.status.Status.TheVariants.{WaitingForActivation, WaitingToRun, Running, Completed}
-use Rattle.tpl_script.specs.Statements.{Throw, Check, Start, Observe, Work, When, Nothing, ◌⨾◌}
+use Rattle.tpl_model.specs.declared.finals.Final.TheVariants.{RanToCompletion, Canceled, Faulted}
+use Rattle.tpl_model.specs.declared.status.Status.TheVariants.{WaitingForActivation, WaitingToRun, Running, Completed}
+use Rattle.tpl_model.specs.Statements.{Throw, Check, Start, Observe, Work, When, Nothing, ◌⨾◌}
 use Rattle.tpl_model.specs.Graph.{TaskGraph, Continues, Plain}
 use Rattle.tpl_model.specs.declared.event.Event.{Event}
 use Rattle.tpl_model.specs.Facts.{ending}

@@ -1,6 +1,6 @@
 -- Journals, and what each actor did.
 use Rattle.std.specs.Prelude.{◌≡◌, List, [], ◌∷◌}
-use Rattle.tpl_script.specs.Statements.{Cancel, Nothing, ◌⨾◌}
+use Rattle.tpl_model.specs.Statements.{Cancel, Nothing, ◌⨾◌}
 use Rattle.tpl_model.specs.Graph.{TaskGraph, Plain}
 use Rattle.tpl_model.specs.declared.event.Event.{Event}
 use Rattle.tpl_model.specs.Rules.{Run}

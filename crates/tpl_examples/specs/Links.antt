@@ -1,8 +1,8 @@
 -- Tokens that are linked to others.
 use Rattle.std.specs.Prelude.{◌≡◌, true, false, Some, List, [], ◌∷◌}
-use Rattle.tpl_words.specs.declared.finals.Final.TheVariants.{Canceled, Faulted}
-use Rattle.tpl_words.specs.declared.status.Status.TheVariants.{Completed}
-use Rattle.tpl_script.specs.Statements.{Throw, Check, Cancel, Nothing, ◌⨾◌}
+use Rattle.tpl_model.specs.declared.finals.Final.TheVariants.{Canceled, Faulted}
+use Rattle.tpl_model.specs.declared.status.Status.TheVariants.{Completed}
+use Rattle.tpl_model.specs.Statements.{Throw, Check, Cancel, Nothing, ◌⨾◌}
 use Rattle.tpl_model.specs.Graph.{TaskGraph, Plain, Linked}
 use Rattle.tpl_model.specs.declared.event.Event.{Event}
 use Rattle.tpl_model.specs.declared.claim.Given.{Given}

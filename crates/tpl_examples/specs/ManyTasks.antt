@@ -1,8 +1,8 @@
 -- Graphs of several tasks, and of many.
 use Rattle.std.specs.Prelude.{◌≡◌, ◌≤◌, ℕ, false, List, [], ◌∷◌, replicate, length}
-use Rattle.tpl_words.specs.declared.finals.Final.TheVariants.{RanToCompletion, Canceled}
-use Rattle.tpl_words.specs.declared.status.Status.TheVariants.{Completed}
-use Rattle.tpl_script.specs.Statements.{Return, Start, Observe, Work, Nothing, ◌⨾◌}
+use Rattle.tpl_model.specs.declared.finals.Final.TheVariants.{RanToCompletion, Canceled}
+use Rattle.tpl_model.specs.declared.status.Status.TheVariants.{Completed}
+use Rattle.tpl_model.specs.Statements.{Return, Start, Observe, Work, Nothing, ◌⨾◌}
 use Rattle.tpl_model.specs.Graph.{TaskGraph, Plain}
 use Rattle.tpl_model.specs.declared.event.Event.{Event}
 use Rattle.tpl_model.specs.Rules.{status, Run, Complete}

@@ -1,10 +1,10 @@
 -- Worked leaves of rows that speak of tokens: a case of each rule that is closed and proves its claim, and ones that
 -- aren't.
 use Rattle.std.specs.Prelude.{◌≡◌, ℕ, true, false, Option, Some, None, List, [], ◌∷◌}
-use Rattle.tpl_words.specs.declared.finals.Final.{Final}
-use Rattle.tpl_words.specs.declared.finals.Final.TheVariants.{RanToCompletion, Canceled}
-use Rattle.tpl_words.specs.declared.finals.Finals.{Finals}
-use Rattle.tpl_script.specs.Statements.{Throw, Check, Cancel, Start, Work, If, Statements, Nothing, ◌⨾◌}
+use Rattle.tpl_model.specs.declared.finals.Final.{Final}
+use Rattle.tpl_model.specs.declared.finals.Final.TheVariants.{RanToCompletion, Canceled}
+use Rattle.tpl_model.specs.declared.finals.Finals.{Finals}
+use Rattle.tpl_model.specs.Statements.{Throw, Check, Cancel, Start, Work, If, Statements, Nothing, ◌⨾◌}
 use Rattle.tpl_model.specs.Graph.{TaskGraph, Token, Plain, Linked}
 use Rattle.tpl_model.specs.declared.fault.Rule.TheVariants.{K1, K2, K3, K4, K5}
 use Rattle.tpl_model.specs.declared.claim.Given.{Given}

@@ -1,11 +1,11 @@
 -- Which lists of tasks are graphs.
 use Rattle.std.specs.Prelude.{◌≡◌, ℕ, true, false, None, [], ◌∷◌, bit_or, replicate}
-use Rattle.tpl_words.specs.declared.finals.Final.TheVariants.{Canceled, Faulted}
-use Rattle.tpl_script.specs.Statements.{Return, Throw, Check, Cancel, Start, Observe, Work, If, When, Nothing, ◌⨾◌}
+use Rattle.tpl_model.specs.declared.finals.Final.TheVariants.{Canceled, Faulted}
+use Rattle.tpl_model.specs.Statements.{Return, Throw, Check, Cancel, Start, Observe, Work, If, When, Nothing, ◌⨾◌}
 use Rattle.tpl_model.specs.Graph.{TaskGraph, Plain, Linked}
 use Rattle.tpl_model.specs.Valid.{IsGraph, bound}
 use Rattle.std.specs.Prelude.{zero, suc}
-use Rattle.tpl_script.specs.Statements.{Statements}
+use Rattle.tpl_model.specs.Statements.{Statements}
 use Rattle.tpl_model.specs.Graph.{Task, WhenAll, WhenAny}
 use Rattle.tpl_examples.specs.Words.{returns, jobs, root, child, detached_child, continues, when_all, when_any, with_token, with_options, prefer_fairness, long_running, lazy_cancellation, not_on_ran_to_completion, not_on_faulted, not_on_canceled, only_on_faulted, execute_synchronously, graph, with_tokens, with_inputs}
 

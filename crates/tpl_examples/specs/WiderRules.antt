@@ -1,8 +1,8 @@
 -- Worked certificates for what version 3 adds: a case of each rule that is accepted, and ones that aren't.
 use Rattle.std.specs.Prelude.{◌≡◌, ℕ, true, false, Some, Ok, Err, Result, List, [], ◌∷◌}
-use Rattle.tpl_words.specs.declared.finals.Final.TheVariants.{Canceled}
-use Rattle.tpl_words.specs.declared.finals.Finals.{Finals}
-use Rattle.tpl_script.specs.Statements.{Cancel, Start, Work, Statements, Nothing, ◌⨾◌}
+use Rattle.tpl_model.specs.declared.finals.Final.TheVariants.{Canceled}
+use Rattle.tpl_model.specs.declared.finals.Finals.{Finals}
+use Rattle.tpl_model.specs.Statements.{Cancel, Start, Work, Statements, Nothing, ◌⨾◌}
 use Rattle.tpl_model.specs.Graph.{TaskGraph, Plain}
 use Rattle.tpl_model.specs.declared.fault.Rule.TheVariants.{K2, K5, K6}
 use Rattle.tpl_model.specs.declared.fault.CertFault.{CertFault}

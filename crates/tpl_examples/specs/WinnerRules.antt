@@ -1,9 +1,9 @@
 -- Worked leaves on the branches of splits on a winner: a case of each rule that is closed and proves its claim, and ones
 -- that aren't.
 use Rattle.std.specs.Prelude.{◌≡◌, ℕ, Bool, true, false, Option, Some, None, List, [], ◌∷◌}
-use Rattle.tpl_words.specs.declared.finals.Final.TheVariants.{Faulted}
-use Rattle.tpl_words.specs.declared.finals.Finals.{Finals}
-use Rattle.tpl_script.specs.Statements.{Cancel, Start, When, Nothing, ◌⨾◌}
+use Rattle.tpl_model.specs.declared.finals.Final.TheVariants.{Faulted}
+use Rattle.tpl_model.specs.declared.finals.Finals.{Finals}
+use Rattle.tpl_model.specs.Statements.{Cancel, Start, When, Nothing, ◌⨾◌}
 use Rattle.tpl_model.specs.Graph.{TaskGraph, Task, Plain}
 use Rattle.tpl_model.specs.declared.fault.Rule.TheVariants.{K1, K2, K5, K6}
 use Rattle.tpl_model.specs.declared.claim.Given.{Given}

@@ -1,12 +1,12 @@
 -- Short words, in which the worked runs are written.
 use Rattle.std.specs.Prelude.{ℕ, zero, suc, Some, None, Bool, true, false, List, [], reverse}
-use Rattle.tpl_words.specs.declared.finals.Finals.{Finals}
-use Rattle.tpl_words.specs.declared.status.Actor.{Actor}
-use Rattle.tpl_words.specs.declared.status.Actor.TheVariants.{Worker, Outside}
-use Rattle.tpl_words.specs.declared.status.Answer.TheVariants.{Done, Failed}
-use Rattle.tpl_words.specs.declared.status.Label.{Label}
-use Rattle.tpl_words.specs.declared.status.Label.TheVariants.{Thrown, OperationCanceled, WorkFailed}
-use Rattle.tpl_script.specs.Statements.{Statements, Return, Work, Nothing, ◌⨾◌}
+use Rattle.tpl_model.specs.declared.finals.Finals.{Finals}
+use Rattle.tpl_model.specs.declared.status.Actor.{Actor}
+use Rattle.tpl_model.specs.declared.status.Actor.TheVariants.{Worker, Outside}
+use Rattle.tpl_model.specs.declared.status.Answer.TheVariants.{Done, Failed}
+use Rattle.tpl_model.specs.declared.status.Label.{Label}
+use Rattle.tpl_model.specs.declared.status.Label.TheVariants.{Thrown, OperationCanceled, WorkFailed}
+use Rattle.tpl_model.specs.Statements.{Statements, Return, Work, Nothing, ◌⨾◌}
 use Rattle.tpl_model.specs.Graph.{TaskGraph, Task, Token, Root, Child, Continues, WhenAll, WhenAny}
 use Rattle.tpl_model.specs.declared.event.Act.{Act}
 use Rattle.tpl_model.specs.declared.event.Act.TheVariants.{Request, Release, Begin, Step, Worked, Leave, Close, Drop, Settle}

@@ -5,9 +5,9 @@ use Rattle.std.specs.Int.{bit_at, bit_not, trailing_zeros, w64}
 use Rattle.std.proofs.lemmas.Bool.{cases_lt, cases_eq}
 use Rattle.std.proofs.lemmas.List.{get_or_past}
 use Rattle.std.proofs.lemmas.Nat.Bits.{bit_at-zero, bit_at_set_same, bit_at_set_other, bit_at_clear_same, bit_at_clear_other, bit_at-trailing_zeros}
-use Rattle.tpl_words.proofs.MemberLemmas.{not_same}
-use Rattle.tpl_words.proofs.BitSets.{this_bit, other_bit}
-use Rattle.tpl_words.specs.TaskSet.{is_set}
+use Rattle.tpl_model.proofs.MemberLemmas.{not_same}
+use Rattle.tpl_model.proofs.BitSets.{this_bit, other_bit}
+use Rattle.tpl_model.specs.TaskSet.{is_set}
 
 -- one word with one bit changed
 changed : (words : List ℕ) (t word x : ℕ) (member : Bool) (b : ℕ) → t / 64 < length words → bit_at word (t % 64) ≡ b → (b == 1) ≡ member → ((i : ℕ) → i < 64 → i ≢ t % 64 → bit_at word i ≡ bit_at (get_or words (t / 64) 0) i) → is_set (slice_set words (t / 64) word) x ≡ (if nat_eq x t then member else is_set words x)

@@ -2,11 +2,11 @@
 use Rattle.std.proofs.Common.{◌≡◌, ℕ, suc, ◌&&◌, ◌||◌, Bool, true, false, List, [], ◌∷◌, length, Option, Some, None, refl, sym, ap, ◌∙◌, not, nat_eq, is_some}
 use Rattle.std.specs.Prelude.{if◌then◌else◌}
 use Rattle.std.proofs.lemmas.Bool.{eqb-true}
-use Rattle.tpl_words.proofs.MemberLemmas.{same_self, mem_here, mem_there}
-use Rattle.tpl_words.proofs.Truths.{true_false}
-use Rattle.tpl_words.specs.Members.{mem}
-use Rattle.tpl_words.specs.Options.{lazy_cancellation}
-use Rattle.tpl_script.specs.Statements.{Statements, Return, Throw, Check, Cancel, Start, Observe, Work, If, When, Nothing, ◌⨾◌}
+use Rattle.tpl_model.proofs.MemberLemmas.{same_self, mem_here, mem_there}
+use Rattle.tpl_model.proofs.Truths.{true_false}
+use Rattle.tpl_model.specs.Members.{mem}
+use Rattle.tpl_model.specs.Options.{lazy_cancellation}
+use Rattle.tpl_model.specs.Statements.{Statements, Return, Throw, Check, Cancel, Start, Observe, Work, If, When, Nothing, ◌⨾◌}
 use Rattle.tpl_model.specs.declared.event.Act.{Act}
 use Rattle.tpl_model.specs.declared.event.Act.TheVariants.{Request, Release, Begin, Step, Worked, Leave, Close, Drop, Settle}
 use Rattle.tpl_model.specs.declared.event.Event.{Event}

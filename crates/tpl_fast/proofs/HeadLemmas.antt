@@ -4,10 +4,10 @@ use Rattle.std.specs.Prelude.{slice_index_or, replicate, if◌then◌else◌, If
 use Rattle.std.specs.Option.{option_map}
 use Rattle.std.proofs.lemmas.Bool.{cases_eq, cases_Bool}
 use Rattle.std.proofs.lemmas.List.{get_or-set_same, get_or-set_other, length-set, map_more}
-use Rattle.tpl_words.proofs.MemberLemmas.{same_self, mem_here, mem_there}
-use Rattle.tpl_words.proofs.Truths.{true_false}
-use Rattle.tpl_words.specs.declared.ids.TaskId.{TaskId}
-use Rattle.tpl_words.specs.Members.{mem}
+use Rattle.tpl_model.proofs.MemberLemmas.{same_self, mem_here, mem_there}
+use Rattle.tpl_model.proofs.Truths.{true_false}
+use Rattle.tpl_model.specs.declared.ids.TaskId.{TaskId}
+use Rattle.tpl_model.specs.Members.{mem}
 use Rattle.tpl_model.specs.declared.event.Event.{Event}
 use Rattle.tpl_model.specs.Graph.{TaskGraph, kind, attached, is_task, IsParent}
 use Rattle.tpl_model.specs.Valid.{IsGraph}

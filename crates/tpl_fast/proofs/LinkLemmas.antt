@@ -6,10 +6,10 @@ use Rattle.std.specs.declared.alloc.Global.{Global}
 use Rattle.std.proofs.lemmas.Bool.{cases_lt, cases_eq}
 use Rattle.std.proofs.lemmas.List.{length-set, get_or-set_same, get_or-set_other}
 use Rattle.std.proofs.lemmas.Option.{slice_get-get_or, slice_get_past}
-use Rattle.tpl_words.proofs.Truths.{true_false}
-use Rattle.tpl_words.proofs.MemberLemmas.{mem_here, mem_there, mem_split}
-use Rattle.tpl_words.specs.declared.ids.TaskId.{TaskId}
-use Rattle.tpl_words.specs.Members.{mem}
+use Rattle.tpl_model.proofs.Truths.{true_false}
+use Rattle.tpl_model.proofs.MemberLemmas.{mem_here, mem_there, mem_split}
+use Rattle.tpl_model.specs.declared.ids.TaskId.{TaskId}
+use Rattle.tpl_model.specs.Members.{mem}
 use Rattle.tpl_draft.specs.Ids.{task_number}
 use Rattle.tpl_fast.specs.Due.{in_some, is_told, Keep}
 

@@ -1,10 +1,10 @@
 //! Sets of tasks from which a task can be taken out again.
 
 ghost use Rattle.std.specs.Prelude.{◌≡◌, ℕ, ◌<◌, Bool, true, false, IfSome, IfNone, nat_eq, if◌then◌else◌};
-ghost use Rattle.tpl_words.specs.TaskSet.{is_set};
+ghost use Rattle.tpl_model.specs.TaskSet.{is_set};
 
 use std::marker::Model;
-use tpl_words::{MOST_TASKS, TaskId};
+use tpl_model::{MOST_TASKS, TaskId};
 
 const WORDS: usize = 16;
 

@@ -1,7 +1,7 @@
 //! Which tasks an event of another task, or the request of a token, may concern.
 
 ghost use Rattle.std.specs.Prelude.{◌≡◌, ℕ, ◌<◌, true, Some, OnOk, IfOk, length, map};
-ghost use Rattle.tpl_words.specs.Members.{mem};
+ghost use Rattle.tpl_model.specs.Members.{mem};
 ghost use Rattle.tpl_model.specs.Graph as spec;
 ghost use Rattle.tpl_model.specs.Graph.{is_task, kind};
 ghost use Rattle.tpl_draft.specs.Ids.{task_number};
@@ -10,7 +10,7 @@ ghost use Rattle.tpl_fast.specs.Due.{is_told, waits, AreTold, Keep};
 
 use std::alloc::{AllocError, Global};
 use tpl_graph::Graph;
-use tpl_words::{MOST_TOKENS, TaskId, TokenId};
+use tpl_model::{MOST_TOKENS, TaskId, TokenId};
 
 /// For each task the tasks that wait for it, and for each token the tasks whose own it is.
 #[derive(Drop)]

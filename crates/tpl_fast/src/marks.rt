@@ -6,8 +6,7 @@ ghost use Rattle.tpl_draft.specs.Ids.{task_number};
 ghost use Rattle.tpl_fast.specs.Marks.{acting, noted, AreMarks};
 
 use std::alloc::{AllocError, Global};
-use tpl_model::{Act, Event};
-use tpl_words::{Actor, TaskId};
+use tpl_model::{Act, Actor, Event, TaskId};
 
 /// Who began a task and at which place, counted from 1; and whether it was released, and left by its worker.
 #[derive(Clone, Copy, PartialEq, Eq, Debug)]

@@ -13,7 +13,7 @@ use std::alloc::{AllocError, Global};
 use std::marker::Model;
 use tpl_graph::Graph;
 use tpl_machine::Machine;
-use tpl_words::Inputs;
+use tpl_model::Inputs;
 
 /// A run, which contracts see as a journal. Beside the events and rows of the plain machine it keeps when each task
 /// was released, begun and left, which tokens are requested, how far the arguments and the attached children of each

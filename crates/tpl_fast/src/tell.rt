@@ -2,8 +2,8 @@
 
 ghost use Rattle.std.specs.Prelude.{◌≡◌, ℕ, ◌≤◌, length, map, slice_index_or, true, false, Some, None};
 ghost use Rattle.std.specs.Option.{option_map};
-ghost use Rattle.tpl_words.specs.Members.{mem};
-ghost use Rattle.tpl_words.specs.TaskSet.{is_set};
+ghost use Rattle.tpl_model.specs.Members.{mem};
+ghost use Rattle.tpl_model.specs.TaskSet.{is_set};
 ghost use Rattle.tpl_model.specs.Graph as spec;
 ghost use Rattle.tpl_model.specs.Graph.{is_task, is_token};
 ghost use Rattle.tpl_model.specs.Facts.{requested};
@@ -13,11 +13,10 @@ ghost use Rattle.tpl_fast.specs.Due.{IsRight, IsOpenRight, Keeps, AreTold, waits
 use crate::bits::Bits;
 use crate::links::Links;
 use crate::state::State;
-use tpl_model::Act;
+use tpl_model::{Act, MOST_TOKENS, TaskId, TokenId};
 use tpl_run::Readers;
 use tpl_run::due::is_due;
 use tpl_run::ends::is_done;
-use tpl_words::{MOST_TOKENS, TaskId, TokenId};
 
 /// The task that an act may end.
 pub(crate) fn ender_of(act: Act) -> Option<TaskId>

@@ -3,8 +3,8 @@ use Rattle.std.proofs.Common.{◌≡◌, ℕ, ◌<◌, Bool, true, false, ◌++�
 use Rattle.std.specs.List.{list_any}
 use Rattle.std.proofs.lemmas.List.Folds.{list_any-append}
 use Rattle.std.proofs.lemmas.Bool.{and_from, not-false}
-use Rattle.tpl_words.proofs.Truths.{or_first, or_second}
-use Rattle.tpl_script.specs.Statements.{starts, starts_of, reads_nothing, reads_nothing_in}
+use Rattle.tpl_model.proofs.Truths.{or_first, or_second}
+use Rattle.tpl_model.specs.Statements.{starts, starts_of, reads_nothing, reads_nothing_in}
 use Rattle.tpl_model.specs.Graph.{TaskGraph}
 use Rattle.tpl_model.specs.Valid.{IdsOf, IdsWithin}
 use Rattle.tpl_draft.specs.Draft.{Line, Lines, Return, Throw, Check, Cancel, Start, Observe, Work, If, When, Nothing, Then, each_of, each_within}

@@ -5,8 +5,8 @@ use Rattle.std.proofs.lemmas.List.{length-map}
 use Rattle.std.proofs.lemmas.Option.{slice_get-get_or}
 use Rattle.std.specs.declared.vec.Vec.{Vec}
 use Rattle.std.specs.declared.alloc.Global.{Global}
-use Rattle.tpl_words.specs.declared.ids.TaskId.{TaskId}
-use Rattle.tpl_script.specs.Statements.{starts}
+use Rattle.tpl_model.specs.declared.ids.TaskId.{TaskId}
+use Rattle.tpl_model.specs.Statements.{starts}
 use Rattle.tpl_model.specs.Graph as graph
 use Rattle.tpl_draft.specs.declared.draft.DraftTask.{DraftTask}
 use Rattle.tpl_draft.specs.declared.draft.Draft as declared

@@ -1,7 +1,7 @@
 -- The loops over a list of statements that collect what they name.
 use Rattle.std.proofs.Common.{◌≡◌, ℕ, ◌+◌, ◌<◌, ◌≤◌, Bool, true, false, ◌||◌, ◌++◌, List, [], ◌∷◌, length, drop, get_or, flat_map, refl, sym, ap, ◌∙◌, append_assoc, append-nil}
 use Rattle.std.proofs.lemmas.List.{drop_all}
-use Rattle.tpl_words.proofs.Truths.{or_false}
+use Rattle.tpl_model.proofs.Truths.{or_false}
 use Rattle.tpl_draft.specs.declared.draft.DraftStmt.{DraftStmt}
 use Rattle.tpl_draft.specs.Draft.{Line, Lines, each_of, each_within}
 use Rattle.tpl_draft.specs.SeenDraft.{line_of, lines_of}

@@ -2,7 +2,7 @@
 use denote.Param.Send.{IsSync, sendable}
 use Rattle.std.proofs.Crossing.{crosses}
 use Rattle.std.proofs.MapsCrossing.{crosses as text_crosses}
-use Rattle.tpl_script.proofs.Crosses.{script_sync}
+use Rattle.tpl_model.proofs.Crosses.{script_sync}
 use Rattle.tpl_graph.specs.contracts.graph.Graph as Graph
 use Rattle.tpl_draft.specs.contracts.names.Tables as Tables
 use Rattle.tpl_graph.specs.contracts.row.Row as Row

@@ -6,11 +6,11 @@ use Rattle.std.specs.Option.{option_map}
 use Rattle.std.proofs.lemmas.Bool.{ltb-false, cases_lt, or_cases, not-false}
 use Rattle.std.proofs.lemmas.List.{length-map}
 use Rattle.std.proofs.lemmas.Option.{slice_get_past}
-use Rattle.tpl_words.specs.Members.{mem}
-use Rattle.tpl_words.specs.Options.{has_bits, excludes_all, long_and_sync}
-use Rattle.tpl_script.specs.Statements.{Statements, starts}
-use Rattle.tpl_script.specs.Statements as script
-use Rattle.tpl_script.specs.Limits.{IsWithinLimits}
+use Rattle.tpl_model.specs.Members.{mem}
+use Rattle.tpl_model.specs.Options.{has_bits, excludes_all, long_and_sync}
+use Rattle.tpl_model.specs.Statements.{Statements, starts}
+use Rattle.tpl_model.specs.Statements as script
+use Rattle.tpl_model.specs.Limits.{IsWithinLimits}
 use Rattle.tpl_model.specs.Graph as graph
 use Rattle.tpl_model.specs.Graph.{TaskGraph, task, kind, body, is_task, IsParent}
 use Rattle.tpl_model.specs.Valid.{IdsOf, OwnToken, AreBefore, IsLinked, ArePlaced, IsPlaced, option_words, HasBody, HasSubject, IsTask}
@@ -23,7 +23,7 @@ use Rattle.tpl_graph.specs.Collected.{start_in}
 use Rattle.tpl_draft.specs.Draft as line
 use Rattle.std.proofs.lemmas.Bool.{eqb-true}
 use Rattle.std.proofs.Math.ListN.{get_or-map}
-use Rattle.tpl_words.proofs.Truths.{or_first, or_second}
+use Rattle.tpl_model.proofs.Truths.{or_first, or_second}
 use Rattle.tpl_draft.specs.Draft.{Line, Kind, Root, Child, Continues, WhenAll, WhenAny, Task, Token, Draft, worked, waits_for, linked_to, statements_in, each_of, line_count, levels}
 use Rattle.tpl_draft.specs.Numbered.{names_of, graph_in, task_in, kind_in, token_in, script_in}
 use Rattle.tpl_draft.specs.Refusals.{IsValid, applies, number, in_task, in_lists, at_task, exceeds, is_child, is_child_at, is_empty_any, is_continuation, is_missing, lacks, says_unknown, reads_subject, starts_no_child, starters_from, all_starts, is_one_before, options_fault, words_of, is_misplaced, some_misplaced, site_total}

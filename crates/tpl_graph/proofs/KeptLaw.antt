@@ -7,12 +7,12 @@ use Rattle.std.proofs.lemmas.List.Sums.{sum_by-cons}
 use Rattle.std.proofs.lemmas.Option.{slice_get-map, slice_get_within}
 use Rattle.std.specs.declared.vec.Vec.{Vec}
 use Rattle.std.specs.declared.alloc.Global.{Global}
-use Rattle.tpl_words.specs.declared.ids.TaskId.{TaskId}
-use Rattle.tpl_words.specs.Members.{mem}
-use Rattle.tpl_words.specs.Options.{attached_to_parent, deny_child_attach}
-use Rattle.tpl_script.specs.Statements.{starts}
-use Rattle.tpl_script.specs.Statements as script
-use Rattle.tpl_script.specs.Limits.{statement_count}
+use Rattle.tpl_model.specs.declared.ids.TaskId.{TaskId}
+use Rattle.tpl_model.specs.Members.{mem}
+use Rattle.tpl_model.specs.Options.{attached_to_parent, deny_child_attach}
+use Rattle.tpl_model.specs.Statements.{starts}
+use Rattle.tpl_model.specs.Statements as script
+use Rattle.tpl_model.specs.Limits.{statement_count}
 use Rattle.tpl_model.specs.Graph as graph
 use Rattle.tpl_model.specs.Graph.{TaskGraph, task, body, attached, IsParent}
 use Rattle.tpl_graph.specs.declared.row.Row.{Row}

@@ -1,6 +1,6 @@
 -- Bodies with ids have as many statements and levels as those with names.
 use Rattle.std.proofs.Common.{◌≡◌, ◌+◌, ◌≤◌, max, refl, sym, ap, ◌∙◌, subst}
-use Rattle.tpl_script.specs.Limits.{statement_count, count_one, level_count, levels_in, IsWithinLimits}
+use Rattle.tpl_model.specs.Limits.{statement_count, count_one, level_count, levels_in, IsWithinLimits}
 use Rattle.tpl_draft.specs.Draft.{Line, Lines, Return, Throw, Check, Cancel, Start, Observe, Work, If, When, Nothing, Then, line_count, count_line, levels}
 use Rattle.tpl_draft.specs.Draft as draft
 use Rattle.tpl_draft.specs.Named.{Names}

@@ -1,8 +1,8 @@
 -- The sites of a draft with their owners are the graph's.
 use Rattle.std.proofs.Common.{◌≡◌, ℕ, suc, ◌+◌, ◌<◌, ◌≤◌, Bool, ◌++◌, List, [], ◌∷◌, length, map, flat_map, drop, get_or, refl, sym, ap, ◌∙◌, arith, append_assoc, append-nil, add-one, drop-cons, length-append}
 use Rattle.std.proofs.lemmas.List.{map-append, drop_all, length-map, get_or-map}
-use Rattle.tpl_script.specs.Statements.{Statement, Statements, sites, sites_of}
-use Rattle.tpl_script.specs.Statements as script
+use Rattle.tpl_model.specs.Statements.{Statement, Statements, sites, sites_of}
+use Rattle.tpl_model.specs.Statements as script
 use Rattle.tpl_model.specs.Graph as graph
 use Rattle.tpl_model.specs.Graph.{TaskGraph}
 use Rattle.tpl_model.specs.Valid.{all_sites}

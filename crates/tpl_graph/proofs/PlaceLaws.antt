@@ -8,7 +8,7 @@ use Rattle.std.proofs.lemmas.List.Sums.{sum_by-cons}
 use Rattle.tpl_graph.proofs.CollectLemmas.{twice_after-append}
 use Rattle.std.proofs.lemmas.List.Folds.{list_any-append}
 use Rattle.std.proofs.lemmas.Slice.Eq.{bytes_eq-Decides}
-use Rattle.tpl_words.proofs.Truths.{or_true, or_first, or_second}
+use Rattle.tpl_model.proofs.Truths.{or_true, or_first, or_second}
 use Rattle.tpl_draft.specs.Names.{has_name, place, or_zero, with_name, with_names, twice_after, some_twice}
 use Rattle.tpl_draft.specs.Named.{numbers_from}
 

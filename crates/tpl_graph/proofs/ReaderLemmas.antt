@@ -4,10 +4,10 @@ use Rattle.std.proofs.Common.{get_or}
 use Rattle.std.proofs.lemmas.Option.{slice_get-get_or}
 use Rattle.std.proofs.lemmas.List.Sums.{sum_by-cons}
 use Rattle.std.specs.Prelude.{sum_by, slice_index_or, Option, Some, None, IfSome, IfNone}
-use Rattle.tpl_words.specs.declared.ids.TaskId.{TaskId}
-use Rattle.tpl_script.specs.Limits.{statement_count}
+use Rattle.tpl_model.specs.declared.ids.TaskId.{TaskId}
+use Rattle.tpl_model.specs.Limits.{statement_count}
 use Rattle.tpl_model.specs.Graph.{TaskGraph, Task, Root, IsParent}
-use Rattle.tpl_script.specs.Statements.{Nothing}
+use Rattle.tpl_model.specs.Statements.{Nothing}
 use Rattle.tpl_model.specs.Valid.{IsGraph, bound}
 use Rattle.tpl_draft.specs.Named.{Named, numbers_from}
 use Rattle.tpl_graph.specs.Kept.{IsNamedGraph, IsParentOf, EachAt}

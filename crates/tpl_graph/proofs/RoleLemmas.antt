@@ -1,6 +1,6 @@
 -- The tasks that a task waits for.
 use Rattle.std.proofs.Common.{◌≡◌, ℕ, ◌<◌, List, [], ◌∷◌, length, map, sym, subst, arith}
-use Rattle.tpl_words.specs.declared.ids.TaskId.{TaskId}
+use Rattle.tpl_model.specs.declared.ids.TaskId.{TaskId}
 use Rattle.tpl_model.specs.Graph.{TaskGraph, TaskKind, Root, Child, Continues, WhenAll, WhenAny, is_task}
 use Rattle.tpl_model.specs.Valid.{ArePlaced, IsPlaced}
 use Rattle.tpl_draft.specs.Ids.{task_number}

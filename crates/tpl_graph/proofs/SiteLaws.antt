@@ -8,7 +8,7 @@ use Rattle.std.proofs.lemmas.List.Folds.{list_any-append}
 use Rattle.std.proofs.lemmas.List.Sums.{sum_by-cons}
 use Rattle.std.proofs.lemmas.Bool.{or_left, or_right}
 use Rattle.tpl_graph.proofs.BodyLaws.{append_both}
-use Rattle.tpl_script.specs.Statements.{sites, sites_of}
+use Rattle.tpl_model.specs.Statements.{sites, sites_of}
 use Rattle.tpl_model.specs.Graph as graph
 use Rattle.tpl_draft.specs.declared.sort.Sort.{Sort}
 use Rattle.tpl_draft.specs.declared.sort.Sort.TheVariants.{Labels, Sites}

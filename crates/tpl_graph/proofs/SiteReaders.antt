@@ -2,9 +2,9 @@
 use Rattle.std.proofs.Common.{◌≡◌, ℕ, zero, suc, ◌+◌, ◌<◌, true, ◌++◌, List, [], ◌∷◌, length, map, flat_map, get_or, nat_eq, sym, ap, ◌∙◌, arith, ◌⊎◌, inl, inr, ⊎_elim}
 use Rattle.std.specs.Prelude.{Some, None, slice_get, slice_index_or, ◌||◌}
 use Rattle.std.proofs.lemmas.Bool.{eq-eqb, or_right}
-use Rattle.tpl_words.specs.Members.{mem}
-use Rattle.tpl_script.specs.Statements.{sites}
-use Rattle.tpl_script.specs.Statements as script
+use Rattle.tpl_model.specs.Members.{mem}
+use Rattle.tpl_model.specs.Statements.{sites}
+use Rattle.tpl_model.specs.Statements as script
 use Rattle.tpl_model.specs.Graph as graph
 use Rattle.tpl_model.specs.Graph.{TaskGraph, body, is_task}
 use Rattle.tpl_model.specs.Valid.{all_sites}

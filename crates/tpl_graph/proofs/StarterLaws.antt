@@ -3,8 +3,8 @@ use Rattle.std.proofs.Common.{◌≡◌, ℕ, zero, suc, ◌+◌, ◌<◌, ◌�
 use Rattle.std.specs.Prelude.{cond, count_by, if◌then◌else◌}
 use Rattle.std.proofs.lemmas.Bool.{eqb-true, eq-eqb, ltb-true, or_cases}
 use Rattle.std.proofs.lemmas.List.Sums.{sum_by-cons}
-use Rattle.tpl_words.proofs.Truths.{or_true}
-use Rattle.tpl_words.specs.Members.{mem}
+use Rattle.tpl_model.proofs.Truths.{or_true}
+use Rattle.tpl_model.specs.Members.{mem}
 use Rattle.tpl_draft.specs.Refusals.{starters_in, starters_from, is_one_before}
 
 abbrev one_if : Bool → ℕ

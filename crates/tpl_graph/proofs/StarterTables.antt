@@ -5,7 +5,7 @@ use Rattle.std.proofs.lemmas.Bool.{cases_eq, eq-eqb, eqb-true}
 use Rattle.std.proofs.lemmas.List.{drop_all, take_more, take_all, map-append, length-map, length-set, get_or-set_same, get_or-set_other, length-take-le}
 use Rattle.std.specs.declared.vec.Vec.{Vec}
 use Rattle.std.specs.declared.alloc.Global.{Global}
-use Rattle.tpl_words.specs.declared.ids.TaskId.{TaskId}
+use Rattle.tpl_model.specs.declared.ids.TaskId.{TaskId}
 use Rattle.tpl_draft.specs.declared.starter.Starter.{Starter}
 use Rattle.tpl_draft.specs.declared.starter.Starter.TheVariants.{Nobody}
 use Rattle.tpl_draft.specs.Ids.{task_number}

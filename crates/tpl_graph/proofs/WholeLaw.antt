@@ -5,8 +5,8 @@ use Rattle.std.specs.List.{list_any}
 use Rattle.std.specs.Str.{bytes_eq}
 use Rattle.std.proofs.lemmas.Bool.{ltb-false, cases_lt, not-false}
 use Rattle.std.proofs.lemmas.List.{length-map, take_all}
-use Rattle.tpl_words.proofs.Truths.{or_first, or_second}
-use Rattle.tpl_script.specs.Statements as script
+use Rattle.tpl_model.proofs.Truths.{or_first, or_second}
+use Rattle.tpl_model.specs.Statements as script
 use Rattle.tpl_model.specs.Graph as graph
 use Rattle.tpl_model.specs.Graph.{is_task, body}
 use Rattle.tpl_model.specs.Valid.{IsGraph, all_sites}

@@ -2,8 +2,8 @@
 use Rattle.std.proofs.Common.{◌≡◌, ℕ, zero, suc, ◌+◌, ◌<◌, Bool, ◌++◌, List, [], ◌∷◌, length, flat_map, sym, ap, ◌∙◌, arith, ⊎_elim}
 use Rattle.std.specs.Prelude.{Some, slice_get, slice_index_or}
 use Rattle.std.proofs.lemmas.Option.{slice_get_within}
-use Rattle.tpl_script.specs.Statements.{Statement, Statements, sites, sites_of}
-use Rattle.tpl_script.specs.Statements as script
+use Rattle.tpl_model.specs.Statements.{Statement, Statements, sites, sites_of}
+use Rattle.tpl_model.specs.Statements as script
 use Rattle.tpl_model.specs.Graph as graph
 use Rattle.tpl_model.specs.Graph.{body}
 use Rattle.tpl_graph.specs.Kept.{IsNamedGraph}

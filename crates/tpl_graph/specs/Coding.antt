@@ -1,8 +1,8 @@
 -- A graph with its names as a tree of numbers, from which it can be read again.
 use Rattle.std.specs.Prelude.{◌≡◌, ℕ, zero, suc, List, [], ◌∷◌, Option, Some, None, refl}
 use Rattle.std.specs.Coded.{Coded, code_by, coded×, coded_ℕ, coded_list, coded_option}
-use Rattle.tpl_script.specs.Statements.{Statements}
-use Rattle.tpl_script.specs.Coding.{statements_code}
+use Rattle.tpl_model.specs.Statements.{Statements}
+use Rattle.tpl_model.specs.Coding.{statements_code}
 use Rattle.tpl_model.specs.Graph.{TaskGraph, Task, TaskKind, Root, Child, Continues, WhenAll, WhenAny, Token, Plain, Linked}
 use Rattle.tpl_draft.specs.Named.{Names, Named}
 

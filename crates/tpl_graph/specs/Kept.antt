@@ -1,7 +1,7 @@
 -- What is true of each graph with its names, and of the tables that its readers read.
 use Rattle.std.specs.Prelude.{◌≡◌, ℕ, ◌<◌, true, false, Option, Some, None, List, length, map, slice_get}
-use Rattle.tpl_words.specs.declared.ids.TaskId.{TaskId}
-use Rattle.tpl_script.specs.Statements.{Statement, Statements, Nothing, ◌⨾◌, Throw, Work, If, When, sites}
+use Rattle.tpl_model.specs.declared.ids.TaskId.{TaskId}
+use Rattle.tpl_model.specs.Statements.{Statement, Statements, Nothing, ◌⨾◌, Throw, Work, If, When, sites}
 use Rattle.tpl_model.specs.Graph.{TaskGraph, body, attached, is_task, IsParent}
 use Rattle.tpl_model.specs.Valid.{IsGraph, all_sites, bound}
 use Rattle.std.specs.declared.vec.Vec.{Vec}

@@ -1,6 +1,6 @@
 -- The sites of a graph: whose body has each, and whether its job may fail.
 use Rattle.std.specs.Prelude.{◌≡◌, ◌⊎◌, ℕ, suc, ◌++◌, Bool, List, [], ◌∷◌, map}
-use Rattle.tpl_script.specs.Statements.{Statement, Statements, Nothing, ◌⨾◌, Work, If, When, sites}
+use Rattle.tpl_model.specs.Statements.{Statement, Statements, Nothing, ◌⨾◌, Work, If, When, sites}
 use Rattle.tpl_model.specs.Graph.{TaskGraph, Task}
 use Rattle.tpl_graph.specs.declared.row.Site.{Site}
 use Rattle.tpl_draft.specs.Named.{all_may_fail}

@@ -1,6 +1,6 @@
 -- Bodies within the limits.
 use Rattle.std.specs.Prelude.{◌≡◌, ℕ, ◌≤◌, List, Some, slice_get}
-use Rattle.tpl_words.specs.declared.limits.TheConstants.{MOST_LEVELS, MOST_STATEMENTS}
+use Rattle.tpl_model.specs.declared.limits.TheConstants.{MOST_LEVELS, MOST_STATEMENTS}
 use Rattle.tpl_draft.specs.Draft.{Lines, Task, worked, line_count, levels}
 
 -- no more statements, nested ones too, and no more levels than a body may have

@@ -20,7 +20,7 @@ use tpl_draft::{
     Declared, Draft, GraphFault, Names, NamesFault, Origin, Starter, Tables, Test, Why, declare,
     first_too_many, first_where, options_fault, why_of,
 };
-use tpl_words::TaskId;
+use tpl_model::TaskId;
 
 /// The test's refusal applies nowhere.
 fn pass(draft: &Draft, test: &Test<'_>) -> Result<(), GraphFault>

@@ -11,7 +11,7 @@ ghost use Rattle.tpl_draft.specs.SeenDraft.{line_of};
 use crate::row::Site;
 use std::alloc::AllocError;
 use tpl_draft::{DraftBody, DraftStmt, Names, Sort};
-use tpl_words::TaskId;
+use tpl_model::TaskId;
 
 fn either(first: bool, second: bool) -> bool
     ensures { result ≡ (first || second) }

@@ -8,8 +8,7 @@ ghost use Rattle.tpl_graph.specs.Fits.{IsGivenOf, is_of_one_thing, given_twice, 
 use crate::claim::Claim;
 use crate::graph::Graph;
 use crate::row::Kind;
-use tpl_model::{Given, Property};
-use tpl_words::{InputId, SiteId, TaskId, TokenId};
+use tpl_model::{Given, InputId, Property, SiteId, TaskId, TokenId};
 
 fn is_task(graph: &Graph, task: TaskId) -> bool
     ensures { IsTrue result ↔ is_task graph.now.graph task.0 }

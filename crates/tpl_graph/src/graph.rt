@@ -3,8 +3,8 @@
 ghost use Rattle.std.specs.Prelude.{◌≡◌, ◌<◌, ◌≤◌, length, map, position, slice_get, true, Bool, Some, IfSome, IfNone, IfOk, IfErr, IsTrue, OnOk, ◌↔◌, ℕ};
 ghost use Rattle.std.specs.Option.{option_map};
 ghost use Rattle.std.specs.Str.{bytes_eq};
-ghost use Rattle.tpl_words.specs.Members.{mem};
-ghost use Rattle.tpl_script.specs.Statements.{sites};
+ghost use Rattle.tpl_model.specs.Members.{mem};
+ghost use Rattle.tpl_model.specs.Statements.{sites};
 ghost use Rattle.tpl_model.specs.Graph as spec;
 ghost use Rattle.tpl_model.specs.Graph.{is_task, is_token, IsParent};
 ghost use Rattle.tpl_model.specs.Valid as valid;
@@ -28,10 +28,9 @@ use crate::starters::{attached, bound, parents};
 use std::alloc::{AllocError, Global};
 use std::marker::Model;
 use tpl_draft::{Draft, GraphFault, Origin, Tables};
-use tpl_script::Script;
-use tpl_words::{
-    InputId, LabelId, MOST_INPUTS, MOST_SITES, MOST_TASKS, MOST_TOKENS, Options, SiteId, TaskId,
-    TokenId,
+use tpl_model::{
+    InputId, LabelId, MOST_INPUTS, MOST_SITES, MOST_TASKS, MOST_TOKENS, Options, Script, SiteId,
+    TaskId, TokenId,
 };
 
 /// A valid task graph with its names: at most 1,024 tasks, 32 tokens, 16 inputs and 256 sites. Ids count from 0 in

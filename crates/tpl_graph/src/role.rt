@@ -1,6 +1,6 @@
 //! What makes a task ready, with the tasks that it waits for.
 
-use tpl_words::TaskId;
+use tpl_model::TaskId;
 
 /// What makes a task ready, with the tasks that it waits for (Task Parallel Library guide: tasks, child tasks,
 /// continuations, `Task.WhenAll` and `Task.WhenAny`).

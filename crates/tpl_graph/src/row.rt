@@ -1,7 +1,6 @@
 //! What a graph keeps of each task, token and site.
 
-use tpl_script::Script;
-use tpl_words::{Options, TaskId, TokenId};
+use tpl_model::{Options, Script, TaskId, TokenId};
 
 /// What makes a task ready (Task Parallel Library guide: tasks, child tasks, continuations, `Task.WhenAll` and
 /// `Task.WhenAny`).

@@ -2,8 +2,8 @@
 
 ghost use Rattle.std.specs.Prelude.{◌≡◌, ◌≤◌, None, length, map, string_bytes, IfOk};
 ghost use Rattle.std.specs.Option.{option_map};
-ghost use Rattle.tpl_script.specs.Limits.{IsWithinLimits};
-ghost use Rattle.tpl_script.specs.Statements.{Nothing};
+ghost use Rattle.tpl_model.specs.Limits.{IsWithinLimits};
+ghost use Rattle.tpl_model.specs.Statements.{Nothing};
 ghost use Rattle.tpl_draft.specs.Draft as meaning;
 ghost use Rattle.tpl_draft.specs.Ids.{task_number, token_number};
 ghost use Rattle.tpl_draft.specs.Names.{place};
@@ -20,8 +20,7 @@ use tpl_draft::{
     DraftBody, DraftKind, DraftTask, DraftToken, DraftWork, Names, Origin, Tables, number_body,
     task_id, token_id,
 };
-use tpl_script::{Body, Script};
-use tpl_words::{Options, TaskId, TokenId};
+use tpl_model::{Body, Options, Script, TaskId, TokenId};
 
 /// The tasks of a list of names.
 fn task_ids(alloc: Global, tables: &Tables, names: &[String]) -> Result<Vec<TaskId>, AllocError>

@@ -9,7 +9,7 @@ ghost use Rattle.tpl_draft.specs.Tables.{seen};
 
 use crate::row::{OwnRole, Row};
 use tpl_draft::{Names, Origin, Tables};
-use tpl_words::{TaskId, TokenId};
+use tpl_model::{TaskId, TokenId};
 
 fn same_names(left: &Names, right: &Names) -> bool
     ensures { IsTrue result ↔ (left.now ≡ right.now) }

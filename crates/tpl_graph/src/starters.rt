@@ -1,8 +1,8 @@
 //! Who starts each task, and which children are attached.
 
 ghost use Rattle.std.specs.Prelude.{◌≡◌, ◌≤◌, ◌<◌, ◌&&◌, ◌++◌, ℕ, filter, get_or, length, map, not, slice_get, sum_by, ◌+◌, List, Some, IfOk, OnOk};
-ghost use Rattle.tpl_words.specs.Options.{attached_to_parent, deny_child_attach};
-ghost use Rattle.tpl_script.specs.Limits.{statement_count};
+ghost use Rattle.tpl_model.specs.Options.{attached_to_parent, deny_child_attach};
+ghost use Rattle.tpl_model.specs.Limits.{statement_count};
 ghost use Rattle.tpl_model.specs.Graph as spec;
 ghost use Rattle.tpl_draft.specs.declared.starter.Starter.TheVariants.{Nobody};
 ghost use Rattle.tpl_graph.specs.Collected.{started, owned, all_owned};
@@ -18,7 +18,7 @@ use crate::collect::collect;
 use crate::row::{Row, Site};
 use std::alloc::{AllocError, Global};
 use tpl_draft::{DraftKind, DraftTask, Names, Starter};
-use tpl_words::TaskId;
+use tpl_model::TaskId;
 
 /// The tasks that a task starts; its sites are added.
 fn task_starts(

@@ -6,7 +6,7 @@ use Rattle.std.proofs.Crossing.{crosses}
 use Rattle.std.proofs.MapsCrossing.{crosses as text_crosses}
 use Rattle.core.proofs.once.Sent.{once_send, once_sync}
 use Rattle.tpl_model.proofs.Crosses.{event_send, event_sync}
-use Rattle.tpl_jobs.proofs.Crosses.{receipt_send}
+use Rattle.tpl_queue.proofs.Crosses.{receipt_send}
 use Rattle.tpl_fast.proofs.Crosses.{fast_send}
 use Rattle.tpl_hall.specs.contracts.hall.Hall as Hall
 

@@ -1,13 +1,13 @@
 -- The jobs that a run answered.
 use Rattle.std.specs.Prelude.{ℕ, Bool, true, false, List, [], ◌∷◌, ◌++◌}
-use Rattle.tpl_words.specs.declared.status.Answer.{Answer}
-use Rattle.tpl_script.specs.Statements.{Statements, Work, ◌⨾◌}
+use Rattle.tpl_model.specs.declared.status.Answer.{Answer}
+use Rattle.tpl_model.specs.Statements.{Statements, Work, ◌⨾◌}
 use Rattle.tpl_model.specs.Graph.{TaskGraph}
 use Rattle.tpl_model.specs.declared.event.Act.{Act}
 use Rattle.tpl_model.specs.declared.event.Act.TheVariants.{Worked}
 use Rattle.tpl_model.specs.declared.event.Event.{Event}
 use Rattle.tpl_model.specs.Facts.{rest}
-use Rattle.tpl_jobs.specs.declared.receipt.Receipt.{Receipt}
+use Rattle.tpl_queue.specs.declared.receipt.Receipt.{Receipt}
 
 -- the site of the work statement that stands next; 0 where none does
 abbrev pub site_next : Statements → ℕ

@@ -1,8 +1,8 @@
 -- Who did the events of a journal, whose first event stands first.
 use Rattle.std.specs.Prelude.{ℕ, zero, suc, List, Option, None, slice_get}
 use Rattle.std.specs.Option.{option_map}
-use Rattle.tpl_words.specs.declared.ids.Worker.{Worker}
-use Rattle.tpl_words.specs.declared.status.Actor.{Actor}
+use Rattle.tpl_model.specs.declared.ids.Worker.{Worker}
+use Rattle.tpl_model.specs.declared.status.Actor.{Actor}
 use Rattle.tpl_model.specs.declared.event.Event.{Event}
 
 -- the number of a worker

@@ -2,14 +2,14 @@
 
 ghost use Rattle.std.specs.Prelude.{◌≡◌, ◌&&◌, not};
 ghost use Rattle.std.specs.Option.{option_map};
-ghost use Rattle.tpl_words.specs.Options.{execute_synchronously, run_continuations_asynchronously};
+ghost use Rattle.tpl_model.specs.Options.{execute_synchronously, run_continuations_asynchronously};
 ghost use Rattle.tpl_model.specs.Graph.{is_task, kind, options};
 ghost use Rattle.tpl_model.specs.Rules.{worker_of, bound_worker};
 ghost use Rattle.tpl_hall.specs.Bound.{worker_number, actor_at};
 
 use crate::hall::Hall;
 use tpl_machine::Core;
-use tpl_words::{Actor, TaskId, Worker};
+use tpl_model::{Actor, TaskId, Worker};
 
 impl<'g, K: Drop> Hall<'g, K> {
     /// A continuation begins on the worker that ends its antecedent (`TaskContinuationOptions.ExecuteSynchronously`,

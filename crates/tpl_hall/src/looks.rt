@@ -17,7 +17,7 @@ use crate::stint::Stint;
 use tpl_graph::Graph;
 use tpl_laws::is_bounded;
 use tpl_machine::Core;
-use tpl_words::{Inputs, TaskId, TokenId};
+use tpl_model::{Inputs, TaskId, TokenId};
 
 impl<'g, K: Drop> Hall<'g, K> {
     /// The run is of this graph with these inputs, what the seat has is of this run, and it has room as long as the run

@@ -1,6 +1,6 @@
 //! What is reported of a run to a seat.
 
-use tpl_words::{Status, TaskId, TokenId};
+use tpl_model::{Status, TaskId, TokenId};
 
 /// What was true of a run at a moment.
 #[derive(Clone, Copy, PartialEq, Eq, Debug)]

@@ -12,8 +12,7 @@ use std::alloc::{AllocError, Global};
 use tpl_fast::Fast;
 use tpl_graph::Graph;
 use tpl_machine::Core;
-use tpl_model::Event;
-use tpl_words::{Final, Inputs, Status};
+use tpl_model::{Event, Final, Inputs, Status};
 
 /// Both words for how a task ended are the same.
 fn same_final(a: Final, b: Final) -> bool

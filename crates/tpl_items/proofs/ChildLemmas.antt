@@ -3,8 +3,8 @@ use Rattle.std.proofs.Common.{◌≡◌, ℕ, suc, ◌+◌, ◌<◌, ◌∙◌, 
 use Rattle.std.proofs.lemmas.Bool.{eq-eqb, eqb-true}
 use Rattle.std.proofs.lemmas.List.{append-nil, get_or-set_same, get_or-set_other, get_or-map, get_or-replicate, length-map, length-replicate, length-set, map-set}
 use Rattle.tpl_draft.proofs.Bools.{true_false}
-use Rattle.tpl_words.specs.Members.{mem}
-use Rattle.tpl_script.specs.Statements.{starts}
+use Rattle.tpl_model.specs.Members.{mem}
+use Rattle.tpl_model.specs.Statements.{starts}
 use Rattle.tpl_model.specs.Graph.{TaskGraph, IsParent, body, is_task}
 use Rattle.tpl_model.specs.Valid.{IsGraph}
 use Rattle.tpl_items.specs.Children.{children_below, AreChildrenBelow}

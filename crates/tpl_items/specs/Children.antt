@@ -1,7 +1,7 @@
 -- The children that the bodies of tasks start.
 use Rattle.std.specs.Prelude.{◌≡◌, ℕ, zero, suc, ◌<◌, if◌then◌else◌, List, [], ◌∷◌, ◌++◌, length, slice_index_or}
-use Rattle.tpl_words.specs.Members.{mem}
-use Rattle.tpl_script.specs.Statements.{starts}
+use Rattle.tpl_model.specs.Members.{mem}
+use Rattle.tpl_model.specs.Statements.{starts}
 use Rattle.tpl_model.specs.Graph.{TaskGraph, body}
 
 -- the children that p's body starts among the tasks below n, in the order of their numbers

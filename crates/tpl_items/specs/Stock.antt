@@ -1,9 +1,9 @@
 -- Where the items and jobs of a session are.
 use Rattle.std.specs.Prelude.{◌≡◌, ℕ, ◌+◌, ◌<◌, ◌≤◌, Bool, true, List, [], Some, length, count_by, slice_get, slice_index_or, remove, replicate}
-use Rattle.tpl_words.specs.declared.ids.TaskId.{TaskId}
-use Rattle.tpl_words.specs.declared.status.Actor.{Actor}
-use Rattle.tpl_words.specs.declared.status.Actor.TheVariants.{Worker, Outside}
-use Rattle.tpl_words.specs.declared.ids.Worker.{Worker as WorkerNumber}
+use Rattle.tpl_model.specs.declared.ids.TaskId.{TaskId}
+use Rattle.tpl_model.specs.declared.status.Actor.{Actor}
+use Rattle.tpl_model.specs.declared.status.Actor.TheVariants.{Worker, Outside}
+use Rattle.tpl_model.specs.declared.ids.Worker.{Worker as WorkerNumber}
 
 -- a stock: the items that weren't called; by task, whether its job wasn't put yet; the tasks whose jobs only one worker may begin, and those whose jobs the queue had no place for, the oldest first; and for how many tasks there is room in either list
 pub record StockView (W : Type 0) : Type 0 where

@@ -8,7 +8,7 @@ ghost use Rattle.tpl_items.specs.Children.{AreChildren, AreChildrenBelow};
 use std::alloc::{AllocError, Global};
 use std::marker::Model;
 use tpl_graph::Graph;
-use tpl_words::TaskId;
+use tpl_model::TaskId;
 
 /// By task, the children that its body may start. Contracts see their numbers.
 #[derive(Drop)]

@@ -6,7 +6,7 @@ ghost use Rattle.tpl_items.specs.Items.{SayAt, SomeDiffers};
 
 use crate::item::Item;
 use tpl_graph::Graph;
-use tpl_words::SiteId;
+use tpl_model::SiteId;
 
 /// Both are true, or both false.
 fn same_bool(a: bool, b: bool) -> bool

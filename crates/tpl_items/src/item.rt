@@ -1,7 +1,7 @@
 //! What a session runs.
 
-use tpl_jobs::{Receipt, WorkItem};
-use tpl_words::SiteId;
+use tpl_queue::{Receipt, WorkItem};
+use tpl_model::SiteId;
 
 /// The box of one work statement, stamped by a `K`. A session calls it at most once, and can make none.
 ///
@@ -9,7 +9,7 @@ use tpl_words::SiteId;
 /// back through a thread as one of the same queue.
 pub trait Item<K>: Drop {
     ghost use Rattle.std.specs.Prelude.{◌≡◌, ℕ, Bool, false};
-    ghost use Rattle.tpl_words.specs.declared.status.Answer.TheVariants.{Done};
+    ghost use Rattle.tpl_model.specs.declared.status.Answer.TheVariants.{Done};
 
     ghost site: { Self → ℕ };
 
@@ -31,7 +31,7 @@ pub trait Item<K>: Drop {
 
 impl<K: Drop> Item<K> for WorkItem<K> {
     ghost use Rattle.std.specs.Prelude.{◌≡◌, false};
-    ghost use Rattle.tpl_words.specs.declared.status.Answer.TheVariants.{Done};
+    ghost use Rattle.tpl_model.specs.declared.status.Answer.TheVariants.{Done};
 
     ghost site = { λ item. item.site.0 };
 

@@ -2,16 +2,16 @@
 
 ghost use Rattle.std.specs.Prelude.{◌≡◌, ◌∷◌, ◌<◌, [], ◌++◌, ◌+◌, ℕ, false, length, map, slice_index_or, slice_set, IfOk, IfErr, IfSome, IfNone, IsTrue, IsFalse};
 ghost use Rattle.std.specs.Bool.{OnTrue, OnFalse};
-ghost use Rattle.tpl_words.specs.declared.ids.TaskId.{TaskId as TaskNumber};
-ghost use Rattle.tpl_words.specs.declared.ids.Worker.{Worker as WorkerNumber};
+ghost use Rattle.tpl_model.specs.declared.ids.TaskId.{TaskId as TaskNumber};
+ghost use Rattle.tpl_model.specs.declared.ids.Worker.{Worker as WorkerNumber};
 ghost use Rattle.tpl_items.specs.Items.{count_of};
 ghost use Rattle.tpl_items.specs.Stock.{AreOthers, HasPlace, IfWorker, Takes, TakesKept, new_stock, unput_count};
 
 use crate::item::Item;
 use std::alloc::Global;
 use std::marker::Model;
-use tpl_jobs::Job;
-use tpl_words::{Actor, SiteId, TaskId, Worker};
+use tpl_queue::Job;
+use tpl_model::{Actor, SiteId, TaskId, Worker};
 
 /// A job as the queue carries it. Its list is empty: items stay in the stock until they are called.
 pub type ItemJob<W> = Job<Vec<W>>;

@@ -11,7 +11,7 @@ use crate::item::Item;
 use crate::strange::first_strange;
 use thiserror::Error;
 use tpl_graph::Graph;
-use tpl_words::SiteId;
+use tpl_model::SiteId;
 
 /// Why a session wasn't opened: the first of these that applies. Each refusal of an item names the least site to which
 /// it applies.

@@ -1,7 +1,6 @@
 //! What is reported of a run.
 
-use tpl_model::Event;
-use tpl_words::{Label, Status, TaskId};
+use tpl_model::{Event, Label, Status, TaskId};
 
 /// What is reported of a run: an entry for each task, the tasks whose own exception nobody observed, how many items
 /// were called and how many returned, and the journal.

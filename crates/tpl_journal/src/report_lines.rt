@@ -14,7 +14,7 @@ use crate::writing_lines::write_journal;
 use itoa::Buffer;
 use std::io::Write;
 use tpl_graph::Graph;
-use tpl_words::{Label, Status, TaskId};
+use tpl_model::{Label, Status, TaskId};
 
 /// Writes the name of a task, and what the task's body threw.
 fn put_thrown<W: Write>(

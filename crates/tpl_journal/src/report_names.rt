@@ -4,7 +4,7 @@ ghost use Rattle.std.specs.Prelude.{◌≡◌, [], None, slice_index_or};
 ghost use Rattle.tpl_journal.specs.ReportText.{task_name};
 
 use tpl_graph::Graph;
-use tpl_words::{Label, LabelId, SiteId, TaskId, TokenId};
+use tpl_model::{Label, LabelId, SiteId, TaskId, TokenId};
 
 pub(crate) fn name_of(graph: &Graph, task: TaskId) -> &str
     ensures { result.now ≡ task_name graph.now.names task.0 }

@@ -2,8 +2,8 @@
 use Rattle.std.proofs.Common.{◌≡◌, ℕ, ◌+◌, ◌<◌, ◌≤◌, List, length, get_or, drop, map, Some, refl, drop-cons, add-one}
 use Rattle.std.proofs.lemmas.List.{drop_all}
 use Rattle.tpl_json.specs.View.{Value, view}
-use Rattle.tpl_words.specs.declared.finals.Final.{Final}
-use Rattle.tpl_words.specs.declared.finals.Finals.{Finals}
+use Rattle.tpl_model.specs.declared.finals.Final.{Final}
+use Rattle.tpl_model.specs.declared.finals.Finals.{Finals}
 use Rattle.tpl_json.specs.declared.miss.Miss.{Miss}
 use Rattle.tpl_json.specs.declared.miss.Shape.{Shape}
 use Rattle.tpl_json.specs.declared.miss.Miss.TheVariants as misses

@@ -4,7 +4,7 @@ use Rattle.std.specs.Cmp.Lexicographic.{slice_cmp}
 use Rattle.std.specs.Ordering.{match_ordering}
 use Rattle.std.proofs.lemmas.Map.Text.{is_eq-slice_cmp}
 use Rattle.std.proofs.lemmas.Slice.Eq.{bytes_eq-Decides}
-use Rattle.tpl_words.proofs.Truths.{and_first, and_second}
+use Rattle.tpl_model.proofs.Truths.{and_first, and_second}
 use Rattle.serde_json.specs.Data.{Data, Items, no_items, item, Members, no_members, member, null, boolean, number, string, array, object, depth, items_depth, members_depth}
 use Rattle.serde_json.specs.Find.{get, get_member, as_str, as_bool}
 use Rattle.tpl_json.specs.Members.{◌>>=◌, only_if, has_only, is_one_of, members_within, text_in, elements, list_in, list_or_none, texts_in, each}

@@ -3,9 +3,9 @@ use Rattle.std.specs.Prelude.{◌≡◌, ℕ, true, Option, Some, None, List, []
 use Rattle.std.specs.List.{list_any}
 use Rattle.serde_json.specs.Data.{Data, string}
 use Rattle.serde_json.specs.Find.{get}
-use Rattle.tpl_words.specs.declared.finals.Final.{Final}
-use Rattle.tpl_words.specs.declared.finals.Finals.{Finals}
-use Rattle.tpl_words.specs.Finals.{has, is_final, final_name}
+use Rattle.tpl_model.specs.declared.finals.Final.{Final}
+use Rattle.tpl_model.specs.declared.finals.Finals.{Finals}
+use Rattle.tpl_model.specs.Finals.{has, is_final, final_name}
 use Rattle.tpl_json.specs.Members.{has_only, list_in}
 
 -- the value has no members but those of these names

@@ -8,7 +8,7 @@ ghost use Rattle.tpl_json.specs.Finals.{with_final, no_finals, final_word, final
 use crate::members::text_of;
 use crate::miss::{Miss, Shape};
 use json::Value;
-use tpl_words::{Final, Finals};
+use tpl_model::{Final, Finals};
 
 #[tactic(auto, unfolding(crate::specs::Finals::final_word))]
 fn final_word(word: &str) -> Result<Final, Miss<Shape>>

@@ -1,12 +1,12 @@
 -- Tests, choices and members.
 use Rattle.std.proofs.Common.{◌≡◌, ℕ, ◌++◌, ◌⊎◌, inl, inr, Bool, true, false, if◌then◌else◌, Option, Some, None, List, [], ◌∷◌, refl, sym, ap, subst, nat_eq, is_some, eqb→eq, T}
 use Rattle.std.proofs.lemmas.Bool.{or_left}
-use Rattle.tpl_words.proofs.Truths.{true_false}
-use Rattle.tpl_words.proofs.MemberLemmas.{mem_append, mem_left, mem_right, mem_split, mem_there, same_self}
-use Rattle.tpl_words.specs.declared.finals.Final.{Final}
-use Rattle.tpl_words.specs.declared.finals.Final.TheVariants.{RanToCompletion, Canceled, Faulted}
-use Rattle.tpl_words.specs.Finals.{is_final}
-use Rattle.tpl_words.specs.Members.{mem, joined}
+use Rattle.tpl_model.proofs.Truths.{true_false}
+use Rattle.tpl_model.proofs.MemberLemmas.{mem_append, mem_left, mem_right, mem_split, mem_there, same_self}
+use Rattle.tpl_model.specs.declared.finals.Final.{Final}
+use Rattle.tpl_model.specs.declared.finals.Final.TheVariants.{RanToCompletion, Canceled, Faulted}
+use Rattle.tpl_model.specs.Finals.{is_final}
+use Rattle.tpl_model.specs.Members.{mem, joined}
 
 pub if_true : {A : Type 0} (b : Bool) (x y : A) → b ≡ true → (if b then x else y) ≡ x
 if_true true x y e = refl

@@ -3,18 +3,18 @@ use Rattle.std.proofs.Common.{◌≡◌, ℕ, zero, suc, ◌+◌, ◌<◌, ◌�
 use Rattle.std.specs.Prelude.{sum_by}
 use Rattle.std.proofs.lemmas.List.Sums.{sum_by-cons}
 use Rattle.std.proofs.lemmas.Bool.{cases_Bool, or_left, or_right}
-use Rattle.tpl_words.proofs.MemberLemmas.{same_self}
-use Rattle.tpl_words.proofs.Truths.{true_false}
-use Rattle.tpl_words.specs.declared.status.Status.TheVariants.{WaitingToRun, WaitingForActivation}
-use Rattle.tpl_script.specs.Statements.{Nothing}
+use Rattle.tpl_model.proofs.MemberLemmas.{same_self}
+use Rattle.tpl_model.proofs.Truths.{true_false}
+use Rattle.tpl_model.specs.declared.status.Status.TheVariants.{WaitingToRun, WaitingForActivation}
+use Rattle.tpl_model.specs.Statements.{Nothing}
 use Rattle.tpl_model.specs.Graph.{TaskGraph, TaskKind, Root, Child, Continues, WhenAll, WhenAny, kind, is_task, is_token}
-use Rattle.tpl_words.specs.declared.status.Actor.{Actor}
+use Rattle.tpl_model.specs.declared.status.Actor.{Actor}
 use Rattle.tpl_model.specs.declared.event.Act.{Act}
 use Rattle.tpl_model.specs.declared.event.Act.TheVariants.{Request, Release, Begin, Step, Worked, Leave, Close, Drop, Settle}
 use Rattle.tpl_model.specs.declared.event.Event.{Event}
 use Rattle.tpl_model.specs.Facts.{Ending, begun, released, left_body, requests, rest, requested_itself, started, ending, ends_by, ending_by, settled_as}
 use Rattle.tpl_model.specs.Rules.{opening, Allows, Run, can_settle}
-use Rattle.tpl_script.specs.Limits.{statement_count}
+use Rattle.tpl_model.specs.Limits.{statement_count}
 use Rattle.tpl_model.specs.Valid.{bound}
 use Rattle.tpl_laws.proofs.Basics.{if_true}
 use Rattle.tpl_laws.proofs.Sources.{through_here}

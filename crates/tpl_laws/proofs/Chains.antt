@@ -1,16 +1,16 @@
 -- A chain leads to a task that observes the exception.
 use Rattle.std.proofs.Common.{◌≡◌, ℕ, ◌⊎◌, inl, inr, Bool, true, false, if◌then◌else◌, Option, Some, None, List, [], ◌∷◌, refl, sym, ap, ◌∙◌, subst, is_some}
 use Rattle.std.proofs.lemmas.Bool.{cases_Bool}
-use Rattle.tpl_words.proofs.Truths.{true_false}
-use Rattle.tpl_words.specs.declared.finals.Final.{Final}
-use Rattle.tpl_words.specs.declared.finals.Final.TheVariants.{RanToCompletion, Canceled}
-use Rattle.tpl_words.specs.Options.{allows}
-use Rattle.tpl_words.specs.declared.status.Label.{Label}
-use Rattle.tpl_script.specs.declared.outcome.Outcome.TheVariants.{Threw}
-use Rattle.tpl_words.specs.Members.{mem}
-use Rattle.tpl_script.specs.Statements.{Statements, Nothing, ◌⨾◌}
+use Rattle.tpl_model.proofs.Truths.{true_false}
+use Rattle.tpl_model.specs.declared.finals.Final.{Final}
+use Rattle.tpl_model.specs.declared.finals.Final.TheVariants.{RanToCompletion, Canceled}
+use Rattle.tpl_model.specs.Options.{allows}
+use Rattle.tpl_model.specs.declared.status.Label.{Label}
+use Rattle.tpl_model.specs.declared.outcome.Outcome.TheVariants.{Threw}
+use Rattle.tpl_model.specs.Members.{mem}
+use Rattle.tpl_model.specs.Statements.{Statements, Nothing, ◌⨾◌}
 use Rattle.tpl_model.specs.Graph.{TaskGraph, TaskKind, Root, Child, Continues, WhenAll, WhenAny, task, kind, body, options, is_task, attached, IsParent}
-use Rattle.tpl_words.specs.declared.status.Actor.{Actor}
+use Rattle.tpl_model.specs.declared.status.Actor.{Actor}
 use Rattle.tpl_model.specs.declared.event.Act.{Act}
 use Rattle.tpl_model.specs.declared.event.Act.TheVariants.{Request, Release, Begin, Step, Worked, Leave, Close, Drop, Settle}
 use Rattle.tpl_model.specs.declared.event.Event.{Event}

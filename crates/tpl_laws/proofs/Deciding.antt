@@ -2,12 +2,12 @@
 use Rattle.std.proofs.Common.{◌≡◌, ℕ, zero, suc, ◌<◌, ◌⊎◌, inl, inr, ◌&&◌, ◌||◌, not, Bool, true, false, List, [], ◌∷◌, refl, sym, subst, arith, nat_eq}
 use Rattle.std.specs.Prelude.{Decides}
 use Rattle.std.proofs.lemmas.Bool.{cases_lt, and_parts, and_from as and_join, or_cases as or_split, or_left, or_right}
-use Rattle.tpl_words.proofs.MemberLemmas.{same_self, mem_there, mem_split}
-use Rattle.tpl_words.proofs.Truths.{true_false}
-use Rattle.tpl_words.specs.declared.finals.Final.{Final}
-use Rattle.tpl_words.specs.declared.finals.Final.TheVariants.{RanToCompletion, Canceled, Faulted}
-use Rattle.tpl_words.specs.Finals.{is_final}
-use Rattle.tpl_words.specs.Members.{mem}
+use Rattle.tpl_model.proofs.MemberLemmas.{same_self, mem_there, mem_split}
+use Rattle.tpl_model.proofs.Truths.{true_false}
+use Rattle.tpl_model.specs.declared.finals.Final.{Final}
+use Rattle.tpl_model.specs.declared.finals.Final.TheVariants.{RanToCompletion, Canceled, Faulted}
+use Rattle.tpl_model.specs.Finals.{is_final}
+use Rattle.tpl_model.specs.Members.{mem}
 use Rattle.tpl_model.specs.Graph.{some_in}
 use Rattle.tpl_laws.proofs.Basics.{same_number, final_same, final_self, mem_here}
 use Rattle.tpl_laws.specs.RowTests.{implies, all_in, each_end, some_end, some_below}

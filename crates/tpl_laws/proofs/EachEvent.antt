@@ -1,22 +1,22 @@
 -- Each event keeps the rows true.
 use Rattle.std.proofs.Common.{◌≡◌, ℕ, ◌&&◌, ◌||◌, ◌⊎◌, inl, inr, not, Bool, true, false, Option, Some, None, List, [], ◌∷◌, refl, sym, ap, ◌∙◌, subst, nat_eq, is_some, length}
-use Rattle.tpl_words.specs.declared.finals.Final.{Final}
-use Rattle.tpl_words.specs.declared.finals.Final.TheVariants.{RanToCompletion, Canceled, Faulted}
-use Rattle.tpl_words.specs.Finals.{is_final, has}
-use Rattle.tpl_script.specs.declared.outcome.Outcome.{Outcome}
-use Rattle.tpl_script.specs.declared.outcome.Outcome.TheVariants.{Returned, Threw, Acknowledged}
-use Rattle.tpl_words.specs.Members.{mem}
+use Rattle.tpl_model.specs.declared.finals.Final.{Final}
+use Rattle.tpl_model.specs.declared.finals.Final.TheVariants.{RanToCompletion, Canceled, Faulted}
+use Rattle.tpl_model.specs.Finals.{is_final, has}
+use Rattle.tpl_model.specs.declared.outcome.Outcome.{Outcome}
+use Rattle.tpl_model.specs.declared.outcome.Outcome.TheVariants.{Returned, Threw, Acknowledged}
+use Rattle.tpl_model.specs.Members.{mem}
 use Rattle.tpl_model.specs.Graph.{TaskGraph, TaskKind, Root, Child, Continues, WhenAll, WhenAny, kind, body, options, is_task, attached}
-use Rattle.tpl_words.specs.declared.status.Actor.{Actor}
+use Rattle.tpl_model.specs.declared.status.Actor.{Actor}
 use Rattle.tpl_model.specs.declared.event.Act.{Act}
 use Rattle.tpl_model.specs.declared.event.Act.TheVariants.{Request, Release, Begin, Step, Worked, Leave, Close, Drop, Settle}
 use Rattle.tpl_model.specs.declared.event.Event.{Event}
 use Rattle.tpl_model.specs.Facts.{Ending, begun, final_in, rest, started, ending, ended_at_once, carried_in, gathered, own_atom, those_started, outcome_in, body_final, all_final, worse, settled_as}
 use Rattle.tpl_model.specs.Rules.{final, MayDrop, MayNotStart, MayCancel, Allows, Run, some_ended, can_settle, all_ended, Settled, ended}
-use Rattle.tpl_script.specs.Paths.{Path, MayThrow}
+use Rattle.tpl_model.specs.Paths.{Path, MayThrow}
 use Rattle.tpl_laws.proofs.Basics.{if_false, some_none, the_some, is_some_of, same_number, mem_here}
 use Rattle.tpl_laws.proofs.Kept.{after, ending_new, final_of}
-use Rattle.tpl_words.specs.Options.{lazy_cancellation}
+use Rattle.tpl_model.specs.Options.{lazy_cancellation}
 use Rattle.tpl_model.specs.Valid.{IsGraph}
 use Rattle.tpl_model.specs.Certificate.{Row, row, Assumed, end_left, Agrees, is_loud, view, IsBelow, BodyMayEnd, AllMayEnd, MayEndAs, may_end, may_win, PastRule, Closed}
 use Rattle.tpl_laws.proofs.Execution.{passed, StartedBy, started_parent}
@@ -26,8 +26,8 @@ use Rattle.tpl_laws.proofs.Settling.{no_task, child_rules, has_subject_of, attac
 use Rattle.tpl_laws.proofs.Carrying.{Ends, drops, leaves, settled, BodyEnds, how_ends, carries_faulted, gathered_from, those_mem, gathered_keeps, carried_some}
 use Rattle.tpl_laws.proofs.RowsAreTrue.{Now, AreTrue, left_verdict, verdict_path, view_fits, starts_on_path, ready_runs, ready_before, requested_loud, agrees_before, some_eq}
 use Rattle.std.proofs.lemmas.Bool.{cases_lt, cases_Bool, and_parts, or_cases, or_left, or_right}
-use Rattle.tpl_words.proofs.MemberLemmas.{mem_split, mem_there}
-use Rattle.tpl_words.proofs.Truths.{true_false}
+use Rattle.tpl_model.proofs.MemberLemmas.{mem_split, mem_there}
+use Rattle.tpl_model.proofs.Truths.{true_false}
 
 -- what the ends of the arguments are, by the status of WhenAll
 abbrev pub AllIs : List ℕ → (ℕ → Option Ending) → Final → Type 0

@@ -1,22 +1,22 @@
 -- Each real execution of a body is one of its paths.
 use Rattle.std.proofs.Common.{◌≡◌, ℕ, ◌++◌, ◌&&◌, ◌⊎◌, inl, inr, Bool, true, false, if◌then◌else◌, Option, List, [], ◌∷◌, refl, sym, subst, nat_eq, is_some, slice_index_or}
 use Rattle.std.proofs.lemmas.Bool.{and_parts, and_from, or_cases, or_left, or_right}
-use Rattle.tpl_words.proofs.MemberLemmas.{same_self, mem_append, mem_left, mem_right}
-use Rattle.tpl_words.proofs.Truths.{true_false}
-use Rattle.tpl_words.specs.declared.finals.Final.{Final}
-use Rattle.tpl_words.specs.Members.{mem}
-use Rattle.tpl_script.specs.Statements.{Statement, Return, Throw, Check, Cancel, Start, Observe, Work, If, When, Statements, Nothing, ◌⨾◌, followed_by, starts, starts_of, reads_nothing}
+use Rattle.tpl_model.proofs.MemberLemmas.{same_self, mem_append, mem_left, mem_right}
+use Rattle.tpl_model.proofs.Truths.{true_false}
+use Rattle.tpl_model.specs.declared.finals.Final.{Final}
+use Rattle.tpl_model.specs.Members.{mem}
+use Rattle.tpl_model.specs.Statements.{Statement, Return, Throw, Check, Cancel, Start, Observe, Work, If, When, Statements, Nothing, ◌⨾◌, followed_by, starts, starts_of, reads_nothing}
 use Rattle.tpl_model.specs.Graph.{TaskGraph, task, kind, body, IsParent}
-use Rattle.tpl_words.specs.declared.status.Actor.{Actor}
-use Rattle.tpl_words.specs.declared.status.Answer.{Answer}
-use Rattle.tpl_words.specs.declared.status.Answer.TheVariants.{Done, Failed}
+use Rattle.tpl_model.specs.declared.status.Actor.{Actor}
+use Rattle.tpl_model.specs.declared.status.Answer.{Answer}
+use Rattle.tpl_model.specs.declared.status.Answer.TheVariants.{Done, Failed}
 use Rattle.tpl_model.specs.declared.event.Act.{Act}
 use Rattle.tpl_model.specs.declared.event.Act.TheVariants.{Request, Release, Begin, Step, Worked, Leave, Close, Drop, Settle}
 use Rattle.tpl_model.specs.declared.event.Event.{Event}
 use Rattle.tpl_model.specs.Facts.{Rest, Ending, on, over, begun, starts_by, rest_after, step_of, stepped, worked, rest, requested, started, ending, is_start, subject_in, has_final}
-use Rattle.tpl_script.specs.Paths.{cancellation, is_start_of, passes_start}
+use Rattle.tpl_model.specs.Paths.{cancellation, is_start_of, passes_start}
 use Rattle.tpl_model.specs.Rules.{Allows, Run}
-use Rattle.tpl_script.specs.Statements.{reads_nothing_in}
+use Rattle.tpl_model.specs.Statements.{reads_nothing_in}
 use Rattle.tpl_laws.proofs.Basics.{if_true, same_number}
 use Rattle.tpl_laws.proofs.Kept.{after, running_facts, begun_kept}
 

@@ -1,18 +1,18 @@
 -- Each real execution of a body is one of its paths.
 use Rattle.tpl_laws.proofs.Sources.{through_here}
-use Rattle.tpl_words.specs.declared.finals.Final.{Final}
-use Rattle.tpl_words.specs.Finals.{is_final}
-use Rattle.tpl_script.specs.Statements.{Statement, Return, Throw, Check, Cancel, Start, Observe, Work, If, When, Statements, Nothing, ◌⨾◌, followed_by, reads_nothing}
+use Rattle.tpl_model.specs.declared.finals.Final.{Final}
+use Rattle.tpl_model.specs.Finals.{is_final}
+use Rattle.tpl_model.specs.Statements.{Statement, Return, Throw, Check, Cancel, Start, Observe, Work, If, When, Statements, Nothing, ◌⨾◌, followed_by, reads_nothing}
 use Rattle.tpl_model.specs.Graph.{TaskGraph, TaskKind, Root, Child, Continues, WhenAll, WhenAny, task, kind, body}
-use Rattle.tpl_words.specs.declared.status.Actor.{Actor}
-use Rattle.tpl_words.specs.declared.status.Answer.{Answer}
-use Rattle.tpl_words.specs.declared.status.Answer.TheVariants.{Done, Failed}
+use Rattle.tpl_model.specs.declared.status.Actor.{Actor}
+use Rattle.tpl_model.specs.declared.status.Answer.{Answer}
+use Rattle.tpl_model.specs.declared.status.Answer.TheVariants.{Done, Failed}
 use Rattle.tpl_model.specs.declared.event.Act.{Act}
 use Rattle.tpl_model.specs.declared.event.Act.TheVariants.{Request, Release, Begin, Step, Worked, Leave, Close, Drop, Settle}
 use Rattle.tpl_model.specs.declared.event.Event.{Event}
 use Rattle.tpl_model.specs.Facts.{Rest, Ending, on, over, begun, stepped, worked, final_in, winner_of, rest, requested, failed, fails_by, is_work, ending, is_cancel, subject_in, subject_of, has_final, is_end, requested_itself}
-use Rattle.tpl_script.specs.Paths.{cancellation, Known, Passes}
-pub use Rattle.tpl_script.proofs.KnownPaths.{FollowsBy}
+use Rattle.tpl_model.specs.Paths.{cancellation, Known, Passes}
+pub use Rattle.tpl_model.proofs.KnownPaths.{FollowsBy}
 use Rattle.tpl_model.specs.Rules.{final, subject, MayStart, Allows, Run, steps, works}
 use Rattle.tpl_model.specs.Claims.{input}
 use Rattle.tpl_model.specs.Valid.{HasSubject}
@@ -22,8 +22,8 @@ use Rattle.tpl_laws.proofs.Execution.{pushed, passed, reads_left}
 use Rattle.tpl_laws.proofs.Ready.{Ready, begun_ready, any_winner}
 use Rattle.std.proofs.Common.{◌≡◌, ℕ, ◌⊎◌, inl, inr, Bool, true, false, if◌then◌else◌, Option, Some, None, List, [], ◌∷◌, refl, sym, ap, ◌∙◌, subst, nat_eq, is_some, slice_index_or}
 use Rattle.std.proofs.lemmas.Bool.{or_left}
-use Rattle.tpl_words.proofs.MemberLemmas.{same_self}
-use Rattle.tpl_words.proofs.Truths.{true_false}
+use Rattle.tpl_model.proofs.MemberLemmas.{same_self}
+use Rattle.tpl_model.proofs.Truths.{true_false}
 
 -- the view's assumptions are true of a run so far
 pub record Fits (g : TaskGraph) (v : List Bool) (h : List Event) (t : ℕ) (w : Known) : Type 0 where

@@ -5,10 +5,10 @@ use Rattle.std.proofs.lemmas.Bool.{cases_lt, eqb-true, eq-eqb}
 use Rattle.std.proofs.lemmas.Bool.Decides.{Decides-and, Decides-ltb, Decides-eqb, Decides-below_and, Decides-below_or, Decides-like}
 use Rattle.std.proofs.lemmas.List.Recursion.{is_count_by}
 use Rattle.tpl_laws.proofs.Deciding.{only_if}
-use Rattle.tpl_words.specs.Members.{mem}
-use Rattle.tpl_words.specs.Options.{has_bits, excludes_all, long_and_sync}
-use Rattle.tpl_script.specs.Statements.{Statement, Statements, Return, Throw, Check, Cancel, Start, Observe, Work, If, When, Nothing, ◌⨾◌, starts, reads_nothing}
-use Rattle.tpl_script.specs.Limits.{statement_count, level_count}
+use Rattle.tpl_model.specs.Members.{mem}
+use Rattle.tpl_model.specs.Options.{has_bits, excludes_all, long_and_sync}
+use Rattle.tpl_model.specs.Statements.{Statement, Statements, Return, Throw, Check, Cancel, Start, Observe, Work, If, When, Nothing, ◌⨾◌, starts, reads_nothing}
+use Rattle.tpl_model.specs.Limits.{statement_count, level_count}
 use Rattle.tpl_model.specs.Graph.{TaskGraph, Task, TaskKind, Root, Child, Continues, WhenAll, WhenAny, task, kind, body, options, Token, Plain, Linked, token, IsParent}
 use Rattle.tpl_model.specs.Valid.{IdsOf, IdsWithin, OwnToken, AreBefore, IsLinked, ArePlaced, IsPlaced, option_words, HasBody, HasSubject, IsTask, all_sites, IsGraph}
 use Rattle.tpl_laws.specs.RowTests.{implies, all_in}

@@ -1,23 +1,23 @@
 -- A job has failed just where its task's label says so.
 use Rattle.std.proofs.Common.{◌≡◌, ℕ, zero, suc, ◌+◌, ◌≤◌, ◌++◌, ◌||◌, ◌⊎◌, inl, inr, Bool, true, false, cond, if◌then◌else◌, Option, Some, None, List, [], ◌∷◌, refl, sym, ap, ◌∙◌, subst, arith, flat_map, nat_eq, is_some, slice_index_or}
 use Rattle.std.proofs.lemmas.Bool.{cases_Bool, or_cases, or_left, or_right}
-use Rattle.tpl_words.proofs.MemberLemmas.{same_self, mem_append, mem_left, mem_right}
+use Rattle.tpl_model.proofs.MemberLemmas.{same_self, mem_append, mem_left, mem_right}
 use Rattle.std.proofs.lemmas.List.Recursion.{is_count_by}
 use Rattle.std.proofs.lemmas.List.Concat.{flat_map-cons}
-use Rattle.tpl_words.specs.Members.{mem}
+use Rattle.tpl_model.specs.Members.{mem}
 use Rattle.tpl_model.specs.Valid.{all_sites}
 use Rattle.tpl_laws.proofs.GraphDecided.{counted}
 use Rattle.tpl_laws.proofs.Execution.{IsKept, rest_keeps}
-use Rattle.tpl_words.proofs.Truths.{true_false}
-use Rattle.tpl_words.specs.declared.ids.SiteId.{SiteId}
-use Rattle.tpl_words.specs.declared.status.Label.{Label}
-use Rattle.tpl_words.specs.declared.status.Label.TheVariants.{WorkFailed}
-use Rattle.tpl_words.specs.declared.status.Actor.{Actor}
-use Rattle.tpl_words.specs.declared.status.Answer.TheVariants.{Done, Failed}
-use Rattle.tpl_script.specs.declared.outcome.Outcome.{Outcome}
-use Rattle.tpl_script.specs.declared.outcome.Outcome.TheVariants.{Threw, Acknowledged}
-use Rattle.tpl_script.specs.Statements.{Return, Throw, Check, Cancel, Start, Observe, Work, If, When, Statements, Nothing, ◌⨾◌, followed_by, sites, sites_of}
-use Rattle.tpl_script.specs.Paths.{cancellation, is_own}
+use Rattle.tpl_model.proofs.Truths.{true_false}
+use Rattle.tpl_model.specs.declared.ids.SiteId.{SiteId}
+use Rattle.tpl_model.specs.declared.status.Label.{Label}
+use Rattle.tpl_model.specs.declared.status.Label.TheVariants.{WorkFailed}
+use Rattle.tpl_model.specs.declared.status.Actor.{Actor}
+use Rattle.tpl_model.specs.declared.status.Answer.TheVariants.{Done, Failed}
+use Rattle.tpl_model.specs.declared.outcome.Outcome.{Outcome}
+use Rattle.tpl_model.specs.declared.outcome.Outcome.TheVariants.{Threw, Acknowledged}
+use Rattle.tpl_model.specs.Statements.{Return, Throw, Check, Cancel, Start, Observe, Work, If, When, Statements, Nothing, ◌⨾◌, followed_by, sites, sites_of}
+use Rattle.tpl_model.specs.Paths.{cancellation, is_own}
 use Rattle.tpl_model.specs.Graph.{TaskGraph, Task, Root, task, kind, body}
 use Rattle.tpl_model.specs.declared.event.Act.{Act}
 use Rattle.tpl_model.specs.declared.event.Act.TheVariants.{Request, Release, Begin, Step, Worked, Leave, Close, Drop, Settle}

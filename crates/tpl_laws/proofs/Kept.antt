@@ -1,11 +1,11 @@
 -- What an event leaves as it was.
 use Rattle.tpl_laws.proofs.Sources.{through_more}
-use Rattle.tpl_words.specs.declared.ids.TaskId.{TaskId}
-use Rattle.tpl_words.specs.declared.finals.Final.{Final}
-use Rattle.tpl_words.specs.declared.status.Status.{Status}
-use Rattle.tpl_words.specs.declared.status.Status.TheVariants.{Created, WaitingForActivation, WaitingToRun, Running, WaitingForChildrenToComplete, Completed}
+use Rattle.tpl_model.specs.declared.ids.TaskId.{TaskId}
+use Rattle.tpl_model.specs.declared.finals.Final.{Final}
+use Rattle.tpl_model.specs.declared.status.Status.{Status}
+use Rattle.tpl_model.specs.declared.status.Status.TheVariants.{Created, WaitingForActivation, WaitingToRun, Running, WaitingForChildrenToComplete, Completed}
 use Rattle.tpl_model.specs.Graph.{TaskGraph, TaskKind, Root, Child, Continues, WhenAll, WhenAny, kind, attached}
-use Rattle.tpl_words.specs.declared.status.Actor.{Actor}
+use Rattle.tpl_model.specs.declared.status.Actor.{Actor}
 use Rattle.tpl_model.specs.declared.event.Act.{Act}
 use Rattle.tpl_model.specs.declared.event.Act.TheVariants.{Request, Release, Begin, Step, Worked, Leave, Close, Drop, Settle}
 use Rattle.tpl_model.specs.declared.event.Event.{Event}
@@ -14,7 +14,7 @@ use Rattle.tpl_model.specs.Rules.{final, status, status_by, opening, IsRunning, 
 use Rattle.tpl_laws.proofs.Basics.{if_true, if_false, some_none, the_some, same_number}
 use Rattle.std.proofs.Common.{◌≡◌, ℕ, suc, ◌⊎◌, inl, inr, Bool, true, false, if◌then◌else◌, Option, Some, None, List, ◌∷◌, refl, sym, ap, ◌∙◌, subst, nat_eq, is_some, length}
 use Rattle.std.proofs.lemmas.Bool.{cases_Bool, and_parts, or_right}
-use Rattle.tpl_words.proofs.Truths.{true_false}
+use Rattle.tpl_model.proofs.Truths.{true_false}
 
 -- one more event
 abbrev pub after : Actor → Act → List Event → List Event

@@ -1,9 +1,9 @@
 -- The laws about links.
 use Rattle.std.proofs.Common.{◌⊎◌, ◌≡◌, ℕ, zero, suc, ◌||◌, inl, inr, Bool, true, List, [], ◌∷◌, refl, sym, ap, ◌∙◌, subst, nat_eq, length}
 use Rattle.std.proofs.lemmas.Bool.{or_cases, or_left, or_right}
-use Rattle.tpl_words.proofs.MemberLemmas.{same_either_way, same_self}
-use Rattle.tpl_words.proofs.Truths.{or_false, true_false}
-use Rattle.tpl_words.specs.Members.{mem}
+use Rattle.tpl_model.proofs.MemberLemmas.{same_either_way, same_self}
+use Rattle.tpl_model.proofs.Truths.{or_false, true_false}
+use Rattle.tpl_model.specs.Members.{mem}
 use Rattle.tpl_model.specs.Graph.{TaskGraph, Plain, token, sources, sources_of, some_in, within, through}
 use Rattle.tpl_model.specs.Facts.{requested_itself}
 use Rattle.tpl_model.specs.declared.claim.Given.{Given}

@@ -1,14 +1,14 @@
 -- The main theorem.
 use Rattle.tpl_laws.proofs.Sources.{through_more, through_twice}
-use Rattle.tpl_words.specs.declared.finals.Final.{Final}
-use Rattle.tpl_words.specs.declared.finals.Final.TheVariants.{RanToCompletion, Canceled, Faulted}
-use Rattle.tpl_words.specs.Finals.{has, is_final}
-use Rattle.tpl_words.specs.Members.{mem}
-use Rattle.tpl_words.specs.declared.ids.TaskId.{TaskId}
-use Rattle.tpl_words.specs.declared.status.Label.{Label}
-use Rattle.tpl_script.specs.declared.outcome.Outcome.TheVariants.{Threw}
+use Rattle.tpl_model.specs.declared.finals.Final.{Final}
+use Rattle.tpl_model.specs.declared.finals.Final.TheVariants.{RanToCompletion, Canceled, Faulted}
+use Rattle.tpl_model.specs.Finals.{has, is_final}
+use Rattle.tpl_model.specs.Members.{mem}
+use Rattle.tpl_model.specs.declared.ids.TaskId.{TaskId}
+use Rattle.tpl_model.specs.declared.status.Label.{Label}
+use Rattle.tpl_model.specs.declared.outcome.Outcome.TheVariants.{Threw}
 use Rattle.tpl_model.specs.Graph.{TaskGraph, TaskKind, Root, Child, Continues, WhenAll, WhenAny, task, kind, body, is_task, through}
-use Rattle.tpl_words.specs.declared.status.Actor.{Actor}
+use Rattle.tpl_model.specs.declared.status.Actor.{Actor}
 use Rattle.tpl_model.specs.declared.event.Act.{Act}
 use Rattle.tpl_model.specs.declared.event.Event.{Event}
 use Rattle.tpl_model.specs.Facts.{begun, begun_by, final_in, rest, requested, failed, started, ending, requested_itself, outcome_in}
@@ -35,7 +35,7 @@ use Rattle.tpl_laws.proofs.Chains.{carries_own, threw_begun, begun_ends, ended_b
 use Rattle.tpl_laws.proofs.Observing.{label_verdict, chain_seen}
 use Rattle.std.proofs.Common.{◌≡◌, ℕ, ◌++◌, ◌&&◌, ◌||◌, ◌⊎◌, inl, inr, not, Bool, true, false, if◌then◌else◌, Option, Some, None, List, [], ◌∷◌, refl, sym, ap, ◌∙◌, subst, nat_eq, is_some}
 use Rattle.std.proofs.lemmas.Bool.{cases_Bool, and_parts, and_from, or_cases}
-use Rattle.tpl_words.proofs.Truths.{true_false}
+use Rattle.tpl_model.proofs.Truths.{true_false}
 
 -- what holds of a run that agrees with a closed leaf
 now_of : (g : TaskGraph) (l : Assumed) (rows : List Row) (v : List Bool) (h : List Event) → IsGraph g → Closed g l rows → Run g v h → Agrees g l v h → Now g l rows v h

@@ -1,24 +1,24 @@
 -- The exception of a task with a chain is observed in each complete run.
 use Rattle.std.proofs.Common.{◌≡◌, ℕ, ◌⊎◌, inl, inr, Bool, true, false, Option, Some, None, List, [], ◌∷◌, refl, sym, ap, ◌∙◌, subst, nat_eq, is_some, length}
-use Rattle.tpl_words.specs.declared.finals.Final.{Final}
-use Rattle.tpl_words.specs.declared.finals.Final.TheVariants.{Faulted}
-use Rattle.tpl_words.specs.Finals.{is_final}
-use Rattle.tpl_words.specs.Options.{allows}
-use Rattle.tpl_words.specs.declared.status.Label.{Label}
-use Rattle.tpl_script.specs.declared.outcome.Outcome.{Outcome}
-use Rattle.tpl_script.specs.declared.outcome.Outcome.TheVariants.{Returned, Threw, Acknowledged}
-use Rattle.tpl_words.specs.Members.{mem}
-use Rattle.tpl_script.specs.Statements.{Statement, Return, Throw, Check, Cancel, Start, Observe, Work, If, When, Statements, Nothing, ◌⨾◌, starts}
+use Rattle.tpl_model.specs.declared.finals.Final.{Final}
+use Rattle.tpl_model.specs.declared.finals.Final.TheVariants.{Faulted}
+use Rattle.tpl_model.specs.Finals.{is_final}
+use Rattle.tpl_model.specs.Options.{allows}
+use Rattle.tpl_model.specs.declared.status.Label.{Label}
+use Rattle.tpl_model.specs.declared.outcome.Outcome.{Outcome}
+use Rattle.tpl_model.specs.declared.outcome.Outcome.TheVariants.{Returned, Threw, Acknowledged}
+use Rattle.tpl_model.specs.Members.{mem}
+use Rattle.tpl_model.specs.Statements.{Statement, Return, Throw, Check, Cancel, Start, Observe, Work, If, When, Statements, Nothing, ◌⨾◌, starts}
 use Rattle.tpl_model.specs.Graph.{TaskGraph, TaskKind, Root, Child, Continues, WhenAll, WhenAny, kind, body, options, is_task}
-use Rattle.tpl_words.specs.declared.status.Actor.{Actor}
-use Rattle.tpl_words.specs.declared.status.Answer.{Answer}
-use Rattle.tpl_words.specs.declared.status.Answer.TheVariants.{Done, Failed}
+use Rattle.tpl_model.specs.declared.status.Actor.{Actor}
+use Rattle.tpl_model.specs.declared.status.Answer.{Answer}
+use Rattle.tpl_model.specs.declared.status.Answer.TheVariants.{Done, Failed}
 use Rattle.tpl_model.specs.declared.event.Act.{Act}
 use Rattle.tpl_model.specs.declared.event.Act.TheVariants.{Request, Release, Begin, Step, Worked, Leave, Close, Drop, Settle}
 use Rattle.tpl_model.specs.declared.event.Event.{Event}
 use Rattle.tpl_model.specs.Facts.{Ending, begun, final_in, rest, started, ending, subject_in, subject_of, carried_in, outcome_in, is_observe}
 use Rattle.tpl_model.specs.Rules.{final, subject, Allows, Run, works, seen, sees, carried_by, label, label_in, Complete, to_end}
-use Rattle.tpl_script.specs.Paths.{MustObserve, passes_observe}
+use Rattle.tpl_model.specs.Paths.{MustObserve, passes_observe}
 use Rattle.tpl_laws.specs.RowTests.{faulted_view}
 use Rattle.tpl_laws.proofs.Basics.{if_true, if_false, some_none, the_some, same_number}
 use Rattle.tpl_laws.proofs.Kept.{id, after, running_facts, ending_kept, begun_kept, final_of}
@@ -30,7 +30,7 @@ use Rattle.tpl_laws.proofs.Carrying.{begun_task, carries_faulted}
 use Rattle.tpl_laws.proofs.RowsAreTrue.{Upheld, verdict_path, view_fits, requested_loud, some_eq}
 use Rattle.tpl_laws.proofs.Chains.{carries_own, threw_begun, begun_ends, taken_over, any_ends, ended_as}
 use Rattle.std.proofs.lemmas.Bool.{cases_lt, cases_Bool, and_from, or_left, or_right}
-use Rattle.tpl_words.proofs.Truths.{true_false}
+use Rattle.tpl_model.proofs.Truths.{true_false}
 
 -- only a task that has begun has passed anything
 pub passed_begun : (g : TaskGraph) (v : List Bool) (h : List Event) (t : ℕ) → Run g v h → passes_observe (passed g v h t) ≡ true → is_some (begun h t) ≡ true

@@ -2,10 +2,10 @@
 use Rattle.std.proofs.Common.{◌≡◌, ℕ, zero, suc, ◌+◌, ◌<◌, ◌≤◌, inl, inr, ◌||◌, Bool, true, Option, Some, None, refl, sym, ap, ◌∙◌, subst, arith, nat_eq, length}
 use Rattle.std.specs.Prelude.{Decides}
 use Rattle.std.proofs.lemmas.Bool.{cases_lt, cases_Bool, and_parts, and_from, or_cases, or_left, or_right}
-use Rattle.tpl_words.proofs.MemberLemmas.{same_self}
-use Rattle.tpl_words.proofs.Truths.{same_tests, true_false}
-use Rattle.tpl_words.specs.Members.{mem}
-use Rattle.tpl_script.specs.Statements.{starts}
+use Rattle.tpl_model.proofs.MemberLemmas.{same_self}
+use Rattle.tpl_model.proofs.Truths.{same_tests, true_false}
+use Rattle.tpl_model.specs.Members.{mem}
+use Rattle.tpl_model.specs.Statements.{starts}
 use Rattle.tpl_model.specs.Graph.{TaskGraph, body, attached, IsParent}
 use Rattle.tpl_model.specs.Valid.{IsGraph}
 use Rattle.tpl_model.specs.Certificate.{IsBelow, child, deeper}

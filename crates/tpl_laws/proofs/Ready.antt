@@ -1,12 +1,12 @@
 -- What has happened before a task begins or ends.
 use Rattle.std.proofs.Common.{◌≡◌, ℕ, suc, ◌||◌, inl, inr, Bool, true, false, if◌then◌else◌, Option, Some, None, List, [], ◌∷◌, refl, sym, ap, ◌∙◌, subst, nat_eq, nat_lt, is_some, length}
 use Rattle.std.proofs.lemmas.Bool.{cases_Bool, and_parts, or_cases}
-use Rattle.tpl_words.proofs.MemberLemmas.{mem_there}
-use Rattle.tpl_words.proofs.Truths.{true_false}
-use Rattle.tpl_words.specs.declared.status.Status.TheVariants.{WaitingToRun}
-use Rattle.tpl_words.specs.Members.{mem}
+use Rattle.tpl_model.proofs.MemberLemmas.{mem_there}
+use Rattle.tpl_model.proofs.Truths.{true_false}
+use Rattle.tpl_model.specs.declared.status.Status.TheVariants.{WaitingToRun}
+use Rattle.tpl_model.specs.Members.{mem}
 use Rattle.tpl_model.specs.Graph.{TaskGraph, TaskKind, Root, Child, Continues, WhenAll, WhenAny, kind, attached}
-use Rattle.tpl_words.specs.declared.status.Actor.{Actor}
+use Rattle.tpl_model.specs.declared.status.Actor.{Actor}
 use Rattle.tpl_model.specs.declared.event.Act.{Act}
 use Rattle.tpl_model.specs.declared.event.Act.TheVariants.{Request, Release, Begin, Step, Worked, Leave, Close, Drop, Settle}
 use Rattle.tpl_model.specs.declared.event.Event.{Event}

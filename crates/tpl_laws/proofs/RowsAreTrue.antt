@@ -1,25 +1,25 @@
 -- The rows of a closed leaf are true of each run that agrees with it.
 use Rattle.std.proofs.Common.{◌≡◌, ℕ, ◌&&◌, inl, inr, not, Bool, true, false, Option, Some, None, List, [], ◌∷◌, refl, sym, ◌∙◌, subst, nat_eq, is_some}
 use Rattle.std.proofs.lemmas.Bool.{cases_Bool, and_from, or_cases, or_left, or_right}
-use Rattle.tpl_words.proofs.MemberLemmas.{mem_split}
-use Rattle.tpl_words.proofs.Truths.{true_false}
-use Rattle.tpl_words.specs.declared.finals.Final.{Final}
-use Rattle.tpl_words.specs.Options.{allows}
-use Rattle.tpl_script.specs.declared.outcome.Outcome.{Outcome}
-use Rattle.tpl_script.specs.declared.outcome.Outcome.TheVariants.{Returned}
-use Rattle.tpl_words.specs.Members.{mem}
-use Rattle.tpl_script.specs.Statements.{Statement, Statements, Nothing, ◌⨾◌}
+use Rattle.tpl_model.proofs.MemberLemmas.{mem_split}
+use Rattle.tpl_model.proofs.Truths.{true_false}
+use Rattle.tpl_model.specs.declared.finals.Final.{Final}
+use Rattle.tpl_model.specs.Options.{allows}
+use Rattle.tpl_model.specs.declared.outcome.Outcome.{Outcome}
+use Rattle.tpl_model.specs.declared.outcome.Outcome.TheVariants.{Returned}
+use Rattle.tpl_model.specs.Members.{mem}
+use Rattle.tpl_model.specs.Statements.{Statement, Statements, Nothing, ◌⨾◌}
 use Rattle.tpl_model.specs.Graph.{TaskGraph, TaskKind, Root, Child, Continues, WhenAll, WhenAny, task, kind, body, options, is_task}
-use Rattle.tpl_words.specs.declared.status.Actor.{Actor}
+use Rattle.tpl_model.specs.declared.status.Actor.{Actor}
 use Rattle.tpl_model.specs.declared.event.Act.{Act}
 use Rattle.tpl_model.specs.declared.event.Act.TheVariants.{Request, Release, Begin, Step, Worked, Leave, Close, Drop, Settle}
 use Rattle.tpl_model.specs.declared.event.Event.{Event}
 use Rattle.tpl_model.specs.Facts.{Ending, begun, left_body, stepped, worked, winner_of, rest, requested, failed, ending, subject_in, subject_of, outcome_in, outcome_of}
 use Rattle.tpl_model.specs.Rules.{final, IsRunning, MayStart, Allows, Run, Settled, ended, token_requested, token_requested_by}
-use Rattle.tpl_script.specs.Paths.{Known, EndsPassing, Path, MayStartChild}
+use Rattle.tpl_model.specs.Paths.{Known, EndsPassing, Path, MayStartChild}
 use Rattle.tpl_laws.proofs.Basics.{if_false, some_none, is_some_of, same_number}
 use Rattle.tpl_laws.proofs.Kept.{after, running_facts, final_kept, requested_kept, failed_kept, final_of}
-use Rattle.tpl_words.specs.Finals.{has}
+use Rattle.tpl_model.specs.Finals.{has}
 use Rattle.tpl_model.specs.Valid.{IsGraph}
 use Rattle.tpl_model.specs.Certificate.{Row, row, Assumed, Agrees, is_loud, loud_token, one_ends, subject_ends, subject_set, view, RunsRule, BeforeRule, Closed}
 use Rattle.tpl_laws.proofs.Execution.{passed, StartedBy, started_parent}

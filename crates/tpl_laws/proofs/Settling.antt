@@ -1,9 +1,9 @@
 -- What is settled stays so, and is settled below a settled task.
 use Rattle.std.proofs.Common.{◌≡◌, ℕ, zero, suc, ◌&&◌, ◌||◌, inl, inr, not, Bool, true, false, if◌then◌else◌, Option, None, List, [], ◌∷◌, refl, sym, ap, ◌∙◌, subst, arith, nat_eq, is_some, length, slice_index_or}
-use Rattle.tpl_words.specs.Members.{mem}
-use Rattle.tpl_script.specs.Statements.{Statement, Return, Throw, Check, Cancel, Start, Observe, Work, If, When, Statements, Nothing, ◌⨾◌, starts, starts_of, reads_nothing}
+use Rattle.tpl_model.specs.Members.{mem}
+use Rattle.tpl_model.specs.Statements.{Statement, Return, Throw, Check, Cancel, Start, Observe, Work, If, When, Statements, Nothing, ◌⨾◌, starts, starts_of, reads_nothing}
 use Rattle.tpl_model.specs.Graph.{TaskGraph, TaskKind, Root, Child, Continues, WhenAll, WhenAny, kind, body, options, is_task, attached, IsParent, Task}
-use Rattle.tpl_words.specs.declared.status.Actor.{Actor}
+use Rattle.tpl_model.specs.declared.status.Actor.{Actor}
 use Rattle.tpl_model.specs.declared.event.Act.{Act}
 use Rattle.tpl_model.specs.declared.event.Act.TheVariants.{Request, Release, Begin, Step, Worked, Leave, Close, Drop, Settle}
 use Rattle.tpl_model.specs.declared.event.Event.{Event}
@@ -12,14 +12,14 @@ use Rattle.tpl_model.specs.Rules.{IsRunning, Allows, Run, can_settle, Settled, e
 use Rattle.tpl_model.specs.Valid.{HasSubject, IsGraph, IsTask, IdsOf, IdsWithin}
 use Rattle.tpl_laws.proofs.Basics.{the_some, is_some_of, same_number}
 use Rattle.tpl_laws.proofs.Kept.{after, running_facts, drop_facts, ending_new, ended_kept}
-use Rattle.tpl_words.specs.Options.{attached_to_parent, deny_child_attach}
+use Rattle.tpl_model.specs.Options.{attached_to_parent, deny_child_attach}
 use Rattle.tpl_model.specs.Certificate.{IsBelow, child, deeper}
 use Rattle.tpl_laws.proofs.Execution.{started_parent, next_start}
 use Rattle.tpl_laws.proofs.Ready.{Ready, begun_ready, IsBody, begun_body}
 use Rattle.std.proofs.Common.{◌≤◌, filter}
 use Rattle.std.proofs.lemmas.Bool.{cases_lt, cases_Bool, and_parts, or_cases, or_left, or_right}
-use Rattle.tpl_words.proofs.MemberLemmas.{same_self, mem_append, mem_split}
-use Rattle.tpl_words.proofs.Truths.{true_false}
+use Rattle.tpl_model.proofs.MemberLemmas.{same_self, mem_append, mem_split}
+use Rattle.tpl_model.proofs.Truths.{true_false}
 
 pub beyond : (xs : List Task) (t : ℕ) (d : Task) → length xs ≤ t → slice_index_or xs t d ≡ d
 beyond [] t d e = refl

@@ -2,9 +2,9 @@
 use Rattle.std.proofs.Common.{◌≡◌, ℕ, zero, suc, ◌+◌, ◌<◌, ◌≤◌, ◌||◌, ◌⊎◌, inl, inr, Bool, true, false, if◌then◌else◌, List, [], ◌∷◌, refl, sym, ap, ◌∙◌, subst, arith, length}
 use Rattle.std.proofs.lemmas.Bool.{cases_lt, or_cases, or_left, or_right}
 use Rattle.std.proofs.lemmas.List.{get_or_past}
-use Rattle.tpl_words.proofs.MemberLemmas.{mem_there, mem_split}
-use Rattle.tpl_words.proofs.Truths.{same_tests, true_false}
-use Rattle.tpl_words.specs.Members.{mem}
+use Rattle.tpl_model.proofs.MemberLemmas.{mem_there, mem_split}
+use Rattle.tpl_model.proofs.Truths.{same_tests, true_false}
+use Rattle.tpl_model.specs.Members.{mem}
 use Rattle.tpl_model.specs.Graph.{TaskGraph, Plain, sources, sources_of, some_in, within, through}
 use Rattle.tpl_laws.proofs.Basics.{mem_here}
 

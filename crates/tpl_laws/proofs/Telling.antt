@@ -1,15 +1,15 @@
 -- What a body knows to be requested is.
 use Rattle.std.proofs.Common.{◌≡◌, ℕ, ◌||◌, inl, inr, not, Bool, true, false, if◌then◌else◌, Option, None, List, ◌∷◌, refl, sym, ap, ◌∙◌, subst, nat_eq}
 use Rattle.std.proofs.lemmas.Bool.{or_cases, or_left}
-use Rattle.tpl_words.proofs.MemberLemmas.{same_self}
-use Rattle.tpl_words.proofs.Truths.{true_false}
-use Rattle.tpl_script.specs.declared.outcome.Outcome.{Outcome}
-use Rattle.tpl_script.specs.Statements.{Statement, Return, Throw, Check, Cancel, Start, Observe, Work, If, When, Statements, Nothing, ◌⨾◌}
-use Rattle.tpl_script.specs.Paths.{cancellation}
-use Rattle.tpl_script.proofs.KnownPaths.{requested_on, told_by, HeedsBy}
-use Rattle.tpl_words.specs.declared.status.Actor.{Actor}
-use Rattle.tpl_words.specs.declared.status.Answer.{Answer}
-use Rattle.tpl_words.specs.declared.status.Answer.TheVariants.{Done, Failed}
+use Rattle.tpl_model.proofs.MemberLemmas.{same_self}
+use Rattle.tpl_model.proofs.Truths.{true_false}
+use Rattle.tpl_model.specs.declared.outcome.Outcome.{Outcome}
+use Rattle.tpl_model.specs.Statements.{Statement, Return, Throw, Check, Cancel, Start, Observe, Work, If, When, Statements, Nothing, ◌⨾◌}
+use Rattle.tpl_model.specs.Paths.{cancellation}
+use Rattle.tpl_model.proofs.KnownPaths.{requested_on, told_by, HeedsBy}
+use Rattle.tpl_model.specs.declared.status.Actor.{Actor}
+use Rattle.tpl_model.specs.declared.status.Answer.{Answer}
+use Rattle.tpl_model.specs.declared.status.Answer.TheVariants.{Done, Failed}
 use Rattle.tpl_model.specs.Graph.{TaskGraph, task}
 use Rattle.tpl_model.specs.declared.event.Act.{Act}
 use Rattle.tpl_model.specs.declared.event.Act.TheVariants.{Request, Release, Begin, Step, Worked, Leave, Close, Drop, Settle}
@@ -100,7 +100,7 @@ module _ (quiet : ℕ → Bool) (tokens : ℕ → Bool) (g : TaskGraph) (v : Lis
       (λ q. step_case s q al)
       (λ q. told_more quiet (linked g) tokens (requested g v h) (requested g v (after a (Step s) h)) (rest g v h t).outcome (passed g v h t) (λ k r. requested_kept g v h a (Step s) k r) old)
     where
-      step_case : (s : Rattle.tpl_words.specs.declared.ids.TaskId.TaskId) → nat_eq s.0 t ≡ true → Allows g v h a (Step s) → Told quiet (linked g) tokens (requested g v (after a (Step s) h)) (stepped g v t (rest g v h t).left (requested g v h) (ending g v h)).outcome (pushed (rest g v h t).left (passed g v h t))
+      step_case : (s : Rattle.tpl_model.specs.declared.ids.TaskId.TaskId) → nat_eq s.0 t ≡ true → Allows g v h a (Step s) → Told quiet (linked g) tokens (requested g v (after a (Step s) h)) (stepped g v t (rest g v h t).left (requested g v h) (ending g v h)).outcome (pushed (rest g v h t).left (passed g v h t))
       step_case s q al =
           let same = same_number s.0 t q in
           let al2 = subst (λ z. Allows g v h a (Step (id z))) same al in

@@ -1,16 +1,16 @@
 -- Rows that are closed without tokens are closed with them.
 use Rattle.std.proofs.Common.{◌≡◌, ℕ, zero, suc, ◌&&◌, ◌||◌, ◌⊎◌, inl, inr, not, Bool, true, false, if◌then◌else◌, Some, None, List, [], ◌∷◌, filter, length, refl, sym, ap, ◌∙◌, subst, nat_eq}
 use Rattle.std.proofs.lemmas.Bool.{and_from, or_cases, or_left, or_right, not_from_false}
-use Rattle.tpl_words.proofs.MemberLemmas.{same_self}
-use Rattle.tpl_words.proofs.Truths.{true_false}
-use Rattle.tpl_words.specs.declared.finals.Final.{Final}
-use Rattle.tpl_words.specs.declared.finals.Final.TheVariants.{RanToCompletion, Canceled, Faulted}
-use Rattle.tpl_words.specs.Finals.{has}
-use Rattle.tpl_words.specs.Members.{mem}
-use Rattle.tpl_words.specs.Options.{lazy_cancellation}
-use Rattle.tpl_script.specs.Paths.{MayStartChild}
-use Rattle.tpl_script.specs.Knowledge.{Fact, IsSettled, IsRequested, Knowledge, at_throw}
-use Rattle.tpl_script.proofs.KnownReach.{MayFault, may_start, may_return, may_acknowledge, may_throw, may_fault}
+use Rattle.tpl_model.proofs.MemberLemmas.{same_self}
+use Rattle.tpl_model.proofs.Truths.{true_false}
+use Rattle.tpl_model.specs.declared.finals.Final.{Final}
+use Rattle.tpl_model.specs.declared.finals.Final.TheVariants.{RanToCompletion, Canceled, Faulted}
+use Rattle.tpl_model.specs.Finals.{has}
+use Rattle.tpl_model.specs.Members.{mem}
+use Rattle.tpl_model.specs.Options.{lazy_cancellation}
+use Rattle.tpl_model.specs.Paths.{MayStartChild}
+use Rattle.tpl_model.specs.Knowledge.{Fact, IsSettled, IsRequested, Knowledge, at_throw}
+use Rattle.tpl_model.proofs.KnownReach.{MayFault, may_start, may_return, may_acknowledge, may_throw, may_fault}
 use Rattle.tpl_model.specs.Graph.{TaskGraph, TaskKind, Root, Child, Continues, WhenAll, WhenAny, kind, body, options, is_task, attached, IsParent}
 use Rattle.tpl_model.specs.declared.claim.Property.{Property}
 use Rattle.tpl_model.specs.declared.claim.Property.TheVariants.{Final as EndsIn, After, Observed, Never, Excludes, Runs}

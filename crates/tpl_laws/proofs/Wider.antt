@@ -1,14 +1,14 @@
 -- Where more is assumed, fewer paths are left, so what was closed stays so.
 use Rattle.std.proofs.Common.{◌≡◌, ℕ, ◌++◌, ◌&&◌, ◌||◌, inl, inr, not, Bool, true, false, if◌then◌else◌, Option, Some, None, List, [], ◌∷◌, refl, sym, ap, ◌∙◌, nat_eq}
 use Rattle.std.proofs.lemmas.Bool.{and_parts, and_from, or_cases, or_left, or_right}
-use Rattle.tpl_words.proofs.Truths.{true_false}
-use Rattle.tpl_words.specs.declared.finals.Final.{Final}
-use Rattle.tpl_words.specs.declared.finals.Final.TheVariants.{RanToCompletion, Canceled, Faulted}
-use Rattle.tpl_words.specs.Finals.{has, is_final}
-use Rattle.tpl_words.specs.Options.{lazy_cancellation}
-use Rattle.tpl_script.specs.declared.outcome.Outcome.{Outcome}
-use Rattle.tpl_script.specs.Statements.{Statement, Return, Throw, Check, Cancel, Start, Observe, Work, If, When, Statements}
-use Rattle.tpl_script.specs.Paths.{cancellation, Known, GoesOn, EndsAt, Passes, Path, MayEnd, MayThrow, MayStartChild}
+use Rattle.tpl_model.proofs.Truths.{true_false}
+use Rattle.tpl_model.specs.declared.finals.Final.{Final}
+use Rattle.tpl_model.specs.declared.finals.Final.TheVariants.{RanToCompletion, Canceled, Faulted}
+use Rattle.tpl_model.specs.Finals.{has, is_final}
+use Rattle.tpl_model.specs.Options.{lazy_cancellation}
+use Rattle.tpl_model.specs.declared.outcome.Outcome.{Outcome}
+use Rattle.tpl_model.specs.Statements.{Statement, Return, Throw, Check, Cancel, Start, Observe, Work, If, When, Statements}
+use Rattle.tpl_model.specs.Paths.{cancellation, Known, GoesOn, EndsAt, Passes, Path, MayEnd, MayThrow, MayStartChild}
 use Rattle.tpl_model.specs.Graph.{TaskGraph, TaskKind, Root, Child, Continues, WhenAll, WhenAny, task, kind, body, options}
 use Rattle.tpl_model.specs.declared.claim.Given.{Given}
 use Rattle.tpl_model.specs.declared.claim.Property.{Property}

@@ -2,15 +2,15 @@
 use Rattle.std.proofs.Common.{◌≡◌, ℕ, zero, suc, ◌+◌, ◌<◌, ◌≤◌, ◌⊎◌, inl, inr, ◌&&◌, ◌||◌, not, Bool, true, false, Option, Some, None, List, [], ◌∷◌, refl, sym, subst, arith, nat_eq, is_some, length}
 use Rattle.std.specs.Prelude.{Decides}
 use Rattle.std.proofs.lemmas.Bool.{cases_lt}
-use Rattle.tpl_words.proofs.Truths.{true_false}
-use Rattle.tpl_words.specs.declared.finals.Final.{Final}
-use Rattle.tpl_words.specs.declared.finals.Final.TheVariants.{RanToCompletion, Canceled, Faulted}
-use Rattle.tpl_words.specs.Finals.{has}
-use Rattle.tpl_words.specs.Members.{mem}
-use Rattle.tpl_words.specs.Options.{allows, lazy_cancellation}
-use Rattle.tpl_script.specs.Paths.{MustObserve}
-use Rattle.tpl_script.specs.Recursion.{must_observe}
-use Rattle.tpl_script.specs.Knowledge.{Fact, IsSettled, IsRequested, Knowledge, at_throw}
+use Rattle.tpl_model.proofs.Truths.{true_false}
+use Rattle.tpl_model.specs.declared.finals.Final.{Final}
+use Rattle.tpl_model.specs.declared.finals.Final.TheVariants.{RanToCompletion, Canceled, Faulted}
+use Rattle.tpl_model.specs.Finals.{has}
+use Rattle.tpl_model.specs.Members.{mem}
+use Rattle.tpl_model.specs.Options.{allows, lazy_cancellation}
+use Rattle.tpl_model.specs.Paths.{MustObserve}
+use Rattle.tpl_model.specs.Recursion.{must_observe}
+use Rattle.tpl_model.specs.Knowledge.{Fact, IsSettled, IsRequested, Knowledge, at_throw}
 use Rattle.tpl_model.specs.Graph.{TaskGraph, TaskKind, Root, Child, Continues, WhenAll, WhenAny, task, kind, body, options, some_in, IsParent}
 use Rattle.tpl_model.specs.Rules.{token_requested_by}
 use Rattle.tpl_model.specs.Valid.{IsGraph}

@@ -1,14 +1,14 @@
 -- What is allowed, settled, complete, a run, and claimed, as tests that compute.
 use Rattle.std.specs.Prelude.{◌≡◌, ℕ, zero, suc, ◌↔◌, ◌&&◌, ◌||◌, not, Bool, true, false, Option, Some, None, List, [], ◌∷◌, length, is_some, nat_eq, nat_lt}
-use Rattle.tpl_words.specs.declared.finals.Final.{Final}
-use Rattle.tpl_words.specs.declared.finals.Finals.{Finals}
-use Rattle.tpl_words.specs.Finals.{has}
-use Rattle.tpl_words.specs.declared.status.Status.{Status}
-use Rattle.tpl_words.specs.declared.status.Status.TheVariants.{WaitingForActivation, WaitingToRun, Running, WaitingForChildrenToComplete}
-use Rattle.tpl_words.specs.Options.{allows, lazy_cancellation}
-use Rattle.tpl_words.specs.declared.status.Actor.{Actor}
-use Rattle.tpl_words.specs.declared.status.Actor.TheVariants.{Worker, Outside}
-use Rattle.tpl_words.specs.declared.status.Answer.{Answer}
+use Rattle.tpl_model.specs.declared.finals.Final.{Final}
+use Rattle.tpl_model.specs.declared.finals.Finals.{Finals}
+use Rattle.tpl_model.specs.Finals.{has}
+use Rattle.tpl_model.specs.declared.status.Status.{Status}
+use Rattle.tpl_model.specs.declared.status.Status.TheVariants.{WaitingForActivation, WaitingToRun, Running, WaitingForChildrenToComplete}
+use Rattle.tpl_model.specs.Options.{allows, lazy_cancellation}
+use Rattle.tpl_model.specs.declared.status.Actor.{Actor}
+use Rattle.tpl_model.specs.declared.status.Actor.TheVariants.{Worker, Outside}
+use Rattle.tpl_model.specs.declared.status.Answer.{Answer}
 use Rattle.tpl_model.specs.Graph.{TaskGraph, TaskKind, Child, Continues, kind, options, attached}
 use Rattle.tpl_model.specs.declared.event.Act.{Act}
 use Rattle.tpl_model.specs.declared.event.Act.TheVariants.{Request, Release, Begin, Step, Worked, Leave, Close, Drop, Settle}

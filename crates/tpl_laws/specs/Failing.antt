@@ -4,8 +4,8 @@ use Rattle.tpl_model.specs.Graph.{TaskGraph}
 use Rattle.tpl_model.specs.declared.event.Act.{Act}
 use Rattle.tpl_model.specs.declared.event.Act.TheVariants.{Request}
 use Rattle.tpl_model.specs.declared.event.Event.{Event}
-use Rattle.tpl_words.specs.declared.ids.TokenId.{TokenId}
-use Rattle.tpl_words.specs.declared.status.Actor.{Actor}
+use Rattle.tpl_model.specs.declared.ids.TokenId.{TokenId}
+use Rattle.tpl_model.specs.declared.status.Actor.{Actor}
 use Rattle.tpl_model.specs.Facts.{Ending, begun_by, requested, failed, ending}
 use Rattle.tpl_model.specs.Rules.{Allows, Run, Complete}
 use Rattle.tpl_model.specs.Valid.{IsGraph}

@@ -1,10 +1,10 @@
 -- Whether a list of tasks is a graph, as a test that computes.
 use Rattle.std.specs.Prelude.{◌≡◌, ℕ, zero, suc, ◌&&◌, ◌||◌, ◌↔◌, not, Bool, true, false, Option, Some, None, List, [], ◌∷◌, length, nat_eq, nat_lt, count_by}
-use Rattle.tpl_words.specs.declared.limits.TheConstants.{MOST_ARGUMENTS, MOST_INPUTS, MOST_LEVELS, MOST_SITES, MOST_STATEMENTS, MOST_TASKS, MOST_TOKENS}
-use Rattle.tpl_words.specs.Members.{mem}
-use Rattle.tpl_words.specs.Options.{has_bits, excludes_all, long_and_sync}
-use Rattle.tpl_script.specs.Statements.{Statement, Statements, Check, Cancel, Start, If, When, Nothing, ◌⨾◌, starts, reads_nothing}
-use Rattle.tpl_script.specs.Limits.{statement_count, level_count}
+use Rattle.tpl_model.specs.declared.limits.TheConstants.{MOST_ARGUMENTS, MOST_INPUTS, MOST_LEVELS, MOST_SITES, MOST_STATEMENTS, MOST_TASKS, MOST_TOKENS}
+use Rattle.tpl_model.specs.Members.{mem}
+use Rattle.tpl_model.specs.Options.{has_bits, excludes_all, long_and_sync}
+use Rattle.tpl_model.specs.Statements.{Statement, Statements, Check, Cancel, Start, If, When, Nothing, ◌⨾◌, starts, reads_nothing}
+use Rattle.tpl_model.specs.Limits.{statement_count, level_count}
 use Rattle.tpl_model.specs.Graph.{TaskGraph, Task, TaskKind, Continues, WhenAll, WhenAny, kind, body, options, task, Token, Plain, Linked, token}
 use Rattle.tpl_model.specs.Valid.{option_words, all_sites, IsGraph}
 use Rattle.tpl_laws.specs.RowTests.{implies, all_in}

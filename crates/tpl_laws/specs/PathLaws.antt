@@ -1,5 +1,5 @@
 -- What the recursion over a body finds is what its paths say.
-use Rattle.tpl_script.specs.Recursion.{MayIsRight, MayStartIsRight, MustObserveIsRight}
+use Rattle.tpl_model.specs.Recursion.{MayIsRight, MayStartIsRight, MustObserveIsRight}
 
 -- what the recursions over a body find is what its paths say
 pub record PathLaws : Type 0 where

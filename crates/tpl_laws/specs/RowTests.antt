@@ -1,19 +1,19 @@
 -- The rules for the rows of a leaf, as tests that compute.
 use Rattle.std.specs.Prelude.{ℕ, zero, suc, ◌&&◌, ◌||◌, not, Bool, true, false, if◌then◌else◌, Option, Some, None, List, [], ◌∷◌, length, nat_eq, nat_lt}
-use Rattle.tpl_words.specs.declared.finals.Final.{Final}
-use Rattle.tpl_words.specs.declared.finals.Final.TheVariants.{RanToCompletion, Canceled, Faulted}
-use Rattle.tpl_words.specs.Finals.{has, is_final}
-use Rattle.tpl_words.specs.Options.{allows, lazy_cancellation}
-use Rattle.tpl_words.specs.Members.{mem}
-use Rattle.tpl_script.specs.Statements.{starts}
+use Rattle.tpl_model.specs.declared.finals.Final.{Final}
+use Rattle.tpl_model.specs.declared.finals.Final.TheVariants.{RanToCompletion, Canceled, Faulted}
+use Rattle.tpl_model.specs.Finals.{has, is_final}
+use Rattle.tpl_model.specs.Options.{allows, lazy_cancellation}
+use Rattle.tpl_model.specs.Members.{mem}
+use Rattle.tpl_model.specs.Statements.{starts}
 use Rattle.tpl_model.specs.Graph.{TaskGraph, TaskKind, Root, Child, Continues, WhenAll, WhenAny, task, kind, body, options, attached, some_in}
 use Rattle.tpl_model.specs.declared.claim.Property.{Property}
 use Rattle.tpl_model.specs.declared.claim.Property.TheVariants.{Final as EndsIn, After, Observed, Never, Excludes, Runs}
 use Rattle.tpl_model.specs.Certificate.{Row, row, Assumed, end_left, is_loud, view, may_end_early, may_end, may_win, begins_itself}
 use Rattle.tpl_model.specs.Rules.{to_end}
-use Rattle.tpl_script.specs.Paths.{Known}
-pub use Rattle.tpl_script.specs.Ends.{is_return, is_acknowledgement}
-use Rattle.tpl_script.specs.Recursion.{may, none, is_throw, must_observe, reaches}
+use Rattle.tpl_model.specs.Paths.{Known}
+pub use Rattle.tpl_model.specs.Ends.{is_return, is_acknowledgement}
+use Rattle.tpl_model.specs.Recursion.{may, none, is_throw, must_observe, reaches}
 
 -- where the first test holds, so does the second
 abbrev pub implies : Bool → Bool → Bool

@@ -1,13 +1,13 @@
 -- What is true of every run, and of every token.
 use Rattle.std.specs.Prelude.{◌⊎◌, ◌≡◌, ℕ, ◌≤◌, ◌++◌, ◌||◌, ◌↔◌, Bool, true, false, Some, List, [], ◌∷◌, length, nat_eq}
-use Rattle.tpl_words.specs.Members.{mem}
+use Rattle.tpl_model.specs.Members.{mem}
 use Rattle.tpl_model.specs.Graph.{TaskGraph, Plain, body, token, sources, some_in}
-use Rattle.tpl_script.specs.Statements.{sites}
-use Rattle.tpl_words.specs.declared.status.Actor.{Actor}
+use Rattle.tpl_model.specs.Statements.{sites}
+use Rattle.tpl_model.specs.declared.status.Actor.{Actor}
 use Rattle.tpl_model.specs.declared.event.Event.{Event}
 use Rattle.tpl_model.specs.Facts.{Ending, begun, ending, started, requested, requested_itself, failed}
-use Rattle.tpl_words.specs.declared.ids.SiteId.{SiteId}
-use Rattle.tpl_words.specs.declared.status.Label.TheVariants.{WorkFailed}
+use Rattle.tpl_model.specs.declared.ids.SiteId.{SiteId}
+use Rattle.tpl_model.specs.declared.status.Label.TheVariants.{WorkFailed}
 use Rattle.tpl_model.specs.Rules.{Run, label}
 use Rattle.tpl_model.specs.Valid.{bound, IsGraph}
 use Rattle.tpl_model.specs.declared.claim.Given.{Given}

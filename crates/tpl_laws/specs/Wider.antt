@@ -1,6 +1,6 @@
 -- What the wider rules accept besides.
 use Rattle.std.specs.Prelude.{◌≡◌, ℕ, Bool, true, false, List}
-use Rattle.tpl_words.specs.declared.finals.Final.{Final}
+use Rattle.tpl_model.specs.declared.finals.Final.{Final}
 use Rattle.tpl_model.specs.Graph.{TaskGraph}
 use Rattle.tpl_model.specs.declared.claim.Property.{Property}
 use Rattle.tpl_model.specs.Claims.{Claim}

@@ -1,9 +1,9 @@
 -- What rows that speak of tokens promise.
 use Rattle.std.specs.Prelude.{◌≡◌, ℕ, Bool, true, Some, List, [], ◌∷◌, is_some, map}
-use Rattle.tpl_words.specs.declared.finals.Final.{Final}
-use Rattle.tpl_words.specs.Finals.{has}
-use Rattle.tpl_words.specs.declared.status.Label.{Label}
-use Rattle.tpl_script.specs.Knowledge.{Fact, IsSettled, IsRequested}
+use Rattle.tpl_model.specs.declared.finals.Final.{Final}
+use Rattle.tpl_model.specs.Finals.{has}
+use Rattle.tpl_model.specs.declared.status.Label.{Label}
+use Rattle.tpl_model.specs.Knowledge.{Fact, IsSettled, IsRequested}
 use Rattle.tpl_model.specs.Graph.{TaskGraph}
 use Rattle.tpl_model.specs.declared.event.Event.{Event}
 use Rattle.tpl_model.specs.Facts.{begun, begun_by, requested, ending}

@@ -9,9 +9,9 @@ ghost use Rattle.tpl_laws.specs.Decided.{RunsIsRight, EndsIsRight, BeforeIsRight
 fn path_laws()
     ensures { PathLaws }
 {
-    tpl_script::may_is_right();
-    tpl_script::may_start_is_right();
-    tpl_script::must_observe_is_right();
+    tpl_model::may_is_right();
+    tpl_model::may_start_is_right();
+    tpl_model::must_observe_is_right();
 }
 
 /// A task that may begin has a row that runs.

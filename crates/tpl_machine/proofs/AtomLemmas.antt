@@ -9,9 +9,9 @@ use Rattle.std.proofs.lemmas.Map.Keys.{IsDistinct-push}
 use Rattle.std.specs.Cmp.{nat_eq_equiv}
 use Rattle.std.proofs.lemmas.List.{length-append, length-map, map-append}
 use Rattle.std.proofs.Common.{inl, inr}
-use Rattle.tpl_words.proofs.MemberLemmas.{mem_append, mem_split}
-use Rattle.tpl_words.specs.declared.ids.TaskId.{TaskId}
-use Rattle.tpl_words.specs.Members.{mem, joined}
+use Rattle.tpl_model.proofs.MemberLemmas.{mem_append, mem_split}
+use Rattle.tpl_model.specs.declared.ids.TaskId.{TaskId}
+use Rattle.tpl_model.specs.Members.{mem, joined}
 use Rattle.tpl_draft.specs.Ids.{task_number}
 use Rattle.tpl_run.specs.Atoms.{AreAtoms}
 use Rattle.tpl_machine.specs.Gathering.{IsBeside}

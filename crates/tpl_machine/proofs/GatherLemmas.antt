@@ -5,8 +5,8 @@ use Rattle.std.proofs.lemmas.List.{drop_more}
 use Rattle.std.specs.Prelude.{vec_capacity}
 use Rattle.std.specs.declared.vec.Vec.{Vec}
 use Rattle.std.specs.declared.alloc.Global.{Global}
-use Rattle.tpl_words.specs.declared.ids.TaskId.{TaskId}
-use Rattle.tpl_words.specs.Members.{mem, joined}
+use Rattle.tpl_model.specs.declared.ids.TaskId.{TaskId}
+use Rattle.tpl_model.specs.Members.{mem, joined}
 use Rattle.tpl_model.specs.Facts.{carried_in, gathered, those_started}
 use Rattle.tpl_draft.specs.Ids.{task_number}
 use Rattle.tpl_machine.specs.Gathering.{IsBeside}

@@ -1,10 +1,10 @@
 -- The ids in what is left of a body are the graph's.
 use Rattle.std.proofs.Common.{◌≡◌, ℕ, Bool, true, false, List, [], ◌∷◌, Option, Some, nat_eq, subst}
 use Rattle.std.specs.Prelude.{if◌then◌else◌, slice_index_or}
-use Rattle.tpl_words.specs.declared.status.Answer.{Answer}
-use Rattle.tpl_words.specs.declared.status.Answer.TheVariants.{Done, Failed}
-use Rattle.tpl_script.specs.Statements.{Statements, Return, Throw, Check, Cancel, Start, Observe, Work, If, When, Nothing, ◌⨾◌, followed_by}
-use Rattle.tpl_script.specs.Paths.{cancellation}
+use Rattle.tpl_model.specs.declared.status.Answer.{Answer}
+use Rattle.tpl_model.specs.declared.status.Answer.TheVariants.{Done, Failed}
+use Rattle.tpl_model.specs.Statements.{Statements, Return, Throw, Check, Cancel, Start, Observe, Work, If, When, Nothing, ◌⨾◌, followed_by}
+use Rattle.tpl_model.specs.Paths.{cancellation}
 use Rattle.tpl_model.specs.declared.event.Act.{Act}
 use Rattle.tpl_model.specs.declared.event.Act.TheVariants.{Request, Release, Begin, Step, Worked, Leave, Close, Drop, Settle}
 use Rattle.tpl_model.specs.declared.event.Event.{Event}

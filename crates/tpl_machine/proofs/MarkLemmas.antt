@@ -2,10 +2,10 @@
 use Rattle.std.proofs.Common.{◌≡◌, ℕ, ◌||◌, ◌⊎◌, inl, inr, Bool, true, false, List, [], ◌∷◌, Option, Some, None, refl, sym, ap, ◌∙◌, subst, nat_eq}
 use Rattle.std.specs.Prelude.{is_some, if◌then◌else◌}
 use Rattle.std.proofs.lemmas.Bool.{eqb-true}
-use Rattle.tpl_words.specs.declared.finals.Final.{Final}
-use Rattle.tpl_words.specs.declared.status.Actor.{Actor}
-use Rattle.tpl_words.specs.declared.status.Status.{Status}
-use Rattle.tpl_words.specs.declared.status.Status.TheVariants.{WaitingForActivation, WaitingToRun, Completed}
+use Rattle.tpl_model.specs.declared.finals.Final.{Final}
+use Rattle.tpl_model.specs.declared.status.Actor.{Actor}
+use Rattle.tpl_model.specs.declared.status.Status.{Status}
+use Rattle.tpl_model.specs.declared.status.Status.TheVariants.{WaitingForActivation, WaitingToRun, Completed}
 use Rattle.tpl_model.specs.declared.event.Act.{Act}
 use Rattle.tpl_model.specs.declared.event.Act.TheVariants.{Request, Release, Begin, Step, Worked, Leave, Close, Drop, Settle}
 use Rattle.tpl_model.specs.declared.event.Event.{Event}

@@ -1,8 +1,8 @@
 -- The event that says where a task stands that hasn't ended.
 use Rattle.std.specs.Prelude.{ℕ, Bool, false, Option, Some, None, List, [], ◌∷◌, if◌then◌else◌, nat_eq}
-use Rattle.tpl_words.specs.declared.finals.Final.{Final}
-use Rattle.tpl_words.specs.declared.status.Status.{Status}
-use Rattle.tpl_words.specs.declared.status.Status.TheVariants.{WaitingToRun, Running, WaitingForChildrenToComplete, Completed}
+use Rattle.tpl_model.specs.declared.finals.Final.{Final}
+use Rattle.tpl_model.specs.declared.status.Status.{Status}
+use Rattle.tpl_model.specs.declared.status.Status.TheVariants.{WaitingToRun, Running, WaitingForChildrenToComplete, Completed}
 use Rattle.tpl_graph.specs.declared.row.Kind.{Kind}
 use Rattle.tpl_model.specs.declared.event.Act.{Act}
 use Rattle.tpl_model.specs.declared.event.Act.TheVariants.{Release, Begin, Leave}

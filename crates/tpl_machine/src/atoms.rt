@@ -1,12 +1,12 @@
 //! Lists of tasks, each once, with the set of their members beside them.
 
 ghost use Rattle.std.specs.Prelude.{◌≡◌, ℕ, ◌++◌, ◌<◌, ◌≤◌, [], ◌∷◌, map, true, vec_capacity, vec_len, if◌then◌else◌};
-ghost use Rattle.tpl_words.specs.Members.{mem, joined};
+ghost use Rattle.tpl_model.specs.Members.{mem, joined};
 ghost use Rattle.tpl_draft.specs.Ids.{task_number};
 ghost use Rattle.tpl_run.specs.Atoms.{AreAtoms};
 ghost use Rattle.tpl_machine.specs.Gathering.{IsBeside};
 
-use tpl_words::{TaskId, TaskSet};
+use tpl_model::{TaskId, TaskSet};
 
 /// Adds the task behind the others, if it isn't in the list.
 fn add(tasks: &mut Vec<TaskId>, members: &mut TaskSet, task: TaskId)

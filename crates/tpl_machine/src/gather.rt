@@ -1,7 +1,7 @@
 //! The exceptions that a task takes over from others.
 
 ghost use Rattle.std.specs.Prelude.{◌≡◌, ℕ, ◌<◌, ◌≤◌, ◌||◌, true, length, map, slice_get, Some, vec_capacity, if◌then◌else◌};
-ghost use Rattle.tpl_words.specs.Members.{mem, joined};
+ghost use Rattle.tpl_model.specs.Members.{mem, joined};
 ghost use Rattle.tpl_model.specs.Facts.{carried_in, gathered, those_started};
 ghost use Rattle.tpl_draft.specs.Ids.{task_number};
 ghost use Rattle.tpl_run.specs.Atoms.{AreAtoms};
@@ -10,7 +10,7 @@ ghost use Rattle.tpl_machine.specs.Gathering.{IsBeside};
 
 use crate::atoms::join;
 use tpl_run::row::Row;
-use tpl_words::{MOST_TASKS, TaskId, TaskSet};
+use tpl_model::{MOST_TASKS, TaskId, TaskSet};
 
 /// Adds what one task carries.
 fn gather_one(list: &mut Vec<TaskId>, members: &mut TaskSet, rows: &[Row], task: TaskId)

@@ -6,9 +6,8 @@ ghost use Rattle.tpl_machine.specs.Marks.{mark_by, latest, status_marked};
 ghost use Rattle.tpl_run.specs.Reading.{began};
 
 use tpl_graph::Kind;
-use tpl_model::{Act, Event};
+use tpl_model::{Act, Actor, Event, Status, TaskId};
 use tpl_run::status::opening;
-use tpl_words::{Actor, Status, TaskId};
 
 /// An event that says where a task stands that hasn't ended.
 #[derive(Clone, Copy, PartialEq, Eq, Debug)]

@@ -2,7 +2,7 @@
 
 ghost use Rattle.std.specs.Prelude.{◌≡◌, ℕ, ◌<◌, ◌≤◌, ◌||◌, [], length, map, slice_get, slice_set, slice_index_or, Some, None, IfSome, false, true, vec_capacity, vec_len, if◌then◌else◌};
 ghost use Rattle.std.specs.Option.{option_map};
-ghost use Rattle.tpl_words.specs.Members.{mem};
+ghost use Rattle.tpl_model.specs.Members.{mem};
 ghost use Rattle.tpl_model.specs.Facts.{worked, own_atom, body_final, body_over, gathered, those_started};
 ghost use Rattle.tpl_draft.specs.Ids.{task_number, token_number};
 ghost use Rattle.tpl_run.specs.Atoms.{AreAtoms};
@@ -13,8 +13,7 @@ ghost use Rattle.tpl_run.specs.Rows.{TaskRow, with_rest, with_ending, ending_of,
 use crate::gather::{add_all, gather, gather_started};
 use tpl_graph::Kind;
 use tpl_run::row::{Ended, Row};
-use tpl_script::Outcome;
-use tpl_words::{Actor, Answer, Final, MOST_TASKS, MOST_TOKENS, TaskId, TaskSet, TokenId};
+use tpl_model::{Actor, Answer, Final, MOST_TASKS, MOST_TOKENS, Outcome, TaskId, TaskSet, TokenId};
 
 /// Marks a token as requested, if there is one.
 pub fn mark(requested: &mut [bool; MOST_TOKENS], token: Option<TokenId>)

@@ -1,12 +1,12 @@
 -- The wider rules for rows that speak of tokens too, and when a certificate of such rows is accepted.
 use Rattle.std.specs.Prelude.{◌≡◌, ℕ, zero, suc, ◌<◌, ◌&&◌, ◌||◌, ◌⊎◌, not, Bool, true, false, if◌then◌else◌, Option, Some, None, List, [], ◌∷◌, map, filter, length, nat_eq, slice_index_or}
-use Rattle.tpl_words.specs.declared.finals.Final.{Final}
-use Rattle.tpl_words.specs.declared.finals.Final.TheVariants.{RanToCompletion, Canceled, Faulted}
-use Rattle.tpl_words.specs.Finals.{has, is_final}
-use Rattle.tpl_words.specs.Options.{allows, lazy_cancellation}
-use Rattle.tpl_words.specs.Members.{mem}
-use Rattle.tpl_script.specs.Paths.{Known, MustObserve}
-use Rattle.tpl_script.specs.Knowledge.{Fact, IsSettled, IsRequested, Knowledge, ChildEnd, Reading, at_end, at_throw, at_start}
+use Rattle.tpl_model.specs.declared.finals.Final.{Final}
+use Rattle.tpl_model.specs.declared.finals.Final.TheVariants.{RanToCompletion, Canceled, Faulted}
+use Rattle.tpl_model.specs.Finals.{has, is_final}
+use Rattle.tpl_model.specs.Options.{allows, lazy_cancellation}
+use Rattle.tpl_model.specs.Members.{mem}
+use Rattle.tpl_model.specs.Paths.{Known, MustObserve}
+use Rattle.tpl_model.specs.Knowledge.{Fact, IsSettled, IsRequested, Knowledge, ChildEnd, Reading, at_end, at_throw, at_start}
 use Rattle.tpl_model.specs.Graph.{TaskGraph, TaskKind, Root, Child, Continues, WhenAll, WhenAny, task, kind, body, options, is_task, is_token, attached, through, IsParent}
 use Rattle.tpl_model.specs.declared.event.Event.{Event}
 use Rattle.tpl_model.specs.Facts.{winner_of, ending}

@@ -1,6 +1,6 @@
 -- What the stages of some tasks leave of an outline.
 use Rattle.std.proofs.Common.{◌≡◌, ℕ, inl, inr, true, false, List, sym, ◌∙◌, subst}
-use Rattle.tpl_words.specs.Members.{mem}
+use Rattle.tpl_model.specs.Members.{mem}
 use Rattle.tpl_model.specs.Certificate.{Assumed}
 use Rattle.tpl_outline.specs.declared.outline.Outline.{Outline}
 use Rattle.tpl_outline.specs.Fates.{fate_of, IsOpen, KeepsOthers}

@@ -1,7 +1,7 @@
 -- What an outline in memory says of a task.
 use Rattle.std.specs.Prelude.{◌≡◌, ◌≢◌, ℕ, Bool, true, false, ◌⊎◌, slice_index_or}
-use Rattle.tpl_words.specs.declared.finals.Final.{Final}
-use Rattle.tpl_words.specs.Finals.{has}
+use Rattle.tpl_model.specs.declared.finals.Final.{Final}
+use Rattle.tpl_model.specs.Finals.{has}
 use Rattle.tpl_model.specs.Certificate.{Assumed, end_left}
 use Rattle.tpl_outline.specs.declared.outline.Fate.{Fate}
 use Rattle.tpl_outline.specs.declared.outline.Outline.{Outline}

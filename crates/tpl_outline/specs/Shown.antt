@@ -1,6 +1,6 @@
 -- What an outline shows of a property.
 use Rattle.std.specs.Prelude.{◌≡◌, Bool, not, ◌&&◌, ◌↔◌, IsTrue}
-use Rattle.tpl_words.specs.Finals.{IsPart}
+use Rattle.tpl_model.specs.Finals.{IsPart}
 use Rattle.tpl_model.specs.declared.claim.Property.{Property}
 use Rattle.tpl_model.specs.declared.claim.Property.TheVariants.{Final, After, Observed, Never, Excludes, Runs}
 use Rattle.tpl_outline.specs.declared.outline.Outline.{Outline}

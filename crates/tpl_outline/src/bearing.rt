@@ -1,15 +1,14 @@
 //! The tasks that bear on a property.
 
 ghost use Rattle.std.specs.Prelude.{◌≡◌, ℕ, ◌<◌, true};
-ghost use Rattle.tpl_words.specs.Members.{mem};
+ghost use Rattle.tpl_model.specs.Members.{mem};
 ghost use Rattle.tpl_model.specs.Graph.{is_task};
 ghost use Rattle.tpl_outline.specs.Bearing.{Names};
 
 use crate::stuck::may_be_stuck;
 use tpl_checker::{Assumptions, parent};
 use tpl_graph::{Graph, Role};
-use tpl_model::Property;
-use tpl_words::{MOST_TASKS, TaskId, TaskSet};
+use tpl_model::{MOST_TASKS, Property, TaskId, TaskSet};
 
 /// The tasks that bear on a property where this is assumed: those of which it speaks, what these wait
 /// for, their parents and their attached children, and what bears on these in turn; and where the

@@ -1,6 +1,6 @@
 //! Sets of tasks that serve a search alone.
 
-use tpl_words::{MOST_TASKS, TaskId};
+use tpl_model::{MOST_TASKS, TaskId};
 
 pub(crate) const WORDS: usize = 16;
 

@@ -1,6 +1,6 @@
 //! Which bodies request a token.
 
-use tpl_script::{Body, Stmt, View};
+use tpl_model::{Body, Stmt, View};
 
 /// On some path or on none, the body requests a token that is never requested in the runs that are looked
 /// at. No clause says of which bodies it is said.

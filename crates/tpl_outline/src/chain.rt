@@ -6,7 +6,7 @@ ghost use Rattle.tpl_model.specs.Graph.{is_task};
 use crate::bits::Bits;
 use crate::setting::Setting;
 use std::alloc::{AllocError, Global};
-use tpl_words::{Final, Finals, MOST_TASKS, TaskId};
+use tpl_model::{Final, Finals, MOST_TASKS, TaskId};
 
 /// The most tasks in a chain (this program's own limit).
 const MOST_IN_CHAIN: usize = 16;
@@ -181,5 +181,5 @@ fn observes(setting: Setting<'_>, reader: TaskId) -> bool
     let view = setting
         .assumed
         .view(setting.graph.own_token(reader), faulted);
-    tpl_script::must_observe(setting.graph.body(reader), &view)
+    tpl_model::must_observe(setting.graph.body(reader), &view)
 }

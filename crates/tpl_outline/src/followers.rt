@@ -6,7 +6,7 @@ use crate::bits::Bits;
 use std::alloc::{AllocError, Global};
 use tpl_checker::parent;
 use tpl_graph::{Graph, Role};
-use tpl_words::TaskId;
+use tpl_model::TaskId;
 
 /// The tasks that look at each task of a graph, and those that it waits for. They are found once for
 /// all leaves.

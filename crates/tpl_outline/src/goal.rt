@@ -7,8 +7,7 @@ use crate::bits::Bits;
 use crate::rows::{Parts, may_end_early};
 use tpl_checker::{parent, some_end};
 use tpl_graph::Role;
-use tpl_model::Property;
-use tpl_words::{TaskId, TaskSet};
+use tpl_model::{Property, TaskId, TaskSet};
 
 /// Whether the least rows prove the property, on which these tasks bear, where an observed task has
 /// a chain or not.

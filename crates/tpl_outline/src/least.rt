@@ -13,8 +13,7 @@ use crate::rows::{Parts, rows};
 use crate::setting::Setting;
 use std::alloc::{AllocError, Global};
 use tpl_cert::Row;
-use tpl_model::Property;
-use tpl_words::{TaskId, TaskSet};
+use tpl_model::{Property, TaskId, TaskSet};
 
 /// The chain of the observed task, or an empty one, if the least rows prove the property with it.
 /// The outline and the tasks are those that bear on the property.

@@ -1,8 +1,8 @@
 //! Which tasks may begin and how they may end under what is assumed: the least that the rules K1 and K2 demand.
 
 ghost use Rattle.std.specs.Prelude.{◌≡◌, ◌≢◌, ℕ, ◌<◌, true};
-ghost use Rattle.tpl_words.specs.declared.finals.Final as finals;
-ghost use Rattle.tpl_words.specs.Finals.{has};
+ghost use Rattle.tpl_model.specs.declared.finals.Final as finals;
+ghost use Rattle.tpl_model.specs.Finals.{has};
 ghost use Rattle.tpl_model.specs.Graph.{is_task};
 ghost use Rattle.tpl_model.specs.Certificate.{end_left};
 ghost use Rattle.tpl_checker.specs.Assumptions.{assumed_of};
@@ -13,8 +13,7 @@ use crate::setting::Setting;
 use crate::ways::Ways;
 use tpl_checker::{allowed, excluded, some_end};
 use tpl_graph::Role;
-use tpl_script::Verdicts;
-use tpl_words::{Final, Finals, TaskId};
+use tpl_model::{Final, Finals, TaskId, Verdicts};
 
 /// No way to end.
 pub const NO_END: Finals = Finals {

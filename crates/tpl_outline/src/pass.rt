@@ -2,7 +2,7 @@
 
 ghost use Rattle.std.specs.Prelude.{◌≡◌, ℕ, ◌<◌, false};
 ghost use Rattle.std.specs.List.{All};
-ghost use Rattle.tpl_words.specs.Members.{mem};
+ghost use Rattle.tpl_model.specs.Members.{mem};
 ghost use Rattle.tpl_model.specs.Graph.{is_task};
 ghost use Rattle.tpl_checker.specs.Assumptions.{assumed_of};
 ghost use Rattle.tpl_outline.specs.Fates.{fate_of, IsOpen, KeepsOthers};
@@ -14,7 +14,7 @@ use crate::setting::Setting;
 use crate::stages::Stage;
 use tpl_checker::{allowed, parent, some_end};
 use tpl_graph::{Graph, Role};
-use tpl_words::{TaskId, TaskSet};
+use tpl_model::{TaskId, TaskSet};
 
 /// What is assumed beyond what an outline was made under.
 #[derive(Clone, Copy, PartialEq, Eq)]
@@ -136,8 +136,8 @@ impl Pass {
         let subject = self.outline.subject(setting, task);
         let view = setting.assumed.view(graph.own_token(task), subject);
         let body = graph.body(task);
-        let verdicts = tpl_script::may(body, &view);
-        let started = tpl_script::may_start_all(body, &view);
+        let verdicts = tpl_model::may(body, &view);
+        let started = tpl_model::may_start_all(body, &view);
         let ends = self.outline.fate(task).ends;
         self.outline.settle(
             task,

@@ -9,7 +9,7 @@ use std::alloc::{AllocError, Global};
 use tpl_cert::Row;
 use tpl_checker::{Assumptions, Below, parent, some_end};
 use tpl_graph::{Graph, Role};
-use tpl_words::{MOST_TASKS, TaskId, TaskSet};
+use tpl_model::{MOST_TASKS, TaskId, TaskSet};
 
 /// What the rows of a leaf are made of.
 #[derive(Clone, Copy)]

@@ -8,7 +8,7 @@ ghost use Rattle.tpl_outline.specs.Stages.{IsStageOf, task_of};
 use std::alloc::{AllocError, Global};
 use tpl_checker::Below;
 use tpl_graph::Graph;
-use tpl_words::{TaskId, TaskSet};
+use tpl_model::{TaskId, TaskSet};
 
 /// A step in the making of a leaf's rows.
 #[derive(Clone, Copy)]

@@ -6,7 +6,7 @@ use crate::cancels::cancels_quiet;
 use crate::outline::NO_END;
 use tpl_checker::Assumptions;
 use tpl_graph::Graph;
-use tpl_words::{Final, TaskId};
+use tpl_model::{Final, TaskId};
 
 /// The task may never end by what is assumed, which leaves out one of its ends or has its body request
 /// a token that is never requested.

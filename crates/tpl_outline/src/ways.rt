@@ -2,7 +2,7 @@
 
 use crate::bits::{Bits, WORDS};
 use tpl_checker::some_end;
-use tpl_words::{Finals, TaskId};
+use tpl_model::{Finals, TaskId};
 
 /// The tasks that may end in each way: what many tasks have in common is read off in a few steps.
 #[derive(Clone, Copy)]

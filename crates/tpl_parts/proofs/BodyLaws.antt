@@ -3,8 +3,8 @@ use Rattle.std.proofs.Common.{◌≡◌, ℕ, zero, suc, ◌≤◌, List, [], �
 use Rattle.std.proofs.lemmas.Slice.Eq.{bytes_eq-Decides}
 use Rattle.serde_json.specs.Data.{Data, null, boolean, number, string, array, object, depth}
 use Rattle.serde_json.specs.Find.{get}
-use Rattle.tpl_words.specs.declared.finals.Final.{Final}
-use Rattle.tpl_words.specs.Finals.{final_name}
+use Rattle.tpl_model.specs.declared.finals.Final.{Final}
+use Rattle.tpl_model.specs.Finals.{final_name}
 use Rattle.tpl_draft.specs.Draft.{Line, Lines, Return, Throw, Check, Cancel, Start, Observe, Work, If, When, Nothing, Then}
 use Rattle.tpl_json.specs.Members.{◌>>=◌, only_if, has_only, text_in, list_in, each}
 use Rattle.tpl_json.specs.Finals.{final_at}

@@ -1,6 +1,6 @@
 -- The start of a run is read exactly where it is spelled.
 use Rattle.std.proofs.Common.{◌≡◌, [], ◌∷◌, Bool, true, false, cond, Option, Some, None, codes, refl, sym, subst}
-use Rattle.tpl_words.proofs.Truths.{and_first, and_second}
+use Rattle.tpl_model.proofs.Truths.{and_first, and_second}
 use Rattle.serde_json.specs.Data.{Data, Members, no_members, member, null, boolean, number, string, array, object}
 use Rattle.serde_json.specs.Find.{get, as_bool}
 use Rattle.tpl_json.specs.Members.{only_if, has_only, texts_in}

@@ -2,7 +2,7 @@
 use Rattle.std.specs.Prelude.{◌≡◌, false, List, [], ◌∷◌, codes}
 use Rattle.serde_json.specs.Data.{Data, string, boolean}
 use Rattle.serde_json.specs.Find.{get}
-use Rattle.tpl_words.specs.Finals.{final_name}
+use Rattle.tpl_model.specs.Finals.{final_name}
 use Rattle.tpl_draft.specs.Draft.{Line, Lines, Return, Throw, Check, Cancel, Start, Observe, Work, If, When, Nothing, Then}
 use Rattle.tpl_json.specs.Grammar.{HasOnly, HasMember, HasText, IfThere, IsArray}
 

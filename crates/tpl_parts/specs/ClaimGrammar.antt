@@ -2,7 +2,7 @@
 use Rattle.std.specs.Prelude.{◌≡◌, ◌<◌, true, List, [], ◌∷◌, codes, length}
 use Rattle.serde_json.specs.Data.{Data, boolean, string}
 use Rattle.serde_json.specs.Find.{get}
-use Rattle.tpl_words.specs.declared.finals.Finals.{Finals}
+use Rattle.tpl_model.specs.declared.finals.Finals.{Finals}
 use Rattle.tpl_json.specs.Grammar.{HasOnly, HasMember, HasText, IfThere, IsArray, IsTexts, AreFinals, AllRead}
 use Rattle.tpl_parts.specs.declared.version.Version.{Version}
 use Rattle.tpl_parts.specs.Versions.{is_third, claim_remarks}

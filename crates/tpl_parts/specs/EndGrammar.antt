@@ -1,8 +1,8 @@
 -- Which JSON values say how tasks were seen to end.
 use Rattle.std.specs.Prelude.{◌≡◌}
 use Rattle.serde_json.specs.Data.{Data, Members, no_members, member, string, object}
-use Rattle.tpl_words.specs.declared.finals.Final.{Final}
-use Rattle.tpl_words.specs.Finals.{final_name}
+use Rattle.tpl_model.specs.declared.finals.Final.{Final}
+use Rattle.tpl_model.specs.Finals.{final_name}
 
 -- each is a final status
 abbrev pub AreEnds : Members → Type 0

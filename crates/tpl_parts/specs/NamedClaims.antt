@@ -1,6 +1,6 @@
 -- Claims as they are spelled, with names.
 use Rattle.std.specs.Prelude.{ℕ, List, Option, Bool}
-use Rattle.tpl_words.specs.declared.finals.Finals.{Finals}
+use Rattle.tpl_model.specs.declared.finals.Finals.{Finals}
 
 pub data NamedGiven : Type 0 where
   GivenInput : (input : List ℕ) → (value : Bool) → NamedGiven

@@ -5,7 +5,7 @@ use Rattle.std.specs.Str.{bytes_eq}
 use Rattle.bitflags.specs.Sets.{find_name}
 use Rattle.serde_json.specs.Data.{Data, string, array, object, null, boolean, number}
 use Rattle.serde_json.specs.Find.{get, as_str}
-use Rattle.tpl_words.specs.Options.{words}
+use Rattle.tpl_model.specs.Options.{words}
 use Rattle.tpl_json.specs.Members.{◌>>=◌, only_if, has_only, text_in, list_in, list_or_none, each}
 use Rattle.tpl_draft.specs.Draft.{Worked, Kind, Root, Child, Continues, WhenAll, WhenAny, Task, Token}
 use Rattle.tpl_parts.specs.declared.version.Version.{Version}

@@ -14,7 +14,7 @@ use crate::version::Version;
 use json::Value;
 use std::alloc::Global;
 use tpl_json::{Miss, Shape, bool_in, finals_of, find, has_only, list_or_none, text_in, text_of};
-use tpl_words::Finals;
+use tpl_model::Finals;
 
 #[tactic(auto, unfolding(crate::specs::Claims::input_at))]
 fn input_of<'v, 't>(value: &'v Value<'t>) -> Result<NamedGiven<'v>, Miss<Shape>>

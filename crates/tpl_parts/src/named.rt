@@ -1,7 +1,7 @@
 //! Claims, and where a run starts, as they are spelled: with names of the document.
 
 use json::Value;
-use tpl_words::Finals;
+use tpl_model::Finals;
 
 /// What a claim takes as given.
 #[derive(Clone, Copy)]

@@ -18,7 +18,7 @@ use tpl_graph::{DraftKind, DraftTask, DraftToken, DraftWork};
 use tpl_json::{
     Miss, Shape, find, has_only, list_or_none, member_in, owned_texts, text_in, text_of,
 };
-use tpl_words::Options;
+use tpl_model::Options;
 
 #[tactic(auto, unfolding(crate::specs::Tasks::option_at))]
 fn option_of(value: &Value<'_>) -> Result<Options, Miss<Shape>>

@@ -1,12 +1,12 @@
 -- Readings that agree on the tokens of a body find the same in it.
 use Rattle.std.proofs.Common.{◌≡◌, ℕ, ◌<◌, not, Bool, true, false, Option, None, refl, ap, ◌∙◌}
 use Rattle.std.proofs.Math.Path.{fun_ext}
-use Rattle.tpl_script.specs.declared.outcome.Outcome.{Outcome}
-use Rattle.tpl_script.specs.declared.outcome.Outcome.TheVariants.{Returned}
-use Rattle.tpl_script.specs.Statements.{Statement, Return, Throw, Check, Cancel, Start, Observe, Work, If, When, Statements, Nothing, ◌⨾◌}
-use Rattle.tpl_script.specs.Paths.{cancellation, Known}
-use Rattle.tpl_script.specs.Recursion.{another}
-use Rattle.tpl_script.specs.Knowledge.{Knowledge, Reached, ChildEnd, Reading, meet, when, with_tokens, both, join, through, behind, collected, collected_in, ending_at, ended_by, ending_as, throwing, starting, from, at_end, at_throw, at_start}
+use Rattle.tpl_model.specs.declared.outcome.Outcome.{Outcome}
+use Rattle.tpl_model.specs.declared.outcome.Outcome.TheVariants.{Returned}
+use Rattle.tpl_model.specs.Statements.{Statement, Return, Throw, Check, Cancel, Start, Observe, Work, If, When, Statements, Nothing, ◌⨾◌}
+use Rattle.tpl_model.specs.Paths.{cancellation, Known}
+use Rattle.tpl_model.specs.Recursion.{another}
+use Rattle.tpl_model.specs.Knowledge.{Knowledge, Reached, ChildEnd, Reading, meet, when, with_tokens, both, join, through, behind, collected, collected_in, ending_at, ended_by, ending_as, throwing, starting, from, at_end, at_throw, at_start}
 use Rattle.tpl_paths.specs.Agreement.{TokensBelow, TokensWithin, AgreeBelow, AgreeingReadings}
 
 module _ (n : ℕ) (known : Known) (child : ℕ → Option ChildEnd) (l m : ℕ → ℕ → Bool) (same : (k : ℕ) → k < n → l k ≡ m k) where

@@ -1,10 +1,10 @@
 -- What is asked for at each kind of statement.
 use Rattle.std.proofs.Common.{◌≡◌, ℕ, Bool, true, false, not, ◌&&◌, None, refl, sym}
-use Rattle.tpl_words.specs.declared.status.Label.TheVariants.{Thrown, WorkFailed}
-use Rattle.tpl_script.specs.declared.outcome.Outcome.TheVariants.{Returned, Threw}
-use Rattle.tpl_script.specs.Statements.{Return, Throw, Check, Cancel, Observe, Work}
-use Rattle.tpl_script.specs.Paths.{cancellation}
-use Rattle.tpl_script.specs.Knowledge.{Reached, Reading, when, with_tokens, both}
+use Rattle.tpl_model.specs.declared.status.Label.TheVariants.{Thrown, WorkFailed}
+use Rattle.tpl_model.specs.declared.outcome.Outcome.TheVariants.{Returned, Threw}
+use Rattle.tpl_model.specs.Statements.{Return, Throw, Check, Cancel, Observe, Work}
+use Rattle.tpl_model.specs.Paths.{cancellation}
+use Rattle.tpl_model.specs.Knowledge.{Reached, Reading, when, with_tokens, both}
 use Rattle.tpl_paths.specs.declared.asked.Asked.{Asked}
 use Rattle.tpl_paths.specs.declared.asked.Asked.TheVariants as asked
 use Rattle.tpl_paths.specs.Asked.{ended, asked_at}

@@ -1,12 +1,12 @@
 -- The loop over a list of statements that gathers what is asked for.
 use Rattle.std.proofs.Common.{◌≡◌, ℕ, ◌+◌, ◌<◌, ◌≤◌, Bool, Option, None, List, length, drop, get_or, sym, ap, ◌∙◌}
 use Rattle.std.proofs.lemmas.List.{drop_all}
-use Rattle.tpl_script.specs.declared.body.Stmt.{Stmt}
-use Rattle.tpl_script.specs.declared.outcome.Outcome.TheVariants.{Returned}
-use Rattle.tpl_script.specs.Statements.{Statement, Statements, Nothing, ◌⨾◌}
-use Rattle.tpl_script.specs.Seen.{statement_of, statements_of}
-use Rattle.tpl_script.specs.Knowledge.{Knowledge, Reached, Reading, meet, when, both, join, through, behind, collected, collected_in, from}
-use Rattle.tpl_script.proofs.Lists.{split_at}
+use Rattle.tpl_model.specs.declared.body.Stmt.{Stmt}
+use Rattle.tpl_model.specs.declared.outcome.Outcome.TheVariants.{Returned}
+use Rattle.tpl_model.specs.Statements.{Statement, Statements, Nothing, ◌⨾◌}
+use Rattle.tpl_model.specs.Seen.{statement_of, statements_of}
+use Rattle.tpl_model.specs.Knowledge.{Knowledge, Reached, Reading, meet, when, both, join, through, behind, collected, collected_in, from}
+use Rattle.tpl_model.proofs.Lists.{split_at}
 use Rattle.tpl_paths.specs.declared.asked.Asked.{Asked}
 use Rattle.tpl_paths.specs.Asked.{ended, asked_at, known_by}
 use Rattle.tpl_paths.specs.Gathered.{Gathered, past, past_all, past_if, past_either}

@@ -1,8 +1,8 @@
 -- What paths have in common, joined in any order.
 use Rattle.std.proofs.Common.{◌≡◌, ℕ, Option, Some, None, refl, ap, ◌∙◌}
 use Rattle.std.proofs.Math.Path.{fun_ext}
-use Rattle.tpl_words.proofs.Truths.{and_assoc}
-use Rattle.tpl_script.specs.Knowledge.{Fact, Knowledge, meet}
+use Rattle.tpl_model.proofs.Truths.{and_assoc}
+use Rattle.tpl_model.specs.Knowledge.{Fact, Knowledge, meet}
 
 -- an equation for each part
 pub same_knowledge : (a b : Knowledge) → ((k : ℕ) → a.requested k ≡ b.requested k) → ((f : Fact) → a.later f ≡ b.later f) → a ≡ b

@@ -4,8 +4,8 @@ use Rattle.std.specs.Prelude.{◌==◌, max, min}
 use Rattle.std.specs.Int.{bit_at, w32}
 use Rattle.std.proofs.lemmas.Bool.{cases_eq}
 use Rattle.std.proofs.lemmas.Nat.Bits.{bit_at-zero, bit_at_or, bit_at_and, bit_at-lt, bit_at_set_same, bit_at_set_other, bit_at_above, same_from_bits}
-use Rattle.tpl_words.proofs.MemberLemmas.{not_same}
-use Rattle.tpl_words.proofs.Truths.{and_second}
+use Rattle.tpl_model.proofs.MemberLemmas.{not_same}
+use Rattle.tpl_model.proofs.Truths.{and_second}
 
 -- the bit is set
 abbrev pub is_one : ℕ → ℕ → Bool

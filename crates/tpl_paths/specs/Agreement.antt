@@ -1,8 +1,8 @@
 -- Readings that find the same in a body.
 use Rattle.std.specs.Prelude.{◌≡◌, ℕ, ◌<◌, Bool}
-use Rattle.tpl_words.specs.declared.finals.Final.{Final}
-use Rattle.tpl_script.specs.Statements.{Statement, Check, Cancel, If, When, Statements, Nothing, ◌⨾◌}
-use Rattle.tpl_script.specs.Knowledge.{Reading, at_end, at_throw, at_start}
+use Rattle.tpl_model.specs.declared.finals.Final.{Final}
+use Rattle.tpl_model.specs.Statements.{Statement, Check, Cancel, If, When, Statements, Nothing, ◌⨾◌}
+use Rattle.tpl_model.specs.Knowledge.{Reading, at_end, at_throw, at_start}
 
 -- each token that the statements check or cancel is below n
 abbrev mutual

@@ -1,9 +1,9 @@
 -- What is asked for at the statements of a body.
 use Rattle.std.specs.Prelude.{ℕ, Bool, Option, None}
-use Rattle.tpl_script.specs.declared.outcome.Outcome.{Outcome}
-use Rattle.tpl_script.specs.declared.outcome.Outcome.TheVariants.{Returned}
-use Rattle.tpl_script.specs.Statements.{Statement, Statements}
-use Rattle.tpl_script.specs.Knowledge.{Knowledge, Reached, Reading, meet, through, collected, ending_at, ending_as, throwing, starting, from}
+use Rattle.tpl_model.specs.declared.outcome.Outcome.{Outcome}
+use Rattle.tpl_model.specs.declared.outcome.Outcome.TheVariants.{Returned}
+use Rattle.tpl_model.specs.Statements.{Statement, Statements}
+use Rattle.tpl_model.specs.Knowledge.{Knowledge, Reached, Reading, meet, through, collected, ending_at, ending_as, throwing, starting, from}
 use Rattle.tpl_paths.specs.declared.asked.Asked.{Asked}
 use Rattle.tpl_paths.specs.declared.asked.Asked.TheVariants as asked
 

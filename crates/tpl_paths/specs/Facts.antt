@@ -1,7 +1,7 @@
 -- Facts in memory.
 use Rattle.std.specs.Prelude.{Bool}
-use Rattle.tpl_words.specs.Members.{mem}
-use Rattle.tpl_script.specs.Knowledge.{Fact, IsSettled, IsRequested}
+use Rattle.tpl_model.specs.Members.{mem}
+use Rattle.tpl_model.specs.Knowledge.{Fact, IsSettled, IsRequested}
 use Rattle.tpl_paths.specs.declared.facts.Facts.{Facts}
 use Rattle.tpl_paths.specs.TokenSet.{has_token}
 

@@ -1,7 +1,7 @@
 -- What a walk over a body gathers.
 use Rattle.std.specs.Prelude.{Bool, Option}
-use Rattle.tpl_script.specs.Statements.{Statement, Statements}
-use Rattle.tpl_script.specs.Knowledge.{Knowledge, Reached, Reading, meet, when, both, join, through, behind, collected, collected_in}
+use Rattle.tpl_model.specs.Statements.{Statement, Statements}
+use Rattle.tpl_model.specs.Knowledge.{Knowledge, Reached, Reading, meet, when, both, join, through, behind, collected, collected_in}
 use Rattle.tpl_paths.specs.declared.asked.Asked.{Asked}
 use Rattle.tpl_paths.specs.declared.gathered.Gathered.{Gathered as StoredGathered}
 use Rattle.tpl_paths.specs.Knowledge.{told}

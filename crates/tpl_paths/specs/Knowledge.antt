@@ -1,6 +1,6 @@
 -- What paths have in common, in memory.
 use Rattle.std.specs.Prelude.{Option, option_map}
-use Rattle.tpl_script.specs.Knowledge.{Knowledge}
+use Rattle.tpl_model.specs.Knowledge.{Knowledge}
 use Rattle.tpl_paths.specs.declared.knowledge.Knowledge.{Knowledge as StoredKnowledge}
 use Rattle.tpl_paths.specs.TokenSet.{has_token}
 use Rattle.tpl_paths.specs.Facts.{has_fact}

@@ -1,5 +1,5 @@
 -- The paths to a place, in memory.
-use Rattle.tpl_script.specs.Knowledge.{Reached}
+use Rattle.tpl_model.specs.Knowledge.{Reached}
 use Rattle.tpl_paths.specs.declared.reached.Reached.{Reached as StoredReached}
 use Rattle.tpl_paths.specs.Knowledge.{told}
 

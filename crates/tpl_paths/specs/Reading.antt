@@ -1,9 +1,9 @@
 -- How a body is read, in memory.
 use Rattle.std.specs.Prelude.{Option, None, option_map, slice_get, slice_index_or, if◌then◌else◌}
 use Rattle.std.specs.Borrow.{Bor}
-use Rattle.tpl_words.specs.Members.{mem}
-use Rattle.tpl_script.specs.Knowledge.{ChildEnd, Reading}
-use Rattle.tpl_script.specs.View.{known}
+use Rattle.tpl_model.specs.Members.{mem}
+use Rattle.tpl_model.specs.Knowledge.{ChildEnd, Reading}
+use Rattle.tpl_model.specs.View.{known}
 use Rattle.tpl_paths.specs.declared.reading.ChildEnd.{ChildEnd as StoredChildEnd}
 use Rattle.tpl_paths.specs.declared.reading.Reading.{Reading as StoredReading}
 use Rattle.tpl_paths.specs.TokenSet.{has_token, no_tokens}

@@ -1,10 +1,10 @@
 //! What is asked for at the statements of a body.
 
 ghost use Rattle.std.specs.Prelude.{◌≡◌};
-ghost use Rattle.tpl_script.specs.Knowledge as paths;
-ghost use Rattle.tpl_script.specs.Paths.{cancellation};
-ghost use Rattle.tpl_script.specs.Statements.{Check, Start, Work};
-ghost use Rattle.tpl_script.specs.View.{known};
+ghost use Rattle.tpl_model.specs.Knowledge as paths;
+ghost use Rattle.tpl_model.specs.Paths.{cancellation};
+ghost use Rattle.tpl_model.specs.Statements.{Check, Start, Work};
+ghost use Rattle.tpl_model.specs.View.{known};
 ghost use Rattle.tpl_paths.specs.Asked.{ended, asked_at};
 ghost use Rattle.tpl_paths.specs.Knowledge.{told};
 ghost use Rattle.tpl_paths.specs.Reached.{reached_of};
@@ -14,8 +14,7 @@ use crate::knowledge::Knowledge;
 use crate::paths::{copy, only_if};
 use crate::reached::Reached;
 use crate::reading::Reading;
-use tpl_script::{Outcome, View};
-use tpl_words::{Final, Label, SiteId, TaskId, TokenId};
+use tpl_model::{Final, Label, Outcome, SiteId, TaskId, TokenId, View};
 
 /// The paths that are asked for.
 #[derive(Clone, Copy)]

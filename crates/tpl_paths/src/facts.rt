@@ -1,11 +1,11 @@
 //! Facts that stay true once they are.
 
 ghost use Rattle.std.specs.Prelude.{◌≡◌, ◌↔◌, ◌&&◌, ◌||◌, true, false, IsTrue};
-ghost use Rattle.tpl_script.specs.Knowledge.{Fact};
+ghost use Rattle.tpl_model.specs.Knowledge.{Fact};
 ghost use Rattle.tpl_paths.specs.Facts.{has_fact};
 
 use crate::token_set::TokenSet;
-use tpl_words::TaskSet;
+use tpl_model::TaskSet;
 
 /// Facts that stay true once they are: tasks that are settled, and tokens that are requested.
 #[derive(Drop)]

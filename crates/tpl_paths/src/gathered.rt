@@ -1,8 +1,8 @@
 //! What a walk over a body gathers.
 
 ghost use Rattle.std.specs.Prelude.{◌≡◌};
-ghost use Rattle.tpl_script.specs.Knowledge.{meet, nowhere};
-ghost use Rattle.tpl_script.specs.Statements.{Check, Cancel, Start, Work};
+ghost use Rattle.tpl_model.specs.Knowledge.{meet, nowhere};
+ghost use Rattle.tpl_model.specs.Statements.{Check, Cancel, Start, Work};
 ghost use Rattle.tpl_paths.specs.Asked.{ended};
 ghost use Rattle.tpl_paths.specs.Gathered.{gathered_of, past};
 ghost use Rattle.tpl_paths.specs.Knowledge.{told};
@@ -14,8 +14,7 @@ use crate::knowledge::Knowledge;
 use crate::paths::meet;
 use crate::reached::Reached;
 use crate::reading::Reading;
-use tpl_script::Outcome;
-use tpl_words::{SiteId, TaskId, TokenId};
+use tpl_model::{Outcome, SiteId, TaskId, TokenId};
 
 /// The paths to a place, and what those have in common that were asked for on the way.
 #[derive(Drop)]

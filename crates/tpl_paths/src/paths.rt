@@ -1,8 +1,8 @@
 //! The paths of one kind to a place, by what they have in common: none where there are no paths.
 
 ghost use Rattle.std.specs.Prelude.{◌≡◌};
-ghost use Rattle.tpl_script.specs.Knowledge.{meet, when, with_tokens, with_facts, past_check};
-ghost use Rattle.tpl_script.specs.View.{known};
+ghost use Rattle.tpl_model.specs.Knowledge.{meet, when, with_tokens, with_facts, past_check};
+ghost use Rattle.tpl_model.specs.View.{known};
 ghost use Rattle.tpl_paths.specs.Facts.{has_fact};
 ghost use Rattle.tpl_paths.specs.Knowledge.{told};
 ghost use Rattle.tpl_paths.specs.TokenSet.{has_token};
@@ -10,8 +10,7 @@ ghost use Rattle.tpl_paths.specs.TokenSet.{has_token};
 use crate::facts::Facts;
 use crate::knowledge::Knowledge;
 use crate::token_set::TokenSet;
-use tpl_script::View;
-use tpl_words::TokenId;
+use tpl_model::{TokenId, View};
 
 /// A copy.
 pub(crate) fn copy(paths: &Option<Knowledge>) -> Option<Knowledge>

@@ -1,8 +1,8 @@
 //! The paths to a place.
 
 ghost use Rattle.std.specs.Prelude.{◌≡◌};
-ghost use Rattle.tpl_script.specs.Knowledge.{with_tokens, past_check, nowhere, both, join, all, behind_start, from};
-ghost use Rattle.tpl_script.specs.View.{known};
+ghost use Rattle.tpl_model.specs.Knowledge.{with_tokens, past_check, nowhere, both, join, all, behind_start, from};
+ghost use Rattle.tpl_model.specs.View.{known};
 ghost use Rattle.tpl_paths.specs.Knowledge.{told};
 ghost use Rattle.tpl_paths.specs.Reached.{reached_of};
 ghost use Rattle.tpl_paths.specs.Reading.{child_of, end_of};
@@ -12,8 +12,7 @@ use crate::knowledge::Knowledge;
 use crate::paths::{copy, meet, only_if, past_check, with_facts, with_tokens};
 use crate::reading::ChildEnd;
 use crate::token_set::TokenSet;
-use tpl_script::View;
-use tpl_words::{Final, TokenId};
+use tpl_model::{Final, TokenId, View};
 
 /// The paths to a place, those on which no attached child ends Faulted and the others: none where
 /// there are no paths.

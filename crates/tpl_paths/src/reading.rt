@@ -1,14 +1,13 @@
 //! How a body is read.
 
 ghost use Rattle.std.specs.Prelude.{◌≡◌, slice_index_or};
-ghost use Rattle.tpl_script.specs.Knowledge.{ends_well};
+ghost use Rattle.tpl_model.specs.Knowledge.{ends_well};
 ghost use Rattle.tpl_paths.specs.Reading.{child_of, end_of, reading_of};
 ghost use Rattle.tpl_paths.specs.TokenSet.{no_tokens};
 
 use crate::facts::Facts;
 use crate::token_set::TokenSet;
-use tpl_script::View;
-use tpl_words::{Final, Finals, TaskId, TaskSet, TokenId};
+use tpl_model::{Final, Finals, TaskId, TaskSet, TokenId, View};
 
 /// How a task may end, and the facts that hold once it has.
 #[derive(Drop)]

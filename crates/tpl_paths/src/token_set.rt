@@ -3,7 +3,7 @@
 ghost use Rattle.std.specs.Prelude.{◌≡◌, ◌↔◌, ℕ, ◌<◌, ◌&&◌, ◌||◌, true, nat_eq, IsTrue};
 ghost use Rattle.tpl_paths.specs.TokenSet.{has_token, no_tokens};
 
-use tpl_words::{MOST_TOKENS, TokenId};
+use tpl_model::{MOST_TOKENS, TokenId};
 
 /// A set of tokens with ids below `MOST_TOKENS`.
 #[derive(Clone, Copy, PartialEq, Eq, Debug)]

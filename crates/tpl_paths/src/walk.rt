@@ -1,8 +1,8 @@
 //! The walk over a body, and what is known by it.
 
 ghost use Rattle.std.specs.Prelude.{◌≡◌};
-ghost use Rattle.tpl_script.specs.Knowledge.{at_end, at_throw, at_start};
-ghost use Rattle.tpl_script.specs.Seen.{statement_of};
+ghost use Rattle.tpl_model.specs.Knowledge.{at_end, at_throw, at_start};
+ghost use Rattle.tpl_model.specs.Seen.{statement_of};
 ghost use Rattle.tpl_paths.specs.Asked.{known_by};
 ghost use Rattle.tpl_paths.specs.Gathered.{gathered_of, past, past_all, past_if, past_either};
 ghost use Rattle.tpl_paths.specs.Knowledge.{told};
@@ -16,8 +16,7 @@ use crate::paths::meet;
 use crate::reached::Reached;
 use crate::reading::Reading;
 use crate::token_set::TokenSet;
-use tpl_script::{Body, Outcome, Script, Stmt};
-use tpl_words::{Final, Label, TaskId, TaskSet};
+use tpl_model::{Body, Final, Label, Outcome, Script, Stmt, TaskId, TaskSet};
 
 /// What is gathered behind a list of statements.
 #[cycle(walk)]

@@ -1,4 +1,5 @@
--- A queue may be shared by threads, where its items may be sent to them.
+-- A queue may be shared by threads, where its items may be sent to them; and a receipt may be sent to a thread, where its
+-- stamp may be.
 use denote.Param.Send.{IsSend, IsSync, Frees, part_keyless, sendable}
 use denote.RattleType.{RattleType}
 use denote.Struct.Struct.{Struct}
@@ -12,6 +13,7 @@ use Rattle.atomic_table.proofs.Sent.{badge_keyless, shares_keyless}
 use Rattle.atomic_table.proofs.Rights.{right_send}
 use Rattle.atomic_table.specs.contracts.send_lease.SendLease as Lease
 use Rattle.tpl_queue.specs.contracts.queue.JobQueue as JobQueue
+use Rattle.tpl_queue.specs.contracts.receipt.Receipt as Receipt
 
 -- a table, as its own crate has it
 table_sync : (S V K P : RattleType) (g : TableGhosts P.Denot S.Denot V.Denot K.Denot) → IsSend S → IsSync (Shared_table.the_row S V K P g)
@@ -30,3 +32,6 @@ badge_send V = record { owned = λ d vs. ((λ vss. (tt, ((λ uss. (tt, tt)), tt)
 
 pub queue_sync : (W : RattleType) → IsSend W → IsSync (JobQueue.the_row W)
 queue_sync W s = search (sendable, crosses, badge_send, table_sync, lease_sync, lease_send) depth 60 fits 30000
+
+pub receipt_send : (K : RattleType) → IsSend K → IsSend (Receipt.the_field K).row
+receipt_send K k = search (sendable, crosses) depth 60

@@ -8,7 +8,7 @@ use crate::rule::{Halves, Placed, Put, Ring, Taken};
 use std::alloc::{AllocError, Global};
 use std::marker::Model;
 use std::sync::Wait;
-use tpl_jobs::Job;
+use crate::Job;
 
 /// A bounded queue of jobs, for any number of workers at once.
 ///

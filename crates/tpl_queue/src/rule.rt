@@ -5,7 +5,7 @@ use atomic_table::Badge;
 use crossbeam_queue::RuledArrayQueue;
 use crossbeam_queue::protocol::{Join, Lesson, Outcome, Protocol, Split};
 use std::collections::LinkedList;
-use tpl_jobs::Job;
+use crate::Job;
 
 /// What one pass knows: the tasks of the jobs that it put and took, in order, and that it is
 /// `parts / 2 ^ halvings` of the whole pass. No value of it is made.

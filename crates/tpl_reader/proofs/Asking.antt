@@ -3,12 +3,12 @@ use Rattle.std.proofs.Common.{◌≡◌, ◌<◌, ◌≤◌, ◌||◌, ℕ, zero
 use Rattle.std.specs.Prelude.{filter}
 use Rattle.std.specs.List.{All}
 use Rattle.std.proofs.lemmas.List.Elements.{All-cons, All-push}
-use Rattle.tpl_words.specs.declared.ids.SiteId.{SiteId}
+use Rattle.tpl_model.specs.declared.ids.SiteId.{SiteId}
 use Rattle.tpl_model.specs.Valid.{all_sites}
 use Rattle.tpl_graph.proofs.ReaderLemmas.{length-numbers_from}
-use Rattle.tpl_words.specs.declared.ids.TaskId.{TaskId}
-use Rattle.tpl_words.specs.declared.ids.TokenId.{TokenId}
-use Rattle.tpl_words.specs.declared.ids.InputId.{InputId}
+use Rattle.tpl_model.specs.declared.ids.TaskId.{TaskId}
+use Rattle.tpl_model.specs.declared.ids.TokenId.{TokenId}
+use Rattle.tpl_model.specs.declared.ids.InputId.{InputId}
 use Rattle.tpl_json.proofs.Arrays.{some_is, head_is, tail_is}
 use Rattle.tpl_json.proofs.Json.{some}
 use Rattle.tpl_cert.proofs.Names.{number_below}

@@ -7,7 +7,7 @@ use Rattle.tpl_cert.specs.Written.{name_at}
 use Rattle.tpl_json.proofs.Json.{some}
 use Rattle.std.specs.List.{All, list_all}
 use Rattle.std.proofs.lemmas.List.Elements.{All-cons}
-use Rattle.tpl_words.specs.declared.ids.SiteId.{SiteId}
+use Rattle.tpl_model.specs.declared.ids.SiteId.{SiteId}
 use Rattle.tpl_draft.specs.Ids.{site_number}
 use Rattle.tpl_cert.specs.Naming.{number_of, AreNumbers}
 use Rattle.tpl_json.proofs.Arrays.{head_is, some_is, tail_is}

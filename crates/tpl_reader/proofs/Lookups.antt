@@ -1,9 +1,9 @@
 -- Ids by their numbers.
 use Rattle.std.proofs.Common.{◌≡◌, ℕ, Option, Some, None, option_map, ap}
-use Rattle.tpl_words.specs.declared.ids.TaskId.{TaskId}
-use Rattle.tpl_words.specs.declared.ids.TokenId.{TokenId}
-use Rattle.tpl_words.specs.declared.ids.InputId.{InputId}
-use Rattle.tpl_words.specs.declared.ids.SiteId.{SiteId}
+use Rattle.tpl_model.specs.declared.ids.TaskId.{TaskId}
+use Rattle.tpl_model.specs.declared.ids.TokenId.{TokenId}
+use Rattle.tpl_model.specs.declared.ids.InputId.{InputId}
+use Rattle.tpl_model.specs.declared.ids.SiteId.{SiteId}
 use Rattle.tpl_draft.specs.Ids.{task_number, token_number, input_number, site_number}
 
 pub task_is : (r : Option TaskId) (o : Option ℕ) → option_map task_number r ≡ o → r ≡ option_map (λ t. record { 0 = t }) o

@@ -12,9 +12,8 @@ use crate::fault::ClaimFault;
 use std::alloc::Global;
 use tpl_graph::{Claim, Graph, given_twice, have_bodies};
 use tpl_json::Miss;
-use tpl_model::{Given, Property};
+use tpl_model::{Given, InputId, Property, SiteId, TaskId, TokenId};
 use tpl_parts::{NamedClaim, NamedGiven, NamedProperty};
-use tpl_words::{InputId, SiteId, TaskId, TokenId};
 
 #[tactic(auto, using(crate::proofs::Lookups::task_is))]
 fn task_in(graph: &Graph, name: &str) -> Option<TaskId>

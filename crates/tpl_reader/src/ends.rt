@@ -16,7 +16,7 @@ use json::Value;
 use std::alloc::Global;
 use tpl_graph::Graph;
 use tpl_json::{final_of, find};
-use tpl_words::{Final, TaskId};
+use tpl_model::{Final, TaskId};
 
 fn declares(graph: &Graph, members: &[(&str, Value<'_>)]) -> bool
     ensures { result ≡ list_all (λ m. is_declared graph.now.names.tasks m.0.now) members.now }

@@ -15,9 +15,8 @@ use tpl_fast::Fast;
 use tpl_graph::Kind;
 use tpl_journal::{JournalFault, read_journal};
 use tpl_machine::Core;
-use tpl_model::Event;
+use tpl_model::{Event, InputId, Inputs, Status, TaskId};
 use tpl_reader::Document;
-use tpl_words::{InputId, Inputs, Status, TaskId};
 
 /// The reason of a verdict on the journal, if it has one.
 fn verdict_reason(verdict: Verdict) -> Option<Reason>

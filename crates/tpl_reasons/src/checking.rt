@@ -8,9 +8,8 @@ use crate::reason::Reason;
 use crate::rules::rule_text;
 use crate::words::{Said, claim_text, count_text};
 use std::alloc::Global;
-use tpl_model::{CertFault, Property};
+use tpl_model::{CertFault, Property, TaskId};
 use tpl_reader::Document;
-use tpl_words::TaskId;
 
 /// What is said beside a fault of a certificate that was found for something else, most often.
 pub(crate) const STALE: &str =

@@ -4,7 +4,7 @@ use crate::words::{Said, ends_text, list_text, name, set_text};
 use std::alloc::Global;
 use tpl_cert::{Node, Row, Tree};
 use tpl_graph::Graph;
-use tpl_words::TaskId;
+use tpl_model::TaskId;
 
 /// The rows of the leaf before which there are this many others. Each that is passed is counted down.
 fn rows_behind<'t>(tree: &'t Tree, others: &mut usize) -> Option<&'t [Row]> {

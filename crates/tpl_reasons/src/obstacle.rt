@@ -7,8 +7,7 @@ use crate::words::{Said, name, token_name};
 use std::alloc::{AllocError, Global};
 use tpl_checker::{Assumptions, assumed_for};
 use tpl_graph::{Claim, Graph, Role};
-use tpl_model::{Property, RuleSet};
-use tpl_words::{Final, TaskId};
+use tpl_model::{Final, Property, RuleSet, TaskId};
 
 /// The name of the task's token, if that may be requested.
 fn loud_token<'g>(graph: &'g Graph, assumed: &Assumptions, task: TaskId) -> Option<&'g str> {

@@ -3,8 +3,7 @@
 use crate::words::{Said, actor_text, name, token_name};
 use std::alloc::Global;
 use tpl_machine::{Core, Next};
-use tpl_model::{Act, Event};
-use tpl_words::{Actor, Status, TaskId, TokenId};
+use tpl_model::{Act, Actor, Event, Status, TaskId, TokenId};
 
 /// The task of an act; a request has none.
 fn task_of(act: Act) -> Option<TaskId> {

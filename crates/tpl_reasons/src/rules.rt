@@ -3,8 +3,7 @@
 use crate::words::{Said, name};
 use std::alloc::Global;
 use tpl_graph::{Graph, Role};
-use tpl_model::Rule;
-use tpl_words::TaskId;
+use tpl_model::{Rule, TaskId};
 
 /// What makes the task ready, if it is the graph's.
 pub(crate) fn role(graph: &Graph, task: TaskId) -> Option<Role<'_>> {

@@ -2,9 +2,10 @@
 
 use std::alloc::{AllocError, Global};
 use tpl_graph::{Claim, Graph};
-use tpl_model::{Given, Property};
+use tpl_model::{
+    Actor, Final, Finals, Given, InputId, Inputs, Property, SiteId, TaskId, TaskSet, TokenId,
+};
 use tpl_reader::Document;
-use tpl_words::{Actor, Final, Finals, InputId, Inputs, SiteId, TaskId, TaskSet, TokenId};
 
 /// A text; out of memory is the only error.
 pub(crate) type Said = Result<String, AllocError>;

@@ -6,8 +6,7 @@ use std::alloc::{AllocError, Global};
 use tpl_fast::Fast;
 use tpl_graph::{Graph, Kind};
 use tpl_machine::Core;
-use tpl_model::Act;
-use tpl_words::{MOST_TOKENS, Status, TaskId, TokenId};
+use tpl_model::{Act, MOST_TOKENS, Status, TaskId, TokenId};
 
 /// How many of those that wait for a worker try to act once one has left a body.
 const MOST_WOKEN: usize = 16;

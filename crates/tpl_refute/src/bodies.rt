@@ -2,8 +2,7 @@
 
 use std::alloc::{AllocError, Global};
 use tpl_graph::Graph;
-use tpl_model::{Act, Event};
-use tpl_words::{Actor, TaskId, Worker};
+use tpl_model::{Act, Actor, Event, TaskId, Worker};
 
 /// The most workers that the events of a run name.
 const MOST_WORKERS: usize = 64;

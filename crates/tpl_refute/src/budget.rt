@@ -4,8 +4,7 @@ use crate::crew::has_task;
 use tpl_fast::Fast;
 use tpl_graph::Graph;
 use tpl_machine::Core;
-use tpl_model::Act;
-use tpl_words::TaskId;
+use tpl_model::{Act, TaskId};
 
 /// Choosing who acts next costs as much as one event for this many of whom to choose.
 const CHOSEN_FOR_ONE: u64 = 16;

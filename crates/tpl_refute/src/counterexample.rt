@@ -1,7 +1,6 @@
 //! What refutes a claim.
 
-use tpl_model::Event;
-use tpl_words::Inputs;
+use tpl_model::{Event, Inputs};
 
 /// A run in which a claim fails.
 #[derive(Drop)]

@@ -8,8 +8,7 @@ use std::alloc::{AllocError, Global};
 use tpl_fast::Fast;
 use tpl_graph::Graph;
 use tpl_machine::Core;
-use tpl_model::{Act, Event};
-use tpl_words::{Actor, TaskId, Worker};
+use tpl_model::{Act, Actor, Event, TaskId, Worker};
 
 /// Who does what waits for nobody before the first event.
 const FIRST: Actor = Actor::Worker(Worker(1));

@@ -11,8 +11,7 @@ use std::alloc::{AllocError, Global};
 use std::slice;
 use tpl_audit::{Verdict, audit};
 use tpl_graph::{Claim, Graph};
-use tpl_model::Event;
-use tpl_words::{Actor, Inputs};
+use tpl_model::{Actor, Event, Inputs};
 
 /// A journal can name the actor: a worker from 1 to 64, or a seat outside from 1 to 8.
 fn is_seat(actor: Actor) -> bool

@@ -2,7 +2,7 @@
 
 use std::alloc::{AllocError, Global};
 use tpl_graph::Graph;
-use tpl_words::TaskId;
+use tpl_model::TaskId;
 
 /// For each task those that may act once it has ended, and its children.
 #[derive(Drop)]

@@ -4,8 +4,9 @@ use crate::crew::Habit;
 use crate::dice::Dice;
 use crate::weights::{FIRST, LAST, Mover, Way, Weights};
 use tpl_graph::{Claim, Graph};
-use tpl_model::{Given, Property};
-use tpl_words::{Answer, InputId, Inputs, MOST_SITES, MOST_TOKENS, SiteId, TaskId, TokenId};
+use tpl_model::{
+    Answer, Given, InputId, Inputs, MOST_SITES, MOST_TOKENS, Property, SiteId, TaskId, TokenId,
+};
 
 /// The most places at which a priority drops.
 pub(crate) const MOST_DROPS: usize = 4;

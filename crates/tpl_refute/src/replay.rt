@@ -6,12 +6,11 @@ ghost use Rattle.tpl_graph.specs.Fits.{Fits};
 use crate::budget::Budget;
 use crate::crew::{Crew, Habit};
 use std::alloc::{AllocError, Global};
-use tpl_claims::{Claim, holds};
+use tpl_audit::{Claim, holds};
 use tpl_fast::Fast;
 use tpl_graph::Graph;
 use tpl_machine::Core;
-use tpl_model::{Act, Event};
-use tpl_words::{Inputs, TaskId};
+use tpl_model::{Act, Event, Inputs, TaskId};
 
 /// What is left out of a run: all from the first number on and below the second.
 #[derive(Clone, Copy, PartialEq, Eq, Debug)]

@@ -10,8 +10,7 @@ use crate::replay::{Cut, Stage, replay};
 use crate::tidying::tidy;
 use std::alloc::{AllocError, Global};
 use tpl_graph::{Claim, Graph};
-use tpl_model::Event;
-use tpl_words::Inputs;
+use tpl_model::{Event, Inputs};
 
 /// How many times at most the number of tasks or events that are left out at once is halved.
 const HALVINGS: u32 = 10;

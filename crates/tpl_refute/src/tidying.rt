@@ -6,8 +6,7 @@ use crate::crew::Habit;
 use crate::replay::{Cut, Stage, replay, task_of};
 use std::alloc::{AllocError, Global};
 use tpl_graph::{Claim, Graph};
-use tpl_model::Event;
-use tpl_words::{Actor, Inputs, TaskId};
+use tpl_model::{Actor, Event, Inputs, TaskId};
 
 /// The greatest number of a worker that acts.
 fn workers(events: &[Event]) -> u16 {

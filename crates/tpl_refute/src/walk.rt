@@ -11,12 +11,11 @@ use crate::links::Links;
 use crate::plan::Plan;
 use crate::weights::{Mover, Way, Weights};
 use std::alloc::{AllocError, Global};
-use tpl_claims::{Claim, holds};
+use tpl_audit::{Claim, holds};
 use tpl_fast::Fast;
 use tpl_graph::Graph;
 use tpl_machine::{Core, Next};
-use tpl_model::{Act, Event, Given};
-use tpl_words::{Answer, Finals, Status, TaskId};
+use tpl_model::{Act, Answer, Event, Finals, Given, Status, TaskId};
 
 /// How often somebody is chosen in a run at most.
 const MOST_CHOICES: u32 = 1_000_000;

@@ -3,7 +3,7 @@
 use crate::dice::Dice;
 use std::alloc::{AllocError, Global};
 use tpl_graph::Graph;
-use tpl_words::{MOST_TOKENS, TaskId, TokenId};
+use tpl_model::{MOST_TOKENS, TaskId, TokenId};
 
 /// What acts.
 #[derive(Clone, Copy, PartialEq, Eq, Debug)]

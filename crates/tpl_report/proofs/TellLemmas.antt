@@ -15,7 +15,7 @@ use Rattle.tpl_reader.specs.Begin.{StartValue}
 use Rattle.tpl_reader.specs.Document.{DocumentValue, IsStarted, Spells, longest}
 use Rattle.tpl_reader.specs.Laws.{SpellsOneDocument}
 use Rattle.tpl_reader.specs.Starting.{inputs_of, no_inputs, values_of}
-use Rattle.tpl_witness.specs.Filled.{IsTextOf}
+use Rattle.tpl_verify.specs.Filled.{IsTextOf}
 use Rattle.tpl_commands.specs.declared.exit.Exit.{Exit}
 use Rattle.tpl_commands.specs.declared.exit.Exit.TheVariants.{Failure, Memory}
 use Rattle.tpl_commands.specs.Responding.{Puts}

@@ -1,6 +1,6 @@
 -- For which faults no report of a run is made.
 use Rattle.std.specs.Prelude.{ℕ, Bool, false, List, length, slice_index_or}
-use Rattle.tpl_words.specs.declared.ids.SiteId.{SiteId}
+use Rattle.tpl_model.specs.declared.ids.SiteId.{SiteId}
 use Rattle.tpl_draft.specs.Named.{Named, all_may_fail}
 use Rattle.tpl_items.specs.Items.{AreItems, RefusesItems}
 use Rattle.tpl_items.specs.declared.why.OpenWhy.{OpenWhy}

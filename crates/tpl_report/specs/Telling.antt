@@ -5,7 +5,7 @@ use Rattle.tpl_journal.specs.declared.counting.Counting.{Counting}
 use Rattle.tpl_journal.specs.Lines.{IsJournal, lines}
 use Rattle.tpl_journal.specs.ReportText.{ReportValue, ReportText}
 use Rattle.tpl_reader.specs.Document.{DocumentValue, Spells, longest}
-use Rattle.tpl_witness.specs.Filled.{with_run, IsTextOf}
+use Rattle.tpl_verify.specs.Filled.{with_run, IsTextOf}
 use Rattle.tpl_commands.specs.declared.exit.Exit.{Exit}
 use Rattle.tpl_commands.specs.declared.exit.Exit.TheVariants.{Success, Failure, Memory}
 use Rattle.tpl_commands.specs.Responding.{Puts}

@@ -8,17 +8,16 @@ ghost use Rattle.tpl_report.specs.Made.{is_request, asks, HasAsked, HaveAsked, G
 ghost use Rattle.tpl_report.specs.Prevents.{StopsFor, StopsSession};
 ghost use Rattle.tpl_report.specs.declared.fault.RunFault.TheVariants.{Mismatch};
 ghost use Rattle.tpl_report.specs.declared.fault.Stop.TheVariants.{Fault};
-ghost use Rattle.tpl_words.specs.declared.ids.TokenId.{TokenId};
+ghost use Rattle.tpl_model.specs.declared.ids.TokenId.{TokenId};
 
 use crate::fault::{RunFault, Stop, seat_stop};
 use std::alloc::{AllocError, Global};
 use std::sync::Wait;
 use tpl_graph::Graph;
-use tpl_model::{Act, Event};
+use tpl_model::{Act, Actor, Event, MOST_TOKENS, TokenId};
 use tpl_queue::QueuePass;
 use tpl_run::tokens::{close, none_requested};
 use tpl_runtime::{Asked, Item, Seat, Session};
-use tpl_words::{Actor, MOST_TOKENS, TokenId};
 
 /// The outside seat that makes the first requests.
 const ASKER: Actor = Actor::Outside(1);

@@ -16,7 +16,7 @@ ghost use Rattle.tpl_report.specs.Prevents.{Prevents};
 ghost use Rattle.tpl_report.specs.Reported.{told, IsReport};
 ghost use Rattle.tpl_report.specs.Running.{stop_exit, stop_text, Runs, ServesRun};
 ghost use Rattle.tpl_report.specs.Telling.{IsToldOf, PutsTelling};
-ghost use Rattle.tpl_words.specs.declared.ids.TokenId.{TokenId};
+ghost use Rattle.tpl_model.specs.declared.ids.TokenId.{TokenId};
 
 use crate::fault::Stop;
 use crate::following::{Crew, Follow, Nobody};
@@ -31,7 +31,7 @@ use tpl_commands::{Exit, put, put_answer, put_out_of_memory, refused_answer, rul
 use tpl_journal::Counting;
 use tpl_reader::Document;
 use tpl_runtime::{Item, Report};
-use tpl_words::{Inputs, TokenId};
+use tpl_model::{Inputs, TokenId};
 
 /// The tokens that are requested first.
 fn requests(document: &Document) -> &[TokenId]

@@ -10,7 +10,7 @@ ghost use Rattle.tpl_report.specs.Made.{HaveRun, IsMadeBy};
 ghost use Rattle.tpl_report.specs.Prevents.{Prevents, StopsFor, StopsSession};
 ghost use Rattle.tpl_report.specs.Reported.{told, IsReport};
 ghost use Rattle.tpl_runtime.specs.Workers.{IsCount};
-ghost use Rattle.tpl_words.specs.declared.ids.TokenId.{TokenId};
+ghost use Rattle.tpl_model.specs.declared.ids.TokenId.{TokenId};
 
 use crate::fault::{Stop, close_stop, open_stop, run_stop};
 use crate::following::{Crew, Follow, run_followed};
@@ -21,7 +21,7 @@ use std::thread::Threads;
 use tpl_graph::Graph;
 use tpl_queue::{JobQueue, QueuePass};
 use tpl_runtime::{Ended, Item, Report, Seat, Session};
-use tpl_words::{Inputs, TokenId};
+use tpl_model::{Inputs, TokenId};
 
 /// Makes a run of the graph: the tokens are requested first, and then the workers call the items.
 pub(crate) fn report_on<R: Threads + Wait + Sync, K: Drop + Send, W: Item<K> + Send, F: Follow>(

@@ -8,7 +8,7 @@ ghost use Rattle.tpl_journal.specs.ReportText.{IsReportOf, ReportText};
 ghost use Rattle.tpl_reader.specs.Document.{Spells};
 ghost use Rattle.tpl_reader.specs.SeenDocument.{doc_of};
 ghost use Rattle.tpl_reader.specs.Starting.{inputs_of};
-ghost use Rattle.tpl_witness.specs.Filled.{IsTextOf};
+ghost use Rattle.tpl_verify.specs.Filled.{IsTextOf};
 ghost use Rattle.tpl_commands.specs.Responding.{Puts};
 ghost use Rattle.tpl_report.specs.Reported.{told, IsReport};
 ghost use Rattle.tpl_report.specs.Telling.{report_exit, with_events, IsToldOf, PutsTelling};
@@ -18,11 +18,10 @@ use std::io::Write;
 use tpl_commands::{Exit, put, put_out_of_memory};
 use tpl_graph::Graph;
 use tpl_journal::{Counting, Report as Told, write_report};
-use tpl_model::Event;
+use tpl_model::{Event, Inputs};
 use tpl_reader::{Document, LONGEST, one_document};
 use tpl_runtime::Report;
-use tpl_witness::{journal_text, text_with};
-use tpl_words::Inputs;
+use tpl_verify::{journal_text, text_with};
 
 /// How a run is told.
 #[derive(Clone, Copy)]

@@ -1,7 +1,7 @@
 -- A list of exceptions that has none.
 use Rattle.std.proofs.Common.{◌≡◌, ℕ, List, [], map, Option, sym, subst}
 use Rattle.std.specs.List.{IsDistinct}
-use Rattle.tpl_words.specs.declared.ids.TaskId.{TaskId}
+use Rattle.tpl_model.specs.declared.ids.TaskId.{TaskId}
 use Rattle.tpl_draft.specs.Ids.{task_number}
 use Rattle.tpl_run.specs.Atoms.{AreAtoms}
 use Rattle.tpl_run.specs.Rows.{AreKeptAtoms}

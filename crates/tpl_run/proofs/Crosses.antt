@@ -3,7 +3,7 @@ use denote.Param.Send.{IsSend, sendable}
 use denote.Ref.{NamedLft}
 use Rattle.std.proofs.Crossing.{crosses}
 use Rattle.std.proofs.MapsCrossing.{crosses as text_crosses}
-use Rattle.tpl_script.proofs.Crosses.{body_sync, script_sync}
+use Rattle.tpl_model.proofs.Crosses.{body_sync, script_sync}
 use Rattle.tpl_run.specs.contracts.row.Row as Row
 
 pub row_send : (κ : NamedLft) → IsSend (Row.the_field κ).row

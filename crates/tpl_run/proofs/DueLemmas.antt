@@ -1,6 +1,6 @@
 -- A task of which no act is allowed has none due.
 use Rattle.std.proofs.Common.{◌≡◌, ℕ, Bool, true, false, List, Some, ap}
-use Rattle.tpl_words.specs.declared.status.Actor.TheVariants.{Outside}
+use Rattle.tpl_model.specs.declared.status.Actor.TheVariants.{Outside}
 use Rattle.tpl_model.specs.declared.event.Act.TheVariants.{Request, Release, Begin, Step, Worked, Leave, Close, Drop, Settle}
 use Rattle.tpl_model.specs.declared.event.Event.{Event}
 use Rattle.tpl_model.specs.Graph.{TaskGraph}

@@ -1,8 +1,8 @@
 -- What a valid graph names it has.
 use Rattle.std.proofs.Common.{◌≡◌, ℕ, zero, suc, ◌<◌, true, List, [], ◌∷◌, length, map, get_or, refl, arith}
-use Rattle.tpl_words.proofs.MemberLemmas.{mem_there}
-use Rattle.tpl_words.specs.declared.ids.TaskId.{TaskId}
-use Rattle.tpl_words.specs.Members.{mem}
+use Rattle.tpl_model.proofs.MemberLemmas.{mem_there}
+use Rattle.tpl_model.specs.declared.ids.TaskId.{TaskId}
+use Rattle.tpl_model.specs.Members.{mem}
 use Rattle.tpl_model.specs.Graph.{TaskGraph, attached, is_task}
 use Rattle.tpl_model.specs.Valid.{IsGraph}
 use Rattle.tpl_draft.specs.Ids.{task_number}

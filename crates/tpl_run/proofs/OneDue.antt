@@ -2,12 +2,12 @@
 use Rattle.std.proofs.Common.{◌≡◌, ℕ, ◌⊎◌, inl, inr, Bool, true, false, List, [], ◌∷◌, Option, Some, None, refl, sym, ap, ◌∙◌, subst, nat_eq}
 use Rattle.std.specs.Prelude.{if◌then◌else◌}
 use Rattle.std.proofs.lemmas.Bool.{eqb-true, or_from}
-use Rattle.tpl_words.specs.Options.{allows}
-use Rattle.tpl_words.specs.declared.ids.TaskId.{TaskId}
-use Rattle.tpl_words.specs.declared.status.Actor.{Actor}
-use Rattle.tpl_words.specs.declared.status.Actor.TheVariants.{Outside}
-use Rattle.tpl_words.specs.declared.status.Status.{Status}
-use Rattle.tpl_words.specs.declared.status.Status.TheVariants.{WaitingForActivation, WaitingToRun, WaitingForChildrenToComplete}
+use Rattle.tpl_model.specs.Options.{allows}
+use Rattle.tpl_model.specs.declared.ids.TaskId.{TaskId}
+use Rattle.tpl_model.specs.declared.status.Actor.{Actor}
+use Rattle.tpl_model.specs.declared.status.Actor.TheVariants.{Outside}
+use Rattle.tpl_model.specs.declared.status.Status.{Status}
+use Rattle.tpl_model.specs.declared.status.Status.TheVariants.{WaitingForActivation, WaitingToRun, WaitingForChildrenToComplete}
 use Rattle.tpl_model.specs.declared.event.Act.{Act}
 use Rattle.tpl_model.specs.declared.event.Act.TheVariants.{Request, Release, Begin, Step, Worked, Leave, Close, Drop, Settle}
 use Rattle.tpl_model.specs.declared.event.Event.{Event}

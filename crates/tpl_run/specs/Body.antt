@@ -1,9 +1,9 @@
 -- What a step leaves of a body, once what it tests is known.
 use Rattle.std.specs.Prelude.{ℕ, Bool, false, List, Option, Some, None, slice_index_or, if◌then◌else◌}
-use Rattle.tpl_words.specs.declared.status.Label.TheVariants.{Thrown}
-use Rattle.tpl_script.specs.declared.outcome.Outcome.TheVariants.{Returned, Threw}
-use Rattle.tpl_script.specs.Statements.{Statement, Statements, Return, Throw, Check, Cancel, Start, Observe, Work, If, When, Nothing, ◌⨾◌, followed_by}
-use Rattle.tpl_script.specs.Paths.{cancellation}
+use Rattle.tpl_model.specs.declared.status.Label.TheVariants.{Thrown}
+use Rattle.tpl_model.specs.declared.outcome.Outcome.TheVariants.{Returned, Threw}
+use Rattle.tpl_model.specs.Statements.{Statement, Statements, Return, Throw, Check, Cancel, Start, Observe, Work, If, When, Nothing, ◌⨾◌, followed_by}
+use Rattle.tpl_model.specs.Paths.{cancellation}
 use Rattle.tpl_model.specs.Graph.{TaskGraph, kind}
 use Rattle.tpl_model.specs.Facts.{Rest, Ending, on, over, subject_in, has_final, is_observe}
 

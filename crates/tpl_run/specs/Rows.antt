@@ -2,23 +2,23 @@
 use Rattle.std.specs.Prelude.{◌≡◌, ℕ, zero, suc, Bool, false, List, [], Option, Some, None, length, map, nat_eq, slice_get, refl}
 use Rattle.std.specs.Option.{option_map}
 use Rattle.std.specs.Coded.{Coded, code_by, coded×, coded_ℕ, coded_list, coded_option}
-use Rattle.tpl_words.specs.declared.ids.TaskId.{TaskId}
-use Rattle.tpl_words.specs.declared.finals.Final.{Final}
-use Rattle.tpl_words.specs.declared.status.Actor.{Actor}
-use Rattle.tpl_words.specs.declared.status.Label.TheVariants.{Thrown, OperationCanceled, WorkFailed}
-use Rattle.tpl_script.specs.declared.outcome.Outcome.{Outcome}
-use Rattle.tpl_script.specs.declared.outcome.Outcome.TheVariants.{Returned, Threw, Acknowledged}
-use Rattle.tpl_script.specs.Statements.{Statements}
-use Rattle.tpl_script.specs.Coding.{statements_code}
+use Rattle.tpl_model.specs.declared.ids.TaskId.{TaskId}
+use Rattle.tpl_model.specs.declared.finals.Final.{Final}
+use Rattle.tpl_model.specs.declared.status.Actor.{Actor}
+use Rattle.tpl_model.specs.declared.status.Label.TheVariants.{Thrown, OperationCanceled, WorkFailed}
+use Rattle.tpl_model.specs.declared.outcome.Outcome.{Outcome}
+use Rattle.tpl_model.specs.declared.outcome.Outcome.TheVariants.{Returned, Threw, Acknowledged}
+use Rattle.tpl_model.specs.Statements.{Statements}
+use Rattle.tpl_model.specs.Coding.{statements_code}
 use Rattle.tpl_model.specs.Graph.{TaskGraph, body, kind}
 use Rattle.tpl_model.specs.declared.event.Event.{Event}
 use Rattle.tpl_model.specs.Facts.{Rest, Ending, on, ended_at_once, carried_in, rest, ending}
 use Rattle.tpl_draft.specs.Ids.{task_number}
 use Rattle.tpl_run.specs.EventCode.{actor_code}
-use Rattle.tpl_words.specs.Members.{mem}
+use Rattle.tpl_model.specs.Members.{mem}
 use Rattle.tpl_run.specs.Atoms.{AreAtoms}
 use Rattle.tpl_run.specs.declared.row.Ended.{Ended}
-use Rattle.tpl_script.specs.Coding.{final_number, final_at, final_at-number}
+use Rattle.tpl_model.specs.Coding.{final_number, final_at, final_at-number}
 
 -- what is left of a task's body, how it ended, and for how many tasks its list of exceptions has room
 pub record TaskRow : Type 0 where

@@ -1,9 +1,9 @@
 -- What the machine's tests read.
 use Rattle.std.specs.Prelude.{Bool, true, false, Option, Some, None}
-use Rattle.tpl_words.specs.declared.finals.Final.{Final}
-use Rattle.tpl_words.specs.declared.status.Status.{Status}
-use Rattle.tpl_words.specs.declared.status.Status.TheVariants.{Created, WaitingForActivation, WaitingToRun, Running, WaitingForChildrenToComplete, Completed}
-use Rattle.tpl_words.specs.declared.status.Actor.{Actor}
+use Rattle.tpl_model.specs.declared.finals.Final.{Final}
+use Rattle.tpl_model.specs.declared.status.Status.{Status}
+use Rattle.tpl_model.specs.declared.status.Status.TheVariants.{Created, WaitingForActivation, WaitingToRun, Running, WaitingForChildrenToComplete, Completed}
+use Rattle.tpl_model.specs.declared.status.Actor.{Actor}
 use Rattle.tpl_graph.specs.declared.row.Kind.{Kind}
 use Rattle.tpl_graph.specs.declared.row.Kind.TheVariants.{Root, Child, All}
 

@@ -1,7 +1,7 @@
 //! Which events are allowed next.
 
 ghost use Rattle.std.specs.Prelude.{◌≡◌, ◌&&◌, not};
-ghost use Rattle.tpl_words.specs.Options.{execute_synchronously, run_continuations_asynchronously};
+ghost use Rattle.tpl_model.specs.Options.{execute_synchronously, run_continuations_asynchronously};
 ghost use Rattle.tpl_model.specs.Graph.{is_task, kind, options};
 ghost use Rattle.tpl_model.specs.Facts.{ending};
 ghost use Rattle.tpl_model.specs.Rules.{status, token_requested, bound_worker, worker_of, can_settle};
@@ -11,8 +11,7 @@ use crate::ends::has_ended;
 use crate::graphs::{antecedent, has_task, has_token, own_token};
 use crate::readers::{Readers, Waits};
 use tpl_graph::Kind;
-use tpl_model::{Act, Event};
-use tpl_words::{Actor, Answer, Status, TaskId, TokenId};
+use tpl_model::{Act, Actor, Answer, Event, Status, TaskId, TokenId};
 
 /// The first actor, if there is one, is the second.
 fn is_by(found: Option<Actor>, actor: Actor) -> bool

@@ -2,7 +2,7 @@
 
 ghost use Rattle.std.specs.Prelude.{◌≡◌, is_some};
 ghost use Rattle.std.specs.Option.{option_map};
-ghost use Rattle.tpl_script.specs.Paths.{cancellation};
+ghost use Rattle.tpl_model.specs.Paths.{cancellation};
 ghost use Rattle.tpl_model.specs.Facts.{worked, outcome_of, is_observe};
 ghost use Rattle.tpl_model.specs.Rules.{steps, works};
 ghost use Rattle.tpl_draft.specs.Ids.{task_number, token_number};
@@ -10,8 +10,7 @@ ghost use Rattle.tpl_run.specs.Body.{passed, cancel_of, start_of};
 ghost use Rattle.tpl_run.specs.Reading.{next_in};
 
 use crate::run::Next;
-use tpl_script::{Cursor, Outcome, Stmt};
-use tpl_words::{Answer, Label, TaskId, TokenId};
+use tpl_model::{Answer, Cursor, Label, Outcome, Stmt, TaskId, TokenId};
 
 /// How a check of a requested token ends a body: the own token acknowledges the cancellation, another one throws (Task
 /// Parallel Library guide: task cancellation).

@@ -9,8 +9,7 @@ use crate::allowed::{may_close, may_drop, may_release, may_settle};
 use crate::readers::{Readers, Waits};
 use crate::run::Next;
 use tpl_laws::allowed::can_is_right;
-use tpl_model::Act;
-use tpl_words::{Status, TaskId};
+use tpl_model::{Act, Status, TaskId};
 
 /// The allowed Release, Drop, Close or Settle of a task.
 pub fn due_of<R: Waits>(run: &R, task: TaskId) -> Option<Act>

@@ -1,7 +1,7 @@
 //! Whether tasks have ended.
 
 ghost use Rattle.std.specs.Prelude.{◌≡◌, ℕ, ◌&&◌, not, is_some, map, true};
-ghost use Rattle.tpl_words.specs.Members.{mem};
+ghost use Rattle.tpl_model.specs.Members.{mem};
 ghost use Rattle.tpl_model.specs.Graph.{is_task};
 ghost use Rattle.tpl_model.specs.Facts.{started, ending, all_over};
 ghost use Rattle.tpl_model.specs.Rules.{all_ended, some_ended};
@@ -10,7 +10,7 @@ ghost use Rattle.tpl_laws.specs.Allowed as laws;
 
 use crate::readers::Readers;
 use tpl_graph::Kind;
-use tpl_words::TaskId;
+use tpl_model::TaskId;
 
 /// A task has ended.
 pub fn has_ended<R: Readers>(run: &R, task: TaskId) -> bool

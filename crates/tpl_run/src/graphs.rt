@@ -2,7 +2,7 @@
 
 ghost use Rattle.std.specs.Prelude.{◌≡◌, ℕ, ◌≤◌, length, map, IfSome, true};
 ghost use Rattle.std.specs.Option.{option_map};
-ghost use Rattle.tpl_words.specs.Members.{mem};
+ghost use Rattle.tpl_model.specs.Members.{mem};
 ghost use Rattle.tpl_model.specs.Graph as spec;
 ghost use Rattle.tpl_model.specs.Graph.{is_task, is_token, attached};
 ghost use Rattle.tpl_draft.specs.Ids.{task_number, token_number};
@@ -11,7 +11,7 @@ ghost use Rattle.tpl_laws.specs.Allowed as laws;
 
 use crate::readers::Readers;
 use tpl_laws::is_bounded;
-use tpl_words::{TaskId, TokenId};
+use tpl_model::{TaskId, TokenId};
 
 /// The graph has the task.
 pub fn has_task<R: Readers>(run: &R, task: TaskId) -> bool

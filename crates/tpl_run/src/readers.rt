@@ -2,7 +2,7 @@
 
 use crate::row::Row;
 use tpl_graph::Graph;
-use tpl_words::{Actor, Final, Status, TaskId, TokenId};
+use tpl_model::{Actor, Final, Status, TaskId, TokenId};
 
 /// What is read of a run: by this alone, and the graph, it is told which events are allowed next. Each reader answers
 /// its definition over the run, however a machine keeps it. No call takes memory.

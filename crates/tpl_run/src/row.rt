@@ -2,9 +2,9 @@
 
 ghost use Rattle.std.specs.Prelude.{◌≡◌, [], map, IfOk, MatchOption, None, vec_capacity};
 ghost use Rattle.std.specs.Option.{option_map};
-ghost use Rattle.tpl_script.specs.Statements.{Nothing};
-ghost use Rattle.tpl_script.specs.Seen.{statement_of};
-ghost use Rattle.tpl_script.specs.Cursor.{BeginsWith};
+ghost use Rattle.tpl_model.specs.Statements.{Nothing};
+ghost use Rattle.tpl_model.specs.Seen.{statement_of};
+ghost use Rattle.tpl_model.specs.Cursor.{BeginsWith};
 ghost use Rattle.tpl_model.specs.Facts.{on, worked, final_in, carried_in, winner_of, outcome_in, is_observe};
 ghost use Rattle.tpl_model.specs.Rules.{actor_in, label_in, steps, works};
 ghost use Rattle.tpl_draft.specs.Ids.{task_number, token_number};
@@ -18,8 +18,7 @@ use crate::run::Next;
 use std::alloc::{AllocError, Global};
 use std::marker::Model;
 use std::mem;
-use tpl_script::{Cursor, Outcome, Script, Stmt};
-use tpl_words::{Actor, Answer, Final, Label, TaskId, TokenId};
+use tpl_model::{Actor, Answer, Cursor, Final, Label, Outcome, Script, Stmt, TaskId, TokenId};
 
 /// How a task ended, beside the exceptions that it carries: its place counts events from 1 and is 0 before the first,
 /// when nobody ended it.

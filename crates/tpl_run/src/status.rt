@@ -4,7 +4,7 @@ ghost use Rattle.std.specs.Prelude.{◌≡◌};
 ghost use Rattle.tpl_run.specs.Tests.{opening_of, status_from};
 
 use tpl_graph::Kind;
-use tpl_words::{Actor, Final, Status};
+use tpl_model::{Actor, Final, Status};
 
 /// Where a task stands that hasn't begun.
 pub fn opening(kind: Kind, started: bool, released: bool) -> Status

@@ -8,7 +8,7 @@ ghost use Rattle.tpl_run.specs.Tokens.{IsTable};
 
 use tpl_graph::Graph;
 use tpl_laws::requested_by_a_source;
-use tpl_words::{MOST_TOKENS, TokenId};
+use tpl_model::{MOST_TOKENS, TokenId};
 
 /// No token is requested.
 pub fn none_requested() -> [bool; MOST_TOKENS]

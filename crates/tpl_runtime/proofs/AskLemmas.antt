@@ -1,6 +1,6 @@
 -- A request that is allowed.
 use Rattle.std.proofs.Common.{◌≡◌, ◌<◌, ◌∷◌, Bool, List, true, false, refl, sym, ap, subst, arith, length, inl, inr}
-use Rattle.tpl_words.specs.declared.ids.TokenId.{TokenId}
+use Rattle.tpl_model.specs.declared.ids.TokenId.{TokenId}
 use Rattle.tpl_model.specs.declared.event.Act.TheVariants.{Request}
 use Rattle.tpl_model.specs.Facts.{requested}
 use Rattle.tpl_model.specs.Graph.{is_token}

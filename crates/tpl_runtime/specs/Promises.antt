@@ -1,7 +1,7 @@
 -- How promises of threads are told apart.
 use Rattle.std.specs.Prelude.{refl}
 use Rattle.std.specs.Coded.{Coded, code_by, coded×}
-use Rattle.tpl_words.specs.declared.status.Actor.{Actor}
+use Rattle.tpl_model.specs.declared.status.Actor.{Actor}
 use Rattle.tpl_run.specs.EventCode.{actor_code}
 use Rattle.tpl_runtime.specs.Views.{SessionView, PromiseView, session_code}
 

@@ -1,8 +1,8 @@
 -- Where the job of a task that is ready goes.
 use Rattle.std.specs.Prelude.{◌≡◌, ◌⊎◌, true, false, ◌∷◌, [], ◌++◌, slice_index_or, slice_set}
-use Rattle.tpl_words.specs.declared.ids.TaskId.{TaskId}
-use Rattle.tpl_words.specs.declared.ids.Worker.{Worker}
-use Rattle.tpl_words.specs.declared.status.Status.TheVariants.{WaitingToRun}
+use Rattle.tpl_model.specs.declared.ids.TaskId.{TaskId}
+use Rattle.tpl_model.specs.declared.ids.Worker.{Worker}
+use Rattle.tpl_model.specs.declared.status.Status.TheVariants.{WaitingToRun}
 use Rattle.tpl_model.specs.Graph.{is_task}
 use Rattle.tpl_model.specs.Rules.{status}
 use Rattle.tpl_machine.specs.Journal.{Journal}

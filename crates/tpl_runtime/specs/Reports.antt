@@ -1,8 +1,8 @@
 -- What a session leaves.
 use Rattle.std.specs.Prelude.{◌≡◌, ◌⊎◌, ◌↔◌, ℕ, zero, suc, ◌+◌, ◌<◌, Bool, true, ◌&&◌, not, if◌then◌else◌, List, [], ◌∷◌, ◌++◌, Option, All, count_by, length, map, reverse, nat_eq, is_some}
-use Rattle.tpl_words.specs.declared.status.Actor.{Actor}
-use Rattle.tpl_words.specs.declared.status.Label.{Label}
-use Rattle.tpl_words.specs.declared.status.Status.{Status}
+use Rattle.tpl_model.specs.declared.status.Actor.{Actor}
+use Rattle.tpl_model.specs.declared.status.Label.{Label}
+use Rattle.tpl_model.specs.declared.status.Status.{Status}
 use Rattle.tpl_model.specs.Certificate.{Accepts, Tree}
 use Rattle.tpl_model.specs.Claims.{Claim, Holds}
 use Rattle.tpl_model.specs.declared.event.Event.{Event}
@@ -12,7 +12,7 @@ use Rattle.tpl_laws.specs.Soundness.{Each}
 use Rattle.tpl_draft.specs.Ids.{task_number}
 use Rattle.tpl_draft.specs.Named.{Named}
 use Rattle.tpl_machine.specs.Journal.{Journal, named}
-use Rattle.tpl_jobs.specs.declared.receipt.Receipt.{Receipt}
+use Rattle.tpl_queue.specs.declared.receipt.Receipt.{Receipt}
 use Rattle.tpl_hall.specs.Answers.{answers, shown}
 use Rattle.tpl_hall.specs.Closes.{AllOwn, AllLast}
 use Rattle.tpl_hall.specs.Lists.{IsSeat, all_seated, are_seated}

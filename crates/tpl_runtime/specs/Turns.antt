@@ -1,6 +1,6 @@
 -- How requests are answered, and how a worker's sections end.
 use Rattle.std.specs.Prelude.{◌≡◌, ℕ, Bool, true, false, List, length, Option, Some, None}
-use Rattle.tpl_words.specs.declared.ids.TaskId.{TaskId}
+use Rattle.tpl_model.specs.declared.ids.TaskId.{TaskId}
 use Rattle.tpl_model.specs.declared.event.Act.TheVariants.{Step, Leave}
 use Rattle.tpl_model.specs.Rules.{IsOutside, Complete as IsComplete}
 use Rattle.tpl_run.specs.declared.run.Next.{Next}
@@ -10,7 +10,7 @@ use Rattle.tpl_items.specs.Items.{count_of}
 use Rattle.tpl_draft.specs.Named.{Named}
 use Rattle.tpl_machine.specs.Journal.{Journal}
 use Rattle.atomic_table.specs.Seated.{TableId}
-use Rattle.tpl_words.specs.declared.ids.TokenId.{TokenId}
+use Rattle.tpl_model.specs.declared.ids.TokenId.{TokenId}
 use Rattle.tpl_model.specs.Graph.{TaskGraph, is_task}
 use Rattle.tpl_hall.specs.Growth.{Requests}
 use Rattle.tpl_hall.specs.Moves.{Fits, HasRoom, MayDo, MayAnswer, Moves, MatchAsked}

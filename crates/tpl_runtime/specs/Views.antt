@@ -4,7 +4,7 @@ use Rattle.std.specs.Coded.{Coded, code_by, coded×, coded_list, coded_bool}
 use Rattle.atomic_table.specs.Seated.{TableId, table_id_coded}
 use Rattle.tpl_draft.specs.Named.{Named}
 use Rattle.tpl_graph.specs.Coding.{named_code}
-use Rattle.tpl_words.specs.declared.status.Actor.{Actor}
+use Rattle.tpl_model.specs.declared.status.Actor.{Actor}
 
 -- a session: the graph and the inputs with which it was opened, and the name of its queue
 pub record SessionView : Type 0 where

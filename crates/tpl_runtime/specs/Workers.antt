@@ -1,7 +1,7 @@
 -- Workers in order.
 use Rattle.std.specs.Prelude.{ℕ, zero, suc, ◌+◌, ◌<◌, ◌≤◌, Bool, List, [], ◌∷◌, ◌++◌, None, ◌≡◌, length, map, All, IsPermutation}
-use Rattle.tpl_words.specs.declared.status.Actor.{Actor}
-use Rattle.tpl_words.specs.declared.status.Actor.TheVariants.{Worker}
+use Rattle.tpl_model.specs.declared.status.Actor.{Actor}
+use Rattle.tpl_model.specs.declared.status.Actor.TheVariants.{Worker}
 use Rattle.tpl_model.specs.Graph.{TaskGraph}
 use Rattle.tpl_hall.specs.declared.seat.SeatFault.TheVariants.{SeatTaken}
 use Rattle.tpl_hall.specs.declared.sight.Ended.{Ended}

@@ -13,8 +13,7 @@ use tpl_graph::Graph;
 use tpl_hall::{Asked, Seat};
 use tpl_items::Item;
 use tpl_laws::is_bounded;
-use tpl_model::Act;
-use tpl_words::{Inputs, TokenId};
+use tpl_model::{Act, Inputs, TokenId};
 
 impl<'g, K: Drop, W: Item<K>> Shared<'g, K, W> {
     /// Requests a token, for an outside seat. A seat that is stray comes first, then a session that is halted, then a token

@@ -13,7 +13,7 @@ use std::sync::{Arc, Condvar, Mutex};
 use tpl_graph::Graph;
 use tpl_hall::{Cells, Hall, cells};
 use tpl_items::{Children, Item, OpenWhy, Stock, refusal};
-use tpl_words::{Actor, Inputs};
+use tpl_model::{Actor, Inputs};
 
 /// The most seats that a session has: those of 64 workers, and 8 outside.
 const MOST_SEATS: usize = 72;

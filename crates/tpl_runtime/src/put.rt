@@ -8,8 +8,7 @@ use std::sync::Wait;
 use tpl_hall::Hall;
 use tpl_items::{Children, Stock};
 use tpl_machine::Core;
-use tpl_model::{Act, Event};
-use tpl_words::{Status, TaskId};
+use tpl_model::{Act, Event, Status, TaskId};
 
 /// Puts the job of a task, if it is ready to run and wasn't put before. A job that only a certain worker may begin is
 /// kept for that worker, and one for which the queue has no place is shelved.

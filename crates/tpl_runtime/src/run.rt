@@ -16,7 +16,7 @@ use std::thread::Threads;
 use thiserror::Error;
 use tpl_hall::{Ended, Seat, SeatFault};
 use tpl_items::Item;
-use tpl_words::{Actor, Worker};
+use tpl_model::{Actor, Worker};
 
 /// The most workers that a session has.
 const MOST_WORKERS: u16 = 64;

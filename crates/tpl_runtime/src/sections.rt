@@ -11,8 +11,7 @@ use std::sync::Wait;
 use tpl_hall::{Ended, Seat};
 use tpl_items::Item;
 use tpl_machine::{Core, Next};
-use tpl_model::Act;
-use tpl_words::TaskId;
+use tpl_model::{Act, TaskId};
 
 impl<'g, K: Drop, W: Item<K>> Shared<'g, K, W> {
     /// Begins a task, if it may begin. Where it may not, as it was dropped meanwhile, the worker holds a job that was kept

@@ -22,7 +22,7 @@ use std::sync::{Condvar, Mutex, Wait};
 use tpl_graph::Graph;
 use tpl_hall::{Asked, Cells, Ended, Looked, Seat, SeatFault, Stint, is_seat};
 use tpl_items::Item;
-use tpl_words::{Actor, Inputs, TaskId, TokenId};
+use tpl_model::{Actor, Inputs, TaskId, TokenId};
 
 /// A run that threads make together. Contracts see the graph and the inputs with which it was opened, and the name of
 /// its queue. What lies under its lock changes under every caller, so no contract names it: what a caller knows of it

@@ -16,10 +16,9 @@ use std::sync::Wait;
 use tpl_graph::Graph;
 use tpl_hall::{Ended, Hall, Seat, SeatFault, has_seat};
 use tpl_items::{Children, Item, Stock};
-use tpl_jobs::Receipt;
+use tpl_queue::Receipt;
 use tpl_machine::Core;
-use tpl_model::Act;
-use tpl_words::{Actor, TaskId};
+use tpl_model::{Act, Actor, TaskId};
 
 /// What a worker holds when it has left the lock.
 #[derive(Clone, Copy)]

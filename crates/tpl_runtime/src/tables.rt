@@ -12,7 +12,7 @@ use tpl_fast::Fast;
 use tpl_graph::Graph;
 use tpl_hall::Hall;
 use tpl_machine::Core;
-use tpl_words::{Inputs, Label, Status, TaskId};
+use tpl_model::{Inputs, Label, Status, TaskId};
 
 /// Where each task stands.
 fn statuses(alloc: Global, core: &Fast<'_>) -> Result<Vec<Status>, AllocError>

@@ -13,7 +13,7 @@ use std::thread::{Promise, PromisedHandle, Scope, Threads};
 use tpl_graph::Graph;
 use tpl_hall::{Ended, Seat};
 use tpl_queue::QueuePass;
-use tpl_words::{Actor, Inputs};
+use tpl_model::{Actor, Inputs};
 
 /// What a worker comes back with.
 type Back<L> = (Seat, QueuePass<L>, Ended);

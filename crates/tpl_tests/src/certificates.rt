@@ -6,7 +6,7 @@ use std::slice;
 use tpl_cert::{Node, Row, Tree, TreeToFault, is_within_limits, tree_from, trees_text};
 use tpl_graph::Graph;
 use tpl_json::value_from;
-use tpl_words::{Finals, TaskId, TaskSet};
+use tpl_model::{Finals, TaskId, TaskSet};
 
 /// What stands within the brackets of an array.
 fn within_brackets(text: &str) -> Option<&str> {

@@ -2,9 +2,8 @@
 
 use std::alloc::{AllocError, Global};
 use tpl_journal::{JournalFault, read_journal};
-use tpl_model::Event;
+use tpl_model::{Event, Inputs};
 use tpl_reader::{Document, ReadFault};
-use tpl_words::Inputs;
 
 /// Why there is no document; out of memory is no answer.
 pub fn fault_text(alloc: Global, fault: ReadFault) -> Result<String, AllocError> {

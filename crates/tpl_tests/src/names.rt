@@ -1,7 +1,7 @@
 //! Names by number.
 
 use tpl_graph::Graph;
-use tpl_words::{TaskId, TokenId};
+use tpl_model::{TaskId, TokenId};
 
 /// The name of a task; nothing where it isn't the graph's.
 pub fn task_name(graph: &Graph, task: TaskId) -> &str {

@@ -2,11 +2,10 @@
 
 use std::alloc::{AllocError, Global};
 use tpl_graph::Graph;
-use tpl_script::{
-    Cursor, Possible, Script, Stmt, Verdict, Verdicts, View, may, may_start, may_start_all,
-    must_observe,
+use tpl_model::{
+    Cursor, Final, Finals, InputId, MOST_SITES, Possible, Script, Stmt, TaskId, TokenId, Verdict,
+    Verdicts, View, may, may_start, may_start_all, must_observe,
 };
-use tpl_words::{Final, Finals, InputId, MOST_SITES, TaskId, TokenId};
 
 /// The body that is asked about is this task's.
 const SUBJECT: &str = "X";

@@ -1,7 +1,7 @@
 //! What is answered to sets of tasks and of ends, and to inputs.
 
 use std::alloc::{AllocError, Global};
-use tpl_words::{Final, Finals, InputId, Inputs, MOST_TASKS, TaskId, TaskSet};
+use tpl_model::{Final, Finals, InputId, Inputs, MOST_TASKS, TaskId, TaskSet};
 
 /// The set of the tasks of these numbers; others are left out.
 fn tasks_of(words: &str) -> TaskSet {

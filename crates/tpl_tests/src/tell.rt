@@ -3,7 +3,7 @@
 use crate::names::{task_name, token_name};
 use std::alloc::AllocError;
 use tpl_graph::Graph;
-use tpl_words::{InputId, LabelId, Options, SiteId, TaskId, TokenId};
+use tpl_model::{InputId, LabelId, Options, SiteId, TaskId, TokenId};
 
 /// The option words of one bit.
 const WORDS: [&str; 11] = [

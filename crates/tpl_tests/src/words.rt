@@ -1,7 +1,7 @@
 //! What is answered to option words and statuses.
 
 use std::alloc::{AllocError, Global};
-use tpl_words::{Final, OptionFault, Options, Status};
+use tpl_model::{Final, OptionFault, Options, Status};
 
 /// The words of one bit each that a continuation may have (.NET API documentation), in the order of the bits that
 /// `union_of` takes.

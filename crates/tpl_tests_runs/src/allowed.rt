@@ -5,8 +5,7 @@ use crate::names::{push_act, push_actor};
 use std::alloc::{AllocError, Global};
 use tpl_graph::Graph;
 use tpl_machine::Core;
-use tpl_model::{Act, Event};
-use tpl_words::{Actor, Answer, TaskId, TokenId, Worker};
+use tpl_model::{Act, Actor, Answer, Event, TaskId, TokenId, Worker};
 
 /// Who tries.
 const ACTORS: [Actor; 3] = [

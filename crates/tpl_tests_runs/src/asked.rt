@@ -6,7 +6,7 @@ use std::sync::Wait;
 use tpl_graph::Graph;
 use tpl_queue::QueuePass;
 use tpl_runtime::{Asked, Item, Looked, Seat, Session};
-use tpl_words::{Final, Status, TaskId, TokenId};
+use tpl_model::{Final, Status, TaskId, TokenId};
 
 pub const CANCELED: Status = Status::Completed(Final::Canceled);
 

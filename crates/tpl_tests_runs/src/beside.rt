@@ -1,7 +1,7 @@
 //! Sessions whose workers are threads of the test's own, and who is in threads beside them.
 
 ghost use Rattle.std.specs.Prelude.{◌≡◌, false, IfSome};
-ghost use Rattle.tpl_words.specs.declared.status.Answer.TheVariants.{Done};
+ghost use Rattle.tpl_model.specs.declared.status.Answer.TheVariants.{Done};
 
 use crate::asked::CANCELED;
 use crate::cast::{Beside, cast, gathered, seated};
@@ -20,11 +20,9 @@ use std::sync::atomic::AtomicU64;
 use std::sync::{Arc, Wait};
 use std::thread::Threads;
 use tpl_graph::Graph;
-use tpl_jobs::{Receipt, Work, WorkItem};
-use tpl_model::{Act, Event};
-use tpl_queue::QueuePass;
+use tpl_queue::{QueuePass, Receipt, Work, WorkItem};
+use tpl_model::{Act, Actor, Answer, Event, SiteId, Status};
 use tpl_runtime::{Item, Report, Session};
-use tpl_words::{Actor, Answer, SiteId, Status};
 
 /// The seat outside that looks at each task in the end. Those beside the workers have the first two.
 const LAST: Actor = Actor::Outside(3);

@@ -8,7 +8,7 @@ use std::alloc::{AllocError, Global};
 use std::sync::Wait;
 use tpl_queue::QueuePass;
 use tpl_runtime::{Ended, Item, Session};
-use tpl_words::{Actor, TokenId, Worker};
+use tpl_model::{Actor, TokenId, Worker};
 
 /// Who is in threads beside the workers.
 #[derive(Clone, Copy)]

@@ -10,7 +10,7 @@ use std::sync::Wait;
 use tpl_graph::Graph;
 use tpl_queue::QueuePass;
 use tpl_runtime::{Item, Report, Seat, Session, Watcher};
-use tpl_words::Status;
+use tpl_model::Status;
 
 /// What threads come back with, and whether each went as it must.
 #[derive(Drop)]

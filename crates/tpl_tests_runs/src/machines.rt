@@ -4,9 +4,8 @@ use std::alloc::{AllocError, Global};
 use tpl_fast::Fast;
 use tpl_graph::Graph;
 use tpl_machine::{Core, Machine};
-use tpl_model::Event;
+use tpl_model::{Event, Inputs};
 use tpl_reader::Document;
-use tpl_words::Inputs;
 
 /// Opens machines, each time with the same graph and inputs.
 pub trait Opener {

@@ -1,7 +1,7 @@
 //! Boxes that wait for each other, so that their workers must run at the same time.
 
 ghost use Rattle.std.specs.Prelude.{◌≡◌, false};
-ghost use Rattle.tpl_words.specs.declared.status.Answer.TheVariants.{Done};
+ghost use Rattle.tpl_model.specs.declared.status.Answer.TheVariants.{Done};
 
 use crate::exchange::Stamp;
 use crate::graphs::{Attempt, check_on};
@@ -13,8 +13,8 @@ use std::sync::{Arc, Wait};
 use std::thread::Threads;
 use std::{io, thread};
 use tpl_graph::Graph;
-use tpl_jobs::{Work, WorkItem};
-use tpl_words::{Answer, SiteId};
+use tpl_queue::{Work, WorkItem};
+use tpl_model::{Answer, SiteId};
 
 /// How often a box looks for the others before it gives up.
 const TURNS: usize = 20_000_000;

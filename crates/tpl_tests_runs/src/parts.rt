@@ -10,10 +10,9 @@ use std::sync::atomic::AtomicU64;
 use std::thread;
 use std::thread::Threads;
 use tpl_graph::Graph;
-use tpl_model::Event;
+use tpl_model::{Answer, Event, SiteId, Status, TaskId, TokenId};
 use tpl_queue::QueuePass;
 use tpl_runtime::{Asked, Ended, Item, Looked, Seat, Session, Watcher};
-use tpl_words::{Answer, SiteId, Status, TaskId, TokenId};
 
 /// How often a watcher looks.
 const LOOKS: usize = 1_000;

@@ -9,9 +9,8 @@ use std::io;
 use std::sync::atomic::{AtomicU64, Ordering};
 use std::sync::{Arc, Wait};
 use std::thread::Threads;
-use tpl_jobs::{Job, Work, WorkItem, WorkJob};
-use tpl_queue::{JobQueue, QueuePass};
-use tpl_words::{Answer, SiteId, TaskId};
+use tpl_queue::{Job, JobQueue, QueuePass, Work, WorkItem, WorkJob};
+use tpl_model::{Answer, SiteId, TaskId};
 
 const JOBS: usize = 100_000;
 

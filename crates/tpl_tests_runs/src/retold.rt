@@ -7,7 +7,7 @@ use std::alloc::{AllocError, Global};
 use tpl_graph::Graph;
 use tpl_machine::{Core, Machine};
 use tpl_runtime::Report;
-use tpl_words::{Inputs, TaskId};
+use tpl_model::{Inputs, TaskId};
 
 /// The machine answers of a task what the report says.
 fn agrees_on<C: Core, K, W>(core: &C, report: &Report<K, W>, task: TaskId) -> bool

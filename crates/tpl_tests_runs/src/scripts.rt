@@ -5,9 +5,8 @@ use crate::asked::CANCELED;
 use crate::crews::{LOOKER, RAN};
 use crate::parts::FIRST;
 use crate::steps::Step;
-use tpl_model::{Act, Event};
+use tpl_model::{Act, Actor, Event, TaskId, TokenId, Worker};
 use tpl_runtime::{Asked, Ended, Looked, SeatFault, Sight};
-use tpl_words::{Actor, TaskId, TokenId, Worker};
 
 /// A scene of two sessions, the other one fresh.
 #[derive(Clone, Copy)]

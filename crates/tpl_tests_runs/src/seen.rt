@@ -7,7 +7,7 @@ use crate::names::{push_act, push_label, site_name, task_name};
 use std::alloc::{AllocError, Global};
 use tpl_graph::Graph;
 use tpl_machine::{Core, Next};
-use tpl_words::{TaskId, TokenId};
+use tpl_model::{TaskId, TokenId};
 
 /// Adds what a running task does next.
 fn push_next(text: &mut String, graph: &Graph, next: Next) -> Result<(), AllocError> {

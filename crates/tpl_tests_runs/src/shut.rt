@@ -5,11 +5,9 @@ ghost use Rattle.std.specs.Prelude.{◌≡◌};
 use crate::steps::Hands;
 use std::alloc::{AllocError, Global};
 use std::sync::Wait;
-use tpl_jobs::Receipt;
-use tpl_model::Event;
-use tpl_queue::QueuePass;
+use tpl_queue::{QueuePass, Receipt};
+use tpl_model::{Event, Status};
 use tpl_runtime::{CloseFault, CloseWhy, Item, Report, Seat, Session, Watcher};
-use tpl_words::Status;
 
 /// Which of the two sessions of a scene.
 #[derive(Clone, Copy)]

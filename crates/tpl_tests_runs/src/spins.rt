@@ -2,7 +2,7 @@
 
 use std::io;
 use std::time::{Clock, Instant};
-use tpl_words::Answer;
+use tpl_model::Answer;
 
 /// How many rounds are timed.
 const TIMED: u64 = 20_000_000;

@@ -6,10 +6,9 @@ use crate::asked::{ask, look_at};
 use std::alloc::Global;
 use std::sync::Wait;
 use tpl_graph::Graph;
-use tpl_model::Event;
+use tpl_model::{Actor, Event, TaskId, TokenId};
 use tpl_queue::QueuePass;
 use tpl_runtime::{Asked, Ended, Item, Looked, Seat, SeatFault, Session, Sight, Watcher};
-use tpl_words::{Actor, TaskId, TokenId};
 
 /// What is done, and what is to come of it. Seats and watchers have numbers, in the order in which they were made.
 #[derive(Clone, Copy)]

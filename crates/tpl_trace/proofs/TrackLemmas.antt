@@ -2,8 +2,8 @@
 use Rattle.std.proofs.Common.{◌≡◌, ◌∙◌, ℕ, ◌+◌, ◌-◌, ◌<◌, ◌≤◌, List, [], ◌∷◌, ◌++◌, length, take, get_or, slice_index_or, true, false, refl, sym, ap, Bool, arith}
 use Rattle.std.specs.Prelude.{◌||◌}
 use Rattle.std.proofs.lemmas.List.{take_more}
-use Rattle.tpl_words.proofs.Truths.{or_false, or_true}
-use Rattle.tpl_words.specs.declared.status.Actor.{Actor}
+use Rattle.tpl_model.proofs.Truths.{or_false, or_true}
+use Rattle.tpl_model.specs.declared.status.Actor.{Actor}
 use Rattle.tpl_model.specs.Journal.{same_actor}
 use Rattle.tpl_model.specs.declared.event.Event.{Event}
 use Rattle.tpl_trace.specs.Trace.{acts_in}

@@ -4,8 +4,8 @@ use Rattle.std.specs.Prelude.{ℕ, suc, ◌+◌, ◌&&◌, ◌||◌, Bool, false
 use Rattle.serde_json.specs.Data.{Data, array, object, no_members, member}
 use Rattle.serde_json.specs.View.{items_of}
 use Rattle.serde_json.specs.Written.{compact_text}
-use Rattle.tpl_words.specs.declared.status.Actor.{Actor}
-use Rattle.tpl_words.specs.declared.status.Actor.TheVariants.{Worker, Outside}
+use Rattle.tpl_model.specs.declared.status.Actor.{Actor}
+use Rattle.tpl_model.specs.declared.status.Actor.TheVariants.{Worker, Outside}
 use Rattle.tpl_model.specs.Graph.{TaskGraph, kind}
 use Rattle.tpl_model.specs.Journal.{same_actor}
 use Rattle.tpl_model.specs.declared.event.Act.{Act}

@@ -20,9 +20,8 @@ use tpl_commands::{
     times_of, unread,
 };
 use tpl_journal::{Counting, JournalFault, fault_is_no_journal, read_journal, text_is_unambiguous};
-use tpl_model::Event;
+use tpl_model::{Event, Inputs};
 use tpl_reader::{Document, one_document, read_document_heard};
-use tpl_words::Inputs;
 
 /// The journal of a document.
 #[derive(Drop)]

@@ -13,8 +13,7 @@ use crate::moment::Moment;
 use serde_json::Value;
 use std::alloc::{AllocError, Global};
 use tpl_graph::Graph;
-use tpl_model::{Act, Event};
-use tpl_words::TaskId;
+use tpl_model::{Act, Event, TaskId};
 
 /// Whether the act may end the task.
 fn may_end(task: TaskId, act: Act) -> bool

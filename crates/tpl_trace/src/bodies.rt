@@ -13,8 +13,7 @@ use crate::tracks::{same_actor, track_name, track_of};
 use serde_json::Value;
 use std::alloc::{AllocError, Global};
 use tpl_graph::Graph;
-use tpl_model::{Act, Event};
-use tpl_words::{Actor, TaskId};
+use tpl_model::{Act, Actor, Event, TaskId};
 
 /// The track of the body of the first task: those of 64 workers and 8 seats outside come before it.
 const FIRST_TRACK: u32 = 73;

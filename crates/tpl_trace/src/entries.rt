@@ -16,8 +16,7 @@ use crate::tracks::add_new_track;
 use serde_json::Value;
 use std::alloc::{AllocError, Global};
 use tpl_graph::Graph;
-use tpl_model::{Act, Event};
-use tpl_words::{TaskId, TokenId};
+use tpl_model::{Act, Event, TaskId, TokenId};
 
 /// The name of a task.
 pub(crate) fn name_of(graph: &Graph, task: TaskId) -> &str

@@ -8,8 +8,7 @@ ghost use Rattle.tpl_trace.specs.Trace.{acts_in, new_track, track_name, track_of
 use crate::marks::track_mark;
 use serde_json::Value;
 use std::alloc::{AllocError, Global};
-use tpl_model::Event;
-use tpl_words::{Actor, Worker};
+use tpl_model::{Actor, Event, Worker};
 
 /// How many workers there may be.
 const WORKERS: u16 = 64;

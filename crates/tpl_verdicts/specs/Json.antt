@@ -8,7 +8,7 @@ use Rattle.tpl_journal.specs.Lines.{lines, task_name}
 use Rattle.tpl_analyser.specs.declared.ran_out.RanOut.{RanOut}
 use Rattle.tpl_analyser.specs.declared.ran_out.RanOut.TheVariants.{Depth, Leaves, Trees}
 use Rattle.tpl_refute.specs.declared.counterexample.Counterexample.{Counterexample}
-use Rattle.tpl_witness.specs.Filled.{AreFirst}
+use Rattle.tpl_verify.specs.Filled.{AreFirst}
 use Rattle.tpl_verify.specs.declared.verdict.Empty as reasons
 use Rattle.tpl_verify.specs.declared.verdict.Empty.TheVariants.{NeverBegins, NamesAllEnds, NeverThrows, NeverKept}
 use Rattle.tpl_verify.specs.declared.verdict.Tried.{Tried}

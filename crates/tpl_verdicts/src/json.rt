@@ -8,7 +8,7 @@ ghost use Rattle.tpl_graph.specs.Fits.{Fits};
 ghost use Rattle.tpl_journal.specs.Lines.{task_name, CanSpell};
 ghost use Rattle.tpl_model.specs.Graph.{is_task};
 ghost use Rattle.tpl_verify.specs.Verdicts.{AreVerdicts, IsEmpty, IsSomeVerdict};
-ghost use Rattle.tpl_witness.specs.Filled.{AreFirst};
+ghost use Rattle.tpl_verify.specs.Filled.{AreFirst};
 ghost use Rattle.tpl_verdicts.specs.Lines.{AreNumbered};
 ghost use Rattle.tpl_verdicts.specs.Json.{empty_data, failed_data, held_data, ran_out_word, sums_data, tried_data, unknown_data, verdicts_data, why_data, IsClaimData, IsNamed, IsNamedData, IsJson, IsRunData};
 
@@ -21,9 +21,8 @@ use tpl_graph::{Claim, Graph};
 use tpl_journal::spells_run;
 use tpl_reasons::claim_words;
 use tpl_refute::Counterexample;
-use tpl_verify::{Empty, Tried, Verdict};
-use tpl_witness::{input_members, journal_text};
-use tpl_words::{Inputs, TaskId};
+use tpl_verify::{Empty, Tried, Verdict, input_members, journal_text};
+use tpl_model::{Inputs, TaskId};
 
 /// Why a claim says nothing, by a word.
 fn reason_value(alloc: Global, why: &str) -> Result<Value, AllocError>

@@ -12,12 +12,10 @@ use std::alloc::{AllocError, Global};
 use std::slice;
 use tpl_graph::{Claim, Graph};
 use tpl_journal::spells_run;
-use tpl_model::{Event, Property};
+use tpl_model::{Event, Inputs, Property};
 use tpl_reasons::{claim_words, input_words, obstacle_words, tried_words};
 use tpl_refute::Counterexample;
-use tpl_verify::{Empty, Tried, Verdict};
-use tpl_witness::journal_text;
-use tpl_words::Inputs;
+use tpl_verify::{Empty, Tried, Verdict, journal_text};
 
 /// What may be done about a claim of which nothing is known.
 const NEXT: &str =

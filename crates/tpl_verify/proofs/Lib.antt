@@ -1,3 +1,11 @@
 pub mod BesideLemmas
 pub mod ThrowLemmas
 pub mod VerdictLemmas
+pub mod Truths
+pub mod Starts
+pub mod Without
+pub mod Unseen
+pub mod Filling
+pub mod Ascii
+pub mod Auditing
+pub mod Answering

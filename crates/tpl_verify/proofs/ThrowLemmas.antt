@@ -1,14 +1,14 @@
 -- Bodies that throw in no run.
 use Rattle.std.proofs.Common.{◌≡◌, ℕ, inl, inr, not, IsTrue, Bool, true, false, Option, Some, None, List, sym, ap, ◌∙◌, subst, refl}
-use Rattle.tpl_words.specs.declared.ids.TaskId.{TaskId}
-use Rattle.tpl_words.specs.declared.finals.Final.{Final}
-use Rattle.tpl_words.specs.declared.finals.Final.TheVariants.{RanToCompletion, Canceled, Faulted}
-use Rattle.tpl_words.specs.declared.finals.Finals.{Finals}
-use Rattle.tpl_words.specs.Finals.{has}
-use Rattle.tpl_words.specs.declared.status.Label.{Label}
-use Rattle.tpl_words.proofs.Truths.{true_false}
+use Rattle.tpl_model.specs.declared.ids.TaskId.{TaskId}
+use Rattle.tpl_model.specs.declared.finals.Final.{Final}
+use Rattle.tpl_model.specs.declared.finals.Final.TheVariants.{RanToCompletion, Canceled, Faulted}
+use Rattle.tpl_model.specs.declared.finals.Finals.{Finals}
+use Rattle.tpl_model.specs.Finals.{has}
+use Rattle.tpl_model.specs.declared.status.Label.{Label}
+use Rattle.tpl_model.proofs.Truths.{true_false}
 use Rattle.std.proofs.lemmas.Bool.{cases_Bool}
-use Rattle.tpl_script.specs.declared.outcome.Outcome.TheVariants.{Threw}
+use Rattle.tpl_model.specs.declared.outcome.Outcome.TheVariants.{Threw}
 use Rattle.tpl_model.specs.declared.event.Event.{Event}
 use Rattle.tpl_model.specs.declared.claim.Given.{Given}
 use Rattle.tpl_model.specs.declared.claim.Property.TheVariants.{Final as EndsIn}

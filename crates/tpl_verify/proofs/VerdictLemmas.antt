@@ -2,11 +2,11 @@
 use Rattle.std.proofs.Common.{◌≡◌, ℕ, ◌+◌, ◌<◌, ◌++◌, Bool, true, false, is_some, Option, Some, None, List, [], ◌∷◌, length, take, subst, sym, refl}
 use Rattle.std.specs.Prelude.{slice_index_or}
 use Rattle.std.specs.List.{All, AllByRecursion, AllZip}
-use Rattle.tpl_words.specs.declared.ids.TaskId.{TaskId}
-use Rattle.tpl_words.specs.declared.finals.Final.{Final}
-use Rattle.tpl_words.specs.declared.finals.Final.TheVariants.{RanToCompletion, Canceled, Faulted}
-use Rattle.tpl_words.specs.declared.finals.Finals.{Finals}
-use Rattle.tpl_words.specs.Finals.{has}
+use Rattle.tpl_model.specs.declared.ids.TaskId.{TaskId}
+use Rattle.tpl_model.specs.declared.finals.Final.{Final}
+use Rattle.tpl_model.specs.declared.finals.Final.TheVariants.{RanToCompletion, Canceled, Faulted}
+use Rattle.tpl_model.specs.declared.finals.Finals.{Finals}
+use Rattle.tpl_model.specs.Finals.{has}
 use Rattle.tpl_model.specs.declared.claim.Given.{Given}
 use Rattle.tpl_model.specs.declared.claim.Property.{Property}
 use Rattle.tpl_model.specs.declared.claim.Property.TheVariants.{Final as EndsIn}

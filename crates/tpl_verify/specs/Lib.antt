@@ -1,2 +1,6 @@
 pub mod Verdicts
 pub mod Beside
+pub mod Asking
+pub mod Filled
+pub mod Witness
+pub mod Serving

@@ -1,10 +1,10 @@
 -- What is answered of a claim: it holds, it fails, or neither is known.
 use Rattle.std.specs.Prelude.{◌≡◌, ℕ, ◌⊎◌, Bool, true, List, [], ◌∷◌, Option, None, Some, IfSome, IsTrue, is_some}
 use Rattle.std.specs.List.{AllZip}
-use Rattle.tpl_words.specs.declared.ids.TaskId.{TaskId}
-use Rattle.tpl_words.specs.declared.finals.Finals.{Finals}
-use Rattle.tpl_words.specs.Finals.{has}
-use Rattle.tpl_script.specs.Paths.{Known, MayThrow}
+use Rattle.tpl_model.specs.declared.ids.TaskId.{TaskId}
+use Rattle.tpl_model.specs.declared.finals.Finals.{Finals}
+use Rattle.tpl_model.specs.Finals.{has}
+use Rattle.tpl_model.specs.Paths.{Known, MayThrow}
 use Rattle.tpl_model.specs.declared.event.Event.{Event}
 use Rattle.tpl_model.specs.declared.claim.Given.{Given}
 use Rattle.tpl_model.specs.declared.claim.Property.{Property}

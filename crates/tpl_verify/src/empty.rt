@@ -13,10 +13,8 @@ use std::alloc::{AllocError, Global};
 use tpl_analyser::Depth;
 use tpl_checker::assumed;
 use tpl_graph::{Claim, Graph, Kind};
-use tpl_model::{Given, Property, RuleSet};
+use tpl_model::{Finals, Given, Property, RuleSet, TaskId, may};
 use tpl_outline::cancels_quiet;
-use tpl_script::may;
-use tpl_words::{Finals, TaskId};
 
 /// The most tasks of which it is tried whether they never end.
 const MOST_TRIED: usize = 32;

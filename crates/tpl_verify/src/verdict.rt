@@ -4,7 +4,7 @@ ghost use Rattle.std.specs.Prelude.{◌≡◌, codes, if◌then◌else◌};
 
 use tpl_analyser::RanOut;
 use tpl_refute::Counterexample;
-use tpl_words::TaskId;
+use tpl_model::TaskId;
 
 /// What is answered of a claim.
 #[derive(Drop)]

@@ -3,11 +3,10 @@
 use crate::fast::Fast;
 use tpl_graph::Graph;
 use tpl_laws::allowed::{can_is_right, is_complete_is_right};
-use tpl_model::{Act, Event};
+use tpl_model::{Act, Event, InputId, Label, Status, TaskId, TokenId};
 use tpl_run::allowed::allows;
 use tpl_run::due::next_of;
 use tpl_run::{Core, Next, Readers, Refused};
-use tpl_words::{InputId, Label, Status, TaskId, TokenId};
 
 impl<'g> Core for Fast<'g> {
     ghost journal = { λ m. m };

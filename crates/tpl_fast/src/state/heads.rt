@@ -2,7 +2,7 @@
 
 ghost use Rattle.std.specs.Prelude.{◌≡◌, ℕ, ◌≤◌, if◌then◌else◌, take, length, map, true, slice_index_or};
 ghost use Rattle.std.specs.Option.{option_map};
-ghost use Rattle.tpl_words.specs.Members.{mem};
+ghost use Rattle.tpl_model.specs.Members.{mem};
 ghost use Rattle.tpl_model.specs.Graph as spec;
 ghost use Rattle.tpl_model.specs.Graph.{is_task, attached, IsParent};
 ghost use Rattle.tpl_model.specs.Facts.{ending};
@@ -17,7 +17,7 @@ use tpl_graph::{Graph, Kind};
 use tpl_run::ends::{all_ended, all_over, has_ended, is_open, some_ended};
 use tpl_run::graphs::children;
 use tpl_run::{Readers, Waits};
-use tpl_words::TaskId;
+use tpl_model::TaskId;
 
 /// The task whose body starts this child, if it is one.
 pub(crate) fn parent_of(graph: &Graph, child: Option<TaskId>) -> Option<TaskId>

@@ -12,8 +12,7 @@ use crate::machine::Machine;
 use tpl_graph::Kind;
 use tpl_run::Readers;
 use tpl_run::graphs::has_task;
-use tpl_script::Stmt;
-use tpl_words::{Final, TaskId};
+use tpl_model::{Final, Stmt, TaskId};
 
 impl<'g> Machine<'g> {
     /// The task whose exception and end a continuation reads.

@@ -5,10 +5,9 @@ ghost use Rattle.tpl_laws.specs.Allowed as laws;
 ghost use Rattle.tpl_run.specs.Reading.{NoneDue, IsFirstDue};
 
 use crate::machine::Machine;
-use tpl_model::Act;
+use tpl_model::{Act, TaskId};
 use tpl_run::due::due_of;
 use tpl_run::ends::is_done;
-use tpl_words::TaskId;
 
 impl<'g> Machine<'g> {
     /// The allowed Release, Drop, Close or Settle of the least task that has one.

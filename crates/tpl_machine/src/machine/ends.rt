@@ -8,7 +8,7 @@ ghost use Rattle.tpl_draft.specs.Ids.{task_number};
 use crate::machine::Machine;
 use tpl_run::Readers;
 use tpl_run::ends::has_ended;
-use tpl_words::{Final, TaskId};
+use tpl_model::{Final, TaskId};
 
 /// The worse of how one task ended and how others did.
 fn worse(first: Option<Final>, others: Final) -> Final

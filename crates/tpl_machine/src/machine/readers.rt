@@ -14,7 +14,7 @@ use tpl_run::graphs::children;
 use tpl_run::row::Row;
 use tpl_run::tokens::close;
 use tpl_run::{Readers, Waits};
-use tpl_words::{Actor, Final, Status, TaskId, TokenId};
+use tpl_model::{Actor, Final, Status, TaskId, TokenId};
 
 impl<'g> Machine<'g> {
     /// What is kept of a task, if it is one.

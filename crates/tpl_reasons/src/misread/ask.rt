@@ -6,7 +6,7 @@ use std::alloc::{AllocError, Global};
 use tpl_json::{Miss, Shape, bool_of, final_of, find, list_of, number_of, text_in, text_of};
 use tpl_parts::{has_ends, has_truths, is_claim_name};
 use tpl_reader::line_breaks;
-use tpl_words::LONGEST_NAME;
+use tpl_model::LONGEST_NAME;
 
 /// What is looked for.
 #[derive(Clone, Copy)]

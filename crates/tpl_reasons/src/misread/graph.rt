@@ -9,7 +9,7 @@ use json::Value;
 use std::alloc::AllocError;
 use tpl_graph::{GraphFault, OptionsFault, Why};
 use tpl_json::{list_of, member_in, text_of};
-use tpl_words::{MOST_SITES, MOST_STATEMENTS, MOST_TASKS};
+use tpl_model::{MOST_SITES, MOST_STATEMENTS, MOST_TASKS};
 
 const NO_NAME: &str =
     "is not a name: a name (label, site) is 1 to 32 ASCII letters, digits or _, and doesn't begin with a digit";

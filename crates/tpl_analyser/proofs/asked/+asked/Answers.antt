@@ -1,5 +1,5 @@
 use Rattle.std.proofs.Common.{arith}
-use Rattle.tpl_script.proofs.Lists.{falls_in}
+use Rattle.tpl_model.proofs.Lists.{falls_in}
 use Rattle.tpl_analyser.proofs.asked.+asked.Goals as goal
 
 pub asks_for-statement_asks_for-requires : goal.asks_for-statement_asks_for-requires

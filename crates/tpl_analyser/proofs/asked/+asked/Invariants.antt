@@ -1,6 +1,6 @@
 use Rattle.std.proofs.Common.{◌≡◌, ◌+◌, ◌*◌}
-use Rattle.tpl_script.specs.Seen.{statement_of, statements_of}
-use Rattle.tpl_script.specs.Limits.{statement_count, count_one}
+use Rattle.tpl_model.specs.Seen.{statement_of, statements_of}
+use Rattle.tpl_model.specs.Limits.{statement_count, count_one}
 use Rattle.tpl_analyser.proofs.asked.+asked.Given as goal
 
 abbrev pub decreases-asks_for : goal.decreases-asks_for

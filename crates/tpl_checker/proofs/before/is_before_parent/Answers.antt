@@ -1,5 +1,5 @@
 use Rattle.std.proofs.Common.{◌≡◌, ap, ◌∙◌, sym}
-use Rattle.tpl_words.specs.Members.{mem}
+use Rattle.tpl_model.specs.Members.{mem}
 use Rattle.tpl_model.specs.Graph.{Child}
 use Rattle.tpl_model.specs.Certificate.{row}
 use Rattle.tpl_laws.specs.RowTests.{all_in, before_by, by_parent}

@@ -1,7 +1,7 @@
 use Rattle.std.proofs.Common.{◌≡◌, ◌&&◌, ap, ◌∙◌}
-use Rattle.tpl_words.specs.declared.finals.Final.{Final}
-use Rattle.tpl_words.specs.Finals.{has}
-use Rattle.tpl_words.specs.Options.{allows}
+use Rattle.tpl_model.specs.declared.finals.Final.{Final}
+use Rattle.tpl_model.specs.Finals.{has}
+use Rattle.tpl_model.specs.Options.{allows}
 use Rattle.tpl_model.specs.Graph.{options}
 use Rattle.tpl_model.specs.Certificate.{row}
 use Rattle.tpl_laws.specs.RowTests.{implies}

@@ -1,5 +1,5 @@
 use Rattle.std.proofs.Common.{◌≡◌, Bool, ℕ, ap, ◌∙◌}
-use Rattle.tpl_script.specs.Recursion.{reaches}
+use Rattle.tpl_model.specs.Recursion.{reaches}
 use Rattle.tpl_model.specs.Graph.{body}
 use Rattle.tpl_model.specs.Certificate.{row, view}
 use Rattle.tpl_laws.specs.RowTests.{implies, by_parent}

@@ -1,7 +1,7 @@
 use Rattle.std.proofs.Common.{◌∙◌}
-use Rattle.tpl_words.proofs.Truths.{same_tests}
-use Rattle.tpl_script.specs.Recursion.{must_observe}
-use Rattle.tpl_script.specs.View.{known}
+use Rattle.tpl_model.proofs.Truths.{same_tests}
+use Rattle.tpl_model.specs.Recursion.{must_observe}
+use Rattle.tpl_model.specs.View.{known}
 use Rattle.tpl_checker.proofs.chain.observes.Goals as goal
 
 pub returns : goal.returns

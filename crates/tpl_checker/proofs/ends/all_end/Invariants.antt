@@ -1,6 +1,6 @@
 use Rattle.std.proofs.Common.{◌≡◌, not, ◌&&◌, ◌||◌, drop, length, map}
-use Rattle.tpl_words.specs.declared.finals.Final.TheVariants.{RanToCompletion, Canceled, Faulted}
-use Rattle.tpl_words.specs.Finals.{has, is_final}
+use Rattle.tpl_model.specs.declared.finals.Final.TheVariants.{RanToCompletion, Canceled, Faulted}
+use Rattle.tpl_model.specs.Finals.{has, is_final}
 use Rattle.tpl_model.specs.Graph.{some_in}
 use Rattle.tpl_model.specs.Certificate.{row}
 use Rattle.tpl_draft.specs.Ids.{task_number}

@@ -1,5 +1,5 @@
 use Rattle.std.proofs.Common.{map, ◌∙◌}
-use Rattle.tpl_words.specs.Finals.{has}
+use Rattle.tpl_model.specs.Finals.{has}
 use Rattle.tpl_model.specs.Graph.{some_in}
 use Rattle.tpl_model.specs.Certificate.{one_ends, row}
 use Rattle.tpl_draft.specs.Ids.{task_number}

@@ -1,9 +1,9 @@
 use Rattle.std.proofs.Common.{◌&&◌, ap, ◌∙◌, sym, subst}
 use Rattle.tpl_laws.proofs.Settling.{attached_child}
-use Rattle.tpl_words.specs.declared.finals.Final.TheVariants.{Faulted}
-use Rattle.tpl_words.specs.Finals.{has}
-use Rattle.tpl_words.specs.Members.{mem}
-use Rattle.tpl_script.specs.Recursion.{reaches}
+use Rattle.tpl_model.specs.declared.finals.Final.TheVariants.{Faulted}
+use Rattle.tpl_model.specs.Finals.{has}
+use Rattle.tpl_model.specs.Members.{mem}
+use Rattle.tpl_model.specs.Recursion.{reaches}
 use Rattle.tpl_model.specs.Graph.{attached, body, some_in}
 use Rattle.tpl_model.specs.Certificate.{row, view}
 use Rattle.tpl_graph.specs.Roles.{AreTasks}

@@ -1,6 +1,6 @@
 use Rattle.std.proofs.Common.{◌≡◌, ◌&&◌, ◌||◌, not, ap, ◌∙◌}
-use Rattle.tpl_words.specs.Finals.{has}
-use Rattle.tpl_words.specs.Options.{allows, lazy_cancellation}
+use Rattle.tpl_model.specs.Finals.{has}
+use Rattle.tpl_model.specs.Options.{allows, lazy_cancellation}
 use Rattle.tpl_model.specs.Graph.{options}
 use Rattle.tpl_model.specs.Certificate.{row, is_loud}
 use Rattle.tpl_laws.specs.RowTests.{some_end}

@@ -1,5 +1,5 @@
 use Rattle.std.proofs.Common.{◌≡◌, ◌-◌, ◌||◌, suc, false, ap, ◌∙◌, subst, arith, slice_index_or}
-use Rattle.tpl_words.specs.Members.{mem}
+use Rattle.tpl_model.specs.Members.{mem}
 use Rattle.tpl_checker.proofs.GivenLemmas.{QuietFrom, quiet_marked, quiet_unmarked, sources_within}
 use Rattle.tpl_checker.proofs.given.with_sources.Goals as goal
 

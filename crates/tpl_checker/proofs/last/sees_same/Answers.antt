@@ -1,7 +1,7 @@
 use Rattle.std.proofs.Common.{◌≡◌, inl, inr, sym, ap, subst, ◌∙◌, arith}
 use Rattle.std.proofs.lemmas.Bool.{cases_eq, not-false}
-use Rattle.tpl_words.proofs.Truths.{beq_same}
-use Rattle.tpl_words.specs.Finals.{has}
+use Rattle.tpl_model.proofs.Truths.{beq_same}
+use Rattle.tpl_model.specs.Finals.{has}
 use Rattle.tpl_model.specs.Graph.{kind}
 use Rattle.tpl_model.specs.Certificate.{subject_set}
 use Rattle.tpl_checker.proofs.LastLemmas.{same_lists, same_possible, same_finals, same_view}

@@ -1,5 +1,5 @@
 use Rattle.std.proofs.Common.{◌≡◌, ◌<◌, ℕ}
-use Rattle.tpl_words.specs.declared.finals.Final.{Final}
+use Rattle.tpl_model.specs.declared.finals.Final.{Final}
 use Rattle.tpl_model.specs.Graph.{kind}
 use Rattle.tpl_model.specs.Certificate.{subject_set}
 use Rattle.tpl_checker.proofs.last.sees_same.Given as goal

@@ -1,5 +1,5 @@
 use Rattle.std.proofs.Common.{◌∙◌, refl, sym}
-use Rattle.tpl_words.proofs.Truths.{true_false}
+use Rattle.tpl_model.proofs.Truths.{true_false}
 use Rattle.tpl_checker.specs.Assumptions.{assumed_of}
 use Rattle.tpl_checker.proofs.AcceptedLemmas.{accepted, fitting}
 use Rattle.tpl_checker.proofs.leaf.accepts_leaf.Goals as goal

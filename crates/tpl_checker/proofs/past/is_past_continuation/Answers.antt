@@ -1,5 +1,5 @@
 use Rattle.std.proofs.Common.{◌≡◌, ◌<◌, ◌||◌, ◌&&◌, not, nat_eq, ap, ◌∙◌, sym, arith}
-use Rattle.tpl_words.specs.Members.{mem}
+use Rattle.tpl_model.specs.Members.{mem}
 use Rattle.tpl_model.specs.Graph.{Continues}
 use Rattle.tpl_model.specs.Certificate.{row}
 use Rattle.tpl_laws.specs.RowTests.{all_in, is_below, past_by}

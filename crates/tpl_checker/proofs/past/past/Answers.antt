@@ -1,5 +1,5 @@
 use Rattle.std.proofs.Common.{◌≡◌, ◌<◌, ◌&&◌, ℕ, Bool, map, ap, ◌∙◌, arith}
-use Rattle.tpl_words.specs.Members.{mem}
+use Rattle.tpl_model.specs.Members.{mem}
 use Rattle.tpl_model.specs.Graph.{Root, WhenAll, WhenAny}
 use Rattle.tpl_model.specs.Certificate.{row}
 use Rattle.tpl_draft.specs.Ids.{task_number}

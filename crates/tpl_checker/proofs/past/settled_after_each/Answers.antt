@@ -1,5 +1,5 @@
 use Rattle.std.proofs.Common.{◌&&◌, ap, sym, ◌∙◌}
-use Rattle.tpl_words.specs.Members.{mem}
+use Rattle.tpl_model.specs.Members.{mem}
 use Rattle.tpl_checker.specs.Assumptions.{assumed_of}
 use Rattle.tpl_checker.proofs.SettledLemmas.{each_step, may_win_step, no_win_step}
 use Rattle.tpl_checker.proofs.past.settled_after_each.Goals.{then-may_win, else-may_win}

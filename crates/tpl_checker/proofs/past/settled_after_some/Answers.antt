@@ -1,5 +1,5 @@
 use Rattle.std.proofs.Common.{◌||◌, ap, ◌∙◌}
-use Rattle.tpl_words.specs.Members.{mem}
+use Rattle.tpl_model.specs.Members.{mem}
 use Rattle.tpl_checker.proofs.SettledLemmas.{some_step}
 use Rattle.tpl_checker.proofs.past.settled_after_some.Goals as goal
 

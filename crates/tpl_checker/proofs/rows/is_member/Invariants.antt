@@ -1,5 +1,5 @@
 use Rattle.std.proofs.Common.{◌≡◌, drop, map}
-use Rattle.tpl_words.specs.Members.{mem}
+use Rattle.tpl_model.specs.Members.{mem}
 use Rattle.tpl_draft.specs.Ids.{task_number}
 use Rattle.tpl_checker.proofs.rows.is_member.Given as goal
 

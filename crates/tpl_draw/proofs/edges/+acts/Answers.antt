@@ -1,6 +1,6 @@
 use Rattle.std.proofs.Common.{arith}
 use Rattle.std.proofs.lemmas.Result.{on_ok_weaker}
-use Rattle.tpl_script.proofs.Lists.{falls_in}
+use Rattle.tpl_model.proofs.Lists.{falls_in}
 use Rattle.tpl_draw.proofs.ActLemmas.{acts_step, acts_end}
 use Rattle.tpl_draw.proofs.AddedLemmas.{both_added}
 use Rattle.tpl_draw.proofs.edges.+acts.Goals as goal

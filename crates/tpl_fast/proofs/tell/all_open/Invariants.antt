@@ -1,5 +1,5 @@
 use Rattle.std.proofs.Common.{◌≡◌, ℕ, ◌<◌, ◌≤◌, false, length}
-use Rattle.tpl_words.specs.TaskSet.{is_set}
+use Rattle.tpl_model.specs.TaskSet.{is_set}
 use Rattle.tpl_fast.specs.Due.{IsOpenRight}
 use Rattle.tpl_fast.proofs.tell.all_open.Given as goal
 

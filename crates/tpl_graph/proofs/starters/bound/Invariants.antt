@@ -1,6 +1,6 @@
 use Rattle.std.proofs.Common.{◌≡◌, ◌≤◌, ◌+◌, ◌*◌, take, length}
 use Rattle.std.specs.Prelude.{sum_by}
-use Rattle.tpl_script.specs.Limits.{statement_count}
+use Rattle.tpl_model.specs.Limits.{statement_count}
 use Rattle.tpl_graph.proofs.starters.bound.Given as goal
 
 abbrev pub invariant-loop-row : goal.invariant-loop-row

@@ -1,6 +1,6 @@
 use Rattle.std.proofs.Common.{◌++◌, take, flat_map}
 use Rattle.std.specs.Prelude.{codes}
-use Rattle.tpl_words.specs.declared.ids.TaskId.{TaskId}
+use Rattle.tpl_model.specs.declared.ids.TaskId.{TaskId}
 use Rattle.tpl_journal.specs.ReportText.{exception_text}
 use Rattle.tpl_journal.specs.Writing.{Writes}
 use Rattle.tpl_journal.proofs.report_lines.put_all_carried.Given as goal

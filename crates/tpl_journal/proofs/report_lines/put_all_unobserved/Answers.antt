@@ -1,7 +1,7 @@
 use Rattle.std.proofs.Common.{ℕ, List, sym}
 use Rattle.std.proofs.lemmas.List.Folds.{flat_map-map}
 use Rattle.std.proofs.lemmas.Result.{err_from_is_err_and}
-use Rattle.tpl_words.specs.declared.ids.TaskId.{TaskId}
+use Rattle.tpl_model.specs.declared.ids.TaskId.{TaskId}
 use Rattle.tpl_draft.specs.Ids.{task_number}
 use Rattle.tpl_journal.specs.ReportText.{unobserved_line}
 use Rattle.tpl_journal.proofs.PartLemmas.{as_text, each_more, each_stops, each_written, nothing_written}

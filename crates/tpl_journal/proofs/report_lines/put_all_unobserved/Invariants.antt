@@ -1,5 +1,5 @@
 use Rattle.std.proofs.Common.{take, flat_map}
-use Rattle.tpl_words.specs.declared.ids.TaskId.{TaskId}
+use Rattle.tpl_model.specs.declared.ids.TaskId.{TaskId}
 use Rattle.tpl_journal.specs.ReportText.{unobserved_line}
 use Rattle.tpl_journal.specs.Writing.{Writes}
 use Rattle.tpl_journal.proofs.report_lines.put_all_unobserved.Given as goal

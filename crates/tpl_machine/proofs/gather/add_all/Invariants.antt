@@ -1,5 +1,5 @@
 use Rattle.std.proofs.Common.{◌≡◌, ℕ, ◌||◌, drop, map}
-use Rattle.tpl_words.specs.Members.{mem}
+use Rattle.tpl_model.specs.Members.{mem}
 use Rattle.tpl_draft.specs.Ids.{task_number}
 use Rattle.tpl_machine.proofs.gather.add_all.Given as goal
 

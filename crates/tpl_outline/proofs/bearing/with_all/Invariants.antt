@@ -1,5 +1,5 @@
 use Rattle.std.specs.Prelude.{◌≡◌, ℕ, true}
-use Rattle.tpl_words.specs.Members.{mem}
+use Rattle.tpl_model.specs.Members.{mem}
 use Rattle.tpl_outline.proofs.bearing.with_all.Given as goal
 
 abbrev pub invariant-loop-task : goal.invariant-loop-task

@@ -1,5 +1,5 @@
 use Rattle.std.proofs.Common.{arith}
-use Rattle.tpl_script.proofs.Lists.{falls_in}
+use Rattle.tpl_model.proofs.Lists.{falls_in}
 use Rattle.tpl_outline.proofs.cancels.+cancels.Goals as goal
 
 pub cancels_quiet-statement_cancels_quiet-requires : goal.cancels_quiet-statement_cancels_quiet-requires

@@ -1,5 +1,5 @@
 use Rattle.std.proofs.Common.{◌≡◌, true, sym, ◌∙◌, subst}
-use Rattle.tpl_words.specs.Members.{mem}
+use Rattle.tpl_model.specs.Members.{mem}
 use Rattle.tpl_checker.specs.Assumptions.{assumed_of}
 use Rattle.tpl_outline.proofs.OutlineLemmas.{settled_more}
 use Rattle.tpl_outline.proofs.pass.outline_under.Goals.{then-contains, else-contains}

@@ -1,5 +1,5 @@
 use Rattle.std.proofs.Common.{◌+◌, refl, sym, ap, ◌∙◌, subst, arith}
-use Rattle.tpl_script.proofs.Lists.{falls_in}
+use Rattle.tpl_model.proofs.Lists.{falls_in}
 use Rattle.tpl_paths.specs.declared.reached.Reached.{Reached as StoredReached}
 use Rattle.tpl_paths.specs.Gathered.{gathered_of, past_if}
 use Rattle.tpl_paths.specs.Reached.{reached_of}

@@ -1,6 +1,6 @@
 use Rattle.std.proofs.Common.{◌+◌, ◌*◌}
-use Rattle.tpl_script.specs.Seen.{statement_of}
-use Rattle.tpl_script.specs.Limits.{statement_count, count_one}
+use Rattle.tpl_model.specs.Seen.{statement_of}
+use Rattle.tpl_model.specs.Limits.{statement_count, count_one}
 use Rattle.tpl_paths.specs.Gathered.{gathered_of}
 use Rattle.tpl_paths.specs.Reading.{reading_of}
 use Rattle.tpl_paths.proofs.GatheredSoFar.{GatheredSoFar}

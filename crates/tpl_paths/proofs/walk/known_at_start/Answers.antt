@@ -1,7 +1,7 @@
 use Rattle.std.proofs.Common.{ℕ, List, None, ap, ◌∙◌}
 use Rattle.std.specs.Prelude.{option_map, slice_get, if◌then◌else◌}
-use Rattle.tpl_words.specs.Members.{mem}
-use Rattle.tpl_script.specs.Knowledge.{Reading}
+use Rattle.tpl_model.specs.Members.{mem}
+use Rattle.tpl_model.specs.Knowledge.{Reading}
 use Rattle.tpl_paths.specs.declared.reading.Reading.{Reading as StoredReading}
 use Rattle.tpl_paths.specs.declared.asked.Asked.TheVariants as asked
 use Rattle.tpl_paths.specs.Asked.{known_by}

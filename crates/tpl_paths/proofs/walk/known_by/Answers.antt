@@ -1,6 +1,6 @@
 use Rattle.std.proofs.Common.{None, ap, ◌∙◌}
-use Rattle.tpl_script.specs.Knowledge.{Reached, meet}
-use Rattle.tpl_script.specs.Statements.{Statements}
+use Rattle.tpl_model.specs.Knowledge.{Reached, meet}
+use Rattle.tpl_model.specs.Statements.{Statements}
 use Rattle.tpl_paths.specs.Gathered.{gathered_of, past_all}
 use Rattle.tpl_paths.specs.Knowledge.{told}
 use Rattle.tpl_paths.specs.Reached.{reached_of}

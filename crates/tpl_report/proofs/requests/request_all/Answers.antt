@@ -3,7 +3,7 @@ use Rattle.std.proofs.lemmas.List.{get_or_default}
 use Rattle.std.specs.Prelude.{slice_index_or}
 use Rattle.std.proofs.lemmas.List.Elements.{AllWithin-more, All-map}
 use Rattle.tpl_draft.specs.Ids.{token_number}
-use Rattle.tpl_words.specs.declared.ids.TokenId.{TokenId}
+use Rattle.tpl_model.specs.declared.ids.TokenId.{TokenId}
 use Rattle.tpl_report.specs.Made.{HasAsked}
 use Rattle.tpl_report.proofs.AskLemmas.{asked_on}
 use Rattle.tpl_report.proofs.requests.request_all.Goals as goal

@@ -2,7 +2,7 @@ use Rattle.std.proofs.Common.{subst, sym, List}
 use Rattle.std.specs.List.{All}
 use Rattle.tpl_draft.specs.Ids.{token_number}
 use Rattle.tpl_model.specs.Graph.{is_token}
-use Rattle.tpl_words.specs.declared.ids.TokenId.{TokenId}
+use Rattle.tpl_model.specs.declared.ids.TokenId.{TokenId}
 use Rattle.tpl_report.proofs.RunLemmas.{all_mapped}
 use Rattle.tpl_report.proofs.running.requests.Goals as goal
 

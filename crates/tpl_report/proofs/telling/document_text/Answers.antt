@@ -1,7 +1,7 @@
 use Rattle.std.proofs.Common.{List, ℕ, string_bytes, subst}
 use Rattle.std.proofs.lemmas.Result.{IfOk-weaker}
 use Rattle.tpl_reader.specs.SeenDocument.{doc_of}
-use Rattle.tpl_witness.specs.Filled.{with_run, IsTextOf}
+use Rattle.tpl_verify.specs.Filled.{with_run, IsTextOf}
 use Rattle.tpl_report.proofs.TellLemmas.{inputs_fit}
 use Rattle.tpl_report.proofs.telling.document_text.Goals as goal
 

@@ -4,7 +4,7 @@ use Rattle.tpl_commands.specs.declared.exit.Exit.{Exit}
 use Rattle.tpl_model.specs.declared.event.Event.{Event}
 use Rattle.tpl_reader.specs.Document.{longest}
 use Rattle.tpl_reader.specs.SeenDocument.{doc_of}
-use Rattle.tpl_witness.specs.Filled.{IsTextOf}
+use Rattle.tpl_verify.specs.Filled.{IsTextOf}
 use Rattle.tpl_report.specs.Reported.{told}
 use Rattle.tpl_report.specs.Telling.{report_exit, with_events}
 use Rattle.tpl_report.proofs.TellLemmas.{whole_written}

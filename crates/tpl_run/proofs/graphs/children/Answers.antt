@@ -1,5 +1,5 @@
 use Rattle.std.proofs.Common.{ap, ◌∙◌, sym}
-use Rattle.tpl_words.specs.Members.{mem}
+use Rattle.tpl_model.specs.Members.{mem}
 use Rattle.tpl_model.specs.Graph.{attached}
 use Rattle.tpl_draft.specs.Named.{Named}
 use Rattle.tpl_run.proofs.GraphLemmas.{attached_within}

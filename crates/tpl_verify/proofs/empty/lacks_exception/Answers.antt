@@ -1,5 +1,5 @@
 use Rattle.std.proofs.Common.{◌≡◌, IsTrue, subst}
-use Rattle.tpl_words.specs.declared.ids.TaskId.{TaskId}
+use Rattle.tpl_model.specs.declared.ids.TaskId.{TaskId}
 use Rattle.tpl_model.specs.Certificate.{is_wide}
 use Rattle.tpl_verify.specs.Verdicts.{ThrowsNowhere}
 use Rattle.tpl_verify.proofs.empty.lacks_exception.Goals as goal

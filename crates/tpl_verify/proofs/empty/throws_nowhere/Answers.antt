@@ -1,9 +1,9 @@
 use Rattle.std.proofs.Common.{◌≡◌, ◌↔◌, IsTrue, ℕ, Option, ap, ◌∙◌, subst}
-use Rattle.tpl_script.specs.Statements.{Statements}
-use Rattle.tpl_script.specs.Paths.{Known, MayThrow}
-use Rattle.tpl_script.specs.View.{known}
+use Rattle.tpl_model.specs.Statements.{Statements}
+use Rattle.tpl_model.specs.Paths.{Known, MayThrow}
+use Rattle.tpl_model.specs.View.{known}
 use Rattle.std.specs.Option.{option_map}
-use Rattle.tpl_words.specs.Finals.{has}
+use Rattle.tpl_model.specs.Finals.{has}
 use Rattle.tpl_draft.specs.Ids.{token_number}
 use Rattle.tpl_model.specs.Graph.{body}
 use Rattle.tpl_model.specs.Certificate.{Assumed, assumed, is_wide}

@@ -1,8 +1,8 @@
 use Rattle.std.proofs.Common.{◌≡◌, ◌↔◌, true, ◌∙◌, subst}
-use Rattle.tpl_words.specs.Members.{mem}
-use Rattle.tpl_script.specs.Paths.{MayStartChild}
-use Rattle.tpl_script.specs.Recursion.{may, none, is_throw}
-use Rattle.tpl_script.specs.View.{known}
+use Rattle.tpl_model.specs.Members.{mem}
+use Rattle.tpl_model.specs.Paths.{MayStartChild}
+use Rattle.tpl_model.specs.Recursion.{may, none, is_throw}
+use Rattle.tpl_model.specs.View.{known}
 use Rattle.tpl_model.specs.Graph.{body}
 use Rattle.tpl_model.specs.Certificate.{view}
 use Rattle.tpl_laws.specs.RowTests.{is_return, is_acknowledgement}

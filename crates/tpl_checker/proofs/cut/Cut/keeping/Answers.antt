@@ -1,5 +1,5 @@
 use Rattle.std.proofs.Common.{◌&&◌, ◌||◌, ap, not, nat_eq, ◌∙◌}
-use Rattle.tpl_words.specs.Members.{mem}
+use Rattle.tpl_model.specs.Members.{mem}
 use Rattle.tpl_checker.proofs.Assuming.{kept_cut}
 use Rattle.tpl_checker.proofs.cut.Cut.keeping.Goals as goal
 

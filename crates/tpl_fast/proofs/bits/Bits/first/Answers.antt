@@ -1,7 +1,7 @@
 use Rattle.std.proofs.Common.{◌+◌, ◌*◌, ◌^◌, ◌<◌, ℕ, refl, sym, ap, ◌∙◌, arith, rules}
 use Rattle.std.specs.Prelude.{slice_index}
 use Rattle.std.specs.Int.{trailing_zeros, w64}
-use Rattle.tpl_words.specs.TaskSet.{is_set}
+use Rattle.tpl_model.specs.TaskSet.{is_set}
 use Rattle.tpl_fast.proofs.BitLemmas.{first_set, all_unset}
 use Rattle.tpl_fast.proofs.bits.Bits.first.Goals as goal
 

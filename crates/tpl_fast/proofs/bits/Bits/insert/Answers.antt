@@ -1,6 +1,6 @@
 use Rattle.std.proofs.Common.{true, ap, ◌∙◌, arith, nat_eq}
 use Rattle.std.specs.Prelude.{if◌then◌else◌}
-use Rattle.tpl_words.specs.TaskSet.{is_set}
+use Rattle.tpl_model.specs.TaskSet.{is_set}
 use Rattle.tpl_fast.proofs.BitLemmas.{inserted}
 use Rattle.tpl_fast.proofs.bits.Bits.insert.Goals as goal
 

@@ -1,6 +1,6 @@
 use Rattle.std.proofs.Common.{false, ap, ◌∙◌, arith, nat_eq}
 use Rattle.std.specs.Prelude.{if◌then◌else◌}
-use Rattle.tpl_words.specs.TaskSet.{is_set}
+use Rattle.tpl_model.specs.TaskSet.{is_set}
 use Rattle.tpl_fast.proofs.BitLemmas.{removed}
 use Rattle.tpl_fast.proofs.bits.Bits.remove.Goals as goal
 

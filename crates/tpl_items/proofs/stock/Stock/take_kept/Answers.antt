@@ -1,6 +1,6 @@
 use Rattle.std.proofs.Common.{◌≡◌, ◌∙◌, Some, ap, length, refl}
 use Rattle.std.proofs.lemmas.Option.{slice_get_read}
-use Rattle.tpl_words.specs.declared.ids.Worker.{Worker}
+use Rattle.tpl_model.specs.declared.ids.Worker.{Worker}
 use Rattle.tpl_items.proofs.stock.Stock.take_kept.Goals as goal
 
 pub returns : goal.returns

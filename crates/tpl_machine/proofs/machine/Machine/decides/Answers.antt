@@ -1,7 +1,7 @@
 use Rattle.std.proofs.Common.{ap, subst}
-use Rattle.tpl_script.specs.Cursor.{BeginsWith}
-use Rattle.tpl_script.specs.Seen.{statement_of}
-use Rattle.tpl_script.specs.Statements.{Check}
+use Rattle.tpl_model.specs.Cursor.{BeginsWith}
+use Rattle.tpl_model.specs.Seen.{statement_of}
+use Rattle.tpl_model.specs.Statements.{Check}
 use Rattle.tpl_model.specs.Valid.{IsGraph}
 use Rattle.tpl_run.specs.Journal.{Journal}
 use Rattle.tpl_run.specs.Rows.{TaskRow}

@@ -1,7 +1,7 @@
 use Rattle.std.proofs.Common.{◌≡◌, ℕ, true, sym, ◌∙◌}
-use Rattle.tpl_words.specs.TaskSet.{IsSubset}
-use Rattle.tpl_words.proofs.Truths.{true_false}
-use Rattle.tpl_script.specs.Knowledge.{Fact, IsSettled, IsRequested}
+use Rattle.tpl_model.specs.TaskSet.{IsSubset}
+use Rattle.tpl_model.proofs.Truths.{true_false}
+use Rattle.tpl_model.specs.Knowledge.{Fact, IsSettled, IsRequested}
 use Rattle.tpl_paths.specs.declared.facts.Facts.{Facts}
 use Rattle.tpl_paths.specs.TokenSet.{has_token}
 use Rattle.tpl_paths.specs.Facts.{has_fact}

@@ -1,5 +1,5 @@
 use Rattle.std.proofs.Common.{Some, None, ap}
-use Rattle.tpl_script.specs.Knowledge.{Knowledge, Reached}
+use Rattle.tpl_model.specs.Knowledge.{Knowledge, Reached}
 use Rattle.tpl_paths.proofs.reached.Reached.begin.Goals as goal
 
 pub returns : goal.returns

@@ -1,6 +1,6 @@
 use Rattle.std.proofs.Common.{ap, sym, ◌∙◌, map, drop}
 use Rattle.std.proofs.lemmas.List.{take_rest, drop-map}
-use Rattle.tpl_words.specs.Members.{mem}
+use Rattle.tpl_model.specs.Members.{mem}
 use Rattle.tpl_model.specs.Graph.{attached}
 use Rattle.tpl_draft.specs.Ids.{task_number}
 use Rattle.tpl_fast.specs.Kept.{is_over, all_pass}

@@ -1,0 +1,165 @@
+//! Whether a claim holds of a run.
+
+ghost use Rattle.std.specs.Prelude.{◌≡◌, ◌↔◌, ◌<◌, ◌⊎◌, IsTrue, IfSome, IfNone, ℕ, true, false, is_some, length, [], ◌∷◌};
+ghost use Rattle.tpl_model.specs.Graph.{is_task, IsParent};
+ghost use Rattle.tpl_model.specs.Valid.{all_sites};
+ghost use Rattle.tpl_model.specs.Facts.{Ending, begun, failed, started, ending};
+ghost use Rattle.tpl_model.specs.Claims.{IsGiven, SettledAtBegin, HoldsOf, Holds};
+ghost use Rattle.tpl_laws.specs.Settling.{SettledBefore};
+ghost use Rattle.tpl_graph.specs.Fits.{IsGivenOf, AreGivenOf, TasksOf, Fits};
+
+use tpl_graph::Claim;
+use tpl_model::{Finals, Given, Label, Property, SiteId, Status, TaskId};
+use tpl_run::Core;
+
+fn is_given<C: Core>(core: &C, given: Given) -> bool
+    requires { IsGivenOf (C.journal core.now).graph given }
+    ensures { let j = C.journal core.now in IsTrue result
+        ↔ IsGiven j.graph j.inputs j.events (given ∷ []) }
+{
+    match given {
+        Given::Input(input, value) => core.input(input) == value,
+        Given::Quiet(token) => !core.requested(token),
+        Given::Ended(task, ends) => ends_within(core, task, ends),
+        Given::Succeeds(site) => !has_failed(core, site),
+    }
+}
+
+/// Whether the job of a site has failed, which is what the task threw in whose body it stands.
+pub fn has_failed<C: Core>(core: &C, site: SiteId) -> bool
+    requires { site.0 < length (all_sites (C.journal core.now).graph) }
+    ensures { let j = C.journal core.now in result ≡ failed j.graph j.inputs j.events site.0 }
+{
+    core.run_law();
+    tpl_laws::failed_by_its_label();
+    let graph = core.graph();
+    graph.valid_law();
+    match core.label(graph.site_owner(site)) {
+        Some(Label::WorkFailed(failed)) => failed.0 == site.0,
+        _ => false,
+    }
+}
+
+fn are_given<C: Core>(core: &C, given: &[Given]) -> bool
+    requires { AreGivenOf (C.journal core.now).graph given.now }
+    ensures { let j = C.journal core.now in IsTrue result
+        ↔ IsGiven j.graph j.inputs j.events given.now }
+{
+    for one in given {
+        if !is_given(core, *one) {
+            return false;
+        }
+    }
+    true
+}
+
+fn ends_within<C: Core>(core: &C, task: TaskId, ends: Finals) -> bool
+    requires { is_task (C.journal core.now).graph task.0 }
+    ensures { let j = C.journal core.now in IsTrue result
+        ↔ HoldsOf j.graph j.inputs j.events (Property.Final task ends) }
+{
+    match core.status(task) {
+        Status::Completed(status) => ends.contains(status),
+        _ => true,
+    }
+}
+
+fn has_begun<C: Core>(core: &C, task: TaskId) -> bool
+    requires { is_task (C.journal core.now).graph task.0 }
+    ensures { result ≡ is_some (begun (C.journal core.now).events task.0) }
+{
+    core.began(task).is_some()
+}
+
+fn ended_before<C: Core>(core: &C, task: TaskId, place: u32) -> bool
+    requires { is_task (C.journal core.now).graph task.0 }
+    ensures { let j = C.journal core.now in IsTrue result
+        ↔ ((e : Ending) × (ending j.graph j.inputs j.events task.0 ≡ Some e) × (e.place < place)) }
+{
+    match core.ended(task) {
+        Some(end) => end < place,
+        None => false,
+    }
+}
+
+/// The task whose body would have started a child that wasn't started.
+fn never_started_by<C: Core>(core: &C, task: TaskId) -> Option<TaskId>
+    requires { is_task (C.journal core.now).graph task.0 }
+    ensures some { let j = C.journal core.now in IfSome result
+        (λ p. (started j.graph j.inputs j.events task.0 ≡ false) × IsParent j.graph p.0 task.0) }
+    ensures none { let j = C.journal core.now in IfNone result
+        ((started j.graph j.inputs j.events task.0 ≡ true)
+        ⊎ ((p : ℕ) → IsParent j.graph p task.0 → ⊥)) }
+{
+    if core.started(task) {
+        None
+    } else {
+        core.graph().parent_of(task)
+    }
+}
+
+fn settled_before<C: Core>(core: &C, task: TaskId, place: u32) -> bool
+    requires { is_task (C.journal core.now).graph task.0 }
+    ensures { let j = C.journal core.now in IsTrue result
+        ↔ SettledBefore j.graph j.inputs j.events place task.0 }
+{
+    core.run_law();
+    let mut at = task;
+    while !ended_before(core, at, place) {
+        match never_started_by(core, at) {
+            Some(parent) => at = parent,
+            None => return false,
+        }
+    }
+    true
+}
+
+fn settled_at_begin<C: Core>(core: &C, first: TaskId, second: TaskId) -> bool
+    requires first { is_task (C.journal core.now).graph first.0 }
+    requires second { is_task (C.journal core.now).graph second.0 }
+    ensures { let j = C.journal core.now in IsTrue result
+        ↔ SettledAtBegin j.graph j.inputs first.0 second.0 j.events }
+{
+    core.run_law();
+    tpl_laws::settled_without_begin();
+    tpl_laws::settled_before_its_begin();
+    match core.began(second) {
+        Some(place) => settled_before(core, first, place),
+        None => true,
+    }
+}
+
+fn is_observed<C: Core>(core: &C, task: TaskId) -> bool
+    requires { is_task (C.journal core.now).graph task.0 }
+    ensures { let j = C.journal core.now in IsTrue result
+        ↔ HoldsOf j.graph j.inputs j.events (Property.Observed task) }
+{
+    !core.complete() || core.label(task).is_none() || core.seen(task)
+}
+
+/// Whether the property is true of the run.
+pub fn is_true_of<C: Core>(core: &C, body: Property) -> bool
+    requires { TasksOf (C.journal core.now).graph body }
+    ensures { let j = C.journal core.now in IsTrue result ↔ HoldsOf j.graph j.inputs j.events body }
+{
+    match body {
+        Property::Final(task, ends) => ends_within(core, task, ends),
+        Property::After(first, second) => settled_at_begin(core, first, second),
+        Property::Observed(task) => is_observed(core, task),
+        Property::Never(task) => !has_begun(core, task),
+        Property::Excludes(one, other) => !(has_begun(core, one) && has_begun(core, other)),
+        Property::Runs(task) => !core.complete() || has_begun(core, task),
+    }
+}
+
+/// Whether the claim holds of the run: its property is true of it, or what it takes as given isn't. `Final` speaks of a
+/// task that has ended, `After` of one that has begun, `Observed` and `Runs` of a run that is complete, `Never` and
+/// `Excludes` of the tasks that have begun. A task is settled if it has ended (.NET: `Task.IsCompleted`), or if it is a child that
+/// isn't started and its parent is settled.
+pub fn holds<C: Core>(core: &C, claim: &Claim) -> bool
+    requires { Fits (C.journal core.now).graph claim.now }
+    ensures { let j = C.journal core.now in IsTrue result
+        ↔ Holds j.graph claim.now j.inputs j.events }
+{
+    !are_given(core, claim.given()) || is_true_of(core, claim.body())
+}

@@ -1,0 +1,6 @@
+use Rattle.std.proofs.Common.{◌≡◌, ℕ, ◌<◌, get_or, bit_and}
+use Rattle.tpl_model.proofs.task_set.TaskSet.is_subset.Given as goal
+
+abbrev pub invariant-loop-i : goal.invariant-loop-i
+invariant-loop-i l =
+    (k : ℕ) → k < l.i → bit_and (get_or l.self-inside.words k 0) (get_or l.other-inside.words k 0) ≡ get_or l.self-inside.words k 0

@@ -1,0 +1,72 @@
+//! A body within the limits.
+
+ghost use Rattle.std.specs.Prelude.{◌≡◌, ◌↔◌, IsTrue, IsOk, IfOk, IfErr};
+ghost use Rattle.tpl_model.specs.Limits.{statement_count, IsWithinLimits};
+
+use crate::body::Body;
+use crate::room::room_behind;
+use crate::same::same_body;
+use std::marker::Model;
+use crate::{MOST_LEVELS, MOST_STATEMENTS};
+
+/// A body within the limits: at most 64 statements, nested ones counted, and at most 8 levels
+/// (the limits are this program's own).
+#[derive(Drop)]
+pub struct Script {
+    body: Body,
+}
+
+impl Model for Script {
+    ghost use Rattle.tpl_model.specs.Statements.{Statements};
+    ghost use Rattle.tpl_model.specs.Coding.{statements_code};
+
+    ghost Value = { Statements };
+
+    ghost coded = { statements_code };
+
+    ghost use Rattle.tpl_model.specs.Limits.{IsWithinLimits};
+
+    ghost view = { λ s. s.body };
+
+    ghost invariant = { λ s. IsWithinLimits s.body };
+}
+
+impl Script {
+    /// The script of a body within the limits. A body beyond them is handed back as it was.
+    pub fn make(body: Body) -> Result<Script, Body>
+        ensures when { IsOk result ↔ IsWithinLimits body }
+        ensures ok { IfOk result (λ s. s ≡ body) }
+        ensures err { IfErr result (λ b. b ≡ body) }
+    {
+        if room_behind(&body, MOST_STATEMENTS, MOST_LEVELS).is_some() {
+            Ok(Script { body })
+        } else {
+            Err(body)
+        }
+    }
+
+    /// How many statements it has, nested ones counted: at most 64.
+    pub fn size(&self) -> u8
+        ensures { result ≡ statement_count self.now }
+    {
+        match room_behind(&self.body, MOST_STATEMENTS, MOST_LEVELS) {
+            Some(left) => MOST_STATEMENTS - left,
+            None => unreachable!(),
+        }
+    }
+
+    /// The statements of the script.
+    pub fn body(&self) -> &Body
+        ensures body { result.now ≡ self.now }
+        ensures limits { IsWithinLimits self.now }
+    {
+        &self.body
+    }
+
+    /// The two have the same statements.
+    pub fn same(&self, other: &Script) -> bool
+        ensures { IsTrue result ↔ (self.now ≡ other.now) }
+    {
+        same_body(&self.body, &other.body)
+    }
+}

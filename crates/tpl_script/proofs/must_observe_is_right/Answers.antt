@@ -1,5 +1,0 @@
-use Rattle.tpl_script.proofs.Through.{must_lem}
-use Rattle.tpl_script.proofs.must_observe_is_right.Goals as goal
-
-pub returns : goal.returns
-returns c = must_lem

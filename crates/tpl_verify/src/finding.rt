@@ -1,0 +1,54 @@
+//! The search for a run in which a claim of a document fails.
+
+ghost use Rattle.std.specs.Prelude.{IfOk, IfSome};
+ghost use Rattle.std.specs.List.{All};
+ghost use Rattle.tpl_graph.specs.Fits.{Fits};
+ghost use Rattle.tpl_reader.specs.SeenDocument.{doc_of};
+ghost use Rattle.tpl_verify.specs.Witness.{IsFound};
+
+use crate::aside::tell_end;
+use crate::search::Search;
+use std::alloc::{AllocError, Global};
+use tpl_commands::{Listen, rules_of};
+use tpl_reader::Document;
+use tpl_refute::Counterexample;
+use crate::{Attend, Verdict, judge_claim};
+
+/// A run in which a claim fails.
+#[derive(Drop)]
+pub(crate) struct Found {
+    /// The claim's number, from 1.
+    pub(crate) number: usize,
+    /// The run.
+    pub(crate) run: Counterexample,
+}
+
+/// The first run that is found, claim by claim. Each claim has random numbers and limits of its own. Who attends is told
+/// of the verdict on each claim.
+pub(crate) fn find<L: Listen, A: Attend>(
+    alloc: Global,
+    search: Search,
+    document: &Document,
+    listener: L,
+    attend: &A,
+) -> Result<Option<Found>, AllocError>
+    requires { All (Fits document.now.graph.graph) document.now.claims.items }
+    ensures { IfOk result (λ o. IfSome o (λ found. IsFound search.claim (doc_of document.now)
+        found.number found.run.inputs found.run.events.items)) }
+{
+    let (graph, rules, limits) = (&document.graph, rules_of(document), &search.limits);
+    for (index, claim) in document.claims.iter().enumerate() {
+        let number = index + 1;
+        if search.asks(number) {
+            let verdict = judge_claim(alloc, graph, claim, rules, number as u64, limits)?;
+            attend.judged(number, &verdict);
+            if search.explain {
+                tell_end(alloc, number, &verdict, listener)?;
+            }
+            if let Verdict::Fails(run) = verdict {
+                return Ok(Some(Found { number, run }));
+            }
+        }
+    }
+    Ok(None)
+}

@@ -1,6 +1,0 @@
-use Rattle.serde_json.specs.View.{members_view}
-use Rattle.tpl_witness.specs.Filled.{AreFirst}
-use Rattle.tpl_witness.proofs.start.input_members.Given as goal
-
-abbrev pub invariant-loop-number : goal.invariant-loop-number
-invariant-loop-number l = AreFirst l.graph.names.inputs l.inputs l.number (members_view l.members.entries)

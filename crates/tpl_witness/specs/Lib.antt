@@ -1,4 +1,0 @@
-pub mod Asking
-pub mod Filled
-pub mod Witness
-pub mod Serving

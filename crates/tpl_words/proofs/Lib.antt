@@ -1,4 +1,0 @@
-pub mod Truths
-pub mod MemberLemmas
-pub mod SetLists
-pub mod BitSets

@@ -1,5 +1,0 @@
-use Rattle.tpl_words.proofs.SetLists.{sets_lem}
-use Rattle.tpl_words.proofs.task_set.sets_are_their_members.Goals as goal
-
-pub returns : goal.returns
-returns c = sets_lem

@@ -1,5 +1,0 @@
-pub mod Finals
-pub mod Members
-pub mod Options
-pub mod Statuses
-pub mod TaskSet
