@@ -14,8 +14,8 @@ use crate::watch::Watch;
 use std::alloc::{AllocError, Global};
 use tpl_cert::{Node, Row, Tree, is_within_limits};
 use tpl_checker::accepts_leaf;
-use tpl_outline::{Setting, least_rows, reached};
 use tpl_model::TaskId;
+use tpl_outline::{Setting, least_rows, reached};
 
 /// Builds and tests the leaf of a branch: the leaf, if it is accepted.
 pub(crate) fn leaf(

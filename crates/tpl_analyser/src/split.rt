@@ -7,8 +7,8 @@ ghost use Rattle.tpl_analyser.specs.Splits.{IsSplitOf};
 use std::alloc::{AllocError, Global};
 use tpl_checker::Assumptions;
 use tpl_graph::Graph;
-use tpl_outline::Beyond;
 use tpl_model::{Final, InputId, MOST_INPUTS, MOST_TASKS, TaskId, TaskSet};
+use tpl_outline::Beyond;
 
 /// The most branches of a split.
 const MOST_BRANCHES: usize = 3;

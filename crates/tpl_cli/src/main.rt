@@ -34,12 +34,12 @@ use std::{env, iter};
 use tpl_commands::{Ask, Exit, Loaded, load_watched, put_out_of_memory, serve_watched};
 use tpl_each::{MOST_JOBS, Question, serve_each};
 use tpl_journal::Counting;
+use tpl_model::Inputs;
 use tpl_reader::Document;
 use tpl_report::{Crew, Telling};
 use tpl_trace::trace_document;
 use tpl_verdicts::{OneByOne, Verification, verify_document};
 use tpl_verify::{Limits, Search, refute_document};
-use tpl_model::Inputs;
 
 /// The words of the command line, the program's own name first.
 fn words(rt: &HostRuntime) -> Result<Vec<String>, LineFault> {

@@ -8,9 +8,9 @@ use std::time::Duration;
 use tpl_fast::Fast;
 use tpl_graph::Graph;
 use tpl_machine::Core;
+use tpl_model::{Inputs, TaskId};
 use tpl_report::{Follow, Watcher};
 use tpl_verify::{Attend, Verdict};
-use tpl_model::{Inputs, TaskId};
 
 /// How long it takes until the line is written again, in milliseconds.
 const PAUSE: u64 = 20;

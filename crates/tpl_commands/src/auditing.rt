@@ -22,8 +22,8 @@ use std::alloc::{AllocError, Global};
 use tpl_audit::{Failure, OtherEnd, Verdict, audit};
 use tpl_graph::Graph;
 use tpl_journal::{JournalFault, read_journal};
-use tpl_reader::Document;
 use tpl_model::Inputs;
+use tpl_reader::Document;
 
 /// What the audit says of a document's journal.
 #[derive(Clone, Copy)]

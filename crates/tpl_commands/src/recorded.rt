@@ -4,8 +4,8 @@ ghost use Rattle.std.specs.Prelude.{◌≡◌};
 ghost use Rattle.tpl_reader.specs.SeenDocument.{doc_of};
 ghost use Rattle.tpl_commands.specs.Recorded.{ended_of, times_of};
 
-use tpl_reader::Document;
 use tpl_model::{Final, TaskId};
+use tpl_reader::Document;
 
 /// How tasks were seen to end in a real run: empty where nothing is said.
 pub fn ended_of(document: &Document) -> &[(TaskId, Final)]

@@ -9,8 +9,8 @@ ghost use Rattle.tpl_run.specs.Rows.{is_it};
 ghost use Rattle.tpl_fast.specs.Tokens.{AreAsked};
 
 use tpl_graph::Graph;
-use tpl_run::tokens::{close, none_requested};
 use tpl_model::{MOST_TOKENS, TokenId};
+use tpl_run::tokens::{close, none_requested};
 
 /// The tokens that were requested themselves, and those that are requested, themselves or through their sources.
 #[derive(Clone, Copy)]

@@ -1,7 +1,7 @@
 //! What a session runs.
 
-use tpl_queue::{Receipt, WorkItem};
 use tpl_model::SiteId;
+use tpl_queue::{Receipt, WorkItem};
 
 /// The box of one work statement, stamped by a `K`. A session calls it at most once, and can make none.
 ///

@@ -10,8 +10,8 @@ ghost use Rattle.tpl_items.specs.Stock.{AreOthers, HasPlace, IfWorker, Takes, Ta
 use crate::item::Item;
 use std::alloc::Global;
 use std::marker::Model;
-use tpl_queue::Job;
 use tpl_model::{Actor, SiteId, TaskId, Worker};
+use tpl_queue::Job;
 
 /// A job as the queue carries it. Its list is empty: items stay in the stock until they are called.
 pub type ItemJob<W> = Job<Vec<W>>;

@@ -9,8 +9,8 @@ ghost use Rattle.tpl_run.specs.Rows.{ending_in, HaveRoom};
 ghost use Rattle.tpl_machine.specs.Gathering.{IsBeside};
 
 use crate::atoms::join;
-use tpl_run::row::Row;
 use tpl_model::{MOST_TASKS, TaskId, TaskSet};
+use tpl_run::row::Row;
 
 /// Adds what one task carries.
 fn gather_one(list: &mut Vec<TaskId>, members: &mut TaskSet, rows: &[Row], task: TaskId)

@@ -12,8 +12,8 @@ ghost use Rattle.tpl_run.specs.Rows.{TaskRow, with_rest, with_ending, ending_of,
 
 use crate::gather::{add_all, gather, gather_started};
 use tpl_graph::Kind;
-use tpl_run::row::{Ended, Row};
 use tpl_model::{Actor, Answer, Final, MOST_TASKS, MOST_TOKENS, Outcome, TaskId, TaskSet, TokenId};
+use tpl_run::row::{Ended, Row};
 
 /// Marks a token as requested, if there is one.
 pub fn mark(requested: &mut [bool; MOST_TOKENS], token: Option<TokenId>)

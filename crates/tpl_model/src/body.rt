@@ -3,8 +3,8 @@
 ghost use Rattle.std.specs.Prelude.{◌≡◌};
 ghost use Rattle.tpl_model.specs.Seen.{statements_of};
 
-use std::marker::Model;
 use crate::{Final, InputId, LabelId, SiteId, TaskId, TokenId};
+use std::marker::Model;
 
 /// A statement of a body: what a task's delegate does, as far as other tasks can notice (Task Parallel
 /// Library guide: task-based programming, child tasks, cancellation, exception handling).

@@ -7,11 +7,11 @@ ghost use Rattle.tpl_model.specs.View.{known};
 ghost use Rattle.tpl_model.specs.Paths.{MayEnd, MayThrow, MustObserve};
 ghost use Rattle.tpl_model.specs.Ends.{then_ends, either_end, only_if, ends_in, ends_at, checked};
 
+use crate::TokenId;
 use crate::body::{Body, Stmt};
 use crate::script::Script;
 use crate::verdict::Verdicts;
 use crate::view::View;
-use crate::TokenId;
 
 /// What the paths through some statements do.
 #[derive(Clone, Copy)]

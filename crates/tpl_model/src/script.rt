@@ -4,10 +4,10 @@ ghost use Rattle.std.specs.Prelude.{◌≡◌, ◌↔◌, IsTrue, IsOk, IfOk, If
 ghost use Rattle.tpl_model.specs.Limits.{statement_count, IsWithinLimits};
 
 use crate::body::Body;
-use crate::room::room_behind;
+use crate::extent::room_behind;
 use crate::same::same_body;
-use std::marker::Model;
 use crate::{MOST_LEVELS, MOST_STATEMENTS};
+use std::marker::Model;
 
 /// A body within the limits: at most 64 statements, nested ones counted, and at most 8 levels
 /// (the limits are this program's own).

@@ -2,13 +2,13 @@
 ghost use Rattle.std.specs.Prelude.{◌≡◌, ◌<◌, ◌+◌, ℕ, [], map, IfOk, IfErr, IfSome, IfNone, OnOk, OnErr};
 ghost use Rattle.tpl_queue.specs.Tally.{new_tally, times, after_put, after_take, first_half, second_half, both, IsWhole, Accounts, HeldAtOnce, HeldFewer, WasOldest};
 
+use crate::Job;
 use crate::pass::QueuePass;
 use crate::reserve::{Reserve, reserved, unreserved, witness};
 use crate::rule::{Halves, Placed, Put, Ring, Taken};
 use std::alloc::{AllocError, Global};
 use std::marker::Model;
 use std::sync::Wait;
-use crate::Job;
 
 /// A bounded queue of jobs, for any number of workers at once.
 ///

@@ -1,11 +1,11 @@
 //! What the passes of a queue and the jobs in it have to do with each other at every moment.
 ghost use Rattle.std.specs.Prelude.{◌≡◌};
 
+use crate::Job;
 use atomic_table::Badge;
 use crossbeam_queue::RuledArrayQueue;
 use crossbeam_queue::protocol::{Join, Lesson, Outcome, Protocol, Split};
 use std::collections::LinkedList;
-use crate::Job;
 
 /// What one pass knows: the tasks of the jobs that it put and took, in order, and that it is
 /// `parts / 2 ^ halvings` of the whole pass. No value of it is made.

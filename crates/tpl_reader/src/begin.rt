@@ -17,8 +17,8 @@ use json::Value;
 use std::alloc::Global;
 use tpl_graph::Graph;
 use tpl_json::{Miss, bool_in};
-use tpl_parts::NamedStart;
 use tpl_model::{InputId, Inputs, SiteId, TokenId};
+use tpl_parts::NamedStart;
 
 fn declares(graph: &Graph, members: &[(&str, Value<'_>)]) -> bool
     ensures { result ≡ list_all (λ m. is_declared graph.now.names.inputs m.0.now) members.now }

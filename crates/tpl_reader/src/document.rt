@@ -6,8 +6,8 @@ ghost use Rattle.tpl_reader.specs.Starting.{inputs_of};
 
 use tpl_cert::Certificate;
 use tpl_graph::{Claim, Graph};
-use tpl_parts::Version;
 use tpl_model::{Final, Inputs, SiteId, TaskId, TokenId};
+use tpl_parts::Version;
 
 /// Where a run starts.
 #[derive(Drop)]

@@ -34,8 +34,8 @@ use std::alloc::Global;
 use tpl_cert::{Certificate, Tree, TreeFault};
 use tpl_graph::{Claim, Draft, Graph, Why};
 use tpl_json::{Miss, NotRead, value_from};
-use tpl_parts::{NamedClaim, NamedStart, Version};
 use tpl_model::{Final, TaskId};
+use tpl_parts::{NamedClaim, NamedStart, Version};
 
 /// The most bytes of a document (this program's own limit).
 pub const LONGEST: usize = 16_777_216;

@@ -29,9 +29,9 @@ use std::thread::Threads;
 use tpl_checker::check;
 use tpl_commands::{Exit, put, put_answer, put_out_of_memory, refused_answer, rules_of};
 use tpl_journal::Counting;
+use tpl_model::{Inputs, TokenId};
 use tpl_reader::Document;
 use tpl_runtime::{Item, Report};
-use tpl_model::{Inputs, TokenId};
 
 /// The tokens that are requested first.
 fn requests(document: &Document) -> &[TokenId]

@@ -19,9 +19,9 @@ use std::alloc::{AllocError, Global};
 use std::sync::Wait;
 use std::thread::Threads;
 use tpl_graph::Graph;
+use tpl_model::{Inputs, TokenId};
 use tpl_queue::{JobQueue, QueuePass};
 use tpl_runtime::{Ended, Item, Report, Seat, Session};
-use tpl_model::{Inputs, TokenId};
 
 /// Makes a run of the graph: the tokens are requested first, and then the workers call the items.
 pub(crate) fn report_on<R: Threads + Wait + Sync, K: Drop + Send, W: Item<K> + Send, F: Follow>(

@@ -10,8 +10,8 @@ use std::sync::Wait;
 use tpl_graph::Graph;
 use tpl_hall::{Ended, Seat};
 use tpl_items::Item;
-use tpl_queue::QueuePass;
 use tpl_model::Inputs;
+use tpl_queue::QueuePass;
 
 /// What workers share, seen without the items that its queue carries: so a thread's answer can be known to hold a pass
 /// of the same queue.

@@ -16,9 +16,9 @@ use std::sync::Wait;
 use tpl_graph::Graph;
 use tpl_hall::{Ended, Hall, Seat, SeatFault, has_seat};
 use tpl_items::{Children, Item, Stock};
-use tpl_queue::Receipt;
 use tpl_machine::Core;
 use tpl_model::{Act, Actor, TaskId};
+use tpl_queue::Receipt;
 
 /// What a worker holds when it has left the lock.
 #[derive(Clone, Copy)]

@@ -14,8 +14,8 @@ use std::sync::Wait;
 use tpl_graph::Graph;
 use tpl_hall::{Ended, Seat, Stint};
 use tpl_items::Item;
-use tpl_queue::Receipt;
 use tpl_model::{Inputs, TaskId};
+use tpl_queue::Receipt;
 
 impl<'g, K: Drop, W: Item<K>> Shared<'g, K, W> {
     /// A worker's first section: what is due, and then the test whether its work ends here. It holds a job that was kept

@@ -4,9 +4,9 @@ ghost use Rattle.std.specs.Prelude.{◌≡◌};
 
 use std::sync::Wait;
 use tpl_graph::Graph;
+use tpl_model::{Final, Status, TaskId, TokenId};
 use tpl_queue::QueuePass;
 use tpl_runtime::{Asked, Item, Looked, Seat, Session};
-use tpl_model::{Final, Status, TaskId, TokenId};
 
 pub const CANCELED: Status = Status::Completed(Final::Canceled);
 

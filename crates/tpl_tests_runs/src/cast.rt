@@ -6,9 +6,9 @@ use crate::closed::Back;
 use crate::parts::{Part, Role};
 use std::alloc::{AllocError, Global};
 use std::sync::Wait;
+use tpl_model::{Actor, TokenId, Worker};
 use tpl_queue::QueuePass;
 use tpl_runtime::{Ended, Item, Session};
-use tpl_model::{Actor, TokenId, Worker};
 
 /// Who is in threads beside the workers.
 #[derive(Clone, Copy)]

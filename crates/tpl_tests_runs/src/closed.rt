@@ -8,9 +8,9 @@ use crate::shut::shut;
 use std::alloc::Global;
 use std::sync::Wait;
 use tpl_graph::Graph;
+use tpl_model::Status;
 use tpl_queue::QueuePass;
 use tpl_runtime::{Item, Report, Seat, Session, Watcher};
-use tpl_model::Status;
 
 /// What threads come back with, and whether each went as it must.
 #[derive(Drop)]

@@ -7,9 +7,9 @@ use std::alloc::{AllocError, Global};
 use std::sync::Wait;
 use std::thread::Threads;
 use tpl_graph::Graph;
+use tpl_model::{Actor, Final, Status, TaskId};
 use tpl_queue::QueuePass;
 use tpl_runtime::{Ended, Item, Looked, Report, Seat, Session, Sight, Watcher};
-use tpl_model::{Actor, Final, Status, TaskId};
 
 /// The outside seat that looks at the tasks.
 pub const LOOKER: Actor = Actor::Outside(1);

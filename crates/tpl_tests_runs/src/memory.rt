@@ -14,12 +14,12 @@ use std::io;
 use std::sync::Wait;
 use std::thread::Threads;
 use tpl_graph::Graph;
+use tpl_model::{Actor, Answer, Inputs, SiteId, TokenId, Worker};
 use tpl_queue::{JobQueue, QueuePass, Work, WorkItem};
 use tpl_runtime::{
     Asked, CloseFault, CloseWhy, Ended, Item, OpenFault, OpenWhy, Report, RunFault, RunWhy, Seat,
     SeatFault, Session, Watcher,
 };
-use tpl_model::{Actor, Answer, Inputs, SiteId, TokenId, Worker};
 
 /// The graphs of the sessions: one is run by two workers, and of the other a token is requested.
 const GRAPHS: [&str; 2] = ["seven", "two"];

@@ -4,9 +4,9 @@ ghost use Rattle.std.specs.Prelude.{◌≡◌, ◌<◌, IfSome};
 
 use std::alloc::Global;
 use tpl_graph::Graph;
+use tpl_model::Inputs;
 use tpl_queue::{JobQueue, QueuePass};
 use tpl_runtime::{Item, Session};
-use tpl_model::Inputs;
 
 /// How many places the queue of a graph has: one for each task.
 pub fn places(graph: &Graph) -> usize

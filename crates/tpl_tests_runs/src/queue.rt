@@ -9,8 +9,8 @@ use std::io;
 use std::sync::atomic::{AtomicU64, Ordering};
 use std::sync::{Arc, Wait};
 use std::thread::Threads;
-use tpl_queue::{Job, JobQueue, QueuePass, Work, WorkItem, WorkJob};
 use tpl_model::{Answer, SiteId, TaskId};
+use tpl_queue::{Job, JobQueue, QueuePass, Work, WorkItem, WorkJob};
 
 const JOBS: usize = 100_000;
 

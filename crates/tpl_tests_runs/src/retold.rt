@@ -6,8 +6,8 @@ ghost use Rattle.tpl_model.specs.Graph.{is_task};
 use std::alloc::{AllocError, Global};
 use tpl_graph::Graph;
 use tpl_machine::{Core, Machine};
-use tpl_runtime::Report;
 use tpl_model::{Inputs, TaskId};
+use tpl_runtime::Report;
 
 /// The machine answers of a task what the report says.
 fn agrees_on<C: Core, K, W>(core: &C, report: &Report<K, W>, task: TaskId) -> bool

@@ -15,12 +15,12 @@ use std::fs::Files;
 use std::sync::{Arc, Wait};
 use std::thread::Threads;
 use std::{fs, io};
-use tpl_queue::{Work, WorkItem};
 use tpl_journal::Counting;
+use tpl_model::{Answer, SiteId};
+use tpl_queue::{Work, WorkItem};
 use tpl_reader::Document;
 use tpl_report::{Exit, RunFault, load, serve_run};
 use tpl_runtime::Item;
-use tpl_model::{Answer, SiteId};
 
 /// Boxes that meet: the graph, as many workers as boxes, and how the report begins where they do. A box fails that waits in
 /// vain.

@@ -12,9 +12,9 @@ use std::io;
 use std::sync::Wait;
 use std::thread::Threads;
 use tpl_graph::Graph;
+use tpl_model::{Answer, SiteId};
 use tpl_queue::{QueuePass, Work, WorkItem};
 use tpl_runtime::{Item, Session};
-use tpl_model::{Answer, SiteId};
 
 /// This many workers run a session, to a journal of this many events.
 #[derive(Clone, Copy)]

@@ -19,10 +19,10 @@ use std::alloc::{AllocError, Global};
 use tpl_analyser::RanOut;
 use tpl_graph::{Claim, Graph};
 use tpl_journal::spells_run;
+use tpl_model::{Inputs, TaskId};
 use tpl_reasons::claim_words;
 use tpl_refute::Counterexample;
 use tpl_verify::{Empty, Tried, Verdict, input_members, journal_text};
-use tpl_model::{Inputs, TaskId};
 
 /// Why a claim says nothing, by a word.
 fn reason_value(alloc: Global, why: &str) -> Result<Value, AllocError>

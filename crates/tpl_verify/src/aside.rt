@@ -1,8 +1,8 @@
 //! What is told beside the answer, for people. No answer depends on it.
 
+use crate::Verdict;
 use std::alloc::{AllocError, Global};
 use tpl_commands::Listen;
-use crate::Verdict;
 
 /// Says how the search for a claim has ended.
 pub(crate) fn tell_end<L: Listen>(

@@ -8,11 +8,11 @@ ghost use Rattle.tpl_verify.specs.Witness.{IsFound};
 
 use crate::aside::tell_end;
 use crate::search::Search;
+use crate::{Attend, Verdict, judge_claim};
 use std::alloc::{AllocError, Global};
 use tpl_commands::{Listen, rules_of};
 use tpl_reader::Document;
 use tpl_refute::Counterexample;
-use crate::{Attend, Verdict, judge_claim};
 
 /// A run in which a claim fails.
 #[derive(Drop)]

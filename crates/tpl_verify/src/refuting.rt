@@ -10,6 +10,7 @@ ghost use Rattle.tpl_commands.specs.Responding.{longest, Responds};
 ghost use Rattle.tpl_verify.specs.Serving.{Refuted, Unrefuted};
 ghost use Rattle.tpl_verify.specs.Witness.{IsFound, IsSearched, Searches};
 
+use crate::Attend;
 use crate::aside::{tell_missing, tell_run};
 use crate::finding::{Found, find};
 use crate::journal::journal_text;
@@ -20,7 +21,6 @@ use std::io::{Read, Write};
 use tpl_commands::{Answer, Answered, Command, Exit, Listen, respond, unread};
 use tpl_journal::{Counting, fault_is_no_journal, spells_run, text_is_unambiguous};
 use tpl_reader::{Document, LONGEST, one_document, read_document_heard};
-use crate::Attend;
 
 /// The document with the run that was found.
 fn refutation<L: Listen>(

@@ -3,8 +3,8 @@
 ghost use Rattle.std.specs.Prelude.{◌≡◌, ◌↔◌, IsTrue, length};
 ghost use Rattle.tpl_verify.specs.Asking.{IsAsked, IsThere};
 
-use tpl_reader::Document;
 use crate::Limits;
+use tpl_reader::Document;
 
 /// Which claims are searched for runs in which they fail, and how long.
 #[derive(Clone, Copy, Debug, Drop)]

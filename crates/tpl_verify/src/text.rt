@@ -12,8 +12,8 @@ ghost use Rattle.tpl_verify.specs.Filled.{HasForm, IsUnseen, IsUnseenOf, IsFille
 use crate::start::start_with;
 use serde_json::Value;
 use std::alloc::{AllocError, Global};
-use tpl_reader::Document;
 use tpl_model::Inputs;
+use tpl_reader::Document;
 
 /// What the bytes of a document read as.
 fn read_value(alloc: Global, bytes: &[u8], document: &Document) -> Result<Value, AllocError>

@@ -3,8 +3,8 @@
 ghost use Rattle.std.specs.Prelude.{◌≡◌, codes, if◌then◌else◌};
 
 use tpl_analyser::RanOut;
-use tpl_refute::Counterexample;
 use tpl_model::TaskId;
+use tpl_refute::Counterexample;
 
 /// What is answered of a claim.
 #[derive(Drop)]

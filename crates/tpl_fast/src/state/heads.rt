@@ -14,10 +14,10 @@ ghost use Rattle.tpl_fast.specs.Kept.{has_ended, is_over, all_pass};
 
 use crate::state::State;
 use tpl_graph::{Graph, Kind};
+use tpl_model::TaskId;
 use tpl_run::ends::{all_ended, all_over, has_ended, is_open, some_ended};
 use tpl_run::graphs::children;
 use tpl_run::{Readers, Waits};
-use tpl_model::TaskId;
 
 /// The task whose body starts this child, if it is one.
 pub(crate) fn parent_of(graph: &Graph, child: Option<TaskId>) -> Option<TaskId>

@@ -13,10 +13,10 @@ use crate::marks::Mark;
 use crate::state::State;
 use tpl_graph::Graph;
 use tpl_machine::Machine;
+use tpl_model::{Actor, Final, MOST_TOKENS, Status, TaskId, TokenId};
 use tpl_run::Readers;
 use tpl_run::row::Row;
 use tpl_run::status::{opening, status_from};
-use tpl_model::{Actor, Final, MOST_TOKENS, Status, TaskId, TokenId};
 
 impl<'g> State<'g> {
     /// The run in the plain machine.

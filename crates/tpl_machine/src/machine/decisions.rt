@@ -10,9 +10,9 @@ ghost use Rattle.tpl_run.specs.Body.{decision};
 
 use crate::machine::Machine;
 use tpl_graph::Kind;
+use tpl_model::{Final, Stmt, TaskId};
 use tpl_run::Readers;
 use tpl_run::graphs::has_task;
-use tpl_model::{Final, Stmt, TaskId};
 
 impl<'g> Machine<'g> {
     /// The task whose exception and end a continuation reads.

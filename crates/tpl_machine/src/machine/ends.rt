@@ -6,9 +6,9 @@ ghost use Rattle.tpl_model.specs.Facts.{ending, all_final, first_ended, worse, e
 ghost use Rattle.tpl_draft.specs.Ids.{task_number};
 
 use crate::machine::Machine;
+use tpl_model::{Final, TaskId};
 use tpl_run::Readers;
 use tpl_run::ends::has_ended;
-use tpl_model::{Final, TaskId};
 
 /// The worse of how one task ended and how others did.
 fn worse(first: Option<Final>, others: Final) -> Final

@@ -9,12 +9,12 @@ ghost use Rattle.tpl_run.specs.Rows.{row_at};
 use crate::machine::Machine;
 use crate::marks::{begun, latest, status_open};
 use tpl_graph::Graph;
+use tpl_model::{Actor, Final, Status, TaskId, TokenId};
 use tpl_run::ends::{all_ended, all_over, some_ended};
 use tpl_run::graphs::children;
 use tpl_run::row::Row;
 use tpl_run::tokens::close;
 use tpl_run::{Readers, Waits};
-use tpl_model::{Actor, Final, Status, TaskId, TokenId};
 
 impl<'g> Machine<'g> {
     /// What is kept of a task, if it is one.

@@ -4,9 +4,9 @@ use crate::misread::form::Form;
 use json::Value;
 use std::alloc::{AllocError, Global};
 use tpl_json::{Miss, Shape, bool_of, final_of, find, list_of, number_of, text_in, text_of};
+use tpl_model::LONGEST_NAME;
 use tpl_parts::{has_ends, has_truths, is_claim_name};
 use tpl_reader::line_breaks;
-use tpl_model::LONGEST_NAME;
 
 /// What is looked for.
 #[derive(Clone, Copy)]

@@ -1,6 +1,6 @@
 use Rattle.std.proofs.Common.{arith}
 use Rattle.tpl_model.proofs.Lists.{falls_in}
-use Rattle.tpl_model.proofs.limits.+room.Goals as goal
+use Rattle.tpl_model.proofs.extent.+room.Goals as goal
 
 pub room_behind-room_behind_statement-requires : goal.room_behind-room_behind_statement-requires
 room_behind-room_behind_statement-requires t c =

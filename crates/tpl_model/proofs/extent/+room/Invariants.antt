@@ -2,7 +2,7 @@ use Rattle.std.proofs.Common.{◌+◌, ◌*◌}
 use Rattle.tpl_model.specs.Seen.{statement_of}
 use Rattle.tpl_model.specs.Limits.{statement_count, count_one}
 use Rattle.tpl_model.proofs.Room.{FitsSoFar}
-use Rattle.tpl_model.proofs.limits.+room.Given as goal
+use Rattle.tpl_model.proofs.extent.+room.Given as goal
 
 abbrev pub decreases-room_behind : goal.decreases-room_behind
 decreases-room_behind l = 2 * statement_count l.body.now + 1
