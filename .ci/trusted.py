@@ -195,7 +195,7 @@ def section(repository: Repository, number: int, sentence: Sentence, reach: Reac
     return "\n".join([
         f"## {number}. {sentence.title}\n",
         f"{sentence.words}\n",
-        f"{total(reach)} of {len(crates)} crates:\n",
+        f"{total(reach)} of {len(crates)} {'crate' if len(crates) == 1 else 'crates'}:\n",
         "| Crate | Files of `specs/` with the lines that count | Lines |",
         "|---|---|---|",
         *table,
