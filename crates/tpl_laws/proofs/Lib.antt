@@ -28,6 +28,7 @@ pub mod Parents
 pub mod RulesDecided
 pub mod FaultsDecided
 pub mod WiderDecided
+pub mod WideTreesDecided
 pub mod FirstFault
 pub mod ForCode
 pub mod AllowedDecided

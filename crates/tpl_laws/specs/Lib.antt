@@ -13,3 +13,4 @@ pub mod Faults
 pub mod Wider
 pub mod WiderSoundness
 pub mod WiderTests
+pub mod WideVerdict

@@ -3,6 +3,7 @@
 ghost use Rattle.tpl_laws.specs.Faults.{FaultIsFirst};
 ghost use Rattle.tpl_laws.specs.PathLaws.{PathLaws};
 ghost use Rattle.tpl_laws.specs.WiderTests.{WideBrokenIsRight, WideLeafIsRight};
+ghost use Rattle.tpl_laws.specs.WideVerdict.{WideTreeIsRight, WideVerdictIsRight, WideVerdictIsSound};
 ghost use Rattle.tpl_laws.specs.Decided.{RunsIsRight, EndsIsRight, BeforeIsRight, BelowIsRight, BelowInOnePass, ParentIsRight, PastIsRight, ChainIsRight, BrokenIsRight, FirstBrokenIsRight, ProvesIsRight, VerdictIsRight, VerdictIsSound};
 
 /// The recursion over a body finds what its paths say.
@@ -119,4 +120,26 @@ pub fn wide_leaf_is_right()
     ensures { WideLeafIsRight }
 {
     path_laws();
+}
+
+/// A tree of rows with tokens fits and has no fault just where it is accepted.
+pub fn wide_tree_is_right()
+    ensures { WideTreeIsRight }
+{
+    path_laws();
+}
+
+/// The verdict on a certificate of rows with tokens finds no fault just where it is accepted.
+pub fn wide_verdict_is_right()
+    ensures { WideVerdictIsRight }
+{
+    path_laws();
+}
+
+/// Where that verdict finds no fault, each claim holds in every run.
+pub fn wide_verdict_is_sound()
+    ensures { WideVerdictIsSound }
+{
+    path_laws();
+    crate::sound::wide_soundness();
 }
