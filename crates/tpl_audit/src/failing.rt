@@ -8,9 +8,10 @@ ghost use Rattle.tpl_model.specs.declared.event.Event.{Event};
 ghost use Rattle.tpl_audit.specs.Audit.{FirstFails, better};
 ghost use Rattle.tpl_audit.specs.Watching.{noted_of, IsWatched};
 
+use crate::is_true_of;
 use crate::verdict::Failure;
 use crate::watch::Watch;
-use crate::{Claim, is_true_of};
+use tpl_graph::Claim;
 use tpl_machine::Core;
 use tpl_model::{Given, Property};
 

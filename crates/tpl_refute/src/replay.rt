@@ -6,9 +6,9 @@ ghost use Rattle.tpl_graph.specs.Fits.{Fits};
 use crate::budget::Budget;
 use crate::crew::{Crew, Habit};
 use std::alloc::{AllocError, Global};
-use tpl_audit::{Claim, holds};
+use tpl_audit::holds;
 use tpl_fast::Fast;
-use tpl_graph::Graph;
+use tpl_graph::{Claim, Graph};
 use tpl_machine::Core;
 use tpl_model::{Act, Event, Inputs, TaskId};
 

@@ -11,9 +11,9 @@ use crate::links::Links;
 use crate::plan::Plan;
 use crate::weights::{Mover, Way, Weights};
 use std::alloc::{AllocError, Global};
-use tpl_audit::{Claim, holds};
+use tpl_audit::holds;
 use tpl_fast::Fast;
-use tpl_graph::Graph;
+use tpl_graph::{Claim, Graph};
 use tpl_machine::{Core, Next};
 use tpl_model::{Act, Answer, Event, Finals, Given, Status, TaskId};
 

@@ -2,7 +2,8 @@
 
 use crate::documents::{events_of, inputs_of};
 use std::alloc::{AllocError, Global};
-use tpl_audit::{Claim, holds};
+use tpl_audit::holds;
+use tpl_graph::Claim;
 use tpl_machine::{Core, Machine};
 use tpl_model::Event;
 use tpl_reader::Document;
