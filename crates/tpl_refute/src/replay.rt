@@ -60,6 +60,14 @@ impl Cut {
     }
 }
 
+/// A claim about runs of a graph with these inputs, of which one is sought in which it fails.
+#[derive(Clone, Copy)]
+pub(crate) struct Case<'r> {
+    pub(crate) graph: &'r Graph,
+    pub(crate) claim: &'r Claim,
+    pub(crate) inputs: &'r Inputs,
+}
+
 /// How runs are played again.
 #[derive(Drop)]
 pub(crate) struct Stage {
@@ -72,16 +80,14 @@ pub(crate) struct Stage {
 /// does.
 pub(crate) fn replay(
     alloc: Global,
-    graph: &Graph,
-    claim: &Claim,
-    inputs: &Inputs,
+    case: Case<'_>,
     events: &[Event],
     cut: Cut,
     stage: &mut Stage,
 ) -> Result<Option<Vec<Event>>, AllocError>
-    requires { Fits graph.now.graph claim.now }
+    requires { Fits case.graph.now.graph case.claim.now }
 {
-    let mut core = Fast::open(alloc, graph, inputs.copy())?;
+    let mut core = Fast::open(alloc, case.graph, case.inputs.copy())?;
     stage.budget.open();
     stage.crew.begin_run(stage.habit);
     for (place, event) in events.iter().enumerate() {
@@ -89,7 +95,7 @@ pub(crate) fn replay(
             stage.crew.perform(&mut core, event.act);
             stage.budget.play(&core, event.act);
         }
-        if !holds(&core, claim) {
+        if !holds(&core, case.claim) {
             return Ok(Some(Vec::from_slice(alloc, core.events())?));
         }
     }

@@ -6,11 +6,11 @@ ghost use Rattle.tpl_refute.specs.Refuting.{Refutes};
 
 use crate::counterexample::Counterexample;
 use crate::judging::judge;
-use crate::replay::{Cut, Stage, replay};
+use crate::replay::{Case, Cut, Stage, replay};
 use crate::tidying::tidy;
 use std::alloc::{AllocError, Global};
 use tpl_graph::{Claim, Graph};
-use tpl_model::{Event, Inputs};
+use tpl_model::Event;
 
 /// How many times at most the number of tasks or events that are left out at once is halved.
 const HALVINGS: u32 = 10;
@@ -22,43 +22,39 @@ const PLAYED_TO_TIDY: u64 = 400_000;
 /// What is left of the run without what is cut, if the claim fails of that too; else the run itself.
 fn without(
     alloc: Global,
-    graph: &Graph,
-    claim: &Claim,
-    inputs: &Inputs,
+    case: Case<'_>,
     shortest: Vec<Event>,
     cut: Cut,
     stage: &mut Stage,
 ) -> Result<Vec<Event>, AllocError>
-    requires { Fits graph.now.graph claim.now }
+    requires { Fits case.graph.now.graph case.claim.now }
 {
     if stage.budget.is_spent() || !cut.has_any(shortest.as_slice()) {
         return Ok(shortest);
     }
-    let left = replay(alloc, graph, claim, inputs, shortest.as_slice(), cut, stage)?;
+    let left = replay(alloc, case, shortest.as_slice(), cut, stage)?;
     Ok(left.unwrap_or(shortest))
 }
 
 /// Leaves out whole tasks, this many at once.
 fn without_tasks(
     alloc: Global,
-    graph: &Graph,
-    claim: &Claim,
-    inputs: &Inputs,
+    case: Case<'_>,
     found: Vec<Event>,
     size: usize,
     stage: &mut Stage,
 ) -> Result<Vec<Event>, AllocError>
-    requires { Fits graph.now.graph claim.now }
+    requires { Fits case.graph.now.graph case.claim.now }
 {
     let mut from = 0;
     let mut shortest = found;
-    for _ in 0..graph.len() {
-        if from >= graph.len() {
+    for _ in 0..case.graph.len() {
+        if from >= case.graph.len() {
             break;
         }
         let to = from.saturating_add(size);
         let cut = Cut::Tasks(from, to);
-        shortest = without(alloc, graph, claim, inputs, shortest, cut, stage)?;
+        shortest = without(alloc, case, shortest, cut, stage)?;
         from = to;
     }
     Ok(shortest)
@@ -67,14 +63,12 @@ fn without_tasks(
 /// Leaves out events, this many at once, the last ones first.
 fn without_events(
     alloc: Global,
-    graph: &Graph,
-    claim: &Claim,
-    inputs: &Inputs,
+    case: Case<'_>,
     found: Vec<Event>,
     size: usize,
     stage: &mut Stage,
 ) -> Result<Vec<Event>, AllocError>
-    requires { Fits graph.now.graph claim.now }
+    requires { Fits case.graph.now.graph case.claim.now }
 {
     let mut to = found.len();
     let mut shortest = found;
@@ -84,7 +78,7 @@ fn without_events(
         }
         let from = to.saturating_sub(size);
         let cut = Cut::Events(from, to);
-        shortest = without(alloc, graph, claim, inputs, shortest, cut, stage)?;
+        shortest = without(alloc, case, shortest, cut, stage)?;
         to = from;
     }
     Ok(shortest)
@@ -93,19 +87,17 @@ fn without_events(
 /// Leaves out what isn't needed: first whole tasks, then events, many at once and then fewer and fewer.
 fn cut_down(
     alloc: Global,
-    graph: &Graph,
-    claim: &Claim,
-    inputs: &Inputs,
+    case: Case<'_>,
     found: Vec<Event>,
     stage: &mut Stage,
 ) -> Result<Vec<Event>, AllocError>
-    requires { Fits graph.now.graph claim.now }
+    requires { Fits case.graph.now.graph case.claim.now }
 {
     let mut shortest = found;
     for halving in 0..=HALVINGS {
         let size = 1usize << (HALVINGS - halving);
-        shortest = without_tasks(alloc, graph, claim, inputs, shortest, size, stage)?;
-        shortest = without_events(alloc, graph, claim, inputs, shortest, size, stage)?;
+        shortest = without_tasks(alloc, case, shortest, size, stage)?;
+        shortest = without_events(alloc, case, shortest, size, stage)?;
     }
     Ok(shortest)
 }
@@ -124,10 +116,15 @@ pub(crate) fn shorten(
     ensures { IfOk result (λ one.
         Refutes graph.now.graph claim.now one.inputs one.events.items) }
 {
+    let case = Case {
+        graph,
+        claim,
+        inputs: &found.inputs,
+    };
     let events = Vec::from_slice(alloc, found.events.as_slice())?;
-    let cut = cut_down(alloc, graph, claim, &found.inputs, events, stage)?;
+    let cut = cut_down(alloc, case, events, stage)?;
     stage.budget = stage.budget.of_same(PLAYED_TO_TIDY);
-    let tidied = tidy(alloc, graph, claim, &found.inputs, cut, stage)?;
+    let tidied = tidy(alloc, case, cut, stage)?;
     match judge(alloc, graph, claim, found.inputs.copy(), tidied)? {
         Some(shorter) => Ok(shorter),
         None => Ok(found),

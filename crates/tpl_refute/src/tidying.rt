@@ -3,10 +3,10 @@
 ghost use Rattle.tpl_graph.specs.Fits.{Fits};
 
 use crate::crew::Habit;
-use crate::replay::{Cut, Stage, replay, task_of};
+use crate::replay::{Case, Cut, Stage, replay, task_of};
 use std::alloc::{AllocError, Global};
-use tpl_graph::{Claim, Graph};
-use tpl_model::{Actor, Event, Inputs, TaskId};
+use tpl_graph::Graph;
+use tpl_model::{Actor, Event, TaskId};
 
 /// The greatest number of a worker that acts.
 fn workers(events: &[Event]) -> u16 {
@@ -49,27 +49,17 @@ fn with_earlier(
 /// last event; else the run itself.
 fn if_no_worse(
     alloc: Global,
-    graph: &Graph,
-    claim: &Claim,
-    inputs: &Inputs,
+    case: Case<'_>,
     best: Vec<Event>,
     other: Vec<Event>,
     stage: &mut Stage,
 ) -> Result<Vec<Event>, AllocError>
-    requires { Fits graph.now.graph claim.now }
+    requires { Fits case.graph.now.graph case.claim.now }
 {
     if stage.budget.is_spent() {
         return Ok(best);
     }
-    match replay(
-        alloc,
-        graph,
-        claim,
-        inputs,
-        other.as_slice(),
-        Cut::Nothing,
-        stage,
-    )? {
+    match replay(alloc, case, other.as_slice(), Cut::Nothing, stage)? {
         Some(played)
             if played.len() <= best.len()
                 && workers(played.as_slice()) <= workers(best.as_slice()) => { Ok(played) }
@@ -80,13 +70,11 @@ fn if_no_worse(
 /// Puts each event behind the last one of its task, where the claim fails then too.
 fn gathered(
     alloc: Global,
-    graph: &Graph,
-    claim: &Claim,
-    inputs: &Inputs,
+    case: Case<'_>,
     found: Vec<Event>,
     stage: &mut Stage,
 ) -> Result<Vec<Event>, AllocError>
-    requires { Fits graph.now.graph claim.now }
+    requires { Fits case.graph.now.graph case.claim.now }
 {
     let mut best = found;
     for at in 1..best.len() {
@@ -95,7 +83,7 @@ fn gathered(
         }
         if let Some(to) = place_behind(best.as_slice(), at) {
             let other = with_earlier(alloc, best.as_slice(), at, to)?;
-            best = if_no_worse(alloc, graph, claim, inputs, best, other, stage)?;
+            best = if_no_worse(alloc, case, best, other, stage)?;
         }
     }
     Ok(best)
@@ -149,21 +137,19 @@ fn add_reversed(
 /// Puts the events of each task together, as far as the claim fails then too, and has as few workers act as serve.
 pub(crate) fn tidy(
     alloc: Global,
-    graph: &Graph,
-    claim: &Claim,
-    inputs: &Inputs,
+    case: Case<'_>,
     found: Vec<Event>,
     stage: &mut Stage,
 ) -> Result<Vec<Event>, AllocError>
-    requires { Fits graph.now.graph claim.now }
+    requires { Fits case.graph.now.graph case.claim.now }
 {
-    let order = joined(alloc, graph, found.as_slice())?;
-    let whole = if_no_worse(alloc, graph, claim, inputs, found, order, stage)?;
-    let best = gathered(alloc, graph, claim, inputs, whole, stage)?;
+    let order = joined(alloc, case.graph, found.as_slice())?;
+    let whole = if_no_worse(alloc, case, found, order, stage)?;
+    let best = gathered(alloc, case, whole, stage)?;
     stage.habit = match stage.habit {
         Habit::Inside => Habit::Aside,
         Habit::Aside => Habit::Inside,
     };
     let same = Vec::from_slice(alloc, best.as_slice())?;
-    if_no_worse(alloc, graph, claim, inputs, best, same, stage)
+    if_no_worse(alloc, case, best, same, stage)
 }
