@@ -1,5 +1,5 @@
 -- Plans: the splits of a tree whose leaves have no rows yet.
-use Rattle.std.specs.Prelude.{ℕ, ◌<◌, ◌≤◌, ⊤}
+use Rattle.std.specs.Prelude.{ℕ, ◌<◌, ◌≤◌, ⊤, Option, IfSome, Result, IfOk}
 use Rattle.tpl_model.specs.Graph.{TaskGraph, is_task}
 use Rattle.tpl_model.specs.Certificate.{Tree, SplitInput, SplitEnd, Leaf}
 use Rattle.tpl_cert.specs.Heights.{height}
@@ -14,3 +14,7 @@ HasSplitsOf g (Leaf rows) = ⊤
 pub record IsPlan (g : TaskGraph) (n : ℕ) (tree : Tree) : Type 0 where
   pub splits : HasSplitsOf g tree
   pub height : height tree ≤ n
+
+-- what is found is such a plan, if the search ends and finds one
+abbrev pub IsPlanIfAny : {E : Type 0} → TaskGraph → ℕ → Result (Option Tree) E → Type 0
+IsPlanIfAny g n result = IfOk result (λ found. IfSome found (IsPlan g n))

@@ -39,13 +39,7 @@ impl Branch {
         requires { IsReady question }
         ensures { result.assumed ≡ assumed }
     {
-        let setting = Setting {
-            graph: question.graph,
-            below: question.below,
-            stages: question.stages,
-            followers: question.followers,
-            assumed: &assumed,
-        };
+        let setting = question.setting(&assumed);
         let tasks = &question.cone.tasks;
         let outline = outline_under(setting, tasks, &Outline::unsettled(), Beyond::All);
         let has_chain = has_chain_for(setting, question.property);
@@ -103,13 +97,7 @@ impl Branch {
         requires question { IsReady question }
         ensures { result.assumed ≡ assumed }
     {
-        let setting = Setting {
-            graph: question.graph,
-            below: question.below,
-            stages: question.stages,
-            followers: question.followers,
-            assumed: &assumed,
-        };
+        let setting = question.setting(&assumed);
         let outline = outline_under(setting, &question.cone.tasks, &self.outline, beyond);
         let has_chain = match beyond {
             Beyond::All => has_chain_for(setting, question.property),
@@ -134,13 +122,7 @@ impl Branch {
 
     /// Whether the least rows of the branch prove the property.
     pub(crate) fn is_proved(&self, question: Question<'_>) -> bool {
-        let setting = Setting {
-            graph: question.graph,
-            below: question.below,
-            stages: question.stages,
-            followers: question.followers,
-            assumed: &self.assumed,
-        };
+        let setting = question.setting(&self.assumed);
         let tasks = &question.cone.tasks;
         is_proved(
             setting,

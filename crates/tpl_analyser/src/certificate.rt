@@ -8,7 +8,7 @@ ghost use Rattle.tpl_model.specs.Certificate.{Accepts, assumed_for, is_wide};
 ghost use Rattle.tpl_checker.specs.Below.{AreBelow};
 ghost use Rattle.tpl_analyser.specs.Found.{IsFound};
 ghost use Rattle.tpl_analyser.specs.Gaps.{IsGap};
-ghost use Rattle.tpl_analyser.specs.Plans.{IsPlan};
+ghost use Rattle.tpl_analyser.specs.Plans.{IsPlanIfAny};
 ghost use Rattle.tpl_analyser.specs.Questions.{IsReady};
 ghost use Rattle.tpl_analyser.specs.Slim.{IsCertificateOf};
 ghost use Rattle.tpl_analyser.specs.Splits.{IsSplitOf};
@@ -198,8 +198,7 @@ fn deepened<W: Watch>(
     budget: &mut Budget<W>,
 ) -> Result<Option<Tree>, AllocError>
     requires { IsReady question }
-    ensures { IfOk result
-        (λ found. IfSome found (IsPlan question.entry.graph.now.graph depth)) }
+    ensures { IsPlanIfAny question.entry.graph.now.graph depth result }
 {
     if try_leaf(question, root, budget).unwrap_or(false) {
         return Ok(Some(no_split(alloc)));
@@ -227,8 +226,7 @@ fn by_depth<W: Watch>(
     budget: &mut Budget<W>,
 ) -> Result<Option<Tree>, AllocError>
     requires { IsReady question }
-    ensures { IfOk result
-        (λ found. IfSome found (IsPlan question.entry.graph.now.graph depth)) }
+    ensures { IsPlanIfAny question.entry.graph.now.graph depth result }
 {
     let Some(bound) = bound_of(alloc, question, root, depth, budget)? else {
         return Ok(None);
@@ -257,8 +255,7 @@ fn at_depth<W: Watch>(
 ) -> Result<Option<Tree>, AllocError>
     requires question { IsReady question }
     requires splits { 0 < reach.splits }
-    ensures { IfOk result
-        (λ found. IfSome found (IsPlan question.entry.graph.now.graph reach.splits)) }
+    ensures { IsPlanIfAny question.entry.graph.now.graph reach.splits result }
 {
     if bound.least() > reach.splits as u32 {
         return Ok(None);

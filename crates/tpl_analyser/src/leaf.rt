@@ -15,7 +15,7 @@ use std::alloc::{AllocError, Global};
 use tpl_cert::{Node, Row, Tree, is_within_limits};
 use tpl_checker::accepts_leaf;
 use tpl_model::TaskId;
-use tpl_outline::{Setting, least_rows, reached};
+use tpl_outline::{least_rows, reached};
 
 /// Builds and tests the leaf of a branch: the leaf, if it is accepted.
 pub(crate) fn leaf(
@@ -57,13 +57,7 @@ fn chain_of(
     question: Question<'_>,
     branch: &Branch,
 ) -> Result<Option<Vec<TaskId>>, AllocError> {
-    let setting = Setting {
-        graph: question.graph,
-        below: question.below,
-        stages: question.stages,
-        followers: question.followers,
-        assumed: &branch.assumed,
-    };
+    let setting = question.setting(&branch.assumed);
     let tasks = &question.cone.tasks;
     reached(alloc, setting, &branch.outline, question.property, tasks)
 }
@@ -79,13 +73,7 @@ fn rows_of(
     ensures { IfOk result (λ rows.
         AreOfForm question.entry.form question.entry.property rows.items) }
 {
-    let setting = Setting {
-        graph: question.graph,
-        below: question.below,
-        stages: question.stages,
-        followers: question.followers,
-        assumed: &branch.assumed,
-    };
+    let setting = question.setting(&branch.assumed);
     let rows = least_rows(alloc, setting, question.property, chain)?;
     in_form(alloc, question.form, question.property, rows)
 }

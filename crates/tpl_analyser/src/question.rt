@@ -1,12 +1,14 @@
 //! What is searched for, and what is made once for all branches of the search.
 
+ghost use Rattle.std.specs.Prelude.{◌≡◌};
+
 use crate::cone::Cone;
 use crate::form::Form;
 use crate::split::Split;
-use tpl_checker::Below;
+use tpl_checker::{Assumptions, Below};
 use tpl_graph::Graph;
 use tpl_model::Property;
-use tpl_outline::{Followers, Stage};
+use tpl_outline::{Followers, Setting, Stage};
 
 /// A claim's property and its graph, with what is made of the graph once.
 #[derive(Clone, Copy)]
@@ -22,4 +24,20 @@ pub(crate) struct Question<'s> {
     pub(crate) splits: &'s [Split],
     /// What bears on the property.
     pub(crate) cone: &'s Cone,
+}
+
+impl<'s> Question<'s> {
+    /// The graph under these assumptions.
+    pub(crate) fn setting(self, assumed: &'s Assumptions) -> Setting<'s>
+        ensures graph { result.graph ≡ self.entry.graph }
+        ensures stages { result.stages ≡ self.entry.stages }
+    {
+        Setting {
+            graph: self.graph,
+            below: self.below,
+            stages: self.stages,
+            followers: self.followers,
+            assumed,
+        }
+    }
 }

@@ -1,9 +1,9 @@
 //! The search for the splits of a tree: none first, then splits on inputs in order, then on tasks in order, none twice on
 //! a path; only those that can lead to a tree. Rows are made once the splits are found.
 
-ghost use Rattle.std.specs.Prelude.{◌≡◌, ◌<◌, ◌+◌, IfOk, IfSome};
+ghost use Rattle.std.specs.Prelude.{◌≡◌, ◌<◌, ◌+◌};
 ghost use Rattle.tpl_model.specs.Graph.{is_task};
-ghost use Rattle.tpl_analyser.specs.Plans.{IsPlan};
+ghost use Rattle.tpl_analyser.specs.Plans.{IsPlanIfAny};
 ghost use Rattle.tpl_analyser.specs.Questions.{IsReady};
 ghost use Rattle.tpl_analyser.specs.Splits.{IsSplitOf};
 
@@ -55,8 +55,7 @@ fn find<W: Watch>(
     budget: &mut Budget<W>,
 ) -> Result<Option<Tree>, AllocError>
     requires { IsReady question }
-    ensures { IfOk result
-        (λ found. IfSome found (IsPlan question.entry.graph.now.graph reach.splits)) }
+    ensures { IsPlanIfAny question.entry.graph.now.graph reach.splits result }
 {
     if try_leaf(question, branch, budget).unwrap_or(false) {
         return Ok(Some(no_split(alloc)));
@@ -104,8 +103,7 @@ pub(crate) fn split<W: Watch>(
 ) -> Result<Option<Tree>, AllocError>
     requires question { IsReady question }
     requires splits { 0 < reach.splits }
-    ensures { IfOk result
-        (λ found. IfSome found (IsPlan question.entry.graph.now.graph reach.splits)) }
+    ensures { IsPlanIfAny question.entry.graph.now.graph reach.splits result }
 {
     let mut failed = reach.failed;
     for split in question.splits {
@@ -133,8 +131,7 @@ fn by_split<W: Watch>(
     requires question { IsReady question }
     requires splits { 0 < reach.splits }
     requires split { IsSplitOf question.graph.now.graph split }
-    ensures { IfOk result
-        (λ found. IfSome found (IsPlan question.entry.graph.now.graph reach.splits)) }
+    ensures { IsPlanIfAny question.entry.graph.now.graph reach.splits result }
 {
     match split {
         Split::Input(input) => by_input(alloc, question, branch, reach, input, budget),
@@ -155,8 +152,7 @@ fn by_input<W: Watch>(
     requires question { IsReady question }
     requires splits { 0 < reach.splits }
     requires input { input.0 < question.graph.now.graph.inputs }
-    ensures { IfOk result
-        (λ found. IfSome found (IsPlan question.entry.graph.now.graph reach.splits)) }
+    ensures { IsPlanIfAny question.entry.graph.now.graph reach.splits result }
 {
     question.graph.valid_law();
     let reach = reach.behind();
@@ -185,8 +181,7 @@ fn by_end<W: Watch>(
     requires question { IsReady question }
     requires splits { 0 < reach.splits }
     requires task { is_task question.graph.now.graph task.0 }
-    ensures { IfOk result
-        (λ found. IfSome found (IsPlan question.entry.graph.now.graph reach.splits)) }
+    ensures { IsPlanIfAny question.entry.graph.now.graph reach.splits result }
 {
     let reach = reach.behind();
     let ran = branch.with_end(question, task, Final::RanToCompletion);
