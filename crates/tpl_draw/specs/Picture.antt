@@ -6,7 +6,6 @@ use Rattle.tpl_model.specs.Graph.{TaskGraph, task, kind, options}
 use Rattle.tpl_draft.specs.Named.{Names, Named}
 use Rattle.tpl_graph.specs.Rows.{kind_of}
 use Rattle.tpl_graph.specs.declared.row.Kind.{Kind}
-use Rattle.tpl_graph.specs.declared.row.Kind.TheVariants as kinds
 use Rattle.tpl_draw.specs.declared.language.Language.{Language}
 use Rattle.tpl_draw.specs.declared.language.Language.TheVariants.{Mermaid, Dot}
 use Rattle.tpl_draw.specs.declared.edge.Tie.{Tie}
@@ -17,6 +16,7 @@ use Rattle.tpl_draw.specs.declared.shown.Shown.TheVariants.{Endings, Run}
 use Rattle.tpl_draw.specs.Below.{below}
 use Rattle.tpl_draw.specs.Edges.{edges, is_crowded}
 use Rattle.tpl_draw.specs.Legend.{legend}
+use Rattle.tpl_draw.specs.Shapes.{dot_shape, kind_word, mermaid_closing, mermaid_opening}
 use Rattle.tpl_draw.specs.Shown.{border_line, has_border, line_break, mark, status_line}
 
 -- the name of the t-th task; empty past the last one
@@ -44,19 +44,15 @@ lines_below language n shown t = token_line_at language n (task n.graph t).token
 
 -- the node of a task in Mermaid, whose shape says its kind; with further lines, and a mark
 abbrev pub mermaid_node : Kind → (name lines mark : List ℕ) → List ℕ
-mermaid_node kinds.Root name lines mark = codes "  t_" ++ (name ++ (codes "[\"" ++ (name ++ (codes "<br/>root" ++ (lines ++ (codes "\"]" ++ (mark ++ codes "\n")))))))
-mermaid_node kinds.Child name lines mark = codes "  t_" ++ (name ++ (codes "(\"" ++ (name ++ (codes "<br/>child" ++ (lines ++ (codes "\")" ++ (mark ++ codes "\n")))))))
-mermaid_node kinds.Then name lines mark = codes "  t_" ++ (name ++ (codes "([\"" ++ (name ++ (codes "<br/>then" ++ (lines ++ (codes "\"])" ++ (mark ++ codes "\n")))))))
-mermaid_node kinds.All name lines mark = codes "  t_" ++ (name ++ (codes "{{\"" ++ (name ++ (codes "<br/>all" ++ (lines ++ (codes "\"}}" ++ (mark ++ codes "\n")))))))
-mermaid_node kinds.Any name lines mark = codes "  t_" ++ (name ++ (codes "{\"" ++ (name ++ (codes "<br/>any" ++ (lines ++ (codes "\"}" ++ (mark ++ codes "\n")))))))
+mermaid_node k name lines mark =
+    codes "  t_" ++ (name ++ (mermaid_opening k ++ (codes "\"" ++ (name ++ (codes "<br/>" ++ (kind_word k ++ (lines ++ (codes "\""
+    ++ (mermaid_closing k ++ (mark ++ codes "\n"))))))))))
 
 -- the node of a task in DOT, whose shape says its kind; with further lines, and a mark
 abbrev pub dot_node : Kind → (name lines mark : List ℕ) → List ℕ
-dot_node kinds.Root name lines mark = codes "  t_" ++ (name ++ (codes " [label=\"" ++ (name ++ (codes "\\nroot" ++ (lines ++ (codes "\", shape=box" ++ (mark ++ codes "];\n")))))))
-dot_node kinds.Child name lines mark = codes "  t_" ++ (name ++ (codes " [label=\"" ++ (name ++ (codes "\\nchild" ++ (lines ++ (codes "\", shape=Mrecord" ++ (mark ++ codes "];\n")))))))
-dot_node kinds.Then name lines mark = codes "  t_" ++ (name ++ (codes " [label=\"" ++ (name ++ (codes "\\nthen" ++ (lines ++ (codes "\", shape=ellipse" ++ (mark ++ codes "];\n")))))))
-dot_node kinds.All name lines mark = codes "  t_" ++ (name ++ (codes " [label=\"" ++ (name ++ (codes "\\nall" ++ (lines ++ (codes "\", shape=hexagon" ++ (mark ++ codes "];\n")))))))
-dot_node kinds.Any name lines mark = codes "  t_" ++ (name ++ (codes " [label=\"" ++ (name ++ (codes "\\nany" ++ (lines ++ (codes "\", shape=diamond" ++ (mark ++ codes "];\n")))))))
+dot_node k name lines mark =
+    codes "  t_" ++ (name ++ (codes " [label=\"" ++ (name ++ (codes "\\n" ++ (kind_word k ++ (lines ++ (codes "\", shape="
+    ++ (dot_shape k ++ (mark ++ codes "];\n")))))))))
 
 -- the node of a task, in either language
 abbrev pub task_node : Language → Kind → (name lines mark : List ℕ) → List ℕ
