@@ -1,5 +1,5 @@
 -- The numbers and the words that are given for options.
-use Rattle.std.proofs.Common.{◌≡◌, ◌∙◌, ◌<◌, ◌≤◌, ◌==◌, ℕ, true, if◌then◌else◌, slice_index, List, Option, Some, None, Result, Ok, Err, codes, sym, ap, subst, refl, arith}
+use Rattle.std.proofs.Common.{◌≡◌, ◌∙◌, ◌<◌, ◌≤◌, ◌==◌, ℕ, Bool, true, false, if◌then◌else◌, slice_index, List, Option, Some, None, Result, Ok, Err, codes, sym, ap, subst, refl, arith}
 use Rattle.std.specs.Prelude.{MatchOption}
 use Rattle.std.specs.Str.Parse.{ParsesUnsigned, digits_value, without_leading_plus}
 use Rattle.tpl_draw.specs.declared.language.Language.{Language}
@@ -9,48 +9,82 @@ use Rattle.clap.specs.declared.parser.matches.Found.{Found}
 use Rattle.clap.proofs.WalkLemmas.{first_value-rows, one_text-rows}
 use Rattle.tpl_verdicts.specs.declared.style.Style.{Style}
 use Rattle.tpl_verdicts.specs.declared.style.Style.TheVariants as style
-use Rattle.tpl_cli.specs.Options.{language_word, style_word, IsGiven, IsSet}
-use Rattle.tpl_cli.specs.Line.{IsIfGiven}
+use Rattle.tpl_cli.specs.declared.number.Number.{Number}
+use Rattle.tpl_cli.specs.declared.number.Number.TheVariants.{Depth, Workers, Claim, Runs, Seed, Jobs}
+use Rattle.tpl_cli.specs.Number.{number_name, number_range}
+use Rattle.tpl_cli.specs.Options.{language_word, style_word, IsFlag, IsGiven, IsIfGiven, IsSet}
 
 pub some_same : {A : Type 0} (x y : A) → Some x ≡ Some y → x ≡ y
 some_same x y e = cc
 
-module _ {E : Type 0} (gives : List ℕ → Result ℕ E → Type 0) (parses : (u : List ℕ) (x : Result ℕ E) → gives u x → ParsesUnsigned 32 10 u x) (found : Found) (option : Text) (least most : ℕ) (small : most < 4294967296) where
+-- no answer is right where nothing is meant
+pub nothing : {A : Type 0} (R : A → Type 0) (r : Option A) → r ≡ None → ((x : A) → R x → ⊥) → MatchOption r ((x : A) → R x → ⊥) R
+nothing {A} R r e none = subst (λ (o : Option A). MatchOption o ((x : A) → R x → ⊥) R) (sym e) none
+
+-- the range of an option is one of numbers of 32 bits
+most_small : (option : Number) → (number_range option).1 < 4294967296
+most_small Depth = omega arith
+most_small Workers = omega arith
+most_small Claim = omega arith
+most_small Runs = omega arith
+most_small Seed = omega arith
+most_small Jobs = omega arith
+
+module _ {E : Type 0} (gives : List ℕ → Result ℕ E → Type 0) (parses : (u : List ℕ) (x : Result ℕ E) → gives u x → ParsesUnsigned 32 10 u x) (found : Found) (option : Number) (name : Text) (is_name : name ≡ number_name option) where
   -- a number that was read is the one that the words give
-  pub number_read : (n : ℕ) → least ≤ n → n ≤ most → (one_text found option ≡ None → Some n ≡ None)
-      → ((t : List ℕ) → one_text found option ≡ Some t → ReadsOne gives t (Some n)) → IsGiven option least most (rows_of found) n
-  number_read n above limit none value = go (one_text found option) refl
+  pub number_read : (n : ℕ) → (number_range option).0 ≤ n → n ≤ (number_range option).1 → (one_text found name ≡ None → Some n ≡ None)
+      → ((t : List ℕ) → one_text found name ≡ Some t → ReadsOne gives t (Some n)) → IsGiven option (rows_of found) n
+  number_read n above limit none value = go (one_text found name) refl
     where
-      go : (o : Option Text) → one_text found option ≡ o → IsGiven option least most (rows_of found) n
+      go : (o : Option Text) → one_text found name ≡ o → IsGiven option (rows_of found) n
       go None e = let bad = none e in absurd cc
       go (Some t) e =
           let p = parses t (Ok n) (value t e) in
           record {
             text = t;
-            given = sym (one_text-rows found option) ∙ e;
+            given = sym (one_text-rows found (number_name option)) ∙ (ap (one_text found) (sym is_name) ∙ e);
             digits = p.0.0;
             value = sym p.1;
-            least_of = above;
-            limit = limit;
+            least = above;
+            most = limit;
           }
 
   -- a number that the words give is read
-  pub given_read : (n : ℕ) (r : Option ℕ) → IsGiven option least most (rows_of found) n → ((t : List ℕ) → one_text found option ≡ Some t → ReadsOne gives t r) → r ≡ Some n
+  pub given_read : (n : ℕ) (r : Option ℕ) → IsGiven option (rows_of found) n → ((t : List ℕ) → one_text found name ≡ Some t → ReadsOne gives t r) → r ≡ Some n
   given_read n None is value =
-      let read = value is.text (one_text-rows found option ∙ is.given) in
+      let read = value is.text (ap (one_text found) is_name ∙ (one_text-rows found (number_name option) ∙ is.given)) in
       let refused = parses is.text (Err read.0) read.1 in
-      let below : digits_value 10 (without_leading_plus is.text) < 4294967296 = subst (λ (m : ℕ). m < 4294967296) (sym is.value) (omega (arith, is.limit, small)) in
+      let below : digits_value 10 (without_leading_plus is.text) < 4294967296 = subst (λ (m : ℕ). m < 4294967296) (sym is.value) (omega (arith, is.most, most_small option)) in
       absurd (refused (is.digits, below))
   given_read n (Some m) is value =
-      let read = value is.text (one_text-rows found option ∙ is.given) in
+      let read = value is.text (ap (one_text found) is_name ∙ (one_text-rows found (number_name option) ∙ is.given)) in
       let p = parses is.text (Ok m) read in
       ap Some (p.1 ∙ is.value)
 
 -- one number is given at most
-pub same_number : (option : Text) (least most : ℕ) (rows : List Row) (m n : ℕ) → IsGiven option least most rows m → IsGiven option least most rows n → m ≡ n
-same_number option least most rows m n a b =
+pub same_number : (option : Number) (rows : List Row) (m n : ℕ) → IsGiven option rows m → IsGiven option rows n → m ≡ n
+same_number option rows m n a b =
     let texts = some_same a.text b.text (sym a.given ∙ b.given) in
     sym a.value ∙ ap (λ t. digits_value 10 (without_leading_plus t)) texts ∙ b.value
+
+pub same_if_given : (option : Number) (rows : List Row) (a b : Option ℕ) → IsIfGiven option rows a → IsIfGiven option rows b → a ≡ b
+same_if_given option rows None None m n = refl
+same_if_given option rows None (Some c) m n = absurd (n.0 m)
+same_if_given option rows (Some c) None m n = absurd (m.0 n)
+same_if_given option rows (Some c) (Some d) m n = ap Some (same_number option rows c d m.1 n.1)
+
+-- an option is used or isn't
+pub same_flag : (option : Text) (rows : List Row) (a b : Bool) → IsFlag option rows a → IsFlag option rows b → a ≡ b
+same_flag option rows true true m n = refl
+same_flag option rows true false m n = sym (n.1 (m.0 refl))
+same_flag option rows false true m n = m.1 (n.0 refl)
+same_flag option rows false false m n = refl
+
+pub used : (option : Text) (rows : List Row) (b : Bool) → IsFlag option rows b → b ≡ true → IsSet option rows
+used option rows b is e = is.0 e
+
+pub unused : (option : Text) (rows : List Row) (b : Bool) → IsFlag option rows b → b ≡ false → IsSet option rows → ⊥
+unused option rows b is e set = let bad = is.1 set in absurd cc
 
 -- two languages have two words, and so have two styles
 pub same_language : (a b : Language) → language_word a ≡ language_word b → a ≡ b
@@ -96,13 +130,13 @@ pub not_set : (found : Found) (option : Text) → None ≡ first_value found opt
 not_set found option gives is = let e = gives ∙ (first_value-rows found option ∙ is) in absurd cc
 
 -- whether a number is given
-pub no_number : (found : Found) (option : Text) → None ≡ first_value found option → first_of option (rows_of found) ≡ None
-no_number found option gives = sym (first_value-rows found option) ∙ sym gives
+pub no_number : (found : Found) (option : Number) (name : Text) → name ≡ number_name option → None ≡ first_value found name → first_of (number_name option) (rows_of found) ≡ None
+no_number found option name is gives = sym (first_value-rows found (number_name option)) ∙ (ap (first_value found) (sym is) ∙ sym gives)
 
-pub some_number : (found : Found) (option t : Text) → Some t ≡ first_value found option → first_of option (rows_of found) ≡ None → ⊥
-some_number found option t gives none = let e = gives ∙ (first_value-rows found option ∙ none) in absurd cc
+pub some_number : (found : Found) (option : Number) (name t : Text) → name ≡ number_name option → Some t ≡ first_value found name → first_of (number_name option) (rows_of found) ≡ None → ⊥
+some_number found option name t is gives none = let e = gives ∙ (ap (first_value found) is ∙ (first_value-rows found (number_name option) ∙ none)) in absurd cc
 
 -- what is given is no number in the range
-pub wrong_number : (option : Text) (most : ℕ) (rows : List Row) (number : Option ℕ) → (first_of option rows ≡ None → ⊥) → ((n : ℕ) → IsGiven option 1 most rows n → ⊥) → IsIfGiven option most rows number → ⊥
-wrong_number option most rows None some none is = some is
-wrong_number option most rows (Some n) some none is = none n is.1
+pub wrong_number : (option : Number) (rows : List Row) (number : Option ℕ) → (first_of (number_name option) rows ≡ None → ⊥) → ((n : ℕ) → IsGiven option rows n → ⊥) → IsIfGiven option rows number → ⊥
+wrong_number option rows None some none is = some is
+wrong_number option rows (Some n) some none is = none n is.1

@@ -1,5 +1,5 @@
 -- The line that words mean: one at most, and within its limits.
-use Rattle.std.proofs.Common.{◌≡◌, ◌∙◌, ◌==◌, ℕ, Bool, true, false, if◌then◌else◌, List, Option, Some, None, codes, sym, ap, subst, refl, inl, inr, slice_index}
+use Rattle.std.proofs.Common.{◌≡◌, ◌∙◌, ◌==◌, ℕ, Bool, if◌then◌else◌, List, Option, Some, None, codes, sym, ap, ap₂, subst, refl, arith, slice_index}
 use Rattle.std.specs.Prelude.{option_map, Box, MatchOption}
 use Rattle.std.specs.Box.{box_value}
 use Rattle.clap.specs.Words.{Row, Text, subcommand_name_of, subcommand_rows_of}
@@ -9,38 +9,75 @@ use Rattle.clap.specs.declared.parser.matches.ArgMatches.TheViews.{out-ArgMatche
 use Rattle.clap.specs.declared.parser.matches.SubCommand.{SubCommand}
 use Rattle.tpl_analyser.specs.declared.form.Form.{Form}
 use Rattle.tpl_analyser.specs.declared.form.Form.TheVariants.{Full, Slim}
+use Rattle.tpl_commands.specs.declared.ask.Ask.{Ask}
+use Rattle.tpl_commands.specs.declared.ask.Ask.TheVariants.{Check, Analyse, AnalyseIn, Certify, Audit, Draw}
+use Rattle.tpl_draw.specs.declared.language.Language.{Language}
+use Rattle.tpl_verdicts.specs.declared.style.Style.{Style}
 use Rattle.tpl_cli.specs.declared.line.Line.{Line}
-use Rattle.tpl_cli.specs.declared.line.Line.TheVariants as line
-use Rattle.tpl_cli.specs.declared.subcommand.Subcommand.{Subcommand}
-use Rattle.tpl_cli.specs.declared.subcommand.Subcommand.TheVariants.{Check, Analyse, Run, Audit, Refute, Verify, Draw, Trace}
-use Rattle.tpl_cli.specs.Line.{subcommand_word, search, AreThreads, IsIfGiven, IsExplained, IsForm, IsLineOf, IsOneOrEach, IsWithin, Means}
-use Rattle.tpl_cli.specs.Options.{language_word, style_word, IsSet}
-use Rattle.tpl_cli.proofs.GivenOptions.{some_same, same_language, same_named, same_number, same_style}
+use Rattle.tpl_cli.specs.declared.line.Line.TheVariants.{Serve, Each, Run, Refute, Verify, Trace}
+use Rattle.tpl_cli.specs.declared.line.Tries.{Tries}
+use Rattle.tpl_cli.specs.declared.number.Number.TheVariants as number
+use Rattle.tpl_cli.specs.Line.{AreThreads, AreTries, Asks, IsForm, IsLineOf, IsWithin, Means}
+use Rattle.tpl_cli.specs.Options.{language_word, style_word, IsGiven, IsIfGiven, IsLanguage, IsSet}
+use Rattle.tpl_cli.proofs.GivenOptions.{some_same, same_flag, same_if_given, same_language, same_named, same_number, same_style}
 
--- ---- two subcommands have two names
+-- ---- which lines and asks have which words
 
-named : Text → Subcommand
-named t =
-    if slice_index t 0 == 99 then Check else
-    (if slice_index t 0 == 100 then Draw else
-    (if slice_index t 0 == 116 then Trace else
-    (if slice_index t 0 == 118 then Verify else
-    (if slice_index t 0 == 97 then (if slice_index t 1 == 110 then Analyse else Audit)
-    else (if slice_index t 1 == 117 then Run else Refute)))))
+-- a number for the asks that one word can mean
+sort : Ask → ℕ
+sort Check = 0
+sort (Analyse depth) = 1
+sort (AnalyseIn depth form) = 1
+sort (Certify depth form) = 1
+sort Audit = 2
+sort (Draw language) = 3
 
-named_word : (s : Subcommand) → named (subcommand_word s) ≡ s
-unfolding named
-named_word Check = refl
-named_word Analyse = refl
-named_word Run = refl
-named_word Audit = refl
-named_word Refute = refl
-named_word Verify = refl
-named_word Draw = refl
-named_word Trace = refl
+-- that number by the first two letters of the word
+sort_named : Text → ℕ
+sort_named t = if slice_index t 0 == 99 then 0 else (if slice_index t 0 == 100 then 3 else (if slice_index t 1 == 110 then 1 else 2))
 
-same_subcommand : (s t : Subcommand) → subcommand_word s ≡ subcommand_word t → s ≡ t
-same_subcommand s t e = sym (named_word s) ∙ (ap named e ∙ named_word t)
+asks_sort : (word : Text) (rows : List Row) (ask : Ask) → Asks word rows ask → sort_named word ≡ sort ask
+unfolding sort sort_named
+asks_sort word rows Check m = ap sort_named m
+asks_sort word rows (Analyse depth) m = ap sort_named m.0.0
+asks_sort word rows (AnalyseIn depth form) m = ap sort_named m.0.0
+asks_sort word rows (Certify depth form) m = ap sort_named m.0.0
+asks_sort word rows Audit m = ap sort_named m
+asks_sort word rows (Draw language) m = ap sort_named m.0
+
+-- a number for the lines that one word can mean
+pub kind : Line → ℕ
+kind (Serve ask) = 0
+kind (Each ask jobs) = 0
+kind (Run workers is_whole) = 1
+kind (Refute claim tries explains) = 2
+kind (Verify depth tries jobs style is_each) = 3
+kind Trace = 4
+
+-- that number by the first two letters of the word
+pub kind_named : Text → ℕ
+kind_named t =
+    if slice_index t 0 == 116 then 4 else
+    (if slice_index t 0 == 118 then 3 else
+    (if slice_index t 0 == 114 then (if slice_index t 1 == 117 then 1 else 2) else 0))
+
+asks_kind : (word : Text) (rows : List Row) (ask : Ask) → Asks word rows ask → kind_named word ≡ 0
+unfolding kind_named
+asks_kind word rows Check m = ap kind_named m
+asks_kind word rows (Analyse depth) m = ap kind_named m.0.0
+asks_kind word rows (AnalyseIn depth form) m = ap kind_named m.0.0
+asks_kind word rows (Certify depth form) m = ap kind_named m.0.0
+asks_kind word rows Audit m = ap kind_named m
+asks_kind word rows (Draw language) m = ap kind_named m.0
+
+means_kind : (word : Text) (rows : List Row) (l : Line) → Means word rows l → kind_named word ≡ kind l
+unfolding kind_named kind
+means_kind word rows (Serve ask) m = asks_kind word rows ask m.0
+means_kind word rows (Each ask jobs) m = asks_kind word rows ask m.0
+means_kind word rows (Run workers is_whole) m = ap kind_named m.0
+means_kind word rows (Refute claim tries explains) m = ap kind_named m.0
+means_kind word rows (Verify depth tries jobs style is_each) m = ap kind_named m.0
+means_kind word rows Trace m = ap kind_named m
 
 -- ---- options mean one line at most
 
@@ -50,97 +87,65 @@ same_form rows Full Slim m n = absurd (m n)
 same_form rows Slim Full m n = absurd (n m)
 same_form rows Slim Slim m n = refl
 
-same_explained : (rows : List Row) (a b : Bool) → IsExplained rows a → IsExplained rows b → a ≡ b
-same_explained rows true true m n = refl
-same_explained rows true false m n = absurd (n m)
-same_explained rows false true m n = absurd (m n)
-same_explained rows false false m n = refl
+same_ask : (word : Text) (rows : List Row) (a b : Ask) → Asks word rows a → Asks word rows b → a ≡ b
+unfolding sort
+same_ask word rows Check Check m n = refl
+same_ask word rows Audit Audit m n = refl
+same_ask word rows (Analyse d) (Analyse e) m n = ap Analyse (same_number number.Depth rows d e m.0.1 n.0.1)
+same_ask word rows (Analyse d) (AnalyseIn e g) m n = absurd (m.0.2 (subst (IsForm rows) n.1 n.0.2))
+same_ask word rows (Analyse d) (Certify e g) m n = absurd (m.1 n.1)
+same_ask word rows (AnalyseIn d f) (Analyse e) m n = absurd (n.0.2 (subst (IsForm rows) m.1 m.0.2))
+same_ask word rows (AnalyseIn d f) (AnalyseIn e g) m n = ap₂ AnalyseIn (same_number number.Depth rows d e m.0.1 n.0.1) (same_form rows f g m.0.2 n.0.2)
+same_ask word rows (AnalyseIn d f) (Certify e g) m n = absurd (m.2 n.1)
+same_ask word rows (Certify d f) (Analyse e) m n = absurd (n.1 m.1)
+same_ask word rows (Certify d f) (AnalyseIn e g) m n = absurd (n.2 m.1)
+same_ask word rows (Certify d f) (Certify e g) m n = ap₂ Certify (same_number number.Depth rows d e m.0.1 n.0.1) (same_form rows f g m.0.2 n.0.2)
+same_ask word rows (Draw k) (Draw l) m n = ap Draw (same_named language_word rows k l same_language m.1 n.1)
+same_ask word rows a b m n = let e = sym (asks_sort word rows a m) ∙ asks_sort word rows b n in absurd (omega arith)
 
-same_if_given : (option : Text) (most : ℕ) (rows : List Row) (a b : Option ℕ) → IsIfGiven option most rows a → IsIfGiven option most rows b → a ≡ b
-same_if_given option most rows None None m n = refl
-same_if_given option most rows None (Some c) m n = absurd (n.0 m)
-same_if_given option most rows (Some c) None m n = absurd (m.0 n)
-same_if_given option most rows (Some c) (Some d) m n = ap Some (same_number option 1 most rows c d m.1 n.1)
+same_tries : (rows : List Row) (s t : Tries) → AreTries rows s → AreTries rows t → s ≡ t
+same_tries rows s t m n =
+    let tries : ℕ → ℕ → Tries = λ runs seed. record { runs = runs; seed = seed } in
+    ap₂ tries (same_number number.Runs rows s.runs t.runs m.0 n.0) (same_number number.Seed rows s.seed t.seed m.1 n.1)
 
-same_one_or_each : (rows : List Row) (one : Line) (each : Option ℕ → Line) (a b : Line) → IsOneOrEach rows one each a → IsOneOrEach rows one each b → a ≡ b
-same_one_or_each rows one each a b (inl m) (inl n) = m.2 ∙ sym n.2
-same_one_or_each rows one each a b (inl m) (inr n) = absurd (m.0 n.0)
-same_one_or_each rows one each a b (inr m) (inl n) = absurd (n.0 m.0)
-same_one_or_each rows one each a b (inr (set, (j, is_j, m))) (inr (also, (k, is_k, n))) = m ∙ (ap each (same_if_given (codes "jobs") 64 rows j k is_j is_k) ∙ sym n)
-
-one_meaning : (s : Subcommand) (rows : List Row) (a b : Line) → Means s rows a → Means s rows b → a ≡ b
-one_meaning Check rows a b m n = same_one_or_each rows line.Check line.CheckEach a b m n
-one_meaning Analyse rows a b (d, is_d, (f, is_f, inl m)) (e, is_e, (g, is_g, inl n)) =
-    rw (m.1, n.1, same_number (codes "depth") 0 6 rows d e is_d is_e, same_form rows f g is_f is_g) refl
-one_meaning Analyse rows a b (d, is_d, (f, is_f, inl m)) (e, is_e, (g, is_g, inr n)) = absurd (n.0 m.0)
-one_meaning Analyse rows a b (d, is_d, (f, is_f, inr m)) (e, is_e, (g, is_g, inl n)) = absurd (m.0 n.0)
-one_meaning Analyse rows a b (d, is_d, (f, is_f, inr m)) (e, is_e, (g, is_g, inr n)) =
-    rw (m.1, n.1, same_number (codes "depth") 0 6 rows d e is_d is_e, same_form rows f g is_f is_g) refl
-one_meaning Run rows a b (w, is_w, inl m) (u, is_u, inl n) = rw (m.1, n.1, same_number (codes "workers") 1 64 rows w u is_w is_u) refl
-one_meaning Run rows a b (w, is_w, inl m) (u, is_u, inr n) = absurd (n.0 m.0)
-one_meaning Run rows a b (w, is_w, inr m) (u, is_u, inl n) = absurd (m.0 n.0)
-one_meaning Run rows a b (w, is_w, inr m) (u, is_u, inr n) = rw (m.1, n.1, same_number (codes "workers") 1 64 rows w u is_w is_u) refl
-one_meaning Audit rows a b m n = same_one_or_each rows line.Audit line.AuditEach a b m n
-one_meaning Refute rows a b (c, is_c, (r, is_r, (s, is_s, (x, is_x, m)))) (d, is_d, (q, is_q, (t, is_t, (y, is_y, n)))) =
-    rw (m, n, same_if_given (codes "claim") 1024 rows c d is_c is_d, same_number (codes "runs") 0 1000000 rows r q is_r is_q, same_number (codes "seed") 0 4294967295 rows s t is_s is_t, same_explained rows x y is_x is_y) refl
-one_meaning Verify rows a b (d, is_d, (r, is_r, (s, is_s, (j, is_j, (x, is_x, inl m))))) (e, is_e, (q, is_q, (t, is_t, (k, is_k, (y, is_y, inl n))))) =
-    rw (m.1, n.1, same_number (codes "depth") 0 6 rows d e is_d is_e, same_number (codes "runs") 0 1000000 rows r q is_r is_q, same_number (codes "seed") 0 4294967295 rows s t is_s is_t, same_if_given (codes "jobs") 64 rows j k is_j is_k, same_named style_word rows x y same_style is_x is_y) refl
-one_meaning Verify rows a b (d, is_d, (r, is_r, (s, is_s, (j, is_j, (x, is_x, inl m))))) (e, is_e, (q, is_q, (t, is_t, (k, is_k, (y, is_y, inr n))))) = absurd (m.0 n.0)
-one_meaning Verify rows a b (d, is_d, (r, is_r, (s, is_s, (j, is_j, (x, is_x, inr m))))) (e, is_e, (q, is_q, (t, is_t, (k, is_k, (y, is_y, inl n))))) = absurd (n.0 m.0)
-one_meaning Verify rows a b (d, is_d, (r, is_r, (s, is_s, (j, is_j, (x, is_x, inr m))))) (e, is_e, (q, is_q, (t, is_t, (k, is_k, (y, is_y, inr n))))) =
-    rw (m.1, n.1, same_number (codes "depth") 0 6 rows d e is_d is_e, same_number (codes "runs") 0 1000000 rows r q is_r is_q, same_number (codes "seed") 0 4294967295 rows s t is_s is_t, same_if_given (codes "jobs") 64 rows j k is_j is_k, same_named style_word rows x y same_style is_x is_y) refl
-one_meaning Draw rows a b m n = rw (m.2, n.2, same_named language_word rows m.0 n.0 same_language m.1 n.1) refl
-one_meaning Trace rows a b m n = m ∙ sym n
-
--- what was entered by one name with one list of options
-same_entered : (o : Option (Text × List Row)) (s t : Subcommand) (rows others : List Row) → o ≡ Some (subcommand_word s, rows) → o ≡ Some (subcommand_word t, others) → (s ≡ t) × (rows ≡ others)
-same_entered o s t rows others e f =
-    let same = some_same (subcommand_word s, rows) (subcommand_word t, others) (sym e ∙ f) in
-    (same_subcommand s t (ap (λ p. p.0) same), ap (λ p. p.1) same)
-
-moved : (s t : Subcommand) (rows others : List Row) (l : Line) → s ≡ t → rows ≡ others → Means s rows l → Means t others l
-moved s t rows others l e f m = subst (λ (u : Subcommand). Means u others l) e (subst (λ (rs : List Row). Means s rs l) f m)
+same_line : (word : Text) (rows : List Row) (a b : Line) → Means word rows a → Means word rows b → a ≡ b
+unfolding kind
+same_line word rows (Serve a) (Serve b) m n = ap Serve (same_ask word rows a b m.0 n.0)
+same_line word rows (Serve a) (Each b k) m n = absurd (m.1.0 n.1.0)
+same_line word rows (Each a j) (Serve b) m n = absurd (n.1.0 m.1.0)
+same_line word rows (Each a j) (Each b k) m n = ap₂ Each (same_ask word rows a b m.0 n.0) (same_if_given number.Jobs rows j k m.1.1 n.1.1)
+same_line word rows (Run w x) (Run v y) m n = ap₂ Run (same_number number.Workers rows w v m.1 n.1) (same_flag (codes "whole") rows x y m.2 n.2)
+same_line word rows (Refute c s x) (Refute d t y) m n =
+    rw (same_if_given number.Claim rows c d m.1 n.1, same_tries rows s t m.2 n.2, same_flag (codes "explain") rows x y m.3 n.3) refl
+same_line word rows (Verify d s j x p) (Verify e t k y q) m n =
+    rw (same_number number.Depth rows d e m.1 n.1, same_tries rows s t m.2 n.2, same_if_given number.Jobs rows j k m.3 n.3, same_named style_word rows x y same_style m.4 n.4, same_flag (codes "each") rows p q m.5 n.5) refl
+same_line word rows Trace Trace m n = refl
+same_line word rows a b m n = let e = sym (means_kind word rows a m) ∙ means_kind word rows b n in absurd (omega arith)
 
 pub one_line : (o : Option (Text × List Row)) (a b : Line) → IsLineOf o a → IsLineOf o b → a ≡ b
-one_line o a b (s, rows, e, m) (t, others, f, n) =
-    let same = same_entered o s t rows others e f in
-    one_meaning t others a b (moved s t rows others a same.0 same.1 m) n
+one_line None a b m n = absurd m
+one_line (Some (word, rows)) a b m n = same_line word rows a b m n
 
 -- the line that the options mean is the one that was entered
-pub meant : (o : Option (Text × List Row)) (s : Subcommand) (rows : List Row) (r : Option Line) → o ≡ Some (subcommand_word s, rows) → MatchOption r ((l : Line) → Means s rows l → ⊥) (Means s rows)
+pub meant : (o : Option (Text × List Row)) (word : Text) (rows : List Row) (r : Option Line) → o ≡ Some (word, rows) → MatchOption r ((l : Line) → Means word rows l → ⊥) (Means word rows)
     → MatchOption r ((l : Line) → IsLineOf o l → ⊥) (IsLineOf o)
-meant o s rows None e none = λ l is.
-    let same = same_entered o is.0 s is.1 rows is.2 e in
-    none l (moved is.0 s is.1 rows l same.0 same.1 is.3)
-meant o s rows (Some l) e m = (s, rows, e, m)
+meant o word rows r e m = subst (λ (p : Option (Text × List Row)). MatchOption r ((l : Line) → IsLineOf p l → ⊥) (IsLineOf p)) (sym e) m
 
 -- ---- within the limits
 
-searches_within : (depth : ℕ) (form : Form) → IsWithin (search depth form)
-searches_within depth Full = tt
-searches_within depth Slim = tt
-
-threads_within : (rows : List Row) (jobs : Option ℕ) → IsIfGiven (codes "jobs") 64 rows jobs → AreThreads jobs
+threads_within : (rows : List Row) (jobs : Option ℕ) → IsIfGiven number.Jobs rows jobs → AreThreads jobs
 threads_within rows None is = tt
-threads_within rows (Some jobs) is = (is.1.least_of, is.1.limit)
+threads_within rows (Some jobs) is = (is.1.least, is.1.most)
 
-means_within : (s : Subcommand) (rows : List Row) (l : Line) → Means s rows l → IsWithin l
-means_within Check rows l (inl m) = subst IsWithin (sym m.2) tt
-means_within Check rows l (inr (set, (j, is_j, m))) = subst IsWithin (sym m) (threads_within rows j is_j)
-means_within Analyse rows l (d, is_d, (f, is_f, inl m)) = subst IsWithin (sym m.1) tt
-means_within Analyse rows l (d, is_d, (f, is_f, inr m)) = subst IsWithin (sym m.1) (searches_within d f)
-means_within Run rows l (w, is_w, inl m) = subst IsWithin (sym m.1) (is_w.least_of, is_w.limit)
-means_within Run rows l (w, is_w, inr m) = subst IsWithin (sym m.1) (is_w.least_of, is_w.limit)
-means_within Audit rows l (inl m) = subst IsWithin (sym m.2) tt
-means_within Audit rows l (inr (set, (j, is_j, m))) = subst IsWithin (sym m) (threads_within rows j is_j)
-means_within Refute rows l (c, is_c, (r, is_r, (s, is_s, (x, is_x, m)))) = subst IsWithin (sym m) tt
-means_within Verify rows l (d, is_d, (r, is_r, (s, is_s, (j, is_j, (x, is_x, inl m))))) = subst IsWithin (sym m.1) (threads_within rows j is_j)
-means_within Verify rows l (d, is_d, (r, is_r, (s, is_s, (j, is_j, (x, is_x, inr m))))) = subst IsWithin (sym m.1) (threads_within rows j is_j)
-means_within Draw rows l m = subst IsWithin (sym m.2) tt
-means_within Trace rows l m = subst IsWithin (sym m) tt
+means_within : (word : Text) (rows : List Row) (l : Line) → Means word rows l → IsWithin l
+means_within word rows (Each ask jobs) m = threads_within rows jobs m.1.1
+means_within word rows (Run workers is_whole) m = (m.1.least, m.1.most)
+means_within word rows (Verify depth tries jobs style is_each) m = threads_within rows jobs m.3
+means_within word rows l m = tt
 
 pub line_within : (o : Option (Text × List Row)) (l : Line) → IsLineOf o l → IsWithin l
-line_within o l is = means_within is.0 is.1 l is.3
+line_within None l is = absurd is
+line_within (Some (word, rows)) l is = means_within word rows l is
 
 -- ---- the subcommand that was entered
 
@@ -156,26 +161,84 @@ pub entered : (m : ArgMatches) (name : Text) (rows : List Row) → Some name ≡
 entered m name rows e f = whole (subcommand_rows_of m) name rows (e ∙ name_of_rows (out-ArgMatches m).subcommand) f
 
 none_mapped : (o : Option (Text × List Row)) (l : Line) → None ≡ option_map (λ p. p.0) o → IsLineOf o l → ⊥
-none_mapped None l e is = let f = is.2 in absurd cc
+none_mapped None l e is = is
 none_mapped (Some p) l e is = absurd cc
 
 pub nothing_entered : (m : ArgMatches) (l : Line) → None ≡ subcommand_name_of m → IsLineOf (subcommand_rows_of m) l → ⊥
 nothing_entered m l e is = none_mapped (subcommand_rows_of m) l (e ∙ name_of_rows (out-ArgMatches m).subcommand) is
 
--- a name that no subcommand has
-pub unknown_entered : (o : Option (Text × List Row)) (name : Text) (rows : List Row) (l : Line) → o ≡ Some (name, rows) → ((s : Subcommand) → subcommand_word s ≡ name → ⊥) → IsLineOf o l → ⊥
-unknown_entered o name rows l e none is = none is.0 (ap (λ p. p.0) (some_same (subcommand_word is.0, is.1) (name, rows) (sym is.2 ∙ e)))
+-- ---- options that mean no line
 
--- what a subcommand means, as the one that was asked for
-pub as_asked : (s t : Subcommand) (rows : List Row) (r : Option Line) → s ≡ t → MatchOption r ((l : Line) → Means t rows l → ⊥) (Means t rows) → MatchOption r ((l : Line) → Means s rows l → ⊥) (Means s rows)
-as_asked s t rows r e m = subst (λ (u : Subcommand). MatchOption r ((l : Line) → Means u rows l → ⊥) (Means u rows)) (sym e) m
+-- what is asked of no document is asked for by no line
+pub nothing_asked : (word : Text) (rows : List Row) → kind_named word ≡ 0 → ((ask : Ask) → Asks word rows ask → ⊥) → (l : Line) → Means word rows l → ⊥
+unfolding kind
+nothing_asked word rows is none (Serve ask) m = none ask m.0
+nothing_asked word rows is none (Each ask jobs) m = none ask m.0
+nothing_asked word rows is none l m = let e = sym is ∙ means_kind word rows l m in absurd (omega arith)
 
 -- no number of threads that may be is given, and none isn't
-pub wrong_jobs : (rows : List Row) (one : Line) (each : Option ℕ → Line) (l : Line) → ((n : Option ℕ) → IsIfGiven (codes "jobs") 64 rows n → ⊥) → IsOneOrEach rows one each l → ⊥
-wrong_jobs rows one each l none (inl is) = none None is.1
-wrong_jobs rows one each l none (inr (set, (jobs, is, m))) = none jobs is
+pub wrong_jobs : (word : Text) (rows : List Row) (ask : Ask) → Asks word rows ask → ((n : Option ℕ) → IsIfGiven number.Jobs rows n → ⊥) → (l : Line) → Means word rows l → ⊥
+unfolding kind
+wrong_jobs word rows ask asks none (Serve other) m = none None m.1.1
+wrong_jobs word rows ask asks none (Each other jobs) m = none jobs m.1.1
+wrong_jobs word rows ask asks none l m = let e = sym (asks_kind word rows ask asks) ∙ means_kind word rows l m in absurd (omega arith)
 
 -- a number of threads is given, and no document on each line is asked for
-pub lone_jobs : (rows : List Row) (one : Line) (each : Option ℕ → Line) (l : Line) (jobs : ℕ) → (IsSet (codes "each") rows → ⊥) → IsIfGiven (codes "jobs") 64 rows (Some jobs) → IsOneOrEach rows one each l → ⊥
-lone_jobs rows one each l jobs unset given (inl is) = given.0 is.1
-lone_jobs rows one each l jobs unset given (inr (set, more)) = unset set
+pub lone_jobs : (word : Text) (rows : List Row) (ask : Ask) → Asks word rows ask → (jobs : ℕ) → (IsSet (codes "each") rows → ⊥) → IsIfGiven number.Jobs rows (Some jobs) → (l : Line) → Means word rows l → ⊥
+unfolding kind
+lone_jobs word rows ask asks jobs unset given (Serve other) m = given.0 m.1.1
+lone_jobs word rows ask asks jobs unset given (Each other also) m = unset m.1.0
+lone_jobs word rows ask asks jobs unset given l m = let e = sym (asks_kind word rows ask asks) ∙ means_kind word rows l m in absurd (omega arith)
+
+pub no_search : (rows : List Row) → ((n : ℕ) → IsGiven number.Depth rows n → ⊥) → (ask : Ask) → Asks (codes "analyse") rows ask → ⊥
+unfolding sort sort_named
+no_search rows none (Analyse depth) m = none depth m.0.1
+no_search rows none (AnalyseIn depth form) m = none depth m.0.1
+no_search rows none (Certify depth form) m = none depth m.0.1
+no_search rows none ask m = let e = asks_sort (codes "analyse") rows ask m in absurd (omega arith)
+
+pub no_picture : (rows : List Row) → ((l : Language) → IsLanguage rows l → ⊥) → (ask : Ask) → Asks (codes "draw") rows ask → ⊥
+unfolding sort sort_named
+no_picture rows none (Draw language) m = none language m.1
+no_picture rows none ask m = let e = asks_sort (codes "draw") rows ask m in absurd (omega arith)
+
+-- a word that names one kind of line names no other
+pub no_run : (rows : List Row) → ((workers : ℕ) (is_whole : Bool) → Means (codes "run") rows (Run workers is_whole) → ⊥) → (l : Line) → Means (codes "run") rows l → ⊥
+unfolding kind_named kind
+no_run rows none (Run workers is_whole) m = none workers is_whole m
+no_run rows none l m = let e = means_kind (codes "run") rows l m in absurd (omega arith)
+
+pub no_refute : (rows : List Row) → ((claim : Option ℕ) (tries : Tries) (explains : Bool) → Means (codes "refute") rows (Refute claim tries explains) → ⊥) → (l : Line) → Means (codes "refute") rows l → ⊥
+unfolding kind_named kind
+no_refute rows none (Refute claim tries explains) m = none claim tries explains m
+no_refute rows none l m = let e = means_kind (codes "refute") rows l m in absurd (omega arith)
+
+pub no_verify : (rows : List Row) → ((depth : ℕ) (tries : Tries) (jobs : Option ℕ) (style : Style) (is_each : Bool) → Means (codes "verify") rows (Verify depth tries jobs style is_each) → ⊥) → (l : Line) → Means (codes "verify") rows l → ⊥
+unfolding kind_named kind
+no_verify rows none (Verify depth tries jobs style is_each) m = none depth tries jobs style is_each m
+no_verify rows none l m = let e = means_kind (codes "verify") rows l m in absurd (omega arith)
+
+-- a word that names no command
+pub no_command : (word : Text) (rows : List Row) → (word ≡ codes "check" → ⊥) → (word ≡ codes "analyse" → ⊥) → (word ≡ codes "run" → ⊥) → (word ≡ codes "audit" → ⊥) → (word ≡ codes "refute" → ⊥)
+    → (word ≡ codes "verify" → ⊥) → (word ≡ codes "draw" → ⊥) → (word ≡ codes "trace" → ⊥) → (l : Line) → Means word rows l → ⊥
+no_command word rows check analyse run audit refute verify draw trace l = go l
+  where
+    asked : (ask : Ask) → Asks word rows ask → ⊥
+    asked Check m = check m
+    asked (Analyse depth) m = analyse m.0.0
+    asked (AnalyseIn depth form) m = analyse m.0.0
+    asked (Certify depth form) m = analyse m.0.0
+    asked Audit m = audit m
+    asked (Draw language) m = draw m.0
+
+    go : (l : Line) → Means word rows l → ⊥
+    go (Serve ask) m = asked ask m.0
+    go (Each ask jobs) m = asked ask m.0
+    go (Run workers is_whole) m = run m.0
+    go (Refute claim tries explains) m = refute m.0
+    go (Verify depth tries jobs style is_each) m = verify m.0
+    go Trace m = trace m
+
+-- a line that a word means is one that another name of the word means
+pub as_named : (word name : Text) (rows : List Row) (r : Option Line) → word ≡ name → MatchOption r ((l : Line) → Means name rows l → ⊥) (Means name rows) → MatchOption r ((l : Line) → Means word rows l → ⊥) (Means word rows)
+as_named word name rows r e m = subst (λ (t : Text). MatchOption r ((l : Line) → Means t rows l → ⊥) (Means t rows)) (sym e) m

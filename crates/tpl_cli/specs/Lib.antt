@@ -1,3 +1,4 @@
+pub mod Number
 pub mod Options
 pub mod Usage
 pub mod Line

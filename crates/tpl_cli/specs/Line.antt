@@ -1,81 +1,63 @@
 -- What the words of the command line name.
-use Rattle.std.specs.Prelude.{◌≡◌, ◌≤◌, ◌⊎◌, ℕ, Bool, true, false, List, Option, Some, None, codes}
-use Rattle.clap.specs.Words.{Row, Text, first_of, subcommand_of}
+use Rattle.std.specs.Prelude.{◌≡◌, ◌≤◌, ℕ, List, Option, Some, None, IsSomeAnd, codes}
+use Rattle.clap.specs.Words.{Row, Text, subcommand_of}
 use Rattle.tpl_analyser.specs.declared.form.Form.{Form}
 use Rattle.tpl_analyser.specs.declared.form.Form.TheVariants.{Full, Slim}
+use Rattle.tpl_commands.specs.declared.ask.Ask.{Ask}
+use Rattle.tpl_commands.specs.declared.ask.Ask.TheVariants.{Check, Analyse, AnalyseIn, Certify, Audit, Draw}
 use Rattle.tpl_cli.specs.declared.line.Line as lines
 use Rattle.tpl_cli.specs.declared.line.Line.TheVariants as line
-use Rattle.tpl_cli.specs.declared.subcommand.Subcommand.{Subcommand}
-use Rattle.tpl_cli.specs.declared.subcommand.Subcommand.TheVariants.{Check, Analyse, Run, Audit, Refute, Verify, Draw, Trace}
-use Rattle.tpl_cli.specs.Options.{IsGiven, IsLanguage, IsSet, IsStyle}
+use Rattle.tpl_cli.specs.declared.line.Tries.{Tries}
+use Rattle.tpl_cli.specs.declared.number.Number.TheVariants as number
+use Rattle.tpl_cli.specs.Options.{IsFlag, IsGiven, IsIfGiven, IsLanguage, IsSet, IsStyle}
 use Rattle.tpl_cli.specs.Usage.{taskgraph}
-
--- the name of a subcommand
-abbrev pub subcommand_word : Subcommand → Text
-subcommand_word Check = codes "check"
-subcommand_word Analyse = codes "analyse"
-subcommand_word Run = codes "run"
-subcommand_word Audit = codes "audit"
-subcommand_word Refute = codes "refute"
-subcommand_word Verify = codes "verify"
-subcommand_word Draw = codes "draw"
-subcommand_word Trace = codes "trace"
 
 -- the form that is asked for
 abbrev pub IsForm : List Row → Form → Type 0
 IsForm rows Full = IsSet (codes "slim") rows → ⊥
 IsForm rows Slim = IsSet (codes "slim") rows
 
--- the number from 1 to 64 that is given for the option, if one is
-abbrev pub IsIfGiven : Text → ℕ → List Row → Option ℕ → Type 0
-IsIfGiven option most rows None = first_of option rows ≡ None
-IsIfGiven option most rows (Some number) = (first_of option rows ≡ None → ⊥) × IsGiven option 1 most rows number
+-- a search is asked for with at most so many splits on each path, for a certificate of this form
+abbrev pub IsSearch : Text → List Row → ℕ → Form → Type 0
+IsSearch word rows depth form = (word ≡ codes "analyse") × IsGiven number.Depth rows depth × IsForm rows form
 
--- lines are asked for on the standard error
-abbrev pub IsExplained : List Row → Bool → Type 0
-IsExplained rows true = IsSet (codes "explain") rows
-IsExplained rows false = IsSet (codes "explain") rows → ⊥
+-- with these options the subcommand of this name asks this of a document
+abbrev pub Asks : Text → List Row → Ask → Type 0
+Asks word rows Check = word ≡ codes "check"
+Asks word rows (Analyse depth) = IsSearch word rows depth Full × (IsSet (codes "whole") rows → ⊥)
+Asks word rows (AnalyseIn depth form) = IsSearch word rows depth form × (form ≡ Slim) × (IsSet (codes "whole") rows → ⊥)
+Asks word rows (Certify depth form) = IsSearch word rows depth form × IsSet (codes "whole") rows
+Asks word rows Audit = word ≡ codes "audit"
+Asks word rows (Draw language) = (word ≡ codes "draw") × IsLanguage rows language
 
--- the line for a search whose answer is the certificate alone, in this form
-abbrev pub search : ℕ → Form → lines.Line
-search depth Full = line.Analyse depth
-search depth Slim = line.AnalyseIn depth Slim
+-- one document is answered, and no number of threads is given
+abbrev pub IsAlone : List Row → Type 0
+IsAlone rows = (IsSet (codes "each") rows → ⊥) × IsIfGiven number.Jobs rows None
 
--- the line for one document, where no number of threads is given; or that for a document on each line, which so many answer
-abbrev pub IsOneOrEach : List Row → lines.Line → (Option ℕ → lines.Line) → lines.Line → Type 0
-IsOneOrEach rows one each l =
-    ((IsSet (codes "each") rows → ⊥) × (first_of (codes "jobs") rows ≡ None) × (l ≡ one))
-    ⊎ (IsSet (codes "each") rows × ((jobs : Option ℕ) × IsIfGiven (codes "jobs") 64 rows jobs × (l ≡ each jobs)))
+-- the document on each line is answered, by so many threads
+abbrev pub IsEach : List Row → Option ℕ → Type 0
+IsEach rows jobs = IsSet (codes "each") rows × IsIfGiven number.Jobs rows jobs
 
--- with these options the subcommand means this line
-abbrev pub Means : Subcommand → List Row → lines.Line → Type 0
-Means Check rows l = IsOneOrEach rows line.Check line.CheckEach l
-Means Analyse rows l =
-    (depth : ℕ) × IsGiven (codes "depth") 0 6 rows depth × ((form : Form) × IsForm rows form
-    × ((IsSet (codes "whole") rows × (l ≡ line.Certify depth form))
-    ⊎ ((IsSet (codes "whole") rows → ⊥) × (l ≡ search depth form))))
-Means Run rows l =
-    (workers : ℕ) × IsGiven (codes "workers") 1 64 rows workers
-    × ((IsSet (codes "whole") rows × (l ≡ line.RunWhole workers)) ⊎ ((IsSet (codes "whole") rows → ⊥) × (l ≡ line.Run workers)))
-Means Audit rows l = IsOneOrEach rows line.Audit line.AuditEach l
-Means Refute rows l =
-    (claim : Option ℕ) × IsIfGiven (codes "claim") 1024 rows claim
-    × ((runs : ℕ) × IsGiven (codes "runs") 0 1000000 rows runs
-    × ((seed : ℕ) × IsGiven (codes "seed") 0 4294967295 rows seed
-    × ((explain : Bool) × IsExplained rows explain × (l ≡ line.Refute claim runs seed explain))))
-Means Verify rows l =
-    (depth : ℕ) × IsGiven (codes "depth") 0 6 rows depth
-    × ((runs : ℕ) × IsGiven (codes "runs") 0 1000000 rows runs
-    × ((seed : ℕ) × IsGiven (codes "seed") 0 4294967295 rows seed
-    × ((jobs : Option ℕ) × IsIfGiven (codes "jobs") 64 rows jobs
-    × ((style : _) × IsStyle rows style × (((IsSet (codes "each") rows → ⊥) × (l ≡ line.Verify depth runs seed jobs style))
-    ⊎ (IsSet (codes "each") rows × (l ≡ line.VerifyEach depth runs seed jobs style)))))))
-Means Draw rows l = (language : _) × IsLanguage rows language × (l ≡ line.Draw language)
-Means Trace rows l = l ≡ line.Trace
+-- what is tried for a claim
+abbrev pub AreTries : List Row → Tries → Type 0
+AreTries rows tries = IsGiven number.Runs rows tries.runs × IsGiven number.Seed rows tries.seed
 
--- where a subcommand was entered with these options, this line is meant
+-- with these options the subcommand of this name means this line
+abbrev pub Means : Text → List Row → lines.Line → Type 0
+Means word rows (line.Serve ask) = Asks word rows ask × IsAlone rows
+Means word rows (line.Each ask jobs) = Asks word rows ask × IsEach rows jobs
+Means word rows (line.Run workers is_whole) =
+    (word ≡ codes "run") × IsGiven number.Workers rows workers × IsFlag (codes "whole") rows is_whole
+Means word rows (line.Refute claim tries explains) =
+    (word ≡ codes "refute") × IsIfGiven number.Claim rows claim × AreTries rows tries × IsFlag (codes "explain") rows explains
+Means word rows (line.Verify depth tries jobs style is_each) =
+    (word ≡ codes "verify") × IsGiven number.Depth rows depth × AreTries rows tries
+    × IsIfGiven number.Jobs rows jobs × IsStyle rows style × IsFlag (codes "each") rows is_each
+Means word rows line.Trace = word ≡ codes "trace"
+
+-- a subcommand was entered with options for which this line is meant
 abbrev pub IsLineOf : Option (Text × List Row) → lines.Line → Type 0
-IsLineOf entered l = (s : Subcommand) × (rows : List Row) × (entered ≡ Some (subcommand_word s, rows)) × Means s rows l
+IsLineOf entered l = IsSomeAnd entered (λ (word, rows). Means word rows l)
 
 -- the words name this line
 abbrev pub Names : List Text → lines.Line → Type 0
@@ -88,10 +70,7 @@ AreThreads (Some jobs) = (1 ≤ jobs) × (jobs ≤ 64)
 
 -- what a line asks for is within the limits of the command
 abbrev pub IsWithin : lines.Line → Type 0
-IsWithin (line.Run workers) = (1 ≤ workers) × (workers ≤ 64)
-IsWithin (line.RunWhole workers) = (1 ≤ workers) × (workers ≤ 64)
-IsWithin (line.Verify depth runs seed jobs style) = AreThreads jobs
-IsWithin (line.VerifyEach depth runs seed jobs style) = AreThreads jobs
-IsWithin (line.CheckEach jobs) = AreThreads jobs
-IsWithin (line.AuditEach jobs) = AreThreads jobs
+IsWithin (line.Each ask jobs) = AreThreads jobs
+IsWithin (line.Run workers is_whole) = (1 ≤ workers) × (workers ≤ 64)
+IsWithin (line.Verify depth tries jobs style is_each) = AreThreads jobs
 IsWithin l = Unit {0}

@@ -1,54 +1,67 @@
 //! What the words of the command line say.
 
-ghost use Rattle.std.specs.Prelude.{◌≡◌, ℕ, true, Option, IfOk, MatchOption, MatchResult, map};
-ghost use Rattle.clap.specs.Words.{found_of, kind_of, rows_of, subcommand_rows_of, takes};
-ghost use Rattle.tpl_cli.specs.Line.{IsIfGiven, IsLineOf, IsWithin, Means, Names};
+ghost use Rattle.std.specs.Prelude.{◌≡◌, true, codes, IfOk, MatchOption, MatchResult, map};
+ghost use Rattle.clap.specs.Words.{Text, found_of, kind_of, rows_of, subcommand_rows_of, takes};
+ghost use Rattle.tpl_cli.specs.Line.{Asks, AreTries, IsLineOf, IsWithin, Means, Names};
 ghost use Rattle.tpl_cli.specs.Usage.{taskgraph};
 
-use crate::options::{is_set, language_in, number_in, style_in};
-use crate::subcommand::{Subcommand, subcommand_named};
+use crate::number::Number;
+use crate::options::{depth_in, is_set, language_in, number_if_given, number_in, style_in};
 use crate::tips::{no_meaning, with_tip};
 use crate::usage::taskgraph;
 use clap::ArgMatches;
 use clap::error::ErrorKind;
 use std::alloc::{AllocError, Global};
 use thiserror::Error;
-use tpl_draw::Language;
+use tpl_commands::Ask;
 use tpl_report::{Depth, Form};
 use tpl_verdicts::Style;
+
+/// How many random runs are tried for a claim, and where the random numbers begin.
+#[derive(Clone, Copy, Debug, Drop, PartialEq, Eq)]
+pub struct Tries {
+    /// At most 1,000,000 runs.
+    pub runs: u32,
+    /// The seed of the random numbers.
+    pub seed: u32,
+}
 
 /// What the program is to do.
 #[derive(Clone, Copy, Debug, Drop, PartialEq, Eq)]
 pub enum Line {
-    /// Check the certificate of a document.
-    Check,
-    /// Check that of the document on each line, by so many threads, 1 to 64, or as many as there are processors.
-    CheckEach(Option<u16>),
-    /// Search for a certificate of a document's claims with at most this many splits on each path.
-    Analyse(Depth),
-    /// Search for a certificate of this form.
-    AnalyseIn(Depth, Form),
-    /// Search for a certificate of this form, and write the document with it.
-    Certify(Depth, Form),
-    /// Make a run of a document by this many workers, 1 to 64.
-    Run(u16),
-    /// Make such a run, and write the document with it.
-    RunWhole(u16),
-    /// Audit the journal of a document.
-    Audit,
-    /// Audit that of the document on each line, by so many threads, 1 to 64, or as many as there are processors.
-    AuditEach(Option<u16>),
-    /// Search for a run in which a claim doesn't hold: the claim, 1 to 1,024, or each; how many runs are tried for it, at
-    /// most 1,000,000; where the random numbers begin; and whether lines are asked for on the standard error.
-    Refute(Option<u16>, u32, u32, bool),
-    /// Answer each claim of a document: the most splits on each path of a certificate; how many runs are tried for a
-    /// claim, at most 1,000,000; where the random numbers begin; how many threads search, 1 to 64, or as many as there
-    /// are processors; and how the verdicts are written.
-    Verify(Depth, u32, u32, Option<u16>, Style),
-    /// The same of the document on each line, by so many threads beside each other.
-    VerifyEach(Depth, u32, u32, Option<u16>, Style),
-    /// Draw the graph of a document in this language.
-    Draw(Language),
+    /// Answer this of a document.
+    Serve(Ask),
+    /// Answer it of the document on each line, by so many threads, 1 to 64, or as many as there are processors.
+    Each(Ask, Option<u16>),
+    /// Make a run of a document.
+    Run {
+        /// By so many workers, 1 to 64.
+        workers: u16,
+        /// The document is written with the run in it.
+        is_whole: bool,
+    },
+    /// Search for a run in which a claim doesn't hold.
+    Refute {
+        /// The claim, 1 to 1,024, or each.
+        claim: Option<u16>,
+        /// What is tried for a claim.
+        tries: Tries,
+        /// Lines are asked for on the standard error.
+        explains: bool,
+    },
+    /// Answer each claim of a document.
+    Verify {
+        /// The most splits on each path of a certificate.
+        depth: Depth,
+        /// What is tried for a claim.
+        tries: Tries,
+        /// How many threads work beside each other, 1 to 64, or as many as there are processors.
+        jobs: Option<u16>,
+        /// How the verdicts are written.
+        style: Style,
+        /// The claims of the document on each line are answered.
+        is_each: bool,
+    },
     /// Write the journal of a document for a trace viewer.
     Trace,
 }
@@ -98,172 +111,116 @@ fn fault_of(alloc: Global, words: &[&str], error: clap::Error) -> LineFault
     }
 }
 
-/// The line that `check` means with these options.
-fn check_line(given: &ArgMatches<'_>) -> Option<Line>
-    ensures { MatchOption result
-        ((l : Line) → Means Subcommand.Check (rows_of (found_of given.now)) l → ⊥)
-        (Means Subcommand.Check (rows_of (found_of given.now))) }
+/// The line that asks this of one document, or of the document on each line, as the options say.
+fn served(given: &ArgMatches<'_>, ask: Ask) -> Option<Line>
+    ensures { (word : Text) → Asks word (rows_of (found_of given.now)) ask → MatchOption result
+        ((l : Line) → Means word (rows_of (found_of given.now)) l → ⊥)
+        (Means word (rows_of (found_of given.now))) }
 {
-    let Some(jobs) = number_if_given(given, "jobs", 64) else {
-        return None;
-    };
+    let jobs = number_if_given(given, Number::Jobs)?;
     if is_set(given, "each") {
-        return Some(Line::CheckEach(jobs));
+        return Some(Line::Each(ask, jobs));
     }
     match jobs {
-        None => Some(Line::Check),
+        None => Some(Line::Serve(ask)),
         Some(_) => None,
     }
 }
 
-/// The line that `analyse` means with these options.
-fn analyse_line(given: &ArgMatches<'_>) -> Option<Line>
+/// What `analyse` asks with these options.
+fn search_asked(given: &ArgMatches<'_>) -> Option<Ask>
     ensures { MatchOption result
-        ((l : Line) → Means Subcommand.Analyse (rows_of (found_of given.now)) l → ⊥)
-        (Means Subcommand.Analyse (rows_of (found_of given.now))) }
+        ((a : Ask) → Asks (codes "analyse") (rows_of (found_of given.now)) a → ⊥)
+        (Asks (codes "analyse") (rows_of (found_of given.now))) }
 {
-    let Some(depth) = number_in(given, "depth", 0, 6) else {
-        return None;
-    };
-    let Some(depth) = Depth::new(depth as u8) else {
-        return None;
-    };
+    let depth = depth_in(given)?;
     let slim = is_set(given, "slim");
     if is_set(given, "whole") {
-        Some(Line::Certify(depth, if slim { Form::Slim } else { Form::Full }))
+        Some(Ask::Certify(depth, if slim { Form::Slim } else { Form::Full }))
     } else if slim {
-        Some(Line::AnalyseIn(depth, Form::Slim))
+        Some(Ask::AnalyseIn(depth, Form::Slim))
     } else {
-        Some(Line::Analyse(depth))
-    }
-}
-
-/// The line that `audit` means with these options.
-fn audit_line(given: &ArgMatches<'_>) -> Option<Line>
-    ensures { MatchOption result
-        ((l : Line) → Means Subcommand.Audit (rows_of (found_of given.now)) l → ⊥)
-        (Means Subcommand.Audit (rows_of (found_of given.now))) }
-{
-    let Some(jobs) = number_if_given(given, "jobs", 64) else {
-        return None;
-    };
-    if is_set(given, "each") {
-        return Some(Line::AuditEach(jobs));
-    }
-    match jobs {
-        None => Some(Line::Audit),
-        Some(_) => None,
+        Some(Ask::Analyse(depth))
     }
 }
 
 /// The line that `run` means with these options.
 fn run_line(given: &ArgMatches<'_>) -> Option<Line>
     ensures { MatchOption result
-        ((l : Line) → Means Subcommand.Run (rows_of (found_of given.now)) l → ⊥)
-        (Means Subcommand.Run (rows_of (found_of given.now))) }
+        ((l : Line) → Means (codes "run") (rows_of (found_of given.now)) l → ⊥)
+        (Means (codes "run") (rows_of (found_of given.now))) }
 {
-    let Some(workers) = number_in(given, "workers", 1, 64) else {
-        return None;
-    };
-    if is_set(given, "whole") {
-        Some(Line::RunWhole(workers as u16))
-    } else {
-        Some(Line::Run(workers as u16))
-    }
+    let workers = number_in(given, Number::Workers)?;
+    let is_whole = is_set(given, "whole");
+    Some(Line::Run {
+        workers: workers as u16,
+        is_whole,
+    })
 }
 
-/// The number from 1 to this one that is given for the option: one, none, or a number out of range.
-fn number_if_given(given: &ArgMatches<'_>, option: &str, most: u16) -> Option<Option<u16>>
+/// What is tried for a claim with these options.
+fn tries_in(given: &ArgMatches<'_>) -> Option<Tries>
     ensures { MatchOption result
-        ((n : Option ℕ) → IsIfGiven option.now most (rows_of (found_of given.now)) n → ⊥)
-        (IsIfGiven option.now most (rows_of (found_of given.now))) }
+        ((t : Tries) → AreTries (rows_of (found_of given.now)) t → ⊥)
+        (AreTries (rows_of (found_of given.now))) }
 {
-    match given.get_str(option) {
-        None => Some(None),
-        Some(_) => match number_in(given, option, 1, u32::from(most)) {
-            Some(number) => Some(Some(number as u16)),
-            None => None,
-        },
-    }
+    let runs = number_in(given, Number::Runs)?;
+    let seed = number_in(given, Number::Seed)?;
+    Some(Tries { runs, seed })
 }
 
 /// The line that `refute` means with these options.
 fn refute_line(given: &ArgMatches<'_>) -> Option<Line>
     ensures { MatchOption result
-        ((l : Line) → Means Subcommand.Refute (rows_of (found_of given.now)) l → ⊥)
-        (Means Subcommand.Refute (rows_of (found_of given.now))) }
+        ((l : Line) → Means (codes "refute") (rows_of (found_of given.now)) l → ⊥)
+        (Means (codes "refute") (rows_of (found_of given.now))) }
 {
-    let Some(claim) = number_if_given(given, "claim", 1024) else {
-        return None;
-    };
-    let Some(runs) = number_in(given, "runs", 0, 1_000_000) else {
-        return None;
-    };
-    let Some(seed) = number_in(given, "seed", 0, 4_294_967_295) else {
-        return None;
-    };
-    let explain = is_set(given, "explain");
-    Some(Line::Refute(claim, runs, seed, explain))
+    let claim = number_if_given(given, Number::Claim)?;
+    let tries = tries_in(given)?;
+    let explains = is_set(given, "explain");
+    Some(Line::Refute {
+        claim,
+        tries,
+        explains,
+    })
 }
 
 /// The line that `verify` means with these options.
 fn verify_line(given: &ArgMatches<'_>) -> Option<Line>
     ensures { MatchOption result
-        ((l : Line) → Means Subcommand.Verify (rows_of (found_of given.now)) l → ⊥)
-        (Means Subcommand.Verify (rows_of (found_of given.now))) }
+        ((l : Line) → Means (codes "verify") (rows_of (found_of given.now)) l → ⊥)
+        (Means (codes "verify") (rows_of (found_of given.now))) }
 {
-    let Some(splits) = number_in(given, "depth", 0, 6) else {
-        return None;
-    };
-    let Some(depth) = Depth::new(splits as u8) else {
-        return None;
-    };
-    let Some(runs) = number_in(given, "runs", 0, 1_000_000) else {
-        return None;
-    };
-    let Some(seed) = number_in(given, "seed", 0, 4_294_967_295) else {
-        return None;
-    };
-    let Some(jobs) = number_if_given(given, "jobs", 64) else {
-        return None;
-    };
-    let Some(style) = style_in(given) else {
-        return None;
-    };
-    if is_set(given, "each") {
-        Some(Line::VerifyEach(depth, runs, seed, jobs, style))
-    } else {
-        Some(Line::Verify(depth, runs, seed, jobs, style))
-    }
+    let depth = depth_in(given)?;
+    let tries = tries_in(given)?;
+    let jobs = number_if_given(given, Number::Jobs)?;
+    let style = style_in(given)?;
+    let is_each = is_set(given, "each");
+    Some(Line::Verify {
+        depth,
+        tries,
+        jobs,
+        style,
+        is_each,
+    })
 }
 
-/// The line that `draw` means with these options.
-fn draw_line(given: &ArgMatches<'_>) -> Option<Line>
+/// The line that the subcommand of this name means with these options.
+fn line_meant(word: &str, given: &ArgMatches<'_>) -> Option<Line>
     ensures { MatchOption result
-        ((l : Line) → Means Subcommand.Draw (rows_of (found_of given.now)) l → ⊥)
-        (Means Subcommand.Draw (rows_of (found_of given.now))) }
+        ((l : Line) → Means word.now (rows_of (found_of given.now)) l → ⊥)
+        (Means word.now (rows_of (found_of given.now))) }
 {
-    match language_in(given) {
-        Some(language) => Some(Line::Draw(language)),
-        None => None,
-    }
-}
-
-/// The line that a subcommand means with these options.
-fn line_meant(subcommand: Subcommand, given: &ArgMatches<'_>) -> Option<Line>
-    ensures { MatchOption result
-        ((l : Line) → Means subcommand (rows_of (found_of given.now)) l → ⊥)
-        (Means subcommand (rows_of (found_of given.now))) }
-{
-    match subcommand {
-        Subcommand::Check => check_line(given),
-        Subcommand::Analyse => analyse_line(given),
-        Subcommand::Run => run_line(given),
-        Subcommand::Audit => audit_line(given),
-        Subcommand::Refute => refute_line(given),
-        Subcommand::Verify => verify_line(given),
-        Subcommand::Draw => draw_line(given),
-        Subcommand::Trace => Some(Line::Trace),
+    match word {
+        "check" => served(given, Ask::Check),
+        "analyse" => served(given, search_asked(given)?),
+        "run" => run_line(given),
+        "audit" => served(given, Ask::Audit),
+        "refute" => refute_line(given),
+        "verify" => verify_line(given),
+        "draw" => served(given, Ask::Draw(language_in(given)?)),
+        "trace" => Some(Line::Trace),
+        _ => None,
     }
 }
 
@@ -273,13 +230,10 @@ fn line_in(matches: &ArgMatches<'_>) -> Option<Line>
         ((l : Line) → IsLineOf (subcommand_rows_of matches.now) l → ⊥)
         (IsLineOf (subcommand_rows_of matches.now)) }
 {
-    let Some((name, given)) = matches.subcommand() else {
+    let Some((word, given)) = matches.subcommand() else {
         return None;
     };
-    let Some(subcommand) = subcommand_named(name) else {
-        return None;
-    };
-    line_meant(subcommand, given)
+    line_meant(word, given)
 }
 
 /// What the words say, the first of which is the program's own name. They are read by `clap`.

@@ -4,9 +4,9 @@
 mod boxes;
 mod devices;
 mod line;
+mod number;
 mod options;
 mod progress;
-mod subcommand;
 mod tips;
 mod usage;
 mod why;
@@ -31,7 +31,7 @@ use std::process::ExitCode;
 use std::sync::Wait;
 use std::thread::{Threads, available_parallelism};
 use std::{env, iter};
-use tpl_commands::{Ask, Exit, Loaded, load_watched, put_out_of_memory, serve_watched};
+use tpl_commands::{Command, Exit, Loaded, load_watched, put_out_of_memory, serve_watched};
 use tpl_each::{MOST_JOBS, Question, serve_each};
 use tpl_journal::Counting;
 use tpl_model::Inputs;
@@ -140,25 +140,18 @@ fn jobs_of<R: Threads>(threads: &R, asked: Option<u16>) -> usize
     }
 }
 
-/// Answers the document on each line. No reasons are given.
-fn answer_each<R: Threads + Sync, I: Read, O: Write>(
+/// Answers the document on each line by this command. No reasons are given.
+fn answer_each<R: Threads + Sync, C: Command + Sync, I: Read, O: Write>(
     threads: &R,
     alloc: Global,
-    ask: Ask,
+    command: &C,
     jobs: Option<u16>,
     from: &mut Counting<I>,
     to: &mut Counting<O>,
 ) -> Exit
     requires { AreThreads jobs }
 {
-    serve_each(
-        threads,
-        &Question { ask },
-        alloc,
-        jobs_of(threads, jobs),
-        from,
-        to,
-    )
+    serve_each(threads, command, alloc, jobs_of(threads, jobs), from, to)
 }
 
 /// Answers the document that comes, and says on the standard error why the answer is what it is, where that is asked for.
@@ -173,43 +166,44 @@ fn answer<R: Threads + Wait + Sync, I: Read, O: Write>(
 {
     let alloc = rt.alloc();
     let teller = Teller::new(rt, order.explains);
-    let searcher = teller.of_search();
     match order.line {
-        Line::Check => serve_watched(alloc, Ask::Check, teller, from, to),
-        Line::Analyse(depth) => serve_watched(alloc, Ask::Analyse(depth), searcher, from, to),
-        Line::AnalyseIn(depth, form) => {
-            serve_watched(alloc, Ask::AnalyseIn(depth, form), searcher, from, to)
+        Line::Serve(ask) => {
+            let teller = teller.of_ask(&ask);
+            serve_watched(alloc, ask, teller, from, to)
         }
-        Line::Certify(depth, form) => {
-            serve_watched(alloc, Ask::Certify(depth, form), searcher, from, to)
-        }
-        Line::Run(workers) => run(rt, threads, teller, workers, false, from, to),
-        Line::RunWhole(workers) => run(rt, threads, teller, workers, true, from, to),
-        Line::Audit => serve_watched(alloc, Ask::Audit, teller, from, to),
-        Line::CheckEach(jobs) => answer_each(threads, alloc, Ask::Check, jobs, from, to),
-        Line::AuditEach(jobs) => answer_each(threads, alloc, Ask::Audit, jobs, from, to),
-        Line::Refute(claim, runs, seed, explain) => {
-            let search = Search::new(claim.map(usize::from), runs, u64::from(seed), explain);
+        Line::Each(ask, jobs) => answer_each(threads, alloc, &Question { ask }, jobs, from, to),
+        Line::Run { workers, is_whole } => run(rt, threads, teller, workers, is_whole, from, to),
+        Line::Refute {
+            claim,
+            tries,
+            explains,
+        } => {
+            let (claim, seed) = (claim.map(usize::from), u64::from(tries.seed));
+            let search = Search::new(claim, tries.runs, seed, explains);
             let progress = ClaimProgress::new(rt);
-            refute_document(alloc, search, searcher, &progress, from, to)
+            refute_document(alloc, search, teller.of_search(), &progress, from, to)
         }
-        Line::Verify(depth, runs, seed, jobs, style) => {
-            let limits = Limits::usual(depth, runs, u64::from(seed));
+        Line::Verify {
+            depth,
+            tries,
+            jobs,
+            style,
+            is_each,
+        } => {
+            let limits = Limits::usual(depth, tries.runs, u64::from(tries.seed));
+            if is_each {
+                let command = OneByOne { limits, style };
+                return answer_each(threads, alloc, &command, jobs, from, to);
+            }
             let jobs = jobs_of(threads, jobs);
-            let progress = ClaimProgress::new(rt);
             let asked = Verification {
                 limits,
                 jobs,
                 style,
             };
-            verify_document(threads, alloc, asked, &progress, searcher, from, to)
+            let (progress, teller) = (ClaimProgress::new(rt), teller.of_search());
+            verify_document(threads, alloc, asked, &progress, teller, from, to)
         }
-        Line::VerifyEach(depth, runs, seed, jobs, style) => {
-            let limits = Limits::usual(depth, runs, u64::from(seed));
-            let asked = OneByOne { limits, style };
-            serve_each(threads, &asked, alloc, jobs_of(threads, jobs), from, to)
-        }
-        Line::Draw(language) => serve_watched(alloc, Ask::Draw(language), teller, from, to),
         Line::Trace => trace_document(alloc, teller, from, to),
     }
 }

@@ -1,12 +1,15 @@
 //! The options of the command line, and what is given for them.
 
-ghost use Rattle.std.specs.Prelude.{◌≡◌, ◌↔◌, ℕ, false, IsTrue, MatchOption};
+ghost use Rattle.std.specs.Prelude.{◌≡◌, ◌<◌, ◌^◌, ℕ, false, Option, MatchOption};
 ghost use Rattle.clap.specs.Words.{found_of, rows_of, rule_of};
-ghost use Rattle.tpl_cli.specs.Options.{claim_rule, depth_rule, each_rule, explain_rule, jobs_rule, language_rule, language_word, runs_rule, seed_rule, slim_rule, style_rule, style_word, whole_rule, workers_rule, IsGiven, IsLanguage, IsSet, IsStyle};
+ghost use Rattle.tpl_cli.specs.Number.{number_range};
+ghost use Rattle.tpl_cli.specs.Options.{claim_rule, depth_rule, each_rule, explain_rule, jobs_rule, language_rule, language_word, runs_rule, seed_rule, slim_rule, style_rule, style_word, whole_rule, workers_rule, IsFlag, IsGiven, IsIfGiven, IsLanguage, IsStyle};
 
+use crate::number::Number;
 use clap::{Arg, ArgAction, ArgMatches, value_parser};
 use std::alloc::Global;
 use tpl_draw::Language;
+use tpl_report::Depth;
 use tpl_verdicts::Style;
 
 /// The option for the most splits on each path, with how many there are where it is left out.
@@ -157,7 +160,7 @@ pub(crate) fn style<'a>(alloc: Global) -> Arg<'a>
 
 /// Whether the option was used.
 pub(crate) fn is_set(given: &ArgMatches<'_>, option: &str) -> bool
-    ensures { IsTrue result ↔ IsSet option.now (rows_of (found_of given.now)) }
+    ensures { IsFlag option.now (rows_of (found_of given.now)) result }
 {
     match given.get_str(option) {
         Some(text) if text == "true" => true,
@@ -165,15 +168,44 @@ pub(crate) fn is_set(given: &ArgMatches<'_>, option: &str) -> bool
     }
 }
 
-/// The number that is given for the option, if it lies in this range.
-pub(crate) fn number_in(given: &ArgMatches<'_>, option: &str, least: u32, most: u32) -> Option<u32>
+/// The number that is given for the option, if it lies in its range.
+pub(crate) fn number_in(given: &ArgMatches<'_>, option: Number) -> Option<u32>
     ensures { MatchOption result
-        ((n : ℕ) → IsGiven option.now least most (rows_of (found_of given.now)) n → ⊥)
-        (IsGiven option.now least most (rows_of (found_of given.now))) }
+        ((n : ℕ) → IsGiven option (rows_of (found_of given.now)) n → ⊥)
+        (IsGiven option (rows_of (found_of given.now))) }
 {
-    match given.get_one::<u32>(option) {
+    let (least, most) = option.range();
+    match given.get_one::<u32>(option.name()) {
         Some(number) if least <= number && number <= most => Some(number),
         _ => None,
+    }
+}
+
+/// The number that is given for the option: one in its range, none, or no such number.
+pub(crate) fn number_if_given(given: &ArgMatches<'_>, option: Number) -> Option<Option<u16>>
+    requires { (number_range option).1 < 2 ^ 16 }
+    ensures { MatchOption result
+        ((n : Option ℕ) → IsIfGiven option (rows_of (found_of given.now)) n → ⊥)
+        (IsIfGiven option (rows_of (found_of given.now))) }
+{
+    match given.get_str(option.name()) {
+        None => Some(None),
+        Some(_) => match number_in(given, option) {
+            Some(number) => Some(Some(number as u16)),
+            None => None,
+        },
+    }
+}
+
+/// The most splits on each path that are given.
+pub(crate) fn depth_in(given: &ArgMatches<'_>) -> Option<Depth>
+    ensures { MatchOption result
+        ((n : ℕ) → IsGiven Number.Depth (rows_of (found_of given.now)) n → ⊥)
+        (IsGiven Number.Depth (rows_of (found_of given.now))) }
+{
+    match number_in(given, Number::Depth) {
+        Some(splits) => Depth::new(splits as u8),
+        None => None,
     }
 }
 

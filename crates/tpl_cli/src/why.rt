@@ -14,7 +14,7 @@ use std::alloc::Global;
 use std::io::IsTerminal;
 use tpl_analyser::Watch;
 use tpl_checker::check;
-use tpl_commands::{Audit, Exit, Finding, Found, Listen, rules_of};
+use tpl_commands::{Ask, Audit, Exit, Finding, Found, Listen, rules_of};
 use tpl_reader::{Document, Hear, NotRead, ReadFault};
 use tpl_reasons::{explain, no_document_text, no_json_text, twice_text};
 
@@ -48,6 +48,14 @@ impl<'a> Teller<'a> {
             rt: self.rt,
             shows: self.rt.stderr().is_terminal(),
             explains: self.explains,
+        }
+    }
+
+    /// Tells what there is to tell where this is asked: of a search also how far it is.
+    pub(crate) fn of_ask(self, ask: &Ask) -> Teller<'a> {
+        match ask {
+            Ask::Analyse(_) | Ask::AnalyseIn(_, _) | Ask::Certify(_, _) => self.of_search(),
+            Ask::Check | Ask::Audit | Ask::Draw(_) => self,
         }
     }
 

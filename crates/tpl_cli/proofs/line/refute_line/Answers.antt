@@ -1,7 +1,11 @@
+use Rattle.std.proofs.Common.{codes}
+use Rattle.clap.specs.Words.{found_of, rows_of}
+use Rattle.tpl_cli.specs.Line.{Means}
+use Rattle.tpl_cli.proofs.GivenOptions.{nothing}
+use Rattle.tpl_cli.proofs.Lines.{no_refute}
 use Rattle.tpl_cli.proofs.line.refute_line.Goals as goal
 
-pub returns-in_default-number_in : goal.returns-in_default-number_in
-returns-in_default-number_in c l is = c.in_default-number_in.ensures is.2.0 is.2.1
-
-pub returns-in_default-number_in-2 : goal.returns-in_default-number_in-2
-returns-in_default-number_in-2 c l is = c.in_default-number_in-2.ensures is.2.2.0 is.2.2.1
+pub returns-in_err-tries : goal.returns-in_err-tries
+returns-in_err-tries c =
+    let rows = rows_of (found_of c.args.given.now) in
+    nothing (Means (codes "refute") rows) c.from_residual-in_err-tries.result (cc) (no_refute rows (λ claim tries explains m. c.in_err-tries.ensures tries m.2))
