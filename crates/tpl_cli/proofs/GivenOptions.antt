@@ -80,12 +80,6 @@ same_flag option rows true false m n = sym (n.1 (m.0 refl))
 same_flag option rows false true m n = m.1 (n.0 refl)
 same_flag option rows false false m n = refl
 
-pub used : (option : Text) (rows : List Row) (b : Bool) → IsFlag option rows b → b ≡ true → IsSet option rows
-used option rows b is e = is.0 e
-
-pub unused : (option : Text) (rows : List Row) (b : Bool) → IsFlag option rows b → b ≡ false → IsSet option rows → ⊥
-unused option rows b is e set = let bad = is.1 set in absurd cc
-
 -- two languages have two words, and so have two styles
 pub same_language : (a b : Language) → language_word a ≡ language_word b → a ≡ b
 same_language Mermaid Mermaid e = refl

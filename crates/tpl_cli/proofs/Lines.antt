@@ -1,25 +1,18 @@
 -- The line that words mean: one at most, and within its limits.
 use Rattle.std.proofs.Common.{◌≡◌, ◌∙◌, ◌==◌, ℕ, Bool, if◌then◌else◌, List, Option, Some, None, codes, sym, ap, ap₂, subst, refl, arith, slice_index}
-use Rattle.std.specs.Prelude.{option_map, Box, MatchOption}
-use Rattle.std.specs.Box.{box_value}
-use Rattle.clap.specs.Words.{Row, Text, subcommand_name_of, subcommand_rows_of}
-use Rattle.clap.specs.Simple.{subcommand_rows}
-use Rattle.clap.specs.declared.parser.matches.ArgMatches.{ArgMatches}
-use Rattle.clap.specs.declared.parser.matches.ArgMatches.TheViews.{out-ArgMatches, out-SubCommand}
-use Rattle.clap.specs.declared.parser.matches.SubCommand.{SubCommand}
+use Rattle.clap.specs.Words.{Row, Text}
 use Rattle.tpl_analyser.specs.declared.form.Form.{Form}
 use Rattle.tpl_analyser.specs.declared.form.Form.TheVariants.{Full, Slim}
 use Rattle.tpl_commands.specs.declared.ask.Ask.{Ask}
 use Rattle.tpl_commands.specs.declared.ask.Ask.TheVariants.{Check, Analyse, AnalyseIn, Certify, Audit, Draw}
-use Rattle.tpl_draw.specs.declared.language.Language.{Language}
 use Rattle.tpl_verdicts.specs.declared.style.Style.{Style}
 use Rattle.tpl_cli.specs.declared.line.Line.{Line}
 use Rattle.tpl_cli.specs.declared.line.Line.TheVariants.{Serve, Each, Run, Refute, Verify, Trace}
 use Rattle.tpl_cli.specs.declared.line.Tries.{Tries}
 use Rattle.tpl_cli.specs.declared.number.Number.TheVariants as number
 use Rattle.tpl_cli.specs.Line.{AreThreads, AreTries, Asks, IsForm, IsLineOf, IsWithin, Means}
-use Rattle.tpl_cli.specs.Options.{language_word, style_word, IsGiven, IsIfGiven, IsLanguage, IsSet}
-use Rattle.tpl_cli.proofs.GivenOptions.{some_same, same_flag, same_if_given, same_language, same_named, same_number, same_style}
+use Rattle.tpl_cli.specs.Options.{language_word, style_word, IsGiven, IsIfGiven}
+use Rattle.tpl_cli.proofs.GivenOptions.{same_flag, same_if_given, same_language, same_named, same_number, same_style}
 
 -- ---- which lines and asks have which words
 
@@ -46,7 +39,7 @@ asks_sort word rows Audit m = ap sort_named m
 asks_sort word rows (Draw language) m = ap sort_named m.0
 
 -- a number for the lines that one word can mean
-pub kind : Line → ℕ
+kind : Line → ℕ
 kind (Serve ask) = 0
 kind (Each ask jobs) = 0
 kind (Run workers is_whole) = 1
@@ -55,7 +48,7 @@ kind (Verify depth tries jobs style is_each) = 3
 kind Trace = 4
 
 -- that number by the first two letters of the word
-pub kind_named : Text → ℕ
+kind_named : Text → ℕ
 kind_named t =
     if slice_index t 0 == 116 then 4 else
     (if slice_index t 0 == 118 then 3 else
@@ -126,11 +119,6 @@ pub one_line : (o : Option (Text × List Row)) (a b : Line) → IsLineOf o a →
 one_line None a b m n = absurd m
 one_line (Some (word, rows)) a b m n = same_line word rows a b m n
 
--- the line that the options mean is the one that was entered
-pub meant : (o : Option (Text × List Row)) (word : Text) (rows : List Row) (r : Option Line) → o ≡ Some (word, rows) → MatchOption r ((l : Line) → Means word rows l → ⊥) (Means word rows)
-    → MatchOption r ((l : Line) → IsLineOf o l → ⊥) (IsLineOf o)
-meant o word rows r e m = subst (λ (p : Option (Text × List Row)). MatchOption r ((l : Line) → IsLineOf p l → ⊥) (IsLineOf p)) (sym e) m
-
 -- ---- within the limits
 
 threads_within : (rows : List Row) (jobs : Option ℕ) → IsIfGiven number.Jobs rows jobs → AreThreads jobs
@@ -147,49 +135,16 @@ pub line_within : (o : Option (Text × List Row)) (l : Line) → IsLineOf o l �
 line_within None l is = absurd is
 line_within (Some (word, rows)) l is = means_within word rows l is
 
--- ---- the subcommand that was entered
-
-name_of_rows : {Z : Type 0} (o : Option (Box SubCommand Z)) → option_map (λ b. (out-SubCommand (box_value b)).name.now) o ≡ option_map (λ p. p.0) (subcommand_rows o)
-name_of_rows None = refl
-name_of_rows (Some b) = refl
-
-whole : (o : Option (Text × List Row)) (name : Text) (rows : List Row) → Some name ≡ option_map (λ p. p.0) o → Some rows ≡ option_map (λ p. p.1) o → o ≡ Some (name, rows)
-whole None name rows e f = absurd cc
-whole (Some p) name rows e f = let a = some_same name p.0 e in let b = some_same rows p.1 f in rw (a, b) refl
-
-pub entered : (m : ArgMatches) (name : Text) (rows : List Row) → Some name ≡ subcommand_name_of m → Some rows ≡ option_map (λ p. p.1) (subcommand_rows_of m) → subcommand_rows_of m ≡ Some (name, rows)
-entered m name rows e f = whole (subcommand_rows_of m) name rows (e ∙ name_of_rows (out-ArgMatches m).subcommand) f
-
-none_mapped : (o : Option (Text × List Row)) (l : Line) → None ≡ option_map (λ p. p.0) o → IsLineOf o l → ⊥
-none_mapped None l e is = is
-none_mapped (Some p) l e is = absurd cc
-
-pub nothing_entered : (m : ArgMatches) (l : Line) → None ≡ subcommand_name_of m → IsLineOf (subcommand_rows_of m) l → ⊥
-nothing_entered m l e is = none_mapped (subcommand_rows_of m) l (e ∙ name_of_rows (out-ArgMatches m).subcommand) is
-
 -- ---- options that mean no line
 
--- what is asked of no document is asked for by no line
-pub nothing_asked : (word : Text) (rows : List Row) → kind_named word ≡ 0 → ((ask : Ask) → Asks word rows ask → ⊥) → (l : Line) → Means word rows l → ⊥
-unfolding kind
-nothing_asked word rows is none (Serve ask) m = none ask m.0
-nothing_asked word rows is none (Each ask jobs) m = none ask m.0
-nothing_asked word rows is none l m = let e = sym is ∙ means_kind word rows l m in absurd (omega arith)
-
--- no number of threads that may be is given, and none isn't
+-- what is given for the number of threads is no such number
 pub wrong_jobs : (word : Text) (rows : List Row) (ask : Ask) → Asks word rows ask → ((n : Option ℕ) → IsIfGiven number.Jobs rows n → ⊥) → (l : Line) → Means word rows l → ⊥
 unfolding kind
 wrong_jobs word rows ask asks none (Serve other) m = none None m.1.1
 wrong_jobs word rows ask asks none (Each other jobs) m = none jobs m.1.1
 wrong_jobs word rows ask asks none l m = let e = sym (asks_kind word rows ask asks) ∙ means_kind word rows l m in absurd (omega arith)
 
--- a number of threads is given, and no document on each line is asked for
-pub lone_jobs : (word : Text) (rows : List Row) (ask : Ask) → Asks word rows ask → (jobs : ℕ) → (IsSet (codes "each") rows → ⊥) → IsIfGiven number.Jobs rows (Some jobs) → (l : Line) → Means word rows l → ⊥
-unfolding kind
-lone_jobs word rows ask asks jobs unset given (Serve other) m = given.0 m.1.1
-lone_jobs word rows ask asks jobs unset given (Each other also) m = unset m.1.0
-lone_jobs word rows ask asks jobs unset given l m = let e = sym (asks_kind word rows ask asks) ∙ means_kind word rows l m in absurd (omega arith)
-
+-- what is given for the depth is none
 pub no_search : (rows : List Row) → ((n : ℕ) → IsGiven number.Depth rows n → ⊥) → (ask : Ask) → Asks (codes "analyse") rows ask → ⊥
 unfolding sort sort_named
 no_search rows none (Analyse depth) m = none depth m.0.1
@@ -197,12 +152,7 @@ no_search rows none (AnalyseIn depth form) m = none depth m.0.1
 no_search rows none (Certify depth form) m = none depth m.0.1
 no_search rows none ask m = let e = asks_sort (codes "analyse") rows ask m in absurd (omega arith)
 
-pub no_picture : (rows : List Row) → ((l : Language) → IsLanguage rows l → ⊥) → (ask : Ask) → Asks (codes "draw") rows ask → ⊥
-unfolding sort sort_named
-no_picture rows none (Draw language) m = none language m.1
-no_picture rows none ask m = let e = asks_sort (codes "draw") rows ask m in absurd (omega arith)
-
--- a word that names one kind of line names no other
+-- a word that names one kind of line names no other: where it means none of these, it means none
 pub no_run : (rows : List Row) → ((workers : ℕ) (is_whole : Bool) → Means (codes "run") rows (Run workers is_whole) → ⊥) → (l : Line) → Means (codes "run") rows l → ⊥
 unfolding kind_named kind
 no_run rows none (Run workers is_whole) m = none workers is_whole m
@@ -217,28 +167,3 @@ pub no_verify : (rows : List Row) → ((depth : ℕ) (tries : Tries) (jobs : Opt
 unfolding kind_named kind
 no_verify rows none (Verify depth tries jobs style is_each) m = none depth tries jobs style is_each m
 no_verify rows none l m = let e = means_kind (codes "verify") rows l m in absurd (omega arith)
-
--- a word that names no command
-pub no_command : (word : Text) (rows : List Row) → (word ≡ codes "check" → ⊥) → (word ≡ codes "analyse" → ⊥) → (word ≡ codes "run" → ⊥) → (word ≡ codes "audit" → ⊥) → (word ≡ codes "refute" → ⊥)
-    → (word ≡ codes "verify" → ⊥) → (word ≡ codes "draw" → ⊥) → (word ≡ codes "trace" → ⊥) → (l : Line) → Means word rows l → ⊥
-no_command word rows check analyse run audit refute verify draw trace l = go l
-  where
-    asked : (ask : Ask) → Asks word rows ask → ⊥
-    asked Check m = check m
-    asked (Analyse depth) m = analyse m.0.0
-    asked (AnalyseIn depth form) m = analyse m.0.0
-    asked (Certify depth form) m = analyse m.0.0
-    asked Audit m = audit m
-    asked (Draw language) m = draw m.0
-
-    go : (l : Line) → Means word rows l → ⊥
-    go (Serve ask) m = asked ask m.0
-    go (Each ask jobs) m = asked ask m.0
-    go (Run workers is_whole) m = run m.0
-    go (Refute claim tries explains) m = refute m.0
-    go (Verify depth tries jobs style is_each) m = verify m.0
-    go Trace m = trace m
-
--- a line that a word means is one that another name of the word means
-pub as_named : (word name : Text) (rows : List Row) (r : Option Line) → word ≡ name → MatchOption r ((l : Line) → Means name rows l → ⊥) (Means name rows) → MatchOption r ((l : Line) → Means word rows l → ⊥) (Means word rows)
-as_named word name rows r e m = subst (λ (t : Text). MatchOption r ((l : Line) → Means t rows l → ⊥) (Means t rows)) (sym e) m

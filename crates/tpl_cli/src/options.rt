@@ -1,9 +1,9 @@
 //! The options of the command line, and what is given for them.
 
-ghost use Rattle.std.specs.Prelude.{◌≡◌, ◌<◌, ◌^◌, ℕ, false, Option, MatchOption};
+ghost use Rattle.std.specs.Prelude.{◌≡◌, ◌<◌, ◌^◌, ℕ, [], ◌∷◌, codes, false, Option, MatchOption};
 ghost use Rattle.clap.specs.Words.{found_of, rows_of, rule_of};
 ghost use Rattle.tpl_cli.specs.Number.{number_range};
-ghost use Rattle.tpl_cli.specs.Options.{claim_rule, depth_rule, each_rule, explain_rule, jobs_rule, language_rule, language_word, runs_rule, seed_rule, slim_rule, style_rule, style_word, whole_rule, workers_rule, IsFlag, IsGiven, IsIfGiven, IsLanguage, IsStyle};
+ghost use Rattle.tpl_cli.specs.Options.{claim_rule, depth_rule, each_rule, explain_rule, flag, jobs_rule, language_rule, language_word, runs_rule, seed_rule, slim_rule, style_rule, style_word, valued, whole_rule, workers_rule, IsFlag, IsGiven, IsIfGiven, IsLanguage, IsStyle};
 
 use crate::number::Number;
 use clap::{Arg, ArgAction, ArgMatches, value_parser};
@@ -11,6 +11,29 @@ use std::alloc::Global;
 use tpl_draw::Language;
 use tpl_report::Depth;
 use tpl_verdicts::Style;
+
+/// The option of this name that has no value, with what help says of it.
+fn flag<'a>(alloc: Global, name: &'a str, help: &'a str) -> Arg<'a>
+    ensures rule { rule_of result ≡ flag name.now }
+    ensures own { result.global ≡ false }
+{
+    Arg::new(alloc, name)
+        .long(name)
+        .action(ArgAction::SetTrue)
+        .help(help)
+}
+
+/// The option `--as`, with what help calls its value and says of it, and with what stands for one that is left out.
+fn named<'a>(alloc: Global, value: &'a str, help: &'a str, usual: &'a str) -> Arg<'a>
+    ensures rule { rule_of result ≡ valued (codes "as") (usual.now ∷ []) }
+    ensures own { result.global ≡ false }
+{
+    Arg::new(alloc, "as")
+        .long("as")
+        .value_name(value)
+        .help(help)
+        .default_value(usual)
+}
 
 /// The option for the most splits on each path, with how many there are where it is left out.
 pub(crate) fn depth<'a>(alloc: Global, usual: &'a str) -> Arg<'a>
@@ -30,10 +53,8 @@ pub(crate) fn slim<'a>(alloc: Global) -> Arg<'a>
     ensures rule { rule_of result ≡ slim_rule }
     ensures own { result.global ≡ false }
 {
-    Arg::new(alloc, "slim")
-        .long("slim")
-        .action(ArgAction::SetTrue)
-        .help("Omits from the rows whatever the proof does not need")
+    let help = "Omits from the rows whatever the proof does not need";
+    flag(alloc, "slim", help)
 }
 
 /// The option for the whole document, with what is in it.
@@ -41,10 +62,7 @@ pub(crate) fn whole<'a>(alloc: Global, help: &'a str) -> Arg<'a>
     ensures rule { rule_of result ≡ whole_rule }
     ensures own { result.global ≡ false }
 {
-    Arg::new(alloc, "whole")
-        .long("whole")
-        .action(ArgAction::SetTrue)
-        .help(help)
+    flag(alloc, "whole", help)
 }
 
 /// The option for how many workers make a run.
@@ -117,10 +135,8 @@ pub(crate) fn each<'a>(alloc: Global) -> Arg<'a>
     ensures rule { rule_of result ≡ each_rule }
     ensures own { result.global ≡ false }
 {
-    Arg::new(alloc, "each")
-        .long("each")
-        .action(ArgAction::SetTrue)
-        .help("Answers the document on each line, behind its number and exit status")
+    let help = "Answers the document on each line, behind its number and exit status";
+    flag(alloc, "each", help)
 }
 
 /// The option for lines on the standard error.
@@ -128,10 +144,8 @@ pub(crate) fn explain<'a>(alloc: Global) -> Arg<'a>
     ensures rule { rule_of result ≡ explain_rule }
     ensures own { result.global ≡ false }
 {
-    Arg::new(alloc, "explain")
-        .long("explain")
-        .action(ArgAction::SetTrue)
-        .help("Says on standard error why the answer is what it is, and what to do")
+    let help = "Says on standard error why the answer is what it is, and what to do";
+    flag(alloc, "explain", help)
 }
 
 /// The option for the language of a picture.
@@ -139,11 +153,8 @@ pub(crate) fn language<'a>(alloc: Global) -> Arg<'a>
     ensures rule { rule_of result ≡ language_rule }
     ensures own { result.global ≡ false }
 {
-    Arg::new(alloc, "as")
-        .long("as")
-        .value_name("LANGUAGE")
-        .help("The language of the picture: mermaid or dot")
-        .default_value("mermaid")
+    let help = "The language of the picture: mermaid or dot";
+    named(alloc, "LANGUAGE", help, "mermaid")
 }
 
 /// The option for how verdicts are written.
@@ -151,11 +162,8 @@ pub(crate) fn style<'a>(alloc: Global) -> Arg<'a>
     ensures rule { rule_of result ≡ style_rule }
     ensures own { result.global ≡ false }
 {
-    Arg::new(alloc, "as")
-        .long("as")
-        .value_name("STYLE")
-        .help("How the verdicts are written: text, json or junit")
-        .default_value("text")
+    let help = "How the verdicts are written: text, json or junit";
+    named(alloc, "STYLE", help, "text")
 }
 
 /// Whether the option was used.

@@ -2,7 +2,7 @@ use Rattle.std.proofs.Common.{◌≡◌, ap, subst, sym, ◌∙◌, map, List, O
 use Rattle.clap.specs.Words.{App, Row, Text, is_simple, subcommand_of, subcommand_rows_of, takes}
 use Rattle.tpl_cli.specs.Line.{IsLineOf}
 use Rattle.tpl_cli.specs.Usage.{taskgraph}
-use Rattle.tpl_cli.proofs.Lines.{one_line}
+use Rattle.tpl_cli.proofs.Lines.{line_within, one_line}
 use Rattle.tpl_cli.proofs.line.line_of.Goals as goal
 
 pub returns-in-Err-clause-taken : goal.returns-in-Err-clause-taken
@@ -32,3 +32,6 @@ returns-clause-taken c is_taken line named =
     let same = c.in-Ok.ensures.matches (ap is_simple is_taskgraph) in
     let stop : subcommand_rows_of c.in-Ok.matches ≡ subcommand_of taskgraph words = same.1 ∙ ap (λ (a : App). subcommand_of a words) is_taskgraph in
     absurd (c.in-None.ensures line (subst (λ (o : Option (Text × List Row)). IsLineOf o line) (sym stop) named))
+
+pub returns-in-Some-clause-limit : goal.returns-in-Some-clause-limit
+returns-in-Some-clause-limit c = line_within (subcommand_rows_of c.in-Ok.matches) c.in-Some.line c.in-Some.ensures
