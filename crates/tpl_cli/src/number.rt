@@ -22,7 +22,7 @@ pub(crate) enum Number {
 
 impl Number {
     /// The name of the option.
-    pub(crate) fn name(self) -> &'static str
+    pub(crate) fn name<'a>(self) -> &'a str
         ensures { result.now ≡ number_name self }
     {
         match self {

@@ -3,7 +3,7 @@
 ghost use Rattle.std.specs.Prelude.{◌≡◌, ◌<◌, ◌^◌, ℕ, [], ◌∷◌, codes, false, Option, MatchOption};
 ghost use Rattle.clap.specs.Words.{found_of, rows_of, rule_of};
 ghost use Rattle.tpl_cli.specs.Number.{number_range};
-ghost use Rattle.tpl_cli.specs.Options.{claim_rule, depth_rule, each_rule, explain_rule, flag, jobs_rule, language_rule, language_word, runs_rule, seed_rule, slim_rule, style_rule, style_word, valued, whole_rule, workers_rule, IsFlag, IsGiven, IsIfGiven, IsLanguage, IsStyle};
+ghost use Rattle.tpl_cli.specs.Options.{claim_rule, depth_rule, each_rule, explain_rule, flag, jobs_rule, language_rule, language_word, numbered, runs_rule, seed_rule, slim_rule, style_rule, style_word, valued, whole_rule, workers_rule, IsFlag, IsGiven, IsIfGiven, IsLanguage, IsStyle};
 
 use crate::number::Number;
 use clap::{Arg, ArgAction, ArgMatches, value_parser};
@@ -23,6 +23,20 @@ fn flag<'a>(alloc: Global, name: &'a str, help: &'a str) -> Arg<'a>
         .help(help)
 }
 
+/// The option for a number, with what help says of it. Nothing stands for it where it is left out.
+fn numbered<'a>(alloc: Global, option: Number, help: &'a str) -> Arg<'a>
+    ensures rule { rule_of result ≡ numbered option [] }
+    ensures own { result.global ≡ false }
+{
+    let name = option.name();
+    let (least, most) = option.range();
+    Arg::new(alloc, name)
+        .long(name)
+        .value_name("N")
+        .help(help)
+        .value_parser(value_parser!(u32).range(i64::from(least)..=i64::from(most)))
+}
+
 /// The option `--as`, with what help calls its value and says of it, and with what stands for one that is left out.
 fn named<'a>(alloc: Global, value: &'a str, help: &'a str, usual: &'a str) -> Arg<'a>
     ensures rule { rule_of result ≡ valued (codes "as") (usual.now ∷ []) }
@@ -40,12 +54,8 @@ pub(crate) fn depth<'a>(alloc: Global, usual: &'a str) -> Arg<'a>
     ensures rule { rule_of result ≡ depth_rule usual.now }
     ensures own { result.global ≡ false }
 {
-    Arg::new(alloc, "depth")
-        .long("depth")
-        .value_name("N")
-        .help("The most splits on each path of a tree, 0 to 6")
-        .default_value(usual)
-        .value_parser(value_parser!(u32).range(0..=6))
+    let help = "The most splits on each path of a tree, 0 to 6";
+    numbered(alloc, Number::Depth, help).default_value(usual)
 }
 
 /// The option for rows that say no more than the proof needs.
@@ -70,12 +80,8 @@ pub(crate) fn workers<'a>(alloc: Global) -> Arg<'a>
     ensures rule { rule_of result ≡ workers_rule }
     ensures own { result.global ≡ false }
 {
-    Arg::new(alloc, "workers")
-        .long("workers")
-        .value_name("N")
-        .help("How many workers make the run, 1 to 64")
-        .default_value("4")
-        .value_parser(value_parser!(u32).range(1..=64))
+    let help = "How many workers make the run, 1 to 64";
+    numbered(alloc, Number::Workers, help).default_value("4")
 }
 
 /// The option for one claim.
@@ -83,11 +89,8 @@ pub(crate) fn claim<'a>(alloc: Global) -> Arg<'a>
     ensures rule { rule_of result ≡ claim_rule }
     ensures own { result.global ≡ false }
 {
-    Arg::new(alloc, "claim")
-        .long("claim")
-        .value_name("N")
-        .help("The claim, 1 to 1024; every claim if it is left out")
-        .value_parser(value_parser!(u32).range(1..=1024))
+    let help = "The claim, 1 to 1024; every claim if it is left out";
+    numbered(alloc, Number::Claim, help)
 }
 
 /// The option for how many runs are tried.
@@ -95,12 +98,8 @@ pub(crate) fn runs<'a>(alloc: Global) -> Arg<'a>
     ensures rule { rule_of result ≡ runs_rule }
     ensures own { result.global ≡ false }
 {
-    Arg::new(alloc, "runs")
-        .long("runs")
-        .value_name("N")
-        .help("How many runs are tried for each claim, at most 1000000")
-        .default_value("100000")
-        .value_parser(value_parser!(u32).range(0..=1_000_000))
+    let help = "How many runs are tried for each claim, at most 1000000";
+    numbered(alloc, Number::Runs, help).default_value("100000")
 }
 
 /// The option for where the random numbers begin.
@@ -108,12 +107,8 @@ pub(crate) fn seed<'a>(alloc: Global) -> Arg<'a>
     ensures rule { rule_of result ≡ seed_rule }
     ensures own { result.global ≡ false }
 {
-    Arg::new(alloc, "seed")
-        .long("seed")
-        .value_name("N")
-        .help("The seed of the random numbers, 0 to 4294967295")
-        .default_value("0")
-        .value_parser(value_parser!(u32).range(0..=4_294_967_295))
+    let help = "The seed of the random numbers, 0 to 4294967295";
+    numbered(alloc, Number::Seed, help).default_value("0")
 }
 
 /// The option for how many threads search.
@@ -121,13 +116,9 @@ pub(crate) fn jobs<'a>(alloc: Global) -> Arg<'a>
     ensures rule { rule_of result ≡ jobs_rule }
     ensures own { result.global ≡ false }
 {
-    Arg::new(alloc, "jobs")
-        .long("jobs")
-        .value_name("N")
-        .help(
-            "How many threads work beside each other, 1 to 64; as many as there are processors where it is left out",
-        )
-        .value_parser(value_parser!(u32).range(1..=64))
+    let help =
+        "How many threads work beside each other, 1 to 64; as many as there are processors where it is left out";
+    numbered(alloc, Number::Jobs, help)
 }
 
 /// The option for a document on each line.
