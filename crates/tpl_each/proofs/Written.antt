@@ -1,6 +1,6 @@
 -- Texts that are written in parts.
-use Rattle.std.proofs.Common.{◌≡◌, ℕ, zero, suc, ◌+◌, ◌<◌, ◌≤◌, List, [], ◌∷◌, ◌++◌, length, take, drop, map, get_or, not, nat_eq, Bool, true, false, Option, Some, None, refl, sym, ap, ◌∙◌, subst, append_assoc, append-nil, length-append, arith}
-use Rattle.std.specs.Prelude.{◌==◌, Result, Ok, Err, OnErr}
+use Rattle.std.proofs.Common.{◌≡◌, ℕ, zero, suc, ◌+◌, ◌<◌, ◌≤◌, List, [], ◌∷◌, ◌++◌, length, take, drop, map, get_or, not, nat_eq, true, false, Option, refl, sym, ap, ◌∙◌, subst, append_assoc, append-nil, length-append, arith}
+use Rattle.std.specs.Prelude.{◌==◌}
 use Rattle.std.specs.Io.KnownBytes.{Appends}
 use Rattle.std.proofs.Math.Seq.{drop-length, take-length}
 use Rattle.std.proofs.lemmas.List.{length-take, take_more}
@@ -8,10 +8,8 @@ use Rattle.std.proofs.lemmas.Bool.{and_parts}
 use Rattle.std.proofs.lemmas.Bool.Decides.{nat_tests}
 use Rattle.tpl_journal.specs.Cuts.{lacks}
 use Rattle.tpl_journal.proofs.CutLemmas.{not_it}
-use Rattle.tpl_journal.specs.declared.counting.Counting.{Counting}
-use Rattle.tpl_journal.specs.Counting.{contents_of}
-use Rattle.tpl_journal.specs.Writing.{AppendsFront, StopsIn}
-use Rattle.tpl_journal.proofs.WrittenLemmas.{appends_then, front_then}
+use Rattle.tpl_journal.specs.Writing.{AppendsFront}
+use Rattle.tpl_journal.proofs.WrittenLemmas.{front_then}
 use Rattle.tpl_each.specs.Lines.{IsFirstBreak}
 use Rattle.tpl_each.proofs.Breaks.{cut_at, front_at}
 use Rattle.tpl_commands.specs.declared.exit.Exit.{Exit}
@@ -101,32 +99,6 @@ numbered-append n (said ∷ a) b =
 pub numbered_push : (n : ℕ) (a : List Said) (said : Said) → numbered n (a ++ said ∷ []) ≡ numbered n a ++ written (n + length a) said
 numbered_push n a said = numbered-append n a (said ∷ []) ∙ ap (λ z. numbered n a ++ z) (append-nil (written (n + length a) said))
 
--- a front of the next answer is one of all answers
-pub front_of_all : (a b c : Option (List ℕ)) (n : ℕ) (done more : List Said) (said : Said) → Appends a b (numbered n done) → AppendsFront b c (written (n + length done) said) → AppendsFront a c (numbered n (done ++ said ∷ more))
-front_of_all a b c n done more said p q =
-    subst (AppendsFront a c) (sym (numbered-append n done (said ∷ more)))
-    (front_then a b c (numbered n done) (written (n + length done) said) (numbered (n + length done + 1) more) p q)
-
--- after one text another is written, or a front of it
-pub err_then : {T E : Type 0} (r : Result T E) (a b c : Option (List ℕ)) (xs ys : List ℕ) → Appends a b xs → OnErr r (AppendsFront b c ys) → OnErr r (AppendsFront a c (xs ++ ys))
-err_then (Ok x) a b c xs ys p q = tt
-err_then (Err e) a b c xs ys p q = then_front a b c xs ys p q
-
--- what is so anyway is so where there was an error
-pub err_of : {T E : Type 0} (r : Result T E) (P : Type 0) → P → OnErr r P
-err_of (Ok x) P p = tt
-err_of (Err e) P p = p
-
--- where writing ended before, a front was written
-pub front_of : {T E W : Type 0} (r : Result T E) (contents : W → Option (List ℕ)) (old new : Counting W) (text : List ℕ) → OnErr r (StopsIn contents old new text) → OnErr r (AppendsFront (contents_of contents old) (contents_of contents new) text)
-front_of (Ok x) contents old new text is = tt
-front_of (Err e) contents old new text is = is.front
-
--- a front of the next line is one of the whole text
-pub text_front : (a b c : Option (List ℕ)) (whole done rest line more : List ℕ) → Appends a b done → whole ≡ done ++ rest → rest ≡ line ++ more → AppendsFront b c line → AppendsFront a c whole
-text_front a b c whole done rest line more p e f q =
-    subst (AppendsFront a c) (sym (e ∙ ap (λ z. done ++ z) f)) (front_then a b c done line more p q)
-
 -- the next line was written
 pub text_more : (whole done rest line more : List ℕ) → whole ≡ done ++ rest → rest ≡ line ++ more → whole ≡ (done ++ line) ++ more
 text_more whole done rest line more e f = e ∙ (ap (λ z. done ++ z) f ∙ sym (append_assoc done line more))
@@ -141,24 +113,28 @@ by_parts before text line rest n e f g =
 same_written : (n : ℕ) (exit : Exit) (text : List ℕ) (said : Said) → exit ≡ said.exit → text ≡ said.text → headed (head n exit) true text ≡ written n said
 same_written n exit text said e f = ap (λ x. headed (head n x) true text) e ∙ ap (λ t. headed (head n said.exit) true t) f
 
-module _ (a b c : Option (List ℕ)) (slots : List Slot) (number at : ℕ) (slot : Slot) (lt : at < length slots) (is : slot ≡ get_or slots at slot) (exit : Exit) (text : List ℕ) (e : exit ≡ (said_of slot).exit) (f : text ≡ (said_of slot).text) (p : Appends a b (numbered number (map said_of (take at slots)))) where
+module _ (slots : List Slot) (number at : ℕ) (slot : Slot) (lt : at < length slots) (is : slot ≡ get_or slots at slot) (exit : Exit) (text : List ℕ) (e : exit ≡ (said_of slot).exit) (f : text ≡ (said_of slot).text) where
   place : number + length (map said_of (take at slots)) ≡ number + at
   place = let size = map-length said_of (take at slots) in let front = length-take at slots in omega arith
 
-  all_said : map said_of slots ≡ map said_of (take at slots) ++ (said_of slot ∷ map said_of (drop (at + 1) slots))
-  all_said = ap (map said_of) (cut_at_item slots at slot lt is) ∙ map-append said_of (take at slots) (slot ∷ drop (at + 1) slots)
+  -- what is written for the slot
+  this : headed (head (number + at) exit) true text ≡ written (number + length (map said_of (take at slots))) (said_of slot)
+  this = same_written (number + at) exit text (said_of slot) e f ∙ ap (λ n. written n (said_of slot)) (sym place)
 
-  -- a front of the answer of a slot is one of the answers of all
-  pub slot_front : AppendsFront b c (headed (head (number + at) exit) true text) → AppendsFront a c (numbered number (map said_of slots))
-  slot_front q =
-      subst (λ all. AppendsFront a c (numbered number all)) (sym all_said)
-      (front_of_all a b c number (map said_of (take at slots)) (map said_of (drop (at + 1) slots)) (said_of slot) p
-      (subst (λ n. AppendsFront b c (written n (said_of slot))) (sym place) (subst (AppendsFront b c) (same_written (number + at) exit text (said_of slot) e f) q)))
+  -- what is written for the slots up to this one
+  pub with_slot : numbered number (map said_of (take (at + 1) slots)) ≡ numbered number (map said_of (take at slots)) ++ headed (head (number + at) exit) true text
+  with_slot =
+      ap (λ all. numbered number (map said_of all)) (take_more slots at slot lt ∙ ap (λ z. take at slots ++ z ∷ []) (sym is))
+      ∙ (ap (numbered number) (map-append said_of (take at slots) (slot ∷ []))
+      ∙ (numbered_push number (map said_of (take at slots)) (said_of slot) ∙ ap (λ z. numbered number (map said_of (take at slots)) ++ z) (sym this)))
 
-  -- the answer of a slot was written
-  pub slot_more : Appends b c (headed (head (number + at) exit) true text) → Appends a c (numbered number (map said_of (take (at + 1) slots)))
-  slot_more q =
-      subst (λ all. Appends a c (numbered number all)) (sym (ap (map said_of) (take_more slots at slot lt ∙ ap (λ z. take at slots ++ z ∷ []) (sym is)) ∙ map-append said_of (take at slots) (slot ∷ [])))
-      (subst (Appends a c) (sym (numbered_push number (map said_of (take at slots)) (said_of slot)))
-      (appends_then a b c (numbered number (map said_of (take at slots))) (written (number + length (map said_of (take at slots))) (said_of slot)) p
-      (subst (λ n. Appends b c (written n (said_of slot))) (sym place) (subst (Appends b c) (same_written (number + at) exit text (said_of slot) e f) q))))
+  -- what is written for the slots behind this one
+  abbrev pub behind : List ℕ
+  behind = numbered (number + length (map said_of (take at slots)) + 1) (map said_of (drop (at + 1) slots))
+
+  -- what is written for all slots, by its parts
+  pub around_slot : numbered number (map said_of (take at slots)) ++ (headed (head (number + at) exit) true text ++ behind) ≡ numbered number (map said_of slots)
+  around_slot =
+      ap (λ z. numbered number (map said_of (take at slots)) ++ (z ++ behind)) this
+      ∙ (sym (numbered-append number (map said_of (take at slots)) (said_of slot ∷ map said_of (drop (at + 1) slots)))
+      ∙ sym (ap (numbered number) (ap (map said_of) (cut_at_item slots at slot lt is) ∙ map-append said_of (take at slots) (slot ∷ drop (at + 1) slots))))

@@ -1,9 +1,7 @@
 //! Answers, written with their numbers.
 
-ghost use Rattle.std.specs.Prelude.{◌≡◌, ◌+◌, ◌<◌, ◌≤◌, ◌^◌, ◌++◌, ℕ, List, true, length, map, take, drop, OnOk, OnErr, is_err};
-ghost use Rattle.std.specs.Io.KnownBytes.{Appends};
-ghost use Rattle.tpl_journal.specs.Counting.{contents_of, counted, failures_of};
-ghost use Rattle.tpl_journal.specs.Writing.{AppendsFront};
+ghost use Rattle.std.specs.Prelude.{◌≡◌, ◌+◌, ◌<◌, ◌≤◌, ◌^◌, ◌++◌, ℕ, List, true, length, map, take, drop};
+ghost use Rattle.tpl_journal.specs.Writing.{WritesText};
 ghost use Rattle.tpl_each.specs.Said.{head, headed, numbered};
 ghost use Rattle.tpl_each.specs.Slots.{said_of};
 
@@ -33,11 +31,7 @@ fn head(number: u64, exit: Exit) -> ArrayString<HEAD>
 
 /// Writes what stands before each line of an answer.
 fn write_head<W: Write>(number: u64, exit: Exit, to: &mut Counting<W>) -> Result<(), WriteFault>
-    ensures ok { OnOk result (Appends (contents_of W.contents to.old)
-        (contents_of W.contents to.new) (head number exit)) }
-    ensures err { OnErr result (AppendsFront (contents_of W.contents to.old)
-        (contents_of W.contents to.new) (head number exit)) }
-    ensures failures { failures_of to.new ≡ counted (is_err result) (failures_of to.old) }
+    ensures { WritesText W.contents to.old to.new (head number exit) result }
 {
     let head = head(number, exit);
     write_all(head.as_str().as_bytes(), to)
@@ -50,11 +44,7 @@ fn write_line<W: Write>(
     line: &[u8],
     to: &mut Counting<W>,
 ) -> Result<(), WriteFault>
-    ensures ok { OnOk result (Appends (contents_of W.contents to.old)
-        (contents_of W.contents to.new) (head number exit ++ line.now)) }
-    ensures err { OnErr result (AppendsFront (contents_of W.contents to.old)
-        (contents_of W.contents to.new) (head number exit ++ line.now)) }
-    ensures failures { failures_of to.new ≡ counted (is_err result) (failures_of to.old) }
+    ensures { WritesText W.contents to.old to.new (head number exit ++ line.now) result }
 {
     write_head(number, exit, to)?;
     write_all(line, to)
@@ -81,11 +71,7 @@ fn write_text<W: Write>(
     text: &[u8],
     to: &mut Counting<W>,
 ) -> Result<(), WriteFault>
-    ensures ok { OnOk result (Appends (contents_of W.contents to.old)
-        (contents_of W.contents to.new) (headed (head number exit) true text.now)) }
-    ensures err { OnErr result (AppendsFront (contents_of W.contents to.old)
-        (contents_of W.contents to.new) (headed (head number exit) true text.now)) }
-    ensures failures { failures_of to.new ≡ counted (is_err result) (failures_of to.old) }
+    ensures { WritesText W.contents to.old to.new (headed (head number exit) true text.now) result }
 {
     let mut rest = text;
     while !rest.is_empty() {
@@ -103,11 +89,7 @@ fn write_answers<W: Write>(
     to: &mut Counting<W>,
 ) -> Result<(), WriteFault>
     requires { number + length slots.now < 2 ^ 64 }
-    ensures ok { OnOk result (Appends (contents_of W.contents to.old)
-        (contents_of W.contents to.new) (numbered number (map said_of slots.now))) }
-    ensures err { OnErr result (AppendsFront (contents_of W.contents to.old)
-        (contents_of W.contents to.new) (numbered number (map said_of slots.now))) }
-    ensures failures { failures_of to.new ≡ counted (is_err result) (failures_of to.old) }
+    ensures { WritesText W.contents to.old to.new (numbered number (map said_of slots.now)) result }
 {
     for at in 0..slots.len() {
         let slot = &slots[at];
@@ -123,11 +105,7 @@ pub(crate) fn put_answers<W: Write>(
     to: &mut Counting<W>,
 ) -> Result<(), WriteFault>
     requires { number + length slots.now < 2 ^ 64 }
-    ensures ok { OnOk result (Appends (contents_of W.contents to.old)
-        (contents_of W.contents to.new) (numbered number (map said_of slots.now))) }
-    ensures err { OnErr result (AppendsFront (contents_of W.contents to.old)
-        (contents_of W.contents to.new) (numbered number (map said_of slots.now))) }
-    ensures failures { failures_of to.new ≡ counted (is_err result) (failures_of to.old) }
+    ensures { WritesText W.contents to.old to.new (numbered number (map said_of slots.now)) result }
 {
     write_answers(slots, number, to)?;
     write_whole(b"", to)

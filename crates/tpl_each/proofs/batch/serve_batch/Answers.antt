@@ -18,7 +18,7 @@ returns-clause-served g c =
       came = came.2;
       count = sym (map-length said_of c.as_slice-answered.result.now);
       yes = c.all_yes.ensures;
-      written = c.in_ok-put_answers.ensures.ok;
+      written = c.in_ok-put_answers.ensures.ok.whole;
     }
 
 pub returns-in_err-put_answers-clause-stopped : goal.returns-in_err-put_answers-clause-stopped
@@ -30,5 +30,5 @@ returns-in_err-put_answers-clause-stopped g c =
       answered = subst (λ (all : List Slot). AreSaid (g.C.Command.answers c.args.command.now) came.0 (map said_of all)) (sym c.as_slice-answered.ensures.value)
           (said_to_all (g.C.Command.answers c.args.command.now) came.0 c.gather-ends.new.slots.items c.answer_slots.new.slots.items c.answer_slots.ensures.count came.1 c.answer_slots.ensures.said);
       came = came_some (coming g.R.Read.remaining c.args.ahead.now c.args.from.now) (coming g.R.Read.remaining c.gather-ends.new.ahead c.gather-ends.new.from) came.0 c.gather-ends.result came.2;
-      written = c.in_err-put_answers.ensures.err;
+      written = c.in_err-put_answers.ensures.err.front;
     })

@@ -1,9 +1,12 @@
-use Rattle.tpl_journal.specs.Counting.{contents_of}
-use Rattle.tpl_each.specs.Said.{head}
-use Rattle.tpl_each.proofs.Written.{err_then, front_of}
+use Rattle.std.proofs.lemmas.Result.{err_from_is_err_and}
+use Rattle.tpl_journal.proofs.PartLemmas.{stopped, then_text}
 use Rattle.tpl_each.proofs.writing.write_line.Goals as goal
 
-pub returns-clause-err : goal.returns-clause-err
-returns-clause-err g c =
-    err_then c.write_all.result (contents_of g.W.Write.contents c.args.to.now) (contents_of g.W.Write.contents c.write_head.new.to) (contents_of g.W.Write.contents c.write_all.new.to) (head c.args.number c.args.exit) c.args.line.now
-    c.in_ok-write_head.ensures.ok (front_of c.write_all.result g.W.Write.contents c.write_head.new.to c.write_all.new.to c.args.line.now c.write_all.ensures.err)
+pub returns-in_err-write_head : goal.returns-in_err-write_head
+returns-in_err-write_head g c =
+    let r = c.from_residual in
+    let p = err_from_is_err_and r.result r.ensures.1 in
+    stopped g.W.Write.contents _ _ _ _ r.result p.0 p.1 c.in_err-write_head.ensures.err
+
+pub returns : goal.returns
+returns g c = then_text g.W.Write.contents _ _ _ _ _ c.write_all.result c.in_ok-write_head.ensures.ok c.write_all.ensures
