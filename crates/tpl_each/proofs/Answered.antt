@@ -70,6 +70,10 @@ none_answered answers from to = record {
 
 -- some lines were answered, and then more, which were numbered from where those ended
 module _ (answers : Answers) (from_old from_now to_old to_now : Option (List ℕ)) (lines : List (List ℕ)) (said : List Said) (a : AreAnswered answers from_old from_now to_old to_now lines said) where
+  -- what is said to the lines and to those behind them
+  pub more_said : (new : List (List ℕ)) (more : List Said) → AreSaid answers new more → AreSaid answers (lines ++ new) (said ++ more)
+  more_said new more is = zip_append (λ (line : List ℕ) (said : Said). Says answers line said.exit said.text) lines new said more a.answered is
+
   pub written_more : (to_new : Option (List ℕ)) (number : ℕ) (more : List Said) → number ≡ length said + 1 → Appends to_now to_new (numbered number more) → Appends to_old to_new (numbered 1 (said ++ more))
   written_more to_new number more e p =
       subst (Appends to_old to_new) (sym (numbered-append 1 said more))
@@ -91,30 +95,27 @@ module _ (answers : Answers) (from_old from_now to_old to_now : Option (List ℕ
     written = written_more to_new number more e p;
   }
 
-  pub all_lines : (new : List (List ℕ)) → IfSome from_now (AreLines new) → IfSome from_old (AreLines (lines ++ new))
-  all_lines new are = by_bytes from_old from_now a.read are
+  -- what is known of the bytes that come tells of those that came
+  if_known : (P Q : List ℕ → Type 0) → ((xs ys : List ℕ) → xs ≡ broken lines ++ ys → P ys → Q xs) → IfSome from_now P → IfSome from_old Q
+  if_known P Q so is = by_bytes from_old from_now a.read is
     where
-      by_bytes : (o n : Option (List ℕ)) → Consumes o n (broken lines) → IfSome n (AreLines new) → IfSome o (AreLines (lines ++ new))
+      by_bytes : (o n : Option (List ℕ)) → Consumes o n (broken lines) → IfSome n P → IfSome o Q
       by_bytes None n p q = tt
       by_bytes (Some xs) None p q = absurd p
-      by_bytes (Some xs) (Some ys) p q = lines_then xs ys lines new a.each p q
+      by_bytes (Some xs) (Some ys) p q = so xs ys p q
+
+  pub all_lines : (new : List (List ℕ)) → IfSome from_now (AreLines new) → IfSome from_old (AreLines (lines ++ new))
+  all_lines new = if_known (AreLines new) (AreLines (lines ++ new)) (λ xs ys p q. lines_then xs ys lines new a.each p q)
 
   pub first_lines : (new : List (List ℕ)) → IfSome from_now (BeginWith new) → IfSome from_old (BeginWith (lines ++ new))
-  first_lines new are = by_bytes from_old from_now a.read are
-    where
-      by_bytes : (o n : Option (List ℕ)) → Consumes o n (broken lines) → IfSome n (BeginWith new) → IfSome o (BeginWith (lines ++ new))
-      by_bytes None n p q = tt
-      by_bytes (Some xs) None p q = absurd p
-      by_bytes (Some xs) (Some ys) p q = begin_then xs ys lines new a.each p q
+  first_lines new = if_known (BeginWith new) (BeginWith (lines ++ new)) (λ xs ys p q. begin_then xs ys lines new a.each p q)
 
   pub some_lines : (new : List (List ℕ)) → IfSome from_now (λ bytes. BeginWith new bytes ⊎ AreLines new bytes) → IfSome from_old (λ bytes. BeginWith (lines ++ new) bytes ⊎ AreLines (lines ++ new) bytes)
-  some_lines new are = by_bytes from_old from_now a.read are
+  some_lines new = if_known (λ bytes. BeginWith new bytes ⊎ AreLines new bytes) (λ bytes. BeginWith (lines ++ new) bytes ⊎ AreLines (lines ++ new) bytes) so
     where
-      by_bytes : (o n : Option (List ℕ)) → Consumes o n (broken lines) → IfSome n (λ bytes. BeginWith new bytes ⊎ AreLines new bytes) → IfSome o (λ bytes. BeginWith (lines ++ new) bytes ⊎ AreLines (lines ++ new) bytes)
-      by_bytes None n p q = tt
-      by_bytes (Some xs) None p q = absurd p
-      by_bytes (Some xs) (Some ys) p (inl q) = inl (begin_then xs ys lines new a.each p q)
-      by_bytes (Some xs) (Some ys) p (inr q) = inr (lines_then xs ys lines new a.each p q)
+      so : (xs ys : List ℕ) → xs ≡ broken lines ++ ys → BeginWith new ys ⊎ AreLines new ys → BeginWith (lines ++ new) xs ⊎ AreLines (lines ++ new) xs
+      so xs ys p (inl q) = inl (begin_then xs ys lines new a.each p q)
+      so xs ys p (inr q) = inr (lines_then xs ys lines new a.each p q)
 
   pub read_lines : IfSome from_old (BeginWith lines)
   read_lines = by_bytes from_old from_now a.read
