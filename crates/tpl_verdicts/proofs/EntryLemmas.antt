@@ -3,8 +3,11 @@ use Rattle.std.proofs.Common.{◌≡◌, ◌∙◌, ℕ, zero, suc, ◌+◌, ◌
 use Rattle.std.specs.Prelude.{slice_index_or}
 use Rattle.std.specs.List.{All, AllZip, flat_map}
 use Rattle.std.proofs.lemmas.List.{flat_map_more, take_more, length-take-le}
+use Rattle.tpl_model.specs.Graph.{TaskGraph}
 use Rattle.tpl_model.specs.Claims.{Claim}
+use Rattle.tpl_graph.specs.Fits.{Fits}
 use Rattle.tpl_verify.specs.declared.verdict.Verdict.{Verdict}
+use Rattle.tpl_verify.specs.Verdicts.{AreVerdicts, IsSomeVerdict, IsVerdict}
 use Rattle.tpl_verdicts.specs.Lines.{AreNumbered}
 
 -- one verdict more
@@ -40,6 +43,17 @@ zip_at R (a ∷ xs) (b ∷ ys) (suc i) x y lt e f all = zip_at R xs ys i x y (om
 -- what is said of each claim holds of the one at a place
 pub all_at : {X : Type 0} (P : X → Type 0) (xs : List X) (i : ℕ) (x : X) → i < length xs → x ≡ slice_index_or xs i x → All P xs → P x
 all_at {X} P xs i x lt is all = subst (λ (y : X). P y) (sym is) (all i x lt)
+
+-- a claim and the verdict on it
+module _ (graph : TaskGraph) (claims : List Claim) (verdicts : List Verdict) (are : AreVerdicts graph claims verdicts) (at : ℕ) (lt : at < length verdicts) where
+  pub has_claim : at < length claims
+  has_claim = let same = zip_length (IsVerdict are.0 graph) claims verdicts are.1 in omega (arith, same, lt)
+
+  pub claim_fits : (claim : Claim) → claim ≡ slice_index_or claims at claim → All (Fits graph) claims → Fits graph claim
+  claim_fits claim is fits = all_at (Fits graph) claims at claim has_claim is fits
+
+  pub verdict_at : (claim : Claim) (verdict : Verdict) → claim ≡ slice_index_or claims at claim → verdict ≡ slice_index_or verdicts at verdict → IsSomeVerdict graph claim verdict
+  verdict_at claim verdict is_claim is_verdict = (are.0, zip_at (IsVerdict are.0 graph) claims verdicts at claim verdict lt is_claim is_verdict are.1)
 
 -- one text more behind those of the first things
 pub text_more : {X : Type 0} (f : X → List ℕ) (xs : List X) (i : ℕ) (x : X) (start old new : List ℕ) → i < length xs → x ≡ slice_index_or xs i x → old ≡ start ++ flat_map f (take i xs) → new ≡ old ++ f x → new ≡ start ++ flat_map f (take (i + 1) xs)

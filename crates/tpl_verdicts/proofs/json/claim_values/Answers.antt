@@ -1,26 +1,18 @@
-use Rattle.std.proofs.Common.{map, ◌∙◌, ap, arith}
+use Rattle.std.proofs.Common.{map, ◌∙◌, ap}
 use Rattle.std.proofs.lemmas.List.{map_push}
 use Rattle.serde_json.specs.View.{view}
-use Rattle.tpl_graph.specs.Fits.{Fits}
-use Rattle.tpl_verify.specs.Verdicts.{IsVerdict}
 use Rattle.tpl_verdicts.specs.Json.{IsNamedData}
-use Rattle.tpl_verdicts.proofs.EntryLemmas.{all_at, numbered_more, zip_at, zip_length}
+use Rattle.tpl_verdicts.proofs.EntryLemmas.{claim_fits, has_claim, numbered_more, verdict_at}
 use Rattle.tpl_verdicts.proofs.json.claim_values.Goals as goal
 
 pub bounds-claims-at : goal.bounds-claims-at
-bounds-claims-at c =
-    let same = zip_length (IsVerdict c.requires.verdicts.0 c.args.graph.now.graph) c.args.claims.now c.args.verdicts.now c.requires.verdicts.1 in
-    let lt = c.loop-at-test.true in omega (arith, same, lt)
+bounds-claims-at c = has_claim c.args.graph.now.graph c.args.claims.now c.args.verdicts.now c.requires.verdicts c.loop-at.at c.loop-at-test.true
 
 pub claim_value-requires-clause-fits : goal.claim_value-requires-clause-fits
-claim_value-requires-clause-fits c =
-    let same = zip_length (IsVerdict c.requires.verdicts.0 c.args.graph.now.graph) c.args.claims.now c.args.verdicts.now c.requires.verdicts.1 in
-    let lt = c.loop-at-test.true in
-    all_at (Fits c.args.graph.now.graph) c.args.claims.now c.loop-at.at c.index-claims-at.result (omega (arith, same, lt)) c.index-claims-at.is c.requires.claims
+claim_value-requires-clause-fits c = claim_fits c.args.graph.now.graph c.args.claims.now c.args.verdicts.now c.requires.verdicts c.loop-at.at c.loop-at-test.true c.index-claims-at.result c.index-claims-at.is c.requires.claims
 
 pub claim_value-requires-clause-verdict : goal.claim_value-requires-clause-verdict
-claim_value-requires-clause-verdict c =
-    (c.requires.verdicts.0, zip_at (IsVerdict c.requires.verdicts.0 c.args.graph.now.graph) c.args.claims.now c.args.verdicts.now c.loop-at.at c.index-claims-at.result c.index-verdicts-at.result c.loop-at-test.true c.index-claims-at.is c.index-verdicts-at.is c.requires.verdicts.1)
+claim_value-requires-clause-verdict c = verdict_at c.args.graph.now.graph c.args.claims.now c.args.verdicts.now c.requires.verdicts c.loop-at.at c.loop-at-test.true c.index-claims-at.result c.index-verdicts-at.result c.index-claims-at.is c.index-verdicts-at.is
 
 pub loop-at-preserved : goal.loop-at-preserved
 loop-at-preserved c =
