@@ -1,8 +1,8 @@
 -- Lines that were answered.
-use Rattle.std.proofs.Common.{◌≡◌, ℕ, zero, suc, ◌+◌, ◌<◌, ◌≤◌, List, [], ◌∷◌, ◌++◌, length, map, Bool, true, false, Option, Some, None, refl, sym, ap, ◌∙◌, subst, append_assoc, append-nil, length-append, ◌⊎◌, inl, inr, arith}
+use Rattle.std.proofs.Common.{◌≡◌, ℕ, suc, ◌+◌, ◌<◌, List, [], ◌∷◌, ◌++◌, length, map, Bool, true, false, Option, Some, None, refl, sym, ap, ◌∙◌, subst, append-nil, ◌⊎◌, inl, inr, arith}
 use Rattle.std.specs.Prelude.{IfErr, IfSome, Result, Ok, Err, slice_index_or, ◌&&◌}
 use Rattle.std.specs.Io.KnownBytes.{Appends, Consumes, prepend_known}
-use Rattle.std.specs.List.{All, AllZip, list_all}
+use Rattle.std.specs.List.{All, list_all}
 use Rattle.std.proofs.lemmas.List.Elements.{All-append, All-nil}
 use Rattle.tpl_journal.proofs.Known.{consumes_more}
 use Rattle.tpl_journal.proofs.WrittenLemmas.{appends_then}
@@ -12,7 +12,6 @@ use Rattle.tpl_journal.specs.Writing.{AppendsFront}
 use Rattle.tpl_each.specs.declared.gathering.Ends.{Ends}
 use Rattle.tpl_each.specs.declared.gathering.Ends.TheVariants.{More, End, Failed, Endless}
 use Rattle.tpl_each.specs.Gathering.{AreIn, Came}
-use Rattle.tpl_each.specs.Kept.{IsKept}
 use Rattle.tpl_each.specs.Lines.{IsLine, broken, BeginWith, AreLines}
 use Rattle.tpl_each.specs.Said.{AreSaid, Said, is_yes, numbered}
 use Rattle.tpl_each.specs.Slots.{IsSaidTo, said_of}

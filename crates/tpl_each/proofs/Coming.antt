@@ -1,12 +1,10 @@
 -- The bytes that come, and the lines in them.
-use Rattle.std.proofs.Common.{◌≡◌, ℕ, zero, suc, ◌<◌, ◌≤◌, ◌+◌, ◌-◌, List, [], ◌∷◌, ◌++◌, length, take, drop, Option, Some, None, true, refl, sym, ap, ◌∙◌, subst, append_assoc, append-nil, length-append, inl, arith}
+use Rattle.std.proofs.Common.{◌≡◌, ℕ, zero, suc, ◌<◌, ◌≤◌, ◌+◌, ◌-◌, List, [], ◌∷◌, ◌++◌, length, take, drop, Option, Some, None, refl, sym, ap, ◌∙◌, subst, append_assoc, append-nil, length-append, inl, arith}
 use Rattle.std.specs.Prelude.{IfSome, slice_range}
 use Rattle.std.specs.Io.KnownBytes.{Consumes, IsAtEnd, prepend_known}
-use Rattle.std.specs.List.{All, AllZip}
-use Rattle.std.proofs.lemmas.List.Elements.{All-nil, All-push}
+use Rattle.std.specs.List.{All}
 use Rattle.tpl_journal.proofs.CutLemmas.{lacks-append}
 use Rattle.tpl_journal.proofs.Known.{consumes_more}
-use Rattle.tpl_journal.specs.Cuts.{lacks, IsCut}
 use Rattle.std.specs.Prelude.{IsTrue, string_bytes}
 use Rattle.tpl_commands.specs.declared.exit.Exit.{Exit}
 use Rattle.tpl_commands.specs.declared.exit.Exit.TheVariants.{Success, Failure, Usage, Unreadable, Memory, Device, Fault}
@@ -18,11 +16,10 @@ use Rattle.tpl_commands.specs.declared.answer.Answer.{Answer}
 use Rattle.tpl_each.proofs.Breaks.{broken_push}
 use Rattle.tpl_each.specs.declared.line.Line.{Line}
 use Rattle.tpl_each.specs.declared.line.Line.TheVariants.{Whole, TooLong, Lost}
-use Rattle.tpl_each.specs.declared.next.Next.{Next}
 use Rattle.tpl_each.specs.declared.next.Next.TheVariants as next
 use Rattle.tpl_each.specs.Coming.{Comes}
 use Rattle.tpl_each.specs.Kept.{IsKept}
-use Rattle.tpl_each.specs.Lines.{IsLine, broken, BeginWith, AreLines}
+use Rattle.tpl_each.specs.Lines.{IsLine, broken, AreLines}
 
 -- what is kept of a line stays so where nothing is added
 pub kept_same : (input more : List ℕ) (line : Line) → length more ≡ 0 → IsKept input line → IsKept (input ++ more) line

@@ -1,5 +1,5 @@
 -- Test cases that are as what is said of the claims.
-use Rattle.std.proofs.Common.{◌≡◌, ◌∙◌, ℕ, suc, List, [], ◌∷◌, map, sym, ap}
+use Rattle.std.proofs.Common.{◌≡◌, ◌∙◌, ℕ, suc, List, [], ◌∷◌, map}
 use Rattle.tpl_draft.specs.Named.{Names}
 use Rattle.tpl_verify.specs.declared.verdict.Verdict.{Verdict}
 use Rattle.tpl_verdicts.specs.declared.entry.Entry.{Entry}

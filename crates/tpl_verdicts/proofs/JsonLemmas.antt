@@ -1,9 +1,9 @@
 -- How deep the JSON value of verdicts nests, and that what a claim speaks of is a task.
-use Rattle.std.proofs.Common.{◌≡◌, ℕ, suc, ◌+◌, ◌≤◌, ◌⊎◌, inl, inr, Some, None, List, [], ◌∷◌, length, codes, sym, subst, arith}
-use Rattle.serde_json.specs.Data.{Data, Members, depth, items_depth, members_depth, object, string}
+use Rattle.std.proofs.Common.{ℕ, suc, ◌≤◌, inl, inr, Some, None, List, [], ◌∷◌, codes, sym, subst, arith}
+use Rattle.serde_json.specs.Data.{Data, depth, items_depth, object, string}
 use Rattle.serde_json.specs.View.{items_of}
 use Rattle.tpl_draft.specs.Named.{Names}
-use Rattle.tpl_graph.specs.Fits.{Fits, TasksOf}
+use Rattle.tpl_graph.specs.Fits.{TasksOf}
 use Rattle.tpl_model.specs.Graph.{TaskGraph, is_task}
 use Rattle.tpl_model.specs.declared.claim.Property.{Property}
 use Rattle.tpl_model.specs.declared.claim.Property.TheVariants.{Final as EndsIn, After, Observed, Never, Excludes, Runs}

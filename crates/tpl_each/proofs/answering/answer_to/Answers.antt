@@ -1,4 +1,3 @@
-use Rattle.std.proofs.Common.{string_bytes, sym, ◌∙◌}
 use Rattle.tpl_each.proofs.Coming.{says_line}
 use Rattle.tpl_each.proofs.answering.answer_to.Goals as goal
 

@@ -1,6 +1,5 @@
 use Rattle.std.proofs.Common.{ℕ, List, [], ◌∷◌, ◌++◌, ◌∙◌, sym, subst, arith}
 use Rattle.std.proofs.lemmas.List.Elements.{All-push}
-use Rattle.tpl_each.specs.declared.line.Line.{Line}
 use Rattle.tpl_each.specs.declared.slot.Slot.{Slot}
 use Rattle.tpl_each.specs.Ahead.{coming}
 use Rattle.tpl_each.specs.Gathering.{AreIn}

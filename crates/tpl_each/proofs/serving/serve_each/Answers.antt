@@ -1,4 +1,4 @@
-use Rattle.std.proofs.Common.{◌≡◌, ℕ, Bool, true, List, [], length, ◌++◌, ◌+◌, ◌∙◌, refl, sym, ap, subst, inl, inr, length-append, arith}
+use Rattle.std.proofs.Common.{◌≡◌, ℕ, true, List, [], length, ◌++◌, ◌+◌, ◌∙◌, refl, sym, ap, subst, inl, inr, length-append, arith}
 use Rattle.std.specs.Prelude.{◌&&◌, if◌then◌else◌}
 use Rattle.std.specs.Io.KnownBytes.{prepend_known}
 use Rattle.std.specs.List.{list_all}

@@ -1,4 +1,4 @@
-use Rattle.std.proofs.Common.{◌≡◌, ◌+◌, ◌-◌, ◌^◌, ◌≤◌, ℕ, List, length}
+use Rattle.std.proofs.Common.{◌≡◌, ◌+◌, ◌-◌, ◌^◌, ℕ, List, length}
 use Rattle.std.specs.List.{list_all}
 use Rattle.tpl_journal.specs.Counting.{contents_of, failures_of, remaining_of}
 use Rattle.tpl_each.specs.Ahead.{coming}

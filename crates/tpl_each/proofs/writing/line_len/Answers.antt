@@ -1,6 +1,3 @@
-use Rattle.std.proofs.Common.{◌≡◌, ◌++◌, true, take, drop, length, [], sym, ap, ◌∙◌, subst, append-nil}
-use Rattle.std.proofs.Math.Seq.{drop-length}
-use Rattle.tpl_each.specs.Said.{headed}
 use Rattle.tpl_each.proofs.Written.{first_line, whole_line}
 use Rattle.tpl_each.proofs.writing.line_len.Goals as goal
 

@@ -1,7 +1,6 @@
-use Rattle.std.proofs.Common.{◌≡◌, ◌≤◌, ◌∙◌, map, sym, subst, string_bytes, ap, Some}
+use Rattle.std.proofs.Common.{◌≤◌, ◌∙◌, map, sym, subst, string_bytes, ap, Some}
 use Rattle.serde_json.specs.Data.{Data, depth}
 use Rattle.serde_json.specs.View.{view}
-use Rattle.tpl_verdicts.specs.Json.{verdicts_data}
 use Rattle.tpl_verdicts.proofs.JsonLemmas.{whole_depth}
 use Rattle.tpl_verdicts.proofs.json.json_of.Goals as goal
 

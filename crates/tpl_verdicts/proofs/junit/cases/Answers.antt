@@ -1,4 +1,4 @@
-use Rattle.std.proofs.Common.{◌≡◌, ◌∙◌, ap, take, length, arith}
+use Rattle.std.proofs.Common.{◌≡◌, ◌∙◌, ap, take, arith}
 use Rattle.std.proofs.lemmas.List.{take_all}
 use Rattle.tpl_verdicts.proofs.CaseLemmas.{as_cases, numbers, words}
 use Rattle.tpl_verdicts.proofs.junit.cases.Goals as goal
