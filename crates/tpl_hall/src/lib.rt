@@ -14,6 +14,7 @@ mod sight;
 mod sights;
 mod stint;
 mod watcher;
+mod words;
 
 pub use board::{Cells, cells};
 pub use checks::has_seat;
