@@ -9,6 +9,7 @@ ghost use Rattle.tpl_items.specs.Stock.{AreOthers, HasPlace, IfWorker, Takes, Ta
 
 use crate::item::Item;
 use std::alloc::Global;
+use std::collections::VecDeque;
 use std::marker::Model;
 use tpl_model::{Actor, SiteId, TaskId, Worker};
 use tpl_queue::Job;
@@ -22,8 +23,8 @@ pub type ItemJob<W> = Job<Vec<W>>;
 #[derive(Drop)]
 pub struct Stock<W> {
     alloc: Global,
-    /// Items that weren't called.
-    items: Vec<W>,
+    /// Items that weren't called: mostly the first ones are, and the shorter side moves where one is taken out.
+    items: VecDeque<W>,
     /// By task, whether its job wasn't put yet.
     unput: Vec<bool>,
     /// Tasks whose jobs only one worker may begin.
@@ -52,11 +53,11 @@ impl<W> Model for Stock<W> {
 }
 
 /// The place of the first item of a site.
-fn place_of<K, W: Item<K>>(items: &[W], site: SiteId) -> Option<usize>
-    ensures place { IfSome result (λ place. place < length items.now) }
-    ensures site { IfSome result (λ place. (d : W) → W.site (slice_index_or items.now place d) ≡
-        site.0) }
-    ensures none { IfNone result (count_of (map W.site items.now) site.0 ≡ 0) }
+fn place_of<K, W: Item<K>>(items: &VecDeque<W>, site: SiteId) -> Option<usize>
+    ensures place { IfSome result (λ place. place < length items.now.items) }
+    ensures site { IfSome result (λ place. (d : W) → W.site (slice_index_or items.now.items place
+        d) ≡ site.0) }
+    ensures none { IfNone result (count_of (map W.site items.now.items) site.0 ≡ 0) }
 {
     for place in 0..items.len() {
         if items[place].site().0 == site.0 {
@@ -99,7 +100,7 @@ impl<W: Drop> Stock<W> {
         };
         Ok(Stock {
             alloc,
-            items,
+            items: VecDeque::from_vec(items),
             unput,
             kept,
             shelf,
@@ -116,8 +117,8 @@ impl<W: Drop> Stock<W> {
             × (self.new.items ≡ self.old.items)) }
         ensures rest { self.new ≡ record self.old { items = self.new.items } }
     {
-        let place = place_of::<K, W>(self.items.as_slice(), site)?;
-        Some(self.items.remove(place))
+        let place = place_of::<K, W>(&self.items, site)?;
+        self.items.remove(place)
     }
 
     /// Whether the job of a task wasn't put yet. It counts as put from now on.
@@ -198,6 +199,6 @@ impl<W: Drop> Stock<W> {
             kept: _,
             shelf: _,
         } = self;
-        items
+        items.into_vec()
     }
 }
