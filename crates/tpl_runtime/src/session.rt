@@ -163,7 +163,7 @@ impl<'g, K: Drop, W: Item<K>> Session<'g, K, W> {
         for _ in rt.forever() {
             let brought = self.take(rt, &mut pass, hand);
             let mut shared = self.shared.lock(rt);
-            match shared.turn(
+            match shared.turns(
                 rt,
                 self.graph,
                 &self.inputs,

@@ -17,6 +17,9 @@ use tpl_items::Item;
 use tpl_model::{Inputs, TaskId};
 use tpl_queue::Receipt;
 
+/// How often a worker goes on under the lock that it has, before others may have it.
+const MORE_TURNS: u32 = 64;
+
 impl<'g, K: Drop, W: Item<K>> Shared<'g, K, W> {
     /// A worker's first section: what is due, and then the test whether its work ends here. It holds a job that was kept
     /// for it, if there is one.
@@ -135,5 +138,39 @@ impl<'g, K: Drop, W: Item<K>> Shared<'g, K, W> {
                 Turn::Over(self.hall.let_go(graph, inputs, seat, *stint, ended))
             }
         }
+    }
+
+    /// A worker's sections one after another, as long as it goes on: until it calls an item, waits or ends, or has gone
+    /// on so often that others may have the lock.
+    pub fn turns<R: Wait>(
+        &mut self,
+        rt: &R,
+        graph: &Graph,
+        inputs: &Inputs,
+        queue: &ItemQueue<W>,
+        pass: &mut ItemPass<W>,
+        seat: &mut Seat,
+        stint: &mut Stint,
+        hand: Hand<K>,
+    ) -> Turn<W>
+        requires { pass.old.queue ≡ queue.now.id }
+        ensures pass { pass.new.queue ≡ queue.now.id }
+        ensures actor { seat.new.actor ≡ seat.old.actor }
+        ensures stays { (first : SeatView) → Stays stint.old first seat.old
+            → OnOver result (λ ended. Leaves ended graph.now.graph inputs.now first seat.new)
+            (Stays stint.new first seat.new) }
+    {
+        let mut held = match self.turn(rt, graph, inputs, queue, pass, seat, stint, hand) {
+            Turn::Go(held) => held,
+            turn => return turn,
+        };
+        for _more in 0..MORE_TURNS {
+            let hand = Hand::With(held);
+            match self.turn(rt, graph, inputs, queue, pass, seat, stint, hand) {
+                Turn::Go(next) => held = next,
+                turn => return turn,
+            }
+        }
+        Turn::Go(held)
     }
 }
