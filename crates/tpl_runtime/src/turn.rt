@@ -141,7 +141,8 @@ impl<'g, K: Drop, W: Item<K>> Shared<'g, K, W> {
     }
 
     /// A worker's sections one after another, as long as it goes on: until it calls an item, waits or ends, or has gone
-    /// on so often that others may have the lock.
+    /// on so often that others may have the lock. It waits only where its first section does. After one that did
+    /// something it comes again instead, so that those who wait hear of that before.
     pub fn turns<R: Wait>(
         &mut self,
         rt: &R,
@@ -168,6 +169,7 @@ impl<'g, K: Drop, W: Item<K>> Shared<'g, K, W> {
             let hand = Hand::With(held);
             match self.turn(rt, graph, inputs, queue, pass, seat, stint, hand) {
                 Turn::Go(next) => held = next,
+                Turn::Wait => return Turn::Go(held),
                 turn => return turn,
             }
         }
