@@ -1,0 +1,4 @@
+use Rattle.tpl_wide.proofs.leaf.Leaf.known_at_start.Goals as goal
+
+pub returns : goal.returns
+returns c = let h = c.known_at_start.ensures in ?
