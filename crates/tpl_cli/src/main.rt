@@ -31,9 +31,7 @@ use std::process::ExitCode;
 use std::sync::Wait;
 use std::thread::{Threads, available_parallelism};
 use std::{env, iter};
-use tpl_commands::{
-    Asking, Command, Exit, Loaded, Nobody, load_watched, put_out_of_memory, serve_watched,
-};
+use tpl_commands::{Asking, Command, Exit, Loaded, Nobody, load, put_out_of_memory, serve};
 use tpl_each::{MOST_JOBS, serve_each};
 use tpl_journal::Counting;
 use tpl_model::Inputs;
@@ -116,7 +114,7 @@ fn run<R: Threads + Wait + Sync, I: Read, O: Write>(
     from: &mut Counting<I>,
     to: &mut Counting<O>,
 ) -> Exit {
-    match load_watched(rt.alloc(), teller, from, to) {
+    match load(rt.alloc(), teller, from, to) {
         Ok(Loaded { document, bytes }) => {
             let telling = telling_of(is_whole, &bytes);
             let exit = run_document(rt, threads, workers, telling, &document, to);
@@ -171,7 +169,11 @@ fn answer<R: Threads + Wait + Sync, I: Read, O: Write>(
     match order.line {
         Line::Serve(ask) => {
             let teller = teller.of_ask(&ask);
-            serve_watched(alloc, ask, teller, from, to)
+            serve(alloc, ask, teller, from, to)
+        }
+        Line::Each(ask, jobs) => {
+            let listener = Nobody;
+            answer_each(threads, alloc, &Asking { ask, listener }, jobs, from, to)
         }
         Line::Each(ask, jobs) => {
             let listener = Nobody;

@@ -1,6 +1,5 @@
 -- From the verdict on a document to what was read and written.
-use Rattle.std.proofs.Common.{◌≡◌, ◌+◌, ◌≤◌, ℕ, List, Option, codes, inl, subst}
-use Rattle.tpl_journal.specs.Counting.{calls_of}
+use Rattle.std.proofs.Common.{◌≡◌, ℕ, List, Option, codes, inl, subst}
 use Rattle.tpl_journal.specs.declared.counting.Counting.{Counting}
 use Rattle.tpl_model.specs.Certificate.{Accepts}
 use Rattle.tpl_commands.specs.declared.exit.Exit.{Exit}
@@ -14,8 +13,8 @@ use Rattle.tpl_commands.specs.Certifying.{IsCertified, IsCertifying}
 use Rattle.tpl_commands.specs.Checking.{ClaimsHold, IsVerdict}
 use Rattle.tpl_commands.specs.Rules.{is_judged_widely}
 use Rattle.tpl_commands.specs.Searching.{IsCertificate, IsSearching}
-use Rattle.tpl_commands.specs.Responding.{longest, Responds}
-use Rattle.tpl_commands.specs.Serving.{answers_of, Accepted, Found, Certified, Audited, Serves}
+use Rattle.tpl_commands.specs.Responding.{Responds}
+use Rattle.tpl_commands.specs.Serving.{answers_of, Accepted, Found, Certified, Audited}
 use Rattle.tpl_commands.proofs.AuditLemmas.{audit_names_none}
 use Rattle.tpl_commands.proofs.Responses.{tells, IsYesOrNo}
 
@@ -24,7 +23,7 @@ module _ {R W : Type 0} (ask : Ask) (remaining : R → Option (List ℕ)) (from_
   where_asked : (other : Ask) → ask ≡ other → Responds (answers_of other) remaining from_old from_new contents old new result
   where_asked other is = subst (λ (a : Ask). Responds (answers_of a) remaining from_old from_new contents old new result) is responds
 
-  accepts : ask ≡ Check → result ≡ Success → Accepted remaining from_old from_new contents old new
+  pub accepts : ask ≡ Check → result ≡ Success → Accepted remaining from_old from_new contents old new
   accepts is e = tells remaining from_old from_new contents old new result IsVerdict (λ doc text. Accepts (is_judged_widely doc) doc.graph.graph doc.claims doc.certificate × ClaimsHold doc × (text ≡ codes "accepted\n")) (inl e)
       (λ doc text verdict. let v : IsVerdict doc Success text = subst (λ (x : Exit). IsVerdict doc x text) e verdict in (v.0.accepted, v.0.hold, v.1))
       (where_asked Check is)
@@ -33,22 +32,17 @@ module _ {R W : Type 0} (ask : Ask) (remaining : R → Option (List ℕ)) (from_
   finds depth form given e = tells remaining from_old from_new contents old new result (IsSearching depth form) (IsCertificate depth form) (inl e)
       (λ doc text found. subst (λ (x : Exit). IsSearching depth form doc x text) e found) given
 
-  certifies : (depth : ℕ) (form : Form) → ask ≡ Certify depth form → result ≡ Success → Certified remaining from_old from_new contents old new depth form
+  pub finds_full : (depth : ℕ) → ask ≡ Analyse depth → result ≡ Success → Found remaining from_old from_new contents old new depth Full
+  finds_full depth is = finds depth Full (where_asked (Analyse depth) is)
+
+  pub finds_in : (depth : ℕ) (form : Form) → ask ≡ AnalyseIn depth form → result ≡ Success → Found remaining from_old from_new contents old new depth form
+  finds_in depth form is = finds depth form (where_asked (AnalyseIn depth form) is)
+
+  pub certifies : (depth : ℕ) (form : Form) → ask ≡ Certify depth form → result ≡ Success → Certified remaining from_old from_new contents old new depth form
   certifies depth form is e = tells remaining from_old from_new contents old new result (IsCertifying depth form) (IsCertified depth form) (inl e)
       (λ doc text found. subst (λ (x : Exit). IsCertifying depth form doc x text) e found) (where_asked (Certify depth form) is)
 
-  audits : ask ≡ Audit → IsYesOrNo result → Audited remaining from_old from_new contents old new result
+  pub audits : ask ≡ Audit → IsYesOrNo result → Audited remaining from_old from_new contents old new result
   audits is exit = tells remaining from_old from_new contents old new result IsAudit
       (λ doc text. IsAudit doc result text × (Accepts (is_judged_widely doc) doc.graph.graph doc.claims doc.certificate → NamesNoFailure text)) exit
       (λ doc text audit. (audit, audit_names_none doc audit.0 result text exit audit.1 audit.2)) (where_asked Audit is)
-
-  pub serves : calls_of from_new ≤ calls_of from_old + (longest + 2) → Serves ask remaining from_old from_new contents old new result
-  serves reads = record {
-    responds = responds;
-    reads = reads;
-    accepted = accepts;
-    found = λ depth is e. finds depth Full (where_asked (Analyse depth) is) e;
-    found_in = λ depth form is e. finds depth form (where_asked (AnalyseIn depth form) is) e;
-    certified = certifies;
-    audited = audits;
-  }

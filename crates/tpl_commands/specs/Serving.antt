@@ -1,13 +1,12 @@
 -- What is asked of a document, and what is answered.
-use Rattle.std.specs.Prelude.{◌≡◌, ◌⊎◌, ◌+◌, ◌≤◌, ℕ, List, Option, codes}
-use Rattle.tpl_journal.specs.Counting.{calls_of}
+use Rattle.std.specs.Prelude.{◌≡◌, ℕ, List, Option, codes}
 use Rattle.tpl_journal.specs.declared.counting.Counting.{Counting}
 use Rattle.tpl_model.specs.Certificate.{Accepts}
 use Rattle.tpl_commands.specs.Rules.{is_judged_widely}
 use Rattle.tpl_commands.specs.declared.ask.Ask.{Ask}
 use Rattle.tpl_commands.specs.declared.ask.Ask.TheVariants.{Check, Analyse, AnalyseIn, Certify, Audit, Draw}
 use Rattle.tpl_commands.specs.Documents.{Tells}
-use Rattle.tpl_commands.specs.Responding.{Answers, longest, Responds}
+use Rattle.tpl_commands.specs.Responding.{Answers}
 use Rattle.tpl_commands.specs.Checking.{Checks, ClaimsHold}
 use Rattle.tpl_analyser.specs.declared.form.Form.{Form}
 use Rattle.tpl_analyser.specs.declared.form.Form.TheVariants.{Full}
@@ -16,7 +15,6 @@ use Rattle.tpl_commands.specs.Certifying.{Certifies, IsCertified}
 use Rattle.tpl_commands.specs.Drawing.{Draws}
 use Rattle.tpl_commands.specs.Auditing.{Audits, IsAudit, NamesNoFailure}
 use Rattle.tpl_commands.specs.declared.exit.Exit.{Exit}
-use Rattle.tpl_commands.specs.declared.exit.Exit.TheVariants.{Success, Failure}
 
 -- the answer to what is asked of a document
 abbrev pub answers_of : Ask → Answers
@@ -48,17 +46,3 @@ Certified remaining from_old from_new contents to_old to_new depth form = Tells 
 abbrev pub Audited : {R W : Type 0} → (R → Option (List ℕ)) → Counting R → Counting R → (W → Option (List ℕ)) → Counting W → Counting W → Exit → Type 0
 Audited remaining from_old from_new contents to_old to_new exit =
     Tells (λ doc text. IsAudit doc exit text × (Accepts (is_judged_widely doc) doc.graph.graph doc.claims doc.certificate → NamesNoFailure text)) remaining from_old from_new contents to_old to_new
-
--- What was read is answered as it is asked, by at most this many reads; and this is known from what the exit says.
-pub record Serves {R W : Type 0} (ask : Ask) (remaining : R → Option (List ℕ)) (from_old from_new : Counting R) (contents : W → Option (List ℕ)) (to_old to_new : Counting W) (result : Exit) : Type 0 where
-  pub responds : Responds (answers_of ask) remaining from_old from_new contents to_old to_new result
-  pub reads : calls_of from_new ≤ calls_of from_old + (longest + 2)
-  pub accepted : ask ≡ Check → result ≡ Success → Accepted remaining from_old from_new contents to_old to_new
-  pub found : (depth : ℕ) → ask ≡ Analyse depth → result ≡ Success
-      → Found remaining from_old from_new contents to_old to_new depth Full
-  pub found_in : (depth : ℕ) (form : Form) → ask ≡ AnalyseIn depth form → result ≡ Success
-      → Found remaining from_old from_new contents to_old to_new depth form
-  pub certified : (depth : ℕ) (form : Form) → ask ≡ Certify depth form → result ≡ Success
-      → Certified remaining from_old from_new contents to_old to_new depth form
-  pub audited : ask ≡ Audit → (result ≡ Success) ⊎ (result ≡ Failure)
-      → Audited remaining from_old from_new contents to_old to_new result

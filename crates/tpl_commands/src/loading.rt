@@ -12,7 +12,7 @@ ghost use Rattle.tpl_commands.specs.Loading.{Loads, RequestsTokens};
 ghost use Rattle.tpl_commands.specs.Responding.{longest, Responds};
 
 use crate::exit::Exit;
-use crate::listening::{Listen, Nobody};
+use crate::listening::Listen;
 use crate::responding::{put_answered, read_input, unread};
 use std::alloc::Global;
 use std::io::{Read, Write};
@@ -29,30 +29,9 @@ pub struct Loaded {
 }
 
 /// Reads a document to its end, at most 16,777,216 bytes. Where reading fails, or the bytes spell no document, the
-/// line for that is written and its exit returned. The line is made whole before its first byte is written, so the
-/// line `out of memory` stands alone.
-pub fn load<R: Read, W: Write>(
-    alloc: Global,
-    from: &mut Counting<R>,
-    to: &mut Counting<W>,
-) -> Result<Document, Exit>
-    ensures document { IfOk result (λ d. Loads R.remaining from.old from.new (doc_of d)
-        × (to.new ≡ to.old)) }
-    ensures claims { IfOk result (λ d. All (Fits d.graph.graph) d.claims.items) }
-    ensures trees { IfOk result (λ d. All IsWithinLimits d.certificate) }
-    ensures tokens { IfOk result (λ d. RequestsTokens (doc_of d)) }
-    ensures err { IfErr result
-        (Responds NoDocument R.remaining from.old from.new W.contents to.old to.new) }
-    ensures reads { calls_of from.new ≤ calls_of from.old + (longest + 2) }
-{
-    match load_watched(alloc, Nobody, from, to) {
-        Ok(loaded) => Ok(loaded.document),
-        Err(exit) => Err(exit),
-    }
-}
-
-/// Reads a document as [`load`] does. Where there is none, the listener is told why.
-pub fn load_watched<L: Listen, R: Read, W: Write>(
+/// line for that is written and its exit returned, and the listener is told why. The line is made whole before its
+/// first byte is written, so the line `out of memory` stands alone.
+pub fn load<L: Listen, R: Read, W: Write>(
     alloc: Global,
     listener: L,
     from: &mut Counting<R>,

@@ -3,12 +3,12 @@
 ghost use Rattle.std.specs.Prelude.{◌≡◌, ◌⊎◌, ◌+◌, ◌≤◌, ℕ};
 ghost use Rattle.tpl_journal.specs.Counting.{calls_of};
 ghost use Rattle.tpl_commands.specs.Responding.{longest, Responds};
-ghost use Rattle.tpl_commands.specs.Serving.{answers_of, Accepted, Found, Certified, Audited, Serves};
+ghost use Rattle.tpl_commands.specs.Serving.{answers_of, Accepted, Found, Certified, Audited};
 
 use crate::ask::Ask;
 use crate::exit::Exit;
 use crate::finding::{answer_of, find};
-use crate::listening::{Listen, Nobody};
+use crate::listening::Listen;
 use crate::responding::{Answered, Command, respond};
 use std::alloc::{AllocError, Global};
 use std::io::{Read, Write};
@@ -39,10 +39,12 @@ impl<L: Listen> Command for Asking<L> {
 
 /// Reads a document to its end, at most 16,777,216 bytes, and writes the answer. The text is made
 /// whole before its first byte is written. A failed read ends the reading, and then nothing is
-/// written; after a failed write no more is.
-pub fn serve<R: Read, W: Write>(
+/// written; after a failed write no more is. The listener is told how far a search for a certificate
+/// is, and what was found.
+pub fn serve<R: Read, W: Write, L: Listen>(
     alloc: Global,
     ask: Ask,
+    listener: L,
     from: &mut Counting<R>,
     to: &mut Counting<W>,
 ) -> Exit
@@ -66,19 +68,6 @@ pub fn serve<R: Read, W: Write>(
     // Where the audit answers and the document's certificate is accepted, no claim is named as failing.
     ensures audited { ask ≡ Ask.Audit → (result ≡ Exit.Success) ⊎ (result ≡ Exit.Failure)
         → Audited R.remaining from.old from.new W.contents to.old to.new result }
-{
-    serve_watched(alloc, ask, Nobody, from, to)
-}
-
-/// Answers a document as [`serve`] does. The listener is told how far a search for a certificate is, and what was found.
-pub fn serve_watched<R: Read, W: Write, L: Listen>(
-    alloc: Global,
-    ask: Ask,
-    listener: L,
-    from: &mut Counting<R>,
-    to: &mut Counting<W>,
-) -> Exit
-    ensures { Serves ask R.remaining from.old from.new W.contents to.old to.new result }
 {
     respond(&Asking { ask, listener }, alloc, listener, from, to)
 }

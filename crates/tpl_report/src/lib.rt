@@ -1,4 +1,4 @@
-//! The run of a document, from its items to a writer; and all commands of the program.
+//! The run of a document, from its items to a writer.
 #![tactic(auto)]
 
 mod fault;
@@ -13,8 +13,6 @@ pub use following::{Crew, Follow};
 pub use running::{serve_run, serve_run_followed};
 pub use telling::Telling;
 pub use tpl_analyser::{Depth, Form};
-pub use tpl_commands::{
-    Answer, Ask, Exit, load, put_answer, put_out_of_memory, read_input, serve, serve_watched,
-};
+pub use tpl_commands::{Exit, put_out_of_memory};
 pub use tpl_journal::write_report;
 pub use tpl_runtime::Watcher;

@@ -15,11 +15,12 @@ use std::fs::Files;
 use std::sync::{Arc, Wait};
 use std::thread::Threads;
 use std::{fs, io};
+use tpl_commands::{Nobody, load};
 use tpl_journal::Counting;
 use tpl_model::{Answer, SiteId};
 use tpl_queue::{Work, WorkItem};
 use tpl_reader::Document;
-use tpl_report::{Exit, RunFault, load, serve_run};
+use tpl_report::{Exit, RunFault, serve_run};
 use tpl_runtime::Item;
 
 /// Boxes that meet: the graph, as many workers as boxes, and how the report begins where they do. A box fails that waits in
@@ -75,8 +76,8 @@ fn loaded<R: Files + Alloc>(rt: &R, alloc: Global, name: &str) -> io::Result<Opt
     let text = fs::read_to_string(rt, file.as_str())?;
     let mut from = Counting::new(text.as_bytes());
     let mut to = Counting::new(Vec::new(alloc));
-    match load(alloc, &mut from, &mut to) {
-        Ok(document) => Ok(Some(document)),
+    match load(alloc, Nobody, &mut from, &mut to) {
+        Ok(loaded) => Ok(Some(loaded.document)),
         Err(_) => Ok(None),
     }
 }

@@ -2,7 +2,7 @@ use Rattle.tpl_reader.specs.SeenDocument.{doc_of}
 use Rattle.tpl_commands.specs.Documents.{NoDocument}
 use Rattle.tpl_commands.proofs.LoadLemmas.{tokens_spelled}
 use Rattle.tpl_commands.proofs.Responses.{put_responds}
-use Rattle.tpl_commands.proofs.loading.load_watched.Goals as goal
+use Rattle.tpl_commands.proofs.loading.load.Goals as goal
 
 pub returns-in-Ok-read_document_heard-clause-document : goal.returns-in-Ok-read_document_heard-clause-document
 returns-in-Ok-read_document_heard-clause-document g c = (
