@@ -76,9 +76,9 @@ SENTENCES = [
     ),
     Sentence(
         "What `analyse` writes is a certificate that is accepted",
-        "Clauses `found`, `found_in` and `certified` of `serve`: also that it is short with `--slim`, and with `--whole` that "
+        "Clauses `found` and `certified` of `serve`: also that it is short with `--slim`, and with `--whole` that "
         "it stands in the document that was read.",
-        (Clauses(SERVE, "serve", ("found", "found_in", "certified")),),
+        (Clauses(SERVE, "serve", ("found", "certified")),),
     ),
     Sentence(
         "`run` reports a run in which each claim holds, and `audit` says whether a journal is one",

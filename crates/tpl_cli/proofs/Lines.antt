@@ -4,7 +4,7 @@ use Rattle.clap.specs.Words.{Row, Text}
 use Rattle.tpl_analyser.specs.declared.form.Form.{Form}
 use Rattle.tpl_analyser.specs.declared.form.Form.TheVariants.{Full, Slim}
 use Rattle.tpl_commands.specs.declared.ask.Ask.{Ask}
-use Rattle.tpl_commands.specs.declared.ask.Ask.TheVariants.{Check, Analyse, AnalyseIn, Certify, Audit, Draw}
+use Rattle.tpl_commands.specs.declared.ask.Ask.TheVariants.{Check, Analyse, Certify, Audit, Draw}
 use Rattle.tpl_verdicts.specs.declared.style.Style.{Style}
 use Rattle.tpl_cli.specs.declared.line.Line.{Line}
 use Rattle.tpl_cli.specs.declared.line.Line.TheVariants.{Serve, Each, Run, Refute, Verify, Trace}
@@ -19,8 +19,7 @@ use Rattle.tpl_cli.proofs.GivenOptions.{same_flag, same_if_given, same_language,
 -- a number for the asks that one word can mean
 sort : Ask → ℕ
 sort Check = 0
-sort (Analyse depth) = 1
-sort (AnalyseIn depth form) = 1
+sort (Analyse depth form) = 1
 sort (Certify depth form) = 1
 sort Audit = 2
 sort (Draw language) = 3
@@ -32,8 +31,7 @@ sort_named t = if slice_index t 0 == 99 then 0 else (if slice_index t 0 == 100 t
 asks_sort : (word : Text) (rows : List Row) (ask : Ask) → Asks word rows ask → sort_named word ≡ sort ask
 unfolding sort sort_named
 asks_sort word rows Check m = ap sort_named m
-asks_sort word rows (Analyse depth) m = ap sort_named m.0.0
-asks_sort word rows (AnalyseIn depth form) m = ap sort_named m.0.0
+asks_sort word rows (Analyse depth form) m = ap sort_named m.0.0
 asks_sort word rows (Certify depth form) m = ap sort_named m.0.0
 asks_sort word rows Audit m = ap sort_named m
 asks_sort word rows (Draw language) m = ap sort_named m.0
@@ -57,8 +55,7 @@ kind_named t =
 asks_kind : (word : Text) (rows : List Row) (ask : Ask) → Asks word rows ask → kind_named word ≡ 0
 unfolding kind_named
 asks_kind word rows Check m = ap kind_named m
-asks_kind word rows (Analyse depth) m = ap kind_named m.0.0
-asks_kind word rows (AnalyseIn depth form) m = ap kind_named m.0.0
+asks_kind word rows (Analyse depth form) m = ap kind_named m.0.0
 asks_kind word rows (Certify depth form) m = ap kind_named m.0.0
 asks_kind word rows Audit m = ap kind_named m
 asks_kind word rows (Draw language) m = ap kind_named m.0
@@ -84,14 +81,9 @@ same_ask : (word : Text) (rows : List Row) (a b : Ask) → Asks word rows a → 
 unfolding sort
 same_ask word rows Check Check m n = refl
 same_ask word rows Audit Audit m n = refl
-same_ask word rows (Analyse d) (Analyse e) m n = ap Analyse (same_number number.Depth rows d e m.0.1 n.0.1)
-same_ask word rows (Analyse d) (AnalyseIn e g) m n = absurd (m.0.2 (subst (IsForm rows) n.1 n.0.2))
-same_ask word rows (Analyse d) (Certify e g) m n = absurd (m.1 n.1)
-same_ask word rows (AnalyseIn d f) (Analyse e) m n = absurd (n.0.2 (subst (IsForm rows) m.1 m.0.2))
-same_ask word rows (AnalyseIn d f) (AnalyseIn e g) m n = ap₂ AnalyseIn (same_number number.Depth rows d e m.0.1 n.0.1) (same_form rows f g m.0.2 n.0.2)
-same_ask word rows (AnalyseIn d f) (Certify e g) m n = absurd (m.2 n.1)
-same_ask word rows (Certify d f) (Analyse e) m n = absurd (n.1 m.1)
-same_ask word rows (Certify d f) (AnalyseIn e g) m n = absurd (n.2 m.1)
+same_ask word rows (Analyse d f) (Analyse e g) m n = ap₂ Analyse (same_number number.Depth rows d e m.0.1 n.0.1) (same_form rows f g m.0.2 n.0.2)
+same_ask word rows (Analyse d f) (Certify e g) m n = absurd (m.1 n.1)
+same_ask word rows (Certify d f) (Analyse e g) m n = absurd (n.1 m.1)
 same_ask word rows (Certify d f) (Certify e g) m n = ap₂ Certify (same_number number.Depth rows d e m.0.1 n.0.1) (same_form rows f g m.0.2 n.0.2)
 same_ask word rows (Draw k) (Draw l) m n = ap Draw (same_named language_word rows k l same_language m.1 n.1)
 same_ask word rows a b m n = let e = sym (asks_sort word rows a m) ∙ asks_sort word rows b n in absurd (omega arith)
@@ -147,8 +139,7 @@ wrong_jobs word rows ask asks none l m = let e = sym (asks_kind word rows ask as
 -- what is given for the depth is none
 pub no_search : (rows : List Row) → ((n : ℕ) → IsGiven number.Depth rows n → ⊥) → (ask : Ask) → Asks (codes "analyse") rows ask → ⊥
 unfolding sort sort_named
-no_search rows none (Analyse depth) m = none depth m.0.1
-no_search rows none (AnalyseIn depth form) m = none depth m.0.1
+no_search rows none (Analyse depth form) m = none depth m.0.1
 no_search rows none (Certify depth form) m = none depth m.0.1
 no_search rows none ask m = let e = asks_sort (codes "analyse") rows ask m in absurd (omega arith)
 

@@ -4,7 +4,7 @@ use Rattle.clap.specs.Words.{Row, Text, subcommand_of}
 use Rattle.tpl_analyser.specs.declared.form.Form.{Form}
 use Rattle.tpl_analyser.specs.declared.form.Form.TheVariants.{Full, Slim}
 use Rattle.tpl_commands.specs.declared.ask.Ask.{Ask}
-use Rattle.tpl_commands.specs.declared.ask.Ask.TheVariants.{Check, Analyse, AnalyseIn, Certify, Audit, Draw}
+use Rattle.tpl_commands.specs.declared.ask.Ask.TheVariants.{Check, Analyse, Certify, Audit, Draw}
 use Rattle.tpl_cli.specs.declared.line.Line as lines
 use Rattle.tpl_cli.specs.declared.line.Line.TheVariants as line
 use Rattle.tpl_cli.specs.declared.line.Tries.{Tries}
@@ -24,8 +24,7 @@ IsSearch word rows depth form = (word ≡ codes "analyse") × IsGiven number.Dep
 -- with these options the subcommand of this name asks this of a document
 abbrev pub Asks : Text → List Row → Ask → Type 0
 Asks word rows Check = word ≡ codes "check"
-Asks word rows (Analyse depth) = IsSearch word rows depth Full × (IsSet (codes "whole") rows → ⊥)
-Asks word rows (AnalyseIn depth form) = IsSearch word rows depth form × (form ≡ Slim) × (IsSet (codes "whole") rows → ⊥)
+Asks word rows (Analyse depth form) = IsSearch word rows depth form × (IsSet (codes "whole") rows → ⊥)
 Asks word rows (Certify depth form) = IsSearch word rows depth form × IsSet (codes "whole") rows
 Asks word rows Audit = word ≡ codes "audit"
 Asks word rows (Draw language) = (word ≡ codes "draw") × IsLanguage rows language

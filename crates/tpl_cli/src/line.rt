@@ -2,7 +2,7 @@
 
 ghost use Rattle.std.specs.Prelude.{◌≡◌, true, codes, IfOk, MatchOption, MatchResult, map};
 ghost use Rattle.clap.specs.Words.{Text, found_of, kind_of, rows_of, subcommand_rows_of, takes};
-ghost use Rattle.tpl_cli.specs.Line.{Asks, AreTries, IsLineOf, IsWithin, Means, Names};
+ghost use Rattle.tpl_cli.specs.Line.{Asks, AreTries, IsForm, IsLineOf, IsWithin, Means, Names};
 ghost use Rattle.tpl_cli.specs.Usage.{taskgraph};
 
 use crate::number::Number;
@@ -127,6 +127,17 @@ fn served(given: &ArgMatches<'_>, ask: Ask) -> Option<Line>
     }
 }
 
+/// The form that is asked for.
+fn form_in(given: &ArgMatches<'_>) -> Form
+    ensures { IsForm (rows_of (found_of given.now)) result }
+{
+    if is_set(given, "slim") {
+        Form::Slim
+    } else {
+        Form::Full
+    }
+}
+
 /// What `analyse` asks with these options.
 fn search_asked(given: &ArgMatches<'_>) -> Option<Ask>
     ensures { MatchOption result
@@ -134,13 +145,11 @@ fn search_asked(given: &ArgMatches<'_>) -> Option<Ask>
         (Asks (codes "analyse") (rows_of (found_of given.now))) }
 {
     let depth = depth_in(given)?;
-    let slim = is_set(given, "slim");
+    let form = form_in(given);
     if is_set(given, "whole") {
-        Some(Ask::Certify(depth, if slim { Form::Slim } else { Form::Full }))
-    } else if slim {
-        Some(Ask::AnalyseIn(depth, Form::Slim))
+        Some(Ask::Certify(depth, form))
     } else {
-        Some(Ask::Analyse(depth))
+        Some(Ask::Analyse(depth, form))
     }
 }
 

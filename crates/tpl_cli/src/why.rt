@@ -54,7 +54,7 @@ impl<'a> Teller<'a> {
     /// Tells what there is to tell where this is asked: of a search also how far it is.
     pub(crate) fn of_ask(self, ask: &Ask) -> Teller<'a> {
         match ask {
-            Ask::Analyse(_) | Ask::AnalyseIn(_, _) | Ask::Certify(_, _) => self.of_search(),
+            Ask::Analyse(_, _) | Ask::Certify(_, _) => self.of_search(),
             Ask::Check | Ask::Audit | Ask::Draw(_) => self,
         }
     }

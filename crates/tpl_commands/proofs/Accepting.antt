@@ -4,10 +4,9 @@ use Rattle.tpl_journal.specs.declared.counting.Counting.{Counting}
 use Rattle.tpl_model.specs.Certificate.{Accepts}
 use Rattle.tpl_commands.specs.declared.exit.Exit.{Exit}
 use Rattle.tpl_commands.specs.declared.ask.Ask.{Ask}
-use Rattle.tpl_commands.specs.declared.ask.Ask.TheVariants.{Check, Analyse, AnalyseIn, Certify, Audit}
+use Rattle.tpl_commands.specs.declared.ask.Ask.TheVariants.{Check, Analyse, Certify, Audit}
 use Rattle.tpl_commands.specs.declared.exit.Exit.TheVariants.{Success}
 use Rattle.tpl_analyser.specs.declared.form.Form.{Form}
-use Rattle.tpl_analyser.specs.declared.form.Form.TheVariants.{Full}
 use Rattle.tpl_commands.specs.Auditing.{IsAudit, NamesNoFailure}
 use Rattle.tpl_commands.specs.Certifying.{IsCertified, IsCertifying}
 use Rattle.tpl_commands.specs.Checking.{ClaimsHold, IsVerdict}
@@ -28,15 +27,9 @@ module _ {R W : Type 0} (ask : Ask) (remaining : R → Option (List ℕ)) (from_
       (λ doc text verdict. let v : IsVerdict doc Success text = subst (λ (x : Exit). IsVerdict doc x text) e verdict in (v.0.accepted, v.0.hold, v.1))
       (where_asked Check is)
 
-  finds : (depth : ℕ) (form : Form) → Responds (answers_of (AnalyseIn depth form)) remaining from_old from_new contents old new result → result ≡ Success → Found remaining from_old from_new contents old new depth form
-  finds depth form given e = tells remaining from_old from_new contents old new result (IsSearching depth form) (IsCertificate depth form) (inl e)
-      (λ doc text found. subst (λ (x : Exit). IsSearching depth form doc x text) e found) given
-
-  pub finds_full : (depth : ℕ) → ask ≡ Analyse depth → result ≡ Success → Found remaining from_old from_new contents old new depth Full
-  finds_full depth is = finds depth Full (where_asked (Analyse depth) is)
-
-  pub finds_in : (depth : ℕ) (form : Form) → ask ≡ AnalyseIn depth form → result ≡ Success → Found remaining from_old from_new contents old new depth form
-  finds_in depth form is = finds depth form (where_asked (AnalyseIn depth form) is)
+  pub finds : (depth : ℕ) (form : Form) → ask ≡ Analyse depth form → result ≡ Success → Found remaining from_old from_new contents old new depth form
+  finds depth form is e = tells remaining from_old from_new contents old new result (IsSearching depth form) (IsCertificate depth form) (inl e)
+      (λ doc text found. subst (λ (x : Exit). IsSearching depth form doc x text) e found) (where_asked (Analyse depth form) is)
 
   pub certifies : (depth : ℕ) (form : Form) → ask ≡ Certify depth form → result ≡ Success → Certified remaining from_old from_new contents old new depth form
   certifies depth form is e = tells remaining from_old from_new contents old new result (IsCertifying depth form) (IsCertified depth form) (inl e)

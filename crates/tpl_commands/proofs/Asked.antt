@@ -6,7 +6,7 @@ use Rattle.tpl_draw.specs.declared.language.Language.{Language}
 use Rattle.tpl_reader.specs.Document.{DocumentValue, Spells}
 use Rattle.tpl_reader.specs.SeenDocument.{doc_of}
 use Rattle.tpl_commands.specs.declared.ask.Ask.{Ask}
-use Rattle.tpl_commands.specs.declared.ask.Ask.TheVariants.{Check, Analyse, AnalyseIn, Certify, Audit, Draw}
+use Rattle.tpl_commands.specs.declared.ask.Ask.TheVariants.{Check, Analyse, Certify, Audit, Draw}
 use Rattle.tpl_commands.specs.declared.exit.Exit.{Exit}
 use Rattle.tpl_commands.specs.declared.finding.Finding.{Finding}
 use Rattle.tpl_commands.specs.declared.finding.Finding.TheVariants.{Unread, Read}
@@ -33,16 +33,11 @@ module _ (input : List ℕ) (doc : DocumentValue) (spelled : Spells input doc) (
   found_answers Check (Searched s) is answer = absurd is
   found_answers Check (Certified s) is answer = absurd is
   found_answers Check (Audited a) is answer = absurd is
-  found_answers (Analyse d) (Checked v) is answer = absurd is
-  found_answers (Analyse d) (Drawn m v) is answer = absurd is
-  found_answers (Analyse d) (Searched s) is answer = inl (doc, spelled, searching s.depth d s.form Full doc exit text is.0 is.1 answer.0)
-  found_answers (Analyse d) (Certified s) is answer = absurd is
-  found_answers (Analyse d) (Audited a) is answer = absurd is
-  found_answers (AnalyseIn d f) (Checked v) is answer = absurd is
-  found_answers (AnalyseIn d f) (Drawn m v) is answer = absurd is
-  found_answers (AnalyseIn d f) (Searched s) is answer = inl (doc, spelled, searching s.depth d s.form f doc exit text is.0 is.1 answer.0)
-  found_answers (AnalyseIn d f) (Certified s) is answer = absurd is
-  found_answers (AnalyseIn d f) (Audited a) is answer = absurd is
+  found_answers (Analyse d f) (Checked v) is answer = absurd is
+  found_answers (Analyse d f) (Drawn m v) is answer = absurd is
+  found_answers (Analyse d f) (Searched s) is answer = inl (doc, spelled, searching s.depth d s.form f doc exit text is.0 is.1 answer.0)
+  found_answers (Analyse d f) (Certified s) is answer = absurd is
+  found_answers (Analyse d f) (Audited a) is answer = absurd is
   found_answers (Certify d f) (Checked v) is answer = absurd is
   found_answers (Certify d f) (Drawn m v) is answer = absurd is
   found_answers (Certify d f) (Searched s) is answer = absurd is
@@ -61,8 +56,7 @@ module _ (input : List ℕ) (doc : DocumentValue) (spelled : Spells input doc) (
 
 unread_answers : (ask : Ask) (input : List ℕ) (exit : Exit) (text : List ℕ) → NoDocument input exit text → answers_of ask input exit text
 unread_answers Check input exit text none = inr none
-unread_answers (Analyse d) input exit text none = inr none
-unread_answers (AnalyseIn d f) input exit text none = inr none
+unread_answers (Analyse d f) input exit text none = inr none
 unread_answers (Certify d f) input exit text none = inr none
 unread_answers Audit input exit text none = inr none
 unread_answers (Draw l) input exit text none = inr none

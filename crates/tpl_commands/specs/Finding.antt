@@ -7,7 +7,7 @@ use Rattle.tpl_reader.specs.Document.{DocumentValue, Spells, IsFault}
 use Rattle.tpl_reader.specs.SeenDocument.{doc_of}
 use Rattle.tpl_reader.specs.declared.fault.ReadFault.TheVariants as read
 use Rattle.tpl_commands.specs.declared.ask.Ask.{Ask}
-use Rattle.tpl_commands.specs.declared.ask.Ask.TheVariants.{Check, Analyse, AnalyseIn, Certify, Audit, Draw}
+use Rattle.tpl_commands.specs.declared.ask.Ask.TheVariants.{Check, Analyse, Certify, Audit, Draw}
 use Rattle.tpl_commands.specs.declared.exit.Exit.{Exit}
 use Rattle.tpl_commands.specs.declared.exit.Exit.TheVariants.{Unreadable}
 use Rattle.tpl_commands.specs.declared.finding.Finding.{Finding}
@@ -39,8 +39,7 @@ IsFindingOf input (Read document found) =
 -- this was to be found where this is asked
 abbrev pub IsFoundFor : Ask → Found → Type 0
 IsFoundFor Check (Checked verdict) = Unit {0}
-IsFoundFor (Analyse depth) (Searched search) = (search.depth ≡ depth) × (search.form ≡ Full)
-IsFoundFor (AnalyseIn depth form) (Searched search) = (search.depth ≡ depth) × (search.form ≡ form)
+IsFoundFor (Analyse depth form) (Searched search) = (search.depth ≡ depth) × (search.form ≡ form)
 IsFoundFor (Certify depth form) (Certified search) = (search.depth ≡ depth) × (search.form ≡ form)
 IsFoundFor Audit (Audited audit) = Unit {0}
 IsFoundFor (Draw language) (Drawn drawn verdict) = drawn ≡ language

@@ -4,12 +4,11 @@ use Rattle.tpl_journal.specs.declared.counting.Counting.{Counting}
 use Rattle.tpl_model.specs.Certificate.{Accepts}
 use Rattle.tpl_commands.specs.Rules.{is_judged_widely}
 use Rattle.tpl_commands.specs.declared.ask.Ask.{Ask}
-use Rattle.tpl_commands.specs.declared.ask.Ask.TheVariants.{Check, Analyse, AnalyseIn, Certify, Audit, Draw}
+use Rattle.tpl_commands.specs.declared.ask.Ask.TheVariants.{Check, Analyse, Certify, Audit, Draw}
 use Rattle.tpl_commands.specs.Documents.{Tells}
 use Rattle.tpl_commands.specs.Responding.{Answers}
 use Rattle.tpl_commands.specs.Checking.{Checks, ClaimsHold}
 use Rattle.tpl_analyser.specs.declared.form.Form.{Form}
-use Rattle.tpl_analyser.specs.declared.form.Form.TheVariants.{Full}
 use Rattle.tpl_commands.specs.Searching.{Finds, IsCertificate}
 use Rattle.tpl_commands.specs.Certifying.{Certifies, IsCertified}
 use Rattle.tpl_commands.specs.Drawing.{Draws}
@@ -19,8 +18,7 @@ use Rattle.tpl_commands.specs.declared.exit.Exit.{Exit}
 -- the answer to what is asked of a document
 abbrev pub answers_of : Ask → Answers
 answers_of Check = Checks
-answers_of (Analyse depth) = Finds depth Full
-answers_of (AnalyseIn depth form) = Finds depth form
+answers_of (Analyse depth form) = Finds depth form
 answers_of (Certify depth form) = Certifies depth form
 answers_of Audit = Audits
 answers_of (Draw language) = Draws language

@@ -8,10 +8,8 @@ use tpl_draw::Language;
 pub enum Ask {
     /// Is its certificate accepted?
     Check,
-    /// Which certificate do its claims have, with at most this many splits on each path?
-    Analyse(Depth),
     /// Which certificate of this form do its claims have, with at most this many splits on each path?
-    AnalyseIn(Depth, Form),
+    Analyse(Depth, Form),
     /// What is the document with such a certificate in place of its own?
     Certify(Depth, Form),
     /// Is its journal a run, is that complete, and where does a claim fail?

@@ -20,7 +20,7 @@ use crate::rules::rules_of;
 use crate::searching::{Searched, found_answer, search};
 use crate::unreadable::unreadable_answer;
 use std::alloc::{AllocError, Global};
-use tpl_analyser::{Form, Watch};
+use tpl_analyser::Watch;
 use tpl_checker::check;
 use tpl_draw::Language;
 use tpl_model::CertFault;
@@ -66,11 +66,7 @@ fn found_in<T: Watch>(
     let rules = rules_of(document);
     match ask {
         Ask::Check => Ok(Found::Checked(check(graph, claims, certificate, rules))),
-        Ask::Analyse(depth) => {
-            let searched = search(alloc, document, depth, Form::Full, watch)?;
-            Ok(Found::Searched(searched))
-        }
-        Ask::AnalyseIn(depth, form) => {
+        Ask::Analyse(depth, form) => {
             let searched = search(alloc, document, depth, form, watch)?;
             Ok(Found::Searched(searched))
         }

@@ -56,9 +56,7 @@ pub fn serve<R: Read, W: Write, L: Listen>(
     // whatever comes from outside; and so it is where a certificate is written.
     ensures accepted { ask ≡ Ask.Check → result ≡ Exit.Success
         → Accepted R.remaining from.old from.new W.contents to.old to.new }
-    ensures found { (depth : ℕ) → ask ≡ Ask.Analyse depth → result ≡ Exit.Success
-        → Found R.remaining from.old from.new W.contents to.old to.new depth Form.Full }
-    ensures found_in { (depth : ℕ) → (form : Form) → ask ≡ Ask.AnalyseIn depth form
+    ensures found { (depth : ℕ) → (form : Form) → ask ≡ Ask.Analyse depth form
         → result ≡ Exit.Success
         → Found R.remaining from.old from.new W.contents to.old to.new depth form }
     ensures certified { (depth : ℕ) → (form : Form) → ask ≡ Ask.Certify depth form

@@ -1,4 +1,4 @@
-use Rattle.tpl_commands.proofs.Accepting.{accepts, audits, certifies, finds_full, finds_in}
+use Rattle.tpl_commands.proofs.Accepting.{accepts, audits, certifies, finds}
 use Rattle.tpl_commands.proofs.serving.serve.Goals as goal
 
 pub returns-clause-accepted : goal.returns-clause-accepted
@@ -7,11 +7,7 @@ returns-clause-accepted g c =
 
 pub returns-clause-found : goal.returns-clause-found
 returns-clause-found g c =
-    finds_full c.args.ask g.R.Read.remaining c.args.from.now c.respond.new.from g.W.Write.contents c.args.to.now c.respond.new.to c.respond.result c.respond.ensures.responds
-
-pub returns-clause-found_in : goal.returns-clause-found_in
-returns-clause-found_in g c =
-    finds_in c.args.ask g.R.Read.remaining c.args.from.now c.respond.new.from g.W.Write.contents c.args.to.now c.respond.new.to c.respond.result c.respond.ensures.responds
+    finds c.args.ask g.R.Read.remaining c.args.from.now c.respond.new.from g.W.Write.contents c.args.to.now c.respond.new.to c.respond.result c.respond.ensures.responds
 
 pub returns-clause-certified : goal.returns-clause-certified
 returns-clause-certified g c =
