@@ -3,6 +3,7 @@
 #![tactic(auto)]
 
 mod ask;
+mod bell;
 mod closing;
 mod crew;
 mod open;

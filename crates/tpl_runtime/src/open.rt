@@ -5,11 +5,12 @@ ghost use Rattle.tpl_draft.specs.Named.{all_may_fail};
 ghost use Rattle.tpl_queue.specs.Tally.{new_tally};
 ghost use Rattle.tpl_items.specs.Items.{AreItems, RefusesItems};
 
+use crate::bell::Bell;
 use crate::queue::{ItemPass, ItemQueue};
 use crate::session::Session;
 use crate::shared::Shared;
 use std::alloc::{AllocError, Global};
-use std::sync::{Arc, Condvar, Mutex};
+use std::sync::{Arc, Mutex};
 use tpl_graph::Graph;
 use tpl_hall::{Cells, Hall, cells};
 use tpl_items::{Children, Item, OpenWhy, Stock, refusal};
@@ -83,7 +84,7 @@ impl<'g, K: Drop, W: Item<K>> Session<'g, K, W> {
                     seats,
                     halted: false,
                 }),
-                moved: Condvar::new(),
+                moved: Bell::new(),
                 queue,
                 cells,
             }),

@@ -13,16 +13,36 @@ ghost use Rattle.tpl_hall.specs.Stays.{Leaves};
 ghost use Rattle.tpl_hall.specs.declared.seat.SeatFault.TheVariants.{BadActor};
 ghost use Rattle.tpl_hall.specs.declared.sight.Sight.TheVariants.{At};
 
+use crate::bell::Bell;
 use crate::closing::{CloseFault, Report, settle};
 use crate::queue::{ItemPass, ItemQueue};
 use crate::shared::{Halting, Hand, Held, Shared, Turn};
 use std::alloc::Global;
+use std::hint::spin_loop;
 use std::marker::Model;
-use std::sync::{Condvar, Mutex, Wait};
+use std::sync::{Mutex, MutexGuard, Wait};
+use std::thread::yield_now;
 use tpl_graph::Graph;
 use tpl_hall::{Asked, Cells, Ended, Looked, Seat, SeatFault, Stint, is_seat};
 use tpl_items::Item;
 use tpl_model::{Actor, Inputs, TaskId, TokenId};
+
+/// How often a thread looks whether the lock is free before it sleeps, and how many of these looks follow each other
+/// closely.
+const LOOKS: u32 = 1024;
+
+const CLOSE_LOOKS: u32 = 24;
+
+/// Lets a moment pass after this many looks: a little more each time, and then as long as other threads have work.
+fn rest(looks: u32) {
+    if looks >= CLOSE_LOOKS {
+        yield_now();
+        return;
+    }
+    for _pause in 0..looks {
+        spin_loop();
+    }
+}
 
 /// A run that threads make together. Contracts see the graph and the inputs with which it was opened, and the name of
 /// its queue. What lies under its lock changes under every caller, so no contract names it: what a caller knows of it
@@ -32,7 +52,7 @@ pub struct Session<'g, K, W> {
     pub(crate) graph: &'g Graph,
     pub(crate) inputs: Inputs,
     pub(crate) shared: Mutex<Shared<'g, K, W>>,
-    pub(crate) moved: Condvar,
+    pub(crate) moved: Bell,
     pub(crate) queue: ItemQueue<W>,
     pub(crate) cells: Cells,
 }
@@ -48,6 +68,18 @@ impl<'g, K, W> Model for Session<'g, K, W> {
 }
 
 impl<'g, K: Drop, W: Item<K>> Session<'g, K, W> {
+    /// Takes the lock. It looks for a while before it sleeps: sections are short, and a lock for which a thread sleeps is
+    /// handed to that thread, so that all others wait until it is awake.
+    fn locked<R: Wait>(&self, rt: &R) -> MutexGuard<'_, Shared<'g, K, W>> {
+        for looks in 0..LOOKS {
+            if let Some(shared) = self.shared.try_lock() {
+                return shared;
+            }
+            rest(looks);
+        }
+        self.shared.lock(rt)
+    }
+
     /// A seat for an actor that has none yet. It has room for all events of a run.
     pub fn seat<R: Wait>(&self, rt: &R, alloc: Global, actor: Actor) -> Result<Seat, SeatFault>
         ensures seat { IfOk result (λ seat. (seat.actor ≡ actor) × (seat.mine ≡ [])
@@ -59,7 +91,7 @@ impl<'g, K: Drop, W: Item<K>> Session<'g, K, W> {
         if !is_seat(actor) {
             return Err(SeatFault::BadActor);
         }
-        let mut shared = self.shared.lock(rt);
+        let mut shared = self.locked(rt);
         shared.seat(alloc, actor, self.graph)
     }
 
@@ -71,7 +103,7 @@ impl<'g, K: Drop, W: Item<K>> Session<'g, K, W> {
             × (seat.new ≡ record seat.old { last = Some (place, At task status) })) (seat.new ≡
             seat.old) }
     {
-        let shared = self.shared.lock(rt);
+        let shared = self.locked(rt);
         shared.hall.look(self.graph, &self.inputs, seat, task)
     }
 
@@ -90,10 +122,10 @@ impl<'g, K: Drop, W: Item<K>> Session<'g, K, W> {
         ensures room { seat.new.room ≡ seat.old.room }
         ensures asked { Asks self.now.graph.graph self.now.inputs seat.old seat.new token result }
     {
-        let mut shared = self.shared.lock(rt);
+        let mut shared = self.locked(rt);
         let asked = shared.ask(rt, self.graph, &self.inputs, &self.queue, pass, seat, token);
         drop(shared);
-        self.moved.notify_all();
+        self.moved.ring();
         asked
     }
 
@@ -104,10 +136,10 @@ impl<'g, K: Drop, W: Item<K>> Session<'g, K, W> {
 
     /// Halts the session, and gives what says so.
     pub(crate) fn halted<R: Wait>(&self, rt: &R) -> Halting {
-        let mut shared = self.shared.lock(rt);
+        let mut shared = self.locked(rt);
         let halting = shared.halt();
         drop(shared);
-        self.moved.notify_all();
+        self.moved.ring();
         halting
     }
 
@@ -162,7 +194,7 @@ impl<'g, K: Drop, W: Item<K>> Session<'g, K, W> {
         let mut hand = Hand::New;
         for _ in rt.forever() {
             let brought = self.take(rt, &mut pass, hand);
-            let mut shared = self.shared.lock(rt);
+            let mut shared = self.locked(rt);
             match shared.turns(
                 rt,
                 self.graph,
@@ -175,21 +207,23 @@ impl<'g, K: Drop, W: Item<K>> Session<'g, K, W> {
             ) {
                 Turn::Go(held) => {
                     drop(shared);
-                    self.moved.notify_all();
+                    self.moved.ring();
                     hand = Hand::With(held);
                 }
                 Turn::Call(task, item) => {
                     drop(shared);
-                    self.moved.notify_all();
+                    self.moved.ring();
                     hand = Hand::Called(task, item.call());
                 }
                 Turn::Wait => {
-                    let _again = self.moved.wait(rt, shared);
+                    let heard = self.moved.rings();
+                    drop(shared);
+                    self.moved.wait(rt, heard);
                     hand = Hand::With(Held::Free);
                 }
                 Turn::Over(ended) => {
                     drop(shared);
-                    self.moved.notify_all();
+                    self.moved.ring();
                     return (seat, pass, ended);
                 }
             }
