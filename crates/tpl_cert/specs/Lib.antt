@@ -7,6 +7,5 @@ pub mod Coding
 pub mod Falls
 pub mod Naming
 pub mod Laws
-pub mod Grammar
 pub mod Spelled
 pub mod Written
