@@ -30,8 +30,7 @@ pub mod FaultsDecided
 pub mod WiderDecided
 pub mod FirstFault
 pub mod ForCode
-pub mod AllowedDecided
-pub mod AllowedSettled
+pub mod RunsDecided
 pub mod GraphDecided
 pub mod FailingLemmas
 pub mod Wider
