@@ -4,6 +4,8 @@ use Rattle.std.proofs.lemmas.Slice.Eq.{bytes_eq-Decides}
 use Rattle.serde_json.specs.Data.{Data, null, boolean, number, string, array, object}
 use Rattle.serde_json.specs.Find.{get, as_str, as_bool}
 use Rattle.tpl_model.specs.declared.finals.Finals.{Finals}
+use Rattle.tpl_model.specs.declared.claim.Property.{Property}
+use Rattle.tpl_model.specs.declared.claim.Property.TheVariants.{Final as EndsIn, After, Observed, Never, Excludes, Runs}
 use Rattle.tpl_json.specs.Members.{◌>>=◌, only_if, has_only, text_in, list_in, list_or_none, each}
 use Rattle.tpl_json.specs.Grammar.{HasMember, IfThere, IsArray, IsTexts, AllRead}
 use Rattle.tpl_json.proofs.Arrays.{bind_some, some_is, each_cons, each_empty, each_nothing, each_parts}
@@ -13,7 +15,7 @@ use Rattle.tpl_parts.specs.declared.version.Version.{Version}
 use Rattle.tpl_parts.specs.Versions.{is_third, claim_remarks}
 use Rattle.tpl_parts.specs.Remarks.{claim_name, note_at}
 use Rattle.tpl_parts.proofs.RemarkLaws.{no_remark, name_sound, name_read, note_sound, note_read}
-use Rattle.tpl_parts.specs.NamedClaims.{NamedGiven, GivenInput, GivenQuiet, GivenEnded, GivenSucceeds, GivenNoFailure, GivenNoRequest, NamedProperty, EndsIn, After, Observed, Never, Excludes, Runs, NamedClaim}
+use Rattle.tpl_parts.specs.NamedClaims.{NamedGiven, GivenInput, GivenQuiet, GivenEnded, GivenSucceeds, GivenNoFailure, GivenNoRequest, NamedClaim}
 use Rattle.tpl_parts.specs.Claims.{input_at, quiet_at, some_finals, ended_at, succeeds_at, given_word, end_or_job, later_given, given_at, final_claim, two_texts, after_claim, observed_claim, never_claim, excludes_claim, runs_claim, property_at, claim_at}
 use Rattle.tpl_parts.specs.ClaimGrammar.{IsGiven, AreSomeFinals, IsProperty, IsClaim}
 
@@ -167,7 +169,7 @@ given_read v d GivenNoRequest p = rw (p.1, p.0) request_read
 
 -- ---- what a claim says
 
-final_sound : (v : Version) (d : Data) (s : NamedProperty) → final_claim v d ≡ Some s → IsProperty v d s
+final_sound : (v : Version) (d : Data) (s : Property (List ℕ)) → final_claim v d ≡ Some s → IsProperty v d s
 unfolding final_claim
 final_sound v d s e =
     let a = bind_some (only_if (has_only (codes "given" ∷ codes "final" ∷ codes "in" ∷ claim_remarks v) d)) _ s e in
@@ -175,7 +177,7 @@ final_sound v d s e =
     let c = bind_some (get (codes "in") d >>= list_in) _ s b.2 in
     let f = bind_some (some_finals c.0) _ s c.2 in
     let m = bind_some (get (codes "in") d) list_in c.0 c.1 in
-    subst (λ (x : NamedProperty). IsProperty v d x) (some_is (EndsIn b.0 f.0) s f.2)
+    subst (λ (x : Property (List ℕ)). IsProperty v d x) (some_is (EndsIn b.0 f.0) s f.2)
     (only_is _ _ a.1, text_is (codes "final") d b.0 b.1, (m.0, m.1, (c.0, m.2, some_finals_sound c.0 f.0 f.1)))
 
 two_sound : (ds : List Data) (p : List ℕ × List ℕ) → two_texts ds ≡ Some p → ds ≡ map string (p.0 ∷ p.1 ∷ [])
@@ -195,45 +197,45 @@ pair_sound name d ds p e f =
     let m = bind_some (get name d) list_in ds e in
     (m.0, m.1, m.2 ∙ ap (λ (x : List Data). some x) (two_sound ds p f))
 
-after_sound : (v : Version) (d : Data) (s : NamedProperty) → after_claim v d ≡ Some s → IsProperty v d s
+after_sound : (v : Version) (d : Data) (s : Property (List ℕ)) → after_claim v d ≡ Some s → IsProperty v d s
 unfolding after_claim
 after_sound v d s e =
     let a = bind_some (only_if (has_only (codes "given" ∷ codes "after" ∷ claim_remarks v) d)) _ s e in
     let b = bind_some (get (codes "after") d >>= list_in) _ s a.2 in
     let c = bind_some (two_texts b.0) _ s b.2 in
-    subst (λ (x : NamedProperty). IsProperty v d x) (some_is (After c.0.0 c.0.1) s c.2) (only_is _ _ a.1, pair_sound (codes "after") d b.0 c.0 b.1 c.1)
+    subst (λ (x : Property (List ℕ)). IsProperty v d x) (some_is (After c.0.0 c.0.1) s c.2) (only_is _ _ a.1, pair_sound (codes "after") d b.0 c.0 b.1 c.1)
 
-observed_sound : (v : Version) (d : Data) (s : NamedProperty) → observed_claim v d ≡ Some s → IsProperty v d s
+observed_sound : (v : Version) (d : Data) (s : Property (List ℕ)) → observed_claim v d ≡ Some s → IsProperty v d s
 unfolding observed_claim
 observed_sound v d s e =
     let a = bind_some (only_if (has_only (codes "given" ∷ codes "observed" ∷ claim_remarks v) d)) _ s e in
     let b = bind_some (text_in (codes "observed") d) _ s a.2 in
-    subst (λ (x : NamedProperty). IsProperty v d x) (some_is (Observed b.0) s b.2) (only_is _ _ a.1, text_is (codes "observed") d b.0 b.1)
+    subst (λ (x : Property (List ℕ)). IsProperty v d x) (some_is (Observed b.0) s b.2) (only_is _ _ a.1, text_is (codes "observed") d b.0 b.1)
 
-never_sound : (v : Version) (d : Data) (s : NamedProperty) → never_claim v d ≡ Some s → IsProperty v d s
+never_sound : (v : Version) (d : Data) (s : Property (List ℕ)) → never_claim v d ≡ Some s → IsProperty v d s
 unfolding never_claim
 never_sound v d s e =
     let a = bind_some (only_if (has_only (codes "given" ∷ codes "never" ∷ claim_remarks v) d)) _ s e in
     let b = bind_some (text_in (codes "never") d) _ s a.2 in
-    subst (λ (x : NamedProperty). IsProperty v d x) (some_is (Never b.0) s b.2) (only_is _ _ a.1, text_is (codes "never") d b.0 b.1)
+    subst (λ (x : Property (List ℕ)). IsProperty v d x) (some_is (Never b.0) s b.2) (only_is _ _ a.1, text_is (codes "never") d b.0 b.1)
 
-excludes_sound : (v : Version) (d : Data) (s : NamedProperty) → excludes_claim v d ≡ Some s → IsProperty v d s
+excludes_sound : (v : Version) (d : Data) (s : Property (List ℕ)) → excludes_claim v d ≡ Some s → IsProperty v d s
 unfolding excludes_claim
 excludes_sound v d s e =
     let a = bind_some (only_if (has_only (codes "given" ∷ codes "excludes" ∷ claim_remarks v) d)) _ s e in
     let b = bind_some (get (codes "excludes") d >>= list_in) _ s a.2 in
     let c = bind_some (two_texts b.0) _ s b.2 in
-    subst (λ (x : NamedProperty). IsProperty v d x) (some_is (Excludes c.0.0 c.0.1) s c.2) (only_is _ _ a.1, pair_sound (codes "excludes") d b.0 c.0 b.1 c.1)
+    subst (λ (x : Property (List ℕ)). IsProperty v d x) (some_is (Excludes c.0.0 c.0.1) s c.2) (only_is _ _ a.1, pair_sound (codes "excludes") d b.0 c.0 b.1 c.1)
 
-runs_sound : (v : Version) (d : Data) (s : NamedProperty) → runs_claim v d ≡ Some s → IsProperty v d s
+runs_sound : (v : Version) (d : Data) (s : Property (List ℕ)) → runs_claim v d ≡ Some s → IsProperty v d s
 unfolding runs_claim
 runs_sound v d s e =
     let t = bind_some (only_if (is_third v)) _ s e in
     let a = bind_some (only_if (has_only (codes "given" ∷ codes "runs" ∷ claim_remarks v) d)) _ s t.2 in
     let b = bind_some (text_in (codes "runs") d) _ s a.2 in
-    subst (λ (x : NamedProperty). IsProperty v d x) (some_is (Runs b.0) s b.2) (only_is _ _ t.1, only_is _ _ a.1, text_is (codes "runs") d b.0 b.1)
+    subst (λ (x : Property (List ℕ)). IsProperty v d x) (some_is (Runs b.0) s b.2) (only_is _ _ t.1, only_is _ _ a.1, text_is (codes "runs") d b.0 b.1)
 
-property_choice : (a b c f g : Bool) (v : Version) (d : Data) (s : NamedProperty)
+property_choice : (a b c f g : Bool) (v : Version) (d : Data) (s : Property (List ℕ))
     → cond a (final_claim v d) (cond b (after_claim v d) (cond c (observed_claim v d) (cond f (never_claim v d) (cond g (runs_claim v d) (excludes_claim v d))))) ≡ Some s → IsProperty v d s
 property_choice true b c f g v d s e = final_sound v d s e
 property_choice false true c f g v d s e = after_sound v d s e
@@ -242,12 +244,12 @@ property_choice false false false true g v d s e = never_sound v d s e
 property_choice false false false false true v d s e = runs_sound v d s e
 property_choice false false false false false v d s e = excludes_sound v d s e
 
-property_sound : (v : Version) (d : Data) (s : NamedProperty) → property_at v d ≡ Some s → IsProperty v d s
+property_sound : (v : Version) (d : Data) (s : Property (List ℕ)) → property_at v d ≡ Some s → IsProperty v d s
 unfolding property_at
 property_sound v d s e =
     property_choice (is_some (get (codes "final") d)) (is_some (get (codes "after") d)) (is_some (get (codes "observed") d)) (is_some (get (codes "never") d)) (is_some (get (codes "runs") d)) v d s e
 
-property_read : (v : Version) (d : Data) (s : NamedProperty) → IsProperty v d s → property_at v d ≡ Some s
+property_read : (v : Version) (d : Data) (s : Property (List ℕ)) → IsProperty v d s → property_at v d ≡ Some s
 unfolding property_at final_claim after_claim observed_claim never_claim excludes_claim runs_claim two_texts text_in
 property_read v d (EndsIn task finals) p = rw (p.1, p.0, p.2.1, p.2.2.1, some_finals_read p.2.2.0 finals p.2.2.2) refl
 property_read v d (After a b) p =

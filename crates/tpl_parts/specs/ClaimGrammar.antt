@@ -1,13 +1,15 @@
 -- Which JSON values claims are: members by name, in any order.
-use Rattle.std.specs.Prelude.{◌≡◌, ◌<◌, true, List, [], ◌∷◌, codes, length}
+use Rattle.std.specs.Prelude.{◌≡◌, ℕ, ◌<◌, true, List, [], ◌∷◌, codes, length}
 use Rattle.serde_json.specs.Data.{Data, boolean, string}
 use Rattle.serde_json.specs.Find.{get}
 use Rattle.tpl_model.specs.declared.finals.Finals.{Finals}
+use Rattle.tpl_model.specs.declared.claim.Property.{Property}
+use Rattle.tpl_model.specs.declared.claim.Property.TheVariants.{Final as EndsIn, After, Observed, Never, Excludes, Runs}
 use Rattle.tpl_json.specs.Grammar.{HasOnly, HasMember, HasText, IfThere, IsArray, IsTexts, AreFinals, AllRead}
 use Rattle.tpl_parts.specs.declared.version.Version.{Version}
 use Rattle.tpl_parts.specs.Versions.{is_third, claim_remarks}
 use Rattle.tpl_parts.specs.RemarkGrammar.{HasNote, IsClaimName}
-use Rattle.tpl_parts.specs.NamedClaims.{NamedGiven, GivenInput, GivenQuiet, GivenEnded, GivenSucceeds, GivenNoFailure, GivenNoRequest, NamedProperty, EndsIn, After, Observed, Never, Excludes, Runs, NamedClaim}
+use Rattle.tpl_parts.specs.NamedClaims.{NamedGiven, GivenInput, GivenQuiet, GivenEnded, GivenSucceeds, GivenNoFailure, GivenNoRequest, NamedClaim}
 
 -- the names of one final status at least
 abbrev pub AreSomeFinals : Finals → List Data → Type 0
@@ -24,7 +26,7 @@ IsGiven version d GivenNoFailure = (is_third version ≡ true) × (d ≡ string 
 IsGiven version d GivenNoRequest = (is_third version ≡ true) × (d ≡ string (codes "no_request"))
 
 -- what a claim says: that a task begins only in version 3
-abbrev pub IsProperty : Version → Data → NamedProperty → Type 0
+abbrev pub IsProperty : Version → Data → Property (List ℕ) → Type 0
 IsProperty version d (EndsIn task finals) =
     HasOnly (codes "given" ∷ codes "final" ∷ codes "in" ∷ claim_remarks version) d × HasText d (codes "final") task × HasMember d (codes "in") (IsArray (AreSomeFinals finals))
 IsProperty version d (After first second) = HasOnly (codes "given" ∷ codes "after" ∷ claim_remarks version) d × HasMember d (codes "after") (IsTexts (first ∷ second ∷ []))

@@ -4,12 +4,14 @@ use Rattle.std.specs.Str.{bytes_eq}
 use Rattle.serde_json.specs.Data.{Data, null, boolean, number, string, array, object}
 use Rattle.serde_json.specs.Find.{get, as_str, as_bool}
 use Rattle.tpl_model.specs.declared.finals.Finals.{Finals}
+use Rattle.tpl_model.specs.declared.claim.Property.{Property}
+use Rattle.tpl_model.specs.declared.claim.Property.TheVariants.{Final as EndsIn, After, Observed, Never, Excludes, Runs}
 use Rattle.tpl_json.specs.Members.{◌>>=◌, only_if, has_only, text_in, list_in, list_or_none, each}
 use Rattle.tpl_json.specs.Finals.{no_finals, finals_at}
 use Rattle.tpl_parts.specs.declared.version.Version.{Version}
 use Rattle.tpl_parts.specs.Versions.{is_third, claim_remarks}
 use Rattle.tpl_parts.specs.Remarks.{claim_name, note_at}
-use Rattle.tpl_parts.specs.NamedClaims.{NamedGiven, GivenInput, GivenQuiet, GivenEnded, GivenSucceeds, GivenNoFailure, GivenNoRequest, NamedProperty, EndsIn, After, Observed, Never, Excludes, Runs, NamedClaim}
+use Rattle.tpl_parts.specs.NamedClaims.{NamedGiven, GivenInput, GivenQuiet, GivenEnded, GivenSucceeds, GivenNoFailure, GivenNoRequest, NamedClaim}
 
 unfoldable pub input_at : Data → Option NamedGiven
 input_at d = do
@@ -65,7 +67,7 @@ given_at version d =
     else if is_third version then later_given d
     else None
 
-unfoldable pub final_claim : Version → Data → Option NamedProperty
+unfoldable pub final_claim : Version → Data → Option (Property (List ℕ))
 final_claim version d = do
   only ← only_if (has_only (codes "given" ∷ codes "final" ∷ codes "in" ∷ claim_remarks version) d)
   task ← text_in (codes "final") d
@@ -81,26 +83,26 @@ two_texts (a ∷ b ∷ []) = do
   Some (first, second)
 two_texts ds = None
 
-unfoldable pub after_claim : Version → Data → Option NamedProperty
+unfoldable pub after_claim : Version → Data → Option (Property (List ℕ))
 after_claim version d = do
   only ← only_if (has_only (codes "given" ∷ codes "after" ∷ claim_remarks version) d)
   list ← get (codes "after") d >>= list_in
   pair ← two_texts list
   Some (After pair.0 pair.1)
 
-unfoldable pub observed_claim : Version → Data → Option NamedProperty
+unfoldable pub observed_claim : Version → Data → Option (Property (List ℕ))
 observed_claim version d = do
   only ← only_if (has_only (codes "given" ∷ codes "observed" ∷ claim_remarks version) d)
   task ← text_in (codes "observed") d
   Some (Observed task)
 
-unfoldable pub never_claim : Version → Data → Option NamedProperty
+unfoldable pub never_claim : Version → Data → Option (Property (List ℕ))
 never_claim version d = do
   only ← only_if (has_only (codes "given" ∷ codes "never" ∷ claim_remarks version) d)
   task ← text_in (codes "never") d
   Some (Never task)
 
-unfoldable pub excludes_claim : Version → Data → Option NamedProperty
+unfoldable pub excludes_claim : Version → Data → Option (Property (List ℕ))
 excludes_claim version d = do
   only ← only_if (has_only (codes "given" ∷ codes "excludes" ∷ claim_remarks version) d)
   list ← get (codes "excludes") d >>= list_in
@@ -108,14 +110,14 @@ excludes_claim version d = do
   Some (Excludes pair.0 pair.1)
 
 -- a claim that only version 3 has
-unfoldable pub runs_claim : Version → Data → Option NamedProperty
+unfoldable pub runs_claim : Version → Data → Option (Property (List ℕ))
 runs_claim version d = do
   third ← only_if (is_third version)
   only ← only_if (has_only (codes "given" ∷ codes "runs" ∷ claim_remarks version) d)
   task ← text_in (codes "runs") d
   Some (Runs task)
 
-unfoldable pub property_at : Version → Data → Option NamedProperty
+unfoldable pub property_at : Version → Data → Option (Property (List ℕ))
 property_at version d =
     if is_some (get (codes "final") d) then final_claim version d
     else if is_some (get (codes "after") d) then after_claim version d
