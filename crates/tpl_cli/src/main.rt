@@ -31,8 +31,10 @@ use std::process::ExitCode;
 use std::sync::Wait;
 use std::thread::{Threads, available_parallelism};
 use std::{env, iter};
-use tpl_commands::{Command, Exit, Loaded, load_watched, put_out_of_memory, serve_watched};
-use tpl_each::{MOST_JOBS, Question, serve_each};
+use tpl_commands::{
+    Asking, Command, Exit, Loaded, Nobody, load_watched, put_out_of_memory, serve_watched,
+};
+use tpl_each::{MOST_JOBS, serve_each};
 use tpl_journal::Counting;
 use tpl_model::Inputs;
 use tpl_reader::Document;
@@ -171,7 +173,10 @@ fn answer<R: Threads + Wait + Sync, I: Read, O: Write>(
             let teller = teller.of_ask(&ask);
             serve_watched(alloc, ask, teller, from, to)
         }
-        Line::Each(ask, jobs) => answer_each(threads, alloc, &Question { ask }, jobs, from, to),
+        Line::Each(ask, jobs) => {
+            let listener = Nobody;
+            answer_each(threads, alloc, &Asking { ask, listener }, jobs, from, to)
+        }
         Line::Run { workers, is_whole } => run(rt, threads, teller, workers, is_whole, from, to),
         Line::Refute {
             claim,

@@ -31,4 +31,4 @@ pub use recorded::{ended_of, times_of};
 pub use responding::{Answered, Command, put_answered, read_input, respond, unread};
 pub use rules::rules_of;
 pub use searching::{Outcome, Searched};
-pub use serving::{serve, serve_watched};
+pub use serving::{Asking, serve, serve_watched};

@@ -17,9 +17,11 @@ use tpl_journal::Counting;
 
 /// What is asked of a document, and who is told how far a search is.
 #[derive(Drop)]
-struct Asking<L> {
-    ask: Ask,
-    listener: L,
+pub struct Asking<L> {
+    /// What is asked.
+    pub ask: Ask,
+    /// Who is told.
+    pub listener: L,
 }
 
 impl<L: Listen> Command for Asking<L> {

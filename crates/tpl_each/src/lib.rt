@@ -7,11 +7,9 @@ mod batch;
 mod gathering;
 mod line;
 mod next;
-mod question;
 mod serving;
 mod slot;
 mod writing;
 
-pub use question::Question;
 pub use serving::serve_each;
 pub use slot::MOST_JOBS;
