@@ -1,6 +1,6 @@
 //! Sets of tokens, of one size.
 
-ghost use Rattle.std.specs.Prelude.{◌≡◌, ◌↔◌, ℕ, ◌<◌, ◌&&◌, ◌||◌, true, nat_eq, IsTrue};
+ghost use Rattle.std.specs.Prelude.{◌≡◌, ◌↔◌, ℕ, ◌<◌, ◌≤◌, ◌&&◌, ◌||◌, true, false, nat_eq, IsTrue};
 ghost use Rattle.tpl_paths.specs.TokenSet.{has_token, no_tokens};
 
 use tpl_model::{MOST_TOKENS, TokenId};
@@ -25,6 +25,13 @@ impl TokenSet {
     {
         let at = token.0 as usize;
         at < MOST_TOKENS && (self.bits >> at) & 1 == 1
+    }
+
+    /// No token from `MOST_TOKENS` on is a member: a caller that needs this calls it, which does nothing.
+    pub fn limit_law(self)
+        ensures { (k : ℕ) → MOST_TOKENS ≤ k → has_token self k ≡ false }
+    {
+        let _ = self.bits;
     }
 
     /// Makes the token a member, if it isn't one.
