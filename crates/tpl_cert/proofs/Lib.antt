@@ -11,3 +11,4 @@ pub mod Nesting
 pub mod Faultless
 pub mod Tokens
 pub mod Texts
+pub mod TokenLists

@@ -10,3 +10,7 @@ pub mod Laws
 pub mod Grammar
 pub mod Spelled
 pub mod Written
+pub mod WideCoding
+pub mod WideTrees
+pub mod WideHeights
+pub mod WideFalls

@@ -12,6 +12,9 @@ mod read;
 mod row;
 mod text;
 mod tree;
+mod wide_limits;
+mod wide_row;
+mod wide_tree;
 
 pub use certificate::Certificate;
 pub use fault::{TreeFault, TreeToFault};
@@ -21,3 +24,6 @@ pub use limits::{MOST_IN_CHAIN, MOST_SPLITS, is_within_limits};
 pub use row::Row;
 pub use text::trees_text;
 pub use tree::{Node, Tree};
+pub use wide_limits::is_within_wide_limits;
+pub use wide_row::WideRow;
+pub use wide_tree::{WideNode, WideTree};
