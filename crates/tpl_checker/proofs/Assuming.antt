@@ -14,7 +14,7 @@ use Rattle.tpl_model.specs.Certificate.{same, with_input, with_end, is_wide}
 use Rattle.tpl_checker.specs.declared.assumptions.Assumptions.{Assumptions}
 use Rattle.tpl_checker.specs.declared.cut.Cut.{Cut}
 use Rattle.tpl_checker.specs.Cut.{left_by}
-use Rattle.tpl_checker.specs.Assumptions.{assumed_of, both, nothing_assumed, with_ended}
+use Rattle.tpl_checker.specs.Assumptions.{assumed_of, both, nothing_assumed, with_kept, with_ended}
 
 and_true : (b : Bool) → b ≡ b && true
 and_true true = refl
@@ -79,6 +79,17 @@ with_cut a cut t f ends only h = λ k. record {
   possible = (assumed_of a).possible;
   quiet = (assumed_of a).quiet;
   cut = λ s e. (h s e ∙ ap (λ z. left_by a.cut s e && (not (nat_eq t s) || z)) (only e)) k;
+  ended = (assumed_of a).ended;
+  sure = (assumed_of a).sure;
+  wide = (assumed_of a).wide;
+}
+
+-- where one more task ends in some of the ways
+pub with_kept_cut : (a : Assumptions) (cut : Cut) (t : ℕ) (ends : Finals) → ((s : ℕ) (e : Final) → left_by cut s e ≡ (left_by a.cut s e && (not (nat_eq t s) || has ends e))) → assumed_of (record a { cut = cut }) ≡ with_kept (assumed_of a) t ends
+with_kept_cut a cut t ends h = λ k. record {
+  possible = (assumed_of a).possible;
+  quiet = (assumed_of a).quiet;
+  cut = λ s e. h s e k;
   ended = (assumed_of a).ended;
   sure = (assumed_of a).sure;
   wide = (assumed_of a).wide;

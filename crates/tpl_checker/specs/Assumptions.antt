@@ -40,6 +40,17 @@ abbrev pub with_own : Assumed → Option ℕ → Assumed
 with_own l None = l
 with_own l (Some k) = with_quiet l k
 
+-- what is assumed where, besides, a task ends in one of these ways
+abbrev pub with_kept : Assumed → ℕ → Finals → Assumed
+with_kept l s ends = record {
+  possible = l.possible;
+  quiet = l.quiet;
+  cut = λ t f. l.cut t f && (not (nat_eq s t) || has ends f);
+  ended = l.ended;
+  sure = l.sure;
+  wide = l.wide;
+}
+
 -- what is assumed where, besides, a task is given to end in one of these ways
 abbrev pub with_ended : Assumed → ℕ → Finals → Assumed
 with_ended l s ends = record {

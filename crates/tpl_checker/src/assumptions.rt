@@ -7,7 +7,7 @@ ghost use Rattle.tpl_draft.specs.Ids.{token_number};
 ghost use Rattle.tpl_model.specs.View.{known, may_have};
 ghost use Rattle.tpl_model.specs.Certificate.{same, with_input, with_end, end_left, is_loud, is_wide};
 ghost use Rattle.tpl_model.specs.Graph.{is_task};
-ghost use Rattle.tpl_checker.specs.Assumptions.{assumed_of, nothing_assumed, with_quiet, with_ended, with_sure};
+ghost use Rattle.tpl_checker.specs.Assumptions.{assumed_of, nothing_assumed, with_quiet, with_kept, with_ended, with_sure};
 
 use crate::cut::Cut;
 use tpl_graph::Graph;
@@ -120,6 +120,14 @@ impl Assumptions {
         self.cut = self.cut.keeping(task, only(status));
     }
 
+    /// Assumes besides that the task, one of the first 1,024, ends in one of these ways if it ends.
+    pub fn keep_ends(&mut self, task: TaskId, ends: Finals)
+        requires { task.0 < 1024 }
+        ensures { assumed_of self.new ≡ with_kept (assumed_of self.old) task.0 ends }
+    {
+        self.cut = self.cut.keeping(task, ends);
+    }
+
     /// The assumptions, and that the task, one of the first 1,024, is given to end in one of these ways if
     /// it ends.
     pub(crate) fn with_ended(&self, task: TaskId, ends: Finals) -> Assumptions
@@ -146,6 +154,13 @@ impl Assumptions {
         ensures { result ≡ end_left (assumed_of self.now) task.0 status }
     {
         self.cut.leaves(task, status) && self.ended.leaves(task, status)
+    }
+
+    /// The splits alone, whatever is given, leave the task this end.
+    pub fn is_left(&self, task: TaskId, status: Final) -> bool
+        ensures { result ≡ (assumed_of self.now).cut task.0 status }
+    {
+        self.cut.leaves(task, status)
     }
 
     /// The wider rules are taken.

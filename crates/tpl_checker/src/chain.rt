@@ -50,7 +50,7 @@ fn leads_to_reader(graph: &Graph, assumed: &Assumptions, task: TaskId, chain: &[
 
 /// The reader continues the task after each way to end that is Faulted, isn't canceled before, and
 /// observes the exception on each path.
-fn reads(graph: &Graph, assumed: &Assumptions, reader: TaskId, task: TaskId) -> bool
+pub fn reads(graph: &Graph, assumed: &Assumptions, reader: TaskId, task: TaskId) -> bool
     requires { is_task graph.now.graph reader.0 }
     ensures { result ≡ reads graph.now.graph (assumed_of assumed.now) reader.0 task.0 }
 {
@@ -71,7 +71,7 @@ fn continues(graph: &Graph, reader: TaskId, task: TaskId) -> bool
 }
 
 /// Each path of the reader's body passes an `observe`, where its antecedent is faulted.
-fn observes(graph: &Graph, assumed: &Assumptions, reader: TaskId) -> bool
+pub fn observes(graph: &Graph, assumed: &Assumptions, reader: TaskId) -> bool
     requires { is_task graph.now.graph reader.0 }
     ensures { result ≡ must_observe (faulted_view graph.now.graph (assumed_of assumed.now) reader.0)
         (body graph.now.graph reader.0) }
@@ -82,7 +82,7 @@ fn observes(graph: &Graph, assumed: &Assumptions, reader: TaskId) -> bool
 
 /// The task takes over what the other carries: it is the parent of an attached child, or waits for
 /// an argument as WhenAll.
-fn takes_over(graph: &Graph, task: TaskId, other: TaskId) -> bool
+pub fn takes_over(graph: &Graph, task: TaskId, other: TaskId) -> bool
     requires { is_task graph.now.graph task.0 }
     ensures { result ≡ takes_over graph.now.graph task.0 other.0 }
 {

@@ -26,7 +26,7 @@ use tpl_model::{Property, Rule, TaskId};
 
 /// Why a leaf fails.
 #[derive(Clone, Copy)]
-pub(crate) enum LeafFault {
+pub enum LeafFault {
     /// The row of the task breaks the rule.
     Breaks(TaskId, Rule),
     /// The leaf is closed and doesn't prove the claim.
@@ -149,7 +149,7 @@ fn broken(
 }
 
 /// The rule that says what may be past the task.
-fn past_rule(graph: &Graph, task: TaskId) -> Rule
+pub fn past_rule(graph: &Graph, task: TaskId) -> Rule
     requires { is_task graph.now.graph task.0 }
     ensures { result ≡ past_rule (kind graph.now.graph task.0) }
 {

@@ -47,7 +47,8 @@ pub(crate) fn proves(
     }
 }
 
-fn ends_only_in(ends: Finals, allowed: Finals) -> bool
+/// Each of the ways to end is one of those allowed.
+pub fn ends_only_in(ends: Finals, allowed: Finals) -> bool
     ensures { result ≡ each_end (λ f. implies (has ends f) (has allowed f)) }
 {
     let ran = implies(ends.ran, allowed.ran);
@@ -89,7 +90,7 @@ fn runs(graph: &Graph, rows: &[Row], task: TaskId) -> bool
 }
 
 /// The task is a root or a continuation.
-fn begins_itself(graph: &Graph, task: TaskId) -> bool
+pub fn begins_itself(graph: &Graph, task: TaskId) -> bool
     requires { is_task graph.now.graph task.0 }
     ensures { result ≡ begins_itself (kind graph.now.graph task.0) }
 {
@@ -124,7 +125,7 @@ fn is_stuck(graph: &Graph, rows: &[Row], task: TaskId) -> bool
 }
 
 /// Each complete run has an end of the task: it is no child.
-fn has_to_end(graph: &Graph, task: TaskId) -> bool
+pub fn has_to_end(graph: &Graph, task: TaskId) -> bool
     requires { is_task graph.now.graph task.0 }
     ensures { result ≡ to_end (kind graph.now.graph task.0) false }
 {

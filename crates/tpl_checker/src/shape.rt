@@ -44,7 +44,7 @@ pub(crate) fn rows_fit(graph: &Graph, rows: &[Row]) -> bool
 }
 
 /// Each id in the row is the graph's, whose tasks are all of these.
-fn row_fits(graph: &Graph, row: &Row, all: &TaskSet) -> bool
+pub fn row_fits(graph: &Graph, row: &Row, all: &TaskSet) -> bool
     requires { (x : ℕ) → mem x all.now ≡ nat_lt x (length graph.now.graph.tasks) }
     ensures { result ≡ (has_tasks graph.now.graph row.now.before
         && (has_tasks graph.now.graph row.now.past && has_tasks graph.now.graph row.now.chain)) }
@@ -56,7 +56,7 @@ fn row_fits(graph: &Graph, row: &Row, all: &TaskSet) -> bool
 }
 
 /// All tasks of the graph.
-fn all_tasks(graph: &Graph) -> TaskSet
+pub fn all_tasks(graph: &Graph) -> TaskSet
     ensures { (x : ℕ) → mem x result ≡ nat_lt x (length graph.now.graph.tasks) }
 {
     let mut all = TaskSet::empty();

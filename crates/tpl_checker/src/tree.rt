@@ -106,7 +106,8 @@ fn leaf_at<'c>(
     }
 }
 
-fn placed(claim: usize, leaf: usize, fault: LeafFault) -> CertFault
+/// The fault of a leaf, with the numbers of claim and leaf.
+pub fn placed(claim: usize, leaf: usize, fault: LeafFault) -> CertFault
     ensures { Some result ≡ at_leaf claim leaf (Some (why fault)) }
 {
     match fault {
