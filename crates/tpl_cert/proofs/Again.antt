@@ -1,108 +1,58 @@
 -- What is written for a tree spells the tree.
-use Rattle.std.proofs.Common.{◌≡◌, ℕ, List, [], ◌∷◌, map, Bool, true, false, refl, ap}
+use Rattle.std.proofs.Common.{◌≡◌, ℕ, List, [], ◌∷◌, map, Bool, true, false, Some, refl, ◌∙◌}
 use Rattle.std.specs.List.{All, list_all, list_any}
 use Rattle.std.proofs.lemmas.List.Elements.{All-nil, All-cons, All-head, All-tail}
 use Rattle.tpl_model.proofs.Truths.{and_first, and_second}
-use Rattle.serde_json.specs.Data.{Data, string, array}
-use Rattle.serde_json.specs.View.{items_of}
-use Rattle.tpl_model.specs.declared.finals.Final.{Final}
-use Rattle.tpl_model.specs.declared.finals.Final.TheVariants.{RanToCompletion, Canceled, Faulted}
-use Rattle.tpl_model.specs.Finals.{has, is_final, final_name}
+use Rattle.serde_json.specs.Data.{string}
+use Rattle.serde_json.specs.Find.{as_str}
 use Rattle.tpl_model.specs.Members.{mem}
 use Rattle.tpl_model.specs.TaskSet.{IsTaskSet}
 use Rattle.tpl_model.specs.Certificate.{Row, Tree}
 use Rattle.tpl_model.specs.Certificate as tree
 use Rattle.tpl_draft.specs.Named.{Names}
 use Rattle.tpl_draft.specs.Names.{some_twice}
-use Rattle.tpl_json.specs.Members.{has_only}
+use Rattle.tpl_json.specs.Members.{◌>>=◌, has_only, text_in, list_or_none, each, texts_in}
+use Rattle.tpl_json.specs.Finals.{no_finals, final_word, final_at, finals_at}
 use Rattle.tpl_cert.specs.NamedTrees.{NamedRow, NamedTree, SplitInput, SplitEnd, Leaf}
-use Rattle.tpl_json.specs.Grammar.{IsArray, IsTexts, AreFinals}
-use Rattle.tpl_cert.specs.Grammar.{IsRow, AreRows, IsTree}
+use Rattle.tpl_cert.specs.Reading.{row_at, leaf_at, input_at, end_at, node_at, whole_tree}
 use Rattle.tpl_cert.specs.Naming.{are_declared, AreNumbers, does_name, IsSetOf, IsRowOf, AreRowsOf, IsTreeOf}
 use Rattle.tpl_cert.specs.Written.{texts_data, words_of, row_data, tree_data, name_at, is_id, named_row, named, has_row_ids, has_ids, AreTaskSets, HasTaskSets}
 use Rattle.tpl_cert.specs.Spelled.{SpellsTree}
-use Rattle.tpl_json.proofs.Arrays.{elements-items_of}
-use Rattle.tpl_json.proofs.Json.{some}
+use Rattle.tpl_json.proofs.Arrays.{elements-items_of, each_cons, each_empty}
+use Rattle.tpl_json.proofs.Json.{texts_read}
+use Rattle.tpl_cert.proofs.Trees.{whole_tree-node}
 use Rattle.tpl_cert.proofs.Unique.{number_of-name_at}
 
--- ---- the grammar
+-- ---- with names
 
-texts_again : (texts : List (List ℕ)) → IsTexts texts (texts_data texts)
-texts_again texts = ap (λ (xs : List Data). some xs) (elements-items_of (map string texts))
+texts_again : (texts : List (List ℕ)) → (list_or_none (Some (texts_data texts)) >>= each as_str) ≡ Some texts
+unfolding list_or_none
+texts_again texts = rw (elements-items_of (map string texts)) (texts_read texts)
 
--- the statuses of a set, in order
-abbrev finals_in : Bool → Bool → Bool → List Final
-finals_in true true true = RanToCompletion ∷ Canceled ∷ Faulted ∷ []
-finals_in true true false = RanToCompletion ∷ Canceled ∷ []
-finals_in true false true = RanToCompletion ∷ Faulted ∷ []
-finals_in true false false = RanToCompletion ∷ []
-finals_in false true true = Canceled ∷ Faulted ∷ []
-finals_in false true false = Canceled ∷ []
-finals_in false false true = Faulted ∷ []
-finals_in false false false = []
+finals_again : (a b c : Bool) → finals_at no_finals (map string (words_of (record { ran = a; canceled = b; faulted = c }))) ≡ Some (record { ran = a; canceled = b; faulted = c })
+unfolding finals_at final_at final_word
+finals_again true true true = refl
+finals_again true true false = refl
+finals_again true false true = refl
+finals_again true false false = refl
+finals_again false true true = refl
+finals_again false true false = refl
+finals_again false false true = refl
+finals_again false false false = refl
 
-finals_data : (a b c : Bool) → map string (words_of (record { ran = a; canceled = b; faulted = c })) ≡ map (λ f. string (final_name f)) (finals_in a b c)
-finals_data true true true = refl
-finals_data true true false = refl
-finals_data true false true = refl
-finals_data true false false = refl
-finals_data false true true = refl
-finals_data false true false = refl
-finals_data false false true = refl
-finals_data false false false = refl
+row_again : (r : NamedRow) → row_at (row_data r) ≡ Some r
+unfolding row_at has_only texts_in
+row_again r = rw (elements-items_of (map string (words_of r.ends)), finals_again r.ends.ran r.ends.canceled r.ends.faulted, texts_again r.before, texts_again r.past, texts_again r.chain) refl
 
-finals_have : (a b c : Bool) (f : Final) → has (record { ran = a; canceled = b; faulted = c }) f ≡ list_any (is_final f) (finals_in a b c)
-finals_have true true true RanToCompletion = refl
-finals_have true true true Canceled = refl
-finals_have true true true Faulted = refl
-finals_have true true false RanToCompletion = refl
-finals_have true true false Canceled = refl
-finals_have true true false Faulted = refl
-finals_have true false true RanToCompletion = refl
-finals_have true false true Canceled = refl
-finals_have true false true Faulted = refl
-finals_have true false false RanToCompletion = refl
-finals_have true false false Canceled = refl
-finals_have true false false Faulted = refl
-finals_have false true true RanToCompletion = refl
-finals_have false true true Canceled = refl
-finals_have false true true Faulted = refl
-finals_have false true false RanToCompletion = refl
-finals_have false true false Canceled = refl
-finals_have false true false Faulted = refl
-finals_have false false true RanToCompletion = refl
-finals_have false false true Canceled = refl
-finals_have false false true Faulted = refl
-finals_have false false false RanToCompletion = refl
-finals_have false false false Canceled = refl
-finals_have false false false Faulted = refl
+rows_again : (rs : List NamedRow) → each row_at (map row_data rs) ≡ Some rs
+rows_again [] = each_empty row_at
+rows_again (r ∷ rs) = each_cons row_at (row_data r) (map row_data rs) r rs (row_again r) (rows_again rs)
 
-finals_again : (a b c : Bool) → AreFinals (record { ran = a; canceled = b; faulted = c }) (map string (words_of (record { ran = a; canceled = b; faulted = c })))
-finals_again a b c = (finals_in a b c, finals_data a b c, finals_have a b c)
-
-array_again : (ds : List Data) (Are : List Data → Type 0) → Are ds → IsArray Are (array (items_of ds))
-array_again ds Are are = (ds, ap (λ (xs : List Data). some xs) (elements-items_of ds), are)
-
-row_again : (r : NamedRow) → IsRow r (row_data r)
-unfolding has_only
-row_again r = record {
-  only = refl;
-  ends = (texts_data (words_of r.ends), refl, array_again (map string (words_of r.ends)) (AreFinals r.ends) (finals_again r.ends.ran r.ends.canceled r.ends.faulted));
-  runs = refl;
-  before = texts_again r.before;
-  past = texts_again r.past;
-  chain = texts_again r.chain;
-}
-
-rows_again : (rs : List NamedRow) → AreRows rs (map row_data rs)
-rows_again [] = tt
-rows_again (r ∷ rs) = (row_again r, rows_again rs)
-
-pub tree_again : (s : NamedTree) → IsTree s (tree_data s)
-unfolding has_only
-tree_again (SplitInput name a b) = (refl, refl, (tree_data a, refl, tree_again a), (tree_data b, refl, tree_again b))
-tree_again (SplitEnd name a b c) = (refl, refl, (tree_data a, refl, tree_again a), (tree_data b, refl, tree_again b), (tree_data c, refl, tree_again c))
-tree_again (Leaf rows) = (refl, (array (items_of (map row_data rows)), refl, array_again (map row_data rows) (AreRows rows) (rows_again rows)))
+pub tree_again : (s : NamedTree) → whole_tree (tree_data s) ≡ Some s
+unfolding node_at input_at end_at leaf_at text_in has_only
+tree_again (SplitInput name a b) = whole_tree-node (tree_data (SplitInput name a b)) ∙ rw (tree_again a, tree_again b) refl
+tree_again (SplitEnd name a b c) = whole_tree-node (tree_data (SplitEnd name a b c)) ∙ rw (tree_again a, tree_again b, tree_again c) refl
+tree_again (Leaf rows) = whole_tree-node (tree_data (Leaf rows)) ∙ rw (elements-items_of (map row_data rows), rows_again rows) refl
 
 -- ---- the names
 

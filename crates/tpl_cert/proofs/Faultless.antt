@@ -10,6 +10,8 @@ use Rattle.tpl_draft.specs.Named.{Names}
 use Rattle.tpl_cert.specs.declared.fault.TreeFault.{TreeFault}
 use Rattle.tpl_cert.specs.declared.fault.TreeFault.TheVariants as faults
 use Rattle.tpl_json.proofs.Arrays.{tail_is}
+use Rattle.tpl_json.proofs.Json.{some_none}
+use Rattle.tpl_cert.specs.Reading.{whole_tree}
 use Rattle.tpl_cert.specs.NamedTrees.{NamedRow, NamedTree, SplitInput, SplitEnd, Leaf}
 use Rattle.tpl_cert.specs.Naming.{number_of, is_declared, are_declared, AreNumbers, IsRowOf, AreRowsOf, IsTreeOf, knows_row, knows}
 use Rattle.tpl_cert.specs.Heights.{IsWithinLimits}
@@ -54,7 +56,7 @@ tree_known n (Leaf ss) (tree.SplitInput i x y) is = absurd is
 tree_known n (Leaf ss) (tree.SplitEnd i x y z) is = absurd is
 
 pub no_fault : SetsAreTheirMembers → (n : Names) (d : Data) (t : Tree) (fault : TreeFault) → ReadsAs n d t → IsWrongTree n d fault → fault ≡ faults.Memory
-no_fault law n d t faults.Shape reads wrong = absurd (wrong reads.0.0 reads.0.1)
+no_fault law n d t faults.Shape reads wrong = absurd (some_none reads.0.0 (whole_tree d) reads.0.1 wrong)
 no_fault law n d t faults.Unknown reads wrong =
     let same : reads.0.0 ≡ wrong.0 = names_same d reads.0.0 wrong.0 reads.0.1 wrong.1 in
     absurd (true≢false (sym (tree_known n reads.0.0 t reads.0.2) ∙ ap (knows n) same ∙ wrong.2))

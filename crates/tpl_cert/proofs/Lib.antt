@@ -1,6 +1,5 @@
 pub mod Levels
 pub mod Names
-pub mod Rows
 pub mod Trees
 pub mod Whole
 pub mod Ids

@@ -7,12 +7,11 @@ use Rattle.tpl_model.specs.Certificate.{Row, Tree}
 use Rattle.tpl_model.specs.Certificate as tree
 use Rattle.tpl_draft.specs.Named.{Names}
 use Rattle.tpl_cert.specs.NamedTrees.{NamedRow, NamedTree, SplitInput, SplitEnd, Leaf}
-use Rattle.tpl_cert.specs.Grammar.{IsTree}
+use Rattle.tpl_cert.specs.Reading.{whole_tree}
 use Rattle.tpl_cert.specs.Naming.{number_of, AreNumbers, IsSetOf, IsRowOf, AreRowsOf, IsTreeOf}
 use Rattle.tpl_cert.specs.Spelled.{SpellsTree}
 use Rattle.tpl_json.proofs.Arrays.{some_is, head_is, tail_is}
 use Rattle.tpl_json.proofs.Json.{cons_same}
-use Rattle.tpl_cert.proofs.Trees.{whole_complete}
 
 abbrev found : ℕ → Option ℕ
 found n = Some n
@@ -82,8 +81,8 @@ tree_same law n (Leaf spelled) (tree.Leaf rs) (tree.SplitEnd j w v u) p q = absu
 tree_same law n (Leaf spelled) (tree.SplitInput i x y) u p q = absurd p
 tree_same law n (Leaf spelled) (tree.SplitEnd i x y z) u p q = absurd p
 
-pub names_same : (d : Data) (s z : NamedTree) → IsTree s d → IsTree z d → s ≡ z
-names_same d s z x y = some_is s z (sym (whole_complete d s x) ∙ whole_complete d z y)
+pub names_same : (d : Data) (s z : NamedTree) → whole_tree d ≡ Some s → whole_tree d ≡ Some z → s ≡ z
+names_same d s z x y = some_is s z (sym x ∙ y)
 
 pub one_tree : SetsAreTheirMembers → (n : Names) (d : Data) (t u : Tree) → SpellsTree n d t → SpellsTree n d u → t ≡ u
 one_tree law n d t u x y = tree_same law n x.0 t u x.2 (subst (λ z. IsTreeOf n z u) (sym (names_same d x.0 y.0 x.1 y.1)) y.2)

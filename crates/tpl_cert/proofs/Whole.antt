@@ -1,5 +1,5 @@
 -- From the parts of a reading to the whole.
-use Rattle.std.proofs.Common.{◌≡◌, Some, None, Result, Ok, Err, IfOk, IfErr}
+use Rattle.std.proofs.Common.{◌≡◌, Some, Result, Ok, Err, IfOk, IfErr}
 use Rattle.serde_json.specs.Data.{Data}
 use Rattle.tpl_model.specs.Certificate.{Tree}
 use Rattle.tpl_draft.specs.Named.{Names}
@@ -7,26 +7,17 @@ use Rattle.tpl_cert.specs.declared.fault.TreeFault.{TreeFault}
 use Rattle.tpl_cert.specs.declared.fault.TreeFault.TheVariants as faults
 use Rattle.tpl_cert.specs.NamedTrees.{NamedTree}
 use Rattle.tpl_cert.specs.Reading.{whole_tree}
-use Rattle.tpl_cert.specs.Grammar.{IsTree}
 use Rattle.tpl_cert.specs.Naming.{IsTreeOf, knows, Loses, Finds}
 use Rattle.tpl_cert.specs.Spelled.{SpellsTree, IsWrongTree}
-use Rattle.tpl_json.proofs.Json.{some_none}
-use Rattle.tpl_cert.proofs.Trees.{whole_sound, whole_complete}
-
-pub no_spelling : (d : Data) → whole_tree d ≡ None → (s : NamedTree) → IsTree s d → ⊥
-no_spelling d e s is = some_none s (whole_tree d) (whole_complete d s is) e
 
 pub wrong_names : (n : Names) (d : Data) (s : NamedTree) (e : TreeFault) → whole_tree d ≡ Some s → Loses e (knows n s) → IsWrongTree n d e
 wrong_names n d s faults.Memory reads h = tt
-wrong_names n d s faults.Unknown reads h = (s, whole_sound d s reads, h)
+wrong_names n d s faults.Unknown reads h = (s, reads, h)
 wrong_names n d s faults.Shape reads h = absurd h
 wrong_names n d s faults.Limit reads h = absurd h
 
-pub spells : (n : Names) (d : Data) (s : NamedTree) (t : Tree) → whole_tree d ≡ Some s → IsTreeOf n s t → SpellsTree n d t
-spells n d s t reads is = (s, whole_sound d s reads, is)
-
 pub found_is : (n : Names) (d : Data) (s : NamedTree) (r : Result Tree TreeFault) → whole_tree d ≡ Some s → Finds r (knows n s) (λ t. IsTreeOf n s t) → IfOk r (λ t. SpellsTree n d t)
-found_is n d s (Ok t) reads h = spells n d s t reads h.1
+found_is n d s (Ok t) reads h = (s, reads, h.1)
 found_is n d s (Err e) reads h = tt
 
 pub unfound_is : (n : Names) (d : Data) (s : NamedTree) (r : Result Tree TreeFault) → whole_tree d ≡ Some s → Finds r (knows n s) (λ t. IsTreeOf n s t) → IfErr r (λ e. IsWrongTree n d e)

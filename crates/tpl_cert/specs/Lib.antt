@@ -7,7 +7,6 @@ pub mod Coding
 pub mod Falls
 pub mod Naming
 pub mod Laws
-pub mod Grammar
 pub mod Spelled
 pub mod Written
 pub mod WideCoding

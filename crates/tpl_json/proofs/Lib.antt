@@ -3,6 +3,5 @@ pub mod DataOf
 pub mod Signs
 pub mod InRange
 pub mod Json
-pub mod FinalLaws
 pub mod Endings
 pub mod Puts

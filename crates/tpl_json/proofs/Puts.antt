@@ -10,7 +10,6 @@ use Rattle.serde_json.specs.Data.{Data, Members, no_members, member, null, boole
 use Rattle.serde_json.specs.Find.{get, as_object}
 use Rattle.serde_json.proofs.Views.{get_member-put_other}
 use Rattle.tpl_json.specs.Members.{is_one_of, members_within, has_only}
-use Rattle.tpl_json.specs.Grammar.{HasOnly}
 
 -- ---- its names
 
@@ -27,12 +26,12 @@ within_put names k d (member l e ms) one all =
     within_either (slice_cmp nat_cmp k l) names (member k d (member l e ms)) (member l d ms) (member l e (put k d ms))
     (and_from (is_one_of names k) _ one all) (and_from (is_one_of names l) _ first rest) (and_from (is_one_of names l) _ first (within_put names k d ms one rest))
 
-pub only_put : (names : List (List ℕ)) (k : List ℕ) (d : Data) (ms : Members) → is_one_of names k ≡ true → HasOnly names (object ms) → HasOnly names (object (put k d ms))
+pub only_put : (names : List (List ℕ)) (k : List ℕ) (d : Data) (ms : Members) → is_one_of names k ≡ true → has_only names (object ms) ≡ true → has_only names (object (put k d ms)) ≡ true
 unfolding has_only
 only_put names k d ms one all = within_put names k d ms one all
 
 -- only an object has members
-pub is_object : (names : List (List ℕ)) (d : Data) → HasOnly names d → (ms : Members) × (d ≡ object ms)
+pub is_object : (names : List (List ℕ)) (d : Data) → has_only names d ≡ true → (ms : Members) × (d ≡ object ms)
 unfolding has_only
 is_object names null e = absurd cc
 is_object names (boolean b) e = absurd cc

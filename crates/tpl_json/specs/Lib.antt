@@ -1,5 +1,4 @@
 pub mod View
 pub mod Numbers
 pub mod Members
-pub mod Grammar
 pub mod Finals

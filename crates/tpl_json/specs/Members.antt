@@ -1,8 +1,8 @@
--- Reading JSON data part by part. `None` is a wrong shape.
-use Rattle.std.specs.Prelude.{◌≡◌, ℕ, List, [], ◌∷◌, Option, Some, None, Result, Ok, Err, Bool, true, false, ◌&&◌, ◌||◌, option_and_then, option_map, if◌then◌else◌}
+-- The pieces of which the grammar is made: what a JSON value is part by part, `None` where it is of another form.
+use Rattle.std.specs.Prelude.{◌≡◌, ℕ, List, [], ◌∷◌, Option, Some, None, Result, Ok, Err, Bool, true, false, ◌&&◌, ◌||◌, option_and_then, option_map, is_some, if◌then◌else◌}
 use Rattle.std.specs.Str.{bytes_eq}
-use Rattle.serde_json.specs.Data.{Data, Items, no_items, item, Members, no_members, member, string, array, object, null, boolean, number}
-use Rattle.serde_json.specs.Find.{get, as_str, as_array}
+use Rattle.serde_json.specs.Data.{Data, Items, no_items, item, Members, no_members, member, object}
+use Rattle.serde_json.specs.Find.{get, as_str, as_bool, as_array}
 use Rattle.tpl_json.specs.declared.miss.Miss.{Miss}
 use Rattle.tpl_json.specs.declared.miss.Shape.{Shape}
 use Rattle.tpl_json.specs.declared.miss.Miss.TheVariants as misses
@@ -21,15 +21,25 @@ abbrev pub IsShape : Miss Shape → Type 0
 IsShape (misses.Wrong u) = Unit {0}
 IsShape misses.Memory = ⊥
 
-infixl 10 ◌>>=◌
+-- what the next step makes of it
+infixl 10 ◌>>=◌ ◌<$>◌ ◌<*>◌
 abbrev pub ◌>>=◌ : {A B : Type 0} → Option A → (A → Option B) → Option B
 o >>= f = option_and_then f o
 
+-- what is made of one part, and of the next ones
+abbrev pub ◌<$>◌ : {A B : Type 0} → (A → B) → Option A → Option B
+f <$> o = option_map f o
+
+abbrev pub ◌<*>◌ : {A B : Type 0} → Option (A → B) → Option A → Option B
+made <*> o = made >>= λ f. option_map f o
+
+-- nothing but that this is true
 abbrev pub only_if : Bool → Option (Unit {0})
 only_if b = if b then Some tt else None
 
 -- ---- members
 
+-- the name is one of these
 abbrev pub is_one_of : List (List ℕ) → List ℕ → Bool
 is_one_of [] key = false
 is_one_of (name ∷ names) key = bytes_eq key name || is_one_of names key
@@ -39,27 +49,39 @@ abbrev pub names_all : (List ℕ → Bool) → Members → Bool
 names_all p no_members = true
 names_all p (member key d ms) = p key && names_all p ms
 
+-- the members have no other names
 abbrev pub members_within : List (List ℕ) → Members → Bool
 members_within names ms = names_all (is_one_of names) ms
 
 -- an object with no other members
 unfoldable pub has_only : List (List ℕ) → Data → Bool
-has_only names null = false
-has_only names (boolean b) = false
-has_only names (number n) = false
-has_only names (string s) = false
-has_only names (array ds) = false
 has_only names (object ms) = members_within names ms
+has_only names d = false
 
+-- what is read of an object with no members but these
+abbrev pub object_of : {A : Type 0} → List (List ℕ) → Data → Option A → Option A
+object_of names d read = if has_only names d then read else None
+
+-- the member, a text
 unfoldable pub text_in : List ℕ → Data → Option (List ℕ)
 text_in name d = get name d >>= as_str
 
+-- the member is there
+abbrev pub has_member : List ℕ → Data → Bool
+has_member name d = is_some (get name d)
+
+-- the member, true or false
+abbrev pub bool_in : List ℕ → Data → Option Bool
+bool_in name d = get name d >>= as_bool
+
 -- ---- arrays
 
+-- the elements as a list
 abbrev pub elements : Items → List Data
 elements no_items = []
 elements (item d ds) = d ∷ elements ds
 
+-- the elements of an array
 abbrev pub list_in : Data → Option (List Data)
 list_in d = option_map elements (as_array d)
 
@@ -68,6 +90,7 @@ unfoldable pub list_or_none : Option Data → Option (List Data)
 list_or_none None = Some []
 list_or_none (Some d) = list_in d
 
+-- each element is of this form
 unfoldable pub each : {A : Type 0} → (Data → Option A) → List Data → Option (List A)
 each f [] = Some []
 each f (d ∷ ds) = do

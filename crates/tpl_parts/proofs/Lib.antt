@@ -2,8 +2,3 @@ pub mod Bodies
 pub mod OptionWords
 pub mod Truths
 pub mod Ends
-pub mod RemarkLaws
-pub mod BodyLaws
-pub mod TaskLaws
-pub mod ClaimLaws
-pub mod StartLaws

@@ -8,9 +8,3 @@ pub mod Tasks
 pub mod Start
 pub mod Ends
 pub mod SeenStart
-pub mod RemarkGrammar
-pub mod BodyGrammar
-pub mod TaskGrammar
-pub mod ClaimGrammar
-pub mod StartGrammar
-pub mod EndGrammar

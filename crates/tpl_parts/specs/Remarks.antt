@@ -1,11 +1,11 @@
--- Reading what stands in a document for its readers. `None` is a wrong shape.
-use Rattle.std.specs.Prelude.{ℕ, ◌&&◌, Bool, not, List, length, Option, Some, None, codes, nat_lt, nat_le}
+-- What stands in a document for its readers, `None` where a JSON value is no such thing.
+use Rattle.std.specs.Prelude.{ℕ, ◌&&◌, Bool, not, List, length, Option, Some, None, nat_lt, nat_le}
 use Rattle.std.specs.Char.{is_control}
 use Rattle.std.specs.List.{list_any}
 use Rattle.std.specs.Str.{chars}
 use Rattle.serde_json.specs.Data.{Data}
-use Rattle.serde_json.specs.Find.{get, as_str}
-use Rattle.tpl_json.specs.Members.{◌>>=◌, only_if}
+use Rattle.serde_json.specs.Find.{as_str}
+use Rattle.tpl_json.specs.Members.{◌>>=◌, ◌<$>◌, only_if}
 
 -- the name of a claim: 1 to 100 bytes of text without a control character
 abbrev pub is_claim_name : List ℕ → Bool
@@ -22,6 +22,4 @@ claim_name (Some d) = do
 -- a note is a text, if it is there
 unfoldable pub note_at : Option Data → Option (Unit {0})
 note_at None = Some tt
-note_at (Some d) = do
-  text ← as_str d
-  Some tt
+note_at (Some d) = (λ text. tt) <$> as_str d

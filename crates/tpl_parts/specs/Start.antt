@@ -1,8 +1,8 @@
--- Reading where a run starts, with names. `None` is a wrong shape.
+-- The start of a run, with names, that a JSON value is, `None` where it is none.
 use Rattle.std.specs.Prelude.{◌&&◌, ℕ, List, [], ◌∷◌, Option, Some, None, Bool, true, false, codes, is_some, if◌then◌else◌}
-use Rattle.serde_json.specs.Data.{Data, Members, no_members, member, string, array, object, null, boolean, number}
+use Rattle.serde_json.specs.Data.{Data, Members, no_members, member, object}
 use Rattle.serde_json.specs.Find.{get, as_bool}
-use Rattle.tpl_json.specs.Members.{◌>>=◌, only_if, has_only, texts_in}
+use Rattle.tpl_json.specs.Members.{◌>>=◌, ◌<$>◌, only_if, has_only, texts_in}
 
 -- where a run starts, as it is spelled: an object of truth values by the inputs' names, the tokens that are requested first, and the sites whose jobs fail
 pub record NamedStart : Type 0 where
@@ -17,17 +17,15 @@ all_values p (member key d ms) = p d && all_values p ms
 
 -- an object whose members are all true or false
 unfoldable pub has_truths : Data → Bool
-has_truths null = false
-has_truths (boolean b) = false
-has_truths (number n) = false
-has_truths (string s) = false
-has_truths (array ds) = false
 has_truths (object ms) = all_values (λ d. is_some (as_bool d)) ms
+has_truths d = false
 
+-- such an object, which may be left out
 unfoldable pub truths_or_none : Option Data → Option (Option Data)
 truths_or_none None = Some None
 truths_or_none (Some d) = if has_truths d then Some (Some d) else None
 
+-- {"inputs": truth values, "request": [token, ..], "fail": [site, ..]}, each of which may be left out
 unfoldable pub start_at : Data → Option NamedStart
 start_at d = do
   only ← only_if (has_only (codes "inputs" ∷ codes "request" ∷ codes "fail" ∷ []) d)
@@ -36,8 +34,7 @@ start_at d = do
   fail ← texts_in (codes "fail") d
   Some (record { inputs = inputs; request = request; fail = fail })
 
+-- a start, which may be left out
 unfoldable pub start_or_none : Option Data → Option (Option NamedStart)
 start_or_none None = Some None
-start_or_none (Some d) = do
-  s ← start_at d
-  Some (Some s)
+start_or_none (Some d) = (λ start. Some start) <$> start_at d

@@ -1,11 +1,12 @@
 //! Reading bodies.
 
-ghost use Rattle.std.specs.Prelude.{◌≡◌, map, codes, string_bytes, option_and_then, IfErr};
+ghost use Rattle.std.specs.Prelude.{◌≡◌, map, codes, string_bytes, option_and_then, option_map, IfErr};
 ghost use Rattle.serde_json.specs.Find.{get};
 ghost use Rattle.tpl_json.specs.View.{view};
+ghost use Rattle.tpl_draft.specs.Draft as spec;
 ghost use Rattle.tpl_draft.specs.SeenDraft.{line_of, lines_of};
-ghost use Rattle.tpl_json.specs.Members.{Gives, each, IsShape};
-ghost use Rattle.tpl_parts.specs.Statements.{body_of, word_at, name_at, throw_at, check_at, cancel_at, start_at, bool_or_false, work_at, else_at, if_at, when_at, branch_at, is_branch, simple_at, object_at, statement_at, list_at, body_at};
+ghost use Rattle.tpl_json.specs.Members.{Gives, each, has_member, IsShape};
+ghost use Rattle.tpl_parts.specs.Statements.{body_of, word_at, name_at, bool_or_false, work_at, else_at, if_at, when_at, branch_at, simple_at, object_at, statement_at, list_at, body_at};
 
 use json::Value;
 use std::alloc::Global;
@@ -35,33 +36,33 @@ fn name_of(alloc: Global, value: &Value<'_>, member: &str) -> Result<String, Mis
     Ok(String::from_str(alloc, name)?)
 }
 
-#[tactic(auto, unfolding(crate::specs::Statements::throw_at))]
 fn throw_of(alloc: Global, value: &Value<'_>) -> Result<DraftStmt, Miss<Shape>>
-    ensures { Gives line_of result (throw_at (view value.now)) }
+    ensures { Gives line_of result
+        (option_map spec.Throw (name_at (codes "throw") (view value.now))) }
 {
     let name = name_of(alloc, value, "throw")?;
     Ok(DraftStmt::Throw(name))
 }
 
-#[tactic(auto, unfolding(crate::specs::Statements::check_at))]
 fn check_of(alloc: Global, value: &Value<'_>) -> Result<DraftStmt, Miss<Shape>>
-    ensures { Gives line_of result (check_at (view value.now)) }
+    ensures { Gives line_of result
+        (option_map spec.Check (name_at (codes "check") (view value.now))) }
 {
     let name = name_of(alloc, value, "check")?;
     Ok(DraftStmt::Check(name))
 }
 
-#[tactic(auto, unfolding(crate::specs::Statements::cancel_at))]
 fn cancel_of(alloc: Global, value: &Value<'_>) -> Result<DraftStmt, Miss<Shape>>
-    ensures { Gives line_of result (cancel_at (view value.now)) }
+    ensures { Gives line_of result
+        (option_map spec.Cancel (name_at (codes "cancel") (view value.now))) }
 {
     let name = name_of(alloc, value, "cancel")?;
     Ok(DraftStmt::Cancel(name))
 }
 
-#[tactic(auto, unfolding(crate::specs::Statements::start_at))]
 fn start_of(alloc: Global, value: &Value<'_>) -> Result<DraftStmt, Miss<Shape>>
-    ensures { Gives line_of result (start_at (view value.now)) }
+    ensures { Gives line_of result
+        (option_map spec.Start (name_at (codes "start") (view value.now))) }
 {
     let name = name_of(alloc, value, "start")?;
     Ok(DraftStmt::Start(name))
@@ -111,9 +112,8 @@ fn simple_of(alloc: Global, value: &Value<'_>) -> Result<DraftStmt, Miss<Shape>>
     work_of(alloc, value)
 }
 
-#[tactic(auto, unfolding(crate::specs::Statements::is_branch))]
 fn is_branch(value: &Value<'_>) -> bool
-    ensures { result ≡ is_branch (view value.now) }
+    ensures { result ≡ has_member (codes "then") (view value.now) }
 {
     find(value, "then").is_some()
 }

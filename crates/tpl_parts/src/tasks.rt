@@ -4,9 +4,10 @@ ghost use Rattle.std.specs.Prelude.{◌≡◌, map, codes, string_bytes, option_
 ghost use Rattle.std.specs.Option.{option_map};
 ghost use Rattle.serde_json.specs.Find.{get, as_str};
 ghost use Rattle.tpl_json.specs.View.{view};
+ghost use Rattle.tpl_draft.specs.Draft as spec;
 ghost use Rattle.tpl_draft.specs.SeenTasks.{work_of, kind_of, task_of, token_of};
 ghost use Rattle.tpl_json.specs.Members.{Gives, each, IsShape};
-ghost use Rattle.tpl_parts.specs.Tasks.{option_at, options_at, text_or_none, work_at, root_at, child_at, then_at, args_at, all_at, any_at, kind_at, task_at, linked_at, plain_at, token_at};
+ghost use Rattle.tpl_parts.specs.Tasks.{option_at, options_at, text_or_none, work_at, free_at, then_at, args_at, kind_at, task_at, linked_at, plain_at, token_at};
 
 use crate::lists::list_in;
 use crate::remarks::{has_task_members, note_of};
@@ -73,9 +74,10 @@ fn work_of(alloc: Global, value: &Value<'_>) -> Result<DraftWork, Miss<Shape>>
     })
 }
 
-#[tactic(auto, unfolding(crate::specs::Tasks::root_at))]
-fn root_of(alloc: Global, version: Version, value: &Value<'_>) -> Result<DraftKind, Miss<Shape>>
-    ensures { Gives kind_of result (root_at version (view value.now)) }
+/// A task with a body that follows none.
+#[tactic(auto, unfolding(crate::specs::Tasks::free_at))]
+fn free_of(alloc: Global, version: Version, value: &Value<'_>) -> Result<DraftWork, Miss<Shape>>
+    ensures { Gives work_of result (free_at version (view value.now)) }
 {
     if !has_task_members(
         version,
@@ -84,22 +86,20 @@ fn root_of(alloc: Global, version: Version, value: &Value<'_>) -> Result<DraftKi
     ) {
         return Err(Miss::Wrong(Shape));
     }
-    let work = work_of(alloc, value)?;
+    work_of(alloc, value)
+}
+
+fn root_of(alloc: Global, version: Version, value: &Value<'_>) -> Result<DraftKind, Miss<Shape>>
+    ensures { Gives kind_of result (option_map spec.Root (free_at version (view value.now))) }
+{
+    let work = free_of(alloc, version, value)?;
     Ok(DraftKind::Root(work))
 }
 
-#[tactic(auto, unfolding(crate::specs::Tasks::child_at))]
 fn child_of(alloc: Global, version: Version, value: &Value<'_>) -> Result<DraftKind, Miss<Shape>>
-    ensures { Gives kind_of result (child_at version (view value.now)) }
+    ensures { Gives kind_of result (option_map spec.Child (free_at version (view value.now))) }
 {
-    if !has_task_members(
-        version,
-        value,
-        &["name", "kind", "body", "token", "options"],
-    ) {
-        return Err(Miss::Wrong(Shape));
-    }
-    let work = work_of(alloc, value)?;
+    let work = free_of(alloc, version, value)?;
     Ok(DraftKind::Child(work))
 }
 
@@ -131,17 +131,15 @@ fn args_of(alloc: Global, version: Version, value: &Value<'_>) -> Result<Vec<Str
     owned_texts(alloc, list)
 }
 
-#[tactic(auto, unfolding(crate::specs::Tasks::all_at))]
 fn all_of(alloc: Global, version: Version, value: &Value<'_>) -> Result<DraftKind, Miss<Shape>>
-    ensures { Gives kind_of result (all_at version (view value.now)) }
+    ensures { Gives kind_of result (option_map spec.WhenAll (args_at version (view value.now))) }
 {
     let args = args_of(alloc, version, value)?;
     Ok(DraftKind::All(args))
 }
 
-#[tactic(auto, unfolding(crate::specs::Tasks::any_at))]
 fn any_of(alloc: Global, version: Version, value: &Value<'_>) -> Result<DraftKind, Miss<Shape>>
-    ensures { Gives kind_of result (any_at version (view value.now)) }
+    ensures { Gives kind_of result (option_map spec.WhenAny (args_at version (view value.now))) }
 {
     let args = args_of(alloc, version, value)?;
     Ok(DraftKind::Any(args))

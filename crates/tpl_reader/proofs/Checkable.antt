@@ -12,7 +12,7 @@ use Rattle.tpl_draft.specs.Named.{Names, Named}
 use Rattle.tpl_parts.specs.declared.version.Version.{Version}
 use Rattle.tpl_parts.specs.NamedClaims.{NamedClaim}
 use Rattle.tpl_reader.specs.Asked.{IsAsked}
-use Rattle.tpl_json.specs.Grammar.{AllRead}
+use Rattle.tpl_reader.specs.Passes.{AllRead}
 use Rattle.tpl_reader.specs.Document.{AreAsked}
 
 all_of : {D A : Type 0} (R : D → A → Type 0) (P : A → Type 0) → ((d : D) (x : A) → R d x → P x) → (ds : List D) (xs : List A) → AllRead R ds xs → All P xs

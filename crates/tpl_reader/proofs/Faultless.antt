@@ -1,5 +1,5 @@
 -- Of bytes that spell a document no fault is true.
-use Rattle.std.proofs.Common.{◌≡◌, ℕ, zero, suc, ◌-◌, ◌<◌, inl, inr, List, [], ◌∷◌, map, Bool, true, Option, Some, None, is_some, refl, sym, ap, subst, ◌∙◌, append-nil, append_assoc, arith, true≢false}
+use Rattle.std.proofs.Common.{◌≡◌, ℕ, zero, suc, ◌-◌, ◌<◌, inl, inr, List, [], ◌∷◌, map, Bool, true, Option, Some, None, Ok, Err, is_some, refl, sym, ap, subst, ◌∙◌, append-nil, append_assoc, arith, true≢false}
 use Rattle.std.specs.Prelude.{◌||◌, ◌++◌, take, false, filter}
 use Rattle.tpl_json.proofs.Arrays.{some_is}
 use Rattle.std.specs.Prelude.{slice_get}
@@ -25,21 +25,17 @@ use Rattle.tpl_parts.specs.Start.{NamedStart}
 use Rattle.tpl_reader.specs.Begin.{StartValue, may_all_fail, IsStartOf, IsWrongStart}
 use Rattle.tpl_reader.specs.Asked.{given_in, is_single, says_twice, knows_claim, has_name_of, name_again, name_twice, IsClaimOf, IsAsked, IsWrongClaim, IsWrongBehind}
 use Rattle.tpl_reader.specs.Ends.{knows_ends}
-use Rattle.tpl_reader.specs.Top.{Members}
-use Rattle.tpl_parts.specs.TaskGrammar.{IsTask, IsNoTask}
-use Rattle.tpl_parts.specs.ClaimGrammar.{IsClaim, IsNoClaim}
-use Rattle.tpl_json.specs.Grammar.{AllRead}
-use Rattle.tpl_reader.specs.Passes.{FirstWrong}
+use Rattle.tpl_reader.specs.Passes.{AllRead, FirstWrong}
 use Rattle.tpl_reader.specs.declared.fault.Part.{Part}
-use Rattle.tpl_reader.specs.declared.fault.Part.TheVariants as part
 use Rattle.tpl_reader.specs.declared.fault.ClaimFault.{ClaimFault}
 use Rattle.tpl_reader.specs.declared.fault.ClaimFault.TheVariants as claims
 use Rattle.tpl_reader.specs.declared.fault.StartFault.{StartFault}
 use Rattle.tpl_reader.specs.declared.fault.StartFault.TheVariants as starts
 use Rattle.tpl_reader.specs.declared.fault.ReadFault.{ReadFault}
 use Rattle.tpl_reader.specs.declared.fault.ReadFault.TheVariants as faults
-use Rattle.tpl_reader.specs.Document.{Spelled, IsSpelled, IsMisshapen, IsNoStart, IsNoMemory, DocumentValue, IsStarted, AreAsked, IsRefusedClaim, IsWrongBegin, IsWrongSeen, IsRefused, IsDocument, Reads, Spells, IsFault}
-use Rattle.tpl_reader.proofs.OneDocument.{top_same, spelled_same, claim_of_same, shallow, value_same}
+use Rattle.tpl_reader.specs.Shape.{Spelled, spelled_at}
+use Rattle.tpl_reader.specs.Document.{IsNoMemory, DocumentValue, IsStarted, AreAsked, IsRefusedClaim, IsWrongBegin, IsWrongSeen, IsRefused, IsDocument, Reads, Spells, IsFault}
+use Rattle.tpl_reader.proofs.OneDocument.{found, spelled_same, claim_of_same, value_same}
 
 -- ---- an element that is read isn't wrong
 
@@ -59,17 +55,11 @@ none_wrong R W ds xs n f never all first =
 
 -- ---- the form
 
-well_shaped : (d : Data) (s : Spelled) → IsSpelled d s → (p : Part) → IsMisshapen d p → ⊥
-well_shaped d s is part.Top wrong = wrong is.members is.top
-well_shaped d s is (part.Task n) wrong =
-    let same : wrong.0 ≡ is.members = top_same d wrong.0 is.members wrong.1 is.top in
-    none_wrong (IsTask is.members.version) (IsNoTask is.members.version) is.members.tasks s.draft.tasks n tt (λ c x r no. no x r) is.tasks (subst (λ (m : Members). FirstWrong (IsTask m.version) (IsNoTask m.version) m.tasks n tt) same wrong.2)
-well_shaped d s is (part.Claim n) wrong =
-    let same : wrong.0 ≡ is.members = top_same d wrong.0 is.members wrong.1 is.top in
-    none_wrong (IsClaim is.members.version) (IsNoClaim is.members.version) is.members.claims s.claims n tt (λ c x r no. no x r) is.claims (subst (λ (m : Members). FirstWrong (IsClaim m.version) (IsNoClaim m.version) m.claims n tt) same wrong.3)
-well_shaped d s is part.Start wrong =
-    let same : wrong.0 ≡ is.members = top_same d wrong.0 is.members wrong.1 is.top in
-    subst (λ (m : Members). IsNoStart m.start) same wrong.4 s.start is.start
+well_shaped : (d : Data) (s : Spelled) → spelled_at d ≡ Ok s → (p : Part) → spelled_at d ≡ Err p → ⊥
+well_shaped d s is p wrong = apart s p (sym is ∙ wrong)
+  where
+    apart : (s : Spelled) (p : Part) → found s ≡ Err p → ⊥
+    apart s p e = cc
 
 -- ---- the graph
 
@@ -191,17 +181,17 @@ module _ (faultless : ReadHasNoFault) (s : Spelled) (doc : DocumentValue) (is : 
   not_refused faults.NotJson wrong = absurd wrong
   not_refused (faults.Shape p) wrong = absurd wrong
 
-settled : ReadHasNoFault → (bytes : List ℕ) (doc : DocumentValue) (e : ReadFault) → Spells bytes doc → (d : Data) → Reads bytes d → (s : Spelled) → IsSpelled d s → IsRefused s e → e ≡ faults.Memory
+settled : ReadHasNoFault → (bytes : List ℕ) (doc : DocumentValue) (e : ReadFault) → Spells bytes doc → (d : Data) → Reads bytes d → (s : Spelled) → spelled_at d ≡ Ok s → IsRefused s e → e ≡ faults.Memory
 settled faultless bytes doc e is d reads s spelled wrong =
     let here = is.1.0 in
     let there = is.1.2.0 in
-    let moved : IsSpelled here s = subst (λ (z : Data). IsSpelled z s) (value_same bytes d here reads is.1.1) spelled in
-    let same : s ≡ there = spelled_same here s there (shallow bytes here is.1.1) moved is.1.2.1 in
+    let moved : spelled_at here ≡ Ok s = subst (λ (z : Data). spelled_at z ≡ Ok s) (value_same bytes d here reads is.1.1) spelled in
+    let same : s ≡ there = spelled_same here s there moved is.1.2.1 in
     not_refused faultless there doc is.1.2.2 e (subst (λ (z : Spelled). IsRefused z e) same wrong)
 
-shaped : (bytes : List ℕ) (doc : DocumentValue) → Spells bytes doc → (d : Data) → Reads bytes d → (p : Part) → IsMisshapen d p → ⊥
+shaped : (bytes : List ℕ) (doc : DocumentValue) → Spells bytes doc → (d : Data) → Reads bytes d → (p : Part) → spelled_at d ≡ Err p → ⊥
 shaped bytes doc is d reads p wrong =
-    well_shaped is.1.0 is.1.2.0 is.1.2.1 p (subst (λ (z : Data). IsMisshapen z p) (value_same bytes d is.1.0 reads is.1.1) wrong)
+    well_shaped is.1.0 is.1.2.0 is.1.2.1 p (subst (λ (z : Data). spelled_at z ≡ Err p) (value_same bytes d is.1.0 reads is.1.1) wrong)
 
 pub no_fault : ReadHasNoFault → (bytes : List ℕ) (doc : DocumentValue) (e : ReadFault) → Spells bytes doc → IsFault bytes e → e ≡ faults.Memory
 no_fault faultless bytes doc faults.TooLong is wrong = let le = is.0 in absurd (omega arith)

@@ -8,7 +8,7 @@ pub mod Shapes
 pub mod Begins
 pub mod Refusals
 pub mod TopLaws
-pub mod Shallow
+pub mod Pieces
 pub mod Checkable
 pub mod OneDocument
 pub mod Faultless

@@ -1,37 +1,25 @@
 -- Bytes spell one document at most.
-use Rattle.std.proofs.Common.{◌≡◌, ℕ, suc, ◌<◌, ◌≤◌, List, [], ◌∷◌, length, map, Bool, Option, Some, None, refl, sym, ap, subst, ◌∙◌, arith}
+use Rattle.std.proofs.Common.{◌≡◌, ℕ, suc, ◌<◌, List, [], ◌∷◌, length, map, Bool, Option, Some, None, Result, Ok, refl, sym, ap, subst, ◌∙◌, arith}
 use Rattle.std.specs.Prelude.{slice_index_or}
 use Rattle.tpl_cert.proofs.OneTree.{chain_same}
-use Rattle.serde_json.specs.Data.{Data, depth}
-use Rattle.serde_json.proofs.Nesting.{depth-read}
+use Rattle.serde_json.specs.Data.{Data}
 use Rattle.tpl_model.specs.declared.claim.Given.{Given}
 use Rattle.tpl_model.specs.declared.claim.Property.{Property}
 use Rattle.tpl_model.specs.Claims.{Claim}
-use Rattle.tpl_model.specs.Certificate.{Tree}
-use Rattle.tpl_draft.specs.Draft.{Task, Token}
 use Rattle.tpl_draft.specs.Named.{Names, Named}
 use Rattle.tpl_cert.specs.Laws.{SpellsOneTree}
 use Rattle.tpl_cert.specs.Spelled.{ReadsAs}
-use Rattle.tpl_parts.specs.declared.version.Version.{Version}
 use Rattle.tpl_parts.specs.NamedClaims.{NamedClaim}
 use Rattle.tpl_parts.specs.Start.{NamedStart}
 use Rattle.tpl_reader.specs.Begin.{StartValue, HasTruths, IsStartOf}
 use Rattle.tpl_reader.specs.Asked.{with_all, IsClaimOf, IsAsked}
 use Rattle.tpl_reader.specs.Ends.{ends_in}
-use Rattle.tpl_reader.specs.Top.{Members}
-use Rattle.tpl_parts.specs.TaskGrammar.{IsTask}
-use Rattle.tpl_parts.specs.ClaimGrammar.{IsClaim}
-use Rattle.tpl_parts.specs.StartGrammar.{IsStartIfAny}
-use Rattle.tpl_reader.specs.TopGrammar.{IsTop}
-use Rattle.tpl_json.specs.Grammar.{AllRead}
-use Rattle.tpl_reader.specs.Document.{Spelled, IsSpelled, DocumentValue, IsStarted, IsDocument, Reads, Spells}
+use Rattle.tpl_reader.specs.declared.fault.Part.{Part}
+use Rattle.tpl_reader.specs.Shape.{Spelled, spelled_at}
+use Rattle.tpl_reader.specs.Passes.{AllRead}
+use Rattle.tpl_reader.specs.Document.{DocumentValue, IsStarted, IsDocument, Reads, Spells}
 use Rattle.tpl_json.proofs.Arrays.{some_is, head_is, tail_is}
-use Rattle.tpl_json.proofs.Json.{cons_same, Within}
-use Rattle.tpl_reader.proofs.Shallow.{tasks_within}
-use Rattle.tpl_reader.proofs.TopLaws.{top_read}
-use Rattle.tpl_parts.proofs.TaskLaws.{task_read}
-use Rattle.tpl_parts.proofs.ClaimLaws.{claim_read}
-use Rattle.tpl_parts.proofs.StartLaws.{if_any_read}
+use Rattle.tpl_json.proofs.Json.{cons_same}
 
 all_same : {D A : Type 0} (R : D → A → Type 0) → ((d : D) (x y : A) → R d x → R d y → x ≡ y) → (ds : List D) (xs ys : List A) → AllRead R ds xs → AllRead R ds ys → xs ≡ ys
 all_same R f [] [] [] p q = refl
@@ -41,50 +29,18 @@ all_same R f (d ∷ ds) [] ys p q = absurd p
 all_same R f (d ∷ ds) (x ∷ xs) [] p q = absurd q
 all_same R f (d ∷ ds) (x ∷ xs) (y ∷ ys) p q = cons_same x y xs ys (f d x y p.0 q.0) (all_same R f ds xs ys p.1 q.1)
 
--- ---- a value has the form of one document
+-- ---- a value spells one document with names
 
-pub top_same : (d : Data) (x y : Members) → IsTop d x → IsTop d y → x ≡ y
-top_same d x y p q = some_is x y (sym (top_read d x p) ∙ top_read d y q)
+abbrev pub found : Spelled → Result Spelled Part
+found s = Ok s
 
-tasks_same : (v : Version) (ds : List Data) → Within 127 ds → (xs ys : List Task) → AllRead (IsTask v) ds xs → AllRead (IsTask v) ds ys → xs ≡ ys
-tasks_same v [] w [] [] p q = refl
-tasks_same v [] w [] (y ∷ ys) p q = absurd q
-tasks_same v [] w (x ∷ xs) ys p q = absurd p
-tasks_same v (d ∷ ds) w [] ys p q = absurd p
-tasks_same v (d ∷ ds) w (x ∷ xs) [] p q = absurd q
-tasks_same v (d ∷ ds) w (x ∷ xs) (y ∷ ys) p q =
-    cons_same x y xs ys (some_is x y (sym (task_read v d x w.0 p.0) ∙ task_read v d y w.0 q.0)) (tasks_same v ds w.1 xs ys p.1 q.1)
+found_is : (x y : Spelled) → found x ≡ found y → x ≡ y
+found_is x y e = cc
 
-claims_same : (v : Version) (ds : List Data) (xs ys : List NamedClaim) → AllRead (IsClaim v) ds xs → AllRead (IsClaim v) ds ys → xs ≡ ys
-claims_same v = all_same (IsClaim v) (λ d x y p q. some_is x y (sym (claim_read v d x p) ∙ claim_read v d y q))
+pub spelled_same : (d : Data) (x y : Spelled) → spelled_at d ≡ Ok x → spelled_at d ≡ Ok y → x ≡ y
+spelled_same d x y p q = found_is x y (sym p ∙ q)
 
-start_same : (o : Option Data) (x y : Option NamedStart) → IsStartIfAny o x → IsStartIfAny o y → x ≡ y
-start_same o x y p q = some_is x y (sym (if_any_read o x p) ∙ if_any_read o y q)
-
-abbrev spelled_with : Version → List (List ℕ) → List Token → List Task → List NamedClaim → List Data → List ℕ → Option NamedStart → Option Data → Option (List ℕ) → Spelled
-spelled_with version inputs tokens tasks claims certificate journal start ended times =
-    record { version = version; draft = record { inputs = inputs; tokens = tokens; tasks = tasks }; claims = claims; certificate = certificate; journal = journal; start = start; ended = ended; times = times }
-
-parts_same : (v w : Version) (a b : List (List ℕ)) (c d : List Token) (e f : List Task) (g h : List NamedClaim) (i j : List Data) (k l : List ℕ) (m n : Option NamedStart) (ea eb : Option Data) (ta tb : Option (List ℕ))
-    → v ≡ w → a ≡ b → c ≡ d → e ≡ f → g ≡ h → i ≡ j → k ≡ l → m ≡ n → ea ≡ eb → ta ≡ tb → spelled_with v a c e g i k m ea ta ≡ spelled_with w b d f h j l n eb tb
-parts_same v w a b c d e f g h i j k l m n ea eb ta tb o p q r s t u x y z = rw (o, p, q, r, s, t, u, x, y, z) refl
-
-pub spelled_same : (d : Data) (x y : Spelled) → depth d ≤ 127 → IsSpelled d x → IsSpelled d y → x ≡ y
-spelled_same d x y le p q =
-    let same : p.members ≡ q.members = top_same d p.members q.members p.top q.top in
-    parts_same x.version y.version x.draft.inputs y.draft.inputs x.draft.tokens y.draft.tokens x.draft.tasks y.draft.tasks x.claims y.claims x.certificate y.certificate x.journal y.journal x.start y.start x.ended y.ended x.times y.times
-    (p.version ∙ ap (λ (m : Members). m.version) same ∙ sym q.version)
-    (p.inputs ∙ ap (λ (m : Members). m.inputs) same ∙ sym q.inputs)
-    (p.tokens ∙ ap (λ (m : Members). m.tokens) same ∙ sym q.tokens)
-    (tasks_same p.members.version p.members.tasks (tasks_within d p.members le p.top) x.draft.tasks y.draft.tasks p.tasks (subst (λ (m : Members). AllRead (IsTask m.version) m.tasks y.draft.tasks) (sym same) q.tasks))
-    (claims_same p.members.version p.members.claims x.claims y.claims p.claims (subst (λ (m : Members). AllRead (IsClaim m.version) m.claims y.claims) (sym same) q.claims))
-    (p.certificate ∙ ap (λ (m : Members). m.certificate) same ∙ sym q.certificate)
-    (p.journal ∙ ap (λ (m : Members). m.journal) same ∙ sym q.journal)
-    (start_same p.members.start x.start y.start p.start (subst (λ (m : Members). IsStartIfAny m.start y.start) (sym same) q.start))
-    (p.ended ∙ ap (λ (m : Members). m.ended) same ∙ sym q.ended)
-    (p.times ∙ ap (λ (m : Members). m.times) same ∙ sym q.times)
-
--- ---- and what has the form is one document
+-- ---- which is one document
 
 somes_same : {A : Type 0} (xs ys : List A) → map (λ (x : A). Some x) xs ≡ map (λ (x : A). Some x) ys → xs ≡ ys
 somes_same [] [] e = refl
@@ -153,9 +109,6 @@ document_same law s x y p q =
     (p.ended ∙ ap (λ (g : Named). ends_in g.names.tasks s.ended) same ∙ sym q.ended)
     (p.times ∙ sym q.times)
 
-pub shallow : (bytes : List ℕ) (d : Data) → Reads bytes d → depth d ≤ 127
-shallow bytes d reads = depth-read bytes d reads.1
-
 pub value_same : (bytes : List ℕ) (d e : Data) → Reads bytes d → Reads bytes e → d ≡ e
 value_same bytes d e p q = some_is d e (sym p.1 ∙ q.1)
 
@@ -164,6 +117,6 @@ one_document law bytes doc other p q =
     let d = p.1.0 in
     let x = p.1.2.0 in
     let y = q.1.2.0 in
-    let spelled : IsSpelled d y = subst (λ (z : Data). IsSpelled z y) (value_same bytes q.1.0 d q.1.1 p.1.1) q.1.2.1 in
-    let same : x ≡ y = spelled_same d x y (shallow bytes d p.1.1) p.1.2.1 spelled in
+    let spelled : spelled_at d ≡ Ok y = subst (λ (z : Data). spelled_at z ≡ Ok y) (value_same bytes q.1.0 d q.1.1 p.1.1) q.1.2.1 in
+    let same : x ≡ y = spelled_same d x y p.1.2.1 spelled in
     document_same law x other doc (subst (λ (z : Spelled). IsDocument z other) (sym same) q.1.2.2) p.1.2.2

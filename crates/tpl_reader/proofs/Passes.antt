@@ -4,8 +4,7 @@ use Rattle.std.specs.Prelude.{slice_get}
 use Rattle.std.proofs.lemmas.List.{map_more, take_all}
 use Rattle.tpl_json.specs.declared.miss.Miss.{Miss}
 use Rattle.tpl_json.specs.declared.miss.Miss.TheVariants as miss
-use Rattle.tpl_json.specs.Grammar.{AllRead}
-use Rattle.tpl_reader.specs.Passes.{FirstWrong, Halts, IsHere}
+use Rattle.tpl_reader.specs.Passes.{AllRead, FirstWrong, Halts, IsHere}
 
 snoc : {D A : Type 0} (R : D → A → Type 0) (ds : List D) (xs : List A) (d : D) (x : A) → AllRead R ds xs → R d x → AllRead R (ds ++ d ∷ []) (xs ++ x ∷ [])
 snoc R [] [] d x all r = (r, tt)

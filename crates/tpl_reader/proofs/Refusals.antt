@@ -7,14 +7,15 @@ use Rattle.tpl_draft.specs.Named.{Named}
 use Rattle.tpl_draft.specs.Numbered.{numbered}
 use Rattle.tpl_draft.specs.Refusals.{IsValid}
 use Rattle.tpl_cert.specs.Spelled.{ReadsAs}
-use Rattle.tpl_json.specs.Grammar.{AllRead}
+use Rattle.tpl_reader.specs.Passes.{AllRead}
 use Rattle.tpl_reader.specs.declared.fault.ReadFault.{ReadFault}
 use Rattle.tpl_reader.specs.declared.fault.ReadFault.TheVariants as faults
 use Rattle.tpl_reader.specs.declared.fault.StartFault.{StartFault}
 use Rattle.tpl_reader.specs.declared.fault.StartFault.TheVariants as starts
 use Rattle.tpl_parts.specs.Start.{NamedStart}
 use Rattle.tpl_reader.specs.Ends.{knows_ends}
-use Rattle.tpl_reader.specs.Document.{Spelled, IsWrongBegin, IsWrongSeen, BeginFaults, AreAsked, GraphFaults, ClaimFaults, TreeFaults, StartFaults, IsRefused}
+use Rattle.tpl_reader.specs.Shape.{Spelled}
+use Rattle.tpl_reader.specs.Document.{IsWrongBegin, IsWrongSeen, BeginFaults, AreAsked, GraphFaults, ClaimFaults, TreeFaults, StartFaults, IsRefused}
 
 pub graph_refused : (s : Spelled) (e : ReadFault) → GraphFaults s.draft e → IsRefused s e
 graph_refused s (faults.Graph f) h = h

@@ -1,56 +1,77 @@
 -- From the parts of a document to the first of the wrong shape.
-use Rattle.std.proofs.Common.{List}
+use Rattle.std.proofs.Common.{◌≡◌, ℕ, zero, suc, ◌+◌, ◌<◌, ◌≤◌, List, [], ◌∷◌, length, get_or, take, map, Some, None, Result, Ok, Err, Option, refl, ap, arith}
+use Rattle.std.proofs.lemmas.List.{take_all}
 use Rattle.serde_json.specs.Data.{Data}
 use Rattle.tpl_draft.specs.Draft.{Task}
-use Rattle.tpl_parts.specs.NamedClaims.{NamedClaim}
+use Rattle.tpl_json.specs.Members.{each}
+use Rattle.tpl_json.proofs.Arrays.{each_parts, each_nothing}
 use Rattle.tpl_json.specs.declared.miss.Miss.{Miss}
 use Rattle.tpl_json.specs.declared.miss.Miss.TheVariants as miss
+use Rattle.tpl_parts.specs.NamedClaims.{NamedClaim}
+use Rattle.tpl_parts.specs.Tasks.{task_at}
+use Rattle.tpl_parts.specs.Claims.{claim_at}
+use Rattle.tpl_parts.specs.Start.{start_or_none}
 use Rattle.tpl_reader.specs.declared.fault.Part.{Part}
 use Rattle.tpl_reader.specs.declared.fault.Part.TheVariants as part
-use Rattle.tpl_reader.specs.Top.{Members}
-use Rattle.tpl_parts.specs.TaskGrammar.{IsTask}
-use Rattle.tpl_parts.specs.ClaimGrammar.{IsClaim}
-use Rattle.tpl_reader.specs.TopGrammar.{IsTop}
-use Rattle.tpl_json.specs.Grammar.{AllRead}
 use Rattle.tpl_reader.specs.Asked.{Refuses}
-use Rattle.tpl_reader.specs.Document.{WrongTop, WrongTask, WrongClaim, WrongStart, IsMisshapen}
+use Rattle.tpl_reader.specs.Top.{Members, top_at}
+use Rattle.tpl_reader.specs.Shape.{parts_in, spelled_at}
 
-top_wrong : (d : Data) (p : Part) → WrongTop d p → IsMisshapen d p
-top_wrong d part.Top h = h
-top_wrong d (part.Task n) h = absurd h
-top_wrong d (part.Claim n) h = absurd h
-top_wrong d part.Start h = absurd h
+abbrev ok : {A : Type 0} → A → Result A Part
+ok x = Ok x
 
-task_wrong : (d : Data) (m : Members) (p : Part) → IsTop d m → WrongTask m.version m.tasks p → IsMisshapen d p
-task_wrong d m part.Top e h = absurd h
-task_wrong d m (part.Task n) e h = (m, e, h)
-task_wrong d m (part.Claim n) e h = absurd h
-task_wrong d m part.Start e h = absurd h
+abbrev wrong : {A : Type 0} → Part → Result A Part
+wrong p = Err p
 
-claim_wrong : (d : Data) (m : Members) (ts : List Task) (p : Part) → IsTop d m → AllRead (IsTask m.version) m.tasks ts → WrongClaim m.version m.claims p → IsMisshapen d p
-claim_wrong d m ts part.Top e t h = absurd h
-claim_wrong d m ts (part.Task n) e t h = absurd h
-claim_wrong d m ts (part.Claim n) e t h = (m, e, (ts, t), h)
-claim_wrong d m ts part.Start e t h = absurd h
+-- ---- the elements of a list
 
-start_wrong : (d : Data) (m : Members) (ts : List Task) (cs : List NamedClaim) (p : Part) → IsTop d m → AllRead (IsTask m.version) m.tasks ts → AllRead (IsClaim m.version) m.claims cs → WrongStart m.start p → IsMisshapen d p
-start_wrong d m ts cs part.Top e t c h = absurd h
-start_wrong d m ts cs (part.Task n) e t c h = absurd h
-start_wrong d m ts cs (part.Claim n) e t c h = absurd h
-start_wrong d m ts cs part.Start e t c h = (m, e, (ts, t), (cs, c), h)
+all_in : {A : Type 0} (place : ℕ → Part) (f : Data → Option A) (n : ℕ) (ds : List Data) (xs : List A) → each f ds ≡ Some xs → parts_in place f n ds ≡ ok xs
+unfolding parts_in
+all_in place f n [] xs e = ap ok (each_nothing f xs e)
+all_in place f n (d ∷ ds) xs e =
+    let p = each_parts f d ds xs e in
+    rw (p.is_first, all_in place f (n + 1) ds p.rest p.is_rest) (ap ok p.whole)
 
-pub top_refused : (d : Data) (e : Miss Part) → Refuses (WrongTop d) e → Refuses (IsMisshapen d) e
-top_refused d (miss.Wrong p) h = top_wrong d p h
+-- a loop over them all
+pub parts_done : {X A : Type 0} (place : ℕ → Part) (f : Data → Option A) (g : X → Data) (es : List X) (i : ℕ) (xs : List A) → length es ≤ i → each f (map g (take i es)) ≡ Some xs → parts_in place f 1 (map g es) ≡ Ok xs
+parts_done place f g es i xs le all = all_in place f 1 (map g es) xs (rw (take_all i es le) at all)
+
+stops : {X A : Type 0} (place : ℕ → Part) (f : Data → Option A) (g : X → Data) (n k : ℕ) (es : List X) (i : ℕ) (e : X) (xs : List A)
+    → k ≡ n + i → i < length es → each f (map g (take i es)) ≡ Some xs → f (g (get_or es i e)) ≡ None → parts_in place f n (map g es) ≡ wrong (place k)
+unfolding parts_in
+stops place f g n k [] i e xs here lt all none = absurd (omega arith)
+stops place f g n k (x ∷ es) zero e xs here lt all none = let same : n ≡ k = omega (arith, here) in rw (none, same) refl
+stops place f g n k (x ∷ es) (suc i) e xs here lt all none =
+    let p = each_parts f (g x) (map g (take i es)) xs all in
+    rw (p.is_first, stops place f g (n + 1) k es i e p.rest (omega (arith, here)) (omega arith) p.is_rest none) refl
+
+-- the exit of such a loop
+pub parts_stop : {X A : Type 0} (place : ℕ → Part) (f : Data → Option A) (g : X → Data) (es : List X) (i : ℕ) (e : X) (xs : List A) (m : Miss Part)
+    → i < length es → e ≡ get_or es i e → each f (map g (take i es)) ≡ Some xs → Refuses (λ p. (p ≡ place (i + 1)) × (f (g e) ≡ None)) m → Refuses (λ p. parts_in place f 1 (map g es) ≡ Err p) m
+parts_stop place f g es i e xs (miss.Wrong p) lt is all h = rw h.0 (stops place f g 1 (i + 1) es i e xs (omega arith) lt all (rw (← is) h.1))
+parts_stop place f g es i e xs miss.Memory lt is all h = tt
+
+-- ---- the parts
+
+module _ (d : Data) (m : Members) (top : top_at d ≡ Some m) where
+  pub task_refused : (e : Miss Part) → Refuses (λ p. parts_in part.Task (task_at m.version) 1 m.tasks ≡ Err p) e → Refuses (λ p. spelled_at d ≡ Err p) e
+  unfolding spelled_at
+  task_refused (miss.Wrong p) h = rw (top, h) refl
+  task_refused miss.Memory h = tt
+
+  module _ (ts : List Task) (tasks : parts_in part.Task (task_at m.version) 1 m.tasks ≡ Ok ts) where
+    pub claim_refused : (e : Miss Part) → Refuses (λ p. parts_in part.Claim (claim_at m.version) 1 m.claims ≡ Err p) e → Refuses (λ p. spelled_at d ≡ Err p) e
+    unfolding spelled_at
+    claim_refused (miss.Wrong p) h = rw (top, tasks, h) refl
+    claim_refused miss.Memory h = tt
+
+    pub start_refused : (cs : List NamedClaim) → parts_in part.Claim (claim_at m.version) 1 m.claims ≡ Ok cs → (e : Miss Part) → Refuses (λ p. (p ≡ part.Start) × (start_or_none m.start ≡ None)) e
+        → Refuses (λ p. spelled_at d ≡ Err p) e
+    unfolding spelled_at
+    start_refused cs claims (miss.Wrong p) h = rw (top, tasks, claims, h.1, h.0) refl
+    start_refused cs claims miss.Memory h = tt
+
+pub top_refused : (d : Data) (e : Miss Part) → Refuses (λ p. (p ≡ part.Top) × (top_at d ≡ None)) e → Refuses (λ p. spelled_at d ≡ Err p) e
+unfolding spelled_at
+top_refused d (miss.Wrong p) h = rw (h.1, h.0) refl
 top_refused d miss.Memory h = tt
-
-pub task_refused : (d : Data) (m : Members) (e : Miss Part) → IsTop d m → Refuses (WrongTask m.version m.tasks) e → Refuses (IsMisshapen d) e
-task_refused d m (miss.Wrong p) t h = task_wrong d m p t h
-task_refused d m miss.Memory t h = tt
-
-pub claim_refused : (d : Data) (m : Members) (ts : List Task) (e : Miss Part) → IsTop d m → AllRead (IsTask m.version) m.tasks ts → Refuses (WrongClaim m.version m.claims) e → Refuses (IsMisshapen d) e
-claim_refused d m ts (miss.Wrong p) t a h = claim_wrong d m ts p t a h
-claim_refused d m ts miss.Memory t a h = tt
-
-pub start_refused : (d : Data) (m : Members) (ts : List Task) (cs : List NamedClaim) (e : Miss Part) → IsTop d m → AllRead (IsTask m.version) m.tasks ts → AllRead (IsClaim m.version) m.claims cs → Refuses (WrongStart m.start) e → Refuses (IsMisshapen d) e
-start_refused d m ts cs (miss.Wrong p) t a c h = start_wrong d m ts cs p t a c h
-start_refused d m ts cs miss.Memory t a c h = tt

@@ -1,7 +1,7 @@
 -- Where a run starts, with ids in place of names, and what is wrong with a start.
 use Rattle.std.specs.Prelude.{◌≡◌, ℕ, ◌<◌, ◌&&◌, Bool, true, false, List, Option, Some, None, length, option_and_then, slice_index_or}
 use Rattle.std.specs.List.{list_all}
-use Rattle.serde_json.specs.Data.{Data, Members, null, boolean, number, string, array, object}
+use Rattle.serde_json.specs.Data.{Data, Members, object}
 use Rattle.serde_json.specs.Find.{get, as_bool}
 use Rattle.tpl_model.specs.Graph.{TaskGraph}
 use Rattle.tpl_draft.specs.Named.{Named, all_may_fail}
@@ -24,12 +24,8 @@ declares names ms = names_all (is_declared names) ms
 
 unfoldable pub knows_members : List (List ℕ) → Option Data → Bool
 knows_members names None = true
-knows_members names (Some null) = true
-knows_members names (Some (boolean b)) = true
-knows_members names (Some (number n)) = true
-knows_members names (Some (string s)) = true
-knows_members names (Some (array ds)) = true
 knows_members names (Some (object ms)) = declares names ms
+knows_members names (Some d) = true
 
 -- the value of an input, if it has one
 unfoldable pub truth_at : Option Data → List ℕ → Option Bool

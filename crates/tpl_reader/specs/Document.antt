@@ -1,12 +1,12 @@
 -- Which document bytes spell, and what is wrong with bytes that spell none.
-use Rattle.std.specs.Prelude.{◌≡◌, ◌≤◌, ◌<◌, ◌+◌, ℕ, ◌⊎◌, Bool, true, false, List, Option, Some, None, length, map, IsUtf8}
+use Rattle.std.specs.Prelude.{◌≡◌, ◌≤◌, ◌<◌, ◌+◌, ℕ, ◌⊎◌, true, false, List, Option, Some, None, length, map, Ok, Err, IsUtf8}
 use Rattle.serde_json.specs.Data.{Data}
 use Rattle.serde_json.specs.Read.{read}
 use Rattle.tpl_model.specs.declared.ids.TaskId.{TaskId}
 use Rattle.tpl_model.specs.declared.finals.Final.{Final}
 use Rattle.tpl_model.specs.Claims.{Claim}
 use Rattle.tpl_model.specs.Certificate.{Tree}
-use Rattle.tpl_draft.specs.Draft.{Task, Draft}
+use Rattle.tpl_draft.specs.Draft.{Draft}
 use Rattle.tpl_draft.specs.Named.{Named}
 use Rattle.tpl_draft.specs.Numbered.{numbered}
 use Rattle.tpl_draft.specs.Refusals.{IsValid, IsLeast}
@@ -19,78 +19,15 @@ use Rattle.tpl_parts.specs.NamedClaims.{NamedClaim}
 use Rattle.tpl_parts.specs.Start.{NamedStart}
 use Rattle.tpl_reader.specs.Begin.{StartValue, IsStartOf, IsWrongStart}
 use Rattle.tpl_reader.specs.Ends.{knows_ends, ends_in}
-use Rattle.tpl_reader.specs.Top.{Members}
-use Rattle.tpl_parts.specs.TaskGrammar.{IsTask, IsNoTask}
-use Rattle.tpl_parts.specs.ClaimGrammar.{IsClaim, IsNoClaim}
-use Rattle.tpl_parts.specs.StartGrammar.{IsStartIfAny}
-use Rattle.tpl_reader.specs.TopGrammar.{IsTop}
+use Rattle.tpl_reader.specs.Shape.{Spelled, spelled_at}
 use Rattle.tpl_reader.specs.Asked.{AreAllAsked, IsFirstNotAsked}
-use Rattle.tpl_json.specs.Grammar.{AllRead}
-use Rattle.tpl_reader.specs.Passes.{FirstWrong}
-use Rattle.tpl_reader.specs.declared.fault.Part.{Part}
-use Rattle.tpl_reader.specs.declared.fault.Part.TheVariants as part
+use Rattle.tpl_reader.specs.Passes.{AllRead, FirstWrong}
 use Rattle.tpl_reader.specs.declared.fault.ClaimFault.{ClaimFault}
 use Rattle.tpl_reader.specs.declared.fault.ClaimFault.TheVariants.{TooMany}
 use Rattle.tpl_reader.specs.declared.fault.StartFault.{StartFault}
 use Rattle.tpl_reader.specs.declared.fault.StartFault.TheVariants as starts
 use Rattle.tpl_reader.specs.declared.fault.ReadFault.{ReadFault}
 use Rattle.tpl_reader.specs.declared.fault.ReadFault.TheVariants as faults
-
--- a document as it is spelled, with names
-pub record Spelled : Type 0 where
-  pub version : Version
-  pub draft : Draft
-  pub claims : List NamedClaim
-  pub certificate : List Data
-  pub journal : List ℕ
-  pub start : Option NamedStart
-  pub ended : Option Data
-  pub times : Option (List ℕ)
-
--- the value spells the document with names
-pub record IsSpelled (d : Data) (s : Spelled) : Type 0 where
-  pub members : Members
-  pub top : IsTop d members
-  pub version : s.version ≡ members.version
-  pub inputs : s.draft.inputs ≡ members.inputs
-  pub tokens : s.draft.tokens ≡ members.tokens
-  pub tasks : AllRead (IsTask members.version) members.tasks s.draft.tasks
-  pub claims : AllRead (IsClaim members.version) members.claims s.claims
-  pub certificate : s.certificate ≡ members.certificate
-  pub journal : s.journal ≡ members.journal
-  pub start : IsStartIfAny members.start s.start
-  pub ended : s.ended ≡ members.ended
-  pub times : s.times ≡ members.times
-
--- the value spells no top of a document
-abbrev pub IsNoTop : Data → Type 0
-IsNoTop d = (m : Members) → IsTop d m → ⊥
-
-abbrev pub IsNoStart : Option Data → Type 0
-IsNoStart d = (s : Option NamedStart) → IsStartIfAny d s → ⊥
-
-abbrev pub WrongTop : Data → Part → Type 0
-WrongTop d part.Top = IsNoTop d
-WrongTop d p = ⊥
-
-abbrev pub WrongStart : Option Data → Part → Type 0
-WrongStart d part.Start = IsNoStart d
-WrongStart d p = ⊥
-
-abbrev pub WrongTask : Version → List Data → Part → Type 0
-WrongTask version ds (part.Task n) = FirstWrong (IsTask version) (IsNoTask version) ds n tt
-WrongTask version ds p = ⊥
-
-abbrev pub WrongClaim : Version → List Data → Part → Type 0
-WrongClaim version ds (part.Claim n) = FirstWrong (IsClaim version) (IsNoClaim version) ds n tt
-WrongClaim version ds p = ⊥
-
--- the first part of the wrong shape
-abbrev pub IsMisshapen : Data → Part → Type 0
-IsMisshapen d part.Top = IsNoTop d
-IsMisshapen d (part.Task n) = (m : Members) × IsTop d m × FirstWrong (IsTask m.version) (IsNoTask m.version) m.tasks n tt
-IsMisshapen d (part.Claim n) = (m : Members) × IsTop d m × ((ts : List Task) × AllRead (IsTask m.version) m.tasks ts) × FirstWrong (IsClaim m.version) (IsNoClaim m.version) m.claims n tt
-IsMisshapen d part.Start = (m : Members) × IsTop d m × ((ts : List Task) × AllRead (IsTask m.version) m.tasks ts) × ((cs : List NamedClaim) × AllRead (IsClaim m.version) m.claims cs) × IsNoStart m.start
 
 -- ---- with ids in place of names
 
@@ -208,12 +145,12 @@ Reads bytes d = IsUtf8 bytes × (read bytes ≡ Some d)
 
 -- the bytes spell the document
 abbrev pub Spells : List ℕ → DocumentValue → Type 0
-Spells bytes doc = (length bytes ≤ longest) × ((d : Data) × Reads bytes d × ((s : Spelled) × IsSpelled d s × IsDocument s doc))
+Spells bytes doc = (length bytes ≤ longest) × ((d : Data) × Reads bytes d × ((s : Spelled) × (spelled_at d ≡ Ok s) × IsDocument s doc))
 
 -- what is wrong with bytes that spell no document, memory aside
 abbrev pub IsFault : List ℕ → ReadFault → Type 0
 IsFault bytes faults.TooLong = longest < length bytes
 IsFault bytes faults.NotJson = (length bytes ≤ longest) × ((d : Data) → Reads bytes d → ⊥)
-IsFault bytes (faults.Shape p) = (length bytes ≤ longest) × ((d : Data) × Reads bytes d × IsMisshapen d p)
+IsFault bytes (faults.Shape p) = (length bytes ≤ longest) × ((d : Data) × Reads bytes d × (spelled_at d ≡ Err p))
 IsFault bytes faults.Memory = Unit {0}
-IsFault bytes e = (length bytes ≤ longest) × ((d : Data) × Reads bytes d × ((s : Spelled) × IsSpelled d s × IsRefused s e))
+IsFault bytes e = (length bytes ≤ longest) × ((d : Data) × Reads bytes d × ((s : Spelled) × (spelled_at d ≡ Ok s) × IsRefused s e))

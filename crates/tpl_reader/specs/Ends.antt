@@ -1,6 +1,6 @@
 -- How tasks were seen to end, with ids in place of names.
-use Rattle.std.specs.Prelude.{◌&&◌, ℕ, zero, suc, Bool, true, List, [], ◌∷◌, ◌++◌, length, Option, Some, None, option_and_then}
-use Rattle.serde_json.specs.Data.{Data, Members, null, boolean, number, string, array, object}
+use Rattle.std.specs.Prelude.{ℕ, zero, suc, Bool, List, [], ◌∷◌, ◌++◌, length, Option, Some, None, option_and_then}
+use Rattle.serde_json.specs.Data.{Data}
 use Rattle.serde_json.specs.Find.{get}
 use Rattle.tpl_model.specs.declared.ids.TaskId.{TaskId}
 use Rattle.tpl_model.specs.declared.finals.Final.{Final}

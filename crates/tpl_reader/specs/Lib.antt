@@ -1,7 +1,7 @@
 pub mod Passes
 pub mod Asked
 pub mod Top
-pub mod TopGrammar
+pub mod Shape
 pub mod SeenTop
 pub mod Begin
 pub mod Ends

@@ -1,8 +1,14 @@
 -- Reading the elements of a list one after another, as far as the first that isn't read.
-use Rattle.std.specs.Prelude.{◌≡◌, ℕ, ◌-◌, ◌<◌, List, Some, Result, Ok, Err, take, slice_get}
-use Rattle.tpl_json.specs.Grammar.{AllRead}
+use Rattle.std.specs.Prelude.{◌≡◌, ℕ, ◌-◌, ◌<◌, List, [], ◌∷◌, Some, Result, Ok, Err, take, slice_get}
 use Rattle.tpl_json.specs.declared.miss.Miss.{Miss}
 use Rattle.tpl_json.specs.declared.miss.Miss.TheVariants as miss
+
+-- each element is read as one of these, one for one
+abbrev pub AllRead : {D A : Type 0} → (D → A → Type 0) → List D → List A → Type 0
+AllRead R [] [] = Unit {0}
+AllRead R [] (x ∷ xs) = ⊥
+AllRead R (d ∷ ds) [] = ⊥
+AllRead R (d ∷ ds) (x ∷ xs) = R d x × AllRead R ds xs
 
 -- the n-th element, counted from 1, is the first that isn't read
 pub record FirstWrong {D A F : Type 0} (R : D → A → Type 0) (W : D → F → Type 0) (ds : List D) (n : ℕ) (fault : F) : Type 0 where

@@ -13,7 +13,8 @@ use Rattle.tpl_reader.specs.declared.document.Document as document
 use Rattle.tpl_reader.specs.declared.shape.NamedRest.{NamedRest}
 use Rattle.tpl_reader.specs.declared.shape.Shaped.{Shaped}
 use Rattle.tpl_reader.specs.Begin.{StartValue}
-use Rattle.tpl_reader.specs.Document.{Spelled, DocumentValue}
+use Rattle.tpl_reader.specs.Shape.{Spelled}
+use Rattle.tpl_reader.specs.Document.{DocumentValue}
 
 abbrev pub value_of : start.Start → StartValue
 value_of s = record { inputs = s.inputs; request = map token_number s.request.items; fail = map site_number s.fail.items }

@@ -1,5 +1,5 @@
--- Reading a document as far as its shape goes.
-use Rattle.std.specs.Prelude.{◌==◌, ◌&&◌, ℕ, List, [], ◌∷◌, length, count_by, Option, Some, None, Bool, true, false, codes, nat_eq, nat_le, option_and_then, if◌then◌else◌}
+-- The members of the document that a JSON value is, `None` where it is none.
+use Rattle.std.specs.Prelude.{◌==◌, ◌&&◌, ℕ, List, [], ◌∷◌, length, count_by, Option, Some, None, Bool, true, codes, nat_eq, nat_le, option_and_then, if◌then◌else◌}
 use Rattle.serde_json.specs.Data.{Data}
 use Rattle.serde_json.specs.Find.{get, as_str, as_number, as_u64}
 use Rattle.tpl_json.specs.Members.{◌>>=◌, only_if, has_only, list_in, list_or_none, each}
@@ -11,7 +11,7 @@ use Rattle.tpl_parts.specs.Remarks.{note_at}
 use Rattle.tpl_parts.specs.Ends.{has_ends}
 use Rattle.tpl_parts.specs.Tasks.{token_at}
 
--- the members of a document
+-- the members of a document, of which the tasks, the claims, the trees and the start aren't read yet
 pub record Members : Type 0 where
   pub version : Version
   pub inputs : List (List ℕ)
@@ -24,18 +24,22 @@ pub record Members : Type 0 where
   pub ended : Option Data
   pub times : Option (List ℕ)
 
+-- a whole number of 64 bits
+unfoldable pub whole_at : Data → Option ℕ
+whole_at d = option_and_then as_u64 (as_number d)
+
 -- the version of this number
 unfoldable pub version_in : ℕ → Option Version
 version_in number = if number == 1 then Some One else (if number == 2 then Some Two else (if number == 3 then Some Three else None))
 
+-- a text, which is empty where it isn't there
 unfoldable pub text_or_empty : Option Data → Option (List ℕ)
 text_or_empty None = Some []
 text_or_empty (Some d) = as_str d
 
+-- a version, by its number
 unfoldable pub version_at : Data → Option Version
-version_at d = do
-  number ← option_and_then as_u64 (option_and_then as_number (get (codes "version") d))
-  version_in number
+version_at d = whole_at d >>= version_in
 
 -- the members that version 3 adds
 abbrev pub added : Version → List (List ℕ)
@@ -47,9 +51,6 @@ added Three = codes "note" ∷ codes "ended" ∷ codes "times" ∷ []
 unfoldable pub ends_or_none : Option Data → Option (Option Data)
 ends_or_none None = Some None
 ends_or_none (Some d) = if has_ends d then Some (Some d) else None
-
-unfoldable pub whole_at : Data → Option ℕ
-whole_at d = option_and_then as_u64 (as_number d)
 
 -- none is less than the one before, and the first none than this
 abbrev pub never_fall : ℕ → List ℕ → Bool
@@ -63,6 +64,7 @@ is_line_break byte = nat_eq byte 10
 abbrev pub line_breaks : List ℕ → ℕ
 line_breaks text = count_by is_line_break text
 
+-- one for each line break of the journal
 abbrev pub are_times : List ℕ → List ℕ → Bool
 are_times journal times = nat_eq (length times) (line_breaks journal) && never_fall 0 times
 
@@ -70,21 +72,23 @@ are_times journal times = nat_eq (length times) (line_breaks journal) && never_f
 unfoldable pub times_or_none : List ℕ → Option Data → Option (Option (List ℕ))
 times_or_none journal None = Some None
 times_or_none journal (Some d) = do
-  list ← list_in d
-  times ← each whole_at list
+  times ← list_in d >>= each whole_at
   fit ← only_if (are_times journal times)
   Some (Some times)
 
+-- the names of its members
+abbrev pub top_names : Version → List (List ℕ)
+top_names version = codes "version" ∷ codes "inputs" ∷ codes "tokens" ∷ codes "tasks" ∷ codes "claims" ∷ codes "certificate" ∷ codes "journal" ∷ codes "start" ∷ added version
+
+-- all but the version and the tasks may be left out
 unfoldable pub top_at : Data → Option Members
 top_at d = do
-  version ← version_at d
-  only ← only_if (has_only (codes "version" ∷ codes "inputs" ∷ codes "tokens" ∷ codes "tasks" ∷ codes "claims" ∷ codes "certificate" ∷ codes "journal" ∷ codes "start" ∷ added version) d)
+  version ← get (codes "version") d >>= version_at
+  only ← only_if (has_only (top_names version) d)
   note ← note_at (get (codes "note") d)
   ended ← ends_or_none (get (codes "ended") d)
-  names ← list_or_none (get (codes "inputs") d)
-  inputs ← each as_str names
-  list ← list_or_none (get (codes "tokens") d)
-  tokens ← each (token_at (has_links version)) list
+  inputs ← list_or_none (get (codes "inputs") d) >>= each as_str
+  tokens ← list_or_none (get (codes "tokens") d) >>= each (token_at (has_links version))
   tasks ← get (codes "tasks") d >>= list_in
   claims ← list_or_none (get (codes "claims") d)
   certificate ← list_or_none (get (codes "certificate") d)

@@ -3,7 +3,6 @@
 ghost use Rattle.std.specs.Prelude.{◌≡◌, ◌≤◌, ℕ, List, Option, true, length, map, string_bytes, IfOk, IfErr};
 ghost use Rattle.std.specs.List.{All};
 ghost use Rattle.std.specs.Option.{option_map};
-ghost use Rattle.serde_json.specs.Data.{depth};
 ghost use Rattle.tpl_json.specs.View.{view};
 ghost use Rattle.tpl_model.specs.Graph.{is_task};
 ghost use Rattle.tpl_draft.specs.Draft as spec;
@@ -16,7 +15,7 @@ ghost use Rattle.tpl_graph.specs.Fits.{Fits};
 ghost use Rattle.tpl_parts.specs.SeenClaims.{claim_of};
 ghost use Rattle.tpl_parts.specs.SeenStart.{start_of};
 ghost use Rattle.tpl_reader.specs.SeenDocument.{value_of, doc_of, spelled_of, spelled_with};
-ghost use Rattle.tpl_json.specs.Grammar.{AllRead};
+ghost use Rattle.tpl_reader.specs.Passes.{AllRead};
 ghost use Rattle.tpl_reader.specs.Ends.{knows_ends, ends_in};
 ghost use Rattle.tpl_reader.specs.declared.fault.ReadFault.TheVariants.{Memory};
 ghost use Rattle.tpl_reader.specs.Document.{most_claims, AreAsked, IsStarted, GraphFaults, ClaimFaults, TreeFaults, BeginFaults, StartFaults, IsDocument, IsRefused, longest, Reads, Spells, IsFault};
@@ -251,7 +250,6 @@ fn unsaid(fault: ReadFault) -> Misread
 
 /// The document that bytes spell which read as this value.
 fn document_from(alloc: Global, value: &Value<'_>) -> Result<Document, ReadFault>
-    requires { depth (view value.now) ≤ 127 }
     ensures ok { IfOk result (λ d. (bytes : List ℕ) → length bytes ≤ longest
         → Reads bytes (view value.now) → Spells bytes (doc_of d)) }
     ensures claims { IfOk result (λ d. All (Fits d.graph.graph) d.claims.items) }

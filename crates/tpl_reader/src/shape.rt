@@ -1,27 +1,22 @@
 //! A document as far as its shape goes, part by part.
 
-ghost use Rattle.std.specs.Prelude.{◌≡◌, ◌≤◌, Some, map};
+ghost use Rattle.std.specs.Prelude.{◌≡◌, Some, None, Ok, Err};
 ghost use Rattle.std.specs.Option.{option_map};
-ghost use Rattle.serde_json.specs.Data.{depth};
 ghost use Rattle.tpl_json.specs.View.{view};
-ghost use Rattle.tpl_draft.specs.SeenTasks.{task_of};
-ghost use Rattle.tpl_parts.specs.SeenClaims.{claim_of};
+ghost use Rattle.tpl_parts.specs.Start.{start_or_none};
 ghost use Rattle.tpl_parts.specs.SeenStart.{start_of};
+ghost use Rattle.tpl_reader.specs.Top.{top_at};
 ghost use Rattle.tpl_reader.specs.SeenTop.{members_of};
 ghost use Rattle.tpl_reader.specs.SeenDocument.{spelled_of};
-ghost use Rattle.tpl_parts.specs.TaskGrammar.{IsTask, AreShallow};
-ghost use Rattle.tpl_parts.specs.ClaimGrammar.{IsClaim};
-ghost use Rattle.tpl_parts.specs.StartGrammar.{IsStartIfAny};
-ghost use Rattle.tpl_reader.specs.TopGrammar.{IsTop};
-ghost use Rattle.tpl_json.specs.Grammar.{AllRead};
 ghost use Rattle.tpl_reader.specs.Asked.{Takes};
-ghost use Rattle.tpl_reader.specs.Document.{WrongTop, WrongTask, WrongClaim, WrongStart, IsSpelled, IsMisshapen};
+ghost use Rattle.tpl_reader.specs.Shape.{spelled_at};
+ghost use Rattle.tpl_reader.specs.declared.fault.Part.TheVariants.{Top, Start};
 
 use crate::fault::Part;
 use crate::top::{Members, claims_of, members_of, tasks_of};
 use json::Value;
 use std::alloc::Global;
-use tpl_graph::{Draft, DraftTask};
+use tpl_graph::Draft;
 use tpl_json::{Miss, Shape};
 use tpl_parts::{NamedClaim, NamedStart, Version, start_or_none};
 
@@ -45,8 +40,8 @@ pub(crate) struct Shaped<'v, 't> {
 }
 
 fn top_part<'v, 't>(alloc: Global, value: &'v Value<'t>) -> Result<Members<'v, 't>, Miss<Part>>
-    ensures { Takes result (λ m. IsTop (view value.now) (members_of m))
-        (WrongTop (view value.now)) }
+    ensures { Takes result (λ m. top_at (view value.now) ≡ Some (members_of m))
+        (λ p. (p ≡ Top) × (top_at (view value.now) ≡ None)) }
 {
     match members_of(alloc, value) {
         Ok(members) => Ok(members),
@@ -55,43 +50,13 @@ fn top_part<'v, 't>(alloc: Global, value: &'v Value<'t>) -> Result<Members<'v, '
     }
 }
 
-fn task_part(
-    alloc: Global,
-    version: Version,
-    values: &[Value<'_>],
-) -> Result<Vec<DraftTask>, Miss<Part>>
-    requires { AreShallow (map view values.now) }
-    ensures { Takes result (λ v. AllRead (IsTask version) (map view values.now)
-        (map task_of v.items)) (WrongTask version (map view values.now)) }
-{
-    match tasks_of(alloc, version, values) {
-        Ok(tasks) => Ok(tasks),
-        Err(Miss::Wrong((number, _))) => Err(Miss::Wrong(Part::Task(number))),
-        Err(Miss::Memory) => Err(Miss::Memory),
-    }
-}
-
-fn claim_part<'v, 't>(
-    alloc: Global,
-    version: Version,
-    values: &'v [Value<'t>],
-) -> Result<Vec<NamedClaim<'v>>, Miss<Part>>
-    ensures { Takes result (λ v. AllRead (IsClaim version) (map view values.now)
-        (map claim_of v.items)) (WrongClaim version (map view values.now)) }
-{
-    match claims_of(alloc, version, values) {
-        Ok(claims) => Ok(claims),
-        Err(Miss::Wrong((number, _))) => Err(Miss::Wrong(Part::Claim(number))),
-        Err(Miss::Memory) => Err(Miss::Memory),
-    }
-}
-
 fn start_part<'v, 't>(
     alloc: Global,
     value: Option<&'v Value<'t>>,
 ) -> Result<Option<NamedStart<'v, 't>>, Miss<Part>>
-    ensures { Takes result (λ o. IsStartIfAny (option_map (λ v. view v.now) value.entry)
-        (option_map start_of o)) (WrongStart (option_map (λ v. view v.now) value.entry)) }
+    ensures { Takes result (λ o. start_or_none (option_map (λ v. view v.now) value.entry)
+        ≡ Some (option_map start_of o)) (λ p. (p ≡ Start) × (start_or_none
+        (option_map (λ v. view v.now) value.entry) ≡ None)) }
 {
     match start_or_none(alloc, value) {
         Ok(start) => Ok(start),
@@ -100,18 +65,17 @@ fn start_part<'v, 't>(
     }
 }
 
-/// The document with names, or the first part of the wrong shape. The value nests at most 127 deep, as that of a text.
+/// The document with names, or the first part of the wrong shape.
 pub(crate) fn shape_of<'v, 't>(
     alloc: Global,
     value: &'v Value<'t>,
 ) -> Result<Shaped<'v, 't>, Miss<Part>>
-    requires { depth (view value.now) ≤ 127 }
-    ensures { Takes result (λ s. IsSpelled (view value.now) (spelled_of s))
-        (IsMisshapen (view value.now)) }
+    ensures { Takes result (λ s. spelled_at (view value.now) ≡ Ok (spelled_of s))
+        (λ p. spelled_at (view value.now) ≡ Err p) }
 {
     let members = top_part(alloc, value)?;
-    let tasks = task_part(alloc, members.version, members.tasks)?;
-    let claims = claim_part(alloc, members.version, members.claims)?;
+    let tasks = tasks_of(alloc, members.version, members.tasks)?;
+    let claims = claims_of(alloc, members.version, members.claims)?;
     let start = start_part(alloc, members.start)?;
     let draft = Draft {
         inputs: members.inputs,

@@ -1,20 +1,21 @@
 //! Reading a document as far as its shape goes.
 
-ghost use Rattle.std.specs.Prelude.{◌≡◌, ◌≤◌, ◌∷◌, map, codes, string_bytes, option_and_then, IfErr};
+ghost use Rattle.std.specs.Prelude.{◌≡◌, Some, None, Ok, Err, map, codes, string_bytes, IfErr};
 ghost use Rattle.std.specs.Option.{option_map};
-ghost use Rattle.serde_json.specs.Data.{depth};
-ghost use Rattle.serde_json.specs.Find.{get, as_number, as_u64};
+ghost use Rattle.serde_json.specs.Find.{get};
 ghost use Rattle.tpl_json.specs.View.{view};
 ghost use Rattle.tpl_json.specs.Members.{Gives, each, has_only, IsShape};
 ghost use Rattle.tpl_draft.specs.SeenTasks.{token_of, task_of};
 ghost use Rattle.tpl_parts.specs.SeenClaims.{claim_of};
 ghost use Rattle.tpl_reader.specs.SeenTop.{members_of};
-ghost use Rattle.tpl_parts.specs.Tasks.{token_at};
-ghost use Rattle.tpl_reader.specs.Top.{version_in, version_at, text_or_empty, added, ends_or_none, is_line_break, line_breaks, never_fall, are_times, whole_at, times_or_none, top_at};
-ghost use Rattle.tpl_parts.specs.TaskGrammar.{IsTask, IsNoTask, AreShallow};
-ghost use Rattle.tpl_parts.specs.ClaimGrammar.{IsClaim, IsNoClaim};
-ghost use Rattle.tpl_reader.specs.Passes.{Passes, Here};
+ghost use Rattle.tpl_parts.specs.Tasks.{task_at, token_at};
+ghost use Rattle.tpl_parts.specs.Claims.{claim_at};
+ghost use Rattle.tpl_reader.specs.Top.{version_in, version_at, text_or_empty, added, ends_or_none, is_line_break, line_breaks, never_fall, are_times, whole_at, times_or_none, top_names, top_at};
+ghost use Rattle.tpl_reader.specs.Asked.{Takes};
+ghost use Rattle.tpl_reader.specs.Shape.{parts_in};
+ghost use Rattle.tpl_reader.specs.declared.fault.Part.TheVariants.{Task, Claim};
 
+use crate::fault::Part;
 use json::Value;
 use std::alloc::Global;
 use tpl_graph::{DraftTask, DraftToken};
@@ -40,6 +41,15 @@ pub(crate) struct Members<'v, 't> {
     pub(crate) times: Option<Vec<u64>>,
 }
 
+/// A whole number of 64 bits.
+#[tactic(auto, unfolding(crate::specs::Top::whole_at))]
+fn whole_of(value: &Value<'_>) -> Result<u64, Miss<Shape>>
+    ensures gives { Gives (λ n. n) result (whole_at (view value.now)) }
+    ensures shape { IfErr result IsShape }
+{
+    number_of(value)
+}
+
 #[tactic(auto, unfolding(crate::specs::Top::version_in))]
 fn version_in(number: u64) -> Result<Version, Miss<Shape>>
     ensures gives { Gives (λ v. v) result (version_in number) }
@@ -58,7 +68,7 @@ fn version_of(value: &Value<'_>) -> Result<Version, Miss<Shape>>
     ensures gives { Gives (λ v. v) result (version_at (view value.now)) }
     ensures shape { IfErr result IsShape }
 {
-    let number = number_of(member_in(value, "version")?)?;
+    let number = whole_of(value)?;
     version_in(number)
 }
 
@@ -163,7 +173,7 @@ fn wholes_of(alloc: Global, values: &[Value<'_>]) -> Result<Vec<u64>, Miss<Shape
 {
     let mut numbers = Vec::new(alloc);
     for value in values {
-        let number = number_of(value)?;
+        let number = whole_of(value)?;
         numbers.push(number)?;
     }
     Ok(numbers)
@@ -195,9 +205,7 @@ fn times_or_none(
 
 /// Whether the value is an object with no other members than those of a document of the version.
 fn has_members(version: Version, value: &Value<'_>) -> bool
-    ensures { result ≡ has_only (codes "version" ∷ codes "inputs" ∷ codes "tokens" ∷ codes "tasks"
-        ∷ codes "claims" ∷ codes "certificate" ∷ codes "journal" ∷ codes "start"
-        ∷ added version) (view value.now) }
+    ensures { result ≡ has_only (top_names version) (view value.now) }
 {
     has_only_beside(
         value,
@@ -223,7 +231,7 @@ pub(crate) fn members_of<'v, 't>(
 ) -> Result<Members<'v, 't>, Miss<Shape>>
     ensures { Gives members_of result (top_at (view value.now)) }
 {
-    let version = version_of(value)?;
+    let version = version_of(member_in(value, "version")?)?;
     if !has_members(version, value) {
         return Err(Miss::Wrong(Shape));
     }
@@ -258,13 +266,13 @@ fn numbered_task(
     version: Version,
     number: usize,
     value: &Value<'_>,
-) -> Result<DraftTask, Miss<(usize, ())>>
-    requires { depth (view value.now) ≤ 127 }
-    ensures { Here (IsTask version) (IsNoTask version) (view value.now) number task_of result }
+) -> Result<DraftTask, Miss<Part>>
+    ensures { Takes result (λ t. task_at version (view value.now) ≡ Some (task_of t))
+        (λ p. (p ≡ Task number) × (task_at version (view value.now) ≡ None)) }
 {
     match task_of(alloc, version, value) {
         Ok(task) => Ok(task),
-        Err(Miss::Wrong(Shape)) => Err(Miss::Wrong((number, ()))),
+        Err(Miss::Wrong(Shape)) => Err(Miss::Wrong(Part::Task(number))),
         Err(Miss::Memory) => Err(Miss::Memory),
     }
 }
@@ -274,10 +282,10 @@ pub(crate) fn tasks_of(
     alloc: Global,
     version: Version,
     values: &[Value<'_>],
-) -> Result<Vec<DraftTask>, Miss<(usize, ())>>
-    requires { AreShallow (map view values.now) }
-    ensures { Passes (IsTask version) (IsNoTask version) (map view values.now)
-        (λ v. map task_of v.items) result }
+) -> Result<Vec<DraftTask>, Miss<Part>>
+    ensures { Takes result (λ v. parts_in Task (task_at version) 1 (map view values.now)
+        ≡ Ok (map task_of v.items)) (λ p. parts_in Task (task_at version) 1 (map view values.now)
+        ≡ Err p) }
 {
     let mut tasks = Vec::new(alloc);
     for (index, value) in values.iter().enumerate() {
@@ -292,12 +300,13 @@ fn numbered_claim<'v, 't>(
     version: Version,
     number: usize,
     value: &'v Value<'t>,
-) -> Result<NamedClaim<'v>, Miss<(usize, ())>>
-    ensures { Here (IsClaim version) (IsNoClaim version) (view value.now) number claim_of result }
+) -> Result<NamedClaim<'v>, Miss<Part>>
+    ensures { Takes result (λ c. claim_at version (view value.now) ≡ Some (claim_of c))
+        (λ p. (p ≡ Claim number) × (claim_at version (view value.now) ≡ None)) }
 {
     match claim_of(alloc, version, value) {
         Ok(claim) => Ok(claim),
-        Err(Miss::Wrong(Shape)) => Err(Miss::Wrong((number, ()))),
+        Err(Miss::Wrong(Shape)) => Err(Miss::Wrong(Part::Claim(number))),
         Err(Miss::Memory) => Err(Miss::Memory),
     }
 }
@@ -307,9 +316,10 @@ pub(crate) fn claims_of<'v, 't>(
     alloc: Global,
     version: Version,
     values: &'v [Value<'t>],
-) -> Result<Vec<NamedClaim<'v>>, Miss<(usize, ())>>
-    ensures { Passes (IsClaim version) (IsNoClaim version) (map view values.now)
-        (λ v. map claim_of v.items) result }
+) -> Result<Vec<NamedClaim<'v>>, Miss<Part>>
+    ensures { Takes result (λ v. parts_in Claim (claim_at version) 1 (map view values.now)
+        ≡ Ok (map claim_of v.items)) (λ p. parts_in Claim (claim_at version) 1
+        (map view values.now) ≡ Err p) }
 {
     let mut claims = Vec::new(alloc);
     for (index, value) in values.iter().enumerate() {

@@ -1,130 +1,94 @@
 -- A document with other inputs and another journal is read as that.
-use Rattle.std.proofs.Common.{◌≡◌, ℕ, ◌≤◌, List, [], map, Bool, Option, Some, None, length, codes, refl, sym, subst, ◌∙◌, arith}
+use Rattle.std.proofs.Common.{◌≡◌, ℕ, ◌≤◌, List, [], Bool, Option, Some, None, Ok, length, codes, refl, sym, ap, subst, ◌∙◌, arith}
 use Rattle.serde_json.specs.Data.{Data, Members, string, object, put, depth}
 use Rattle.serde_json.specs.Find.{get}
-use Rattle.serde_json.proofs.Views.{get_member-put}
-use Rattle.tpl_json.specs.Members.{list_in}
-use Rattle.tpl_json.specs.Grammar.{IfThere, IsArray, AllRead}
-use Rattle.tpl_parts.specs.Versions.{has_links}
-use Rattle.tpl_parts.specs.TaskGrammar.{IsToken}
+use Rattle.tpl_json.specs.Members.{◌>>=◌, only_if, list_in, each}
+use Rattle.tpl_json.proofs.Arrays.{bind_some, some_is}
 use Rattle.tpl_reader.specs.Top as top
-use Rattle.tpl_parts.specs.RemarkGrammar.{IsText}
-use Rattle.tpl_parts.specs.EndGrammar.{IsEnds}
-use Rattle.tpl_reader.specs.TopGrammar.{AreTimesIfAny, IsTop}
-use Rattle.tpl_parts.specs.Start.{NamedStart}
-use Rattle.tpl_parts.specs.StartGrammar.{IsStart, IsStartIfAny}
-use Rattle.tpl_reader.specs.Document.{Spelled, IsSpelled, DocumentValue, IsDocument, Reads, Spells}
-use Rattle.tpl_json.proofs.Json.{get_depth}
+use Rattle.tpl_reader.specs.Top.{whole_at, are_times, text_or_empty, times_or_none, top_at}
+use Rattle.tpl_parts.specs.Start.{NamedStart, start_or_none}
+use Rattle.tpl_reader.specs.Shape.{Spelled, spelled_at}
+use Rattle.tpl_reader.specs.Document.{DocumentValue, IsDocument, Reads, Spells}
+use Rattle.tpl_json.proofs.Json.{some, get_depth}
 use Rattle.tpl_reader.proofs.OneDocument.{value_same}
+use Rattle.tpl_reader.proofs.TopLaws.{parts_of, top_put}
+use Rattle.tpl_reader.proofs.Pieces.{pieces_of, spelled_of}
 use Rattle.tpl_verify.specs.Filled.{IsStartWith, IsUnseenOf, IsFilled, HasForm, IsTextOf, start_data, started, with_run}
 use Rattle.tpl_verify.proofs.Unseen.{spelled_unseen, document_unseen}
-use Rattle.tpl_json.proofs.Puts.{only_put, is_object, other, depth_put}
+use Rattle.tpl_json.proofs.Puts.{depth_put}
+use Rattle.tpl_commands.proofs.Whole.{spelled_object}
 use Rattle.tpl_verify.proofs.Starts.{named_with, named_start, start_object, start_value, start_depth}
 
 -- ---- a member of the top that is put
 
-any_times : (journal text : List ℕ) (o : Option Data) (times : Option (List ℕ)) → times ≡ None → AreTimesIfAny journal o times → AreTimesIfAny text o times
-any_times journal text None None e p = tt
-any_times journal text None (Some ns) e p = absurd p
-any_times journal text (Some d) None e p = absurd p
-any_times journal text (Some d) (Some ns) e p = absurd cc
+any_times : (journal text : List ℕ) (o : Option Data) (times : Option (List ℕ)) → times ≡ None → times_or_none journal o ≡ Some times → times_or_none text o ≡ Some times
+unfolding times_or_none
+any_times journal text None times e p = p
+any_times journal text (Some d) times e p =
+    let numbers = bind_some (list_in d >>= each whole_at) _ times p in
+    let fit = bind_some (only_if (are_times journal numbers.0)) _ times numbers.2 in
+    absurd (apart numbers.0 (some_is (Some numbers.0) times fit.2 ∙ e))
+  where
+    apart : (ns : List ℕ) → Some ns ≡ None → ⊥
+    apart ns e = cc
 
-module _ (ms : Members) (m : top.Members) (is : IsTop (object ms) m) where
-  abbrev at_start : Data → Data
-  at_start d = object (put (codes "start") d ms)
+read_journal : (text : List ℕ) → text_or_empty (Some (string text)) ≡ Some text
+unfolding text_or_empty
+read_journal text = refl
 
-  pub top_start : (d : Data) → IsTop (at_start d) (record m { start = Some d })
-  top_start d = record {
-    only = only_put _ (codes "start") d ms refl is.only;
-    version = sym (other (codes "version") (codes "start") d ms refl) ∙ is.version;
-    inputs = subst (λ (o : Option Data). IfThere o (λ x. list_in x ≡ Some (map string m.inputs)) (m.inputs ≡ [])) (other (codes "inputs") (codes "start") d ms refl) is.inputs;
-    tokens = subst (λ (o : Option Data). IfThere o (IsArray (λ ds. AllRead (IsToken (has_links m.version)) ds m.tokens)) (m.tokens ≡ [])) (other (codes "tokens") (codes "start") d ms refl) is.tokens;
-    tasks = (is.tasks.0, sym (other (codes "tasks") (codes "start") d ms refl) ∙ is.tasks.1, is.tasks.2);
-    claims = subst (λ (o : Option Data). IfThere o (λ x. list_in x ≡ Some m.claims) (m.claims ≡ [])) (other (codes "claims") (codes "start") d ms refl) is.claims;
-    certificate = subst (λ (o : Option Data). IfThere o (λ x. list_in x ≡ Some m.certificate) (m.certificate ≡ [])) (other (codes "certificate") (codes "start") d ms refl) is.certificate;
-    journal = subst (λ (o : Option Data). IfThere o (λ x. x ≡ string m.journal) (m.journal ≡ [])) (other (codes "journal") (codes "start") d ms refl) is.journal;
-    start = sym (get_member-put (codes "start") d ms);
-    note = subst (λ (o : Option Data). IfThere o IsText (Unit {0})) (other (codes "note") (codes "start") d ms refl) is.note;
-    ended = is.ended ∙ other (codes "ended") (codes "start") d ms refl;
-    ends = subst (λ (o : Option Data). IfThere o IsEnds (Unit {0})) (other (codes "ended") (codes "start") d ms refl) is.ends;
-    times = subst (λ (o : Option Data). AreTimesIfAny m.journal o m.times) (other (codes "times") (codes "start") d ms refl) is.times;
-  }
-
-  there : (text : List ℕ) (o : Option Data) → o ≡ Some (string text) → IfThere o (λ x. x ≡ string text) (text ≡ [])
-  there text o e = subst (λ (z : Option Data). IfThere z (λ x. x ≡ string text) (text ≡ [])) (sym e) refl
+module _ (ms : Members) (m : top.Members) (is : top_at (object ms) ≡ Some m) where
+  top_start : (d : Data) → top_at (object (put (codes "start") d ms)) ≡ Some (record m { start = Some d })
+  top_start d =
+      let p = parts_of (object ms) m is in
+      let q = p.1 in
+      top_put (codes "start") d ms (record m { start = Some d }) refl p.0
+      (record { version = q.version; note = q.note; ended = q.ended; inputs = q.inputs; tokens = q.tokens; tasks = q.tasks; claims = q.claims; certificate = q.certificate; journal = q.journal; times = q.times; start = refl })
 
   -- where there are no times of the lines of another journal
-  pub top_journal : (text : List ℕ) → m.times ≡ None → IsTop (object (put (codes "journal") (string text) ms)) (record m { journal = text })
+  top_journal : (text : List ℕ) → m.times ≡ None → top_at (object (put (codes "journal") (string text) ms)) ≡ Some (record m { journal = text })
   top_journal text no_times =
-      let d = string text in
-      record {
-        only = only_put _ (codes "journal") d ms refl is.only;
-        version = sym (other (codes "version") (codes "journal") d ms refl) ∙ is.version;
-        inputs = subst (λ (o : Option Data). IfThere o (λ x. list_in x ≡ Some (map string m.inputs)) (m.inputs ≡ [])) (other (codes "inputs") (codes "journal") d ms refl) is.inputs;
-        tokens = subst (λ (o : Option Data). IfThere o (IsArray (λ ds. AllRead (IsToken (has_links m.version)) ds m.tokens)) (m.tokens ≡ [])) (other (codes "tokens") (codes "journal") d ms refl) is.tokens;
-        tasks = (is.tasks.0, sym (other (codes "tasks") (codes "journal") d ms refl) ∙ is.tasks.1, is.tasks.2);
-        claims = subst (λ (o : Option Data). IfThere o (λ x. list_in x ≡ Some m.claims) (m.claims ≡ [])) (other (codes "claims") (codes "journal") d ms refl) is.claims;
-        certificate = subst (λ (o : Option Data). IfThere o (λ x. list_in x ≡ Some m.certificate) (m.certificate ≡ [])) (other (codes "certificate") (codes "journal") d ms refl) is.certificate;
-        journal = there text (get (codes "journal") (object (put (codes "journal") d ms))) (get_member-put (codes "journal") d ms);
-        start = is.start ∙ other (codes "start") (codes "journal") d ms refl;
-        note = subst (λ (o : Option Data). IfThere o IsText (Unit {0})) (other (codes "note") (codes "journal") d ms refl) is.note;
-        ended = is.ended ∙ other (codes "ended") (codes "journal") d ms refl;
-        ends = subst (λ (o : Option Data). IfThere o IsEnds (Unit {0})) (other (codes "ended") (codes "journal") d ms refl) is.ends;
-        times = any_times m.journal text (get (codes "times") (object (put (codes "journal") d ms))) m.times no_times (subst (λ (o : Option Data). AreTimesIfAny m.journal o m.times) (other (codes "times") (codes "journal") d ms refl) is.times);
-      }
+      let p = parts_of (object ms) m is in
+      let q = p.1 in
+      let times = any_times m.journal text (get (codes "times") (object ms)) m.times no_times q.times in
+      top_put (codes "journal") (string text) ms (record m { journal = text }) refl p.0
+      (record { version = q.version; note = q.note; ended = q.ended; inputs = q.inputs; tokens = q.tokens; tasks = q.tasks; claims = q.claims; certificate = q.certificate; journal = read_journal text; times = times; start = q.start })
 
 -- ---- the document with names
 
-spelled_start : (ms : Members) (s : Spelled) (d : Data) (start : NamedStart) → IsSpelled (object ms) s → IsStart d start → IsSpelled (object (put (codes "start") d ms)) (record s { start = Some start })
-spelled_start ms s d start is starts = record {
-  members = record is.members { start = Some d };
-  top = top_start ms is.members is.top d;
-  version = is.version;
-  inputs = is.inputs;
-  tokens = is.tokens;
-  tasks = is.tasks;
-  claims = is.claims;
-  certificate = is.certificate;
-  journal = is.journal;
-  start = starts;
-  ended = is.ended;
-  times = is.times;
-}
+spelled_start : (ms : Members) (s : Spelled) (d : Data) (start : NamedStart) → spelled_at (object ms) ≡ Ok s → start_or_none (Some d) ≡ Some (Some start) → spelled_at (object (put (codes "start") d ms)) ≡ Ok (record s { start = Some start })
+spelled_start ms s d start is starts =
+    let p = pieces_of (object ms) s is in
+    spelled_of (object (put (codes "start") d ms)) (record s { start = Some start })
+    (record { top = record p.top { start = Some d }; tasks = p.tasks; claims = p.claims; start = Some start; is_top = top_start ms p.top p.is_top d; are_tasks = p.are_tasks; are_claims = p.are_claims; is_start = starts; whole = ap (λ (z : Spelled). record z { start = Some start }) p.whole })
 
-spelled_journal : (ms : Members) (s : Spelled) (text : List ℕ) → s.times ≡ None → IsSpelled (object ms) s → IsSpelled (object (put (codes "journal") (string text) ms)) (record s { journal = text })
-spelled_journal ms s text no_times is = record {
-  members = record is.members { journal = text };
-  top = top_journal ms is.members is.top text (sym is.times ∙ no_times);
-  version = is.version;
-  inputs = is.inputs;
-  tokens = is.tokens;
-  tasks = is.tasks;
-  claims = is.claims;
-  certificate = is.certificate;
-  journal = refl;
-  start = is.start;
-  ended = is.ended;
-  times = is.times;
-}
+spelled_journal : (ms : Members) (s : Spelled) (text : List ℕ) → s.times ≡ None → spelled_at (object ms) ≡ Ok s → spelled_at (object (put (codes "journal") (string text) ms)) ≡ Ok (record s { journal = text })
+spelled_journal ms s text no_times is =
+    let p = pieces_of (object ms) s is in
+    let times = ap (λ (z : Spelled). z.times) p.whole ∙ no_times in
+    spelled_of (object (put (codes "journal") (string text) ms)) (record s { journal = text })
+    (record { top = record p.top { journal = text }; tasks = p.tasks; claims = p.claims; start = p.start; is_top = top_journal ms p.top p.is_top text times; are_tasks = p.are_tasks; are_claims = p.are_claims; is_start = p.is_start; whole = ap (λ (z : Spelled). record z { journal = text }) p.whole })
 
 -- the start as it stands in the document
-spelled_begin : (d : Data) (s : Spelled) → IsSpelled d s → IsStartIfAny (get (codes "start") d) s.start
-spelled_begin d s is = subst (λ (o : Option Data). IsStartIfAny o s.start) is.top.start is.start
+spelled_begin : (d : Data) (s : Spelled) → spelled_at d ≡ Ok s → start_or_none (get (codes "start") d) ≡ Some s.start
+spelled_begin d s is =
+    let p = pieces_of d s is in
+    let q = (parts_of d p.top p.is_top).1 in
+    ap start_or_none q.start ∙ p.is_start ∙ ap (λ (z : Spelled). some z.start) p.whole
 
 -- what has the form of a document is an object, and so is its start
 pub form_object : (d : Data) → HasForm d → (ms : Members) × (d ≡ object ms)
-form_object d form = is_object _ d form.1.top.only
+form_object d form = spelled_object d form.0 form.1
 
 pub form_start : (d : Data) → HasForm d → (ms : Members) × (start_data (get (codes "start") d) ≡ object ms)
 form_start d form = start_object (get (codes "start") d) form.0.start (spelled_begin d form.0 form.1)
 
-spelled_run : (names : List (List ℕ)) (values : List Bool) (text : List ℕ) (old new start : Data) (s : Spelled) → s.times ≡ None → IsSpelled old s → (with : IsStartWith names values (get (codes "start") old) start) → IsFilled start text old new
-    → IsSpelled new (record s { journal = text; start = Some (named_with (object with.inputs) s.start) })
+spelled_run : (names : List (List ℕ)) (values : List Bool) (text : List ℕ) (old new start : Data) (s : Spelled) → s.times ≡ None → spelled_at old ≡ Ok s → (with : IsStartWith names values (get (codes "start") old) start) → IsFilled start text old new
+    → spelled_at new ≡ Ok (record s { journal = text; start = Some (named_with (object with.inputs) s.start) })
 spelled_run names values text old new start s no_times is with filled =
     let named = named_with (object with.inputs) s.start in
     let starts = named_start names values (get (codes "start") old) s.start start (spelled_begin old s is) with in
-    let here : IsSpelled (object filled.members) s = subst (λ (d : Data). IsSpelled d s) filled.old_is is in
-    subst (λ (d : Data). IsSpelled d (record s { journal = text; start = Some named })) (sym filled.new_is)
+    let here : spelled_at (object filled.members) ≡ Ok s = subst (λ (d : Data). spelled_at d ≡ Ok s) filled.old_is is in
+    subst (λ (d : Data). spelled_at d ≡ Ok (record s { journal = text; start = Some named })) (sym filled.new_is)
     (spelled_journal (put (codes "start") start filled.members) (record s { start = Some named }) text no_times (spelled_start filled.members s start named here starts))
 
 -- ---- the document with ids
@@ -150,7 +114,7 @@ pub text_of : (bytes text : List ℕ) (doc : DocumentValue) (values : List Bool)
     → IsStartWith doc.graph.names.inputs values (get (codes "start") old) start → IsFilled start journal old new → IsTextOf text (with_run doc values journal)
 text_of bytes text doc values journal old new start spells unseen reads count with filled =
     let s = record spells.1.2.0 { ended = None; times = None } in
-    let is : IsSpelled old s = spelled_unseen unseen.0 old spells.1.2.0 (subst (λ (d : Data). IsSpelled d spells.1.2.0) (value_same bytes spells.1.0 unseen.0 spells.1.1 unseen.1) spells.1.2.1) unseen.2 in
+    let is : spelled_at old ≡ Ok s = spelled_unseen unseen.0 old spells.1.2.0 (subst (λ (d : Data). spelled_at d ≡ Ok spells.1.2.0) (value_same bytes spells.1.0 unseen.0 spells.1.1 unseen.1) spells.1.2.1) unseen.2 in
     let doc_unseen = record doc { ended = []; times = None } in (
       new,
       reads,
@@ -162,7 +126,7 @@ text_of bytes text doc values journal old new start spells unseen reads count wi
     )
 
 pub form_of : (bytes : List ℕ) (doc : DocumentValue) (d : Data) → Spells bytes doc → Reads bytes d → HasForm d
-form_of bytes doc d spells here = (spells.1.2.0, subst (λ (x : Data). IsSpelled x spells.1.2.0) (value_same bytes spells.1.0 d spells.1.1 here) spells.1.2.1)
+form_of bytes doc d spells here = (spells.1.2.0, subst (λ (x : Data). spelled_at x ≡ Ok spells.1.2.0) (value_same bytes spells.1.0 d spells.1.1 here) spells.1.2.1)
 
 -- ---- how deep it nests
 

@@ -13,7 +13,8 @@ use Rattle.tpl_cert.specs.Naming.{number_of, is_declared}
 use Rattle.tpl_cert.specs.Written.{name_at}
 use Rattle.tpl_cert.proofs.Unique.{number_of-name_at}
 use Rattle.tpl_reader.specs.Begin.{declares}
-use Rattle.tpl_parts.specs.StartGrammar.{AreTruths}
+use Rattle.tpl_parts.specs.Start.{all_values}
+use Rattle.tpl_parts.proofs.Ends.{is_truth}
 use Rattle.tpl_verify.specs.Filled.{AreFirst}
 use Rattle.tpl_json.proofs.Puts.{depth_put}
 
@@ -30,16 +31,17 @@ declares_put names k d (member l e ms) one all =
     declares_either (slice_cmp nat_cmp k l) names (member k d (member l e ms)) (member l d ms) (member l e (put k d ms))
     (and_from (is_declared names k) _ one all) (and_from (is_declared names l) _ first rest) (and_from (is_declared names l) _ first (declares_put names k d ms one rest))
 
-truths_either : (o : Ordering) (a b c : Members) → AreTruths a → AreTruths b → AreTruths c → AreTruths (match_ordering o a b c)
+truths_either : (o : Ordering) (a b c : Members) → all_values is_truth a ≡ true → all_values is_truth b ≡ true → all_values is_truth c ≡ true → all_values is_truth (match_ordering o a b c) ≡ true
 truths_either Less a b c x y z = x
 truths_either Equal a b c x y z = y
 truths_either Greater a b c x y z = z
 
-truths_put : (k : List ℕ) (value : Bool) (ms : Members) → AreTruths ms → AreTruths (put k (boolean value) ms)
-truths_put k value no_members all = ((value, refl), tt)
+truths_put : (k : List ℕ) (value : Bool) (ms : Members) → all_values is_truth ms ≡ true → all_values is_truth (put k (boolean value) ms) ≡ true
+truths_put k value no_members all = refl
 truths_put k value (member l e ms) all =
-    truths_either (slice_cmp nat_cmp k l) (member k (boolean value) (member l e ms)) (member l (boolean value) ms) (member l e (put k (boolean value) ms))
-    ((value, refl), all) ((value, refl), all.1) (all.0, truths_put k value ms all.1)
+    let rest = and_second (is_truth e) (all_values is_truth ms) all in
+    truths_either (slice_cmp nat_cmp k l) (member k (boolean value) (member l e ms)) (member l (boolean value) ms) (member l e (put k (boolean value) ms)) all rest
+    (and_from (is_truth e) _ (and_first (is_truth e) (all_values is_truth ms) all) (truths_put k value ms rest))
 
 some_same : (a b : ℕ) → Some a ≡ Some b → a ≡ b
 some_same a b e = cc
@@ -54,7 +56,7 @@ pub none_yet : (names : List (List ℕ)) (values : List Bool) (ms : Members) →
 none_yet names values ms e = subst (AreFirst names values 0) (sym e) (record {
   each = λ i lt. absurd (omega arith);
   declared = refl;
-  truths = tt;
+  truths = refl;
   flat = omega arith;
 })
 

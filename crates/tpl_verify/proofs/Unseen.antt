@@ -1,83 +1,65 @@
 -- A document without what was seen of a run is read as that.
-use Rattle.std.proofs.Common.{◌≡◌, ℕ, ◌≤◌, List, [], map, Option, Some, None, codes, refl, sym, subst, ◌∙◌, arith}
-use Rattle.serde_json.specs.Data.{Data, Members, string, object, depth}
+use Rattle.std.proofs.Common.{◌≡◌, ℕ, ◌≤◌, List, [], Bool, true, false, cond, Some, None, Ok, codes, refl, sym, ap, subst, arith}
+use Rattle.std.specs.Str.{bytes_eq}
+use Rattle.std.proofs.lemmas.Slice.Eq.{bytes_eq-Decides}
+use Rattle.serde_json.specs.Data.{Data, Members, object, depth}
 use Rattle.serde_json.specs.Find.{get}
-use Rattle.tpl_json.specs.Members.{list_in}
-use Rattle.tpl_json.specs.Grammar.{IfThere, IsArray, AllRead}
-use Rattle.tpl_parts.specs.Versions.{has_links}
-use Rattle.tpl_parts.specs.TaskGrammar.{IsToken}
-use Rattle.tpl_parts.specs.RemarkGrammar.{IsText}
-use Rattle.tpl_parts.specs.EndGrammar.{IsEnds}
+use Rattle.tpl_json.specs.Members.{has_only}
 use Rattle.tpl_reader.specs.Begin.{knows_members}
 use Rattle.tpl_reader.specs.Top as top
-use Rattle.tpl_reader.specs.TopGrammar.{AreTimesIfAny, IsTop}
-use Rattle.tpl_reader.specs.Document.{Spelled, IsSpelled, DocumentValue, IsDocument}
+use Rattle.tpl_reader.specs.Top.{ends_or_none, times_or_none, top_names, top_at}
+use Rattle.tpl_reader.specs.Shape.{Spelled, spelled_at}
+use Rattle.tpl_reader.specs.Document.{DocumentValue, IsDocument}
+use Rattle.tpl_reader.proofs.TopLaws.{Parts, parts_of, top_of, but, moved}
+use Rattle.tpl_reader.proofs.Pieces.{pieces_of, spelled_of}
 use Rattle.tpl_verify.specs.Filled.{without, HasForm, IsUnseen}
 use Rattle.tpl_verify.proofs.Without.{other_without, only_without, depth_without}
 
-module _ (ms : Members) (m : top.Members) (is : IsTop (object ms) m) where
-  abbrev unended : Members
-  unended = without (codes "ended") ms
+without_by : (k name : List ℕ) (ms : Members) → get k (object (without k ms)) ≡ None → (b : Bool) → bytes_eq name k ≡ b → cond b None (get name (object ms)) ≡ get name (object (without k ms))
+without_by k name ms none true e = let same : name ≡ k = (bytes_eq-Decides name k).0 e in rw same (sym none)
+without_by k name ms none false e = other_without name k ms e
 
-  top_unended : get (codes "ended") (object unended) ≡ None → IsTop (object unended) (record m { ended = None })
-  top_unended none = record {
-    only = only_without _ (codes "ended") ms is.only;
-    version = sym (other_without (codes "version") (codes "ended") ms refl) ∙ is.version;
-    inputs = subst (λ (o : Option Data). IfThere o (λ x. list_in x ≡ Some (map string m.inputs)) (m.inputs ≡ [])) (other_without (codes "inputs") (codes "ended") ms refl) is.inputs;
-    tokens = subst (λ (o : Option Data). IfThere o (IsArray (λ ds. AllRead (IsToken (has_links m.version)) ds m.tokens)) (m.tokens ≡ [])) (other_without (codes "tokens") (codes "ended") ms refl) is.tokens;
-    tasks = (is.tasks.0, sym (other_without (codes "tasks") (codes "ended") ms refl) ∙ is.tasks.1, is.tasks.2);
-    claims = subst (λ (o : Option Data). IfThere o (λ x. list_in x ≡ Some m.claims) (m.claims ≡ [])) (other_without (codes "claims") (codes "ended") ms refl) is.claims;
-    certificate = subst (λ (o : Option Data). IfThere o (λ x. list_in x ≡ Some m.certificate) (m.certificate ≡ [])) (other_without (codes "certificate") (codes "ended") ms refl) is.certificate;
-    journal = subst (λ (o : Option Data). IfThere o (λ x. x ≡ string m.journal) (m.journal ≡ [])) (other_without (codes "journal") (codes "ended") ms refl) is.journal;
-    start = is.start ∙ other_without (codes "start") (codes "ended") ms refl;
-    note = subst (λ (o : Option Data). IfThere o IsText (Unit {0})) (other_without (codes "note") (codes "ended") ms refl) is.note;
-    ended = sym none;
-    ends = subst (λ (o : Option Data). IfThere o IsEnds (Unit {0})) (sym none) tt;
-    times = subst (λ (o : Option Data). AreTimesIfAny m.journal o m.times) (other_without (codes "times") (codes "ended") ms refl) is.times;
-  }
+-- a document without a member
+top_without : (k : List ℕ) (ms : Members) (m : top.Members) → get k (object (without k ms)) ≡ None → has_only (top_names m.version) (object ms) ≡ true
+    → Parts (but k None (λ name. get name (object ms))) m → top_at (object (without k ms)) ≡ Some m
+top_without k ms m none only p =
+    top_of (object (without k ms)) m (only_without (top_names m.version) k ms only)
+    (moved (but k None (λ name. get name (object ms))) (λ name. get name (object (without k ms))) m (λ name. without_by k name ms none (bytes_eq name k) refl) p)
 
-  abbrev untimed : Members
-  untimed = without (codes "times") ms
+no_ends : ends_or_none None ≡ Some None
+unfolding ends_or_none
+no_ends = refl
 
-  top_untimed : get (codes "times") (object untimed) ≡ None → IsTop (object untimed) (record m { times = None })
-  top_untimed none = record {
-    only = only_without _ (codes "times") ms is.only;
-    version = sym (other_without (codes "version") (codes "times") ms refl) ∙ is.version;
-    inputs = subst (λ (o : Option Data). IfThere o (λ x. list_in x ≡ Some (map string m.inputs)) (m.inputs ≡ [])) (other_without (codes "inputs") (codes "times") ms refl) is.inputs;
-    tokens = subst (λ (o : Option Data). IfThere o (IsArray (λ ds. AllRead (IsToken (has_links m.version)) ds m.tokens)) (m.tokens ≡ [])) (other_without (codes "tokens") (codes "times") ms refl) is.tokens;
-    tasks = (is.tasks.0, sym (other_without (codes "tasks") (codes "times") ms refl) ∙ is.tasks.1, is.tasks.2);
-    claims = subst (λ (o : Option Data). IfThere o (λ x. list_in x ≡ Some m.claims) (m.claims ≡ [])) (other_without (codes "claims") (codes "times") ms refl) is.claims;
-    certificate = subst (λ (o : Option Data). IfThere o (λ x. list_in x ≡ Some m.certificate) (m.certificate ≡ [])) (other_without (codes "certificate") (codes "times") ms refl) is.certificate;
-    journal = subst (λ (o : Option Data). IfThere o (λ x. x ≡ string m.journal) (m.journal ≡ [])) (other_without (codes "journal") (codes "times") ms refl) is.journal;
-    start = is.start ∙ other_without (codes "start") (codes "times") ms refl;
-    note = subst (λ (o : Option Data). IfThere o IsText (Unit {0})) (other_without (codes "note") (codes "times") ms refl) is.note;
-    ended = is.ended ∙ other_without (codes "ended") (codes "times") ms refl;
-    ends = subst (λ (o : Option Data). IfThere o IsEnds (Unit {0})) (other_without (codes "ended") (codes "times") ms refl) is.ends;
-    times = subst (λ (o : Option Data). AreTimesIfAny m.journal o None) (sym none) tt;
-  }
+no_times : (journal : List ℕ) → times_or_none journal None ≡ Some None
+unfolding times_or_none
+no_times journal = refl
 
-spelled_in : (ms : Members) (s : Spelled) → IsSpelled (object ms) s → get (codes "ended") (object (without (codes "ended") ms)) ≡ None → get (codes "times") (object (without (codes "times") (without (codes "ended") ms))) ≡ None
-    → IsSpelled (object (without (codes "times") (without (codes "ended") ms))) (record s { ended = None; times = None })
-spelled_in ms s is no_ended no_times =
-    let unended = record is.members { ended = None } in
-    record {
-      members = record is.members { ended = None; times = None };
-      top = top_untimed (without (codes "ended") ms) unended (top_unended ms is.members is.top no_ended) no_times;
-      version = is.version;
-      inputs = is.inputs;
-      tokens = is.tokens;
-      tasks = is.tasks;
-      claims = is.claims;
-      certificate = is.certificate;
-      journal = is.journal;
-      start = is.start;
-      ended = refl;
-      times = refl;
-    }
+top_unended : (ms : Members) (m : top.Members) → top_at (object ms) ≡ Some m → get (codes "ended") (object (without (codes "ended") ms)) ≡ None → top_at (object (without (codes "ended") ms)) ≡ Some (record m { ended = None })
+top_unended ms m is none =
+    let p = parts_of (object ms) m is in
+    let q = p.1 in
+    top_without (codes "ended") ms (record m { ended = None }) none p.0
+    (record { version = q.version; note = q.note; ended = no_ends; inputs = q.inputs; tokens = q.tokens; tasks = q.tasks; claims = q.claims; certificate = q.certificate; journal = q.journal; times = q.times; start = q.start })
 
-pub spelled_unseen : (old new : Data) (s : Spelled) → IsSpelled old s → IsUnseen old new → IsSpelled new (record s { ended = None; times = None })
+top_untimed : (ms : Members) (m : top.Members) → top_at (object ms) ≡ Some m → get (codes "times") (object (without (codes "times") ms)) ≡ None → top_at (object (without (codes "times") ms)) ≡ Some (record m { times = None })
+top_untimed ms m is none =
+    let p = parts_of (object ms) m is in
+    let q = p.1 in
+    top_without (codes "times") ms (record m { times = None }) none p.0
+    (record { version = q.version; note = q.note; ended = q.ended; inputs = q.inputs; tokens = q.tokens; tasks = q.tasks; claims = q.claims; certificate = q.certificate; journal = q.journal; times = no_times m.journal; start = q.start })
+
+spelled_in : (ms : Members) (s : Spelled) → spelled_at (object ms) ≡ Ok s → get (codes "ended") (object (without (codes "ended") ms)) ≡ None → get (codes "times") (object (without (codes "times") (without (codes "ended") ms))) ≡ None
+    → spelled_at (object (without (codes "times") (without (codes "ended") ms))) ≡ Ok (record s { ended = None; times = None })
+spelled_in ms s is none_ended none_times =
+    let p = pieces_of (object ms) s is in
+    let unended = without (codes "ended") ms in
+    let less = top_untimed unended (record p.top { ended = None }) (top_unended ms p.top p.is_top none_ended) none_times in
+    spelled_of (object (without (codes "times") unended)) (record s { ended = None; times = None })
+    (record { top = record p.top { ended = None; times = None }; tasks = p.tasks; claims = p.claims; start = p.start; is_top = less; are_tasks = p.are_tasks; are_claims = p.are_claims; is_start = p.is_start; whole = ap (λ (z : Spelled). record z { ended = None; times = None }) p.whole })
+
+pub spelled_unseen : (old new : Data) (s : Spelled) → spelled_at old ≡ Ok s → IsUnseen old new → spelled_at new ≡ Ok (record s { ended = None; times = None })
 spelled_unseen old new s is unseen =
-    subst (λ (d : Data). IsSpelled d (record s { ended = None; times = None })) (sym unseen.new_is) (spelled_in unseen.members s (subst (λ (d : Data). IsSpelled d s) unseen.old_is is) unseen.no_ended unseen.no_times)
+    subst (λ (d : Data). spelled_at d ≡ Ok (record s { ended = None; times = None })) (sym unseen.new_is) (spelled_in unseen.members s (subst (λ (d : Data). spelled_at d ≡ Ok s) unseen.old_is is) unseen.no_ended unseen.no_times)
 
 pub document_unseen : (s : Spelled) (doc : DocumentValue) → IsDocument s doc → IsDocument (record s { ended = None; times = None }) (record doc { ended = []; times = None })
 unfolding knows_members

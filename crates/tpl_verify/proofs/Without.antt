@@ -1,5 +1,5 @@
 -- An object without a member.
-use Rattle.std.proofs.Common.{◌≡◌, ℕ, ◌≤◌, ◌&&◌, List, [], ◌∷◌, Bool, true, false, cond, Option, Some, None, option_map, String, Global, BTreeMap, Ordering, Less, Equal, Greater, string_bytes, nat_cmp, is_eq, refl, sym, ap, ◌∙◌, arith}
+use Rattle.std.proofs.Common.{◌≡◌, ℕ, ◌≤◌, List, [], ◌∷◌, Bool, true, false, cond, Option, Some, None, option_map, String, Global, Ordering, Less, Equal, Greater, string_bytes, nat_cmp, is_eq, refl, sym, ap, ◌∙◌, arith}
 use Rattle.std.specs.BTreeMap.{is_at}
 use Rattle.std.specs.Cmp.Lexicographic.{slice_cmp}
 use Rattle.std.specs.Map.{lookup, remove_entry}
@@ -11,11 +11,10 @@ use Rattle.std.proofs.lemmas.Bool.{and_from}
 use Rattle.tpl_model.proofs.Truths.{and_first, and_second}
 use Rattle.serde_json.specs.declared.value.Value.{Value}
 use Rattle.serde_json.specs.Data.{Data, Members, no_members, member, object, members_depth}
-use Rattle.serde_json.specs.Find.{get, get_member}
+use Rattle.serde_json.specs.Find.{get_member}
 use Rattle.serde_json.specs.View.{view, members_view}
 use Rattle.serde_json.proofs.Views.{view-lookup}
 use Rattle.tpl_json.specs.Members.{is_one_of, members_within, has_only}
-use Rattle.tpl_json.specs.Grammar.{HasOnly}
 use Rattle.tpl_verify.specs.Filled.{without}
 
 -- ---- another member is as it was
@@ -47,7 +46,7 @@ within_without names k (member l e ms) all =
     let rest = and_second (is_one_of names l) (members_within names ms) all in
     within_by names l e ms (without k ms) (bytes_eq k l) (and_first (is_one_of names l) (members_within names ms) all) rest (within_without names k ms rest)
 
-pub only_without : (names : List (List ℕ)) (k : List ℕ) (ms : Members) → HasOnly names (object ms) → HasOnly names (object (without k ms))
+pub only_without : (names : List (List ℕ)) (k : List ℕ) (ms : Members) → has_only names (object ms) ≡ true → has_only names (object (without k ms)) ≡ true
 unfolding has_only
 only_without names k ms all = within_without names k ms all
 

@@ -1,12 +1,13 @@
 -- A document in which the inputs and the journal are filled in.
-use Rattle.std.specs.Prelude.{◌≡◌, ◌≤◌, ℕ, ◌<◌, Bool, true, false, List, [], length, Option, Some, None, codes, slice_index_or, if◌then◌else◌}
+use Rattle.std.specs.Prelude.{◌≡◌, ◌≤◌, ℕ, ◌<◌, Bool, true, false, List, [], length, Option, Some, None, Ok, is_some, codes, slice_index_or, if◌then◌else◌}
 use Rattle.std.specs.Str.{bytes_eq}
 use Rattle.serde_json.specs.Data.{Data, Members, no_members, member, boolean, string, object, put, members_depth}
-use Rattle.serde_json.specs.Find.{get, get_member}
+use Rattle.serde_json.specs.Find.{get, get_member, as_bool}
 use Rattle.tpl_cert.specs.Written.{name_at}
 use Rattle.tpl_reader.specs.Begin.{StartValue, declares}
-use Rattle.tpl_parts.specs.StartGrammar.{AreTruths}
-use Rattle.tpl_reader.specs.Document.{Spelled, IsSpelled, DocumentValue, IsDocument, Reads}
+use Rattle.tpl_parts.specs.Start.{all_values}
+use Rattle.tpl_reader.specs.Shape.{Spelled, spelled_at}
+use Rattle.tpl_reader.specs.Document.{DocumentValue, IsDocument, Reads}
 
 -- the start with these inputs; nothing is requested first and no job is to fail, where the document has no start
 abbrev pub started : Option StartValue → List Bool → StartValue
@@ -19,11 +20,11 @@ with_run doc inputs journal = record doc { journal = journal; start = Some (star
 
 -- the bytes are a text of the document, which may be longer than one that is read
 abbrev pub IsTextOf : List ℕ → DocumentValue → Type 0
-IsTextOf bytes doc = (d : Data) × Reads bytes d × ((s : Spelled) × IsSpelled d s × IsDocument s doc)
+IsTextOf bytes doc = (d : Data) × Reads bytes d × ((s : Spelled) × (spelled_at d ≡ Ok s) × IsDocument s doc)
 
 -- the value has the shape of a document
 abbrev pub HasForm : Data → Type 0
-HasForm d = (s : Spelled) × IsSpelled d s
+HasForm d = (s : Spelled) × (spelled_at d ≡ Ok s)
 
 -- ---- the members that are put into a document
 
@@ -31,7 +32,7 @@ HasForm d = (s : Spelled) × IsSpelled d s
 pub record AreFirst (names : List (List ℕ)) (values : List Bool) (count : ℕ) (members : Members) : Type 0 where
   pub each : (i : ℕ) → i < count → get_member (name_at names i) members ≡ Some (boolean (slice_index_or values i false))
   pub declared : declares names members ≡ true
-  pub truths : AreTruths members
+  pub truths : all_values (λ d. is_some (as_bool d)) members ≡ true
   pub flat : members_depth members ≤ 0
 
 -- the start that stands in the document, or an empty one

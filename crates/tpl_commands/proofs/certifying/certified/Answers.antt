@@ -6,7 +6,7 @@ use Rattle.tpl_cert.specs.Written.{has_ids}
 use Rattle.tpl_reader.specs.SeenDocument.{doc_of}
 use Rattle.tpl_commands.specs.Rules.{is_judged_widely}
 use Rattle.tpl_commands.specs.Searching.{IsRead}
-use Rattle.tpl_commands.proofs.Whole.{certifying}
+use Rattle.tpl_commands.proofs.Whole.{certifying, spelled_object}
 use Rattle.tpl_commands.proofs.certifying.certified.Goals as goal
 
 pub whole_text-requires-clause-ids : goal.whole_text-requires-clause-ids
@@ -16,6 +16,11 @@ whole_text-requires-clause-ids c =
 
 pub whole_text-requires-clause-limits : goal.whole_text-requires-clause-limits
 whole_text-requires-clause-limits c = subst (All (λ t. height t ≤ 6)) (sym c.trees.ensures) c.found_law.ensures.limits
+
+pub whole_text-requires-clause-json : goal.whole_text-requires-clause-json
+whole_text-requires-clause-json c =
+    let s = c.requires.spelled in
+    (s.1.0, s.1.1, spelled_object s.1.0 s.1.2.0 s.1.2.1)
 
 pub returns : goal.returns
 returns c =

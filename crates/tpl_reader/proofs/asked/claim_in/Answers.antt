@@ -1,4 +1,4 @@
-use Rattle.std.proofs.Common.{◌≡◌, ◌∙◌, List, Bool, false, map, sym, ap}
+use Rattle.std.proofs.Common.{◌≡◌, ◌∙◌, List, false, map, sym, ap}
 use Rattle.std.specs.Prelude.{◌||◌}
 use Rattle.std.proofs.lemmas.Result.{err_from_is_err_and}
 use Rattle.tpl_model.specs.declared.claim.Given.{Given}

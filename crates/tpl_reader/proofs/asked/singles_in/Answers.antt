@@ -1,6 +1,6 @@
 use Rattle.std.proofs.Common.{sym}
 use Rattle.tpl_parts.specs.SeenClaims.{given_of}
-use Rattle.tpl_reader.proofs.Singles.{singles_push, singles_pass, singles_stop}
+use Rattle.tpl_reader.proofs.Singles.{singles_stop}
 use Rattle.tpl_reader.proofs.asked.singles_in.Goals as goal
 
 pub returns-in-None : goal.returns-in-None

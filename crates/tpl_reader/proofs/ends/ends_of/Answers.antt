@@ -1,7 +1,5 @@
 use Rattle.std.proofs.Common.{◌∙◌}
-use Rattle.std.specs.List.{All}
 use Rattle.tpl_json.specs.View.{view}
-use Rattle.tpl_model.specs.Graph.{is_task}
 use Rattle.tpl_reader.proofs.EndLaws.{ends_more, ends_of_tasks}
 use Rattle.tpl_reader.proofs.ends.ends_of.Goals as goal
 

@@ -1,4 +1,4 @@
-use Rattle.std.proofs.Common.{map, string_bytes}
+use Rattle.std.proofs.Common.{string_bytes}
 use Rattle.std.specs.Option.{option_map}
 use Rattle.tpl_parts.specs.SeenClaims.{claim_of}
 use Rattle.tpl_reader.proofs.NamesOnce.{mapped_more}

@@ -1,7 +1,0 @@
-use Rattle.std.proofs.Common.{refl}
-use Rattle.tpl_parts.specs.Tasks.{root_at}
-use Rattle.tpl_parts.proofs.tasks.root_of.Goals as goal
-
-pub returns : goal.returns
-unfolding root_at
-returns c = rw (← c.has_task_members.ensures, c.if-not-has_task_members.false, c.in_ok-work.ensures) refl
