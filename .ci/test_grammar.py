@@ -1,0 +1,256 @@
+"""The grammar of documents stands in one definition, which is proved of the program. This holds docs/FORMAT.md,
+schema/taskgraph.schema.json and the table by which reasons are found against it, member by member: which members each form
+has, which may be left out, which words stand for a form, and what version 3 adds.
+"""
+import json
+import re
+
+import pytest
+
+from crates import TOP
+
+# where each kind of form is defined, and where the schema says it
+KINDS = {
+    "top": ("tpl_reader/specs/Top", ""),
+    "token": ("tpl_parts/specs/Tasks", "linked_token"),
+    "task": ("tpl_parts/specs/Tasks", "task"),
+    "statement": ("tpl_parts/specs/Statements", "statement"),
+    "given": ("tpl_parts/specs/Claims", "given"),
+    "claim": ("tpl_parts/specs/Claims", "claim"),
+    "row": ("tpl_cert/specs/Reading", "row"),
+    "tree": ("tpl_cert/specs/Reading", "tree"),
+    "start": ("tpl_parts/specs/Start", "start"),
+}
+# the members of an object, at the place where a definition has no others; by a name they stand elsewhere
+MEMBERS = r'(?:object_of|has_only|top_names version =) ?\(?((?:codes "\w+" ∷ )+|member ∷ )(\[\]|\w+ version)'
+# how a member is read that may be left out
+LEFT_OUT = (
+    r'(?:\w+_or_\w+(?: journal)?|else_at inner|claim_name|note_at) \(get \(codes "(\w+)"\)',
+    r'texts_in \(codes "(\w+)"\)',
+    r'start = get \(codes "(\w+)"\)',
+)
+
+
+def read(path):
+    """The text of a file."""
+    with open(f"{TOP}/{path}", encoding="utf-8") as file:
+        return file.read()
+
+
+def definitions(path):
+    """The text of each definition of a file, by its name."""
+    found = re.split(r"(?m)^(?:abbrev|unfoldable)?(?: ?pub)? ?(\w+) : ", read(f"crates/{path}.antt"))
+    return dict(zip(found[1::2], found[2::2]))
+
+
+def words(text):
+    """The names that stand in a definition."""
+    return set(re.findall(r'codes "(\w+)"', text))
+
+
+def added(kind):
+    """What version 3 adds to the members of each form of the kind."""
+    if kind == "top":
+        return words(re.search(r"added Three = (.*)", read("crates/tpl_reader/specs/Top.antt"))[1])
+    versions = read("crates/tpl_parts/specs/Versions.antt")
+    return words(re.search(rf"{kind}_remarks Three = (.*)", versions)[1])
+
+
+def left_out(kind):
+    """The members that may be left out, as the kind is defined."""
+    text = read(f"crates/{KINDS[kind][0]}.antt")
+    return {name for pattern in LEFT_OUT for name in re.findall(pattern, text)}
+
+
+def is_of(kind, members):
+    """Whether a form with these members is of the kind, of those that are defined in one file."""
+    return {
+        "token": "linked" in members,
+        "task": "kind" in members,
+        "given": "given" not in members,
+        "claim": "given" in members,
+        "row": "ends" in members,
+        "tree": "ends" not in members,
+    }.get(kind, True)
+
+
+def forms(kind):
+    """The members of each form of the kind, in version 3, as it is defined."""
+    found = set()
+    for text in definitions(KINDS[kind][0]).values():
+        found |= {frozenset([name]) for name in re.findall(r'name_at \(codes "(\w+)"\)', text)}
+        for names, more in re.findall(MEMBERS, text):
+            version_3 = set() if more == "[]" else added("top" if more.startswith("added") else more.split("_")[0])
+            found.add(frozenset(words(names) | version_3))
+    return {members for members in found if members and is_of(kind, members)}
+
+
+def single_words(kind):
+    """The words that are forms of the kind by themselves."""
+    named = {"statement": "word_at", "given": "given_word"}
+    return words(definitions(KINDS[kind][0])[named[kind]]) if kind in named else set()
+
+
+# ---- the schema
+
+
+def schema():
+    """The schema of documents."""
+    return json.loads(read("schema/taskgraph.schema.json"))
+
+
+def schema_of(kind):
+    """What the schema says of each form of the kind."""
+    whole = schema()
+    said = whole["$defs"][KINDS[kind][1]] if KINDS[kind][1] else whole
+    return said.get("oneOf", [said])
+
+
+@pytest.mark.parametrize("kind", KINDS)
+def test_schema_has_the_members(kind):
+    objects = [it for it in schema_of(kind) if "properties" in it]
+    assert {frozenset(it["properties"]) for it in objects} == forms(kind)
+    assert all(it["additionalProperties"] is False for it in objects)
+
+
+@pytest.mark.parametrize("kind", KINDS)
+def test_schema_says_what_may_be_left_out(kind):
+    for it in schema_of(kind):
+        if "properties" in it:
+            assert set(it["properties"]) - set(it["required"]) == set(it["properties"]) & left_out(kind)
+
+
+@pytest.mark.parametrize("kind", KINDS)
+def test_schema_has_the_words(kind):
+    said = schema_of(kind)
+    assert {word for it in said for word in [it.get("const"), *it.get("enum", [])] if word} == single_words(kind)
+
+
+def test_schema_says_what_version_3_adds():
+    older = schema()["allOf"][1]["then"]["properties"]
+    tasks, claims = (older[name]["items"]["properties"] for name in ("tasks", "claims"))
+    given = claims["given"]["items"]["properties"]
+    assert {name for name, said in older.items() if said is False} == added("top")
+    assert {name for name, said in tasks.items() if said is False} == added("task")
+    assert {name for name, said in claims.items() if said is False} == added("claim") | third_claims()
+    assert {name for name, said in given.items() if said is False} == third_given()
+
+
+def third_claims():
+    """The members by which the claims go that only version 3 has."""
+    text = read("crates/tpl_parts/specs/Claims.antt")
+    return set(re.findall(r'is_third version then object_of \(codes "given" ∷ codes "(\w+)"', text))
+
+
+def third_given():
+    """The first member of each thing that may be given in version 3 only."""
+    defined = definitions(KINDS["given"][0])
+    names = re.findall(r"\w+_at\b", defined["end_or_job"])
+    return {re.search(r'object_of \(codes "(\w+)"', defined[name])[1] for name in names}
+
+
+# ---- the page
+
+
+def section(title):
+    """What the page says under a title."""
+    return read("docs/FORMAT.md").partition(f"\n## {title}\n")[2].partition("\n## ")[0]
+
+
+def rows(text, head):
+    """The cells of the rows of the table whose first heading is this."""
+    table = re.search(rf"(?m)^\| {head} \|.*\n\|[-|]+\|\n((?:\|.*\n)+)", text)[1]
+    return [[cell.strip() for cell in line.strip("|\n").split(" | ")] for line in table.splitlines()]
+
+
+def keys(text):
+    """The names before a colon."""
+    return frozenset(re.findall(r'"(\w+)":', text))
+
+
+def page_forms(kind):
+    """The members of each form of the kind, in version 3, as the page has them."""
+    if kind in ("top", "start"):
+        cells = rows(section(kind.capitalize() if kind == "start" else "The top"), "Member")
+        return {frozenset(re.match(r"`(\w+)`", row[0].strip("| "))[1] for row in cells)}
+    if kind == "token":
+        return {keys(re.search(r"\{[^}]*\}", rows(section("The top"), "Member")[2][1])[0])}
+    if kind == "task":
+        found = {}
+        for kinds, members in (row[:2] for row in rows(section("Tasks"), "Kind")):
+            for name in re.findall(r"`(\w+)`", kinds):
+                outside = re.sub(r"\([^)]*\)", "", members)
+                found[name] = frozenset(re.findall(r"`(\w+)`", outside)) | {"name", "kind"} | added(kind)
+        return set(found.values())
+    if kind == "claim":
+        cells = rows(section("Claims"), "Member")
+        return {keys(row[0]) | {"given"} | added(kind) for row in cells}
+    if kind == "row":
+        return {frozenset(re.findall(r"`(\w+)`", re.search(r"(?m)^A row has [^.]*", section("Trees"))[0]))}
+    text = section("Trees") if kind == "tree" else " ".join(row[0] for row in rows(*TABLES[kind]))
+    return {keys(it) for it in re.findall(r"`(\{[^`]*\})`", text)}
+
+
+TABLES = {
+    "statement": (section("Tasks"), "Statement"),
+    "given": (section("Claims"), "In `given`"),
+}
+
+
+@pytest.mark.parametrize("kind", KINDS)
+def test_page_has_the_members(kind):
+    assert page_forms(kind) == forms(kind)
+
+
+@pytest.mark.parametrize("kind", TABLES)
+def test_page_has_the_words(kind):
+    cells = (row[0].strip("| ") for row in rows(*TABLES[kind]))
+    assert {word for cell in cells for word in re.findall(r'^`"(\w+)"`', cell)} == single_words(kind)
+
+
+def marked(cells):
+    """The first name of each row that is marked with version 3."""
+    return {re.search(r"\w+", row[0])[0] for row in cells if "(version 3)" in row[0]}
+
+
+def test_page_says_what_version_3_adds():
+    assert marked(rows(section("The top"), "Member")) == added("top")
+    assert marked(rows(section("Claims"), "Member")) == third_claims()
+    assert marked(rows(*TABLES["given"])) == third_given() | single_words("given")
+
+
+# ---- the reasons
+
+FORMS = "crates/tpl_reasons/src/misread/form.rt"
+# forms of which a value has one as well, and the graph, which is only a part of the top
+MORE_FORMS = {"Task", "Graph"}
+
+
+def table():
+    """The members of each form in version 3, by its name, those that it needs first."""
+    third, _, second = read(FORMS).partition("fn names_of_second")
+    found = {}
+    for text in (second, third):
+        for name, names in re.findall(r"Form::(\w+) => &\[([^\]]*)\]", text.partition("fn is_object")[0]):
+            if names and not names.strip().startswith("Form::"):
+                found[name] = re.findall(r'"(\w+)"', names)
+    return {name: names for name, names in found.items() if name not in MORE_FORMS}
+
+
+def needed(name):
+    """How many of its members an object of this form has to have."""
+    arms = read(FORMS).partition("fn needed")[2].partition("_ => 2")[0]
+    for named, count in re.findall(r"((?:Form::\w+\s*\|?\s*)+)=> (\d)", arms):
+        if name in re.findall(r"Form::(\w+)", named):
+            return int(count)
+    return 2
+
+
+def test_reasons_have_the_members():
+    assert {frozenset(names) for names in table().values()} == set().union(*(forms(kind) for kind in KINDS))
+
+
+def test_reasons_say_what_may_be_left_out():
+    kinds = {members: kind for kind in KINDS for members in forms(kind)}
+    for name, names in table().items():
+        assert set(names[needed(name) :]) == set(names) & left_out(kinds[frozenset(names)]), name
