@@ -10,7 +10,7 @@ use Rattle.tpl_model.specs.Rules.{Run}
 use Rattle.tpl_model.specs.Valid.{all_sites}
 use Rattle.tpl_model.specs.declared.status.Answer.TheVariants.{Done, Failed}
 use Rattle.std.specs.Prelude.{Result, Ok, Err, is_err, true, false, Some, if◌then◌else◌, OnOk}
-use Rattle.tpl_laws.specs.Allowed.{is_complete}
+use Rattle.tpl_laws.specs.RunTests.{is_complete}
 use Rattle.tpl_laws.specs.Failing.{IsFrom, is_at, or_now, CompleteIsNoted, RequestIsNoted, JobIsNoted}
 use Rattle.tpl_machine.specs.Journal.{Journal, after}
 use Rattle.tpl_audit.specs.Audit.{first_events}

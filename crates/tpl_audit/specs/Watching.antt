@@ -7,7 +7,7 @@ use Rattle.tpl_model.specs.declared.event.Act.TheVariants.{Request, Step, Worked
 use Rattle.tpl_model.specs.declared.status.Answer.TheVariants.{Failed}
 use Rattle.tpl_model.specs.Valid.{all_sites}
 use Rattle.tpl_model.specs.Facts.{requested, failed}
-use Rattle.tpl_laws.specs.Allowed.{is_complete}
+use Rattle.tpl_laws.specs.RunTests.{is_complete}
 use Rattle.tpl_laws.specs.Failing.{IsFrom, Noted, or_now}
 
 -- the place that was noted for a token or a job

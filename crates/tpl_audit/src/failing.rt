@@ -50,7 +50,7 @@ fn fails_from<C: Core>(core: &C, complete: Option<usize>, body: Property) -> Opt
         result ≡ law.fails_from j.graph j.inputs j.events complete body }
 {
     core.run_law();
-    tpl_laws::allowed::holds_of_is_right();
+    tpl_laws::decided::holds_of_is_right();
     if is_true_of(core, body) {
         return None;
     }
@@ -139,7 +139,7 @@ pub(crate) fn first_failure<C: Core>(core: &C, watch: &Watch, claims: &[Claim]) 
         → FirstFails j.graph j.inputs events claims.now result }
 {
     core.run_law();
-    tpl_laws::allowed::holds_is_right();
+    tpl_laws::decided::holds_is_right();
     let mut found = None;
     for (i, claim) in claims.iter().enumerate() {
         found = better(found, failure_of(core, watch, claim), i + 1);

@@ -4,7 +4,7 @@ ghost use Rattle.std.specs.Prelude.{◌≡◌, ℕ, ◌<◌, ◌≤◌, [], leng
 ghost use Rattle.tpl_model.specs.Graph.{is_token};
 ghost use Rattle.tpl_model.specs.Facts.{failed, requested};
 ghost use Rattle.tpl_model.specs.Valid.{all_sites};
-ghost use Rattle.tpl_laws.specs.Allowed.{is_complete};
+ghost use Rattle.tpl_laws.specs.RunTests.{is_complete};
 ghost use Rattle.tpl_laws.specs.Failing.{or_now};
 ghost use Rattle.tpl_audit.specs.Watching.{failure_noted_after, may_fail, may_request, noted_after, noted_at, IsWatched};
 
@@ -119,7 +119,7 @@ impl Watch {
             ≡ or_now (noted_at self.old.asked k) (requested j.graph j.inputs j.events k) place }
         ensures failed { self.new.failed ≡ self.old.failed }
     {
-        tpl_laws::allowed::is_complete_is_right();
+        tpl_laws::decided::is_complete_is_right();
         self.complete = or_now(self.complete, core.complete(), place);
         note_requests(&mut self.asked, core, place);
     }
@@ -137,7 +137,7 @@ impl Watch {
             ≡ failure_noted_after act (noted_at self.old.failed site)
             (failed j.graph j.inputs j.events site) place }
     {
-        tpl_laws::allowed::is_complete_is_right();
+        tpl_laws::decided::is_complete_is_right();
         self.complete = or_now(self.complete, core.complete(), place);
         if may_request(act) {
             note_requests(&mut self.asked, core, place);

@@ -1,17 +1,14 @@
 -- What a test that computes says of a run, for the proofs of the examples.
 use Rattle.std.proofs.Common.{◌≡◌, ℕ, Bool, true, false, List}
-use Rattle.tpl_model.specs.declared.status.Actor.{Actor}
 use Rattle.tpl_model.specs.Graph.{TaskGraph}
-use Rattle.tpl_model.specs.declared.event.Act.{Act}
 use Rattle.tpl_model.specs.declared.event.Event.{Event}
-use Rattle.tpl_model.specs.Rules.{Allows, Run, Settled, Complete}
+use Rattle.tpl_model.specs.Rules.{Settled, Complete}
 use Rattle.tpl_model.specs.Valid.{IsGraph}
 use Rattle.tpl_model.specs.declared.claim.Given.{Given}
 use Rattle.tpl_model.specs.Claims.{Claim, IsGiven, Holds}
-use Rattle.tpl_laws.specs.Allowed.{can, is_run, is_settled, is_complete, is_given, holds}
+use Rattle.tpl_laws.specs.RunTests.{is_settled, is_complete, is_given, holds}
 use Rattle.tpl_laws.proofs.GraphDecided.{graph_test}
-use Rattle.tpl_laws.proofs.AllowedSettled.{settled_lem, complete_lem, given_lem, holds_lem}
-use Rattle.tpl_laws.proofs.AllowedDecided.{can_lem, run_lem}
+use Rattle.tpl_laws.proofs.RunsDecided.{settled_lem, complete_lem, given_lem, holds_lem}
 use Rattle.tpl_laws.specs.GraphTests.{is_graph}
 
 contradicts : {P : Type 0} (b : Bool) → (P → b ≡ true) → b ≡ false → P → ⊥
@@ -22,18 +19,6 @@ valid g e = (graph_test g).0 e
 
 pub invalid : (g : TaskGraph) → is_graph g ≡ false → IsGraph g → ⊥
 invalid g e = contradicts (is_graph g) (graph_test g).1 e
-
-pub runs : (g : TaskGraph) (v : List Bool) (h : List Event) → is_run g v h ≡ true → Run g v h
-runs g v h e = (run_lem g v h).0 e
-
-pub runs_not : (g : TaskGraph) (v : List Bool) (h : List Event) → is_run g v h ≡ false → Run g v h → ⊥
-runs_not g v h e = contradicts (is_run g v h) (run_lem g v h).1 e
-
-pub allowed : (g : TaskGraph) (v : List Bool) (h : List Event) (actor : Actor) (act : Act) → can g v h actor act ≡ true → Allows g v h actor act
-allowed g v h actor act e = (can_lem g v h actor act).0 e
-
-pub refused : (g : TaskGraph) (v : List Bool) (h : List Event) (actor : Actor) (act : Act) → can g v h actor act ≡ false → Allows g v h actor act → ⊥
-refused g v h actor act e = contradicts (can g v h actor act) (can_lem g v h actor act).1 e
 
 pub completes : (g : TaskGraph) (v : List Bool) (h : List Event) → is_complete g v h ≡ true → Complete g v h
 completes g v h e = (complete_lem g v h).0 e

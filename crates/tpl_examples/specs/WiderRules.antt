@@ -10,9 +10,8 @@ use Rattle.tpl_model.specs.declared.fault.CertFault.TheVariants.{ClaimNot}
 use Rattle.tpl_model.specs.declared.claim.Given.{Given}
 use Rattle.tpl_model.specs.declared.claim.Property.{Property}
 use Rattle.tpl_model.specs.declared.event.Event.{Event}
-use Rattle.tpl_model.specs.Rules.{final}
+use Rattle.tpl_model.specs.Rules.{final, Run}
 use Rattle.tpl_model.specs.Certificate.{Row}
-use Rattle.tpl_laws.specs.Allowed.{is_run}
 use Rattle.tpl_laws.specs.Verdict.{verdict}
 use Rattle.tpl_examples.specs.Words.{outside, dropping, by, request, played, root, when_all, when_any, with_token, ran, canceled, faulted, ends_in, begins_after, is_observed, never_begins, exclude, must_run, given_quiet, given_end, given_success, returns}
 use Rattle.tpl_examples.specs.CertificateWords.{child_with, continuing, graph_with, nothing, ran_or_canceled, ran_or_faulted, any_end, runs, ends, not_run, one_claim_given, not_closed, leaf, throws, observes}
@@ -54,7 +53,7 @@ abbrev pub by_its_token : List Event
 by_its_token = played (request 0 0 ∷ by (outside 0) (dropping 0) ∷ [])
 
 abbrev pub OwnTokenRows : Type 0
-OwnTokenRows = (is_run (on_canceled 0) [] by_its_token ≡ true) × (final (on_canceled 0) [] by_its_token 0 ≡ Some Canceled)
+OwnTokenRows = Run (on_canceled 0) [] by_its_token × (final (on_canceled 0) [] by_its_token 0 ≡ Some Canceled)
 
 -- a task whose exception is read, and its reader, with one token: that the task threw doesn't keep its token from being
 -- requested before the reader begins, nor does it keep the task from being canceled

@@ -1,26 +1,28 @@
 -- What an event leaves as it was.
-use Rattle.std.proofs.Common.{◌≡◌, ℕ, suc, ◌&&◌, ◌||◌, Bool, true, false, List, [], ◌∷◌, length, Option, Some, None, refl, sym, ap, ◌∙◌, not, nat_eq, is_some}
-use Rattle.std.specs.Prelude.{if◌then◌else◌}
+use Rattle.std.proofs.Common.{◌≡◌, ℕ, suc, ◌&&◌, ◌||◌, Bool, true, false, List, [], ◌∷◌, length, Option, Some, None, inl, inr, refl, sym, ap, ◌∙◌, subst, not, nat_eq, is_some}
+use Rattle.std.specs.Prelude.{◌↔◌, if◌then◌else◌, IsSomeAnd}
 use Rattle.std.proofs.lemmas.Bool.{eqb-true}
 use Rattle.tpl_model.proofs.MemberLemmas.{same_self, mem_here, mem_there}
 use Rattle.tpl_model.proofs.Truths.{true_false}
 use Rattle.tpl_model.specs.Members.{mem}
-use Rattle.tpl_model.specs.Options.{lazy_cancellation}
+use Rattle.tpl_model.specs.Options.{allows}
 use Rattle.tpl_model.specs.Statements.{Statements, Return, Throw, Check, Cancel, Start, Observe, Work, If, When, Nothing, ◌⨾◌}
+use Rattle.tpl_model.specs.declared.ids.TaskId.{TaskId}
+use Rattle.tpl_model.specs.declared.status.Actor.{Actor}
 use Rattle.tpl_model.specs.declared.event.Act.{Act}
 use Rattle.tpl_model.specs.declared.event.Act.TheVariants.{Request, Release, Begin, Step, Worked, Leave, Close, Drop, Settle}
 use Rattle.tpl_model.specs.declared.event.Event.{Event}
 use Rattle.tpl_model.specs.Graph.{TaskGraph, TaskKind, Root, Child, Continues, WhenAll, WhenAny, kind, task, options, attached}
 use Rattle.tpl_model.specs.Facts.{Rest, Ending, begun, released, left_body, ending, ends_by, ending_by, started, starts_by, is_start, rest, requested, all_over, final_in}
-use Rattle.tpl_model.specs.Rules.{status, status_by, opening, token_requested, token_requested_by, all_ended, some_ended, can_settle, to_end}
-use Rattle.tpl_laws.specs.Allowed.{has_task, is_inactive, is_ready, is_waiting, may_start, may_not_start, may_cancel, allowed_end, excluded_end, can_release, can_drop, can_close, can_settle_now, has_ended}
+use Rattle.tpl_model.specs.Rules.{status, status_by, opening, token_requested, token_requested_by, MayStart, MayNotStart, MayCancel, all_ended, some_ended, can_settle, Allows, to_end}
+use Rattle.tpl_laws.specs.RunTests.{has_ended}
 use Rattle.tpl_laws.specs.RowTests.{implies}
 use Rattle.tpl_run.specs.Body.{start_of}
 use Rattle.tpl_run.specs.Rows.{is_it}
 use Rattle.tpl_fast.specs.declared.marks.Mark.{Mark}
 use Rattle.tpl_fast.specs.Marks.{acting, mark_at, noted}
 use Rattle.tpl_fast.specs.Tokens.{starting}
-use Rattle.tpl_run.specs.Due.{is_due}
+use Rattle.tpl_run.specs.Reading.{due_task, HasDue}
 use Rattle.tpl_fast.specs.Due.{awaits, waits, ender}
 use Rattle.tpl_fast.proofs.MarkLemmas.{mark_step}
 use Rattle.tpl_fast.proofs.StateLemmas.{ending_kept}
@@ -98,6 +100,72 @@ same_token : (o : Option ℕ) (r r' : ℕ → Bool) → ((k : ℕ) → o ≡ Som
 same_token None r r' same = refl
 same_token (Some k) r r' same = same k refl
 
+-- after both lists of events stands the same of t, of what it waits for, and of its token
+record SaysSame (g : TaskGraph) (v : List Bool) (h later : List Event) (t : ℕ) : Type 0 where
+  own : ending g v later t ≡ ending g v h t
+  status : status g v later t ≡ status g v h t
+  awaited : (x : ℕ) → awaits (kind g t) x ≡ true → ending g v later x ≡ ending g v h x
+  token : token_requested g v later t ≡ token_requested g v h t
+  over : all_over (attached g t) (started g v later) (ending g v later) ≡ all_over (attached g t) (started g v h) (ending g v h)
+
+turned : (g : TaskGraph) (v : List Bool) (h later : List Event) (t : ℕ) → SaysSame g v h later t → SaysSame g v later h t
+turned g v h later t s = record { own = sym s.own; status = sym s.status; awaited = λ x w. sym (s.awaited x w); token = sym s.token; over = sym s.over }
+
+-- so what is due after the one is due after the other
+module _ (g : TaskGraph) (v : List Bool) (h later : List Event) where
+  start_kept : (t : ℕ) (k : TaskKind) → ((x : ℕ) → awaits k x ≡ true → ending g v later x ≡ ending g v h x) → MayStart g v h t k → MayStart g v later t k
+  start_kept t Root same m = m
+  start_kept t Child same m = m
+  start_kept t (Continues a) same m = subst (λ o. IsSomeAnd (final_in o) (λ f. allows (options g t) f ≡ true)) (sym (same a (same_self a))) m
+  start_kept t (WhenAll args) same m = m
+  start_kept t (WhenAny args) same m = m
+
+  not_start_kept : (t : ℕ) (k : TaskKind) → ((x : ℕ) → awaits k x ≡ true → ending g v later x ≡ ending g v h x) → MayNotStart g v h t k → MayNotStart g v later t k
+  not_start_kept t Root same m = m
+  not_start_kept t Child same m = m
+  not_start_kept t (Continues a) same m = subst (λ o. IsSomeAnd (final_in o) (λ f. allows (options g t) f ≡ false)) (sym (same a (same_self a))) m
+  not_start_kept t (WhenAll args) same m = m
+  not_start_kept t (WhenAny args) same m = m
+
+  cancel_kept : (t : ℕ) (k : TaskKind) → ((x : ℕ) → awaits k x ≡ true → ending g v later x ≡ ending g v h x) → MayCancel g v h t k → MayCancel g v later t k
+  cancel_kept t Root same m = m
+  cancel_kept t Child same m = m
+  cancel_kept t (Continues a) same (inl m) = inl m
+  cancel_kept t (Continues a) same (inr m) = inr (ap (λ o. is_some (final_in o)) (same a (same_self a)) ∙ m)
+  cancel_kept t (WhenAll args) same m = m
+  cancel_kept t (WhenAny args) same m = m
+
+  release_kept : (actor : Actor) (x : TaskId) → SaysSame g v h later x.0 → Allows g v h actor (Release x) → Allows g v later actor (Release x)
+  release_kept actor x s p = (p.0, s.status ∙ p.1, start_kept x.0 (kind g x.0) s.awaited p.2, s.token ∙ p.3)
+
+  drop_kept : (actor : Actor) (x : TaskId) → SaysSame g v h later x.0 → Allows g v h actor (Drop x) → Allows g v later actor (Drop x)
+  drop_kept actor x s (lt, inl p) = (lt, inl (s.status ∙ p.0, s.token ∙ p.1))
+  drop_kept actor x s (lt, inr (inl p)) = (lt, inr (inl (s.status ∙ p.0, s.token ∙ p.1, cancel_kept x.0 (kind g x.0) s.awaited p.2)))
+  drop_kept actor x s (lt, inr (inr p)) = (lt, inr (inr (s.status ∙ p.0, not_start_kept x.0 (kind g x.0) s.awaited p.1)))
+
+  close_kept : (actor : Actor) (x : TaskId) → SaysSame g v h later x.0 → Allows g v h actor (Close x) → Allows g v later actor (Close x)
+  close_kept actor x s p = (p.0, s.status ∙ p.1, s.over ∙ p.2)
+
+  settle_kept : (actor : Actor) (x : TaskId) → SaysSame g v h later x.0 → Allows g v h actor (Settle x) → Allows g v later actor (Settle x)
+  settle_kept actor x s p = (p.0, ap is_some s.own ∙ p.1, same_settle (kind g x.0) (ending g v h) (ending g v later) s.awaited ∙ p.2)
+
+  says : (t : ℕ) (x : TaskId) → Some x.0 ≡ Some t → SaysSame g v h later t → SaysSame g v h later x.0
+  says t x same s = let e : t ≡ x.0 = cc in subst (SaysSame g v h later) e s
+
+  act_kept : (t : ℕ) (actor : Actor) (act : Act) → due_task act ≡ Some t → SaysSame g v h later t → Allows g v h actor act → Allows g v later actor act
+  act_kept t actor (Release x) e s p = release_kept actor x (says t x e s) p
+  act_kept t actor (Drop x) e s p = drop_kept actor x (says t x e s) p
+  act_kept t actor (Close x) e s p = close_kept actor x (says t x e s) p
+  act_kept t actor (Settle x) e s p = settle_kept actor x (says t x e s) p
+  act_kept t actor (Request k) e s p = absurd (cc)
+  act_kept t actor (Begin x) e s p = absurd (cc)
+  act_kept t actor (Step x) e s p = absurd (cc)
+  act_kept t actor (Worked x y) e s p = absurd (cc)
+  act_kept t actor (Leave x) e s p = absurd (cc)
+
+  due_kept : (t : ℕ) → SaysSame g v h later t → HasDue g v h t → HasDue g v later t
+  due_kept t s (act, due) = (act, record { of_task = due.of_task; task = due.task; allowed = λ actor. act_kept t actor act due.of_task s (due.allowed actor) })
+
 module _ (g : TaskGraph) (v : List Bool) (h : List Event) (e : Event) where
   pub ending_same : (x : ℕ) → (ender e.act ≡ Some x → ⊥) → ending g v (e ∷ h) x ≡ ending g v h x
   ending_same x other = go (ends_by g x e.act (started g v h) (ending g v h)) refl
@@ -147,59 +215,17 @@ module _ (g : TaskGraph) (v : List Bool) (h : List Event) (e : Event) where
     by_child : (x : ℕ) → mem x (attached g t) ≡ true → waits g t x ≡ true
     by_child x m = or_right (awaits (kind g t) x) (mem x (attached g t)) m
 
-    start_same : (k : TaskKind) → ((x : ℕ) → awaits k x ≡ true → ending g v (e ∷ h) x ≡ ending g v h x) → may_start g v (e ∷ h) t k ≡ may_start g v h t k
-    start_same Root same = refl
-    start_same Child same = refl
-    start_same (Continues a) same = ap (λ o. allowed_end (options g t) (final_in o)) (same a (same_self a))
-    start_same (WhenAll args) same = refl
-    start_same (WhenAny args) same = refl
-
-    not_start_same : (k : TaskKind) → ((x : ℕ) → awaits k x ≡ true → ending g v (e ∷ h) x ≡ ending g v h x) → may_not_start g v (e ∷ h) t k ≡ may_not_start g v h t k
-    not_start_same Root same = refl
-    not_start_same Child same = refl
-    not_start_same (Continues a) same = ap (λ o. excluded_end (options g t) (final_in o)) (same a (same_self a))
-    not_start_same (WhenAll args) same = refl
-    not_start_same (WhenAny args) same = refl
-
-    cancel_same : (k : TaskKind) → ((x : ℕ) → awaits k x ≡ true → ending g v (e ∷ h) x ≡ ending g v h x) → may_cancel g v (e ∷ h) t k ≡ may_cancel g v h t k
-    cancel_same Root same = refl
-    cancel_same Child same = refl
-    cancel_same (Continues a) same = ap (λ o. not (lazy_cancellation (options g t)) || is_some (final_in o)) (same a (same_self a))
-    cancel_same (WhenAll args) same = refl
-    cancel_same (WhenAny args) same = refl
-
     token_same : token_requested g v (e ∷ h) t ≡ token_requested g v h t
     token_same = same_token (task g t).token (requested g v h) (requested g v (e ∷ h)) u.token
 
-    release_same : can_release g v (e ∷ h) t ≡ can_release g v h t
-    release_same =
-        ap (λ s. has_task g t && (is_inactive s && (may_start g v (e ∷ h) t (kind g t) && not (token_requested g v (e ∷ h) t)))) status_same
-        ∙ (ap (λ b. has_task g t && (is_inactive (status g v h t) && (b && not (token_requested g v (e ∷ h) t)))) (start_same (kind g t) by_kind)
-        ∙ ap (λ b. has_task g t && (is_inactive (status g v h t) && (may_start g v h t (kind g t) && not b))) token_same)
+    over_same : all_over (attached g t) (started g v (e ∷ h)) (ending g v (e ∷ h)) ≡ all_over (attached g t) (started g v h) (ending g v h)
+    over_same = same_over (attached g t) (started g v h) (started g v (e ∷ h)) (ending g v h) (ending g v (e ∷ h)) (λ x m. started_same x (λ is. u.childless x is (by_child x m))) (λ x m. waited x (by_child x m))
 
-    drop_same : can_drop g v (e ∷ h) t ≡ can_drop g v h t
-    drop_same =
-        ap (λ s. has_task g t && ((is_ready s && token_requested g v (e ∷ h) t) || ((is_inactive s && (token_requested g v (e ∷ h) t && may_cancel g v (e ∷ h) t (kind g t))) || (is_inactive s && may_not_start g v (e ∷ h) t (kind g t))))) status_same
-        ∙ (ap (λ b. has_task g t && ((is_ready (status g v h t) && b) || ((is_inactive (status g v h t) && (b && may_cancel g v (e ∷ h) t (kind g t))) || (is_inactive (status g v h t) && may_not_start g v (e ∷ h) t (kind g t))))) token_same
-        ∙ (ap (λ b. has_task g t && ((is_ready (status g v h t) && token_requested g v h t) || ((is_inactive (status g v h t) && (token_requested g v h t && b)) || (is_inactive (status g v h t) && may_not_start g v (e ∷ h) t (kind g t))))) (cancel_same (kind g t) by_kind)
-        ∙ ap (λ b. has_task g t && ((is_ready (status g v h t) && token_requested g v h t) || ((is_inactive (status g v h t) && (token_requested g v h t && may_cancel g v h t (kind g t))) || (is_inactive (status g v h t) && b)))) (not_start_same (kind g t) by_kind)))
+    says_same : SaysSame g v h (e ∷ h) t
+    says_same = record { own = own_ending; status = status_same; awaited = by_kind; token = token_same; over = over_same }
 
-    close_same : can_close g v (e ∷ h) t ≡ can_close g v h t
-    close_same =
-        ap (λ s. has_task g t && (is_waiting s && all_over (attached g t) (started g v (e ∷ h)) (ending g v (e ∷ h)))) status_same
-        ∙ ap (λ b. has_task g t && (is_waiting (status g v h t) && b)) (same_over (attached g t) (started g v h) (started g v (e ∷ h)) (ending g v h) (ending g v (e ∷ h)) (λ x m. started_same x (λ is. u.childless x is (by_child x m))) (λ x m. waited x (by_child x m)))
-
-    settle_same : can_settle_now g v (e ∷ h) t ≡ can_settle_now g v h t
-    settle_same =
-        ap (λ o. has_task g t && (not (is_some o) && can_settle (kind g t) (ending g v (e ∷ h)))) own_ending
-        ∙ ap (λ b. has_task g t && (not (is_some (ending g v h t)) && b)) (same_settle (kind g t) (ending g v h) (ending g v (e ∷ h)) by_kind)
-
-    pub due_same : is_due g v (e ∷ h) t ≡ is_due g v h t
-    due_same =
-        ap (λ b. b || (can_drop g v (e ∷ h) t || (can_close g v (e ∷ h) t || can_settle_now g v (e ∷ h) t))) release_same
-        ∙ (ap (λ b. can_release g v h t || (b || (can_close g v (e ∷ h) t || can_settle_now g v (e ∷ h) t))) drop_same
-        ∙ (ap (λ b. can_release g v h t || (can_drop g v h t || (b || can_settle_now g v (e ∷ h) t))) close_same
-        ∙ ap (λ b. can_release g v h t || (can_drop g v h t || (can_close g v h t || b))) settle_same))
+    pub due_same : HasDue g v (e ∷ h) t ↔ HasDue g v h t
+    due_same = (due_kept g v (e ∷ h) h t (turned g v h (e ∷ h) t says_same), due_kept g v h (e ∷ h) t says_same)
 
   pub done_same : (t : ℕ) → (acting e.act ≡ Some t → ⊥) → (starting e.act (rest g v h) ≡ Some t → ⊥) → has_ended g v (e ∷ h) t ≡ has_ended g v h t
   done_same t other unstarted =

@@ -1,5 +1,5 @@
 -- What is due, what a task waits for, and which tasks are looked at again when that changes.
-use Rattle.std.specs.Prelude.{◌≡◌, ℕ, ◌≤◌, ◌||◌, Bool, true, false, Option, Some, None, List, length, map, slice_get, nat_eq, not}
+use Rattle.std.specs.Prelude.{◌≡◌, ◌↔◌, ℕ, ◌≤◌, ◌||◌, Bool, true, false, Option, Some, None, List, length, map, slice_get, nat_eq, not}
 use Rattle.std.specs.declared.vec.Vec.{Vec}
 use Rattle.std.specs.declared.alloc.Global.{Global}
 use Rattle.tpl_model.specs.declared.ids.TaskId.{TaskId}
@@ -9,8 +9,8 @@ use Rattle.tpl_model.specs.declared.event.Act.{Act}
 use Rattle.tpl_model.specs.declared.event.Act.TheVariants.{Leave, Close, Drop, Settle}
 use Rattle.tpl_model.specs.Graph.{TaskGraph, TaskKind, Continues, WhenAll, WhenAny, kind, task, attached, is_task}
 use Rattle.tpl_draft.specs.Ids.{task_number}
-use Rattle.tpl_laws.specs.Allowed.{has_ended}
-use Rattle.tpl_run.specs.Due.{is_due}
+use Rattle.tpl_laws.specs.RunTests.{has_ended}
+use Rattle.tpl_run.specs.Reading.{HasDue}
 use Rattle.tpl_run.specs.Journal.{Journal}
 
 -- a task of this kind waits for x
@@ -51,7 +51,7 @@ pub record AreTold (g : TaskGraph) (waiters owners : List (Vec TaskId Global)) :
 
 -- t is in the set just where it has something due
 abbrev pub IsRight : Journal → List ℕ → ℕ → Type 0
-IsRight j due t = is_set due t ≡ is_due j.graph j.inputs j.events t
+IsRight j due t = (is_set due t ≡ true) ↔ HasDue j.graph j.inputs j.events t
 
 abbrev pub IsOpenRight : Journal → List ℕ → ℕ → Type 0
 IsOpenRight j unended t = is_set unended t ≡ not (has_ended j.graph j.inputs j.events t)

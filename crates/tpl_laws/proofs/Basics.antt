@@ -1,4 +1,5 @@
 -- Tests, choices and members.
+use Rattle.std.specs.Prelude.{IsSomeAnd}
 use Rattle.std.proofs.Common.{◌≡◌, ℕ, ◌++◌, ◌⊎◌, inl, inr, Bool, true, false, if◌then◌else◌, Option, Some, None, List, [], ◌∷◌, refl, sym, ap, subst, nat_eq, is_some, eqb→eq, T}
 use Rattle.std.proofs.lemmas.Bool.{or_left}
 use Rattle.tpl_model.proofs.Truths.{true_false}
@@ -25,6 +26,14 @@ is_some_of o x e = ap is_some e
 pub the_some : {A : Type 0} (o : Option A) → is_some o ≡ true → (x : A) × (o ≡ Some x)
 the_some (Some x) e = (x, refl)
 the_some None e = true_false (sym e)
+
+-- a value of which this holds, taken apart and put together
+pub some_of : {A : Type 0} (o : Option A) (P : A → Type 0) → IsSomeAnd o P → (x : A) × (o ≡ Some x) × P x
+some_of (Some x) P p = (x, refl, p)
+some_of None P p = absurd p
+
+pub some_and : {A : Type 0} (o : Option A) (P : A → Type 0) (x : A) → o ≡ Some x → P x → IsSomeAnd o P
+some_and o P x e p = subst (λ z. IsSomeAnd z P) (sym e) p
 
 pub same_number : (x y : ℕ) → nat_eq x y ≡ true → x ≡ y
 same_number x y e = eqb→eq x y (subst T (sym e) tt)

@@ -4,12 +4,11 @@ use Rattle.std.proofs.lemmas.Bool.{cases_Bool}
 use Rattle.tpl_model.proofs.Truths.{true_false}
 use Rattle.tpl_model.specs.declared.finals.Final.{Final}
 use Rattle.tpl_model.specs.declared.finals.Final.TheVariants.{RanToCompletion, Canceled}
-use Rattle.tpl_model.specs.Options.{allows}
 use Rattle.tpl_model.specs.declared.status.Label.{Label}
 use Rattle.tpl_model.specs.declared.outcome.Outcome.TheVariants.{Threw}
 use Rattle.tpl_model.specs.Members.{mem}
 use Rattle.tpl_model.specs.Statements.{Statements, Nothing, ◌⨾◌}
-use Rattle.tpl_model.specs.Graph.{TaskGraph, TaskKind, Root, Child, Continues, WhenAll, WhenAny, task, kind, body, options, is_task, attached, IsParent}
+use Rattle.tpl_model.specs.Graph.{TaskGraph, TaskKind, Root, Child, Continues, WhenAll, WhenAny, task, kind, body, is_task, attached, IsParent}
 use Rattle.tpl_model.specs.declared.status.Actor.{Actor}
 use Rattle.tpl_model.specs.declared.event.Act.{Act}
 use Rattle.tpl_model.specs.declared.event.Act.TheVariants.{Request, Release, Begin, Step, Worked, Leave, Close, Drop, Settle}
@@ -20,7 +19,7 @@ use Rattle.tpl_laws.proofs.Basics.{some_none, the_some, is_some_of, mem_here}
 use Rattle.tpl_laws.proofs.Kept.{after, not_some, running_facts, drop_facts, ending_new, ending_kept, final_kept, requested_kept, started_kept, begun_kept}
 use Rattle.tpl_model.specs.Valid.{IsGraph}
 use Rattle.tpl_laws.proofs.Execution.{passed, started_parent}
-use Rattle.tpl_laws.proofs.Ready.{Ready, begun_ready, waiting_ready, IsBody, begun_body, drop_body}
+use Rattle.tpl_laws.proofs.Ready.{EndedSo, may_not_start_so, Ready, begun_ready, waiting_ready, IsBody, begun_body, drop_body}
 use Rattle.tpl_laws.proofs.Settling.{child_rules, attached_child, started_before, all_over_mem}
 use Rattle.tpl_laws.proofs.Carrying.{Ends, drops, leaves, settled, how_ends, begun_task, gathered_keeps, gathered_adds, mem_those}
 use Rattle.tpl_model.specs.Certificate.{TakesOver}
@@ -284,7 +283,7 @@ abbrev pub EndedAs : TaskGraph → List Bool → List Event → ℕ → ℕ → 
 EndedAs g v h t y =
     ((is_some (begun h t) ≡ true) × (is_some (outcome_in (rest g v h t)) ≡ true))
     ⊎ (token_requested g v h t ≡ true)
-    ⊎ ((f : Final) × (final g v h y ≡ Some f) × (allows (options g t) f ≡ false))
+    ⊎ EndedSo g v h t y false
 
 pub ended_as : (g : TaskGraph) (v : List Bool) (h : List Event) (t y : ℕ) (r : Ending) → Run g v h → kind g t ≡ Continues y → ending g v h t ≡ Some r → EndedAs g v h t y
 ended_as g v [] t y r run k e = some_none r (sym e ∙ ap ended_at_once k)
@@ -308,7 +307,7 @@ ended_as g v (ev ∷ h) t y r run k e = here (λ o. ended_as g v h t y r run.0 k
     of_drop d =
         elim d [
           | inl a ↦ inr (inl a.1)
-          | inr b ↦ elim b [ inl c ↦ inr (inl c.1) | inr c ↦ inr (inr (subst (λ z. MayNotStart g v h t z) k c.1)) ]
+          | inr b ↦ elim b [ inl c ↦ inr (inl c.1) | inr c ↦ inr (inr (may_not_start_so g v h t y (subst (λ z. MayNotStart g v h t z) k c.1))) ]
         ]
 
     by_end : Ends g v h t r → EndedAs g v h t y

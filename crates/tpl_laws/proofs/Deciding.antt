@@ -16,6 +16,14 @@ pub denied : (P : Type 0) (b : Bool) → Decides b P → Decides (not b) (P → 
 denied P true d = (λ e. true_false (sym e), λ f. absurd (f (d.0 refl)))
 denied P false d = (λ e p. true_false (sym (d.1 p)), λ f. refl)
 
+-- a test says of itself that it passes, or that it doesn't
+pub itself : (b : Bool) → Decides b (b ≡ true)
+itself b = (λ e. e, λ e. e)
+
+pub opposite : (b : Bool) → Decides (not b) (b ≡ false)
+opposite true = (λ e. cc, λ e. cc)
+opposite false = (λ e. refl, λ e. refl)
+
 pub same : (x y : ℕ) → Decides (nat_eq x y) (x ≡ y)
 same x y = (same_number x y, λ e. subst (λ z. nat_eq x z ≡ true) e (same_self x))
 
@@ -26,6 +34,12 @@ pub both : (P Q : Type 0) (a b : Bool) → Decides a P → Decides b Q → Decid
 both P Q a b p q = (
   λ e. let s = and_parts a b e in (p.0 s.0, q.0 s.1),
   λ e. and_join a b (p.1 e.0) (q.1 e.1),
+)
+
+pub both3 : (P Q R : Type 0) (a b c : Bool) → Decides a P → Decides b Q → Decides c R → Decides (a && (b && c)) (P × Q × R)
+both3 P Q R a b c p q r = (
+  λ e. let x = and_parts a (b && c) e in let y = and_parts b c x.1 in (p.0 x.0, q.0 y.0, r.0 y.1),
+  λ d. and_join a (b && c) (p.1 d.0) (and_join b c (q.1 d.1) (r.1 d.2)),
 )
 
 pub either : (P Q : Type 0) (a b : Bool) → Decides a P → Decides b Q → Decides (a || b) (P ⊎ Q)

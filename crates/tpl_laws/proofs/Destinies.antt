@@ -12,13 +12,13 @@ use Rattle.tpl_model.specs.declared.status.Actor.{Actor}
 use Rattle.tpl_model.specs.declared.event.Act.{Act}
 use Rattle.tpl_model.specs.declared.event.Event.{Event}
 use Rattle.tpl_model.specs.Facts.{Ending, ending, ended_at_once, final_in, all_final, worse, settled_as}
-use Rattle.tpl_model.specs.Rules.{final, MayStart, Allows, Run, can_settle, all_ended}
+use Rattle.tpl_model.specs.Rules.{final, Allows, Run, can_settle, all_ended}
 use Rattle.tpl_model.specs.Valid.{IsGraph, ArePlaced, IsPlaced}
 use Rattle.tpl_model.specs.Certificate.{end_left}
 use Rattle.tpl_model.specs.WiderRules.{WideAssumed, WideAgrees, keeps, narrowed_by, narrowed_from, narrowed}
 use Rattle.tpl_laws.proofs.Basics.{some_none, same_number, mem_here}
 use Rattle.tpl_laws.proofs.Kept.{after, ending_new, final_kept, final_of}
-use Rattle.tpl_laws.proofs.Ready.{Ready, begun_ready, IsBody, begun_body, drop_body}
+use Rattle.tpl_laws.proofs.Ready.{EndedSo, Ready, begun_ready, IsBody, begun_body, drop_body}
 use Rattle.tpl_laws.proofs.Settling.{no_task}
 use Rattle.tpl_laws.proofs.Carrying.{Ends, drops, leaves, settled, how_ends, worse_faulted}
 use Rattle.tpl_laws.proofs.Chains.{ended_begun}
@@ -174,7 +174,7 @@ module _ (g : TaskGraph) (v : List Bool) (h : List Event) (valid : IsGraph g) (r
         | inr w ↦
             let r = final_of (ending g v h t) w.0 w.1 in
             let b = ended_begun g v h t r.0 run (subst IsBody (sym k) tt) r.1 (λ c. n (destiny_ended g v h t w.0 w.1 ∙ sym r.2 ∙ c)) in
-            let m : MayStart g v h t (Continues a) = subst (λ z. Ready g v h t z) k (begun_ready g v h t run b) in
+            let m : EndedSo g v h t a true = subst (λ z. Ready g v h t z) k (begun_ready g v h t run b) in
             subst (λ z. allows (options g t) z ≡ true) (sym (destiny_ended g v h a m.0 m.1)) m.2
       ]
     where

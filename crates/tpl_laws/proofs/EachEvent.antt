@@ -20,7 +20,7 @@ use Rattle.tpl_model.specs.Options.{lazy_cancellation}
 use Rattle.tpl_model.specs.Valid.{IsGraph}
 use Rattle.tpl_model.specs.Certificate.{Row, row, Assumed, end_left, Agrees, is_loud, view, IsBelow, BodyMayEnd, AllMayEnd, MayEndAs, may_end, may_win, PastRule, Closed}
 use Rattle.tpl_laws.proofs.Execution.{passed, StartedBy, started_parent}
-use Rattle.tpl_laws.proofs.Ready.{Ready, begun_ready, waiting_ready, IsBody, begun_body}
+use Rattle.tpl_laws.proofs.Ready.{may_not_start_so, Ready, begun_ready, waiting_ready, IsBody, begun_body}
 use Rattle.tpl_laws.proofs.Follows.{follows}
 use Rattle.tpl_laws.proofs.Settling.{no_task, child_rules, has_subject_of, attached_child, settled_kept, below_settled}
 use Rattle.tpl_laws.proofs.Carrying.{Ends, drops, leaves, settled, BodyEnds, how_ends, carries_faulted, gathered_from, those_mem, gathered_keeps, carried_some}
@@ -105,14 +105,14 @@ drop_may g l rows v h t now i d =
 
     cancels : (k : TaskKind) → MayCancel g v h t k → is_loud g l t ≡ true → MayEndAs g l rows t k Canceled
     cancels (Continues a) m loud =
-        elim m [ inl z ↦ inr (refl, inl (loud, z)) | inr z ↦ inr (refl, inr (inl (loud, (z.0, now.true_rows.ends a z.0 z.1)))) ]
+        elim m [ inl z ↦ inr (refl, inl (loud, z)) | inr z ↦ (let f = the_some (final g v h a) z in inr (refl, inr (inl (loud, (f.0, now.true_rows.ends a f.0 f.1))))) ]
     cancels Root m loud = absurd m
     cancels Child m loud = absurd m
     cancels (WhenAll args) m loud = absurd m
     cancels (WhenAny args) m loud = absurd m
 
     not_starts : (k : TaskKind) → MayNotStart g v h t k → MayEndAs g l rows t k Canceled
-    not_starts (Continues a) m = inr (refl, inr (inr (m.0, now.true_rows.ends a m.0 m.1, m.2)))
+    not_starts (Continues a) m = let so = may_not_start_so g v h t a m in inr (refl, inr (inr (so.0, now.true_rows.ends a so.0 so.1, so.2)))
     not_starts Root m = absurd m
     not_starts Child m = absurd m
     not_starts (WhenAll args) m = absurd m
@@ -215,14 +215,14 @@ done_before g l rows v h t r now (drops i d f c) =
     ]
   where
     cancels : (k : TaskKind) → MayCancel g v h t k → is_loud g l t ≡ true → DoneBefore g l v h t r k
-    cancels (Continues a) m loud = elim m [ inl z ↦ inr (loud, z, f) | inr z ↦ inl (some_of_final (ending g v h a) z.0 z.1) ]
+    cancels (Continues a) m loud = elim m [ inl z ↦ inr (loud, z, f) | inr z ↦ (let f = the_some (final g v h a) z in inl (some_of_final (ending g v h a) f.0 f.1)) ]
     cancels Root m loud = absurd m
     cancels Child m loud = absurd m
     cancels (WhenAll args) m loud = absurd m
     cancels (WhenAny args) m loud = absurd m
 
     not_starts : (k : TaskKind) → MayNotStart g v h t k → DoneBefore g l v h t r k
-    not_starts (Continues a) m = inl (some_of_final (ending g v h a) m.0 m.1)
+    not_starts (Continues a) m = let so = may_not_start_so g v h t a m in inl (some_of_final (ending g v h a) so.0 so.1)
     not_starts Root m = absurd m
     not_starts Child m = absurd m
     not_starts (WhenAll args) m = absurd m

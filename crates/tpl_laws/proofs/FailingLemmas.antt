@@ -22,7 +22,7 @@ use Rattle.tpl_model.specs.declared.claim.Property.TheVariants.{Final as EndsIn,
 use Rattle.tpl_model.specs.Certificate.{same, given_sure}
 use Rattle.tpl_model.specs.Claims.{input}
 use Rattle.tpl_laws.specs.RowTests.{implies}
-use Rattle.tpl_laws.specs.Allowed.{is_settled, is_complete, is_given, settled_at_begin, ends_within, holds_of}
+use Rattle.tpl_laws.specs.RunTests.{is_settled, is_complete, is_given, settled_at_begin, ends_within, holds_of}
 use Rattle.tpl_laws.specs.Failing.{is_at, IsFrom, began_at, place_of, later_of, or_now, lost_at, fails_from, Noted, is_broken, unless_broken, first_failure, FailureIsTold, OnlyRequests, StaysComplete, CompleteIsNoted, RequestIsNoted, JobIsNoted}
 use Rattle.tpl_laws.specs.Runs.{gives_quiet}
 use Rattle.tpl_laws.proofs.Basics.{the_some}
@@ -30,7 +30,7 @@ use Rattle.tpl_laws.proofs.Kept.{after, failed_kept, running_facts, waiting_fact
 use Rattle.tpl_laws.proofs.Ready.{Ready, waiting_ready, begun_ready, left_begun}
 use Rattle.tpl_laws.proofs.Prefixes.{nothing_goes_back_lem}
 use Rattle.tpl_laws.proofs.SettledBefore.{ended_within, longer, ended_then, begins_once, begun_once}
-use Rattle.tpl_laws.proofs.AllowedSettled.{complete_lem}
+use Rattle.tpl_laws.proofs.RunsDecided.{complete_lem}
 
 -- places and tests
 

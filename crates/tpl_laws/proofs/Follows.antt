@@ -13,13 +13,13 @@ use Rattle.tpl_model.specs.declared.event.Event.{Event}
 use Rattle.tpl_model.specs.Facts.{Rest, Ending, on, over, begun, stepped, worked, final_in, winner_of, rest, requested, failed, fails_by, is_work, ending, is_cancel, subject_in, subject_of, has_final, is_end, requested_itself}
 use Rattle.tpl_model.specs.Paths.{cancellation, Known, Passes}
 pub use Rattle.tpl_model.proofs.KnownPaths.{FollowsBy}
-use Rattle.tpl_model.specs.Rules.{final, subject, MayStart, Allows, Run, steps, works}
+use Rattle.tpl_model.specs.Rules.{final, subject, Allows, Run, steps, works}
 use Rattle.tpl_model.specs.Claims.{input}
 use Rattle.tpl_model.specs.Valid.{HasSubject}
 use Rattle.tpl_laws.proofs.Basics.{some_none, same_number, final_same}
 use Rattle.tpl_laws.proofs.Kept.{id, after, not_some, running_facts, ending_kept, final_kept, requested_kept, failed_kept, final_of}
 use Rattle.tpl_laws.proofs.Execution.{pushed, passed, reads_left}
-use Rattle.tpl_laws.proofs.Ready.{Ready, begun_ready, any_winner}
+use Rattle.tpl_laws.proofs.Ready.{EndedSo, Ready, begun_ready, any_winner}
 use Rattle.std.proofs.Common.{◌≡◌, ℕ, ◌⊎◌, inl, inr, Bool, true, false, if◌then◌else◌, Option, Some, None, List, [], ◌∷◌, refl, sym, ap, ◌∙◌, subst, nat_eq, is_some, slice_index_or}
 use Rattle.std.proofs.lemmas.Bool.{or_left}
 use Rattle.tpl_model.proofs.MemberLemmas.{same_self}
@@ -68,7 +68,7 @@ fits_before g v h a x t w al f = record {
 -- the subject of a continuation that has begun has ended
 pub has_subject : (g : TaskGraph) (v : List Bool) (h : List Event) (t a : ℕ) → Run g v h → is_some (begun h t) ≡ true → kind g t ≡ Continues a → (s : ℕ) × (f : Final) × (subject g v h t ≡ Some s) × (final g v h s ≡ Some f)
 has_subject g v h t a run b k =
-    let ready : MayStart g v h t (Continues a) = subst (λ z. Ready g v h t z) k (begun_ready g v h t run b) in
+    let ready : EndedSo g v h t a true = subst (λ z. Ready g v h t z) k (begun_ready g v h t run b) in
     let w = by_kind (kind g a) refl ready.0 ready.1 in
     (w.0, w.1, ap (λ z. subject_in g z (ending g v h)) k ∙ w.2, w.3)
   where

@@ -4,7 +4,7 @@ use Rattle.std.specs.Prelude.{Decides, count_by}
 use Rattle.std.proofs.lemmas.Bool.{cases_lt, eqb-true, eq-eqb}
 use Rattle.std.proofs.lemmas.Bool.Decides.{Decides-and, Decides-ltb, Decides-eqb, Decides-below_and, Decides-below_or, Decides-like}
 use Rattle.std.proofs.lemmas.List.Recursion.{is_count_by}
-use Rattle.tpl_laws.proofs.Deciding.{only_if}
+use Rattle.tpl_laws.proofs.Deciding.{only_if, itself, opposite, both3}
 use Rattle.tpl_model.specs.Members.{mem}
 use Rattle.tpl_model.specs.Options.{has_bits, excludes_all, long_and_sync}
 use Rattle.tpl_model.specs.Statements.{Statement, Statements, Return, Throw, Check, Cancel, Start, Observe, Work, If, When, Nothing, ◌⨾◌, starts, reads_nothing}
@@ -12,10 +12,9 @@ use Rattle.tpl_model.specs.Limits.{statement_count, level_count}
 use Rattle.tpl_model.specs.Graph.{TaskGraph, Task, TaskKind, Root, Child, Continues, WhenAll, WhenAny, task, kind, body, options, Token, Plain, Linked, token, IsParent}
 use Rattle.tpl_model.specs.Valid.{IdsOf, IdsWithin, OwnToken, AreBefore, IsLinked, ArePlaced, IsPlaced, option_words, HasBody, HasSubject, IsTask, all_sites, IsGraph}
 use Rattle.tpl_laws.specs.RowTests.{implies, all_in}
-use Rattle.tpl_laws.specs.Allowed.{is_child, all_below}
-use Rattle.tpl_laws.proofs.AllowedDecided.{itself, denied, both3}
+use Rattle.tpl_laws.specs.RunTests.{is_child, all_below}
 use Rattle.tpl_laws.proofs.Settling.{beyond}
-use Rattle.tpl_laws.proofs.AllowedSettled.{of_child}
+use Rattle.tpl_laws.proofs.RunsDecided.{of_child}
 use Rattle.tpl_laws.specs.GraphTests.{at_most, some_below, has_ids, has_ids_within, has_own, are_before, is_linked, are_placed, is_placed, is_nothing, is_none, has_body, has_subject, is_parent, parent_before, started_once, same_parent, one_parent, starts_child, fits_body, fits_kind, fits_options, fits_children, is_right, once_each, within_limits, is_graph}
 
 -- the tests mean what the rules say
@@ -29,7 +28,7 @@ childhood : (k : TaskKind) → Decides (is_child k) (k ≡ Child)
 childhood k = (of_child k, λ e. ap is_child e)
 
 no_child : (k : TaskKind) → Decides (not (is_child k)) (k ≡ Child → ⊥)
-no_child k = (λ e c. let t : is_child k ≡ true = ap is_child c in let f : is_child k ≡ false = (denied (is_child k)).0 e in absurd (cc), λ n. by_test k n)
+no_child k = (λ e c. let t : is_child k ≡ true = ap is_child c in let f : is_child k ≡ false = (opposite (is_child k)).0 e in absurd (cc), λ n. by_test k n)
   where
     by_test : (k : TaskKind) → (k ≡ Child → ⊥) → not (is_child k) ≡ true
     by_test Root n = refl
@@ -157,7 +156,7 @@ module _ (g : TaskGraph) (t : ℕ) where
       let kinds = Decides-and (is_placed g t (kind g t)) (has_body (kind g t) (task g t)) (at_place g t (kind g t)) (bodied (kind g t) (task g t)) in
       let words = both3 (has_bits (option_words (kind g t)) (options g t) ≡ true) (excludes_all (options g t) ≡ false) (long_and_sync (options g t) ≡ false)
       (has_bits (option_words (kind g t)) (options g t)) (not (excludes_all (options g t))) (not (long_and_sync (options g t)))
-      (itself (has_bits (option_words (kind g t)) (options g t))) (denied (excludes_all (options g t))) (denied (long_and_sync (options g t))) in
+      (itself (has_bits (option_words (kind g t)) (options g t))) (opposite (excludes_all (options g t))) (opposite (long_and_sync (options g t))) in
       let children = Decides-and (parent_before g t) (started_once g t && (one_parent g t && starts_child g t)) before_it
       (both3 ((p : ℕ) → count_by (nat_eq t) (starts (body g p)) ≤ 1) ((p q : ℕ) → IsParent g p t → IsParent g q t → p ≡ q) ((p : ℕ) → IsParent g p t → kind g t ≡ Child)
       (started_once g t) (one_parent g t) (starts_child g t) once one child_only) in

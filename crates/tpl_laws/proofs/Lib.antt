@@ -31,8 +31,7 @@ pub mod WiderDecided
 pub mod WideTreesDecided
 pub mod FirstFault
 pub mod ForCode
-pub mod AllowedDecided
-pub mod AllowedSettled
+pub mod RunsDecided
 pub mod GraphDecided
 pub mod FailingLemmas
 pub mod Wider

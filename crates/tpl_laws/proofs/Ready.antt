@@ -5,18 +5,35 @@ use Rattle.tpl_model.proofs.MemberLemmas.{mem_there}
 use Rattle.tpl_model.proofs.Truths.{true_false}
 use Rattle.tpl_model.specs.declared.status.Status.TheVariants.{WaitingToRun}
 use Rattle.tpl_model.specs.Members.{mem}
-use Rattle.tpl_model.specs.Graph.{TaskGraph, TaskKind, Root, Child, Continues, WhenAll, WhenAny, kind, attached}
+use Rattle.tpl_model.specs.Graph.{TaskGraph, TaskKind, Root, Child, Continues, WhenAll, WhenAny, kind, options, attached}
 use Rattle.tpl_model.specs.declared.status.Actor.{Actor}
+use Rattle.tpl_model.specs.declared.finals.Final.{Final}
 use Rattle.tpl_model.specs.declared.event.Act.{Act}
 use Rattle.tpl_model.specs.declared.event.Act.TheVariants.{Request, Release, Begin, Step, Worked, Leave, Close, Drop, Settle}
 use Rattle.tpl_model.specs.declared.event.Event.{Event}
 use Rattle.tpl_model.specs.Facts.{Ending, begun, released, released_by, left_body, left_by, ends_by, ending_by, all_over, rest, started, ending, first_ended, earlier, place_in, ended_at_once, settled_as}
-use Rattle.tpl_model.specs.Rules.{status, opening, MayDrop, MayStart, MayNotStart, MayCancel, Allows, Run, some_ended, can_settle}
-use Rattle.tpl_laws.proofs.Basics.{if_false, some_none, the_some, same_number, mem_here}
+use Rattle.tpl_model.specs.Options.{allows}
+use Rattle.tpl_model.specs.Rules.{final, status, opening, MayDrop, MayStart, MayNotStart, MayCancel, Allows, Run, some_ended, can_settle}
+use Rattle.tpl_laws.proofs.Basics.{if_false, some_none, some_of, some_and, the_some, same_number, mem_here}
 use Rattle.tpl_laws.proofs.Kept.{id, after, running_facts, waiting_facts, close_facts, ending_new, ending_kept, final_kept, started_kept, begun_kept}
 
+-- the antecedent of a continuation has ended in a way that its options allow, or don't
+abbrev pub EndedSo : TaskGraph → List Bool → List Event → ℕ → ℕ → Bool → Type 0
+EndedSo g v h c a allowed = (f : Final) × (final g v h a ≡ Some f) × (allows (options g c) f ≡ allowed)
+
+pub may_start_so : (g : TaskGraph) (v : List Bool) (h : List Event) (c a : ℕ) → MayStart g v h c (Continues a) → EndedSo g v h c a true
+may_start_so g v h c a m = some_of (final g v h a) (λ f. allows (options g c) f ≡ true) m
+
+pub may_not_start_so : (g : TaskGraph) (v : List Bool) (h : List Event) (c a : ℕ) → MayNotStart g v h c (Continues a) → EndedSo g v h c a false
+may_not_start_so g v h c a m = some_of (final g v h a) (λ f. allows (options g c) f ≡ false) m
+
+ended_so_kept : (g : TaskGraph) (v : List Bool) (h : List Event) (a : Actor) (x : Act) (c s : ℕ) (allowed : Bool) → Allows g v h a x → EndedSo g v h c s allowed → EndedSo g v (after a x h) c s allowed
+ended_so_kept g v h a x c s allowed al m = (m.0, final_kept g v h a x s m.0 al m.1, m.2)
+
 pub may_start_kept : (g : TaskGraph) (v : List Bool) (h : List Event) (a : Actor) (x : Act) (c : ℕ) (k : TaskKind) → Allows g v h a x → MayStart g v h c k → MayStart g v (after a x h) c k
-may_start_kept g v h a x c (Continues s) al m = (m.0, final_kept g v h a x s m.0 al m.1, m.2)
+may_start_kept g v h a x c (Continues s) al m =
+    let kept = ended_so_kept g v h a x c s true al (may_start_so g v h c s m) in
+    some_and (final g v (after a x h) s) (λ f. allows (options g c) f ≡ true) kept.0 kept.1 kept.2
 may_start_kept g v h a x c Root al m = absurd m
 may_start_kept g v h a x c Child al m = absurd m
 may_start_kept g v h a x c (WhenAll args) al m = absurd m
@@ -44,7 +61,7 @@ released_ready g v (e ∷ h) c run r =
 abbrev pub Ready : TaskGraph → List Bool → List Event → ℕ → TaskKind → Type 0
 Ready g v h t Root = Unit {0}
 Ready g v h t Child = started g v h t ≡ true
-Ready g v h t (Continues a) = MayStart g v h t (Continues a)
+Ready g v h t (Continues a) = EndedSo g v h t a true
 Ready g v h t (WhenAll args) = ⊥
 Ready g v h t (WhenAny args) = ⊥
 
@@ -66,7 +83,7 @@ ready_body g v h t (WhenAny args) r = r
 ready_kept : (g : TaskGraph) (v : List Bool) (h : List Event) (a : Actor) (x : Act) (t : ℕ) (k : TaskKind) → Allows g v h a x → Ready g v h t k → Ready g v (after a x h) t k
 ready_kept g v h a x t Root al r = tt
 ready_kept g v h a x t Child al r = started_kept g v h a x t r
-ready_kept g v h a x t (Continues s) al r = may_start_kept g v h a x t (Continues s) al r
+ready_kept g v h a x t (Continues s) al r = ended_so_kept g v h a x t s true al r
 ready_kept g v h a x t (WhenAll args) al r = r
 ready_kept g v h a x t (WhenAny args) al r = r
 
@@ -78,7 +95,7 @@ waiting_ready g v h t run e = by_kind (kind g t) (started g v h t) (released h t
     by_kind Child true r st rl o = st refl
     by_kind Child false true st rl o = absurd (rl refl)
     by_kind Child false false st rl o = absurd (cc)
-    by_kind (Continues a) s true st rl o = rl refl
+    by_kind (Continues a) s true st rl o = may_start_so g v h t a (rl refl)
     by_kind (Continues a) s false st rl o = absurd (cc)
     by_kind (WhenAll args) s true st rl o = rl refl
     by_kind (WhenAll args) s false st rl o = absurd (cc)

@@ -15,7 +15,7 @@ use Rattle.tpl_model.specs.declared.event.Act.{Act}
 use Rattle.tpl_model.specs.declared.event.Act.TheVariants.{Request, Release, Begin, Step, Worked, Leave, Close, Drop, Settle}
 use Rattle.tpl_model.specs.declared.event.Event.{Event}
 use Rattle.tpl_model.specs.Facts.{Ending, begun, left_body, stepped, worked, winner_of, rest, requested, failed, ending, subject_in, subject_of, outcome_in, outcome_of}
-use Rattle.tpl_model.specs.Rules.{final, IsRunning, MayStart, Allows, Run, Settled, ended, token_requested, token_requested_by}
+use Rattle.tpl_model.specs.Rules.{final, IsRunning, Allows, Run, Settled, ended, token_requested, token_requested_by}
 use Rattle.tpl_model.specs.Paths.{Known, EndsPassing, Path, MayStartChild}
 use Rattle.tpl_laws.proofs.Basics.{if_false, some_none, is_some_of, same_number}
 use Rattle.tpl_laws.proofs.Kept.{after, running_facts, final_kept, requested_kept, failed_kept, final_of}
@@ -23,7 +23,7 @@ use Rattle.tpl_model.specs.Finals.{has}
 use Rattle.tpl_model.specs.Valid.{IsGraph}
 use Rattle.tpl_model.specs.Certificate.{Row, row, Assumed, Agrees, is_loud, loud_token, one_ends, subject_ends, subject_set, view, RunsRule, BeforeRule, Closed}
 use Rattle.tpl_laws.proofs.Execution.{passed, StartedBy, started_parent}
-use Rattle.tpl_laws.proofs.Ready.{Ready, begun_ready, any_winner}
+use Rattle.tpl_laws.proofs.Ready.{EndedSo, Ready, begun_ready, any_winner}
 use Rattle.tpl_laws.proofs.Follows.{Fits, FollowsBy, follows}
 use Rattle.tpl_laws.proofs.Settling.{has_subject_of}
 
@@ -101,14 +101,14 @@ view_fits g v h l rows t run agrees ends b = record {
   jobs = λ site r. elim (cases_Bool (l.sure site)) [ inl q ↦ true_false (sym r ∙ agrees.jobs site q) | inr q ↦ q ];
 }
   where
-    plain : (a : ℕ) → MayStart g v h t (Continues a) → (s : ℕ) (f : Final) → Some a ≡ Some s → final g v h s ≡ Some f → has (row rows a).ends f && allows (options g t) f ≡ true
+    plain : (a : ℕ) → EndedSo g v h t a true → (s : ℕ) (f : Final) → Some a ≡ Some s → final g v h s ≡ Some f → has (row rows a).ends f && allows (options g t) f ≡ true
     plain a m s f e p =
         let same = some_eq a s e in
         let p' = subst (λ z. final g v h z ≡ Some f) (sym same) p in
         let f' = some_eq m.0 f (sym m.1 ∙ p') in
         and_from (has (row rows a).ends f) (allows (options g t) f) (ends a f p') (subst (λ z. allows (options g t) z ≡ true) f' m.2)
 
-    of_kind : (a : ℕ) (k : TaskKind) → kind g a ≡ k → MayStart g v h t (Continues a) → (s : ℕ) (f : Final) → subject_of k a (ending g v h a) ≡ Some s → final g v h s ≡ Some f → subject_ends k (options g t) a rows f ≡ true
+    of_kind : (a : ℕ) (k : TaskKind) → kind g a ≡ k → EndedSo g v h t a true → (s : ℕ) (f : Final) → subject_of k a (ending g v h a) ≡ Some s → final g v h s ≡ Some f → subject_ends k (options g t) a rows f ≡ true
     of_kind a (WhenAny args) k m s f e p =
         let r = winner_some (ending g v h a) e in
         let w = any_winner g v h a args r.0 run k r.1 in

@@ -2,7 +2,7 @@
 use Rattle.std.proofs.Common.{◌≡◌, ℕ, ◌⊎◌, ◌&&◌, ◌||◌, not, Bool, true, false, Some, List, [], ◌∷◌, refl, sym, subst, nat_eq, nat_lt, length}
 use Rattle.std.specs.Prelude.{Decides}
 use Rattle.std.proofs.lemmas.Bool.{ltb-true, lt-ltb}
-use Rattle.tpl_laws.proofs.AllowedDecided.{itself, denied as opposite}
+use Rattle.tpl_laws.proofs.Deciding.{itself, opposite, denied, same, same_end, both, either, only_if, means, at_each_end, at_some_end, of_all, of_some, below_some}
 use Rattle.tpl_model.proofs.Truths.{true_false}
 use Rattle.tpl_model.proofs.PathEnds.{is_acknowledged, is_returned, thrown_label}
 use Rattle.tpl_model.proofs.Through.{no_clean}
@@ -22,7 +22,6 @@ use Rattle.tpl_model.specs.Paths.{Known, Path, MayEnd, MayThrow, MayStartChild, 
 use Rattle.tpl_model.specs.Certificate.{Row, row, Assumed, end_left, is_loud, view, IsBelow, RunsRule, BodyMayEnd, MayBeCanceled, AllMayEnd, MayEndAs, BeforeRule, may_end_early, may_end, may_win, PastRule, TakesOver, Reads, Links, ChainRule, NoneComplete, begins_itself, Proves}
 use Rattle.tpl_model.specs.Recursion.{may, none, is_throw, must_observe, reaches}
 use Rattle.tpl_laws.specs.RowTests.{implies, all_in, some_end, parent_of, by_parent, is_below, runs_by, runs, is_return, is_acknowledgement, may_throw, body_may_end, may_be_canceled, all_may_end, may_end_as, ends, before_by, before, past_by, past, is_argument, takes_over, continues, faulted_view, reads, links, chain_by, chain, is_none, none_complete, proves}
-use Rattle.tpl_laws.proofs.Deciding.{denied, same, same_end, both, either, only_if, means, at_each_end, at_some_end, of_all, of_some, below_some}
 use Rattle.tpl_laws.proofs.Parents.{at_parent, below}
 use Rattle.tpl_laws.specs.PathLaws.{PathLaws}
 

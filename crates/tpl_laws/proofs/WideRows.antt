@@ -30,7 +30,7 @@ use Rattle.tpl_laws.specs.WiderSoundness.{FactHolds}
 use Rattle.tpl_laws.proofs.Basics.{final_same, if_true, if_false, some_none, the_some, is_some_of, same_number, mem_here}
 use Rattle.tpl_laws.proofs.Kept.{after, ending_new, final_of, requested_kept, started_kept}
 use Rattle.tpl_laws.proofs.Execution.{pushed, passed, StartedBy, started_parent}
-use Rattle.tpl_laws.proofs.Ready.{Ready, begun_ready, waiting_ready, IsBody, any_winner}
+use Rattle.tpl_laws.proofs.Ready.{may_not_start_so, Ready, begun_ready, waiting_ready, IsBody, any_winner}
 use Rattle.tpl_laws.proofs.Follows.{Fits, Follows, follows, winner_some}
 use Rattle.tpl_laws.proofs.Settling.{child_rules, has_subject_of, attached_child, filter_mem, settled_kept, all_over_mem, children_over}
 use Rattle.tpl_laws.proofs.Carrying.{Ends, drops, leaves, settled, BodyEnds, how_ends, carries_faulted, gathered_from, gathered_adds, gathered_keeps, those_mem, mem_those, body_faulted, carried_some}
@@ -337,19 +337,16 @@ module _ (g : TaskGraph) (l : WideAssumed) (rows : List WideRow) (v : List Bool)
 
       cancels : (k : TaskKind) → MayCancel g v h t k → token_requested g v h t ≡ true → is_loud g l.assumed t ≡ true → WayTaken g l rows v h t k Canceled
       cancels (Continues a) (inl z) q loud = record { way = DroppedEarly; may = (loud, z); final = refl; holds = λ fact c. own_holds t fact q c }
-      cancels (Continues a) (inr z) q loud = late a z.0 z.1 q loud
+      cancels (Continues a) (inr z) q loud = let f = the_some (final g v h a) z in late a f.0 f.1 q loud
       cancels Root m q loud = absurd m
       cancels Child m q loud = absurd m
       cancels (WhenAll args) m q loud = absurd m
       cancels (WhenAny args) m q loud = absurd m
 
       not_starts : (k : TaskKind) → MayNotStart g v h t k → WayTaken g l rows v h t k Canceled
-      not_starts (Continues a) m = record {
-        way = NotAllowed;
-        may = (m.0, now.true_rows.ends a m.0 m.1, m.2);
-        final = refl;
-        holds = λ fact c. once_holds a fact (some_of_final a m.0 m.1) c;
-      }
+      not_starts (Continues a) m =
+          let so = may_not_start_so g v h t a m in
+          record { way = NotAllowed; may = (so.0, now.true_rows.ends a so.0 so.1, so.2); final = refl; holds = λ fact c. once_holds a fact (some_of_final a so.0 so.1) c }
       not_starts Root m = absurd m
       not_starts Child m = absurd m
       not_starts (WhenAll args) m = absurd m

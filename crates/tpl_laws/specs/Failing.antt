@@ -15,7 +15,7 @@ use Rattle.tpl_model.specs.declared.claim.Property.{Property}
 use Rattle.tpl_model.specs.declared.claim.Property.TheVariants.{Final as EndsIn, After, Observed, Never, Excludes, Runs}
 use Rattle.tpl_model.specs.Certificate.{same, given_sure}
 use Rattle.tpl_model.specs.Claims.{Claim, input}
-use Rattle.tpl_laws.specs.Allowed.{is_complete, holds_of, holds}
+use Rattle.tpl_laws.specs.RunTests.{is_complete, holds_of, holds}
 use Rattle.tpl_laws.specs.Runs.{gives_quiet}
 
 -- the place is reached

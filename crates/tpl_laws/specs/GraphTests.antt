@@ -8,7 +8,7 @@ use Rattle.tpl_model.specs.Limits.{statement_count, level_count}
 use Rattle.tpl_model.specs.Graph.{TaskGraph, Task, TaskKind, Continues, WhenAll, WhenAny, kind, body, options, task, Token, Plain, Linked, token}
 use Rattle.tpl_model.specs.Valid.{option_words, all_sites, IsGraph}
 use Rattle.tpl_laws.specs.RowTests.{implies, all_in}
-use Rattle.tpl_laws.specs.Allowed.{has_task, has_token, is_child, all_below}
+use Rattle.tpl_laws.specs.RunTests.{is_child, all_below}
 
 -- a is at most b
 abbrev pub at_most : ℕ → ℕ → Bool
@@ -18,6 +18,14 @@ at_most a b = nat_lt a (suc b)
 abbrev pub some_below : (ℕ → Bool) → ℕ → Bool
 some_below test zero = false
 some_below test (suc n) = test n || some_below test n
+
+-- the graph has a task with this number
+abbrev pub has_task : TaskGraph → ℕ → Bool
+has_task g t = nat_lt t (length g.tasks)
+
+-- the graph has a token with this number
+abbrev pub has_token : TaskGraph → ℕ → Bool
+has_token g k = nat_lt k (length g.tokens)
 
 -- the ids in a body are the graph's
 abbrev mutual

@@ -3,7 +3,7 @@ pub mod Runs
 pub mod Settling
 pub mod PathLaws
 pub mod RowTests
-pub mod Allowed
+pub mod RunTests
 pub mod GraphTests
 pub mod Tests
 pub mod Verdict

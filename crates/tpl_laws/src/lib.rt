@@ -2,8 +2,8 @@
 //! contract of a function that does nothing.
 #![tactic(auto)]
 
-pub mod allowed;
 mod closed;
+pub mod decided;
 mod failing;
 mod links;
 mod runs;

@@ -1,8 +1,9 @@
 -- A task never has two acts that are due.
 use Rattle.std.proofs.Common.{◌≡◌, ℕ, ◌⊎◌, inl, inr, Bool, true, false, List, [], ◌∷◌, Option, Some, None, refl, sym, ap, ◌∙◌, subst, nat_eq}
-use Rattle.std.specs.Prelude.{if◌then◌else◌}
+use Rattle.std.specs.Prelude.{if◌then◌else◌, IsSomeAnd}
 use Rattle.std.proofs.lemmas.Bool.{eqb-true, or_from}
 use Rattle.tpl_model.specs.Options.{allows}
+use Rattle.tpl_model.specs.declared.finals.Final.{Final}
 use Rattle.tpl_model.specs.declared.ids.TaskId.{TaskId}
 use Rattle.tpl_model.specs.declared.status.Actor.{Actor}
 use Rattle.tpl_model.specs.declared.status.Actor.TheVariants.{Outside}
@@ -13,7 +14,7 @@ use Rattle.tpl_model.specs.declared.event.Act.TheVariants.{Request, Release, Beg
 use Rattle.tpl_model.specs.declared.event.Event.{Event}
 use Rattle.tpl_model.specs.Graph.{TaskGraph, TaskKind, Root, Child, Continues, WhenAll, WhenAny, kind, options}
 use Rattle.tpl_model.specs.Facts.{Ending, begun_by, begun, released_by, released, left_by, left_body, started, ending}
-use Rattle.tpl_model.specs.Rules.{status, status_by, opening, MayStart, MayNotStart, MayCancel, can_settle, Allows, Run}
+use Rattle.tpl_model.specs.Rules.{final, status, status_by, opening, MayStart, MayNotStart, MayCancel, can_settle, Allows, Run}
 use Rattle.tpl_run.specs.Reading.{IsDue}
 use Rattle.tpl_run.specs.Due.{OneIsDue}
 
@@ -80,10 +81,11 @@ module _ (g : TaskGraph) (v : List Bool) where
   start_or_not : (h : List Event) (c : ℕ) (k : TaskKind) → MayStart g v h c k → MayNotStart g v h c k → ⊥
   start_or_not h c Root m n = m
   start_or_not h c Child m n = m
-  start_or_not h c (Continues a) m n =
-      let same : m.0 ≡ n.0 = cc in
-      let u : allows (options g c) n.0 ≡ true = subst (λ f. allows (options g c) f ≡ true) same m.2 in
-      cc
+  start_or_not h c (Continues a) m n = clash (final g v h a) m n
+    where
+      clash : (o : Option Final) → IsSomeAnd o (λ f. allows (options g c) f ≡ true) → IsSomeAnd o (λ f. allows (options g c) f ≡ false) → ⊥
+      clash None m n = m
+      clash (Some f) m n = cc
   start_or_not h c (WhenAll args) m n = m
   start_or_not h c (WhenAny args) m n = m
 

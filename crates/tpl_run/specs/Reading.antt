@@ -62,6 +62,10 @@ pub record IsDue (g : TaskGraph) (v : List Bool) (h : List Event) (t : ℕ) (act
   pub task : is_task g t
   pub allowed : (actor : Actor) → Allows g v h actor act
 
+-- some such act of the task is allowed
+abbrev pub HasDue : TaskGraph → List Bool → List Event → ℕ → Type 0
+HasDue g v h t = (act : Act) × IsDue g v h t act
+
 -- no such act of the task is allowed
 abbrev pub NoneDue : TaskGraph → List Bool → List Event → ℕ → Type 0
 NoneDue g v h t = (act : Act) → IsDue g v h t act → ⊥

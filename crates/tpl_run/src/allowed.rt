@@ -1,11 +1,12 @@
 //! Which events are allowed next.
 
-ghost use Rattle.std.specs.Prelude.{◌≡◌, ◌&&◌, not};
+ghost use Rattle.std.specs.Prelude.{◌≡◌, ◌&&◌, ◌↔◌, IsTrue, Some, not};
 ghost use Rattle.tpl_model.specs.Options.{execute_synchronously, run_continuations_asynchronously};
 ghost use Rattle.tpl_model.specs.Graph.{is_task, kind, options};
 ghost use Rattle.tpl_model.specs.Facts.{ending};
 ghost use Rattle.tpl_model.specs.Rules.{status, token_requested, bound_worker, worker_of, can_settle};
-ghost use Rattle.tpl_laws.specs.Allowed as laws;
+ghost use Rattle.tpl_model.specs.declared.status.Status.TheVariants as statuses;
+ghost use Rattle.tpl_model.specs.Rules as rules;
 
 use crate::ends::has_ended;
 use crate::graphs::{antecedent, has_task, has_token, own_token};
@@ -15,7 +16,7 @@ use tpl_model::{Act, Actor, Answer, Event, Status, TaskId, TokenId};
 
 /// The first actor, if there is one, is the second.
 fn is_by(found: Option<Actor>, actor: Actor) -> bool
-    ensures { result ≡ laws.is_by found actor }
+    ensures { IsTrue result ↔ (found ≡ Some actor) }
 {
     match found {
         None => false,
@@ -32,14 +33,14 @@ fn is_by(found: Option<Actor>, actor: Actor) -> bool
 
 /// The actor is not a worker.
 fn is_outside(actor: Actor) -> bool
-    ensures { result ≡ laws.is_outside actor }
+    ensures { IsTrue result ↔ rules.IsOutside actor }
 {
     matches!(actor, Actor::Outside(_))
 }
 
 /// A worker begins tasks, and where a task is bound to a worker only that one.
 fn begins_on(actor: Actor, bound: Option<Actor>) -> bool
-    ensures { result ≡ laws.begins_on actor (worker_of bound) }
+    ensures { IsTrue result ↔ rules.BeginsOn actor (worker_of bound) }
 {
     match actor {
         Actor::Outside(_) => false,
@@ -64,31 +65,31 @@ fn own_asked<R: Readers>(run: &R, task: TaskId) -> bool
 
 fn is_inactive<R: Readers>(run: &R, task: TaskId) -> bool
     requires { is_task (R.journal run.now).graph task.0 }
-    ensures { let j = R.journal run.now in result
-        ≡ laws.is_inactive (status j.graph j.inputs j.events task.0) }
+    ensures { let j = R.journal run.now in IsTrue result
+        ↔ (status j.graph j.inputs j.events task.0 ≡ statuses.WaitingForActivation) }
 {
     matches!(run.status_of(task), Status::WaitingForActivation)
 }
 
 fn is_ready<R: Readers>(run: &R, task: TaskId) -> bool
     requires { is_task (R.journal run.now).graph task.0 }
-    ensures { let j = R.journal run.now in result
-        ≡ laws.is_ready (status j.graph j.inputs j.events task.0) }
+    ensures { let j = R.journal run.now in IsTrue result
+        ↔ (status j.graph j.inputs j.events task.0 ≡ statuses.WaitingToRun) }
 {
     matches!(run.status_of(task), Status::WaitingToRun)
 }
 
 fn is_waiting<R: Readers>(run: &R, task: TaskId) -> bool
     requires { is_task (R.journal run.now).graph task.0 }
-    ensures { let j = R.journal run.now in result
-        ≡ laws.is_waiting (status j.graph j.inputs j.events task.0) }
+    ensures { let j = R.journal run.now in IsTrue result
+        ↔ (status j.graph j.inputs j.events task.0 ≡ statuses.WaitingForChildrenToComplete) }
 {
     matches!(run.status_of(task), Status::WaitingForChildrenToComplete)
 }
 
 fn runs_on<R: Readers>(run: &R, actor: Actor, task: TaskId) -> bool
-    ensures { let j = R.journal run.now in result
-        ≡ laws.runs_on j.graph j.inputs j.events actor task.0 }
+    ensures { let j = R.journal run.now in IsTrue result
+        ↔ rules.IsRunning j.graph j.inputs j.events actor task.0 }
 {
     has_task(run, task)
         && is_by(run.begun(task), actor)
@@ -96,8 +97,8 @@ fn runs_on<R: Readers>(run: &R, actor: Actor, task: TaskId) -> bool
 }
 
 fn may_request<R: Readers>(run: &R, actor: Actor, token: TokenId) -> bool
-    ensures { let j = R.journal run.now in result
-        ≡ laws.can_request j.graph j.inputs j.events actor token.0 }
+    ensures { let j = R.journal run.now in IsTrue result
+        ↔ rules.Allows j.graph j.inputs j.events actor (Act.Request token) }
 {
     is_outside(actor) && has_token(run, token) && !run.asked(token)
 }
@@ -105,8 +106,8 @@ fn may_request<R: Readers>(run: &R, actor: Actor, token: TokenId) -> bool
 /// A continuation's antecedent has ended in a way that its options allow.
 fn may_start<R: Readers>(run: &R, task: TaskId) -> bool
     requires { is_task (R.journal run.now).graph task.0 }
-    ensures { let j = R.journal run.now in result
-        ≡ laws.may_start j.graph j.inputs j.events task.0 (kind j.graph task.0) }
+    ensures { let j = R.journal run.now in IsTrue result
+        ↔ rules.MayStart j.graph j.inputs j.events task.0 (kind j.graph task.0) }
 {
     match antecedent(run, task) {
         None => false,
@@ -120,8 +121,8 @@ fn may_start<R: Readers>(run: &R, task: TaskId) -> bool
 /// A continuation's antecedent has ended in a way that its options don't allow.
 fn may_not_start<R: Readers>(run: &R, task: TaskId) -> bool
     requires { is_task (R.journal run.now).graph task.0 }
-    ensures { let j = R.journal run.now in result
-        ≡ laws.may_not_start j.graph j.inputs j.events task.0 (kind j.graph task.0) }
+    ensures { let j = R.journal run.now in IsTrue result
+        ↔ rules.MayNotStart j.graph j.inputs j.events task.0 (kind j.graph task.0) }
 {
     match antecedent(run, task) {
         None => false,
@@ -135,8 +136,8 @@ fn may_not_start<R: Readers>(run: &R, task: TaskId) -> bool
 /// A continuation isn't lazy, or its antecedent has ended (`TaskContinuationOptions.LazyCancellation`).
 fn may_cancel<R: Readers>(run: &R, task: TaskId) -> bool
     requires { is_task (R.journal run.now).graph task.0 }
-    ensures { let j = R.journal run.now in result
-        ≡ laws.may_cancel j.graph j.inputs j.events task.0 (kind j.graph task.0) }
+    ensures { let j = R.journal run.now in IsTrue result
+        ↔ rules.MayCancel j.graph j.inputs j.events task.0 (kind j.graph task.0) }
 {
     match antecedent(run, task) {
         None => false,
@@ -147,8 +148,8 @@ fn may_cancel<R: Readers>(run: &R, task: TaskId) -> bool
 }
 
 pub(crate) fn may_release<R: Readers>(run: &R, task: TaskId) -> bool
-    ensures { let j = R.journal run.now in result
-        ≡ laws.can_release j.graph j.inputs j.events task.0 }
+    ensures { let j = R.journal run.now in (actor : Actor) → IsTrue result
+        ↔ rules.Allows j.graph j.inputs j.events actor (Act.Release task) }
 {
     has_task(run, task) && is_inactive(run, task) && may_start(run, task) && !own_asked(run, task)
 }
@@ -187,8 +188,8 @@ fn bound_to<R: Readers>(run: &R, task: TaskId) -> Option<Actor>
 }
 
 fn may_begin<R: Readers>(run: &R, actor: Actor, task: TaskId) -> bool
-    ensures { let j = R.journal run.now in result
-        ≡ laws.can_begin j.graph j.inputs j.events actor task.0 }
+    ensures { let j = R.journal run.now in IsTrue result
+        ↔ rules.Allows j.graph j.inputs j.events actor (Act.Begin task) }
 {
     has_task(run, task)
         && is_ready(run, task)
@@ -197,35 +198,36 @@ fn may_begin<R: Readers>(run: &R, actor: Actor, task: TaskId) -> bool
 }
 
 fn may_step<R: Readers>(run: &R, actor: Actor, task: TaskId) -> bool
-    ensures { let j = R.journal run.now in result
-        ≡ laws.can_step j.graph j.inputs j.events actor task.0 }
+    ensures { let j = R.journal run.now in IsTrue result
+        ↔ rules.Allows j.graph j.inputs j.events actor (Act.Step task) }
 {
     runs_on(run, actor, task) && run.row(task).outcome().is_none() && run.row(task).steps()
 }
 
 fn may_work<R: Readers>(run: &R, actor: Actor, task: TaskId, answer: Answer) -> bool
-    ensures { let j = R.journal run.now in result
-        ≡ laws.can_work j.graph j.inputs j.events actor task.0 answer }
+    ensures { let j = R.journal run.now in IsTrue result
+        ↔ rules.Allows j.graph j.inputs j.events actor (Act.Worked task answer) }
 {
     runs_on(run, actor, task) && run.row(task).outcome().is_none() && run.row(task).works(answer)
 }
 
 fn may_leave<R: Readers>(run: &R, actor: Actor, task: TaskId) -> bool
-    ensures { let j = R.journal run.now in result
-        ≡ laws.can_leave j.graph j.inputs j.events actor task.0 }
+    ensures { let j = R.journal run.now in IsTrue result
+        ↔ rules.Allows j.graph j.inputs j.events actor (Act.Leave task) }
 {
     runs_on(run, actor, task) && run.row(task).outcome_now().is_some()
 }
 
 pub(crate) fn may_close<R: Waits>(run: &R, task: TaskId) -> bool
-    ensures { let j = R.journal run.now in result
-        ≡ laws.can_close j.graph j.inputs j.events task.0 }
+    ensures { let j = R.journal run.now in (actor : Actor) → IsTrue result
+        ↔ rules.Allows j.graph j.inputs j.events actor (Act.Close task) }
 {
     has_task(run, task) && is_waiting(run, task) && run.children_over(task)
 }
 
 pub(crate) fn may_drop<R: Readers>(run: &R, task: TaskId) -> bool
-    ensures { let j = R.journal run.now in result ≡ laws.can_drop j.graph j.inputs j.events task.0 }
+    ensures { let j = R.journal run.now in (actor : Actor) → IsTrue result
+        ↔ rules.Allows j.graph j.inputs j.events actor (Act.Drop task) }
 {
     has_task(run, task)
         && ((is_ready(run, task) && own_asked(run, task))
@@ -247,16 +249,16 @@ fn is_settling<R: Waits>(run: &R, task: TaskId) -> bool
 }
 
 pub(crate) fn may_settle<R: Waits>(run: &R, task: TaskId) -> bool
-    ensures { let j = R.journal run.now in result
-        ≡ laws.can_settle_now j.graph j.inputs j.events task.0 }
+    ensures { let j = R.journal run.now in (actor : Actor) → IsTrue result
+        ↔ rules.Allows j.graph j.inputs j.events actor (Act.Settle task) }
 {
     has_task(run, task) && !has_ended(run, task) && is_settling(run, task)
 }
 
 /// The event is allowed next.
 pub fn allows<R: Waits>(run: &R, event: Event) -> bool
-    ensures { let j = R.journal run.now in result
-        ≡ laws.can j.graph j.inputs j.events event.actor event.act }
+    ensures { let j = R.journal run.now in IsTrue result
+        ↔ rules.Allows j.graph j.inputs j.events event.actor event.act }
 {
     let actor = event.actor;
     match event.act {

@@ -1,14 +1,12 @@
 //! What is due of a task, and what it does next.
 
-ghost use Rattle.std.specs.Prelude.{◌≡◌, IfSome, IfNone};
+ghost use Rattle.std.specs.Prelude.{◌≡◌, ◌↔◌, IfSome, IfNone, IsTrue};
 ghost use Rattle.tpl_model.specs.Graph.{is_task};
-ghost use Rattle.tpl_run.specs.Due.{is_due};
-ghost use Rattle.tpl_run.specs.Reading.{IsDue, NoneDue, next};
+ghost use Rattle.tpl_run.specs.Reading.{IsDue, HasDue, NoneDue, next};
 
 use crate::allowed::{may_close, may_drop, may_release, may_settle};
 use crate::readers::{Readers, Waits};
 use crate::run::Next;
-use tpl_laws::allowed::can_is_right;
 use tpl_model::{Act, Status, TaskId};
 
 /// The allowed Release, Drop, Close or Settle of a task.
@@ -19,7 +17,6 @@ pub fn due_of<R: Waits>(run: &R, task: TaskId) -> Option<Act>
     ensures none { let j = R.journal run.now in IfNone result
         (NoneDue j.graph j.inputs j.events task.0) }
 {
-    can_is_right();
     if may_release(run, task) {
         Some(Act::Release(task))
     } else if may_drop(run, task) {
@@ -36,9 +33,10 @@ pub fn due_of<R: Waits>(run: &R, task: TaskId) -> Option<Act>
 /// The task's Release, Drop, Close or Settle is allowed.
 pub fn is_due<R: Waits>(run: &R, task: TaskId) -> bool
     requires { is_task (R.journal run.now).graph task.0 }
-    ensures { let j = R.journal run.now in result ≡ is_due j.graph j.inputs j.events task.0 }
+    ensures { let j = R.journal run.now in IsTrue result
+        ↔ HasDue j.graph j.inputs j.events task.0 }
 {
-    may_release(run, task) || may_drop(run, task) || may_close(run, task) || may_settle(run, task)
+    due_of(run, task).is_some()
 }
 
 /// What a task does next.

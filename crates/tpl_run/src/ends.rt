@@ -6,7 +6,7 @@ ghost use Rattle.tpl_model.specs.Graph.{is_task};
 ghost use Rattle.tpl_model.specs.Facts.{started, ending, all_over};
 ghost use Rattle.tpl_model.specs.Rules.{all_ended, some_ended};
 ghost use Rattle.tpl_draft.specs.Ids.{task_number};
-ghost use Rattle.tpl_laws.specs.Allowed as laws;
+ghost use Rattle.tpl_laws.specs.RunTests as laws;
 
 use crate::readers::Readers;
 use tpl_graph::Kind;

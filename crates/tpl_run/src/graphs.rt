@@ -1,13 +1,12 @@
 //! What the graph of a run says of tasks and tokens. In a run the graph is valid, so what it names it has.
 
-ghost use Rattle.std.specs.Prelude.{◌≡◌, ℕ, ◌≤◌, length, map, IfSome, true};
+ghost use Rattle.std.specs.Prelude.{◌≡◌, ◌↔◌, ℕ, ◌≤◌, length, map, IfSome, IsTrue, true};
 ghost use Rattle.std.specs.Option.{option_map};
 ghost use Rattle.tpl_model.specs.Members.{mem};
 ghost use Rattle.tpl_model.specs.Graph as spec;
 ghost use Rattle.tpl_model.specs.Graph.{is_task, is_token, attached};
 ghost use Rattle.tpl_draft.specs.Ids.{task_number, token_number};
 ghost use Rattle.tpl_draft.specs.Named.{antecedent_of, args_of};
-ghost use Rattle.tpl_laws.specs.Allowed as laws;
 
 use crate::readers::Readers;
 use tpl_laws::is_bounded;
@@ -15,14 +14,14 @@ use tpl_model::{TaskId, TokenId};
 
 /// The graph has the task.
 pub fn has_task<R: Readers>(run: &R, task: TaskId) -> bool
-    ensures { result ≡ laws.has_task (R.journal run.now).graph task.0 }
+    ensures { IsTrue result ↔ is_task (R.journal run.now).graph task.0 }
 {
     (task.0 as usize) < run.graph().len()
 }
 
 /// The graph has the token.
 pub(crate) fn has_token<R: Readers>(run: &R, token: TokenId) -> bool
-    ensures { result ≡ laws.has_token (R.journal run.now).graph token.0 }
+    ensures { IsTrue result ↔ is_token (R.journal run.now).graph token.0 }
 {
     (token.0 as usize) < run.graph().token_count()
 }

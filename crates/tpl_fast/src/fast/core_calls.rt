@@ -2,7 +2,7 @@
 
 use crate::fast::Fast;
 use tpl_graph::Graph;
-use tpl_laws::allowed::{can_is_right, is_complete_is_right};
+use tpl_laws::decided::is_complete_is_right;
 use tpl_model::{Act, Event, InputId, Label, Status, TaskId, TokenId};
 use tpl_run::allowed::allows;
 use tpl_run::due::next_of;
@@ -12,7 +12,6 @@ impl<'g> Core for Fast<'g> {
     ghost journal = { λ m. m };
 
     fn step(&mut self, event: Event) -> Result<(), Refused> {
-        can_is_right();
         if !allows(&self.state, event) {
             return Err(Refused);
         }

@@ -1,12 +1,11 @@
 //! What is at hand of tasks and tokens.
 
-ghost use Rattle.std.specs.Prelude.{◌≡◌, ℕ, map, false, slice_index_or};
+ghost use Rattle.std.specs.Prelude.{◌≡◌, ◌↔◌, ℕ, map, false, slice_index_or, IsTrue};
 ghost use Rattle.tpl_model.specs.Graph as spec;
 ghost use Rattle.tpl_model.specs.Graph.{is_task, is_token};
 ghost use Rattle.tpl_model.specs.Facts.{released, left_body, requested};
 ghost use Rattle.tpl_draft.specs.Ids.{task_number};
 ghost use Rattle.tpl_draft.specs.Named.{args_of};
-ghost use Rattle.tpl_laws.specs.Allowed as laws;
 ghost use Rattle.tpl_fast.specs.Marks.{mark_at};
 
 use crate::marks::Mark;
@@ -29,7 +28,7 @@ impl<'g> State<'g> {
     /// The graph has the task. This and the arguments are read of the graph itself: where a call takes any run, its caller's
     /// proof first puts together all that is known of the readers of this one.
     pub fn has_task(&self, task: TaskId) -> bool
-        ensures { result ≡ laws.has_task self.now.graph task.0 }
+        ensures { IsTrue result ↔ is_task self.now.graph task.0 }
     {
         (task.0 as usize) < self.graph().len()
     }

@@ -3,7 +3,7 @@
 use crate::machine::Machine;
 use crate::marks::began;
 use tpl_graph::Graph;
-use tpl_laws::allowed::{can_is_right, is_complete_is_right};
+use tpl_laws::decided::is_complete_is_right;
 use tpl_laws::is_bounded;
 use tpl_model::{Act, Event, InputId, Label, Status, TaskId, TokenId};
 use tpl_run::allowed::allows;
@@ -15,7 +15,6 @@ impl<'g> Core for Machine<'g> {
     ghost journal = { λ m. m };
 
     fn step(&mut self, event: Event) -> Result<(), Refused> {
-        can_is_right();
         if !allows(self, event) {
             return Err(Refused);
         }

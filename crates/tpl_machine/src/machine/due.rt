@@ -1,7 +1,7 @@
 //! What is due, and whether the run is complete.
 
 ghost use Rattle.std.specs.Prelude.{◌≡◌, ℕ, IfSome, IfNone};
-ghost use Rattle.tpl_laws.specs.Allowed as laws;
+ghost use Rattle.tpl_laws.specs.RunTests as laws;
 ghost use Rattle.tpl_run.specs.Reading.{NoneDue, IsFirstDue};
 
 use crate::machine::Machine;

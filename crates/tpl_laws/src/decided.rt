@@ -1,18 +1,8 @@
-//! The tests of events and of whole runs say what the rules do.
+//! The tests of whole runs say what the definitions do.
 
-ghost use Rattle.tpl_laws.specs.Allowed.{CanIsRight, HoldsIsRight, HoldsOfIsRight, IsCompleteIsRight, IsRunIsRight, IsSettledIsRight};
+ghost use Rattle.tpl_laws.specs.RunTests.{HoldsIsRight, HoldsOfIsRight, IsCompleteIsRight, IsSettledIsRight};
 ghost use Rattle.tpl_laws.specs.GraphTests.{GraphIsRight};
 ghost use Rattle.tpl_laws.specs.Tests.{GivenIsRight, TestLaws};
-
-/// An act passes its test just where the rules allow it next.
-pub fn can_is_right()
-    ensures { CanIsRight }
-{}
-
-/// A list of events passes its test just where it is a run.
-pub fn is_run_is_right()
-    ensures { IsRunIsRight }
-{}
 
 /// A task passes the walk up to its parents just where it is settled.
 pub fn is_settled_is_right()
@@ -49,8 +39,6 @@ pub fn tests_are_right()
     ensures { TestLaws }
 {
     graph_is_right();
-    can_is_right();
-    is_run_is_right();
     is_settled_is_right();
     is_complete_is_right();
     given_is_right();

@@ -3,7 +3,7 @@ use Rattle.std.proofs.Common.{◌≡◌, ℕ, zero, suc, ◌<◌, ◌≤◌, inl
 use Rattle.std.specs.Prelude.{Decides}
 use Rattle.std.proofs.lemmas.Bool.Decides.{Decides-and, Decides-below_and}
 use Rattle.std.proofs.lemmas.Bool.{or_cases, or_left, or_right, and_parts, and_from}
-use Rattle.tpl_laws.proofs.Deciding.{only_if}
+use Rattle.tpl_laws.proofs.Deciding.{only_if, itself, opposite}
 use Rattle.tpl_model.specs.declared.finals.Final.{Final}
 use Rattle.tpl_model.specs.declared.finals.Finals.{Finals}
 use Rattle.tpl_model.specs.Finals.{has}
@@ -19,9 +19,8 @@ use Rattle.tpl_model.specs.declared.claim.Property.TheVariants.{Final as EndsIn,
 use Rattle.tpl_model.specs.Certificate.{same}
 use Rattle.tpl_model.specs.Claims.{input, IsGiven, SettledAtBegin, HoldsOf}
 use Rattle.tpl_laws.specs.RowTests.{implies, parent_of}
-use Rattle.tpl_laws.specs.Allowed.{is_child, some_parent, settled_within, is_settled, all_below, has_ended, is_complete, is_given, settled_at_begin, ends_within, holds_of, IsSettledIsRight, IsCompleteIsRight, HoldsOfIsRight, HoldsIsRight}
+use Rattle.tpl_laws.specs.RunTests.{is_child, some_parent, settled_within, is_settled, all_below, has_ended, is_complete, is_given, settled_at_begin, ends_within, holds_of, IsSettledIsRight, IsCompleteIsRight, HoldsOfIsRight, HoldsIsRight}
 use Rattle.tpl_laws.proofs.Parents.{parent_is, the_parent, parent_before}
-use Rattle.tpl_laws.proofs.AllowedDecided.{itself, denied}
 
 pub of_child : (k : TaskKind) → is_child k ≡ true → k ≡ Child
 of_child Root e = cc
@@ -38,7 +37,7 @@ module _ (g : TaskGraph) (v : List Bool) (h : List Event) where
     | inr child ↦
         let a = and_parts (is_child (kind g t)) (not (started g v h t) && some_parent (parent_of g t) (settled_within g v h n)) child in
         let b = and_parts (not (started g v h t)) (some_parent (parent_of g t) (settled_within g v h n)) a.1 in
-        by_parent (of_child (kind g t) a.0) ((denied (started g v h t)).0 b.0) (λ p s. settled_of n p s) (parent_of g t) refl b.1
+        by_parent (of_child (kind g t) a.0) ((opposite (started g v h t)).0 b.0) (λ p s. settled_of n p s) (parent_of g t) refl b.1
   ]
     where
       by_parent : kind g t ≡ Child → started g v h t ≡ false → ((p : ℕ) → settled_within g v h n p ≡ true → Settled g v h p) → (o : Option ℕ) → parent_of g t ≡ o → some_parent o (settled_within g v h n) ≡ true → Settled g v h t
@@ -54,7 +53,7 @@ module _ (g : TaskGraph) (v : List Bool) (h : List Event) where
       let up : settled_within g v h n p ≡ true = of_settled valid above n (omega arith) in
       or_right (is_some (ending g v h t)) (is_child (kind g t) && (not (started g v h t) && some_parent (parent_of g t) (settled_within g v h n)))
       (and_from (is_child (kind g t)) (not (started g v h t) && some_parent (parent_of g t) (settled_within g v h n)) (ap is_child k)
-      (and_from (not (started g v h t)) (some_parent (parent_of g t) (settled_within g v h n)) ((denied (started g v h t)).1 s)
+      (and_from (not (started g v h t)) (some_parent (parent_of g t) (settled_within g v h n)) ((opposite (started g v h t)).1 s)
       (ap (λ (o : Option ℕ). some_parent o (settled_within g v h n)) (the_parent g p t valid m) ∙ up)))
 
 pub settled_lem : IsSettledIsRight
@@ -77,9 +76,9 @@ ends_in ends (Some f) = (λ e x same. ap (has ends) (let it : x ≡ f = cc in it
 pub given_lem : (g : TaskGraph) (v : List Bool) (h : List Event) (given : List Given) → Decides (is_given g v h given) (IsGiven g v h given)
 given_lem g v h [] = (λ e. tt, λ e. refl)
 given_lem g v h (Input i value ∷ given) = Decides-and (same (input v i.0) value) (is_given g v h given) (equal (input v i.0) value) (given_lem g v h given)
-given_lem g v h (Quiet k ∷ given) = Decides-and (not (requested g v h k.0)) (is_given g v h given) (denied (requested g v h k.0)) (given_lem g v h given)
+given_lem g v h (Quiet k ∷ given) = Decides-and (not (requested g v h k.0)) (is_given g v h given) (opposite (requested g v h k.0)) (given_lem g v h given)
 given_lem g v h (Ended t ends ∷ given) = Decides-and (ends_within ends (final g v h t.0)) (is_given g v h given) (ends_in ends (final g v h t.0)) (given_lem g v h given)
-given_lem g v h (Succeeds site ∷ given) = Decides-and (not (failed g v h site.0)) (is_given g v h given) (denied (failed g v h site.0)) (given_lem g v h given)
+given_lem g v h (Succeeds site ∷ given) = Decides-and (not (failed g v h site.0)) (is_given g v h given) (opposite (failed g v h site.0)) (given_lem g v h given)
 
 labelled : (o : Option Label) (b : Bool) → Decides (implies (is_some o) b) ((l : Label) → o ≡ Some l → b ≡ true)
 labelled None b = (λ e l x. absurd (cc), λ f. refl)
@@ -98,8 +97,8 @@ holds_of_lem g v h (After a b) valid = begin_lem g valid v a.0 b.0 h
 holds_of_lem g v h (Observed t) valid =
     only_if (Complete g v h) ((l : Label) → label g v h t.0 ≡ Some l → seen g v h t.0 ≡ true) (is_complete g v h) (implies (is_some (label g v h t.0)) (seen g v h t.0))
     (complete_lem g v h) (labelled (label g v h t.0) (seen g v h t.0))
-holds_of_lem g v h (Never t) valid = denied (is_some (begun h t.0))
-holds_of_lem g v h (Excludes a b) valid = denied (is_some (begun h a.0) && is_some (begun h b.0))
+holds_of_lem g v h (Never t) valid = opposite (is_some (begun h t.0))
+holds_of_lem g v h (Excludes a b) valid = opposite (is_some (begun h a.0) && is_some (begun h b.0))
 holds_of_lem g v h (Runs t) valid =
     only_if (Complete g v h) (is_some (begun h t.0) ≡ true) (is_complete g v h) (is_some (begun h t.0)) (complete_lem g v h) (itself (is_some (begun h t.0)))
 

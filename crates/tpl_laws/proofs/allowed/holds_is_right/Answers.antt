@@ -1,5 +1,0 @@
-use Rattle.tpl_laws.proofs.AllowedSettled.{holds_lem}
-use Rattle.tpl_laws.proofs.allowed.holds_is_right.Goals as goal
-
-pub returns : goal.returns
-returns c = holds_lem

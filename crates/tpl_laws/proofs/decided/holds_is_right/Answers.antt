@@ -1,0 +1,5 @@
+use Rattle.tpl_laws.proofs.RunsDecided.{holds_lem}
+use Rattle.tpl_laws.proofs.decided.holds_is_right.Goals as goal
+
+pub returns : goal.returns
+returns c = holds_lem
