@@ -2,6 +2,7 @@
 use Rattle.std.proofs.Common.{◌≡◌, ℕ, ◌+◌, ◌<◌, ◌≤◌, true, false, List, Option, Some, None, Result, Ok, Err, IfOk, IfSome, subst, sym, arith}
 use Rattle.tpl_model.specs.declared.finals.Final.TheVariants.{RanToCompletion, Canceled, Faulted}
 use Rattle.tpl_model.specs.Graph.{TaskGraph, is_task}
+use Rattle.tpl_model.specs.declared.ids.TaskId.{TaskId}
 use Rattle.tpl_model.specs.declared.claim.Property.{Property}
 use Rattle.tpl_model.specs.Certificate.{Row, Tree, SplitInput, SplitEnd, Leaf, Assumed, with_input, with_end, AcceptsTree}
 use Rattle.tpl_cert.specs.Heights.{height, HasShortChains}
@@ -9,7 +10,7 @@ use Rattle.tpl_analyser.specs.declared.form.Form.{Form}
 use Rattle.tpl_analyser.specs.Found.{IsFound}
 use Rattle.tpl_analyser.specs.Slim.{AreOfForm, IsOfForm}
 
-pub found_deeper : (g : TaskGraph) (p : Property) (form : Form) (l : Assumed) (n m : ℕ) (t : Tree) → n ≤ m → IsFound g p form l n t → IsFound g p form l m t
+pub found_deeper : (g : TaskGraph) (p : Property TaskId) (form : Form) (l : Assumed) (n m : ℕ) (t : Tree) → n ≤ m → IsFound g p form l n t → IsFound g p form l m t
 found_deeper g p form l n m t le f = record { accepted = f.accepted; splits = omega arith; chains = f.chains; of_form = f.of_form }
 
 -- what holds of a tree, if one is found
@@ -18,7 +19,7 @@ if_found P Q f (Ok None) h = tt
 if_found P Q f (Ok (Some t)) h = f t h
 if_found P Q f (Err e) h = tt
 
-pub leaf_found : (g : TaskGraph) (p : Property) (form : Form) (l : Assumed) (rows others : List Row) (t : Tree) → t ≡ Leaf others → rows ≡ others → AcceptsTree g p l (Leaf rows) → HasShortChains t → AreOfForm form p rows → IsFound g p form l 0 t
+pub leaf_found : (g : TaskGraph) (p : Property TaskId) (form : Form) (l : Assumed) (rows others : List Row) (t : Tree) → t ≡ Leaf others → rows ≡ others → AcceptsTree g p l (Leaf rows) → HasShortChains t → AreOfForm form p rows → IsFound g p form l 0 t
 leaf_found g p form l rows others t e same a short of_form = record {
   accepted = subst (λ (z : Tree). AcceptsTree g p l z) (sym e) (subst (λ (rs : List Row). AcceptsTree g p l (Leaf rs)) same a);
   splits = subst (λ (z : Tree). height z ≤ 0) (sym e) (omega arith);
@@ -27,10 +28,10 @@ leaf_found g p form l rows others t e same a short of_form = record {
 }
 
 -- what a branch assumes, as an equation
-pub found_under : (g : TaskGraph) (p : Property) (form : Form) (l k : Assumed) (n : ℕ) (t : Tree) → l ≡ k → IsFound g p form l n t → IsFound g p form k n t
+pub found_under : (g : TaskGraph) (p : Property TaskId) (form : Form) (l k : Assumed) (n : ℕ) (t : Tree) → l ≡ k → IsFound g p form l n t → IsFound g p form k n t
 found_under g p form l k n t e f = subst (λ (z : Assumed). IsFound g p form z n t) e f
 
-module _ (g : TaskGraph) (p : Property) (form : Form) (l : Assumed) (n m : ℕ) (more : n + 1 ≡ m) where
+module _ (g : TaskGraph) (p : Property TaskId) (form : Form) (l : Assumed) (n m : ℕ) (more : n + 1 ≡ m) where
   pub input_found : (i : ℕ) (a b : Tree) (k o : Assumed) → i < g.inputs → k ≡ with_input l i true → o ≡ with_input l i false → IsFound g p form k n a → IsFound g p form o n b → IsFound g p form l m (SplitInput i a b)
   input_found i a b k o lt e f on_true on_false =
       let yes = found_under g p form k (with_input l i true) n a e on_true in

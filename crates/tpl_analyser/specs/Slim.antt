@@ -2,6 +2,7 @@
 use Rattle.std.specs.Prelude.{◌≡◌, ℕ, true, List, [], ◌∷◌}
 use Rattle.std.specs.List.{All}
 use Rattle.tpl_model.specs.Members.{mem}
+use Rattle.tpl_model.specs.declared.ids.TaskId.{TaskId}
 use Rattle.tpl_model.specs.declared.claim.Property.{Property}
 use Rattle.tpl_model.specs.declared.claim.Property.TheVariants.{After}
 use Rattle.tpl_model.specs.Claims.{Claim}
@@ -10,22 +11,22 @@ use Rattle.tpl_analyser.specs.declared.form.Form.{Form}
 use Rattle.tpl_analyser.specs.declared.form.Form.TheVariants.{Full, Slim}
 
 -- the proof of the property needs this task in `before` or `past`: it is the first one of an `after`
-abbrev pub IsUsed : Property → ℕ → Type 0
+abbrev pub IsUsed : Property TaskId → ℕ → Type 0
 IsUsed (After a b) x = x ≡ a.0
 IsUsed p x = ⊥
 
 -- `before` and `past` have no task but those that the proof needs
-pub record IsSlimRow (p : Property) (r : Row) : Type 0 where
+pub record IsSlimRow (p : Property TaskId) (r : Row) : Type 0 where
   pub before : (x : ℕ) → mem x r.before ≡ true → IsUsed p x
   pub past : (x : ℕ) → mem x r.past ≡ true → IsUsed p x
 
 -- rows of this form for the property
-abbrev pub AreOfForm : Form → Property → List Row → Type 0
+abbrev pub AreOfForm : Form → Property TaskId → List Row → Type 0
 AreOfForm Full p rows = Unit {0}
 AreOfForm Slim p rows = All (IsSlimRow p) rows
 
 -- each leaf of the tree is of this form
-abbrev pub IsOfForm : Form → Property → Tree → Type 0
+abbrev pub IsOfForm : Form → Property TaskId → Tree → Type 0
 IsOfForm form p (SplitInput i on_true on_false) = IsOfForm form p on_true × IsOfForm form p on_false
 IsOfForm form p (SplitEnd t ran canceled faulted) = IsOfForm form p ran × IsOfForm form p canceled × IsOfForm form p faulted
 IsOfForm form p (Leaf rows) = AreOfForm form p rows

@@ -3,6 +3,7 @@ use Rattle.std.proofs.Common.{◌≡◌, ℕ, ◌<◌, ◌&&◌, Bool, true, fal
 use Rattle.std.proofs.lemmas.Bool.{ltb-true, and_parts, and_from}
 use Rattle.tpl_model.specs.Graph.{TaskGraph}
 use Rattle.tpl_model.specs.Valid.{IsGraph}
+use Rattle.tpl_model.specs.declared.ids.TaskId.{TaskId}
 use Rattle.tpl_model.specs.declared.claim.Property.{Property}
 use Rattle.tpl_model.specs.Certificate.{Row, Assumed, AcceptsTree, Leaf, AllTasks, IdsOfRows}
 use Rattle.tpl_laws.specs.RowTests.{proves}
@@ -48,7 +49,7 @@ none None true e f = refl
 none None false e f = absurd (cc)
 none (Some x) b e f = absurd (cc)
 
-module _ (g : TaskGraph) (p : Property) (l : Assumed) (rows : List Row) (graph : IsGraph g) (closed : FirstBrokenIsRight) (proved : ProvesIsRight) where
+module _ (g : TaskGraph) (p : Property TaskId) (l : Assumed) (rows : List Row) (graph : IsGraph g) (closed : FirstBrokenIsRight) (proved : ProvesIsRight) where
   pub accepted : length rows ≡ length g.tasks → rows_fit g rows ≡ true → leaf_fault g p l rows ≡ None → AcceptsTree g p l (Leaf rows)
   accepted all ids e =
       let s = neither (first_broken g l rows 0 (length g.tasks)) (proves g l rows p) e in

@@ -2,6 +2,7 @@
 use Rattle.std.proofs.Common.{◌≡◌, ℕ, Bool, List, Result, Ok, Err, IfOk, IfErr, refl, sym, subst, inl, inr}
 use Rattle.std.specs.Prelude.{◌↔◌, IsOk}
 use Rattle.tpl_model.specs.Graph.{TaskGraph}
+use Rattle.tpl_model.specs.declared.ids.TaskId.{TaskId}
 use Rattle.tpl_model.specs.declared.claim.Property.{Property}
 use Rattle.tpl_model.specs.declared.fault.CertFault.{CertFault}
 use Rattle.tpl_model.specs.Certificate.{Tree, Accepts}
@@ -12,7 +13,7 @@ use Rattle.tpl_reader.specs.Document.{DocumentValue}
 use Rattle.tpl_commands.specs.Rules.{is_judged_widely}
 use Rattle.tpl_commands.specs.Checking.{ClaimsHold, IsCheckOf, NamesTask}
 
-leaf_names : (g : TaskGraph) (p : Property) (b : Branch) (why : LeafFault) (fault : CertFault) (claim leaf : ℕ) → LeafFails g p b why → fault ≡ place claim leaf why → NamesTask g fault
+leaf_names : (g : TaskGraph) (p : Property TaskId) (b : Branch) (why : LeafFault) (fault : CertFault) (claim leaf : ℕ) → LeafFails g p b why → fault ≡ place claim leaf why → NamesTask g fault
 leaf_names g p b (Breaks t rule) fault claim leaf fails at = subst (NamesTask g) (sym at) fails.0
 leaf_names g p b ProvesNot fault claim leaf fails at = subst (NamesTask g) (sym at) tt
 

@@ -4,6 +4,7 @@ use Rattle.std.specs.List.{list_all}
 use Rattle.std.proofs.lemmas.Bool.{lt-ltb}
 use Rattle.tpl_model.specs.Graph.{TaskGraph}
 use Rattle.tpl_model.specs.Claims.{Claim}
+use Rattle.tpl_model.specs.declared.ids.TaskId.{TaskId}
 use Rattle.tpl_model.specs.declared.claim.Property.{Property}
 use Rattle.tpl_model.specs.Certificate.{Row, Tree, Assumed, assumed_for, AllTasks, IdsOfRows, AcceptsTree, Accepts}
 use Rattle.tpl_model.specs.Certificate as tree
@@ -23,7 +24,7 @@ module _ (n : Names) (g : TaskGraph) (tasks : length n.tasks ≡ length g.tasks)
   rows_known (r ∷ rows) ids =
       rw (tasks_known r.before ids.0, tasks_known r.past ids.1, tasks_known r.chain ids.2, rows_known rows ids.3) refl
 
-  tree_known : (p : Property) (t : Tree) (l : Assumed) → AcceptsTree g p l t → has_ids n t ≡ true
+  tree_known : (p : Property TaskId) (t : Tree) (l : Assumed) → AcceptsTree g p l t → has_ids n t ≡ true
   tree_known p (tree.SplitInput i a b) l accepted =
       let below : i < length n.inputs = subst (λ (m : ℕ). i < m) (sym inputs) accepted.0 in
       rw (lt-ltb i (length n.inputs) below, tree_known p a _ accepted.1, tree_known p b _ accepted.2) refl

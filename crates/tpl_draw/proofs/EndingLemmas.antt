@@ -6,13 +6,14 @@ use Rattle.tpl_model.specs.declared.finals.Final.TheVariants.{RanToCompletion, C
 use Rattle.tpl_model.specs.declared.finals.Finals.{Finals}
 use Rattle.tpl_model.specs.Finals.{has}
 use Rattle.tpl_model.specs.Graph.{TaskGraph}
+use Rattle.tpl_model.specs.declared.ids.TaskId.{TaskId}
 use Rattle.tpl_model.specs.declared.claim.Property.{Property}
 use Rattle.tpl_model.specs.Certificate.{Row, row, Assumed, assumed_for, taken, with_input, with_end, Closed, Tree, SplitInput, SplitEnd, Leaf, AcceptsTree}
 use Rattle.tpl_laws.specs.Soundness.{HasLeaf, RowsAreTrue, SomeLeafAgrees}
 use Rattle.tpl_draw.specs.Endings.{either, tree_ends, ends, EndingsAreTrue}
 
 -- each leaf of an accepted tree is closed
-leaf_closed : (g : TaskGraph) (p : Property) (l m : Assumed) (tree : Tree) (rows : List Row) → AcceptsTree g p l tree → HasLeaf l tree m rows → Closed g m rows
+leaf_closed : (g : TaskGraph) (p : Property TaskId) (l m : Assumed) (tree : Tree) (rows : List Row) → AcceptsTree g p l tree → HasLeaf l tree m rows → Closed g m rows
 leaf_closed g p l m (SplitInput i a b) rows acc (inl w) = leaf_closed g p (with_input l i true) m a rows acc.1 w
 leaf_closed g p l m (SplitInput i a b) rows acc (inr w) = leaf_closed g p (with_input l i false) m b rows acc.2 w
 leaf_closed g p l m (SplitEnd t a b c) rows acc (inl w) = leaf_closed g p (with_end l t RanToCompletion) m a rows acc.1 w

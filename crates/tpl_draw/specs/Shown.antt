@@ -3,6 +3,7 @@ use Rattle.std.specs.Prelude.{ℕ, Bool, true, false, ◌||◌, Option, Some, No
 use Rattle.tpl_model.specs.declared.status.Status.{Status}
 use Rattle.tpl_model.specs.declared.status.Status.TheVariants.{Created}
 use Rattle.tpl_model.specs.Statuses.{status_name}
+use Rattle.tpl_model.specs.declared.ids.TaskId.{TaskId}
 use Rattle.tpl_model.specs.declared.claim.Property.{Property}
 use Rattle.tpl_model.specs.declared.claim.Property.TheVariants.{Final as EndsIn, After, Observed, Never, Excludes, Runs}
 use Rattle.tpl_draw.specs.declared.language.Language.{Language}
@@ -15,7 +16,7 @@ use Rattle.tpl_draw.specs.Endings.{no_ends}
 use Rattle.tpl_draw.specs.Marks.{paint, painted, status_paint}
 
 -- the claim says something of the task
-abbrev pub is_said_of : Property → ℕ → Bool
+abbrev pub is_said_of : Property TaskId → ℕ → Bool
 is_said_of (EndsIn a ends) t = nat_eq a.0 t
 is_said_of (After a b) t = nat_eq a.0 t || nat_eq b.0 t
 is_said_of (Observed a) t = nat_eq a.0 t

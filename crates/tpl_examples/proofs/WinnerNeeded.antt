@@ -8,6 +8,7 @@ use Rattle.tpl_model.specs.Finals.{has, is_final}
 use Rattle.tpl_model.specs.Members.{mem}
 use Rattle.tpl_model.specs.Knowledge.{IsSettled, Knowledge, meet, when}
 use Rattle.tpl_model.specs.Recursion.{another}
+use Rattle.tpl_model.specs.declared.ids.TaskId.{TaskId}
 use Rattle.tpl_model.specs.declared.claim.Property.{Property}
 use Rattle.tpl_model.specs.Certificate.{row, IsBelow, child, deeper, may_end}
 use Rattle.tpl_model.specs.WiderRules.{WideRow, plain, begins_with, ends_with, asked_of, wide_view, known_at_start, may_run, ByBody, IsWay, WidelyClosed, WidelyProves, WideAssumed, WideTree, OnInput, OnEnd, OnWinner, WideLeaf, narrowed, end_split, winner_split, AcceptsWideTree, widely_assumed, WidelyAccepts}
@@ -20,7 +21,7 @@ use Rattle.tpl_examples.specs.CertificateWords.{nothing, runs, not_run}
 use Rattle.tpl_examples.specs.WinnerRules.{races, races_rows, races_tree, NoWinners}
 use Rattle.tpl_examples.proofs.Computed.{valid}
 
-abbrev says : Property
+abbrev says : Property TaskId
 says = begins_after 1 4
 
 abbrev assumes : WideAssumed

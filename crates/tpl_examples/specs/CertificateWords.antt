@@ -8,6 +8,7 @@ use Rattle.tpl_model.specs.declared.fault.Rule.{Rule}
 use Rattle.tpl_model.specs.declared.fault.CertFault.{CertFault}
 use Rattle.tpl_model.specs.declared.fault.CertFault.TheVariants.{NotClosed}
 use Rattle.tpl_model.specs.declared.claim.Given.{Given}
+use Rattle.tpl_model.specs.declared.ids.TaskId.{TaskId}
 use Rattle.tpl_model.specs.declared.claim.Property.{Property}
 use Rattle.tpl_model.specs.Claims.{Claim}
 use Rattle.tpl_model.specs.Certificate.{Row, Tree, Leaf}
@@ -46,10 +47,10 @@ abbrev pub not_run : Finals → Row
 not_run ends = record { ends = ends; runs = false; before = []; past = []; chain = [] }
 
 -- one claim, and what is given for it
-abbrev pub one_claim : Property → List Claim
+abbrev pub one_claim : Property TaskId → List Claim
 one_claim says = record { given = []; body = says } ∷ []
 
-abbrev pub one_claim_given : List Given → Property → List Claim
+abbrev pub one_claim_given : List Given → Property TaskId → List Claim
 one_claim_given facts says = record { given = facts; body = says } ∷ []
 
 -- the fault of a row that breaks a rule

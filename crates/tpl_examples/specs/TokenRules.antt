@@ -8,6 +8,7 @@ use Rattle.tpl_model.specs.Statements.{Throw, Check, Cancel, Start, Work, If, St
 use Rattle.tpl_model.specs.Graph.{TaskGraph, Token, Plain, Linked}
 use Rattle.tpl_model.specs.declared.fault.Rule.TheVariants.{K1, K2, K3, K4, K5}
 use Rattle.tpl_model.specs.declared.claim.Given.{Given}
+use Rattle.tpl_model.specs.declared.ids.TaskId.{TaskId}
 use Rattle.tpl_model.specs.declared.claim.Property.{Property}
 use Rattle.tpl_model.specs.Certificate.{Row}
 use Rattle.tpl_model.specs.WiderRules.{WideRow, WideAssumed, widely_assumed, narrowed, end_split}
@@ -17,15 +18,15 @@ use Rattle.tpl_examples.specs.Words.{root, child, detached_child, continues, whe
 use Rattle.tpl_examples.specs.CertificateWords.{nothing, ran_or_canceled, ran_or_faulted, ends, not_run, throws}
 
 -- what a leaf assumes for a claim
-abbrev pub for_claim : TaskGraph → List Given → Property → WideAssumed
+abbrev pub for_claim : TaskGraph → List Given → Property TaskId → WideAssumed
 for_claim g facts says = widely_assumed g (record { given = facts; body = says })
 
 -- the fault of a leaf with these rows, if it has one
-abbrev pub fault : TaskGraph → List Given → Property → List WideRow → Option LeafFault
+abbrev pub fault : TaskGraph → List Given → Property TaskId → List WideRow → Option LeafFault
 fault g facts says rows = wide_leaf_fault g says (for_claim g facts says) rows
 
 -- the same in the branch of a split on how t ends, with what the splits left narrowed
-abbrev pub in_branch : TaskGraph → List Given → Property → ℕ → Final → List WideRow → Option LeafFault
+abbrev pub in_branch : TaskGraph → List Given → Property TaskId → ℕ → Final → List WideRow → Option LeafFault
 in_branch g facts says t f rows = wide_leaf_fault g says (narrowed g (end_split (for_claim g facts says) t f)) rows
 
 -- a row without tokens, and one with those that are requested at its begin and at its end

@@ -8,6 +8,7 @@ use Rattle.tpl_model.specs.declared.fault.Rule.TheVariants.{K2, K5, K6}
 use Rattle.tpl_model.specs.declared.fault.CertFault.{CertFault}
 use Rattle.tpl_model.specs.declared.fault.CertFault.TheVariants.{ClaimNot}
 use Rattle.tpl_model.specs.declared.claim.Given.{Given}
+use Rattle.tpl_model.specs.declared.ids.TaskId.{TaskId}
 use Rattle.tpl_model.specs.declared.claim.Property.{Property}
 use Rattle.tpl_model.specs.declared.event.Event.{Event}
 use Rattle.tpl_model.specs.Rules.{final, Run}
@@ -17,10 +18,10 @@ use Rattle.tpl_examples.specs.Words.{outside, dropping, by, request, played, roo
 use Rattle.tpl_examples.specs.CertificateWords.{child_with, continuing, graph_with, nothing, ran_or_canceled, ran_or_faulted, any_end, runs, ends, not_run, one_claim_given, not_closed, leaf, throws, observes}
 
 -- the verdict on one claim by the wider rules, and by the others
-abbrev pub widely : TaskGraph → List Given → Property → List Row → Result (Unit {0}) CertFault
+abbrev pub widely : TaskGraph → List Given → Property TaskId → List Row → Result (Unit {0}) CertFault
 widely g facts says rows = verdict true g (one_claim_given facts says) (leaf rows)
 
-abbrev pub narrowly : TaskGraph → List Given → Property → List Row → Result (Unit {0}) CertFault
+abbrev pub narrowly : TaskGraph → List Given → Property TaskId → List Row → Result (Unit {0}) CertFault
 narrowly g facts says rows = verdict false g (one_claim_given facts says) (leaf rows)
 
 -- A, then B, then C, both with the token k and j: where C begins, its token isn't requested, so B wasn't canceled by it

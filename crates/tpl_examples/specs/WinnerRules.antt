@@ -7,6 +7,7 @@ use Rattle.tpl_model.specs.Statements.{Cancel, Start, When, Nothing, ◌⨾◌}
 use Rattle.tpl_model.specs.Graph.{TaskGraph, Task, Plain}
 use Rattle.tpl_model.specs.declared.fault.Rule.TheVariants.{K1, K2, K5, K6}
 use Rattle.tpl_model.specs.declared.claim.Given.{Given}
+use Rattle.tpl_model.specs.declared.ids.TaskId.{TaskId}
 use Rattle.tpl_model.specs.declared.claim.Property.{Property}
 use Rattle.tpl_model.specs.Certificate.{Row}
 use Rattle.tpl_model.specs.WiderRules.{WideRow, WideTree, OnInput, OnEnd, OnWinner, WideLeaf, winner_split, WidelyAccepts}
@@ -17,7 +18,7 @@ use Rattle.tpl_examples.specs.CertificateWords.{nothing, runs, ends, not_run, th
 use Rattle.tpl_examples.specs.TokenRules.{for_claim, fault, plainly}
 
 -- the fault of a leaf on the branch of a split on whether x wins n, if it has one
-abbrev pub won : TaskGraph → List Given → Property → ℕ → ℕ → Bool → List WideRow → Option LeafFault
+abbrev pub won : TaskGraph → List Given → Property TaskId → ℕ → ℕ → Bool → List WideRow → Option LeafFault
 won g facts says n x value rows = wide_leaf_fault g says (winner_split (for_claim g facts says) n x value) rows
 
 -- one that returns races with one that throws, and where the second wins a child is started

@@ -13,6 +13,7 @@ use Rattle.tpl_model.specs.declared.event.Act.TheVariants.{Request, Release, Beg
 use Rattle.tpl_model.specs.declared.event.Event.{Event}
 use Rattle.tpl_model.specs.declared.claim.Given.{Given}
 use Rattle.tpl_model.specs.declared.claim.Given.TheVariants.{Input, Quiet, Ended, Succeeds}
+use Rattle.tpl_model.specs.declared.ids.TaskId.{TaskId}
 use Rattle.tpl_model.specs.declared.claim.Property.{Property}
 use Rattle.tpl_model.specs.declared.claim.Property.TheVariants.{Final as EndsIn, After, Observed, Never, Excludes, Runs}
 use Rattle.tpl_model.specs.Claims.{Claim}
@@ -202,22 +203,22 @@ abbrev pub faulted : Finals
 faulted = record { ran = false; canceled = false; faulted = true }
 
 -- what a claim says
-abbrev pub ends_in : ℕ → Finals → Property
+abbrev pub ends_in : ℕ → Finals → Property TaskId
 ends_in t ends = EndsIn (record { 0 = t }) ends
 
-abbrev pub begins_after : ℕ → ℕ → Property
+abbrev pub begins_after : ℕ → ℕ → Property TaskId
 begins_after a b = After (record { 0 = a }) (record { 0 = b })
 
-abbrev pub is_observed : ℕ → Property
+abbrev pub is_observed : ℕ → Property TaskId
 is_observed t = Observed (record { 0 = t })
 
-abbrev pub never_begins : ℕ → Property
+abbrev pub never_begins : ℕ → Property TaskId
 never_begins t = Never (record { 0 = t })
 
-abbrev pub exclude : ℕ → ℕ → Property
+abbrev pub exclude : ℕ → ℕ → Property TaskId
 exclude a b = Excludes (record { 0 = a }) (record { 0 = b })
 
-abbrev pub must_run : ℕ → Property
+abbrev pub must_run : ℕ → Property TaskId
 must_run t = Runs (record { 0 = t })
 
 -- what it takes as given
@@ -233,8 +234,8 @@ given_end t ends = Ended (record { 0 = t }) ends
 abbrev pub given_success : ℕ → Given
 given_success site = Succeeds (record { 0 = site })
 
-abbrev pub claim : Property → Claim
+abbrev pub claim : Property TaskId → Claim
 claim body = record { given = []; body = body }
 
-abbrev pub claim_given : List Given → Property → Claim
+abbrev pub claim_given : List Given → Property TaskId → Claim
 claim_given given body = record { given = given; body = body }

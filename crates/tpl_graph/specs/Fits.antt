@@ -3,6 +3,7 @@ use Rattle.std.specs.Prelude.{◌≡◌, ◌<◌, length, ◌++◌, ◌||◌, �
 use Rattle.std.specs.List.{list_any}
 use Rattle.tpl_model.specs.declared.claim.Given.{Given}
 use Rattle.tpl_model.specs.declared.claim.Given.TheVariants.{Input, Quiet, Ended, Succeeds}
+use Rattle.tpl_model.specs.declared.ids.TaskId.{TaskId}
 use Rattle.tpl_model.specs.declared.claim.Property.{Property}
 use Rattle.tpl_model.specs.declared.claim.Property.TheVariants.{Final as EndsIn, After, Observed, Never, Excludes, Runs}
 use Rattle.tpl_model.specs.Graph.{TaskGraph, TaskKind, WhenAll, WhenAny, kind, is_task, is_token}
@@ -38,7 +39,7 @@ abbrev pub given_twice : List Given → Bool
 given_twice given = given_again [] given
 
 -- the tasks are the graph's
-abbrev pub TasksOf : TaskGraph → Property → Type 0
+abbrev pub TasksOf : TaskGraph → Property TaskId → Type 0
 TasksOf g (EndsIn t ends) = is_task g t.0
 TasksOf g (After a b) = is_task g a.0 × is_task g b.0
 TasksOf g (Observed t) = is_task g t.0
@@ -53,7 +54,7 @@ has_body (WhenAny args) = false
 has_body kind = true
 
 -- what is claimed to begin, or to throw, has a body
-abbrev pub have_bodies : TaskGraph → Property → Bool
+abbrev pub have_bodies : TaskGraph → Property TaskId → Bool
 have_bodies g (EndsIn t ends) = true
 have_bodies g (After a b) = has_body (kind g b.0)
 have_bodies g (Observed t) = has_body (kind g t.0)

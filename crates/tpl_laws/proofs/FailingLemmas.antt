@@ -17,6 +17,7 @@ use Rattle.tpl_model.specs.Facts.{Ending, begun, begun_by, requested, failed, st
 use Rattle.tpl_model.specs.Rules.{final, label, seen, MayDrop, MayStart, MayNotStart, MayCancel, Allows, Run, to_end, Complete, can_settle}
 use Rattle.tpl_model.specs.declared.claim.Given.{Given}
 use Rattle.tpl_model.specs.declared.claim.Given.TheVariants.{Input, Quiet, Ended, Succeeds}
+use Rattle.tpl_model.specs.declared.ids.TaskId.{TaskId}
 use Rattle.tpl_model.specs.declared.claim.Property.{Property}
 use Rattle.tpl_model.specs.declared.claim.Property.TheVariants.{Final as EndsIn, After, Observed, Never, Excludes, Runs}
 use Rattle.tpl_model.specs.Certificate.{same, given_sure}
@@ -374,7 +375,7 @@ module _ (g : TaskGraph) (v : List Bool) (later before : List Event) (run : Run 
         ap (λ z. implies z (is_some (begun before t))) (c ∙ sym (complete_then c))
         ∙ ap (λ z. implies (is_complete g v (later ++ before)) (is_some z)) (sym (begun_stays g v later before t run ((complete_lem g v before).0 c))))
 
-    fails_each : (p : Property) → not (holds_of g v before p) ≡ is_at (fails_from g v (later ++ before) complete p) (length before)
+    fails_each : (p : Property TaskId) → not (holds_of g v before p) ≡ is_at (fails_from g v (later ++ before) complete p) (length before)
     fails_each (EndsIn t ends) = fails_ended t.0 ends
     fails_each (After a b) = fails_settled a.0 b.0
     fails_each (Observed t) = fails_observed t.0

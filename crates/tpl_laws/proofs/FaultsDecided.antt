@@ -6,6 +6,7 @@ use Rattle.tpl_model.proofs.Truths.{true_false}
 use Rattle.tpl_model.specs.declared.finals.Final.TheVariants.{RanToCompletion, Canceled, Faulted}
 use Rattle.tpl_model.specs.Graph.{TaskGraph, kind, is_task}
 use Rattle.tpl_model.specs.Valid.{IsGraph}
+use Rattle.tpl_model.specs.declared.ids.TaskId.{TaskId}
 use Rattle.tpl_model.specs.declared.claim.Property.{Property}
 use Rattle.tpl_model.specs.Claims.{Claim}
 use Rattle.tpl_model.specs.Certificate.{Row, Tree, SplitInput, SplitEnd, Leaf, Assumed, assumed_for, with_input, with_end, IsClosed, Closed, Proves, AllTasks, IdsOfRows, AcceptsTree, Accepts}
@@ -104,7 +105,7 @@ module _ (paths : PathLaws) where
       (λ f x a. f x (omega arith) (omega arith))
       (λ f x a b. f x (omega arith))
 
-  pub leaf_decided : (g : TaskGraph) (p : Property) (l : Assumed) (rows : List Row) → IsGraph g → Clears (leaf_fault g p l rows) (Closed g l rows × (Proves g l rows p × Unit {0}))
+  pub leaf_decided : (g : TaskGraph) (p : Property TaskId) (l : Assumed) (rows : List Row) → IsGraph g → Clears (leaf_fault g p l rows) (Closed g l rows × (Proves g l rows p × Unit {0}))
   leaf_decided g p l rows valid =
       clear_or_else (Closed g l rows) (Proves g l rows p × Unit {0}) (first_broken g l rows 0 (length g.tasks)) (unless (proves g l rows p) ProvesNot None) (first_lem g l rows valid)
       (clear_unless (Proves g l rows p) (Unit {0}) (proves g l rows p) ProvesNot None (proves_lem paths g l rows p) clear)
@@ -148,7 +149,7 @@ module _ (paths : PathLaws) where
   none_first (Some x) y q = absurd (cc)
 
   -- a tree that fits and has no fault is accepted, and an accepted one fits and has none
-  pub tree_accepted : (g : TaskGraph) (p : Property) (c : ℕ) → IsGraph g → (l : Assumed) (n : ℕ) (tree : Tree) → fits g tree ≡ true → tree_fault g p c l n tree ≡ None → AcceptsTree g p l tree
+  pub tree_accepted : (g : TaskGraph) (p : Property TaskId) (c : ℕ) → IsGraph g → (l : Assumed) (n : ℕ) (tree : Tree) → fits g tree ≡ true → tree_fault g p c l n tree ≡ None → AcceptsTree g p l tree
   tree_accepted g p c valid l n (SplitInput i a b) f e =
       let s = and_parts (nat_lt i g.inputs) (fits g a && fits g b) f in
       let r = and_parts (fits g a) (fits g b) s.1 in
@@ -166,7 +167,7 @@ module _ (paths : PathLaws) where
       let q = (clear_leaf c n (Closed g l rows × (Proves g l rows p × Unit {0})) (leaf_fault g p l rows) (leaf_decided g p l rows valid)).0 e in
       ((same (length rows) (length g.tasks)).0 s.0, (rows_decided g rows).0 s.1, q.0, q.1.0)
 
-  pub accepted_fits : (g : TaskGraph) (p : Property) (l : Assumed) (tree : Tree) → AcceptsTree g p l tree → fits g tree ≡ true
+  pub accepted_fits : (g : TaskGraph) (p : Property TaskId) (l : Assumed) (tree : Tree) → AcceptsTree g p l tree → fits g tree ≡ true
   accepted_fits g p l (SplitInput i a b) e =
       and_from (nat_lt i g.inputs) (fits g a && fits g b) (lt-ltb i g.inputs e.0)
       (and_from (fits g a) (fits g b) (accepted_fits g p (with_input l i true) a e.1) (accepted_fits g p (with_input l i false) b e.2))
@@ -181,7 +182,7 @@ module _ (paths : PathLaws) where
   no_two None y p q = q
   no_two (Some x) y p q = p
 
-  pub accepted_clear : (g : TaskGraph) (p : Property) (c : ℕ) → IsGraph g → (l : Assumed) (n : ℕ) (tree : Tree) → AcceptsTree g p l tree → tree_fault g p c l n tree ≡ None
+  pub accepted_clear : (g : TaskGraph) (p : Property TaskId) (c : ℕ) → IsGraph g → (l : Assumed) (n : ℕ) (tree : Tree) → AcceptsTree g p l tree → tree_fault g p c l n tree ≡ None
   accepted_clear g p c valid l n (SplitInput i a b) e =
       no_two (tree_fault g p c (with_input l i true) n a) (tree_fault g p c (with_input l i false) (n + leaves a) b) (accepted_clear g p c valid (with_input l i true) n a e.1) (accepted_clear g p c valid (with_input l i false) (n + leaves a) b e.2)
   accepted_clear g p c valid l n (SplitEnd t a b d) e =

@@ -6,6 +6,7 @@ use Rattle.tpl_model.proofs.Truths.{true_false}
 use Rattle.tpl_model.specs.declared.finals.Final.TheVariants.{RanToCompletion, Canceled, Faulted}
 use Rattle.tpl_model.specs.Graph.{TaskGraph, TaskKind, Root, Child, Continues, WhenAll, WhenAny, kind}
 use Rattle.tpl_model.specs.Valid.{IsGraph}
+use Rattle.tpl_model.specs.declared.ids.TaskId.{TaskId}
 use Rattle.tpl_model.specs.declared.claim.Property.{Property}
 use Rattle.tpl_model.specs.Claims.{Claim}
 use Rattle.tpl_model.specs.Certificate.{Row, Tree, SplitInput, SplitEnd, Leaf, Assumed, assumed_for, with_input, with_end, IsClosed, Closed, Proves, IdsOfRows}
@@ -105,7 +106,7 @@ module _ (paths : PathLaws) where
             }
       ]
 
-  leaf_fails : (g : TaskGraph) (p : Property) (l : Assumed) (rows : List Row) (f : LeafFault) → IsGraph g → leaf_fault g p l rows ≡ Some f → LeafFails g p (record { assumes = l; rows = rows }) f
+  leaf_fails : (g : TaskGraph) (p : Property TaskId) (l : Assumed) (rows : List Row) (f : LeafFault) → IsGraph g → leaf_fault g p l rows ≡ Some f → LeafFails g p (record { assumes = l; rows = rows }) f
   leaf_fails g p l rows f valid e =
       elim (some_or_else (first_broken g l rows 0 (length g.tasks)) (unless (proves g l rows p) ProvesNot None) f e) [
         | inl q ↦
@@ -122,7 +123,7 @@ module _ (paths : PathLaws) where
       none_some x q = absurd (cc)
 
   -- a tree
-  each_joined : (g : TaskGraph) (p : Property) (xs ys : List Branch) → EachProves g p xs → EachProves g p ys → EachProves g p (xs ++ ys)
+  each_joined : (g : TaskGraph) (p : Property TaskId) (xs ys : List Branch) → EachProves g p xs → EachProves g p ys → EachProves g p (xs ++ ys)
   each_joined g p [] ys a b = b
   each_joined g p (x ∷ xs) ys a b = (a.0, each_joined g p xs ys a.1 b)
 
@@ -141,7 +142,7 @@ module _ (paths : PathLaws) where
       omega (arith, x, y, z, w, v)
   count_leaves l (Leaf rows) = refl
 
-  fails_left : (g : TaskGraph) (p : Property) (c n : ℕ) (xs ys : List Branch) (fault : CertFault) → LeavesFail g p c n xs fault → LeavesFail g p c n (xs ++ ys) fault
+  fails_left : (g : TaskGraph) (p : Property TaskId) (c n : ℕ) (xs ys : List Branch) (fault : CertFault) → LeavesFail g p c n xs fault → LeavesFail g p c n (xs ++ ys) fault
   fails_left g p c n xs ys fault f = record {
     earlier = f.earlier;
     branch = f.branch;
@@ -153,7 +154,7 @@ module _ (paths : PathLaws) where
     at = f.at;
   }
 
-  fails_right : (g : TaskGraph) (p : Property) (c n m : ℕ) (xs ys : List Branch) (fault : CertFault) → EachProves g p xs → m ≡ n + length xs → LeavesFail g p c m ys fault → LeavesFail g p c n (xs ++ ys) fault
+  fails_right : (g : TaskGraph) (p : Property TaskId) (c n m : ℕ) (xs ys : List Branch) (fault : CertFault) → EachProves g p xs → m ≡ n + length xs → LeavesFail g p c m ys fault → LeavesFail g p c n (xs ++ ys) fault
   fails_right g p c n m xs ys fault each number f =
       let z = length-append xs f.earlier in
       let same_place : m + length f.earlier ≡ n + length (xs ++ f.earlier) = omega (arith, number, z) in
@@ -168,7 +169,7 @@ module _ (paths : PathLaws) where
         at = f.at ∙ ap (λ w. place c w f.why) same_place;
       }
 
-  tree_clear : (g : TaskGraph) (p : Property) (c : ℕ) → IsGraph g → (l : Assumed) (n : ℕ) (tree : Tree) → tree_fault g p c l n tree ≡ None → EachProves g p (leaves_of l tree)
+  tree_clear : (g : TaskGraph) (p : Property TaskId) (c : ℕ) → IsGraph g → (l : Assumed) (n : ℕ) (tree : Tree) → tree_fault g p c l n tree ≡ None → EachProves g p (leaves_of l tree)
   tree_clear g p c valid l n (SplitInput i a b) e =
       let q = none_first paths (tree_fault g p c (with_input l i true) n a) (tree_fault g p c (with_input l i false) (n + leaves a) b) e in
       each_joined g p (leaves_of (with_input l i true) a) (leaves_of (with_input l i false) b) (tree_clear g p c valid (with_input l i true) n a q.0) (tree_clear g p c valid (with_input l i false) (n + leaves a) b q.1)
@@ -186,7 +187,7 @@ module _ (paths : PathLaws) where
   some_leaf c n (Some (Breaks t r)) fault e = (Breaks t r, refl, cc)
   some_leaf c n (Some ProvesNot) fault e = (ProvesNot, refl, cc)
 
-  tree_fails : (g : TaskGraph) (p : Property) (c : ℕ) → IsGraph g → (l : Assumed) (n : ℕ) (tree : Tree) (fault : CertFault) → tree_fault g p c l n tree ≡ Some fault → LeavesFail g p c n (leaves_of l tree) fault
+  tree_fails : (g : TaskGraph) (p : Property TaskId) (c : ℕ) → IsGraph g → (l : Assumed) (n : ℕ) (tree : Tree) (fault : CertFault) → tree_fault g p c l n tree ≡ Some fault → LeavesFail g p c n (leaves_of l tree) fault
   tree_fails g p c valid l n (SplitInput i a b) fault e =
       elim (some_or_else (tree_fault g p c (with_input l i true) n a) (tree_fault g p c (with_input l i false) (n + leaves a) b) fault e) [
         | inl q ↦ fails_left g p c n (leaves_of (with_input l i true) a) (leaves_of (with_input l i false) b) fault (tree_fails g p c valid (with_input l i true) n a fault q)

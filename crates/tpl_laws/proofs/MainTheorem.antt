@@ -194,7 +194,7 @@ pub some_leaf_lem : SomeLeafAgrees
 some_leaf_lem wide g given tree v h i = leaf_agrees g (assumed wide g given) tree v h (given_agrees wide g v h given i)
 
 -- each leaf of an accepted tree is closed and proves the claim
-accepted_leaf : (g : TaskGraph) (p : Property) (l m : Assumed) (tree : Tree) (rows : List Row) → AcceptsTree g p l tree → HasLeaf l tree m rows → Closed g m rows × Proves g m rows p
+accepted_leaf : (g : TaskGraph) (p : Property TaskId) (l m : Assumed) (tree : Tree) (rows : List Row) → AcceptsTree g p l tree → HasLeaf l tree m rows → Closed g m rows × Proves g m rows p
 accepted_leaf g p l m (SplitInput i a b) rows acc (inl w) = accepted_leaf g p (with_input l i true) m a rows acc.1 w
 accepted_leaf g p l m (SplitInput i a b) rows acc (inr w) = accepted_leaf g p (with_input l i false) m b rows acc.2 w
 accepted_leaf g p l m (SplitEnd t a b c) rows acc (inl w) = accepted_leaf g p (with_end l t RanToCompletion) m a rows acc.1 w
@@ -235,13 +235,13 @@ not_asked g v h None e = tt
 not_asked g v h (Some k) e = (e, tt)
 
 -- what a leaf shows of a run: that an exception is observed, or what proves the property
-abbrev pub Shows : TaskGraph → Assumed → List Row → List Bool → List Event → Property → Type 0
+abbrev pub Shows : TaskGraph → Assumed → List Row → List Bool → List Event → Property TaskId → Type 0
 Shows g l rows v h (Observed t) = Complete g v h → (lb : Label) → label g v h t.0 ≡ Some lb → seen g v h t.0 ≡ true
 Shows g l rows v h p = Proves g l rows p
 
 -- a leaf that agrees with a run so far: its rows are true of it, a task that begins next begins as its row says, and it
 -- shows the property
-pub record ALeaf (g : TaskGraph) (v : List Bool) (h : List Event) (p : Property) : Type 0 where
+pub record ALeaf (g : TaskGraph) (v : List Bool) (h : List Event) (p : Property TaskId) : Type 0 where
   pub assumes : Assumed
   pub rows : List Row
   pub upheld : Upheld g assumes rows v h
@@ -300,7 +300,7 @@ observed_holds g l rows v h t lb now by_chain complete e pr = by_proof pr
     by_proof (inr (inr (inr (inr never)))) = absurd (never_complete g l rows v h now never.1 complete)
 
 -- what a closed leaf proves, it shows
-shows : (g : TaskGraph) (l : Assumed) (rows : List Row) (v : List Bool) (h : List Event) (p : Property) → Now g l rows v h → Proves g l rows p → Shows g l rows v h p
+shows : (g : TaskGraph) (l : Assumed) (rows : List Row) (v : List Bool) (h : List Event) (p : Property TaskId) → Now g l rows v h → Proves g l rows p → Shows g l rows v h p
 shows g l rows v h (Observed t) now pr = λ complete lb e.
     let up = upheld g l rows v h now in
     observed_holds g l rows v h t.0 lb up (λ c. chain_seen g l rows v h t.0 lb up (λ s i. (now.closed s i).chain) complete c e) complete e pr
@@ -326,7 +326,7 @@ a_leaf wide g claim tree v h valid acc run i q =
 
 -- what some leaf shows of each run so far in which the given is true, and the own token isn't requested, holds
 module _ (g : TaskGraph) (given : List Given) (v : List Bool) where
-  abbrev pub LeafOf : Property → Type 0
+  abbrev pub LeafOf : Property TaskId → Type 0
   LeafOf p = (h : List Event) → Run g v h → IsGiven g v h given → IsGiven g v h (own_quiet g p) → ALeaf g v h p
 
   after_holds : (a b : TaskId) → LeafOf (After a b) → (h : List Event) → Run g v h → IsGiven g v h given → SettledAtBegin g v a.0 b.0 h
@@ -402,7 +402,7 @@ module _ (g : TaskGraph) (given : List Given) (v : List Bool) where
       by_tests earlier (inr x) (inl y) = at_begin (inr (begins g v h e.actor e.act b.0 run.0 run.1 y).not_requested)
       by_tests earlier (inr x) (inr y) = earlier (begun_old a.0 x p) (begun_old b.0 y q)
 
-  pub property_holds : (p : Property) → LeafOf p → (h : List Event) → Run g v h → IsGiven g v h given → HoldsOf g v h p
+  pub property_holds : (p : Property TaskId) → LeafOf p → (h : List Event) → Run g v h → IsGiven g v h given → HoldsOf g v h p
   property_holds (EndsIn t ends) leaf_of h run i = let l = leaf_of h run i tt in λ f e. l.shows f (l.upheld.ends t.0 f e)
   property_holds (After a b) leaf_of h run i = after_holds a b leaf_of h run i
   property_holds (Observed t) leaf_of h run i = (leaf_of h run i tt).shows

@@ -16,6 +16,7 @@ use Rattle.tpl_model.specs.Statements.{Statements}
 use Rattle.tpl_model.specs.Graph.{TaskGraph, TaskKind, Root, Child, Continues, WhenAll, WhenAny, kind, body, options, is_task, attached, some_in, IsParent}
 use Rattle.tpl_model.specs.Rules.{to_end}
 use Rattle.tpl_model.specs.Valid.{IsGraph}
+use Rattle.tpl_model.specs.declared.ids.TaskId.{TaskId}
 use Rattle.tpl_model.specs.declared.claim.Property.{Property}
 use Rattle.tpl_model.specs.declared.claim.Property.TheVariants.{Final as EndsIn, After, Observed, Never, Excludes, Runs}
 use Rattle.tpl_model.specs.Paths.{Known, Path, MayEnd, MayThrow, MayStartChild, MustObserve}
@@ -257,7 +258,7 @@ module _ (paths : PathLaws) where
       (λ e. (e.0, e.1, e.2.0, e.2.1))
       (λ e. (e.0, e.1, (e.2, e.3)))
 
-  pub proves_lem : (g : TaskGraph) (l : Assumed) (rows : List Row) (p : Property) → Decides (proves g l rows p) (Proves g l rows p)
+  pub proves_lem : (g : TaskGraph) (l : Assumed) (rows : List Row) (p : Property TaskId) → Decides (proves g l rows p) (Proves g l rows p)
   proves_lem g l rows (EndsIn t fs) =
       at_each_end (λ f. has (row rows t.0).ends f ≡ true → has fs f ≡ true) (λ f. implies (has (row rows t.0).ends f) (has fs f))
       (λ f. only_if (has (row rows t.0).ends f ≡ true) (has fs f ≡ true) (has (row rows t.0).ends f) (has fs f) (itself (has (row rows t.0).ends f)) (itself (has fs f)))

@@ -12,6 +12,7 @@ use Rattle.tpl_model.specs.Paths.{MayStartChild}
 use Rattle.tpl_model.specs.Knowledge.{Fact, IsSettled, IsRequested, Knowledge, at_throw}
 use Rattle.tpl_model.proofs.KnownReach.{MayFault, may_start, may_return, may_acknowledge, may_throw, may_fault}
 use Rattle.tpl_model.specs.Graph.{TaskGraph, TaskKind, Root, Child, Continues, WhenAll, WhenAny, kind, body, options, is_task, attached, IsParent}
+use Rattle.tpl_model.specs.declared.ids.TaskId.{TaskId}
 use Rattle.tpl_model.specs.declared.claim.Property.{Property}
 use Rattle.tpl_model.specs.declared.claim.Property.TheVariants.{Final as EndsIn, After, Observed, Never, Excludes, Runs}
 use Rattle.tpl_model.specs.Certificate.{Row, row, Tree, SplitInput, SplitEnd, Leaf, end_left, is_loud, one_ends, subject_ends, subject_set, view, RunsRule, BodyMayEnd, MayEndAs, BeforeRule, may_end_early, may_end, PastRule, Links, ChainRule, Closed, Proves, IdsOfRows, AcceptsTree}
@@ -251,7 +252,7 @@ module _ (g : TaskGraph) (l : WideAssumed) (rows : List WideRow) (nothing : (t :
       by_end (IsSettled x) m = end_more t (kind g t) x i refl ((closed t i).past x m)
       by_end (IsRequested k) m = absurd (no_member k (wide_row rows t).asks (nothing t).1 m)
 
-proves_more : (g : TaskGraph) (l : WideAssumed) (rows : List WideRow) (p : Property) → Proves g l.assumed (plain rows) p → WidelyProves g l rows p
+proves_more : (g : TaskGraph) (l : WideAssumed) (rows : List WideRow) (p : Property TaskId) → Proves g l.assumed (plain rows) p → WidelyProves g l rows p
 proves_more g l rows (Observed t) (inl p) = inl p
 proves_more g l rows (Observed t) (inr (inl p)) = inr (inl p)
 proves_more g l rows (Observed t) (inr (inr (inl p))) = inr (inr (inl p))
@@ -281,7 +282,7 @@ narrowed_more g l = record {
   wide = λ e. e;
 }
 
-tree_more : (g : TaskGraph) (p : Property) (l : WideAssumed) (tree : Tree) → AcceptsTree g p l.assumed tree → AcceptsWideTree g p l (as_wide_tree tree)
+tree_more : (g : TaskGraph) (p : Property TaskId) (l : WideAssumed) (tree : Tree) → AcceptsTree g p l.assumed tree → AcceptsWideTree g p l (as_wide_tree tree)
 tree_more g p l (SplitInput i a b) acc = (acc.0, tree_more g p (input_split l i true) a acc.1, tree_more g p (input_split l i false) b acc.2)
 tree_more g p l (SplitEnd t a b c) acc = (
   acc.0,

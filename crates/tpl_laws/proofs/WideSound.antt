@@ -11,6 +11,7 @@ use Rattle.tpl_model.specs.declared.event.Event.{Event}
 use Rattle.tpl_model.specs.Facts.{rest, ending, outcome_in, winner_of}
 use Rattle.tpl_model.specs.Rules.{Run, label, seen, Complete}
 use Rattle.tpl_model.specs.Valid.{IsGraph}
+use Rattle.tpl_model.specs.declared.ids.TaskId.{TaskId}
 use Rattle.tpl_model.specs.declared.claim.Property.{Property}
 use Rattle.tpl_model.specs.declared.claim.Property.TheVariants.{Final as EndsIn, After, Observed, Never, Excludes, Runs}
 use Rattle.tpl_model.specs.Claims.{input, Claim, IsGiven}
@@ -40,7 +41,7 @@ wide_rows_lem g l rows v h valid closed run agrees =
     )
 
 -- what a closed leaf proves, it shows
-wide_shows : (g : TaskGraph) (l : WideAssumed) (rows : List WideRow) (v : List Bool) (h : List Event) (p : Property) → WideNow g l rows v h → WidelyProves g l rows p → Shows g l.assumed (plain rows) v h p
+wide_shows : (g : TaskGraph) (l : WideAssumed) (rows : List WideRow) (v : List Bool) (h : List Event) (p : Property TaskId) → WideNow g l rows v h → WidelyProves g l rows p → Shows g l.assumed (plain rows) v h p
 wide_shows g l rows v h (Observed t) now pr = λ complete lb e. by_proof lb complete e pr
   where
     up : Upheld g l.assumed (plain rows) v h
@@ -65,7 +66,7 @@ wide_shows g l rows v h (Excludes a b) now pr = pr
 wide_shows g l rows v h (Runs t) now pr = pr
 
 -- a leaf of an accepted tree that agrees with a run so far
-record AWideLeaf (g : TaskGraph) (p : Property) (v : List Bool) (h : List Event) : Type 0 where
+record AWideLeaf (g : TaskGraph) (p : Property TaskId) (v : List Bool) (h : List Event) : Type 0 where
   assumes : WideAssumed
   rows : List WideRow
   agrees : WideAgrees g assumes v h
@@ -74,7 +75,7 @@ record AWideLeaf (g : TaskGraph) (p : Property) (v : List Bool) (h : List Event)
 
 -- it is found by taking at each split on an end the branch by which the task is bound to end, and at each split on a
 -- winner the branch of the winner, or either while there is none
-module _ (g : TaskGraph) (p : Property) (v : List Bool) (h : List Event) (valid : IsGraph g) (run : Run g v h) where
+module _ (g : TaskGraph) (p : Property TaskId) (v : List Bool) (h : List Event) (valid : IsGraph g) (run : Run g v h) where
   abbrev Bound : WideAssumed → Type 0
   Bound l = (s : ℕ) → l.assumed.cut s (destiny g v h s) ≡ true
 

@@ -10,6 +10,7 @@ use Rattle.tpl_model.specs.Valid.{IsGraph}
 use Rattle.tpl_model.specs.declared.fault.CertFault.{CertFault}
 use Rattle.tpl_model.specs.declared.fault.CertFault.TheVariants.{Shape}
 use Rattle.tpl_model.specs.declared.claim.Property.{Property}
+use Rattle.tpl_model.specs.declared.ids.TaskId.{TaskId}
 use Rattle.tpl_model.specs.Claims.{Claim}
 use Rattle.tpl_model.specs.WiderRules.{WideRow, plain, WideAssumed, WidelyClosed, WidelyProves, narrowed, WideTree, OnInput, OnEnd, OnWinner, WideLeaf, input_split, end_split, winner_split, AllTokens, TokensOfRows, MayHaveWinner, AcceptsWideTree, widely_assumed, WidelyAccepts}
 use Rattle.tpl_laws.specs.PathLaws.{PathLaws}
@@ -55,7 +56,7 @@ ok_none (Some x) e = absurd (cc)
 
 module _ (paths : PathLaws) (g : TaskGraph) (valid : IsGraph g) where
   -- a tree that fits and has no fault is accepted, and an accepted one fits and has none
-  pub wide_tree_accepted : (p : Property) (c : ℕ) (l : WideAssumed) (n : ℕ) (tree : WideTree) → wide_fits g tree ≡ true → wide_tree_fault g p c l n tree ≡ None → AcceptsWideTree g p l tree
+  pub wide_tree_accepted : (p : Property TaskId) (c : ℕ) (l : WideAssumed) (n : ℕ) (tree : WideTree) → wide_fits g tree ≡ true → wide_tree_fault g p c l n tree ≡ None → AcceptsWideTree g p l tree
   wide_tree_accepted p c l n (OnInput i a b) f e =
       let s = and_parts (nat_lt i g.inputs) (wide_fits g a && wide_fits g b) f in
       let r = and_parts (wide_fits g a) (wide_fits g b) s.1 in
@@ -79,7 +80,7 @@ module _ (paths : PathLaws) (g : TaskGraph) (valid : IsGraph g) where
       let q = (clear_leaf paths c n (WidelyClosed g (narrowed g l) rows × WidelyProves g (narrowed g l) rows p) (wide_leaf_fault g p (narrowed g l) rows) (wide_leaf_lem paths g p (narrowed g l) rows valid)).0 e in
       ((same (length rows) (length g.tasks)).0 s.0, (rows_decided paths g (plain rows)).0 r.0, (tokens_of_rows g rows).0 r.1, q.0, q.1)
 
-  pub wide_accepted_fits : (p : Property) (l : WideAssumed) (tree : WideTree) → AcceptsWideTree g p l tree → wide_fits g tree ≡ true
+  pub wide_accepted_fits : (p : Property TaskId) (l : WideAssumed) (tree : WideTree) → AcceptsWideTree g p l tree → wide_fits g tree ≡ true
   wide_accepted_fits p l (OnInput i a b) e =
       and_from (nat_lt i g.inputs) (wide_fits g a && wide_fits g b) (lt-ltb i g.inputs e.0)
       (and_from (wide_fits g a) (wide_fits g b) (wide_accepted_fits p (input_split l i true) a e.1) (wide_accepted_fits p (input_split l i false) b e.2))
@@ -94,7 +95,7 @@ module _ (paths : PathLaws) (g : TaskGraph) (valid : IsGraph g) where
       and_from (nat_eq (length rows) (length g.tasks)) (rows_fit g (plain rows) && tokens_fit g rows) ((same (length rows) (length g.tasks)).1 e.0)
       (and_from (rows_fit g (plain rows)) (tokens_fit g rows) ((rows_decided paths g (plain rows)).1 e.1) ((tokens_of_rows g rows).1 e.2))
 
-  pub wide_accepted_clear : (p : Property) (c : ℕ) (l : WideAssumed) (n : ℕ) (tree : WideTree) → AcceptsWideTree g p l tree → wide_tree_fault g p c l n tree ≡ None
+  pub wide_accepted_clear : (p : Property TaskId) (c : ℕ) (l : WideAssumed) (n : ℕ) (tree : WideTree) → AcceptsWideTree g p l tree → wide_tree_fault g p c l n tree ≡ None
   wide_accepted_clear p c l n (OnInput i a b) e =
       no_two (wide_tree_fault g p c (input_split l i true) n a) (wide_tree_fault g p c (input_split l i false) (n + wide_leaves a) b) (wide_accepted_clear p c (input_split l i true) n a e.1) (wide_accepted_clear p c (input_split l i false) (n + wide_leaves a) b e.2)
   wide_accepted_clear p c l n (OnEnd t a b d) e =

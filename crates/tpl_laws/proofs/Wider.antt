@@ -11,6 +11,7 @@ use Rattle.tpl_model.specs.Statements.{Statement, Return, Throw, Check, Cancel, 
 use Rattle.tpl_model.specs.Paths.{cancellation, Known, GoesOn, EndsAt, Passes, Path, MayEnd, MayThrow, MayStartChild}
 use Rattle.tpl_model.specs.Graph.{TaskGraph, TaskKind, Root, Child, Continues, WhenAll, WhenAny, task, kind, body, options}
 use Rattle.tpl_model.specs.declared.claim.Given.{Given}
+use Rattle.tpl_model.specs.declared.ids.TaskId.{TaskId}
 use Rattle.tpl_model.specs.declared.claim.Property.{Property}
 use Rattle.tpl_model.specs.declared.claim.Property.TheVariants.{Final as EndsIn, After, Observed, Never, Excludes, Runs}
 use Rattle.tpl_model.specs.Certificate.{Row, row, Tree, SplitInput, SplitEnd, Leaf, Assumed, end_left, same, given_quiet, assumed, assumed_for, with_input, with_end, is_loud, loud_token, view, RunsRule, BodyMayEnd, MayBeCanceled, MayEndAs, may_end_early, may_end, may_win, PastRule, Reads, Links, ChainRule, Closed, Proves, AcceptsTree, as_quiet, same_token, own_quiet}
@@ -176,7 +177,7 @@ module _ (g : TaskGraph) (l m : Assumed) (rows : List Row) (more : AssumesMore l
     chain = chain_more t (row rows t).chain c.chain;
   }
 
-  proves_more : (p : Property) → Proves g l rows p → Proves g m rows p
+  proves_more : (p : Property TaskId) → Proves g l rows p → Proves g m rows p
   proves_more (EndsIn t ends) p = p
   proves_more (After a b) p = p
   proves_more (Observed t) (inl p) = inl p
@@ -212,7 +213,7 @@ end_more l m t f more = record {
   wide = more.wide;
 }
 
-tree_more : (g : TaskGraph) (p : Property) (l m : Assumed) (tree : Tree) → AssumesMore l m → AcceptsTree g p l tree → AcceptsTree g p m tree
+tree_more : (g : TaskGraph) (p : Property TaskId) (l m : Assumed) (tree : Tree) → AssumesMore l m → AcceptsTree g p l tree → AcceptsTree g p m tree
 tree_more g p l m (SplitInput i a b) more acc =
     (acc.0, tree_more g p (with_input l i true) (with_input m i true) a (input_more l m i true more) acc.1, tree_more g p (with_input l i false) (with_input m i false) b (input_more l m i false more) acc.2)
 tree_more g p l m (SplitEnd t a b c) more acc = (
@@ -228,7 +229,7 @@ own_more : (g : TaskGraph) (given : List Given) (o : Option ℕ) → AssumesMore
 own_more g given None = record { possible = λ i value e. e; quiet = λ k e. e; cut = λ t f e. e; ended = λ t f e. e; sure = λ site e. e; wide = λ e. refl }
 own_more g given (Some k) = record { possible = λ i value e. e; quiet = λ j e. or_right _ (given_quiet g given j) e; cut = λ t f e. e; ended = λ t f e. e; sure = λ site e. e; wide = λ e. refl }
 
-wide_more : (g : TaskGraph) (given : List Given) (p : Property) → AssumesMore (assumed false g given) (assumed true g (own_quiet g p ++ given))
+wide_more : (g : TaskGraph) (given : List Given) (p : Property TaskId) → AssumesMore (assumed false g given) (assumed true g (own_quiet g p ++ given))
 wide_more g given (EndsIn t ends) = own_more g given None
 wide_more g given (After a b) = own_more g given (task g b.0).token
 wide_more g given (Observed t) = own_more g given None

@@ -14,6 +14,7 @@ use Rattle.tpl_model.specs.Knowledge.{Fact, IsSettled, IsRequested, Knowledge, a
 use Rattle.tpl_model.specs.Graph.{TaskGraph, TaskKind, Root, Child, Continues, WhenAll, WhenAny, task, kind, body, options, some_in, IsParent}
 use Rattle.tpl_model.specs.Rules.{token_requested_by}
 use Rattle.tpl_model.specs.Valid.{IsGraph}
+use Rattle.tpl_model.specs.declared.ids.TaskId.{TaskId}
 use Rattle.tpl_model.specs.declared.claim.Property.{Property}
 use Rattle.tpl_model.specs.declared.claim.Property.TheVariants.{Final as EndsIn, After, Observed, Never, Excludes, Runs}
 use Rattle.tpl_model.specs.declared.fault.Rule.TheVariants.{K1, K2, K3, K6}
@@ -336,7 +337,7 @@ some_decided : (o : Option Knowledge) → Decides (not (is_some o)) (o ≡ None)
 some_decided None = (λ e. refl, λ e. refl)
 some_decided (Some k) = (λ e. true_false (sym e), λ e. absurd (cc))
 
-wide_proves_lem : (paths : PathLaws) (g : TaskGraph) (l : WideAssumed) (rows : List WideRow) (p : Property) → Decides (wide_proves g l rows p) (WidelyProves g l rows p)
+wide_proves_lem : (paths : PathLaws) (g : TaskGraph) (l : WideAssumed) (rows : List WideRow) (p : Property TaskId) → Decides (wide_proves g l rows p) (WidelyProves g l rows p)
 wide_proves_lem paths g l rows (Observed t) =
     let thrown = at_throw (reading g l rows t.0) (asked_of rows t.0) (body g t.0) in
     let faulted = has (row (plain rows) t.0).ends Faulted in
@@ -352,7 +353,7 @@ wide_proves_lem paths g l rows (Never t) = proves_lem paths g l.assumed (plain r
 wide_proves_lem paths g l rows (Excludes a b) = proves_lem paths g l.assumed (plain rows) (Excludes a b)
 wide_proves_lem paths g l rows (Runs t) = proves_lem paths g l.assumed (plain rows) (Runs t)
 
-pub wide_leaf_lem : (paths : PathLaws) (g : TaskGraph) (p : Property) (l : WideAssumed) (rows : List WideRow) → IsGraph g → Clears (wide_leaf_fault g p l rows) (WidelyClosed g l rows × WidelyProves g l rows p)
+pub wide_leaf_lem : (paths : PathLaws) (g : TaskGraph) (p : Property TaskId) (l : WideAssumed) (rows : List WideRow) → IsGraph g → Clears (wide_leaf_fault g p l rows) (WidelyClosed g l rows × WidelyProves g l rows p)
 wide_leaf_lem paths g p l rows valid =
     clear_means (((x : ℕ) → 0 ≤ x → x < 0 + length g.tasks → IsWidelyClosed g l rows x) × (WidelyProves g l rows p × Unit {0})) (WidelyClosed g l rows × WidelyProves g l rows p) (wide_leaf_fault g p l rows)
     (clear_or_else ((x : ℕ) → 0 ≤ x → x < 0 + length g.tasks → IsWidelyClosed g l rows x) (WidelyProves g l rows p × Unit {0}) (wide_first_broken g l rows 0 (length g.tasks)) (unless (wide_proves g l rows p) ProvesNot None)

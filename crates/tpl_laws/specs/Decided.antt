@@ -7,6 +7,7 @@ use Rattle.tpl_model.specs.Graph.{TaskGraph, kind, IsParent}
 use Rattle.tpl_model.specs.declared.event.Event.{Event}
 use Rattle.tpl_model.specs.Rules.{Run}
 use Rattle.tpl_model.specs.Valid.{IsGraph}
+use Rattle.tpl_model.specs.declared.ids.TaskId.{TaskId}
 use Rattle.tpl_model.specs.declared.claim.Property.{Property}
 use Rattle.tpl_model.specs.Claims.{Claim, Holds}
 use Rattle.tpl_model.specs.Certificate.{Row, row, Tree, Assumed, end_left, RunsRule, MayEndAs, BeforeRule, PastRule, IsBelow, ChainRule, IsClosed, Closed, Proves, Accepts}
@@ -62,7 +63,7 @@ FirstBrokenIsRight = (g : TaskGraph) (l : Assumed) (rows : List Row) → IsGraph
 
 -- the test of what a closed leaf proves passes just where it proves the claim
 abbrev pub ProvesIsRight : Type 0
-ProvesIsRight = (g : TaskGraph) (l : Assumed) (rows : List Row) (p : Property) → (proves g l rows p ≡ true) ↔ Proves g l rows p
+ProvesIsRight = (g : TaskGraph) (l : Assumed) (rows : List Row) (p : Property TaskId) → (proves g l rows p ≡ true) ↔ Proves g l rows p
 
 -- there is no fault just where the certificate is accepted
 abbrev pub VerdictIsRight : Type 0

@@ -11,6 +11,7 @@ use Rattle.tpl_model.specs.Rules.{Allows, Run, Complete}
 use Rattle.tpl_model.specs.Valid.{IsGraph}
 use Rattle.tpl_model.specs.declared.claim.Given.{Given}
 use Rattle.tpl_model.specs.declared.claim.Given.TheVariants.{Input, Quiet, Ended, Succeeds}
+use Rattle.tpl_model.specs.declared.ids.TaskId.{TaskId}
 use Rattle.tpl_model.specs.declared.claim.Property.{Property}
 use Rattle.tpl_model.specs.declared.claim.Property.TheVariants.{Final as EndsIn, After, Observed, Never, Excludes, Runs}
 use Rattle.tpl_model.specs.Certificate.{same, given_sure}
@@ -49,7 +50,7 @@ or_now None now n = if now then Some n else None
 or_now (Some p) now n = Some p
 
 -- where a property that isn't true of the run was lost. A run is complete from its place `complete` on
-abbrev pub lost_at : TaskGraph → List Bool → List Event → Option ℕ → Property → Option ℕ
+abbrev pub lost_at : TaskGraph → List Bool → List Event → Option ℕ → Property TaskId → Option ℕ
 lost_at g v h complete (EndsIn t ends) = place_of (ending g v h t.0)
 lost_at g v h complete (After a b) = began_at h b.0
 lost_at g v h complete (Observed t) = complete
@@ -58,7 +59,7 @@ lost_at g v h complete (Excludes a b) = later_of (began_at h a.0) (began_at h b.
 lost_at g v h complete (Runs t) = complete
 
 -- the place from which on a property isn't true of the run
-abbrev pub fails_from : TaskGraph → List Bool → List Event → Option ℕ → Property → Option ℕ
+abbrev pub fails_from : TaskGraph → List Bool → List Event → Option ℕ → Property TaskId → Option ℕ
 fails_from g v h complete p = if holds_of g v h p then None else lost_at g v h complete p
 
 -- the places from which tokens are requested, and those from which jobs have failed

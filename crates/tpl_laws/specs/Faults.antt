@@ -6,6 +6,7 @@ use Rattle.tpl_model.specs.Finals.{has}
 use Rattle.tpl_model.specs.Members.{mem}
 use Rattle.tpl_model.specs.Graph.{TaskGraph, kind, is_task}
 use Rattle.tpl_model.specs.Valid.{IsGraph}
+use Rattle.tpl_model.specs.declared.ids.TaskId.{TaskId}
 use Rattle.tpl_model.specs.declared.claim.Property.{Property}
 use Rattle.tpl_model.specs.Claims.{Claim}
 use Rattle.tpl_model.specs.Certificate.{Row, row, Tree, SplitInput, SplitEnd, Leaf, Assumed, end_left, assumed_for, with_input, with_end, RunsRule, MayEndAs, BeforeRule, PastRule, ChainRule, IsClosed, Closed, Proves, IdsOfRows, Accepts}
@@ -58,12 +59,12 @@ leaves_of l (Leaf rows) = record { assumes = l; rows = rows } ∷ []
 
 -- a leaf fails: the row of this task breaks this rule, and those of the tasks before it break none; or it is closed and
 -- doesn't prove the claim
-abbrev pub LeafFails : TaskGraph → Property → Branch → LeafFault → Type 0
+abbrev pub LeafFails : TaskGraph → Property TaskId → Branch → LeafFault → Type 0
 LeafFails g p b (Breaks t rule) = is_task g t × ((x : ℕ) → x < t → IsClosed g b.assumes b.rows x) × BreaksRule g b.assumes b.rows t rule
 LeafFails g p b ProvesNot = Closed g b.assumes b.rows × (Proves g b.assumes b.rows p → ⊥)
 
 -- each of these leaves is closed and proves the claim
-abbrev pub EachProves : TaskGraph → Property → List Branch → Type 0
+abbrev pub EachProves : TaskGraph → Property TaskId → List Branch → Type 0
 EachProves g p [] = Unit {0}
 EachProves g p (b ∷ bs) = (Closed g b.assumes b.rows × Proves g b.assumes b.rows p) × EachProves g p bs
 
@@ -73,7 +74,7 @@ place claim leaf (Breaks t rule) = NotClosed claim leaf (record { 0 = t }) rule
 place claim leaf ProvesNot = ClaimNot claim leaf
 
 -- one of these leaves fails, and those before it are closed and prove the claim; the first of them has the number n
-pub record LeavesFail (g : TaskGraph) (p : Property) (claim : ℕ) (n : ℕ) (bs : List Branch) (fault : CertFault) : Type 0 where
+pub record LeavesFail (g : TaskGraph) (p : Property TaskId) (claim : ℕ) (n : ℕ) (bs : List Branch) (fault : CertFault) : Type 0 where
   pub earlier : List Branch
   pub branch : Branch
   pub later : List Branch

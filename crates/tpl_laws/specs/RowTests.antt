@@ -7,6 +7,7 @@ use Rattle.tpl_model.specs.Options.{allows, lazy_cancellation}
 use Rattle.tpl_model.specs.Members.{mem}
 use Rattle.tpl_model.specs.Statements.{starts}
 use Rattle.tpl_model.specs.Graph.{TaskGraph, TaskKind, Root, Child, Continues, WhenAll, WhenAny, task, kind, body, options, attached, some_in}
+use Rattle.tpl_model.specs.declared.ids.TaskId.{TaskId}
 use Rattle.tpl_model.specs.declared.claim.Property.{Property}
 use Rattle.tpl_model.specs.declared.claim.Property.TheVariants.{Final as EndsIn, After, Observed, Never, Excludes, Runs}
 use Rattle.tpl_model.specs.Certificate.{Row, row, Assumed, end_left, is_loud, view, may_end_early, may_end, may_win, begins_itself}
@@ -184,7 +185,7 @@ abbrev pub none_complete : TaskGraph → List Row → Bool
 none_complete g rows = some_below (λ x. to_end (kind g x) false && not (may_end rows x)) (length g.tasks)
 
 -- a closed leaf proves the claim
-abbrev pub proves : TaskGraph → Assumed → List Row → Property → Bool
+abbrev pub proves : TaskGraph → Assumed → List Row → Property TaskId → Bool
 proves g l rows (EndsIn t ends) = each_end (λ f. implies (has (row rows t.0).ends f) (has ends f))
 proves g l rows (After a b) = not (row rows b.0).runs || mem a.0 (row rows b.0).before
 proves g l rows (Observed t) =

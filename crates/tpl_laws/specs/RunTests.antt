@@ -10,6 +10,7 @@ use Rattle.tpl_model.specs.Rules.{final, label, seen, Settled, to_end, Complete}
 use Rattle.tpl_model.specs.Valid.{IsGraph}
 use Rattle.tpl_model.specs.declared.claim.Given.{Given}
 use Rattle.tpl_model.specs.declared.claim.Given.TheVariants.{Input, Quiet, Ended, Succeeds}
+use Rattle.tpl_model.specs.declared.ids.TaskId.{TaskId}
 use Rattle.tpl_model.specs.declared.claim.Property.{Property}
 use Rattle.tpl_model.specs.declared.claim.Property.TheVariants.{Final as EndsIn, After, Observed, Never, Excludes, Runs}
 use Rattle.tpl_model.specs.Certificate.{same}
@@ -69,7 +70,7 @@ settled_at_begin g v a b [] = true
 settled_at_begin g v a b (e ∷ h) = implies (begun_by e.act b) (is_settled g v h a) && settled_at_begin g v a b h
 
 -- what a claim says is true of a run
-abbrev pub holds_of : TaskGraph → List Bool → List Event → Property → Bool
+abbrev pub holds_of : TaskGraph → List Bool → List Event → Property TaskId → Bool
 holds_of g v h (EndsIn t ends) = ends_within ends (final g v h t.0)
 holds_of g v h (After a b) = settled_at_begin g v a.0 b.0 h
 holds_of g v h (Observed t) = implies (is_complete g v h) (implies (is_some (label g v h t.0)) (seen g v h t.0))
@@ -92,7 +93,7 @@ IsCompleteIsRight = (g : TaskGraph) (v : List Bool) (h : List Event) → (is_com
 -- the test of what a claim says passes just where it is true of the run
 abbrev pub HoldsOfIsRight : Type 0
 HoldsOfIsRight =
-    (g : TaskGraph) (v : List Bool) (h : List Event) (p : Property) → IsGraph g → (holds_of g v h p ≡ true) ↔ HoldsOf g v h p
+    (g : TaskGraph) (v : List Bool) (h : List Event) (p : Property TaskId) → IsGraph g → (holds_of g v h p ≡ true) ↔ HoldsOf g v h p
 
 -- the test of a claim passes just where it holds in the run
 abbrev pub HoldsIsRight : Type 0

@@ -6,6 +6,7 @@ use Rattle.tpl_model.specs.declared.fault.Rule.{Rule}
 use Rattle.tpl_model.specs.declared.fault.Rule.TheVariants.{K1, K2, K3, K4, K5, K6}
 use Rattle.tpl_model.specs.declared.fault.CertFault.{CertFault}
 use Rattle.tpl_model.specs.declared.fault.CertFault.TheVariants.{Shape, NotClosed, ClaimNot}
+use Rattle.tpl_model.specs.declared.ids.TaskId.{TaskId}
 use Rattle.tpl_model.specs.declared.claim.Property.{Property}
 use Rattle.tpl_model.specs.Claims.{Claim}
 use Rattle.tpl_model.specs.Certificate.{Row, Tree, SplitInput, SplitEnd, Leaf, Assumed, assumed_for, with_input, with_end}
@@ -49,7 +50,7 @@ first_broken g l rows t zero = None
 first_broken g l rows t (suc n) = or_else (breaks t (broken g l rows t)) (first_broken g l rows (suc t) n)
 
 -- the first fault of a leaf
-abbrev pub leaf_fault : TaskGraph → Property → Assumed → List Row → Option LeafFault
+abbrev pub leaf_fault : TaskGraph → Property TaskId → Assumed → List Row → Option LeafFault
 leaf_fault g p l rows = or_else (first_broken g l rows 0 (length g.tasks)) (unless (proves g l rows p) ProvesNot None)
 
 -- how many leaves a tree has
@@ -65,7 +66,7 @@ at_leaf claim leaf (Some (Breaks t rule)) = Some (NotClosed claim leaf (record {
 at_leaf claim leaf (Some ProvesNot) = Some (ClaimNot claim leaf)
 
 -- the first leaf that fails; the tree's first leaf has this number
-abbrev pub tree_fault : TaskGraph → Property → ℕ → Assumed → ℕ → Tree → Option CertFault
+abbrev pub tree_fault : TaskGraph → Property TaskId → ℕ → Assumed → ℕ → Tree → Option CertFault
 tree_fault g p claim l leaf (SplitInput i on_true on_false) =
     or_else (tree_fault g p claim (with_input l i true) leaf on_true) (tree_fault g p claim (with_input l i false) (leaf + leaves on_true) on_false)
 tree_fault g p claim l leaf (SplitEnd t ran canceled faulted) =

@@ -9,6 +9,7 @@ use Rattle.tpl_model.specs.Valid.{IsGraph}
 use Rattle.tpl_model.specs.declared.fault.CertFault.{CertFault}
 use Rattle.tpl_model.specs.declared.fault.CertFault.TheVariants.{Shape}
 use Rattle.tpl_model.specs.declared.claim.Property.{Property}
+use Rattle.tpl_model.specs.declared.ids.TaskId.{TaskId}
 use Rattle.tpl_model.specs.Claims.{Claim, Holds}
 use Rattle.tpl_model.specs.WiderRules.{WideRow, plain, WideAssumed, narrowed, WideTree, OnInput, OnEnd, OnWinner, WideLeaf, input_split, end_split, winner_split, AcceptsWideTree, widely_assumed, WidelyAccepts}
 use Rattle.tpl_laws.specs.RowTests.{all_in}
@@ -24,7 +25,7 @@ wide_leaves (OnWinner n x on_yes on_no) = wide_leaves on_yes + wide_leaves on_no
 wide_leaves (WideLeaf rows) = 1
 
 -- the first leaf that fails, where the ends that its splits left are narrowed; the tree's first leaf has this number
-abbrev pub wide_tree_fault : TaskGraph → Property → ℕ → WideAssumed → ℕ → WideTree → Option CertFault
+abbrev pub wide_tree_fault : TaskGraph → Property TaskId → ℕ → WideAssumed → ℕ → WideTree → Option CertFault
 wide_tree_fault g p claim l leaf (OnInput i on_true on_false) =
     or_else (wide_tree_fault g p claim (input_split l i true) leaf on_true) (wide_tree_fault g p claim (input_split l i false) (leaf + wide_leaves on_true) on_false)
 wide_tree_fault g p claim l leaf (OnEnd t ran canceled faulted) =
@@ -75,7 +76,7 @@ wide_verdict g claims trees = no_fault (or_else (wide_misfit g 1 claims trees) (
 -- a tree fits and has no fault just where it is accepted
 abbrev pub WideTreeIsRight : Type 0
 WideTreeIsRight =
-    (g : TaskGraph) (p : Property) (claim : ℕ) (l : WideAssumed) (leaf : ℕ) (tree : WideTree) → IsGraph g
+    (g : TaskGraph) (p : Property TaskId) (claim : ℕ) (l : WideAssumed) (leaf : ℕ) (tree : WideTree) → IsGraph g
     → ((wide_fits g tree ≡ true) × (wide_tree_fault g p claim l leaf tree ≡ None)) ↔ AcceptsWideTree g p l tree
 
 -- there is no fault just where the certificate is accepted

@@ -2,6 +2,7 @@
 use Rattle.std.specs.Prelude.{◌≡◌, ℕ, Bool, true, false, List}
 use Rattle.tpl_model.specs.declared.finals.Final.{Final}
 use Rattle.tpl_model.specs.Graph.{TaskGraph}
+use Rattle.tpl_model.specs.declared.ids.TaskId.{TaskId}
 use Rattle.tpl_model.specs.declared.claim.Property.{Property}
 use Rattle.tpl_model.specs.Claims.{Claim}
 use Rattle.tpl_model.specs.Certificate.{Row, Tree, Assumed, Closed, Proves, Accepts}
@@ -19,7 +20,7 @@ pub record AssumesMore (l m : Assumed) : Type 0 where
 abbrev pub MoreIsAssumed : Type 0
 MoreIsAssumed =
     (g : TaskGraph) (l m : Assumed) (rows : List Row) → AssumesMore l m → Closed g l rows
-    → Closed g m rows × ((p : Property) → Proves g l rows p → Proves g m rows p)
+    → Closed g m rows × ((p : Property TaskId) → Proves g l rows p → Proves g m rows p)
 
 -- the wider rules accept what the others do
 abbrev pub WiderAccepts : Type 0

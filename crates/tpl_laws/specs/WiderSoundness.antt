@@ -9,6 +9,7 @@ use Rattle.tpl_model.specs.declared.event.Event.{Event}
 use Rattle.tpl_model.specs.Facts.{begun, begun_by, requested, ending}
 use Rattle.tpl_model.specs.Rules.{final, label, seen, Run, Settled, Complete}
 use Rattle.tpl_model.specs.Valid.{IsGraph}
+use Rattle.tpl_model.specs.declared.ids.TaskId.{TaskId}
 use Rattle.tpl_model.specs.declared.claim.Property.{Property}
 use Rattle.tpl_model.specs.Claims.{Claim, Holds}
 use Rattle.tpl_model.specs.Certificate.{Row, row, Tree, Closed, Proves, Accepts}
@@ -49,7 +50,7 @@ WideSoundness =
 abbrev pub TokensAreMore : Type 0
 TokensAreMore =
     (g : TaskGraph) (l : WideAssumed) (rows : List Row) → Closed g l.assumed rows
-    → WidelyClosed g l (as_wide rows) × ((p : Property) → Proves g l.assumed rows p → WidelyProves g l (as_wide rows) p)
+    → WidelyClosed g l (as_wide rows) × ((p : Property TaskId) → Proves g l.assumed rows p → WidelyProves g l (as_wide rows) p)
 
 -- a certificate that is accepted without tokens is accepted with them
 abbrev pub TokensAcceptMore : Type 0

@@ -9,6 +9,7 @@ use Rattle.tpl_model.specs.Knowledge.{Fact, IsSettled, IsRequested, Knowledge, a
 use Rattle.tpl_model.specs.Graph.{TaskGraph, TaskKind, Root, Child, Continues, WhenAll, WhenAny, task, kind, body, options, some_in}
 use Rattle.tpl_model.specs.Rules.{token_requested_by}
 use Rattle.tpl_model.specs.Valid.{IsGraph}
+use Rattle.tpl_model.specs.declared.ids.TaskId.{TaskId}
 use Rattle.tpl_model.specs.declared.claim.Property.{Property}
 use Rattle.tpl_model.specs.declared.claim.Property.TheVariants.{Observed}
 use Rattle.tpl_model.specs.declared.fault.Rule.{Rule}
@@ -149,7 +150,7 @@ wide_broken g l rows t =
     (unless (wide_chain g l t (row (plain rows) t).chain) K6 None))))
 
 -- a closed leaf proves the claim
-abbrev pub wide_proves : TaskGraph → WideAssumed → List WideRow → Property → Bool
+abbrev pub wide_proves : TaskGraph → WideAssumed → List WideRow → Property TaskId → Bool
 wide_proves g l rows (Observed t) =
     not (is_none (row (plain rows) t.0).chain)
     || (not (has (row (plain rows) t.0).ends Faulted)
@@ -163,7 +164,7 @@ wide_first_broken g l rows t zero = None
 wide_first_broken g l rows t (suc n) = or_else (breaks t (wide_broken g l rows t)) (wide_first_broken g l rows (suc t) n)
 
 -- the first fault of a leaf
-abbrev pub wide_leaf_fault : TaskGraph → Property → WideAssumed → List WideRow → Option LeafFault
+abbrev pub wide_leaf_fault : TaskGraph → Property TaskId → WideAssumed → List WideRow → Option LeafFault
 wide_leaf_fault g p l rows = or_else (wide_first_broken g l rows 0 (length g.tasks)) (unless (wide_proves g l rows p) ProvesNot None)
 
 -- the row of a task breaks no rule just where it keeps them all
@@ -173,5 +174,5 @@ WideBrokenIsRight = (g : TaskGraph) (l : WideAssumed) (rows : List WideRow) (t :
 -- a leaf has no fault just where it is closed and proves the claim
 abbrev pub WideLeafIsRight : Type 0
 WideLeafIsRight =
-    (g : TaskGraph) (p : Property) (l : WideAssumed) (rows : List WideRow) → IsGraph g
+    (g : TaskGraph) (p : Property TaskId) (l : WideAssumed) (rows : List WideRow) → IsGraph g
     → (wide_leaf_fault g p l rows ≡ None) ↔ (WidelyClosed g l rows × WidelyProves g l rows p)

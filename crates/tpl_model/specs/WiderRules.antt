@@ -11,6 +11,7 @@ use Rattle.tpl_model.specs.Graph.{TaskGraph, TaskKind, Root, Child, Continues, W
 use Rattle.tpl_model.specs.declared.event.Event.{Event}
 use Rattle.tpl_model.specs.Facts.{winner_of, ending}
 use Rattle.tpl_model.specs.Rules.{token_requested_by}
+use Rattle.tpl_model.specs.declared.ids.TaskId.{TaskId}
 use Rattle.tpl_model.specs.declared.claim.Property.{Property}
 use Rattle.tpl_model.specs.declared.claim.Property.TheVariants.{Observed}
 use Rattle.tpl_model.specs.Claims.{Claim}
@@ -245,7 +246,7 @@ abbrev pub WidelyClosed : TaskGraph → WideAssumed → List WideRow → Type 0
 WidelyClosed g l rows = (t : ℕ) → is_task g t → IsWidelyClosed g l rows t
 
 -- a closed leaf proves a claim
-abbrev pub WidelyProves : TaskGraph → WideAssumed → List WideRow → Property → Type 0
+abbrev pub WidelyProves : TaskGraph → WideAssumed → List WideRow → Property TaskId → Type 0
 WidelyProves g l rows (Observed t) =
     ((row (plain rows) t.0).chain ≡ [] → ⊥)
     ⊎ (has (row (plain rows) t.0).ends Faulted ≡ false)
@@ -311,7 +312,7 @@ MayHaveWinner (WhenAny args) x = mem x args ≡ true
 MayHaveWinner kind x = ⊥
 
 -- each leaf of the tree is closed and proves the claim, where the ends that its splits left are narrowed
-abbrev pub AcceptsWideTree : TaskGraph → Property → WideAssumed → WideTree → Type 0
+abbrev pub AcceptsWideTree : TaskGraph → Property TaskId → WideAssumed → WideTree → Type 0
 AcceptsWideTree g p l (OnInput i on_true on_false) =
     (i < g.inputs) × AcceptsWideTree g p (input_split l i true) on_true × AcceptsWideTree g p (input_split l i false) on_false
 AcceptsWideTree g p l (OnEnd t ran canceled faulted) =

@@ -4,12 +4,14 @@ use Rattle.std.specs.Str.{bytes_eq}
 use Rattle.serde_json.specs.Data.{Data, string, object}
 use Rattle.serde_json.specs.Find.{get, as_str}
 use Rattle.tpl_model.specs.declared.finals.Finals.{Finals}
+use Rattle.tpl_model.specs.declared.claim.Property.{Property}
+use Rattle.tpl_model.specs.declared.claim.Property.TheVariants.{Final as EndsIn, After, Observed, Never, Excludes, Runs}
 use Rattle.tpl_json.specs.Members.{◌>>=◌, ◌<$>◌, ◌<*>◌, object_of, has_member, text_in, bool_in, list_in, list_or_none, each}
 use Rattle.tpl_json.specs.Finals.{no_finals, finals_at}
 use Rattle.tpl_parts.specs.declared.version.Version.{Version}
 use Rattle.tpl_parts.specs.Versions.{is_third, claim_remarks}
 use Rattle.tpl_parts.specs.Remarks.{claim_name, note_at}
-use Rattle.tpl_parts.specs.NamedClaims.{NamedGiven, GivenInput, GivenQuiet, GivenEnded, GivenSucceeds, GivenNoFailure, GivenNoRequest, NamedProperty, EndsIn, After, Observed, Never, Excludes, Runs, NamedClaim}
+use Rattle.tpl_parts.specs.NamedClaims.{NamedGiven, GivenInput, GivenQuiet, GivenEnded, GivenSucceeds, GivenNoFailure, GivenNoRequest, NamedClaim}
 
 -- the names of one final status at least
 unfoldable pub some_finals : List Data → Option Finals
@@ -26,7 +28,7 @@ two_texts (a ∷ b ∷ []) = (λ first second. (first, second)) <$> as_str a <*>
 two_texts ds = None
 
 -- the two names of a member, in what they are said of
-abbrev pub pair_in : (List ℕ → List ℕ → NamedProperty) → List ℕ → Data → Option NamedProperty
+abbrev pub pair_in : (List ℕ → List ℕ → Property (List ℕ)) → List ℕ → Data → Option (Property (List ℕ))
 pair_in made name d = (λ pair. made pair.0 pair.1) <$> (get name d >>= list_in >>= two_texts)
 
 -- ---- what a claim takes as given
@@ -72,31 +74,31 @@ given_at version d =
 -- ---- what a claim says, beside what it takes as given, its name and its note
 
 -- {"final": task, "in": final statuses}
-unfoldable pub final_claim : Version → Data → Option NamedProperty
+unfoldable pub final_claim : Version → Data → Option (Property (List ℕ))
 final_claim version d = object_of (codes "given" ∷ codes "final" ∷ codes "in" ∷ claim_remarks version) d ((λ task finals. EndsIn task finals) <$> text_in (codes "final") d <*> finals_in d)
 
 -- {"after": [first task, second task]}
-unfoldable pub after_claim : Version → Data → Option NamedProperty
+unfoldable pub after_claim : Version → Data → Option (Property (List ℕ))
 after_claim version d = object_of (codes "given" ∷ codes "after" ∷ claim_remarks version) d (pair_in (λ first second. After first second) (codes "after") d)
 
 -- {"observed": task}
-unfoldable pub observed_claim : Version → Data → Option NamedProperty
+unfoldable pub observed_claim : Version → Data → Option (Property (List ℕ))
 observed_claim version d = object_of (codes "given" ∷ codes "observed" ∷ claim_remarks version) d (Observed <$> text_in (codes "observed") d)
 
 -- {"never": task}
-unfoldable pub never_claim : Version → Data → Option NamedProperty
+unfoldable pub never_claim : Version → Data → Option (Property (List ℕ))
 never_claim version d = object_of (codes "given" ∷ codes "never" ∷ claim_remarks version) d (Never <$> text_in (codes "never") d)
 
 -- {"excludes": [task, task]}
-unfoldable pub excludes_claim : Version → Data → Option NamedProperty
+unfoldable pub excludes_claim : Version → Data → Option (Property (List ℕ))
 excludes_claim version d = object_of (codes "given" ∷ codes "excludes" ∷ claim_remarks version) d (pair_in (λ first second. Excludes first second) (codes "excludes") d)
 
 -- {"runs": task}, only in version 3
-unfoldable pub runs_claim : Version → Data → Option NamedProperty
+unfoldable pub runs_claim : Version → Data → Option (Property (List ℕ))
 runs_claim version d = if is_third version then object_of (codes "given" ∷ codes "runs" ∷ claim_remarks version) d (Runs <$> text_in (codes "runs") d) else None
 
 -- the first of these members that is there says which claim it is
-unfoldable pub property_at : Version → Data → Option NamedProperty
+unfoldable pub property_at : Version → Data → Option (Property (List ℕ))
 property_at version d =
     if has_member (codes "final") d then final_claim version d
     else if has_member (codes "after") d then after_claim version d

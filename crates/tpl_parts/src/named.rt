@@ -1,7 +1,7 @@
 //! Claims, and where a run starts, as they are spelled: with names of the document.
 
 use json::Value;
-use tpl_model::Finals;
+use tpl_model::{Finals, Property};
 
 /// What a claim takes as given.
 #[derive(Clone, Copy)]
@@ -20,22 +20,8 @@ pub enum NamedGiven<'v> {
     NoRequest,
 }
 
-/// What a claim says.
-#[derive(Clone, Copy)]
-pub enum NamedProperty<'v> {
-    /// The task ends in one of these ways.
-    Final(&'v str, Finals),
-    /// The second task begins only after the first is settled.
-    After(&'v str, &'v str),
-    /// The exception of the task's body is observed.
-    Observed(&'v str),
-    /// The task never begins.
-    Never(&'v str),
-    /// The two tasks don't both begin.
-    Excludes(&'v str, &'v str),
-    /// The task begins.
-    Runs(&'v str),
-}
+/// What a claim says, of tasks by their names.
+pub type NamedProperty<'v> = Property<&'v str>;
 
 /// A claim.
 #[derive(Drop)]

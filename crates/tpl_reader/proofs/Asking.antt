@@ -15,14 +15,14 @@ use Rattle.tpl_cert.proofs.Names.{number_below}
 use Rattle.tpl_cert.specs.Naming.{number_of}
 use Rattle.tpl_graph.specs.Kept.{IsNamedGraph}
 use Rattle.tpl_model.specs.declared.claim.Given.TheVariants as givens
-use Rattle.tpl_model.specs.declared.claim.Property.TheVariants as property
+use Rattle.tpl_model.specs.declared.claim.Property.{Property}
+use Rattle.tpl_model.specs.declared.claim.Property.TheVariants.{Final as EndsIn, After, Observed, Never, Excludes, Runs}
 use Rattle.std.specs.List.{list_any}
 use Rattle.tpl_model.specs.declared.claim.Given.{Given}
-use Rattle.tpl_model.specs.declared.claim.Property.{Property}
 use Rattle.tpl_model.specs.Claims.{Claim}
 use Rattle.tpl_draft.specs.Named.{Names, Named}
 use Rattle.tpl_graph.specs.Fits.{IsGivenOf, TasksOf, have_bodies, is_of_one_thing, given_again, given_twice}
-use Rattle.tpl_parts.specs.NamedClaims.{NamedGiven, GivenInput, GivenQuiet, GivenEnded, GivenSucceeds, GivenNoFailure, GivenNoRequest, NamedProperty, EndsIn, After, Observed, Never, Excludes, Runs, NamedClaim}
+use Rattle.tpl_parts.specs.NamedClaims.{NamedGiven, GivenInput, GivenQuiet, GivenEnded, GivenSucceeds, GivenNoFailure, GivenNoRequest, NamedClaim}
 use Rattle.tpl_json.specs.declared.miss.Miss.{Miss}
 use Rattle.tpl_json.specs.declared.miss.Miss.TheVariants as miss
 use Rattle.tpl_reader.specs.declared.fault.ClaimFault.{ClaimFault}
@@ -52,7 +52,7 @@ pub second_false : (a b : Bool) → (a || b) ≡ false → b ≡ false
 second_false true b e = absurd cc
 second_false false b e = e
 
-pub named_claim : (n : Names) (s : NamedClaim) (singles : List Given) (body : Property) → AreSingles n s.given singles → property_in n s.body ≡ Some body → IsClaimOf n s (record { given = with_all n s.given singles; body = body })
+pub named_claim : (n : Names) (s : NamedClaim) (singles : List Given) (body : Property TaskId) → AreSingles n s.given singles → property_in n s.body ≡ Some body → IsClaimOf n s (record { given = with_all n s.given singles; body = body })
 named_claim n s singles body e f = record { singles = singles; are_singles = e; given = refl; body = f }
 
 -- ---- the ids that the names stand for are the graph's
@@ -86,24 +86,24 @@ pair_is (Some a) (Some b) p e = (ap (λ (x : TaskId × TaskId). some x.0) (some_
 pair_is (Some a) None p e = absurd cc
 pair_is None b p e = absurd cc
 
-one_task : (g : Named) → IsNamedGraph g → (name : List ℕ) (f : TaskId → Property) (body : Property) → ((t : TaskId) → t.0 < length g.graph.tasks → TasksOf g.graph (f t)) → option_map f (task_in g.names name) ≡ Some body → TasksOf g.graph body
+one_task : (g : Named) → IsNamedGraph g → (name : List ℕ) (f : TaskId → Property TaskId) (body : Property TaskId) → ((t : TaskId) → t.0 < length g.graph.tasks → TasksOf g.graph (f t)) → option_map f (task_in g.names name) ≡ Some body → TasksOf g.graph body
 one_task g is name f body ok e =
     let a = mapped f (task_in g.names name) body e in
-    subst (λ (x : Property). TasksOf g.graph x) a.2 (ok a.0 (let lt = task_below g.names name a.0 a.1 in omega (arith, is.tasks)))
+    subst (λ (x : Property TaskId). TasksOf g.graph x) a.2 (ok a.0 (let lt = task_below g.names name a.0 a.1 in omega (arith, is.tasks)))
 
-two_tasks : (g : Named) → IsNamedGraph g → (x y : List ℕ) (f : TaskId × TaskId → Property) (body : Property) → ((p : TaskId × TaskId) → p.0.0 < length g.graph.tasks → p.1.0 < length g.graph.tasks → TasksOf g.graph (f p)) → option_map f (pair_in (task_in g.names x) (task_in g.names y)) ≡ Some body → TasksOf g.graph body
+two_tasks : (g : Named) → IsNamedGraph g → (x y : List ℕ) (f : TaskId × TaskId → Property TaskId) (body : Property TaskId) → ((p : TaskId × TaskId) → p.0.0 < length g.graph.tasks → p.1.0 < length g.graph.tasks → TasksOf g.graph (f p)) → option_map f (pair_in (task_in g.names x) (task_in g.names y)) ≡ Some body → TasksOf g.graph body
 two_tasks g is x y f body ok e =
     let a = mapped f (pair_in (task_in g.names x) (task_in g.names y)) body e in
     let p = pair_is (task_in g.names x) (task_in g.names y) a.0 a.1 in
-    subst (λ (z : Property). TasksOf g.graph z) a.2 (ok a.0 (let lt = task_below g.names x a.0.0 p.0 in omega (arith, is.tasks)) (let lt = task_below g.names y a.0.1 p.1 in omega (arith, is.tasks)))
+    subst (λ (z : Property TaskId). TasksOf g.graph z) a.2 (ok a.0 (let lt = task_below g.names x a.0.0 p.0 in omega (arith, is.tasks)) (let lt = task_below g.names y a.0.1 p.1 in omega (arith, is.tasks)))
 
-tasks_are : (g : Named) → IsNamedGraph g → (s : NamedProperty) (body : Property) → property_in g.names s ≡ Some body → TasksOf g.graph body
-tasks_are g is (EndsIn task finals) body e = one_task g is task (λ t. property.Final t finals) body (λ t lt. lt) e
-tasks_are g is (After a b) body e = two_tasks g is a b (λ p. property.After p.0 p.1) body (λ p l m. (l, m)) e
-tasks_are g is (Observed task) body e = one_task g is task property.Observed body (λ t lt. lt) e
-tasks_are g is (Never task) body e = one_task g is task property.Never body (λ t lt. lt) e
-tasks_are g is (Excludes a b) body e = two_tasks g is a b (λ p. property.Excludes p.0 p.1) body (λ p l m. (l, m)) e
-tasks_are g is (Runs task) body e = one_task g is task property.Runs body (λ t lt. lt) e
+tasks_are : (g : Named) → IsNamedGraph g → (s : Property (List ℕ)) (body : Property TaskId) → property_in g.names s ≡ Some body → TasksOf g.graph body
+tasks_are g is (EndsIn task finals) body e = one_task g is task (λ t. EndsIn t finals) body (λ t lt. lt) e
+tasks_are g is (After a b) body e = two_tasks g is a b (λ p. After p.0 p.1) body (λ p l m. (l, m)) e
+tasks_are g is (Observed task) body e = one_task g is task Observed body (λ t lt. lt) e
+tasks_are g is (Never task) body e = one_task g is task Never body (λ t lt. lt) e
+tasks_are g is (Excludes a b) body e = two_tasks g is a b (λ p. Excludes p.0 p.1) body (λ p l m. (l, m)) e
+tasks_are g is (Runs task) body e = one_task g is task Runs body (λ t lt. lt) e
 
 -- there are as many sites as names of sites
 sites_named : (g : Named) → IsNamedGraph g → length (all_sites g.graph) ≡ length g.names.sites
@@ -211,7 +211,7 @@ all_fit g is said given all =
     either_fits g (list_any is_no_request said) (with_tokens (length g.names.tokens) (with_all_jobs g.names said given)) (with_all_jobs g.names said given)
     (tokens_fit g (length g.names.tokens) (with_all_jobs g.names said given) (omega arith) jobs) jobs
 
-pub asked : (g : Named) (s : NamedClaim) (claim : Claim) (singles : List Given) (body : Property) → IsNamedGraph g → AreSingles g.names s.given singles → property_in g.names s.body ≡ Some body → have_bodies g.graph body ≡ true
+pub asked : (g : Named) (s : NamedClaim) (claim : Claim) (singles : List Given) (body : Property TaskId) → IsNamedGraph g → AreSingles g.names s.given singles → property_in g.names s.body ≡ Some body → have_bodies g.graph body ≡ true
     → given_twice singles ≡ false → says_twice s.given ≡ false → claim.given ≡ with_all g.names s.given singles → claim.body ≡ body → IsAsked g s claim
 asked g s claim singles body is e f bodies once said eg eb =
     let all = all_fit g is s.given singles (givens_are g is (filter is_single s.given) singles e) in

@@ -4,6 +4,7 @@ use Rattle.std.specs.Prelude.{slice_index_or}
 use Rattle.tpl_cert.proofs.OneTree.{chain_same}
 use Rattle.serde_json.specs.Data.{Data}
 use Rattle.tpl_model.specs.declared.claim.Given.{Given}
+use Rattle.tpl_model.specs.declared.ids.TaskId.{TaskId}
 use Rattle.tpl_model.specs.declared.claim.Property.{Property}
 use Rattle.tpl_model.specs.Claims.{Claim}
 use Rattle.tpl_draft.specs.Named.{Names, Named}
@@ -50,10 +51,10 @@ somes_same (x ∷ xs) (y ∷ ys) e =
     cons_same x y xs ys (some_is x y (head_is (Some x) (Some y) (map (λ x. Some x) xs) (map (λ x. Some x) ys) e))
     (somes_same xs ys (tail_is (Some x) (Some y) (map (λ x. Some x) xs) (map (λ x. Some x) ys) e))
 
-abbrev claim_with : List Given → Property → Claim
+abbrev claim_with : List Given → Property TaskId → Claim
 claim_with given body = record { given = given; body = body }
 
-claim_parts : (a b : List Given) (c d : Property) → a ≡ b → c ≡ d → claim_with a c ≡ claim_with b d
+claim_parts : (a b : List Given) (c d : Property TaskId) → a ≡ b → c ≡ d → claim_with a c ≡ claim_with b d
 claim_parts a b c d e f = rw (e, f) refl
 
 pub singles_same : (n : Names) (s : NamedClaim) (x y : Claim) (p : IsClaimOf n s x) (q : IsClaimOf n s y) → p.singles ≡ q.singles

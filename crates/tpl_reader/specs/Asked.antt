@@ -9,12 +9,12 @@ use Rattle.tpl_model.specs.declared.ids.SiteId.{SiteId}
 use Rattle.tpl_model.specs.declared.claim.Given.{Given}
 use Rattle.tpl_model.specs.declared.claim.Given.TheVariants.{Input, Quiet, Ended, Succeeds}
 use Rattle.tpl_model.specs.declared.claim.Property.{Property}
-use Rattle.tpl_model.specs.declared.claim.Property.TheVariants as property
+use Rattle.tpl_model.specs.declared.claim.Property.TheVariants.{Final as EndsIn, After, Observed, Never, Excludes, Runs}
 use Rattle.tpl_model.specs.Claims.{Claim}
 use Rattle.tpl_graph.specs.Fits.{have_bodies, is_of_one_thing, given_twice, Fits}
 use Rattle.tpl_draft.specs.Named.{Names, Named}
 use Rattle.tpl_cert.specs.Naming.{number_of}
-use Rattle.tpl_parts.specs.NamedClaims.{NamedGiven, GivenInput, GivenQuiet, GivenEnded, GivenSucceeds, GivenNoFailure, GivenNoRequest, NamedProperty, EndsIn, After, Observed, Never, Excludes, Runs, NamedClaim}
+use Rattle.tpl_parts.specs.NamedClaims.{NamedGiven, GivenInput, GivenQuiet, GivenEnded, GivenSucceeds, GivenNoFailure, GivenNoRequest, NamedClaim}
 use Rattle.tpl_json.specs.declared.miss.Miss.{Miss}
 use Rattle.tpl_json.specs.declared.miss.Miss.TheVariants as miss
 use Rattle.tpl_reader.specs.Passes.{AllRead, FirstWrong}
@@ -82,13 +82,13 @@ pair_in (Some a) (Some b) = Some (a, b)
 pair_in (Some a) None = None
 pair_in None b = None
 
-abbrev pub property_in : Names → NamedProperty → Option Property
-property_in n (EndsIn task finals) = option_map (λ t. property.Final t finals) (task_in n task)
-property_in n (After a b) = option_map (λ p. property.After p.0 p.1) (pair_in (task_in n a) (task_in n b))
-property_in n (Observed task) = option_map property.Observed (task_in n task)
-property_in n (Never task) = option_map property.Never (task_in n task)
-property_in n (Excludes a b) = option_map (λ p. property.Excludes p.0 p.1) (pair_in (task_in n a) (task_in n b))
-property_in n (Runs task) = option_map property.Runs (task_in n task)
+abbrev pub property_in : Names → Property (List ℕ) → Option (Property TaskId)
+property_in n (EndsIn task finals) = option_map (λ t. EndsIn t finals) (task_in n task)
+property_in n (After a b) = option_map (λ p. After p.0 p.1) (pair_in (task_in n a) (task_in n b))
+property_in n (Observed task) = option_map Observed (task_in n task)
+property_in n (Never task) = option_map Never (task_in n task)
+property_in n (Excludes a b) = option_map (λ p. Excludes p.0 p.1) (pair_in (task_in n a) (task_in n b))
+property_in n (Runs task) = option_map Runs (task_in n task)
 
 -- these are the single things that are given
 abbrev pub AreSingles : Names → List NamedGiven → List Given → Type 0

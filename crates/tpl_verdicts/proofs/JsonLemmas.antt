@@ -5,6 +5,7 @@ use Rattle.serde_json.specs.View.{items_of}
 use Rattle.tpl_draft.specs.Named.{Names}
 use Rattle.tpl_graph.specs.Fits.{TasksOf}
 use Rattle.tpl_model.specs.Graph.{TaskGraph, is_task}
+use Rattle.tpl_model.specs.declared.ids.TaskId.{TaskId}
 use Rattle.tpl_model.specs.declared.claim.Property.{Property}
 use Rattle.tpl_model.specs.declared.claim.Property.TheVariants.{Final as EndsIn, After, Observed, Never, Excludes, Runs}
 use Rattle.tpl_verify.specs.declared.verdict.Empty as reasons
@@ -17,7 +18,7 @@ use Rattle.tpl_json.proofs.Puts.{depth_put}
 use Rattle.tpl_verdicts.specs.Lines.{AreNumbered}
 
 -- a task whose begin a property needs is one of which it speaks
-pub needs_task : (g : TaskGraph) (body : Property) (t : ℕ) → TasksOf g body → NeedsBegin body t → is_task g t
+pub needs_task : (g : TaskGraph) (body : Property TaskId) (t : ℕ) → TasksOf g body → NeedsBegin body t → is_task g t
 needs_task g (EndsIn a ends) t tasks needs = subst (is_task g) (sym needs.0) tasks
 needs_task g (After a b) t tasks needs = subst (is_task g) (sym needs) tasks.1
 needs_task g (Observed a) t tasks needs = subst (is_task g) (sym needs) tasks

@@ -45,9 +45,9 @@ pub one_tree : (wide : Bool) (g : TaskGraph) (claim : Claim) (claims : List Clai
 one_tree wide g claim claims trees e accepted = one_tree-of wide g claim trees (subst (λ (z : List Claim). Accepts wide g z trees) e accepted)
 
 -- the same under the same given
-pub likewise : (g : TaskGraph) (other : Claim) (given : List Given) (body : Property) → other.given ≡ given → other.body ≡ body → HoldsAlways g other → HoldsAlways g (under given body)
+pub likewise : (g : TaskGraph) (other : Claim) (given : List Given) (body : Property TaskId) → other.given ≡ given → other.body ≡ body → HoldsAlways g other → HoldsAlways g (under given body)
 likewise g other given body e f always =
-    subst (λ (x : List Given). HoldsAlways g (under x body)) e (subst (λ (p : Property). HoldsAlways g (under other.given p)) f always)
+    subst (λ (x : List Given). HoldsAlways g (under x body)) e (subst (λ (p : Property TaskId). HoldsAlways g (under other.given p)) f always)
 
 -- its claim holds in each run
 pub always : (wide : Bool) (g : TaskGraph) (claim : Claim) (claims : List Claim) (trees : List Tree) → Soundness → IsGraph g → claims ≡ claim ∷ [] → Accepts wide g claims trees → HoldsAlways g claim

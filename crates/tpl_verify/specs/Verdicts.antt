@@ -31,12 +31,12 @@ pub record IsCertified (wide : Bool) (g : TaskGraph) (claim : Claim) (n : ℕ) :
   pub splits : height tree ≡ n
 
 -- a claim of another property under the same given
-abbrev pub under : List Given → Property → Claim
+abbrev pub under : List Given → Property TaskId → Claim
 under given body = record { given = given; body = body }
 
 -- the property speaks only of what comes with the begin of the task: its end by its body, what is settled before, its
 -- exception, another begin beside it
-abbrev pub NeedsBegin : Property → ℕ → Type 0
+abbrev pub NeedsBegin : Property TaskId → ℕ → Type 0
 NeedsBegin (EndsIn t ends) x = (x ≡ t.0) × ((ends.ran ≡ true) ⊎ (ends.faulted ≡ true))
 NeedsBegin (After a b) x = x ≡ b.0
 NeedsBegin (Observed t) x = x ≡ t.0
@@ -45,7 +45,7 @@ NeedsBegin (Excludes a b) x = (x ≡ a.0) ⊎ (x ≡ b.0)
 NeedsBegin (Runs t) x = ⊥
 
 -- the property lets its task end in each way
-abbrev pub EndsAnyhow : Property → Type 0
+abbrev pub EndsAnyhow : Property TaskId → Type 0
 EndsAnyhow (EndsIn t ends) = (ends.ran ≡ true) × (ends.canceled ≡ true) × (ends.faulted ≡ true)
 EndsAnyhow body = ⊥
 
