@@ -1,9 +1,9 @@
 #!/usr/bin/env python3
 """Counts what `check` costs: instructions beside those of a plain program that only reads the same bytes by Rust's
-serde_json, and the most memory that it takes.
+serde_json, and the most memory that it takes. With --explained, what each command costs with and without --explain.
 
-It wants Debian's packages valgrind and librust-serde-json-dev, and cargo. Instructions hardly differ from run to run, so one
-run is enough. It is a measurement and no test: nothing fails where a number is large.
+It wants Debian's packages valgrind and librust-serde-json-dev, and cargo; with --explained, valgrind alone. Instructions
+hardly differ from run to run, so one run is enough. It is a measurement and no test: nothing fails where a number is large.
 """
 import argparse
 import json
@@ -19,6 +19,17 @@ from harness import HERE, PROGRAM, built
 
 # where Debian's packages put the sources of Rust's crates
 REGISTRY = "/usr/share/cargo/registry"
+# each command as it is counted with and without --explain: by one thread, with few tries
+EXPLAINED = {
+    "check": ["check"],
+    "analyse": ["analyse", "--depth", "1"],
+    "verify": ["verify", "--jobs", "1", "--depth", "0", "--runs", "10"],
+    "audit": ["audit"],
+    "trace": ["trace"],
+    "draw": ["draw"],
+    "refute": ["refute", "--runs", "10"],
+    "run": ["run", "--workers", "1"],
+}
 
 
 def plain_program(folder):
@@ -68,24 +79,53 @@ def filled(document, place, element):
     return text[:at] + ",".join([one] * ((LONGEST - len(text)) // (len(one) + 1))) + text[at:]
 
 
+def small_texts():
+    """The texts of documents as long as may be that are all small objects, by name."""
+    return {name: filled(document, place, element) for name, document, place, element in small_objects()}
+
+
+def counted_texts():
+    """The texts of the counted documents, by name."""
+    return {name: text_of(sized(counted)) for name, counted in COUNTED.items()}
+
+
+def written(texts, folder):
+    """Writes each text, and gives its name, its file and how long it is."""
+    for name, text in texts.items():
+        file = pathlib.Path(folder, f"{name}.json")
+        file.write_text(text, encoding="utf-8")
+        yield name, file, file.stat().st_size
+
+
+def tell_explained(named, folder):
+    """Says of each command what it costs on each counted document and on one of 16 MB, without and with --explain."""
+    for name, file, _ in written({**counted_texts(), "rows": small_texts()["rows"]}, folder):
+        for command, words in EXPLAINED.items():
+            ways = [[named, *words], [named, *words, "--explain"]]
+            (plainly, explained), (least, most) = ([count(way, file) for way in ways] for count in (instructions, peak))
+            said = f"instructions {plainly} and {explained}, ratio {explained / plainly:.2f}, memory {least} and {most}"
+            print(f"{name}: {command}: {said}", flush=True)
+
+
+def tell_checked(named, folder):
+    """Says what `check` costs on each counted document, and what memory on those that are all small objects."""
+    plain = plain_program(folder)
+    for name, file, size in written(counted_texts(), folder):
+        least, ours = instructions([plain, file], file), instructions([named, "check"], file)
+        memory = peak([named, "check"], file)
+        print(f"{name}: {size} bytes, plain {least}, check {ours}, ratio {ours / least:.2f}, memory {memory}")
+    for name, file, size in written(small_texts(), folder):
+        memory = peak([named, "check"], file)
+        print(f"{name}: {size} bytes, memory {memory}, {memory / size:.1f} for each byte")
+
+
 def main() -> int:
     parser = argparse.ArgumentParser(description=__doc__, formatter_class=argparse.RawDescriptionHelpFormatter)
     parser.add_argument("--program", type=pathlib.Path, default=built(PROGRAM), help="the program (%(default)s)")
-    named = parser.parse_args().program
+    parser.add_argument("--explained", action="store_true", help="counts each command with and without --explain")
+    given = parser.parse_args()
     with tempfile.TemporaryDirectory() as folder:
-        plain = plain_program(folder)
-        for name, counted in COUNTED.items():
-            file = f"{folder}/{name}.json"
-            pathlib.Path(file).write_text(text_of(sized(counted)), encoding="utf-8")
-            size = os.path.getsize(file)
-            least, ours = instructions([plain, file], file), instructions([named, "check"], file)
-            memory = peak([named, "check"], file)
-            print(f"{name}: {size} bytes, plain {least}, check {ours}, ratio {ours / least:.2f}, memory {memory}")
-        for name, document, place, element in small_objects():
-            file = f"{folder}/{name}.json"
-            pathlib.Path(file).write_text(filled(document, place, element), encoding="utf-8")
-            size, memory = os.path.getsize(file), peak([named, "check"], file)
-            print(f"{name}: {size} bytes, memory {memory}, {memory / size:.1f} for each byte")
+        (tell_explained if given.explained else tell_checked)(given.program, folder)
     return 0
 
 
