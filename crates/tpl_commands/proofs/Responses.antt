@@ -12,7 +12,8 @@ use Rattle.tpl_commands.specs.Exit.{is_verdict}
 use Rattle.tpl_commands.specs.Documents.{Tells, ToDocument}
 use Rattle.tpl_commands.specs.Responding.{Answers, longest, Says, Reads, Puts, Responds}
 
-says : (answers : Answers) (input : List ℕ) (exit : Exit) (text : List ℕ) → IsTrue (is_verdict exit) → length input ≤ longest → answers input exit text → Says answers input exit text
+-- the answer to an input that isn't too long is one of those that say something of it
+pub says : (answers : Answers) (input : List ℕ) (exit : Exit) (text : List ℕ) → IsTrue (is_verdict exit) → length input ≤ longest → answers input exit text → Says answers input exit text
 says answers input Success text verdict le is = (le, is)
 says answers input Failure text verdict le is = (le, is)
 says answers input Usage text verdict le is = absurd cc

@@ -1,18 +1,16 @@
 -- The bytes that come, and the lines in them.
-use Rattle.std.proofs.Common.{◌≡◌, ℕ, zero, suc, ◌<◌, ◌≤◌, ◌+◌, ◌-◌, List, [], ◌∷◌, ◌++◌, length, take, drop, Option, Some, None, refl, sym, ap, ◌∙◌, subst, append_assoc, append-nil, length-append, inl, arith}
+use Rattle.std.proofs.Common.{◌≡◌, ℕ, zero, suc, ◌<◌, ◌≤◌, ◌+◌, ◌-◌, List, [], ◌∷◌, ◌++◌, length, take, drop, Option, Some, None, refl, sym, ap, ◌∙◌, subst, append_assoc, append-nil, length-append, arith}
 use Rattle.std.specs.Prelude.{IfSome, slice_range}
 use Rattle.std.specs.Io.KnownBytes.{Consumes, IsAtEnd, prepend_known}
 use Rattle.std.specs.List.{All}
 use Rattle.tpl_journal.proofs.CutLemmas.{lacks-append}
 use Rattle.tpl_journal.proofs.Known.{consumes_more}
-use Rattle.std.specs.Prelude.{IsTrue, string_bytes}
-use Rattle.tpl_commands.specs.declared.exit.Exit.{Exit}
-use Rattle.tpl_commands.specs.declared.exit.Exit.TheVariants.{Success, Failure, Usage, Unreadable, Memory, Device, Fault}
-use Rattle.tpl_commands.specs.Exit.{is_verdict}
+use Rattle.std.specs.Prelude.{string_bytes}
 use Rattle.std.specs.declared.alloc.Global.{Global}
 use Rattle.std.specs.declared.vec.Vec.{Vec}
-use Rattle.tpl_commands.specs.Responding.{Answers, Says, longest}
+use Rattle.tpl_commands.specs.Responding.{Answers, Says}
 use Rattle.tpl_commands.specs.declared.answer.Answer.{Answer}
+use Rattle.tpl_commands.proofs.Responses.{says}
 use Rattle.tpl_each.proofs.Breaks.{broken_push}
 use Rattle.tpl_each.specs.declared.line.Line.{Line}
 use Rattle.tpl_each.specs.declared.line.Line.TheVariants.{Whole, TooLong, Lost}
@@ -124,15 +122,6 @@ last_came (Some xs) (Some ys) lines (b ∷ input) each is some read all = record
 pub more_came : (old now new : Option (List ℕ)) (lines : List (List ℕ)) (input : List ℕ) → Consumes old now (broken lines) → Consumes now new (input ++ 10 ∷ []) → Consumes old new (broken (lines ++ input ∷ []))
 more_came old now new lines input read more =
     subst (Consumes old new) (sym (broken_push lines input)) (consumes_more old now new (broken lines) (input ++ 10 ∷ []) read more)
-
-says : (answers : Answers) (input : List ℕ) (exit : Exit) (text : List ℕ) → IsTrue (is_verdict exit) → length input ≤ longest → answers input exit text → Says answers input exit text
-says answers input Success text verdict le is = (le, is)
-says answers input Failure text verdict le is = (le, is)
-says answers input Usage text verdict le is = absurd cc
-says answers input Unreadable text verdict le is = inl (le, is)
-says answers input Memory text verdict le is = absurd cc
-says answers input Device text verdict le is = absurd cc
-says answers input Fault text verdict le is = absurd cc
 
 -- what the command answers to a line that was kept whole
 pub says_line : (answers : Answers) (input : List ℕ) (bytes : Vec ℕ Global) (line : Line) (shown : List ℕ) (answer : Answer) → line ≡ Whole bytes → shown ≡ bytes.items → IsKept input line
