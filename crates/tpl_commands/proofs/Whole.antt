@@ -1,22 +1,18 @@
 -- A document with a certificate in its place: what is written for it is read back.
 use Rattle.std.proofs.Common.{◌≡◌, ℕ, suc, ◌≤◌, List, [], ◌∷◌, Some, Result, Ok, Err, IfOk, string_bytes, inl, inr, codes, map, arith, sym, subst}
 use Rattle.std.specs.List.{All}
-use Rattle.serde_json.specs.Data.{Data, Members, put, depth, items_depth, object}
+use Rattle.serde_json.specs.Data.{Data, put, depth, items_depth, object}
 use Rattle.serde_json.specs.Read.{read, max_depth}
 use Rattle.serde_json.specs.View.{items_of}
 use Rattle.serde_json.proofs.Nesting.{depth-read}
-use Rattle.tpl_json.proofs.Puts.{is_object, depth_put}
+use Rattle.tpl_json.proofs.Puts.{depth_put}
 use Rattle.tpl_model.specs.Certificate.{Tree}
 use Rattle.tpl_draft.specs.Named.{Names}
 use Rattle.tpl_cert.specs.Heights.{height}
 use Rattle.tpl_cert.proofs.Nesting.{tree_depth}
 use Rattle.std.specs.declared.alloc.AllocError.{AllocError}
 use Rattle.tpl_analyser.specs.declared.form.Form.{Form}
-use Rattle.tpl_reader.specs.Top.{top_names}
-use Rattle.tpl_reader.specs.Shape.{Spelled, spelled_at}
 use Rattle.tpl_reader.specs.Document.{DocumentValue, Spells}
-use Rattle.tpl_reader.proofs.TopLaws.{parts_of}
-use Rattle.tpl_reader.proofs.Pieces.{pieces_of}
 use Rattle.tpl_reader.specs.Laws.{HasCertificate, HoldsCertificate}
 use Rattle.tpl_commands.specs.declared.answer.Answer.{Answer}
 use Rattle.tpl_commands.specs.declared.exit.Exit.{Exit}
@@ -24,12 +20,6 @@ use Rattle.tpl_commands.specs.declared.searching.Outcome.TheVariants.{Certificat
 use Rattle.tpl_commands.specs.Certifying.{IsCertified, IsTooLong, IsCertifying, IsSized, IsWholeText}
 use Rattle.tpl_commands.specs.Checking.{ClaimsHold}
 use Rattle.tpl_commands.specs.Searching.{AreFound, CanBePut, written_tree, written_trees}
-
--- what spells a document is an object
-pub spelled_object : (d : Data) (s : Spelled) → spelled_at d ≡ Ok s → (ms : Members) × (d ≡ object ms)
-spelled_object d s is =
-    let p = pieces_of d s is in
-    is_object (top_names p.top.version) d (parts_of d p.top p.is_top).0
 
 trees_depth : (n : Names) (trees : List Tree) → All (λ t. height t ≤ 6) trees → items_depth (items_of (map (written_tree n) trees)) ≤ 10
 trees_depth n [] low = omega arith

@@ -1,6 +1,7 @@
 -- A document with names, part by part.
 use Rattle.std.proofs.Common.{◌≡◌, List, Option, Some, None, Result, Ok, Err, refl}
-use Rattle.serde_json.specs.Data.{Data}
+use Rattle.serde_json.specs.Data.{Data, Members as Object, object}
+use Rattle.tpl_json.proofs.Puts.{is_object}
 use Rattle.tpl_draft.specs.Draft.{Task}
 use Rattle.tpl_parts.specs.NamedClaims.{NamedClaim}
 use Rattle.tpl_parts.specs.Tasks.{task_at}
@@ -8,7 +9,8 @@ use Rattle.tpl_parts.specs.Claims.{claim_at}
 use Rattle.tpl_parts.specs.Start.{NamedStart, start_or_none}
 use Rattle.tpl_reader.specs.declared.fault.Part.{Part}
 use Rattle.tpl_reader.specs.declared.fault.Part.TheVariants as part
-use Rattle.tpl_reader.specs.Top.{Members, top_at}
+use Rattle.tpl_reader.specs.Top.{Members, top_names, top_at}
+use Rattle.tpl_reader.proofs.TopLaws.{parts_of}
 use Rattle.tpl_reader.specs.Shape.{◌>>=◌, Spelled, part_in, parts_in, spelled_at}
 
 -- what these are together
@@ -59,3 +61,9 @@ pieces_of d s e =
 pub spelled_of : (d : Data) (s : Spelled) → Pieces d s → spelled_at d ≡ Ok s
 unfolding spelled_at
 spelled_of d s p = rw (p.is_top, p.are_tasks, p.are_claims, p.is_start, p.whole) refl
+
+-- what spells a document is an object
+pub spelled_object : (d : Data) (s : Spelled) → spelled_at d ≡ Ok s → (ms : Object) × (d ≡ object ms)
+spelled_object d s is =
+    let p = pieces_of d s is in
+    is_object (top_names p.top.version) d (parts_of d p.top p.is_top).0

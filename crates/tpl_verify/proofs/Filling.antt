@@ -12,11 +12,10 @@ use Rattle.tpl_reader.specs.Document.{DocumentValue, IsDocument, Reads, Spells}
 use Rattle.tpl_json.proofs.Json.{some, get_depth}
 use Rattle.tpl_reader.proofs.OneDocument.{value_same}
 use Rattle.tpl_reader.proofs.TopLaws.{parts_of, top_put}
-use Rattle.tpl_reader.proofs.Pieces.{pieces_of, spelled_of}
+use Rattle.tpl_reader.proofs.Pieces.{pieces_of, spelled_of, spelled_object}
 use Rattle.tpl_verify.specs.Filled.{IsStartWith, IsUnseenOf, IsFilled, HasForm, IsTextOf, start_data, started, with_run}
 use Rattle.tpl_verify.proofs.Unseen.{spelled_unseen, document_unseen}
 use Rattle.tpl_json.proofs.Puts.{depth_put}
-use Rattle.tpl_commands.proofs.Whole.{spelled_object}
 use Rattle.tpl_verify.proofs.Starts.{named_with, named_start, start_object, start_value, start_depth}
 
 -- ---- a member of the top that is put

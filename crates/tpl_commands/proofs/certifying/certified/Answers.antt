@@ -6,7 +6,8 @@ use Rattle.tpl_cert.specs.Written.{has_ids}
 use Rattle.tpl_reader.specs.SeenDocument.{doc_of}
 use Rattle.tpl_commands.specs.Rules.{is_judged_widely}
 use Rattle.tpl_commands.specs.Searching.{IsRead}
-use Rattle.tpl_commands.proofs.Whole.{certifying, spelled_object}
+use Rattle.tpl_commands.proofs.Whole.{certifying}
+use Rattle.tpl_reader.proofs.Pieces.{spelled_object}
 use Rattle.tpl_commands.proofs.certifying.certified.Goals as goal
 
 pub whole_text-requires-clause-ids : goal.whole_text-requires-clause-ids
