@@ -1,59 +1,37 @@
 -- A claim whose names are looked up.
-use Rattle.std.proofs.Common.{◌≡◌, ◌<◌, ◌≤◌, ◌||◌, ℕ, zero, suc, List, [], ◌∷◌, ◌++◌, length, map, Bool, true, false, cond, Option, Some, None, option_map, refl, sym, ap, ◌∙◌, subst, append-nil, append_assoc, arith}
+use Rattle.std.proofs.Common.{◌≡◌, ◌+◌, ◌-◌, ◌<◌, ◌≤◌, ◌||◌, ℕ, zero, suc, List, [], ◌∷◌, ◌++◌, length, map, take, Bool, true, false, not, cond, Option, Some, None, option_map, Result, Ok, Err, IfOk, refl, sym, ap, ◌∙◌, subst, append-nil, append_assoc, arith}
 use Rattle.std.specs.Prelude.{filter}
-use Rattle.std.specs.List.{All}
-use Rattle.std.proofs.lemmas.List.Elements.{All-cons, All-push}
+use Rattle.std.specs.List.{All, list_any}
+use Rattle.std.proofs.lemmas.Bool.{or_parts, not-true, le-leb, lt-leb}
+use Rattle.std.proofs.lemmas.List.{take-map}
+use Rattle.std.proofs.lemmas.List.Elements.{All-push}
 use Rattle.tpl_model.specs.declared.ids.SiteId.{SiteId}
 use Rattle.tpl_model.specs.Valid.{all_sites}
 use Rattle.tpl_graph.proofs.ReaderLemmas.{length-numbers_from}
 use Rattle.tpl_model.specs.declared.ids.TaskId.{TaskId}
 use Rattle.tpl_model.specs.declared.ids.TokenId.{TokenId}
 use Rattle.tpl_model.specs.declared.ids.InputId.{InputId}
-use Rattle.tpl_json.proofs.Arrays.{some_is, head_is, tail_is}
-use Rattle.tpl_json.proofs.Json.{some}
+use Rattle.tpl_json.specs.Members.{only_if}
+use Rattle.tpl_json.specs.declared.miss.Miss.{Miss}
+use Rattle.tpl_json.proofs.Arrays.{some_is}
+use Rattle.tpl_json.proofs.Json.{some, only_is}
 use Rattle.tpl_cert.proofs.Names.{number_below}
 use Rattle.tpl_cert.specs.Naming.{number_of}
 use Rattle.tpl_graph.specs.Kept.{IsNamedGraph}
 use Rattle.tpl_model.specs.declared.claim.Given.TheVariants as givens
 use Rattle.tpl_model.specs.declared.claim.Property.{Property}
 use Rattle.tpl_model.specs.declared.claim.Property.TheVariants.{Final as EndsIn, After, Observed, Never, Excludes, Runs}
-use Rattle.std.specs.List.{list_any}
 use Rattle.tpl_model.specs.declared.claim.Given.{Given}
 use Rattle.tpl_model.specs.Claims.{Claim}
 use Rattle.tpl_draft.specs.Named.{Names, Named}
-use Rattle.tpl_graph.specs.Fits.{IsGivenOf, TasksOf, have_bodies, is_of_one_thing, given_again, given_twice}
+use Rattle.tpl_graph.specs.Fits.{IsGivenOf, TasksOf, have_bodies, is_of_one_thing, given_again, given_twice, Fits}
+use Rattle.tpl_parts.specs.declared.version.Version.{Version}
 use Rattle.tpl_parts.specs.NamedClaims.{NamedGiven, GivenInput, GivenQuiet, GivenEnded, GivenSucceeds, GivenNoFailure, GivenNoRequest, NamedClaim}
-use Rattle.tpl_json.specs.declared.miss.Miss.{Miss}
-use Rattle.tpl_json.specs.declared.miss.Miss.TheVariants as miss
 use Rattle.tpl_reader.specs.declared.fault.ClaimFault.{ClaimFault}
 use Rattle.tpl_reader.specs.declared.fault.ClaimFault.TheVariants as faults
-use Rattle.tpl_reader.specs.Asked.{task_in, token_in, input_in, site_in, pair_in, given_in, property_in, is_no_failure, is_no_request, is_single, with_one, with_jobs, with_tokens, with_all_jobs, with_all, AreSingles, knows_given, says_twice, IsClaimOf, IsAsked, IsWrongClaim, Refuses, IsUnknown}
-
-unknown_given : (g : Named) (s : NamedClaim) (f : ClaimFault) → IsUnknown (knows_given g.names s.given) f → IsWrongClaim g s f
-unknown_given g s faults.TooMany h = absurd h
-unknown_given g s faults.Unknown h = rw h refl
-unknown_given g s faults.NoBody h = absurd h
-unknown_given g s faults.GivenTwice h = absurd h
-unknown_given g s faults.NameTwice h = absurd h
-
-pub refuses_given : (g : Named) (s : NamedClaim) (e : Miss ClaimFault) → Refuses (IsUnknown (knows_given g.names s.given)) e → Refuses (IsWrongClaim g s) e
-refuses_given g s (miss.Wrong f) h = unknown_given g s f h
-refuses_given g s miss.Memory h = tt
-
--- want of memory is no fault of a claim
-pub no_fault : (g : Named) (s : NamedClaim) (e : Miss ClaimFault) → e ≡ miss.Memory → Refuses (IsWrongClaim g s) e
-no_fault g s e is = subst (Refuses (IsWrongClaim g s)) (sym is) tt
-
-pub first_false : (a b : Bool) → (a || b) ≡ false → a ≡ false
-first_false true b e = e
-first_false false b e = refl
-
-pub second_false : (a b : Bool) → (a || b) ≡ false → b ≡ false
-second_false true b e = absurd cc
-second_false false b e = e
-
-pub named_claim : (n : Names) (s : NamedClaim) (singles : List Given) (body : Property TaskId) → AreSingles n s.given singles → property_in n s.body ≡ Some body → IsClaimOf n s (record { given = with_all n s.given singles; body = body })
-named_claim n s singles body e f = record { singles = singles; are_singles = e; given = refl; body = f }
+use Rattle.tpl_reader.specs.Passes.{Yields}
+use Rattle.tpl_reader.proofs.Passes.{bind_ok, bind_or, ok_is, each_every, all_every}
+use Rattle.tpl_reader.specs.Asked.{task_in, token_in, input_in, site_in, pair_in, given_in, property_in, is_no_failure, is_no_request, is_single, with_one, with_jobs, with_tokens, with_all_jobs, with_all, singles_in, says_twice, claim_in, has_name_of, claim_behind, at_number, claim_among, claims_in, most_claims, claims_for}
 
 -- ---- the ids that the names stand for are the graph's
 
@@ -97,7 +75,7 @@ two_tasks g is x y f body ok e =
     let p = pair_is (task_in g.names x) (task_in g.names y) a.0 a.1 in
     subst (λ (z : Property TaskId). TasksOf g.graph z) a.2 (ok a.0 (let lt = task_below g.names x a.0.0 p.0 in omega (arith, is.tasks)) (let lt = task_below g.names y a.0.1 p.1 in omega (arith, is.tasks)))
 
-tasks_are : (g : Named) → IsNamedGraph g → (s : Property (List ℕ)) (body : Property TaskId) → property_in g.names s ≡ Some body → TasksOf g.graph body
+pub tasks_are : (g : Named) → IsNamedGraph g → (s : Property (List ℕ)) (body : Property TaskId) → property_in g.names s ≡ Some body → TasksOf g.graph body
 tasks_are g is (EndsIn task finals) body e = one_task g is task (λ t. EndsIn t finals) body (λ t lt. lt) e
 tasks_are g is (After a b) body e = two_tasks g is a b (λ p. After p.0 p.1) body (λ p l m. (l, m)) e
 tasks_are g is (Observed task) body e = one_task g is task Observed body (λ t lt. lt) e
@@ -124,13 +102,6 @@ given_is g is (GivenSucceeds name) x e =
     subst (λ (z : Given). IsGivenOf g.graph z) a.2 (let lt = site_below g.names name a.0 a.1 in omega (arith, sites_named g is))
 given_is g is GivenNoFailure x e = absurd cc
 given_is g is GivenNoRequest x e = absurd cc
-
-givens_are : (g : Named) → IsNamedGraph g → (ss : List NamedGiven) (xs : List Given) → map (given_in g.names) ss ≡ map (λ x. Some x) xs → All (IsGivenOf g.graph) xs
-givens_are g is [] [] e = λ k d lt. absurd (omega arith)
-givens_are g is [] (x ∷ xs) e = absurd cc
-givens_are g is (s ∷ ss) [] e = absurd cc
-givens_are g is (s ∷ ss) (x ∷ xs) e =
-    All-cons (IsGivenOf g.graph) x xs (given_is g is s x (head_is (given_in g.names s) (Some x) (map (given_in g.names) ss) (map (λ x. Some x) xs) e)) (givens_are g is ss xs (tail_is (given_in g.names s) (Some x) (map (given_in g.names) ss) (map (λ x. Some x) xs) e))
 
 -- ---- what is given of all, beside what is given of single things
 
@@ -211,12 +182,71 @@ all_fit g is said given all =
     either_fits g (list_any is_no_request said) (with_tokens (length g.names.tokens) (with_all_jobs g.names said given)) (with_all_jobs g.names said given)
     (tokens_fit g (length g.names.tokens) (with_all_jobs g.names said given) (omega arith) jobs) jobs
 
-pub asked : (g : Named) (s : NamedClaim) (claim : Claim) (singles : List Given) (body : Property TaskId) → IsNamedGraph g → AreSingles g.names s.given singles → property_in g.names s.body ≡ Some body → have_bodies g.graph body ≡ true
-    → given_twice singles ≡ false → says_twice s.given ≡ false → claim.given ≡ with_all g.names s.given singles → claim.body ≡ body → IsAsked g s claim
-asked g s claim singles body is e f bodies once said eg eb =
-    let all = all_fit g is s.given singles (givens_are g is (filter is_single s.given) singles e) in
-    record {
-      named = record { singles = singles; are_singles = e; given = eg; body = rw eb f };
-      once = said;
-      fits = record { given = rw eg all; tasks = rw eb (tasks_are g is s.body body f); bodies = rw eb bodies; once = rw eg (twice_all g.names s.given singles ∙ once) };
-    }
+-- ---- the claim that is asked
+
+abbrev claim_with : List Given → Property TaskId → Claim
+claim_with given body = record { given = given; body = body }
+
+claim_is : (c : Claim) (given : List Given) (body : Property TaskId) → c.given ≡ given → c.body ≡ body → claim_with given body ≡ c
+claim_is c given body e f = rw (← e, ← f) refl
+
+abbrev right : Claim → Result Claim ClaimFault
+right c = Ok c
+
+pub asked : (g : Named) (s : NamedClaim) (c : Claim) (singles : List Given) (body : Property TaskId) → singles_in g.names s.given ≡ Ok singles → property_in g.names s.body ≡ Some body → have_bodies g.graph body ≡ true
+    → (given_twice singles || says_twice s.given) ≡ false → c.given ≡ with_all g.names s.given singles → c.body ≡ body → claim_in g s ≡ Ok c
+unfolding claim_in
+asked g s c singles body e f bodies once given is = rw (e, f, bodies, once) (ap right (claim_is c (with_all g.names s.given singles) body given is))
+
+pub claim_fits : (g : Named) → IsNamedGraph g → (s : NamedClaim) (c : Claim) → claim_in g s ≡ Ok c → Fits g.graph c
+unfolding claim_in
+claim_fits g is s c e =
+    let singles = bind_ok (singles_in g.names s.given) _ c e in
+    let body = bind_or (property_in g.names s.body) faults.Unknown _ c singles.2 in
+    let bodies = bind_or (only_if (have_bodies g.graph body.0)) faults.NoBody _ c body.2 in
+    let once = bind_or (only_if (not (given_twice singles.0 || says_twice s.given))) faults.GivenTwice _ c bodies.2 in
+    let whole : claim_with (with_all g.names s.given singles.0) body.0 ≡ c = ok_is _ c _ refl once.2 in
+    let never = or_parts (given_twice singles.0) (says_twice s.given) (not-true (given_twice singles.0 || says_twice s.given) (only_is _ _ once.1)) in
+    subst (Fits g.graph) whole (record {
+      given = all_fit g is s.given singles.0 (all_every faults.Unknown (given_in g.names) (IsGivenOf g.graph) (given_is g is) (filter is_single s.given) singles.0 singles.1);
+      tasks = tasks_are g is s.body body.0 body.1;
+      bodies = only_is _ _ bodies.1;
+      once = twice_all g.names s.given singles.0 ∙ never.0;
+    })
+
+-- ---- each of the claims
+
+-- the claim behind those before it
+pub among : {X : Type 0} (g : Named) (view : X → NamedClaim) (xs : List X) (i : ℕ) (c : NamedClaim) (r : Result Claim ClaimFault) → claim_behind g (map view (take i xs)) c ≡ r → claim_among g (map view xs) (i + 1) c ≡ at_number (i + 1) r
+among g view xs i c r is =
+    let here : (i + 1) - 1 ≡ i = omega arith in
+    ap (λ k. at_number (i + 1) (claim_behind g (take k (map view xs)) c)) here ∙ ap (λ bs. at_number (i + 1) (claim_behind g bs c)) (take-map view i xs) ∙ ap (at_number (i + 1)) is
+
+numbered_ok : (n : ℕ) (r : Result Claim ClaimFault) (c : Claim) → at_number n r ≡ Ok c → r ≡ Ok c
+numbered_ok n (Ok x) c e = cc
+numbered_ok n (Err fault) c e = absurd cc
+
+behind_fits : (g : Named) → IsNamedGraph g → (before : List NamedClaim) (s : NamedClaim) (c : Claim) → claim_behind g before s ≡ Ok c → Fits g.graph c
+unfolding claim_behind
+behind_fits g is before s c e =
+    let claim = bind_ok (claim_in g s) _ c e in
+    let own = bind_or (only_if (not (has_name_of before s))) faults.NameTwice _ c claim.2 in
+    subst (Fits g.graph) (ok_is claim.0 c _ refl own.2) (claim_fits g is s claim.0 claim.1)
+
+pub all_asked_fit : {X : Type 0} (g : Named) → IsNamedGraph g → (ss : List NamedClaim) (view : X → List Claim) (r : Result X (Miss (ℕ × ClaimFault))) → Yields view r (claims_in g ss) → IfOk r (λ x. All (Fits g.graph) (view x))
+all_asked_fit g is ss view (Ok x) e =
+    each_every (claim_among g ss) (Fits g.graph) (λ n s c h. behind_fits g is (take (n - 1) ss) s c (numbered_ok n (claim_behind g (take (n - 1) ss) s) c h)) 1 ss (view x) e
+all_asked_fit g is ss view (Err e) h = tt
+
+-- ---- and no more than there may be
+
+few_claims : (version : Version) (g : Named) (ss : List NamedClaim) → length ss ≤ most_claims version → claims_in g ss ≡ claims_for version g ss
+unfolding claims_for
+few_claims version g ss le = rw (le-leb (length ss) (most_claims version) le) refl
+
+pub yields_few : {X : Type 0} (version : Version) (g : Named) (ss : List NamedClaim) (view : X → List Claim) (r : Result X (Miss (ℕ × ClaimFault))) → length ss ≤ most_claims version → Yields view r (claims_in g ss) → Yields view r (claims_for version g ss)
+yields_few version g ss view r le h = subst (λ (z : Result (List Claim) (ℕ × ClaimFault)). Yields view r z) (few_claims version g ss le) h
+
+pub too_many : (version : Version) (g : Named) (ss : List NamedClaim) → most_claims version < length ss → claims_for version g ss ≡ Err (most_claims version + 1, faults.TooMany)
+unfolding claims_for
+too_many version g ss lt = rw (lt-leb (length ss) (most_claims version) lt) refl

@@ -1,42 +1,104 @@
--- The names of a start, one after another.
-use Rattle.std.proofs.Common.{◌≡◌, ℕ, zero, suc, ◌+◌, ◌<◌, ◌≤◌, ◌⊎◌, inl, inr, List, [], ◌∷◌, length, get_or, set, map, Bool, false, Option, Some, refl, sym, ap, ◌∙◌, arith}
+-- The start of a run, part by part.
+use Rattle.std.proofs.Common.{◌≡◌, ℕ, zero, suc, ◌+◌, ◌<◌, ◌≤◌, ◌⊎◌, inl, inr, List, [], ◌∷◌, length, set, map, Bool, true, false, Option, Some, None, Result, Ok, Err, ok_or, refl, sym, ap, subst, ◌∙◌, arith}
 use Rattle.std.specs.Prelude.{slice_get, slice_set, slice_index_or}
+use Rattle.std.specs.List.{All}
 use Rattle.std.proofs.lemmas.List.{get_or-set_same, get_or-set_other}
+use Rattle.std.proofs.lemmas.List.Elements.{All-nil, All-cons, All-head, All-tail}
 use Rattle.serde_json.specs.Data.{Data}
-use Rattle.tpl_cert.specs.Written.{name_at}
-use Rattle.tpl_json.proofs.Json.{some}
-use Rattle.std.specs.List.{All, list_all}
-use Rattle.std.proofs.lemmas.List.Elements.{All-cons}
 use Rattle.tpl_model.specs.declared.ids.SiteId.{SiteId}
 use Rattle.tpl_draft.specs.Ids.{site_number}
-use Rattle.tpl_cert.specs.Naming.{number_of, AreNumbers}
-use Rattle.tpl_json.proofs.Arrays.{head_is, some_is, tail_is}
-use Rattle.tpl_cert.proofs.Names.{list_all_stops, number_below}
-use Rattle.tpl_json.specs.declared.miss.Miss.{Miss}
-use Rattle.tpl_json.specs.declared.miss.Miss.TheVariants as miss
+use Rattle.tpl_draft.specs.Named.{Named}
+use Rattle.tpl_cert.specs.Naming.{number_of}
+use Rattle.tpl_cert.specs.Written.{name_at}
+use Rattle.tpl_cert.proofs.Names.{number_below}
+use Rattle.tpl_json.specs.Members.{only_if}
+use Rattle.tpl_json.proofs.Arrays.{some_is}
+use Rattle.tpl_json.proofs.Json.{some, some_none, only_is}
+use Rattle.tpl_parts.specs.Start.{NamedStart}
 use Rattle.tpl_reader.specs.declared.fault.StartFault.{StartFault}
 use Rattle.tpl_reader.specs.declared.fault.StartFault.TheVariants as faults
-use Rattle.tpl_reader.specs.Asked.{Refuses}
-use Rattle.tpl_reader.specs.Begin.{IsUnknownName, truth_at, HasTruths}
+use Rattle.tpl_reader.specs.Passes.{each_from}
+use Rattle.tpl_reader.specs.Begin.{StartValue, knows_members, truth_at, may_all_fail, numbers_in, truths_in, start_in, start_if_any}
+use Rattle.tpl_reader.specs.Ends.{knows_ends}
+use Rattle.tpl_reader.specs.Document.{begin_in}
+use Rattle.tpl_reader.proofs.Passes.{bind_ok, bind_or, ok_is, each_empty, each_cons, all_every, later_fails}
 
-unknown_one : {X Y : Type 0} (p : Y → Bool) (g : X → Y) (xs : List X) (i : ℕ) (d : X) (f : StartFault) → i < length xs → IsUnknownName (p (g (get_or xs i d))) f → IsUnknownName (list_all p (map g xs)) f
-unknown_one p g xs i d faults.Unknown lt h = list_all_stops p g xs i d lt h
-unknown_one p g xs i d faults.Missing lt h = absurd h
-unknown_one p g xs i d faults.FailNot lt h = absurd h
+abbrev right : StartValue → Result StartValue StartFault
+right start = Ok start
 
-pub unknown_all : {X Y : Type 0} (p : Y → Bool) (g : X → Y) (xs : List X) (i : ℕ) (d : X) (e : Miss StartFault) → i < length xs → Refuses (IsUnknownName (p (g (get_or xs i d)))) e → Refuses (IsUnknownName (list_all p (map g xs))) e
-unknown_all p g xs i d (miss.Wrong f) lt h = unknown_one p g xs i d f lt h
-unknown_all p g xs i d miss.Memory lt h = tt
+abbrev lacking : Result (List Bool) StartFault
+lacking = Err faults.Missing
+
+-- ---- the parts of a start
+
+pub record Parts (g : Named) (s : NamedStart) (start : StartValue) : Type 0 where
+  pub known : knows_members g.names.inputs s.inputs ≡ true
+  pub request : numbers_in g.names.tokens s.request ≡ Ok start.request
+  pub fail : numbers_in g.names.sites s.fail ≡ Ok start.fail
+  pub inputs : truths_in s.inputs g.names.inputs ≡ Ok start.inputs
+  pub may_fail : may_all_fail g.graph start.fail ≡ true
+
+abbrev start_with : List Bool → List ℕ → List ℕ → StartValue
+start_with inputs request fail = record { inputs = inputs; request = request; fail = fail }
+
+pub parts_of : (g : Named) (s : NamedStart) (start : StartValue) → start_in g s ≡ Ok start → Parts g s start
+unfolding start_in
+parts_of g s start e =
+    let known = bind_or (only_if (knows_members g.names.inputs s.inputs)) faults.Unknown _ start e in
+    let request = bind_ok (numbers_in g.names.tokens s.request) _ start known.2 in
+    let fail = bind_ok (numbers_in g.names.sites s.fail) _ start request.2 in
+    let inputs = bind_ok (truths_in s.inputs g.names.inputs) _ start fail.2 in
+    let may = bind_or (only_if (may_all_fail g.graph fail.0)) faults.FailNot _ start inputs.2 in
+    let whole : start_with inputs.0 request.0 fail.0 ≡ start = ok_is _ start _ refl may.2 in
+    subst (Parts g s) whole (record { known = only_is _ _ known.1; request = request.1; fail = fail.1; inputs = inputs.1; may_fail = only_is _ _ may.1 })
+
+pub start_of : (g : Named) (s : NamedStart) (start : StartValue) → Parts g s start → start_in g s ≡ Ok start
+unfolding start_in
+start_of g s start p = rw (p.known, p.request, p.fail, p.inputs, p.may_fail) refl
+
+-- the parts of a start, if there is one
+abbrev pub AreParts : Named → Option NamedStart → Option StartValue → Type 0
+AreParts g None None = Unit {0}
+AreParts g None (Some start) = ⊥
+AreParts g (Some s) None = ⊥
+AreParts g (Some s) (Some start) = Parts g s start
+
+some_parts : (g : Named) (o : Option NamedStart) (start : Option StartValue) → start_if_any g o ≡ Ok start → AreParts g o start
+some_parts g None None e = tt
+some_parts g None (Some start) e = absurd cc
+some_parts g (Some s) None e =
+    let a = bind_ok (start_in g s) _ None e in
+    absurd (some_none a.0 (Some a.0) refl (ok_is (Some a.0) None _ refl a.2))
+some_parts g (Some s) (Some start) e =
+    let a = bind_ok (start_in g s) _ (Some start) e in
+    parts_of g s start (a.1 ∙ ap right (some_is a.0 start (ok_is (Some a.0) (Some start) _ refl a.2)))
+
+some_start : (g : Named) (o : Option NamedStart) (start : Option StartValue) → AreParts g o start → start_if_any g o ≡ Ok start
+some_start g None None p = refl
+some_start g None (Some start) p = absurd p
+some_start g (Some s) None p = absurd p
+some_start g (Some s) (Some start) p = rw (start_of g s start p) refl
+
+pub begin_parts : (g : Named) (o : Option NamedStart) (ended : Option Data) (start : Option StartValue) → begin_in g o ended ≡ Ok start → (knows_ends g.names.tasks ended ≡ true) × AreParts g o start
+unfolding begin_in
+begin_parts g o ended start e =
+    let known = bind_or (only_if (knows_ends g.names.tasks ended)) faults.Unknown _ start e in
+    (only_is _ _ known.1, some_parts g o start known.2)
+
+pub begin_of : (g : Named) (o : Option NamedStart) (ended : Option Data) (start : Option StartValue) → knows_ends g.names.tasks ended ≡ true → AreParts g o start → begin_in g o ended ≡ Ok start
+unfolding begin_in
+begin_of g o ended start known p = rw known (some_start g o start p)
 
 -- the numbers of names are below their count
-pub sites_below : (names texts : List (List ℕ)) (sites : List SiteId) → AreNumbers names texts (map site_number sites) → All (λ (s : SiteId). s.0 < length names) sites
-sites_below names [] [] e = λ k d lt. absurd (omega arith)
-sites_below names [] (s ∷ ss) e = absurd cc
-sites_below names (t ∷ ts) [] e = absurd cc
-sites_below names (t ∷ ts) (s ∷ ss) e =
-    let first = head_is (number_of names t) (Some s.0) (map (number_of names) ts) (map (λ n. Some n) (map site_number ss)) e in
-    let rest = tail_is (number_of names t) (Some s.0) (map (number_of names) ts) (map (λ n. Some n) (map site_number ss)) e in
-    All-cons (λ (x : SiteId). x.0 < length names) s ss (number_below names t s.0 first) (sites_below names ts ss rest)
+pub numbers_below : (names texts : List (List ℕ)) (ns : List ℕ) → numbers_in names texts ≡ Ok ns → All (λ n. n < length names) ns
+numbers_below names texts ns e = all_every faults.Unknown (number_of names) (λ n. n < length names) (number_below names) texts ns e
+
+sites_of : (n : ℕ) (sites : List SiteId) → All (λ k. k < n) (map site_number sites) → All (λ (s : SiteId). s.0 < n) sites
+sites_of n [] all = All-nil (λ (s : SiteId). s.0 < n)
+sites_of n (s ∷ sites) all = All-cons (λ (s : SiteId). s.0 < n) s sites (All-head (λ k. k < n) s.0 (map site_number sites) all) (sites_of n sites (All-tail (λ k. k < n) s.0 (map site_number sites) all))
+
+pub sites_below : (names texts : List (List ℕ)) (sites : List SiteId) → numbers_in names texts ≡ Ok (map site_number sites) → All (λ (s : SiteId). s.0 < length names) sites
+sites_below names texts sites e = sites_of (length names) sites (numbers_below names texts (map site_number sites) e)
 
 -- ---- the values of the inputs so far
 
@@ -67,8 +129,29 @@ truths_more names d values n b lt so_far h = record {
   ];
 }
 
-pub truths_all : (names : List (List ℕ)) (d : Option Data) (values : List Bool) (n : ℕ) → length names ≤ n → TruthsTo names d values n → HasTruths names d values
-truths_all names d values n le so_far = record { count = so_far.count; each = λ i lt. so_far.each i (omega arith) }
+each_truth : (d : Option Data) (names : List (List ℕ)) (values : List Bool) (k : ℕ) → length values ≡ length names → ((i : ℕ) → i < length names → truth_at d (name_at names i) ≡ Some (slice_index_or values i false)) → each_from (λ n name. ok_or (truth_at d name) faults.Missing) k names ≡ Ok values
+each_truth d [] [] k e h = each_empty (λ n name. ok_or (truth_at d name) faults.Missing) k
+each_truth d [] (b ∷ values) k e h = absurd (omega arith)
+each_truth d (name ∷ names) [] k e h = absurd (omega arith)
+each_truth d (name ∷ names) (b ∷ values) k e h =
+    each_cons (λ n name. ok_or (truth_at d name) faults.Missing) k name names b values (rw (h 0 (omega arith)) refl) (each_truth d names values (k + 1) (omega arith) (λ i lt. h (suc i) (omega arith)))
+
+-- a value for each input
+pub truths_are : (d : Option Data) (names : List (List ℕ)) (values : List Bool) → length values ≡ length names → ((i : ℕ) → i < length names → truth_at d (name_at names i) ≡ Some (slice_index_or values i false)) → truths_in d names ≡ Ok values
+truths_are d names values e h = each_truth d names values 1 e h
+
+pub truths_all : (names : List (List ℕ)) (d : Option Data) (values : List Bool) (n : ℕ) → length names ≤ n → TruthsTo names d values n → truths_in d names ≡ Ok values
+truths_all names d values n le so_far = truths_are d names values so_far.count (λ i lt. so_far.each i (omega arith))
+
+missing : (d : Option Data) (names : List (List ℕ)) (i : ℕ) (name : List ℕ) (k : ℕ) → slice_get names i ≡ Some name → truth_at d name ≡ None → each_from (λ n name. ok_or (truth_at d name) faults.Missing) k names ≡ lacking
+unfolding each_from
+missing d [] i name k at none = absurd cc
+missing d (n ∷ names) zero name k at none = rw (some_is n name at, none) refl
+missing d (n ∷ names) (suc i) name k at none = later_fails faults.Missing (truth_at d) k n names (missing d names i name (k + 1) at none)
+
+-- the exit at an input without value
+pub lacks_truth : (d : Option Data) (names : List (List ℕ)) (i : ℕ) (name : List ℕ) → slice_get names i ≡ Some name → truth_at d name ≡ None → truths_in d names ≡ lacking
+lacks_truth d names i name at none = missing d names i name 1 at none
 
 -- ---- whether a job may fail
 

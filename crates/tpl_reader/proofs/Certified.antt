@@ -6,8 +6,7 @@ use Rattle.serde_json.specs.View.{items_of}
 use Rattle.tpl_model.specs.Certificate.{Tree}
 use Rattle.tpl_draft.specs.Named.{Names}
 use Rattle.tpl_json.specs.Members.{list_or_none}
-use Rattle.tpl_reader.specs.Passes.{AllRead}
-use Rattle.tpl_cert.specs.Spelled.{ReadsAs}
+use Rattle.tpl_reader.specs.Trees.{AreTrees}
 use Rattle.tpl_cert.specs.Written.{tree_data, named, certificate_data}
 use Rattle.tpl_reader.specs.Top as top
 use Rattle.tpl_reader.specs.Top.{top_at}
@@ -41,7 +40,7 @@ spelled_put ms s ds is =
     spelled_of (object (put (codes "certificate") (array (items_of ds)) ms)) (record s { certificate = ds })
     (record { top = record p.top { certificate = ds }; tasks = p.tasks; claims = p.claims; start = p.start; is_top = top_with ms p.top ds p.is_top; are_tasks = p.are_tasks; are_claims = p.are_claims; is_start = p.is_start; whole = ap (λ (z : Spelled). record z { certificate = ds }) p.whole })
 
-read_back : (n : Names) (trees : List Tree) → All (IsReadBack n) trees → AllRead (ReadsAs n) (map (λ t. tree_data (named n t)) trees) trees
+read_back : (n : Names) (trees : List Tree) → All (IsReadBack n) trees → AreTrees n (map (λ t. tree_data (named n t)) trees) trees
 read_back n [] all = tt
 read_back n (t ∷ trees) all = (all 0 t (omega arith), read_back n trees (λ k x lt. all (suc k) x (omega arith)))
 
@@ -56,7 +55,6 @@ document_put s doc trees is all = record {
   certificate = read_back doc.graph.names trees all;
   journal = is.journal;
   start = is.start;
-  known = is.known;
   ended = is.ended;
   times = is.times;
 }

@@ -2,14 +2,12 @@ pub mod Lookups
 pub mod Passes
 pub mod Asking
 pub mod Singles
-pub mod NamesOnce
 pub mod EndLaws
-pub mod Shapes
 pub mod Begins
+pub mod TreeLaws
 pub mod Refusals
 pub mod TopLaws
 pub mod Pieces
-pub mod Checkable
 pub mod OneDocument
 pub mod Faultless
 pub mod Certified

@@ -1,5 +1,5 @@
 -- A document with names, part by part.
-use Rattle.std.proofs.Common.{◌≡◌, List, Option, Some, None, Result, Ok, Err, refl}
+use Rattle.std.proofs.Common.{◌≡◌, List, Option, Some, Ok, refl}
 use Rattle.serde_json.specs.Data.{Data, Members as Object, object}
 use Rattle.tpl_json.proofs.Puts.{is_object}
 use Rattle.tpl_draft.specs.Draft.{Task}
@@ -7,11 +7,11 @@ use Rattle.tpl_parts.specs.NamedClaims.{NamedClaim}
 use Rattle.tpl_parts.specs.Tasks.{task_at}
 use Rattle.tpl_parts.specs.Claims.{claim_at}
 use Rattle.tpl_parts.specs.Start.{NamedStart, start_or_none}
-use Rattle.tpl_reader.specs.declared.fault.Part.{Part}
 use Rattle.tpl_reader.specs.declared.fault.Part.TheVariants as part
 use Rattle.tpl_reader.specs.Top.{Members, top_names, top_at}
 use Rattle.tpl_reader.proofs.TopLaws.{parts_of}
-use Rattle.tpl_reader.specs.Shape.{◌>>=◌, Spelled, part_in, parts_in, spelled_at}
+use Rattle.tpl_reader.proofs.Passes.{bind_ok, bind_or, ok_is}
+use Rattle.tpl_reader.specs.Shape.{Spelled, parts_in, spelled_at}
 
 -- what these are together
 abbrev pub together : Members → List Task → List NamedClaim → Option NamedStart → Spelled
@@ -23,29 +23,18 @@ pub record Pieces (d : Data) (s : Spelled) : Type 0 where
   pub claims : List NamedClaim
   pub start : Option NamedStart
   pub is_top : top_at d ≡ Some top
-  pub are_tasks : parts_in part.Task (task_at top.version) 1 top.tasks ≡ Ok tasks
-  pub are_claims : parts_in part.Claim (claim_at top.version) 1 top.claims ≡ Ok claims
+  pub are_tasks : parts_in part.Task (task_at top.version) top.tasks ≡ Ok tasks
+  pub are_claims : parts_in part.Claim (claim_at top.version) top.claims ≡ Ok claims
   pub is_start : start_or_none top.start ≡ Some start
   pub whole : together top tasks claims start ≡ s
-
-bind_ok : {A B : Type 0} (r : Result A Part) (f : A → Result B Part) (y : B) → (r >>= f) ≡ Ok y → (x : A) × (r ≡ Ok x) × (f x ≡ Ok y)
-bind_ok (Ok x) f y e = (x, refl, e)
-bind_ok (Err p) f y e = absurd cc
-
-bind_part : {A B : Type 0} (p : Part) (o : Option A) (f : A → Result B Part) (y : B) → (part_in p o >>= f) ≡ Ok y → (x : A) × (o ≡ Some x) × (f x ≡ Ok y)
-bind_part p (Some x) f y e = (x, refl, e)
-bind_part p None f y e = absurd cc
-
-ok_is : {A : Type 0} (x y : A) (r : Result A Part) → r ≡ Ok x → r ≡ Ok y → x ≡ y
-ok_is x y r e f = cc
 
 pub pieces_of : (d : Data) (s : Spelled) → spelled_at d ≡ Ok s → Pieces d s
 unfolding spelled_at
 pieces_of d s e =
-    let top = bind_part part.Top (top_at d) _ s e in
-    let tasks = bind_ok (parts_in part.Task (task_at top.0.version) 1 top.0.tasks) _ s top.2 in
-    let claims = bind_ok (parts_in part.Claim (claim_at top.0.version) 1 top.0.claims) _ s tasks.2 in
-    let start = bind_part part.Start (start_or_none top.0.start) _ s claims.2 in
+    let top = bind_or (top_at d) part.Top _ s e in
+    let tasks = bind_ok (parts_in part.Task (task_at top.0.version) top.0.tasks) _ s top.2 in
+    let claims = bind_ok (parts_in part.Claim (claim_at top.0.version) top.0.claims) _ s tasks.2 in
+    let start = bind_or (start_or_none top.0.start) part.Start _ s claims.2 in
     record {
       top = top.0;
       tasks = tasks.0;

@@ -1,13 +1,17 @@
 -- What is given of single things, one after another.
-use Rattle.std.proofs.Common.{◌≡◌, ◌+◌, ◌<◌, ◌&&◌, ◌||◌, ℕ, zero, suc, List, [], ◌∷◌, ◌++◌, length, map, take, get_or, Bool, true, false, cond, Some, None, is_some, refl, ap, append-nil, arith}
+use Rattle.std.proofs.Common.{◌≡◌, ◌+◌, ◌<◌, ◌||◌, ℕ, zero, suc, List, [], ◌∷◌, ◌++◌, length, map, take, get_or, Bool, true, false, cond, Some, None, Result, Ok, Err, ok_or, refl, ap, append-nil, arith}
 use Rattle.std.specs.Prelude.{filter}
-use Rattle.std.specs.List.{list_all, list_any}
-use Rattle.std.proofs.lemmas.List.{map_more, map_push}
+use Rattle.std.specs.List.{list_any}
+use Rattle.std.proofs.lemmas.List.{map_more}
 use Rattle.std.proofs.lemmas.List.Folds.{list_any-append}
 use Rattle.tpl_model.specs.declared.claim.Given.{Given}
 use Rattle.tpl_draft.specs.Named.{Names}
 use Rattle.tpl_parts.specs.NamedClaims.{NamedGiven}
-use Rattle.tpl_reader.specs.Asked.{given_in, is_single, AreSingles, knows_given}
+use Rattle.tpl_reader.specs.declared.fault.ClaimFault.{ClaimFault}
+use Rattle.tpl_reader.specs.declared.fault.ClaimFault.TheVariants.{Unknown}
+use Rattle.tpl_reader.specs.Passes.{each_from}
+use Rattle.tpl_reader.specs.Asked.{given_in, is_single, singles_in}
+use Rattle.tpl_reader.proofs.Passes.{each_push, later_fails}
 
 -- the exit of a loop at one that passes the test, and the way past one that doesn't
 pub any_stops : {X Y : Type 0} (p : Y → Bool) (g : X → Y) (xs : List X) (i : ℕ) (d : X) → i < length xs → p (g (get_or xs i d)) ≡ true → list_any p (map g xs) ≡ true
@@ -33,26 +37,33 @@ filter_push (y ∷ said) x = filter_by y x said (is_single y) (filter_push said 
 
 -- behind one more that is given of a single thing, and behind one that is given of all
 pub singles_push : {X : Type 0} (n : Names) (g : X → NamedGiven) (xs : List X) (i : ℕ) (d : X) (found : List Given) (one : Given)
-    → i < length xs → is_single (g (get_or xs i d)) ≡ true → given_in n (g (get_or xs i d)) ≡ Some one → AreSingles n (map g (take i xs)) found → AreSingles n (map g (take (i + 1) xs)) (found ++ one ∷ [])
+    → i < length xs → is_single (g (get_or xs i d)) ≡ true → given_in n (g (get_or xs i d)) ≡ Some one → singles_in n (map g (take i xs)) ≡ Ok found → singles_in n (map g (take (i + 1) xs)) ≡ Ok (found ++ one ∷ [])
 singles_push n g xs i d found one lt single is before =
-    rw (map_more g xs i d lt, filter_push (map g (take i xs)) (g (get_or xs i d)), single, map_push (given_in n) (filter is_single (map g (take i xs))) (g (get_or xs i d)), map_push (λ (x : Given). Some x) found one, before, is) refl
+    rw (map_more g xs i d lt, filter_push (map g (take i xs)) (g (get_or xs i d)), single)
+    (each_push (λ k x. ok_or (given_in n x) Unknown) 1 (1 + length (filter is_single (map g (take i xs)))) (filter is_single (map g (take i xs))) found (g (get_or xs i d)) one refl before (rw is refl))
 
 pub singles_pass : {X : Type 0} (n : Names) (g : X → NamedGiven) (xs : List X) (i : ℕ) (d : X) (found : List Given)
-    → i < length xs → is_single (g (get_or xs i d)) ≡ false → AreSingles n (map g (take i xs)) found → AreSingles n (map g (take (i + 1) xs)) found
+    → i < length xs → is_single (g (get_or xs i d)) ≡ false → singles_in n (map g (take i xs)) ≡ Ok found → singles_in n (map g (take (i + 1) xs)) ≡ Ok found
 singles_pass n g xs i d found lt single before =
     rw (map_more g xs i d lt, filter_push (map g (take i xs)) (g (get_or xs i d)), single, append-nil (filter is_single (map g (take i xs)))) before
 
 -- the exit at one whose name isn't the graph's
-and_false : (a : Bool) → (a && false) ≡ false
-and_false true = refl
-and_false false = refl
+abbrev each_single : Names → ℕ → List NamedGiven → Result (List Given) ClaimFault
+each_single n k said = each_from (λ k x. ok_or (given_in n x) Unknown) k said
 
-stop_by : (n : Names) (x : NamedGiven) (rest : List NamedGiven) (b : Bool) → knows_given n rest ≡ false → list_all (λ x. is_some (given_in n x)) (cond b (x ∷ filter is_single rest) (filter is_single rest)) ≡ false
-stop_by n x rest true e = rw e (and_false (is_some (given_in n x)))
-stop_by n x rest false e = e
+abbrev unknown : Result (List Given) ClaimFault
+unknown = Err Unknown
+
+stop_by : (n : Names) (x : NamedGiven) (rest : List NamedGiven) (b : Bool) → ((k : ℕ) → each_single n k (filter is_single rest) ≡ unknown) → (k : ℕ) → each_single n k (cond b (x ∷ filter is_single rest) (filter is_single rest)) ≡ unknown
+stop_by n x rest true stops k = later_fails Unknown (given_in n) k x (filter is_single rest) (stops (k + 1))
+stop_by n x rest false stops k = stops k
+
+stops : {X : Type 0} (n : Names) (g : X → NamedGiven) (xs : List X) (i : ℕ) (d : X) → i < length xs → is_single (g (get_or xs i d)) ≡ true → given_in n (g (get_or xs i d)) ≡ None → (k : ℕ) → each_single n k (filter is_single (map g xs)) ≡ unknown
+unfolding each_from
+stops n g [] i d lt single is k = absurd (omega arith)
+stops n g (x ∷ xs) zero d lt single is k = rw (single, is) refl
+stops n g (x ∷ xs) (suc i) d lt single is k = stop_by n (g x) (map g xs) (is_single (g x)) (stops n g xs i d (omega arith) single is) k
 
 pub singles_stop : {X : Type 0} (n : Names) (g : X → NamedGiven) (xs : List X) (i : ℕ) (d : X)
-    → i < length xs → is_single (g (get_or xs i d)) ≡ true → given_in n (g (get_or xs i d)) ≡ None → knows_given n (map g xs) ≡ false
-singles_stop n g [] i d lt single is = absurd (omega arith)
-singles_stop n g (x ∷ xs) zero d lt single is = rw (single, is) refl
-singles_stop n g (x ∷ xs) (suc i) d lt single is = stop_by n (g x) (map g xs) (is_single (g x)) (singles_stop n g xs i d (omega arith) single is)
+    → i < length xs → is_single (g (get_or xs i d)) ≡ true → given_in n (g (get_or xs i d)) ≡ None → singles_in n (map g xs) ≡ unknown
+singles_stop n g xs i d lt single is = stops n g xs i d lt single is 1

@@ -1,6 +1,6 @@
--- Claims with ids in place of names, and what is wrong with one.
-use Rattle.std.specs.Prelude.{◌≡◌, ℕ, zero, suc, ◌&&◌, ◌||◌, Bool, true, false, List, [], ◌∷◌, ◌++◌, ◌-◌, length, take, Option, Some, None, map, filter, is_some, option_map, Result, Ok, Err, if◌then◌else◌}
-use Rattle.std.specs.List.{list_all, list_any}
+-- Claims with ids in place of names, or what is wrong with the first that can't be asked.
+use Rattle.std.specs.Prelude.{ℕ, zero, suc, ◌+◌, ◌-◌, ◌||◌, Bool, true, false, not, List, [], ◌∷◌, ◌++◌, length, take, filter, nat_le, Option, Some, None, option_map, Result, Ok, Err, ok_or, if◌then◌else◌}
+use Rattle.std.specs.List.{list_any}
 use Rattle.std.specs.Str.{bytes_eq}
 use Rattle.tpl_model.specs.declared.ids.TaskId.{TaskId}
 use Rattle.tpl_model.specs.declared.ids.TokenId.{TokenId}
@@ -11,13 +11,14 @@ use Rattle.tpl_model.specs.declared.claim.Given.TheVariants.{Input, Quiet, Ended
 use Rattle.tpl_model.specs.declared.claim.Property.{Property}
 use Rattle.tpl_model.specs.declared.claim.Property.TheVariants.{Final as EndsIn, After, Observed, Never, Excludes, Runs}
 use Rattle.tpl_model.specs.Claims.{Claim}
-use Rattle.tpl_graph.specs.Fits.{have_bodies, is_of_one_thing, given_twice, Fits}
+use Rattle.tpl_graph.specs.Fits.{have_bodies, is_of_one_thing, given_twice}
 use Rattle.tpl_draft.specs.Named.{Names, Named}
 use Rattle.tpl_cert.specs.Naming.{number_of}
 use Rattle.tpl_parts.specs.NamedClaims.{NamedGiven, GivenInput, GivenQuiet, GivenEnded, GivenSucceeds, GivenNoFailure, GivenNoRequest, NamedClaim}
-use Rattle.tpl_json.specs.declared.miss.Miss.{Miss}
-use Rattle.tpl_json.specs.declared.miss.Miss.TheVariants as miss
-use Rattle.tpl_reader.specs.Passes.{AllRead, FirstWrong}
+use Rattle.tpl_json.specs.Members.{only_if}
+use Rattle.tpl_parts.specs.declared.version.Version.{Version}
+use Rattle.tpl_parts.specs.declared.version.Version.TheVariants.{One, Two, Three}
+use Rattle.tpl_reader.specs.Passes.{◌>>=◌, each_from, all_or}
 use Rattle.tpl_reader.specs.declared.fault.ClaimFault.{ClaimFault}
 use Rattle.tpl_reader.specs.declared.fault.ClaimFault.TheVariants as faults
 
@@ -90,24 +91,9 @@ property_in n (Never task) = option_map Never (task_in n task)
 property_in n (Excludes a b) = option_map (λ p. Excludes p.0 p.1) (pair_in (task_in n a) (task_in n b))
 property_in n (Runs task) = option_map Runs (task_in n task)
 
--- these are the single things that are given
-abbrev pub AreSingles : Names → List NamedGiven → List Given → Type 0
-AreSingles n said given = map (given_in n) (filter is_single said) ≡ map (λ x. Some x) given
-
--- the claim with ids in place of names
-pub record IsClaimOf (n : Names) (spelled : NamedClaim) (claim : Claim) : Type 0 where
-  pub singles : List Given
-  pub are_singles : AreSingles n spelled.given singles
-  pub given : claim.given ≡ with_all n spelled.given singles
-  pub body : property_in n spelled.body ≡ Some claim.body
-
--- the names of what is given of single things are the graph's
-abbrev pub knows_given : Names → List NamedGiven → Bool
-knows_given n said = list_all (λ x. is_some (given_in n x)) (filter is_single said)
-
--- the names of the claim are the graph's
-abbrev pub knows_claim : Names → NamedClaim → Bool
-knows_claim n c = knows_given n c.given && is_some (property_in n c.body)
+-- what is given of single things
+abbrev pub singles_in : Names → List NamedGiven → Result (List Given) ClaimFault
+singles_in n said = all_or faults.Unknown (given_in n) (filter is_single said)
 
 -- it is given of all jobs or all tokens, and stands again among these
 abbrev pub is_said_again : NamedGiven → List NamedGiven → Bool
@@ -120,20 +106,14 @@ abbrev pub says_twice : List NamedGiven → Bool
 says_twice [] = false
 says_twice (x ∷ rest) = is_said_again x rest || says_twice rest
 
--- the claim that is asked of the graph
-pub record IsAsked (g : Named) (spelled : NamedClaim) (claim : Claim) : Type 0 where
-  pub named : IsClaimOf g.names spelled claim
-  pub once : says_twice spelled.given ≡ false
-  pub fits : Fits g.graph claim
-
--- what is wrong with a claim: a name that isn't the graph's, then a task without a body, then something that is given twice
-abbrev pub IsWrongClaim : Named → NamedClaim → ClaimFault → Type 0
-IsWrongClaim g spelled faults.TooMany = ⊥
-IsWrongClaim g spelled faults.Unknown = knows_claim g.names spelled ≡ false
-IsWrongClaim g spelled faults.NoBody = (claim : Claim) × IsClaimOf g.names spelled claim × (have_bodies g.graph claim.body ≡ false)
-IsWrongClaim g spelled faults.GivenTwice =
-    (claim : Claim) × IsClaimOf g.names spelled claim × (have_bodies g.graph claim.body ≡ true) × (given_twice claim.given || says_twice spelled.given ≡ true)
-IsWrongClaim g spelled faults.NameTwice = ⊥
+-- the claim that is asked of the graph, or what is wrong with it: a name that isn't the graph's, then a task without a body, then something that is given twice
+unfoldable pub claim_in : Named → NamedClaim → Result Claim ClaimFault
+claim_in g c = do
+  singles ← singles_in g.names c.given
+  body ← ok_or (property_in g.names c.body) faults.Unknown
+  bodies ← ok_or (only_if (have_bodies g.graph body)) faults.NoBody
+  once ← ok_or (only_if (not (given_twice singles || says_twice c.given))) faults.GivenTwice
+  Ok (record { given = with_all g.names c.given singles; body = body })
 
 abbrev pub is_same_name : Option (List ℕ) → Option (List ℕ) → Bool
 is_same_name None other = false
@@ -144,44 +124,34 @@ is_same_name (Some name) (Some other) = bytes_eq name other
 abbrev pub has_name_of : List NamedClaim → NamedClaim → Bool
 has_name_of before c = list_any (λ b. is_same_name b.name c.name) before
 
--- one of these has the name of an earlier one, or of one of those before
-abbrev pub name_again : List NamedClaim → List NamedClaim → Bool
-name_again before [] = false
-name_again before (c ∷ rest) = has_name_of before c || name_again (before ++ c ∷ []) rest
+-- the claim behind these; last of what may be wrong with it is that one of them has its name
+unfoldable pub claim_behind : Named → List NamedClaim → NamedClaim → Result Claim ClaimFault
+claim_behind g before c = do
+  claim ← claim_in g c
+  own ← ok_or (only_if (not (has_name_of before c))) faults.NameTwice
+  Ok claim
 
-abbrev pub name_twice : List NamedClaim → Bool
-name_twice claims = name_again [] claims
+-- with the number of the one in which something is wrong
+abbrev pub at_number : {A F : Type 0} → ℕ → Result A F → Result A (ℕ × F)
+at_number n (Ok x) = Ok x
+at_number n (Err fault) = Err (n, fault)
 
--- what is wrong with a claim behind these: what is wrong with itself, and then that one of these has its name
-abbrev pub IsWrongBehind : Named → List NamedClaim → NamedClaim → ClaimFault → Type 0
-IsWrongBehind g before spelled faults.NameTwice = ((claim : Claim) × IsAsked g spelled claim) × (has_name_of before spelled ≡ true)
-IsWrongBehind g before spelled fault = IsWrongClaim g spelled fault
+-- the n-th of the claims, behind those before it
+abbrev pub claim_among : Named → List NamedClaim → ℕ → NamedClaim → Result Claim (ℕ × ClaimFault)
+claim_among g claims n c = at_number n (claim_behind g (take (n - 1) claims) c)
 
--- the fault is one of these, unless memory ran out
-abbrev pub Refuses : {F : Type 0} → (F → Type 0) → Miss F → Type 0
-Refuses IsWrong (miss.Wrong f) = IsWrong f
-Refuses IsWrong miss.Memory = Unit {0}
+-- each of the claims, or what is wrong with the first that can't be asked
+abbrev pub claims_in : Named → List NamedClaim → Result (List Claim) (ℕ × ClaimFault)
+claims_in g claims = each_from (claim_among g claims) 1 claims
 
-abbrev pub Takes : {X F : Type 0} → Result X (Miss F) → (X → Type 0) → (F → Type 0) → Type 0
-Takes (Ok x) IsTaken IsWrong = IsTaken x
-Takes (Err e) IsTaken IsWrong = Refuses IsWrong e
+-- the most claims of a document
+abbrev pub most_claims : Version → ℕ
+most_claims One = 64
+most_claims Two = 64
+most_claims Three = 1024
 
--- only a name can be wrong
-abbrev pub IsUnknown : Bool → ClaimFault → Type 0
-IsUnknown known faults.Unknown = known ≡ false
-IsUnknown known fault = ⊥
-
--- the claims behind each other, as far as the first that can't be asked
-pub record AreAllAsked (g : Named) (spelled : List NamedClaim) (claims : List Claim) : Type 0 where
-  pub each : AllRead (IsAsked g) spelled claims
-  pub names : name_twice spelled ≡ false
-
--- the n-th claim is the first that can't be asked
-pub record IsFirstNotAsked (g : Named) (spelled : List NamedClaim) (n : ℕ) (fault : ClaimFault) : Type 0 where
-  pub names : name_twice (take (n - 1) spelled) ≡ false
-  pub first : FirstWrong (IsAsked g) (IsWrongBehind g (take (n - 1) spelled)) spelled n fault
-
-abbrev pub PassesClaims : {X : Type 0} → Named → List NamedClaim → (X → List Claim) → Result X (Miss (ℕ × ClaimFault)) → Type 0
-PassesClaims g spelled view (Ok x) = AreAllAsked g spelled (view x)
-PassesClaims g spelled view (Err (miss.Wrong (n, fault))) = IsFirstNotAsked g spelled n fault
-PassesClaims g spelled view (Err miss.Memory) = Unit {0}
+-- the claims of a document; the first past the most is one too many
+unfoldable pub claims_for : Version → Named → List NamedClaim → Result (List Claim) (ℕ × ClaimFault)
+claims_for version g claims = do
+  few ← ok_or (only_if (nat_le (length claims) (most_claims version))) (most_claims version + 1, faults.TooMany)
+  claims_in g claims

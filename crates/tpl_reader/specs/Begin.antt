@@ -1,14 +1,14 @@
--- Where a run starts, with ids in place of names, and what is wrong with a start.
-use Rattle.std.specs.Prelude.{◌≡◌, ℕ, ◌<◌, ◌&&◌, Bool, true, false, List, Option, Some, None, length, option_and_then, slice_index_or}
+-- Where a run starts, with ids in place of names, or what is wrong with the start.
+use Rattle.std.specs.Prelude.{ℕ, Bool, true, false, List, Option, Some, None, option_and_then, slice_index_or, Result, Ok, ok_or}
 use Rattle.std.specs.List.{list_all}
 use Rattle.serde_json.specs.Data.{Data, Members, object}
 use Rattle.serde_json.specs.Find.{get, as_bool}
 use Rattle.tpl_model.specs.Graph.{TaskGraph}
 use Rattle.tpl_draft.specs.Named.{Named, all_may_fail}
-use Rattle.tpl_json.specs.Members.{names_all}
-use Rattle.tpl_cert.specs.Naming.{is_declared, are_declared, AreNumbers}
-use Rattle.tpl_cert.specs.Written.{name_at}
+use Rattle.tpl_json.specs.Members.{only_if, names_all}
+use Rattle.tpl_cert.specs.Naming.{number_of, is_declared}
 use Rattle.tpl_parts.specs.Start.{NamedStart}
+use Rattle.tpl_reader.specs.Passes.{◌>>=◌, all_or}
 use Rattle.tpl_reader.specs.declared.fault.StartFault.{StartFault}
 use Rattle.tpl_reader.specs.declared.fault.StartFault.TheVariants as faults
 
@@ -32,14 +32,6 @@ unfoldable pub truth_at : Option Data → List ℕ → Option Bool
 truth_at None name = None
 truth_at (Some d) name = option_and_then as_bool (get name d)
 
-abbrev pub knows_start : Named → NamedStart → Bool
-knows_start g s = knows_members g.names.inputs s.inputs && (are_declared g.names.tokens s.request && are_declared g.names.sites s.fail)
-
--- each input has its value
-pub record HasTruths (names : List (List ℕ)) (d : Option Data) (values : List Bool) : Type 0 where
-  pub count : length values ≡ length names
-  pub each : (i : ℕ) → i < length names → truth_at d (name_at names i) ≡ Some (slice_index_or values i false)
-
 -- the job of the site may fail
 abbrev pub may_fail : TaskGraph → ℕ → Bool
 may_fail g site = slice_index_or (all_may_fail g) site false
@@ -47,26 +39,27 @@ may_fail g site = slice_index_or (all_may_fail g) site false
 abbrev pub may_all_fail : TaskGraph → List ℕ → Bool
 may_all_fail g sites = list_all (may_fail g) sites
 
-pub record IsStartOf (g : Named) (s : NamedStart) (start : StartValue) : Type 0 where
-  pub known : knows_start g s ≡ true
-  pub inputs : HasTruths g.names.inputs s.inputs start.inputs
-  pub request : AreNumbers g.names.tokens s.request start.request
-  pub sites : AreNumbers g.names.sites s.fail start.fail
-  pub may_fail : may_all_fail g.graph start.fail ≡ true
+-- the numbers of names
+abbrev pub numbers_in : List (List ℕ) → List (List ℕ) → Result (List ℕ) StartFault
+numbers_in names texts = all_or faults.Unknown (number_of names) texts
 
--- what is wrong with a start: a name that isn't the graph's, then an input without value, then a job that is to fail and may not
-abbrev pub IsWrongStart : Named → NamedStart → StartFault → Type 0
-IsWrongStart g s faults.Unknown = knows_start g s ≡ false
-IsWrongStart g s faults.Missing = (knows_start g s ≡ true) × ((i : ℕ) × (i < length g.names.inputs) × (truth_at s.inputs (name_at g.names.inputs i) ≡ None))
-IsWrongStart g s faults.FailNot =
-    (knows_start g s ≡ true) × ((values : List Bool) × HasTruths g.names.inputs s.inputs values)
-    × ((sites : List ℕ) × AreNumbers g.names.sites s.fail sites × (may_all_fail g.graph sites ≡ false))
+-- a value for each input
+abbrev pub truths_in : Option Data → List (List ℕ) → Result (List Bool) StartFault
+truths_in d names = all_or faults.Missing (truth_at d) names
 
--- only a name can be wrong
-abbrev pub IsUnknownName : Bool → StartFault → Type 0
-IsUnknownName known faults.Unknown = known ≡ false
-IsUnknownName known fault = ⊥
+-- where the run starts, or what is wrong with the start: a name that isn't the graph's, then an input without value, then a job that is to fail and may not
+unfoldable pub start_in : Named → NamedStart → Result StartValue StartFault
+start_in g s = do
+  known ← ok_or (only_if (knows_members g.names.inputs s.inputs)) faults.Unknown
+  request ← numbers_in g.names.tokens s.request
+  fail ← numbers_in g.names.sites s.fail
+  inputs ← truths_in s.inputs g.names.inputs
+  may ← ok_or (only_if (may_all_fail g.graph fail)) faults.FailNot
+  Ok (record { inputs = inputs; request = request; fail = fail })
 
--- some input has no value
-abbrev pub LacksTruth : List (List ℕ) → Option Data → Type 0
-LacksTruth names d = (i : ℕ) × (i < length names) × (truth_at d (name_at names i) ≡ None)
+-- a start that may be left out
+abbrev pub start_if_any : Named → Option NamedStart → Result (Option StartValue) StartFault
+start_if_any g None = Ok None
+start_if_any g (Some s) = do
+  start ← start_in g s
+  Ok (Some start)

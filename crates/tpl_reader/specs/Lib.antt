@@ -1,4 +1,6 @@
 pub mod Passes
+pub mod Faults
+pub mod Trees
 pub mod Asked
 pub mod Top
 pub mod Shape

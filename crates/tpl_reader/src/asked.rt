@@ -1,12 +1,13 @@
 //! Claims with ids in place of names.
 
-ghost use Rattle.std.specs.Prelude.{◌≡◌, ◌||◌, false, map, length, IfOk, IfErr};
+ghost use Rattle.std.specs.Prelude.{◌≡◌, ◌||◌, map, length, IfOk, IfErr};
 ghost use Rattle.std.specs.List.{list_any};
 ghost use Rattle.std.specs.Option.{option_map};
 ghost use Rattle.tpl_graph.specs.Fits.{is_of_one_thing, given_twice};
 ghost use Rattle.tpl_json.specs.declared.miss.Miss.TheVariants.{Memory};
 ghost use Rattle.tpl_parts.specs.SeenClaims.{given_of, property_of, claim_of};
-ghost use Rattle.tpl_reader.specs.Asked.{task_in, token_in, input_in, site_in, given_in, pair_in, property_in, is_no_failure, is_no_request, is_single, with_jobs, with_tokens, with_all_jobs, with_all, AreSingles, knows_given, is_said_again, says_twice, IsAsked, IsWrongClaim, is_same_name, has_name_of, IsWrongBehind, PassesClaims, Takes, IsUnknown};
+ghost use Rattle.tpl_reader.specs.Passes.{Yields};
+ghost use Rattle.tpl_reader.specs.Asked.{task_in, token_in, input_in, site_in, given_in, pair_in, property_in, is_no_failure, is_no_request, is_single, with_jobs, with_tokens, with_all_jobs, with_all, singles_in, is_said_again, says_twice, claim_in, is_same_name, has_name_of, claim_behind, claims_in};
 
 use crate::fault::ClaimFault;
 use std::alloc::Global;
@@ -121,8 +122,7 @@ fn singles_in(
     graph: &Graph,
     given: &[NamedGiven],
 ) -> Result<Vec<Given>, Miss<ClaimFault>>
-    ensures { Takes result (λ v. AreSingles graph.now.names (map given_of given.now) v.items)
-        (IsUnknown (knows_given graph.now.names (map given_of given.now))) }
+    ensures { Yields (λ v. v.items) result (singles_in graph.now.names (map given_of given.now)) }
 {
     let mut found = Vec::new(alloc);
     for one in given {
@@ -273,9 +273,9 @@ fn with_all(
     }
 }
 
+#[tactic(auto, unfolding(crate::specs::Asked::claim_in))]
 fn claim_in(alloc: Global, graph: &Graph, claim: &NamedClaim) -> Result<Claim, Miss<ClaimFault>>
-    ensures { Takes result (IsAsked graph.now (claim_of claim.now))
-        (IsWrongClaim graph.now (claim_of claim.now)) }
+    ensures { Yields (λ c. c) result (claim_in graph.now (claim_of claim.now)) }
 {
     graph.valid_law();
     let singles = singles_in(alloc, graph, &claim.given)?;
@@ -315,15 +315,15 @@ fn has_name_of(before: &[NamedClaim], claim: &NamedClaim) -> bool
 }
 
 /// The claim behind these.
+#[tactic(auto, unfolding(crate::specs::Asked::claim_behind))]
 fn claim_behind(
     alloc: Global,
     graph: &Graph,
     before: &[NamedClaim],
     claim: &NamedClaim,
 ) -> Result<Claim, Miss<ClaimFault>>
-    ensures { Takes result (λ c. IsAsked graph.now (claim_of claim.now) c
-        × (has_name_of (map claim_of before.now) (claim_of claim.now) ≡ false))
-        (IsWrongBehind graph.now (map claim_of before.now) (claim_of claim.now)) }
+    ensures { Yields (λ c. c) result (claim_behind graph.now (map claim_of before.now)
+        (claim_of claim.now)) }
 {
     let asked = claim_in(alloc, graph, claim)?;
     if has_name_of(before, claim) {
@@ -338,7 +338,7 @@ pub(crate) fn claims_in(
     graph: &Graph,
     claims: &[NamedClaim],
 ) -> Result<Vec<Claim>, Miss<(usize, ClaimFault)>>
-    ensures { PassesClaims graph.now (map claim_of claims.now) (λ v. v.items) result }
+    ensures { Yields (λ v. v.items) result (claims_in graph.now (map claim_of claims.now)) }
 {
     let mut asked = Vec::new(alloc);
     for (index, claim) in claims.iter().enumerate() {

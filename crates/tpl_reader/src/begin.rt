@@ -1,17 +1,19 @@
 //! Where a run starts, with ids in place of names.
 
-ghost use Rattle.std.specs.Prelude.{◌≡◌, ◌&&◌, ◌<◌, length, map, true, Some, is_some, MatchOption, IfErr};
+ghost use Rattle.std.specs.Prelude.{◌≡◌, ◌<◌, length, map, ok_or, IfErr};
 ghost use Rattle.std.specs.Option.{option_map};
 ghost use Rattle.std.specs.List.{All, list_all};
 ghost use Rattle.tpl_json.specs.View.{view};
 ghost use Rattle.tpl_draft.specs.Ids.{token_number, site_number};
-ghost use Rattle.tpl_cert.specs.Naming.{number_of, is_declared, are_declared, AreNumbers};
+ghost use Rattle.tpl_cert.specs.Naming.{number_of, is_declared};
 ghost use Rattle.tpl_parts.specs.SeenStart.{start_of};
 ghost use Rattle.tpl_reader.specs.SeenDocument.{value_of};
-ghost use Rattle.tpl_reader.specs.Asked.{Takes};
-ghost use Rattle.tpl_reader.specs.Begin.{knows_members, truth_at, HasTruths, LacksTruth, may_fail, may_all_fail, IsStartOf, IsWrongStart, IsUnknownName};
+ghost use Rattle.tpl_reader.specs.Passes.{Yields};
+ghost use Rattle.tpl_reader.specs.Begin.{knows_members, truth_at, may_fail, may_all_fail, numbers_in, truths_in, start_in, start_if_any};
+ghost use Rattle.tpl_reader.specs.Document.{begin_in};
 
 use crate::document::Start;
+use crate::ends::knows_ends;
 use crate::fault::StartFault;
 use json::Value;
 use std::alloc::Global;
@@ -53,9 +55,8 @@ fn truth_at(inputs: Option<&Value<'_>>, name: &str) -> Option<bool>
 
 /// The values of the inputs, if each has one.
 fn values_in(graph: &Graph, inputs: Option<&Value<'_>>) -> Option<Inputs>
-    ensures { MatchOption result (LacksTruth graph.now.names.inputs
-        (option_map (λ v. view v.now) inputs.entry)) (λ v. HasTruths graph.now.names.inputs
-        (option_map (λ v. view v.now) inputs.entry) v) }
+    ensures { truths_in (option_map (λ v. view v.now) inputs.entry) graph.now.names.inputs
+        ≡ ok_or result StartFault.Missing }
 {
     graph.valid_law();
     let mut values = Inputs::new(graph.input_count());
@@ -70,9 +71,8 @@ fn values_in(graph: &Graph, inputs: Option<&Value<'_>>) -> Option<Inputs>
 }
 
 fn token_in(graph: &Graph, name: &str) -> Result<TokenId, Miss<StartFault>>
-    ensures takes { Takes result (λ t. (is_declared graph.now.names.tokens name.now ≡ true)
-        × (number_of graph.now.names.tokens name.now ≡ Some t.0))
-        (IsUnknownName (is_declared graph.now.names.tokens name.now)) }
+    ensures yields { Yields token_number result (ok_or (number_of graph.now.names.tokens name.now)
+        StartFault.Unknown) }
     ensures unknown { IfErr result (λ e. e ≡ Miss.Wrong StartFault.Unknown) }
 {
     match graph.token(name) {
@@ -82,10 +82,8 @@ fn token_in(graph: &Graph, name: &str) -> Result<TokenId, Miss<StartFault>>
 }
 
 fn tokens_in(alloc: Global, graph: &Graph, names: &[&str]) -> Result<Vec<TokenId>, Miss<StartFault>>
-    ensures { Takes result (λ v. (are_declared graph.now.names.tokens (map (λ s. s.now) names.now)
-        ≡ true) × AreNumbers graph.now.names.tokens (map (λ s. s.now) names.now)
-        (map token_number v.items)) (IsUnknownName (are_declared graph.now.names.tokens
-        (map (λ s. s.now) names.now))) }
+    ensures { Yields (λ v. map token_number v.items) result
+        (numbers_in graph.now.names.tokens (map (λ s. s.now) names.now)) }
 {
     let mut tokens = Vec::new(alloc);
     for name in names {
@@ -96,9 +94,8 @@ fn tokens_in(alloc: Global, graph: &Graph, names: &[&str]) -> Result<Vec<TokenId
 }
 
 fn site_in(graph: &Graph, name: &str) -> Result<SiteId, Miss<StartFault>>
-    ensures takes { Takes result (λ t. (is_declared graph.now.names.sites name.now ≡ true)
-        × (number_of graph.now.names.sites name.now ≡ Some t.0))
-        (IsUnknownName (is_declared graph.now.names.sites name.now)) }
+    ensures yields { Yields site_number result (ok_or (number_of graph.now.names.sites name.now)
+        StartFault.Unknown) }
     ensures unknown { IfErr result (λ e. e ≡ Miss.Wrong StartFault.Unknown) }
 {
     match graph.site(name) {
@@ -108,10 +105,8 @@ fn site_in(graph: &Graph, name: &str) -> Result<SiteId, Miss<StartFault>>
 }
 
 fn sites_in(alloc: Global, graph: &Graph, names: &[&str]) -> Result<Vec<SiteId>, Miss<StartFault>>
-    ensures { Takes result (λ v. (are_declared graph.now.names.sites (map (λ s. s.now) names.now)
-        ≡ true) × AreNumbers graph.now.names.sites (map (λ s. s.now) names.now)
-        (map site_number v.items)) (IsUnknownName (are_declared graph.now.names.sites
-        (map (λ s. s.now) names.now))) }
+    ensures { Yields (λ v. map site_number v.items) result
+        (numbers_in graph.now.names.sites (map (λ s. s.now) names.now)) }
 {
     let mut sites = Vec::new(alloc);
     for name in names {
@@ -143,13 +138,9 @@ fn may_all_fail(graph: &Graph, sites: &[SiteId]) -> bool
 }
 
 /// The start with ids in place of names.
-pub(crate) fn start_in(
-    alloc: Global,
-    graph: &Graph,
-    start: &NamedStart,
-) -> Result<Start, Miss<StartFault>>
-    ensures { Takes result (λ s. IsStartOf graph.now (start_of start.now) (value_of s))
-        (IsWrongStart graph.now (start_of start.now)) }
+#[tactic(auto, unfolding(crate::specs::Begin::start_in))]
+fn start_in(alloc: Global, graph: &Graph, start: &NamedStart) -> Result<Start, Miss<StartFault>>
+    ensures { Yields value_of result (start_in graph.now (start_of start.now)) }
 {
     if !knows_members(graph, start.inputs) {
         return Err(Miss::Wrong(StartFault::Unknown));
@@ -168,4 +159,38 @@ pub(crate) fn start_in(
         request,
         fail,
     })
+}
+
+fn start_if_any(
+    alloc: Global,
+    graph: &Graph,
+    start: &Option<NamedStart>,
+) -> Result<Option<Start>, Miss<StartFault>>
+    ensures { Yields (option_map value_of) result
+        (start_if_any graph.now (option_map start_of start.now)) }
+{
+    match start {
+        None => Ok(None),
+        Some(start) => {
+            let start = start_in(alloc, graph, start)?;
+            Ok(Some(start))
+        }
+    }
+}
+
+/// The start, if there is one, where the ends that were seen are those of tasks.
+#[tactic(auto, unfolding(crate::specs::Document::begin_in))]
+pub(crate) fn begin_in(
+    alloc: Global,
+    graph: &Graph,
+    start: &Option<NamedStart>,
+    ended: Option<&Value<'_>>,
+) -> Result<Option<Start>, Miss<StartFault>>
+    ensures { Yields (option_map value_of) result (begin_in graph.now
+        (option_map start_of start.now) (option_map (λ v. view v.now) ended.entry)) }
+{
+    if !knows_ends(graph, ended) {
+        return Err(Miss::Wrong(StartFault::Unknown));
+    }
+    start_if_any(alloc, graph, start)
 }

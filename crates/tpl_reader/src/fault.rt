@@ -2,12 +2,13 @@
 
 ghost use Rattle.std.specs.Prelude.{◌≡◌};
 ghost use Rattle.tpl_reader.specs.declared.fault.ReadFault.TheVariants.{Memory as ReadMemory};
+ghost use Rattle.tpl_reader.specs.Faults.{shape_fault, claim_fault, tree_fault, start_fault};
 
 use std::alloc::{AllocError, AllocFailed};
 use thiserror::Error;
 use tpl_cert::TreeFault;
 use tpl_graph::GraphFault;
-use tpl_json::Shape;
+use tpl_json::Miss;
 
 /// A part of a document. Tasks and claims count from 1.
 #[derive(Clone, Copy, Debug, PartialEq, Eq, Error)]
@@ -103,5 +104,49 @@ impl<T: Drop> From<AllocFailed<T>> for ReadFault {
 
     fn from(_e: AllocFailed<T>) -> ReadFault {
         ReadFault::Memory
+    }
+}
+
+impl From<Miss<Part>> for ReadFault {
+    ghost from_gives = { λ miss e. e ≡ shape_fault miss };
+
+    fn from(miss: Miss<Part>) -> ReadFault {
+        match miss {
+            Miss::Wrong(part) => ReadFault::Shape(part),
+            Miss::Memory => ReadFault::Memory,
+        }
+    }
+}
+
+impl From<Miss<(usize, ClaimFault)>> for ReadFault {
+    ghost from_gives = { λ miss e. e ≡ claim_fault miss };
+
+    fn from(miss: Miss<(usize, ClaimFault)>) -> ReadFault {
+        match miss {
+            Miss::Wrong((number, fault)) => ReadFault::Claim(number, fault),
+            Miss::Memory => ReadFault::Memory,
+        }
+    }
+}
+
+impl From<Miss<(usize, TreeFault)>> for ReadFault {
+    ghost from_gives = { λ miss e. e ≡ tree_fault miss };
+
+    fn from(miss: Miss<(usize, TreeFault)>) -> ReadFault {
+        match miss {
+            Miss::Wrong((number, fault)) => ReadFault::Certificate(number, fault),
+            Miss::Memory => ReadFault::Memory,
+        }
+    }
+}
+
+impl From<Miss<StartFault>> for ReadFault {
+    ghost from_gives = { λ miss e. e ≡ start_fault miss };
+
+    fn from(miss: Miss<StartFault>) -> ReadFault {
+        match miss {
+            Miss::Wrong(fault) => ReadFault::Start(fault),
+            Miss::Memory => ReadFault::Memory,
+        }
     }
 }

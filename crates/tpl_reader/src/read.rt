@@ -1,6 +1,6 @@
 //! From bytes to a document.
 
-ghost use Rattle.std.specs.Prelude.{◌≡◌, ◌≤◌, ℕ, List, Option, true, length, map, string_bytes, IfOk, IfErr};
+ghost use Rattle.std.specs.Prelude.{◌≡◌, ◌≤◌, ℕ, List, Option, Ok, length, map, string_bytes, IfOk, IfErr};
 ghost use Rattle.std.specs.List.{All};
 ghost use Rattle.std.specs.Option.{option_map};
 ghost use Rattle.tpl_json.specs.View.{view};
@@ -10,31 +10,32 @@ ghost use Rattle.tpl_draft.specs.Numbered.{numbered};
 ghost use Rattle.tpl_draft.specs.Refusals.{IsValid};
 ghost use Rattle.tpl_draft.specs.SeenTasks.{draft_of};
 ghost use Rattle.tpl_cert.specs.Heights.{IsWithinLimits};
-ghost use Rattle.tpl_cert.specs.Spelled.{ReadsAs};
 ghost use Rattle.tpl_graph.specs.Fits.{Fits};
 ghost use Rattle.tpl_parts.specs.SeenClaims.{claim_of};
 ghost use Rattle.tpl_parts.specs.SeenStart.{start_of};
 ghost use Rattle.tpl_reader.specs.SeenDocument.{value_of, doc_of, spelled_of, spelled_with};
-ghost use Rattle.tpl_reader.specs.Passes.{AllRead};
-ghost use Rattle.tpl_reader.specs.Ends.{knows_ends, ends_in};
+ghost use Rattle.tpl_reader.specs.Passes.{Yields};
+ghost use Rattle.tpl_reader.specs.Asked.{most_claims, claims_for};
+ghost use Rattle.tpl_reader.specs.Trees.{AreTrees};
+ghost use Rattle.tpl_reader.specs.Ends.{ends_in};
 ghost use Rattle.tpl_reader.specs.declared.fault.ReadFault.TheVariants.{Memory};
-ghost use Rattle.tpl_reader.specs.Document.{most_claims, AreAsked, IsStarted, GraphFaults, ClaimFaults, TreeFaults, BeginFaults, StartFaults, IsDocument, IsRefused, longest, Reads, Spells, IsFault};
+ghost use Rattle.tpl_reader.specs.Document.{begin_in, GraphFaults, IsDocument, IsRefused, longest, Reads, Spells, IsFault};
 
 use crate::asked::claims_in;
-use crate::begin::start_in;
+use crate::begin::begin_in;
 use crate::document::{Document, Start};
-use crate::ends::{ends_in, knows_ends};
-use crate::fault::{ClaimFault, ReadFault, StartFault};
+use crate::ends::ends_in;
+use crate::fault::{ClaimFault, ReadFault};
 use crate::hear::{Hear, Misread, Unheard};
 use crate::shape::{NamedRest, Shaped, shape_of};
 use crate::trees::trees_in;
 use json::{Scratch, Value};
 use std::alloc::Global;
-use tpl_cert::{Certificate, Tree, TreeFault};
+use tpl_cert::{Certificate, Tree};
 use tpl_graph::{Claim, Draft, Graph, Why};
 use tpl_json::{Miss, NotRead, value_from};
 use tpl_model::{Final, TaskId};
-use tpl_parts::{NamedClaim, NamedStart, Version};
+use tpl_parts::{NamedClaim, Version};
 
 /// The most bytes of a document (this program's own limit).
 pub const LONGEST: usize = 16_777_216;
@@ -65,79 +66,23 @@ fn graph_of(alloc: Global, draft: Draft) -> Result<Graph, ReadFault>
     }
 }
 
+/// The claims with ids in place of names, where there aren't too many.
 fn claims_for(
     alloc: Global,
     version: Version,
     graph: &Graph,
     claims: &[NamedClaim],
-) -> Result<Vec<Claim>, ReadFault>
-    ensures ok { IfOk result (λ v. AreAsked version graph.now (map claim_of claims.now) v.items) }
-    ensures err { IfErr result (ClaimFaults version graph.now (map claim_of claims.now)) }
+) -> Result<Vec<Claim>, Miss<(usize, ClaimFault)>>
+    ensures claims { Yields (λ v. v.items) result (claims_for version graph.now
+        (map claim_of claims.now)) }
+    ensures fits { IfOk result (λ v. All (Fits graph.now.graph) v.items) }
 {
+    graph.valid_law();
     let most = most_claims(version);
     if claims.len() > most {
-        return Err(ReadFault::Claim(most + 1, ClaimFault::TooMany));
+        return Err(Miss::Wrong((most + 1, ClaimFault::TooMany)));
     }
-    match claims_in(alloc, graph, claims) {
-        Ok(claims) => Ok(claims),
-        Err(Miss::Wrong((number, fault))) => Err(ReadFault::Claim(number, fault)),
-        Err(Miss::Memory) => Err(ReadFault::Memory),
-    }
-}
-
-fn trees_for(alloc: Global, graph: &Graph, values: &[Value<'_>]) -> Result<Vec<Tree>, ReadFault>
-    ensures ok { IfOk result (λ v. AllRead (ReadsAs graph.now.names) (map view values.now)
-        v.items) }
-    ensures err { IfErr result (TreeFaults graph.now (map view values.now)) }
-{
-    match trees_in(alloc, graph, values) {
-        Ok(trees) => Ok(trees),
-        Err(Miss::Wrong((_, TreeFault::Memory))) => Err(ReadFault::Memory),
-        Err(Miss::Wrong((number, fault))) => Err(ReadFault::Certificate(number, fault)),
-        Err(Miss::Memory) => Err(ReadFault::Memory),
-    }
-}
-
-fn start_for(
-    alloc: Global,
-    graph: &Graph,
-    start: &Option<NamedStart>,
-) -> Result<Option<Start>, ReadFault>
-    ensures ok { IfOk result (λ o. IsStarted graph.now (option_map start_of start.now)
-        (option_map value_of o)) }
-    ensures err { IfErr result (BeginFaults graph.now (option_map start_of start.now)) }
-{
-    match start {
-        None => Ok(None),
-        Some(start) => match start_in(alloc, graph, start) {
-            Ok(start) => Ok(Some(start)),
-            Err(Miss::Wrong(fault)) => Err(ReadFault::Start(fault)),
-            Err(Miss::Memory) => Err(ReadFault::Memory),
-        },
-    }
-}
-
-/// The start, where the ends that were seen are those of tasks.
-fn start_beside(
-    alloc: Global,
-    graph: &Graph,
-    start: &Option<NamedStart>,
-    ended: Option<&Value<'_>>,
-) -> Result<Option<Start>, ReadFault>
-    ensures ok { IfOk result (λ o. IsStarted graph.now (option_map start_of start.now)
-        (option_map value_of o)) }
-    ensures known { IfOk result (λ _. knows_ends graph.now.names.tasks
-        (option_map (λ v. view v.now) ended.entry) ≡ true) }
-    ensures err { IfErr result (StartFaults graph.now (option_map start_of start.now)
-        (option_map (λ v. view v.now) ended.entry)) }
-{
-    if !knows_ends(graph, ended) {
-        return Err(ReadFault::Start(StartFault::Unknown));
-    }
-    match start_for(alloc, graph, start) {
-        Ok(start) => Ok(start),
-        Err(fault) => Err(fault),
-    }
+    claims_in(alloc, graph, claims)
 }
 
 /// The name of the claim, in memory of its own. Out of memory is the only error.
@@ -186,17 +131,16 @@ fn rest_of(
     graph: &Graph,
     named: &NamedRest<'_, '_>,
 ) -> Result<Rest, ReadFault>
-    ensures claims { IfOk result (λ r. AreAsked version graph.now
-        (map claim_of named.now.claims.items) r.claims.items) }
-    ensures trees { IfOk result (λ r. AllRead (ReadsAs graph.now.names)
+    ensures claims { IfOk result (λ r. claims_for version graph.now
+        (map claim_of named.now.claims.items) ≡ Ok r.claims.items) }
+    ensures fits { IfOk result (λ r. All (Fits graph.now.graph) r.claims.items) }
+    ensures trees { IfOk result (λ r. AreTrees graph.now.names
         (map view named.now.certificate.now) r.trees.items) }
     ensures journal { IfOk result (λ r. string_bytes r.journal ≡ named.now.journal.now) }
-    ensures start { IfOk result (λ r. IsStarted graph.now (option_map start_of named.now.start)
-        (option_map value_of r.start)) }
+    ensures start { IfOk result (λ r. begin_in graph.now (option_map start_of named.now.start)
+        (option_map (λ v. view v.now) named.now.ended) ≡ Ok (option_map value_of r.start)) }
     ensures names { IfOk result (λ r. map (λ n. option_map string_bytes n) r.names.items
         ≡ map (λ c. c.name) (map claim_of named.now.claims.items)) }
-    ensures known { IfOk result (λ _. knows_ends graph.now.names.tasks
-        (option_map (λ v. view v.now) named.now.ended) ≡ true) }
     ensures ended { IfOk result (λ r. r.ended.items ≡ ends_in graph.now.names.tasks
         (option_map (λ v. view v.now) named.now.ended)) }
     ensures tasks { IfOk result (λ r. All (λ said. is_task graph.now.graph said.0.0) r.ended.items) }
@@ -205,8 +149,8 @@ fn rest_of(
 {
     let journal = String::from_str(alloc, named.journal)?;
     let claims = claims_for(alloc, version, graph, &named.claims)?;
-    let trees = trees_for(alloc, graph, named.certificate)?;
-    let start = start_beside(alloc, graph, &named.start, named.ended)?;
+    let trees = trees_in(alloc, graph, named.certificate)?;
+    let start = begin_in(alloc, graph, &named.start, named.ended)?;
     let names = names_of(alloc, &named.claims)?;
     let ended = ends_in(alloc, graph, named.ended)?;
     Ok(Rest {
@@ -258,11 +202,8 @@ fn document_from(alloc: Global, value: &Value<'_>) -> Result<Document, ReadFault
     ensures err { IfErr result (λ e. (bytes : List ℕ) → length bytes ≤ longest
         → Reads bytes (view value.now) → IsFault bytes e) }
 {
-    match shape_of(alloc, value) {
-        Ok(shaped) => document_of(alloc, shaped),
-        Err(Miss::Wrong(part)) => Err(ReadFault::Shape(part)),
-        Err(Miss::Memory) => Err(ReadFault::Memory),
-    }
+    let shaped = shape_of(alloc, value)?;
+    document_of(alloc, shaped)
 }
 
 /// The document that the bytes spell: a JSON text in UTF-8 as `serde_json` reads it, of at most 16,777,216 bytes and 127

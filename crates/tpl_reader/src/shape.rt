@@ -1,6 +1,6 @@
 //! A document as far as its shape goes, part by part.
 
-ghost use Rattle.std.specs.Prelude.{◌≡◌, Some, None, Ok, Err};
+ghost use Rattle.std.specs.Prelude.{ok_or};
 ghost use Rattle.std.specs.Option.{option_map};
 ghost use Rattle.tpl_json.specs.View.{view};
 ghost use Rattle.tpl_parts.specs.Start.{start_or_none};
@@ -8,7 +8,7 @@ ghost use Rattle.tpl_parts.specs.SeenStart.{start_of};
 ghost use Rattle.tpl_reader.specs.Top.{top_at};
 ghost use Rattle.tpl_reader.specs.SeenTop.{members_of};
 ghost use Rattle.tpl_reader.specs.SeenDocument.{spelled_of};
-ghost use Rattle.tpl_reader.specs.Asked.{Takes};
+ghost use Rattle.tpl_reader.specs.Passes.{Yields};
 ghost use Rattle.tpl_reader.specs.Shape.{spelled_at};
 ghost use Rattle.tpl_reader.specs.declared.fault.Part.TheVariants.{Top, Start};
 
@@ -40,8 +40,7 @@ pub(crate) struct Shaped<'v, 't> {
 }
 
 fn top_part<'v, 't>(alloc: Global, value: &'v Value<'t>) -> Result<Members<'v, 't>, Miss<Part>>
-    ensures { Takes result (λ m. top_at (view value.now) ≡ Some (members_of m))
-        (λ p. (p ≡ Top) × (top_at (view value.now) ≡ None)) }
+    ensures { Yields members_of result (ok_or (top_at (view value.now)) Top) }
 {
     match members_of(alloc, value) {
         Ok(members) => Ok(members),
@@ -54,9 +53,8 @@ fn start_part<'v, 't>(
     alloc: Global,
     value: Option<&'v Value<'t>>,
 ) -> Result<Option<NamedStart<'v, 't>>, Miss<Part>>
-    ensures { Takes result (λ o. start_or_none (option_map (λ v. view v.now) value.entry)
-        ≡ Some (option_map start_of o)) (λ p. (p ≡ Start) × (start_or_none
-        (option_map (λ v. view v.now) value.entry) ≡ None)) }
+    ensures { Yields (option_map start_of) result (ok_or (start_or_none
+        (option_map (λ v. view v.now) value.entry)) Start) }
 {
     match start_or_none(alloc, value) {
         Ok(start) => Ok(start),
@@ -66,12 +64,12 @@ fn start_part<'v, 't>(
 }
 
 /// The document with names, or the first part of the wrong shape.
+#[tactic(auto, unfolding(crate::specs::Shape::spelled_at))]
 pub(crate) fn shape_of<'v, 't>(
     alloc: Global,
     value: &'v Value<'t>,
 ) -> Result<Shaped<'v, 't>, Miss<Part>>
-    ensures { Takes result (λ s. spelled_at (view value.now) ≡ Ok (spelled_of s))
-        (λ p. spelled_at (view value.now) ≡ Err p) }
+    ensures { Yields spelled_of result (spelled_at (view value.now)) }
 {
     let members = top_part(alloc, value)?;
     let tasks = tasks_of(alloc, members.version, members.tasks)?;

@@ -1,6 +1,6 @@
 //! Reading a document as far as its shape goes.
 
-ghost use Rattle.std.specs.Prelude.{◌≡◌, Some, None, Ok, Err, map, codes, string_bytes, IfErr};
+ghost use Rattle.std.specs.Prelude.{◌≡◌, map, codes, string_bytes, IfErr};
 ghost use Rattle.std.specs.Option.{option_map};
 ghost use Rattle.serde_json.specs.Find.{get};
 ghost use Rattle.tpl_json.specs.View.{view};
@@ -11,7 +11,7 @@ ghost use Rattle.tpl_reader.specs.SeenTop.{members_of};
 ghost use Rattle.tpl_parts.specs.Tasks.{task_at, token_at};
 ghost use Rattle.tpl_parts.specs.Claims.{claim_at};
 ghost use Rattle.tpl_reader.specs.Top.{version_in, version_at, text_or_empty, added, ends_or_none, is_line_break, line_breaks, never_fall, are_times, whole_at, times_or_none, top_names, top_at};
-ghost use Rattle.tpl_reader.specs.Asked.{Takes};
+ghost use Rattle.tpl_reader.specs.Passes.{Yields};
 ghost use Rattle.tpl_reader.specs.Shape.{parts_in};
 ghost use Rattle.tpl_reader.specs.declared.fault.Part.TheVariants.{Task, Claim};
 
@@ -261,54 +261,24 @@ pub(crate) fn members_of<'v, 't>(
     })
 }
 
-fn numbered_task(
-    alloc: Global,
-    version: Version,
-    number: usize,
-    value: &Value<'_>,
-) -> Result<DraftTask, Miss<Part>>
-    ensures { Takes result (λ t. task_at version (view value.now) ≡ Some (task_of t))
-        (λ p. (p ≡ Task number) × (task_at version (view value.now) ≡ None)) }
-{
-    match task_of(alloc, version, value) {
-        Ok(task) => Ok(task),
-        Err(Miss::Wrong(Shape)) => Err(Miss::Wrong(Part::Task(number))),
-        Err(Miss::Memory) => Err(Miss::Memory),
-    }
-}
-
 /// The tasks with names, up to the first of the wrong shape.
 pub(crate) fn tasks_of(
     alloc: Global,
     version: Version,
     values: &[Value<'_>],
 ) -> Result<Vec<DraftTask>, Miss<Part>>
-    ensures { Takes result (λ v. parts_in Task (task_at version) 1 (map view values.now)
-        ≡ Ok (map task_of v.items)) (λ p. parts_in Task (task_at version) 1 (map view values.now)
-        ≡ Err p) }
+    ensures { Yields (λ v. map task_of v.items) result (parts_in Task (task_at version)
+        (map view values.now)) }
 {
     let mut tasks = Vec::new(alloc);
     for (index, value) in values.iter().enumerate() {
-        let one = numbered_task(alloc, version, index + 1, value)?;
-        tasks.push(one)?;
+        match task_of(alloc, version, value) {
+            Ok(task) => tasks.push(task)?,
+            Err(Miss::Wrong(Shape)) => return Err(Miss::Wrong(Part::Task(index + 1))),
+            Err(Miss::Memory) => return Err(Miss::Memory),
+        }
     }
     Ok(tasks)
-}
-
-fn numbered_claim<'v, 't>(
-    alloc: Global,
-    version: Version,
-    number: usize,
-    value: &'v Value<'t>,
-) -> Result<NamedClaim<'v>, Miss<Part>>
-    ensures { Takes result (λ c. claim_at version (view value.now) ≡ Some (claim_of c))
-        (λ p. (p ≡ Claim number) × (claim_at version (view value.now) ≡ None)) }
-{
-    match claim_of(alloc, version, value) {
-        Ok(claim) => Ok(claim),
-        Err(Miss::Wrong(Shape)) => Err(Miss::Wrong(Part::Claim(number))),
-        Err(Miss::Memory) => Err(Miss::Memory),
-    }
 }
 
 /// The claims with names, up to the first of the wrong shape.
@@ -317,14 +287,16 @@ pub(crate) fn claims_of<'v, 't>(
     version: Version,
     values: &'v [Value<'t>],
 ) -> Result<Vec<NamedClaim<'v>>, Miss<Part>>
-    ensures { Takes result (λ v. parts_in Claim (claim_at version) 1 (map view values.now)
-        ≡ Ok (map claim_of v.items)) (λ p. parts_in Claim (claim_at version) 1
-        (map view values.now) ≡ Err p) }
+    ensures { Yields (λ v. map claim_of v.items) result (parts_in Claim (claim_at version)
+        (map view values.now)) }
 {
     let mut claims = Vec::new(alloc);
     for (index, value) in values.iter().enumerate() {
-        let one = numbered_claim(alloc, version, index + 1, value)?;
-        claims.push(one)?;
+        match claim_of(alloc, version, value) {
+            Ok(claim) => claims.push(claim)?,
+            Err(Miss::Wrong(Shape)) => return Err(Miss::Wrong(Part::Claim(index + 1))),
+            Err(Miss::Memory) => return Err(Miss::Memory),
+        }
     }
     Ok(claims)
 }

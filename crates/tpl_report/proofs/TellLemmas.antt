@@ -1,5 +1,5 @@
 -- From a session's report to what tells its run.
-use Rattle.std.proofs.Common.{◌≡◌, ◌∙◌, ℕ, ◌<◌, ◌≤◌, Bool, true, false, List, [], length, Option, Some, None, codes, refl, sym, subst, inl, inr, arith}
+use Rattle.std.proofs.Common.{◌≡◌, ◌∙◌, ℕ, ◌<◌, ◌≤◌, Bool, true, false, List, [], length, Option, Some, None, ok_or, codes, refl, sym, subst, inl, inr, arith}
 use Rattle.std.specs.Prelude.{reverse, nat_eq}
 use Rattle.std.specs.Borrow.{Bor}
 use Rattle.std.specs.List.{All}
@@ -11,8 +11,11 @@ use Rattle.tpl_journal.specs.declared.counting.Counting.{Counting}
 use Rattle.tpl_journal.specs.Lines.{CanSpell}
 use Rattle.tpl_journal.specs.ReportText.{ReportValue, ReportText}
 use Rattle.tpl_parts.specs.Start.{NamedStart}
-use Rattle.tpl_reader.specs.Begin.{StartValue}
-use Rattle.tpl_reader.specs.Document.{DocumentValue, IsStarted, Spells, longest}
+use Rattle.tpl_reader.specs.declared.fault.StartFault.TheVariants.{Missing}
+use Rattle.tpl_reader.specs.Begin.{StartValue, truth_at}
+use Rattle.tpl_reader.specs.Document.{DocumentValue, Spells, longest}
+use Rattle.tpl_reader.proofs.Passes.{each_length}
+use Rattle.tpl_reader.proofs.Begins.{AreParts, begin_parts}
 use Rattle.tpl_reader.specs.Laws.{SpellsOneDocument}
 use Rattle.tpl_reader.specs.Starting.{inputs_of, no_inputs, values_of}
 use Rattle.tpl_verify.specs.Filled.{IsTextOf}
@@ -32,16 +35,18 @@ module _ (doc : DocumentValue) (inputs : List Bool) (named : IsNamedGraph doc.gr
       subst (λ (i : List Bool). length i ≡ doc.graph.graph.inputs) same (sym (eqb-true doc.graph.graph.inputs 0 none))
   without_start false some e = absurd cc
 
-  by_start : (o : Option NamedStart) (start : Option StartValue) → IsStarted doc.graph o start → values_of start (no_inputs (nat_eq doc.graph.graph.inputs 0)) ≡ Some inputs → length inputs ≡ doc.graph.graph.inputs
+  by_start : (o : Option NamedStart) (start : Option StartValue) → AreParts doc.graph o start → values_of start (no_inputs (nat_eq doc.graph.graph.inputs 0)) ≡ Some inputs → length inputs ≡ doc.graph.graph.inputs
   by_start None None is e = without_start (nat_eq doc.graph.graph.inputs 0) refl e
   by_start None (Some t) is e = absurd is
   by_start (Some s) None is e = absurd is
   by_start (Some s) (Some t) is e =
       let same : t.inputs ≡ inputs = cc in
-      subst (λ (i : List Bool). length i ≡ doc.graph.graph.inputs) same (is.inputs.count ∙ named.inputs)
+      subst (λ (i : List Bool). length i ≡ doc.graph.graph.inputs) same (each_length (λ n name. ok_or (truth_at s.inputs name) Missing) 1 doc.graph.names.inputs t.inputs is.inputs ∙ named.inputs)
 
 pub inputs_fit : (bytes : List ℕ) (doc : DocumentValue) (inputs : List Bool) → IsNamedGraph doc.graph → Spells bytes doc → inputs_of doc ≡ Some inputs → length inputs ≡ doc.graph.graph.inputs
-inputs_fit bytes doc inputs named spelled known = by_start doc inputs named spelled.1.2.0.start doc.start spelled.1.2.2.start known
+inputs_fit bytes doc inputs named spelled known =
+    let s = spelled.1.2.0 in
+    by_start doc inputs named s.start doc.start (begin_parts doc.graph s.start s.ended doc.start spelled.1.2.2.start).1 known
 
 -- what is written of a report tells its run
 

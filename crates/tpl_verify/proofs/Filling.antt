@@ -10,6 +10,7 @@ use Rattle.tpl_parts.specs.Start.{NamedStart, start_or_none}
 use Rattle.tpl_reader.specs.Shape.{Spelled, spelled_at}
 use Rattle.tpl_reader.specs.Document.{DocumentValue, IsDocument, Reads, Spells}
 use Rattle.tpl_json.proofs.Json.{some, get_depth}
+use Rattle.tpl_reader.proofs.Begins.{begin_parts, begin_of}
 use Rattle.tpl_reader.proofs.OneDocument.{value_same}
 use Rattle.tpl_reader.proofs.TopLaws.{parts_of, top_put}
 use Rattle.tpl_reader.proofs.Pieces.{pieces_of, spelled_of, spelled_object}
@@ -103,8 +104,8 @@ document_run s doc values text old new is count has = record {
   names = is.names;
   certificate = is.certificate;
   journal = refl;
-  start = start_value doc.graph values has.inputs s.start doc.start count has.all is.start;
-  known = is.known;
+  start = let parts = begin_parts doc.graph s.start s.ended doc.start is.start in
+      begin_of doc.graph (Some (named_with (object has.inputs) s.start)) s.ended (Some (started doc.start values)) parts.0 (start_value doc.graph values has.inputs s.start doc.start count has.all parts.1);
   ended = is.ended;
   times = is.times;
 }

@@ -1,7 +1,5 @@
 -- The start with other inputs is read as that.
-use Rattle.std.proofs.Common.{◌≡◌, ℕ, ◌-◌, ◌≤◌, ◌&&◌, List, [], ◌∷◌, Bool, true, Option, Some, None, length, codes, option_and_then, refl, sym, ap, subst, ◌∙◌, arith}
-use Rattle.std.proofs.lemmas.Bool.{and_from}
-use Rattle.tpl_model.proofs.Truths.{and_second}
+use Rattle.std.proofs.Common.{◌≡◌, ℕ, ◌-◌, ◌≤◌, List, [], ◌∷◌, Bool, true, Option, Some, None, Ok, ok_or, length, codes, option_and_then, refl, sym, ap, subst, ◌∙◌, arith}
 use Rattle.serde_json.specs.Data.{Data, Members, no_members, object, put, depth}
 use Rattle.serde_json.specs.Find.{get, as_str, as_bool}
 use Rattle.serde_json.proofs.Views.{get_member-put}
@@ -9,11 +7,14 @@ use Rattle.tpl_draft.specs.Named.{Named}
 use Rattle.tpl_json.specs.Members.{◌>>=◌, only_if, has_only, list_or_none, each, texts_in}
 use Rattle.tpl_json.proofs.Arrays.{bind_some, some_is}
 use Rattle.tpl_json.proofs.Json.{only_is}
-use Rattle.tpl_cert.specs.Naming.{are_declared}
+use Rattle.tpl_cert.specs.Naming.{number_of}
 use Rattle.tpl_parts.specs.Start.{NamedStart, all_values, has_truths, truths_or_none, start_at, start_or_none}
 use Rattle.tpl_parts.proofs.Ends.{is_truth}
-use Rattle.tpl_reader.specs.Begin.{StartValue, knows_members, truth_at, HasTruths, IsStartOf}
-use Rattle.tpl_reader.specs.Document.{IsStarted}
+use Rattle.tpl_reader.specs.declared.fault.StartFault.TheVariants.{Unknown}
+use Rattle.tpl_reader.specs.Begin.{StartValue, knows_members, truth_at, truths_in}
+use Rattle.tpl_reader.proofs.Passes.{each_empty}
+use Rattle.tpl_reader.proofs.Begins as begin
+use Rattle.tpl_reader.proofs.Begins.{AreParts, truths_are}
 use Rattle.tpl_verify.specs.Filled.{AreFirst, IsStartWith, start_data, started}
 use Rattle.tpl_json.proofs.Puts.{only_put, is_object, other, depth_put}
 
@@ -116,29 +117,26 @@ known_inputs : (names : List (List ℕ)) (values : List Bool) (ms : Members) →
 unfolding knows_members
 known_inputs names values ms all = all.declared
 
-given_truths : (names : List (List ℕ)) (values : List Bool) (ms : Members) → length values ≡ length names → AreFirst names values (length names) ms → HasTruths names (Some (object ms)) values
+given_truths : (names : List (List ℕ)) (values : List Bool) (ms : Members) → length values ≡ length names → AreFirst names values (length names) ms → truths_in (Some (object ms)) names ≡ Ok values
 unfolding truth_at
-given_truths names values ms count all = record {
-  count = count;
-  each = λ i lt. ap (option_and_then as_bool) (all.each i lt);
-}
+given_truths names values ms count all = truths_are (Some (object ms)) names values count (λ i lt. ap (option_and_then as_bool) (all.each i lt))
 
 pub start_value : (g : Named) (values : List Bool) (ms : Members) (s : Option NamedStart) (start : Option StartValue) → length values ≡ length g.names.inputs → AreFirst g.names.inputs values (length g.names.inputs) ms
-    → IsStarted g s start → IsStartOf g (named_with (object ms) s) (started start values)
+    → AreParts g s start → begin.Parts g (named_with (object ms) s) (started start values)
 start_value g values ms None None count all is = record {
-  known = and_from _ _ (known_inputs g.names.inputs values ms all) refl;
+  known = known_inputs g.names.inputs values ms all;
+  request = each_empty (λ n name. ok_or (number_of g.names.tokens name) Unknown) 1;
+  fail = each_empty (λ n name. ok_or (number_of g.names.sites name) Unknown) 1;
   inputs = given_truths g.names.inputs values ms count all;
-  request = refl;
-  sites = refl;
   may_fail = refl;
 }
 start_value g values ms None (Some start) count all is = absurd is
 start_value g values ms (Some s) None count all is = absurd is
 start_value g values ms (Some s) (Some start) count all is = record {
-  known = and_from _ _ (known_inputs g.names.inputs values ms all) (and_second (knows_members g.names.inputs s.inputs) (are_declared g.names.tokens s.request && are_declared g.names.sites s.fail) is.known);
-  inputs = given_truths g.names.inputs values ms count all;
+  known = known_inputs g.names.inputs values ms all;
   request = is.request;
-  sites = is.sites;
+  fail = is.fail;
+  inputs = given_truths g.names.inputs values ms count all;
   may_fail = is.may_fail;
 }
 

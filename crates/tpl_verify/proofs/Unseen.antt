@@ -10,6 +10,7 @@ use Rattle.tpl_reader.specs.Top as top
 use Rattle.tpl_reader.specs.Top.{ends_or_none, times_or_none, top_names, top_at}
 use Rattle.tpl_reader.specs.Shape.{Spelled, spelled_at}
 use Rattle.tpl_reader.specs.Document.{DocumentValue, IsDocument}
+use Rattle.tpl_reader.proofs.Begins.{begin_parts, begin_of}
 use Rattle.tpl_reader.proofs.TopLaws.{Parts, parts_of, top_of, but, moved}
 use Rattle.tpl_reader.proofs.Pieces.{pieces_of, spelled_of}
 use Rattle.tpl_verify.specs.Filled.{without, HasForm, IsUnseen}
@@ -71,8 +72,7 @@ document_unseen s doc is = record {
   names = is.names;
   certificate = is.certificate;
   journal = is.journal;
-  start = is.start;
-  known = refl;
+  start = begin_of doc.graph s.start None doc.start refl (begin_parts doc.graph s.start s.ended doc.start is.start).1;
   ended = refl;
   times = refl;
 }

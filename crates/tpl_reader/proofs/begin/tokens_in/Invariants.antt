@@ -1,7 +1,7 @@
-use Rattle.std.proofs.Common.{◌≡◌, map, take, true}
+use Rattle.std.proofs.Common.{◌≡◌, map, take, Ok}
 use Rattle.tpl_draft.specs.Ids.{token_number}
-use Rattle.tpl_cert.specs.Naming.{are_declared, AreNumbers}
+use Rattle.tpl_reader.specs.Begin.{numbers_in}
 use Rattle.tpl_reader.proofs.begin.tokens_in.Given as goal
 
 abbrev pub invariant-loop-name : goal.invariant-loop-name
-invariant-loop-name l = (are_declared l.graph.names.tokens (map (λ s. s.now) (take l.name-index l.names)) ≡ true) × AreNumbers l.graph.names.tokens (map (λ s. s.now) (take l.name-index l.names)) (map token_number l.tokens.items)
+invariant-loop-name l = numbers_in l.graph.names.tokens (map (λ s. s.now) (take l.name-index l.names)) ≡ Ok (map token_number l.tokens.items)

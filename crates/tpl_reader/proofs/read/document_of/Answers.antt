@@ -3,17 +3,13 @@ use Rattle.std.proofs.lemmas.Result.{err_from_is_err_and}
 use Rattle.std.specs.Option.{option_map}
 use Rattle.tpl_json.specs.View.{view}
 use Rattle.tpl_draft.specs.SeenTasks.{draft_of}
-use Rattle.tpl_reader.proofs.Checkable.{all_fit, all_within}
+use Rattle.tpl_reader.proofs.TreeLaws.{all_within}
 use Rattle.tpl_reader.proofs.read.document_of.Goals as goal
 
 pub returns-in_err-rest-clause-err : goal.returns-in_err-rest-clause-err
 returns-in_err-rest-clause-err c =
     let p = err_from_is_err_and c.from_residual-in_err-rest.result c.from_residual-in_err-rest.ensures.1 in
     rw (p.1, p.2) (c.in_err-rest.ensures.err (draft_of c.args.shaped.draft) (option_map (λ v. v.items) c.args.shaped.times) c.in_ok-graph.ensures.ok.0 c.in_ok-graph.ensures.ok.1)
-
-pub returns-clause-claims : goal.returns-clause-claims
-returns-clause-claims c =
-    all_fit c.args.shaped.version c.in_ok-graph.graph _ c.in_ok-rest.rest.claims.items c.in_ok-rest.ensures.claims
 
 pub returns-clause-trees : goal.returns-clause-trees
 returns-clause-trees c =
