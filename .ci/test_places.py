@@ -1,5 +1,5 @@
-"""Tests that CONTRIBUTING.md names what else to touch: each crate whose code or definitions tell the cases apart of what is
-added, and only files that there are."""
+"""Tests that CONTRIBUTING.md names what else to touch: each crate whose code, definitions or proofs tell the cases apart of
+what is added, and only files that there are."""
 import os
 import re
 
@@ -29,12 +29,13 @@ def paragraph(added):
 
 
 def stated(name):
-    """The files of a crate that say what it does: its code and its definitions."""
-    return [it for it in files_of(name) if os.path.relpath(it, f"{TOP}/crates/{name}").split("/")[0] in ("src", "specs")]
+    """The files of a crate that say what it does and why: its code, its definitions and its proofs."""
+    part = lambda path: os.path.relpath(path, f"{TOP}/crates/{name}").split("/")[0]
+    return [it for it in files_of(name) if part(it) in ("src", "specs", "proofs")]
 
 
 def tells(name, cases):
-    """Whether a crate's code or definitions tell the cases apart."""
+    """Whether a crate's code, definitions or proofs tell the cases apart."""
     for path in stated(name):
         with open(path, encoding="utf-8") as file:
             if re.search(cases, file.read()):
@@ -51,7 +52,7 @@ def test_crates_are_named(added):
 
 @pytest.mark.parametrize("added", CASES)
 def test_files_are_there(added):
-    """A file's name is that of one of the crate that was named last, or of a page."""
+    """A file's name is that of one of the crate that was named last, of a page, or of one of the repository."""
     named, crate = re.findall(r"`([^`]+)`|(\bdocs/[\w-]+\.md)", paragraph(added)), ""
     assert named
     for code, page in named:
@@ -59,6 +60,6 @@ def test_files_are_there(added):
         if code.startswith("tpl_"):
             crate, _, path = code.partition("/")
         if "/" in path and not page:
-            assert os.path.exists(f"{TOP}/crates/{crate}/{path}"), (crate, path)
+            assert any(os.path.exists(f"{TOP}/{it}{path}") for it in (f"crates/{crate}/", "")), (crate, path)
         elif page:
             assert os.path.exists(f"{TOP}/{page}"), page
