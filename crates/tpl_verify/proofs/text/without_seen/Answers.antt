@@ -3,8 +3,9 @@ use Rattle.serde_json.specs.Data.{Data, Members, object}
 use Rattle.serde_json.specs.View.{view, members_view}
 use Rattle.serde_json.specs.Find.{get_member}
 use Rattle.serde_json.proofs.Views.{view-Object}
-use Rattle.tpl_json.proofs.Puts.{object_is}
+use Rattle.tpl_json.proofs.Puts.{object_is, object_has}
 use Rattle.tpl_verify.specs.Filled.{without}
+use Rattle.tpl_verify.proofs.Filling.{form_object}
 use Rattle.tpl_verify.proofs.Without.{view_without, none_found}
 use Rattle.tpl_verify.proofs.text.without_seen.Goals as goal
 
@@ -21,3 +22,8 @@ returns-in-Some c =
       no_times = ap (get_member (codes "times")) (sym untimed) ∙ none_found (codes "times") c.remove-in-Some.new.self.entries c.remove-in-Some.ensures.updates.1;
       new_is = view-Object c.remove-in-Some.new.self ∙ ap (λ (ms : Members). object ms) untimed;
     }
+
+pub returns-in_default : goal.returns-in_default
+returns-in_default c =
+    let form = form_object (view c.args.document) c.requires in
+    absurd (object_has (view c.args.document) form.0 form.1 (sym c.in_default.ensures.value))
