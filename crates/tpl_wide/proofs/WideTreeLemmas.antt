@@ -1,0 +1,233 @@
+-- Leaf by leaf, and claim by claim.
+use Rattle.std.proofs.Common.{◌≡◌, ℕ, zero, suc, ◌+◌, ◌<◌, ◌≤◌, ◌&&◌, ◌||◌, not, ◌++◌, Bool, true, false, Option, Some, None, Result, Ok, Err, List, [], ◌∷◌, drop, length, map, take, nat_eq, refl, sym, ap, ◌∙◌, subst, slice_index_or, nat_lt, add_assoc, inl, inr, arith}
+use Rattle.std.specs.Prelude.{IfOk, IfErr, slice_get}
+use Rattle.std.specs.Option.{option_map}
+use Rattle.std.proofs.lemmas.Bool.{cases_lt, eqb-true, ltb-true, and_parts}
+use Rattle.std.proofs.lemmas.List.{drop_more, take_more, map-append}
+use Rattle.std.proofs.lemmas.Option.{slice_get-map, slice_get-get_or}
+use Rattle.tpl_laws.proofs.FaultsDecided.{no_unless}
+use Rattle.tpl_model.proofs.Truths.{and_assoc, and_true}
+use Rattle.tpl_model.specs.Members.{mem}
+use Rattle.tpl_model.specs.Knowledge.{Fact, ChildEnd}
+use Rattle.tpl_model.specs.Graph.{TaskGraph, kind}
+use Rattle.tpl_model.specs.Claims.{Claim}
+use Rattle.tpl_model.specs.Certificate.{row, same}
+use Rattle.tpl_model.specs.WiderRules.{WideRow, WideAssumed, WideTree, OnInput, OnEnd, OnWinner, WideLeaf, ends_with, narrowed, plain, wide_row, widely_assumed, winner_split}
+use Rattle.tpl_model.specs.declared.claim.Property.{Property}
+use Rattle.tpl_model.specs.declared.fault.CertFault.{CertFault}
+use Rattle.tpl_model.specs.declared.fault.CertFault.TheVariants.{Shape}
+use Rattle.tpl_model.specs.declared.ids.TaskId.{TaskId}
+use Rattle.tpl_paths.specs.declared.reading.ChildEnd.{ChildEnd as StoredChildEnd}
+use Rattle.tpl_paths.specs.Reading.{end_of}
+use Rattle.tpl_laws.specs.Verdict.{at_leaf, or_else, no_fault, rows_fit}
+use Rattle.tpl_laws.specs.WiderTests.{wide_leaf_fault}
+use Rattle.tpl_laws.specs.WideVerdict.{may_have_winner, tokens_fit, wide_claims_fault, wide_fits, wide_misfit, wide_tree_fault, wide_leaves}
+use Rattle.tpl_checker.specs.declared.assumptions.Assumptions.{Assumptions}
+use Rattle.tpl_checker.specs.declared.leaf.LeafFault.{LeafFault}
+use Rattle.tpl_checker.specs.Assumptions.{assumed_of}
+use Rattle.tpl_checker.specs.Leaves.{why}
+use Rattle.tpl_checker.proofs.Basics.{drop_all}
+use Rattle.tpl_checker.proofs.ShapeLemmas.{no_one}
+use Rattle.tpl_checker.proofs.TreeLemmas.{or_else_first, or_else_second}
+use Rattle.tpl_wide.specs.declared.error.WideFault.{WideFault}
+use Rattle.tpl_wide.specs.declared.error.WideFault.TheVariants.{Fails, Memory}
+use Rattle.tpl_wide.specs.declared.winners.WinnerSplit.{WinnerSplit}
+use Rattle.tpl_wide.specs.Faults.{IsAnswer, WidelyFailing}
+use Rattle.tpl_wide.specs.Leaf.{row_end, row_facts, wide_assumed}
+use Rattle.tpl_wide.specs.Narrowed.{narrowed_before}
+use Rattle.tpl_wide.specs.Winners.{all_leave, leaves_winner}
+use Rattle.tpl_wide.proofs.Rows.{by_fact, plain_row}
+
+-- where the first part fails, so does the whole
+pub failing_first : (a b : Option CertFault) (n m : ℕ) (e : WideFault) → WidelyFailing a n (Err e) → WidelyFailing (or_else a b) m (Err e)
+failing_first a b n m (Fails x) f = or_else_first a b x f
+failing_first a b n m Memory f = tt
+
+-- where the first part has no fault, the second decides
+pub failing_second : (a b : Option CertFault) (n m : ℕ) (r : Result ℕ WideFault) → a ≡ None → n ≡ m → WidelyFailing b n r → WidelyFailing (or_else a b) m r
+failing_second a b n m (Ok k) e same f = (or_else_second a b e ∙ f.0, f.1 ∙ same)
+failing_second a b n m (Err (Fails x)) e same f = or_else_second a b e ∙ f
+failing_second a b n m (Err Memory) e same f = tt
+
+-- the ids of a split are the graph's, and its branches fit
+pub record InputFits (g : TaskGraph) (i : ℕ) (a b : WideTree) : Type 0 where
+  pub input : i < g.inputs
+  pub on_true : wide_fits g a ≡ true
+  pub on_false : wide_fits g b ≡ true
+
+pub input_fits : (g : TaskGraph) (i : ℕ) (a b : WideTree) → wide_fits g (OnInput i a b) ≡ true → InputFits g i a b
+input_fits g i a b e =
+    let s = and_parts (nat_lt i g.inputs) (wide_fits g a && wide_fits g b) e in
+    let r = and_parts (wide_fits g a) (wide_fits g b) s.1 in
+    record { input = ltb-true i g.inputs s.0; on_true = r.0; on_false = r.1 }
+
+pub record EndFits (g : TaskGraph) (t : ℕ) (a b c : WideTree) : Type 0 where
+  pub task : t < length g.tasks
+  pub ran : wide_fits g a ≡ true
+  pub canceled : wide_fits g b ≡ true
+  pub faulted : wide_fits g c ≡ true
+
+pub end_fits : (g : TaskGraph) (t : ℕ) (a b c : WideTree) → wide_fits g (OnEnd t a b c) ≡ true → EndFits g t a b c
+end_fits g t a b c e =
+    let s = and_parts (nat_lt t (length g.tasks)) (wide_fits g a && (wide_fits g b && wide_fits g c)) e in
+    let r = and_parts (wide_fits g a) (wide_fits g b && wide_fits g c) s.1 in
+    let q = and_parts (wide_fits g b) (wide_fits g c) r.1 in
+    record { task = ltb-true t (length g.tasks) s.0; ran = r.0; canceled = q.0; faulted = q.1 }
+
+pub record WinnerFits (g : TaskGraph) (a b : WideTree) : Type 0 where
+  pub on_yes : wide_fits g a ≡ true
+  pub on_no : wide_fits g b ≡ true
+
+pub winner_fits : (g : TaskGraph) (n x : ℕ) (a b : WideTree) → wide_fits g (OnWinner n x a b) ≡ true → WinnerFits g a b
+winner_fits g n x a b e =
+    let s = and_parts (may_have_winner (kind g n) x) (wide_fits g a && wide_fits g b) e in
+    let r = and_parts (wide_fits g a) (wide_fits g b) s.1 in
+    record { on_yes = r.0; on_no = r.1 }
+
+-- a leaf has a row for each task, and the ids in them are the graph's
+pub record LeafFits (g : TaskGraph) (rows : List WideRow) : Type 0 where
+  pub count : length rows ≡ length g.tasks
+  pub ids : rows_fit g (plain rows) ≡ true
+
+pub leaf_fits : (g : TaskGraph) (rows : List WideRow) → wide_fits g (WideLeaf rows) ≡ true → LeafFits g rows
+leaf_fits g rows e =
+    let s = and_parts (nat_eq (length rows) (length g.tasks)) (rows_fit g (plain rows) && tokens_fit g rows) e in
+    let r = and_parts (rows_fit g (plain rows)) (tokens_fit g rows) s.1 in
+    record { count = eqb-true (length rows) (length g.tasks) s.0; ids = r.0 }
+
+-- one more split on a winner
+all_leave_more : (splits : List WinnerSplit) (s : WinnerSplit) (m y : ℕ) → all_leave (splits ++ s ∷ []) m y ≡ (all_leave splits m y && leaves_winner s m y)
+all_leave_more [] s m y = and_true (leaves_winner s m y)
+all_leave_more (x ∷ splits) s m y = ap (λ z. leaves_winner x m y && z) (all_leave_more splits s m y) ∙ sym (and_assoc (leaves_winner x m y) (all_leave splits m y) (leaves_winner s m y))
+
+pub one_more_split : (a : Assumptions) (splits items : List WinnerSplit) (n x : TaskId) (wins : Bool) → items ≡ splits ++ (record { task = n; argument = x; wins = wins }) ∷ [] → wide_assumed a items ≡ winner_split (wide_assumed a splits) n.0 x.0 wins
+one_more_split a splits items n x wins e =
+    ap (wide_assumed a) e ∙ (λ i. record { assumed = assumed_of a; wins = λ m y. all_leave_more splits (record { task = n; argument = x; wins = wins }) m y i })
+
+-- a split on a winner, where the branch on which it wins fails, and where that has no fault
+module _ (g : TaskGraph) (p : Property TaskId) (claim first : ℕ) (l won : WideAssumed) (tree : WideTree) (n x : ℕ) (a b one : WideTree) (is : tree ≡ OnWinner n x a b) (wins : won ≡ winner_split l n x true) (is_one : one ≡ a) where
+  pub winner_fails : (e : WideFault) → WidelyFailing (wide_tree_fault g p claim won first one) (first + wide_leaves one) (Err e) → WidelyFailing (wide_tree_fault g p claim l first tree) (first + wide_leaves tree) (Err e)
+  winner_fails e h =
+      let here : wide_tree_fault g p claim won first one ≡ wide_tree_fault g p claim (winner_split l n x true) first a = λ i. wide_tree_fault g p claim (wins i) first (is_one i) in
+      subst (λ (z : WideTree). WidelyFailing (wide_tree_fault g p claim l first z) (first + wide_leaves z) (Err e)) (sym is)
+      (failing_first (wide_tree_fault g p claim (winner_split l n x true) first a) (wide_tree_fault g p claim (winner_split l n x false) (first + wide_leaves a) b) (first + wide_leaves one) (first + wide_leaves (OnWinner n x a b)) e
+      (subst (λ (o : Option CertFault). WidelyFailing o (first + wide_leaves one) (Err e)) here h))
+
+  pub loser_decides : (lost : WideAssumed) (other : WideTree) (next : ℕ) (r : Result ℕ WideFault) → lost ≡ winner_split l n x false → other ≡ b → wide_tree_fault g p claim won first one ≡ None → next ≡ first + wide_leaves one
+      → WidelyFailing (wide_tree_fault g p claim lost next other) (next + wide_leaves other) r → WidelyFailing (wide_tree_fault g p claim l first tree) (first + wide_leaves tree) r
+  loser_decides lost other next r loses is_other none up h =
+      let here : wide_tree_fault g p claim won first one ≡ wide_tree_fault g p claim (winner_split l n x true) first a = λ i. wide_tree_fault g p claim (wins i) first (is_one i) in
+      let on : next ≡ first + wide_leaves a = up ∙ ap (λ z. first + wide_leaves z) is_one in
+      let there : wide_tree_fault g p claim lost next other ≡ wide_tree_fault g p claim (winner_split l n x false) (first + wide_leaves a) b = λ i. wide_tree_fault g p claim (loses i) (on i) (is_other i) in
+      let all : next + wide_leaves other ≡ first + wide_leaves (OnWinner n x a b) = (λ i. on i + wide_leaves (is_other i)) ∙ add_assoc first (wide_leaves a) (wide_leaves b) in
+      subst (λ (z : WideTree). WidelyFailing (wide_tree_fault g p claim l first z) (first + wide_leaves z) r) (sym is)
+      (failing_second (wide_tree_fault g p claim (winner_split l n x true) first a) (wide_tree_fault g p claim (winner_split l n x false) (first + wide_leaves a) b) (next + wide_leaves other) (first + wide_leaves (OnWinner n x a b)) r (sym here ∙ none) all
+      (subst (λ (o : Option CertFault). WidelyFailing o (next + wide_leaves other) r) there h))
+
+-- a leaf, where the ends that its splits left are narrowed
+module _ (g : TaskGraph) (p : Property TaskId) (claim n : ℕ) (a b : Assumptions) (splits : List WinnerSplit) (rows : List WideRow) (narrow : assumed_of b ≡ narrowed_before g (assumed_of a) (length g.tasks)) where
+  narrowed_leaf : wide_leaf_fault g p (wide_assumed b splits) rows ≡ wide_leaf_fault g p (narrowed g (wide_assumed a splits)) rows
+  narrowed_leaf = λ i. wide_leaf_fault g p (record { assumed = narrow i; wins = all_leave splits }) rows
+
+  pub leaf_clear : None ≡ wide_leaf_fault g p (wide_assumed b splits) rows → wide_tree_fault g p claim (wide_assumed a splits) n (WideLeaf rows) ≡ None
+  leaf_clear e = ap (at_leaf claim n) (sym (e ∙ narrowed_leaf))
+
+  pub leaf_fails : (fault : LeafFault) (placed : CertFault) → Some (why fault) ≡ wide_leaf_fault g p (wide_assumed b splits) rows → Some placed ≡ at_leaf claim n (Some (why fault)) → wide_tree_fault g p claim (wide_assumed a splits) n (WideLeaf rows) ≡ Some placed
+  leaf_fails fault placed e h = ap (at_leaf claim n) (sym (e ∙ narrowed_leaf)) ∙ sym h
+
+-- how tasks end, by their rows
+same_end : (rows : List WideRow) (t : ℕ) → row_end (wide_row rows t) ≡ record { ends = (row (plain rows) t).ends; facts = ends_with rows t }
+same_end rows t = λ i. record { ends = (plain_row rows t i).ends; facts = λ f. same_facts f i }
+  where
+    same_facts : (f : Fact) → row_facts (wide_row rows t) f ≡ ends_with rows t f
+    same_facts = by_fact (λ f. row_facts (wide_row rows t) f ≡ ends_with rows t f) (λ x. ap (λ r. mem x r.past) (plain_row rows t)) (λ k. refl)
+
+pub ends_of_rows : (rows : List WideRow) (ends : List StoredChildEnd) → map end_of ends ≡ map row_end rows → (t : ℕ) → t < length rows
+    → option_map end_of (slice_get ends t) ≡ Some (record { ends = (row (plain rows) t).ends; facts = ends_with rows t })
+ends_of_rows rows ends h t lt =
+    sym (slice_get-map end_of ends t)
+    ∙ (ap (λ (es : List ChildEnd). slice_get es t) h
+    ∙ (slice_get-map row_end rows t
+    ∙ (ap (λ o. option_map row_end o) (slice_get-get_or rows t (record { row = row [] t; asked = []; asks = [] }) lt)
+    ∙ ap Some (same_end rows t))))
+
+pub one_more_end : (rows : List WideRow) (ends : List StoredChildEnd) (i : ℕ) (d : WideRow) (e : StoredChildEnd) → i < length rows → map end_of ends ≡ map row_end (take i rows) → end_of e ≡ row_end (slice_index_or rows i d) → map end_of (ends ++ e ∷ []) ≡ map row_end (take (i + 1) rows)
+one_more_end rows ends i d e lt h same =
+    map-append end_of ends (e ∷ [])
+    ∙ ((λ j. h j ++ same j ∷ [])
+    ∙ (sym (map-append row_end (take i rows) (slice_index_or rows i d ∷ [])) ∙ ap (λ (rs : List WideRow). map row_end rs) (sym (take_more rows i d lt))))
+
+-- the first i claims are proved, and the others have trees that fit
+pub record ClaimsSoFar (g : TaskGraph) (claims : List Claim) (trees : List WideTree) (i : ℕ) : Type 0 where
+  pub same : wide_claims_fault g 1 claims trees ≡ wide_claims_fault g (i + 1) (drop i claims) (drop i trees)
+  pub fit : wide_misfit g (i + 1) (drop i claims) (drop i trees) ≡ None
+
+pub no_claims_yet : (g : TaskGraph) (claims : List Claim) (trees : List WideTree) → wide_misfit g 1 claims trees ≡ None → ClaimsSoFar g claims trees 0
+no_claims_yet g claims trees e = record { same = refl; fit = e }
+
+some_none : {A : Type 0} (x : A) → Some x ≡ None → ⊥
+some_none x e = absurd (cc)
+
+module _ (g : TaskGraph) (claims : List Claim) (trees : List WideTree) (i : ℕ) (in_claims : i < length claims) (so_far : ClaimsSoFar g claims trees i) where
+  pub tree_there : i < length trees
+  tree_there = elim (cases_lt i (length trees)) [
+    | inl lt ↦ lt
+    | inr le ↦ absurd (some_none (Shape (i + 1)) (sym (λ k. wide_misfit g (i + 1) (drop_more claims i no_one in_claims k) (drop_all trees i le k)) ∙ so_far.fit))
+  ]
+
+module _ (g : TaskGraph) (claims : List Claim) (trees : List WideTree) (i : ℕ) (c : Claim) (t : WideTree) (in_claims : i < length claims) (in_trees : i < length trees) (so_far : ClaimsSoFar g claims trees i) where
+  split : (wide_fits g (slice_index_or trees i t) ≡ true) × (wide_misfit g (suc (i + 1)) (drop (i + 1) claims) (drop (i + 1) trees) ≡ None)
+  split =
+      no_unless (wide_fits g (slice_index_or trees i t)) (Shape (i + 1)) (wide_misfit g (suc (i + 1)) (drop (i + 1) claims) (drop (i + 1) trees))
+      (sym (λ k. wide_misfit g (i + 1) (drop_more claims i c in_claims k) (drop_more trees i t in_trees k)) ∙ so_far.fit)
+
+  pub tree_fits : wide_fits g (slice_index_or trees i t) ≡ true
+  tree_fits = split.0
+
+  opened : wide_claims_fault g 1 claims trees ≡ or_else (wide_tree_fault g (slice_index_or claims i c).body (i + 1) (widely_assumed g (slice_index_or claims i c)) 1 (slice_index_or trees i t)) (wide_claims_fault g (suc (i + 1)) (drop (i + 1) claims) (drop (i + 1) trees))
+  opened = so_far.same ∙ (λ k. wide_claims_fault g (i + 1) (drop_more claims i c in_claims k) (drop_more trees i t in_trees k))
+
+  up : suc (i + 1) ≡ (i + 1) + 1
+  up = omega arith
+
+  claim_next : wide_tree_fault g (slice_index_or claims i c).body (i + 1) (widely_assumed g (slice_index_or claims i c)) 1 (slice_index_or trees i t) ≡ None → ClaimsSoFar g claims trees (i + 1)
+  claim_next e = record {
+    same = opened ∙ (or_else_second (wide_tree_fault g (slice_index_or claims i c).body (i + 1) (widely_assumed g (slice_index_or claims i c)) 1 (slice_index_or trees i t)) (wide_claims_fault g (suc (i + 1)) (drop (i + 1) claims) (drop (i + 1) trees)) e ∙ ap (λ n. wide_claims_fault g n (drop (i + 1) claims) (drop (i + 1) trees)) up);
+    fit = ap (λ n. wide_misfit g n (drop (i + 1) claims) (drop (i + 1) trees)) (sym up) ∙ split.1;
+  }
+
+  claim_here_fails : (n : ℕ) (e : WideFault) → WidelyFailing (wide_tree_fault g (slice_index_or claims i c).body (i + 1) (widely_assumed g (slice_index_or claims i c)) 1 (slice_index_or trees i t)) n (Err e) → IsAnswer (no_fault (wide_claims_fault g 1 claims trees)) (Err e)
+  claim_here_fails n (Fails x) e = ap no_fault (opened ∙ or_else_first (wide_tree_fault g (slice_index_or claims i c).body (i + 1) (widely_assumed g (slice_index_or claims i c)) 1 (slice_index_or trees i t)) (wide_claims_fault g (suc (i + 1)) (drop (i + 1) claims) (drop (i + 1) trees)) x e)
+  claim_here_fails n Memory e = tt
+
+  -- at the claim c with the tree t
+  module _ (is_claim : c ≡ slice_index_or claims i c) (is_tree : t ≡ slice_index_or trees i t) where
+    here : wide_tree_fault g c.body (i + 1) (widely_assumed g c) 1 t ≡ wide_tree_fault g (slice_index_or claims i c).body (i + 1) (widely_assumed g (slice_index_or claims i c)) 1 (slice_index_or trees i t)
+    here = λ j. wide_tree_fault g (is_claim j).body (i + 1) (widely_assumed g (is_claim j)) 1 (is_tree j)
+
+    pub claim_proved : wide_tree_fault g c.body (i + 1) (widely_assumed g c) 1 t ≡ None → ClaimsSoFar g claims trees (i + 1)
+    claim_proved e = claim_next (sym here ∙ e)
+
+    -- where its tree fails, or memory ends, so does the whole
+    pub claim_fails : (n : ℕ) (e : WideFault) → WidelyFailing (wide_tree_fault g c.body (i + 1) (widely_assumed g c) 1 t) n (Err e) → IsAnswer (no_fault (wide_claims_fault g 1 claims trees)) (Err e)
+    claim_fails n e f = claim_here_fails n e (subst (λ (z : Option CertFault). WidelyFailing z n (Err e)) here f)
+
+pub all_proved : (g : TaskGraph) (claims : List Claim) (trees : List WideTree) (i : ℕ) → length claims ≤ i → ClaimsSoFar g claims trees i → no_fault (wide_claims_fault g 1 claims trees) ≡ Ok tt
+all_proved g claims trees i le s = ap no_fault (s.same ∙ none (drop i claims) (drop_all claims i le))
+  where
+    none : (cs : List Claim) → cs ≡ [] → wide_claims_fault g (i + 1) cs (drop i trees) ≡ None
+    none cs e = ap (λ z. wide_claims_fault g (i + 1) z (drop i trees)) e
+
+err_not_ok : {P : Type 0} (x : CertFault) (r : Result (Unit {0}) CertFault) → r ≡ Err x → r ≡ Ok tt → P
+err_not_ok x r a b = absurd (cc)
+
+-- what is said where the answer is Ok, and where it is an error
+module _ (verdict : Result (Unit {0}) CertFault) (P : Type 0) where
+  pub if_ok : (r : Result (Unit {0}) WideFault) → IsAnswer verdict r → (verdict ≡ Ok tt → P) → IfOk r (λ u. P)
+  if_ok (Ok u) a h = h a
+  if_ok (Err e) a h = tt
+
+  pub if_err : (r : Result (Unit {0}) WideFault) → IsAnswer verdict r → (P → verdict ≡ Ok tt) → IfErr r (λ e. P → e ≡ Memory)
+  if_err (Ok u) a h = tt
+  if_err (Err (Fails x)) a h = λ p. err_not_ok x verdict a (h p)
+  if_err (Err Memory) a h = λ p. refl

@@ -1,0 +1,66 @@
+use Rattle.std.proofs.Common.{◌≡◌, ◌∙◌, true, false, ap, subst, arith}
+use Rattle.std.proofs.lemmas.Result.{err_from_is_err_and}
+use Rattle.tpl_cert.specs.WideTrees.{wide_node_of}
+use Rattle.tpl_model.specs.WiderRules.{WideTree, winner_split}
+use Rattle.tpl_laws.specs.WideVerdict.{wide_fits}
+use Rattle.tpl_wide.specs.Check.{graph_in}
+use Rattle.tpl_wide.specs.Leaf.{wide_assumed}
+use Rattle.tpl_wide.proofs.WideTreeLemmas.{end_fits, input_fits, loser_decides, one_more_split, winner_fails}
+use Rattle.tpl_wide.proofs.tree.+tree_fault.Goals as goal
+
+pub with_input-yes-requires : goal.with_input-yes-requires
+with_input-yes-requires t c =
+    let g = graph_in c.args.check.now in
+    let fit = input_fits g c.in-SplitInput.input.0 c.in-SplitInput.on_true.value c.in-SplitInput.on_false.value (subst (λ (z : WideTree). wide_fits g z ≡ true) (c.node.ensures ∙ ap wide_node_of c.in-SplitInput.is) c.requires.fits) in
+    omega (arith, fit.input, c.valid_law.ensures.graph.inputs)
+
+pub with_input-no-requires : goal.with_input-no-requires
+with_input-no-requires t c =
+    let g = graph_in c.args.check.now in
+    let fit = input_fits g c.in-SplitInput.input.0 c.in-SplitInput.on_true.value c.in-SplitInput.on_false.value (subst (λ (z : WideTree). wide_fits g z ≡ true) (c.node.ensures ∙ ap wide_node_of c.in-SplitInput.is) c.requires.fits) in
+    omega (arith, fit.input, c.valid_law.ensures.graph.inputs)
+
+pub with_end-on_ran-requires : goal.with_end-on_ran-requires
+with_end-on_ran-requires t c =
+    let g = graph_in c.args.check.now in
+    let fit = end_fits g c.in-SplitEnd.task.0 c.in-SplitEnd.ran.value c.in-SplitEnd.canceled.value c.in-SplitEnd.faulted.value (subst (λ (z : WideTree). wide_fits g z ≡ true) (c.node.ensures ∙ ap wide_node_of c.in-SplitEnd.is) c.requires.fits) in
+    omega (arith, fit.task, c.valid_law.ensures.graph.tasks)
+
+pub with_end-on_canceled-requires : goal.with_end-on_canceled-requires
+with_end-on_canceled-requires t c =
+    let g = graph_in c.args.check.now in
+    let fit = end_fits g c.in-SplitEnd.task.0 c.in-SplitEnd.ran.value c.in-SplitEnd.canceled.value c.in-SplitEnd.faulted.value (subst (λ (z : WideTree). wide_fits g z ≡ true) (c.node.ensures ∙ ap wide_node_of c.in-SplitEnd.is) c.requires.fits) in
+    omega (arith, fit.task, c.valid_law.ensures.graph.tasks)
+
+pub with_end-on_faulted-requires : goal.with_end-on_faulted-requires
+with_end-on_faulted-requires t c =
+    let g = graph_in c.args.check.now in
+    let fit = end_fits g c.in-SplitEnd.task.0 c.in-SplitEnd.ran.value c.in-SplitEnd.canceled.value c.in-SplitEnd.faulted.value (subst (λ (z : WideTree). wide_fits g z ≡ true) (c.node.ensures ∙ ap wide_node_of c.in-SplitEnd.is) c.requires.fits) in
+    omega (arith, fit.task, c.valid_law.ensures.graph.tasks)
+
+pub returns-in_err-next-in-SplitWinner : goal.returns-in_err-next-in-SplitWinner
+returns-in_err-next-in-SplitWinner t c =
+    let a = c.args.assumed.now in
+    let n = c.in-SplitWinner.task in
+    let x = c.in-SplitWinner.argument in
+    let on_yes : c.deref-in-SplitWinner.result.now ≡ c.in-SplitWinner.on_yes.value = cc (c.deref-in-SplitWinner.ensures) in
+    let p = err_from_is_err_and c.from_residual-in_err-next-in-SplitWinner.result c.from_residual-in_err-next-in-SplitWinner.ensures.1 in
+    rw (p.1, p.2)
+    (winner_fails (graph_in c.args.check.now) c.args.check.now.property c.args.check.now.claim c.args.first (wide_assumed a c.args.winners.now) (wide_assumed a c.as_slice.result.now) c.args.tree.now n.0 x.0 c.in-SplitWinner.on_yes.value c.in-SplitWinner.on_no.value c.deref-in-SplitWinner.result.now
+    (c.node.ensures ∙ ap wide_node_of c.in-SplitWinner.is)
+    (one_more_split a c.args.winners.now c.as_slice.result.now n x true (c.as_slice.ensures.value ∙ c.in_ok-yes-in-SplitWinner.ensures))
+    on_yes c.in_err-next-in-SplitWinner.field-0.0 c.in_err-next-in-SplitWinner.ensures)
+
+pub returns-in_ok-next-in-SplitWinner : goal.returns-in_ok-next-in-SplitWinner
+returns-in_ok-next-in-SplitWinner t c =
+    let a = c.args.assumed.now in
+    let n = c.in-SplitWinner.task in
+    let x = c.in-SplitWinner.argument in
+    let on_yes : c.deref-in-SplitWinner.result.now ≡ c.in-SplitWinner.on_yes.value = cc (c.deref-in-SplitWinner.ensures) in
+    let on_no : c.deref-in-SplitWinner-2.result.now ≡ c.in-SplitWinner.on_no.value = cc (c.deref-in-SplitWinner-2.ensures) in
+    loser_decides (graph_in c.args.check.now) c.args.check.now.property c.args.check.now.claim c.args.first (wide_assumed a c.args.winners.now) (wide_assumed a c.as_slice.result.now) c.args.tree.now n.0 x.0 c.in-SplitWinner.on_yes.value c.in-SplitWinner.on_no.value c.deref-in-SplitWinner.result.now
+    (c.node.ensures ∙ ap wide_node_of c.in-SplitWinner.is)
+    (one_more_split a c.args.winners.now c.as_slice.result.now n x true (c.as_slice.ensures.value ∙ c.in_ok-yes-in-SplitWinner.ensures))
+    on_yes (wide_assumed a c.as_slice-in-SplitWinner.result.now) c.deref-in-SplitWinner-2.result.now c.in_ok-next-in-SplitWinner.next c.tree_fault-in-SplitWinner-2.result
+    (one_more_split a c.args.winners.now c.as_slice-in-SplitWinner.result.now n x false (c.as_slice-in-SplitWinner.ensures.value ∙ c.in_ok-no-in-SplitWinner.ensures))
+    on_no c.in_ok-next-in-SplitWinner.ensures.0 c.in_ok-next-in-SplitWinner.ensures.1 c.tree_fault-in-SplitWinner-2.ensures

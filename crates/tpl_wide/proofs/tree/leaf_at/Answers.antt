@@ -1,0 +1,31 @@
+use Rattle.std.proofs.Common.{List, map, ap, ◌∙◌, subst, sym, refl, length, ◌<◌}
+use Rattle.std.proofs.lemmas.Result.{err_from_is_err_and}
+use Rattle.tpl_paths.specs.declared.reading.ChildEnd.{ChildEnd as StoredChildEnd}
+use Rattle.tpl_paths.specs.Reading.{end_of}
+use Rattle.tpl_wide.specs.Check.{graph_in}
+use Rattle.tpl_wide.proofs.WideTreeLemmas.{ends_of_rows, leaf_clear, leaf_fails, leaf_fits}
+use Rattle.tpl_wide.proofs.tree.leaf_at.Goals as goal
+
+pub leaf_fault-requires-clause-leaf : goal.leaf_fault-requires-clause-leaf
+leaf_fault-requires-clause-leaf c =
+    let g = graph_in c.args.check.now in
+    let rows = c.args.rows.now in
+    let fit = leaf_fits g rows c.requires.fits in
+    record {
+      rows = fit.count;
+      linked = c.requires.check.linked;
+      ends = λ t lt. ends_of_rows rows c.as_slice.result.now (ap (λ (es : List StoredChildEnd). map end_of es) c.as_slice.ensures.value ∙ c.in_ok-ends.ensures) t (subst (λ n. t < n) (sym fit.count) lt);
+      below = c.requires.check.below;
+    }
+
+pub leaf_fault-requires-clause-ids : goal.leaf_fault-requires-clause-ids
+leaf_fault-requires-clause-ids c = (leaf_fits (graph_in c.args.check.now) c.args.rows.now c.requires.fits).ids
+
+pub returns-in_err-ends : goal.returns-in_err-ends
+returns-in_err-ends c = let p = err_from_is_err_and c.from_residual.result c.from_residual.ensures.1 in rw (p.1, p.2) tt
+
+pub returns-in-None : goal.returns-in-None
+returns-in-None c = (leaf_clear (graph_in c.args.check.now) c.args.check.now.property c.args.check.now.claim c.args.number c.args.assumed.now c.narrowed-narrowed.result c.args.winners.now c.args.rows.now c.narrowed-narrowed.ensures c.in-None.ensures, refl)
+
+pub returns : goal.returns
+returns c = leaf_fails (graph_in c.args.check.now) c.args.check.now.property c.args.check.now.claim c.args.number c.args.assumed.now c.narrowed-narrowed.result c.args.winners.now c.args.rows.now c.narrowed-narrowed.ensures c.in-Some.fault c.placed.result c.in-Some.ensures c.placed.ensures

@@ -1,0 +1,136 @@
+//! The check of a certificate whose rows speak of tokens too.
+
+ghost use Rattle.std.specs.Prelude.{◌≡◌, ◌+◌, ◌≤◌, ◌<◌, ◌^◌, List, Bool, IfOk, IfErr, IsTrue, None};
+ghost use Rattle.std.specs.List.{All};
+ghost use Rattle.tpl_cert.specs.WideHeights.{wide_height};
+ghost use Rattle.tpl_graph.specs.Fits.{Fits};
+ghost use Rattle.tpl_laws.specs.Soundness.{Each};
+ghost use Rattle.tpl_laws.specs.Verdict.{no_fault};
+ghost use Rattle.tpl_laws.specs.WideVerdict.{wide_claims_fault, wide_fits, wide_leaves, wide_misfit, wide_tree_fault, wide_verdict};
+ghost use Rattle.tpl_checker.specs.Below.{AreBelow};
+ghost use Rattle.tpl_model.specs.WiderRules.{WidelyAccepts, widely_assumed};
+ghost use Rattle.tpl_model.specs.Claims.{Holds};
+ghost use Rattle.tpl_model.specs.Rules.{Run};
+ghost use Rattle.tpl_model.specs.declared.event.Event.{Event};
+ghost use Rattle.tpl_wide.specs.declared.error.WideFault.TheVariants as faults;
+ghost use Rattle.tpl_wide.specs.Check.{AreLinks};
+ghost use Rattle.tpl_wide.specs.Faults.{IsAnswer, WidelyFailing};
+
+use crate::error::WideFault;
+use crate::links::links;
+use crate::shape::misfit;
+use crate::tree::{Check, tree_fault};
+use std::alloc::Global;
+use tpl_cert::WideTree;
+use tpl_checker::{Below, assumed_for};
+use tpl_graph::{Claim, Graph};
+use tpl_model::RuleSet;
+use tpl_paths::TokenSet;
+
+/// Checks that the trees prove the claims of the graph, each of which can be asked of it, by the wide
+/// rules for rows that speak of tokens too. No tree has more than 6 splits on a path
+/// (`tpl_cert::is_within_wide_limits` tests that).
+///
+/// The first fault is reported. `Shape` comes first, for the first claim that has it: it has no tree,
+/// or a tree has no claim, a leaf doesn't have one row for each task, a split on a winner isn't on an
+/// argument of a WhenAny task, or an id isn't the graph's. Then the claims are tested in order, the
+/// leaves of a tree in order (yes, no; ran, canceled, faulted), and the rows of a leaf in order:
+/// `NotClosed` names the first rule that the first row breaks. `ClaimNot` says that a leaf keeps the
+/// rules and doesn't prove the claim.
+///
+/// Where there is no fault, each claim holds in every run, for all inputs and whatever comes from
+/// outside. `Memory` says that an allocation was refused, and nothing of the certificate.
+pub fn check_wide(
+    alloc: Global,
+    graph: &Graph,
+    claims: &[Claim],
+    trees: &[WideTree],
+) -> Result<(), WideFault>
+    requires claims { All (Fits graph.now.graph) claims.now }
+    requires trees { All (λ tree. wide_height tree ≤ 6) trees.now }
+    ensures verdict { IsAnswer (wide_verdict graph.now.graph claims.now trees.now) result }
+    ensures accepted { IfOk result (λ u. WidelyAccepts graph.now.graph claims.now trees.now) }
+    ensures refused { IfErr result (λ fault. WidelyAccepts graph.now.graph claims.now trees.now
+        → fault ≡ faults.Memory) }
+    ensures sound { IfOk result (λ u. (v : List Bool) (h : List Event) → Run graph.now.graph v h
+        → Each (λ claim. Holds graph.now.graph claim v h) claims.now) }
+{
+    graph.valid_law();
+    tpl_laws::wide_verdict_is_right();
+    tpl_laws::wide_verdict_is_sound();
+    verdict(alloc, graph, claims, trees)
+}
+
+/// The first fault: shapes first, then claim by claim.
+fn verdict(
+    alloc: Global,
+    graph: &Graph,
+    claims: &[Claim],
+    trees: &[WideTree],
+) -> Result<(), WideFault>
+    requires claims { All (Fits graph.now.graph) claims.now }
+    requires trees { All (λ tree. wide_height tree ≤ 6) trees.now }
+    ensures { IsAnswer (wide_verdict graph.now.graph claims.now trees.now) result }
+{
+    match misfit(graph, claims, trees) {
+        Some(fault) => Err(WideFault::Fails(fault)),
+        None => claims_fault(alloc, graph, claims, trees),
+    }
+}
+
+/// The first claim whose tree fails.
+fn claims_fault(
+    alloc: Global,
+    graph: &Graph,
+    claims: &[Claim],
+    trees: &[WideTree],
+) -> Result<(), WideFault>
+    requires claims { All (Fits graph.now.graph) claims.now }
+    requires trees { All (λ tree. wide_height tree ≤ 6) trees.now }
+    requires shapes { wide_misfit graph.now.graph 1 claims.now trees.now ≡ None }
+    ensures { IsAnswer (no_fault (wide_claims_fault graph.now.graph 1 claims.now trees.now)) result }
+{
+    let below = Below::of_graph(graph);
+    let linked = links(graph);
+    for at in 0..claims.len() {
+        claim_fault(
+            alloc,
+            graph,
+            &below,
+            &linked,
+            at + 1,
+            &claims[at],
+            &trees[at],
+        )?;
+    }
+    Ok(())
+}
+
+/// The first leaf of the claim's tree that fails. Where none does, the number after the last one.
+fn claim_fault(
+    alloc: Global,
+    graph: &Graph,
+    below: &Below,
+    linked: &[TokenSet],
+    number: usize,
+    claim: &Claim,
+    tree: &WideTree,
+) -> Result<usize, WideFault>
+    requires claim { Fits graph.now.graph claim.now }
+    requires below { AreBelow graph.now.graph below.now }
+    requires linked { AreLinks graph.now.graph linked.now }
+    requires fits { IsTrue (wide_fits graph.now.graph tree.now) }
+    requires height { wide_height tree.now ≤ 6 }
+    ensures { WidelyFailing (wide_tree_fault graph.now.graph claim.now.body number
+        (widely_assumed graph.now.graph claim.now) 1 tree.now) (1 + wide_leaves tree.now) result }
+{
+    let check = Check {
+        graph,
+        property: claim.body(),
+        claim: number,
+        below,
+        linked,
+    };
+    let assumed = assumed_for(graph, claim, RuleSet::Wide);
+    tree_fault(alloc, &check, &assumed, &[], 1, tree)
+}
