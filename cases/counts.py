@@ -7,7 +7,6 @@ hardly differ from run to run, so one run is enough. It is a measurement and no 
 """
 import argparse
 import json
-import os
 import pathlib
 import re
 import subprocess
@@ -16,9 +15,12 @@ import tempfile
 
 from documents import COUNTED, LONGEST, sized, text_of
 from harness import HERE, PROGRAM, built
+from hostile import cost_of
 
 # where Debian's packages put the sources of Rust's crates
 REGISTRY = "/usr/share/cargo/registry"
+# how long an answer may take, in seconds of a processor
+PATIENCE = 600
 # each command as it is counted with and without --explain: by one thread, with few tries
 EXPLAINED = {
     "check": ["check"],
@@ -56,10 +58,8 @@ def instructions(words, given):
 
 def peak(words, given):
     """The most memory that a program takes with this file as its standard input, in bytes."""
-    with open(given, "rb") as stdin:
-        child = subprocess.Popen(words, stdin=stdin, stdout=subprocess.DEVNULL)
-        usage = os.wait4(child.pid, 0)[2]
-    return usage.ru_maxrss * 1024
+    program, *others = map(str, words)
+    return cost_of(program, others, given.read_text(encoding="utf-8"), PATIENCE).memory
 
 
 def small_objects():
