@@ -1,12 +1,13 @@
 //! What is said of the claims, one after another.
 
 ghost use Rattle.std.specs.Prelude.{IfOk};
-ghost use Rattle.std.specs.List.{All};
 ghost use Rattle.tpl_graph.specs.Fits.{Fits};
-ghost use Rattle.tpl_verify.specs.Verdicts.{AreVerdicts, IsSomeVerdict};
+ghost use Rattle.tpl_verify.specs.Verdicts.{IsSomeVerdict};
+ghost use Rattle.tpl_verdicts.specs.Judged.{AreJudged};
 ghost use Rattle.tpl_verdicts.specs.Lines.{AreNumbered, IsEntry};
 
 use crate::entry::Entry;
+use crate::judged::Judged;
 use crate::lines::lines_of;
 use crate::searched::Searched;
 use crate::word::word_of;
@@ -53,22 +54,16 @@ fn entry_of(
 }
 
 /// What is said of each claim, on which these are the verdicts.
-pub(crate) fn entries(
-    alloc: Global,
-    graph: &Graph,
-    claims: &[Claim],
-    names: &[Option<String>],
-    verdicts: &[Verdict],
-    searched: &Searched,
-) -> Result<Vec<Entry>, AllocError>
-    requires claims { All (Fits graph.now.graph) claims.now }
-    requires verdicts { AreVerdicts graph.now.graph claims.now verdicts.now }
+pub(crate) fn entries(alloc: Global, judged: Judged<'_>) -> Result<Vec<Entry>, AllocError>
+    requires { AreJudged judged.graph.now.graph judged.claims.now judged.verdicts.now }
     ensures { IfOk result (λ entries.
-        AreNumbered (IsEntry graph.now.names) 1 verdicts.now entries.items) }
+        AreNumbered (IsEntry judged.graph.now.names) 1 judged.verdicts.now entries.items) }
 {
     let mut entries = Vec::new(alloc);
+    let (graph, verdicts) = (judged.graph, judged.verdicts);
     for at in 0..verdicts.len() {
-        let (claim, name) = (&claims[at], names.get(at));
+        let (claim, name) = (&judged.claims[at], judged.names.get(at));
+        let searched = &judged.searched;
         let entry = entry_of(alloc, graph, claim, name, at + 1, &verdicts[at], searched)?;
         entries.push(entry)?;
     }

@@ -7,11 +7,13 @@ ghost use Rattle.serde_json.specs.View.{view};
 ghost use Rattle.tpl_graph.specs.Fits.{Fits};
 ghost use Rattle.tpl_journal.specs.Lines.{task_name, CanSpell};
 ghost use Rattle.tpl_model.specs.Graph.{is_task};
-ghost use Rattle.tpl_verify.specs.Verdicts.{AreVerdicts, IsEmpty, IsSomeVerdict};
+ghost use Rattle.tpl_verify.specs.Verdicts.{IsEmpty, IsSomeVerdict};
+ghost use Rattle.tpl_verdicts.specs.Judged.{AreJudged};
 ghost use Rattle.tpl_verify.specs.Filled.{AreFirst};
 ghost use Rattle.tpl_verdicts.specs.Lines.{AreNumbered};
 ghost use Rattle.tpl_verdicts.specs.Json.{empty_data, failed_data, held_data, ran_out_word, sums_data, tried_data, unknown_data, verdicts_data, why_data, IsClaimData, IsNamed, IsNamedData, IsJson, IsRunData};
 
+use crate::judged::Judged;
 use crate::sums::count_of;
 use crate::word::Word;
 use serde_json::{Value, json};
@@ -213,22 +215,16 @@ fn with_name(
 }
 
 /// What is said of each claim.
-fn claim_values(
-    alloc: Global,
-    graph: &Graph,
-    claims: &[Claim],
-    names: &[Option<String>],
-    verdicts: &[Verdict],
-) -> Result<Vec<Value>, AllocError>
-    requires claims { All (Fits graph.now.graph) claims.now }
-    requires verdicts { AreVerdicts graph.now.graph claims.now verdicts.now }
-    ensures { IfOk result (λ values. AreNumbered (IsNamedData graph.now.names) 1 verdicts.now
-        (map view values.items)) }
+fn claim_values(alloc: Global, judged: Judged<'_>) -> Result<Vec<Value>, AllocError>
+    requires { AreJudged judged.graph.now.graph judged.claims.now judged.verdicts.now }
+    ensures { IfOk result (λ values. AreNumbered (IsNamedData judged.graph.now.names) 1
+        judged.verdicts.now (map view values.items)) }
 {
     let mut values = Vec::new(alloc);
+    let (graph, verdicts) = (judged.graph, judged.verdicts);
     for at in 0..verdicts.len() {
-        let plain = claim_value(alloc, graph, &claims[at], at + 1, &verdicts[at])?;
-        let value = with_name(alloc, plain, names.get(at))?;
+        let plain = claim_value(alloc, graph, &judged.claims[at], at + 1, &verdicts[at])?;
+        let value = with_name(alloc, plain, judged.names.get(at))?;
         values.push(value)?;
     }
     Ok(values)
@@ -257,19 +253,12 @@ fn whole_value(alloc: Global, claims: Vec<Value>, verdicts: &[Verdict]) -> Resul
 }
 
 /// The verdicts on the claims as one line of JSON.
-pub(crate) fn json_of(
-    alloc: Global,
-    graph: &Graph,
-    claims: &[Claim],
-    names: &[Option<String>],
-    verdicts: &[Verdict],
-) -> Result<String, AllocError>
-    requires claims { All (Fits graph.now.graph) claims.now }
-    requires verdicts { AreVerdicts graph.now.graph claims.now verdicts.now }
-    ensures { IfOk result (λ text. IsJson graph.now.names verdicts.now (string_bytes text)) }
+pub(crate) fn json_of(alloc: Global, judged: Judged<'_>) -> Result<String, AllocError>
+    requires { AreJudged judged.graph.now.graph judged.claims.now judged.verdicts.now }
+    ensures { IfOk result (λ text. IsJson judged.graph.now.names judged.verdicts.now (string_bytes text)) }
 {
-    let values = claim_values(alloc, graph, claims, names, verdicts)?;
-    let mut text = whole_value(alloc, values, verdicts)?.to_string(alloc)?;
+    let values = claim_values(alloc, judged)?;
+    let mut text = whole_value(alloc, values, judged.verdicts)?.to_string(alloc)?;
     text.push_str("\n")?;
     Ok(text)
 }

@@ -2,19 +2,16 @@
 //! constants, so that the same verdicts give the same bytes.
 
 ghost use Rattle.std.specs.Prelude.{◌≡◌, ◌++◌, flat_map, IfOk, OnOk, string_bytes};
-ghost use Rattle.std.specs.List.{All};
-ghost use Rattle.tpl_graph.specs.Fits.{Fits};
-ghost use Rattle.tpl_verify.specs.Verdicts.{AreVerdicts};
+ghost use Rattle.tpl_verdicts.specs.Judged.{AreJudged};
 ghost use Rattle.tpl_verdicts.specs.Lines.{AreNumbered};
 ghost use Rattle.tpl_verdicts.specs.Junit.{case_text, closing, failure_text, message, opening, outcome_text, IsCase, IsJunit};
 
 use crate::entries::entries;
 use crate::entry::Entry;
-use crate::searched::Searched;
+use crate::judged::Judged;
 use crate::sums::count_of;
 use crate::word::Word;
 use std::alloc::{AllocError, Global};
-use tpl_graph::{Claim, Graph};
 use tpl_verify::Verdict;
 
 /// What stands behind the last test case.
@@ -112,19 +109,11 @@ fn case_text(alloc: Global, entry: &Entry) -> Result<String, AllocError>
 }
 
 /// What is said of each claim, as it stands in XML.
-fn cases(
-    alloc: Global,
-    graph: &Graph,
-    claims: &[Claim],
-    names: &[Option<String>],
-    verdicts: &[Verdict],
-    searched: &Searched,
-) -> Result<Vec<Entry>, AllocError>
-    requires claims { All (Fits graph.now.graph) claims.now }
-    requires verdicts { AreVerdicts graph.now.graph claims.now verdicts.now }
-    ensures { IfOk result (λ cases. AreNumbered IsCase 1 verdicts.now cases.items) }
+fn cases(alloc: Global, judged: Judged<'_>) -> Result<Vec<Entry>, AllocError>
+    requires { AreJudged judged.graph.now.graph judged.claims.now judged.verdicts.now }
+    ensures { IfOk result (λ cases. AreNumbered IsCase 1 judged.verdicts.now cases.items) }
 {
-    let entries = entries(alloc, graph, claims, names, verdicts, searched)?;
+    let entries = entries(alloc, judged)?;
     let mut cases = Vec::new(alloc);
     for entry in &entries {
         let case = escaped_entry(alloc, entry)?;
@@ -156,20 +145,12 @@ fn add_cases(text: &mut String, alloc: Global, cases: &[Entry]) -> Result<(), Al
 }
 
 /// The verdicts on the claims as test cases.
-pub(crate) fn junit_of(
-    alloc: Global,
-    graph: &Graph,
-    claims: &[Claim],
-    names: &[Option<String>],
-    verdicts: &[Verdict],
-    searched: &Searched,
-) -> Result<String, AllocError>
-    requires claims { All (Fits graph.now.graph) claims.now }
-    requires verdicts { AreVerdicts graph.now.graph claims.now verdicts.now }
-    ensures { IfOk result (λ text. IsJunit verdicts.now (string_bytes text)) }
+pub(crate) fn junit_of(alloc: Global, judged: Judged<'_>) -> Result<String, AllocError>
+    requires { AreJudged judged.graph.now.graph judged.claims.now judged.verdicts.now }
+    ensures { IfOk result (λ text. IsJunit judged.verdicts.now (string_bytes text)) }
 {
-    let cases = cases(alloc, graph, claims, names, verdicts, searched)?;
-    let mut text = opening(alloc, verdicts)?;
+    let cases = cases(alloc, judged)?;
+    let mut text = opening(alloc, judged.verdicts)?;
     add_cases(&mut text, alloc, &cases)?;
     text.push_str(CLOSING)?;
     Ok(text)

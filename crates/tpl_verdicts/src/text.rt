@@ -1,18 +1,14 @@
 //! The verdicts as text, for people.
 
 ghost use Rattle.std.specs.Prelude.{◌≡◌, ◌++◌, flat_map, IfOk, OnOk, string_bytes};
-ghost use Rattle.std.specs.List.{All};
-ghost use Rattle.tpl_graph.specs.Fits.{Fits};
-ghost use Rattle.tpl_verify.specs.Verdicts.{AreVerdicts};
+ghost use Rattle.tpl_verdicts.specs.Judged.{AreJudged};
 ghost use Rattle.tpl_verdicts.specs.Lines.{entry_text, indented, IsText};
 
 use crate::entries::entries;
 use crate::entry::Entry;
-use crate::searched::Searched;
+use crate::judged::Judged;
 use crate::sums::sums_line;
 use std::alloc::{AllocError, Global};
-use tpl_graph::{Claim, Graph};
-use tpl_verify::Verdict;
 
 /// Lines that belong to another one.
 fn indented(alloc: Global, lines: &[String]) -> Result<String, AllocError>
@@ -49,21 +45,13 @@ fn add_entries(text: &mut String, alloc: Global, entries: &[Entry]) -> Result<()
 }
 
 /// The verdicts on the claims, which were searched with at most so many splits.
-pub(crate) fn text_of(
-    alloc: Global,
-    graph: &Graph,
-    claims: &[Claim],
-    names: &[Option<String>],
-    verdicts: &[Verdict],
-    searched: &Searched,
-) -> Result<String, AllocError>
-    requires claims { All (Fits graph.now.graph) claims.now }
-    requires verdicts { AreVerdicts graph.now.graph claims.now verdicts.now }
-    ensures { IfOk result (λ text. IsText graph.now.names verdicts.now (string_bytes text)) }
+pub(crate) fn text_of(alloc: Global, judged: Judged<'_>) -> Result<String, AllocError>
+    requires { AreJudged judged.graph.now.graph judged.claims.now judged.verdicts.now }
+    ensures { IfOk result (λ text. IsText judged.graph.now.names judged.verdicts.now (string_bytes text)) }
 {
-    let entries = entries(alloc, graph, claims, names, verdicts, searched)?;
+    let entries = entries(alloc, judged)?;
     let mut text = String::new(alloc);
     add_entries(&mut text, alloc, &entries)?;
-    text.push_str(sums_line(alloc, verdicts)?.as_str())?;
+    text.push_str(sums_line(alloc, judged.verdicts)?.as_str())?;
     Ok(text)
 }

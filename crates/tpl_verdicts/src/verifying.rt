@@ -10,9 +10,11 @@ ghost use Rattle.tpl_commands.specs.Finding.{IsAnswer, IsFindingOf};
 ghost use Rattle.tpl_commands.specs.Rules.{is_judged_widely};
 ghost use Rattle.tpl_commands.specs.Responding.{longest, Responds};
 ghost use Rattle.tpl_verify.specs.Verdicts.{AreVerdicts, HoldsAlways, IsVerdict};
+ghost use Rattle.tpl_verdicts.specs.Judged.{AreJudged};
 ghost use Rattle.tpl_verdicts.specs.Answer.{IsExit, IsStyled, IsVerified, Verified, Verifies};
 
 use crate::json::json_of;
+use crate::judged::Judged;
 use crate::junit::junit_of;
 use crate::searched::Searched;
 use crate::style::Style;
@@ -45,24 +47,15 @@ fn exit_of(graph: &Graph, claims: &[Claim], verdicts: &[Verdict]) -> Exit
 }
 
 /// The verdicts in this style.
-fn styled(
-    alloc: Global,
-    style: Style,
-    graph: &Graph,
-    claims: &[Claim],
-    names: &[Option<String>],
-    verdicts: &[Verdict],
-    searched: &Searched,
-) -> Result<String, AllocError>
-    requires claims { All (Fits graph.now.graph) claims.now }
-    requires verdicts { AreVerdicts graph.now.graph claims.now verdicts.now }
+fn styled(alloc: Global, style: Style, judged: Judged<'_>) -> Result<String, AllocError>
+    requires { AreJudged judged.graph.now.graph judged.claims.now judged.verdicts.now }
     ensures { IfOk result (λ text.
-        IsStyled style graph.now.names verdicts.now (string_bytes text)) }
+        IsStyled style judged.graph.now.names judged.verdicts.now (string_bytes text)) }
 {
     match style {
-        Style::Text => text_of(alloc, graph, claims, names, verdicts, searched),
-        Style::Json => json_of(alloc, graph, claims, names, verdicts),
-        Style::Junit => junit_of(alloc, graph, claims, names, verdicts, searched),
+        Style::Text => text_of(alloc, judged),
+        Style::Json => json_of(alloc, judged),
+        Style::Junit => junit_of(alloc, judged),
     }
 }
 
@@ -80,12 +73,16 @@ fn answer_of(
     ensures { IfOk result (λ given.
         IsVerified style (doc_of document.now) given.exit (string_bytes given.text)) }
 {
-    let graph = &document.graph;
     let rules = rules_of(document);
-    let searched = Searched { depth, rules };
-    let (claims, names) = (&document.claims, &document.names);
-    let text = styled(alloc, style, graph, claims, names, verdicts, &searched)?;
-    let exit = exit_of(graph, &document.claims, verdicts);
+    let judged = Judged {
+        graph: &document.graph,
+        claims: &document.claims,
+        names: &document.names,
+        verdicts,
+        searched: Searched { depth, rules },
+    };
+    let text = styled(alloc, style, judged)?;
+    let exit = exit_of(judged.graph, judged.claims, verdicts);
     Ok(Answer { exit, text })
 }
 
@@ -174,33 +171,6 @@ impl Command for OneByOne {
     }
 }
 
-/// Reads a document and writes the answer to it.
-fn respond<T: Threads + Sync, A: Attend + Sync, L: Listen, I: Read, O: Write>(
-    rt: &T,
-    alloc: Global,
-    asked: Verification,
-    attend: &A,
-    listener: L,
-    from: &mut Counting<I>,
-    to: &mut Counting<O>,
-) -> Exit
-    requires jobs { 0 < asked.jobs }
-    ensures responds { Responds (Verifies asked.style) I.remaining from.old from.new
-        O.contents to.old to.new result }
-    ensures reads { calls_of from.new ≤ calls_of from.old + (longest + 2) }
-{
-    match read_input(alloc, from, to) {
-        Ok(bytes) => {
-            let answered = answer(rt, alloc, asked, attend, listener, &bytes);
-            put_answered(answered, listener, &bytes, to)
-        }
-        Err(exit) => {
-            listener.unread(exit);
-            exit
-        }
-    }
-}
-
 /// Reads a document to its end, at most 16,777,216 bytes, and writes a verdict on each of its claims: it holds, it fails,
 /// it is empty, or neither is known. Whatever the number of threads, the answer is the same.
 ///
@@ -226,5 +196,14 @@ pub fn verify_document<T: Threads + Sync, A: Attend + Sync, L: Listen, I: Read, 
     ensures verified { (result ≡ Exit.Success) ⊎ (result ≡ Exit.Failure)
         → Verified I.remaining from.old from.new O.contents to.old to.new asked.style result }
 {
-    respond(rt, alloc, asked, attend, listener, from, to)
+    match read_input(alloc, from, to) {
+        Ok(bytes) => {
+            let answered = answer(rt, alloc, asked, attend, listener, &bytes);
+            put_answered(answered, listener, &bytes, to)
+        }
+        Err(exit) => {
+            listener.unread(exit);
+            exit
+        }
+    }
 }

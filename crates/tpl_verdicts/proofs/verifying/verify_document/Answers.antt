@@ -1,6 +1,17 @@
+use Rattle.std.proofs.Common.{List, ℕ, IfOk, subst, string_bytes}
+use Rattle.tpl_commands.proofs.Responses.{put_responds}
+use Rattle.tpl_verdicts.specs.Answer.{Verifies}
 use Rattle.tpl_verdicts.proofs.Answering.{done_verifies}
 use Rattle.tpl_verdicts.proofs.verifying.verify_document.Goals as goal
 
-pub returns-clause-verified : goal.returns-clause-verified
-returns-clause-verified g c done =
-    done_verifies g.I.Read.remaining c.args.from.now c.respond.new.from g.O.Write.contents c.args.to.now c.respond.new.to c.args.asked.style c.respond.result c.respond.ensures.responds done
+pub returns-in-Ok-clause-responds : goal.returns-in-Ok-clause-responds
+returns-in-Ok-clause-responds g c =
+    let read = c.in-Ok.ensures.ok in
+    let style = c.args.asked.style in
+    let answered = subst (λ (bytes : List ℕ). IfOk c.answer-answered.result (λ it. Verifies style bytes it.answer.exit (string_bytes it.answer.text))) c.deref.ensures.value c.answer-answered.ensures.answer in
+    put_responds (Verifies style) g.I.Read.remaining c.args.from.now c.read_input.new.from g.O.Write.contents c.args.to.now c.read_input.new.to c.put_answered.new.to c.in-Ok.bytes.items c.answer-answered.result c.put_answered.result
+    read.0 read.1 read.2 answered c.put_answered.ensures
+
+pub returns-in-Ok-clause-verified : goal.returns-in-Ok-clause-verified
+returns-in-Ok-clause-verified g c done =
+    done_verifies g.I.Read.remaining c.args.from.now c.read_input.new.from g.O.Write.contents c.args.to.now c.put_answered.new.to c.args.asked.style c.put_answered.result (returns-in-Ok-clause-responds g c) done
