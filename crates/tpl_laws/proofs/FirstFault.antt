@@ -41,6 +41,11 @@ past_rule_is (Continues a) = inl refl
 past_rule_is (WhenAll args) = inr refl
 past_rule_is (WhenAny args) = inr refl
 
+-- leaves
+pub each_joined : (g : TaskGraph) (p : Property TaskId) (xs ys : List Branch) → EachProves g p xs → EachProves g p ys → EachProves g p (xs ++ ys)
+each_joined g p [] ys a b = b
+each_joined g p (x ∷ xs) ys a b = (a.0, each_joined g p xs ys a.1 b)
+
 module _ (paths : PathLaws) where
   broken_breaks : (g : TaskGraph) (l : Assumed) (rows : List Row) (t : ℕ) (r : Rule) → IsGraph g → broken g l rows t ≡ Some r → BreaksRule g l rows t r
   broken_breaks g l rows t r valid e =
@@ -123,10 +128,6 @@ module _ (paths : PathLaws) where
       none_some x q = absurd (cc)
 
   -- a tree
-  each_joined : (g : TaskGraph) (p : Property TaskId) (xs ys : List Branch) → EachProves g p xs → EachProves g p ys → EachProves g p (xs ++ ys)
-  each_joined g p [] ys a b = b
-  each_joined g p (x ∷ xs) ys a b = (a.0, each_joined g p xs ys a.1 b)
-
   count_leaves : (l : Assumed) (tree : Tree) → length (leaves_of l tree) ≡ leaves tree
   count_leaves l (SplitInput i a b) =
       let x = count_leaves (with_input l i true) a in

@@ -30,6 +30,7 @@ pub mod FaultsDecided
 pub mod WiderDecided
 pub mod WideTreesDecided
 pub mod FirstFault
+pub mod OneFault
 pub mod ForCode
 pub mod RunsDecided
 pub mod GraphDecided

@@ -137,3 +137,8 @@ IsFirstFault wide g claims trees fault = Misfits g 1 claims trees fault ⊎ (Hav
 abbrev pub FaultIsFirst : Type 0
 FaultIsFirst =
     (wide : Bool) (g : TaskGraph) (claims : List Claim) (trees : List Tree) (fault : CertFault) → IsGraph g → verdict wide g claims trees ≡ Err fault → IsFirstFault wide g claims trees fault
+
+-- a certificate has one first fault at most
+abbrev pub OneFirstFault : Type 0
+OneFirstFault =
+    (wide : Bool) (g : TaskGraph) (claims : List Claim) (trees : List Tree) (one other : CertFault) → IsFirstFault wide g claims trees one → IsFirstFault wide g claims trees other → one ≡ other

@@ -1,6 +1,6 @@
 //! When a certificate is accepted, by tests that compute, and the first place at which one fails.
 
-ghost use Rattle.tpl_laws.specs.Faults.{FaultIsFirst};
+ghost use Rattle.tpl_laws.specs.Faults.{FaultIsFirst, OneFirstFault};
 ghost use Rattle.tpl_laws.specs.PathLaws.{PathLaws};
 ghost use Rattle.tpl_laws.specs.WiderTests.{WideBrokenIsRight, WideLeafIsRight};
 ghost use Rattle.tpl_laws.specs.WideVerdict.{WideTreeIsRight, WideVerdictIsRight, WideVerdictIsSound};
@@ -107,6 +107,11 @@ pub fn fault_is_first()
 {
     path_laws();
 }
+
+/// A certificate has one first fault at most.
+pub fn one_first_fault()
+    ensures { OneFirstFault }
+{}
 
 /// The row of a task breaks none of the wider rules just where it keeps them all.
 pub fn wide_broken_is_right()
