@@ -14,7 +14,7 @@ use Rattle.tpl_model.specs.declared.event.Act.{Act}
 use Rattle.tpl_model.specs.declared.event.Act.TheVariants.{Request, Release, Begin, Step, Worked, Leave, Close, Drop, Settle}
 use Rattle.tpl_model.specs.declared.event.Event.{Event}
 use Rattle.tpl_model.specs.Facts.{Ending, on, over, begun, begun_by, ends_by, rest, requested, started, ending, ended_at_once, final_in, carried_in, own_atom, those_started, outcome_in, settled_as}
-use Rattle.tpl_model.specs.Rules.{final, IsRunning, MayDrop, MayNotStart, MayCancel, Allows, Run, can_settle, all_ended, ended, token_requested, token_requested_by, Complete, to_end}
+use Rattle.tpl_model.specs.Rules.{IsRunning, MayDrop, MayNotStart, MayCancel, Allows, Run, can_settle, all_ended, ended, token_requested, token_requested_by, Complete, to_end}
 use Rattle.tpl_laws.proofs.Basics.{some_none, the_some, is_some_of, mem_here}
 use Rattle.tpl_laws.proofs.Kept.{after, not_some, running_facts, drop_facts, ending_new, ending_kept, final_kept, requested_kept, started_kept, begun_kept}
 use Rattle.tpl_model.specs.Valid.{IsGraph}

@@ -1,10 +1,9 @@
 -- A certificate of rows with tokens has no fault just where it is accepted.
-use Rattle.std.proofs.Common.{◌≡◌, ℕ, suc, ◌+◌, ◌<◌, ◌&&◌, Bool, true, false, Option, Some, None, Ok, List, [], ◌∷◌, refl, sym, ap, length, nat_eq, nat_lt}
+use Rattle.std.proofs.Common.{◌≡◌, ℕ, suc, ◌+◌, ◌&&◌, true, false, Option, Some, None, Ok, List, [], ◌∷◌, refl, sym, ap, length, nat_eq, nat_lt}
 use Rattle.std.specs.Prelude.{Decides}
 use Rattle.std.proofs.lemmas.Bool.{ltb-true, lt-ltb, and_parts, and_from}
 use Rattle.tpl_model.proofs.Truths.{true_false}
 use Rattle.tpl_model.specs.declared.finals.Final.TheVariants.{RanToCompletion, Canceled, Faulted}
-use Rattle.tpl_model.specs.Members.{mem}
 use Rattle.tpl_model.specs.Graph.{TaskGraph, TaskKind, Root, Child, Continues, WhenAll, WhenAny, kind, is_token}
 use Rattle.tpl_model.specs.Valid.{IsGraph}
 use Rattle.tpl_model.specs.declared.fault.CertFault.{CertFault}
@@ -14,7 +13,7 @@ use Rattle.tpl_model.specs.declared.ids.TaskId.{TaskId}
 use Rattle.tpl_model.specs.Claims.{Claim}
 use Rattle.tpl_model.specs.WiderRules.{WideRow, plain, WideAssumed, WidelyClosed, WidelyProves, narrowed, WideTree, OnInput, OnEnd, OnWinner, WideLeaf, input_split, end_split, winner_split, AllTokens, TokensOfRows, MayHaveWinner, AcceptsWideTree, widely_assumed, WidelyAccepts}
 use Rattle.tpl_laws.specs.PathLaws.{PathLaws}
-use Rattle.tpl_laws.specs.Verdict.{or_else, unless, rows_fit, no_fault}
+use Rattle.tpl_laws.specs.Verdict.{or_else, rows_fit, no_fault}
 use Rattle.tpl_laws.specs.WiderTests.{wide_leaf_fault}
 use Rattle.tpl_laws.specs.WideVerdict.{wide_leaves, wide_tree_fault, wide_claims_fault, has_tokens, tokens_fit, may_have_winner, wide_fits, wide_misfit, wide_verdict}
 use Rattle.tpl_laws.proofs.Deciding.{same, both}

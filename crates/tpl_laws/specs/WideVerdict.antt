@@ -1,5 +1,5 @@
 -- The first place at which a certificate of rows with tokens fails.
-use Rattle.std.specs.Prelude.{◌≡◌, ℕ, zero, suc, ◌+◌, ◌&&◌, ◌↔◌, Bool, true, false, Option, Some, None, Ok, Result, List, [], ◌∷◌, length, nat_eq, nat_lt}
+use Rattle.std.specs.Prelude.{◌≡◌, ℕ, suc, ◌+◌, ◌&&◌, ◌↔◌, Bool, true, false, Option, Some, None, Ok, Result, List, [], ◌∷◌, length, nat_eq, nat_lt}
 use Rattle.tpl_model.specs.declared.finals.Final.TheVariants.{RanToCompletion, Canceled, Faulted}
 use Rattle.tpl_model.specs.Members.{mem}
 use Rattle.tpl_model.specs.Graph.{TaskGraph, TaskKind, WhenAny, kind}
