@@ -8,7 +8,7 @@ use Rattle.tpl_model.specs.declared.fault.CertFault.{CertFault}
 use Rattle.tpl_model.specs.Certificate.{Tree, Accepts}
 use Rattle.tpl_model.specs.Claims.{Claim}
 use Rattle.tpl_laws.specs.Faults.{Branch, LeafFails, IsFirstFault, place}
-use Rattle.tpl_laws.specs.Verdict.{LeafFault, Breaks, ProvesNot, verdict}
+use Rattle.tpl_laws.specs.Verdict.{LeafFault, Breaks, ProvesNot}
 use Rattle.tpl_reader.specs.Document.{DocumentValue}
 use Rattle.tpl_commands.specs.Rules.{is_judged_widely}
 use Rattle.tpl_commands.specs.Checking.{ClaimsHold, IsCheckOf, NamesTask}
@@ -23,10 +23,10 @@ names_task wide g claims trees fault (inl shape) = subst (NamesTask g) (sym shap
 names_task wide g claims trees fault (inr leaf) =
     let one = leaf.1.fails in leaf_names g leaf.1.claim.body one.branch one.why fault _ _ one.fails one.at
 
-pub is_check_of : (doc : DocumentValue) (r : Result (Unit {0}) CertFault) → r ≡ verdict (is_judged_widely doc) doc.graph.graph doc.claims doc.certificate → (IsOk r ↔ Accepts (is_judged_widely doc) doc.graph.graph doc.claims doc.certificate) → IfOk r (λ x. ClaimsHold doc)
+pub is_check_of : (doc : DocumentValue) (r : Result (Unit {0}) CertFault) → (IsOk r ↔ Accepts (is_judged_widely doc) doc.graph.graph doc.claims doc.certificate) → IfOk r (λ x. ClaimsHold doc)
     → IfErr r (IsFirstFault (is_judged_widely doc) doc.graph.graph doc.claims doc.certificate) → IsCheckOf doc r
-is_check_of doc (Ok x) is accepts hold first = record { verdict = sym is; accepted = accepts.0 refl; hold = hold }
-is_check_of doc (Err fault) is accepts hold first = (
-  record { verdict = sym is; first = first; not_accepted = λ accepted. let ok = accepts.1 accepted in cc },
+is_check_of doc (Ok x) accepts hold first = record { accepted = accepts.0 refl; hold = hold }
+is_check_of doc (Err fault) accepts hold first = (
+  record { first = first; not_accepted = λ accepted. let ok = accepts.1 accepted in cc },
   names_task (is_judged_widely doc) doc.graph.graph doc.claims doc.certificate fault first,
 )

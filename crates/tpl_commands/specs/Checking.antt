@@ -7,7 +7,6 @@ use Rattle.tpl_model.specs.Graph.{TaskGraph, is_task}
 use Rattle.tpl_model.specs.Rules.{Run}
 use Rattle.tpl_model.specs.Claims.{Holds}
 use Rattle.tpl_model.specs.Certificate.{Accepts}
-use Rattle.tpl_laws.specs.Verdict.{verdict}
 use Rattle.tpl_laws.specs.Faults.{IsFirstFault}
 use Rattle.tpl_laws.specs.Soundness.{Each}
 use Rattle.tpl_reader.specs.Document.{DocumentValue}
@@ -24,15 +23,13 @@ ClaimsHold doc =
     (inputs : List Bool) (events : List Event) → Run doc.graph.graph inputs events
     → Each (λ claim. Holds doc.graph.graph claim inputs events) doc.claims
 
--- The certificate has no fault: it is accepted, and so the claims hold.
+-- The certificate is accepted, and so the claims hold.
 pub record IsAccepted (doc : DocumentValue) : Type 0 where
-  pub verdict : verdict (is_judged_widely doc) doc.graph.graph doc.claims doc.certificate ≡ Ok tt
   pub accepted : Accepts (is_judged_widely doc) doc.graph.graph doc.claims doc.certificate
   pub hold : ClaimsHold doc
 
 -- This is the first fault of the certificate, which isn't accepted.
 pub record IsRefused (doc : DocumentValue) (fault : CertFault) : Type 0 where
-  pub verdict : verdict (is_judged_widely doc) doc.graph.graph doc.claims doc.certificate ≡ Err fault
   pub first : IsFirstFault (is_judged_widely doc) doc.graph.graph doc.claims doc.certificate fault
   pub not_accepted : Accepts (is_judged_widely doc) doc.graph.graph doc.claims doc.certificate → ⊥
 

@@ -1,11 +1,9 @@
 -- What `draw` answers to a document.
-use Rattle.std.specs.Prelude.{◌≡◌, ℕ, ◌-◌, Bool, List, [], length, slice_get, Option, Some, None, Result, Ok, Err}
+use Rattle.std.specs.Prelude.{◌≡◌, ℕ, ◌-◌, Bool, List, [], length, slice_get, Option, Some, None}
 use Rattle.tpl_model.specs.declared.finals.Finals.{Finals}
 use Rattle.tpl_model.specs.declared.event.Event.{Event}
-use Rattle.tpl_model.specs.declared.fault.CertFault.{CertFault}
 use Rattle.tpl_model.specs.Claims.{Claim}
-use Rattle.tpl_model.specs.Certificate.{Tree}
-use Rattle.tpl_laws.specs.Verdict.{verdict}
+use Rattle.tpl_model.specs.Certificate.{Accepts}
 use Rattle.tpl_audit.specs.declared.verdict.Failure.{Failure}
 use Rattle.tpl_audit.specs.Audit.{first_events, FirstFails}
 use Rattle.tpl_audit.specs.Standing.{statuses}
@@ -24,15 +22,14 @@ use Rattle.tpl_commands.specs.declared.exit.Exit.TheVariants.{Success}
 use Rattle.tpl_commands.specs.Responding.{Answers}
 use Rattle.tpl_commands.specs.Documents.{ToDocument}
 
--- how this many tasks may end, where nothing is wrong with the certificate
-abbrev pub endings_after : Result (Unit {0}) CertFault → List Tree → ℕ → List Finals
-endings_after (Ok x) certificate tasks = endings certificate tasks
-endings_after (Err fault) certificate tasks = []
+-- the document's certificate is accepted
+abbrev pub HasProof : DocumentValue → Type 0
+HasProof doc = Accepts (is_judged_widely doc) doc.graph.graph doc.claims doc.certificate
 
--- how the tasks may end, where the certificate is accepted; else nothing
-abbrev pub shown_endings : DocumentValue → List Finals
-shown_endings doc =
-    endings_after (verdict (is_judged_widely doc) doc.graph.graph doc.claims doc.certificate) doc.certificate (length doc.graph.graph.tasks)
+-- The ends are how the tasks may end, where the certificate is accepted; else there are none.
+pub record AreEndings (doc : DocumentValue) (ends : List Finals) : Type 0 where
+  pub accepted : HasProof doc → ends ≡ endings doc.certificate (length doc.graph.graph.tasks)
+  pub refused : (HasProof doc → ⊥) → ends ≡ []
 
 -- the moment of a run that is drawn: where a claim fails first, or the end
 abbrev pub place_shown : Option Failure → ℕ → ℕ
@@ -75,7 +72,7 @@ IsMomentOf doc (Some moment) = ShowsRun doc moment
 
 -- what the nodes of tasks show: how the tasks stand in the document's run, or, where it has none, how they may end
 abbrev pub IsShown : DocumentValue → Shown → Type 0
-IsShown doc (Endings ends) = (ends.items ≡ shown_endings doc) × HasNoEvent doc
+IsShown doc (Endings ends) = AreEndings doc ends.items × HasNoEvent doc
 IsShown doc (Run moment) = ShowsRun doc moment
 
 -- the answer is the picture of the document's graph, whose nodes show this

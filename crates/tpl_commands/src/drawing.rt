@@ -9,7 +9,7 @@ ghost use Rattle.tpl_model.specs.Rules as rules;
 ghost use Rattle.tpl_reader.specs.SeenDocument.{doc_of};
 ghost use Rattle.tpl_reader.specs.Starting.{inputs_of};
 ghost use Rattle.tpl_commands.specs.Checking.{IsCheckOf};
-ghost use Rattle.tpl_commands.specs.Drawing.{failing_in, place_shown, shown_endings, IsDrawing, IsMoment, IsMomentOf, IsShown};
+ghost use Rattle.tpl_commands.specs.Drawing.{failing_in, place_shown, AreEndings, IsDrawing, IsMoment, IsMomentOf, IsShown};
 
 use crate::answer::Answer;
 use crate::exit::Exit;
@@ -64,7 +64,7 @@ fn shown_endings(
     verdict: &Result<(), CertFault>,
 ) -> Result<Vec<Finals>, AllocError>
     requires { IsCheckOf (doc_of document.now) verdict.now }
-    ensures { IfOk result (λ ends. ends.items ≡ shown_endings (doc_of document.now)) }
+    ensures { IfOk result (λ ends. AreEndings (doc_of document.now) ends.items) }
 {
     match verdict {
         Ok(()) => endings(alloc, document.certificate.trees(), document.graph.len()),
