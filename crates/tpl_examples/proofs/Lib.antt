@@ -1,3 +1,4 @@
 pub mod Computed
 mod Roots
+mod ValidDecided
 mod WinnerNeeded
