@@ -15,6 +15,7 @@ use Rattle.tpl_laws.specs.RunTests.{is_child, all_below}
 use Rattle.tpl_laws.proofs.Deciding.{itself, opposite, both3, only_if, of_all}
 use Rattle.tpl_laws.proofs.Settling.{beyond}
 use Rattle.tpl_laws.proofs.RunsDecided.{of_child}
+use Rattle.tpl_laws.proofs.Jobs.{counted}
 
 -- an answer, and that it is yes just where the statement is true
 pub record Decided (P : Type 0) : Type 0 where
@@ -202,11 +203,6 @@ module _ (g : TaskGraph) (t : ℕ) where
       (both (three (at_place g t (kind g t)) (bodied (kind g t) (task g t)) (subjected (kind g t) (body g t)))
       (three (yes (has_bits (option_words (kind g t)) (options g t))) (no (excludes_all (options g t))) (no (long_and_sync (options g t)))))
       (both (both before_it once) (both one child_only)))
-
--- how often a number stands in a list
-abbrev counted : ℕ → List ℕ → ℕ
-counted s [] = 0
-counted s (x ∷ xs) = cond (nat_eq s x) (1 + counted s xs) (counted s xs)
 
 none_counted : (s : ℕ) (xs : List ℕ) → mem s xs ≡ false → counted s xs ≡ 0
 none_counted s [] e = refl

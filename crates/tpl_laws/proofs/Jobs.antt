@@ -6,7 +6,6 @@ use Rattle.std.proofs.lemmas.List.Recursion.{is_count_by}
 use Rattle.std.proofs.lemmas.List.Concat.{flat_map-cons}
 use Rattle.tpl_model.specs.Members.{mem}
 use Rattle.tpl_model.specs.Valid.{all_sites}
-use Rattle.tpl_laws.proofs.GraphDecided.{counted}
 use Rattle.tpl_laws.proofs.Execution.{IsKept, rest_keeps}
 use Rattle.tpl_model.proofs.Truths.{true_false}
 use Rattle.tpl_model.specs.declared.ids.SiteId.{SiteId}
@@ -28,6 +27,11 @@ use Rattle.tpl_laws.proofs.Basics.{if_true, if_false, same_number}
 use Rattle.tpl_laws.proofs.Kept.{after}
 use Rattle.tpl_laws.proofs.Observing.{label_verdict}
 use Rattle.tpl_laws.specs.Runs.{FailedByItsLabel}
+
+-- how often a number stands in a list
+abbrev pub counted : ℕ → List ℕ → ℕ
+counted s [] = 0
+counted s (x ∷ xs) = cond (nat_eq s x) (1 + counted s xs) (counted s xs)
 
 abbrev Fails : ℕ → Option Outcome
 Fails site = let id : SiteId = record { 0 = site } in Some (Threw (WorkFailed id))

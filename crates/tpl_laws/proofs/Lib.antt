@@ -33,7 +33,6 @@ pub mod FirstFault
 pub mod OneFault
 pub mod ForCode
 pub mod RunsDecided
-pub mod GraphDecided
 pub mod FailingLemmas
 pub mod Wider
 pub mod WideLaw

@@ -4,8 +4,6 @@ pub mod Settling
 pub mod PathLaws
 pub mod RowTests
 pub mod RunTests
-pub mod GraphTests
-pub mod Tests
 pub mod Verdict
 pub mod Decided
 pub mod Failing

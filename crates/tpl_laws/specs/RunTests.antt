@@ -14,7 +14,7 @@ use Rattle.tpl_model.specs.declared.ids.TaskId.{TaskId}
 use Rattle.tpl_model.specs.declared.claim.Property.{Property}
 use Rattle.tpl_model.specs.declared.claim.Property.TheVariants.{Final as EndsIn, After, Observed, Never, Excludes, Runs}
 use Rattle.tpl_model.specs.Certificate.{same}
-use Rattle.tpl_model.specs.Claims.{Claim, input, HoldsOf, Holds}
+use Rattle.tpl_model.specs.Claims.{Claim, input, IsGiven, HoldsOf, Holds}
 use Rattle.tpl_laws.specs.RowTests.{implies, parent_of}
 
 -- the kind is that of a child
@@ -89,6 +89,10 @@ IsSettledIsRight = (g : TaskGraph) (v : List Bool) (h : List Event) (t : ℕ) �
 -- the test of a run passes just where it is complete
 abbrev pub IsCompleteIsRight : Type 0
 IsCompleteIsRight = (g : TaskGraph) (v : List Bool) (h : List Event) → (is_complete g v h ≡ true) ↔ Complete g v h
+
+-- the test of what is given passes just where it is true of the run
+abbrev pub GivenIsRight : Type 0
+GivenIsRight = (g : TaskGraph) (v : List Bool) (h : List Event) (given : List Given) → (is_given g v h given ≡ true) ↔ IsGiven g v h given
 
 -- the test of what a claim says passes just where it is true of the run
 abbrev pub HoldsOfIsRight : Type 0

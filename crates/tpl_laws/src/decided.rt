@@ -1,8 +1,6 @@
 //! The tests of whole runs say what the definitions do.
 
-ghost use Rattle.tpl_laws.specs.RunTests.{HoldsIsRight, HoldsOfIsRight, IsCompleteIsRight, IsSettledIsRight};
-ghost use Rattle.tpl_laws.specs.GraphTests.{GraphIsRight};
-ghost use Rattle.tpl_laws.specs.Tests.{GivenIsRight, TestLaws};
+ghost use Rattle.tpl_laws.specs.RunTests.{GivenIsRight, HoldsIsRight, HoldsOfIsRight, IsCompleteIsRight, IsSettledIsRight};
 
 /// A task passes the walk up to its parents just where it is settled.
 pub fn is_settled_is_right()
@@ -28,19 +26,3 @@ pub fn holds_is_right()
 pub fn given_is_right()
     ensures { GivenIsRight }
 {}
-
-/// A list of tasks passes its test just where it is a graph.
-pub fn graph_is_right()
-    ensures { GraphIsRight }
-{}
-
-/// All of the tests say what the definitions do.
-pub fn tests_are_right()
-    ensures { TestLaws }
-{
-    graph_is_right();
-    is_settled_is_right();
-    is_complete_is_right();
-    given_is_right();
-    holds_is_right();
-}
