@@ -23,8 +23,11 @@ use Rattle.tpl_audit.specs.declared.verdict.Failure.{Failure}
 use Rattle.tpl_audit.specs.Audit.{first_events, AllHoldAt, FirstFails, better, IsVerdict, FindsNoFailure}
 use Rattle.tpl_audit.specs.declared.verdict.Verdict.{Verdict}
 use Rattle.tpl_audit.specs.declared.verdict.Verdict.TheVariants.{Run as Ran, NotAllowed, Memory}
-use Rattle.tpl_model.specs.Certificate.{Tree, Accepts, given_sure}
-use Rattle.tpl_laws.specs.Soundness.{Each, Soundness}
+use Rattle.tpl_model.specs.Certificate.{given_sure}
+use Rattle.tpl_model.specs.WiderRules.{WideTree}
+use Rattle.tpl_model.specs.declared.rule_set.RuleSet.{RuleSet}
+use Rattle.tpl_laws.specs.ByRules.{AcceptsBy, SoundByRules}
+use Rattle.tpl_laws.specs.Soundness.{Each}
 use Rattle.tpl_audit.specs.Watching.{noted_of, IsWatched}
 use Rattle.tpl_audit.proofs.WatchLemmas.{length-first}
 
@@ -181,11 +184,11 @@ front_run g v events p prefix run =
     let parts : reverse (drop p events) ++ first_events events p ≡ reverse events = sym (reverse-append (take p events) (drop p events)) ∙ ap reverse (take-append-drop p events) in
     prefix g v (reverse (drop p events)) (first_events events p) (subst (Run g v) (sym parts) run)
 
-pub sound_verdict : (wide : Bool) (g : TaskGraph) (v : List Bool) (events : List Event) (claims : List Claim) (ended : List (TaskId × Final)) (verdict : Verdict) (certificate : List Tree) → Soundness → PrefixIsRun → IsGraph g → IsVerdict g v events claims ended verdict → Accepts wide g claims certificate → FindsNoFailure verdict
-sound_verdict wide g v events claims ended (Ran complete None other_end) certificate sound prefix valid is accepted = refl
-sound_verdict wide g v events claims ended (Ran complete (Some failure) other_end) certificate sound prefix valid is accepted =
+pub sound_verdict : (rules : RuleSet) (g : TaskGraph) (v : List Bool) (events : List Event) (claims : List Claim) (ended : List (TaskId × Final)) (verdict : Verdict) (certificate : List WideTree) → SoundByRules → PrefixIsRun → IsGraph g → IsVerdict g v events claims ended verdict → AcceptsBy rules g claims certificate → FindsNoFailure verdict
+sound_verdict rules g v events claims ended (Ran complete None other_end) certificate sound prefix valid is accepted = refl
+sound_verdict rules g v events claims ended (Ran complete (Some failure) other_end) certificate sound prefix valid is accepted =
     let f = is.failure in
-    let hold = sound wide g claims certificate valid accepted v (first_events events failure.place) (front_run g v events failure.place prefix is.run) in
+    let hold = sound rules g claims certificate valid accepted v (first_events events failure.place) (front_run g v events failure.place prefix is.run) in
     absurd (f.fails (each_at (λ claim. Holds g claim v (first_events events failure.place)) claims f.before f.claim hold f.there))
-sound_verdict wide g v events claims ended (NotAllowed place) certificate sound prefix valid is accepted = tt
-sound_verdict wide g v events claims ended Memory certificate sound prefix valid is accepted = tt
+sound_verdict rules g v events claims ended (NotAllowed place) certificate sound prefix valid is accepted = tt
+sound_verdict rules g v events claims ended Memory certificate sound prefix valid is accepted = tt

@@ -1,13 +1,12 @@
 pub mod Levels
 pub mod Names
 pub mod Trees
-pub mod Whole
+pub mod PlainTrees
+pub mod Limits
 pub mod Ids
 pub mod Unique
 pub mod Again
-pub mod OneTree
 pub mod Nesting
-pub mod Faultless
 pub mod Tokens
 pub mod Texts
 pub mod TokenLists

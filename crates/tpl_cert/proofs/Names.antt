@@ -1,18 +1,27 @@
 -- The names of a tree, one after another.
-use Rattle.std.proofs.Common.{◌≡◌, ℕ, zero, suc, ◌+◌, ◌<◌, ◌&&◌, ◌||◌, List, [], ◌∷◌, ◌++◌, length, get_or, take, map, Bool, true, false, Option, Some, nat_eq, is_some, refl, ap, ◌∙◌, arith}
-use Rattle.std.specs.List.{list_all, list_any}
-use Rattle.std.proofs.lemmas.List.{map_more, map_push}
-use Rattle.std.proofs.lemmas.List.Folds.{list_all-append, list_any-append}
+use Rattle.std.proofs.Common.{◌≡◌, ℕ, zero, suc, ◌+◌, ◌<◌, ◌≤◌, ◌&&◌, ◌||◌, List, [], ◌∷◌, ◌++◌, length, get_or, map, Bool, true, false, Some, Ok, ok_or, nat_eq, refl, sym, ap, ◌∙◌, arith}
+use Rattle.std.specs.List.{list_all}
 use Rattle.std.proofs.lemmas.List.Quantifiers.{position-Some}
 use Rattle.std.specs.Str.{bytes_eq}
+use Rattle.tpl_model.proofs.SetLists.{mem_within, sets_lem, mem-passing_from, passing_from-mem, passing_from-ascends}
+use Rattle.tpl_model.proofs.Truths.{same_tests}
 use Rattle.tpl_model.specs.Members.{mem}
-use Rattle.tpl_model.specs.TaskSet.{IsTaskSet}
-use Rattle.tpl_cert.specs.declared.fault.TreeFault.{TreeFault}
-use Rattle.tpl_cert.specs.declared.fault.TreeFault.TheVariants as faults
+use Rattle.tpl_model.specs.TaskSet.{IsTaskSet, passing_from}
 use Rattle.tpl_model.specs.Certificate.{Row}
+use Rattle.tpl_model.specs.WiderRules.{WideRow}
 use Rattle.tpl_draft.specs.Named.{Names}
+use Rattle.tpl_json.specs.declared.miss.Miss.{Miss}
+use Rattle.tpl_json.specs.declared.miss.Miss.TheVariants as miss
+use Rattle.tpl_json.specs.Passes.{Fails}
+use Rattle.tpl_json.proofs.Passes.{each_empty, or_ok}
+use Rattle.tpl_paths.specs.declared.token_set.TokenSet.{TokenSet}
+use Rattle.tpl_paths.specs.TokenSet.{has_token, no_tokens}
 use Rattle.tpl_cert.specs.NamedTrees.{NamedRow}
-use Rattle.tpl_cert.specs.Naming.{number_of, is_declared, are_declared, AreNumbers, does_name, IsSetOf, IsRowOf, AreRowsOf, Loses}
+use Rattle.tpl_cert.specs.Plain.{IsPlainRow}
+use Rattle.tpl_cert.specs.WideCoding.{tokens_in}
+use Rattle.tpl_cert.specs.declared.fault.TreeFault.{TreeFault}
+use Rattle.tpl_cert.specs.declared.fault.TreeFault.TheVariants.{Unknown}
+use Rattle.tpl_cert.specs.Naming.{number_of, number_in, numbers_in, as_set, set_in, row_in, wide_row_in}
 
 pub list_all_stops : {X Y : Type 0} (p : Y → Bool) (g : X → Y) (xs : List X) (i : ℕ) (d : X) → i < length xs → p (g (get_or xs i d)) ≡ false → list_all p (map g xs) ≡ false
 list_all_stops p g [] i d lt h = absurd (omega arith)
@@ -23,63 +32,79 @@ list_all_stops p g (x ∷ xs) (suc i) d lt h = both_false (p (g x)) (list_all p 
     both_false true b h = h
     both_false false b h = refl
 
-pub list_all_more : {X Y : Type 0} (p : Y → Bool) (g : X → Y) (xs : List X) (i : ℕ) (d : X) → i < length xs → list_all p (map g (take i xs)) ≡ true → p (g (get_or xs i d)) ≡ true → list_all p (map g (take (i + 1) xs)) ≡ true
-list_all_more p g xs i d lt e h = rw (map_more g xs i d lt, list_all-append p (map g (take i xs)) (g (get_or xs i d) ∷ []), e, h) refl
-
--- the exit of a loop at an element for which the test fails
-pub loses_all : {X Y : Type 0} (p : Y → Bool) (g : X → Y) (xs : List X) (i : ℕ) (d : X) (e : TreeFault) → i < length xs → Loses e (p (g (get_or xs i d))) → Loses e (list_all p (map g xs))
-loses_all p g xs i d faults.Memory lt h = tt
-loses_all p g xs i d faults.Unknown lt h = list_all_stops p g xs i d lt h
-loses_all p g xs i d faults.Shape lt h = absurd h
-loses_all p g xs i d faults.Limit lt h = absurd h
-
-abbrev found : ℕ → Option ℕ
-found n = Some n
-
--- one name more
-pub declared_push : (names texts : List (List ℕ)) (text : List ℕ) → are_declared names (texts ++ text ∷ []) ≡ (are_declared names texts && is_declared names text)
-declared_push names texts text = list_all-append (is_declared names) texts (text ∷ []) ∙ ap (λ b. are_declared names texts && b) (and_true (is_declared names text))
-  where
-    and_true : (b : Bool) → (b && true) ≡ b
-    and_true true = refl
-    and_true false = refl
-
-pub numbers_push : (names texts : List (List ℕ)) (ns : List ℕ) (text : List ℕ) (n : ℕ) → AreNumbers names texts ns → number_of names text ≡ Some n → AreNumbers names (texts ++ text ∷ []) (ns ++ n ∷ [])
-numbers_push names texts ns text n e h = rw (map_push (number_of names) texts text, map_push found ns n, e, h) refl
-
-pub numbers_more : {X : Type 0} (names : List (List ℕ)) (g : X → List ℕ) (xs : List X) (i : ℕ) (d : X) (ns : List ℕ) (n : ℕ) → i < length xs → AreNumbers names (map g (take i xs)) ns → number_of names (g (get_or xs i d)) ≡ Some n → AreNumbers names (map g (take (i + 1) xs)) (ns ++ n ∷ [])
-numbers_more names g xs i d ns n lt e h = rw (map_more g xs i d lt) (numbers_push names (map g (take i xs)) ns (g (get_or xs i d)) n e h)
-
--- a set without members, and with one more
-pub no_members : (names : List (List ℕ)) → IsSetOf names [] []
-no_members names = record { declared = refl; ascends = tt; members = λ x. refl }
-
-list_any_one : {Y : Type 0} (p : Y → Bool) (ys : List Y) (y : Y) → list_any p (ys ++ y ∷ []) ≡ (p y || list_any p ys)
-list_any_one p ys y = list_any-append p ys (y ∷ []) ∙ swapped (list_any p ys) (p y)
-  where
-    swapped : (a b : Bool) → (a || (b || false)) ≡ (b || a)
-    swapped true true = refl
-    swapped true false = refl
-    swapped false true = refl
-    swapped false false = refl
-
-pub set_more : {X : Type 0} (names : List (List ℕ)) (g : X → List ℕ) (xs : List X) (i : ℕ) (d : X) (old new : List ℕ) (n : ℕ) → i < length xs → IsSetOf names (map g (take i xs)) old → number_of names (g (get_or xs i d)) ≡ Some n
-    → IsTaskSet new → ((x : ℕ) → mem x new ≡ (nat_eq x n || mem x old)) → IsSetOf names (map g (take (i + 1) xs)) new
-set_more names g xs i d old new n lt is h set grows = record {
-  declared = list_all_more (is_declared names) g xs i d lt is.declared (ap is_some h);
-  ascends = set;
-  members = λ x. rw (map_more g xs i d lt, list_any_one (does_name names x) (map g (take i xs)) (g (get_or xs i d)), h, grows x, is.members x) refl;
-}
-
 -- a number of a name is below the count of the names
 pub number_below : (names : List (List ℕ)) (name : List ℕ) (n : ℕ) → number_of names name ≡ Some n → n < length names
 number_below names name n e = (position-Some (bytes_eq name) names n [] e).0
 
-rows_snoc : (n : Names) (spelled : List NamedRow) (rows : List Row) (s : NamedRow) (r : Row) → AreRowsOf n spelled rows → IsRowOf n s r → AreRowsOf n (spelled ++ s ∷ []) (rows ++ r ∷ [])
-rows_snoc n [] [] s r are is = (is, tt)
-rows_snoc n [] (x ∷ rows) s r are is = absurd are
-rows_snoc n (y ∷ spelled) [] s r are is = absurd are
-rows_snoc n (y ∷ spelled) (x ∷ rows) s r are is = (are.0, rows_snoc n spelled rows s r are.1 is)
+pub number_in-below : (names : List (List ℕ)) (name : List ℕ) (n : ℕ) → number_in names name ≡ Ok n → n < length names
+number_in-below names name n e = number_below names name n (or_ok (number_of names name) Unknown n e)
 
-pub rows_more : {X : Type 0} (n : Names) (g : X → NamedRow) (xs : List X) (i : ℕ) (d : X) (rows : List Row) (r : Row) → i < length xs → AreRowsOf n (map g (take i xs)) rows → IsRowOf n (g (get_or xs i d)) r → AreRowsOf n (map g (take (i + 1) xs)) (rows ++ r ∷ [])
-rows_more n g xs i d rows r lt are is = rw (map_more g xs i d lt) (rows_snoc n (map g (take i xs)) rows (g (get_or xs i d)) r are is)
+-- ---- sets
+
+mem_push : (x n : ℕ) (ns : List ℕ) → mem x (ns ++ n ∷ []) ≡ (nat_eq x n || mem x ns)
+mem_push x n [] = refl
+mem_push x n (m ∷ ns) = ap (λ b. nat_eq x m || b) (mem_push x n ns) ∙ turned (nat_eq x m) (nat_eq x n) (mem x ns)
+  where
+    turned : (a b c : Bool) → (a || (b || c)) ≡ (b || (a || c))
+    turned true true c = refl
+    turned true false c = refl
+    turned false true c = refl
+    turned false false c = refl
+
+-- the texts that were looked up so far are named by these numbers, and a test is passed by them alone
+pub record Collects (names texts : List (List ℕ)) (has : ℕ → Bool) : Type 0 where
+  pub numbers : List ℕ
+  pub named : numbers_in names texts ≡ Ok numbers
+  pub members : (x : ℕ) → has x ≡ mem x numbers
+
+pub collects_none : (names : List (List ℕ)) (has : ℕ → Bool) → ((x : ℕ) → has x ≡ false) → Collects names [] has
+collects_none names has none = record { numbers = []; named = each_empty (λ n text. ok_or (number_of names text) Unknown) 1; members = none }
+
+pub collects_more : (names texts more : List (List ℕ)) (old new : ℕ → Bool) (n : ℕ) (is : Collects names texts old) → numbers_in names more ≡ Ok (is.numbers ++ n ∷ []) → ((x : ℕ) → new x ≡ (nat_eq x n || old x)) → Collects names more new
+collects_more names texts more old new n is named grows =
+    record { numbers = is.numbers ++ n ∷ []; named = named; members = λ x. grows x ∙ ap (λ b. nat_eq x n || b) (is.members x) ∙ sym (mem_push x n is.numbers) }
+
+-- a set of tasks with these members
+pub set_is : (ns set : List ℕ) → IsTaskSet set → ((x : ℕ) → mem x set ≡ mem x ns) → as_set 1024 ns ≡ set
+set_is ns set ascends same =
+    sets_lem (as_set 1024 ns) set (passing_from-ascends (λ x. mem x ns) 0 1024 1024 (omega arith)) ascends
+    (λ x. same_tests (mem x (as_set 1024 ns)) (mem x set) (λ m. same x ∙ mem-passing_from (λ y. mem y ns) 0 1024 x m)
+    (λ m. let within = (mem_within 0 1024 set x ascends m).1 in passing_from-mem (λ y. mem y ns) 0 1024 x (omega arith) (omega arith) (sym (same x) ∙ m)))
+
+passing_same : (p q : ℕ → Bool) (low n : ℕ) → ((x : ℕ) → p x ≡ q x) → passing_from p low n ≡ passing_from q low n
+passing_same p q low zero same = refl
+passing_same p q low (suc n) same = rw (same low, passing_same p q (suc low) n same) refl
+
+-- a set of tokens with these members
+pub tokens_are : (ns : List ℕ) (set : TokenSet) → ((k : ℕ) → has_token set k ≡ mem k ns) → as_set 32 ns ≡ tokens_in set
+unfolding tokens_in
+tokens_are ns set same = sym (passing_same (has_token set) (λ k. mem k ns) 0 32 same)
+
+-- all that was collected, as a set
+pub tasks_collected : (names texts : List (List ℕ)) (set : List ℕ) → IsTaskSet set → Collects names texts (λ x. mem x set) → set_in 1024 names texts ≡ Ok set
+tasks_collected names texts set ascends is = rw (is.named, set_is is.numbers set ascends is.members) refl
+
+pub tokens_collected : (names texts : List (List ℕ)) (set : TokenSet) → Collects names texts (has_token set) → set_in 32 names texts ≡ Ok (tokens_in set)
+tokens_collected names texts set is = rw (is.named, tokens_are is.numbers set is.members) refl
+
+-- ---- rows
+
+-- a row of which nothing is said of tokens
+abbrev pub bare : Row → WideRow
+bare r = record { row = r; asked = []; asks = [] }
+
+no_tokens_named : (names : List (List ℕ)) → set_in 32 names [] ≡ Ok []
+no_tokens_named names = rw (each_empty (λ n text. ok_or (number_of names text) Unknown) 1) refl
+
+pub bare_row : (n : Names) (s : NamedRow) (r : Row) → IsPlainRow s → row_in n s ≡ Ok r → wide_row_in n s ≡ Ok (bare r)
+unfolding wide_row_in
+bare_row n s r plain e = rw (e, plain.0, plain.1, no_tokens_named n.tokens) refl
+
+pub bare_fails : (n : Names) (s : NamedRow) (e : Miss TreeFault) → Fails e (row_in n s) → Fails e (wide_row_in n s)
+unfolding wide_row_in
+bare_fails n s (miss.Wrong fault) h = rw h refl
+bare_fails n s miss.Memory h = tt
+
+-- the empty set has no token
+pub none_has : (k : ℕ) → has_token no_tokens k ≡ false
+none_has k = refl

@@ -10,11 +10,10 @@ use Rattle.serde_json.specs.Data.{Data, null, boolean, number, string, array, ob
 use Rattle.serde_json.specs.Read.{of_json, of_items, read, max_depth}
 use Rattle.serde_json.specs.View.{items_of}
 use Rattle.serde_json.specs.Written.{outline, items_outline, members_outline}
-use Rattle.tpl_model.specs.Certificate.{Tree}
+use Rattle.tpl_model.specs.Certificate.{Row, Tree, SplitInput, SplitEnd, Leaf}
 use Rattle.tpl_draft.specs.Named.{Names}
-use Rattle.tpl_cert.specs.NamedTrees.{NamedRow, NamedTree, SplitInput, SplitEnd, Leaf}
 use Rattle.tpl_cert.specs.Heights.{height}
-use Rattle.tpl_cert.specs.Written.{words_of, row_data, tree_data, named, certificate_data}
+use Rattle.tpl_cert.specs.Written.{words_of, name_at, row_data, tree_data, certificate_data}
 use Rattle.tpl_cert.proofs.Nesting.{certificate_depth}
 
 mutual
@@ -38,21 +37,21 @@ texts_read : (texts : List (List ℕ)) → of_items (items_outline (items_of (ma
 texts_read [] = refl
 texts_read (text ∷ texts) = rw (texts_read texts) refl
 
-row_read : (r : NamedRow) → of_json (outline (row_data r)) ≡ Some (row_data r)
-row_read r = rw (texts_read r.before, texts_read r.chain, texts_read (words_of r.ends), texts_read r.past) refl
+row_read : (n : Names) (r : Row) → of_json (outline (row_data n r)) ≡ Some (row_data n r)
+row_read n r = rw (texts_read (map (name_at n.tasks) r.before), texts_read (map (name_at n.tasks) r.chain), texts_read (words_of r.ends), texts_read (map (name_at n.tasks) r.past)) refl
 
-rows_read : (rows : List NamedRow) → of_items (items_outline (items_of (map row_data rows))) ≡ Some (items_of (map row_data rows))
-rows_read [] = refl
-rows_read (r ∷ rows) = rw (row_read r, rows_read rows) refl
+rows_read : (n : Names) (rows : List Row) → of_items (items_outline (items_of (map (row_data n) rows))) ≡ Some (items_of (map (row_data n) rows))
+rows_read n [] = refl
+rows_read n (r ∷ rows) = rw (row_read n r, rows_read n rows) refl
 
-tree_read : (t : NamedTree) → of_json (outline (tree_data t)) ≡ Some (tree_data t)
-tree_read (SplitInput name a b) = rw (tree_read a, tree_read b) refl
-tree_read (SplitEnd name a b c) = rw (tree_read a, tree_read b, tree_read c) refl
-tree_read (Leaf rows) = rw (rows_read rows) refl
+tree_read : (n : Names) (t : Tree) → of_json (outline (tree_data n t)) ≡ Some (tree_data n t)
+tree_read n (SplitInput i a b) = rw (tree_read n a, tree_read n b) refl
+tree_read n (SplitEnd t a b c) = rw (tree_read n a, tree_read n b, tree_read n c) refl
+tree_read n (Leaf rows) = rw (rows_read n rows) refl
 
-trees_read : (n : Names) (trees : List Tree) → of_items (items_outline (items_of (map (λ t. tree_data (named n t)) trees))) ≡ Some (items_of (map (λ t. tree_data (named n t)) trees))
+trees_read : (n : Names) (trees : List Tree) → of_items (items_outline (items_of (map (tree_data n) trees))) ≡ Some (items_of (map (tree_data n) trees))
 trees_read n [] = refl
-trees_read n (t ∷ trees) = rw (tree_read (named n t), trees_read n trees) refl
+trees_read n (t ∷ trees) = rw (tree_read n t, trees_read n trees) refl
 
 -- the value of what was parsed, where nothing is left
 abbrev whole : Option (Json × List Token) → Option Data

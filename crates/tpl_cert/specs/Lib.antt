@@ -1,4 +1,5 @@
 pub mod NamedTrees
+pub mod Plain
 pub mod Reading
 pub mod Seen
 pub mod Trees

@@ -1,25 +1,34 @@
 -- The certificate tree with names that a JSON value is, `None` where it is none.
-use Rattle.std.specs.Prelude.{ℕ, zero, suc, List, [], ◌∷◌, Option, Some, None, codes, if◌then◌else◌}
+use Rattle.std.specs.Prelude.{ℕ, zero, suc, ◌&&◌, Bool, true, false, List, [], ◌∷◌, Option, Some, None, codes, if◌then◌else◌}
 use Rattle.serde_json.specs.Data.{Data, depth}
 use Rattle.serde_json.specs.Find.{get}
+use Rattle.tpl_model.specs.declared.rule_set.RuleSet.{RuleSet}
+use Rattle.tpl_model.specs.declared.rule_set.RuleSet.TheVariants.{Narrow, Wide}
 use Rattle.tpl_json.specs.Members.{◌>>=◌, ◌<$>◌, ◌<*>◌, only_if, has_only, object_of, has_member, text_in, bool_in, list_in, each, texts_in}
 use Rattle.tpl_json.specs.Finals.{no_finals, finals_at}
-use Rattle.tpl_cert.specs.NamedTrees.{NamedRow, NamedTree, SplitInput, SplitEnd, Leaf}
+use Rattle.tpl_cert.specs.NamedTrees.{NamedRow, NamedTree, SplitInput, SplitEnd, SplitWinner, Leaf}
 
--- {"ends": final statuses, "runs": true or false, "before": [task, ..], "past": [task, ..], "chain": [task, ..]}, of which the last three may be left out
-unfoldable pub row_at : Data → Option NamedRow
-row_at d = do
-  only ← only_if (has_only (codes "ends" ∷ codes "runs" ∷ codes "before" ∷ codes "past" ∷ codes "chain" ∷ []) d)
+-- the members of a row: by the wide rules it speaks of tokens too
+abbrev pub row_names : RuleSet → List (List ℕ)
+row_names Narrow = codes "ends" ∷ codes "runs" ∷ codes "before" ∷ codes "past" ∷ codes "chain" ∷ []
+row_names Wide = codes "ends" ∷ codes "runs" ∷ codes "before" ∷ codes "past" ∷ codes "chain" ∷ codes "asked" ∷ codes "asks" ∷ []
+
+-- {"ends": final statuses, "runs": true or false, "before": [task, ..], "past": [task, ..], "chain": [task, ..], "asked": [token, ..], "asks": [token, ..]}, of which all but the first two may be left out
+unfoldable pub row_at : RuleSet → Data → Option NamedRow
+row_at rules d = do
+  only ← only_if (has_only (row_names rules) d)
   ends ← get (codes "ends") d >>= list_in >>= finals_at no_finals
   runs ← bool_in (codes "runs") d
   before ← texts_in (codes "before") d
   past ← texts_in (codes "past") d
   chain ← texts_in (codes "chain") d
-  Some (record { ends = ends; runs = runs; before = before; past = past; chain = chain })
+  asked ← texts_in (codes "asked") d
+  asks ← texts_in (codes "asks") d
+  Some (record { ends = ends; runs = runs; before = before; past = past; chain = chain; asked = asked; asks = asks })
 
 -- {"rows": [row, ..]}
-unfoldable pub leaf_at : Data → Option NamedTree
-leaf_at d = object_of (codes "rows" ∷ []) d (Leaf <$> (get (codes "rows") d >>= list_in >>= each row_at))
+unfoldable pub leaf_at : RuleSet → Data → Option NamedTree
+leaf_at rules d = object_of (codes "rows" ∷ []) d (Leaf <$> (get (codes "rows") d >>= list_in >>= each (row_at rules)))
 
 -- the tree in a member; `inner` reads the trees inside
 abbrev pub inside : (Data → Option NamedTree) → List ℕ → Data → Option NamedTree
@@ -35,15 +44,28 @@ end_at inner d =
     object_of (codes "split_end" ∷ codes "ran" ∷ codes "canceled" ∷ codes "faulted" ∷ []) d
     ((λ task ran canceled faulted. SplitEnd task ran canceled faulted) <$> text_in (codes "split_end") d <*> inside inner (codes "ran") d <*> inside inner (codes "canceled") d <*> inside inner (codes "faulted") d)
 
+-- {"split_winner": WhenAny task, "task": argument, "yes": tree, "no": tree}
+unfoldable pub winner_at : (Data → Option NamedTree) → Data → Option NamedTree
+winner_at inner d =
+    object_of (codes "split_winner" ∷ codes "task" ∷ codes "yes" ∷ codes "no" ∷ []) d
+    ((λ task argument yes no. SplitWinner task argument yes no) <$> text_in (codes "split_winner") d <*> text_in (codes "task") d <*> inside inner (codes "yes") d <*> inside inner (codes "no") d)
+
+-- by the wide rules trees split on winners too
+abbrev pub splits_winners : RuleSet → Bool
+splits_winners Narrow = false
+splits_winners Wide = true
+
 -- a split or a leaf
-unfoldable pub node_at : (Data → Option NamedTree) → Data → Option NamedTree
-node_at inner d = if has_member (codes "split_input") d then input_at inner d else (if has_member (codes "split_end") d then end_at inner d else leaf_at d)
+unfoldable pub node_at : RuleSet → (Data → Option NamedTree) → Data → Option NamedTree
+node_at rules inner d =
+    if has_member (codes "split_input") d then input_at inner d
+    else (if has_member (codes "split_end") d then end_at inner d else (if splits_winners rules && has_member (codes "split_winner") d then winner_at inner d else leaf_at rules d))
 
 -- trees in trees to this depth
-unfoldable pub tree_at : ℕ → Data → Option NamedTree
-tree_at zero d = None
-tree_at (suc n) d = node_at (tree_at n) d
+unfoldable pub tree_at : RuleSet → ℕ → Data → Option NamedTree
+tree_at rules zero d = None
+tree_at rules (suc n) d = node_at rules (tree_at rules n) d
 
 -- trees in trees as deep as the value nests
-unfoldable pub whole_tree : Data → Option NamedTree
-whole_tree d = tree_at (depth d) d
+unfoldable pub whole_tree : RuleSet → Data → Option NamedTree
+whole_tree rules d = tree_at rules (depth d) d

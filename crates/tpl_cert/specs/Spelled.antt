@@ -1,26 +1,26 @@
--- Which tree a JSON value spells, and what is wrong with a value that isn't read.
-use Rattle.std.specs.Prelude.{◌≡◌, Some, None, false}
+-- Which tree a JSON value spells, or what is wrong with it.
+use Rattle.std.specs.Prelude.{Result, Ok, ok_or}
 use Rattle.serde_json.specs.Data.{Data}
-use Rattle.tpl_model.specs.Certificate.{Tree}
+use Rattle.tpl_model.specs.declared.rule_set.RuleSet.{RuleSet}
+use Rattle.tpl_model.specs.WiderRules.{WideTree}
 use Rattle.tpl_draft.specs.Named.{Names}
+use Rattle.tpl_json.specs.Members.{only_if}
+use Rattle.tpl_json.specs.Passes.{◌>>=◌}
 use Rattle.tpl_cert.specs.declared.fault.TreeFault.{TreeFault}
-use Rattle.tpl_cert.specs.declared.fault.TreeFault.TheVariants as faults
-use Rattle.tpl_cert.specs.NamedTrees.{NamedTree}
+use Rattle.tpl_cert.specs.declared.fault.TreeFault.TheVariants.{Shape, Limit}
 use Rattle.tpl_cert.specs.Reading.{whole_tree}
-use Rattle.tpl_cert.specs.Naming.{IsTreeOf, knows}
-use Rattle.tpl_cert.specs.Heights.{IsWithinLimits}
+use Rattle.tpl_cert.specs.Naming.{tree_in}
+use Rattle.tpl_cert.specs.WideHeights.{is_within_limits}
 
--- the value spells the tree, with the names of a graph for the ids
-abbrev pub SpellsTree : Names → Data → Tree → Type 0
-SpellsTree n d t = (s : NamedTree) × (whole_tree d ≡ Some s) × IsTreeOf n s t
+-- the tree that the value spells, with the names of a graph for the ids, or what is wrong: no tree is spelled so, or a name in it isn't the graph's
+unfoldable pub spelled_tree : RuleSet → Names → Data → Result WideTree TreeFault
+spelled_tree rules n d = do
+  named ← ok_or (whole_tree rules d) Shape
+  tree_in n named
 
--- the value is read as the tree
-abbrev pub ReadsAs : Names → Data → Tree → Type 0
-ReadsAs n d t = SpellsTree n d t × IsWithinLimits t
-
--- what is wrong with a value: no tree is spelled so, or a name in it isn't the graph's, or it goes beyond the limits
-abbrev pub IsWrongTree : Names → Data → TreeFault → Type 0
-IsWrongTree n d faults.Shape = whole_tree d ≡ None
-IsWrongTree n d faults.Unknown = (s : NamedTree) × (whole_tree d ≡ Some s) × (knows n s ≡ false)
-IsWrongTree n d faults.Limit = (t : Tree) × SpellsTree n d t × (IsWithinLimits t → ⊥)
-IsWrongTree n d faults.Memory = Unit {0}
+-- the tree that the value is read as: it doesn't go beyond the limits either
+unfoldable pub read_tree : RuleSet → Names → Data → Result WideTree TreeFault
+read_tree rules n d = do
+  tree ← spelled_tree rules n d
+  few ← ok_or (only_if (is_within_limits tree)) Limit
+  Ok tree

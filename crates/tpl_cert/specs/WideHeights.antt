@@ -1,6 +1,6 @@
 -- How deep a tree splits whose rows speak of tokens too, and how long its chains are.
-use Rattle.std.specs.Prelude.{ℕ, ◌≤◌, suc, max, length}
-use Rattle.std.specs.List.{All}
+use Rattle.std.specs.Prelude.{ℕ, ◌≤◌, ◌&&◌, suc, max, length, Bool, nat_le}
+use Rattle.std.specs.List.{All, list_all}
 use Rattle.tpl_model.specs.WiderRules.{WideRow, WideTree, OnInput, OnEnd, OnWinner, WideLeaf}
 
 -- the splits above the deepest leaf
@@ -23,3 +23,16 @@ HasShortWideChains (WideLeaf rows) = All HasShortWideChain rows
 -- within the limits: at most 6 splits on each path
 abbrev pub IsWithinWideLimits : WideTree → Type 0
 IsWithinWideLimits tree = (wide_height tree ≤ 6) × HasShortWideChains tree
+
+-- the same, as a test
+abbrev pub has_short_chain : WideRow → Bool
+has_short_chain r = nat_le (length r.row.chain) 16
+
+abbrev pub has_short_chains : WideTree → Bool
+has_short_chains (OnInput i on_true on_false) = has_short_chains on_true && has_short_chains on_false
+has_short_chains (OnEnd t ran canceled faulted) = has_short_chains ran && (has_short_chains canceled && has_short_chains faulted)
+has_short_chains (OnWinner n x on_yes on_no) = has_short_chains on_yes && has_short_chains on_no
+has_short_chains (WideLeaf rows) = list_all has_short_chain rows
+
+abbrev pub is_within_limits : WideTree → Bool
+is_within_limits tree = nat_le (wide_height tree) 6 && has_short_chains tree

@@ -12,7 +12,6 @@ use Rattle.tpl_model.specs.TaskSet.{IsTaskSet}
 use Rattle.tpl_model.specs.Certificate.{Row, Tree}
 use Rattle.tpl_model.specs.Certificate as tree
 use Rattle.tpl_draft.specs.Named.{Names}
-use Rattle.tpl_cert.specs.NamedTrees.{NamedRow, NamedTree, SplitInput, SplitEnd, Leaf}
 use Rattle.tpl_cert.specs.declared.fault.TreeToFault.{TreeToFault}
 use Rattle.tpl_cert.specs.declared.fault.TreeToFault.TheVariants as faults
 
@@ -30,8 +29,21 @@ abbrev pub row_object : Data → Data → Data → Data → Data → Data
 row_object before chain ends past runs =
     object (member (codes "before") before (member (codes "chain") chain (member (codes "ends") ends (member (codes "past") past (member (codes "runs") runs no_members)))))
 
-abbrev pub row_data : NamedRow → Data
-row_data r = row_object (texts_data r.before) (texts_data r.chain) (texts_data (words_of r.ends)) (texts_data r.past) (boolean r.runs)
+-- ---- names for ids
+
+abbrev pub name_at : List (List ℕ) → ℕ → List ℕ
+name_at names i = slice_index_or names i []
+
+abbrev pub is_id : List (List ℕ) → ℕ → Bool
+is_id names i = nat_lt i (length names)
+
+abbrev pub tasks_data : Names → List ℕ → Data
+tasks_data n tasks = texts_data (map (name_at n.tasks) tasks)
+
+-- ---- the values
+
+abbrev pub row_data : Names → Row → Data
+row_data n r = row_object (tasks_data n r.before) (tasks_data n r.chain) (texts_data (words_of r.ends)) (tasks_data n r.past) (boolean r.runs)
 
 abbrev pub leaf_data : Data → Data
 leaf_data rows = object (member (codes "rows") rows no_members)
@@ -42,31 +54,14 @@ input_data name first second = object (member (codes "no") second (member (codes
 abbrev pub end_data : List ℕ → Data → Data → Data → Data
 end_data name ran canceled faulted = object (member (codes "canceled") canceled (member (codes "faulted") faulted (member (codes "ran") ran (member (codes "split_end") (string name) no_members))))
 
-abbrev pub tree_data : NamedTree → Data
-tree_data (Leaf rows) = leaf_data (array (items_of (map row_data rows)))
-tree_data (SplitInput name first second) = input_data name (tree_data first) (tree_data second)
-tree_data (SplitEnd name ran canceled faulted) = end_data name (tree_data ran) (tree_data canceled) (tree_data faulted)
-
--- ---- names for ids
-
-abbrev pub name_at : List (List ℕ) → ℕ → List ℕ
-name_at names i = slice_index_or names i []
-
-abbrev pub is_id : List (List ℕ) → ℕ → Bool
-is_id names i = nat_lt i (length names)
-
-abbrev pub named_row : Names → Row → NamedRow
-named_row n r = record { ends = r.ends; runs = r.runs; before = map (name_at n.tasks) r.before; past = map (name_at n.tasks) r.past; chain = map (name_at n.tasks) r.chain }
-
--- the tree with names in place of ids
-abbrev pub named : Names → Tree → NamedTree
-named n (tree.SplitInput i a b) = SplitInput (name_at n.inputs i) (named n a) (named n b)
-named n (tree.SplitEnd t a b c) = SplitEnd (name_at n.tasks t) (named n a) (named n b) (named n c)
-named n (tree.Leaf rows) = Leaf (map (named_row n) rows)
+abbrev pub tree_data : Names → Tree → Data
+tree_data n (tree.Leaf rows) = leaf_data (array (items_of (map (row_data n) rows)))
+tree_data n (tree.SplitInput i a b) = input_data (name_at n.inputs i) (tree_data n a) (tree_data n b)
+tree_data n (tree.SplitEnd t a b c) = end_data (name_at n.tasks t) (tree_data n a) (tree_data n b) (tree_data n c)
 
 -- the array of the values of trees
 abbrev pub certificate_data : Names → List Tree → Data
-certificate_data n trees = array (items_of (map (λ t. tree_data (named n t)) trees))
+certificate_data n trees = array (items_of (map (tree_data n) trees))
 
 -- each id in the tree is the graph's
 abbrev pub has_row_ids : Names → Row → Bool

@@ -2,6 +2,8 @@
 
 ghost use Rattle.std.specs.Prelude.{◌≡◌, ◌≤◌, ◌↔◌, IsTrue};
 ghost use Rattle.std.specs.List.{All};
+ghost use Rattle.tpl_model.specs.WiderRules.{as_wide_tree};
+ghost use Rattle.tpl_cert.specs.WideHeights.{is_within_limits};
 ghost use Rattle.tpl_cert.specs.Heights.{height, HasShortChain, HasShortChains, IsWithinLimits};
 
 use crate::row::Row;
@@ -50,7 +52,8 @@ fn has_short_chains(tree: &Tree) -> bool
 
 /// Whether the tree has at most 6 splits on each path, and no chain of more than 16 tasks.
 pub fn is_within_limits(tree: &Tree) -> bool
-    ensures { IsTrue result ↔ IsWithinLimits tree.now }
+    ensures within { IsTrue result ↔ IsWithinLimits tree.now }
+    ensures test { result ≡ is_within_limits (as_wide_tree tree.now) }
 {
     is_no_higher(tree, MOST_SPLITS) && has_short_chains(tree)
 }

@@ -10,6 +10,8 @@ pub(crate) struct NamedRow<'v> {
     pub(crate) before: Vec<&'v str>,
     pub(crate) past: Vec<&'v str>,
     pub(crate) chain: Vec<&'v str>,
+    pub(crate) asked: Vec<&'v str>,
+    pub(crate) asks: Vec<&'v str>,
 }
 
 /// A tree, whose names stand in the document.
@@ -17,5 +19,6 @@ pub(crate) struct NamedRow<'v> {
 pub(crate) enum NamedTree<'v> {
     SplitInput(&'v str, Box<NamedTree<'v>>, Box<NamedTree<'v>>),
     SplitEnd(&'v str, Box<NamedTree<'v>>, Box<NamedTree<'v>>, Box<NamedTree<'v>>),
+    SplitWinner(&'v str, &'v str, Box<NamedTree<'v>>, Box<NamedTree<'v>>),
     Leaf(Vec<NamedRow<'v>>),
 }

@@ -1,47 +1,64 @@
 //! Ids for the names of a tree.
 
-ghost use Rattle.std.specs.Prelude.{◌≡◌, Some, map, IfErr};
-ghost use Rattle.std.specs.List.{list_all};
-ghost use Rattle.tpl_draft.specs.Ids.{task_number};
+ghost use Rattle.std.specs.Prelude.{◌≡◌, map, IfErr};
+ghost use Rattle.std.specs.List.{All};
+ghost use Rattle.tpl_draft.specs.Ids.{task_number, input_number, token_number};
+ghost use Rattle.tpl_json.specs.Passes.{Yields, each_from};
+ghost use Rattle.tpl_json.specs.declared.miss.Miss.TheVariants as miss;
+ghost use Rattle.tpl_model.specs.WiderRules.{as_wide, as_wide_tree};
 ghost use Rattle.tpl_cert.specs.Seen.{row_of, tree_of};
-ghost use Rattle.tpl_cert.specs.Naming.{number_of, is_declared, are_declared, AreNumbers, IsSetOf, IsRowOf, AreRowsOf, IsTreeOf, knows_row, knows, Finds};
+ghost use Rattle.tpl_cert.specs.Plain.{IsPlainRow, IsPlain};
+ghost use Rattle.tpl_cert.specs.WideCoding.{tokens_in};
+ghost use Rattle.tpl_cert.specs.Naming.{number_in, numbers_in, set_in, row_in, wide_row_in, wide_rows_in, tree_in};
 
 use crate::fault::TreeFault;
 use crate::named::{NamedRow, NamedTree};
 use crate::row::Row;
 use crate::tree::{Node, Tree};
+use crate::wide_row::WideRow;
+use crate::wide_tree::{WideNode, WideTree};
 use std::alloc::Global;
 use tpl_graph::Graph;
-use tpl_model::{InputId, TaskId, TaskSet};
+use tpl_json::Miss;
+use tpl_model::{InputId, MOST_TASKS, MOST_TOKENS, TaskId, TaskSet, TokenId};
+use tpl_paths::TokenSet;
 
-fn input_in(graph: &Graph, name: &str) -> Result<InputId, TreeFault>
-    ensures finds { Finds result (is_declared graph.now.names.inputs name.now)
-        (λ i. number_of graph.now.names.inputs name.now ≡ Some i.0) }
-    ensures unknown { IfErr result (λ e. e ≡ TreeFault.Unknown) }
+fn input_in(graph: &Graph, name: &str) -> Result<InputId, Miss<TreeFault>>
+    ensures yields { Yields input_number result (number_in graph.now.names.inputs name.now) }
+    ensures unknown { IfErr result (λ e. e ≡ miss.Wrong TreeFault.Unknown) }
 {
     match graph.input(name) {
-        None => Err(TreeFault::Unknown),
+        None => Err(Miss::Wrong(TreeFault::Unknown)),
         Some(input) => Ok(input),
     }
 }
 
-fn task_in(graph: &Graph, name: &str) -> Result<TaskId, TreeFault>
-    ensures finds { Finds result (is_declared graph.now.names.tasks name.now)
-        (λ t. number_of graph.now.names.tasks name.now ≡ Some t.0) }
-    ensures unknown { IfErr result (λ e. e ≡ TreeFault.Unknown) }
+fn task_in(graph: &Graph, name: &str) -> Result<TaskId, Miss<TreeFault>>
+    ensures yields { Yields task_number result (number_in graph.now.names.tasks name.now) }
+    ensures unknown { IfErr result (λ e. e ≡ miss.Wrong TreeFault.Unknown) }
 {
     match graph.task(name) {
-        None => Err(TreeFault::Unknown),
+        None => Err(Miss::Wrong(TreeFault::Unknown)),
         Some(task) => Ok(task),
     }
 }
 
-fn set_in(graph: &Graph, names: &[&str]) -> Result<TaskSet, TreeFault>
-    ensures finds { Finds result (are_declared graph.now.names.tasks (map (λ s. s.now) names.now))
-        (λ s. IsSetOf graph.now.names.tasks (map (λ s. s.now) names.now) s) }
-    ensures unknown { IfErr result (λ e. e ≡ TreeFault.Unknown) }
+fn token_in(graph: &Graph, name: &str) -> Result<TokenId, Miss<TreeFault>>
+    ensures yields { Yields token_number result (number_in graph.now.names.tokens name.now) }
+    ensures unknown { IfErr result (λ e. e ≡ miss.Wrong TreeFault.Unknown) }
+{
+    match graph.token(name) {
+        None => Err(Miss::Wrong(TreeFault::Unknown)),
+        Some(token) => Ok(token),
+    }
+}
+
+fn tasks_in(graph: &Graph, names: &[&str]) -> Result<TaskSet, Miss<TreeFault>>
+    ensures { Yields (λ s. s) result (set_in MOST_TASKS graph.now.names.tasks
+        (map (λ s. s.now) names.now)) }
 {
     graph.valid_law();
+    tpl_model::sets_are_their_members();
     let mut set = TaskSet::empty();
     for name in names {
         let task = task_in(graph, name)?;
@@ -50,10 +67,22 @@ fn set_in(graph: &Graph, names: &[&str]) -> Result<TaskSet, TreeFault>
     Ok(set)
 }
 
-fn chain_in(alloc: Global, graph: &Graph, names: &[&str]) -> Result<Vec<TaskId>, TreeFault>
-    ensures { Finds result (are_declared graph.now.names.tasks (map (λ s. s.now) names.now))
-        (λ v. AreNumbers graph.now.names.tasks (map (λ s. s.now) names.now)
-        (map task_number v.items)) }
+fn tokens_in(graph: &Graph, names: &[&str]) -> Result<TokenSet, Miss<TreeFault>>
+    ensures { Yields tokens_in result (set_in MOST_TOKENS graph.now.names.tokens
+        (map (λ s. s.now) names.now)) }
+{
+    graph.valid_law();
+    let mut set = TokenSet::empty();
+    for name in names {
+        let token = token_in(graph, name)?;
+        set.insert(token);
+    }
+    Ok(set)
+}
+
+fn chain_in(alloc: Global, graph: &Graph, names: &[&str]) -> Result<Vec<TaskId>, Miss<TreeFault>>
+    ensures { Yields (λ v. map task_number v.items) result
+        (numbers_in graph.now.names.tasks (map (λ s. s.now) names.now)) }
 {
     let mut chain = Vec::new(alloc);
     for name in names {
@@ -63,19 +92,31 @@ fn chain_in(alloc: Global, graph: &Graph, names: &[&str]) -> Result<Vec<TaskId>,
     Ok(chain)
 }
 
-fn row_in(alloc: Global, graph: &Graph, row: &NamedRow) -> Result<Row, TreeFault>
-    ensures { Finds result (knows_row graph.now.names (row_of row.now))
-        (λ r. IsRowOf graph.now.names (row_of row.now) r) }
+/// The row, without its tokens.
+#[tactic(auto, unfolding(crate::specs::Naming::row_in))]
+fn row_in(alloc: Global, graph: &Graph, row: &NamedRow) -> Result<Row, Miss<TreeFault>>
+    ensures { Yields (λ r. r) result (row_in graph.now.names (row_of row.now)) }
 {
-    let before = set_in(graph, &row.before)?;
-    let past = set_in(graph, &row.past)?;
+    let before = tasks_in(graph, &row.before)?;
+    let past = tasks_in(graph, &row.past)?;
     let chain = chain_in(alloc, graph, &row.chain)?;
     Ok(Row::new(row.ends, row.runs, before, past, chain))
 }
 
-fn rows_in(alloc: Global, graph: &Graph, rows: &[NamedRow]) -> Result<Vec<Row>, TreeFault>
-    ensures { Finds result (list_all (knows_row graph.now.names) (map row_of rows.now))
-        (λ v. AreRowsOf graph.now.names (map row_of rows.now) v.items) }
+#[tactic(auto, unfolding(crate::specs::Naming::wide_row_in))]
+fn wide_row_in(alloc: Global, graph: &Graph, row: &NamedRow) -> Result<WideRow, Miss<TreeFault>>
+    ensures { Yields (λ r. r) result (wide_row_in graph.now.names (row_of row.now)) }
+{
+    let plain = row_in(alloc, graph, row)?;
+    let asked = tokens_in(graph, &row.asked)?;
+    let asks = tokens_in(graph, &row.asks)?;
+    Ok(WideRow::new(plain, asked, asks))
+}
+
+fn rows_in(alloc: Global, graph: &Graph, rows: &[NamedRow]) -> Result<Vec<Row>, Miss<TreeFault>>
+    requires { All (λ r. IsPlainRow (row_of r)) rows.now }
+    ensures { Yields (λ v. as_wide v.items) result
+        (wide_rows_in graph.now.names (map row_of rows.now)) }
 {
     let mut found = Vec::new(alloc);
     for row in rows {
@@ -85,20 +126,42 @@ fn rows_in(alloc: Global, graph: &Graph, rows: &[NamedRow]) -> Result<Vec<Row>, 
     Ok(found)
 }
 
+fn wide_rows_in(
+    alloc: Global,
+    graph: &Graph,
+    rows: &[NamedRow],
+) -> Result<Vec<WideRow>, Miss<TreeFault>>
+    ensures { Yields (λ v. v.items) result
+        (wide_rows_in graph.now.names (map row_of rows.now)) }
+{
+    let mut found = Vec::new(alloc);
+    for row in rows {
+        let row = wide_row_in(alloc, graph, row)?;
+        found.push(row)?;
+    }
+    Ok(found)
+}
+
 #[cycle(naming)]
-fn inside_in(alloc: Global, graph: &Graph, tree: &NamedTree) -> Result<Box<Tree>, TreeFault>
-    ensures { Finds result (knows graph.now.names (tree_of tree.now))
-        (λ b. IsTreeOf graph.now.names (tree_of tree.now) b.value) }
+fn inside_in(alloc: Global, graph: &Graph, tree: &NamedTree) -> Result<Box<Tree>, Miss<TreeFault>>
+    requires { IsPlain (tree_of tree.now) }
+    ensures { Yields (λ b. as_wide_tree b.value) result
+        (tree_in graph.now.names (tree_of tree.now)) }
 {
     let found = tree_in(alloc, graph, tree)?;
     Ok(Box::new(alloc, found)?)
 }
 
-/// The tree with ids in place of names.
+/// The tree with ids in place of names, which speaks of no token and of no winner.
 #[cycle(naming)]
-pub(crate) fn tree_in(alloc: Global, graph: &Graph, tree: &NamedTree) -> Result<Tree, TreeFault>
-    ensures { Finds result (knows graph.now.names (tree_of tree.now))
-        (λ t. IsTreeOf graph.now.names (tree_of tree.now) t) }
+#[tactic(auto, unfolding(crate::specs::Naming::tree_in))]
+pub(crate) fn tree_in(
+    alloc: Global,
+    graph: &Graph,
+    tree: &NamedTree,
+) -> Result<Tree, Miss<TreeFault>>
+    requires { IsPlain (tree_of tree.now) }
+    ensures { Yields as_wide_tree result (tree_in graph.now.names (tree_of tree.now)) }
 {
     match tree {
         NamedTree::SplitInput(name, first, second) => {
@@ -114,9 +177,60 @@ pub(crate) fn tree_in(alloc: Global, graph: &Graph, tree: &NamedTree) -> Result<
             let faulted = inside_in(alloc, graph, faulted)?;
             Ok(Tree::new(Node::SplitEnd(task, ran, canceled, faulted)))
         }
+        NamedTree::SplitWinner(..) => unreachable!(),
         NamedTree::Leaf(rows) => {
             let rows = rows_in(alloc, graph, rows)?;
             Ok(Tree::new(Node::Leaf(rows)))
+        }
+    }
+}
+
+#[cycle(wide_naming)]
+fn wide_inside_in(
+    alloc: Global,
+    graph: &Graph,
+    tree: &NamedTree,
+) -> Result<Box<WideTree>, Miss<TreeFault>>
+    ensures { Yields (λ b. b.value) result (tree_in graph.now.names (tree_of tree.now)) }
+{
+    let found = wide_tree_in(alloc, graph, tree)?;
+    Ok(Box::new(alloc, found)?)
+}
+
+/// The tree with ids in place of names.
+#[cycle(wide_naming)]
+#[tactic(auto, unfolding(crate::specs::Naming::tree_in))]
+pub(crate) fn wide_tree_in(
+    alloc: Global,
+    graph: &Graph,
+    tree: &NamedTree,
+) -> Result<WideTree, Miss<TreeFault>>
+    ensures { Yields (λ t. t) result (tree_in graph.now.names (tree_of tree.now)) }
+{
+    match tree {
+        NamedTree::SplitInput(name, first, second) => {
+            let input = input_in(graph, name)?;
+            let first = wide_inside_in(alloc, graph, first)?;
+            let second = wide_inside_in(alloc, graph, second)?;
+            Ok(WideTree::new(WideNode::SplitInput(input, first, second)))
+        }
+        NamedTree::SplitEnd(name, ran, canceled, faulted) => {
+            let task = task_in(graph, name)?;
+            let ran = wide_inside_in(alloc, graph, ran)?;
+            let canceled = wide_inside_in(alloc, graph, canceled)?;
+            let faulted = wide_inside_in(alloc, graph, faulted)?;
+            Ok(WideTree::new(WideNode::SplitEnd(task, ran, canceled, faulted)))
+        }
+        NamedTree::SplitWinner(name, other, first, second) => {
+            let task = task_in(graph, name)?;
+            let argument = task_in(graph, other)?;
+            let first = wide_inside_in(alloc, graph, first)?;
+            let second = wide_inside_in(alloc, graph, second)?;
+            Ok(WideTree::new(WideNode::SplitWinner(task, argument, first, second)))
+        }
+        NamedTree::Leaf(rows) => {
+            let rows = wide_rows_in(alloc, graph, rows)?;
+            Ok(WideTree::new(WideNode::Leaf(rows)))
         }
     }
 }

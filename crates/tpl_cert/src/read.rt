@@ -5,20 +5,35 @@ ghost use Rattle.serde_json.specs.Find.{get};
 ghost use Rattle.tpl_json.specs.View.{view};
 ghost use Rattle.tpl_cert.specs.Seen.{row_of, tree_of};
 ghost use Rattle.tpl_json.specs.Members.{Gives, each};
-ghost use Rattle.tpl_cert.specs.Reading.{row_at, leaf_at, input_at, end_at, node_at, whole_tree};
+ghost use Rattle.tpl_cert.specs.Reading.{row_names, row_at, leaf_at, input_at, end_at, winner_at, node_at, whole_tree};
 
 use crate::named::{NamedRow, NamedTree};
 use json::Value;
 use std::alloc::Global;
+use tpl_model::RuleSet;
 use tpl_json::{
     Miss, Shape, bool_in, finals_of, find, has_only, list_of, member_in, text_in, texts_in,
 };
 
-#[tactic(auto, unfolding(crate::specs::Reading::row_at))]
-fn row_of<'v, 't>(alloc: Global, value: &'v Value<'t>) -> Result<NamedRow<'v>, Miss<Shape>>
-    ensures { Gives row_of result (row_at (view value.now)) }
+/// The members of a row: by the wide rules it speaks of tokens too.
+fn row_names(rules: RuleSet) -> &'static [&'static str]
+    ensures { map (λ s. s.now) result.now ≡ row_names rules }
 {
-    if !has_only(value, &["ends", "runs", "before", "past", "chain"]) {
+    match rules {
+        RuleSet::Narrow => &["ends", "runs", "before", "past", "chain"],
+        RuleSet::Wide => &["ends", "runs", "before", "past", "chain", "asked", "asks"],
+    }
+}
+
+#[tactic(auto, unfolding(crate::specs::Reading::row_at))]
+fn row_of<'v, 't>(
+    alloc: Global,
+    rules: RuleSet,
+    value: &'v Value<'t>,
+) -> Result<NamedRow<'v>, Miss<Shape>>
+    ensures { Gives row_of result (row_at rules (view value.now)) }
+{
+    if !has_only(value, row_names(rules)) {
         return Err(Miss::Wrong(Shape));
     }
     let list = member_in(value, "ends")?;
@@ -27,103 +42,151 @@ fn row_of<'v, 't>(alloc: Global, value: &'v Value<'t>) -> Result<NamedRow<'v>, M
     let before = texts_in(alloc, value, "before")?;
     let past = texts_in(alloc, value, "past")?;
     let chain = texts_in(alloc, value, "chain")?;
+    let asked = texts_in(alloc, value, "asked")?;
+    let asks = texts_in(alloc, value, "asks")?;
     Ok(NamedRow {
         ends,
         runs,
         before,
         past,
         chain,
+        asked,
+        asks,
     })
 }
 
-fn rows_of<'v, 't>(alloc: Global, values: &'v [Value<'t>]) -> Result<Vec<NamedRow<'v>>, Miss<Shape>>
-    ensures { Gives (λ v. map row_of v.items) result (each row_at (map view values.now)) }
+fn rows_of<'v, 't>(
+    alloc: Global,
+    rules: RuleSet,
+    values: &'v [Value<'t>],
+) -> Result<Vec<NamedRow<'v>>, Miss<Shape>>
+    ensures { Gives (λ v. map row_of v.items) result (each (row_at rules) (map view values.now)) }
 {
     let mut rows = Vec::new(alloc);
     for value in values {
-        let row = row_of(alloc, value)?;
+        let row = row_of(alloc, rules, value)?;
         rows.push(row)?;
     }
     Ok(rows)
 }
 
 #[tactic(auto, unfolding(crate::specs::Reading::leaf_at))]
-fn leaf_of<'v, 't>(alloc: Global, value: &'v Value<'t>) -> Result<NamedTree<'v>, Miss<Shape>>
-    ensures { Gives tree_of result (leaf_at (view value.now)) }
+fn leaf_of<'v, 't>(
+    alloc: Global,
+    rules: RuleSet,
+    value: &'v Value<'t>,
+) -> Result<NamedTree<'v>, Miss<Shape>>
+    ensures { Gives tree_of result (leaf_at rules (view value.now)) }
 {
     if !has_only(value, &["rows"]) {
         return Err(Miss::Wrong(Shape));
     }
     let list = member_in(value, "rows")?;
-    let rows = rows_of(alloc, list_of(list)?)?;
+    let rows = rows_of(alloc, rules, list_of(list)?)?;
     Ok(NamedTree::Leaf(rows))
 }
 
 #[cycle(tree)]
 fn branch_of<'v, 't>(
     alloc: Global,
+    rules: RuleSet,
     value: &'v Value<'t>,
     name: &str,
 ) -> Result<Box<NamedTree<'v>>, Miss<Shape>>
     ensures { Gives (λ b. tree_of b.value) result
-        (option_and_then whole_tree (get name.now (view value.now))) }
+        (option_and_then (whole_tree rules) (get name.now (view value.now))) }
 {
     let member = member_in(value, name)?;
-    let tree = named_tree(alloc, member)?;
+    let tree = named_tree(alloc, rules, member)?;
     let boxed = Box::new(alloc, tree)?;
     Ok(boxed)
 }
 
 #[cycle(tree)]
 #[tactic(auto, unfolding(crate::specs::Reading::input_at))]
-fn input_of<'v, 't>(alloc: Global, value: &'v Value<'t>) -> Result<NamedTree<'v>, Miss<Shape>>
-    ensures { Gives tree_of result (input_at whole_tree (view value.now)) }
+fn input_of<'v, 't>(
+    alloc: Global,
+    rules: RuleSet,
+    value: &'v Value<'t>,
+) -> Result<NamedTree<'v>, Miss<Shape>>
+    ensures { Gives tree_of result (input_at (whole_tree rules) (view value.now)) }
 {
     if !has_only(value, &["split_input", "yes", "no"]) {
         return Err(Miss::Wrong(Shape));
     }
     let name = text_in(value, "split_input")?;
-    let first = branch_of(alloc, value, "yes")?;
-    let second = branch_of(alloc, value, "no")?;
+    let first = branch_of(alloc, rules, value, "yes")?;
+    let second = branch_of(alloc, rules, value, "no")?;
     Ok(NamedTree::SplitInput(name, first, second))
 }
 
 #[cycle(tree)]
 #[tactic(auto, unfolding(crate::specs::Reading::end_at))]
-fn end_of<'v, 't>(alloc: Global, value: &'v Value<'t>) -> Result<NamedTree<'v>, Miss<Shape>>
-    ensures { Gives tree_of result (end_at whole_tree (view value.now)) }
+fn end_of<'v, 't>(
+    alloc: Global,
+    rules: RuleSet,
+    value: &'v Value<'t>,
+) -> Result<NamedTree<'v>, Miss<Shape>>
+    ensures { Gives tree_of result (end_at (whole_tree rules) (view value.now)) }
 {
     if !has_only(value, &["split_end", "ran", "canceled", "faulted"]) {
         return Err(Miss::Wrong(Shape));
     }
     let name = text_in(value, "split_end")?;
-    let ran = branch_of(alloc, value, "ran")?;
-    let canceled = branch_of(alloc, value, "canceled")?;
-    let faulted = branch_of(alloc, value, "faulted")?;
+    let ran = branch_of(alloc, rules, value, "ran")?;
+    let canceled = branch_of(alloc, rules, value, "canceled")?;
+    let faulted = branch_of(alloc, rules, value, "faulted")?;
     Ok(NamedTree::SplitEnd(name, ran, canceled, faulted))
 }
 
 #[cycle(tree)]
-#[tactic(auto, unfolding(crate::specs::Reading::node_at))]
-fn node_of<'v, 't>(alloc: Global, value: &'v Value<'t>) -> Result<NamedTree<'v>, Miss<Shape>>
-    ensures { Gives tree_of result (node_at whole_tree (view value.now)) }
+#[tactic(auto, unfolding(crate::specs::Reading::winner_at))]
+fn winner_of<'v, 't>(
+    alloc: Global,
+    rules: RuleSet,
+    value: &'v Value<'t>,
+) -> Result<NamedTree<'v>, Miss<Shape>>
+    ensures { Gives tree_of result (winner_at (whole_tree rules) (view value.now)) }
 {
-    if find(value, "split_input").is_some() {
-        return input_of(alloc, value);
+    if !has_only(value, &["split_winner", "task", "yes", "no"]) {
+        return Err(Miss::Wrong(Shape));
     }
-    if find(value, "split_end").is_some() {
-        return end_of(alloc, value);
-    }
-    leaf_of(alloc, value)
+    let task = text_in(value, "split_winner")?;
+    let argument = text_in(value, "task")?;
+    let first = branch_of(alloc, rules, value, "yes")?;
+    let second = branch_of(alloc, rules, value, "no")?;
+    Ok(NamedTree::SplitWinner(task, argument, first, second))
 }
 
-/// A tree, however deep the value nests.
+#[cycle(tree)]
+#[tactic(auto, unfolding(crate::specs::Reading::node_at))]
+fn node_of<'v, 't>(
+    alloc: Global,
+    rules: RuleSet,
+    value: &'v Value<'t>,
+) -> Result<NamedTree<'v>, Miss<Shape>>
+    ensures { Gives tree_of result (node_at rules (whole_tree rules) (view value.now)) }
+{
+    if find(value, "split_input").is_some() {
+        return input_of(alloc, rules, value);
+    }
+    if find(value, "split_end").is_some() {
+        return end_of(alloc, rules, value);
+    }
+    if rules == RuleSet::Wide && find(value, "split_winner").is_some() {
+        return winner_of(alloc, rules, value);
+    }
+    leaf_of(alloc, rules, value)
+}
+
+/// A tree, however deep the value nests. By the wide rules it may speak of tokens and of winners.
 #[cycle(tree)]
 pub(crate) fn named_tree<'v, 't>(
     alloc: Global,
+    rules: RuleSet,
     value: &'v Value<'t>,
 ) -> Result<NamedTree<'v>, Miss<Shape>>
-    ensures { Gives tree_of result (whole_tree (view value.now)) }
+    ensures { Gives tree_of result (whole_tree rules (view value.now)) }
 {
-    node_of(alloc, value)
+    node_of(alloc, rules, value)
 }

@@ -1,6 +1,6 @@
 //! From certificate trees to text.
 
-ghost use Rattle.std.specs.Prelude.{◌≡◌, ◌≤◌, ◌∷◌, [], map, codes, IfOk, OnOk, Err, Some, true, false, IfErr, string_bytes};
+ghost use Rattle.std.specs.Prelude.{◌≡◌, ◌≤◌, ◌∷◌, [], map, codes, IfOk, OnOk, Ok, Err, Some, true, false, IfErr, string_bytes};
 ghost use Rattle.std.specs.List.{All, list_all};
 ghost use Rattle.json.specs.Lex.{tokens};
 ghost use Rattle.json.specs.Print.{print};
@@ -12,8 +12,10 @@ ghost use Rattle.serde_json.specs.Written.{compact_text};
 ghost use Rattle.tpl_draft.specs.Ids.{task_number};
 ghost use Rattle.tpl_model.specs.TaskSet.{IsTaskSet};
 ghost use Rattle.tpl_cert.specs.Heights.{height};
-ghost use Rattle.tpl_cert.specs.Spelled.{SpellsTree};
-ghost use Rattle.tpl_cert.specs.Written.{texts_data, word_if, words_of, row_data, leaf_data, tree_data, name_at, is_id, named_row, named, certificate_data, has_row_ids, has_ids, AreTaskSets, HasTaskSets, Writes, Puts, PutsValue};
+ghost use Rattle.tpl_cert.specs.Spelled.{spelled_tree};
+ghost use Rattle.tpl_model.specs.WiderRules.{as_wide_tree};
+ghost use Rattle.tpl_model.specs.declared.rule_set.RuleSet.{RuleSet};
+ghost use Rattle.tpl_cert.specs.Written.{texts_data, word_if, words_of, row_data, leaf_data, tasks_data, tree_data, name_at, is_id, certificate_data, has_row_ids, has_ids, AreTaskSets, HasTaskSets, Writes, Puts, PutsValue};
 
 use crate::fault::TreeToFault;
 use crate::row::Row;
@@ -78,7 +80,7 @@ fn write_name(graph: &Graph, task: TaskId, out: &mut Writer) -> Result<(), TreeT
 
 fn write_set(graph: &Graph, set: &TaskSet, out: &mut Writer) -> Result<(), TreeToFault>
     ensures { Writes result (list_all (is_id graph.now.names.tasks) set.now)
-        (λ _. PutsValue (texts_data (map (name_at graph.now.names.tasks) set.now)) out.old out.new
+        (λ _. PutsValue (tasks_data graph.now.names set.now) out.old out.new
         × IsTaskSet set.now) }
 {
     out.begin_array()?;
@@ -91,8 +93,8 @@ fn write_set(graph: &Graph, set: &TaskSet, out: &mut Writer) -> Result<(), TreeT
 
 fn write_chain(graph: &Graph, chain: &[TaskId], out: &mut Writer) -> Result<(), TreeToFault>
     ensures { Writes result (list_all (is_id graph.now.names.tasks) (map task_number chain.now))
-        (λ _. PutsValue (texts_data (map (name_at graph.now.names.tasks)
-        (map task_number chain.now))) out.old out.new) }
+        (λ _. PutsValue (tasks_data graph.now.names
+        (map task_number chain.now)) out.old out.new) }
 {
     out.begin_array()?;
     for task in chain {
@@ -136,7 +138,7 @@ fn close_row(runs: bool, out: &mut Writer) -> Result<(), AllocError>
 
 fn write_row(graph: &Graph, row: &Row, out: &mut Writer) -> Result<(), TreeToFault>
     ensures { Writes result (has_row_ids graph.now.names row.now)
-        (λ _. PutsValue (row_data (named_row graph.now.names row.now)) out.old out.new
+        (λ _. PutsValue (row_data graph.now.names row.now) out.old out.new
         × IsTaskSet row.now.before × IsTaskSet row.now.past) }
 {
     open_object("before", out)?;
@@ -153,7 +155,7 @@ fn write_row(graph: &Graph, row: &Row, out: &mut Writer) -> Result<(), TreeToFau
 
 fn write_rows(graph: &Graph, rows: &[Row], out: &mut Writer) -> Result<(), TreeToFault>
     ensures { Writes result (list_all (has_row_ids graph.now.names) rows.now)
-        (λ _. PutsValue (array (items_of (map row_data (map (named_row graph.now.names) rows.now))))
+        (λ _. PutsValue (array (items_of (map (row_data graph.now.names) rows.now)))
         out.old out.new × AreTaskSets rows.now) }
 {
     out.begin_array()?;
@@ -166,8 +168,8 @@ fn write_rows(graph: &Graph, rows: &[Row], out: &mut Writer) -> Result<(), TreeT
 
 fn write_leaf(graph: &Graph, rows: &[Row], out: &mut Writer) -> Result<(), TreeToFault>
     ensures { Writes result (list_all (has_row_ids graph.now.names) rows.now)
-        (λ _. PutsValue (leaf_data (array (items_of (map row_data
-        (map (named_row graph.now.names) rows.now))))) out.old out.new × AreTaskSets rows.now) }
+        (λ _. PutsValue (leaf_data (array (items_of (map (row_data graph.now.names)
+        rows.now)))) out.old out.new × AreTaskSets rows.now) }
 {
     open_object("rows", out)?;
     write_rows(graph, rows, out)?;
@@ -177,7 +179,7 @@ fn write_leaf(graph: &Graph, rows: &[Row], out: &mut Writer) -> Result<(), TreeT
 
 fn write_tree(graph: &Graph, tree: &Tree, out: &mut Writer) -> Result<(), TreeToFault>
     ensures { Writes result (has_ids graph.now.names tree.now)
-        (λ _. PutsValue (tree_data (named graph.now.names tree.now)) out.old out.new
+        (λ _. PutsValue (tree_data graph.now.names tree.now) out.old out.new
         × HasTaskSets tree.now) }
 {
     match tree.node() {
@@ -241,8 +243,8 @@ pub fn trees_text(alloc: Global, graph: &Graph, trees: &[Tree]) -> Result<String
         ≡ compact_text (certificate_data graph.now.names trees.now)) }
     ensures reads { IfOk result (λ text. All (λ tree. height tree ≤ 6) trees.now
         → read (string_bytes text) ≡ Some (certificate_data graph.now.names trees.now)) }
-    ensures spells { IfOk result (λ _. All (λ tree. SpellsTree graph.now.names
-        (tree_data (named graph.now.names tree)) tree) trees.now) }
+    ensures spells { IfOk result (λ _. All (λ tree. (rules : RuleSet) → spelled_tree rules
+        graph.now.names (tree_data graph.now.names tree) ≡ Ok (as_wide_tree tree)) trees.now) }
     ensures known { IfOk result (λ _. list_all (has_ids graph.now.names) trees.now ≡ true) }
     ensures unknown { result ≡ Err TreeToFault.Unknown
         → list_all (has_ids graph.now.names) trees.now ≡ false }

@@ -2,7 +2,7 @@
 
 ghost use Rattle.std.specs.Prelude.{◌≡◌, ◌≤◌, ◌↔◌, IsTrue};
 ghost use Rattle.std.specs.List.{All};
-ghost use Rattle.tpl_cert.specs.WideHeights.{wide_height, HasShortWideChain, HasShortWideChains, IsWithinWideLimits};
+ghost use Rattle.tpl_cert.specs.WideHeights.{wide_height, HasShortWideChain, HasShortWideChains, IsWithinWideLimits, is_within_limits};
 
 use crate::limits::{MOST_IN_CHAIN, MOST_SPLITS};
 use crate::wide_row::WideRow;
@@ -48,7 +48,8 @@ fn has_short_chains(tree: &WideTree) -> bool
 
 /// Whether the tree has at most 6 splits on each path, and no chain of more than 16 tasks.
 pub fn is_within_wide_limits(tree: &WideTree) -> bool
-    ensures { IsTrue result ↔ IsWithinWideLimits tree.now }
+    ensures within { IsTrue result ↔ IsWithinWideLimits tree.now }
+    ensures test { result ≡ is_within_limits tree.now }
 {
     is_no_higher(tree, MOST_SPLITS) && has_short_chains(tree)
 }

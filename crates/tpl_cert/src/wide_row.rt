@@ -2,6 +2,7 @@
 
 ghost use Rattle.std.specs.Prelude.{◌≡◌, ℕ};
 ghost use Rattle.tpl_model.specs.Members.{mem};
+ghost use Rattle.tpl_cert.specs.WideCoding.{tokens_in};
 ghost use Rattle.tpl_paths.specs.TokenSet.{has_token};
 
 use crate::row::Row;
@@ -36,11 +37,9 @@ impl WideRow {
     /// A row, with the tokens that are requested when its task begins, and those that are when it has ended.
     pub fn new(row: Row, asked: TokenSet, asks: TokenSet) -> WideRow
         ensures row { result.row ≡ row }
-        ensures asked { (k : ℕ) → mem k result.asked ≡ has_token asked k }
-        ensures asks { (k : ℕ) → mem k result.asks ≡ has_token asks k }
+        ensures asked { result.asked ≡ tokens_in asked }
+        ensures asks { result.asks ≡ tokens_in asks }
     {
-        asked.limit_law();
-        asks.limit_law();
         WideRow { row, asked, asks }
     }
 

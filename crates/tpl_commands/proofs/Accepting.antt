@@ -2,7 +2,6 @@
 use Rattle.std.proofs.Common.{◌≡◌, ◌+◌, ◌≤◌, ℕ, List, Option, codes, inl, subst}
 use Rattle.tpl_journal.specs.Counting.{calls_of}
 use Rattle.tpl_journal.specs.declared.counting.Counting.{Counting}
-use Rattle.tpl_model.specs.Certificate.{Accepts}
 use Rattle.tpl_commands.specs.declared.exit.Exit.{Exit}
 use Rattle.tpl_commands.specs.declared.ask.Ask.{Ask}
 use Rattle.tpl_commands.specs.declared.ask.Ask.TheVariants.{Check, Analyse, AnalyseIn, Certify, Audit}
@@ -12,7 +11,7 @@ use Rattle.tpl_analyser.specs.declared.form.Form.TheVariants.{Full}
 use Rattle.tpl_commands.specs.Auditing.{IsAudit, NamesNoFailure}
 use Rattle.tpl_commands.specs.Certifying.{IsCertified, IsCertifying}
 use Rattle.tpl_commands.specs.Checking.{ClaimsHold, IsVerdict}
-use Rattle.tpl_commands.specs.Rules.{is_judged_widely}
+use Rattle.tpl_commands.specs.Rules.{HasProof}
 use Rattle.tpl_commands.specs.Searching.{IsCertificate, IsSearching}
 use Rattle.tpl_commands.specs.Responding.{longest, Responds}
 use Rattle.tpl_commands.specs.Serving.{answers_of, Accepted, Found, Certified, Audited, Serves}
@@ -25,7 +24,7 @@ module _ {R W : Type 0} (ask : Ask) (remaining : R → Option (List ℕ)) (from_
   where_asked other is = subst (λ (a : Ask). Responds (answers_of a) remaining from_old from_new contents old new result) is responds
 
   accepts : ask ≡ Check → result ≡ Success → Accepted remaining from_old from_new contents old new
-  accepts is e = tells remaining from_old from_new contents old new result IsVerdict (λ doc text. Accepts (is_judged_widely doc) doc.graph.graph doc.claims doc.certificate × ClaimsHold doc × (text ≡ codes "accepted\n")) (inl e)
+  accepts is e = tells remaining from_old from_new contents old new result IsVerdict (λ doc text. HasProof doc × ClaimsHold doc × (text ≡ codes "accepted\n")) (inl e)
       (λ doc text verdict. let v : IsVerdict doc Success text = subst (λ (x : Exit). IsVerdict doc x text) e verdict in (v.0.accepted, v.0.hold, v.1))
       (where_asked Check is)
 
@@ -39,7 +38,7 @@ module _ {R W : Type 0} (ask : Ask) (remaining : R → Option (List ℕ)) (from_
 
   audits : ask ≡ Audit → IsYesOrNo result → Audited remaining from_old from_new contents old new result
   audits is exit = tells remaining from_old from_new contents old new result IsAudit
-      (λ doc text. IsAudit doc result text × (Accepts (is_judged_widely doc) doc.graph.graph doc.claims doc.certificate → NamesNoFailure text)) exit
+      (λ doc text. IsAudit doc result text × (HasProof doc → NamesNoFailure text)) exit
       (λ doc text audit. (audit, audit_names_none doc audit.0 result text exit audit.1 audit.2)) (where_asked Audit is)
 
   pub serves : calls_of from_new ≤ calls_of from_old + (longest + 2) → Serves ask remaining from_old from_new contents old new result

@@ -6,9 +6,8 @@ use Rattle.tpl_audit.specs.declared.verdict.OtherEnd.{OtherEnd}
 use Rattle.tpl_audit.specs.declared.verdict.Verdict.{Verdict}
 use Rattle.tpl_audit.specs.declared.verdict.Verdict.TheVariants as ruled
 use Rattle.tpl_audit.specs.Audit.{FindsNoFailure}
-use Rattle.tpl_model.specs.Certificate.{Accepts}
 use Rattle.tpl_reader.specs.Document.{DocumentValue}
-use Rattle.tpl_commands.specs.Rules.{is_judged_widely}
+use Rattle.tpl_commands.specs.Rules.{HasProof}
 use Rattle.tpl_commands.specs.declared.exit.Exit.{Exit}
 use Rattle.tpl_commands.specs.declared.auditing.Audit.{Audit}
 use Rattle.tpl_commands.specs.declared.auditing.Audit.TheVariants.{NoStart, NoJournal, Judged}
@@ -56,7 +55,7 @@ verdict_names_none names (ruled.NotAllowed place) none b failure more e = not_al
 verdict_names_none names ruled.Memory none b failure more e = memory_names_none names b failure more e
 
 pub audit_names_none : (doc : DocumentValue) (audit : Audit) (exit : Exit) (text : List ℕ) → IsYesOrNo exit → IsAuditOf doc audit → IsAuditAnswer doc.graph.names audit exit text
-    → Accepts (is_judged_widely doc) doc.graph.graph doc.claims doc.certificate → NamesNoFailure text
+    → HasProof doc → NamesNoFailure text
 audit_names_none doc NoStart exit text answers is said accepted = absurd (unreadable≢ exit answers said.0)
 audit_names_none doc (Judged verdict) exit text answers is said accepted =
     subst NamesNoFailure (sym said.1) (verdict_names_none doc.graph.names verdict (is.sound accepted))

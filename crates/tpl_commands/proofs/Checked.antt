@@ -1,5 +1,5 @@
 -- What the check says of a document's certificate.
-use Rattle.std.proofs.Common.{◌≡◌, ℕ, Bool, List, Result, Ok, Err, IfOk, IfErr, refl, sym, subst, inl, inr}
+use Rattle.std.proofs.Common.{◌≡◌, ℕ, Bool, false, List, map, Result, Ok, Err, IfOk, IfErr, refl, sym, subst, inl, inr}
 use Rattle.std.specs.Prelude.{◌↔◌, IsOk}
 use Rattle.tpl_model.specs.Graph.{TaskGraph}
 use Rattle.tpl_model.specs.declared.ids.TaskId.{TaskId}
@@ -7,10 +7,13 @@ use Rattle.tpl_model.specs.declared.claim.Property.{Property}
 use Rattle.tpl_model.specs.declared.fault.CertFault.{CertFault}
 use Rattle.tpl_model.specs.Certificate.{Tree, Accepts}
 use Rattle.tpl_model.specs.Claims.{Claim}
+use Rattle.tpl_model.specs.WiderRules.{as_wide_tree}
+use Rattle.tpl_model.specs.declared.rule_set.RuleSet.TheVariants.{Narrow}
+use Rattle.tpl_laws.specs.ByRules.{PlainIsRefused}
 use Rattle.tpl_laws.specs.Faults.{Branch, LeafFails, IsFirstFault, place}
 use Rattle.tpl_laws.specs.Verdict.{LeafFault, Breaks, ProvesNot}
 use Rattle.tpl_reader.specs.Document.{DocumentValue}
-use Rattle.tpl_commands.specs.Rules.{is_judged_widely}
+use Rattle.tpl_commands.specs.Rules.{rules_of}
 use Rattle.tpl_commands.specs.Checking.{ClaimsHold, IsCheckOf, NamesTask}
 
 leaf_names : (g : TaskGraph) (p : Property TaskId) (b : Branch) (why : LeafFault) (fault : CertFault) (claim leaf : ℕ) → LeafFails g p b why → fault ≡ place claim leaf why → NamesTask g fault
@@ -23,10 +26,13 @@ names_task wide g claims trees fault (inl shape) = subst (NamesTask g) (sym shap
 names_task wide g claims trees fault (inr leaf) =
     let one = leaf.1.fails in leaf_names g leaf.1.claim.body one.branch one.why fault _ _ one.fails one.at
 
-pub is_check_of : (doc : DocumentValue) (r : Result (Unit {0}) CertFault) → (IsOk r ↔ Accepts (is_judged_widely doc) doc.graph.graph doc.claims doc.certificate) → IfOk r (λ x. ClaimsHold doc)
-    → IfErr r (IsFirstFault (is_judged_widely doc) doc.graph.graph doc.claims doc.certificate) → IsCheckOf doc r
-is_check_of doc (Ok x) accepts hold first = record { accepted = accepts.0 refl; hold = hold }
-is_check_of doc (Err fault) accepts hold first = (
-  record { first = first; not_accepted = λ accepted. let ok = accepts.1 accepted in cc },
-  names_task (is_judged_widely doc) doc.graph.graph doc.claims doc.certificate fault first,
+pub is_plain_check : PlainIsRefused → (doc : DocumentValue) (plain : List Tree) (r : Result (Unit {0}) CertFault) → rules_of doc ≡ Narrow → doc.certificate ≡ map as_wide_tree plain
+    → (IsOk r ↔ Accepts false doc.graph.graph doc.claims plain) → IfOk r (λ x. ClaimsHold doc) → IfErr r (IsFirstFault false doc.graph.graph doc.claims plain) → IsCheckOf doc r
+is_plain_check refused doc plain (Ok x) rules trees accepts hold first = record { accepted = rw rules (plain, trees, accepts.0 refl); hold = hold }
+is_plain_check refused doc plain (Err fault) rules trees accepts hold first = (
+  record {
+    first = rw rules (plain, trees, first);
+    not_accepted = rw (rules, trees) (refused doc.graph.graph doc.claims plain (λ accepted. let ok = accepts.1 accepted in cc));
+  },
+  names_task false doc.graph.graph doc.claims plain fault first,
 )

@@ -2,7 +2,6 @@
 use Rattle.std.specs.Prelude.{◌≡◌, ℕ, Bool, true, false, List, Option, Some, None, ◌++◌, codes, reverse}
 use Rattle.tpl_draft.specs.Named.{Names}
 use Rattle.tpl_model.specs.declared.event.Event.{Event}
-use Rattle.tpl_model.specs.Certificate.{Accepts}
 use Rattle.tpl_model.specs.Rules as rules
 use Rattle.tpl_journal.specs.declared.reading_lines.JournalFault.{JournalFault}
 use Rattle.tpl_journal.specs.declared.reading_lines.JournalFault.TheVariants as broken
@@ -14,7 +13,7 @@ use Rattle.tpl_audit.specs.declared.verdict.Verdict.TheVariants as ruled
 use Rattle.tpl_audit.specs.Audit.{IsVerdict, FindsNoFailure}
 use Rattle.tpl_reader.specs.Document.{DocumentValue}
 use Rattle.tpl_commands.specs.Recorded.{ended_of}
-use Rattle.tpl_commands.specs.Rules.{is_judged_widely}
+use Rattle.tpl_commands.specs.Rules.{HasProof}
 use Rattle.tpl_commands.specs.declared.auditing.Audit.{Audit}
 use Rattle.tpl_commands.specs.declared.auditing.Audit.TheVariants.{NoStart, NoJournal, Judged}
 use Rattle.tpl_commands.specs.declared.exit.Exit.{Exit}
@@ -58,7 +57,7 @@ pub record IsAudited (doc : DocumentValue) (verdict : Verdict) : Type 0 where
   pub events : List Event
   pub journal : IsJournal doc.graph doc.journal events
   pub audited : IsVerdict doc.graph.graph inputs events doc.claims (ended_of doc) verdict
-  pub sound : Accepts (is_judged_widely doc) doc.graph.graph doc.claims doc.certificate → FindsNoFailure verdict
+  pub sound : HasProof doc → FindsNoFailure verdict
 
 -- The inputs are known, and the journal's text is none of the graph's, for this reason.
 pub record IsNoJournal (doc : DocumentValue) (fault : JournalFault) : Type 0 where

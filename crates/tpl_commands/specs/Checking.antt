@@ -6,11 +6,10 @@ use Rattle.tpl_model.specs.declared.fault.CertFault.TheVariants.{Shape, NotClose
 use Rattle.tpl_model.specs.Graph.{TaskGraph, is_task}
 use Rattle.tpl_model.specs.Rules.{Run}
 use Rattle.tpl_model.specs.Claims.{Holds}
-use Rattle.tpl_model.specs.Certificate.{Accepts}
-use Rattle.tpl_laws.specs.Faults.{IsFirstFault}
+use Rattle.tpl_laws.specs.ByRules.{FailsFirst}
 use Rattle.tpl_laws.specs.Soundness.{Each}
 use Rattle.tpl_reader.specs.Document.{DocumentValue}
-use Rattle.tpl_commands.specs.Rules.{is_judged_widely}
+use Rattle.tpl_commands.specs.Rules.{rules_of, HasProof}
 use Rattle.tpl_commands.specs.declared.exit.Exit.{Exit}
 use Rattle.tpl_commands.specs.declared.exit.Exit.TheVariants.{Success, Failure}
 use Rattle.tpl_commands.specs.Texts.{refused_shape, refused_leaf, refused_claim}
@@ -25,13 +24,13 @@ ClaimsHold doc =
 
 -- The certificate is accepted, and so the claims hold.
 pub record IsAccepted (doc : DocumentValue) : Type 0 where
-  pub accepted : Accepts (is_judged_widely doc) doc.graph.graph doc.claims doc.certificate
+  pub accepted : HasProof doc
   pub hold : ClaimsHold doc
 
 -- This is the first fault of the certificate, which isn't accepted.
 pub record IsRefused (doc : DocumentValue) (fault : CertFault) : Type 0 where
-  pub first : IsFirstFault (is_judged_widely doc) doc.graph.graph doc.claims doc.certificate fault
-  pub not_accepted : Accepts (is_judged_widely doc) doc.graph.graph doc.claims doc.certificate → ⊥
+  pub first : FailsFirst (rules_of doc) doc.graph.graph doc.claims doc.certificate fault
+  pub not_accepted : HasProof doc → ⊥
 
 -- the task that is named is the graph's
 abbrev pub NamesTask : TaskGraph → CertFault → Type 0

@@ -3,7 +3,6 @@ use Rattle.std.specs.Prelude.{◌≡◌, ℕ, ◌-◌, Bool, List, [], length, s
 use Rattle.tpl_model.specs.declared.finals.Finals.{Finals}
 use Rattle.tpl_model.specs.declared.event.Event.{Event}
 use Rattle.tpl_model.specs.Claims.{Claim}
-use Rattle.tpl_model.specs.Certificate.{Accepts}
 use Rattle.tpl_audit.specs.declared.verdict.Failure.{Failure}
 use Rattle.tpl_audit.specs.Audit.{first_events, FirstFails}
 use Rattle.tpl_audit.specs.Standing.{statuses}
@@ -16,15 +15,11 @@ use Rattle.tpl_draw.specs.Endings.{endings}
 use Rattle.tpl_draw.specs.Picture.{picture}
 use Rattle.tpl_reader.specs.Document.{DocumentValue}
 use Rattle.tpl_commands.specs.Auditing.{HasRun}
-use Rattle.tpl_commands.specs.Rules.{is_judged_widely}
+use Rattle.tpl_commands.specs.Rules.{HasProof}
 use Rattle.tpl_commands.specs.declared.exit.Exit.{Exit}
 use Rattle.tpl_commands.specs.declared.exit.Exit.TheVariants.{Success}
 use Rattle.tpl_commands.specs.Responding.{Answers}
 use Rattle.tpl_commands.specs.Documents.{ToDocument}
-
--- the document's certificate is accepted
-abbrev pub HasProof : DocumentValue → Type 0
-HasProof doc = Accepts (is_judged_widely doc) doc.graph.graph doc.claims doc.certificate
 
 -- The ends are how the tasks may end, where the certificate is accepted; else there are none.
 pub record AreEndings (doc : DocumentValue) (ends : List Finals) : Type 0 where

@@ -1,20 +1,22 @@
 -- What `analyse` answers to a document.
-use Rattle.std.specs.Prelude.{◌≡◌, ◌≤◌, ℕ, List, ◌++◌, Some, codes, length, map}
+use Rattle.std.specs.Prelude.{◌≡◌, ◌≤◌, ℕ, List, ◌++◌, Some, Ok, codes, length, map}
 use Rattle.std.specs.List.{All}
 use Rattle.serde_json.specs.Data.{Data, array}
 use Rattle.serde_json.specs.Read.{read}
 use Rattle.serde_json.specs.View.{items_of}
 use Rattle.serde_json.specs.Written.{compact_text}
+use Rattle.tpl_model.specs.declared.rule_set.RuleSet.{RuleSet}
 use Rattle.tpl_model.specs.Certificate.{Tree, Accepts}
+use Rattle.tpl_model.specs.WiderRules.{as_wide_tree}
 use Rattle.tpl_draft.specs.Named.{Names}
 use Rattle.tpl_cert.specs.Heights.{height}
-use Rattle.tpl_cert.specs.Spelled.{SpellsTree}
-use Rattle.tpl_cert.specs.Written.{tree_data, named}
+use Rattle.tpl_cert.specs.Spelled.{spelled_tree}
+use Rattle.tpl_cert.specs.Written.{tree_data}
 use Rattle.tpl_analyser.specs.declared.form.Form.{Form}
 use Rattle.tpl_analyser.specs.Gaps.{IsFirstWithout}
 use Rattle.tpl_analyser.specs.Slim.{IsCertificateOf}
 use Rattle.tpl_reader.specs.Document.{DocumentValue, Spells, longest}
-use Rattle.tpl_commands.specs.Rules.{is_judged_widely}
+use Rattle.tpl_commands.specs.Rules.{rules_of, is_judged_widely}
 use Rattle.tpl_reader.specs.Laws.{IsReadBack, HoldsCertificate}
 use Rattle.tpl_commands.specs.declared.exit.Exit.{Exit}
 use Rattle.tpl_commands.specs.declared.exit.Exit.TheVariants.{Success, Failure}
@@ -28,15 +30,15 @@ use Rattle.tpl_commands.specs.Checking.{Checks, ClaimsHold}
 
 -- the JSON value that is written for a tree
 abbrev pub written_tree : Names → Tree → Data
-written_tree names tree = tree_data (named names tree)
+written_tree names tree = tree_data names tree
 
 -- the JSON value of a certificate: an array of its trees
 abbrev pub written_trees : Names → List Tree → Data
 written_trees names trees = array (items_of (map (written_tree names) trees))
 
--- what is written for a tree spells that tree
+-- what is written for a tree spells that tree, by the narrow rules and by the wide ones
 abbrev pub IsRead : Names → Tree → Type 0
-IsRead names tree = SpellsTree names (written_tree names tree) tree
+IsRead names tree = (rules : RuleSet) → spelled_tree rules names (written_tree names tree) ≡ Ok (as_wide_tree tree)
 
 -- whatever the check answers to a document of these bytes, it is `accepted`
 abbrev pub IsOnlyAccepted : List ℕ → Type 0
@@ -45,8 +47,8 @@ IsOnlyAccepted bytes = (exit : Exit) (text : List ℕ) → Checks bytes exit tex
 -- The bytes spell the document with these trees as its certificate, and no other document, and the
 -- check accepts it.
 pub record IsTakenBack (doc : DocumentValue) (trees : List Tree) (bytes : List ℕ) : Type 0 where
-  pub spelled : Spells bytes (record doc { certificate = trees })
-  pub only : (other : DocumentValue) → Spells bytes other → other ≡ record doc { certificate = trees }
+  pub spelled : Spells bytes (record doc { certificate = map as_wide_tree trees })
+  pub only : (other : DocumentValue) → Spells bytes other → other ≡ record doc { certificate = map as_wide_tree trees }
   pub accepted : IsOnlyAccepted bytes
 
 -- Any text of the document with this value as its member `certificate`, if it isn't too long, is taken
@@ -60,7 +62,7 @@ CanBePut doc trees value =
 abbrev pub IsBackWhereRead : DocumentValue → List Tree → Type 0
 IsBackWhereRead doc trees =
     All (IsRead doc.graph.names) trees
-    → All (IsReadBack doc.graph.names) trees × CanBePut doc trees (written_trees doc.graph.names trees)
+    → All (IsReadBack (rules_of doc) doc.graph.names) trees × CanBePut doc trees (written_trees doc.graph.names trees)
 
 -- The trees are a certificate of this form with at most this many splits on each path, which is accepted
 -- for the document's claims.
@@ -94,7 +96,7 @@ pub record IsCertificate (depth : ℕ) (form : Form) (doc : DocumentValue) (text
   pub of_form : IsCertificateOf form doc.claims trees
   pub value : read (compact_text (written_trees doc.graph.names trees))
       ≡ Some (written_trees doc.graph.names trees)
-  pub read : All (IsReadBack doc.graph.names) trees
+  pub read : All (IsReadBack (rules_of doc) doc.graph.names) trees
   pub again : CanBePut doc trees (written_trees doc.graph.names trees)
   pub written : text ≡ compact_text (written_trees doc.graph.names trees) ++ codes "\n"
 

@@ -2,8 +2,7 @@
 use Rattle.std.specs.Prelude.{◌≡◌, ◌⊎◌, ◌+◌, ◌≤◌, ℕ, List, Option, codes}
 use Rattle.tpl_journal.specs.Counting.{calls_of}
 use Rattle.tpl_journal.specs.declared.counting.Counting.{Counting}
-use Rattle.tpl_model.specs.Certificate.{Accepts}
-use Rattle.tpl_commands.specs.Rules.{is_judged_widely}
+use Rattle.tpl_commands.specs.Rules.{HasProof}
 use Rattle.tpl_commands.specs.declared.ask.Ask.{Ask}
 use Rattle.tpl_commands.specs.declared.ask.Ask.TheVariants.{Check, Analyse, AnalyseIn, Certify, Audit, Draw}
 use Rattle.tpl_commands.specs.Documents.{Tells}
@@ -31,7 +30,7 @@ answers_of (Draw language) = Draws language
 -- each run of its graph; `accepted` was written.
 abbrev pub Accepted : {R W : Type 0} → (R → Option (List ℕ)) → Counting R → Counting R → (W → Option (List ℕ)) → Counting W → Counting W → Type 0
 Accepted remaining from_old from_new contents to_old to_new =
-    Tells (λ doc text. Accepts (is_judged_widely doc) doc.graph.graph doc.claims doc.certificate × ClaimsHold doc × (text ≡ codes "accepted\n")) remaining from_old from_new contents to_old to_new
+    Tells (λ doc text. HasProof doc × ClaimsHold doc × (text ≡ codes "accepted\n")) remaining from_old from_new contents to_old to_new
 
 -- What was read spells a document, and the text of a certificate was written that is accepted for it;
 -- each of its claims holds in each run of its graph.
@@ -47,7 +46,7 @@ Certified remaining from_old from_new contents to_old to_new depth form = Tells 
 -- its certificate is accepted, no claim is named as failing.
 abbrev pub Audited : {R W : Type 0} → (R → Option (List ℕ)) → Counting R → Counting R → (W → Option (List ℕ)) → Counting W → Counting W → Exit → Type 0
 Audited remaining from_old from_new contents to_old to_new exit =
-    Tells (λ doc text. IsAudit doc exit text × (Accepts (is_judged_widely doc) doc.graph.graph doc.claims doc.certificate → NamesNoFailure text)) remaining from_old from_new contents to_old to_new
+    Tells (λ doc text. IsAudit doc exit text × (HasProof doc → NamesNoFailure text)) remaining from_old from_new contents to_old to_new
 
 -- What was read is answered as it is asked, by at most this many reads; and this is known from what the exit says.
 pub record Serves {R W : Type 0} (ask : Ask) (remaining : R → Option (List ℕ)) (from_old from_new : Counting R) (contents : W → Option (List ℕ)) (to_old to_new : Counting W) (result : Exit) : Type 0 where

@@ -1,7 +1,11 @@
 //! The answer to the check of a document's certificate.
 
 ghost use Rattle.std.specs.Prelude.{◌≡◌, IfOk, string_bytes};
+ghost use Rattle.std.specs.List.{All};
+ghost use Rattle.tpl_graph.specs.Fits.{Fits};
+ghost use Rattle.tpl_model.specs.declared.rule_set.RuleSet.TheVariants.{Narrow, Wide};
 ghost use Rattle.tpl_reader.specs.SeenDocument.{doc_of};
+ghost use Rattle.tpl_commands.specs.Rules.{rules_of};
 ghost use Rattle.tpl_commands.specs.Checking.{IsCheckOf, IsVerdict, IsVerdictText, IsRefusal, NamesTask};
 
 use crate::answer::Answer;
@@ -9,9 +13,56 @@ use crate::exit::Exit;
 use crate::rules::rules_of;
 use crate::text::{refused_claim, refused_leaf, refused_shape};
 use std::alloc::{AllocError, Global};
+use tpl_checker::check;
 use tpl_graph::Graph;
-use tpl_model::CertFault;
+use tpl_model::{CertFault, RuleSet};
 use tpl_reader::Document;
+use tpl_wide::{WideFault, check_wide};
+
+/// What the check says of the document's certificate by the rules of its version: nothing where it is accepted, else its
+/// first fault. Out of memory is the only error.
+pub fn check_document(
+    alloc: Global,
+    document: &Document,
+) -> Result<Result<(), CertFault>, AllocError>
+    requires { All (Fits document.now.graph.graph) document.now.claims.items }
+    ensures { IfOk result (IsCheckOf (doc_of document.now)) }
+{
+    match rules_of(document) {
+        RuleSet::Narrow => Ok(check_plain(document)),
+        RuleSet::Wide => check_with_tokens(alloc, document),
+    }
+}
+
+/// The same of a document whose trees say nothing of tokens and of winners.
+fn check_plain(document: &Document) -> Result<(), CertFault>
+    requires claims { All (Fits document.now.graph.graph) document.now.claims.items }
+    requires rules { rules_of (doc_of document.now) ≡ Narrow }
+    ensures { IsCheckOf (doc_of document.now) result }
+{
+    tpl_laws::plain_is_refused();
+    let (graph, claims) = (&document.graph, &document.claims);
+    check(graph, claims, &document.certificate, RuleSet::Narrow)
+}
+
+/// The same of a document whose trees may speak of them.
+fn check_with_tokens(
+    alloc: Global,
+    document: &Document,
+) -> Result<Result<(), CertFault>, AllocError>
+    requires claims { All (Fits document.now.graph.graph) document.now.claims.items }
+    requires rules { rules_of (doc_of document.now) ≡ Wide }
+    ensures { IfOk result (IsCheckOf (doc_of document.now)) }
+{
+    document.graph.valid_law();
+    document.wide.limits_law();
+    let (graph, claims) = (&document.graph, &document.claims);
+    match check_wide(alloc, graph, claims, document.wide.trees()) {
+        Ok(()) => Ok(Ok(())),
+        Err(WideFault::Fails(fault)) => Ok(Err(fault)),
+        Err(WideFault::Memory) => Err(AllocError),
+    }
+}
 
 /// The answer where the check says this of the document's certificate.
 pub(crate) fn verdict_answer(

@@ -13,12 +13,13 @@ ghost use Rattle.tpl_commands.specs.Drawing.{failing_in, place_shown, AreEndings
 
 use crate::answer::Answer;
 use crate::exit::Exit;
+use crate::rules::rules_of;
 use std::alloc::{AllocError, Global};
 use tpl_audit::{Failure, Verdict, audit, statuses_after};
-use tpl_draw::{Failing, Language, Moment, Shown, endings, picture};
+use tpl_draw::{Failing, Language, Moment, Shown, endings, picture, wide_endings};
 use tpl_graph::Claim;
 use tpl_journal::{JournalFault, fault_is_no_journal, read_journal, text_is_unambiguous};
-use tpl_model::{CertFault, Event, Finals, Inputs};
+use tpl_model::{CertFault, Event, Finals, Inputs, RuleSet};
 use tpl_reader::Document;
 
 /// The picture of the document's graph: of its run, where its journal is one; else coloured where its certificate is
@@ -67,7 +68,10 @@ fn shown_endings(
     ensures { IfOk result (λ ends. AreEndings (doc_of document.now) ends.items) }
 {
     match verdict {
-        Ok(()) => endings(alloc, document.certificate.trees(), document.graph.len()),
+        Ok(()) => match rules_of(document) {
+            RuleSet::Narrow => endings(alloc, document.certificate.trees(), document.graph.len()),
+            RuleSet::Wide => wide_endings(alloc, document.wide.trees(), document.graph.len()),
+        },
         Err(_) => Ok(Vec::new(alloc)),
     }
 }

@@ -13,15 +13,13 @@ use crate::answer::Answer;
 use crate::ask::Ask;
 use crate::auditing::{Audit, audit_answer, audit_document};
 use crate::certifying::certified_answer;
-use crate::checking::verdict_answer;
+use crate::checking::{check_document, verdict_answer};
 use crate::drawing::drawing_answer;
 use crate::listening::Listen;
-use crate::rules::rules_of;
 use crate::searching::{Searched, found_answer, search};
 use crate::unreadable::unreadable_answer;
 use std::alloc::{AllocError, Global};
 use tpl_analyser::{Form, Watch};
-use tpl_checker::check;
 use tpl_draw::Language;
 use tpl_model::CertFault;
 use tpl_reader::{Document, Misread, ReadFault, read_document_heard};
@@ -62,10 +60,8 @@ fn found_in<T: Watch>(
     ensures found { IfOk result (IsFoundOf (doc_of document.now)) }
     ensures asked { IfOk result (IsFoundFor ask) }
 {
-    let (graph, claims, certificate) = (&document.graph, &document.claims, &document.certificate);
-    let rules = rules_of(document);
     match ask {
-        Ask::Check => Ok(Found::Checked(check(graph, claims, certificate, rules))),
+        Ask::Check => Ok(Found::Checked(check_document(alloc, document)?)),
         Ask::Analyse(depth) => {
             let searched = search(alloc, document, depth, Form::Full, watch)?;
             Ok(Found::Searched(searched))
@@ -79,7 +75,7 @@ fn found_in<T: Watch>(
             Ok(Found::Certified(searched))
         }
         Ask::Audit => Ok(Found::Audited(audit_document(alloc, document)?)),
-        Ask::Draw(language) => Ok(Found::Drawn(language, check(graph, claims, certificate, rules))),
+        Ask::Draw(language) => Ok(Found::Drawn(language, check_document(alloc, document)?)),
     }
 }
 

@@ -5,14 +5,11 @@ ghost use Rattle.tpl_reader.specs.SeenDocument.{doc_of};
 ghost use Rattle.tpl_commands.specs.Rules.{rules_of};
 
 use tpl_model::RuleSet;
-use tpl_reader::{Document, Version};
+use tpl_reader::Document;
 
 /// By which rules a document's certificates are judged: by the wide ones since version 3.
 pub fn rules_of(document: &Document) -> RuleSet
     ensures { result ≡ rules_of (doc_of document.now) }
 {
-    match document.version {
-        Version::One | Version::Two => RuleSet::Narrow,
-        Version::Three => RuleSet::Wide,
-    }
+    document.version.rules()
 }

@@ -107,6 +107,7 @@ pub(crate) fn found_law(document: &Document, certificate: &Certificate)
 {
     document.graph.valid_law();
     tpl_laws::soundness();
+    tpl_laws::plain_is_accepted();
     one_document();
     certificate_is_read_back();
     certificate.limits_law();

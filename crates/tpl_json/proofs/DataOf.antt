@@ -122,12 +122,15 @@ and_turn true false c = refl
 and_turn false true c = refl
 and_turn false false c = refl
 
+pub keys_same : (k l : List ℕ) → slice_cmp nat_cmp k l ≡ Equal → k ≡ l
+keys_same k l is = (bytes_eq-Decides k l).0 (sym (is_eq-slice_cmp k l) ∙ rw is)
+
 names_put_at : (o : Ordering) (p : List ℕ → Bool) (k l : List ℕ) (d e : Data) (ms : Members) → slice_cmp nat_cmp k l ≡ o
     → names_all p (put k d ms) ≡ (p k && names_all p ms)
     → names_all p (match_ordering o (member k d (member l e ms)) (member l d ms) (member l e (put k d ms))) ≡ (p k && (p l && names_all p ms))
 names_put_at Less p k l d e ms is later = refl
 names_put_at Equal p k l d e ms is later =
-    let same : k ≡ l = (bytes_eq-Decides k l).0 (sym (is_eq-slice_cmp k l) ∙ rw is) in
+    let same = keys_same k l is in
     ap (λ n. p n && names_all p ms) (sym same)
     ∙ and_again (p k) (names_all p ms)
     ∙ ap (λ n. p k && (p n && names_all p ms)) same

@@ -1,4 +1,5 @@
 pub mod Arrays
+pub mod Passes
 pub mod DataOf
 pub mod Signs
 pub mod InRange

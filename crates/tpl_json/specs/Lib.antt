@@ -1,4 +1,5 @@
 pub mod View
 pub mod Numbers
 pub mod Members
+pub mod Passes
 pub mod Finals

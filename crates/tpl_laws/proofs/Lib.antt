@@ -36,4 +36,5 @@ pub mod RunsDecided
 pub mod FailingLemmas
 pub mod Wider
 pub mod WideLaw
+pub mod Plainly
 pub mod Jobs

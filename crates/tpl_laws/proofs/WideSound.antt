@@ -17,7 +17,7 @@ use Rattle.tpl_model.specs.declared.claim.Property.TheVariants.{Final as EndsIn,
 use Rattle.tpl_model.specs.Claims.{input, Claim, IsGiven}
 use Rattle.tpl_model.specs.Certificate.{same, own_quiet, taken}
 use Rattle.tpl_model.specs.WiderRules.{WideRow, plain, WideAssumed, WideAgrees, WidelyClosed, WidelyProves, WideTree, OnInput, OnEnd, OnWinner, WideLeaf, narrowed, input_split, end_split, winner_split, AcceptsWideTree, widely_assumed}
-use Rattle.tpl_laws.specs.WiderSoundness.{WideRowsAreTrue, WideSoundness}
+use Rattle.tpl_laws.specs.WiderSoundness.{HasRows, SomeWideLeafIsTrue, WideRowsAreTrue, WideSoundness}
 use Rattle.tpl_laws.proofs.Basics.{some_none, same_number, final_self}
 use Rattle.tpl_laws.proofs.RowsAreTrue.{Upheld, some_eq}
 use Rattle.tpl_laws.proofs.Chains.{threw_begun, begun_ends}
@@ -66,9 +66,10 @@ wide_shows g l rows v h (Excludes a b) now pr = pr
 wide_shows g l rows v h (Runs t) now pr = pr
 
 -- a leaf of an accepted tree that agrees with a run so far
-record AWideLeaf (g : TaskGraph) (p : Property TaskId) (v : List Bool) (h : List Event) : Type 0 where
+record AWideLeaf (g : TaskGraph) (p : Property TaskId) (tree : WideTree) (v : List Bool) (h : List Event) : Type 0 where
   assumes : WideAssumed
   rows : List WideRow
+  has : HasRows tree rows
   agrees : WideAgrees g assumes v h
   closed : WidelyClosed g assumes rows
   proves : WidelyProves g assumes rows p
@@ -117,28 +118,35 @@ module _ (g : TaskGraph) (p : Property TaskId) (v : List Bool) (h : List Event) 
         | inr c ↦ on_no (λ w e. subst (λ z. not (nat_eq x z) ≡ true) (some_eq s w (sym q ∙ e)) (ap not c))
       ]
 
-  some_leaf : (l : WideAssumed) (tree : WideTree) → WideAgrees g l v h → Bound l → AcceptsWideTree g p l tree → AWideLeaf g p v h
+  -- a leaf of a branch is one of the tree
+  of_branch : (tree branch : WideTree) → ((rows : List WideRow) → HasRows branch rows → HasRows tree rows) → AWideLeaf g p branch v h → AWideLeaf g p tree v h
+  of_branch tree branch has leaf = record { assumes = leaf.assumes; rows = leaf.rows; has = has leaf.rows leaf.has; agrees = leaf.agrees; closed = leaf.closed; proves = leaf.proves }
+
+  some_leaf : (l : WideAssumed) (tree : WideTree) → WideAgrees g l v h → Bound l → AcceptsWideTree g p l tree → AWideLeaf g p tree v h
   some_leaf l (OnInput i a b) agrees bound acc =
       elim (cases_Bool (input v i)) [
-        | inl e ↦ some_leaf (input_split l i true) a (takes_input l i true e agrees) bound acc.1
-        | inr e ↦ some_leaf (input_split l i false) b (takes_input l i false e agrees) bound acc.2
+        | inl e ↦ of_branch (OnInput i a b) a (λ rows h. inl h) (some_leaf (input_split l i true) a (takes_input l i true e agrees) bound acc.1)
+        | inr e ↦ of_branch (OnInput i a b) b (λ rows h. inr h) (some_leaf (input_split l i false) b (takes_input l i false e agrees) bound acc.2)
       ]
   some_leaf l (OnEnd t a b c) agrees bound acc =
       by_end (destiny g v h t) refl
-      (λ e. some_leaf (end_split l t RanToCompletion) a (takes_end l t RanToCompletion e agrees) (bound_end l t RanToCompletion e bound) acc.1)
-      (λ e. some_leaf (end_split l t Canceled) b (takes_end l t Canceled e agrees) (bound_end l t Canceled e bound) acc.2)
-      (λ e. some_leaf (end_split l t Faulted) c (takes_end l t Faulted e agrees) (bound_end l t Faulted e bound) acc.3)
+      (λ e. of_branch (OnEnd t a b c) a (λ rows h. inl h) (some_leaf (end_split l t RanToCompletion) a (takes_end l t RanToCompletion e agrees) (bound_end l t RanToCompletion e bound) acc.1))
+      (λ e. of_branch (OnEnd t a b c) b (λ rows h. inr (inl h)) (some_leaf (end_split l t Canceled) b (takes_end l t Canceled e agrees) (bound_end l t Canceled e bound) acc.2))
+      (λ e. of_branch (OnEnd t a b c) c (λ rows h. inr (inr h)) (some_leaf (end_split l t Faulted) c (takes_end l t Faulted e agrees) (bound_end l t Faulted e bound) acc.3))
     where
-      by_end : (f : Final) → destiny g v h t ≡ f → (destiny g v h t ≡ RanToCompletion → AWideLeaf g p v h) → (destiny g v h t ≡ Canceled → AWideLeaf g p v h) → (destiny g v h t ≡ Faulted → AWideLeaf g p v h) → AWideLeaf g p v h
+      abbrev Found : Type 0
+      Found = AWideLeaf g p (OnEnd t a b c) v h
+
+      by_end : (f : Final) → destiny g v h t ≡ f → (destiny g v h t ≡ RanToCompletion → Found) → (destiny g v h t ≡ Canceled → Found) → (destiny g v h t ≡ Faulted → Found) → Found
       by_end RanToCompletion e x y z = x e
       by_end Canceled e x y z = y e
       by_end Faulted e x y z = z e
   some_leaf l (OnWinner n x a b) agrees bound acc =
-      by_winner n x (AWideLeaf g p v h) (winner_of (ending g v h n)) refl
-      (λ won. some_leaf (winner_split l n x true) a (takes_winner l n x true won agrees) bound acc.1)
-      (λ won. some_leaf (winner_split l n x false) b (takes_winner l n x false won agrees) bound acc.2)
+      by_winner n x (AWideLeaf g p (OnWinner n x a b) v h) (winner_of (ending g v h n)) refl
+      (λ won. of_branch (OnWinner n x a b) a (λ rows h. inl h) (some_leaf (winner_split l n x true) a (takes_winner l n x true won agrees) bound acc.1))
+      (λ won. of_branch (OnWinner n x a b) b (λ rows h. inr h) (some_leaf (winner_split l n x false) b (takes_winner l n x false won agrees) bound acc.2))
   some_leaf l (WideLeaf rows) agrees bound acc =
-      record { assumes = narrowed g l; rows = rows; agrees = narrowed_agrees g v h valid run l agrees bound; closed = acc.3; proves = acc.4 }
+      record { assumes = narrowed g l; rows = rows; has = refl; agrees = narrowed_agrees g v h valid run l agrees bound; closed = acc.3; proves = acc.4 }
 
 a_wide_leaf : (g : TaskGraph) (claim : Claim) (tree : WideTree) (v : List Bool) (h : List Event) → IsGraph g → AcceptsWideTree g claim.body (widely_assumed g claim) tree → Run g v h → IsGiven g v h claim.given → IsGiven g v h (own_quiet g claim.body) → ALeaf g v h claim.body
 a_wide_leaf g claim tree v h valid acc run i q =
@@ -162,3 +170,8 @@ wide_soundness_lem g (claim ∷ claims) (tree ∷ trees) valid acc v h run = (
 )
 wide_soundness_lem g [] (tree ∷ trees) valid acc v h run = tt
 wide_soundness_lem g (claim ∷ claims) [] valid acc v h run = absurd acc
+
+pub some_wide_leaf_lem : SomeWideLeafIsTrue
+some_wide_leaf_lem g claim tree v h valid acc run given =
+    let leaf = some_leaf g claim.body v h valid run (widely_assumed g claim) tree (record { agrees = given_agrees true g v h (taken true g claim) given; winners = λ n x e. refl }) (λ s. refl) acc in
+    (leaf.rows, leaf.has, (wide_rows_lem g leaf.assumes leaf.rows v h valid leaf.closed run leaf.agrees).0)

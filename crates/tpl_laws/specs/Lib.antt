@@ -12,3 +12,4 @@ pub mod Wider
 pub mod WiderSoundness
 pub mod WiderTests
 pub mod WideVerdict
+pub mod ByRules

@@ -1,5 +1,5 @@
 -- What rows that speak of tokens promise.
-use Rattle.std.specs.Prelude.{◌≡◌, ℕ, Bool, true, Some, List, [], ◌∷◌, is_some, map}
+use Rattle.std.specs.Prelude.{◌≡◌, ◌⊎◌, ℕ, Bool, true, Some, List, [], ◌∷◌, is_some, map}
 use Rattle.tpl_model.specs.declared.finals.Final.{Final}
 use Rattle.tpl_model.specs.Finals.{has}
 use Rattle.tpl_model.specs.declared.status.Label.{Label}
@@ -11,9 +11,9 @@ use Rattle.tpl_model.specs.Rules.{final, label, seen, Run, Settled, Complete}
 use Rattle.tpl_model.specs.Valid.{IsGraph}
 use Rattle.tpl_model.specs.declared.ids.TaskId.{TaskId}
 use Rattle.tpl_model.specs.declared.claim.Property.{Property}
-use Rattle.tpl_model.specs.Claims.{Claim, Holds}
-use Rattle.tpl_model.specs.Certificate.{Row, row, Tree, Closed, Proves, Accepts}
-use Rattle.tpl_model.specs.WiderRules.{WideRow, plain, begins_with, ends_with, WideAssumed, WideAgrees, may_run, WidelyClosed, WidelyProves, WideTree, WidelyAccepts, as_wide, as_wide_tree}
+use Rattle.tpl_model.specs.Claims.{Claim, IsGiven, Holds}
+use Rattle.tpl_model.specs.Certificate.{Row, row, Tree, Closed, Proves, Accepts, taken}
+use Rattle.tpl_model.specs.WiderRules.{WideRow, plain, begins_with, ends_with, WideAssumed, WideAgrees, may_run, WidelyClosed, WidelyProves, WideTree, OnInput, OnEnd, OnWinner, WideLeaf, AcceptsWideTree, widely_assumed, WidelyAccepts, as_wide, as_wide_tree}
 use Rattle.tpl_laws.specs.Soundness.{Each}
 
 -- a fact holds in a run so far
@@ -56,3 +56,16 @@ TokensAreMore =
 abbrev pub TokensAcceptMore : Type 0
 TokensAcceptMore =
     (g : TaskGraph) (claims : List Claim) (trees : List Tree) → Accepts true g claims trees → WidelyAccepts g claims (map as_wide_tree trees)
+
+-- the rows are those of a leaf of the tree
+abbrev pub HasRows : WideTree → List WideRow → Type 0
+HasRows (OnInput i on_true on_false) rows = HasRows on_true rows ⊎ HasRows on_false rows
+HasRows (OnEnd t ran canceled faulted) rows = HasRows ran rows ⊎ HasRows canceled rows ⊎ HasRows faulted rows
+HasRows (OnWinner n x on_yes on_no) rows = HasRows on_yes rows ⊎ HasRows on_no rows
+HasRows (WideLeaf leaf) rows = leaf ≡ rows
+
+-- what the rows of some leaf of an accepted tree say is true of each run of which what may be taken as given for the claim is true
+abbrev pub SomeWideLeafIsTrue : Type 0
+SomeWideLeafIsTrue =
+    (g : TaskGraph) (claim : Claim) (tree : WideTree) (v : List Bool) (h : List Event) → IsGraph g → AcceptsWideTree g claim.body (widely_assumed g claim) tree → Run g v h → IsGiven g v h (taken true g claim)
+    → (rows : List WideRow) × HasRows tree rows × WideRowsHold g rows v h

@@ -2,7 +2,8 @@
 
 ghost use Rattle.tpl_laws.specs.Soundness.{RowsAreTrue, SomeLeafAgrees, Soundness};
 ghost use Rattle.tpl_laws.specs.Wider.{MoreIsAssumed, WiderAccepts};
-ghost use Rattle.tpl_laws.specs.WiderSoundness.{TokensAcceptMore, TokensAreMore, WideRowsAreTrue, WideSoundness};
+ghost use Rattle.tpl_laws.specs.WiderSoundness.{SomeWideLeafIsTrue, TokensAcceptMore, TokensAreMore, WideRowsAreTrue, WideSoundness};
+ghost use Rattle.tpl_laws.specs.ByRules.{PlainIsAccepted, PlainIsRefused, SoundByRules};
 
 /// What the rows of a closed leaf say is true of each run that agrees with the leaf.
 pub fn rows_are_true()
@@ -47,4 +48,29 @@ pub fn tokens_are_more()
 /// A certificate that is accepted without tokens is accepted with them.
 pub fn tokens_accept_more()
     ensures { TokensAcceptMore }
+{}
+
+/// What the rows of some leaf of an accepted tree say is true of each run of which the claim's given is true.
+pub fn some_wide_leaf_is_true()
+    ensures { SomeWideLeafIsTrue }
+{}
+
+/// Where a certificate is accepted by the narrow rules or by the wide ones, each claim holds in each run.
+pub fn sound_by_rules()
+    ensures { SoundByRules }
+{
+    soundness();
+    wide_soundness();
+}
+
+/// A certificate without tokens that is accepted is accepted as one that may have them.
+pub fn plain_is_accepted()
+    ensures { PlainIsAccepted }
+{
+    tokens_accept_more();
+}
+
+/// A certificate without tokens that isn't accepted by the narrow rules isn't accepted as one that may have them.
+pub fn plain_is_refused()
+    ensures { PlainIsRefused }
 {}

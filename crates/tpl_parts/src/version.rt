@@ -1,7 +1,9 @@
 //! The versions of documents.
 
 ghost use Rattle.std.specs.Prelude.{◌≡◌, map};
-ghost use Rattle.tpl_parts.specs.Versions.{has_links, is_third, task_remarks, claim_remarks};
+ghost use Rattle.tpl_parts.specs.Versions.{has_links, is_third, rules_since, task_remarks, claim_remarks};
+
+use tpl_model::RuleSet;
 
 /// The version of a document.
 #[derive(Clone, Copy, PartialEq, Eq, Debug)]
@@ -32,6 +34,16 @@ impl Version {
         match self {
             Version::One | Version::Two => false,
             Version::Three => true,
+        }
+    }
+
+    /// The rules by which a certificate is judged: the wide ones since version 3.
+    pub fn rules(self) -> RuleSet
+        ensures { result ≡ rules_since self }
+    {
+        match self {
+            Version::One | Version::Two => RuleSet::Narrow,
+            Version::Three => RuleSet::Wide,
         }
     }
 

@@ -29,8 +29,8 @@ use Rattle.tpl_parts.specs.declared.version.Version.{Version}
 use Rattle.tpl_parts.specs.NamedClaims.{NamedGiven, GivenInput, GivenQuiet, GivenEnded, GivenSucceeds, GivenNoFailure, GivenNoRequest, NamedClaim}
 use Rattle.tpl_reader.specs.declared.fault.ClaimFault.{ClaimFault}
 use Rattle.tpl_reader.specs.declared.fault.ClaimFault.TheVariants as faults
-use Rattle.tpl_reader.specs.Passes.{Yields}
-use Rattle.tpl_reader.proofs.Passes.{bind_ok, bind_or, ok_is, each_every, all_every}
+use Rattle.tpl_json.specs.Passes.{Yields}
+use Rattle.tpl_json.proofs.Passes.{bind_ok, bind_or, ok_is, each_every, all_every}
 use Rattle.tpl_reader.specs.Asked.{task_in, token_in, input_in, site_in, pair_in, given_in, property_in, is_no_failure, is_no_request, is_single, with_one, with_jobs, with_tokens, with_all_jobs, with_all, singles_in, says_twice, claim_in, has_name_of, claim_behind, at_number, claim_among, claims_in, most_claims, claims_for}
 
 -- ---- the ids that the names stand for are the graph's

@@ -17,11 +17,11 @@ use Rattle.tpl_json.proofs.Json.{some, some_none, only_is}
 use Rattle.tpl_parts.specs.Start.{NamedStart}
 use Rattle.tpl_reader.specs.declared.fault.StartFault.{StartFault}
 use Rattle.tpl_reader.specs.declared.fault.StartFault.TheVariants as faults
-use Rattle.tpl_reader.specs.Passes.{each_from}
+use Rattle.tpl_json.specs.Passes.{each_from}
 use Rattle.tpl_reader.specs.Begin.{StartValue, knows_members, truth_at, may_all_fail, numbers_in, truths_in, start_in, start_if_any}
 use Rattle.tpl_reader.specs.Ends.{knows_ends}
 use Rattle.tpl_reader.specs.Document.{begin_in}
-use Rattle.tpl_reader.proofs.Passes.{bind_ok, bind_or, ok_is, each_empty, each_cons, all_every, later_fails}
+use Rattle.tpl_json.proofs.Passes.{bind_ok, bind_or, ok_is, each_empty, each_cons, all_every, later_fails}
 
 abbrev right : StartValue → Result StartValue StartFault
 right start = Ok start

@@ -1,13 +1,19 @@
 -- A document with another certificate.
-use Rattle.std.proofs.Common.{◌≡◌, ℕ, suc, ◌≤◌, List, [], ◌∷◌, map, Some, Ok, codes, refl, sym, ap, subst, ◌∙◌, length, arith}
+use Rattle.std.proofs.Common.{◌≡◌, ℕ, ◌+◌, ◌≤◌, List, [], ◌∷◌, map, Some, Ok, codes, refl, sym, ap, subst, ◌∙◌, length}
 use Rattle.std.specs.List.{All}
+use Rattle.std.proofs.lemmas.List.Elements.{All-head, All-tail}
 use Rattle.serde_json.specs.Data.{Data, Members, array, object, put}
 use Rattle.serde_json.specs.View.{items_of}
+use Rattle.tpl_model.specs.declared.rule_set.RuleSet.{RuleSet}
 use Rattle.tpl_model.specs.Certificate.{Tree}
+use Rattle.tpl_model.specs.WiderRules.{as_wide_tree}
 use Rattle.tpl_draft.specs.Named.{Names}
 use Rattle.tpl_json.specs.Members.{list_or_none}
-use Rattle.tpl_reader.specs.Trees.{AreTrees}
-use Rattle.tpl_cert.specs.Written.{tree_data, named, certificate_data}
+use Rattle.tpl_json.specs.Passes.{each_from, at_number}
+use Rattle.tpl_json.proofs.Passes.{each_empty, each_cons}
+use Rattle.tpl_parts.specs.Versions.{rules_since}
+use Rattle.tpl_cert.specs.Spelled.{read_tree}
+use Rattle.tpl_cert.specs.Written.{tree_data, certificate_data}
 use Rattle.tpl_reader.specs.Top as top
 use Rattle.tpl_reader.specs.Top.{top_at}
 use Rattle.tpl_reader.proofs.TopLaws.{parts_of, top_put}
@@ -40,28 +46,31 @@ spelled_put ms s ds is =
     spelled_of (object (put (codes "certificate") (array (items_of ds)) ms)) (record s { certificate = ds })
     (record { top = record p.top { certificate = ds }; tasks = p.tasks; claims = p.claims; start = p.start; is_top = top_with ms p.top ds p.is_top; are_tasks = p.are_tasks; are_claims = p.are_claims; is_start = p.is_start; whole = ap (λ (z : Spelled). record z { certificate = ds }) p.whole })
 
-read_back : (n : Names) (trees : List Tree) → All (IsReadBack n) trees → AreTrees n (map (λ t. tree_data (named n t)) trees) trees
-read_back n [] all = tt
-read_back n (t ∷ trees) all = (all 0 t (omega arith), read_back n trees (λ k x lt. all (suc k) x (omega arith)))
+-- the values from n on
+read_from : (rules : RuleSet) (n : Names) (k : ℕ) (trees : List Tree) → All (IsReadBack rules n) trees → each_from (λ j d. at_number j (read_tree rules n d)) k (map (tree_data n) trees) ≡ Ok (map as_wide_tree trees)
+read_from rules n k [] all = each_empty (λ j d. at_number j (read_tree rules n d)) k
+read_from rules n k (t ∷ trees) all =
+    each_cons (λ j d. at_number j (read_tree rules n d)) k (tree_data n t) (map (tree_data n) trees) (as_wide_tree t) (map as_wide_tree trees) (rw (All-head (IsReadBack rules n) t trees all) refl)
+    (read_from rules n (k + 1) trees (All-tail (IsReadBack rules n) t trees all))
 
-document_put : (s : Spelled) (doc : DocumentValue) (trees : List Tree) → IsDocument s doc → All (IsReadBack doc.graph.names) trees
-    → IsDocument (record s { certificate = map (λ t. tree_data (named doc.graph.names t)) trees }) (record doc { certificate = trees })
+document_put : (s : Spelled) (doc : DocumentValue) (trees : List Tree) → IsDocument s doc → All (IsReadBack (rules_since doc.version) doc.graph.names) trees
+    → IsDocument (record s { certificate = map (tree_data doc.graph.names) trees }) (record doc { certificate = map as_wide_tree trees })
 document_put s doc trees is all = record {
   version = is.version;
   valid = is.valid;
   graph = is.graph;
   claims = is.claims;
   names = is.names;
-  certificate = read_back doc.graph.names trees all;
+  certificate = rw (sym is.version) (read_from (rules_since doc.version) doc.graph.names 1 trees all);
   journal = is.journal;
   start = is.start;
   ended = is.ended;
   times = is.times;
 }
 
-pub is_read_back : (bytes with : List ℕ) (doc : DocumentValue) (trees : List Tree) → Spells bytes doc → All (IsReadBack doc.graph.names) trees → HoldsCertificate bytes (certificate_data doc.graph.names trees) with → length with ≤ longest → Spells with (record doc { certificate = trees })
+pub is_read_back : (bytes with : List ℕ) (doc : DocumentValue) (trees : List Tree) → Spells bytes doc → All (IsReadBack (rules_since doc.version) doc.graph.names) trees → HoldsCertificate bytes (certificate_data doc.graph.names trees) with → length with ≤ longest → Spells with (record doc { certificate = map as_wide_tree trees })
 is_read_back bytes with doc trees is all holds le =
-    let ds = map (λ t. tree_data (named doc.graph.names t)) trees in
+    let ds = map (tree_data doc.graph.names) trees in
     let d = holds.0 in
     let has = holds.4 in
     let same : is.1.0 ≡ object has.0 = value_same bytes is.1.0 d is.1.1 holds.2 ∙ has.1 in

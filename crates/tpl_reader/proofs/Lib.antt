@@ -1,5 +1,4 @@
 pub mod Lookups
-pub mod Passes
 pub mod Asking
 pub mod Singles
 pub mod EndLaws

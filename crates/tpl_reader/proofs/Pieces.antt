@@ -10,7 +10,7 @@ use Rattle.tpl_parts.specs.Start.{NamedStart, start_or_none}
 use Rattle.tpl_reader.specs.declared.fault.Part.TheVariants as part
 use Rattle.tpl_reader.specs.Top.{Members, top_names, top_at}
 use Rattle.tpl_reader.proofs.TopLaws.{parts_of}
-use Rattle.tpl_reader.proofs.Passes.{bind_ok, bind_or, ok_is}
+use Rattle.tpl_json.proofs.Passes.{bind_ok, bind_or, ok_is}
 use Rattle.tpl_reader.specs.Shape.{Spelled, parts_in, spelled_at}
 
 -- what these are together

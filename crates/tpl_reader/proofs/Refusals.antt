@@ -2,7 +2,7 @@
 use Rattle.std.proofs.Common.{◌≡◌, ◌≤◌, ℕ, List, length, Ok, subst, sym}
 use Rattle.serde_json.specs.Data.{Data}
 use Rattle.tpl_model.specs.Claims.{Claim}
-use Rattle.tpl_model.specs.Certificate.{Tree}
+use Rattle.tpl_model.specs.WiderRules.{WideTree}
 use Rattle.tpl_draft.specs.Named.{Named}
 use Rattle.tpl_draft.specs.Numbered.{numbered}
 use Rattle.tpl_draft.specs.Refusals.{IsValid}
@@ -14,10 +14,11 @@ use Rattle.tpl_reader.specs.declared.fault.ClaimFault.{ClaimFault}
 use Rattle.tpl_reader.specs.declared.fault.StartFault.{StartFault}
 use Rattle.tpl_reader.specs.declared.fault.ReadFault.{ReadFault}
 use Rattle.tpl_reader.specs.declared.fault.ReadFault.TheVariants as faults
-use Rattle.tpl_reader.specs.Passes.{Fails}
+use Rattle.tpl_json.specs.Passes.{Fails}
 use Rattle.tpl_reader.specs.Faults.{shape_fault, claim_fault, tree_fault, start_fault}
 use Rattle.tpl_reader.specs.Asked.{claims_for}
-use Rattle.tpl_reader.specs.Trees.{AreTrees, NoTrees}
+use Rattle.tpl_parts.specs.Versions.{rules_since}
+use Rattle.tpl_reader.specs.Trees.{trees_in}
 use Rattle.tpl_reader.specs.Shape.{Spelled, spelled_at}
 use Rattle.tpl_reader.specs.Document.{begin_in, GraphFaults, IsRefused, longest, Reads, IsFault}
 
@@ -41,11 +42,11 @@ module _ (s : Spelled) (g : Named) (valid : IsValid s.draft) (is : g ≡ numbere
   claim_refused miss.Memory h = tt
 
   module _ (cs : List Claim) (claims : claims_for s.version g s.claims ≡ Ok cs) where
-    pub tree_refused : (e : Miss (ℕ × TreeFault)) → NoTrees g.names s.certificate e → IsRefused s (tree_fault e)
+    pub tree_refused : (e : Miss (ℕ × TreeFault)) → Fails e (trees_in (rules_since s.version) g.names s.certificate) → IsRefused s (tree_fault e)
     tree_refused (miss.Wrong (n, f)) h = ((valid, (cs, rw is at claims)), rw is at h)
     tree_refused miss.Memory h = tt
 
-    pub start_refused : (ts : List Tree) → AreTrees g.names s.certificate ts → (e : Miss StartFault) → Fails e (begin_in g s.start s.ended) → IsRefused s (start_fault e)
+    pub start_refused : (ts : List WideTree) → trees_in (rules_since s.version) g.names s.certificate ≡ Ok ts → (e : Miss StartFault) → Fails e (begin_in g s.start s.ended) → IsRefused s (start_fault e)
     start_refused ts trees (miss.Wrong f) h = (((valid, (cs, rw is at claims)), (ts, rw is at trees)), rw is at h)
     start_refused ts trees miss.Memory h = tt
 

@@ -9,9 +9,9 @@ use Rattle.tpl_draft.specs.Named.{Names}
 use Rattle.tpl_parts.specs.NamedClaims.{NamedGiven}
 use Rattle.tpl_reader.specs.declared.fault.ClaimFault.{ClaimFault}
 use Rattle.tpl_reader.specs.declared.fault.ClaimFault.TheVariants.{Unknown}
-use Rattle.tpl_reader.specs.Passes.{each_from}
+use Rattle.tpl_json.specs.Passes.{each_from}
 use Rattle.tpl_reader.specs.Asked.{given_in, is_single, singles_in}
-use Rattle.tpl_reader.proofs.Passes.{each_push, later_fails}
+use Rattle.tpl_json.proofs.Passes.{each_push, later_fails}
 
 -- the exit of a loop at one that passes the test, and the way past one that doesn't
 pub any_stops : {X Y : Type 0} (p : Y → Bool) (g : X → Y) (xs : List X) (i : ℕ) (d : X) → i < length xs → p (g (get_or xs i d)) ≡ true → list_any p (map g xs) ≡ true

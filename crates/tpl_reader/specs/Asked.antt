@@ -1,5 +1,5 @@
 -- Claims with ids in place of names, or what is wrong with the first that can't be asked.
-use Rattle.std.specs.Prelude.{ℕ, zero, suc, ◌+◌, ◌-◌, ◌||◌, Bool, true, false, not, List, [], ◌∷◌, ◌++◌, length, take, filter, nat_le, Option, Some, None, option_map, Result, Ok, Err, ok_or, if◌then◌else◌}
+use Rattle.std.specs.Prelude.{ℕ, zero, suc, ◌+◌, ◌-◌, ◌||◌, Bool, true, false, not, List, [], ◌∷◌, ◌++◌, length, take, filter, nat_le, Option, Some, None, option_map, Result, Ok, ok_or, if◌then◌else◌}
 use Rattle.std.specs.List.{list_any}
 use Rattle.std.specs.Str.{bytes_eq}
 use Rattle.tpl_model.specs.declared.ids.TaskId.{TaskId}
@@ -18,7 +18,7 @@ use Rattle.tpl_parts.specs.NamedClaims.{NamedGiven, GivenInput, GivenQuiet, Give
 use Rattle.tpl_json.specs.Members.{only_if}
 use Rattle.tpl_parts.specs.declared.version.Version.{Version}
 use Rattle.tpl_parts.specs.declared.version.Version.TheVariants.{One, Two, Three}
-use Rattle.tpl_reader.specs.Passes.{◌>>=◌, each_from, all_or}
+use Rattle.tpl_json.specs.Passes.{◌>>=◌, each_from, all_or, at_number}
 use Rattle.tpl_reader.specs.declared.fault.ClaimFault.{ClaimFault}
 use Rattle.tpl_reader.specs.declared.fault.ClaimFault.TheVariants as faults
 
@@ -130,11 +130,6 @@ claim_behind g before c = do
   claim ← claim_in g c
   own ← ok_or (only_if (not (has_name_of before c))) faults.NameTwice
   Ok claim
-
--- with the number of the one in which something is wrong
-abbrev pub at_number : {A F : Type 0} → ℕ → Result A F → Result A (ℕ × F)
-at_number n (Ok x) = Ok x
-at_number n (Err fault) = Err (n, fault)
 
 -- the n-th of the claims, behind those before it
 abbrev pub claim_among : Named → List NamedClaim → ℕ → NamedClaim → Result Claim (ℕ × ClaimFault)

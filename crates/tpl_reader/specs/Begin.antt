@@ -8,7 +8,7 @@ use Rattle.tpl_draft.specs.Named.{Named, all_may_fail}
 use Rattle.tpl_json.specs.Members.{only_if, names_all}
 use Rattle.tpl_cert.specs.Naming.{number_of, is_declared}
 use Rattle.tpl_parts.specs.Start.{NamedStart}
-use Rattle.tpl_reader.specs.Passes.{◌>>=◌, all_or}
+use Rattle.tpl_json.specs.Passes.{◌>>=◌, all_or}
 use Rattle.tpl_reader.specs.declared.fault.StartFault.{StartFault}
 use Rattle.tpl_reader.specs.declared.fault.StartFault.TheVariants as faults
 

@@ -5,20 +5,21 @@ use Rattle.serde_json.specs.Read.{read}
 use Rattle.tpl_model.specs.declared.ids.TaskId.{TaskId}
 use Rattle.tpl_model.specs.declared.finals.Final.{Final}
 use Rattle.tpl_model.specs.Claims.{Claim}
-use Rattle.tpl_model.specs.Certificate.{Tree}
+use Rattle.tpl_model.specs.WiderRules.{WideTree}
 use Rattle.tpl_draft.specs.Draft.{Draft}
 use Rattle.tpl_draft.specs.Named.{Named}
 use Rattle.tpl_draft.specs.Numbered.{numbered}
 use Rattle.tpl_draft.specs.Refusals.{IsValid, IsLeast}
 use Rattle.tpl_json.specs.Members.{only_if}
 use Rattle.tpl_parts.specs.declared.version.Version.{Version}
+use Rattle.tpl_parts.specs.Versions.{rules_since}
 use Rattle.tpl_parts.specs.Start.{NamedStart}
-use Rattle.tpl_reader.specs.Passes.{◌>>=◌}
+use Rattle.tpl_json.specs.Passes.{◌>>=◌}
 use Rattle.tpl_reader.specs.Begin.{StartValue, start_if_any}
 use Rattle.tpl_reader.specs.Ends.{knows_ends, ends_in}
 use Rattle.tpl_reader.specs.Shape.{Spelled, spelled_at}
 use Rattle.tpl_reader.specs.Asked.{claims_for}
-use Rattle.tpl_reader.specs.Trees.{AreTrees, FirstNoTree}
+use Rattle.tpl_reader.specs.Trees.{trees_in}
 use Rattle.tpl_reader.specs.declared.fault.StartFault.{StartFault}
 use Rattle.tpl_reader.specs.declared.fault.StartFault.TheVariants as starts
 use Rattle.tpl_reader.specs.declared.fault.ReadFault.{ReadFault}
@@ -26,12 +27,13 @@ use Rattle.tpl_reader.specs.declared.fault.ReadFault.TheVariants as faults
 
 -- ---- with ids in place of names
 
+-- a document; before version 3 its certificate says nothing of tokens and of winners
 pub record DocumentValue : Type 0 where
   pub version : Version
   pub graph : Named
   pub claims : List Claim
   pub names : List (Option (List ℕ))
-  pub certificate : List Tree
+  pub certificate : List WideTree
   pub journal : List ℕ
   pub start : Option StartValue
   pub ended : List (TaskId × Final)
@@ -50,7 +52,7 @@ pub record IsDocument (s : Spelled) (doc : DocumentValue) : Type 0 where
   pub graph : doc.graph ≡ numbered s.draft
   pub claims : claims_for s.version doc.graph s.claims ≡ Ok doc.claims
   pub names : doc.names ≡ map (λ c. c.name) s.claims
-  pub certificate : AreTrees doc.graph.names s.certificate doc.certificate
+  pub certificate : trees_in (rules_since s.version) doc.graph.names s.certificate ≡ Ok doc.certificate
   pub journal : doc.journal ≡ s.journal
   pub start : begin_in doc.graph s.start s.ended ≡ Ok doc.start
   pub ended : doc.ended ≡ ends_in doc.graph.names.tasks s.ended
@@ -68,13 +70,13 @@ HasClaims s = IsValid s.draft × ((claims : List Claim) × (claims_for s.version
 
 -- and the trees are read
 abbrev pub HasTrees : Spelled → Type 0
-HasTrees s = HasClaims s × ((trees : List Tree) × AreTrees (numbered s.draft).names s.certificate trees)
+HasTrees s = HasClaims s × ((trees : List WideTree) × (trees_in (rules_since s.version) (numbered s.draft).names s.certificate ≡ Ok trees))
 
 -- what is wrong with a document of the right shape: the graph, then a claim, then a tree, then the start
 abbrev pub IsRefused : Spelled → ReadFault → Type 0
 IsRefused s (faults.Graph f) = IsLeast s.draft f
 IsRefused s (faults.Claim n f) = IsValid s.draft × (claims_for s.version (numbered s.draft) s.claims ≡ Err (n, f))
-IsRefused s (faults.Certificate n f) = HasClaims s × FirstNoTree (numbered s.draft).names 1 s.certificate n f
+IsRefused s (faults.Certificate n f) = HasClaims s × (trees_in (rules_since s.version) (numbered s.draft).names s.certificate ≡ Err (n, f))
 IsRefused s (faults.Start f) = HasTrees s × (begin_in (numbered s.draft) s.start s.ended ≡ Err f)
 IsRefused s faults.Memory = Unit {0}
 IsRefused s faults.TooLong = ⊥

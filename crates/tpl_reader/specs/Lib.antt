@@ -1,4 +1,3 @@
-pub mod Passes
 pub mod Faults
 pub mod Trees
 pub mod Asked

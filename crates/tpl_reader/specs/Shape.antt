@@ -7,7 +7,7 @@ use Rattle.tpl_parts.specs.NamedClaims.{NamedClaim}
 use Rattle.tpl_parts.specs.Tasks.{task_at}
 use Rattle.tpl_parts.specs.Claims.{claim_at}
 use Rattle.tpl_parts.specs.Start.{NamedStart, start_or_none}
-use Rattle.tpl_reader.specs.Passes.{◌>>=◌, each_from}
+use Rattle.tpl_json.specs.Passes.{◌>>=◌, each_from}
 use Rattle.tpl_reader.specs.Top.{top_at}
 use Rattle.tpl_reader.specs.declared.fault.Part.{Part}
 use Rattle.tpl_reader.specs.declared.fault.Part.TheVariants as part

@@ -1,31 +1,20 @@
--- The trees that JSON values are read as, in a graph with its names, and the first that is read as none.
-use Rattle.std.specs.Prelude.{◌≡◌, ◌+◌, ℕ, ◌⊎◌, List, [], ◌∷◌}
+-- The trees that JSON values are read as, in a graph with its names, or the first that is read as none and what is wrong with it.
+use Rattle.std.specs.Prelude.{ℕ, List, map, Result}
 use Rattle.serde_json.specs.Data.{Data}
+use Rattle.tpl_model.specs.declared.rule_set.RuleSet.{RuleSet}
+use Rattle.tpl_model.specs.declared.rule_set.RuleSet.TheVariants.{Narrow, Wide}
 use Rattle.tpl_model.specs.Certificate.{Tree}
+use Rattle.tpl_model.specs.WiderRules.{WideTree, as_wide_tree}
 use Rattle.tpl_draft.specs.Named.{Names}
+use Rattle.tpl_json.specs.Passes.{each_from, at_number}
 use Rattle.tpl_cert.specs.declared.fault.TreeFault.{TreeFault}
-use Rattle.tpl_cert.specs.declared.fault.TreeFault.TheVariants.{Memory}
-use Rattle.tpl_cert.specs.Spelled.{ReadsAs, IsWrongTree}
-use Rattle.tpl_json.specs.declared.miss.Miss.{Miss}
-use Rattle.tpl_json.specs.declared.miss.Miss.TheVariants as miss
+use Rattle.tpl_cert.specs.Spelled.{read_tree}
 
--- each value is read as one of the trees, one for one
-abbrev pub AreTrees : Names → List Data → List Tree → Type 0
-AreTrees names [] [] = Unit {0}
-AreTrees names [] (t ∷ ts) = ⊥
-AreTrees names (d ∷ ds) [] = ⊥
-AreTrees names (d ∷ ds) (t ∷ ts) = ReadsAs names d t × AreTrees names ds ts
+-- each value, by its number; those of a certificate by the narrow rules say nothing of tokens and of winners
+abbrev pub trees_in : RuleSet → Names → List Data → Result (List WideTree) (ℕ × TreeFault)
+trees_in rules names ds = each_from (λ n d. at_number n (read_tree rules names d)) 1 ds
 
--- this is wrong with the value, and not that memory ran out
-abbrev pub IsNoTree : Names → Data → TreeFault → Type 0
-IsNoTree names d fault = (fault ≡ Memory → ⊥) × IsWrongTree names d fault
-
--- of these values, which are counted from n on, the k-th is the first that isn't read, and this is wrong with it
-abbrev pub FirstNoTree : Names → ℕ → List Data → ℕ → TreeFault → Type 0
-FirstNoTree names n [] k fault = ⊥
-FirstNoTree names n (d ∷ ds) k fault = ((k ≡ n) × IsNoTree names d fault) ⊎ (((t : Tree) × ReadsAs names d t) × FirstNoTree names (n + 1) ds k fault)
-
--- why the values aren't read, unless memory ran out
-abbrev pub NoTrees : Names → List Data → Miss (ℕ × TreeFault) → Type 0
-NoTrees names ds (miss.Wrong (k, fault)) = FirstNoTree names 1 ds k fault
-NoTrees names ds miss.Memory = Unit {0}
+-- the trees of a document, which has them of one sort or the other
+abbrev pub trees_by : RuleSet → List Tree → List WideTree → List WideTree
+trees_by Narrow plain wide = map as_wide_tree plain
+trees_by Wide plain wide = wide

@@ -6,7 +6,7 @@ ghost use Rattle.std.specs.Option.{option_map};
 ghost use Rattle.tpl_graph.specs.Fits.{is_of_one_thing, given_twice};
 ghost use Rattle.tpl_json.specs.declared.miss.Miss.TheVariants.{Memory};
 ghost use Rattle.tpl_parts.specs.SeenClaims.{given_of, property_of, claim_of};
-ghost use Rattle.tpl_reader.specs.Passes.{Yields};
+ghost use Rattle.tpl_json.specs.Passes.{Yields};
 ghost use Rattle.tpl_reader.specs.Asked.{task_in, token_in, input_in, site_in, given_in, pair_in, property_in, is_no_failure, is_no_request, is_single, with_jobs, with_tokens, with_all_jobs, with_all, singles_in, is_said_again, says_twice, claim_in, is_same_name, has_name_of, claim_behind, claims_in};
 
 use crate::fault::ClaimFault;

@@ -8,7 +8,7 @@ ghost use Rattle.tpl_draft.specs.Ids.{token_number, site_number};
 ghost use Rattle.tpl_cert.specs.Naming.{number_of, is_declared};
 ghost use Rattle.tpl_parts.specs.SeenStart.{start_of};
 ghost use Rattle.tpl_reader.specs.SeenDocument.{value_of};
-ghost use Rattle.tpl_reader.specs.Passes.{Yields};
+ghost use Rattle.tpl_json.specs.Passes.{Yields};
 ghost use Rattle.tpl_reader.specs.Begin.{knows_members, truth_at, may_fail, may_all_fail, numbers_in, truths_in, start_in, start_if_any};
 ghost use Rattle.tpl_reader.specs.Document.{begin_in};
 

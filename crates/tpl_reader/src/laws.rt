@@ -8,9 +8,7 @@ ghost use Rattle.tpl_reader.specs.Laws.{CertificateIsReadBack, SpelledHasNoFault
 pub fn one_document()
     ensures one { SpellsOneDocument }
     ensures faultless { SpelledHasNoFault }
-{
-    tpl_cert::one_reading();
-}
+{}
 
 /// What is written for trees that are read back can be the member `certificate` of any document that isn't too long
 /// then: it is read as just these trees, and all else as before.

@@ -10,13 +10,15 @@ ghost use Rattle.tpl_draft.specs.Numbered.{numbered};
 ghost use Rattle.tpl_draft.specs.Refusals.{IsValid};
 ghost use Rattle.tpl_draft.specs.SeenTasks.{draft_of};
 ghost use Rattle.tpl_cert.specs.Heights.{IsWithinLimits};
+ghost use Rattle.tpl_cert.specs.WideHeights.{IsWithinWideLimits};
 ghost use Rattle.tpl_graph.specs.Fits.{Fits};
+ghost use Rattle.tpl_parts.specs.Versions.{rules_since};
 ghost use Rattle.tpl_parts.specs.SeenClaims.{claim_of};
 ghost use Rattle.tpl_parts.specs.SeenStart.{start_of};
 ghost use Rattle.tpl_reader.specs.SeenDocument.{value_of, doc_of, spelled_of, spelled_with};
-ghost use Rattle.tpl_reader.specs.Passes.{Yields};
+ghost use Rattle.tpl_json.specs.Passes.{Yields};
 ghost use Rattle.tpl_reader.specs.Asked.{most_claims, claims_for};
-ghost use Rattle.tpl_reader.specs.Trees.{AreTrees};
+ghost use Rattle.tpl_reader.specs.Trees.{trees_by, trees_in};
 ghost use Rattle.tpl_reader.specs.Ends.{ends_in};
 ghost use Rattle.tpl_reader.specs.declared.fault.ReadFault.TheVariants.{Memory};
 ghost use Rattle.tpl_reader.specs.Document.{begin_in, GraphFaults, IsDocument, IsRefused, longest, Reads, Spells, IsFault};
@@ -28,10 +30,10 @@ use crate::ends::ends_in;
 use crate::fault::{ClaimFault, ReadFault};
 use crate::hear::{Hear, Misread, Unheard};
 use crate::shape::{NamedRest, Shaped, shape_of};
-use crate::trees::trees_in;
+use crate::trees::{Trees, trees_in};
 use json::{Scratch, Value};
 use std::alloc::Global;
-use tpl_cert::{Certificate, Tree};
+use tpl_cert::{Certificate, WideCertificate};
 use tpl_graph::{Claim, Draft, Graph, Why};
 use tpl_json::{Miss, NotRead, value_from};
 use tpl_model::{Final, TaskId};
@@ -118,7 +120,7 @@ fn names_of(alloc: Global, claims: &[NamedClaim]) -> Result<Vec<Option<String>>,
 struct Rest {
     claims: Vec<Claim>,
     names: Vec<Option<String>>,
-    trees: Vec<Tree>,
+    trees: Trees,
     journal: String,
     start: Option<Start>,
     ended: Vec<(TaskId, Final)>,
@@ -134,8 +136,11 @@ fn rest_of(
     ensures claims { IfOk result (λ r. claims_for version graph.now
         (map claim_of named.now.claims.items) ≡ Ok r.claims.items) }
     ensures fits { IfOk result (λ r. All (Fits graph.now.graph) r.claims.items) }
-    ensures trees { IfOk result (λ r. AreTrees graph.now.names
-        (map view named.now.certificate.now) r.trees.items) }
+    ensures trees { IfOk result (λ r. trees_in (rules_since version) graph.now.names
+        (map view named.now.certificate.now)
+        ≡ Ok (trees_by (rules_since version) r.trees.plain.items r.trees.wide.items)) }
+    ensures plain { IfOk result (λ r. All IsWithinLimits r.trees.plain.items) }
+    ensures wide { IfOk result (λ r. All IsWithinWideLimits r.trees.wide.items) }
     ensures journal { IfOk result (λ r. string_bytes r.journal ≡ named.now.journal.now) }
     ensures start { IfOk result (λ r. begin_in graph.now (option_map start_of named.now.start)
         (option_map (λ v. view v.now) named.now.ended) ≡ Ok (option_map value_of r.start)) }
@@ -149,7 +154,7 @@ fn rest_of(
 {
     let journal = String::from_str(alloc, named.journal)?;
     let claims = claims_for(alloc, version, graph, &named.claims)?;
-    let trees = trees_in(alloc, graph, named.certificate)?;
+    let trees = trees_in(alloc, version.rules(), graph, named.certificate)?;
     let start = begin_in(alloc, graph, &named.start, named.ended)?;
     let names = names_of(alloc, &named.claims)?;
     let ended = ends_in(alloc, graph, named.ended)?;
@@ -177,7 +182,8 @@ fn document_of(alloc: Global, shaped: Shaped) -> Result<Document, ReadFault>
         graph,
         claims: rest.claims,
         names: rest.names,
-        certificate: Certificate::new(rest.trees),
+        certificate: Certificate::new(rest.trees.plain),
+        wide: WideCertificate::new(rest.trees.wide),
         journal: rest.journal,
         start: rest.start,
         ended: rest.ended,

@@ -8,7 +8,7 @@ ghost use Rattle.tpl_parts.specs.SeenStart.{start_of};
 ghost use Rattle.tpl_reader.specs.Top.{top_at};
 ghost use Rattle.tpl_reader.specs.SeenTop.{members_of};
 ghost use Rattle.tpl_reader.specs.SeenDocument.{spelled_of};
-ghost use Rattle.tpl_reader.specs.Passes.{Yields};
+ghost use Rattle.tpl_json.specs.Passes.{Yields};
 ghost use Rattle.tpl_reader.specs.Shape.{spelled_at};
 ghost use Rattle.tpl_reader.specs.declared.fault.Part.TheVariants.{Top, Start};
 

@@ -11,7 +11,7 @@ ghost use Rattle.tpl_reader.specs.SeenTop.{members_of};
 ghost use Rattle.tpl_parts.specs.Tasks.{task_at, token_at};
 ghost use Rattle.tpl_parts.specs.Claims.{claim_at};
 ghost use Rattle.tpl_reader.specs.Top.{version_in, version_at, text_or_empty, added, ends_or_none, is_line_break, line_breaks, never_fall, are_times, whole_at, times_or_none, top_names, top_at};
-ghost use Rattle.tpl_reader.specs.Passes.{Yields};
+ghost use Rattle.tpl_json.specs.Passes.{Yields};
 ghost use Rattle.tpl_reader.specs.Shape.{parts_in};
 ghost use Rattle.tpl_reader.specs.declared.fault.Part.TheVariants.{Task, Claim};
 

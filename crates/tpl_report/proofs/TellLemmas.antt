@@ -14,7 +14,7 @@ use Rattle.tpl_parts.specs.Start.{NamedStart}
 use Rattle.tpl_reader.specs.declared.fault.StartFault.TheVariants.{Missing}
 use Rattle.tpl_reader.specs.Begin.{StartValue, truth_at}
 use Rattle.tpl_reader.specs.Document.{DocumentValue, Spells, longest}
-use Rattle.tpl_reader.proofs.Passes.{each_length}
+use Rattle.tpl_json.proofs.Passes.{each_length}
 use Rattle.tpl_reader.proofs.Begins.{AreParts, begin_parts}
 use Rattle.tpl_reader.specs.Laws.{SpellsOneDocument}
 use Rattle.tpl_reader.specs.Starting.{inputs_of, no_inputs, values_of}

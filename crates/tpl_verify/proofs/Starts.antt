@@ -12,7 +12,7 @@ use Rattle.tpl_parts.specs.Start.{NamedStart, all_values, has_truths, truths_or_
 use Rattle.tpl_parts.proofs.Ends.{is_truth}
 use Rattle.tpl_reader.specs.declared.fault.StartFault.TheVariants.{Unknown}
 use Rattle.tpl_reader.specs.Begin.{StartValue, knows_members, truth_at, truths_in}
-use Rattle.tpl_reader.proofs.Passes.{each_empty}
+use Rattle.tpl_json.proofs.Passes.{each_empty}
 use Rattle.tpl_reader.proofs.Begins as begin
 use Rattle.tpl_reader.proofs.Begins.{AreParts, truths_are}
 use Rattle.tpl_verify.specs.Filled.{AreFirst, IsStartWith, start_data, started}

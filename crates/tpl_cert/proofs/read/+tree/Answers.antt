@@ -20,16 +20,16 @@ input_of-returns-then-not-has_only t c =
 pub input_of-returns-in_err-name : goal.input_of-returns-in_err-name
 input_of-returns-in_err-name t c =
     let p = err_from_is_err_and c.from_residual.result c.from_residual.ensures.1 in
-    rw (p.1, p.2) (input_misses whole_tree (view c.args.value.now) c.in_err-name.field-0.0 c.if-not-has_only.ensures c.in_err-name.ensures.gives)
+    rw (p.1, p.2) (input_misses (whole_tree c.args.rules) (view c.args.value.now) c.in_err-name.field-0.0 c.if-not-has_only.ensures c.in_err-name.ensures.gives)
 
 pub input_of-returns : goal.input_of-returns
 input_of-returns t c =
-    let q : input_at whole_tree (view c.args.value.now) ≡ Some (SplitInput c.in_ok-name.name.now (tree_of c.in_ok-first.first.value) (tree_of c.in_ok-second.second.value)) =
-    input_is whole_tree (view c.args.value.now) _ _ _ c.if-not-has_only.ensures c.in_ok-name.ensures.gives c.in_ok-first.ensures c.in_ok-second.ensures in
+    let q : input_at (whole_tree c.args.rules) (view c.args.value.now) ≡ Some (SplitInput c.in_ok-name.name.now (tree_of c.in_ok-first.first.value) (tree_of c.in_ok-second.second.value)) =
+    input_is (whole_tree c.args.rules) (view c.args.value.now) _ _ _ c.if-not-has_only.ensures c.in_ok-name.ensures.gives c.in_ok-first.ensures c.in_ok-second.ensures in
     rw q (search (rules, the_lemmas))
 
 pub named_tree-returns : goal.named_tree-returns
-named_tree-returns t c = subst (λ o. Gives tree_of c.node_of.result o) (sym (whole_tree-node (view c.args.value.now))) c.node_of.ensures
+named_tree-returns t c = subst (λ o. Gives tree_of c.node_of.result o) (sym (whole_tree-node c.args.rules (view c.args.value.now))) c.node_of.ensures
 
 pub branch_of-named_tree-requires : goal.branch_of-named_tree-requires
 branch_of-named_tree-requires t c =

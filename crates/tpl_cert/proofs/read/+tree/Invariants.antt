@@ -17,3 +17,6 @@ decreases-end_of l = 4 * depth (view l.value.now) + 1
 
 abbrev pub decreases-node_of : goal.decreases-node_of
 decreases-node_of l = 4 * depth (view l.value.now) + 2
+
+abbrev pub decreases-winner_of : goal.decreases-winner_of
+decreases-winner_of l = 4 * depth (view l.value.now) + 1

@@ -21,4 +21,4 @@ returns-clause-reads c low =
 pub returns-clause-spells : goal.returns-clause-spells
 returns-clause-spells c =
     let e = c.in_ok-write_trees.ensures in
-    all_read_again c.args.graph.now.names c.valid_law.ensures.inputs_once c.valid_law.ensures.tasks_once c.args.trees.now e.0 e.1.1
+    λ k t lt rules. all_read_again rules c.args.graph.now.names c.valid_law.ensures.inputs_once c.valid_law.ensures.tasks_once c.args.trees.now e.0 e.1.1 k t lt

@@ -1,6 +1,6 @@
-use Rattle.tpl_cert.specs.Written.{has_ids, named, tree_data, HasTaskSets}
+use Rattle.tpl_cert.specs.Written.{has_ids, tree_data, HasTaskSets}
 use Rattle.tpl_cert.proofs.Tokens.{AreWritten}
 use Rattle.tpl_cert.proofs.text.write_trees.Given as goal
 
 abbrev pub invariant-loop-tree : goal.invariant-loop-tree
-invariant-loop-tree l = AreWritten (has_ids l.graph.names) HasTaskSets (λ t. tree_data (named l.graph.names t)) l.trees l.tree-index l.initial.out l.out
+invariant-loop-tree l = AreWritten (has_ids l.graph.names) HasTaskSets (tree_data l.graph.names) l.trees l.tree-index l.initial.out l.out

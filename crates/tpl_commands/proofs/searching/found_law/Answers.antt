@@ -1,5 +1,5 @@
 use Rattle.tpl_reader.specs.SeenDocument.{doc_of}
-use Rattle.tpl_commands.specs.Rules.{is_judged_widely}
+use Rattle.tpl_commands.specs.Rules.{rules_of, is_judged_widely}
 use Rattle.tpl_commands.proofs.TakenBack.{within, taken_back}
 use Rattle.tpl_commands.proofs.WrittenTrees.{trees_known}
 use Rattle.tpl_commands.proofs.searching.found_law.Goals as goal
@@ -19,5 +19,5 @@ pub returns-clause-back : goal.returns-clause-back
 returns-clause-back c = λ read.
     let doc = doc_of c.args.document.now in
     let trees = c.args.certificate.now in
-    let back = within doc.graph.names trees read c.limits_law.ensures in
-    (back, taken_back c.one_document.ensures.one c.one_document.ensures.faultless c.certificate_is_read_back.ensures doc trees c.requires back)
+    let back = within (rules_of doc) doc.graph.names trees read c.limits_law.ensures in
+    (back, taken_back c.one_document.ensures.one c.one_document.ensures.faultless c.certificate_is_read_back.ensures doc trees (c.plain_is_accepted.ensures (rules_of doc) doc.graph.graph doc.claims trees c.requires) back)

@@ -6,7 +6,7 @@ use Rattle.tpl_parts.specs.declared.named.NamedGiven.{NamedGiven}
 use Rattle.tpl_graph.specs.Fits.{given_twice}
 use Rattle.tpl_parts.specs.SeenClaims.{given_of, property_of, claim_of}
 use Rattle.tpl_reader.specs.Asked.{singles_in, says_twice, claim_in}
-use Rattle.tpl_reader.proofs.Passes.{fails_bind, want_of_memory}
+use Rattle.tpl_json.proofs.Passes.{fails_bind, want_of_memory}
 use Rattle.tpl_reader.proofs.Asking.{tasks_are, asked}
 use Rattle.tpl_reader.proofs.asked.claim_in.Goals as goal
 

@@ -1,8 +1,8 @@
 use Rattle.std.proofs.Common.{◌+◌, map, Ok, Err, refl}
 use Rattle.tpl_parts.specs.SeenClaims.{claim_of}
-use Rattle.tpl_reader.specs.Passes.{each_from}
+use Rattle.tpl_json.specs.Passes.{each_from}
 use Rattle.tpl_reader.specs.Asked.{claim_among}
-use Rattle.tpl_reader.proofs.Passes.{each_more, each_done, each_stops}
+use Rattle.tpl_json.proofs.Passes.{each_more, each_done, each_stops}
 use Rattle.tpl_reader.proofs.Asking.{among}
 use Rattle.tpl_reader.proofs.asked.claims_in.Goals as goal
 

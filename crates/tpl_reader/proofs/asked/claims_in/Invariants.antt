@@ -1,6 +1,6 @@
 use Rattle.std.proofs.Common.{◌≡◌, map, take, Ok}
 use Rattle.tpl_parts.specs.SeenClaims.{claim_of}
-use Rattle.tpl_reader.specs.Passes.{each_from}
+use Rattle.tpl_json.specs.Passes.{each_from}
 use Rattle.tpl_reader.specs.Asked.{claim_among}
 use Rattle.tpl_reader.proofs.asked.claims_in.Given as goal
 

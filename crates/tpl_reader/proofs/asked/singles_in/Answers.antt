@@ -1,6 +1,6 @@
 use Rattle.std.proofs.Common.{refl, sym}
 use Rattle.tpl_parts.specs.SeenClaims.{given_of}
-use Rattle.tpl_reader.specs.Passes.{each_from}
+use Rattle.tpl_json.specs.Passes.{each_from}
 use Rattle.tpl_reader.proofs.Singles.{singles_push, singles_pass, singles_stop}
 use Rattle.tpl_reader.proofs.asked.singles_in.Goals as goal
 use Rattle.tpl_reader.proofs.asked.singles_in.Goals.{then-is_single+in-Some+in_ok-push-in-Some, else-is_single}

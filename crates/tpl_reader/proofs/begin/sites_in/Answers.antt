@@ -4,8 +4,8 @@ use Rattle.std.proofs.lemmas.List.{map_push}
 use Rattle.tpl_draft.specs.Ids.{site_number}
 use Rattle.tpl_cert.specs.Naming.{number_of}
 use Rattle.tpl_reader.specs.declared.fault.StartFault.TheVariants.{Unknown}
-use Rattle.tpl_reader.specs.Passes.{each_from}
-use Rattle.tpl_reader.proofs.Passes.{each_more, each_done, each_fails}
+use Rattle.tpl_json.specs.Passes.{each_from}
+use Rattle.tpl_json.proofs.Passes.{each_more, each_done, each_fails}
 use Rattle.tpl_reader.proofs.begin.sites_in.Goals as goal
 
 pub loop-name-init : goal.loop-name-init

@@ -1,7 +1,7 @@
 use Rattle.std.proofs.Common.{string_bytes}
 use Rattle.std.specs.Option.{option_map}
 use Rattle.tpl_parts.specs.SeenClaims.{claim_of}
-use Rattle.tpl_reader.proofs.Passes.{mapped_more}
+use Rattle.tpl_json.proofs.Passes.{mapped_more}
 use Rattle.tpl_reader.proofs.read.names_of.Goals as goal
 
 pub loop-claim-preserved : goal.loop-claim-preserved

@@ -3,9 +3,9 @@ use Rattle.std.proofs.lemmas.List.{map_push}
 use Rattle.tpl_json.specs.View.{view}
 use Rattle.tpl_draft.specs.SeenTasks.{task_of}
 use Rattle.tpl_parts.specs.Tasks.{task_at}
-use Rattle.tpl_reader.specs.Passes.{each_from}
+use Rattle.tpl_json.specs.Passes.{each_from}
 use Rattle.tpl_reader.specs.declared.fault.Part.TheVariants.{Task}
-use Rattle.tpl_reader.proofs.Passes.{each_more, each_done, each_stops}
+use Rattle.tpl_json.proofs.Passes.{each_more, each_done, each_stops}
 use Rattle.tpl_reader.proofs.top.tasks_of.Goals as goal
 
 pub loop-index-init : goal.loop-index-init

@@ -21,6 +21,11 @@ each_from read n (d ∷ ds) = do
 abbrev pub all_or : {D A F : Type 0} → F → (D → Option A) → List D → Result (List A) F
 all_or fault read ds = each_from (λ n d. ok_or (read d) fault) 1 ds
 
+-- with the number of the one in which something is wrong
+abbrev pub at_number : {A F : Type 0} → ℕ → Result A F → Result A (ℕ × F)
+at_number n (Ok x) = Ok x
+at_number n (Err fault) = Err (n, fault)
+
 -- what a function returned, seen by view, is what reading gives, unless memory ran out
 abbrev pub Fails : {Y F : Type 0} → Miss F → Result Y F → Type 0
 Fails (miss.Wrong fault) read = read ≡ Err fault

@@ -5,7 +5,7 @@ use Rattle.std.proofs.lemmas.List.{map_more, map_push, take_all, length-map, len
 use Rattle.std.proofs.lemmas.List.Elements.{All-nil, All-cons}
 use Rattle.tpl_json.specs.declared.miss.Miss.{Miss}
 use Rattle.tpl_json.specs.declared.miss.Miss.TheVariants as miss
-use Rattle.tpl_reader.specs.Passes.{◌>>=◌, each_from, all_or, Fails}
+use Rattle.tpl_json.specs.Passes.{◌>>=◌, each_from, all_or, Fails}
 
 -- ---- one step after another
 
@@ -18,7 +18,7 @@ pub bind_or : {A B F : Type 0} (o : Option A) (fault : F) (f : A → Result B F)
 bind_or (Some x) fault f y e = (x, refl, e)
 bind_or None fault f y e = absurd cc
 
-or_ok : {A F : Type 0} (o : Option A) (fault : F) (x : A) → ok_or o fault ≡ Ok x → o ≡ Some x
+pub or_ok : {A F : Type 0} (o : Option A) (fault : F) (x : A) → ok_or o fault ≡ Ok x → o ≡ Some x
 or_ok (Some y) fault x e = cc
 or_ok None fault x e = absurd cc
 

@@ -1,0 +1,39 @@
+-- Certificates by the narrow rules or by the wide ones, whose trees may speak of tokens and of winners.
+use Rattle.std.specs.Prelude.{◌≡◌, ℕ, Bool, Err, List, [], ◌∷◌, map}
+use Rattle.tpl_model.specs.Graph.{TaskGraph}
+use Rattle.tpl_model.specs.declared.event.Event.{Event}
+use Rattle.tpl_model.specs.declared.fault.CertFault.{CertFault}
+use Rattle.tpl_model.specs.declared.rule_set.RuleSet.{RuleSet}
+use Rattle.tpl_model.specs.declared.rule_set.RuleSet.TheVariants.{Narrow, Wide}
+use Rattle.tpl_model.specs.Rules.{Run}
+use Rattle.tpl_model.specs.Valid.{IsGraph}
+use Rattle.tpl_model.specs.Claims.{Claim, Holds}
+use Rattle.tpl_model.specs.Certificate.{Tree, Accepts, is_wide}
+use Rattle.tpl_model.specs.WiderRules.{WideTree, WidelyAccepts, as_wide_tree}
+use Rattle.tpl_laws.specs.Faults.{IsFirstFault}
+use Rattle.tpl_laws.specs.Soundness.{Each}
+use Rattle.tpl_laws.specs.WideVerdict.{wide_verdict}
+
+-- the certificate is accepted by the rules; the narrow ones are for trees that say nothing of tokens and of winners
+abbrev pub AcceptsBy : RuleSet → TaskGraph → List Claim → List WideTree → Type 0
+AcceptsBy Narrow g claims trees = (plain : List Tree) × (trees ≡ map as_wide_tree plain) × Accepts false g claims plain
+AcceptsBy Wide g claims trees = WidelyAccepts g claims trees
+
+-- the certificate fails, and this is the first fault
+abbrev pub FailsFirst : RuleSet → TaskGraph → List Claim → List WideTree → CertFault → Type 0
+FailsFirst Narrow g claims trees fault = (plain : List Tree) × (trees ≡ map as_wide_tree plain) × IsFirstFault false g claims plain fault
+FailsFirst Wide g claims trees fault = wide_verdict g claims trees ≡ Err fault
+
+-- where a certificate is accepted, each claim holds in each run
+abbrev pub SoundByRules : Type 0
+SoundByRules =
+    (rules : RuleSet) (g : TaskGraph) (claims : List Claim) (trees : List WideTree) → IsGraph g → AcceptsBy rules g claims trees
+    → (v : List Bool) (h : List Event) → Run g v h → Each (λ claim. Holds g claim v h) claims
+
+-- a certificate that is accepted by the rules for trees without tokens is accepted by the rules
+abbrev pub PlainIsAccepted : Type 0
+PlainIsAccepted = (rules : RuleSet) (g : TaskGraph) (claims : List Claim) (trees : List Tree) → Accepts (is_wide rules) g claims trees → AcceptsBy rules g claims (map as_wide_tree trees)
+
+-- where a certificate is not accepted, it is not, in whatever trees it is told
+abbrev pub PlainIsRefused : Type 0
+PlainIsRefused = (g : TaskGraph) (claims : List Claim) (trees : List Tree) → (Accepts false g claims trees → ⊥) → AcceptsBy Narrow g claims (map as_wide_tree trees) → ⊥
