@@ -32,10 +32,10 @@ use Rattle.tpl_cert.proofs.Unique.{number_of-name_at}
 -- ---- with names
 
 -- the row, and the tree, with names in place of ids
-named_row : Names → Row → NamedRow
+abbrev named_row : Names → Row → NamedRow
 named_row n r = record { ends = r.ends; runs = r.runs; before = map (name_at n.tasks) r.before; past = map (name_at n.tasks) r.past; chain = map (name_at n.tasks) r.chain; asked = []; asks = [] }
 
-named : Names → Tree → NamedTree
+abbrev named : Names → Tree → NamedTree
 named n (tree.SplitInput i a b) = SplitInput (name_at n.inputs i) (named n a) (named n b)
 named n (tree.SplitEnd t a b c) = SplitEnd (name_at n.tasks t) (named n a) (named n b) (named n c)
 named n (tree.Leaf rows) = Leaf (map (named_row n) rows)

@@ -2,7 +2,7 @@ pub mod Levels
 pub mod Names
 pub mod Trees
 pub mod PlainTrees
-pub mod Limits
+pub mod WithinLimits
 pub mod Ids
 pub mod Unique
 pub mod Again

@@ -1,6 +1,8 @@
 -- The names of a tree, one after another.
 use Rattle.std.proofs.Common.{◌≡◌, ℕ, zero, suc, ◌+◌, ◌<◌, ◌≤◌, ◌&&◌, ◌||◌, List, [], ◌∷◌, ◌++◌, length, get_or, map, Bool, true, false, Some, Ok, ok_or, nat_eq, refl, sym, ap, ◌∙◌, arith}
-use Rattle.std.specs.List.{list_all}
+use Rattle.std.specs.List.{All, list_all}
+use Rattle.std.proofs.lemmas.List.Elements.{All-nil, All-cons, All-head, All-tail}
+use Rattle.std.proofs.lemmas.Nat.Bits.{bit_at-zero}
 use Rattle.std.proofs.lemmas.List.Quantifiers.{position-Some}
 use Rattle.std.specs.Str.{bytes_eq}
 use Rattle.tpl_model.proofs.SetLists.{mem_within, sets_lem, mem-passing_from, passing_from-mem, passing_from-ascends}
@@ -107,4 +109,9 @@ bare_fails n s miss.Memory h = tt
 
 -- the empty set has no token
 pub none_has : (k : ℕ) → has_token no_tokens k ≡ false
-none_has k = refl
+none_has k = rw (bit_at-zero k) refl
+
+-- the rows of a plain leaf, as they lie in memory
+pub rows_plain : {X : Type 0} (g : X → NamedRow) (xs : List X) → All IsPlainRow (map g xs) → All (λ x. IsPlainRow (g x)) xs
+rows_plain g [] all = All-nil (λ x. IsPlainRow (g x))
+rows_plain g (x ∷ xs) all = All-cons (λ x. IsPlainRow (g x)) x xs (All-head IsPlainRow (g x) (map g xs) all) (rows_plain g xs (All-tail IsPlainRow (g x) (map g xs) all))

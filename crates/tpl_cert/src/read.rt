@@ -10,10 +10,10 @@ ghost use Rattle.tpl_cert.specs.Reading.{row_names, row_at, leaf_at, input_at, e
 use crate::named::{NamedRow, NamedTree};
 use json::Value;
 use std::alloc::Global;
-use tpl_model::RuleSet;
 use tpl_json::{
     Miss, Shape, bool_in, finals_of, find, has_only, list_of, member_in, text_in, texts_in,
 };
+use tpl_model::RuleSet;
 
 /// The members of a row: by the wide rules it speaks of tokens too.
 fn row_names(rules: RuleSet) -> &'static [&'static str]

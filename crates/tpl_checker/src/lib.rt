@@ -28,7 +28,7 @@ pub use given::{assumed, assumed_for};
 pub use leaf::{LeafFault, accepts_leaf, past_rule};
 pub use parents::parent;
 pub use property::{begins_itself, ends_only_in, has_to_end};
-pub use rows::{allowed, excluded, some_end};
+pub use rows::{allowed, excluded, implies, is_member, some_end};
 pub use shape::{all_tasks, row_fits};
 pub use tree::placed;
 pub use verdict::check;

@@ -57,7 +57,7 @@ pub fn excluded(finals: Finals, options: Options) -> Finals
 }
 
 /// Where the first is true, so is the second.
-pub(crate) fn implies(condition: bool, other: bool) -> bool
+pub fn implies(condition: bool, other: bool) -> bool
     ensures { result ≡ implies condition other }
 {
     !condition || other
@@ -83,7 +83,7 @@ pub(crate) fn within(set: &TaskSet, allowed: &TaskSet) -> bool
 }
 
 /// The task is one of the list.
-pub(crate) fn is_member(task: TaskId, tasks: &[TaskId]) -> bool
+pub fn is_member(task: TaskId, tasks: &[TaskId]) -> bool
     ensures { result ≡ mem task.0 (map task_number tasks.now) }
 {
     for other in tasks {

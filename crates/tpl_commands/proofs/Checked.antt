@@ -7,14 +7,16 @@ use Rattle.tpl_model.specs.declared.claim.Property.{Property}
 use Rattle.tpl_model.specs.declared.fault.CertFault.{CertFault}
 use Rattle.tpl_model.specs.Certificate.{Tree, Accepts}
 use Rattle.tpl_model.specs.Claims.{Claim}
-use Rattle.tpl_model.specs.WiderRules.{as_wide_tree}
-use Rattle.tpl_model.specs.declared.rule_set.RuleSet.TheVariants.{Narrow}
+use Rattle.tpl_model.specs.WiderRules.{WideTree, WidelyAccepts, as_wide_tree}
+use Rattle.tpl_model.specs.declared.rule_set.RuleSet.TheVariants.{Narrow, Wide}
 use Rattle.tpl_laws.specs.ByRules.{PlainIsRefused}
 use Rattle.tpl_laws.specs.Faults.{Branch, LeafFails, IsFirstFault, place}
 use Rattle.tpl_laws.specs.Verdict.{LeafFault, Breaks, ProvesNot}
 use Rattle.tpl_reader.specs.Document.{DocumentValue}
 use Rattle.tpl_commands.specs.Rules.{rules_of}
-use Rattle.tpl_commands.specs.Checking.{ClaimsHold, IsCheckOf, NamesTask}
+use Rattle.tpl_reader.specs.declared.document.Document.{Document}
+use Rattle.tpl_reader.specs.SeenDocument.{doc_of}
+use Rattle.tpl_commands.specs.Checking.{ClaimsHold, IsAccepted, IsRefused, IsCheckOf, NamesTask}
 
 leaf_names : (g : TaskGraph) (p : Property TaskId) (b : Branch) (why : LeafFault) (fault : CertFault) (claim leaf : ℕ) → LeafFails g p b why → fault ≡ place claim leaf why → NamesTask g fault
 leaf_names g p b (Breaks t rule) fault claim leaf fails at = subst (NamesTask g) (sym at) fails.0
@@ -36,3 +38,21 @@ is_plain_check refused doc plain (Err fault) rules trees accepts hold first = (
   },
   names_task false doc.graph.graph doc.claims plain fault first,
 )
+
+-- ---- the trees of a document, by its rules
+
+pub plain_trees : (d : Document) → rules_of (doc_of d) ≡ Narrow → (doc_of d).certificate ≡ map as_wide_tree d.certificate
+plain_trees d rules = rw rules refl
+
+pub wide_trees : (d : Document) → rules_of (doc_of d) ≡ Wide → (doc_of d).certificate ≡ d.wide
+wide_trees d rules = rw rules refl
+
+-- ---- trees that may speak of tokens and of winners
+
+pub accepted_with_tokens : (doc : DocumentValue) (trees : List WideTree) → rules_of doc ≡ Wide → doc.certificate ≡ trees → WidelyAccepts doc.graph.graph doc.claims trees → ClaimsHold doc → IsAccepted doc
+accepted_with_tokens doc trees rules same accepted hold = record { accepted = rw (rules, same) accepted; hold = hold }
+
+pub refused_with_tokens : (doc : DocumentValue) (trees : List WideTree) (fault : CertFault) → rules_of doc ≡ Wide → doc.certificate ≡ trees → IsFirstWideFault doc.graph.graph doc.claims trees fault
+    → (WidelyAccepts doc.graph.graph doc.claims trees → ⊥) → IsRefused doc fault × NamesTask doc.graph.graph fault
+refused_with_tokens doc trees fault rules same first not_accepted =
+    (record { first = rw (rules, same) first; not_accepted = rw (rules, same) not_accepted }, names_wide_task doc.graph.graph doc.claims trees fault first)

@@ -5,7 +5,7 @@ use Rattle.tpl_model.specs.declared.rule_set.RuleSet.{RuleSet}
 use Rattle.tpl_model.specs.Certificate.{Tree}
 use Rattle.tpl_model.specs.WiderRules.{as_wide_tree}
 use Rattle.tpl_laws.specs.ByRules.{AcceptsBy}
-use Rattle.tpl_cert.proofs.Limits.{read_within}
+use Rattle.tpl_cert.proofs.WithinLimits.{read_within}
 use Rattle.tpl_cert.specs.Heights.{IsWithinLimits}
 use Rattle.tpl_draft.specs.Named.{Names}
 use Rattle.tpl_reader.specs.declared.fault.ReadFault.{ReadFault}

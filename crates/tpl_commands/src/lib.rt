@@ -22,7 +22,7 @@ mod unreadable;
 pub use answer::{Answer, put, put_answer, put_out_of_memory};
 pub use ask::Ask;
 pub use auditing::{Audit, audit_answer};
-pub use checking::refused_answer;
+pub use checking::{check_document, refused_answer};
 pub use exit::Exit;
 pub use finding::{Finding, Found, answer_of, find};
 pub use listening::{Listen, Nobody};

@@ -17,7 +17,7 @@ use Rattle.tpl_cert.specs.Spelled.{spelled_tree, read_tree}
 use Rattle.tpl_cert.specs.WideHeights.{IsWithinWideLimits, is_within_limits}
 use Rattle.tpl_cert.specs.declared.fault.TreeFault.{TreeFault}
 use Rattle.tpl_cert.specs.declared.fault.TreeFault.TheVariants.{Limit}
-use Rattle.tpl_cert.proofs.Limits.{within_from, plain_within_from}
+use Rattle.tpl_cert.proofs.WithinLimits.{within_from, plain_within_from}
 use Rattle.tpl_reader.specs.Trees.{trees_in}
 
 numbered_ok : {A F : Type 0} (n : ℕ) (r : Result A F) (x : A) → at_number n r ≡ Ok x → r ≡ Ok x

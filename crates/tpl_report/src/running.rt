@@ -26,8 +26,9 @@ use std::alloc::Global;
 use std::io::Write;
 use std::sync::Wait;
 use std::thread::Threads;
-use tpl_checker::check;
-use tpl_commands::{Exit, put, put_answer, put_out_of_memory, refused_answer, rules_of};
+use tpl_commands::{
+    Exit, check_document, put, put_answer, put_out_of_memory, refused_answer,
+};
 use tpl_journal::Counting;
 use tpl_model::{Inputs, TokenId};
 use tpl_reader::Document;
@@ -119,15 +120,10 @@ fn check_and_run<R: Threads + Wait + Sync, K: Drop + Send, W: Item<K> + Send, O:
     ensures { Runs telling.entry (doc_of document.now) (Some inputs) crew.entry.workers
         (Prevents W.site W.may_fail items.items) O.contents to.old to.new result }
 {
-    let rules = rules_of(document);
-    match check(
-        &document.graph,
-        &document.claims,
-        &document.certificate,
-        rules,
-    ) {
-        Ok(()) => run_with(rt, alloc, telling, document, inputs, items, crew, to),
-        Err(fault) => put_answer(refused_answer(alloc, &document.graph, fault), to),
+    match check_document(alloc, document) {
+        Ok(Ok(())) => run_with(rt, alloc, telling, document, inputs, items, crew, to),
+        Ok(Err(fault)) => put_answer(refused_answer(alloc, &document.graph, fault), to),
+        Err(_) => put_out_of_memory(to),
     }
 }
 

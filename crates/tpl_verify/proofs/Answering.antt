@@ -6,7 +6,8 @@ use Rattle.std.proofs.lemmas.List.{length-reverse}
 use Rattle.json.specs.Lex.{tokens}
 use Rattle.json.specs.Print.{print}
 use Rattle.tpl_laws.specs.Runs.{IsBounded, PrefixIsRun}
-use Rattle.tpl_laws.specs.Soundness.{Each, Soundness}
+use Rattle.tpl_laws.specs.ByRules.{SoundByRules}
+use Rattle.tpl_laws.specs.Soundness.{Each}
 use Rattle.tpl_model.specs.declared.event.Event.{Event}
 use Rattle.tpl_model.specs.Claims.{Claim, Holds}
 use Rattle.tpl_graph.specs.Kept.{IsNamedGraph}
@@ -46,7 +47,7 @@ pub record Laws : Type 0 where
   pub spells : SpellsRun
   pub unambiguous : TextIsUnambiguous
   pub no_journal : FaultIsNoJournal
-  pub sound : Soundness
+  pub sound : SoundByRules
 
 pub is_journal : (laws : Laws) (n : Named) (claim : Claim) (inputs : List Bool) (events : List Event) → Refutes n.graph claim inputs events → IsJournal n (lines n.names events) events
 is_journal laws n claim inputs events refutes = record {
@@ -69,10 +70,10 @@ refuted laws asked doc number inputs events text named found is le printed =
       only = λ other also. laws.one text (refuted_by doc inputs events) other spelled also;
       journal = journal;
       audited = audited_so doc found.claim number inputs events found.numbered found.refutes named journal laws.prefix laws.unambiguous laws.no_journal text laws.one laws.faultless spelled;
-      unproved = λ wide certificate accepted.
+      unproved = λ rules certificate accepted.
           found.refutes.fails
           (fails_in (λ c. Holds doc.graph.graph c inputs (reverse events)) doc.claims found.numbered.0 found.claim found.numbered.2
-          (laws.sound wide doc.graph.graph doc.claims certificate named.graph accepted inputs (reverse events) found.refutes.run));
+          (laws.sound rules doc.graph.graph doc.claims certificate named.graph accepted inputs (reverse events) found.refutes.run));
       json = printed.0;
       compact = printed.1;
       ends = printed.2;

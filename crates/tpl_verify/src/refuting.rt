@@ -44,7 +44,7 @@ fn refutation<L: Listen>(
     fault_is_no_journal();
     tpl_laws::is_bounded();
     tpl_laws::prefix_is_run();
-    tpl_laws::soundness();
+    tpl_laws::sound_by_rules();
     let events = found.run.events.as_slice();
     let journal = journal_text(alloc, &document.graph, events)?;
     tell_run(alloc, found.number, journal.as_str(), listener)?;

@@ -9,8 +9,7 @@ ghost use Rattle.tpl_laws.specs.WiderTests.{if_known, wide_runs_by};
 ghost use Rattle.tpl_wide.specs.Leaf.{graph_of, assumed_in, rows_in, IsLeaf};
 
 use crate::leaf::Leaf;
-use crate::questions::implies;
-use tpl_checker::{allowed, parent, some_end};
+use tpl_checker::{allowed, implies, parent, some_end};
 use tpl_graph::{Graph, Role};
 use tpl_model::TaskId;
 use tpl_paths::TokenSet;

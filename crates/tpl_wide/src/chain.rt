@@ -13,8 +13,7 @@ ghost use Rattle.tpl_wide.specs.Leaf.{graph_of, assumed_in, rows_in, IsLeaf};
 
 use crate::both::both;
 use crate::leaf::Leaf;
-use crate::questions::{implies, is_member};
-use tpl_checker::{observes, reads, takes_over};
+use tpl_checker::{implies, is_member, observes, reads, takes_over};
 use tpl_graph::Role;
 use tpl_model::{Final, TaskId};
 

@@ -13,9 +13,8 @@ ghost use Rattle.tpl_wide.specs.Leaf.{graph_of, assumed_in, rows_in, IsLeaf};
 ghost use Rattle.tpl_wide.specs.Ways.{AreWays};
 
 use crate::leaf::Leaf;
-use crate::questions::implies;
 use crate::ways::Ways;
-use tpl_checker::{ends_only_in, some_end};
+use tpl_checker::{ends_only_in, implies, some_end};
 use tpl_graph::Role;
 use tpl_model::{Final, Finals, TaskId};
 

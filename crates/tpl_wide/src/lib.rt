@@ -15,7 +15,6 @@ mod narrowed;
 mod past;
 mod paths;
 mod property;
-mod questions;
 mod shape;
 mod tree;
 mod verdict;

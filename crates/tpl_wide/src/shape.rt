@@ -8,9 +8,8 @@ ghost use Rattle.tpl_laws.specs.Verdict.{rows_fit};
 ghost use Rattle.tpl_laws.specs.WideVerdict.{has_tokens, may_have_winner, tokens_fit, wide_fits, wide_misfit};
 
 use crate::both::both;
-use crate::questions::is_member;
 use tpl_cert::{WideNode, WideRow, WideTree};
-use tpl_checker::{all_tasks, row_fits};
+use tpl_checker::{all_tasks, is_member, row_fits};
 use tpl_graph::{Claim, Graph, Role};
 use tpl_model::{CertFault, TaskId, TokenId};
 use tpl_paths::TokenSet;

@@ -24,7 +24,7 @@ returns-in_err-row c =
 
 pub loop-row-preserved : goal.loop-row-preserved
 loop-row-preserved c =
-    let plain = All-get_or (λ r. IsPlainRow (row_of r)) c.args.rows.now c.loop-row.row-index c.row-item.result c.loop-row-test.true c.args.requires in
+    let plain = All-get_or (λ r. IsPlainRow (row_of r)) c.args.rows.now c.loop-row.row-index c.row-item.result c.loop-row-test.true c.requires in
     let r = c.in_ok-row.row in
     rw (c.in_ok-push.ensures.items, map_push bare c.loop-row.found.items r)
     (each_more (λ k r. wide_row_in c.args.graph.now.names r) row_of c.args.rows.now c.loop-row.row-index c.row-item.result (as_wide c.loop-row.found.items) (bare r) c.loop-row-test.true c.loop-row.invariant

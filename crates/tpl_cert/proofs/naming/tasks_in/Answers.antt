@@ -19,8 +19,8 @@ loop-name-preserved c =
     let is = c.loop-name.invariant.1 in (
       c.insert.ensures.set,
       collects_more c.args.graph.now.names.tasks _ _ (λ x. mem x c.loop-name.set) (λ x. mem x c.insert.new.self) c.in_ok-task.task.0 is
-      (each_more (λ n text. number_in c.args.graph.now.names.tasks text) (λ s. s.now) c.args.names.now c.loop-name.name-index _ is.numbers c.in_ok-task.task.0 c.loop-name-test.true is.named c.in_ok-task.ensures.yields)
-      c.insert.ensures.members,
+          (each_more (λ n text. number_in c.args.graph.now.names.tasks text) (λ s. s.now) c.args.names.now c.loop-name.name-index _ is.numbers c.in_ok-task.task.0 c.loop-name-test.true is.named c.in_ok-task.ensures.yields)
+          c.insert.ensures.members,
     )
 
 pub returns : goal.returns

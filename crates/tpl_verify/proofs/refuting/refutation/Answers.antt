@@ -51,7 +51,7 @@ returns g c =
       spells = c.spells_run.ensures;
       unambiguous = c.text_is_unambiguous.ensures;
       no_journal = c.fault_is_no_journal.ensures;
-      sound = c.soundness.ensures;
+      sound = c.sound_by_rules.ensures;
     } in
     let short : length text ≤ longest = let le = c.if-len-gt-LONGEST.false in omega (arith, c.len.ensures) in
     refuted laws c.args.search.claim doc c.args.found.number inputs events text c.valid_law.ensures c.requires.found is short c.in_ok-text.ensures.compact

@@ -79,13 +79,26 @@ plain_within_to t h = within_to (as_wide_tree t) (subst (λ (n : ℕ). n ≤ 6) 
 
 -- ---- what a test returned
 
-pub tested : (b : Bool) (t : WideTree) → IsTrue b ↔ IsWithinWideLimits t → b ≡ is_within_limits t
+tested : (b : Bool) (t : WideTree) → IsTrue b ↔ IsWithinWideLimits t → b ≡ is_within_limits t
 tested b t h = same_tests b (is_within_limits t) (λ e. within_to t (h.0 e)) (λ e. h.1 (within_from t e))
 
-pub plain_tested : (b : Bool) (t : Tree) → IsTrue b ↔ IsWithinLimits t → b ≡ is_within_limits (as_wide_tree t)
+plain_tested : (b : Bool) (t : Tree) → IsTrue b ↔ IsWithinLimits t → b ≡ is_within_limits (as_wide_tree t)
 plain_tested b t h = same_tests b (is_within_limits (as_wide_tree t)) (λ e. plain_within_to t (h.0 e)) (λ e. h.1 (plain_within_from t e))
 
 -- what is spelled within the limits is read
 pub read_within : (rules : RuleSet) (n : Names) (d : Data) (t : Tree) → spelled_tree rules n d ≡ Ok (as_wide_tree t) → IsWithinLimits t → read_tree rules n d ≡ Ok (as_wide_tree t)
 unfolding read_tree
 read_within rules n d t e within = rw (e, plain_within_to t within) refl
+
+-- what two tests returned, one after the other
+pub plain_then : (a b : Bool) (t : Tree) → IsTrue a ↔ (height t ≤ 6) → IsTrue b ↔ HasShortChains t → a ≡ true → b ≡ is_within_limits (as_wide_tree t)
+plain_then a b t low chains passed = plain_tested b t ((λ e. (low.0 passed, chains.0 e)), (λ w. chains.1 w.1))
+
+pub plain_else : (a : Bool) (t : Tree) → IsTrue a ↔ (height t ≤ 6) → a ≡ false → a ≡ is_within_limits (as_wide_tree t)
+plain_else a t low failed = failed ∙ plain_tested false t ((λ e. absurd cc), (λ w. sym failed ∙ low.1 w.0))
+
+pub wide_then : (a b : Bool) (t : WideTree) → IsTrue a ↔ (wide_height t ≤ 6) → IsTrue b ↔ HasShortWideChains t → a ≡ true → b ≡ is_within_limits t
+wide_then a b t low chains passed = tested b t ((λ e. (low.0 passed, chains.0 e)), (λ w. chains.1 w.1))
+
+pub wide_else : (a : Bool) (t : WideTree) → IsTrue a ↔ (wide_height t ≤ 6) → a ≡ false → a ≡ is_within_limits t
+wide_else a t low failed = failed ∙ tested false t ((λ e. absurd cc), (λ w. sym failed ∙ low.1 w.0))

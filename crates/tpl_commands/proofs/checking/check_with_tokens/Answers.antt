@@ -1,0 +1,6 @@
+use Rattle.tpl_reader.specs.SeenDocument.{doc_of}
+use Rattle.tpl_commands.proofs.Checked.{accepted_with_tokens, refused_with_tokens}
+use Rattle.tpl_commands.proofs.checking.check_with_tokens.Goals as goal
+
+pub check_wide-requires-clause-trees : goal.check_wide-requires-clause-trees
+check_wide-requires-clause-trees c = rw c.trees.ensures (λ k t lt. (c.limits_law.ensures k t lt).0)
