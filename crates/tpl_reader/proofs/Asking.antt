@@ -29,9 +29,9 @@ use Rattle.tpl_parts.specs.declared.version.Version.{Version}
 use Rattle.tpl_parts.specs.NamedClaims.{NamedGiven, GivenInput, GivenQuiet, GivenEnded, GivenSucceeds, GivenNoFailure, GivenNoRequest, NamedClaim}
 use Rattle.tpl_reader.specs.declared.fault.ClaimFault.{ClaimFault}
 use Rattle.tpl_reader.specs.declared.fault.ClaimFault.TheVariants as faults
-use Rattle.tpl_json.specs.Passes.{Yields}
+use Rattle.tpl_json.specs.Passes.{Yields, at_number}
 use Rattle.tpl_json.proofs.Passes.{bind_ok, bind_or, ok_is, each_every, all_every}
-use Rattle.tpl_reader.specs.Asked.{task_in, token_in, input_in, site_in, pair_in, given_in, property_in, is_no_failure, is_no_request, is_single, with_one, with_jobs, with_tokens, with_all_jobs, with_all, singles_in, says_twice, claim_in, has_name_of, claim_behind, at_number, claim_among, claims_in, most_claims, claims_for}
+use Rattle.tpl_reader.specs.Asked.{task_in, token_in, input_in, site_in, pair_in, given_in, property_in, is_no_failure, is_no_request, is_single, with_one, with_jobs, with_tokens, with_all_jobs, with_all, singles_in, says_twice, claim_in, has_name_of, claim_behind, claim_among, claims_in, most_claims, claims_for}
 
 -- ---- the ids that the names stand for are the graph's
 
@@ -222,9 +222,9 @@ among g view xs i c r is =
     let here : (i + 1) - 1 ≡ i = omega arith in
     ap (λ k. at_number (i + 1) (claim_behind g (take k (map view xs)) c)) here ∙ ap (λ bs. at_number (i + 1) (claim_behind g bs c)) (take-map view i xs) ∙ ap (at_number (i + 1)) is
 
-numbered_ok : (n : ℕ) (r : Result Claim ClaimFault) (c : Claim) → at_number n r ≡ Ok c → r ≡ Ok c
-numbered_ok n (Ok x) c e = cc
-numbered_ok n (Err fault) c e = absurd cc
+pub numbered_ok : {A F : Type 0} (n : ℕ) (r : Result A F) (x : A) → at_number n r ≡ Ok x → r ≡ Ok x
+numbered_ok n (Ok y) x e = cc
+numbered_ok n (Err fault) x e = absurd cc
 
 behind_fits : (g : Named) → IsNamedGraph g → (before : List NamedClaim) (s : NamedClaim) (c : Claim) → claim_behind g before s ≡ Ok c → Fits g.graph c
 unfolding claim_behind

@@ -1,5 +1,5 @@
 -- The trees of a certificate are within the limits.
-use Rattle.std.proofs.Common.{◌≡◌, ℕ, List, [], ◌∷◌, map, Ok, Result, Err, true, refl}
+use Rattle.std.proofs.Common.{◌≡◌, ℕ, List, [], ◌∷◌, map, Ok, true, refl}
 use Rattle.std.specs.List.{All}
 use Rattle.std.proofs.lemmas.List.Elements.{All-nil, All-cons, All-head, All-tail}
 use Rattle.serde_json.specs.Data.{Data}
@@ -19,10 +19,7 @@ use Rattle.tpl_cert.specs.declared.fault.TreeFault.{TreeFault}
 use Rattle.tpl_cert.specs.declared.fault.TreeFault.TheVariants.{Limit}
 use Rattle.tpl_cert.proofs.WithinLimits.{within_from, plain_within_from}
 use Rattle.tpl_reader.specs.Trees.{trees_in}
-
-numbered_ok : {A F : Type 0} (n : ℕ) (r : Result A F) (x : A) → at_number n r ≡ Ok x → r ≡ Ok x
-numbered_ok n (Ok y) x e = e
-numbered_ok n (Err fault) x e = absurd cc
+use Rattle.tpl_reader.proofs.Asking.{numbered_ok}
 
 -- a tree that was read passes the test
 passes : (rules : RuleSet) (names : Names) (d : Data) (t : WideTree) → read_tree rules names d ≡ Ok t → is_within_limits t ≡ true
