@@ -10,7 +10,7 @@ use Rattle.tpl_laws.proofs.WideLaw.{plain_wide}
 
 -- ---- trees without tokens are told apart
 
-without : WideTree → Tree
+abbrev without : WideTree → Tree
 without (OnInput i a b) = SplitInput i (without a) (without b)
 without (OnEnd t a b c) = SplitEnd t (without a) (without b) (without c)
 without (OnWinner n x a b) = without a
@@ -39,4 +39,4 @@ accepted_lem more Narrow g claims trees acc = (trees, refl, acc)
 accepted_lem more Wide g claims trees acc = more g claims trees acc
 
 pub refused_lem : PlainIsRefused
-refused_lem g claims trees no acc = no (subst (Accepts false g claims) (sym (same_plain trees acc.0 acc.1)) acc.2)
+refused_lem g claims trees refused acc = refused (subst (Accepts false g claims) (sym (same_plain trees acc.0 acc.1)) acc.2)

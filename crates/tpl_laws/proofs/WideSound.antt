@@ -134,10 +134,7 @@ module _ (g : TaskGraph) (p : Property TaskId) (v : List Bool) (h : List Event) 
       (λ e. of_branch (OnEnd t a b c) b (λ rows h. inr (inl h)) (some_leaf (end_split l t Canceled) b (takes_end l t Canceled e agrees) (bound_end l t Canceled e bound) acc.2))
       (λ e. of_branch (OnEnd t a b c) c (λ rows h. inr (inr h)) (some_leaf (end_split l t Faulted) c (takes_end l t Faulted e agrees) (bound_end l t Faulted e bound) acc.3))
     where
-      abbrev Found : Type 0
-      Found = AWideLeaf g p (OnEnd t a b c) v h
-
-      by_end : (f : Final) → destiny g v h t ≡ f → (destiny g v h t ≡ RanToCompletion → Found) → (destiny g v h t ≡ Canceled → Found) → (destiny g v h t ≡ Faulted → Found) → Found
+      by_end : {A : Type 0} (f : Final) → destiny g v h t ≡ f → (destiny g v h t ≡ RanToCompletion → A) → (destiny g v h t ≡ Canceled → A) → (destiny g v h t ≡ Faulted → A) → A
       by_end RanToCompletion e x y z = x e
       by_end Canceled e x y z = y e
       by_end Faulted e x y z = z e

@@ -1,5 +1,5 @@
 -- Certificates by the narrow rules or by the wide ones, whose trees may speak of tokens and of winners.
-use Rattle.std.specs.Prelude.{◌≡◌, ℕ, Bool, Err, List, [], ◌∷◌, map}
+use Rattle.std.specs.Prelude.{◌≡◌, Bool, false, Err, List, map}
 use Rattle.tpl_model.specs.Graph.{TaskGraph}
 use Rattle.tpl_model.specs.declared.event.Event.{Event}
 use Rattle.tpl_model.specs.declared.fault.CertFault.{CertFault}
