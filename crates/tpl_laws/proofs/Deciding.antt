@@ -42,6 +42,12 @@ both3 P Q R a b c p q r = (
   λ d. and_join a (b && c) (p.1 d.0) (and_join b c (q.1 d.1) (r.1 d.2)),
 )
 
+pub both4 : (P Q R S : Type 0) (a b c d : Bool) → Decides a P → Decides b Q → Decides c R → Decides d S → Decides (a && (b && (c && d))) (P × Q × R × S)
+both4 P Q R S a b c d p q r s = (
+  λ e. let x = and_parts a (b && (c && d)) e in let y = (both3 Q R S b c d q r s).0 x.1 in (p.0 x.0, y.0, y.1, y.2),
+  λ e. and_join a (b && (c && d)) (p.1 e.0) ((both3 Q R S b c d q r s).1 (e.1, e.2, e.3)),
+)
+
 pub either : (P Q : Type 0) (a b : Bool) → Decides a P → Decides b Q → Decides (a || b) (P ⊎ Q)
 either P Q a b p q = (
   λ e. elim (or_split a b e) [ inl x ↦ inl (p.0 x) | inr y ↦ inr (q.0 y) ],

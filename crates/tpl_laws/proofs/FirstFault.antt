@@ -1,26 +1,20 @@
--- The first fault is what it says.
-use Rattle.std.proofs.Common.{◌≡◌, ℕ, zero, suc, ◌+◌, ◌<◌, ◌≤◌, ◌⊎◌, inl, inr, ◌&&◌, ◌++◌, Bool, true, false, Option, Some, None, Err, List, [], ◌∷◌, refl, sym, ap, ◌∙◌, subst, arith, length, nat_eq, nat_lt, append_assoc, length-append}
+-- The first fault is what it says, whatever the rows and trees are.
+use Rattle.std.proofs.Common.{◌≡◌, ℕ, zero, suc, ◌+◌, ◌<◌, ◌≤◌, ◌⊎◌, inl, inr, ◌++◌, Bool, true, false, Option, Some, None, Err, List, [], ◌∷◌, refl, sym, ap, ◌∙◌, subst, arith, length}
 use Rattle.std.specs.Prelude.{Decides}
-use Rattle.std.proofs.lemmas.Bool.{cases_lt, and_parts, and_from}
+use Rattle.std.specs.List.{AllByRecursion}
+use Rattle.std.proofs.lemmas.Bool.{cases_lt}
 use Rattle.tpl_model.proofs.Truths.{true_false}
-use Rattle.tpl_model.specs.declared.finals.Final.TheVariants.{RanToCompletion, Canceled, Faulted}
-use Rattle.tpl_model.specs.Graph.{TaskGraph, TaskKind, Root, Child, Continues, WhenAll, WhenAny, kind}
-use Rattle.tpl_model.specs.Valid.{IsGraph}
+use Rattle.tpl_model.specs.Graph.{TaskGraph, TaskKind, Root, Child, Continues, WhenAll, WhenAny, is_task}
 use Rattle.tpl_model.specs.declared.ids.TaskId.{TaskId}
 use Rattle.tpl_model.specs.declared.claim.Property.{Property}
 use Rattle.tpl_model.specs.Claims.{Claim}
-use Rattle.tpl_model.specs.Certificate.{Row, Tree, SplitInput, SplitEnd, Leaf, Assumed, assumed_for, with_input, with_end, IsClosed, Closed, Proves, IdsOfRows}
-use Rattle.tpl_laws.specs.RowTests.{runs, ends, before, past, chain, proves}
 use Rattle.tpl_model.specs.declared.fault.Rule.{Rule}
 use Rattle.tpl_model.specs.declared.fault.Rule.TheVariants.{K1, K2, K3, K4, K5, K6}
 use Rattle.tpl_model.specs.declared.fault.CertFault.{CertFault}
-use Rattle.tpl_model.specs.declared.fault.CertFault.TheVariants.{Shape}
-use Rattle.tpl_laws.specs.Verdict.{or_else, unless, past_rule, broken, LeafFault, Breaks, ProvesNot, breaks, first_broken, leaf_fault, leaves, at_leaf, tree_fault, claims_fault, rows_fit, fits, misfit, no_fault}
-use Rattle.tpl_laws.specs.Faults.{Runs, Ends, Before, Past, Chain, BreaksRule, Branch, leaves_of, LeafFails, EachProves, place, LeavesFail, ClaimsFail, HasShape, HaveShape, FirstMisfits, Misfits, FaultIsFirst}
-use Rattle.tpl_laws.proofs.Deciding.{same, both}
-use Rattle.tpl_laws.proofs.RulesDecided.{runs_lem, ends_lem, before_lem, past_lem, chain_lem, proves_lem}
-use Rattle.tpl_laws.proofs.FaultsDecided.{none_first, from_chain, from_past, from_before, from_ends, broken_lem, first_lem, leaf_decided, clear_leaf, below_decided, rows_decided, no_unless, tree_accepted}
-use Rattle.tpl_laws.specs.PathLaws.{PathLaws}
+use Rattle.tpl_model.specs.declared.fault.CertFault.TheVariants.{Shape, NotClosed}
+use Rattle.tpl_laws.specs.Verdict.{or_else, unless, past_rule, LeafFault, Breaks, ProvesNot, breaks, at_leaf, no_fault}
+use Rattle.tpl_laws.specs.FirstFault.{RowRules, BreaksFirst, LeafRules, Passes, Fails, place, Certificates, LeavesFail, ClaimsFail, HaveShape, FirstMisfits, Misfits, IsFirst}
+use Rattle.tpl_laws.proofs.FaultsDecided.{Clears, no_unless}
 
 some_unless : {A : Type 0} (b : Bool) (x y : A) (o : Option A) → unless b x o ≡ Some y → ((b ≡ false) × (x ≡ y)) ⊎ ((b ≡ true) × (o ≡ Some y))
 some_unless true x y o e = inr (refl, e)
@@ -30,203 +24,243 @@ some_or_else : {A : Type 0} (a b : Option A) (y : A) → or_else a b ≡ Some y 
 some_or_else None b y e = inr (refl, e)
 some_or_else (Some x) b y e = inl e
 
+none_or_else : {A : Type 0} (a b : Option A) → or_else a b ≡ None → (a ≡ None) × (b ≡ None)
+none_or_else None b e = (refl, e)
+none_or_else (Some x) b e = absurd (cc)
+
+none_some : {A : Type 0} (x : A) → None ≡ Some x → ⊥
+none_some x e = absurd (cc)
+
 fails : (P : Type 0) (b : Bool) → Decides b P → b ≡ false → P → ⊥
 fails P b d e p = true_false (sym (d.1 p) ∙ e)
 
--- a rule
-past_rule_is : (k : TaskKind) → (past_rule k ≡ K4) ⊎ (past_rule k ≡ K5)
+-- a row: the first test that fails is that of the first rule which is broken
+pub past_rule_is : (k : TaskKind) → (past_rule k ≡ K4) ⊎ (past_rule k ≡ K5)
 past_rule_is Root = inl refl
 past_rule_is Child = inl refl
 past_rule_is (Continues a) = inl refl
 past_rule_is (WhenAll args) = inr refl
 past_rule_is (WhenAny args) = inr refl
 
--- leaves
-pub each_joined : (g : TaskGraph) (p : Property TaskId) (xs ys : List Branch) → EachProves g p xs → EachProves g p ys → EachProves g p (xs ++ ys)
-each_joined g p [] ys a b = b
-each_joined g p (x ∷ xs) ys a b = (a.0, each_joined g p xs ys a.1 b)
-
-module _ (paths : PathLaws) where
-  broken_breaks : (g : TaskGraph) (l : Assumed) (rows : List Row) (t : ℕ) (r : Rule) → IsGraph g → broken g l rows t ≡ Some r → BreaksRule g l rows t r
-  broken_breaks g l rows t r valid e =
-      elim (some_unless (runs g l rows t) K1 r (from_ends g l rows t) e) [
-        | inl q ↦ subst (BreaksRule g l rows t) q.1 (fails (Runs g l rows t) (runs g l rows t) (runs_lem paths g l rows t valid) q.0)
-        | inr q ↦ let k1 : Runs g l rows t = (runs_lem paths g l rows t valid).0 q.0 in elim (some_unless (ends g l rows t) K2 r (from_before g l rows t) q.1) [
-          | inl u ↦ subst (BreaksRule g l rows t) u.1 (k1, fails (Ends g l rows t) (ends g l rows t) (ends_lem paths g l rows t) u.0)
-          | inr u ↦ let k2 : Ends g l rows t = (ends_lem paths g l rows t).0 u.0 in elim (some_unless (before g rows t) K3 r (from_past g l rows t) u.1) [
-            | inl w ↦ subst (BreaksRule g l rows t) w.1 (k1, k2, fails (Before g l rows t) (before g rows t) (before_lem paths g rows t valid) w.0)
-            | inr w ↦ let k3 : Before g l rows t = (before_lem paths g rows t valid).0 w.0 in elim (some_unless (past g l rows t) (past_rule (kind g t)) r (from_chain g l rows t) w.1) [
-              | inl y ↦ let no : Past g l rows t → ⊥ = fails (Past g l rows t) (past g l rows t) (past_lem paths g l rows t valid) y.0 in elim (past_rule_is (kind g t)) [
-                | inl k ↦ subst (BreaksRule g l rows t) (sym k ∙ y.1) (k1, k2, k3, no, k)
-                | inr k ↦ subst (BreaksRule g l rows t) (sym k ∙ y.1) (k1, k2, k3, no, k)
-              ]
-              | inr y ↦ let k4 : Past g l rows t = (past_lem paths g l rows t valid).0 y.0 in elim (some_unless (chain g l rows t) K6 r None y.1) [
-                | inl z ↦ subst (BreaksRule g l rows t) z.1 (k1, k2, k3, k4, fails (Chain g l rows t) (chain g l rows t) (chain_lem paths g l rows t) z.0)
-                | inr z ↦ absurd (none_some r z.1)
-              ]
+pub breaks_first : (r : RowRules) (a b c d e : Bool) → Decides a r.runs → Decides b r.ends → Decides c r.before → Decides d r.past → Decides e r.chain → (r.past_rule ≡ K4) ⊎ (r.past_rule ≡ K5)
+    → (rule : Rule) → unless a K1 (unless b K2 (unless c K3 (unless d r.past_rule (unless e K6 None)))) ≡ Some rule → BreaksFirst r rule
+breaks_first r a b c d e runs ends before past chain past_is rule is =
+    elim (some_unless a K1 rule (unless b K2 (unless c K3 (unless d r.past_rule (unless e K6 None)))) is) [
+      | inl q ↦ subst (BreaksFirst r) q.1 (fails r.runs a runs q.0)
+      | inr q ↦ let k1 : r.runs = runs.0 q.0 in elim (some_unless b K2 rule (unless c K3 (unless d r.past_rule (unless e K6 None))) q.1) [
+        | inl u ↦ subst (BreaksFirst r) u.1 (k1, fails r.ends b ends u.0)
+        | inr u ↦ let k2 : r.ends = ends.0 u.0 in elim (some_unless c K3 rule (unless d r.past_rule (unless e K6 None)) u.1) [
+          | inl w ↦ subst (BreaksFirst r) w.1 (k1, k2, fails r.before c before w.0)
+          | inr w ↦ let k3 : r.before = before.0 w.0 in elim (some_unless d r.past_rule rule (unless e K6 None) w.1) [
+            | inl y ↦ let no : r.past → ⊥ = fails r.past d past y.0 in elim past_is [
+              | inl k ↦ subst (BreaksFirst r) (sym k ∙ y.1) (k1, k2, k3, no, k)
+              | inr k ↦ subst (BreaksFirst r) (sym k ∙ y.1) (k1, k2, k3, no, k)
+            ]
+            | inr y ↦ let k4 : r.past = past.0 y.0 in elim (some_unless e K6 rule None y.1) [
+              | inl z ↦ subst (BreaksFirst r) z.1 (k1, k2, k3, k4, fails r.chain e chain z.0)
+              | inr z ↦ absurd (none_some rule z.1)
             ]
           ]
         ]
       ]
-    where
-      none_some : (x : Rule) → None ≡ Some x → ⊥
-      none_some x q = absurd (cc)
+    ]
 
-  -- a leaf
-  record FirstBreaks (g : TaskGraph) (l : Assumed) (rows : List Row) (t n : ℕ) (f : LeafFault) : Type 0 where
+some_breaks : (t : ℕ) (o : Option Rule) (f : LeafFault) → breaks t o ≡ Some f → (r : Rule) × (o ≡ Some r) × (Breaks t r ≡ f)
+some_breaks t None f e = absurd (cc)
+some_breaks t (Some r) f e = (r, refl, cc)
+
+none_breaks : (t : ℕ) (o : Option Rule) → breaks t o ≡ None → o ≡ None
+none_breaks t None e = refl
+none_breaks t (Some r) e = absurd (cc)
+
+-- tests of a leaf: which rule a row breaks first, which row, of n from t on, is the first that breaks one, and whether
+-- the claim is proved
+pub record LeafTests (g : TaskGraph) (r : LeafRules) : Type 0 where
+  pub broken : ℕ → Option Rule
+  pub closed : (t : ℕ) → Clears (broken t) (r.IsClosed t)
+  pub is_broken : (t : ℕ) (rule : Rule) → broken t ≡ Some rule → r.BreaksRule t rule
+  pub first : ℕ → ℕ → Option LeafFault
+  pub first_of_none : (t : ℕ) → first t zero ≡ None
+  pub first_of_more : (t n : ℕ) → first t (suc n) ≡ or_else (breaks t (broken t)) (first (suc t) n)
+  pub proves : Bool
+  pub proved : Decides proves r.Proves
+
+-- the first fault of the leaf
+abbrev pub tested : (g : TaskGraph) (r : LeafRules) → LeafTests g r → Option LeafFault
+tested g r tests = or_else (tests.first 0 (length g.tasks)) (unless tests.proves ProvesNot None)
+
+module _ (g : TaskGraph) (r : LeafRules) (tests : LeafTests g r) where
+  all_closed : (t n : ℕ) → tests.first t n ≡ None → (x : ℕ) → t ≤ x → x < t + n → r.IsClosed x
+  all_closed t zero e x a b = absurd (omega arith)
+  all_closed t (suc n) e x a b =
+      let q = none_or_else (breaks t (tests.broken t)) (tests.first (suc t) n) (sym (tests.first_of_more t n) ∙ e) in
+      elim (cases_lt t x) [
+        | inl lt ↦ all_closed (suc t) n q.1 x (omega arith) (omega arith)
+        | inr ge ↦ let same : t ≡ x = omega arith in subst r.IsClosed same ((tests.closed t).0 (none_breaks t (tests.broken t) q.0))
+      ]
+
+  is_closed : tests.first 0 (length g.tasks) ≡ None → (t : ℕ) → is_task g t → r.IsClosed t
+  is_closed e t a = all_closed 0 (length g.tasks) e t (omega arith) (omega arith)
+
+  record FirstBreaks (t n : ℕ) (f : LeafFault) : Type 0 where
     pub number : ℕ
     pub rule : Rule
     pub is : Breaks number rule ≡ f
     pub from : t ≤ number
     pub to : number < t + n
-    pub earlier : (x : ℕ) → t ≤ x → x < number → IsClosed g l rows x
-    pub breaks : BreaksRule g l rows number rule
+    pub earlier : (x : ℕ) → t ≤ x → x < number → r.IsClosed x
+    pub breaks : r.BreaksRule number rule
 
-  some_breaks : (t : ℕ) (o : Option Rule) (f : LeafFault) → breaks t o ≡ Some f → (r : Rule) × (o ≡ Some r) × (Breaks t r ≡ f)
-  some_breaks t None f e = absurd (cc)
-  some_breaks t (Some r) f e = (r, refl, cc)
-
-  none_breaks : (t : ℕ) (o : Option Rule) → breaks t o ≡ None → o ≡ None
-  none_breaks t None e = refl
-  none_breaks t (Some r) e = absurd (cc)
-
-  first_breaks : (g : TaskGraph) (l : Assumed) (rows : List Row) → IsGraph g → (t n : ℕ) (f : LeafFault) → first_broken g l rows t n ≡ Some f → FirstBreaks g l rows t n f
-  first_breaks g l rows valid t zero f e = absurd (cc)
-  first_breaks g l rows valid t (suc n) f e =
-      elim (some_or_else (breaks t (broken g l rows t)) (first_broken g l rows (suc t) n) f e) [
+  first_breaks : (t n : ℕ) (f : LeafFault) → tests.first t n ≡ Some f → FirstBreaks t n f
+  first_breaks t zero f e = absurd (none_some f (sym (tests.first_of_none t) ∙ e))
+  first_breaks t (suc n) f e =
+      elim (some_or_else (breaks t (tests.broken t)) (tests.first (suc t) n) f (sym (tests.first_of_more t n) ∙ e)) [
         | inl q ↦
-            let s = some_breaks t (broken g l rows t) f q in
-            record { number = t; rule = s.0; is = s.2; from = omega arith; to = omega arith; earlier = λ x a b. absurd (omega arith); breaks = broken_breaks g l rows t s.0 valid s.1 }
+            let s = some_breaks t (tests.broken t) f q in
+            record { number = t; rule = s.0; is = s.2; from = omega arith; to = omega arith; earlier = λ x a b. absurd (omega arith); breaks = tests.is_broken t s.0 s.1 }
         | inr q ↦
-            let c : IsClosed g l rows t = (broken_lem paths g l rows t valid).0 (none_breaks t (broken g l rows t) q.0) in
-            let r = first_breaks g l rows valid (suc t) n f q.1 in
+            let c : r.IsClosed t = (tests.closed t).0 (none_breaks t (tests.broken t) q.0) in
+            let s = first_breaks (suc t) n f q.1 in
             record {
-              number = r.number;
-              rule = r.rule;
-              is = r.is;
-              from = let a : suc t ≤ r.number = r.from in omega arith;
-              to = let a : r.number < suc t + n = r.to in omega arith;
-              earlier = λ x a b. elim (cases_lt t x) [ inl lt ↦ r.earlier x (omega arith) b | inr ge ↦ let z : t ≡ x = omega arith in subst (λ y. IsClosed g l rows y) z c ];
-              breaks = r.breaks;
+              number = s.number;
+              rule = s.rule;
+              is = s.is;
+              from = let a : suc t ≤ s.number = s.from in omega arith;
+              to = let a : s.number < suc t + n = s.to in omega arith;
+              earlier = λ x a b. elim (cases_lt t x) [ inl lt ↦ s.earlier x (omega arith) b | inr ge ↦ let z : t ≡ x = omega arith in subst r.IsClosed z c ];
+              breaks = s.breaks;
             }
       ]
 
-  leaf_fails : (g : TaskGraph) (p : Property TaskId) (l : Assumed) (rows : List Row) (f : LeafFault) → IsGraph g → leaf_fault g p l rows ≡ Some f → LeafFails g p (record { assumes = l; rows = rows }) f
-  leaf_fails g p l rows f valid e =
-      elim (some_or_else (first_broken g l rows 0 (length g.tasks)) (unless (proves g l rows p) ProvesNot None) f e) [
+  leaf_fails : (f : LeafFault) → tested g r tests ≡ Some f → Fails g r f
+  leaf_fails f e =
+      elim (some_or_else (tests.first 0 (length g.tasks)) (unless tests.proves ProvesNot None) f e) [
         | inl q ↦
-            let r = first_breaks g l rows valid 0 (length g.tasks) f q in
-            let a : r.number < 0 + length g.tasks = r.to in
-            subst (LeafFails g p (record { assumes = l; rows = rows })) r.is (omega arith, (λ x b. r.earlier x (omega arith) b), r.breaks)
-        | inr q ↦ elim (some_unless (proves g l rows p) ProvesNot f None q.1) [
-          | inl u ↦ subst (LeafFails g p (record { assumes = l; rows = rows })) u.1 ((first_lem paths g l rows valid).0 q.0, fails (Proves g l rows p) (proves g l rows p) (proves_lem paths g l rows p) u.0)
+            let s = first_breaks 0 (length g.tasks) f q in
+            let a : s.number < 0 + length g.tasks = s.to in
+            subst (Fails g r) s.is (omega arith, (λ x b. s.earlier x (omega arith) b), s.breaks)
+        | inr q ↦ elim (some_unless tests.proves ProvesNot f None q.1) [
+          | inl u ↦ subst (Fails g r) u.1 (is_closed q.0, fails r.Proves tests.proves tests.proved u.0)
           | inr u ↦ absurd (none_some f u.1)
         ]
       ]
-    where
-      none_some : (x : LeafFault) → None ≡ Some x → ⊥
-      none_some x q = absurd (cc)
 
-  -- a tree
-  count_leaves : (l : Assumed) (tree : Tree) → length (leaves_of l tree) ≡ leaves tree
-  count_leaves l (SplitInput i a b) =
-      let x = count_leaves (with_input l i true) a in
-      let y = count_leaves (with_input l i false) b in
-      let z = length-append (leaves_of (with_input l i true) a) (leaves_of (with_input l i false) b) in
-      omega (arith, x, y, z)
-  count_leaves l (SplitEnd t a b c) =
-      let x = count_leaves (with_end l t RanToCompletion) a in
-      let y = count_leaves (with_end l t Canceled) b in
-      let w = count_leaves (with_end l t Faulted) c in
-      let z = length-append (leaves_of (with_end l t RanToCompletion) a) (leaves_of (with_end l t Canceled) b ++ leaves_of (with_end l t Faulted) c) in
-      let v = length-append (leaves_of (with_end l t Canceled) b) (leaves_of (with_end l t Faulted) c) in
-      omega (arith, x, y, z, w, v)
-  count_leaves l (Leaf rows) = refl
+  leaf_passes : tested g r tests ≡ None → Passes g r
+  leaf_passes e =
+      let q = none_or_else (tests.first 0 (length g.tasks)) (unless tests.proves ProvesNot None) e in
+      (is_closed q.0, tests.proved.0 (no_unless tests.proves ProvesNot None q.1).0)
 
-  fails_left : (g : TaskGraph) (p : Property TaskId) (c n : ℕ) (xs ys : List Branch) (fault : CertFault) → LeavesFail g p c n xs fault → LeavesFail g p c n (xs ++ ys) fault
-  fails_left g p c n xs ys fault f = record {
-    earlier = f.earlier;
-    branch = f.branch;
-    later = f.later ++ ys;
-    list = ap (λ z. z ++ ys) f.list ∙ append_assoc f.earlier (f.branch ∷ f.later) ys;
-    passed = f.passed;
-    why = f.why;
-    fails = f.fails;
-    at = f.at;
-  }
+-- the leaves of a tree, one after another
+abbrev pub leaves_fault : {B : Type 0} → (B → Option LeafFault) → ℕ → ℕ → List B → Option CertFault
+leaves_fault fault c n [] = None
+leaves_fault fault c n (b ∷ bs) = or_else (at_leaf c n (fault b)) (leaves_fault fault c (suc n) bs)
 
-  fails_right : (g : TaskGraph) (p : Property TaskId) (c n m : ℕ) (xs ys : List Branch) (fault : CertFault) → EachProves g p xs → m ≡ n + length xs → LeavesFail g p c m ys fault → LeavesFail g p c n (xs ++ ys) fault
-  fails_right g p c n m xs ys fault each number f =
-      let z = length-append xs f.earlier in
-      let same_place : m + length f.earlier ≡ n + length (xs ++ f.earlier) = omega (arith, number, z) in
-      record {
-        earlier = xs ++ f.earlier;
-        branch = f.branch;
-        later = f.later;
-        list = ap (λ w. xs ++ w) f.list ∙ sym (append_assoc xs f.earlier (f.branch ∷ f.later));
-        passed = each_joined g p xs f.earlier each f.passed;
-        why = f.why;
-        fails = f.fails;
-        at = f.at ∙ ap (λ w. place c w f.why) same_place;
-      }
+or_else_joined : {A : Type 0} (x y z : Option A) → or_else (or_else x y) z ≡ or_else x (or_else y z)
+or_else_joined None y z = refl
+or_else_joined (Some x) y z = refl
 
-  tree_clear : (g : TaskGraph) (p : Property TaskId) (c : ℕ) → IsGraph g → (l : Assumed) (n : ℕ) (tree : Tree) → tree_fault g p c l n tree ≡ None → EachProves g p (leaves_of l tree)
-  tree_clear g p c valid l n (SplitInput i a b) e =
-      let q = none_first paths (tree_fault g p c (with_input l i true) n a) (tree_fault g p c (with_input l i false) (n + leaves a) b) e in
-      each_joined g p (leaves_of (with_input l i true) a) (leaves_of (with_input l i false) b) (tree_clear g p c valid (with_input l i true) n a q.0) (tree_clear g p c valid (with_input l i false) (n + leaves a) b q.1)
-  tree_clear g p c valid l n (SplitEnd t a b d) e =
-      let q = none_first paths (tree_fault g p c (with_end l t RanToCompletion) n a) (or_else (tree_fault g p c (with_end l t Canceled) (n + leaves a) b) (tree_fault g p c (with_end l t Faulted) (n + leaves a + leaves b) d)) e in
-      let w = none_first paths (tree_fault g p c (with_end l t Canceled) (n + leaves a) b) (tree_fault g p c (with_end l t Faulted) (n + leaves a + leaves b) d) q.1 in
-      each_joined g p (leaves_of (with_end l t RanToCompletion) a) (leaves_of (with_end l t Canceled) b ++ leaves_of (with_end l t Faulted) d) (tree_clear g p c valid (with_end l t RanToCompletion) n a q.0)
-      (each_joined g p (leaves_of (with_end l t Canceled) b) (leaves_of (with_end l t Faulted) d) (tree_clear g p c valid (with_end l t Canceled) (n + leaves a) b w.0) (tree_clear g p c valid (with_end l t Faulted) (n + leaves a + leaves b) d w.1))
-  tree_clear g p c valid l n (Leaf rows) e =
-      let q = (clear_leaf paths c n (Closed g l rows × (Proves g l rows p × Unit {0})) (leaf_fault g p l rows) (leaf_decided paths g p l rows valid)).0 e in
-      ((q.0, q.1.0), tt)
+leaves_joined : {B : Type 0} (fault : B → Option LeafFault) (c n m : ℕ) (xs ys : List B) → m ≡ n + length xs → leaves_fault fault c n (xs ++ ys) ≡ or_else (leaves_fault fault c n xs) (leaves_fault fault c m ys)
+leaves_joined fault c n m [] ys number = let same : n ≡ m = omega (arith, number) in ap (λ z. leaves_fault fault c z ys) same
+leaves_joined fault c n m (x ∷ xs) ys number =
+    ap (or_else (at_leaf c n (fault x))) (leaves_joined fault c (suc n) m xs ys (omega (arith, number)))
+    ∙ sym (or_else_joined (at_leaf c n (fault x)) (leaves_fault fault c (suc n) xs) (leaves_fault fault c m ys))
 
-  some_leaf : (c n : ℕ) (o : Option LeafFault) (fault : CertFault) → at_leaf c n o ≡ Some fault → (f : LeafFault) × (o ≡ Some f) × (place c n f ≡ fault)
-  some_leaf c n None fault e = absurd (cc)
-  some_leaf c n (Some (Breaks t r)) fault e = (Breaks t r, refl, cc)
-  some_leaf c n (Some ProvesNot) fault e = (ProvesNot, refl, cc)
+-- what two parts of a tree give, their leaves give together
+pub parts_joined : {B : Type 0} (fault : B → Option LeafFault) (c n m : ℕ) (xs ys : List B) (x y : Option CertFault) → m ≡ n + length xs → x ≡ leaves_fault fault c n xs → y ≡ leaves_fault fault c m ys → or_else x y ≡ leaves_fault fault c n (xs ++ ys)
+parts_joined fault c n m xs ys x y number e f = ap (λ z. or_else z y) e ∙ ap (or_else (leaves_fault fault c n xs)) f ∙ sym (leaves_joined fault c n m xs ys number)
 
-  tree_fails : (g : TaskGraph) (p : Property TaskId) (c : ℕ) → IsGraph g → (l : Assumed) (n : ℕ) (tree : Tree) (fault : CertFault) → tree_fault g p c l n tree ≡ Some fault → LeavesFail g p c n (leaves_of l tree) fault
-  tree_fails g p c valid l n (SplitInput i a b) fault e =
-      elim (some_or_else (tree_fault g p c (with_input l i true) n a) (tree_fault g p c (with_input l i false) (n + leaves a) b) fault e) [
-        | inl q ↦ fails_left g p c n (leaves_of (with_input l i true) a) (leaves_of (with_input l i false) b) fault (tree_fails g p c valid (with_input l i true) n a fault q)
-        | inr q ↦ fails_right g p c n (n + leaves a) (leaves_of (with_input l i true) a) (leaves_of (with_input l i false) b) fault (tree_clear g p c valid (with_input l i true) n a q.0) (ap (λ z. n + z) (sym (count_leaves (with_input l i true) a))) (tree_fails g p c valid (with_input l i false) (n + leaves a) b fault q.1)
-      ]
-  tree_fails g p c valid l n (SplitEnd t a b d) fault e =
-      elim (some_or_else (tree_fault g p c (with_end l t RanToCompletion) n a) (or_else (tree_fault g p c (with_end l t Canceled) (n + leaves a) b) (tree_fault g p c (with_end l t Faulted) (n + leaves a + leaves b) d)) fault e) [
-        | inl q ↦ fails_left g p c n (leaves_of (with_end l t RanToCompletion) a) (leaves_of (with_end l t Canceled) b ++ leaves_of (with_end l t Faulted) d) fault (tree_fails g p c valid (with_end l t RanToCompletion) n a fault q)
-        | inr q ↦
-            fails_right g p c n (n + leaves a) (leaves_of (with_end l t RanToCompletion) a) (leaves_of (with_end l t Canceled) b ++ leaves_of (with_end l t Faulted) d) fault (tree_clear g p c valid (with_end l t RanToCompletion) n a q.0) (ap (λ z. n + z) (sym (count_leaves (with_end l t RanToCompletion) a)))
-            (elim (some_or_else (tree_fault g p c (with_end l t Canceled) (n + leaves a) b) (tree_fault g p c (with_end l t Faulted) (n + leaves a + leaves b) d) fault q.1) [
-              | inl u ↦ fails_left g p c (n + leaves a) (leaves_of (with_end l t Canceled) b) (leaves_of (with_end l t Faulted) d) fault (tree_fails g p c valid (with_end l t Canceled) (n + leaves a) b fault u)
-              | inr u ↦ fails_right g p c (n + leaves a) (n + leaves a + leaves b) (leaves_of (with_end l t Canceled) b) (leaves_of (with_end l t Faulted) d) fault (tree_clear g p c valid (with_end l t Canceled) (n + leaves a) b u.0) (ap (λ z. n + leaves a + z) (sym (count_leaves (with_end l t Canceled) b))) (tree_fails g p c valid (with_end l t Faulted) (n + leaves a + leaves b) d fault u.1)
-            ])
-      ]
-  tree_fails g p c valid l n (Leaf rows) fault e =
-      let s = some_leaf c n (leaf_fault g p l rows) fault e in
-      let same_place : n ≡ n + 0 = omega arith in
-      record {
-        earlier = [];
-        branch = record { assumes = l; rows = rows };
-        later = [];
-        list = refl;
-        passed = tt;
-        why = s.0;
-        fails = leaf_fails g p l rows s.0 valid s.1;
-        at = sym s.2 ∙ ap (λ w. place c w s.0) same_place;
-      }
+pub one_leaf : {B : Type 0} (fault : B → Option LeafFault) (c n : ℕ) (b : B) → at_leaf c n (fault b) ≡ leaves_fault fault c n (b ∷ [])
+one_leaf fault c n b = at_last (at_leaf c n (fault b))
+  where
+    at_last : (o : Option CertFault) → o ≡ or_else o None
+    at_last None = refl
+    at_last (Some x) = refl
 
-  -- the claims
-  claims_fail : (wide : Bool) (g : TaskGraph) → IsGraph g → (n m : ℕ) (claims : List Claim) (trees : List Tree) (fault : CertFault) → misfit g n claims trees ≡ None → claims_fault wide g m claims trees ≡ Some fault → ClaimsFail wide g m claims trees fault
-  claims_fail wide g valid n m [] trees fault f e = absurd (cc)
-  claims_fail wide g valid n m (claim ∷ claims) [] fault f e = absurd (cc)
-  claims_fail wide g valid n m (claim ∷ claims) (tree ∷ trees) fault f e =
-      let s = no_unless (fits g tree) (Shape n) (misfit g (suc n) claims trees) f in
-      elim (some_or_else (tree_fault g claim.body m (assumed_for wide g claim) 1 tree) (claims_fault wide g (suc m) claims trees) fault e) [
+some_leaf : (c n : ℕ) (o : Option LeafFault) (fault : CertFault) → at_leaf c n o ≡ Some fault → (f : LeafFault) × (o ≡ Some f) × (place c n f ≡ fault)
+some_leaf c n None fault e = absurd (cc)
+some_leaf c n (Some (Breaks t r)) fault e = (Breaks t r, refl, cc)
+some_leaf c n (Some ProvesNot) fault e = (ProvesNot, refl, cc)
+
+none_leaf : (c n : ℕ) (o : Option LeafFault) → at_leaf c n o ≡ None → o ≡ None
+none_leaf c n None e = refl
+none_leaf c n (Some (Breaks t r)) e = absurd (cc)
+none_leaf c n (Some ProvesNot) e = absurd (cc)
+
+module _ {B : Type 0} (g : TaskGraph) (rules : B → LeafRules) (tests : (b : B) → LeafTests g (rules b)) (c : ℕ) where
+  abbrev fault : B → Option LeafFault
+  fault b = tested g (rules b) (tests b)
+
+  each_passes : (n : ℕ) (bs : List B) → leaves_fault fault c n bs ≡ None → AllByRecursion (λ b. Passes g (rules b)) bs
+  each_passes n [] e = tt
+  each_passes n (b ∷ bs) e =
+      let q = none_or_else (at_leaf c n (fault b)) (leaves_fault fault c (suc n) bs) e in
+      (leaf_passes g (rules b) (tests b) (none_leaf c n (fault b) q.0), each_passes (suc n) bs q.1)
+
+  one_fails : (n : ℕ) (bs : List B) (f : CertFault) → leaves_fault fault c n bs ≡ Some f → LeavesFail g rules c n bs f
+  one_fails n [] f e = absurd (none_some f e)
+  one_fails n (b ∷ bs) f e =
+      elim (some_or_else (at_leaf c n (fault b)) (leaves_fault fault c (suc n) bs) f e) [
         | inl q ↦
-            let number : m ≡ m + 0 = omega arith in
+            let s = some_leaf c n (fault b) f q in
+            let number : n ≡ n + 0 = omega arith in
+            record {
+              earlier = [];
+              branch = b;
+              later = bs;
+              list = refl;
+              passed = tt;
+              why = s.0;
+              fails = leaf_fails g (rules b) (tests b) s.0 s.1;
+              at = sym s.2 ∙ ap (λ z. place c z s.0) number;
+            }
+        | inr q ↦
+            let r = one_fails (suc n) bs f q.1 in
+            let number : suc n + length r.earlier ≡ n + suc (length r.earlier) = omega arith in
+            record {
+              earlier = b ∷ r.earlier;
+              branch = r.branch;
+              later = r.later;
+              list = ap (λ z. b ∷ z) r.list;
+              passed = (leaf_passes g (rules b) (tests b) (none_leaf c n (fault b) q.0), r.passed);
+              why = r.why;
+              fails = r.fails;
+              at = r.at ∙ ap (λ z. place c z r.why) number;
+            }
+      ]
+
+-- tests of certificates: of shapes and of leaves, which claim from the n-th on has no tree of its shape, which fault a
+-- tree has, and which the claims have
+pub record Tests (g : TaskGraph) (c : Certificates) : Type 0 where
+  pub fits : c.Tree → Bool
+  pub shaped : (tree : c.Tree) → Decides (fits tree) (c.HasShape tree)
+  pub misfit : ℕ → List Claim → List c.Tree → Option CertFault
+  pub misfit_of_none : (n : ℕ) → misfit n [] [] ≡ None
+  pub misfit_of_tree : (n : ℕ) (tree : c.Tree) (trees : List c.Tree) → misfit n [] (tree ∷ trees) ≡ Some (Shape n)
+  pub misfit_of_claim : (n : ℕ) (claim : Claim) (claims : List Claim) → misfit n (claim ∷ claims) [] ≡ Some (Shape n)
+  pub misfit_of_both : (n : ℕ) (claim : Claim) (claims : List Claim) (tree : c.Tree) (trees : List c.Tree) → misfit n (claim ∷ claims) (tree ∷ trees) ≡ unless (fits tree) (Shape n) (misfit (suc n) claims trees)
+  pub leaf : (p : Property TaskId) (b : c.Branch) → LeafTests g (c.rules p b)
+  pub tree : ℕ → Claim → c.Tree → Option CertFault
+  pub tree_is : (n : ℕ) (claim : Claim) (t : c.Tree) → tree n claim t ≡ leaves_fault (λ b. tested g (c.rules claim.body b) (leaf claim.body b)) n 1 (c.leaves_for claim t)
+  pub claims : ℕ → List Claim → List c.Tree → Option CertFault
+  pub claims_of_none : (n : ℕ) → claims n [] [] ≡ None
+  pub claims_of_more : (n : ℕ) (claim : Claim) (more : List Claim) (t : c.Tree) (trees : List c.Tree) → claims n (claim ∷ more) (t ∷ trees) ≡ or_else (tree n claim t) (claims (suc n) more trees)
+  pub accepts : (claim : Claim) (t : c.Tree) → c.HasShape t → AllByRecursion (λ b. Passes g (c.rules claim.body b)) (c.leaves_for claim t) → c.Accepts claim t
+
+module _ (g : TaskGraph) (c : Certificates) (tests : Tests g c) where
+  tree_passes : (n : ℕ) (claim : Claim) (tree : c.Tree) → c.HasShape tree → tests.tree n claim tree ≡ None → c.Accepts claim tree
+  tree_passes n claim tree shape e = tests.accepts claim tree shape (each_passes g (c.rules claim.body) (tests.leaf claim.body) n 1 (c.leaves_for claim tree) (sym (tests.tree_is n claim tree) ∙ e))
+
+  tree_fails : (n : ℕ) (claim : Claim) (tree : c.Tree) (fault : CertFault) → tests.tree n claim tree ≡ Some fault → LeavesFail g (c.rules claim.body) n 1 (c.leaves_for claim tree) fault
+  tree_fails n claim tree fault e = one_fails g (c.rules claim.body) (tests.leaf claim.body) n 1 (c.leaves_for claim tree) fault (sym (tests.tree_is n claim tree) ∙ e)
+
+  claims_fail : (n : ℕ) (claims : List Claim) (trees : List c.Tree) (fault : CertFault) → HaveShape c.HasShape claims trees → tests.claims n claims trees ≡ Some fault → ClaimsFail g c n claims trees fault
+  claims_fail n [] [] fault shapes e = absurd (none_some fault (sym (tests.claims_of_none n) ∙ e))
+  claims_fail n [] (tree ∷ trees) fault shapes e = absurd shapes
+  claims_fail n (claim ∷ claims) [] fault shapes e = absurd shapes
+  claims_fail n (claim ∷ claims) (tree ∷ trees) fault shapes e =
+      elim (some_or_else (tests.tree n claim tree) (tests.claims (suc n) claims trees) fault (sym (tests.claims_of_more n claim claims tree trees) ∙ e)) [
+        | inl q ↦
+            let number : n ≡ n + 0 = omega arith in
             record {
               earlier_claims = [];
               claim = claim;
@@ -237,11 +271,11 @@ module _ (paths : PathLaws) where
               claims_are = refl;
               trees_are = refl;
               accepted = tt;
-              fails = subst (λ z. LeavesFail g claim.body z 1 (leaves_of (assumed_for wide g claim) tree) fault) number (tree_fails g claim.body m valid (assumed_for wide g claim) 1 tree fault q);
+              fails = subst (λ z. LeavesFail g (c.rules claim.body) z 1 (c.leaves_for claim tree) fault) number (tree_fails n claim tree fault q);
             }
         | inr q ↦
-            let r = claims_fail wide g valid (suc n) (suc m) claims trees fault s.1 q.1 in
-            let number : suc m + length r.earlier_claims ≡ m + suc (length r.earlier_claims) = omega arith in
+            let r = claims_fail (suc n) claims trees fault shapes.1 q.1 in
+            let number : suc n + length r.earlier_claims ≡ n + suc (length r.earlier_claims) = omega arith in
             record {
               earlier_claims = claim ∷ r.earlier_claims;
               claim = r.claim;
@@ -251,57 +285,37 @@ module _ (paths : PathLaws) where
               later_trees = r.later_trees;
               claims_are = ap (λ z. claim ∷ z) r.claims_are;
               trees_are = ap (λ z. tree ∷ z) r.trees_are;
-              accepted = (tree_accepted paths g claim.body m valid (assumed_for wide g claim) 1 tree s.0 q.0, r.accepted);
-              fails = subst (λ z. LeavesFail g r.claim.body z 1 (leaves_of (assumed_for wide g r.claim) r.tree) fault) number r.fails;
+              accepted = (tree_passes n claim tree shapes.0 q.0, r.accepted);
+              fails = subst (λ z. LeavesFail g (c.rules r.claim.body) z 1 (c.leaves_for r.claim r.tree) fault) number r.fails;
             }
       ]
 
   -- shapes
-  shape_decided : (g : TaskGraph) (tree : Tree) → Decides (fits g tree) (HasShape g tree)
-  shape_decided g (SplitInput i a b) =
-      let x = shape_decided g a in
-      let y = shape_decided g b in
-      let z = below_decided paths i g.inputs in (
-        λ e. let s = and_parts (nat_lt i g.inputs) (fits g a && fits g b) e in let r = and_parts (fits g a) (fits g b) s.1 in (z.0 s.0, x.0 r.0, y.0 r.1),
-        λ e. and_from (nat_lt i g.inputs) (fits g a && fits g b) (z.1 e.0) (and_from (fits g a) (fits g b) (x.1 e.1) (y.1 e.2)),
-      )
-  shape_decided g (SplitEnd t a b d) =
-      let x = shape_decided g a in
-      let y = shape_decided g b in
-      let w = shape_decided g d in
-      let z = below_decided paths t (length g.tasks) in (
-        λ e.
-            let s = and_parts (nat_lt t (length g.tasks)) (fits g a && (fits g b && fits g d)) e in
-            let r = and_parts (fits g a) (fits g b && fits g d) s.1 in
-            let u = and_parts (fits g b) (fits g d) r.1 in
-            (z.0 s.0, x.0 r.0, y.0 u.0, w.0 u.1),
-        λ e. and_from (nat_lt t (length g.tasks)) (fits g a && (fits g b && fits g d)) (z.1 e.0) (and_from (fits g a) (fits g b && fits g d) (x.1 e.1) (and_from (fits g b) (fits g d) (y.1 e.2) (w.1 e.3))),
-      )
-  shape_decided g (Leaf rows) =
-      both (length rows ≡ length g.tasks) (IdsOfRows g rows) (nat_eq (length rows) (length g.tasks)) (rows_fit g rows) (same (length rows) (length g.tasks)) (rows_decided paths g rows)
+  have_shape : (n : ℕ) (claims : List Claim) (trees : List c.Tree) → tests.misfit n claims trees ≡ None → HaveShape c.HasShape claims trees
+  have_shape n [] [] e = tt
+  have_shape n [] (tree ∷ trees) e = absurd (none_some (Shape n) (sym e ∙ tests.misfit_of_tree n tree trees))
+  have_shape n (claim ∷ claims) [] e = absurd (none_some (Shape n) (sym e ∙ tests.misfit_of_claim n claim claims))
+  have_shape n (claim ∷ claims) (tree ∷ trees) e =
+      let s = no_unless (tests.fits tree) (Shape n) (tests.misfit (suc n) claims trees) (sym (tests.misfit_of_both n claim claims tree trees) ∙ e) in
+      ((tests.shaped tree).0 s.0, have_shape (suc n) claims trees s.1)
 
-  have_shape : (g : TaskGraph) (n : ℕ) (claims : List Claim) (trees : List Tree) → misfit g n claims trees ≡ None → HaveShape g claims trees
-  have_shape g n [] [] e = tt
-  have_shape g n [] (tree ∷ trees) e = absurd (cc)
-  have_shape g n (claim ∷ claims) [] e = absurd (cc)
-  have_shape g n (claim ∷ claims) (tree ∷ trees) e =
-      let s = no_unless (fits g tree) (Shape n) (misfit g (suc n) claims trees) e in
-      ((shape_decided g tree).0 s.0, have_shape g (suc n) claims trees s.1)
-
-  misfits_here : (g : TaskGraph) (n : ℕ) (claims : List Claim) (trees : List Tree) (fault : CertFault) → FirstMisfits g claims trees → Shape n ≡ fault → Misfits g n claims trees fault
-  misfits_here g n claims trees fault f e =
+  misfits_here : (n : ℕ) (claims : List Claim) (trees : List c.Tree) (fault : CertFault) → FirstMisfits c.HasShape claims trees → Shape n ≡ fault → Misfits c.HasShape n claims trees fault
+  misfits_here n claims trees fault f e =
       let number : n ≡ n + 0 = omega arith in
       record { earlier_claims = []; later_claims = claims; earlier_trees = []; later_trees = trees; claims_are = refl; trees_are = refl; shaped = tt; misfits = f; at = sym e ∙ ap Shape number }
 
-  misfit_is : (g : TaskGraph) (n : ℕ) (claims : List Claim) (trees : List Tree) (fault : CertFault) → misfit g n claims trees ≡ Some fault → Misfits g n claims trees fault
-  misfit_is g n [] [] fault e = absurd (cc)
-  misfit_is g n [] (tree ∷ trees) fault e = misfits_here g n [] (tree ∷ trees) fault tt (cc)
-  misfit_is g n (claim ∷ claims) [] fault e = misfits_here g n (claim ∷ claims) [] fault tt (cc)
-  misfit_is g n (claim ∷ claims) (tree ∷ trees) fault e =
-      elim (some_unless (fits g tree) (Shape n) fault (misfit g (suc n) claims trees) e) [
-        | inl q ↦ misfits_here g n (claim ∷ claims) (tree ∷ trees) fault (fails (HasShape g tree) (fits g tree) (shape_decided g tree) q.0) q.1
+  the_shape : (n : ℕ) (o : Option CertFault) (fault : CertFault) → o ≡ Some (Shape n) → o ≡ Some fault → Shape n ≡ fault
+  the_shape n o fault e f = let q : Some (Shape n) ≡ Some fault = sym e ∙ f in cc
+
+  misfit_is : (n : ℕ) (claims : List Claim) (trees : List c.Tree) (fault : CertFault) → tests.misfit n claims trees ≡ Some fault → Misfits c.HasShape n claims trees fault
+  misfit_is n [] [] fault e = absurd (none_some fault (sym (tests.misfit_of_none n) ∙ e))
+  misfit_is n [] (tree ∷ trees) fault e = misfits_here n [] (tree ∷ trees) fault tt (the_shape n (tests.misfit n [] (tree ∷ trees)) fault (tests.misfit_of_tree n tree trees) e)
+  misfit_is n (claim ∷ claims) [] fault e = misfits_here n (claim ∷ claims) [] fault tt (the_shape n (tests.misfit n (claim ∷ claims) []) fault (tests.misfit_of_claim n claim claims) e)
+  misfit_is n (claim ∷ claims) (tree ∷ trees) fault e =
+      elim (some_unless (tests.fits tree) (Shape n) fault (tests.misfit (suc n) claims trees) (sym (tests.misfit_of_both n claim claims tree trees) ∙ e)) [
+        | inl q ↦ misfits_here n (claim ∷ claims) (tree ∷ trees) fault (fails (c.HasShape tree) (tests.fits tree) (tests.shaped tree) q.0) q.1
         | inr q ↦
-            let r = misfit_is g (suc n) claims trees fault q.1 in
+            let r = misfit_is (suc n) claims trees fault q.1 in
             let number : suc n + length r.earlier_claims ≡ n + suc (length r.earlier_claims) = omega arith in
             record {
               earlier_claims = claim ∷ r.earlier_claims;
@@ -310,19 +324,33 @@ module _ (paths : PathLaws) where
               later_trees = r.later_trees;
               claims_are = ap (λ z. claim ∷ z) r.claims_are;
               trees_are = ap (λ z. tree ∷ z) r.trees_are;
-              shaped = ((shape_decided g tree).0 q.0, r.shaped);
+              shaped = ((tests.shaped tree).0 q.0, r.shaped);
               misfits = r.misfits;
               at = r.at ∙ ap Shape number;
             }
       ]
 
-  err_some : (o : Option CertFault) (fault : CertFault) → no_fault o ≡ Err fault → o ≡ Some fault
-  err_some None fault e = absurd (cc)
-  err_some (Some x) fault e = let q : x ≡ fault = cc in ap Some q
-
-  pub first_fault : FaultIsFirst
-  first_fault wide g claims trees fault valid e =
-      elim (some_or_else (misfit g 1 claims trees) (claims_fault wide g 1 claims trees) fault (err_some (or_else (misfit g 1 claims trees) (claims_fault wide g 1 claims trees)) fault e)) [
-        | inl q ↦ inl (misfit_is g 1 claims trees fault q)
-        | inr q ↦ inr (have_shape g 1 claims trees q.0, claims_fail wide g valid 1 1 claims trees fault q.0 q.1)
+  -- what these tests find is the first fault
+  pub finds_first : (claims : List Claim) (trees : List c.Tree) (fault : CertFault) → no_fault (or_else (tests.misfit 1 claims trees) (tests.claims 1 claims trees)) ≡ Err fault → IsFirst g c claims trees fault
+  finds_first claims trees fault e =
+      elim (some_or_else (tests.misfit 1 claims trees) (tests.claims 1 claims trees) fault (err_some (or_else (tests.misfit 1 claims trees) (tests.claims 1 claims trees)) fault e)) [
+        | inl q ↦ inl (misfit_is 1 claims trees fault q)
+        | inr q ↦ let shapes = have_shape 1 claims trees q.0 in inr (shapes, claims_fail 1 claims trees fault shapes q.1)
       ]
+    where
+      err_some : (o : Option CertFault) (f : CertFault) → no_fault o ≡ Err f → o ≡ Some f
+      err_some None f e = absurd (cc)
+      err_some (Some x) f e = let q : x ≡ f = cc in ap Some q
+
+-- the first fault names a task of the graph
+fault_names : (g : TaskGraph) (r : LeafRules) (why : LeafFault) (claim leaf c n : ℕ) (t : TaskId) (rule : Rule) → Fails g r why → NotClosed claim leaf t rule ≡ place c n why → is_task g t.0
+fault_names g r (Breaks s q) claim leaf c n t rule f e = let same : record { 0 = s } ≡ t = cc in subst (λ (z : TaskId). is_task g z.0) same f.0
+fault_names g r ProvesNot claim leaf c n t rule f e = absurd (cc)
+
+pub first_names : (g : TaskGraph) (c : Certificates) (claims : List Claim) (trees : List c.Tree) (claim leaf : ℕ) (t : TaskId) (rule : Rule) → IsFirst g c claims trees (NotClosed claim leaf t rule) → is_task g t.0
+first_names g c claims trees claim leaf t rule (inl f) = no_shape f.at
+  where
+    no_shape : {n : ℕ} → NotClosed claim leaf t rule ≡ Shape n → is_task g t.0
+    no_shape e = absurd (cc)
+first_names g c claims trees claim leaf t rule (inr f) =
+    let one = f.1.fails in fault_names g (c.rules f.1.claim.body one.branch) one.why claim leaf _ _ t rule one.fails one.at

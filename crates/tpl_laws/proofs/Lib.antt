@@ -31,6 +31,8 @@ pub mod WiderDecided
 pub mod WideTreesDecided
 pub mod FirstFault
 pub mod OneFault
+pub mod PlainFaults
+pub mod WideFaults
 pub mod ForCode
 pub mod RunsDecided
 pub mod FailingLemmas

@@ -31,14 +31,14 @@ row_tokens g r rows d =
     (both (AllTokens g r.asked) (AllTokens g r.asks) (has_tokens g r.asked) (has_tokens g r.asks) (tokens_decided g r.asked) (tokens_decided g r.asks))
     d
 
-tokens_of_rows : (g : TaskGraph) (rows : List WideRow) → Decides (tokens_fit g rows) (TokensOfRows g rows)
+pub tokens_of_rows : (g : TaskGraph) (rows : List WideRow) → Decides (tokens_fit g rows) (TokensOfRows g rows)
 tokens_of_rows g [] = (λ e. tt, λ u. refl)
 tokens_of_rows g (r ∷ rows) = (
   λ e. let q = (row_tokens g r rows (tokens_of_rows g rows)).0 e in (q.0.0, q.0.1, q.1),
   λ e. (row_tokens g r rows (tokens_of_rows g rows)).1 ((e.0, e.1), e.2),
 )
 
-winner_decided : (k : TaskKind) (x : ℕ) → Decides (may_have_winner k x) (MayHaveWinner k x)
+pub winner_decided : (k : TaskKind) (x : ℕ) → Decides (may_have_winner k x) (MayHaveWinner k x)
 winner_decided Root x = (λ e. true_false (sym e), λ f. absurd f)
 winner_decided Child x = (λ e. true_false (sym e), λ f. absurd f)
 winner_decided (Continues a) x = (λ e. true_false (sym e), λ f. absurd f)

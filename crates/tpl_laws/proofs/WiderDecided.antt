@@ -68,7 +68,7 @@ module _ (g : TaskGraph) (l : WideAssumed) (rows : List WideRow) (t : ℕ) (vali
   unless_known : (o : Option ℕ) (tokens : ℕ → Bool) (r : Bool) → Decides (implies (not (token_requested_by o tokens)) r) (token_requested_by o tokens ≡ false → r ≡ true)
   unless_known o tokens r = only_if (token_requested_by o tokens ≡ false) (r ≡ true) (not (token_requested_by o tokens)) r (opposite (token_requested_by o tokens)) (itself r)
 
-  runs_decided : (k : TaskKind) → Decides (wide_runs_by g l rows t k) (WideRunsRule g l rows t k)
+  pub runs_decided : (k : TaskKind) → Decides (wide_runs_by g l rows t k) (WideRunsRule g l rows t k)
   runs_decided Root = itself (may_run rows t)
   runs_decided (Continues a) =
       let own : ℕ → Bool = λ k. mem k (wide_row rows a).asks in
@@ -176,7 +176,7 @@ module _ (g : TaskGraph) (l : WideAssumed) (rows : List WideRow) (t : ℕ) (vali
   way_has : Decides (each_way g l rows t (λ way. has (row (plain rows) t).ends (way_final way))) ((way : Way) → IsWay g l rows t way → has (row (plain rows) t).ends (way_final way) ≡ true)
   way_has = ways_decided (λ way. has (row (plain rows) t).ends (way_final way) ≡ true) (λ way. has (row (plain rows) t).ends (way_final way)) (λ way. itself (has (row (plain rows) t).ends (way_final way)))
 
-  ends_decided : PathLaws → (k : TaskKind) → Decides (wide_ends_by g l rows t k) (WideEndsRule g l rows t k)
+  pub ends_decided : PathLaws → (k : TaskKind) → Decides (wide_ends_by g l rows t k) (WideEndsRule g l rows t k)
   ends_decided paths (WhenAll args) =
       at_each_end (λ f. end_left l.assumed t f ≡ true → AllMayEnd (plain rows) args f → has (row (plain rows) t).ends f ≡ true) (λ f. implies (end_left l.assumed t f) (implies (all_may_end (plain rows) args f) (has (row (plain rows) t).ends f)))
       (λ f. only_if (end_left l.assumed t f ≡ true) (AllMayEnd (plain rows) args f → has (row (plain rows) t).ends f ≡ true) (end_left l.assumed t f) (implies (all_may_end (plain rows) args f) (has (row (plain rows) t).ends f)) (itself (end_left l.assumed t f))
@@ -295,9 +295,18 @@ module _ (g : TaskGraph) (l : WideAssumed) (rows : List WideRow) (t : ℕ) (vali
   links_decided paths y (x ∷ z ∷ zs) =
       both (TakesOver g x y) (WideLinks g l rows x (z ∷ zs)) (takes_over g x y) (wide_links g l x (z ∷ zs)) (takes_decided paths g x y) (links_decided paths x (z ∷ zs))
 
-  chain_decided : PathLaws → (xs : List ℕ) → Decides (wide_chain g l t xs) (WideChainRule g l rows t xs)
+  pub chain_decided : PathLaws → (xs : List ℕ) → Decides (wide_chain g l t xs) (WideChainRule g l rows t xs)
   chain_decided paths [] = (λ e. tt, λ u. refl)
   chain_decided paths (x ∷ xs) = links_decided paths t (x ∷ xs)
+
+  -- what the row says of its begin and of its end
+  pub begin_rule_decided : Decides (implies (may_run rows t) (each_begin rows t (begin_by g l rows t (kind g t)))) (may_run rows t ≡ true → (f : Fact) → begins_with rows t f ≡ true → BeginRule g l rows t (kind g t) f)
+  begin_rule_decided =
+      only_if (may_run rows t ≡ true) ((f : Fact) → begins_with rows t f ≡ true → BeginRule g l rows t (kind g t) f) (may_run rows t) (each_begin rows t (begin_by g l rows t (kind g t))) (itself (may_run rows t))
+      (begin_decided rows t (BeginRule g l rows t (kind g t)) (begin_by g l rows t (kind g t)) (begins_decided (kind g t)))
+
+  pub end_rule_decided : Decides (each_ending rows t (end_by g l rows t (kind_left g l t))) ((f : Fact) → ends_with rows t f ≡ true → EndRule g l rows t (kind_left g l t) f)
+  end_rule_decided = ending_decided rows t (EndRule g l rows t (kind_left g l t)) (end_by g l rows t (kind_left g l t)) (end_decided (kind_left g l t))
 
   -- no rule is broken just where all are kept
   pub wide_broken_lem : PathLaws → Clears (wide_broken g l rows t) (IsWidelyClosed g l rows t)
@@ -317,9 +326,8 @@ module _ (g : TaskGraph) (l : WideAssumed) (rows : List WideRow) (t : ℕ) (vali
       (clear_unless Runs_ (Ends_ × (Begin_ × (End_ × (Chain_ × Unit {0})))) (wide_runs_by g l rows t k) K1 ends (runs_decided k)
       (clear_unless Ends_ (Begin_ × (End_ × (Chain_ × Unit {0}))) (wide_ends_by g l rows t (kind_left g l t)) K2 begin (ends_decided paths (kind_left g l t))
       (clear_unless Begin_ (End_ × (Chain_ × Unit {0})) (implies (may_run rows t) (each_begin rows t (begin_by g l rows t k))) K3 past
-      (only_if (may_run rows t ≡ true) ((f : Fact) → begins_with rows t f ≡ true → BeginRule g l rows t k f) (may_run rows t) (each_begin rows t (begin_by g l rows t k)) (itself (may_run rows t))
-      (begin_decided rows t (BeginRule g l rows t k) (begin_by g l rows t k) (begins_decided k)))
-      (clear_unless End_ (Chain_ × Unit {0}) (each_ending rows t (end_by g l rows t (kind_left g l t))) (past_rule k) last (ending_decided rows t (EndRule g l rows t (kind_left g l t)) (end_by g l rows t (kind_left g l t)) (end_decided (kind_left g l t)))
+      begin_rule_decided
+      (clear_unless End_ (Chain_ × Unit {0}) (each_ending rows t (end_by g l rows t (kind_left g l t))) (past_rule k) last end_rule_decided
       (clear_unless Chain_ (Unit {0}) (wide_chain g l t chain) K6 None (chain_decided paths chain) clear)))))
       (λ e. record { runs = e.0; ends = e.1.0; begin = e.1.1.0; end = e.1.1.1.0; chain = e.1.1.1.1.0 })
       (λ e. (e.runs, (e.ends, (e.begin, (e.end, (e.chain, tt))))))
@@ -337,7 +345,7 @@ some_decided : (o : Option Knowledge) → Decides (not (is_some o)) (o ≡ None)
 some_decided None = (λ e. refl, λ e. refl)
 some_decided (Some k) = (λ e. true_false (sym e), λ e. absurd (cc))
 
-wide_proves_lem : (paths : PathLaws) (g : TaskGraph) (l : WideAssumed) (rows : List WideRow) (p : Property TaskId) → Decides (wide_proves g l rows p) (WidelyProves g l rows p)
+pub wide_proves_lem : (paths : PathLaws) (g : TaskGraph) (l : WideAssumed) (rows : List WideRow) (p : Property TaskId) → Decides (wide_proves g l rows p) (WidelyProves g l rows p)
 wide_proves_lem paths g l rows (Observed t) =
     let thrown = at_throw (reading g l rows t.0) (asked_of rows t.0) (body g t.0) in
     let faulted = has (row (plain rows) t.0).ends Faulted in

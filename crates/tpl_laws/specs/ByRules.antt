@@ -1,5 +1,5 @@
 -- Certificates by the narrow rules or by the wide ones, whose trees may speak of tokens and of winners.
-use Rattle.std.specs.Prelude.{◌≡◌, Bool, false, Err, List, map}
+use Rattle.std.specs.Prelude.{◌≡◌, Bool, false, List, map}
 use Rattle.tpl_model.specs.Graph.{TaskGraph}
 use Rattle.tpl_model.specs.declared.event.Event.{Event}
 use Rattle.tpl_model.specs.declared.fault.CertFault.{CertFault}
@@ -12,7 +12,7 @@ use Rattle.tpl_model.specs.Certificate.{Tree, Accepts, is_wide}
 use Rattle.tpl_model.specs.WiderRules.{WideTree, WidelyAccepts, as_wide_tree}
 use Rattle.tpl_laws.specs.Faults.{IsFirstFault}
 use Rattle.tpl_laws.specs.Soundness.{Each}
-use Rattle.tpl_laws.specs.WideVerdict.{wide_verdict}
+use Rattle.tpl_laws.specs.WideFaults.{IsFirstWideFault}
 
 -- the certificate is accepted by the rules; the narrow ones are for trees that say nothing of tokens and of winners
 abbrev pub AcceptsBy : RuleSet → TaskGraph → List Claim → List WideTree → Type 0
@@ -22,7 +22,7 @@ AcceptsBy Wide g claims trees = WidelyAccepts g claims trees
 -- the certificate fails, and this is the first fault
 abbrev pub FailsFirst : RuleSet → TaskGraph → List Claim → List WideTree → CertFault → Type 0
 FailsFirst Narrow g claims trees fault = (plain : List Tree) × (trees ≡ map as_wide_tree plain) × IsFirstFault false g claims plain fault
-FailsFirst Wide g claims trees fault = wide_verdict g claims trees ≡ Err fault
+FailsFirst Wide g claims trees fault = IsFirstWideFault g claims trees fault
 
 -- where a certificate is accepted, each claim holds in each run
 abbrev pub SoundByRules : Type 0

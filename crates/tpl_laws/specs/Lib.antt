@@ -7,9 +7,11 @@ pub mod RunTests
 pub mod Verdict
 pub mod Decided
 pub mod Failing
+pub mod FirstFault
 pub mod Faults
 pub mod Wider
 pub mod WiderSoundness
 pub mod WiderTests
 pub mod WideVerdict
+pub mod WideFaults
 pub mod ByRules

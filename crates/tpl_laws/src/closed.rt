@@ -2,6 +2,7 @@
 
 ghost use Rattle.tpl_laws.specs.Faults.{FaultIsFirst, OneFirstFault};
 ghost use Rattle.tpl_laws.specs.PathLaws.{PathLaws};
+ghost use Rattle.tpl_laws.specs.WideFaults.{OneFirstWideFault, WideFaultIsFirst};
 ghost use Rattle.tpl_laws.specs.WiderTests.{WideBrokenIsRight, WideLeafIsRight};
 ghost use Rattle.tpl_laws.specs.WideVerdict.{WideTreeIsRight, WideVerdictIsRight, WideVerdictIsSound};
 ghost use Rattle.tpl_laws.specs.Decided.{RunsIsRight, EndsIsRight, BeforeIsRight, BelowIsRight, BelowInOnePass, ParentIsRight, PastIsRight, ChainIsRight, BrokenIsRight, FirstBrokenIsRight, ProvesIsRight, VerdictIsRight, VerdictIsSound};
@@ -111,6 +112,18 @@ pub fn fault_is_first()
 /// A certificate has one first fault at most.
 pub fn one_first_fault()
     ensures { OneFirstFault }
+{}
+
+/// A fault that the verdict names for a certificate of rows with tokens is the first one.
+pub fn wide_fault_is_first()
+    ensures { WideFaultIsFirst }
+{
+    path_laws();
+}
+
+/// A certificate of rows with tokens has one first fault at most.
+pub fn one_first_wide_fault()
+    ensures { OneFirstWideFault }
 {}
 
 /// The row of a task breaks none of the wider rules just where it keeps them all.

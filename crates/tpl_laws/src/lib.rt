@@ -12,10 +12,10 @@ mod sound;
 
 pub use closed::{
     before_is_right, below_in_one_pass, below_is_right, broken_is_right, chain_is_right,
-    ends_is_right, fault_is_first, first_broken_is_right, one_first_fault, parent_is_right,
-    past_is_right, proves_is_right, runs_is_right, verdict_is_right, verdict_is_sound,
-    wide_broken_is_right, wide_leaf_is_right, wide_tree_is_right, wide_verdict_is_right,
-    wide_verdict_is_sound,
+    ends_is_right, fault_is_first, first_broken_is_right, one_first_fault, one_first_wide_fault,
+    parent_is_right, past_is_right, proves_is_right, runs_is_right, verdict_is_right,
+    verdict_is_sound, wide_broken_is_right, wide_fault_is_first, wide_leaf_is_right,
+    wide_tree_is_right, wide_verdict_is_right, wide_verdict_is_sound,
 };
 pub use failing::{
     complete_is_noted, failure_is_told, job_is_noted, only_requests, request_is_noted,

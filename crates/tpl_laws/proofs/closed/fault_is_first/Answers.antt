@@ -1,4 +1,4 @@
-use Rattle.tpl_laws.proofs.FirstFault.{first_fault}
+use Rattle.tpl_laws.proofs.PlainFaults.{first_fault}
 use Rattle.tpl_laws.proofs.closed.fault_is_first.Goals as goal
 
 pub returns : goal.returns

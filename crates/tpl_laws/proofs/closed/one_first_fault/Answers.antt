@@ -1,4 +1,4 @@
-use Rattle.tpl_laws.proofs.OneFault.{one_fault}
+use Rattle.tpl_laws.proofs.PlainFaults.{one_fault}
 use Rattle.tpl_laws.proofs.closed.one_first_fault.Goals as goal
 
 pub returns : goal.returns

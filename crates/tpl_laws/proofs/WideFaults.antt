@@ -1,0 +1,161 @@
+-- The first fault of a certificate of rows with tokens.
+use Rattle.std.proofs.Common.{◌≡◌, ℕ, ◌+◌, ◌<◌, ◌++◌, true, false, Option, List, refl, ap, arith, length, nat_eq, nat_lt, length-append}
+use Rattle.std.specs.Prelude.{Decides}
+use Rattle.std.specs.List.{AllByRecursion}
+use Rattle.tpl_model.specs.declared.finals.Final.TheVariants.{RanToCompletion, Canceled, Faulted}
+use Rattle.tpl_model.specs.Graph.{TaskGraph, kind, is_task}
+use Rattle.tpl_model.specs.Valid.{IsGraph}
+use Rattle.tpl_model.specs.declared.ids.TaskId.{TaskId}
+use Rattle.tpl_model.specs.declared.claim.Property.{Property}
+use Rattle.tpl_model.specs.Claims.{Claim}
+use Rattle.tpl_model.specs.Certificate.{row, IdsOfRows}
+use Rattle.tpl_model.specs.WiderRules.{WideRow, plain, WideAssumed, kind_left, may_run, IsWidelyClosed, narrowed, TokensOfRows, WideTree, OnInput, OnEnd, OnWinner, WideLeaf, input_split, end_split, winner_split, MayHaveWinner, AcceptsWideTree, widely_assumed}
+use Rattle.tpl_model.specs.declared.fault.Rule.{Rule}
+use Rattle.tpl_model.specs.declared.fault.CertFault.TheVariants.{NotClosed}
+use Rattle.tpl_laws.specs.PathLaws.{PathLaws}
+use Rattle.tpl_laws.specs.RowTests.{implies}
+use Rattle.tpl_laws.specs.Verdict.{or_else, LeafFault, rows_fit}
+use Rattle.tpl_laws.specs.WiderTests.{each_begin, each_ending, wide_runs_by, wide_ends_by, begin_by, end_by, wide_chain, wide_broken, wide_proves, wide_first_broken, wide_leaf_fault}
+use Rattle.tpl_laws.specs.WideVerdict.{wide_leaves, wide_tree_fault, wide_claims_fault, tokens_fit, may_have_winner, wide_fits, wide_misfit}
+use Rattle.tpl_laws.specs.FirstFault.{Passes}
+use Rattle.tpl_laws.specs.WideFaults.{wide_row_rules, WideBranch, wide_leaves_of, wide_leaf_rules, HasWideShape, wide_certificates, IsFirstWideFault, WideFaultIsFirst, OneFirstWideFault}
+use Rattle.tpl_laws.proofs.Deciding.{same, both3, both4}
+use Rattle.tpl_laws.proofs.FaultsDecided.{below_decided, rows_decided}
+use Rattle.tpl_laws.proofs.WiderDecided.{runs_decided, ends_decided, begin_rule_decided, end_rule_decided, chain_decided, wide_broken_lem, wide_proves_lem}
+use Rattle.tpl_laws.proofs.WideTreesDecided.{tokens_of_rows, winner_decided}
+use Rattle.tpl_laws.proofs.FirstFault.{past_rule_is, breaks_first, LeafTests, leaves_fault, parts_joined, one_leaf, Tests, finds_first, first_names}
+use Rattle.tpl_laws.proofs.OneFault.{one_rule, Keeps, keeps_or_breaks, AreSound, all_joined, all_parted, one_first}
+
+-- the rules of a leaf
+keeps : (g : TaskGraph) (l : WideAssumed) (rows : List WideRow) (t : ℕ) → IsWidelyClosed g l rows t → Keeps (wide_row_rules g l rows t)
+keeps g l rows t c = (c.runs, c.ends, c.begin, c.end, c.chain)
+
+are_sound : (g : TaskGraph) (p : Property TaskId) (b : WideBranch) → AreSound (wide_leaf_rules g p b)
+are_sound g p b = record {
+  keeps = λ t rule c. keeps_or_breaks (wide_row_rules g b.assumes b.rows t) rule (keeps g b.assumes b.rows t c);
+  same = λ t one other. one_rule (wide_row_rules g b.assumes b.rows t) one other;
+}
+
+-- the leaves of a tree
+module _ (g : TaskGraph) (p : Property TaskId) where
+  abbrev Passing : WideBranch → Type 0
+  Passing b = Passes g (wide_leaf_rules g p b)
+
+  accepted_leaves : (l : WideAssumed) (tree : WideTree) → AcceptsWideTree g p l tree → AllByRecursion Passing (wide_leaves_of g l tree)
+  accepted_leaves l (OnInput i a b) e =
+      all_joined Passing (wide_leaves_of g (input_split l i true) a) (wide_leaves_of g (input_split l i false) b) (accepted_leaves (input_split l i true) a e.1) (accepted_leaves (input_split l i false) b e.2)
+  accepted_leaves l (OnEnd t a b d) e =
+      all_joined Passing (wide_leaves_of g (end_split l t RanToCompletion) a) (wide_leaves_of g (end_split l t Canceled) b ++ wide_leaves_of g (end_split l t Faulted) d) (accepted_leaves (end_split l t RanToCompletion) a e.1)
+      (all_joined Passing (wide_leaves_of g (end_split l t Canceled) b) (wide_leaves_of g (end_split l t Faulted) d) (accepted_leaves (end_split l t Canceled) b e.2) (accepted_leaves (end_split l t Faulted) d e.3))
+  accepted_leaves l (OnWinner m x a b) e =
+      all_joined Passing (wide_leaves_of g (winner_split l m x true) a) (wide_leaves_of g (winner_split l m x false) b) (accepted_leaves (winner_split l m x true) a e.1) (accepted_leaves (winner_split l m x false) b e.2)
+  accepted_leaves l (WideLeaf rows) e = ((e.3, e.4), tt)
+
+  leaves_accepted : (l : WideAssumed) (tree : WideTree) → HasWideShape g tree → AllByRecursion Passing (wide_leaves_of g l tree) → AcceptsWideTree g p l tree
+  leaves_accepted l (OnInput i a b) s e =
+      let q = all_parted Passing (wide_leaves_of g (input_split l i true) a) (wide_leaves_of g (input_split l i false) b) e in
+      (s.0, leaves_accepted (input_split l i true) a s.1 q.0, leaves_accepted (input_split l i false) b s.2 q.1)
+  leaves_accepted l (OnEnd t a b d) s e =
+      let q = all_parted Passing (wide_leaves_of g (end_split l t RanToCompletion) a) (wide_leaves_of g (end_split l t Canceled) b ++ wide_leaves_of g (end_split l t Faulted) d) e in
+      let w = all_parted Passing (wide_leaves_of g (end_split l t Canceled) b) (wide_leaves_of g (end_split l t Faulted) d) q.1 in
+      (s.0, leaves_accepted (end_split l t RanToCompletion) a s.1 q.0, leaves_accepted (end_split l t Canceled) b s.2 w.0, leaves_accepted (end_split l t Faulted) d s.3 w.1)
+  leaves_accepted l (OnWinner m x a b) s e =
+      let q = all_parted Passing (wide_leaves_of g (winner_split l m x true) a) (wide_leaves_of g (winner_split l m x false) b) e in
+      (s.0, leaves_accepted (winner_split l m x true) a s.1 q.0, leaves_accepted (winner_split l m x false) b s.2 q.1)
+  leaves_accepted l (WideLeaf rows) s e = (s.0, s.1, s.2, e.0.0, e.0.1)
+
+  count_leaves : (l : WideAssumed) (tree : WideTree) → wide_leaves tree ≡ length (wide_leaves_of g l tree)
+  count_leaves l (OnInput i a b) =
+      let x = count_leaves (input_split l i true) a in
+      let y = count_leaves (input_split l i false) b in
+      let z = length-append (wide_leaves_of g (input_split l i true) a) (wide_leaves_of g (input_split l i false) b) in
+      omega (arith, x, y, z)
+  count_leaves l (OnEnd t a b d) =
+      let x = count_leaves (end_split l t RanToCompletion) a in
+      let y = count_leaves (end_split l t Canceled) b in
+      let w = count_leaves (end_split l t Faulted) d in
+      let z = length-append (wide_leaves_of g (end_split l t RanToCompletion) a) (wide_leaves_of g (end_split l t Canceled) b ++ wide_leaves_of g (end_split l t Faulted) d) in
+      let v = length-append (wide_leaves_of g (end_split l t Canceled) b) (wide_leaves_of g (end_split l t Faulted) d) in
+      omega (arith, x, y, z, w, v)
+  count_leaves l (OnWinner m w a b) =
+      let x = count_leaves (winner_split l m w true) a in
+      let y = count_leaves (winner_split l m w false) b in
+      let z = length-append (wide_leaves_of g (winner_split l m w true) a) (wide_leaves_of g (winner_split l m w false) b) in
+      omega (arith, x, y, z)
+  count_leaves l (WideLeaf rows) = refl
+
+  abbrev fault_of : WideBranch → Option LeafFault
+  fault_of b = wide_leaf_fault g p b.assumes b.rows
+
+  tree_is : (c : ℕ) (l : WideAssumed) (n : ℕ) (tree : WideTree) → wide_tree_fault g p c l n tree ≡ leaves_fault fault_of c n (wide_leaves_of g l tree)
+  tree_is c l n (OnInput i a b) =
+      parts_joined fault_of c n (n + wide_leaves a) (wide_leaves_of g (input_split l i true) a) (wide_leaves_of g (input_split l i false) b) (wide_tree_fault g p c (input_split l i true) n a) (wide_tree_fault g p c (input_split l i false) (n + wide_leaves a) b)
+      (ap (λ z. n + z) (count_leaves (input_split l i true) a)) (tree_is c (input_split l i true) n a) (tree_is c (input_split l i false) (n + wide_leaves a) b)
+  tree_is c l n (OnEnd t a b d) =
+      parts_joined fault_of c n (n + wide_leaves a) (wide_leaves_of g (end_split l t RanToCompletion) a) (wide_leaves_of g (end_split l t Canceled) b ++ wide_leaves_of g (end_split l t Faulted) d) (wide_tree_fault g p c (end_split l t RanToCompletion) n a)
+      (or_else (wide_tree_fault g p c (end_split l t Canceled) (n + wide_leaves a) b) (wide_tree_fault g p c (end_split l t Faulted) (n + wide_leaves a + wide_leaves b) d))
+      (ap (λ z. n + z) (count_leaves (end_split l t RanToCompletion) a)) (tree_is c (end_split l t RanToCompletion) n a)
+      (parts_joined fault_of c (n + wide_leaves a) (n + wide_leaves a + wide_leaves b) (wide_leaves_of g (end_split l t Canceled) b) (wide_leaves_of g (end_split l t Faulted) d) (wide_tree_fault g p c (end_split l t Canceled) (n + wide_leaves a) b) (wide_tree_fault g p c (end_split l t Faulted) (n + wide_leaves a + wide_leaves b) d)
+      (ap (λ z. n + wide_leaves a + z) (count_leaves (end_split l t Canceled) b)) (tree_is c (end_split l t Canceled) (n + wide_leaves a) b) (tree_is c (end_split l t Faulted) (n + wide_leaves a + wide_leaves b) d))
+  tree_is c l n (OnWinner m x a b) =
+      parts_joined fault_of c n (n + wide_leaves a) (wide_leaves_of g (winner_split l m x true) a) (wide_leaves_of g (winner_split l m x false) b) (wide_tree_fault g p c (winner_split l m x true) n a) (wide_tree_fault g p c (winner_split l m x false) (n + wide_leaves a) b)
+      (ap (λ z. n + z) (count_leaves (winner_split l m x true) a)) (tree_is c (winner_split l m x true) n a) (tree_is c (winner_split l m x false) (n + wide_leaves a) b)
+  tree_is c l n (WideLeaf rows) = one_leaf fault_of c n (record { assumes = narrowed g l; rows = rows })
+
+module _ (paths : PathLaws) (g : TaskGraph) (valid : IsGraph g) where
+  -- shapes
+  shape_decided : (tree : WideTree) → Decides (wide_fits g tree) (HasWideShape g tree)
+  shape_decided (OnInput i a b) =
+      both3 (i < g.inputs) (HasWideShape g a) (HasWideShape g b) (nat_lt i g.inputs) (wide_fits g a) (wide_fits g b) (below_decided paths i g.inputs) (shape_decided a) (shape_decided b)
+  shape_decided (OnEnd t a b d) =
+      both4 (is_task g t) (HasWideShape g a) (HasWideShape g b) (HasWideShape g d) (nat_lt t (length g.tasks)) (wide_fits g a) (wide_fits g b) (wide_fits g d) (below_decided paths t (length g.tasks)) (shape_decided a) (shape_decided b) (shape_decided d)
+  shape_decided (OnWinner m x a b) =
+      both3 (MayHaveWinner (kind g m) x) (HasWideShape g a) (HasWideShape g b) (may_have_winner (kind g m) x) (wide_fits g a) (wide_fits g b) (winner_decided (kind g m) x) (shape_decided a) (shape_decided b)
+  shape_decided (WideLeaf rows) =
+      both3 (length rows ≡ length g.tasks) (IdsOfRows g (plain rows)) (TokensOfRows g rows) (nat_eq (length rows) (length g.tasks)) (rows_fit g (plain rows)) (tokens_fit g rows)
+      (same (length rows) (length g.tasks)) (rows_decided paths g (plain rows)) (tokens_of_rows g rows)
+
+  abbrev leaf_tests : (p : Property TaskId) (b : WideBranch) → LeafTests g (wide_leaf_rules g p b)
+  leaf_tests p b = record {
+    broken = wide_broken g b.assumes b.rows;
+    closed = λ t. wide_broken_lem g b.assumes b.rows t valid paths;
+    is_broken = λ t.
+        breaks_first (wide_row_rules g b.assumes b.rows t) (wide_runs_by g b.assumes b.rows t (kind g t)) (wide_ends_by g b.assumes b.rows t (kind_left g b.assumes t))
+        (implies (may_run b.rows t) (each_begin b.rows t (begin_by g b.assumes b.rows t (kind g t)))) (each_ending b.rows t (end_by g b.assumes b.rows t (kind_left g b.assumes t))) (wide_chain g b.assumes t (row (plain b.rows) t).chain)
+        (runs_decided g b.assumes b.rows t valid (kind g t)) (ends_decided g b.assumes b.rows t valid paths (kind_left g b.assumes t)) (begin_rule_decided g b.assumes b.rows t valid) (end_rule_decided g b.assumes b.rows t valid) (chain_decided g b.assumes b.rows t valid paths (row (plain b.rows) t).chain)
+        (past_rule_is (kind g t));
+    first = wide_first_broken g b.assumes b.rows;
+    first_of_none = λ t. refl;
+    first_of_more = λ t n. refl;
+    proves = wide_proves g b.assumes b.rows p;
+    proved = wide_proves_lem paths g b.assumes b.rows p;
+  }
+
+  abbrev tests : Tests g (wide_certificates g)
+  tests = record {
+    fits = wide_fits g;
+    shaped = shape_decided;
+    misfit = wide_misfit g;
+    misfit_of_none = λ n. refl;
+    misfit_of_tree = λ n tree trees. refl;
+    misfit_of_claim = λ n claim claims. refl;
+    misfit_of_both = λ n claim claims tree trees. refl;
+    leaf = leaf_tests;
+    tree = λ n claim tree. wide_tree_fault g claim.body n (widely_assumed g claim) 1 tree;
+    tree_is = λ n claim tree. tree_is g claim.body n (widely_assumed g claim) 1 tree;
+    claims = wide_claims_fault g;
+    claims_of_none = λ n. refl;
+    claims_of_more = λ n claim more tree trees. refl;
+    accepts = λ claim tree. leaves_accepted g claim.body (widely_assumed g claim) tree;
+  }
+
+pub wide_first_fault : PathLaws → WideFaultIsFirst
+wide_first_fault paths g claims trees fault valid e = finds_first g (wide_certificates g) (tests paths g valid) claims trees fault e
+
+pub one_wide_fault : OneFirstWideFault
+one_wide_fault g claims trees one other a b =
+    one_first g (wide_certificates g) (are_sound g) (λ claim tree. accepted_leaves g claim.body (widely_assumed g claim) tree) claims trees one other a b
+
+-- the first fault names a task of the graph
+pub wide_names_task : (g : TaskGraph) (claims : List Claim) (trees : List WideTree) (claim leaf : ℕ) (t : TaskId) (rule : Rule) → IsFirstWideFault g claims trees (NotClosed claim leaf t rule) → is_task g t.0
+wide_names_task g claims trees claim leaf t rule f = first_names g (wide_certificates g) claims trees claim leaf t rule f
