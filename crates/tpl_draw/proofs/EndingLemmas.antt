@@ -1,16 +1,28 @@
 -- How tasks end by the rows of a certificate.
-use Rattle.std.proofs.Common.{◌≡◌, ℕ, inl, inr, true, false, List, [], ◌∷◌, sym, subst}
+use Rattle.std.proofs.Common.{◌≡◌, ℕ, inl, inr, Bool, true, false, Some, List, [], ◌∷◌, map, sym, ap, subst}
 use Rattle.std.proofs.lemmas.Bool.{or_left, or_right}
 use Rattle.tpl_model.specs.declared.finals.Final.{Final}
 use Rattle.tpl_model.specs.declared.finals.Final.TheVariants.{RanToCompletion, Canceled, Faulted}
 use Rattle.tpl_model.specs.declared.finals.Finals.{Finals}
+use Rattle.tpl_model.specs.declared.rule_set.RuleSet.TheVariants.{Narrow, Wide}
 use Rattle.tpl_model.specs.Finals.{has}
 use Rattle.tpl_model.specs.Graph.{TaskGraph}
+use Rattle.tpl_model.specs.declared.event.Event.{Event}
 use Rattle.tpl_model.specs.declared.ids.TaskId.{TaskId}
 use Rattle.tpl_model.specs.declared.claim.Property.{Property}
-use Rattle.tpl_model.specs.Certificate.{Row, row, Assumed, assumed_for, taken, with_input, with_end, Closed, Tree, SplitInput, SplitEnd, Leaf, AcceptsTree}
+use Rattle.tpl_model.specs.Rules.{final, Run}
+use Rattle.tpl_model.specs.Valid.{IsGraph}
+use Rattle.tpl_model.specs.Claims.{Claim}
+use Rattle.tpl_model.specs.Certificate.{Row, row, Assumed, assumed_for, taken, with_input, with_end, Closed, Tree, SplitInput, SplitEnd, Leaf, AcceptsTree, Accepts}
+use Rattle.tpl_model.specs.WiderRules.{WideRow, plain, WideTree, OnInput, OnEnd, OnWinner, WideLeaf, WidelyAccepts, as_wide, as_wide_tree}
 use Rattle.tpl_laws.specs.Soundness.{HasLeaf, RowsAreTrue, SomeLeafAgrees}
-use Rattle.tpl_draw.specs.Endings.{either, tree_ends, ends, EndingsAreTrue}
+use Rattle.tpl_laws.specs.WiderSoundness.{HasRows, SomeWideLeafIsTrue}
+use Rattle.tpl_laws.proofs.WideLaw.{plain_wide}
+use Rattle.tpl_draw.specs.Endings.{either, tree_ends, ends, IsSomeTaken, EndingsAreTrue}
+
+-- rows that say nothing of tokens say the same of their tasks
+pub narrow_row : (rows : List Row) (t : ℕ) → row (plain (as_wide rows)) t ≡ row rows t
+narrow_row rows t = ap (λ z. row z t) (plain_wide rows)
 
 -- each leaf of an accepted tree is closed
 leaf_closed : (g : TaskGraph) (p : Property TaskId) (l m : Assumed) (tree : Tree) (rows : List Row) → AcceptsTree g p l tree → HasLeaf l tree m rows → Closed g m rows
@@ -21,6 +33,15 @@ leaf_closed g p l m (SplitEnd t a b c) rows acc (inr (inl w)) = leaf_closed g p 
 leaf_closed g p l m (SplitEnd t a b c) rows acc (inr (inr w)) = leaf_closed g p (with_end l t Faulted) m c rows acc.3 w
 leaf_closed g p l m (Leaf leaf) rows acc w =
     subst (λ z. Closed g z rows) w.0 (subst (λ z. Closed g l z) w.1 acc.2)
+
+-- the rows of a leaf are those of the same leaf of the tree as one that may speak of tokens
+leaf_rows : (l m : Assumed) (tree : Tree) (rows : List Row) → HasLeaf l tree m rows → HasRows (as_wide_tree tree) (as_wide rows)
+leaf_rows l m (SplitInput i a b) rows (inl w) = inl (leaf_rows (with_input l i true) m a rows w)
+leaf_rows l m (SplitInput i a b) rows (inr w) = inr (leaf_rows (with_input l i false) m b rows w)
+leaf_rows l m (SplitEnd t a b c) rows (inl w) = inl (leaf_rows (with_end l t RanToCompletion) m a rows w)
+leaf_rows l m (SplitEnd t a b c) rows (inr (inl w)) = inr (inl (leaf_rows (with_end l t Canceled) m b rows w))
+leaf_rows l m (SplitEnd t a b c) rows (inr (inr w)) = inr (inr (leaf_rows (with_end l t Faulted) m c rows w))
+leaf_rows l m (Leaf leaf) rows w = ap as_wide w.1
 
 -- a member of one set is one of either
 in_first : (a b : Finals) (f : Final) → has a f ≡ true → has (either a b) f ≡ true
@@ -34,30 +55,56 @@ in_second a b Canceled e = or_right a.canceled b.canceled e
 in_second a b Faulted e = or_right a.faulted b.faulted e
 
 -- what a leaf's row says, its tree says
-leaf_in_tree : (l m : Assumed) (tree : Tree) (rows : List Row) (t : ℕ) (f : Final) → HasLeaf l tree m rows → has (row rows t).ends f ≡ true → has (tree_ends tree t) f ≡ true
-leaf_in_tree l m (SplitInput i a b) rows t f (inl w) e =
-    in_first (tree_ends a t) (tree_ends b t) f (leaf_in_tree (with_input l i true) m a rows t f w e)
-leaf_in_tree l m (SplitInput i a b) rows t f (inr w) e =
-    in_second (tree_ends a t) (tree_ends b t) f (leaf_in_tree (with_input l i false) m b rows t f w e)
-leaf_in_tree l m (SplitEnd s a b c) rows t f (inl w) e =
-    in_first (tree_ends a t) (either (tree_ends b t) (tree_ends c t)) f (leaf_in_tree (with_end l s RanToCompletion) m a rows t f w e)
-leaf_in_tree l m (SplitEnd s a b c) rows t f (inr (inl w)) e =
+rows_in_tree : (tree : WideTree) (rows : List WideRow) (t : ℕ) (f : Final) → HasRows tree rows → has (row (plain rows) t).ends f ≡ true → has (tree_ends tree t) f ≡ true
+rows_in_tree (OnInput i a b) rows t f (inl w) e = in_first (tree_ends a t) (tree_ends b t) f (rows_in_tree a rows t f w e)
+rows_in_tree (OnInput i a b) rows t f (inr w) e = in_second (tree_ends a t) (tree_ends b t) f (rows_in_tree b rows t f w e)
+rows_in_tree (OnEnd s a b c) rows t f (inl w) e =
+    in_first (tree_ends a t) (either (tree_ends b t) (tree_ends c t)) f (rows_in_tree a rows t f w e)
+rows_in_tree (OnEnd s a b c) rows t f (inr (inl w)) e =
     in_second (tree_ends a t) (either (tree_ends b t) (tree_ends c t)) f
-    (in_first (tree_ends b t) (tree_ends c t) f (leaf_in_tree (with_end l s Canceled) m b rows t f w e))
-leaf_in_tree l m (SplitEnd s a b c) rows t f (inr (inr w)) e =
+    (in_first (tree_ends b t) (tree_ends c t) f (rows_in_tree b rows t f w e))
+rows_in_tree (OnEnd s a b c) rows t f (inr (inr w)) e =
     in_second (tree_ends a t) (either (tree_ends b t) (tree_ends c t)) f
-    (in_second (tree_ends b t) (tree_ends c t) f (leaf_in_tree (with_end l s Faulted) m c rows t f w e))
-leaf_in_tree l m (Leaf leaf) rows t f w e = subst (λ z. has (row z t).ends f ≡ true) (sym w.1) e
+    (in_second (tree_ends b t) (tree_ends c t) f (rows_in_tree c rows t f w e))
+rows_in_tree (OnWinner n x a b) rows t f (inl w) e = in_first (tree_ends a t) (tree_ends b t) f (rows_in_tree a rows t f w e)
+rows_in_tree (OnWinner n x a b) rows t f (inr w) e = in_second (tree_ends a t) (tree_ends b t) f (rows_in_tree b rows t f w e)
+rows_in_tree (WideLeaf leaf) rows t f w e = subst (λ z. has (row (plain z) t).ends f ≡ true) (sym w) e
 
-pub endings_lem : RowsAreTrue → SomeLeafAgrees → EndingsAreTrue
-endings_lem rows_true some_leaf wide g [] [] valid acc v h run given t f e = absurd given
-endings_lem rows_true some_leaf wide g (claim ∷ claims) [] valid acc v h run given t f e = absurd acc
-endings_lem rows_true some_leaf wide g [] (tree ∷ trees) valid acc v h run given t f e = absurd acc
-endings_lem rows_true some_leaf wide g (claim ∷ claims) (tree ∷ trees) valid acc v h run (inl given) t f e =
-    let w = some_leaf wide g (taken wide g claim) tree v h given in
-    let closed = leaf_closed g claim.body (assumed_for wide g claim) w.0 tree w.1 acc.0 w.2 in
-    in_first (tree_ends tree t) (ends trees t) f
-    (leaf_in_tree (assumed_for wide g claim) w.0 tree w.1 t f w.2 ((rows_true g w.0 w.1 v h valid closed run w.3).0.ends t f e))
-endings_lem rows_true some_leaf wide g (claim ∷ claims) (tree ∷ trees) valid acc v h run (inr given) t f e =
-    in_second (tree_ends tree t) (ends trees t) f
-    (endings_lem rows_true some_leaf wide g claims trees valid acc.1 v h run given t f e)
+-- a task ends as the trees say in the runs of which what may be taken as given for one of the claims is true
+abbrev EndsAre : Bool → TaskGraph → List Claim → List WideTree → Type 0
+EndsAre wide g claims trees =
+    (v : List Bool) (h : List Event) → Run g v h → IsSomeTaken wide g v h claims
+    → (t : ℕ) (f : Final) → final g v h t ≡ Some f → has (ends trees t) f ≡ true
+
+-- by the narrow rules
+narrow_ends : RowsAreTrue → SomeLeafAgrees → (g : TaskGraph) (claims : List Claim) (trees : List Tree) → IsGraph g → Accepts false g claims trees → EndsAre false g claims (map as_wide_tree trees)
+narrow_ends rows_true some_leaf g [] [] valid acc v h run given t f e = absurd given
+narrow_ends rows_true some_leaf g (claim ∷ claims) [] valid acc v h run given t f e = absurd acc
+narrow_ends rows_true some_leaf g [] (tree ∷ trees) valid acc v h run given t f e = absurd acc
+narrow_ends rows_true some_leaf g (claim ∷ claims) (tree ∷ trees) valid acc v h run (inl given) t f e =
+    let w = some_leaf false g (taken false g claim) tree v h given in
+    let closed = leaf_closed g claim.body (assumed_for false g claim) w.0 tree w.1 acc.0 w.2 in
+    let in_rows = (rows_true g w.0 w.1 v h valid closed run w.3).0.ends t f e in
+    in_first (tree_ends (as_wide_tree tree) t) (ends (map as_wide_tree trees) t) f
+    (rows_in_tree (as_wide_tree tree) (as_wide w.1) t f (leaf_rows (assumed_for false g claim) w.0 tree w.1 w.2)
+    (subst (λ z. has z.ends f ≡ true) (sym (narrow_row w.1 t)) in_rows))
+narrow_ends rows_true some_leaf g (claim ∷ claims) (tree ∷ trees) valid acc v h run (inr given) t f e =
+    in_second (tree_ends (as_wide_tree tree) t) (ends (map as_wide_tree trees) t) f
+    (narrow_ends rows_true some_leaf g claims trees valid acc.1 v h run given t f e)
+
+-- by the wide ones
+wide_ends : SomeWideLeafIsTrue → (g : TaskGraph) (claims : List Claim) (trees : List WideTree) → IsGraph g → WidelyAccepts g claims trees → EndsAre true g claims trees
+wide_ends some_leaf g [] [] valid acc v h run given t f e = absurd given
+wide_ends some_leaf g (claim ∷ claims) [] valid acc v h run given t f e = absurd acc
+wide_ends some_leaf g [] (tree ∷ trees) valid acc v h run given t f e = absurd acc
+wide_ends some_leaf g (claim ∷ claims) (tree ∷ trees) valid acc v h run (inl given) t f e =
+    let w = some_leaf g claim tree v h valid acc.0 run given in
+    in_first (tree_ends tree t) (ends trees t) f (rows_in_tree tree w.0 t f w.1 (w.2.ends t f e))
+wide_ends some_leaf g (claim ∷ claims) (tree ∷ trees) valid acc v h run (inr given) t f e =
+    in_second (tree_ends tree t) (ends trees t) f (wide_ends some_leaf g claims trees valid acc.1 v h run given t f e)
+
+pub endings_lem : RowsAreTrue → SomeLeafAgrees → SomeWideLeafIsTrue → EndingsAreTrue
+endings_lem rows_true some_leaf some_wide_leaf Narrow g claims certificate valid acc v h run given t f e =
+    subst (λ z. has (ends z t) f ≡ true) (sym acc.1) (narrow_ends rows_true some_leaf g claims acc.0 valid acc.2 v h run given t f e)
+endings_lem rows_true some_leaf some_wide_leaf Wide g claims certificate valid acc v h run given t f e =
+    wide_ends some_wide_leaf g claims certificate valid acc v h run given t f e

@@ -5,10 +5,13 @@ use Rattle.tpl_model.specs.declared.finals.Finals.{Finals}
 use Rattle.tpl_model.specs.Finals.{has}
 use Rattle.tpl_model.specs.Graph.{TaskGraph}
 use Rattle.tpl_model.specs.declared.event.Event.{Event}
+use Rattle.tpl_model.specs.declared.rule_set.RuleSet.{RuleSet}
 use Rattle.tpl_model.specs.Rules.{final, Run}
 use Rattle.tpl_model.specs.Valid.{IsGraph}
 use Rattle.tpl_model.specs.Claims.{Claim, IsGiven}
-use Rattle.tpl_model.specs.Certificate.{Tree, SplitInput, SplitEnd, Leaf, row, Accepts, taken}
+use Rattle.tpl_model.specs.Certificate.{row, is_wide, taken}
+use Rattle.tpl_model.specs.WiderRules.{plain, WideTree, OnInput, OnEnd, OnWinner, WideLeaf}
+use Rattle.tpl_laws.specs.ByRules.{AcceptsBy}
 use Rattle.tpl_draw.specs.Below.{below}
 
 -- no way to end
@@ -20,18 +23,19 @@ abbrev pub either : Finals → Finals → Finals
 either a b = record { ran = a.ran || b.ran; canceled = a.canceled || b.canceled; faulted = a.faulted || b.faulted }
 
 -- how a task may end by the rows of one leaf of the tree or another
-abbrev pub tree_ends : Tree → ℕ → Finals
-tree_ends (SplitInput i on_true on_false) t = either (tree_ends on_true t) (tree_ends on_false t)
-tree_ends (SplitEnd s ran canceled faulted) t = either (tree_ends ran t) (either (tree_ends canceled t) (tree_ends faulted t))
-tree_ends (Leaf rows) t = (row rows t).ends
+abbrev pub tree_ends : WideTree → ℕ → Finals
+tree_ends (OnInput i on_true on_false) t = either (tree_ends on_true t) (tree_ends on_false t)
+tree_ends (OnEnd s ran canceled faulted) t = either (tree_ends ran t) (either (tree_ends canceled t) (tree_ends faulted t))
+tree_ends (OnWinner n x on_yes on_no) t = either (tree_ends on_yes t) (tree_ends on_no t)
+tree_ends (WideLeaf rows) t = (row (plain rows) t).ends
 
 -- how a task may end by one tree or another
-abbrev pub ends : List Tree → ℕ → Finals
+abbrev pub ends : List WideTree → ℕ → Finals
 ends [] t = no_ends
 ends (tree ∷ trees) t = either (tree_ends tree t) (ends trees t)
 
 -- how each of the first n tasks may end by the trees
-abbrev pub endings : List Tree → ℕ → List Finals
+abbrev pub endings : List WideTree → ℕ → List Finals
 endings trees n = below (λ t. ends trees t ∷ []) n
 
 -- what a certificate may take as given for one of the claims is true of a run so far: by the wider rules for a claim
@@ -40,10 +44,10 @@ abbrev pub IsSomeTaken : Bool → TaskGraph → List Bool → List Event → Lis
 IsSomeTaken wide g v h [] = ⊥
 IsSomeTaken wide g v h (claim ∷ claims) = IsGiven g v h (taken wide g claim) ⊎ IsSomeTaken wide g v h claims
 
--- where a certificate is accepted, a task ends as one of its rows says, in each run of which what may be taken as given
--- for one of the claims is true
+-- where a certificate is accepted by the rules, a task ends as one of its rows says, in each run of which what may be
+-- taken as given for one of the claims is true
 abbrev pub EndingsAreTrue : Type 0
 EndingsAreTrue =
-    (wide : Bool) (g : TaskGraph) (claims : List Claim) (certificate : List Tree) → IsGraph g → Accepts wide g claims certificate
-    → (v : List Bool) (h : List Event) → Run g v h → IsSomeTaken wide g v h claims
+    (rules : RuleSet) (g : TaskGraph) (claims : List Claim) (certificate : List WideTree) → IsGraph g → AcceptsBy rules g claims certificate
+    → (v : List Bool) (h : List Event) → Run g v h → IsSomeTaken (is_wide rules) g v h claims
     → (t : ℕ) (f : Final) → final g v h t ≡ Some f → has (ends certificate t) f ≡ true

@@ -1,7 +1,8 @@
 //! How the tasks may end by the rows of a certificate.
 
-ghost use Rattle.std.specs.Prelude.{◌≡◌, IfOk};
+ghost use Rattle.std.specs.Prelude.{◌≡◌, IfOk, map};
 ghost use Rattle.tpl_model.specs.Certificate.{row};
+ghost use Rattle.tpl_model.specs.WiderRules.{as_wide_tree};
 ghost use Rattle.tpl_draw.specs.Endings.{either, endings, ends, no_ends, tree_ends, EndingsAreTrue};
 
 use std::alloc::{AllocError, Global};
@@ -20,7 +21,7 @@ pub(crate) fn no_ends() -> Finals
 }
 
 /// The members of either set.
-fn either(one: Finals, other: Finals) -> Finals
+pub(crate) fn either(one: Finals, other: Finals) -> Finals
     ensures { result ≡ either one other }
 {
     Finals {
@@ -42,8 +43,9 @@ fn leaf_ends(rows: &[Row], task: usize) -> Finals
 }
 
 /// How a task may end by the rows of one leaf of the tree or another.
+#[tactic(auto, using(crate::proofs::EndingLemmas::narrow_row))]
 fn tree_ends(tree: &Tree, task: usize) -> Finals
-    ensures { result ≡ tree_ends tree.now task }
+    ensures { result ≡ tree_ends (as_wide_tree tree.now) task }
 {
     match tree.node() {
         Node::SplitInput(_, on_true, on_false) => {
@@ -59,7 +61,7 @@ fn tree_ends(tree: &Tree, task: usize) -> Finals
 
 /// How a task may end by one tree or another.
 fn ends(trees: &[Tree], task: usize) -> Finals
-    ensures { result ≡ ends trees.now task }
+    ensures { result ≡ ends (map as_wide_tree trees.now) task }
 {
     let mut found = no_ends();
     for tree in trees {
@@ -70,7 +72,7 @@ fn ends(trees: &[Tree], task: usize) -> Finals
 
 /// How each of this many tasks may end by the trees of a certificate.
 pub fn endings(alloc: Global, trees: &[Tree], tasks: usize) -> Result<Vec<Finals>, AllocError>
-    ensures { IfOk result (λ found. found.items ≡ endings trees.now tasks) }
+    ensures { IfOk result (λ found. found.items ≡ endings (map as_wide_tree trees.now) tasks) }
 {
     let mut found = Vec::new(alloc);
     for task in 0..tasks {
@@ -86,4 +88,5 @@ pub fn endings_are_true()
 {
     tpl_laws::rows_are_true();
     tpl_laws::some_leaf_agrees();
+    tpl_laws::some_wide_leaf_is_true();
 }

@@ -11,8 +11,10 @@ mod lines;
 mod marks;
 mod showing;
 mod shown;
+mod wide_ending;
 
 pub use draw::picture;
 pub use ending::{endings, endings_are_true};
 pub use language::Language;
 pub use shown::{Failing, Moment, Shown};
+pub use wide_ending::wide_endings;
