@@ -1,5 +1,5 @@
 -- What the search writes is taken back by the check.
-use Rattle.std.proofs.Common.{◌≡◌, ℕ, List, inl, inr, codes, map, refl, subst}
+use Rattle.std.proofs.Common.{◌≡◌, ℕ, List, get_or, inl, inr, codes, map, refl, subst}
 use Rattle.std.specs.List.{All}
 use Rattle.tpl_model.specs.declared.rule_set.RuleSet.{RuleSet}
 use Rattle.tpl_model.specs.Certificate.{Tree}
@@ -39,7 +39,7 @@ only_accepted one faultless bytes doc spelled accepted exit text (inr wrong) =
     absurd (unreadable_never wrong.0 text (faultless bytes doc wrong.0 spelled wrong.1) wrong.3)
 
 pub within : (rules : RuleSet) (n : Names) (trees : List Tree) → All (IsRead n) trees → All IsWithinLimits trees → All (IsReadBack rules n) trees
-within rules n trees read limits = λ k t lt. read_within rules n (written_tree n t) t (read k t lt rules) (limits k t lt)
+within rules n trees read limits = λ k t lt. read_within rules n (written_tree n (get_or trees k t)) (get_or trees k t) (read k t lt rules) (limits k t lt)
 
 pub taken_back : SpellsOneDocument → SpelledHasNoFault → CertificateIsReadBack → (doc : DocumentValue) (trees : List Tree)
     → AcceptsBy (rules_of doc) doc.graph.graph doc.claims (map as_wide_tree trees) → All (IsReadBack (rules_of doc) doc.graph.names) trees → CanBePut doc trees (written_trees doc.graph.names trees)

@@ -56,6 +56,7 @@ fn check_with_tokens(
 {
     document.graph.valid_law();
     document.wide.limits_law();
+    tpl_laws::wide_fault_is_first();
     let (graph, claims) = (&document.graph, &document.claims);
     match check_wide(alloc, graph, claims, document.wide.trees()) {
         Ok(()) => Ok(Ok(())),
