@@ -1,7 +1,7 @@
 //! What is said on the standard error, for people: how far a search is, and why an answer is what it is. It changes
 //! nothing of the answer.
 
-ghost use Rattle.std.specs.Prelude.{IfSome};
+ghost use Rattle.std.specs.Prelude.{IfOk, IfSome};
 ghost use Rattle.std.specs.List.{All};
 ghost use Rattle.tpl_graph.specs.Fits.{Fits};
 ghost use Rattle.tpl_reader.specs.Document.{Spells};
@@ -10,11 +10,10 @@ ghost use Rattle.tpl_commands.specs.Finding.{IsFoundOf};
 
 use crate::progress::clear;
 use json::Value;
-use std::alloc::Global;
+use std::alloc::{AllocError, Global};
 use std::io::IsTerminal;
 use tpl_analyser::Watch;
-use tpl_checker::check;
-use tpl_commands::{Ask, Audit, Exit, Finding, Found, Listen, rules_of};
+use tpl_commands::{Ask, Audit, Exit, Finding, Found, Listen, check_document};
 use tpl_reader::{Document, Hear, NotRead, ReadFault};
 use tpl_reasons::{explain, no_document_text, no_json_text, twice_text};
 
@@ -65,7 +64,7 @@ impl<'a> Teller<'a> {
         requires claims { All (Fits document.graph.graph) document.claims.items }
     {
         if self.explains && (exit == Exit::Failure || exit == Exit::Unreadable) {
-            if let Some(found) = why_no_run(&document) {
+            if let Ok(Some(found)) = why_no_run(self.rt.alloc(), &document) {
                 self.answered(bytes, &Finding::Read(document, found));
             }
         }
@@ -137,21 +136,17 @@ impl Listen for Teller<'_> {
     }
 }
 
-/// Why a document isn't run: nothing says which values its inputs have, or its certificate is refused.
-fn why_no_run(document: &Document) -> Option<Found>
+/// Why a document isn't run: nothing says which values its inputs have, or its certificate is refused. Out of memory is the
+/// only error.
+fn why_no_run(alloc: Global, document: &Document) -> Result<Option<Found>, AllocError>
     requires { All (Fits document.now.graph.graph) document.now.claims.items }
-    ensures { IfSome result (IsFoundOf (doc_of document.now)) }
+    ensures { IfOk result (λ found. IfSome found (IsFoundOf (doc_of document.now))) }
 {
     match document.inputs() {
-        None => Some(Found::Audited(Audit::NoStart)),
-        Some(_) => match check(
-            &document.graph,
-            &document.claims,
-            &document.certificate,
-            rules_of(document),
-        ) {
-            Ok(()) => None,
-            Err(fault) => Some(Found::Checked(Err(fault))),
+        None => Ok(Some(Found::Audited(Audit::NoStart))),
+        Some(_) => match check_document(alloc, document)? {
+            Ok(()) => Ok(None),
+            Err(fault) => Ok(Some(Found::Checked(Err(fault)))),
         },
     }
 }
