@@ -3,10 +3,10 @@
 ghost use Rattle.std.specs.Prelude.{◌≡◌};
 ghost use Rattle.tpl_reasons.specs.Reasons.{check_reason, yes_reason};
 
-use crate::leaves::{row_text, rows_of};
+use crate::leaves::{Parts, row_text, tree_count};
 use crate::reason::Reason;
 use crate::rules::rule_text;
-use crate::words::{Said, claim_text, count_text};
+use crate::words::{Said, claim_text, count_text, name};
 use std::alloc::Global;
 use tpl_model::{CertFault, Property, TaskId};
 use tpl_reader::Document;
@@ -18,9 +18,6 @@ pub(crate) const STALE: &str =
 /// What is said where there is no certificate.
 const NONE: &str =
     "`taskgraph analyse --whole < document.json > certified.json` writes the document with its certificate\n";
-
-/// The most leaves of a tree with at most 6 splits on each path.
-const MOST_LEAVES: usize = 729;
 
 /// Why a yes to all claims says nothing.
 pub(crate) fn yes_reason(document: &Document) -> Option<Reason>
@@ -43,31 +40,37 @@ pub(crate) fn check_reason(document: &Document, verdict: &Result<(), CertFault>)
     }
 }
 
-/// Which leaf of a claim's tree doesn't have one row for each task.
+/// Which leaf of a claim's tree doesn't have one row for each task, or which of its splits is on no winner.
 fn rows_text(alloc: Global, document: &Document, claim: usize) -> Said {
-    for before in 0..MOST_LEAVES {
-        let leaf = before + 1;
-        match rows_of(document.certificate.trees(), claim, leaf) {
-            Some(rows) if rows.len() == document.graph.len() => {}
-            Some(rows) => {
-                let rows = count_text(alloc, rows.len(), "row")?;
-                let tasks = count_text(alloc, document.graph.len(), "task")?;
-                return format!(in alloc;
-                    "claim {claim}, leaf {leaf} has {rows} for {tasks}; a leaf has one row for each task, in declared order\n"
-                );
-            }
-            None => return format!(in alloc;
-                "the tree of claim {claim} names what the graph doesn't have\n"
-            ),
+    let graph = &document.graph;
+    let parts = Parts::of(alloc, document, claim)?;
+    for (before, rows) in parts.leaves().iter().enumerate() {
+        if rows.len() != graph.len() {
+            let leaf = before.saturating_add(1);
+            let rows = count_text(alloc, rows.len(), "row")?;
+            let tasks = count_text(alloc, graph.len(), "task")?;
+            return format!(in alloc;
+                "claim {claim}, leaf {leaf} has {rows} for {tasks}; a leaf has one row for each task, in declared order\n"
+            );
         }
     }
-    Ok(String::new(alloc))
+    match parts.strange_winner(graph) {
+        Some((task, argument)) => {
+            let (task, argument) = (name(graph, task), name(graph, argument));
+            format!(in alloc;
+                "the tree of claim {claim} splits on whether {argument} wins {task}; a split on a winner names a task of kind \"any\" and a task of its list\n"
+            )
+        }
+        None => format!(in alloc;
+            "the tree of claim {claim} names what the graph doesn't have\n"
+        ),
+    }
 }
 
 /// Why claims and trees don't fit each other.
 fn shape_text(alloc: Global, document: &Document, claim: usize) -> Said {
     let claims = document.claims.len();
-    let trees = document.certificate.trees().len();
+    let trees = tree_count(document);
     let counts = count_text(alloc, claims, "claim")?;
     let trees_text = count_text(alloc, trees, "tree")?;
     if claim > trees {
@@ -116,7 +119,7 @@ fn unproved_text(alloc: Global, document: &Document, claim: usize, leaf: usize) 
     let Some(asked) = document.claims.get(claim.saturating_sub(1)) else {
         return Ok(number);
     };
-    let rows = rows_of(document.certificate.trees(), claim, leaf).unwrap_or(&[]);
+    let rows = Parts::of(alloc, document, claim)?.leaf(leaf);
     let (one, other) = tasks_of(asked.body());
     let first = row_text(alloc, graph, rows, one)?;
     let second = if one == other {
@@ -143,8 +146,8 @@ fn refusal_text(alloc: Global, document: &Document, fault: CertFault) -> Said {
             rule,
         } => {
             let number = claim_text(alloc, document, claim)?;
-            let rule = rule_text(alloc, graph, rule, task)?;
-            let rows = rows_of(document.certificate.trees(), claim, leaf).unwrap_or(&[]);
+            let rule = rule_text(alloc, document, rule, task)?;
+            let rows = Parts::of(alloc, document, claim)?.leaf(leaf);
             let row = row_text(alloc, graph, rows, task)?;
             format!(in alloc; "{number}, leaf {leaf}: {rule}\n{row}")
         }
@@ -154,7 +157,7 @@ fn refusal_text(alloc: Global, document: &Document, fault: CertFault) -> Said {
 /// Why a certificate is refused, and how a new one is made.
 pub(crate) fn fault_text(alloc: Global, document: &Document, fault: CertFault) -> Said {
     let refusal = refusal_text(alloc, document, fault)?;
-    let advice = if document.certificate.trees().is_empty() {
+    let advice = if tree_count(document) == 0 {
         NONE
     } else {
         STALE

@@ -1,47 +1,163 @@
 //! The leaves of a certificate, and what their rows say.
 
-use crate::words::{Said, ends_text, list_text, name, set_text};
-use std::alloc::Global;
-use tpl_cert::{Node, Row, Tree};
-use tpl_graph::Graph;
-use tpl_model::TaskId;
+use crate::rules::role;
+use crate::words::{Said, ends_text, list_text, name, set_text, tokens_text};
+use std::alloc::{AllocError, Global};
+use tpl_cert::{Node, Row, Tree, WideNode, WideRow, WideTree};
+use tpl_graph::{Graph, Role};
+use tpl_model::{RuleSet, TaskId};
+use tpl_reader::Document;
 
-/// The rows of the leaf before which there are this many others. Each that is passed is counted down.
-fn rows_behind<'t>(tree: &'t Tree, others: &mut usize) -> Option<&'t [Row]> {
-    match tree.node() {
-        Node::SplitInput(_, on_true, on_false) => match rows_behind(on_true, others) {
-            Some(rows) => Some(rows),
-            None => rows_behind(on_false, others),
-        },
-        Node::SplitEnd(_, ran, canceled, faulted) => match rows_behind(ran, others) {
-            Some(rows) => Some(rows),
-            None => match rows_behind(canceled, others) {
-                Some(rows) => Some(rows),
-                None => rows_behind(faulted, others),
+/// The rows of a leaf; since version 3 they speak of tokens too.
+#[derive(Clone, Copy)]
+pub(crate) enum Rows<'d> {
+    Plain(&'d [Row]),
+    Wide(&'d [WideRow]),
+}
+
+/// What stands in a tree: the leaves in their order, and its splits on winners.
+#[derive(Drop)]
+pub(crate) struct Parts<'d> {
+    leaves: Vec<Rows<'d>>,
+    winners: Vec<(TaskId, TaskId)>,
+}
+
+impl<'d> Rows<'d> {
+    /// How many there are.
+    pub(crate) fn len(self) -> usize {
+        match self {
+            Rows::Plain(rows) => rows.len(),
+            Rows::Wide(rows) => rows.len(),
+        }
+    }
+
+    /// What the row of the task says besides of its tokens.
+    fn row(self, task: TaskId) -> Option<&'d Row> {
+        match self {
+            Rows::Plain(rows) => rows.get(task.0 as usize),
+            Rows::Wide(rows) => match rows.get(task.0 as usize) {
+                Some(row) => Some(row.row()),
+                None => None,
             },
-        },
-        Node::Leaf(rows) => {
-            if *others == 0 {
-                return Some(rows.as_slice());
-            }
-            *others -= 1;
-            None
+        }
+    }
+
+    /// What the row of the task says of tokens; nothing where the graph has none, or rows don't speak of them.
+    fn tokens_text(self, alloc: Global, graph: &Graph, task: TaskId) -> Said {
+        match self {
+            Rows::Wide(rows) if graph.token_count() > 0 => match rows.get(task.0 as usize) {
+                Some(row) => {
+                    let asked = tokens_text(alloc, graph, row.asked())?;
+                    let asks = tokens_text(alloc, graph, row.asks())?;
+                    format!(in alloc; "; asked {asked}; asks {asks}")
+                }
+                None => Ok(String::new(alloc)),
+            },
+            _ => Ok(String::new(alloc)),
         }
     }
 }
 
-/// The rows of a leaf of the tree of a claim, both counted from 1.
-pub(crate) fn rows_of(trees: &[Tree], claim: usize, leaf: usize) -> Option<&[Row]> {
-    let tree = trees.get(claim.checked_sub(1)?)?;
-    let mut others = leaf.checked_sub(1)?;
-    rows_behind(tree, &mut others)
+/// Adds the leaves of a tree.
+fn add_plain<'d>(parts: &mut Parts<'d>, tree: &'d Tree) -> Result<(), AllocError> {
+    match tree.node() {
+        Node::SplitInput(_, on_true, on_false) => {
+            add_plain(parts, on_true)?;
+            add_plain(parts, on_false)
+        }
+        Node::SplitEnd(_, ran, canceled, faulted) => {
+            add_plain(parts, ran)?;
+            add_plain(parts, canceled)?;
+            add_plain(parts, faulted)
+        }
+        Node::Leaf(rows) => parts.leaves.push(Rows::Plain(rows.as_slice())),
+    }
+}
+
+/// Adds the leaves and the winners of a tree of version 3.
+fn add_wide<'d>(parts: &mut Parts<'d>, tree: &'d WideTree) -> Result<(), AllocError> {
+    match tree.node() {
+        WideNode::SplitInput(_, on_true, on_false) => {
+            add_wide(parts, on_true)?;
+            add_wide(parts, on_false)
+        }
+        WideNode::SplitEnd(_, ran, canceled, faulted) => {
+            add_wide(parts, ran)?;
+            add_wide(parts, canceled)?;
+            add_wide(parts, faulted)
+        }
+        WideNode::SplitWinner(task, argument, on_yes, on_no) => {
+            parts.winners.push((*task, *argument))?;
+            add_wide(parts, on_yes)?;
+            add_wide(parts, on_no)
+        }
+        WideNode::Leaf(rows) => parts.leaves.push(Rows::Wide(rows.as_slice())),
+    }
+}
+
+impl<'d> Parts<'d> {
+    /// What stands in the tree of the claim of this number, counted from 1; nothing where it has none.
+    pub(crate) fn of(
+        alloc: Global,
+        document: &'d Document,
+        claim: usize,
+    ) -> Result<Parts<'d>, AllocError> {
+        let index = claim.saturating_sub(1);
+        let mut parts = Parts {
+            leaves: Vec::new(alloc),
+            winners: Vec::new(alloc),
+        };
+        if let Some(tree) = document.certificate.trees().get(index) {
+            add_plain(&mut parts, tree)?;
+        }
+        if let Some(tree) = document.wide.trees().get(index) {
+            add_wide(&mut parts, tree)?;
+        }
+        Ok(parts)
+    }
+
+    /// The rows of each leaf.
+    pub(crate) fn leaves(&self) -> &[Rows<'d>] {
+        self.leaves.as_slice()
+    }
+
+    /// The rows of the leaf of this number, counted from 1; none where it has no such leaf.
+    pub(crate) fn leaf(&self, number: usize) -> Rows<'d> {
+        match self.leaves.get(number.saturating_sub(1)) {
+            Some(rows) => *rows,
+            None => Rows::Plain(&[]),
+        }
+    }
+
+    /// The first split on a winner that can't be: of a task that is no WhenAny task, or has no such argument.
+    pub(crate) fn strange_winner(&self, graph: &Graph) -> Option<(TaskId, TaskId)> {
+        for split in &self.winners {
+            let has_it = match role(graph, split.0) {
+                Some(Role::Any(arguments)) => arguments.contains(&split.1),
+                _ => false,
+            };
+            if !has_it {
+                return Some(*split);
+            }
+        }
+        None
+    }
+}
+
+/// How many trees the certificate has.
+pub(crate) fn tree_count(document: &Document) -> usize {
+    match document.version.rules() {
+        RuleSet::Narrow => document.certificate.trees().len(),
+        RuleSet::Wide => document.wide.trees().len(),
+    }
 }
 
 /// What the row of the task says, as a line.
-pub(crate) fn row_text(alloc: Global, graph: &Graph, rows: &[Row], task: TaskId) -> Said {
-    let Some(row) = rows.get(task.0 as usize) else {
+pub(crate) fn row_text(alloc: Global, graph: &Graph, rows: Rows<'_>, task: TaskId) -> Said {
+    let Some(row) = rows.row(task) else {
         return Ok(String::new(alloc));
     };
+    let tokens = rows.tokens_text(alloc, graph, task)?;
     let task = name(graph, task);
     let ends = ends_text(alloc, row.ends())?;
     let runs = if row.runs() { "runs" } else { "doesn't run" };
@@ -49,6 +165,6 @@ pub(crate) fn row_text(alloc: Global, graph: &Graph, rows: &[Row], task: TaskId)
     let past = set_text(alloc, graph, row.past())?;
     let chain = list_text(alloc, graph, row.chain())?;
     format!(in alloc;
-        "the row of {task} says: it ends {ends}; it {runs}; before it {before}; past it {past}; chain {chain}\n"
+        "the row of {task} says: it ends {ends}; it {runs}; before it {before}; past it {past}; chain {chain}{tokens}\n"
     )
 }

@@ -3,7 +3,8 @@
 use crate::words::{Said, name};
 use std::alloc::Global;
 use tpl_graph::{Graph, Role};
-use tpl_model::{Rule, TaskId};
+use tpl_model::{Rule, RuleSet, TaskId};
+use tpl_reader::Document;
 
 /// What makes the task ready, if it is the graph's.
 pub(crate) fn role(graph: &Graph, task: TaskId) -> Option<Role<'_>> {
@@ -77,10 +78,58 @@ fn sentence(rule: Rule, role: Option<Role<'_>>) -> &'static str {
     }
 }
 
+/// The rule K4 where rows speak of tokens.
+const PAST_AND_TOKENS: &str =
+    "K4: its `past` may list only its attached children and what is settled by each way in which it may end, and its `asks` only what is requested by each of these: its body ends so, its own token is requested before it begins, or its options don't allow how the task ended that it continues";
+
+/// The rule K6 where splits may be on winners.
+const CHAIN_BEHIND_WINNER: &str =
+    "K6: each task in its `chain` must take over the exception of the one before it (a parent that of its attached child, a WhenAll task that of a task of its list), and the last must be a continuation that reads it: its options allow Faulted, or RanToCompletion if it continues a WhenAny task that only the one before it may win, its token is never requested, and its body observes on each path";
+
+/// What the rule asks of a task where rows may speak of tokens, and the graph has some.
+fn token_sentence(rule: Rule, role: Option<Role<'_>>) -> &'static str {
+    match (rule, role) {
+        (Rule::K1, Some(Role::Then(_))) => {
+            "K1: its options allow an end of that task, whose `asks` doesn't list its own token, so its row must say that it runs"
+        }
+        (Rule::K1, Some(Role::Child)) => {
+            "K1: its parent runs and may start it, at a place where its own token needn't be requested, so its row must say that it runs"
+        }
+        (Rule::K3, Some(Role::Root)) => {
+            "K3: a root waits for nothing, so its `before` and its `asked` must be empty"
+        }
+        (Rule::K3, Some(Role::Then(_))) => {
+            "K3: its `before` may list only that task and what that task's `past` lists, and its `asked` only what that task's `asks` lists"
+        }
+        (Rule::K3, _) => {
+            "K3: a child's `before` may list only what its parent's `before` lists, and its `asked` only what is requested on each path of its parent's body that starts it"
+        }
+        (Rule::K4, _) => PAST_AND_TOKENS,
+        (Rule::K5, Some(Role::All(_))) => {
+            "K5: `past` of WhenAll may list only the tasks of its list and what their `past` lists, and its `asks` only what their `asks` list"
+        }
+        (Rule::K5, Some(Role::Any(_))) => {
+            "K5: `past` of WhenAny may list only what is past each task of its list that may win, since any of them may be the first to end, and its `asks` only what the `asks` of each of these lists"
+        }
+        _ => sentence(rule, role),
+    }
+}
+
+/// What the rule of the document's version asks of a task.
+fn sentence_of(document: &Document, rule: Rule, role: Option<Role<'_>>) -> &'static str {
+    match (document.version.rules(), rule) {
+        (RuleSet::Narrow, _) => sentence(rule, role),
+        (RuleSet::Wide, Rule::K6) => CHAIN_BEHIND_WINNER,
+        _ if document.graph.token_count() > 0 => token_sentence(rule, role),
+        _ => sentence(rule, role),
+    }
+}
+
 /// What the rule asks of a task, with its name.
-pub(crate) fn rule_text(alloc: Global, graph: &Graph, rule: Rule, task: TaskId) -> Said {
+pub(crate) fn rule_text(alloc: Global, document: &Document, rule: Rule, task: TaskId) -> Said {
+    let graph = &document.graph;
     let role = role(graph, task);
-    let (task, rule) = (name(graph, task), sentence(rule, role));
+    let (task, rule) = (name(graph, task), sentence_of(document, rule, role));
     match role {
         Some(Role::Then(antecedent)) => {
             let antecedent = name(graph, antecedent);

@@ -5,6 +5,7 @@ use tpl_graph::{Claim, Graph};
 use tpl_model::{
     Actor, Final, Finals, Given, InputId, Inputs, Property, SiteId, TaskId, TaskSet, TokenId,
 };
+use tpl_paths::TokenSet;
 use tpl_reader::Document;
 
 /// A text; out of memory is the only error.
@@ -110,6 +111,18 @@ pub(crate) fn set_text(alloc: Global, graph: &Graph, set: &TaskSet) -> Said {
             }
             room -= 1;
             add_word(&mut list, ", ", name(graph, task))?;
+        }
+    }
+    or_nothing(alloc, list)
+}
+
+/// The names of the tokens of a set.
+pub(crate) fn tokens_text(alloc: Global, graph: &Graph, tokens: TokenSet) -> Said {
+    let mut list = String::new(alloc);
+    for number in 0..graph.token_count() {
+        let token = TokenId(number as u8);
+        if tokens.contains(token) {
+            add_word(&mut list, ", ", token_name(graph, token))?;
         }
     }
     or_nothing(alloc, list)

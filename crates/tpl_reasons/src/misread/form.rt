@@ -44,11 +44,12 @@ pub(crate) enum Form {
     GivenEnd,
     GivenJob,
     GivenWord,
-    /// A tree of the certificate, one of the three below.
+    /// A tree of the certificate, one of the four below; the last in version 3 alone.
     Tree,
+    Leaf,
     SplitInput,
     SplitEnd,
-    Leaf,
+    SplitWinner,
     Row,
     Start,
     /// Lists whose elements are parts of their own.
@@ -115,7 +116,7 @@ pub(crate) enum Form {
 }
 
 /// What stands at a member, by its name, save where its object says otherwise.
-const MEMBERS: [(&str, Form); 52] = [
+const MEMBERS: [(&str, Form); 56] = [
     ("ends", Form::Finals),
     ("runs", Form::Truth),
     ("may_fail", Form::Truth),
@@ -123,6 +124,8 @@ const MEMBERS: [(&str, Form); 52] = [
     ("before", Form::TaskNames),
     ("past", Form::TaskNames),
     ("chain", Form::Chain),
+    ("asked", Form::TokenNames),
+    ("asks", Form::TokenNames),
     ("rows", Form::Rows),
     ("yes", Form::Tree),
     ("no", Form::Tree),
@@ -149,6 +152,8 @@ const MEMBERS: [(&str, Form); 52] = [
     ("when", Form::Subject),
     ("final", Form::TaskName),
     ("split_end", Form::TaskName),
+    ("split_winner", Form::TaskName),
+    ("task", Form::TaskName),
     ("in", Form::SomeFinals),
     ("observed", Form::Begun),
     ("never", Form::Begun),
@@ -168,6 +173,14 @@ const MEMBERS: [(&str, Form); 52] = [
     ("times", Form::Times),
     ("succeeds", Form::SureSite),
     ("note", Form::Note),
+];
+
+/// The forms of trees.
+const TREES: [Form; 4] = [
+    Form::Leaf,
+    Form::SplitInput,
+    Form::SplitEnd,
+    Form::SplitWinner,
 ];
 
 /// The forms of claims.
@@ -231,6 +244,8 @@ impl Form {
             Form::RunsClaim => &["runs", "given", "name", "note"],
             Form::GivenEnd => &["ended", "in"],
             Form::GivenJob => &["succeeds"],
+            Form::SplitWinner => &["split_winner", "task", "yes", "no"],
+            Form::Row => &["ends", "runs", "before", "past", "chain", "asked", "asks"],
             _ => self.names_of_second(),
         }
     }
@@ -299,7 +314,7 @@ impl Form {
             | Form::GivenJob
             | Form::Leaf => 1,
             Form::Started | Form::Join | Form::SplitInput => 3,
-            Form::Then | Form::SplitEnd => 4,
+            Form::Then | Form::SplitEnd | Form::SplitWinner => 4,
             _ => 2,
         }
     }
@@ -347,6 +362,7 @@ impl Form {
                 Form::GivenJob,
             ],
             Form::Given => &[Form::GivenInput, Form::GivenToken],
+            Form::Tree if third => &TREES,
             Form::Tree => &[Form::Leaf, Form::SplitInput, Form::SplitEnd],
             _ => &[],
         }

@@ -8,6 +8,9 @@ use json::Value;
 use std::alloc::AllocError;
 use tpl_json::find;
 
+/// What is said of a member that only version 3 has.
+const BEFORE_THIRD: &str = " before version 3";
+
 /// A line, if there is a place that it speaks of.
 pub(crate) type Line = Result<Option<String>, AllocError>;
 
@@ -58,7 +61,11 @@ impl<'v, 't> Teller<'v, 't> {
         let Some(key) = stranger(self.third, form, object) else {
             return Ok(String::new(self.alloc));
         };
-        let near = question(self.alloc, key, form.names(self.third))?;
+        let near = if form.names(true).contains(&key) {
+            String::from_str(self.alloc, BEFORE_THIRD)?
+        } else {
+            question(self.alloc, key, form.names(self.third))?
+        };
         let key = quoted(self.alloc, key)?;
         let all = listed(self.alloc, form.names(self.third))?;
         format!(in self.alloc;
@@ -97,7 +104,12 @@ impl<'v, 't> Teller<'v, 't> {
             Some(member) => member.0,
             None => "",
         };
-        let near = question(self.alloc, first, &names)?;
+        let is_first = |choice: &Form| choice.key() == first;
+        let near = if form.choices(true).iter().any(is_first) {
+            String::from_str(self.alloc, BEFORE_THIRD)?
+        } else {
+            question(self.alloc, first, &names)?
+        };
         let first = quoted(self.alloc, first)?;
         let all = listed(self.alloc, &names)?;
         let (word, noun) = (form.word(), form.noun(self.third));
