@@ -8,6 +8,7 @@ use crate::graphs::{graph_answer, readers_answer, same_answer};
 use crate::lengths::lengths_answer;
 use crate::scripts::script_answer;
 use crate::sets::sets_answer;
+use crate::wide::wide_answer;
 use crate::words::words_answer;
 use std::alloc::{AllocError, Global};
 use tpl_reader::{Document, read_document};
@@ -23,7 +24,7 @@ pub fn answer(
         "words" => words_answer(alloc, question),
         "sets" => sets_answer(alloc, question),
         "bytes" => bytes_answer(alloc, question),
-        "script" | "tree" | "lengths" | "same" => {
+        "script" | "tree" | "wide" | "lengths" | "same" => {
             document_answer(alloc, kind, context.as_bytes(), question)
         }
         _ => document_answer(alloc, kind, question.as_bytes(), ""),
@@ -57,6 +58,7 @@ fn answer_about(
         "same" => same_answer(alloc, &document.graph, question),
         "script" => script_answer(alloc, &document.graph, question),
         "tree" => tree_answer(alloc, &document.graph, question),
+        "wide" => wide_answer(alloc, &document.graph, question),
         "claims" => claims_answer(alloc, document),
         "lengths" => lengths_answer(alloc, document, question),
         _ => String::from_str(alloc, "no kind of question"),

@@ -2,7 +2,7 @@
 
 use std::alloc::{AllocError, Global};
 use tpl_journal::{JournalFault, read_journal};
-use tpl_model::{Event, Inputs};
+use tpl_model::{Event, Inputs, RuleSet};
 use tpl_reader::{Document, ReadFault};
 
 /// Why there is no document; out of memory is no answer.
@@ -10,6 +10,14 @@ pub fn fault_text(alloc: Global, fault: ReadFault) -> Result<String, AllocError>
     match fault {
         ReadFault::Memory => Err(AllocError),
         fault => format!(in alloc; "{fault}"),
+    }
+}
+
+/// How many trees its certificate has.
+fn trees_of(document: &Document) -> usize {
+    match document.version.rules() {
+        RuleSet::Narrow => document.certificate.trees().len(),
+        RuleSet::Wide => document.wide.trees().len(),
     }
 }
 
@@ -22,7 +30,7 @@ pub fn parts_of(alloc: Global, document: &Document) -> Result<String, AllocError
         graph.token_count(),
         graph.input_count(),
         document.claims.len(),
-        document.certificate.trees().len(),
+        trees_of(document),
         document.journal.len(),
         document.start.is_some()
     )

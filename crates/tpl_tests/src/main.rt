@@ -18,6 +18,7 @@ mod names;
 mod scripts;
 mod sets;
 mod tell;
+mod wide;
 mod words;
 
 use crate::answers::answer;
