@@ -22,7 +22,7 @@ KINDS = {
     "start": ("tpl_parts/specs/Start", "start"),
 }
 # the members of an object, at the place where a definition has no others; by a name they stand elsewhere
-MEMBERS = r'(?:object_of|has_only|top_names version =) ?\(?((?:codes "\w+" ∷ )+|member ∷ )(\[\]|\w+ version)'
+MEMBERS = r'(?:object_of|has_only|top_names version =|row_names Wide =) ?\(?((?:codes "\w+" ∷ )+|member ∷ )(\[\]|\w+ version)'
 # how a member is read that may be left out
 LEFT_OUT = (
     r'(?:\w+_or_\w+(?: journal)?|else_at inner|claim_name|note_at) \(get \(codes "(\w+)"\)',
@@ -136,6 +136,35 @@ def test_schema_says_what_version_3_adds():
     assert {name for name, said in given.items() if said is False} == third_given()
 
 
+def test_schema_says_what_version_3_adds_to_trees():
+    older = schema()["$defs"]["older_tree"]["properties"]
+    assert schema()["allOf"][1]["then"]["properties"]["certificate"] == {"items": {"$ref": "#/$defs/older_tree"}}
+    assert {name for name, said in older.items() if said is False} == third_trees()
+    assert older["rows"]["items"]["properties"] == dict.fromkeys(third_rows(), False)
+    inner = {name for name, said in older.items() if said == {"$ref": "#/$defs/older_tree"}}
+    assert inner == {name for it in schema_of("tree") for name in it["properties"] if is_tree(it["properties"][name])}
+
+
+def is_tree(said):
+    """Whether the schema says that a tree stands at a member."""
+    return said.get("$ref") == "#/$defs/tree"
+
+
+def third_trees():
+    """The first member of each tree that only version 3 has."""
+    defined = definitions(KINDS["tree"][0])
+    name = re.search(r"splits_winners rules && has_member \(codes \"(\w+)\"\)", defined["node_at"])[1]
+    assert "splits_winners Narrow = false\nsplits_winners Wide = true" in defined["splits_winners"]
+    return {name}
+
+
+def third_rows():
+    """The members that version 3 adds to a row."""
+    names = definitions(KINDS["row"][0])["row_names"]
+    narrow, wide = (words(re.search(rf"(?m)^row_names {rules} = (.*)", names)[1]) for rules in ("Narrow", "Wide"))
+    return wide - narrow
+
+
 def third_claims():
     """The members by which the claims go that only version 3 has."""
     text = read("crates/tpl_parts/specs/Claims.antt")
@@ -217,6 +246,8 @@ def test_page_says_what_version_3_adds():
     assert marked(rows(section("The top"), "Member")) == added("top")
     assert marked(rows(section("Claims"), "Member")) == third_claims()
     assert marked(rows(*TABLES["given"])) == third_given() | single_words("given")
+    trees = re.findall(r'`(?:\{"(\w+)":[^`]*\}|(\w+))` \(version 3\)', section("Trees"))
+    assert {name for found in trees for name in found if name} == third_trees() | third_rows()
 
 
 # ---- the reasons
@@ -248,6 +279,13 @@ def needed(name):
 
 def test_reasons_have_the_members():
     assert {frozenset(names) for names in table().values()} == set().union(*(forms(kind) for kind in KINDS))
+
+
+def test_reasons_say_what_version_3_adds():
+    second = read(FORMS).partition("fn names_of_second")[2].partition("fn is_object")[0]
+    older = {name: re.findall(r'"(\w+)"', names) for name, names in re.findall(r"Form::(\w+) => &\[([^\]]*)\]", second)}
+    assert set(table()["Row"]) - set(older["Row"]) == third_rows()
+    assert {table()[name][0] for name in table() if name.startswith("Split") and name not in older} == third_trees()
 
 
 def test_reasons_say_what_may_be_left_out():
