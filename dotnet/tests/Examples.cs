@@ -29,6 +29,8 @@ namespace TaskGraph.Tests
             { "join-by-any", () => Join(true) },
             { "join-by-all", () => Join(false) },
             { "saga", Saga },
+            { "stop-for-good", StopForGood },
+            { "first-answer", FirstAnswer },
             { "try-catch-finally", TryCatchFinally },
             { "finally-too-early", FinallyTooEarly },
             { "from-csharp 17", FromCSharpMethod },
@@ -272,6 +274,30 @@ namespace TaskGraph.Tests
                 .After(charge, refund).Observed(reserve).Observed(charge).Observed(ship).Final(close, RanToCompletion)
                 .Final(refund, RanToCompletion, Canceled).After(refund, close).Final(ended, Canceled)
                 .Named("confirmed if nothing fails").NoFailure().Runs(confirm);
+            return g;
+        }
+
+        private static TaskGraphBuilder StopForGood()
+        {
+            var g = new TaskGraphBuilder();
+            var stop = g.Token("stop");
+            var serve = g.StartNew("Serve", Working("serve").Cancel(stop));
+            var retry = serve.ContinueWith("Retry", Working("retry"), None, stop);
+            var report = retry.ContinueWith("Report", Working("report"), OnlyOnCanceled);
+            g.Claims.Named("no retry").Final(retry, Canceled).Named("always a report").Runs(report);
+            return g;
+        }
+
+        private static TaskGraphBuilder FirstAnswer()
+        {
+            var g = new TaskGraphBuilder();
+            var cache = g.StartNew("Cache", Working("read_cache"));
+            var server = g.StartNew("Server", MayFail("ask_server"));
+            var failing = new Steps().Observe();
+            g.WhenAny("First", cache, server).ContinueWith("Show", new Steps().When(Faulted, failing, Working("show")));
+            var apologize = g.Child("Apologize", Working("apologize"), TaskCreationOptions.AttachedToParent);
+            failing.Start(apologize);
+            g.Claims.Named("no apology for a server that hasn't answered").After(server, apologize);
             return g;
         }
 
