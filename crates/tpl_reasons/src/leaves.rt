@@ -70,7 +70,7 @@ fn add_plain<'d>(parts: &mut Parts<'d>, tree: &'d Tree) -> Result<(), AllocError
             add_plain(parts, canceled)?;
             add_plain(parts, faulted)
         }
-        Node::Leaf(rows) => parts.leaves.push(Rows::Plain(rows.as_slice())),
+        Node::Leaf(rows) => Ok(parts.leaves.push(Rows::Plain(rows.as_slice()))?),
     }
 }
 
@@ -91,7 +91,7 @@ fn add_wide<'d>(parts: &mut Parts<'d>, tree: &'d WideTree) -> Result<(), AllocEr
             add_wide(parts, on_yes)?;
             add_wide(parts, on_no)
         }
-        WideNode::Leaf(rows) => parts.leaves.push(Rows::Wide(rows.as_slice())),
+        WideNode::Leaf(rows) => Ok(parts.leaves.push(Rows::Wide(rows.as_slice()))?),
     }
 }
 
