@@ -61,9 +61,7 @@ fn rows_text(alloc: Global, document: &Document, claim: usize) -> Said {
                 "the tree of claim {claim} splits on whether {argument} wins {task}; a split on a winner names a task of kind \"any\" and a task of its list\n"
             )
         }
-        None => format!(in alloc;
-            "the tree of claim {claim} names what the graph doesn't have\n"
-        ),
+        None => format!(in alloc; "the tree of claim {claim} names what the graph doesn't have\n"),
     }
 }
 
