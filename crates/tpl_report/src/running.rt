@@ -121,8 +121,10 @@ fn check_and_run<R: Threads + Wait + Sync, K: Drop + Send, W: Item<K> + Send, O:
         (Prevents W.site W.may_fail items.items) O.contents to.old to.new result }
 {
     match check_document(alloc, document) {
-        Ok(Ok(())) => run_with(rt, alloc, telling, document, inputs, items, crew, to),
-        Ok(Err(fault)) => put_answer(refused_answer(alloc, &document.graph, fault), to),
+        Ok(verdict) => match verdict {
+            Ok(()) => run_with(rt, alloc, telling, document, inputs, items, crew, to),
+            Err(fault) => put_answer(refused_answer(alloc, &document.graph, fault), to),
+        },
         Err(_) => put_out_of_memory(to),
     }
 }
