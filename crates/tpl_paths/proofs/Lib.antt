@@ -1,5 +1,7 @@
 pub mod TokenBits
 pub mod Meets
 pub mod Asks
+pub mod Taking
 pub mod GatheredSoFar
+pub mod Nowhere
 pub mod Agreements

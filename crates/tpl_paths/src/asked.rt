@@ -2,18 +2,21 @@
 
 ghost use Rattle.std.specs.Prelude.{◌≡◌};
 ghost use Rattle.tpl_model.specs.Knowledge as paths;
+ghost use Rattle.tpl_model.specs.Knowledge.{both, meet, with_tokens};
 ghost use Rattle.tpl_model.specs.Paths.{cancellation};
 ghost use Rattle.tpl_model.specs.Statements.{Check, Start, Work};
 ghost use Rattle.tpl_model.specs.View.{known};
-ghost use Rattle.tpl_paths.specs.Asked.{ended, asked_at};
+ghost use Rattle.tpl_paths.specs.Asked.{ended, asked_at, takes_burdened, takes_unburdened};
 ghost use Rattle.tpl_paths.specs.Knowledge.{told};
 ghost use Rattle.tpl_paths.specs.Reached.{reached_of};
 ghost use Rattle.tpl_paths.specs.Reading.{reading_of};
+ghost use Rattle.tpl_paths.specs.TokenSet.{has_token};
 
 use crate::knowledge::Knowledge;
-use crate::paths::{copy, only_if};
+use crate::paths::{meet_if, meet_knowing_if};
 use crate::reached::Reached;
 use crate::reading::Reading;
+use crate::token_set::TokenSet;
 use tpl_model::{Final, Label, Outcome, SiteId, TaskId, TokenId, View};
 
 /// The paths that are asked for.
@@ -27,65 +30,96 @@ pub(crate) enum Asked {
     Start(TaskId),
 }
 
-/// What the paths have in common that end with the outcome, if they are asked for.
-pub(crate) fn ended(asked: Asked, outcome: Outcome, reached: &Reached) -> Option<Knowledge>
-    ensures { told result ≡ ended asked outcome (reached_of reached.now) }
-{
-    match asked {
-        Asked::End(status) => ending_as(status, outcome, reached),
-        Asked::Throw => throwing(outcome, reached),
-        Asked::Start(_) => None,
+impl Asked {
+    /// Of the paths that end with the outcome those are asked for on which no attached child ends
+    /// Faulted.
+    fn takes_unburdened(self, outcome: Outcome) -> bool
+        ensures { result ≡ takes_unburdened self outcome }
+    {
+        match self {
+            Asked::End(Final::RanToCompletion) => match outcome {
+                Outcome::Returned => true,
+                Outcome::Threw(_) | Outcome::Acknowledged => false,
+            },
+            Asked::End(Final::Canceled) => match outcome {
+                Outcome::Acknowledged => true,
+                Outcome::Returned | Outcome::Threw(_) => false,
+            },
+            Asked::End(Final::Faulted) | Asked::Throw => match outcome {
+                Outcome::Threw(_) => true,
+                Outcome::Returned | Outcome::Acknowledged => false,
+            },
+            Asked::Start(_) => false,
+        }
+    }
+
+    /// Of the paths that end with the outcome those are asked for on which one does.
+    fn takes_burdened(self, outcome: Outcome) -> bool
+        ensures { result ≡ takes_burdened self outcome }
+    {
+        match self {
+            Asked::End(Final::RanToCompletion) | Asked::End(Final::Canceled) => false,
+            Asked::End(Final::Faulted) => true,
+            Asked::Throw => match outcome {
+                Outcome::Threw(_) => true,
+                Outcome::Returned | Outcome::Acknowledged => false,
+            },
+            Asked::Start(_) => false,
+        }
     }
 }
 
-/// Of the paths that end with the outcome those that end a task so: Faulted with an exception or
-/// burdened, else Canceled where the cancellation was acknowledged, else RanToCompletion.
-fn ending_as(status: Final, outcome: Outcome, reached: &Reached) -> Option<Knowledge>
-    ensures { told result ≡ paths.ending_as status outcome (reached_of reached.now) }
+/// What is found, and what the paths have in common that end with the outcome, if they are asked
+/// for.
+pub(crate) fn find_ended(
+    asked: Asked,
+    outcome: Outcome,
+    reached: &Reached,
+    found: &mut Option<Knowledge>,
+)
+    ensures { told found.new ≡ meet (told found.old) (ended asked outcome
+        (reached_of reached.now)) }
 {
-    match status {
-        Final::RanToCompletion => match outcome {
-            Outcome::Returned => copy(&reached.unburdened),
-            Outcome::Threw(_) | Outcome::Acknowledged => None,
-        },
-        Final::Canceled => match outcome {
-            Outcome::Acknowledged => copy(&reached.unburdened),
-            Outcome::Returned | Outcome::Threw(_) => None,
-        },
-        Final::Faulted => match outcome {
-            Outcome::Threw(_) => reached.all(),
-            Outcome::Returned | Outcome::Acknowledged => copy(&reached.burdened),
-        },
-    }
+    let unburdened = asked.takes_unburdened(outcome);
+    let burdened = asked.takes_burdened(outcome);
+    meet_if(unburdened, found, &reached.unburdened);
+    meet_if(burdened, found, &reached.burdened);
 }
 
-/// Of the paths that end with the outcome those that end with an exception.
-fn throwing(outcome: Outcome, reached: &Reached) -> Option<Knowledge>
-    ensures { told result ≡ paths.throwing outcome (reached_of reached.now) }
+/// The same of paths which know these tokens too.
+fn find_knowing(
+    asked: Asked,
+    outcome: Outcome,
+    tokens: TokenSet,
+    reached: &Reached,
+    found: &mut Option<Knowledge>,
+)
+    ensures { told found.new ≡ meet (told found.old) (ended asked outcome
+        (both (with_tokens (has_token tokens)) (reached_of reached.now))) }
 {
-    match outcome {
-        Outcome::Threw(_) => reached.all(),
-        Outcome::Returned | Outcome::Acknowledged => None,
-    }
+    let unburdened = asked.takes_unburdened(outcome);
+    let burdened = asked.takes_burdened(outcome);
+    meet_knowing_if(unburdened, found, tokens, &reached.unburdened);
+    meet_knowing_if(burdened, found, tokens, &reached.burdened);
 }
 
-/// What is asked for at a check of the token. A path that ends there knows the token, and those
-/// that are requested with it.
-pub(crate) fn at_check(
+/// What is found, and what is asked for at a check of the token. A path that ends there knows the
+/// token, and those that are requested with it.
+pub(crate) fn find_check(
     asked: Asked,
     token: TokenId,
     reading: &Reading,
     reached: &Reached,
-) -> Option<Knowledge>
-    ensures { told result ≡ asked_at asked (reading_of reading.now) (Check token.0)
-        (reached_of reached.now) }
+    found: &mut Option<Knowledge>,
+)
+    ensures { told found.new ≡ meet (told found.old) (asked_at asked (reading_of reading.now)
+        (Check token.0) (reached_of reached.now)) }
 {
     let view = reading.view;
-    if view.is_quiet(token) {
-        return None;
+    if !view.is_quiet(token) {
+        let tokens = reading.linked_with(token);
+        find_knowing(asked, cancellation(view, token), tokens, reached, found);
     }
-    let knowing = reached.copy().with_tokens(reading.linked_with(token));
-    ended(asked, cancellation(view, token), &knowing)
 }
 
 /// The outcome of a check of a token that is requested.
@@ -99,32 +133,45 @@ fn cancellation(view: &View, token: TokenId) -> Outcome
     }
 }
 
-/// What is asked for at the start of the child.
-pub(crate) fn at_start(asked: Asked, child: TaskId, reached: &Reached) -> Option<Knowledge>
-    ensures { (w : paths.Reading) → told result ≡ asked_at asked w (Start child.0)
-        (reached_of reached.now) }
+/// What is found, and what is asked for at the start of the child.
+pub(crate) fn find_start(
+    asked: Asked,
+    child: TaskId,
+    reached: &Reached,
+    found: &mut Option<Knowledge>,
+)
+    ensures { (w : paths.Reading) → told found.new ≡ meet (told found.old) (asked_at asked w
+        (Start child.0) (reached_of reached.now)) }
 {
     match asked {
-        Asked::Start(sought) => only_if(child.0 == sought.0, reached.all()),
-        Asked::End(_) | Asked::Throw => None,
+        Asked::Start(sought) => {
+            let here = child.0 == sought.0;
+            meet_if(here, found, &reached.unburdened);
+            meet_if(here, found, &reached.burdened);
+        }
+        Asked::End(_) | Asked::Throw => {}
     }
 }
 
-/// What is asked for at a job.
-pub(crate) fn at_work(
+/// What is found, and what is asked for at a job.
+pub(crate) fn find_work(
     asked: Asked,
     site: SiteId,
     may_fail: bool,
     reading: &Reading,
     reached: &Reached,
-) -> Option<Knowledge>
-    ensures { told result ≡ asked_at asked (reading_of reading.now) (Work site.0 may_fail)
-        (reached_of reached.now) }
+    found: &mut Option<Knowledge>,
+)
+    ensures { told found.new ≡ meet (told found.old) (asked_at asked (reading_of reading.now)
+        (Work site.0 may_fail) (reached_of reached.now)) }
 {
     let view = reading.view;
     if may_fail && !view.is_sure(site) {
-        ended(asked, Outcome::Threw(Label::WorkFailed(site)), reached)
-    } else {
-        None
+        find_ended(
+            asked,
+            Outcome::Threw(Label::WorkFailed(site)),
+            reached,
+            found,
+        );
     }
 }

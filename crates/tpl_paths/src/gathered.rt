@@ -1,7 +1,7 @@
 //! What a walk over a body gathers.
 
 ghost use Rattle.std.specs.Prelude.{◌≡◌};
-ghost use Rattle.tpl_model.specs.Knowledge.{meet, nowhere};
+ghost use Rattle.tpl_model.specs.Knowledge.{join, meet, nowhere};
 ghost use Rattle.tpl_model.specs.Statements.{Check, Cancel, Start, Work};
 ghost use Rattle.tpl_paths.specs.Asked.{ended};
 ghost use Rattle.tpl_paths.specs.Gathered.{gathered_of, past};
@@ -9,7 +9,7 @@ ghost use Rattle.tpl_paths.specs.Knowledge.{told};
 ghost use Rattle.tpl_paths.specs.Reached.{reached_of};
 ghost use Rattle.tpl_paths.specs.Reading.{reading_of};
 
-use crate::asked::{Asked, at_check, at_start, at_work, ended};
+use crate::asked::{Asked, find_check, find_ended, find_start, find_work};
 use crate::knowledge::Knowledge;
 use crate::paths::meet;
 use crate::reached::Reached;
@@ -24,78 +24,82 @@ pub(crate) struct Gathered {
 }
 
 impl Gathered {
-    /// The paths end with the outcome.
-    pub(crate) fn end(self, asked: Asked, outcome: Outcome) -> Gathered
-        ensures { gathered_of result ≡ record {
-          reached = nowhere;
-          found = meet (told self.found) (ended asked outcome (reached_of self.reached));
+    /// What is found, and what the paths have in common that end here with the outcome, if they are
+    /// asked for.
+    pub(crate) fn find_ended(&mut self, asked: Asked, outcome: Outcome)
+        ensures { gathered_of self.new ≡ record {
+          reached = reached_of self.old.reached;
+          found = meet (told self.old.found) (ended asked outcome (reached_of self.old.reached));
         } }
     {
-        let Gathered { reached, found } = self;
-        let here = ended(asked, outcome, &reached);
-        Gathered {
-            reached: Reached::nowhere(),
-            found: meet(found, here),
-        }
+        find_ended(asked, outcome, &self.reached, &mut self.found);
+    }
+
+    /// The paths end with the outcome.
+    pub(crate) fn end(&mut self, asked: Asked, outcome: Outcome)
+        ensures { gathered_of self.new ≡ record {
+          reached = nowhere;
+          found = meet (told self.old.found) (ended asked outcome (reached_of self.old.reached));
+        } }
+    {
+        self.find_ended(asked, outcome);
+        self.reached.clear();
     }
 
     /// The paths go on behind a check of the token, or end there.
-    pub(crate) fn check(self, token: TokenId, asked: Asked, reading: &Reading) -> Gathered
-        ensures { gathered_of result ≡ past asked (reading_of reading.now) (Check token.0)
-            (gathered_of self) }
+    pub(crate) fn check(&mut self, token: TokenId, asked: Asked, reading: &Reading)
+        ensures { gathered_of self.new ≡ past asked (reading_of reading.now) (Check token.0)
+            (gathered_of self.old) }
     {
-        let Gathered { reached, found } = self;
-        let here = at_check(asked, token, reading, &reached);
-        Gathered {
-            reached: reached.past_check(reading.view, token),
-            found: meet(found, here),
-        }
+        find_check(asked, token, reading, &self.reached, &mut self.found);
+        self.reached.pass_check(reading.view, token);
     }
 
     /// The paths go on behind a cancel of the token, unless it is never requested.
-    pub(crate) fn cancel(self, token: TokenId, asked: Asked, reading: &Reading) -> Gathered
-        ensures { gathered_of result ≡ past asked (reading_of reading.now) (Cancel token.0)
-            (gathered_of self) }
+    pub(crate) fn cancel(&mut self, token: TokenId, asked: Asked, reading: &Reading)
+        ensures { gathered_of self.new ≡ past asked (reading_of reading.now) (Cancel token.0)
+            (gathered_of self.old) }
     {
-        let Gathered { reached, found } = self;
         let view = reading.view;
-        let reached = if view.is_quiet(token) {
-            Reached::nowhere()
+        if view.is_quiet(token) {
+            self.reached.clear();
         } else {
-            reached.with_tokens(reading.linked_with(token))
-        };
-        Gathered { reached, found }
+            self.reached.add_tokens(reading.linked_with(token));
+        }
     }
 
     /// The paths go on behind the start of the child.
-    pub(crate) fn start(self, child: TaskId, asked: Asked, reading: &Reading) -> Gathered
-        ensures { gathered_of result ≡ past asked (reading_of reading.now) (Start child.0)
-            (gathered_of self) }
+    pub(crate) fn start(&mut self, child: TaskId, asked: Asked, reading: &Reading)
+        ensures { gathered_of self.new ≡ past asked (reading_of reading.now) (Start child.0)
+            (gathered_of self.old) }
     {
-        let Gathered { reached, found } = self;
-        let here = at_start(asked, child, &reached);
-        Gathered {
-            reached: reached.behind_start(reading.child(child)),
-            found: meet(found, here),
-        }
+        find_start(asked, child, &self.reached, &mut self.found);
+        self.reached.pass_start(reading.child(child));
     }
 
     /// The paths go on behind a job, or end there.
-    pub(crate) fn work(
-        self,
-        site: SiteId,
-        may_fail: bool,
-        asked: Asked,
-        reading: &Reading,
-    ) -> Gathered
-        ensures { gathered_of result ≡ past asked (reading_of reading.now) (Work site.0 may_fail)
-            (gathered_of self) }
+    pub(crate) fn work(&mut self, site: SiteId, may_fail: bool, asked: Asked, reading: &Reading)
+        ensures { gathered_of self.new ≡ past asked (reading_of reading.now) (Work site.0 may_fail)
+            (gathered_of self.old) }
     {
-        let Gathered { reached, found } = self;
-        let here = at_work(asked, site, may_fail, reading, &reached);
-        Gathered {
-            reached,
-            found: meet(found, here),
-        }
+        find_work(
+            asked,
+            site,
+            may_fail,
+            reading,
+            &self.reached,
+            &mut self.found,
+        );
+    }
+
+    /// The paths of either, and what is found on either.
+    pub(crate) fn join(&mut self, other: &Gathered)
+        ensures { gathered_of self.new ≡ record {
+          reached = join (reached_of self.old.reached) (reached_of other.now.reached);
+          found = meet (told self.old.found) (told other.now.found);
+        } }
+    {
+        self.reached.join(&other.reached);
+        meet(&mut self.found, &other.found);
     }
 }

@@ -1,6 +1,7 @@
 //! What all paths to a place have.
 
-ghost use Rattle.std.specs.Prelude.{◌≡◌, ◌&&◌, false};
+ghost use Rattle.std.specs.Prelude.{◌≡◌, ◌&&◌, ◌||◌, false};
+ghost use Rattle.tpl_paths.specs.Facts.{has_fact};
 ghost use Rattle.tpl_paths.specs.TokenSet.{has_token};
 ghost use Rattle.tpl_paths.specs.Knowledge.{knowledge_of};
 
@@ -39,17 +40,28 @@ impl Knowledge {
         }
     }
 
-    /// What both have.
-    pub(crate) fn common(&self, other: &Knowledge) -> Knowledge
+    /// A copy, which knows these tokens too.
+    pub(crate) fn knowing(&self, tokens: TokenSet) -> Knowledge
         ensures { knowledge_of result ≡ record {
-          requested = λ k. (knowledge_of self.now).requested k
-              && (knowledge_of other.now).requested k;
-          later = λ f. (knowledge_of self.now).later f && (knowledge_of other.now).later f;
+          requested = λ k. has_token tokens k || (knowledge_of self.now).requested k;
+          later = (knowledge_of self.now).later;
         } }
     {
+        let later = self.later.copy();
         Knowledge {
-            requested: self.requested.intersection(other.requested),
-            later: self.later.intersection(&other.later),
+            requested: tokens.union(self.requested),
+            later,
         }
+    }
+
+    /// Leaves what these have too.
+    pub(crate) fn narrow(&mut self, requested: TokenSet, later: &Facts)
+        ensures { knowledge_of self.new ≡ record {
+          requested = λ k. (knowledge_of self.old).requested k && has_token requested k;
+          later = λ f. (knowledge_of self.old).later f && has_fact later.now f;
+        } }
+    {
+        self.requested = self.requested.intersection(requested);
+        self.later = self.later.intersection(later);
     }
 }

@@ -12,72 +12,94 @@ use crate::knowledge::Knowledge;
 use crate::token_set::TokenSet;
 use tpl_model::{TokenId, View};
 
-/// A copy.
-pub(crate) fn copy(paths: &Option<Knowledge>) -> Option<Knowledge>
-    ensures { result ≡ paths.now }
+/// The paths, and others, if these count.
+pub(crate) fn meet_if(test: bool, paths: &mut Option<Knowledge>, others: &Option<Knowledge>)
+    ensures { told paths.new ≡ meet (told paths.old) (when test (told others.now)) }
 {
-    match paths {
-        None => None,
-        Some(known) => Some(known.copy()),
+    if test {
+        meet(paths, others);
     }
 }
 
-/// What the paths of both kinds have in common.
-pub(crate) fn meet(one: Option<Knowledge>, other: Option<Knowledge>) -> Option<Knowledge>
-    ensures { told result ≡ meet (told one) (told other) }
+/// The paths, and others.
+pub(crate) fn meet(paths: &mut Option<Knowledge>, others: &Option<Knowledge>)
+    ensures { told paths.new ≡ meet (told paths.old) (told others.now) }
 {
-    match one {
-        None => other,
-        Some(one) => match other {
-            None => Some(one),
-            Some(other) => Some(one.common(&other)),
+    match others {
+        None => {}
+        Some(other) => match paths {
+            None => *paths = Some(other.copy()),
+            Some(known) => known.narrow(other.requested, &other.later),
+        },
+    }
+}
+
+/// The paths, and others which know these tokens too, if these count.
+pub(crate) fn meet_knowing_if(
+    test: bool,
+    paths: &mut Option<Knowledge>,
+    tokens: TokenSet,
+    others: &Option<Knowledge>,
+)
+    ensures { told paths.new ≡ meet (told paths.old) (when test (with_tokens (has_token tokens)
+        (told others.now))) }
+{
+    if test {
+        meet_knowing(paths, tokens, others);
+    }
+}
+
+/// The paths, and others which know these tokens too.
+fn meet_knowing(paths: &mut Option<Knowledge>, tokens: TokenSet, others: &Option<Knowledge>)
+    ensures { told paths.new ≡ meet (told paths.old) (with_tokens (has_token tokens)
+        (told others.now)) }
+{
+    match others {
+        None => {}
+        Some(other) => match paths {
+            None => *paths = Some(other.knowing(tokens)),
+            Some(known) => known.narrow(tokens.union(other.requested), &other.later),
         },
     }
 }
 
 /// The paths, if the test holds.
-pub(crate) fn only_if(test: bool, paths: Option<Knowledge>) -> Option<Knowledge>
-    ensures { told result ≡ when test (told paths) }
+pub(crate) fn keep_if(test: bool, paths: &mut Option<Knowledge>)
+    ensures { told paths.new ≡ when test (told paths.old) }
 {
-    if test { paths } else { None }
-}
-
-/// The paths, which know these tokens too.
-pub(crate) fn with_tokens(tokens: TokenSet, paths: Option<Knowledge>) -> Option<Knowledge>
-    ensures { told result ≡ with_tokens (has_token tokens) (told paths) }
-{
-    match paths {
-        None => None,
-        Some(Knowledge { requested, later }) => Some(Knowledge {
-            requested: tokens.union(requested),
-            later,
-        }),
+    if !test {
+        *paths = None;
     }
 }
 
-/// The paths, which have these facts of a child too.
-pub(crate) fn with_facts(facts: &Facts, paths: Option<Knowledge>) -> Option<Knowledge>
-    ensures { told result ≡ with_facts (has_fact facts.now) (told paths) }
+/// The paths know these tokens too.
+pub(crate) fn add_tokens(tokens: TokenSet, paths: &mut Option<Knowledge>)
+    ensures { told paths.new ≡ with_tokens (has_token tokens) (told paths.old) }
 {
     match paths {
-        None => None,
-        Some(Knowledge { requested, later }) => Some(Knowledge {
-            requested,
-            later: facts.union(&later),
-        }),
+        None => {}
+        Some(known) => known.requested = tokens.union(known.requested),
+    }
+}
+
+/// The paths have these facts of a child too.
+pub(crate) fn add_facts(facts: &Facts, paths: &mut Option<Knowledge>)
+    ensures { told paths.new ≡ with_facts (has_fact facts.now) (told paths.old) }
+{
+    match paths {
+        None => {}
+        Some(known) => known.later = facts.union(&known.later),
     }
 }
 
 /// The paths that go on at a check of the token: it is never requested, or they don't know that it
 /// is.
-pub(crate) fn past_check(view: &View, token: TokenId, paths: Option<Knowledge>) -> Option<Knowledge>
-    ensures { told result ≡ past_check (known view.now) token.0 (told paths) }
+pub(crate) fn pass_check(view: &View, token: TokenId, paths: &mut Option<Knowledge>)
+    ensures { told paths.new ≡ past_check (known view.now) token.0 (told paths.old) }
 {
-    match paths {
-        None => None,
-        Some(known) => {
-            let passed = view.is_quiet(token) || !known.requested.contains(token);
-            only_if(passed, Some(known))
-        }
-    }
+    let passed = match paths {
+        None => true,
+        Some(known) => view.is_quiet(token) || !known.requested.contains(token),
+    };
+    keep_if(passed, paths);
 }

@@ -1,6 +1,6 @@
 //! The paths to a place.
 
-ghost use Rattle.std.specs.Prelude.{◌≡◌};
+ghost use Rattle.std.specs.Prelude.{◌≡◌, ◌↔◌, IsTrue};
 ghost use Rattle.tpl_model.specs.Knowledge.{with_tokens, past_check, nowhere, both, join, all, behind_start, from};
 ghost use Rattle.tpl_model.specs.View.{known};
 ghost use Rattle.tpl_paths.specs.Knowledge.{told};
@@ -9,7 +9,7 @@ ghost use Rattle.tpl_paths.specs.Reading.{child_of, end_of};
 ghost use Rattle.tpl_paths.specs.TokenSet.{has_token};
 
 use crate::knowledge::Knowledge;
-use crate::paths::{copy, meet, only_if, past_check, with_facts, with_tokens};
+use crate::paths::{add_facts, add_tokens, keep_if, meet, meet_if, pass_check};
 use crate::reading::ChildEnd;
 use crate::token_set::TokenSet;
 use tpl_model::{Final, TokenId, View};
@@ -23,14 +23,25 @@ pub(crate) struct Reached {
 }
 
 impl Reached {
-    /// No path.
-    pub(crate) fn nowhere() -> Reached
-        ensures { reached_of result ≡ nowhere }
+    /// There is no path.
+    pub(crate) fn is_nowhere(&self) -> bool
+        ensures { IsTrue result ↔ (reached_of self.now ≡ nowhere) }
     {
-        Reached {
-            unburdened: None,
-            burdened: None,
+        match self.unburdened {
+            Some(_) => false,
+            None => match self.burdened {
+                Some(_) => false,
+                None => true,
+            },
         }
+    }
+
+    /// No path is left.
+    pub(crate) fn clear(&mut self)
+        ensures { reached_of self.new ≡ nowhere }
+    {
+        self.unburdened = None;
+        self.burdened = None;
     }
 
     /// The one path before the first statement, which knows these tokens.
@@ -45,83 +56,65 @@ impl Reached {
 
     /// A copy.
     pub(crate) fn copy(&self) -> Reached
-        ensures { result ≡ self.now }
+        ensures { reached_of result ≡ reached_of self.now }
     {
-        Reached {
-            unburdened: copy(&self.unburdened),
-            burdened: copy(&self.burdened),
-        }
-    }
-
-    /// All paths, burdened or not.
-    pub(crate) fn all(&self) -> Option<Knowledge>
-        ensures { told result ≡ all (reached_of self.now) }
-    {
-        meet(copy(&self.unburdened), copy(&self.burdened))
+        let mut copied = Reached {
+            unburdened: None,
+            burdened: None,
+        };
+        copied.join(self);
+        copied
     }
 
     /// The paths of either.
-    pub(crate) fn join(self, other: Reached) -> Reached
-        ensures { reached_of result ≡ join (reached_of self) (reached_of other) }
+    pub(crate) fn join(&mut self, other: &Reached)
+        ensures { reached_of self.new ≡ join (reached_of self.old) (reached_of other.now) }
     {
-        let Reached {
-            unburdened,
-            burdened,
-        } = self;
-        Reached {
-            unburdened: meet(unburdened, other.unburdened),
-            burdened: meet(burdened, other.burdened),
-        }
+        meet(&mut self.unburdened, &other.unburdened);
+        meet(&mut self.burdened, &other.burdened);
     }
 
-    /// The paths, which know these tokens too.
-    pub(crate) fn with_tokens(self, tokens: TokenSet) -> Reached
-        ensures { reached_of result ≡ both (with_tokens (has_token tokens)) (reached_of self) }
+    /// The paths know these tokens too.
+    pub(crate) fn add_tokens(&mut self, tokens: TokenSet)
+        ensures { reached_of self.new ≡ both (with_tokens (has_token tokens))
+            (reached_of self.old) }
     {
-        Reached {
-            unburdened: with_tokens(tokens, self.unburdened),
-            burdened: with_tokens(tokens, self.burdened),
-        }
+        add_tokens(tokens, &mut self.unburdened);
+        add_tokens(tokens, &mut self.burdened);
     }
 
     /// The paths that go on at a check of the token.
-    pub(crate) fn past_check(self, view: &View, token: TokenId) -> Reached
-        ensures { reached_of result ≡ both (past_check (known view.now) token.0)
-            (reached_of self) }
+    pub(crate) fn pass_check(&mut self, view: &View, token: TokenId)
+        ensures { reached_of self.new ≡ both (past_check (known view.now) token.0)
+            (reached_of self.old) }
     {
-        Reached {
-            unburdened: past_check(view, token, self.unburdened),
-            burdened: past_check(view, token, self.burdened),
-        }
+        pass_check(view, token, &mut self.unburdened);
+        pass_check(view, token, &mut self.burdened);
     }
 
     /// The paths behind the start of a child, which is attached if its end is given.
-    pub(crate) fn behind_start(self, child: Option<&ChildEnd>) -> Reached
-        ensures { reached_of result ≡ behind_start (child_of child.entry) (reached_of self) }
+    pub(crate) fn pass_start(&mut self, child: Option<&ChildEnd>)
+        ensures { reached_of self.new ≡ behind_start (child_of child.entry)
+            (reached_of self.old) }
     {
         match child {
-            None => self,
-            Some(child) => self.behind_child(child),
+            None => {}
+            Some(child) => self.pass_child(child),
         }
     }
 
-    /// The paths behind the start of an attached child: they choose its end.
-    fn behind_child(self, child: &ChildEnd) -> Reached
-        ensures { reached_of result ≡ behind_start (Some (end_of child.now)) (reached_of self) }
+    /// The paths behind the start of an attached child: they choose its end. Those on which it ends
+    /// Faulted are burdened, and so are those that were.
+    fn pass_child(&mut self, child: &ChildEnd)
+        ensures { reached_of self.new ≡ behind_start (Some (end_of child.now))
+            (reached_of self.old) }
     {
-        let faulted = only_if(
-            child.ends.contains(Final::Faulted),
-            with_facts(&child.facts, self.all()),
-        );
         let well = child.ends_well();
-        let Reached {
-            unburdened,
-            burdened,
-        } = self;
-        let burdened = only_if(well, with_facts(&child.facts, burdened));
-        Reached {
-            unburdened: only_if(well, with_facts(&child.facts, unburdened)),
-            burdened: meet(burdened, faulted),
-        }
+        let faulted = child.ends.contains(Final::Faulted);
+        keep_if(child.may_end(), &mut self.burdened);
+        meet_if(faulted, &mut self.burdened, &self.unburdened);
+        add_facts(&child.facts, &mut self.burdened);
+        keep_if(well, &mut self.unburdened);
+        add_facts(&child.facts, &mut self.unburdened);
     }
 }

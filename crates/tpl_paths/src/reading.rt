@@ -1,6 +1,8 @@
 //! How a body is read.
 
-ghost use Rattle.std.specs.Prelude.{◌≡◌, slice_index_or};
+ghost use Rattle.std.specs.Prelude.{◌≡◌, ◌||◌, slice_index_or};
+ghost use Rattle.tpl_model.specs.declared.finals.Final.TheVariants.{Faulted};
+ghost use Rattle.tpl_model.specs.Finals.{has};
 ghost use Rattle.tpl_model.specs.Knowledge.{ends_well};
 ghost use Rattle.tpl_paths.specs.Reading.{child_of, end_of, reading_of};
 ghost use Rattle.tpl_paths.specs.TokenSet.{no_tokens};
@@ -22,6 +24,13 @@ impl ChildEnd {
         ensures { result ≡ ends_well (end_of self.now) }
     {
         self.ends.contains(Final::RanToCompletion) || self.ends.contains(Final::Canceled)
+    }
+
+    /// It may end.
+    pub(crate) fn may_end(&self) -> bool
+        ensures { result ≡ (ends_well (end_of self.now) || has self.now.ends Faulted) }
+    {
+        self.ends_well() || self.ends.contains(Final::Faulted)
     }
 }
 

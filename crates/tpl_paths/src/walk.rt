@@ -1,65 +1,66 @@
 //! The walk over a body, and what is known by it.
 
-ghost use Rattle.std.specs.Prelude.{◌≡◌};
+ghost use Rattle.std.specs.Prelude.{◌≡◌, true};
 ghost use Rattle.tpl_model.specs.Knowledge.{at_end, at_throw, at_start};
 ghost use Rattle.tpl_model.specs.Seen.{statement_of};
+ghost use Rattle.tpl_model.specs.Statements.{Nothing};
 ghost use Rattle.tpl_paths.specs.Asked.{known_by};
 ghost use Rattle.tpl_paths.specs.Gathered.{gathered_of, past, past_all, past_if, past_either};
 ghost use Rattle.tpl_paths.specs.Knowledge.{told};
 ghost use Rattle.tpl_paths.specs.Reading.{reading_of};
 ghost use Rattle.tpl_paths.specs.TokenSet.{has_token};
 
-use crate::asked::{Asked, ended};
+use crate::asked::Asked;
 use crate::gathered::Gathered;
 use crate::knowledge::Knowledge;
-use crate::paths::meet;
 use crate::reached::Reached;
 use crate::reading::Reading;
 use crate::token_set::TokenSet;
 use tpl_model::{Body, Final, Label, Outcome, Script, Stmt, TaskId, TaskSet};
 
-/// What is gathered behind a list of statements.
+/// Gathers behind a list of statements.
 #[cycle(walk)]
-fn pass_all(body: &Body, asked: Asked, reading: &Reading, before: Gathered) -> Gathered
-    ensures { gathered_of result ≡ past_all asked (reading_of reading.now) body.now
-        (gathered_of before) }
+fn pass_all(body: &Body, asked: Asked, reading: &Reading, gathered: &mut Gathered)
+    ensures { gathered_of gathered.new ≡ past_all asked (reading_of reading.now) body.now
+        (gathered_of gathered.old) }
 {
-    let mut so_far = before;
     for statement in body.list() {
-        so_far = pass(statement, asked, reading, so_far);
+        if gathered.reached.is_nowhere() {
+            return;
+        }
+        pass(statement, asked, reading, gathered);
     }
-    so_far
 }
 
-/// What is gathered behind one statement.
+/// Gathers behind one statement.
 #[cycle(walk)]
-fn pass(statement: &Stmt, asked: Asked, reading: &Reading, before: Gathered) -> Gathered
-    ensures { gathered_of result ≡ past asked (reading_of reading.now)
-        (statement_of statement.now) (gathered_of before) }
+fn pass(statement: &Stmt, asked: Asked, reading: &Reading, gathered: &mut Gathered)
+    ensures { gathered_of gathered.new ≡ past asked (reading_of reading.now)
+        (statement_of statement.now) (gathered_of gathered.old) }
 {
     let view = reading.view;
     match statement {
-        Stmt::Return => before.end(asked, Outcome::Returned),
-        Stmt::Throw(label) => before.end(asked, Outcome::Threw(Label::Thrown(*label))),
-        Stmt::Check(token) => before.check(*token, asked, reading),
-        Stmt::Cancel(token) => before.cancel(*token, asked, reading),
-        Stmt::Start(child) => before.start(*child, asked, reading),
-        Stmt::Observe => before,
-        Stmt::Work(site, may_fail) => before.work(*site, *may_fail, asked, reading),
+        Stmt::Return => gathered.end(asked, Outcome::Returned),
+        Stmt::Throw(label) => gathered.end(asked, Outcome::Threw(Label::Thrown(*label))),
+        Stmt::Check(token) => gathered.check(*token, asked, reading),
+        Stmt::Cancel(token) => gathered.cancel(*token, asked, reading),
+        Stmt::Start(child) => gathered.start(*child, asked, reading),
+        Stmt::Observe => {}
+        Stmt::Work(site, may_fail) => gathered.work(*site, *may_fail, asked, reading),
         Stmt::If(input, first, second) => {
             let on_true = view.may_be(*input, true);
             let on_false = view.may_be(*input, false);
-            pass_either(on_true, first, on_false, second, asked, reading, before)
+            pass_either(on_true, first, on_false, second, asked, reading, gathered);
         }
         Stmt::When(status, first, second) => {
             let so = view.may_have_ended(*status);
             let otherwise = view.may_differ(*status);
-            pass_either(so, first, otherwise, second, asked, reading, before)
+            pass_either(so, first, otherwise, second, asked, reading, gathered);
         }
     }
 }
 
-/// What is gathered behind either of two lists, each if it may be taken.
+/// Gathers behind either of two lists, each if it may be taken.
 #[cycle(walk)]
 fn pass_either(
     is_first: bool,
@@ -68,47 +69,63 @@ fn pass_either(
     second: &Body,
     asked: Asked,
     reading: &Reading,
-    before: Gathered,
-) -> Gathered
-    ensures { gathered_of result ≡ past_either is_first first.now is_second second.now asked
-        (reading_of reading.now) (gathered_of before) }
+    gathered: &mut Gathered,
+)
+    ensures { gathered_of gathered.new ≡ past_either is_first first.now is_second second.now asked
+        (reading_of reading.now) (gathered_of gathered.old) }
 {
-    let reached = before.reached.copy();
-    let Gathered {
-        reached: one,
-        found,
-    } = pass_if(is_first, first, asked, reading, before);
-    let between = Gathered { reached, found };
-    let Gathered {
-        reached: other,
-        found,
-    } = pass_if(is_second, second, asked, reading, between);
-    Gathered {
-        reached: one.join(other),
-        found,
+    if !is_second {
+        pass_if(is_first, first, asked, reading, gathered);
+    } else if !is_first {
+        pass_all(second, asked, reading, gathered);
+    } else if first.list().is_empty() {
+        pass_or_not(second, asked, reading, gathered);
+    } else if second.list().is_empty() {
+        pass_or_not(first, asked, reading, gathered);
+    } else {
+        pass_both(first, second, asked, reading, gathered);
     }
 }
 
-/// What is gathered behind a list, if it may be taken.
+/// Gathers behind a list, if it may be taken.
 #[cycle(walk)]
-fn pass_if(
-    possible: bool,
-    body: &Body,
-    asked: Asked,
-    reading: &Reading,
-    before: Gathered,
-) -> Gathered
-    ensures { gathered_of result ≡ past_if possible asked (reading_of reading.now) body.now
-        (gathered_of before) }
+fn pass_if(possible: bool, body: &Body, asked: Asked, reading: &Reading, gathered: &mut Gathered)
+    ensures { gathered_of gathered.new ≡ past_if possible asked (reading_of reading.now) body.now
+        (gathered_of gathered.old) }
 {
     if possible {
-        pass_all(body, asked, reading, before)
+        pass_all(body, asked, reading, gathered);
     } else {
-        Gathered {
-            reached: Reached::nowhere(),
-            found: before.found,
-        }
+        gathered.reached.clear();
     }
+}
+
+/// Gathers behind a list that may be taken or not.
+#[cycle(walk)]
+fn pass_or_not(body: &Body, asked: Asked, reading: &Reading, gathered: &mut Gathered)
+    ensures { gathered_of gathered.new ≡ past_either true body.now true Nothing asked
+        (reading_of reading.now) (gathered_of gathered.old) }
+{
+    if !body.list().is_empty() {
+        let before = gathered.reached.copy();
+        pass_all(body, asked, reading, gathered);
+        gathered.reached.join(&before);
+    }
+}
+
+/// Gathers behind either of two lists, which both may be taken.
+#[cycle(walk)]
+fn pass_both(first: &Body, second: &Body, asked: Asked, reading: &Reading, gathered: &mut Gathered)
+    ensures { gathered_of gathered.new ≡ past_either true first.now true second.now asked
+        (reading_of reading.now) (gathered_of gathered.old) }
+{
+    let mut beside = Gathered {
+        reached: gathered.reached.copy(),
+        found: None,
+    };
+    pass_all(first, asked, reading, gathered);
+    pass_all(second, asked, reading, &mut beside);
+    gathered.join(&beside);
 }
 
 /// What the paths of the script have in common that are asked for.
@@ -116,13 +133,13 @@ fn known_by(asked: Asked, script: &Script, reading: &Reading, tokens: TokenSet) 
     ensures { told result ≡ known_by asked (reading_of reading.now) (has_token tokens)
         script.now }
 {
-    let before = Gathered {
+    let mut gathered = Gathered {
         reached: Reached::begin(tokens),
         found: None,
     };
-    let Gathered { reached, found } = pass_all(script.body(), asked, reading, before);
-    let at_the_end = ended(asked, Outcome::Returned, &reached);
-    meet(found, at_the_end)
+    pass_all(script.body(), asked, reading, &mut gathered);
+    gathered.find_ended(asked, Outcome::Returned);
+    gathered.found
 }
 
 /// What the paths of the script have in common that end a task so, where these tokens are known at

@@ -1,5 +1,5 @@
 use Rattle.std.proofs.Common.{Some, ap}
 use Rattle.tpl_paths.proofs.paths.meet.Goals as goal
 
-pub returns-in-Some-other : goal.returns-in-Some-other
-returns-in-Some-other c = rw (c.in-Some.is, c.in-Some-other.is) (ap Some c.common.ensures)
+pub returns-in-Some-paths : goal.returns-in-Some-paths
+returns-in-Some-paths c = rw (c.in-Some.is, c.in-Some-paths.is) (ap Some c.narrow.ensures)

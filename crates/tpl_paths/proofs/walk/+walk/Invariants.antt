@@ -18,6 +18,12 @@ decreases-pass_either l = 4 * (statement_count l.first.now + statement_count l.s
 abbrev pub decreases-pass_if : goal.decreases-pass_if
 decreases-pass_if l = 4 * statement_count l.body.now + 2
 
+abbrev pub decreases-pass_or_not : goal.decreases-pass_or_not
+decreases-pass_or_not l = 4 * statement_count l.body.now + 2
+
+abbrev pub decreases-pass_both : goal.decreases-pass_both
+decreases-pass_both l = 4 * (statement_count l.first.now + statement_count l.second.now) + 2
+
 abbrev pub invariant-pass_all-loop-statement : goal.invariant-pass_all-loop-statement
 invariant-pass_all-loop-statement l =
-    GatheredSoFar l.asked (reading_of l.reading) l.body l.statement-items l.statement-index (gathered_of l.fn.before) (gathered_of l.so_far)
+    GatheredSoFar l.asked (reading_of l.reading) l.body l.statement-items l.statement-index (gathered_of l.fn.gathered) (gathered_of l.gathered)
