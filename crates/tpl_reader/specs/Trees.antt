@@ -1,5 +1,5 @@
 -- The trees that JSON values are read as, in a graph with its names, or the first that is read as none and what is wrong with it.
-use Rattle.std.specs.Prelude.{ℕ, List, map, Result}
+use Rattle.std.specs.Prelude.{◌≡◌, ℕ, List, [], map, Result}
 use Rattle.serde_json.specs.Data.{Data}
 use Rattle.tpl_model.specs.declared.rule_set.RuleSet.{RuleSet}
 use Rattle.tpl_model.specs.declared.rule_set.RuleSet.TheVariants.{Narrow, Wide}
@@ -18,3 +18,8 @@ trees_in rules names ds = each_from (λ n d. at_number n (read_tree rules names 
 abbrev pub trees_by : RuleSet → List Tree → List WideTree → List WideTree
 trees_by Narrow plain wide = map as_wide_tree plain
 trees_by Wide plain wide = wide
+
+-- there are no trees of the other sort
+abbrev pub HasNoOthers : RuleSet → List Tree → List WideTree → Type 0
+HasNoOthers Narrow plain wide = wide ≡ []
+HasNoOthers Wide plain wide = plain ≡ []

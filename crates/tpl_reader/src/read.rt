@@ -18,7 +18,7 @@ ghost use Rattle.tpl_parts.specs.SeenStart.{start_of};
 ghost use Rattle.tpl_reader.specs.SeenDocument.{value_of, doc_of, spelled_of, spelled_with};
 ghost use Rattle.tpl_json.specs.Passes.{Yields};
 ghost use Rattle.tpl_reader.specs.Asked.{most_claims, claims_for};
-ghost use Rattle.tpl_reader.specs.Trees.{trees_by, trees_in};
+ghost use Rattle.tpl_reader.specs.Trees.{HasNoOthers, trees_by, trees_in};
 ghost use Rattle.tpl_reader.specs.Ends.{ends_in};
 ghost use Rattle.tpl_reader.specs.declared.fault.ReadFault.TheVariants.{Memory};
 ghost use Rattle.tpl_reader.specs.Document.{begin_in, GraphFaults, IsDocument, IsRefused, longest, Reads, Spells, IsFault};
@@ -139,6 +139,8 @@ fn rest_of(
     ensures trees { IfOk result (λ r. trees_in (rules_since version) graph.now.names
         (map view named.now.certificate.now)
         ≡ Ok (trees_by (rules_since version) r.trees.plain.items r.trees.wide.items)) }
+    ensures others { IfOk result (λ r. HasNoOthers (rules_since version) r.trees.plain.items
+        r.trees.wide.items) }
     ensures plain { IfOk result (λ r. All IsWithinLimits r.trees.plain.items) }
     ensures wide { IfOk result (λ r. All IsWithinWideLimits r.trees.wide.items) }
     ensures journal { IfOk result (λ r. string_bytes r.journal ≡ named.now.journal.now) }
@@ -171,6 +173,7 @@ fn rest_of(
 fn document_of(alloc: Global, shaped: Shaped) -> Result<Document, ReadFault>
     ensures ok { IfOk result (λ d. IsDocument (spelled_of shaped.entry) (doc_of d)) }
     ensures claims { IfOk result (λ d. All (Fits d.graph.graph) d.claims.items) }
+    ensures others { IfOk result (λ d. HasNoOthers (rules_since d.version) d.certificate d.wide) }
     ensures trees { IfOk result (λ d. All IsWithinLimits d.certificate) }
     ensures ended { IfOk result (λ d. All (λ said. is_task d.graph.graph said.0.0) d.ended.items) }
     ensures err { IfErr result (IsRefused (spelled_of shaped.entry)) }
@@ -203,6 +206,7 @@ fn document_from(alloc: Global, value: &Value<'_>) -> Result<Document, ReadFault
     ensures ok { IfOk result (λ d. (bytes : List ℕ) → length bytes ≤ longest
         → Reads bytes (view value.now) → Spells bytes (doc_of d)) }
     ensures claims { IfOk result (λ d. All (Fits d.graph.graph) d.claims.items) }
+    ensures others { IfOk result (λ d. HasNoOthers (rules_since d.version) d.certificate d.wide) }
     ensures trees { IfOk result (λ d. All IsWithinLimits d.certificate) }
     ensures ended { IfOk result (λ d. All (λ said. is_task d.graph.graph said.0.0) d.ended.items) }
     ensures err { IfErr result (λ e. (bytes : List ℕ) → length bytes ≤ longest
@@ -218,6 +222,7 @@ fn document_from(alloc: Global, value: &Value<'_>) -> Result<Document, ReadFault
 pub fn read_document(alloc: Global, bytes: &[u8]) -> Result<Document, ReadFault>
     ensures ok { IfOk result (λ d. Spells bytes.now (doc_of d)) }
     ensures claims { IfOk result (λ d. All (Fits d.graph.graph) d.claims.items) }
+    ensures others { IfOk result (λ d. HasNoOthers (rules_since d.version) d.certificate d.wide) }
     ensures trees { IfOk result (λ d. All IsWithinLimits d.certificate) }
     ensures ended { IfOk result (λ d. All (λ said. is_task d.graph.graph said.0.0) d.ended.items) }
     ensures err { IfErr result (IsFault bytes.now) }
@@ -236,6 +241,7 @@ pub fn read_document_heard<H: Hear>(
 ) -> Result<Document, Misread>
     ensures ok { IfOk result (λ d. Spells bytes.now (doc_of d)) }
     ensures claims { IfOk result (λ d. All (Fits d.graph.graph) d.claims.items) }
+    ensures others { IfOk result (λ d. HasNoOthers (rules_since d.version) d.certificate d.wide) }
     ensures trees { IfOk result (λ d. All IsWithinLimits d.certificate) }
     ensures ended { IfOk result (λ d. All (λ said. is_task d.graph.graph said.0.0) d.ended.items) }
     ensures err { IfErr result (λ misread. IsFault bytes.now misread.fault) }

@@ -9,7 +9,7 @@ ghost use Rattle.tpl_model.specs.declared.rule_set.RuleSet.TheVariants.{Narrow, 
 ghost use Rattle.tpl_cert.specs.Heights.{IsWithinLimits};
 ghost use Rattle.tpl_cert.specs.Spelled.{read_tree};
 ghost use Rattle.tpl_cert.specs.WideHeights.{IsWithinWideLimits};
-ghost use Rattle.tpl_reader.specs.Trees.{trees_by, trees_in};
+ghost use Rattle.tpl_reader.specs.Trees.{HasNoOthers, trees_by, trees_in};
 
 use json::Value;
 use std::alloc::Global;
@@ -102,6 +102,7 @@ pub(crate) fn trees_in(
 ) -> Result<Trees, Miss<(usize, TreeFault)>>
     ensures yields { Yields (λ t. trees_by rules t.plain.items t.wide.items) result
         (trees_in rules graph.now.names (map view values.now)) }
+    ensures others { IfOk result (λ t. HasNoOthers rules t.plain.items t.wide.items) }
     ensures plain { IfOk result (λ t. All IsWithinLimits t.plain.items) }
     ensures wide { IfOk result (λ t. All IsWithinWideLimits t.wide.items) }
 {
