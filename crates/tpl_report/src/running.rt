@@ -26,9 +26,7 @@ use std::alloc::Global;
 use std::io::Write;
 use std::sync::Wait;
 use std::thread::Threads;
-use tpl_commands::{
-    Exit, check_document, put, put_answer, put_out_of_memory, refused_answer,
-};
+use tpl_commands::{Exit, check_document, put, put_answer, put_out_of_memory, refused_answer};
 use tpl_journal::Counting;
 use tpl_model::{Inputs, TokenId};
 use tpl_reader::Document;
