@@ -4,12 +4,15 @@ For trying out what compares a checker with all runs, a mistake can be planted i
 """
 import dataclasses
 import enum
+from collections.abc import Sequence, Set
 from typing import NamedTuple
 
 from small import CANCELED, FAULTED, FINALS, RAN, WITH_BODY, Graph
 
 RETURNED, THROWN, ACKNOWLEDGED = "returned", "thrown", "acknowledged"
 BY_BODY = {RAN: RETURNED, FAULTED: THROWN, CANCELED: ACKNOWLEDGED}
+# what stays so once it is: a task is settled, which is told by its place, or a token is requested, told by its name
+Fact = int | str
 
 
 class Mistake(enum.Enum):
@@ -38,28 +41,59 @@ class Row:
     past: set[int] = dataclasses.field(default_factory=set)
     chain: list[int] = dataclasses.field(default_factory=list)
 
+    @property
+    def begins(self) -> Set[Fact]:
+        """What holds when the task begins."""
+        return self.before
 
-class Branches(NamedTuple):
-    """A split: on an input, with its two trees, or on how a task ends, with its three."""
-
-    word: str
-    what: str
-    trees: tuple
+    @property
+    def ended(self) -> Set[Fact]:
+        """What holds when it has ended."""
+        return self.past
 
 
 # the members of a split's trees
-MEMBERS = {"split_input": ("yes", "no"), "split_end": ("ran", "canceled", "faulted")}
+MEMBERS = {"split_input": ("yes", "no"), "split_end": ("ran", "canceled", "faulted"), "split_winner": ("yes", "no")}
 # the values of an input, in this order
 VALUES = (True, False)
+
+
+class Split(NamedTuple):
+    """A split: on an input, on how a task ends, or on whether a task wins a WhenAny task."""
+
+    word: str
+    what: str
+    task: str | None = None
+
+    def tree(self, trees) -> dict:
+        """A tree of a document with this split and these trees below it."""
+        more = {"task": self.task} if self.task else {}
+        return {self.word: self.what, **more, **dict(zip(MEMBERS[self.word], trees))}
+
+
+class Branches(NamedTuple):
+    """A split with its two or three trees."""
+
+    split: Split
+    trees: tuple
 
 
 def split_on(tree: dict) -> Branches | None:
     """The split of a tree of a document, or None for a leaf."""
     word = next((it for it in MEMBERS if it in tree), None)
-    return Branches(word, tree[word], tuple(tree[it] for it in MEMBERS[word])) if word else None
+    if word is None:
+        return None
+    return Branches(Split(word, tree[word], tree.get("task")), tuple(tree[it] for it in MEMBERS[word]))
 
 
 # ---- the paths of a body
+
+
+def taken_lists(leaf, subject: set[str], statement: tuple) -> list[tuple]:
+    """The lists of statements that a branch may take."""
+    word, what, *lists = statement
+    may_take = (it in leaf.possible[what] for it in VALUES) if word == "if" else (what in subject, bool(subject - {what}))
+    return [it for it, is_taken in zip(lists, may_take) if is_taken]
 
 
 class Paths:
@@ -95,8 +129,7 @@ class Paths:
         """The paths that pass a statement."""
         word = statement[0]
         if word in ("if", "when"):
-            lists = [it for it, may_take in zip(statement[2:], self.choices(statement)) if may_take]
-            return set().union(*(self.through(it, live) for it in lists))
+            return set().union(*(self.through(it, live) for it in taken_lists(self.leaf, self.subject, statement)))
         if word in ("return", "throw"):
             self.end(RETURNED if word == "return" else THROWN, live)
             return set()
@@ -109,13 +142,6 @@ class Paths:
         if word == "cancel" and not self.leaf.is_loud(statement[1]):
             return set()
         return {True} if word == "observe" else live
-
-    def choices(self, statement: tuple) -> tuple[bool, bool]:
-        """Whether a branch may take its first list and its second."""
-        word, what = statement[:2]
-        if word == "if":
-            return True in self.leaf.possible[what], False in self.leaf.possible[what]
-        return what in self.subject, bool(self.subject - {what})
 
 
 # ---- what a leaf assumes
@@ -163,11 +189,24 @@ class Leaf:
         cut = [it & set(ends) if at == place else it for at, it in enumerate(self.cut)]
         return dataclasses.replace(self, cut=tuple(cut))
 
-    def split(self, word: str, what: str):
+    def split(self, split: Split) -> list:
         """What is assumed in each branch of a split."""
-        if word == "split_input":
-            return [self.with_input(what, it) for it in VALUES]
-        return [self.with_end(self.graph.places[what], {it}) for it in FINALS]
+        if split.word == "split_input":
+            return [self.with_input(split.what, it) for it in VALUES]
+        return [self.with_end(self.graph.places[split.what], {it}) for it in FINALS]
+
+    def splits(self) -> list[Split]:
+        """The splits that a search tries, in this order."""
+        ends = [Split("split_end", it.name) for it in self.graph.tasks]
+        return [*(Split("split_input", it) for it in self.graph.inputs), *ends]
+
+    def read(self, rows: list[dict]):
+        """The rules for rows of a document."""
+        return Rules(self, [row_of(self.graph, it) for it in rows])
+
+    def best(self):
+        """The rules for the best rows that they permit."""
+        return Rules(self, least(self))
 
 
 def assumed(graph: Graph, claim: dict, is_wide: bool, mistakes=frozenset()) -> Leaf:
@@ -212,7 +251,7 @@ def with_given(leaf: Leaf, given) -> Leaf:
 class Rules:
     """The rules K1 to K6 for the rows of a leaf."""
 
-    def __init__(self, leaf: Leaf, rows: list[Row]):
+    def __init__(self, leaf: Leaf, rows: Sequence[Row]):
         self.leaf, self.rows, self.graph = leaf, rows, leaf.graph
 
     def subject(self, place: int) -> set[str]:
@@ -282,6 +321,14 @@ class Rules:
     def any_ends(self, of) -> set[str]:
         return {RAN} if any(self.rows[it].ends for it in of) else set()
 
+    def may_hold_before(self, place: int) -> Set[Fact]:
+        """What may be said to hold when a task begins."""
+        return self.may_stand_before(place)
+
+    def may_hold_past(self, place: int) -> Set[Fact]:
+        """What may be said to hold when it has ended."""
+        return self.may_stand_past(place)
+
     def may_stand_before(self, place: int) -> set[int]:
         """What K3 allows in `before`."""
         task, every = self.graph.tasks[place], set(range(len(self.rows)))
@@ -325,7 +372,12 @@ class Rules:
         """A continuation reads the exception of the task wherever that is faulted."""
         task = self.graph.tasks[reader]
         is_next = task.kind == "then" and task.after == place and task.may_follow(FAULTED) and not self.is_loud(reader)
-        return is_next and Paths(self.leaf, task.body, task.token, {FAULTED}).must_observe
+        return is_next and self.observes(reader)
+
+    def observes(self, reader: int) -> bool:
+        """Each path of its body that ends passes an observe where its subject is faulted."""
+        task = self.graph.tasks[reader]
+        return Paths(self.leaf, task.body, task.token, {FAULTED}).must_observe
 
     def is_chain(self, place: int, chain: list[int]) -> bool:
         """What K6 asks of `chain`."""
@@ -344,14 +396,18 @@ class Rules:
             kept = {
                 "K1": row.runs or not self.must_run(place),
                 "K2": self.must_end(place) <= row.ends,
-                "K3": row.before <= self.may_stand_before(place) or not row.runs,
-                "K4": row.past <= self.may_stand_past(place),
+                "K3": row.begins <= self.may_hold_before(place) or not row.runs,
+                "K4": row.ended <= self.may_hold_past(place),
                 "K6": self.is_chain(place, row.chain),
             }
             rule = next((it for it, is_kept in kept.items() if not is_kept), None)
             if rule:
                 return place, "K5" if rule == "K4" and self.graph.tasks[place].kind in ("all", "any") else rule
         return None
+
+    def tree(self) -> dict:
+        """A leaf of a document with these rows."""
+        return {"rows": [row_text(self.graph, it) for it in self.rows]}
 
     # ---- what a closed leaf proves
 
@@ -371,8 +427,12 @@ class Rules:
 
     def proves_observed(self, place: int) -> bool:
         row = self.rows[place]
-        is_calm = FAULTED not in row.ends or not row.runs or THROWN not in self.paths(place).ends
+        is_calm = FAULTED not in row.ends or not row.runs or not self.may_throw(place)
         return bool(row.chain) or is_calm or self.leaf.is_wide and self.is_none_complete()
+
+    def may_throw(self, place: int) -> bool:
+        """Some path of its body ends with an exception."""
+        return THROWN in self.paths(place).ends
 
     def proves_runs(self, place: int) -> bool:
         mistakes = self.leaf.mistakes
@@ -438,23 +498,22 @@ def row_of(graph: Graph, said: dict) -> Row:
     return Row(set(said["ends"]), said["runs"], set(places("before")), set(places("past")), places("chain"))
 
 
-def search(leaf: Leaf, claim: dict, depth: int, used=frozenset()) -> dict | None:
+def search(leaf: Leaf, claim: dict, depth: int, used: frozenset[Split] = frozenset()) -> dict | None:
     """A tree with at most so many splits on a path that proves the claim, or None."""
-    rows = least(leaf)
-    if Rules(leaf, rows).proves(claim):
-        return {"rows": [row_text(leaf.graph, it) for it in rows]}
+    best = leaf.best()
+    if best.proves(claim):
+        return best.tree()
     if not depth:
         return None
-    splits = [("split_input", it) for it in leaf.graph.inputs] + [("split_end", it.name) for it in leaf.graph.tasks]
-    for word, what in splits:
-        if (word, what) not in used:
-            trees = searched(leaf.split(word, what), claim, depth - 1, used | {(word, what)})
+    for split in leaf.splits():
+        if split not in used:
+            trees = searched(leaf.split(split), claim, depth - 1, used | {split})
             if trees:
-                return {word: what, **dict(zip(MEMBERS[word], trees))}
+                return split.tree(trees)
     return None
 
 
-def searched(leaves, claim: dict, depth: int, used) -> list[dict] | None:
+def searched(leaves, claim: dict, depth: int, used: frozenset[Split]) -> list[dict] | None:
     """A tree for each of these leaves, or None."""
     trees = []
     for leaf in leaves:
@@ -469,23 +528,27 @@ def searched(leaves, claim: dict, depth: int, used) -> list[dict] | None:
 
 
 def leaves_of(leaf: Leaf, tree: dict):
-    """The leaves of a tree from left to right: what each assumes, and its rows."""
-    split = split_on(tree)
-    if split is None:
-        yield leaf, [row_of(leaf.graph, it) for it in tree["rows"]]
+    """The rules for each leaf of a tree, from left to right."""
+    branches = split_on(tree)
+    if branches is None:
+        yield leaf.read(tree["rows"])
         return
-    for branch, below in zip(leaf.split(split.word, split.what), split.trees):
+    for branch, below in zip(leaf.split(branches.split), branches.trees):
         yield from leaves_of(branch, below)
 
 
-def verdict(graph: Graph, claim: dict, tree: dict, is_wide: bool, mistakes=frozenset()) -> str:
-    """What `check` answers to a document with this claim and this tree alone."""
-    for number, (leaf, rows) in enumerate(leaves_of(assumed(graph, claim, is_wide, mistakes), tree), 1):
-        rules = Rules(leaf, rows)
+def judged(leaf: Leaf, claim: dict, tree: dict) -> str:
+    """What `check` answers to a document with this claim and this tree alone, where this is assumed before its splits."""
+    for number, rules in enumerate(leaves_of(leaf, tree), 1):
         fault = rules.broken()
         if fault:
             place, rule = fault
-            return f"refused: not closed claim 1 leaf {number} task {graph.tasks[place].name} rule {rule}"
+            return f"refused: not closed claim 1 leaf {number} task {rules.graph.tasks[place].name} rule {rule}"
         if not rules.proves(claim):
             return f"refused: claim 1 leaf {number}"
     return "accepted"
+
+
+def verdict(graph: Graph, claim: dict, tree: dict, is_wide: bool, mistakes=frozenset()) -> str:
+    """The same by these rules."""
+    return judged(assumed(graph, claim, is_wide, mistakes), claim, tree)

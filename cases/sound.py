@@ -2,11 +2,13 @@
 """Compares what the program answers to small graphs with all their runs.
 
 Graphs are drawn by chance, and claims of each kind about them, with each kind of given. All runs of a graph are gone through
-(every_run.py), and the rules of certificates are tried out beside (rules.py). Then it has to be so that
+(every_run.py), and the rules of certificates are tried out beside: those of version 2 (rules.py), and those of version 3, which
+know of tokens and of winners (tokens.py). Then it has to be so that
 
 - the program accepts a certificate exactly where the rules do, and says the same of one that it refuses: the best that the
-  rules permit, and such in which a row is another;
-- `analyse` finds one exactly where the rules have one, and it is accepted;
+  rules permit, such in which a row is another, such with splits by chance, and such by rules in which there is a mistake;
+- what version 2 accepts is accepted in version 3;
+- `analyse` finds one exactly where the rules have one that know neither of tokens nor of winners, and it is accepted;
 - a claim whose certificate is accepted holds in all runs, and no run in which it fails is found by `refute`;
 - each run that is found, or made by `run`, is one of them.
 
@@ -22,13 +24,16 @@ import pathlib
 import random
 import re
 import sys
+from collections.abc import Iterator
 from typing import NamedTuple
 
-from chance import Wide
+import rules
+import tokens
+from chance import LINK, Wide
 from every_run import TooManyStates, Truth
 from graphs import FINALS
 from harness import TOP, Program
-from rules import Mistake, assumed, least, row_text, search, split_on, verdict
+from rules import judged, search, split_on
 from small import Graph
 
 GRAPHS, SEED, TASKS = 60, 0, (2, 6)
@@ -38,6 +43,8 @@ DEPTH = 1
 STATES = 20_000
 # of each graph: claims for which `analyse` and `refute` are asked, and certificates with another row for each claim
 ASKED, CHANGED = 4, 2
+# splits on a path of a tree that is split by chance
+SPLITS = 2
 # how many runs are tried for a claim that may be true
 FEW = "300"
 # the newest version, and the one before it, which has neither `runs` nor the new kinds of given
@@ -75,6 +82,43 @@ class Small(Wide):
         return kinds
 
 
+class Asking(Small):
+    """One in which more is requested, and raced for."""
+
+    def some_tokens(self):
+        names = [f"K{number}" for number in range(self.chance.choice((1, 1, 2)))]
+        return [*names, LINK]
+
+    def task(self, name):
+        before = [task["name"] for task in self.having("root", "then", "all", "any")]
+        if len(before) > 1 and self.chance.random() < 0.1:
+            return {"name": name, "kind": "any", "of": self.chance.sample(before, 2)}
+        return super().task(name)
+
+    def statement(self, kind, nested=False):
+        if self.chance.random() < 0.3:
+            return {self.chance.choice(("cancel", "cancel", "check")): self.chance.choice(self.tokens)}
+        return super().statement(kind, nested)
+
+
+# how the graph of a number is drawn, in turn
+KINDS = (Small, Asking)
+Mistake = rules.Mistake | tokens.Mistake
+MISTAKES = (*rules.Mistake, *tokens.Mistake)
+
+
+def wide_leaf(graph: Graph, claim: dict) -> rules.Leaf:
+    """What is assumed for a claim by the rules of version 3 that know neither of tokens nor of winners."""
+    return rules.assumed(graph, claim, True)
+
+
+def leaf_with(graph: Graph, claim: dict, mistake: Mistake) -> rules.Leaf:
+    """What is assumed for a claim in version 3 by rules in which there is this mistake."""
+    if isinstance(mistake, tokens.Mistake):
+        return tokens.assumed(graph, claim, {mistake})
+    return rules.assumed(graph, claim, True, {mistake})
+
+
 class Asked(NamedTuple):
     """A claim about a graph, in a version of documents, with a tree for it."""
 
@@ -89,9 +133,15 @@ class Asked(NamedTuple):
     def is_wide(self) -> bool:
         return self.document["version"] > 2
 
+    def leaf(self, graph: Graph) -> rules.Leaf:
+        """What is assumed before the splits."""
+        return leaf_of(graph, self.document)
+
     def verdict(self, graph: Graph) -> str:
         """What the rules say."""
-        return verdict(graph, self.claim, self.tree, self.is_wide)
+        if self.is_wide:
+            return tokens.verdict(graph, self.claim, self.tree)
+        return rules.verdict(graph, self.claim, self.tree, False)
 
     def text(self) -> str:
         return json.dumps({**self.document, "certificate": [self.tree]}, separators=(",", ":"))
@@ -102,11 +152,24 @@ def documents(drawn: Small, versions=VERSIONS) -> list[dict]:
     return [{**drawn.document(claim), "version": version} for version in versions for claim in drawn.claims(version)]
 
 
-def best_tree(graph: Graph, document: dict, depth: int) -> dict:
-    """The tree that the rules have for the claim; where they have none, the leaf with the best rows."""
+def leaf_of(graph: Graph, document: dict) -> rules.Leaf:
+    """What is assumed for the claim of a document, by the rules of its version."""
     (claim,) = document["claims"]
-    leaf = assumed(graph, claim, document["version"] > 2)
-    return search(leaf, claim, depth) or {"rows": [row_text(graph, it) for it in least(leaf)]}
+    return tokens.assumed(graph, claim) if document["version"] > 2 else rules.assumed(graph, claim, False)
+
+
+def best_tree(leaf: rules.Leaf, claim: dict, depth: int) -> dict:
+    """The tree that the rules have for the claim; where they have none, the leaf with the best rows."""
+    return search(leaf, claim, depth) or leaf.best().tree()
+
+
+def split_by_chance(chance: random.Random, leaf: rules.Leaf, depth: int) -> dict:
+    """A tree with so many splits on each path, on winners above all, with the best rows."""
+    if not depth:
+        return leaf.best().tree()
+    splits = leaf.splits()
+    split = chance.choice([it for it in splits if it.word == "split_winner"] * 2 + splits)
+    return split.tree([split_by_chance(chance, it, depth - 1) for it in leaf.split(split)])
 
 
 def changed(chance: random.Random, drawn: Small, tree: dict) -> dict:
@@ -115,14 +178,37 @@ def changed(chance: random.Random, drawn: Small, tree: dict) -> dict:
     while (split := split_on(leaf)) is not None:
         leaf = chance.choice(split.trees)
     row = chance.choice(leaf["rows"])
-    member = chance.choice(["ends", "ends", "runs", "before", "past", "chain"])
+    names = {"ends": FINALS, **dict.fromkeys(("before", "past", "chain"), [task["name"] for task in drawn.tasks])}
+    if "asks" in row and drawn.tokens:
+        names |= dict.fromkeys(("asked", "asks"), drawn.tokens)
+    member = chance.choice(["ends", "runs", *names])
     if member == "runs":
         row["runs"] = not row["runs"]
     else:
-        names = FINALS if member == "ends" else [task["name"] for task in drawn.tasks]
-        one = chance.choice(names)
+        one = chance.choice(names[member])
         row[member] = [it for it in row[member] if it != one] if one in row[member] else [*row[member], one]
     return tree
+
+
+def without_tokens(tree: dict) -> dict:
+    """The tree with rows that say nothing of tokens."""
+    branches = split_on(tree)
+    if branches is None:
+        return {"rows": [{**it, "asked": [], "asks": []} for it in tree["rows"]]}
+    return branches.split.tree([without_tokens(it) for it in branches.trees])
+
+
+def has_winner(tree: dict) -> bool:
+    """A split of the tree is one on a winner."""
+    branches = split_on(tree)
+    return branches is not None and (branches.split.task is not None or any(map(has_winner, branches.trees)))
+
+
+def misplaced(chance: random.Random, drawn: Small, tree: dict) -> dict:
+    """The tree with another task, or another winner, at the split on a winner at its top, where there is one."""
+    if "split_winner" not in tree:
+        return tree
+    return {**tree, chance.choice(("split_winner", "task")): chance.choice(drawn.tasks)["name"]}
 
 
 class Comparison:
@@ -136,7 +222,7 @@ class Comparison:
     def compare(self, number: int):
         """Compares what is said of the graph of a number, with claims of both versions."""
         chance = random.Random(number)
-        drawn = Small(chance, *TASKS)
+        drawn = KINDS[number % len(KINDS)](chance, *TASKS)
         each = documents(drawn)
         try:
             truth = Truth(each[0], self.states)
@@ -144,15 +230,30 @@ class Comparison:
             self.counts["too large"] += 1
             return
         self.counts["graphs"] += 1
-        asked = [Asked(document, best_tree(truth.graph, document, self.depth)) for document in each]
+        leaves = [(document, leaf_of(truth.graph, document)) for document in each]
+        asked = [Asked(it, best_tree(leaf, it["claims"][0], self.depth)) for it, leaf in leaves]
         others = [Asked(it.document, changed(chance, drawn, it.tree)) for it in asked for _ in range(CHANGED)]
-        self.compare_certificates(truth, [*asked, *others])
+        self.compare_certificates(truth, [*asked, *others, *self.wider(chance, drawn, truth.graph, each)])
         self.compare_versions(truth.graph, asked)
-        for it in chance.sample(asked, min(len(asked), ASKED)) if self.program else []:
+        for it in chance.sample(each, min(len(each), ASKED)) if self.program else []:
             self.compare_search(truth, it)
             self.compare_refutation(truth, it)
         if self.program:
             self.compare_run(truth, drawn)
+
+    def wider(self, chance: random.Random, drawn: Small, graph: Graph, each: list[dict]) -> Iterator[Asked]:
+        """Certificates of version 3 with splits by chance, such in which a row or a split is another, and such by rules in
+        which there is a mistake."""
+        for document in each if graph.tasks else []:
+            if document["version"] < 3:
+                continue
+            tree = split_by_chance(chance, leaf_of(graph, document), chance.randint(1, SPLITS))
+            yield Asked(document, tree)
+            yield Asked(document, misplaced(chance, drawn, changed(chance, drawn, tree)))
+            (claim,) = document["claims"]
+            mistaken_leaf = leaf_with(graph, claim, chance.choice(MISTAKES))
+            yield Asked(document, best_tree(mistaken_leaf, claim, 0))
+            yield Asked(document, split_by_chance(chance, mistaken_leaf, 1))
 
     def tell(self, what: str, *more):
         self.counts["wrong"] += 1
@@ -165,6 +266,9 @@ class Comparison:
         for it, wanted, answer in zip(asked, answers, said):
             self.counts["certificates"] += 1
             self.counts["accepted"] += answer == "accepted"
+            if wanted == "accepted" and it.is_wide:
+                self.counts["accepted by tokens"] += tokens.verdict(truth.graph, it.claim, without_tokens(it.tree)) != wanted
+                self.counts["accepted with a split on a winner"] += has_winner(it.tree)
             if answer != wanted:
                 self.tell("check says", answer, "and the rules say", wanted, "of", it.text())
             if "accepted" in (answer, wanted) and not truth.holds(it.claim):
@@ -178,41 +282,48 @@ class Comparison:
         return [line.split(" ", 2)[2] for line in lines] if len(lines) == len(asked) else [answer.stdout] * len(asked)
 
     def compare_versions(self, graph: Graph, asked: list[Asked]):
-        """What is accepted in version 2 is accepted in version 3, with the same certificate."""
+        """What is accepted by rules that know neither of tokens nor of winners is accepted in version 3, with the same
+        certificate."""
         narrow = [it for it in asked if not it.is_wide and it.verdict(graph) == "accepted"]
-        wider = [Asked({**it.document, "version": 3}, it.tree) for it in narrow]
-        said = self.checked(wider) if self.program else [it.verdict(graph) for it in wider]
-        for it, answer in zip(wider, said):
-            if answer != "accepted":
-                self.tell("accepted in version 2 and not in version 3:", it.text())
+        older = [Asked({**it.document, "version": 3}, it.tree) for it in narrow]
+        for it in asked:
+            tree = search(wide_leaf(graph, it.claim), it.claim, 1) if it.is_wide else None
+            older += [Asked(it.document, tree)] if tree else []
+        said = self.checked(older) if self.program else ["accepted"] * len(older)
+        for it, answer in zip(older, said):
+            self.counts["older"] += 1
+            if (answer, it.verdict(graph)) != ("accepted", "accepted"):
+                self.tell("accepted without knowing of tokens, and not in version 3:", it.text())
 
-    def compare_search(self, truth: Truth, asked: Asked):
-        """`analyse` finds a certificate exactly where the rules have one."""
+    def compare_search(self, truth: Truth, document: dict):
+        """`analyse` finds a certificate exactly where the rules have one that know neither of tokens nor of winners."""
         assert self.program
-        answer = self.program("analyse", "--depth", str(self.depth), given=json.dumps(asked.document))
-        is_there = asked.verdict(truth.graph) == "accepted"
+        (claim,) = document["claims"]
+        wanted = search(rules.assumed(truth.graph, claim, document["version"] > 2), claim, self.depth)
+        answer = self.program("analyse", "--depth", str(self.depth), given=json.dumps(document))
         self.counts["searched"] += 1
-        if answer.exit == 1 and not is_there:
+        if answer.exit == 1 and not wanted:
             return
-        if answer.exit != 0 or not is_there:
-            self.tell("analyse says", answer.stdout, "and the rules have", asked.tree, "for", asked.text())
+        if answer.exit != 0 or not wanted:
+            self.tell("analyse says", answer.stdout, "and the rules have", wanted, "for", json.dumps(document))
             return
         (tree,) = json.loads(answer.stdout)
-        found = Asked(asked.document, tree)
+        found = Asked(document, tree)
         if found.verdict(truth.graph) != "accepted" or self.checked([found]) != ["accepted"]:
             self.tell("found, and not accepted:", found.text())
-        if not truth.holds(asked.claim):
+        if not truth.holds(claim):
             self.tell("found, and there is a run in which it fails:", found.text())
 
-    def compare_refutation(self, truth: Truth, asked: Asked):
+    def compare_refutation(self, truth: Truth, document: dict):
         """`refute` finds a run only of a claim that doesn't hold in all runs, and `audit` says the same of that run."""
         assert self.program
-        answer = self.program("refute", "--claim", "1", "--runs", FEW, given=json.dumps(asked.document))
+        (claim,) = document["claims"]
+        answer = self.program("refute", "--claim", "1", "--runs", FEW, given=json.dumps(document))
         self.counts["refuted"] += answer.exit
         if answer.exit == 0:
             return
         audit = self.program("audit", given=answer.stdout)
-        if truth.holds(asked.claim) or "claim 1 fails" not in audit.stdout:
+        if truth.holds(claim) or "claim 1 fails" not in audit.stdout:
             self.tell("refuted", answer.stdout, "which", audit.stdout)
 
     def compare_run(self, truth: Truth, drawn: Small):
@@ -231,21 +342,26 @@ class Comparison:
 
 def mistaken(number: int, mistake: Mistake, depth: int = DEPTH, states: int = STATES) -> dict | None:
     """A document with a claim that doesn't hold about the graph of a number and a certificate for it, by rules in which there
-    is a mistake; None where it has none."""
-    drawn = Small(random.Random(number), *TASKS)
-    each = documents(drawn, (3,))
-    try:
-        truth = Truth(each[0], states)
-    except TooManyStates:
-        return None
+    is a mistake, and which the rules refuse; None where there is none."""
+    kind = Asking if isinstance(mistake, tokens.Mistake) else Small
+    each = documents(kind(random.Random(number), *TASKS), (3,))
+    graph = Graph(each[0])
     for document in each:
         (claim,) = document["claims"]
-        if truth.holds(claim):
-            continue
-        tree = search(assumed(truth.graph, claim, True, {mistake}), claim, depth)
-        if tree and verdict(truth.graph, claim, tree, True, {mistake}) == "accepted":
+        leaf = leaf_with(graph, claim, mistake)
+        tree = search(leaf, claim, depth)
+        is_taken = tree and judged(leaf, claim, tree) == "accepted" and tokens.verdict(graph, claim, tree) != "accepted"
+        if tree and is_taken and is_false(document, states):
             return {**document, "certificate": [tree]}
     return None
+
+
+def is_false(document: dict, states: int) -> bool:
+    """The claim doesn't hold in all runs, which aren't too many to go through."""
+    try:
+        return not Truth(document, states).holds(document["claims"][0])
+    except TooManyStates:
+        return False
 
 
 def main() -> int:
@@ -256,11 +372,12 @@ def main() -> int:
     parser.add_argument("--depth", type=int, default=DEPTH, help="splits on a path of what is searched for (%(default)s)")
     parser.add_argument("--states", type=int, default=STATES, help="pass over graphs with more states (%(default)s)")
     parser.add_argument("--alone", action="store_true", help="compare the rules with all runs, and don't ask the program")
-    parser.add_argument("--mistake", choices=[it.name for it in Mistake], help="plant this mistake in the rules")
+    parser.add_argument("--mistake", choices=[it.name for it in MISTAKES], help="plant this mistake in the rules")
     given = parser.parse_args()
     numbers = range(given.seed, given.seed + given.graphs)
     if given.mistake:
-        found = [it for it in numbers if mistaken(it, Mistake[given.mistake], given.depth, given.states)]
+        (planted,) = (it for it in MISTAKES if it.name == given.mistake)
+        found = [it for it in numbers if mistaken(it, planted, given.depth, given.states)]
         print(f"of {given.graphs} graphs {len(found)} show the mistake" + (f", first {found[0]}" if found else ""))
         return 0 if found else 1
     comparison = Comparison(None if given.alone else Program(given.program), given.depth, given.states)

@@ -7,26 +7,38 @@ import json
 
 import pytest
 
+import rules
+import tokens
 from every_run import Runs, Truth
-from rules import Mistake, verdict
+from rules import judged
 from small import Graph
-from sound import Comparison, mistaken
+from sound import MISTAKES, Comparison, Mistake, leaf_with, mistaken
 
 # how many graphs are compared
 DRAWN = 30
 # a graph that shows each mistake
-SHOWN = {
-    Mistake.OWN_TOKEN_FOR_FINAL: 3,
-    Mistake.OWN_TOKEN_FOR_OBSERVED: 39,
-    Mistake.OWN_TOKEN_FOR_RUNS: 3,
-    Mistake.OWN_TOKENS_FOR_EXCLUDES: 193,
-    Mistake.RUNS_OF_CHILD: 8,
-    Mistake.RUNS_OF_CANCELED: 3,
-    Mistake.CHILD_WITHOUT_ENDS: 21,
-    Mistake.ONE_SUCCEEDS_FOR_ALL: 7,
-    Mistake.ARGUMENT_LEFT_OUT: 3,
-    Mistake.UNION_FOR_ANY: 3,
-    Mistake.ENDED_AS_OTHERS: 3,
+SHOWN: dict[Mistake, int] = {
+    rules.Mistake.OWN_TOKEN_FOR_FINAL: 3,
+    rules.Mistake.OWN_TOKEN_FOR_OBSERVED: 39,
+    rules.Mistake.OWN_TOKEN_FOR_RUNS: 3,
+    rules.Mistake.OWN_TOKENS_FOR_EXCLUDES: 193,
+    rules.Mistake.RUNS_OF_CHILD: 8,
+    rules.Mistake.RUNS_OF_CANCELED: 3,
+    rules.Mistake.CHILD_WITHOUT_ENDS: 21,
+    rules.Mistake.ONE_SUCCEEDS_FOR_ALL: 7,
+    rules.Mistake.ARGUMENT_LEFT_OUT: 3,
+    rules.Mistake.UNION_FOR_ANY: 3,
+    rules.Mistake.ENDED_AS_OTHERS: 3,
+    tokens.Mistake.CUT_BY_GIVEN: 73,
+    tokens.Mistake.ANTECEDENT_CUT_ALWAYS: 3,
+    tokens.Mistake.ALL_CUT_FOR_ONE: 3,
+    tokens.Mistake.OWN_TOKEN_KNOWN: 9,
+    tokens.Mistake.PASSED_CHECK_KNOWN: 3,
+    tokens.Mistake.LINKS_DOWNWARDS: 18,
+    tokens.Mistake.DROPS_FORGOTTEN: 3,
+    tokens.Mistake.CHILD_DROPPED_IF_RUNS: 64,
+    tokens.Mistake.UNION_OVER_WINNERS: 24,
+    tokens.Mistake.BURDEN_FORGOTTEN: 14,
 }
 
 
@@ -37,14 +49,14 @@ def test_drawn_graph(program, number: int):
     assert comparison.wrong == []
 
 
-@pytest.mark.parametrize("mistake", Mistake, ids=lambda it: it.name)
+@pytest.mark.parametrize("mistake", MISTAKES, ids=lambda it: it.name)
 def test_mistake_shows(program, mistake: Mistake):
     document = mistaken(SHOWN[mistake], mistake)
     assert document, "no claim that doesn't hold has a certificate"
     (claim,), (tree,) = document["claims"], document["certificate"]
     graph = Graph(document)
-    assert verdict(graph, claim, tree, True, {mistake}) == "accepted"
-    said = verdict(graph, claim, tree, True)
+    assert judged(leaf_with(graph, claim, mistake), claim, tree) == "accepted"
+    said = tokens.verdict(graph, claim, tree)
     answer = program("check", given=json.dumps(document))
     assert said.startswith("refused: ") and (answer.stdout, answer.exit) == (f"{said}\n", 1)
 
