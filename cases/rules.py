@@ -527,6 +527,22 @@ def searched(leaves, claim: dict, depth: int, used: frozenset[Split]) -> list[di
 # ---- what is said of a certificate
 
 
+def fits(graph: Graph, tree: dict) -> bool:
+    """Each leaf has one row for each task, and each split on a winner is of a task in the list of a WhenAny task."""
+    branches = split_on(tree)
+    if branches is None:
+        return len(tree["rows"]) == len(graph.tasks)
+    return is_fitting(graph, branches.split) and all(fits(graph, it) for it in branches.trees)
+
+
+def is_fitting(graph: Graph, split: Split) -> bool:
+    """It is no split on a winner, or one of a task in the list of a WhenAny task."""
+    if split.task is None:
+        return True
+    task = graph.tasks[graph.places[split.what]]
+    return task.kind == "any" and graph.places[split.task] in task.of
+
+
 def leaves_of(leaf: Leaf, tree: dict):
     """The rules for each leaf of a tree, from left to right."""
     branches = split_on(tree)
@@ -539,6 +555,8 @@ def leaves_of(leaf: Leaf, tree: dict):
 
 def judged(leaf: Leaf, claim: dict, tree: dict) -> str:
     """What `check` answers to a document with this claim and this tree alone, where this is assumed before its splits."""
+    if not fits(leaf.graph, tree):
+        return "refused: shape claim 1"
     for number, rules in enumerate(leaves_of(leaf, tree), 1):
         fault = rules.broken()
         if fault:

@@ -90,14 +90,20 @@ class Asking(Small):
         return [*names, LINK]
 
     def task(self, name):
+        chance = self.chance
         before = [task["name"] for task in self.having("root", "then", "all", "any")]
-        if len(before) > 1 and self.chance.random() < 0.1:
-            return {"name": name, "kind": "any", "of": self.chance.sample(before, 2)}
-        return super().task(name)
+        if len(before) > 1 and chance.random() < 0.15:
+            return {"name": name, "kind": "any", "of": chance.sample(before, 2)}
+        task, races = super().task(name), [task["name"] for task in self.having("any")]
+        return {**task, "after": chance.choice(races)} if task["kind"] == "then" and races and chance.random() < 0.4 else task
 
     def statement(self, kind, nested=False):
-        if self.chance.random() < 0.3:
-            return {self.chance.choice(("cancel", "cancel", "check")): self.chance.choice(self.tokens)}
+        chance = self.chance
+        drawn = chance.random()
+        if drawn < 0.3:
+            return {chance.choice(("cancel", "cancel", "check")): chance.choice(self.tokens)}
+        if kind == "then" and drawn < 0.4:
+            return "observe"
         return super().statement(kind, nested)
 
 
@@ -139,9 +145,7 @@ class Asked(NamedTuple):
 
     def verdict(self, graph: Graph) -> str:
         """What the rules say."""
-        if self.is_wide:
-            return tokens.verdict(graph, self.claim, self.tree)
-        return rules.verdict(graph, self.claim, self.tree, False)
+        return judged(self.leaf(graph), self.claim, self.tree)
 
     def text(self) -> str:
         return json.dumps({**self.document, "certificate": [self.tree]}, separators=(",", ":"))

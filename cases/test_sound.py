@@ -4,15 +4,17 @@ Each mistake that is planted in the rules shows in one of the graphs: a claim th
 program refuses. `./sound.py --mistake` says which graphs show it.
 """
 import json
+import re
 
 import pytest
 
 import rules
 import tokens
 from every_run import Runs, Truth
+from harness import Case, all_cases
 from rules import judged
 from small import Graph
-from sound import MISTAKES, Comparison, Mistake, leaf_with, mistaken
+from sound import MISTAKES, Asked, Comparison, Mistake, leaf_with, mistaken
 
 # how many graphs are compared
 DRAWN = 30
@@ -59,6 +61,23 @@ def test_mistake_shows(program, mistake: Mistake):
     said = tokens.verdict(graph, claim, tree)
     answer = program("check", given=json.dumps(document))
     assert said.startswith("refused: ") and (answer.stdout, answer.exit) == (f"{said}\n", 1)
+
+
+# ---- certificates that were worked out by hand
+
+
+def worked_certificates() -> list[Case]:
+    """The cases in which a certificate of one claim is checked."""
+    is_answer = re.compile("accepted|refused: ").match
+    checked = [it for it in all_cases() if it.command == "check" and is_answer(it.stdout or "")]
+    return [it for it in checked if [len(json.loads(it.stdin).get(word, [])) for word in ("claims", "certificate")] == [1, 1]]
+
+
+@pytest.mark.parametrize("case", worked_certificates(), ids=str)
+def test_the_rules_say_what_was_worked_out(case: Case):
+    said = json.loads(case.stdin)
+    (tree,) = said["certificate"]
+    assert f"{Asked(said, tree).verdict(Graph(said))}\n" == case.stdout
 
 
 # ---- how runs are gone through

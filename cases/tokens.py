@@ -11,7 +11,7 @@ from collections.abc import Iterable, Iterator, Sequence, Set
 from typing import NamedTuple
 
 import rules
-from rules import ACKNOWLEDGED, BY_BODY, RETURNED, THROWN, Fact, Split, split_on, taken_lists
+from rules import ACKNOWLEDGED, BY_BODY, RETURNED, THROWN, Fact, Split, taken_lists
 from small import CANCELED, FAULTED, FINALS, RAN, Graph
 
 FINAL_OF = {how: final for final, how in BY_BODY.items()}
@@ -458,17 +458,6 @@ def row_of(graph: Graph, said: dict) -> Row:
     return Row(it.ends, it.runs, it.before, it.past, it.chain, set(said.get("asked", [])), set(said.get("asks", [])))
 
 
-def fits(graph: Graph, tree: dict) -> bool:
-    """Each split on a winner is one on a WhenAny task, and of a task of its list."""
-    branches = split_on(tree)
-    if branches is None:
-        return True
-    split, places = branches.split, graph.places
-    may_win = lambda: places[split.task or ""] in graph.tasks[places[split.what]].of
-    is_fitting = split.word != "split_winner" or graph.tasks[places[split.what]].kind == "any" and may_win()
-    return is_fitting and all(fits(graph, it) for it in branches.trees)
-
-
 def verdict(graph: Graph, claim: dict, tree: dict, planted: Iterable[Mistake] = ()) -> str:
     """What `check` answers to a document of version 3 with this claim and this tree alone."""
-    return rules.judged(assumed(graph, claim, planted), claim, tree) if fits(graph, tree) else "refused: shape claim 1"
+    return rules.judged(assumed(graph, claim, planted), claim, tree)
