@@ -565,8 +565,3 @@ def judged(leaf: Leaf, claim: dict, tree: dict) -> str:
         if not rules.proves(claim):
             return f"refused: claim 1 leaf {number}"
     return "accepted"
-
-
-def verdict(graph: Graph, claim: dict, tree: dict, is_wide: bool, mistakes=frozenset()) -> str:
-    """The same by these rules."""
-    return judged(assumed(graph, claim, is_wide, mistakes), claim, tree)

@@ -113,11 +113,6 @@ Mistake = rules.Mistake | tokens.Mistake
 MISTAKES = (*rules.Mistake, *tokens.Mistake)
 
 
-def wide_leaf(graph: Graph, claim: dict) -> rules.Leaf:
-    """What is assumed for a claim by the rules of version 3 that know neither of tokens nor of winners."""
-    return rules.assumed(graph, claim, True)
-
-
 def leaf_with(graph: Graph, claim: dict, mistake: Mistake) -> rules.Leaf:
     """What is assumed for a claim in version 3 by rules in which there is this mistake."""
     if isinstance(mistake, tokens.Mistake):
@@ -248,15 +243,12 @@ class Comparison:
     def wider(self, chance: random.Random, drawn: Small, graph: Graph, each: list[dict]) -> Iterator[Asked]:
         """Certificates of version 3 with splits by chance, such in which a row or a split is another, and such by rules in
         which there is a mistake."""
-        for document in each if graph.tasks else []:
-            if document["version"] < 3:
-                continue
+        for document in (it for it in each if it["version"] > 2):
             tree = split_by_chance(chance, leaf_of(graph, document), chance.randint(1, SPLITS))
             yield Asked(document, tree)
             yield Asked(document, misplaced(chance, drawn, changed(chance, drawn, tree)))
-            (claim,) = document["claims"]
-            mistaken_leaf = leaf_with(graph, claim, chance.choice(MISTAKES))
-            yield Asked(document, best_tree(mistaken_leaf, claim, 0))
+            mistaken_leaf = leaf_with(graph, document["claims"][0], chance.choice(MISTAKES))
+            yield Asked(document, mistaken_leaf.best().tree())
             yield Asked(document, split_by_chance(chance, mistaken_leaf, 1))
 
     def tell(self, what: str, *more):
@@ -291,7 +283,7 @@ class Comparison:
         narrow = [it for it in asked if not it.is_wide and it.verdict(graph) == "accepted"]
         older = [Asked({**it.document, "version": 3}, it.tree) for it in narrow]
         for it in asked:
-            tree = search(wide_leaf(graph, it.claim), it.claim, 1) if it.is_wide else None
+            tree = search(rules.assumed(graph, it.claim, True), it.claim, self.depth) if it.is_wide else None
             older += [Asked(it.document, tree)] if tree else []
         said = self.checked(older) if self.program else ["accepted"] * len(older)
         for it, answer in zip(older, said):

@@ -458,6 +458,6 @@ def row_of(graph: Graph, said: dict) -> Row:
     return Row(it.ends, it.runs, it.before, it.past, it.chain, set(said.get("asked", [])), set(said.get("asks", [])))
 
 
-def verdict(graph: Graph, claim: dict, tree: dict, planted: Iterable[Mistake] = ()) -> str:
+def verdict(graph: Graph, claim: dict, tree: dict) -> str:
     """What `check` answers to a document of version 3 with this claim and this tree alone."""
-    return rules.judged(assumed(graph, claim, planted), claim, tree)
+    return rules.judged(assumed(graph, claim), claim, tree)
