@@ -9,6 +9,7 @@ use Rattle.std.proofs.lemmas.List.Elements.{All-nil, All-cons}
 use Rattle.serde_json.specs.Data.{Data, Members, no_members, member, null, boolean, number, string, array, object, depth}
 use Rattle.serde_json.specs.Find.{get, get_member, as_str}
 use Rattle.tpl_model.proofs.Truths.{and_first, and_second}
+use Rattle.tpl_model.specs.declared.rule_set.RuleSet.{RuleSet}
 use Rattle.tpl_model.specs.declared.rule_set.RuleSet.TheVariants.{Narrow}
 use Rattle.tpl_json.specs.Members.{◌>>=◌, ◌<$>◌, ◌<*>◌, only_if, is_one_of, members_within, has_only, has_member, text_in, bool_in, list_in, list_or_none, each, texts_in}
 use Rattle.tpl_json.specs.Finals.{no_finals, finals_at}
@@ -41,9 +42,16 @@ lacks names key (string s) only other = refl
 lacks names key (array ds) only other = refl
 lacks names key (object ms) only other = lacks_member names key ms only other
 
-no_texts : (name : List ℕ) (d : Data) (texts : List (List ℕ)) → get name d ≡ None → texts_in name d ≡ Some texts → texts ≡ []
+pub nothing_named : (name : List ℕ) (d : Data) → get name d ≡ None → texts_in name d ≡ Some []
 unfolding texts_in list_or_none each
-no_texts name d texts none e = sym (some_is [] texts (rw none at e))
+nothing_named name d none = rw none refl
+
+no_texts : (name : List ℕ) (d : Data) (texts : List (List ℕ)) → get name d ≡ None → texts_in name d ≡ Some texts → texts ≡ []
+no_texts name d texts none e = sym (some_is [] texts (sym (nothing_named name d none) ∙ e))
+
+-- a row of the narrow rules has no such member
+pub row_lacks : (rules : RuleSet) (names : List (List ℕ)) (key : List ℕ) (d : Data) → names ≡ row_names rules → true ≡ has_only names d → is_one_of (row_names Narrow) key ≡ false → rules ≡ Narrow → get key d ≡ None
+row_lacks rules names key d are only other narrow = lacks (row_names Narrow) key d (subst (λ ns. has_only ns d ≡ true) (are ∙ ap row_names narrow) (sym only)) other
 
 -- ---- rows and trees
 

@@ -1,10 +1,11 @@
 //! Reading a certificate tree with names.
 
-ghost use Rattle.std.specs.Prelude.{◌≡◌, map, option_and_then};
+ghost use Rattle.std.specs.Prelude.{◌≡◌, None, map, option_and_then};
 ghost use Rattle.serde_json.specs.Find.{get};
 ghost use Rattle.tpl_json.specs.View.{view};
 ghost use Rattle.tpl_cert.specs.Seen.{row_of, tree_of};
-ghost use Rattle.tpl_json.specs.Members.{Gives, each};
+ghost use Rattle.tpl_json.specs.Members.{Gives, each, texts_in};
+ghost use Rattle.tpl_model.specs.declared.rule_set.RuleSet.TheVariants.{Narrow};
 ghost use Rattle.tpl_cert.specs.Reading.{row_names, row_at, leaf_at, input_at, end_at, winner_at, node_at, whole_tree};
 
 use crate::named::{NamedRow, NamedTree};
@@ -25,6 +26,22 @@ fn row_names(rules: RuleSet) -> &'static [&'static str]
     }
 }
 
+/// The tokens in a member of a row, which no row of the narrow rules has.
+fn tokens_in<'v, 't>(
+    alloc: Global,
+    rules: RuleSet,
+    value: &'v Value<'t>,
+    name: &str,
+) -> Result<Vec<&'v str>, Miss<Shape>>
+    requires { rules ≡ Narrow → get name.now (view value.now) ≡ None }
+    ensures { Gives (λ v. map (λ s. s.now) v.items) result (texts_in name.now (view value.now)) }
+{
+    match rules {
+        RuleSet::Narrow => Ok(Vec::new(alloc)),
+        RuleSet::Wide => texts_in(alloc, value, name),
+    }
+}
+
 #[tactic(auto, unfolding(crate::specs::Reading::row_at))]
 fn row_of<'v, 't>(
     alloc: Global,
@@ -42,8 +59,8 @@ fn row_of<'v, 't>(
     let before = texts_in(alloc, value, "before")?;
     let past = texts_in(alloc, value, "past")?;
     let chain = texts_in(alloc, value, "chain")?;
-    let asked = texts_in(alloc, value, "asked")?;
-    let asks = texts_in(alloc, value, "asks")?;
+    let asked = tokens_in(alloc, rules, value, "asked")?;
+    let asks = tokens_in(alloc, rules, value, "asks")?;
     Ok(NamedRow {
         ends,
         runs,
