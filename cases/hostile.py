@@ -26,7 +26,7 @@ import time
 from concurrent.futures import ThreadPoolExecutor
 
 import debian
-from documents import Stages, staged
+from documents import COUNTED, Stages, sized, staged
 from graphs import FINALS
 
 HERE = pathlib.Path(__file__).resolve().parent
@@ -172,6 +172,11 @@ def small_objects(longest=16 << 20):
     return given
 
 
+def walked_bodies():
+    """Long bodies under many claims of version 3: the paths of each are walked for each leaf."""
+    return {**sized(COUNTED["bodies"]), "version": 3}
+
+
 def wrong_object():
     """The same, where the last row is wrong."""
     given = small_objects()
@@ -218,6 +223,7 @@ DEAR = (
     Hostile("small objects", ("check",), small_objects, 1, "refused: shape claim 1\n", 5, 40),
     Hostile("all ends given to many claims", ("check",), given_ends, 1, "refused: shape claim 1\n", 5, 40),
     Hostile("all jobs and tokens given to all claims", ("check",), given_words, 1, "refused: shape claim 1\n", 1_000, 24),
+    Hostile("long bodies by the rules of version 3", ("check",), walked_bodies, 0, "accepted\n", 20, 50),
     Hostile("small objects, one of them wrong", ("check", "--explain"), wrong_object, 3, "unreadable: ", 15, 130),
 )
 
