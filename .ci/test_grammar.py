@@ -87,7 +87,7 @@ def forms(kind):
 
 def single_words(kind):
     """The words that are forms of the kind by themselves."""
-    named = {"statement": "word_at", "given": "given_word"}
+    named = {"statement": "word_at", "given": "given_word", "tree": "is_least"}
     return words(definitions(KINDS[kind][0])[named[kind]]) if kind in named else set()
 
 
@@ -140,9 +140,11 @@ def test_schema_says_what_version_3_adds_to_trees():
     older = schema()["$defs"]["older_tree"]["properties"]
     assert schema()["allOf"][1]["then"]["properties"]["certificate"] == {"items": {"$ref": "#/$defs/older_tree"}}
     assert {name for name, said in older.items() if said is False} == third_trees()
+    assert is_worded_in_third_only() and schema()["$defs"]["older_tree"]["type"] == "object"
     assert older["rows"]["items"]["properties"] == dict.fromkeys(third_rows(), False)
     inner = {name for name, said in older.items() if said == {"$ref": "#/$defs/older_tree"}}
-    assert inner == {name for it in schema_of("tree") for name in it["properties"] if is_tree(it["properties"][name])}
+    objects = [it["properties"] for it in schema_of("tree") if "properties" in it]
+    assert inner == {name for it in objects for name in it if is_tree(it[name])}
 
 
 def is_tree(said):
@@ -156,6 +158,11 @@ def third_trees():
     name = re.search(r"splits_winners rules && has_member \(codes \"(\w+)\"\)", defined["node_at"])[1]
     assert "splits_winners Narrow = false\nsplits_winners Wide = true" in defined["splits_winners"]
     return {name}
+
+
+def is_worded_in_third_only():
+    """Whether a tree of version 1 or 2 is no word."""
+    return "is_least Narrow d = false" in definitions(KINDS["tree"][0])["is_least"]
 
 
 def third_rows():
@@ -248,6 +255,7 @@ def test_page_says_what_version_3_adds():
     assert marked(rows(*TABLES["given"])) == third_given() | single_words("given")
     trees = re.findall(r'`(?:\{"(\w+)":[^`]*\}|(\w+))` \(version 3\)', section("Trees"))
     assert {name for found in trees for name in found if name} == third_trees() | third_rows()
+    assert set(re.findall(r'`"(\w+)"` \(version 3\)', section("Trees"))) == single_words("tree")
 
 
 # ---- the reasons

@@ -1,4 +1,5 @@
 pub mod FoundLemmas
 pub mod PlanLemmas
 pub mod GapLemmas
+pub mod WideLemmas
 pub mod SlimLemmas

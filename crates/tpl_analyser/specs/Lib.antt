@@ -1,5 +1,6 @@
 pub mod Splits
 pub mod Found
+pub mod WideFound
 pub mod Gaps
 pub mod Questions
 pub mod Slim

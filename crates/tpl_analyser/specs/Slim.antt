@@ -1,5 +1,6 @@
--- Trees whose rows say no more of where tasks are settled than the claim's proof uses.
-use Rattle.std.specs.Prelude.{◌≡◌, ℕ, true, List, [], ◌∷◌}
+-- The forms of certificates: whose rows say no more of where tasks are settled than the claim's proof uses, and whose leaves
+-- leave their rows out.
+use Rattle.std.specs.Prelude.{◌≡◌, ℕ, true, List, [], ◌∷◌, map, ⊤}
 use Rattle.std.specs.List.{All}
 use Rattle.tpl_model.specs.Members.{mem}
 use Rattle.tpl_model.specs.declared.ids.TaskId.{TaskId}
@@ -7,8 +8,12 @@ use Rattle.tpl_model.specs.declared.claim.Property.{Property}
 use Rattle.tpl_model.specs.declared.claim.Property.TheVariants.{After}
 use Rattle.tpl_model.specs.Claims.{Claim}
 use Rattle.tpl_model.specs.Certificate.{Row, Tree, SplitInput, SplitEnd, Leaf}
+use Rattle.tpl_model.specs.WiderRules.{WideTree, OnInput, OnEnd, OnWinner, WideLeaf, LeastLeaf, as_wide_tree}
+use Rattle.tpl_model.specs.declared.rule_set.RuleSet.{RuleSet}
+use Rattle.tpl_model.specs.declared.rule_set.RuleSet.TheVariants.{Narrow, Wide}
+use Rattle.tpl_analyser.specs.Plans.{HasNoRows}
 use Rattle.tpl_analyser.specs.declared.form.Form.{Form}
-use Rattle.tpl_analyser.specs.declared.form.Form.TheVariants.{Full, Slim}
+use Rattle.tpl_analyser.specs.declared.form.Form.TheVariants.{Full, Slim, Rows}
 
 -- the proof of the property needs this task in `before` or `past`: it is the first one of an `after`
 abbrev pub IsUsed : Property TaskId → ℕ → Type 0
@@ -24,6 +29,7 @@ pub record IsSlimRow (p : Property TaskId) (r : Row) : Type 0 where
 abbrev pub AreOfForm : Form → Property TaskId → List Row → Type 0
 AreOfForm Full p rows = Unit {0}
 AreOfForm Slim p rows = All (IsSlimRow p) rows
+AreOfForm Rows p rows = Unit {0}
 
 -- each leaf of the tree is of this form
 abbrev pub IsOfForm : Form → Property TaskId → Tree → Type 0
@@ -37,3 +43,21 @@ IsCertificateOf form [] [] = Unit {0}
 IsCertificateOf form (claim ∷ claims) (tree ∷ trees) = IsOfForm form claim.body tree × IsCertificateOf form claims trees
 IsCertificateOf form [] (tree ∷ trees) = ⊥
 IsCertificateOf form (claim ∷ claims) [] = ⊥
+
+-- each leaf has rows
+abbrev pub HasAllRows : WideTree → Type 0
+HasAllRows (OnInput i on_true on_false) = HasAllRows on_true × HasAllRows on_false
+HasAllRows (OnEnd t ran canceled faulted) = HasAllRows ran × HasAllRows canceled × HasAllRows faulted
+HasAllRows (OnWinner n x on_yes on_no) = HasAllRows on_yes × HasAllRows on_no
+HasAllRows (WideLeaf rows) = ⊤
+HasAllRows LeastLeaf = ⊥
+
+-- by the wide rules leaves leave their rows out, but where they are asked for
+abbrev pub HasLeavesOf : Form → WideTree → Type 0
+HasLeavesOf Rows tree = HasAllRows tree
+HasLeavesOf form tree = HasNoRows tree
+
+-- the trees of a certificate by the rules are of this form for the claims
+abbrev pub IsOfFormBy : RuleSet → Form → List Claim → List WideTree → Type 0
+IsOfFormBy Narrow form claims trees = (plain : List Tree) × (trees ≡ map as_wide_tree plain) × IsCertificateOf form claims plain
+IsOfFormBy Wide form claims trees = All (HasLeavesOf form) trees

@@ -7,8 +7,11 @@ ghost use Rattle.tpl_model.specs.Graph.{is_task};
 ghost use Rattle.tpl_checker.specs.Assumptions.{assumed_of};
 ghost use Rattle.tpl_analyser.specs.Questions.{IsReady};
 
+use crate::premises::Premises;
 use crate::question::Question;
-use crate::split::{Split, Splits, Turn};
+use crate::split::{Split, Turn};
+use crate::splits::Splits;
+use crate::win::Win;
 use tpl_checker::Assumptions;
 use tpl_model::{Final, Finals, InputId, Property, TaskId};
 use tpl_outline::{Beyond, NO_END, Outline, Setting, has_chain, is_proved, outline_under};
@@ -16,7 +19,7 @@ use tpl_outline::{Beyond, NO_END, Outline, Setting, has_chain, is_proved, outlin
 /// A branch of the search.
 #[derive(Drop)]
 pub(crate) struct Branch {
-    pub(crate) assumed: Assumptions,
+    pub(crate) premises: Premises,
     /// What becomes of the tasks that bear on the property.
     pub(crate) outline: Outline,
     /// The task that the property says to be observed, if it says so of one, has a chain.
@@ -37,14 +40,15 @@ impl Branch {
     /// The root branch, on which this is assumed.
     pub(crate) fn root(question: Question<'_>, assumed: Assumptions) -> Branch
         requires { IsReady question }
-        ensures { result.assumed ≡ assumed }
+        ensures { result.premises.assumptions ≡ assumed }
     {
-        let setting = question.setting(&assumed);
+        let premises = Premises::only(assumed);
+        let setting = question.setting(&premises.assumptions);
         let tasks = &question.cone.tasks;
         let outline = outline_under(setting, tasks, &Outline::unsettled(), Beyond::All);
         let has_chain = has_chain_for(setting, question.property);
         Branch {
-            assumed,
+            premises,
             outline,
             has_chain,
             above: Splits::none(),
@@ -55,11 +59,11 @@ impl Branch {
     pub(crate) fn with_input(&self, question: Question<'_>, input: InputId, value: bool) -> Branch
         requires question { IsReady question }
         requires input { input.0 < 16 }
-        ensures { assumed_of result.assumed ≡ with_input (assumed_of self.now.assumed) input.0
-            value }
+        ensures { assumed_of result.premises.assumptions
+            ≡ with_input (assumed_of self.now.premises.assumptions) input.0 value }
     {
-        let assumed = self.assumed.with_input(input, value);
-        let mut branch = self.under(question, assumed, Beyond::All);
+        let assumed = self.premises.assumptions.with_input(input, value);
+        let mut branch = self.under(question, self.premises.with(assumed), Beyond::All);
         branch.above.insert(Split::Input(input));
         branch
     }
@@ -68,19 +72,29 @@ impl Branch {
     pub(crate) fn with_end(&self, question: Question<'_>, task: TaskId, status: Final) -> Branch
         requires question { IsReady question }
         requires task { is_task question.graph.now.graph task.0 }
-        ensures { assumed_of result.assumed ≡ with_end (assumed_of self.now.assumed) task.0 status }
+        ensures { assumed_of result.premises.assumptions
+            ≡ with_end (assumed_of self.now.premises.assumptions) task.0 status }
     {
         question.graph.valid_law();
-        let assumed = self.assumed.with_end(task, status);
-        let mut branch = self.under(question, assumed, Beyond::End(task));
+        let assumed = self.premises.assumptions.with_end(task, status);
+        let mut branch = self.under(question, self.premises.with(assumed), Beyond::End(task));
         branch.above.insert(Split::End(task));
+        branch
+    }
+
+    /// The branch below this one on which the argument wins the task, or another one does.
+    pub(crate) fn with_winner(&self, question: Question<'_>, win: Win, wins: bool) -> Branch
+        requires { IsReady question }
+    {
+        let mut branch = self.turned(question, Turn::Winner(win, wins));
+        branch.above.insert(Split::Winner(win));
         branch
     }
 
     /// A copy.
     pub(crate) fn copy(&self) -> Branch {
         Branch {
-            assumed: self.assumed.copy(),
+            premises: self.premises.copy(),
             outline: self.outline.copy(),
             has_chain: self.has_chain,
             above: self.above.copy(),
@@ -88,23 +102,18 @@ impl Branch {
     }
 
     /// The branch with these assumptions: those of this one, and beyond them such as are said.
-    pub(crate) fn under(
-        &self,
-        question: Question<'_>,
-        assumed: Assumptions,
-        beyond: Beyond,
-    ) -> Branch
+    pub(crate) fn under(&self, question: Question<'_>, premises: Premises, beyond: Beyond) -> Branch
         requires question { IsReady question }
-        ensures { result.assumed ≡ assumed }
+        ensures { result.premises ≡ premises }
     {
-        let setting = question.setting(&assumed);
+        let setting = question.setting(&premises.assumptions);
         let outline = outline_under(setting, &question.cone.tasks, &self.outline, beyond);
         let has_chain = match beyond {
             Beyond::All => has_chain_for(setting, question.property),
             Beyond::End(_) | Beyond::Ends => self.has_chain,
         };
         Branch {
-            assumed,
+            premises,
             outline,
             has_chain,
             above: self.above.copy(),
@@ -115,14 +124,14 @@ impl Branch {
     pub(crate) fn turned(&self, question: Question<'_>, turn: Turn) -> Branch
         requires { IsReady question }
     {
-        let mut assumed = self.assumed.copy();
-        turn.assume(&mut assumed);
-        self.under(question, assumed, turn.beyond())
+        let mut premises = self.premises.copy();
+        turn.assume(&mut premises);
+        self.under(question, premises, turn.beyond())
     }
 
-    /// Whether the least rows of the branch prove the property.
+    /// Whether the least rows of the branch prove the property, as far as they say nothing of tokens and of winners.
     pub(crate) fn is_proved(&self, question: Question<'_>) -> bool {
-        let setting = question.setting(&self.assumed);
+        let setting = question.setting(&self.premises.assumptions);
         let tasks = &question.cone.tasks;
         is_proved(
             setting,
@@ -142,7 +151,7 @@ impl Branch {
     /// the split.
     pub(crate) fn changes_nothing(&self, question: Question<'_>, split: Split) -> bool {
         let has_one_branch = match split {
-            Split::Input(_) => false,
+            Split::Input(_) | Split::Winner(_) => false,
             Split::End(task) => {
                 let Finals {
                     ran,
@@ -158,8 +167,12 @@ impl Branch {
     /// What is assumed here leaves this branch of a split open.
     pub(crate) fn may_turn(&self, turn: Turn) -> bool {
         match turn {
-            Turn::Input(input, value) => self.assumed.view(None, NO_END).may_be(input, value),
+            Turn::Input(input, value) => {
+                let view = self.premises.assumptions.view(None, NO_END);
+                view.may_be(input, value)
+            }
             Turn::End(task, status) => self.outline.fate(task).ends.contains(status),
+            Turn::Winner(_, _) => true,
         }
     }
 }

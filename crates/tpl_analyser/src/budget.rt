@@ -57,10 +57,15 @@ impl<W: Watch> Budget<W> {
     pub(crate) fn begin(&mut self, claim: usize) {
         self.claim = claim;
         self.tried = 0;
+        self.again();
+        self.watch.tries(claim, 0);
+    }
+
+    /// Another search for the same claim begins.
+    pub(crate) fn again(&mut self) {
         self.left = self.leaves.in_order;
         self.renewed = false;
         self.hopeless = false;
-        self.watch.tries(claim, 0);
     }
 
     /// The directed search for the same claim begins.
@@ -69,14 +74,16 @@ impl<W: Watch> Budget<W> {
         self.renewed = true;
     }
 
-    /// Uses up one leaf. True where one was left.
-    pub(crate) fn spend(&mut self) -> bool {
-        if self.left == 0 {
+    /// Uses up so many leaves. True where as many were left; else none is.
+    pub(crate) fn spend(&mut self, leaves: u32) -> bool {
+        if self.left < leaves {
+            self.left = 0;
             return false;
         }
-        self.left -= 1;
-        self.tried = self.tried.saturating_add(1);
-        if self.tried % LEAVES_BETWEEN == 0 {
+        self.left -= leaves;
+        let told = self.tried / LEAVES_BETWEEN;
+        self.tried = self.tried.saturating_add(leaves);
+        if self.tried / LEAVES_BETWEEN != told {
             self.watch.tries(self.claim, self.tried);
         }
         true

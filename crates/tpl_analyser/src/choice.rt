@@ -7,7 +7,8 @@ use crate::budget::Budget;
 use crate::leaf::try_leaf;
 use crate::question::Question;
 use crate::search::Reach;
-use crate::split::{Split, Splits, assumed_on};
+use crate::split::{Split, assumed_on};
+use crate::splits::Splits;
 use crate::watch::Watch;
 use crate::way::{Way, way_from};
 use std::alloc::{AllocError, Global};
@@ -82,7 +83,7 @@ fn needed<W: Watch>(
         let others = assumed_on(&way.passed, &way.taken[..at]);
         let others = assumed_on(&others, &way.taken[at + 1..]);
         let without = branch.under(question, others, question.cone.beyond());
-        if !try_leaf(question, &without, budget).unwrap_or(true) {
+        if !try_leaf(alloc, question, &without, budget)?.unwrap_or(true) {
             needed.insert(way.taken[at].split());
         }
     }
@@ -140,10 +141,10 @@ fn enough<W: Watch>(
         if budget.is_spent() {
             return Ok(enough);
         }
-        let others = assumed_on(&branch.assumed, &way.taken[..at]);
+        let others = assumed_on(&branch.premises, &way.taken[..at]);
         let others = assumed_on(&others, &kept);
         let without = branch.under(question, others, question.cone.beyond());
-        if !try_leaf(question, &without, budget).unwrap_or(true) {
+        if !try_leaf(alloc, question, &without, budget)?.unwrap_or(true) {
             kept.push(way.taken[at])?;
             enough.insert(way.taken[at].split());
         }

@@ -9,13 +9,16 @@ use std::alloc::{AllocError, Global};
 use tpl_cert::Row;
 use tpl_model::{MOST_TASKS, Property, TaskSet};
 
-/// How much the rows of a certificate say in `before` and `past`.
+/// How much the rows of a certificate say in `before` and `past`. By the wide rules a leaf may leave its rows out, and does
+/// so but where they are asked for.
 #[derive(Clone, Copy, Debug, Drop, PartialEq, Eq)]
 pub enum Form {
     /// All that the rules permit.
     Full,
     /// What the claim's proof uses: the first task of an `after`, and for other claims nothing.
     Slim,
+    /// All that the rules permit, also where a leaf may leave its rows out.
+    Rows,
 }
 
 /// The rows in this form.
@@ -28,7 +31,7 @@ pub(crate) fn in_form(
     ensures { IfOk result (λ given. AreOfForm form property given.items) }
 {
     match form {
-        Form::Full => Ok(rows),
+        Form::Full | Form::Rows => Ok(rows),
         Form::Slim => slim(alloc, property, &rows),
     }
 }

@@ -14,8 +14,12 @@ use crate::watch::Watch;
 use std::alloc::{AllocError, Global};
 use tpl_cert::{Node, Row, Tree, is_within_limits};
 use tpl_checker::accepts_leaf;
-use tpl_model::TaskId;
+use tpl_model::{RuleSet, TaskId};
 use tpl_outline::{least_rows, reached};
+use tpl_wide::{Check, least_leaf_proves};
+
+/// The rows of so many tasks are worked out in the time in which a leaf is tried by what becomes of tasks alone.
+const TASKS_A_LEAF: u32 = 8;
 
 /// Builds and tests the leaf of a branch: the leaf, if it is accepted.
 pub(crate) fn leaf(
@@ -25,7 +29,7 @@ pub(crate) fn leaf(
 ) -> Result<Option<Tree>, AllocError>
     requires { IsReady question }
     ensures { IfOk result (λ found. IfSome found (IsFound question.entry.graph.now.graph
-        question.entry.property question.entry.form (assumed_of branch.now.assumed) 0)) }
+        question.entry.property question.entry.form (assumed_of branch.now.premises.assumptions) 0)) }
 {
     match chain_of(alloc, question, branch)? {
         None => Ok(None),
@@ -36,19 +40,41 @@ pub(crate) fn leaf(
     }
 }
 
-/// Whether the least rows of the branch prove the property. It uses up one of the leaves that may be tried; where none is
-/// left, there is no answer.
+/// Whether the least rows of the branch prove the property. It uses up leaves that may be tried; where too few are left,
+/// there is no answer.
 pub(crate) fn try_leaf<W: Watch>(
+    alloc: Global,
     question: Question<'_>,
     branch: &Branch,
     budget: &mut Budget<W>,
-) -> Option<bool>
+) -> Result<Option<bool>, AllocError>
     requires { IsReady question }
 {
-    if !budget.spend() {
-        return None;
+    match question.rules {
+        RuleSet::Wide => try_wide_leaf(alloc, question, branch, budget),
+        RuleSet::Narrow if budget.spend(1) => Ok(Some(branch.is_proved(question))),
+        RuleSet::Narrow => Ok(None),
     }
-    Some(branch.is_proved(question))
+}
+
+/// The same by the rules that know of tokens and of winners. All rows are worked out, so it uses up as many leaves as that
+/// takes the time of.
+fn try_wide_leaf<W: Watch>(
+    alloc: Global,
+    question: Question<'_>,
+    branch: &Branch,
+    budget: &mut Budget<W>,
+) -> Result<Option<bool>, AllocError>
+    requires { IsReady question }
+{
+    if !budget.spend(1 + question.graph.len() as u32 / TASKS_A_LEAF) {
+        return Ok(None);
+    }
+    let (graph, below, linked) = (question.graph, question.below, question.linked);
+    let check = Check::new(graph, question.property, 1, below, linked);
+    let premises = &branch.premises;
+    let proves = least_leaf_proves(alloc, &check, &premises.assumptions, premises.winners())?;
+    Ok(Some(proves))
 }
 
 /// The chain with which the least rows of the branch prove the property, if they do.
@@ -57,7 +83,7 @@ fn chain_of(
     question: Question<'_>,
     branch: &Branch,
 ) -> Result<Option<Vec<TaskId>>, AllocError> {
-    let setting = question.setting(&branch.assumed);
+    let setting = question.setting(&branch.premises.assumptions);
     let tasks = &question.cone.tasks;
     reached(alloc, setting, &branch.outline, question.property, tasks)
 }
@@ -73,7 +99,7 @@ fn rows_of(
     ensures { IfOk result (λ rows.
         AreOfForm question.entry.form question.entry.property rows.items) }
 {
-    let setting = question.setting(&branch.assumed);
+    let setting = question.setting(&branch.premises.assumptions);
     let rows = least_rows(alloc, setting, question.property, chain)?;
     in_form(alloc, question.form, question.property, rows)
 }
@@ -83,12 +109,12 @@ fn tested(question: Question<'_>, branch: &Branch, rows: Vec<Row>) -> Option<Tre
     requires question { IsReady question }
     requires form { AreOfForm question.form question.property rows.items }
     ensures { IfSome result (IsFound question.entry.graph.now.graph question.entry.property
-        question.entry.form (assumed_of branch.now.assumed) 0) }
+        question.entry.form (assumed_of branch.now.premises.assumptions) 0) }
 {
     if !accepts_leaf(
         question.graph,
         question.property,
-        &branch.assumed,
+        &branch.premises.assumptions,
         question.below,
         &rows,
     ) {

@@ -1,8 +1,9 @@
-//! Plans of trees, and the trees that are made of them.
+//! Plans of trees, and the trees that are made of them by the narrow rules.
 
-ghost use Rattle.std.specs.Prelude.{◌≡◌, [], IfOk, IfSome};
-ghost use Rattle.tpl_model.specs.Certificate.{SplitEnd, SplitInput, Leaf};
-ghost use Rattle.tpl_cert.specs.Heights.{height};
+ghost use Rattle.std.specs.Prelude.{◌≡◌, IfOk, IfSome};
+ghost use Rattle.tpl_model.specs.Certificate.{SplitEnd, SplitInput};
+ghost use Rattle.tpl_model.specs.WiderRules.{LeastLeaf, OnEnd, OnInput, OnWinner};
+ghost use Rattle.tpl_cert.specs.WideHeights.{wide_height};
 ghost use Rattle.tpl_checker.specs.Assumptions.{assumed_of};
 ghost use Rattle.tpl_analyser.specs.Found.{IsFound};
 ghost use Rattle.tpl_analyser.specs.Plans.{HasSplitsOf};
@@ -11,19 +12,65 @@ ghost use Rattle.tpl_analyser.specs.Questions.{IsReady};
 use crate::branch::Branch;
 use crate::leaf::leaf;
 use crate::question::Question;
+use crate::win::Win;
 use std::alloc::{AllocError, Global};
-use tpl_cert::{Node, Tree};
+use tpl_cert::{Node, Tree, WideNode, WideTree};
 use tpl_model::{Final, InputId, TaskId};
 
 /// The plan with no split.
-pub(crate) fn no_split(alloc: Global) -> Tree
-    ensures { result ≡ Leaf [] }
+pub(crate) fn no_split() -> WideTree
+    ensures { result ≡ LeastLeaf }
 {
-    Tree::new(Node::Leaf(Vec::new(alloc)))
+    WideTree::new(WideNode::Least)
+}
+
+/// The plan with a split on an input at its top, and these branches.
+pub(crate) fn input_plan(
+    alloc: Global,
+    input: InputId,
+    on_true: WideTree,
+    on_false: WideTree,
+) -> Result<WideTree, AllocError>
+    ensures { IfOk result (λ tree. tree ≡ OnInput input.0 on_true on_false) }
+{
+    let on_true = Box::new(alloc, on_true)?;
+    let on_false = Box::new(alloc, on_false)?;
+    Ok(WideTree::new(WideNode::SplitInput(input, on_true, on_false)))
+}
+
+/// The plan with a split on how a task ends at its top, and these branches.
+pub(crate) fn end_plan(
+    alloc: Global,
+    task: TaskId,
+    ran: WideTree,
+    canceled: WideTree,
+    faulted: WideTree,
+) -> Result<WideTree, AllocError>
+    ensures { IfOk result (λ tree. tree ≡ OnEnd task.0 ran canceled faulted) }
+{
+    let ran = Box::new(alloc, ran)?;
+    let canceled = Box::new(alloc, canceled)?;
+    let faulted = Box::new(alloc, faulted)?;
+    Ok(WideTree::new(WideNode::SplitEnd(task, ran, canceled, faulted)))
+}
+
+/// The plan with a split on a winner at its top, and these branches.
+pub(crate) fn winner_plan(
+    alloc: Global,
+    win: Win,
+    on_yes: WideTree,
+    on_no: WideTree,
+) -> Result<WideTree, AllocError>
+    ensures { IfOk result (λ tree. tree ≡ OnWinner win.task.0 win.argument.0 on_yes on_no) }
+{
+    let on_yes = Box::new(alloc, on_yes)?;
+    let on_no = Box::new(alloc, on_no)?;
+    let node = WideNode::SplitWinner(win.task, win.argument, on_yes, on_no);
+    Ok(WideTree::new(node))
 }
 
 /// The split on an input with these branches.
-pub(crate) fn input_tree(
+fn input_tree(
     alloc: Global,
     input: InputId,
     on_true: Tree,
@@ -37,7 +84,7 @@ pub(crate) fn input_tree(
 }
 
 /// The split on how a task ends with these branches.
-pub(crate) fn end_tree(
+fn end_tree(
     alloc: Global,
     task: TaskId,
     ran: Tree,
@@ -52,28 +99,29 @@ pub(crate) fn end_tree(
     Ok(Tree::new(Node::SplitEnd(task, ran, canceled, faulted)))
 }
 
-/// The tree with the splits of the plan, whose leaves have the least rows.
+/// The tree with the splits of the plan, whose leaves have the least rows. By the narrow rules no tree splits on winners.
 #[cycle(grown)]
 pub(crate) fn grown(
     alloc: Global,
     question: Question<'_>,
     branch: &Branch,
-    plan: &Tree,
+    plan: &WideTree,
 ) -> Result<Option<Tree>, AllocError>
     requires question { IsReady question }
     requires splits { HasSplitsOf question.graph.now.graph plan.now }
     ensures { IfOk result (λ found. IfSome found (IsFound question.entry.graph.now.graph
-        question.entry.property question.entry.form (assumed_of branch.now.assumed)
-        (height plan.now))) }
+        question.entry.property question.entry.form (assumed_of branch.now.premises.assumptions)
+        (wide_height plan.now))) }
 {
     match plan.node() {
-        Node::Leaf(_) => leaf(alloc, question, branch),
-        Node::SplitInput(input, yes, no) => {
+        WideNode::SplitInput(input, yes, no) => {
             grown_by_input(alloc, question, branch, *input, yes, no)
         }
-        Node::SplitEnd(task, ran, canceled, faulted) => {
+        WideNode::SplitEnd(task, ran, canceled, faulted) => {
             grown_by_end(alloc, question, branch, *task, ran, canceled, faulted)
         }
+        WideNode::SplitWinner(_, _, _, _) => Ok(None),
+        WideNode::Leaf(_) | WideNode::Least => leaf(alloc, question, branch),
     }
 }
 
@@ -84,14 +132,14 @@ fn grown_by_input(
     question: Question<'_>,
     branch: &Branch,
     input: InputId,
-    yes: &Tree,
-    no: &Tree,
+    yes: &WideTree,
+    no: &WideTree,
 ) -> Result<Option<Tree>, AllocError>
     requires question { IsReady question }
-    requires splits { HasSplitsOf question.graph.now.graph (SplitInput input.0 yes.now no.now) }
+    requires splits { HasSplitsOf question.graph.now.graph (OnInput input.0 yes.now no.now) }
     ensures { IfOk result (λ found. IfSome found (IsFound question.entry.graph.now.graph
-        question.entry.property question.entry.form (assumed_of branch.now.assumed)
-        (height (SplitInput input.0 yes.now no.now)))) }
+        question.entry.property question.entry.form (assumed_of branch.now.premises.assumptions)
+        (wide_height (OnInput input.0 yes.now no.now)))) }
 {
     question.graph.valid_law();
     let on_true = branch.with_input(question, input, true);
@@ -113,16 +161,16 @@ fn grown_by_end(
     question: Question<'_>,
     branch: &Branch,
     task: TaskId,
-    ran: &Tree,
-    canceled: &Tree,
-    faulted: &Tree,
+    ran: &WideTree,
+    canceled: &WideTree,
+    faulted: &WideTree,
 ) -> Result<Option<Tree>, AllocError>
     requires question { IsReady question }
     requires splits { HasSplitsOf question.graph.now.graph
-        (SplitEnd task.0 ran.now canceled.now faulted.now) }
+        (OnEnd task.0 ran.now canceled.now faulted.now) }
     ensures { IfOk result (λ found. IfSome found (IsFound question.entry.graph.now.graph
-        question.entry.property question.entry.form (assumed_of branch.now.assumed)
-        (height (SplitEnd task.0 ran.now canceled.now faulted.now)))) }
+        question.entry.property question.entry.form (assumed_of branch.now.premises.assumptions)
+        (wide_height (OnEnd task.0 ran.now canceled.now faulted.now)))) }
 {
     let on_ran = branch.with_end(question, task, Final::RanToCompletion);
     let Some(ran) = grown(alloc, question, &on_ran, ran)? else {

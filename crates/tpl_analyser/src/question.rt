@@ -7,8 +7,9 @@ use crate::form::Form;
 use crate::split::Split;
 use tpl_checker::{Assumptions, Below};
 use tpl_graph::Graph;
-use tpl_model::Property;
+use tpl_model::{Property, RuleSet};
 use tpl_outline::{Followers, Setting, Stage};
+use tpl_paths::TokenSet;
 
 /// A claim's property and its graph, with what is made of the graph once.
 #[derive(Clone, Copy)]
@@ -24,6 +25,10 @@ pub(crate) struct Question<'s> {
     pub(crate) splits: &'s [Split],
     /// What bears on the property.
     pub(crate) cone: &'s Cone,
+    /// By each token those that are requested with it.
+    pub(crate) linked: &'s [TokenSet],
+    /// By which rules leaves are tried.
+    pub(crate) rules: RuleSet,
 }
 
 impl<'s> Question<'s> {

@@ -1,5 +1,6 @@
-//! The search for the splits of a tree: none first, then splits on inputs in order, then on tasks in order, none twice on
-//! a path; only those that can lead to a tree. Rows are made once the splits are found.
+//! The search for the splits of a tree: none first, then splits on inputs in order, then on tasks in order, and by the
+//! wide rules on winners, none twice on a path; only those that can lead to a tree. Rows are made once the splits are
+//! found.
 
 ghost use Rattle.std.specs.Prelude.{◌≡◌, ◌<◌, ◌+◌};
 ghost use Rattle.tpl_model.specs.Graph.{is_task};
@@ -11,12 +12,13 @@ use crate::branch::Branch;
 use crate::budget::Budget;
 use crate::choice::{Choice, bound_of};
 use crate::leaf::try_leaf;
-use crate::plan::{end_tree, input_tree, no_split};
+use crate::plan::{end_plan, input_plan, no_split, winner_plan};
 use crate::question::Question;
 use crate::split::Split;
 use crate::watch::Watch;
+use crate::win::Win;
 use std::alloc::{AllocError, Global};
-use tpl_cert::Tree;
+use tpl_cert::WideTree;
 use tpl_model::{Final, InputId, TaskId};
 
 /// How far a search may go on.
@@ -53,12 +55,12 @@ fn find<W: Watch>(
     branch: &Branch,
     reach: Reach,
     budget: &mut Budget<W>,
-) -> Result<Option<Tree>, AllocError>
+) -> Result<Option<WideTree>, AllocError>
     requires { IsReady question }
     ensures { IsPlanIfAny question.entry.graph.now.graph reach.splits result }
 {
-    if try_leaf(question, branch, budget).unwrap_or(false) {
-        return Ok(Some(no_split(alloc)));
+    if try_leaf(alloc, question, branch, budget)?.unwrap_or(false) {
+        return Ok(Some(no_split()));
     }
     if reach.splits == 0 {
         return Ok(None);
@@ -100,7 +102,7 @@ pub(crate) fn split<W: Watch>(
     reach: Reach,
     choice: &Choice,
     budget: &mut Budget<W>,
-) -> Result<Option<Tree>, AllocError>
+) -> Result<Option<WideTree>, AllocError>
     requires question { IsReady question }
     requires splits { 0 < reach.splits }
     ensures { IsPlanIfAny question.entry.graph.now.graph reach.splits result }
@@ -127,7 +129,7 @@ fn by_split<W: Watch>(
     reach: Reach,
     split: Split,
     budget: &mut Budget<W>,
-) -> Result<Option<Tree>, AllocError>
+) -> Result<Option<WideTree>, AllocError>
     requires question { IsReady question }
     requires splits { 0 < reach.splits }
     requires split { IsSplitOf question.graph.now.graph split }
@@ -136,6 +138,7 @@ fn by_split<W: Watch>(
     match split {
         Split::Input(input) => by_input(alloc, question, branch, reach, input, budget),
         Split::End(task) => by_end(alloc, question, branch, reach, task, budget),
+        Split::Winner(win) => by_winner(alloc, question, branch, reach, win, budget),
     }
 }
 
@@ -148,7 +151,7 @@ fn by_input<W: Watch>(
     reach: Reach,
     input: InputId,
     budget: &mut Budget<W>,
-) -> Result<Option<Tree>, AllocError>
+) -> Result<Option<WideTree>, AllocError>
     requires question { IsReady question }
     requires splits { 0 < reach.splits }
     requires input { input.0 < question.graph.now.graph.inputs }
@@ -164,7 +167,7 @@ fn by_input<W: Watch>(
     let Some(on_false) = find(alloc, question, &no, reach, budget)? else {
         return Ok(None);
     };
-    let tree = input_tree(alloc, input, on_true, on_false)?;
+    let tree = input_plan(alloc, input, on_true, on_false)?;
     Ok(Some(tree))
 }
 
@@ -177,7 +180,7 @@ fn by_end<W: Watch>(
     reach: Reach,
     task: TaskId,
     budget: &mut Budget<W>,
-) -> Result<Option<Tree>, AllocError>
+) -> Result<Option<WideTree>, AllocError>
     requires question { IsReady question }
     requires splits { 0 < reach.splits }
     requires task { is_task question.graph.now.graph task.0 }
@@ -196,6 +199,33 @@ fn by_end<W: Watch>(
     let Some(on_faulted) = find(alloc, question, &faulted, reach, budget)? else {
         return Ok(None);
     };
-    let tree = end_tree(alloc, task, on_ran, on_canceled, on_faulted)?;
+    let tree = end_plan(alloc, task, on_ran, on_canceled, on_faulted)?;
+    Ok(Some(tree))
+}
+
+/// A plan with a split at its top on whether this argument wins its task.
+#[cycle(search)]
+fn by_winner<W: Watch>(
+    alloc: Global,
+    question: Question<'_>,
+    branch: &Branch,
+    reach: Reach,
+    win: Win,
+    budget: &mut Budget<W>,
+) -> Result<Option<WideTree>, AllocError>
+    requires question { IsReady question }
+    requires splits { 0 < reach.splits }
+    ensures { IsPlanIfAny question.entry.graph.now.graph reach.splits result }
+{
+    let reach = reach.behind();
+    let yes = branch.with_winner(question, win, true);
+    let Some(on_yes) = find(alloc, question, &yes, reach, budget)? else {
+        return Ok(None);
+    };
+    let no = branch.with_winner(question, win, false);
+    let Some(on_no) = find(alloc, question, &no, reach, budget)? else {
+        return Ok(None);
+    };
+    let tree = winner_plan(alloc, win, on_yes, on_no)?;
     Ok(Some(tree))
 }

@@ -2,24 +2,28 @@
 
 ghost use Rattle.std.specs.Prelude.{IfOk, OnOk};
 ghost use Rattle.std.specs.List.{All};
+ghost use Rattle.tpl_model.specs.Graph.{is_task};
 ghost use Rattle.tpl_analyser.specs.Splits.{IsSplitOf};
 
+use crate::premises::Premises;
+use crate::win::{MOST_WINNERS, Win};
 use std::alloc::{AllocError, Global};
-use tpl_checker::Assumptions;
-use tpl_graph::Graph;
-use tpl_model::{Final, InputId, MOST_INPUTS, MOST_TASKS, TaskId, TaskSet};
+use tpl_graph::{Graph, Role};
+use tpl_model::{Final, InputId, MOST_INPUTS, MOST_TASKS, RuleSet, TaskId};
 use tpl_outline::Beyond;
 
 /// The most branches of a split.
 const MOST_BRANCHES: usize = 3;
 
-/// A split of the runs: by an input, or by how a task ends.
+/// A split of the runs: by an input, by how a task ends, or by who wins a WhenAny task.
 #[derive(Clone, Copy, PartialEq, Eq)]
 pub(crate) enum Split {
     /// The value of an input.
     Input(InputId),
     /// How a task ends.
     End(TaskId),
+    /// Whether an argument wins a WhenAny task.
+    Winner(Win),
 }
 
 /// A branch of a split.
@@ -29,10 +33,17 @@ pub(crate) enum Turn {
     Input(InputId, bool),
     /// The task, if it ends, does so in this way.
     End(TaskId, Final),
+    /// The argument wins the WhenAny task, or another one does.
+    Winner(Win, bool),
 }
 
-/// All splits of a graph in the order of the search: inputs, then tasks, as they are declared.
-pub(crate) fn all_splits(alloc: Global, graph: &Graph) -> Result<Vec<Split>, AllocError>
+/// All splits of a graph by the rules in the order of the search: inputs, then ends of tasks, then by the wide rules
+/// winners, as they are declared.
+pub(crate) fn all_splits(
+    alloc: Global,
+    graph: &Graph,
+    rules: RuleSet,
+) -> Result<Vec<Split>, AllocError>
     ensures { IfOk result (λ v. All (IsSplitOf graph.now.graph) v.items) }
 {
     let mut splits = Vec::new(alloc);
@@ -40,6 +51,9 @@ pub(crate) fn all_splits(alloc: Global, graph: &Graph) -> Result<Vec<Split>, All
         splits.push(Split::Input(InputId(input as u8)))?;
     }
     push_ends(&mut splits, graph)?;
+    if rules == RuleSet::Wide {
+        push_winners(alloc, &mut splits, graph)?;
+    }
     Ok(splits)
 }
 
@@ -54,15 +68,45 @@ fn push_ends(splits: &mut Vec<Split>, graph: &Graph) -> Result<(), AllocError>
     Ok(())
 }
 
-impl Split {
-    /// The split is by an input.
-    pub(crate) fn is_by_input(self) -> bool {
-        match self {
-            Split::Input(_) => true,
-            Split::End(_) => false,
+/// Adds the splits on winners of the tasks that wait for more than one, as many as a search makes.
+fn push_winners(alloc: Global, splits: &mut Vec<Split>, graph: &Graph) -> Result<(), AllocError>
+    requires { All (IsSplitOf graph.now.graph) splits.old.items }
+    ensures { OnOk result (All (IsSplitOf graph.now.graph) splits.new.items) }
+{
+    graph.valid_law();
+    let most = splits.len() + MOST_WINNERS;
+    for task in 0..graph.len() {
+        let task = TaskId(task as u16);
+        match graph.role(task) {
+            Role::Any(args) if args.len() > 1 => push_winners_of(splits, graph, task, args, most)?,
+            _ => {}
         }
     }
+    Ok(())
+}
 
+/// Adds those on the winner of one of these tasks, while there are fewer than the most.
+fn push_winners_of(
+    splits: &mut Vec<Split>,
+    graph: &Graph,
+    task: TaskId,
+    args: &[TaskId],
+    most: usize,
+) -> Result<(), AllocError>
+    requires splits { All (IsSplitOf graph.now.graph) splits.old.items }
+    requires task { is_task graph.now.graph task.0 }
+    ensures { OnOk result (All (IsSplitOf graph.now.graph) splits.new.items) }
+{
+    for argument in args {
+        if splits.len() < most {
+            let argument = *argument;
+            splits.push(Split::Winner(Win { task, argument }))?;
+        }
+    }
+    Ok(())
+}
+
+impl Split {
     /// The branches of the split, in order.
     pub(crate) fn turns(self) -> [Option<Turn>; MOST_BRANCHES] {
         match self {
@@ -76,6 +120,11 @@ impl Split {
                 Some(Turn::End(task, Final::Canceled)),
                 Some(Turn::End(task, Final::Faulted)),
             ],
+            Split::Winner(win) => [
+                Some(Turn::Winner(win, true)),
+                Some(Turn::Winner(win, false)),
+                None,
+            ],
         }
     }
 
@@ -84,6 +133,7 @@ impl Split {
         match self {
             Split::Input(input) => Turn::Input(input, true),
             Split::End(task) => Turn::End(task, Final::RanToCompletion),
+            Split::Winner(win) => Turn::Winner(win, true),
         }
     }
 }
@@ -94,16 +144,20 @@ impl Turn {
         match self {
             Turn::Input(input, _) => Split::Input(input),
             Turn::End(task, _) => Split::End(task),
+            Turn::Winner(win, _) => Split::Winner(win),
         }
     }
 
     /// Assumes it too.
-    pub(crate) fn assume(self, assumed: &mut Assumptions) {
+    pub(crate) fn assume(self, premises: &mut Premises) {
         match self {
             Turn::Input(input, value) if (input.0 as usize) < MOST_INPUTS => {
-                *assumed = assumed.with_input(input, value);
+                premises.assumptions = premises.assumptions.with_input(input, value);
             }
-            Turn::End(task, status) if task.0 < MOST_TASKS => assumed.assume_end(task, status),
+            Turn::End(task, status) if task.0 < MOST_TASKS => {
+                premises.assumptions.assume_end(task, status);
+            }
+            Turn::Winner(win, wins) => premises.assume_winner(win.branch(wins)),
             _ => {}
         }
     }
@@ -113,73 +167,16 @@ impl Turn {
         match self {
             Turn::Input(_, _) => Beyond::All,
             Turn::End(task, _) => Beyond::End(task),
+            Turn::Winner(_, _) => Beyond::Ends,
         }
     }
 }
 
 /// What is assumed on all of these branches, where this is assumed before them.
-pub(crate) fn assumed_on(before: &Assumptions, turns: &[Turn]) -> Assumptions {
+pub(crate) fn assumed_on(before: &Premises, turns: &[Turn]) -> Premises {
     let mut assumed = before.copy();
     for turn in turns {
         turn.assume(&mut assumed);
     }
     assumed
-}
-
-/// A set of splits.
-#[derive(Drop)]
-pub(crate) struct Splits {
-    inputs: [bool; MOST_INPUTS],
-    tasks: TaskSet,
-    count: u32,
-}
-
-impl Splits {
-    /// The empty set.
-    pub(crate) fn none() -> Splits {
-        Splits {
-            inputs: [false; MOST_INPUTS],
-            tasks: TaskSet::empty(),
-            count: 0,
-        }
-    }
-
-    /// A copy.
-    pub(crate) fn copy(&self) -> Splits {
-        Splits {
-            inputs: self.inputs,
-            tasks: self.tasks.copy(),
-            count: self.count,
-        }
-    }
-
-    /// How many splits are members.
-    pub(crate) fn count(&self) -> u32 {
-        self.count
-    }
-
-    /// The split is a member.
-    pub(crate) fn contains(&self, split: Split) -> bool {
-        match split {
-            Split::Input(input) => {
-                let at = input.0 as usize;
-                at < MOST_INPUTS && self.inputs[at]
-            }
-            Split::End(task) => self.tasks.contains(task),
-        }
-    }
-
-    /// Makes the split a member.
-    pub(crate) fn insert(&mut self, split: Split) {
-        if !self.contains(split) {
-            self.count = self.count.saturating_add(1);
-        }
-        match split {
-            Split::Input(input) if (input.0 as usize) < MOST_INPUTS => {
-                self.inputs[input.0 as usize] = true;
-            }
-            Split::End(task) if task.0 < MOST_TASKS => self.tasks.insert(task),
-            _ => {}
-        }
-    }
 }

@@ -5,11 +5,11 @@ ghost use Rattle.tpl_analyser.specs.Questions.{IsReady};
 use crate::branch::Branch;
 use crate::budget::Budget;
 use crate::leaf::try_leaf;
+use crate::premises::Premises;
 use crate::question::Question;
 use crate::split::{Split, Turn};
 use crate::watch::Watch;
 use std::alloc::{AllocError, Global};
-use tpl_checker::Assumptions;
 
 /// One way through the splits: a branch of each that bears on the property.
 #[derive(Drop)]
@@ -17,7 +17,7 @@ pub(crate) struct Way {
     /// The branches that it takes until the property is proved; what is declared last comes first.
     pub(crate) taken: Vec<Turn>,
     /// What is assumed on its branches of the other splits.
-    pub(crate) passed: Assumptions,
+    pub(crate) passed: Premises,
     /// The branch on which all that the way takes is assumed.
     branch: Branch,
     /// The property is proved there. If it isn't, no tree proves it at all, however many splits it
@@ -37,7 +37,7 @@ pub(crate) fn way_from<W: Watch>(
 {
     let mut way = Way {
         taken: Vec::new(alloc),
-        passed: from.assumed.copy(),
+        passed: from.premises.copy(),
         branch: from.copy(),
         proved: false,
     };
@@ -90,7 +90,7 @@ impl Way {
             return Ok(false);
         }
         let branch = self.branch.turned(question, turn);
-        if try_leaf(question, &branch, budget).unwrap_or(true) {
+        if try_leaf(alloc, question, &branch, budget)?.unwrap_or(true) {
             return Ok(false);
         }
         self.branch = branch;

@@ -10,3 +10,4 @@ pub mod Nesting
 pub mod Tokens
 pub mod Texts
 pub mod TokenLists
+pub mod TokensWritten

@@ -1,5 +1,5 @@
 -- The names of a tree, one after another.
-use Rattle.std.proofs.Common.{◌≡◌, ℕ, zero, suc, ◌+◌, ◌<◌, ◌≤◌, ◌&&◌, ◌||◌, List, [], ◌∷◌, ◌++◌, length, get_or, map, Bool, true, false, Some, Ok, ok_or, nat_eq, refl, sym, ap, ◌∙◌, arith}
+use Rattle.std.proofs.Common.{◌≡◌, ℕ, zero, suc, ◌<◌, ◌&&◌, ◌||◌, List, [], ◌∷◌, ◌++◌, length, get_or, map, Bool, true, false, Some, Ok, ok_or, nat_eq, refl, sym, ap, ◌∙◌, arith}
 use Rattle.std.specs.List.{All, list_all}
 use Rattle.std.proofs.lemmas.List.Elements.{All-nil, All-cons, All-head, All-tail}
 use Rattle.std.proofs.lemmas.Nat.Bits.{bit_at-zero}
@@ -10,7 +10,6 @@ use Rattle.tpl_model.proofs.Truths.{same_tests}
 use Rattle.tpl_model.specs.Members.{mem}
 use Rattle.tpl_model.specs.TaskSet.{IsTaskSet, passing_from}
 use Rattle.tpl_model.specs.Certificate.{Row}
-use Rattle.tpl_model.specs.WiderRules.{WideRow}
 use Rattle.tpl_draft.specs.Named.{Names}
 use Rattle.tpl_json.specs.declared.miss.Miss.{Miss}
 use Rattle.tpl_json.specs.declared.miss.Miss.TheVariants as miss
@@ -23,6 +22,7 @@ use Rattle.tpl_cert.specs.Plain.{IsPlainRow}
 use Rattle.tpl_cert.specs.WideCoding.{tokens_in}
 use Rattle.tpl_cert.specs.declared.fault.TreeFault.{TreeFault}
 use Rattle.tpl_cert.specs.declared.fault.TreeFault.TheVariants.{Unknown}
+use Rattle.tpl_cert.specs.Written.{IsSet, bare}
 use Rattle.tpl_cert.specs.Naming.{number_of, number_in, numbers_in, as_set, set_in, row_in, wide_row_in}
 
 pub list_all_stops : {X Y : Type 0} (p : Y → Bool) (g : X → Y) (xs : List X) (i : ℕ) (d : X) → i < length xs → p (g (get_or xs i d)) ≡ false → list_all p (map g xs) ≡ false
@@ -82,6 +82,19 @@ pub tokens_are : (ns : List ℕ) (set : TokenSet) → ((k : ℕ) → has_token s
 unfolding tokens_in
 tokens_are ns set same = sym (passing_same (has_token set) (λ k. mem k ns) 0 32 same)
 
+pub task_set : (set : List ℕ) → IsTaskSet set → IsSet 1024 set
+unfolding IsSet
+task_set set is = set_is set set is (λ x. refl)
+
+pub no_token_set : IsSet 32 []
+unfolding IsSet
+no_token_set = refl
+
+-- the tokens of a set with these members
+pub tokens_listed : (ns : List ℕ) (set : TokenSet) → IsSet 32 ns → ((k : ℕ) → has_token set k ≡ mem k ns) → tokens_in set ≡ ns
+unfolding IsSet
+tokens_listed ns set is same = sym (tokens_are ns set same) ∙ is
+
 -- all that was collected, as a set
 pub tasks_collected : (names texts : List (List ℕ)) (set : List ℕ) → IsTaskSet set → Collects names texts (λ x. mem x set) → set_in 1024 names texts ≡ Ok set
 tasks_collected names texts set ascends is = rw (is.named, set_is is.numbers set ascends is.members) refl
@@ -90,10 +103,6 @@ pub tokens_collected : (names texts : List (List ℕ)) (set : TokenSet) → Coll
 tokens_collected names texts set is = rw (is.named, tokens_are is.numbers set is.members) refl
 
 -- ---- rows
-
--- a row of which nothing is said of tokens
-abbrev pub bare : Row → WideRow
-bare r = record { row = r; asked = []; asks = [] }
 
 no_tokens_named : (names : List (List ℕ)) → set_in 32 names [] ≡ Ok []
 no_tokens_named names = rw (each_empty (λ n text. ok_or (number_of names text) Unknown) 1) refl

@@ -1,13 +1,12 @@
 -- By the narrow rules a tree says nothing of tokens and of winners.
-use Rattle.std.proofs.Common.{◌≡◌, ℕ, zero, suc, List, [], ◌∷◌, Bool, true, false, Option, Some, None, Ordering, Less, Equal, Greater, nat_cmp, codes, refl, sym, ap, subst, ◌∙◌, true≢false, ◌⊎◌, inl, inr}
+use Rattle.std.proofs.Common.{◌≡◌, ℕ, zero, suc, List, [], ◌∷◌, Bool, true, false, Option, Some, None, Ordering, Less, Equal, Greater, nat_cmp, codes, refl, sym, ap, subst, ◌∙◌, true≢false}
 use Rattle.std.specs.Cmp.Lexicographic.{slice_cmp}
 use Rattle.std.specs.List.{All}
 use Rattle.std.specs.Ordering.{match_ordering}
 use Rattle.std.specs.Prelude.{if◌then◌else◌}
-use Rattle.std.specs.Str.{bytes_eq}
 use Rattle.std.proofs.lemmas.List.Elements.{All-nil, All-cons}
 use Rattle.serde_json.specs.Data.{Data, Members, no_members, member, null, boolean, number, string, array, object, depth}
-use Rattle.serde_json.specs.Find.{get, get_member, as_str}
+use Rattle.serde_json.specs.Find.{get, get_member}
 use Rattle.tpl_model.proofs.Truths.{and_first, and_second}
 use Rattle.tpl_model.specs.declared.rule_set.RuleSet.{RuleSet}
 use Rattle.tpl_model.specs.declared.rule_set.RuleSet.TheVariants.{Narrow}
@@ -129,4 +128,4 @@ plain_to (suc n) d s e = plain_node (tree_at Narrow n) (plain_to n) d s e
 
 pub plain_tree : (d : Data) (s : NamedTree) → whole_tree Narrow d ≡ Some s → IsPlain s
 unfolding whole_tree
-plain_tree d s e = plain_to (depth d) d s e
+plain_tree d s e = plain_to (suc (depth d)) d s e

@@ -1,5 +1,5 @@
 -- The limits of trees, and the test of them.
-use Rattle.std.proofs.Common.{◌≡◌, ◌↔◌, ◌≤◌, ◌&&◌, ℕ, suc, max, List, [], ◌∷◌, length, Bool, true, false, nat_le, IsTrue, Ok, refl, sym, ap, ap₂, subst, ◌∙◌}
+use Rattle.std.proofs.Common.{◌≡◌, ◌↔◌, ◌≤◌, ℕ, List, [], ◌∷◌, length, map, Bool, true, false, nat_le, IsTrue, Ok, refl, sym, subst, ◌∙◌}
 use Rattle.std.specs.List.{All, list_all}
 use Rattle.std.proofs.lemmas.Bool.{and_from, leb-true, le-leb}
 use Rattle.std.proofs.lemmas.List.Elements.{All-nil, All-cons, All-head, All-tail}
@@ -9,7 +9,7 @@ use Rattle.tpl_model.specs.declared.rule_set.RuleSet.{RuleSet}
 use Rattle.tpl_draft.specs.Named.{Names}
 use Rattle.tpl_cert.specs.Spelled.{spelled_tree, read_tree}
 use Rattle.tpl_model.specs.Certificate.{Row, Tree, SplitInput, SplitEnd, Leaf}
-use Rattle.tpl_model.specs.WiderRules.{WideRow, WideTree, OnInput, OnEnd, OnWinner, WideLeaf, as_wide, as_wide_tree}
+use Rattle.tpl_model.specs.WiderRules.{WideRow, WideTree, OnInput, OnEnd, OnWinner, WideLeaf, LeastLeaf, as_wide, as_wide_tree}
 use Rattle.tpl_cert.specs.Heights.{height, HasShortChain, HasShortChains, IsWithinLimits}
 use Rattle.tpl_cert.specs.WideHeights.{wide_height, HasShortWideChain, HasShortWideChains, IsWithinWideLimits, has_short_chain, has_short_chains, is_within_limits}
 
@@ -31,12 +31,14 @@ chains_from (OnEnd t a b c) e =
     (chains_from a (and_first _ _ e), chains_from b (and_first _ _ rest), chains_from c (and_second (has_short_chains b) _ rest))
 chains_from (OnWinner n x a b) e = (chains_from a (and_first _ _ e), chains_from b (and_second (has_short_chains a) _ e))
 chains_from (WideLeaf rows) e = rows_from rows e
+chains_from LeastLeaf e = tt
 
 chains_to : (t : WideTree) → HasShortWideChains t → has_short_chains t ≡ true
 chains_to (OnInput i a b) h = and_from (has_short_chains a) _ (chains_to a h.0) (chains_to b h.1)
 chains_to (OnEnd t a b c) h = and_from (has_short_chains a) _ (chains_to a h.0) (and_from (has_short_chains b) _ (chains_to b h.1) (chains_to c h.2))
 chains_to (OnWinner n x a b) h = and_from (has_short_chains a) _ (chains_to a h.0) (chains_to b h.1)
 chains_to (WideLeaf rows) h = rows_to rows h
+chains_to LeastLeaf h = refl
 
 pub within_from : (t : WideTree) → is_within_limits t ≡ true → IsWithinWideLimits t
 within_from t e = (leb-true (wide_height t) 6 (and_first _ _ e), chains_from t (and_second (nat_le (wide_height t) 6) _ e))
@@ -46,7 +48,7 @@ within_to t h = and_from (nat_le (wide_height t) 6) _ (le-leb (wide_height t) 6 
 
 -- ---- a tree without tokens
 
-same_height : (t : Tree) → wide_height (as_wide_tree t) ≡ height t
+pub same_height : (t : Tree) → wide_height (as_wide_tree t) ≡ height t
 same_height (SplitInput i a b) = rw (same_height a, same_height b) refl
 same_height (SplitEnd t a b c) = rw (same_height a, same_height b, same_height c) refl
 same_height (Leaf rows) = refl
@@ -86,9 +88,22 @@ plain_tested : (b : Bool) (t : Tree) → IsTrue b ↔ IsWithinLimits t → b ≡
 plain_tested b t h = same_tests b (is_within_limits (as_wide_tree t)) (λ e. plain_within_to t (h.0 e)) (λ e. h.1 (plain_within_from t e))
 
 -- what is spelled within the limits is read
-pub read_within : (rules : RuleSet) (n : Names) (d : Data) (t : Tree) → spelled_tree rules n d ≡ Ok (as_wide_tree t) → IsWithinLimits t → read_tree rules n d ≡ Ok (as_wide_tree t)
+passes_read : (rules : RuleSet) (n : Names) (d : Data) (t : WideTree) → spelled_tree rules n d ≡ Ok t → is_within_limits t ≡ true → read_tree rules n d ≡ Ok t
 unfolding read_tree
-read_within rules n d t e within = rw (e, plain_within_to t within) refl
+passes_read rules n d t e passes = rw (e, passes) refl
+
+pub read_within : (rules : RuleSet) (n : Names) (d : Data) (t : Tree) → spelled_tree rules n d ≡ Ok (as_wide_tree t) → IsWithinLimits t → read_tree rules n d ≡ Ok (as_wide_tree t)
+read_within rules n d t e within = passes_read rules n d (as_wide_tree t) e (plain_within_to t within)
+
+pub read_wide_within : (rules : RuleSet) (n : Names) (d : Data) (t : WideTree) → spelled_tree rules n d ≡ Ok t → IsWithinWideLimits t → read_tree rules n d ≡ Ok t
+read_wide_within rules n d t e within = passes_read rules n d t e (within_to t within)
+
+-- trees without tokens that don't split too often
+pub all_low : (trees : List Tree) → All (λ t. height t ≤ 6) trees → All (λ t. wide_height t ≤ 6) (map as_wide_tree trees)
+all_low [] low = All-nil (λ t. wide_height t ≤ 6)
+all_low (t ∷ trees) low =
+    All-cons (λ t. wide_height t ≤ 6) (as_wide_tree t) (map as_wide_tree trees) (subst (λ (n : ℕ). n ≤ 6) (sym (same_height t)) (All-head (λ t. height t ≤ 6) t trees low))
+    (all_low trees (All-tail (λ t. height t ≤ 6) t trees low))
 
 -- what two tests returned, one after the other
 pub plain_then : (a b : Bool) (t : Tree) → IsTrue a ↔ (height t ≤ 6) → IsTrue b ↔ HasShortChains t → a ≡ true → b ≡ is_within_limits (as_wide_tree t)

@@ -17,3 +17,4 @@ pub data NamedTree : Type 0 where
   SplitEnd : (task : List ℕ) → (ran : NamedTree) → (canceled : NamedTree) → (faulted : NamedTree) → NamedTree
   SplitWinner : (task : List ℕ) → (argument : List ℕ) → (on_yes : NamedTree) → (on_no : NamedTree) → NamedTree
   Leaf : (rows : List NamedRow) → NamedTree
+  Least : NamedTree

@@ -1,12 +1,13 @@
 -- The certificate tree with names that a JSON value is, `None` where it is none.
-use Rattle.std.specs.Prelude.{ℕ, zero, suc, ◌&&◌, Bool, true, false, List, [], ◌∷◌, Option, Some, None, codes, if◌then◌else◌}
+use Rattle.std.specs.Prelude.{ℕ, zero, suc, ◌&&◌, Bool, true, false, List, [], ◌∷◌, Option, Some, None, option_map, unwrap_or, codes, if◌then◌else◌}
+use Rattle.std.specs.Str.{bytes_eq}
 use Rattle.serde_json.specs.Data.{Data, depth}
-use Rattle.serde_json.specs.Find.{get}
+use Rattle.serde_json.specs.Find.{get, as_str}
 use Rattle.tpl_model.specs.declared.rule_set.RuleSet.{RuleSet}
 use Rattle.tpl_model.specs.declared.rule_set.RuleSet.TheVariants.{Narrow, Wide}
 use Rattle.tpl_json.specs.Members.{◌>>=◌, ◌<$>◌, ◌<*>◌, only_if, has_only, object_of, has_member, text_in, bool_in, list_in, each, texts_in}
 use Rattle.tpl_json.specs.Finals.{no_finals, finals_at}
-use Rattle.tpl_cert.specs.NamedTrees.{NamedRow, NamedTree, SplitInput, SplitEnd, SplitWinner, Leaf}
+use Rattle.tpl_cert.specs.NamedTrees.{NamedRow, NamedTree, SplitInput, SplitEnd, SplitWinner, Leaf, Least}
 
 -- the members of a row: by the wide rules it speaks of tokens too
 abbrev pub row_names : RuleSet → List (List ℕ)
@@ -26,9 +27,14 @@ row_at rules d = do
   asks ← texts_in (codes "asks") d
   Some (record { ends = ends; runs = runs; before = before; past = past; chain = chain; asked = asked; asks = asks })
 
--- {"rows": [row, ..]}
+-- by the wide rules a leaf without rows is the text `least`
+abbrev pub is_least : RuleSet → Data → Bool
+is_least Narrow d = false
+is_least Wide d = unwrap_or (option_map (λ text. bytes_eq text (codes "least")) (as_str d)) false
+
+-- that text, or {"rows": [row, ..]}
 unfoldable pub leaf_at : RuleSet → Data → Option NamedTree
-leaf_at rules d = object_of (codes "rows" ∷ []) d (Leaf <$> (get (codes "rows") d >>= list_in >>= each (row_at rules)))
+leaf_at rules d = if is_least rules d then Some Least else object_of (codes "rows" ∷ []) d (Leaf <$> (get (codes "rows") d >>= list_in >>= each (row_at rules)))
 
 -- the tree in a member; `inner` reads the trees inside
 abbrev pub inside : (Data → Option NamedTree) → List ℕ → Data → Option NamedTree
@@ -68,4 +74,4 @@ tree_at rules (suc n) d = node_at rules (tree_at rules n) d
 
 -- trees in trees as deep as the value nests
 unfoldable pub whole_tree : RuleSet → Data → Option NamedTree
-whole_tree rules d = tree_at rules (depth d) d
+whole_tree rules d = tree_at rules (suc (depth d)) d

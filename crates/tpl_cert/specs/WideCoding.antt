@@ -8,7 +8,7 @@ use Rattle.tpl_model.specs.TaskSet.{passing_from}
 use Rattle.tpl_paths.specs.declared.token_set.TokenSet.{TokenSet}
 use Rattle.tpl_paths.specs.TokenSet.{has_token}
 use Rattle.tpl_model.specs.Certificate.{Row}
-use Rattle.tpl_model.specs.WiderRules.{WideRow, WideTree, OnInput, OnEnd, OnWinner, WideLeaf}
+use Rattle.tpl_model.specs.WiderRules.{WideRow, WideTree, OnInput, OnEnd, OnWinner, WideLeaf, LeastLeaf}
 use Rattle.tpl_cert.specs.Coding.{row_code}
 
 -- the numbers of the tokens in a set, in ascending order
@@ -32,6 +32,7 @@ wide_tree_numbers (OnEnd t ran canceled faulted) =
 wide_tree_numbers (OnWinner n x on_yes on_no) =
     gcons (gnum 3) (gcons (gnum n) (gcons (gnum x) (gcons (wide_tree_numbers on_yes) (wide_tree_numbers on_no))))
 wide_tree_numbers (WideLeaf rows) = gcons (gnum 0) (wide_rows_code.code rows)
+wide_tree_numbers LeastLeaf = gcons (gnum 4) (gnum 0)
 
 first_same : (a b c d : Gv) → gcons a b ≡ gcons c d → a ≡ c
 first_same a b c d e = cc
@@ -61,6 +62,7 @@ wide_tree_numbers-same (OnWinner n i a b) (OnWinner m j x y) e =
     let r = rest_same _ _ _ _ q in
     rw (number_same n m (first_same _ _ _ _ p), number_same i j (first_same _ _ _ _ q), wide_tree_numbers-same a x (first_same _ _ _ _ r), wide_tree_numbers-same b y (rest_same _ _ _ _ r)) refl
 wide_tree_numbers-same (WideLeaf rows) (WideLeaf others) e = ap WideLeaf (wide_rows_code.inj rows others (rest_same _ _ _ _ e))
+wide_tree_numbers-same LeastLeaf LeastLeaf e = refl
 wide_tree_numbers-same (OnInput i a b) (OnEnd t x y z) e = number_differs 1 2 _ _ (omega arith) e
 wide_tree_numbers-same (OnInput i a b) (OnWinner m j x y) e = number_differs 1 3 _ _ (omega arith) e
 wide_tree_numbers-same (OnInput i a b) (WideLeaf rows) e = number_differs 1 0 _ _ (omega arith) e
@@ -73,6 +75,14 @@ wide_tree_numbers-same (OnWinner n i a b) (WideLeaf rows) e = number_differs 3 0
 wide_tree_numbers-same (WideLeaf rows) (OnInput j x y) e = number_differs 0 1 _ _ (omega arith) e
 wide_tree_numbers-same (WideLeaf rows) (OnEnd t x y z) e = number_differs 0 2 _ _ (omega arith) e
 wide_tree_numbers-same (WideLeaf rows) (OnWinner m j x y) e = number_differs 0 3 _ _ (omega arith) e
+wide_tree_numbers-same (OnInput i a b) LeastLeaf e = number_differs 1 4 _ _ (omega arith) e
+wide_tree_numbers-same (OnEnd t a b c) LeastLeaf e = number_differs 2 4 _ _ (omega arith) e
+wide_tree_numbers-same (OnWinner n i a b) LeastLeaf e = number_differs 3 4 _ _ (omega arith) e
+wide_tree_numbers-same (WideLeaf rows) LeastLeaf e = number_differs 0 4 _ _ (omega arith) e
+wide_tree_numbers-same LeastLeaf (OnInput j x y) e = number_differs 4 1 _ _ (omega arith) e
+wide_tree_numbers-same LeastLeaf (OnEnd t x y z) e = number_differs 4 2 _ _ (omega arith) e
+wide_tree_numbers-same LeastLeaf (OnWinner m j x y) e = number_differs 4 3 _ _ (omega arith) e
+wide_tree_numbers-same LeastLeaf (WideLeaf rows) e = number_differs 4 0 _ _ (omega arith) e
 
 abbrev pub wide_tree_code : Coded WideTree
 wide_tree_code = record {

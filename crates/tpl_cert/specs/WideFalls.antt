@@ -12,3 +12,4 @@ deepest_le-wide_height (node.SplitInput i on_true on_false) = omega arith
 deepest_le-wide_height (node.SplitEnd t ran canceled faulted) = omega arith
 deepest_le-wide_height (node.SplitWinner n x on_yes on_no) = omega arith
 deepest_le-wide_height (node.Leaf rows) = omega arith
+deepest_le-wide_height node.Least = omega arith

@@ -1,7 +1,7 @@
 -- How deep a tree splits whose rows speak of tokens too, and how long its chains are.
-use Rattle.std.specs.Prelude.{ℕ, ◌≤◌, ◌&&◌, suc, max, length, Bool, nat_le}
+use Rattle.std.specs.Prelude.{ℕ, ◌≤◌, ◌&&◌, suc, max, length, Bool, true, nat_le}
 use Rattle.std.specs.List.{All, list_all}
-use Rattle.tpl_model.specs.WiderRules.{WideRow, WideTree, OnInput, OnEnd, OnWinner, WideLeaf}
+use Rattle.tpl_model.specs.WiderRules.{WideRow, WideTree, OnInput, OnEnd, OnWinner, WideLeaf, LeastLeaf}
 
 -- the splits above the deepest leaf
 abbrev pub wide_height : WideTree → ℕ
@@ -9,6 +9,7 @@ wide_height (OnInput i on_true on_false) = suc (max (wide_height on_true) (wide_
 wide_height (OnEnd t ran canceled faulted) = suc (max (wide_height ran) (max (wide_height canceled) (wide_height faulted)))
 wide_height (OnWinner n x on_yes on_no) = suc (max (wide_height on_yes) (wide_height on_no))
 wide_height (WideLeaf rows) = 0
+wide_height LeastLeaf = 0
 
 -- no chain has more than 16 tasks
 abbrev pub HasShortWideChain : WideRow → Type 0
@@ -19,6 +20,7 @@ HasShortWideChains (OnInput i on_true on_false) = HasShortWideChains on_true × 
 HasShortWideChains (OnEnd t ran canceled faulted) = HasShortWideChains ran × HasShortWideChains canceled × HasShortWideChains faulted
 HasShortWideChains (OnWinner n x on_yes on_no) = HasShortWideChains on_yes × HasShortWideChains on_no
 HasShortWideChains (WideLeaf rows) = All HasShortWideChain rows
+HasShortWideChains LeastLeaf = Unit {0}
 
 -- within the limits: at most 6 splits on each path
 abbrev pub IsWithinWideLimits : WideTree → Type 0
@@ -33,6 +35,7 @@ has_short_chains (OnInput i on_true on_false) = has_short_chains on_true && has_
 has_short_chains (OnEnd t ran canceled faulted) = has_short_chains ran && (has_short_chains canceled && has_short_chains faulted)
 has_short_chains (OnWinner n x on_yes on_no) = has_short_chains on_yes && has_short_chains on_no
 has_short_chains (WideLeaf rows) = list_all has_short_chain rows
+has_short_chains LeastLeaf = true
 
 abbrev pub is_within_limits : WideTree → Bool
 is_within_limits tree = nat_le (wide_height tree) 6 && has_short_chains tree

@@ -1,5 +1,5 @@
 -- What the top of a tree in memory is seen as, whose rows speak of tokens too.
-use Rattle.tpl_model.specs.WiderRules.{WideTree, OnInput, OnEnd, OnWinner, WideLeaf}
+use Rattle.tpl_model.specs.WiderRules.{WideTree, OnInput, OnEnd, OnWinner, WideLeaf, LeastLeaf}
 use Rattle.tpl_cert.specs.declared.wide_tree.WideNode.{WideNode}
 use Rattle.tpl_cert.specs.declared.wide_tree.WideNode.TheVariants as node
 
@@ -8,3 +8,4 @@ wide_node_of (node.SplitInput i on_true on_false) = OnInput i.0 on_true.value on
 wide_node_of (node.SplitEnd t ran canceled faulted) = OnEnd t.0 ran.value canceled.value faulted.value
 wide_node_of (node.SplitWinner n x on_yes on_no) = OnWinner n.0 x.0 on_yes.value on_no.value
 wide_node_of (node.Leaf rows) = WideLeaf rows.items
+wide_node_of node.Least = LeastLeaf

@@ -21,4 +21,5 @@ pub(crate) enum NamedTree<'v> {
     SplitEnd(&'v str, Box<NamedTree<'v>>, Box<NamedTree<'v>>, Box<NamedTree<'v>>),
     SplitWinner(&'v str, &'v str, Box<NamedTree<'v>>, Box<NamedTree<'v>>),
     Leaf(Vec<NamedRow<'v>>),
+    Least,
 }

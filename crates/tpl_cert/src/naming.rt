@@ -152,7 +152,7 @@ fn inside_in(alloc: Global, graph: &Graph, tree: &NamedTree) -> Result<Box<Tree>
     Ok(Box::new(alloc, found)?)
 }
 
-/// The tree with ids in place of names, which speaks of no token and of no winner.
+/// The tree with ids in place of names, which speaks of no token and of no winner, and has rows in each leaf.
 #[cycle(naming)]
 #[tactic(auto, unfolding(crate::specs::Naming::tree_in))]
 pub(crate) fn tree_in(
@@ -177,7 +177,7 @@ pub(crate) fn tree_in(
             let faulted = inside_in(alloc, graph, faulted)?;
             Ok(Tree::new(Node::SplitEnd(task, ran, canceled, faulted)))
         }
-        NamedTree::SplitWinner(..) => unreachable!(),
+        NamedTree::SplitWinner(..) | NamedTree::Least => unreachable!(),
         NamedTree::Leaf(rows) => {
             let rows = rows_in(alloc, graph, rows)?;
             Ok(Tree::new(Node::Leaf(rows)))
@@ -232,5 +232,6 @@ pub(crate) fn wide_tree_in(
             let rows = wide_rows_in(alloc, graph, rows)?;
             Ok(WideTree::new(WideNode::Leaf(rows)))
         }
+        NamedTree::Least => Ok(WideTree::new(WideNode::Least)),
     }
 }

@@ -6,7 +6,7 @@ ghost use Rattle.tpl_json.specs.View.{view};
 ghost use Rattle.tpl_cert.specs.Seen.{row_of, tree_of};
 ghost use Rattle.tpl_json.specs.Members.{Gives, each, texts_in};
 ghost use Rattle.tpl_model.specs.declared.rule_set.RuleSet.TheVariants.{Narrow};
-ghost use Rattle.tpl_cert.specs.Reading.{row_names, row_at, leaf_at, input_at, end_at, winner_at, node_at, whole_tree};
+ghost use Rattle.tpl_cert.specs.Reading.{row_names, row_at, is_least, leaf_at, input_at, end_at, winner_at, node_at, whole_tree};
 
 use crate::named::{NamedRow, NamedTree};
 use json::Value;
@@ -87,6 +87,20 @@ fn rows_of<'v, 't>(
     Ok(rows)
 }
 
+/// Whether the value is a leaf without rows, which the wide rules have.
+#[tactic(auto, using(tpl_json::proofs::DataOf::text_is))]
+fn is_least(rules: RuleSet, value: &Value<'_>) -> bool
+    ensures { result ≡ is_least rules (view value.now) }
+{
+    match rules {
+        RuleSet::Narrow => false,
+        RuleSet::Wide => match value.as_str() {
+            None => false,
+            Some(text) => text == "least",
+        },
+    }
+}
+
 #[tactic(auto, unfolding(crate::specs::Reading::leaf_at))]
 fn leaf_of<'v, 't>(
     alloc: Global,
@@ -95,6 +109,9 @@ fn leaf_of<'v, 't>(
 ) -> Result<NamedTree<'v>, Miss<Shape>>
     ensures { Gives tree_of result (leaf_at rules (view value.now)) }
 {
+    if is_least(rules, value) {
+        return Ok(NamedTree::Least);
+    }
     if !has_only(value, &["rows"]) {
         return Err(Miss::Wrong(Shape));
     }

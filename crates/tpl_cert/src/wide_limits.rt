@@ -21,7 +21,7 @@ fn is_no_higher(tree: &WideTree, splits: u8) -> bool
                 && is_no_higher(canceled, splits - 1)
                 && is_no_higher(faulted, splits - 1)
         }
-        WideNode::Leaf(_) => true,
+        WideNode::Leaf(_) | WideNode::Least => true,
     }
 }
 
@@ -43,6 +43,7 @@ fn has_short_chains(tree: &WideTree) -> bool
             has_short_chains(ran) && has_short_chains(canceled) && has_short_chains(faulted)
         }
         WideNode::Leaf(rows) => have_short_chains(rows),
+        WideNode::Least => true,
     }
 }
 

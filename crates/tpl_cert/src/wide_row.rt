@@ -3,6 +3,7 @@
 ghost use Rattle.std.specs.Prelude.{◌≡◌, ℕ};
 ghost use Rattle.tpl_model.specs.Members.{mem};
 ghost use Rattle.tpl_cert.specs.WideCoding.{tokens_in};
+ghost use Rattle.tpl_cert.specs.Written.{HasTokenSets};
 ghost use Rattle.tpl_paths.specs.TokenSet.{has_token};
 
 use crate::row::Row;
@@ -43,6 +44,15 @@ impl WideRow {
         WideRow { row, asked, asks }
     }
 
+    /// Its tokens are sets: a caller that needs it calls this, which does nothing.
+    pub fn sets_law(&self)
+        ensures { HasTokenSets self.now }
+    {
+        let (asked, asks) = (self.asked, self.asks);
+        asked.limit_law();
+        asks.limit_law();
+    }
+
     /// What it says besides of its task.
     pub fn row(&self) -> &Row
         ensures { result.now ≡ self.now.row }
@@ -52,7 +62,8 @@ impl WideRow {
 
     /// The tokens that are requested when its task begins.
     pub fn asked(&self) -> TokenSet
-        ensures { (k : ℕ) → has_token result k ≡ mem k self.now.asked }
+        ensures members { (k : ℕ) → has_token result k ≡ mem k self.now.asked }
+        ensures list { tokens_in result ≡ self.now.asked }
     {
         self.asked.limit_law();
         self.asked
@@ -60,7 +71,8 @@ impl WideRow {
 
     /// The tokens that are requested when it has ended.
     pub fn asks(&self) -> TokenSet
-        ensures { (k : ℕ) → has_token result k ≡ mem k self.now.asks }
+        ensures members { (k : ℕ) → has_token result k ≡ mem k self.now.asks }
+        ensures list { tokens_in result ≡ self.now.asks }
     {
         self.asks.limit_law();
         self.asks

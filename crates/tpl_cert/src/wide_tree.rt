@@ -26,6 +26,8 @@ pub enum WideNode {
     SplitWinner(TaskId, TaskId, Box<WideTree>, Box<WideTree>),
     /// A row for each task, in declared order.
     Leaf(Vec<WideRow>),
+    /// No rows: the check works out the least ones that the splits leave.
+    Least,
 }
 
 impl Model for WideTree {

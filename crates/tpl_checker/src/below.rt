@@ -68,7 +68,7 @@ fn tasks_below(graph: &Graph, task: TaskId) -> TaskSet
 }
 
 /// The task is one of the graph, to which a child is attached.
-fn has_attached(graph: &Graph, task: TaskId) -> bool
+pub fn has_attached(graph: &Graph, task: TaskId) -> bool
     ensures { result ≡ false → (x : ℕ) → is_below graph.now.graph task.0 x ≡ false }
 {
     graph.valid_law();

@@ -22,7 +22,7 @@ mod verdict;
 mod view;
 
 pub use assumptions::Assumptions;
-pub use below::Below;
+pub use below::{Below, has_attached};
 pub use chain::{observes, reads, takes_over};
 pub use given::{assumed, assumed_for};
 pub use leaf::{LeafFault, accepts_leaf, past_rule};

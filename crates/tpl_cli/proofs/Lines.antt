@@ -2,7 +2,7 @@
 use Rattle.std.proofs.Common.{◌≡◌, ◌∙◌, ◌==◌, ℕ, Bool, if◌then◌else◌, List, Option, Some, None, codes, sym, ap, ap₂, subst, refl, arith, slice_index}
 use Rattle.clap.specs.Words.{Row, Text}
 use Rattle.tpl_analyser.specs.declared.form.Form.{Form}
-use Rattle.tpl_analyser.specs.declared.form.Form.TheVariants.{Full, Slim}
+use Rattle.tpl_analyser.specs.declared.form.Form.TheVariants.{Full, Slim, Rows}
 use Rattle.tpl_commands.specs.declared.ask.Ask.{Ask}
 use Rattle.tpl_commands.specs.declared.ask.Ask.TheVariants.{Check, Analyse, AnalyseIn, Certify, Audit, Draw}
 use Rattle.tpl_verdicts.specs.declared.style.Style.{Style}
@@ -76,18 +76,23 @@ means_kind word rows Trace m = ap kind_named m
 
 same_form : (rows : List Row) (a b : Form) → IsForm rows a → IsForm rows b → a ≡ b
 same_form rows Full Full m n = refl
-same_form rows Full Slim m n = absurd (m n)
-same_form rows Slim Full m n = absurd (n m)
+same_form rows Full Slim m n = absurd (m.0 n.0)
+same_form rows Full Rows m n = absurd (m.1 n.1)
+same_form rows Slim Full m n = absurd (n.0 m.0)
 same_form rows Slim Slim m n = refl
+same_form rows Slim Rows m n = absurd (n.0 m.0)
+same_form rows Rows Full m n = absurd (n.1 m.1)
+same_form rows Rows Slim m n = absurd (m.0 n.0)
+same_form rows Rows Rows m n = refl
 
 same_ask : (word : Text) (rows : List Row) (a b : Ask) → Asks word rows a → Asks word rows b → a ≡ b
 unfolding sort
 same_ask word rows Check Check m n = refl
 same_ask word rows Audit Audit m n = refl
 same_ask word rows (Analyse d) (Analyse e) m n = ap Analyse (same_number number.Depth rows d e m.0.1 n.0.1)
-same_ask word rows (Analyse d) (AnalyseIn e g) m n = absurd (m.0.2 (subst (IsForm rows) n.1 n.0.2))
+same_ask word rows (Analyse d) (AnalyseIn e g) m n = absurd (n.1 (same_form rows g Full n.0.2 m.0.2))
 same_ask word rows (Analyse d) (Certify e g) m n = absurd (m.1 n.1)
-same_ask word rows (AnalyseIn d f) (Analyse e) m n = absurd (n.0.2 (subst (IsForm rows) m.1 m.0.2))
+same_ask word rows (AnalyseIn d f) (Analyse e) m n = absurd (m.1 (same_form rows f Full m.0.2 n.0.2))
 same_ask word rows (AnalyseIn d f) (AnalyseIn e g) m n = ap₂ AnalyseIn (same_number number.Depth rows d e m.0.1 n.0.1) (same_form rows f g m.0.2 n.0.2)
 same_ask word rows (AnalyseIn d f) (Certify e g) m n = absurd (m.2 n.1)
 same_ask word rows (Certify d f) (Analyse e) m n = absurd (n.1 m.1)
@@ -151,6 +156,14 @@ no_search rows none (Analyse depth) m = none depth m.0.1
 no_search rows none (AnalyseIn depth form) m = none depth m.0.1
 no_search rows none (Certify depth form) m = none depth m.0.1
 no_search rows none ask m = let e = asks_sort (codes "analyse") rows ask m in absurd (omega arith)
+
+-- no form is asked for
+pub no_form : (rows : List Row) → ((form : Form) → IsForm rows form → ⊥) → (ask : Ask) → Asks (codes "analyse") rows ask → ⊥
+unfolding sort sort_named
+no_form rows none (Analyse depth) m = none Full m.0.2
+no_form rows none (AnalyseIn depth form) m = none form m.0.2
+no_form rows none (Certify depth form) m = none form m.0.2
+no_form rows none ask m = let e = asks_sort (codes "analyse") rows ask m in absurd (omega arith)
 
 -- a word that names one kind of line names no other: where it means none of these, it means none
 pub no_run : (rows : List Row) → ((workers : ℕ) (is_whole : Bool) → Means (codes "run") rows (Run workers is_whole) → ⊥) → (l : Line) → Means (codes "run") rows l → ⊥

@@ -2,7 +2,7 @@
 use Rattle.std.specs.Prelude.{◌≡◌, ◌≤◌, ℕ, List, Option, Some, None, IsSomeAnd, codes}
 use Rattle.clap.specs.Words.{Row, Text, subcommand_of}
 use Rattle.tpl_analyser.specs.declared.form.Form.{Form}
-use Rattle.tpl_analyser.specs.declared.form.Form.TheVariants.{Full, Slim}
+use Rattle.tpl_analyser.specs.declared.form.Form.TheVariants.{Full, Slim, Rows}
 use Rattle.tpl_commands.specs.declared.ask.Ask.{Ask}
 use Rattle.tpl_commands.specs.declared.ask.Ask.TheVariants.{Check, Analyse, AnalyseIn, Certify, Audit, Draw}
 use Rattle.tpl_cli.specs.declared.line.Line as lines
@@ -12,10 +12,11 @@ use Rattle.tpl_cli.specs.declared.number.Number.TheVariants as number
 use Rattle.tpl_cli.specs.Options.{IsFlag, IsGiven, IsIfGiven, IsLanguage, IsSet, IsStyle}
 use Rattle.tpl_cli.specs.Usage.{taskgraph}
 
--- the form that is asked for
+-- the form that is asked for; two at once are none
 abbrev pub IsForm : List Row → Form → Type 0
-IsForm rows Full = IsSet (codes "slim") rows → ⊥
-IsForm rows Slim = IsSet (codes "slim") rows
+IsForm rows Full = (IsSet (codes "slim") rows → ⊥) × (IsSet (codes "rows") rows → ⊥)
+IsForm rows Slim = IsSet (codes "slim") rows × (IsSet (codes "rows") rows → ⊥)
+IsForm rows Rows = (IsSet (codes "slim") rows → ⊥) × IsSet (codes "rows") rows
 
 -- a search is asked for with at most so many splits on each path, for a certificate of this form
 abbrev pub IsSearch : Text → List Row → ℕ → Form → Type 0
@@ -25,7 +26,7 @@ IsSearch word rows depth form = (word ≡ codes "analyse") × IsGiven number.Dep
 abbrev pub Asks : Text → List Row → Ask → Type 0
 Asks word rows Check = word ≡ codes "check"
 Asks word rows (Analyse depth) = IsSearch word rows depth Full × (IsSet (codes "whole") rows → ⊥)
-Asks word rows (AnalyseIn depth form) = IsSearch word rows depth form × (form ≡ Slim) × (IsSet (codes "whole") rows → ⊥)
+Asks word rows (AnalyseIn depth form) = IsSearch word rows depth form × (form ≡ Full → ⊥) × (IsSet (codes "whole") rows → ⊥)
 Asks word rows (Certify depth form) = IsSearch word rows depth form × IsSet (codes "whole") rows
 Asks word rows Audit = word ≡ codes "audit"
 Asks word rows (Draw language) = (word ≡ codes "draw") × IsLanguage rows language

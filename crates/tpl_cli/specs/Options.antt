@@ -41,6 +41,10 @@ depth_rule usual = numbered Depth (usual ∷ [])
 abbrev pub slim_rule : Rule
 slim_rule = flag (codes "slim")
 
+-- the option `--rows`
+abbrev pub rows_rule : Rule
+rows_rule = flag (codes "rows")
+
 -- the option `--whole`
 abbrev pub whole_rule : Rule
 whole_rule = flag (codes "whole")

@@ -2,7 +2,7 @@
 use Rattle.std.specs.Prelude.{true, codes}
 use Rattle.clap.specs.Words.{App, new_app, with_rule, with_subcommand}
 use Rattle.clap.specs.Simple.{on_top}
-use Rattle.tpl_cli.specs.Options.{claim_rule, depth_rule, each_rule, explain_rule, jobs_rule, language_rule, runs_rule, seed_rule, slim_rule, style_rule, whole_rule, workers_rule}
+use Rattle.tpl_cli.specs.Options.{claim_rule, depth_rule, each_rule, explain_rule, jobs_rule, language_rule, rows_rule, runs_rule, seed_rule, slim_rule, style_rule, whole_rule, workers_rule}
 
 -- one of the subcommands has to stand there
 abbrev pub no_command : App
@@ -15,7 +15,7 @@ check_command = with_rule (with_rule (with_rule (new_app (codes "check")) each_r
 -- the subcommand `analyse`
 abbrev pub analyse_command : App
 analyse_command =
-    with_rule (with_rule (with_rule (with_rule (new_app (codes "analyse")) (depth_rule (codes "2"))) slim_rule) whole_rule) explain_rule
+    with_rule (with_rule (with_rule (with_rule (with_rule (new_app (codes "analyse")) (depth_rule (codes "2"))) slim_rule) rows_rule) whole_rule) explain_rule
 
 -- the subcommand `run`
 abbrev pub run_command : App

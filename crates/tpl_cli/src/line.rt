@@ -2,7 +2,7 @@
 
 ghost use Rattle.std.specs.Prelude.{◌≡◌, true, codes, IfOk, MatchOption, MatchResult, map};
 ghost use Rattle.clap.specs.Words.{Text, found_of, kind_of, rows_of, subcommand_rows_of, takes};
-ghost use Rattle.tpl_cli.specs.Line.{Asks, AreTries, IsLineOf, IsWithin, Means, Names};
+ghost use Rattle.tpl_cli.specs.Line.{Asks, AreTries, IsForm, IsLineOf, IsWithin, Means, Names};
 ghost use Rattle.tpl_cli.specs.Usage.{taskgraph};
 
 use crate::number::Number;
@@ -127,6 +127,20 @@ fn served(given: &ArgMatches<'_>, ask: Ask) -> Option<Line>
     }
 }
 
+/// The form that is asked for. Two at once are none.
+fn form_asked(given: &ArgMatches<'_>) -> Option<Form>
+    ensures { MatchOption result
+        ((f : Form) → IsForm (rows_of (found_of given.now)) f → ⊥)
+        (IsForm (rows_of (found_of given.now))) }
+{
+    match (is_set(given, "slim"), is_set(given, "rows")) {
+        (false, false) => Some(Form::Full),
+        (true, false) => Some(Form::Slim),
+        (false, true) => Some(Form::Rows),
+        (true, true) => None,
+    }
+}
+
 /// What `analyse` asks with these options.
 fn search_asked(given: &ArgMatches<'_>) -> Option<Ask>
     ensures { MatchOption result
@@ -134,13 +148,13 @@ fn search_asked(given: &ArgMatches<'_>) -> Option<Ask>
         (Asks (codes "analyse") (rows_of (found_of given.now))) }
 {
     let depth = depth_in(given)?;
-    let slim = is_set(given, "slim");
+    let form = form_asked(given)?;
     if is_set(given, "whole") {
-        Some(Ask::Certify(depth, if slim { Form::Slim } else { Form::Full }))
-    } else if slim {
-        Some(Ask::AnalyseIn(depth, Form::Slim))
-    } else {
-        Some(Ask::Analyse(depth))
+        return Some(Ask::Certify(depth, form));
+    }
+    match form {
+        Form::Full => Some(Ask::Analyse(depth)),
+        Form::Slim | Form::Rows => Some(Ask::AnalyseIn(depth, form)),
     }
 }
 

@@ -3,7 +3,7 @@
 ghost use Rattle.std.specs.Prelude.{◌≡◌, ◌<◌, ◌^◌, ℕ, [], ◌∷◌, codes, false, Option, MatchOption};
 ghost use Rattle.clap.specs.Words.{found_of, rows_of, rule_of};
 ghost use Rattle.tpl_cli.specs.Number.{number_range};
-ghost use Rattle.tpl_cli.specs.Options.{claim_rule, depth_rule, each_rule, explain_rule, flag, jobs_rule, language_rule, language_word, numbered, runs_rule, seed_rule, slim_rule, style_rule, style_word, valued, whole_rule, workers_rule, IsFlag, IsGiven, IsIfGiven, IsLanguage, IsStyle};
+ghost use Rattle.tpl_cli.specs.Options.{claim_rule, depth_rule, each_rule, explain_rule, flag, jobs_rule, language_rule, language_word, numbered, rows_rule, runs_rule, seed_rule, slim_rule, style_rule, style_word, valued, whole_rule, workers_rule, IsFlag, IsGiven, IsIfGiven, IsLanguage, IsStyle};
 
 use crate::number::Number;
 use clap::{Arg, ArgAction, ArgMatches, value_parser};
@@ -65,6 +65,15 @@ pub(crate) fn slim<'a>(alloc: Global) -> Arg<'a>
 {
     let help = "Omits from the rows whatever the proof does not need";
     flag(alloc, "slim", help)
+}
+
+/// The option for certificates with the rows of each leaf.
+pub(crate) fn rows<'a>(alloc: Global) -> Arg<'a>
+    ensures rule { rule_of result ≡ rows_rule }
+    ensures own { result.global ≡ false }
+{
+    let help = "Writes out the rows of each leaf, in version 3 too";
+    flag(alloc, "rows", help)
 }
 
 /// The option for the whole document, with what is in it.

@@ -108,17 +108,25 @@ fn unnamed(alloc: Global, subcommand: &str, word: &str) -> Result<String, AllocE
     Ok(String::new(alloc))
 }
 
-/// What is said of words that `clap` takes and that mean nothing: a word behind `--as` names nothing, or a number of
-/// threads is given where no document on each line is asked for.
+/// Which of the options of the subcommand have no meaning, where none of them is `--as`.
+fn at_odds(subcommand: &str) -> &'static str {
+    match subcommand {
+        "analyse" => "the argument '--rows' cannot be used with '--slim'",
+        _ => "the argument '--jobs <N>' is taken only with '--each'",
+    }
+}
+
+/// What is said of words that `clap` takes and that mean nothing: a word behind `--as` names nothing, two forms of a
+/// certificate are asked for, or a number of threads is given where no document on each line is asked for.
 pub(crate) fn no_meaning(alloc: Global, given: &ArgMatches<'_>) -> Result<String, AllocError> {
     let Some((subcommand, options)) = given.subcommand() else {
         return String::from_str(alloc, "error: no command\n");
     };
     match options.get_str("as") {
         Some(word) => unnamed(alloc, subcommand, word),
-        None => String::from_str(
-            alloc,
-            "error: the argument '--jobs <N>' is taken only with '--each'\n\nFor more information, try '--help'.\n",
-        ),
+        None => {
+            let why = at_odds(subcommand);
+            format!(in alloc; "error: {why}\n\nFor more information, try '--help'.\n")
+        }
     }
 }

@@ -6,7 +6,7 @@ ghost use Rattle.clap.specs.declared.builder.command.Command.TheViews.{out-Comma
 ghost use Rattle.tpl_cli.specs.Usage.{analyse_command, audit_command, check_command, draw_command, no_command, refute_command, run_command, taskgraph, trace_command, verify_command};
 
 use crate::options::{
-    claim, depth, each, explain, jobs, language, runs, seed, slim, style, whole, workers,
+    claim, depth, each, explain, jobs, language, rows, runs, seed, slim, style, whole, workers,
 };
 use clap::{Arg, Command};
 use std::alloc::{AllocError, Global};
@@ -69,6 +69,7 @@ fn analyse<'a>(alloc: Global) -> Result<Command<'a>, AllocError>
         );
     let command = with_option(command, depth(alloc, "2"))?;
     let command = with_option(command, slim(alloc))?;
+    let command = with_option(command, rows(alloc))?;
     let command = with_option(
         command,
         whole(

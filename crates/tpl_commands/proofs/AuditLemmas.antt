@@ -1,5 +1,5 @@
 -- What the answer to an audit names.
-use Rattle.std.proofs.Common.{◌≡◌, ℕ, ◌<◌, Bool, true, false, List, ◌++◌, Option, Some, None, get_or, sym, ap, subst, arith}
+use Rattle.std.proofs.Common.{◌≡◌, ℕ, ◌<◌, Bool, true, false, List, ◌++◌, Some, None, get_or, sym, ap, subst, arith}
 use Rattle.tpl_draft.specs.Named.{Names}
 use Rattle.tpl_audit.specs.declared.verdict.Failure.{Failure}
 use Rattle.tpl_audit.specs.declared.verdict.OtherEnd.{OtherEnd}

@@ -1,12 +1,13 @@
 -- What the check says of a document's certificate.
-use Rattle.std.proofs.Common.{◌≡◌, ℕ, Bool, false, List, map, Result, Ok, Err, IfOk, IfErr, refl}
+use Rattle.std.proofs.Common.{◌≡◌, false, List, map, Result, Ok, Err, IfOk, IfErr, refl}
 use Rattle.std.specs.Prelude.{◌↔◌, IsOk}
 use Rattle.tpl_model.specs.Graph.{TaskGraph}
 use Rattle.tpl_model.specs.declared.fault.CertFault.{CertFault}
 use Rattle.tpl_model.specs.declared.fault.CertFault.TheVariants.{Shape, NotClosed, ClaimNot}
 use Rattle.tpl_model.specs.Certificate.{Tree, Accepts}
 use Rattle.tpl_model.specs.Claims.{Claim}
-use Rattle.tpl_model.specs.WiderRules.{WideTree, WidelyAccepts, as_wide_tree}
+use Rattle.tpl_model.specs.WiderRules.{WideTree, as_wide_tree}
+use Rattle.tpl_laws.specs.WideTrees.{WidelyAccepts}
 use Rattle.tpl_model.specs.declared.rule_set.RuleSet.TheVariants.{Narrow, Wide}
 use Rattle.tpl_laws.specs.ByRules.{PlainIsRefused}
 use Rattle.tpl_laws.specs.Faults.{IsFirstFault}

@@ -5,6 +5,7 @@ pub mod Checked
 pub mod Inputs
 pub mod LineBreak
 pub mod LoadLemmas
+pub mod Proofs
 pub mod Responses
 pub mod RunLemmas
 pub mod TakenBack

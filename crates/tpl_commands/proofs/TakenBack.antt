@@ -1,12 +1,12 @@
 -- What the search writes is taken back by the check.
-use Rattle.std.proofs.Common.{◌≡◌, ℕ, List, get_or, inl, inr, codes, map, refl, subst}
+use Rattle.std.proofs.Common.{◌≡◌, ℕ, List, get_or, inl, inr, codes, refl, subst}
 use Rattle.std.specs.List.{All}
 use Rattle.tpl_model.specs.declared.rule_set.RuleSet.{RuleSet}
-use Rattle.tpl_model.specs.Certificate.{Tree}
-use Rattle.tpl_model.specs.WiderRules.{as_wide_tree}
+use Rattle.tpl_model.specs.WiderRules.{WideTree}
 use Rattle.tpl_laws.specs.ByRules.{AcceptsBy}
-use Rattle.tpl_cert.proofs.WithinLimits.{read_within}
-use Rattle.tpl_cert.specs.Heights.{IsWithinLimits}
+use Rattle.tpl_cert.proofs.WithinLimits.{read_wide_within}
+use Rattle.tpl_cert.specs.WideHeights.{IsWithinWideLimits}
+use Rattle.tpl_cert.specs.Written.{tree_data}
 use Rattle.tpl_draft.specs.Named.{Names}
 use Rattle.tpl_reader.specs.declared.fault.ReadFault.{ReadFault}
 use Rattle.tpl_reader.specs.declared.fault.ReadFault.TheVariants as faults
@@ -17,7 +17,8 @@ use Rattle.tpl_commands.specs.declared.exit.Exit.{Exit}
 use Rattle.tpl_commands.specs.declared.exit.Exit.TheVariants.{Success, Failure, Usage, Unreadable, Memory, Device, Fault}
 use Rattle.tpl_commands.specs.Checking.{IsVerdict}
 use Rattle.tpl_commands.specs.Unreadable.{IsUnreadable}
-use Rattle.tpl_commands.specs.Searching.{IsRead, IsOnlyAccepted, CanBePut, written_tree, written_trees}
+use Rattle.tpl_commands.specs.Proof.{IsRead}
+use Rattle.tpl_commands.specs.Searching.{IsOnlyAccepted, CanBePut, written_trees}
 
 verdict_only : (doc : DocumentValue) (exit : Exit) (text : List ℕ) → HasProof doc → IsVerdict doc exit text → (exit ≡ Success) × (text ≡ codes "accepted\n")
 verdict_only doc Success text accepted is = (refl, is.1)
@@ -38,15 +39,15 @@ only_accepted one faultless bytes doc spelled accepted exit text (inl found) =
 only_accepted one faultless bytes doc spelled accepted exit text (inr wrong) =
     absurd (unreadable_never wrong.0 text (faultless bytes doc wrong.0 spelled wrong.1) wrong.3)
 
-pub within : (rules : RuleSet) (n : Names) (trees : List Tree) → All (IsRead n) trees → All IsWithinLimits trees → All (IsReadBack rules n) trees
-within rules n trees read limits = λ k t lt. read_within rules n (written_tree n (get_or trees k t)) (get_or trees k t) (read k t lt rules) (limits k t lt)
+pub within : (rules : RuleSet) (n : Names) (trees : List WideTree) → All (IsRead rules n) trees → All IsWithinWideLimits trees → All (IsReadBack rules n) trees
+within rules n trees read limits = λ k t lt. read_wide_within rules n (tree_data rules n (get_or trees k t)) (get_or trees k t) (read k t lt) (limits k t lt)
 
-pub taken_back : SpellsOneDocument → SpelledHasNoFault → CertificateIsReadBack → (doc : DocumentValue) (trees : List Tree)
-    → AcceptsBy (rules_of doc) doc.graph.graph doc.claims (map as_wide_tree trees) → All (IsReadBack (rules_of doc) doc.graph.names) trees → CanBePut doc trees (written_trees doc.graph.names trees)
+pub taken_back : SpellsOneDocument → SpelledHasNoFault → CertificateIsReadBack → (doc : DocumentValue) (trees : List WideTree)
+    → AcceptsBy (rules_of doc) doc.graph.graph doc.claims trees → All (IsReadBack (rules_of doc) doc.graph.names) trees → CanBePut doc trees (written_trees doc trees)
 taken_back one faultless put doc trees accepted read input bytes spelled holds le =
     let again = put input bytes doc trees spelled read holds le in
     record {
       spelled = again;
-      only = λ other is. one bytes (record doc { certificate = map as_wide_tree trees }) other again is;
-      accepted = only_accepted one faultless bytes (record doc { certificate = map as_wide_tree trees }) again accepted;
+      only = λ other is. one bytes (record doc { certificate = trees }) other again is;
+      accepted = only_accepted one faultless bytes (record doc { certificate = trees }) again accepted;
     }

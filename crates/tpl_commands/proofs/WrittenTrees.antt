@@ -1,41 +1,94 @@
 -- The ids of a certificate that is accepted.
-use Rattle.std.proofs.Common.{◌≡◌, ℕ, Bool, ◌<◌, List, [], ◌∷◌, length, true, refl, sym, subst}
+use Rattle.std.proofs.Common.{◌≡◌, ℕ, ◌<◌, List, [], ◌∷◌, length, map, true, inl, inr, refl, sym, subst, arith}
 use Rattle.std.specs.List.{list_all}
-use Rattle.std.proofs.lemmas.Bool.{lt-ltb}
-use Rattle.tpl_model.specs.Graph.{TaskGraph}
+use Rattle.std.proofs.lemmas.Bool.{cases_lt, lt-ltb}
+use Rattle.tpl_model.specs.Members.{mem}
+use Rattle.tpl_model.specs.Graph.{TaskGraph, TaskKind, Root, Child, Continues, WhenAll, WhenAny, kind, is_task, is_token}
+use Rattle.tpl_model.specs.Valid.{IsGraph, IsPlaced, ArePlaced}
 use Rattle.tpl_model.specs.Claims.{Claim}
 use Rattle.tpl_model.specs.declared.ids.TaskId.{TaskId}
 use Rattle.tpl_model.specs.declared.claim.Property.{Property}
-use Rattle.tpl_model.specs.Certificate.{Row, Tree, Assumed, assumed_for, AllTasks, IdsOfRows, AcceptsTree, Accepts}
-use Rattle.tpl_model.specs.Certificate as tree
-use Rattle.tpl_draft.specs.Named.{Names}
+use Rattle.tpl_model.specs.declared.rule_set.RuleSet.{RuleSet}
+use Rattle.tpl_model.specs.declared.rule_set.RuleSet.TheVariants.{Narrow, Wide}
+use Rattle.tpl_model.specs.Certificate.{AllTasks, IdsOfRows}
+use Rattle.tpl_model.specs.WiderRules.{WideRow, plain, WideAssumed, AllTokens, TokensOfRows, WideTree, OnInput, OnEnd, OnWinner, WideLeaf, LeastLeaf, MayHaveWinner, widely_assumed, as_wide_tree}
+use Rattle.tpl_model.proofs.MemberLemmas.{mem_split}
+use Rattle.tpl_model.proofs.Truths.{true_false}
+use Rattle.tpl_laws.specs.ByRules.{AcceptsBy}
+use Rattle.tpl_laws.specs.Wider.{WiderAccepts}
+use Rattle.tpl_laws.specs.WiderSoundness.{TokensAcceptMore}
+use Rattle.tpl_laws.specs.WideTrees.{AcceptsWideTree, WidelyAccepts}
+use Rattle.tpl_laws.proofs.Settling.{no_task}
+use Rattle.tpl_draft.specs.Named.{Names, Named}
+use Rattle.tpl_graph.specs.Kept.{IsNamedGraph}
 use Rattle.tpl_cert.specs.Written.{is_id, has_row_ids, has_ids}
 
 -- the ids of a tree that is accepted are the graph's
-module _ (n : Names) (g : TaskGraph) (tasks : length n.tasks ≡ length g.tasks) (inputs : length n.inputs ≡ g.inputs) where
+module _ (n : Names) (g : TaskGraph) (valid : IsGraph g) (tasks : length n.tasks ≡ length g.tasks) (tokens : length n.tokens ≡ length g.tokens) (inputs : length n.inputs ≡ g.inputs) where
+  task_known : (t : ℕ) → is_task g t → is_id n.tasks t ≡ true
+  task_known t is = lt-ltb t (length n.tasks) (subst (λ (m : ℕ). t < m) (sym tasks) is)
+
+  token_known : (k : ℕ) → is_token g k → is_id n.tokens k ≡ true
+  token_known k is = lt-ltb k (length n.tokens) (subst (λ (m : ℕ). k < m) (sym tokens) is)
+
+  input_known : (i : ℕ) → i < g.inputs → is_id n.inputs i ≡ true
+  input_known i is = lt-ltb i (length n.inputs) (subst (λ (m : ℕ). i < m) (sym inputs) is)
+
   tasks_known : (xs : List ℕ) → AllTasks g xs → list_all (is_id n.tasks) xs ≡ true
   tasks_known [] all = refl
-  tasks_known (x ∷ xs) all =
-      let below : x < length n.tasks = subst (λ (m : ℕ). x < m) (sym tasks) all.0 in
-      rw (lt-ltb x (length n.tasks) below, tasks_known xs all.1) refl
+  tasks_known (x ∷ xs) all = rw (task_known x all.0, tasks_known xs all.1) refl
 
-  rows_known : (rows : List Row) → IdsOfRows g rows → list_all (has_row_ids n) rows ≡ true
-  rows_known [] ids = refl
-  rows_known (r ∷ rows) ids =
-      rw (tasks_known r.before ids.0, tasks_known r.past ids.1, tasks_known r.chain ids.2, rows_known rows ids.3) refl
+  tokens_known : (ks : List ℕ) → AllTokens g ks → list_all (is_id n.tokens) ks ≡ true
+  tokens_known [] all = refl
+  tokens_known (k ∷ ks) all = rw (token_known k all.0, tokens_known ks all.1) refl
 
-  tree_known : (p : Property TaskId) (t : Tree) (l : Assumed) → AcceptsTree g p l t → has_ids n t ≡ true
-  tree_known p (tree.SplitInput i a b) l accepted =
-      let below : i < length n.inputs = subst (λ (m : ℕ). i < m) (sym inputs) accepted.0 in
-      rw (lt-ltb i (length n.inputs) below, tree_known p a _ accepted.1, tree_known p b _ accepted.2) refl
-  tree_known p (tree.SplitEnd t a b c) l accepted =
-      let below : t < length n.tasks = subst (λ (m : ℕ). t < m) (sym tasks) accepted.0 in
-      rw (lt-ltb t (length n.tasks) below, tree_known p a _ accepted.1, tree_known p b _ accepted.2, tree_known p c _ accepted.3) refl
-  tree_known p (tree.Leaf rows) l accepted = rows_known rows accepted.1
+  rows_known : (rows : List WideRow) → IdsOfRows g (plain rows) → TokensOfRows g rows → list_all (has_row_ids n) rows ≡ true
+  rows_known [] ids ks = refl
+  rows_known (r ∷ rows) ids ks =
+      rw (tokens_known r.asked ks.0, tokens_known r.asks ks.1, tasks_known r.row.before ids.0, tasks_known r.row.past ids.1, tasks_known r.row.chain ids.2, rows_known rows ids.3 ks.2) refl
 
-  pub trees_known : (wide : Bool) (claims : List Claim) (trees : List Tree) → Accepts wide g claims trees → list_all (has_ids n) trees ≡ true
-  trees_known wide [] [] accepted = refl
-  trees_known wide [] (t ∷ trees) accepted = absurd accepted
-  trees_known wide (claim ∷ claims) [] accepted = absurd accepted
-  trees_known wide (claim ∷ claims) (t ∷ trees) accepted =
-      rw (tree_known claim.body t (assumed_for wide g claim) accepted.0, trees_known wide claims trees accepted.1) refl
+  -- an argument comes before its task
+  placed_task : (t x : ℕ) (args : List ℕ) → is_task g t → ArePlaced g t args → mem x args ≡ true → is_task g x
+  placed_task t x [] is placed m = true_false (sym m)
+  placed_task t x (y ∷ args) is placed m =
+      elim (mem_split x y args m) [
+        | inl same ↦ let lt : y < t = placed.0 in subst (λ (z : ℕ). is_task g z) (sym same) (omega arith)
+        | inr among ↦ placed_task t x args is placed.2 among
+      ]
+
+  argument_task : (t x : ℕ) (k : TaskKind) → is_task g t → IsPlaced g t k → MayHaveWinner k x → is_task g x
+  argument_task t x (WhenAny args) is placed m = placed_task t x args is placed.0 m
+  argument_task t x Root is placed m = absurd m
+  argument_task t x Child is placed m = absurd m
+  argument_task t x (Continues a) is placed m = absurd m
+  argument_task t x (WhenAll args) is placed m = absurd m
+
+  winner_known : (t x : ℕ) → MayHaveWinner (kind g t) x → (is_id n.tasks t ≡ true) × (is_id n.tasks x ≡ true)
+  winner_known t x m =
+      elim (cases_lt t (length g.tasks)) [
+        | inl is ↦ (task_known t is, task_known x (argument_task t x (kind g t) is (valid.each t is).placed m))
+        | inr le ↦ absurd (subst (λ (k : TaskKind). MayHaveWinner k x) (no_task g t le).0 m)
+      ]
+
+  tree_known : (p : Property TaskId) (t : WideTree) (l : WideAssumed) → AcceptsWideTree g p l t → has_ids n t ≡ true
+  tree_known p (OnInput i a b) l accepted = rw (input_known i accepted.0, tree_known p a _ accepted.1, tree_known p b _ accepted.2) refl
+  tree_known p (OnEnd t a b c) l accepted = rw (task_known t accepted.0, tree_known p a _ accepted.1, tree_known p b _ accepted.2, tree_known p c _ accepted.3) refl
+  tree_known p (OnWinner t x a b) l accepted =
+      let known = winner_known t x accepted.0 in
+      rw (known.0, known.1, tree_known p a _ accepted.1, tree_known p b _ accepted.2) refl
+  tree_known p (WideLeaf rows) l accepted = rows_known rows accepted.1 accepted.2
+  tree_known p LeastLeaf l accepted = refl
+
+  wide_known : (claims : List Claim) (trees : List WideTree) → WidelyAccepts g claims trees → list_all (has_ids n) trees ≡ true
+  wide_known [] [] accepted = refl
+  wide_known [] (t ∷ trees) accepted = absurd accepted
+  wide_known (claim ∷ claims) [] accepted = absurd accepted
+  wide_known (claim ∷ claims) (t ∷ trees) accepted =
+      rw (tree_known claim.body t (widely_assumed g claim) accepted.0, wide_known claims trees accepted.1) refl
+
+-- what the narrow rules accept, the wide ones do
+pub trees_known : WiderAccepts → TokensAcceptMore → (m : Named) → IsNamedGraph m → (rules : RuleSet) (claims : List Claim) (trees : List WideTree) → AcceptsBy rules m.graph claims trees → list_all (has_ids m.names) trees ≡ true
+trees_known wider more m law Narrow claims trees accepted =
+    subst (λ (ts : List WideTree). list_all (has_ids m.names) ts ≡ true) (sym accepted.1)
+    (wide_known m.names m.graph law.graph law.tasks law.tokens law.inputs claims (map as_wide_tree accepted.0) (more m.graph claims accepted.0 (wider m.graph claims accepted.0 accepted.2)))
+trees_known wider more m law Wide claims trees accepted = wide_known m.names m.graph law.graph law.tasks law.tokens law.inputs claims trees accepted

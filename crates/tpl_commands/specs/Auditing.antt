@@ -7,7 +7,6 @@ use Rattle.tpl_journal.specs.declared.reading_lines.JournalFault.{JournalFault}
 use Rattle.tpl_journal.specs.declared.reading_lines.JournalFault.TheVariants as broken
 use Rattle.tpl_journal.specs.Lines.{IsJournal, IsJournalFault, task_name}
 use Rattle.tpl_audit.specs.declared.verdict.Failure.{Failure}
-use Rattle.tpl_audit.specs.declared.verdict.OtherEnd.{OtherEnd}
 use Rattle.tpl_audit.specs.declared.verdict.Verdict.{Verdict}
 use Rattle.tpl_audit.specs.declared.verdict.Verdict.TheVariants as ruled
 use Rattle.tpl_audit.specs.Audit.{IsVerdict, FindsNoFailure}

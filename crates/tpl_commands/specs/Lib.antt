@@ -6,6 +6,7 @@ pub mod Drawing
 pub mod Exit
 pub mod Finding
 pub mod Loading
+pub mod Proof
 pub mod Recorded
 pub mod Responding
 pub mod Rules

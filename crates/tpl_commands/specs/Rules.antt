@@ -1,7 +1,5 @@
 -- By which rules a document's certificates are judged.
-use Rattle.std.specs.Prelude.{Bool}
 use Rattle.tpl_model.specs.declared.rule_set.RuleSet.{RuleSet}
-use Rattle.tpl_model.specs.Certificate.{is_wide}
 use Rattle.tpl_laws.specs.ByRules.{AcceptsBy}
 use Rattle.tpl_parts.specs.Versions.{rules_since}
 use Rattle.tpl_reader.specs.Document.{DocumentValue}
@@ -9,10 +7,6 @@ use Rattle.tpl_reader.specs.Document.{DocumentValue}
 -- by its version
 abbrev pub rules_of : DocumentValue → RuleSet
 rules_of doc = rules_since doc.version
-
--- the wider rules are taken for the document
-abbrev pub is_judged_widely : DocumentValue → Bool
-is_judged_widely doc = is_wide (rules_of doc)
 
 -- the document's certificate is accepted
 abbrev pub HasProof : DocumentValue → Type 0

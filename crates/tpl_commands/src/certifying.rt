@@ -1,23 +1,23 @@
 //! The document with a certificate that was found.
 
-ghost use Rattle.std.specs.Prelude.{◌≡◌, ◌≤◌, true, IfOk, string_bytes};
+ghost use Rattle.std.specs.Prelude.{◌≡◌, true, IfOk, string_bytes};
 ghost use Rattle.std.specs.List.{All, list_all};
 ghost use Rattle.serde_json.specs.View.{view};
-ghost use Rattle.tpl_cert.specs.Heights.{height};
 ghost use Rattle.tpl_cert.specs.Written.{has_ids};
 ghost use Rattle.tpl_reader.specs.Document.{Reads, Spells};
 ghost use Rattle.tpl_reader.specs.Laws.{HasCertificate, HoldsCertificate};
 ghost use Rattle.tpl_reader.specs.SeenDocument.{doc_of};
 ghost use Rattle.tpl_commands.specs.Certifying.{IsCertifying, IsObject, IsSized, IsTextOfObject, IsWholeText};
-ghost use Rattle.tpl_commands.specs.Searching.{AreFound, IsRead, IsSearchOf, written_trees};
+ghost use Rattle.tpl_commands.specs.Proof.{proof_data, rules_for, trees_of, IsRead};
+ghost use Rattle.tpl_commands.specs.Searching.{IsFoundBy, IsSearchOf};
 
 use crate::answer::Answer;
 use crate::exit::Exit;
-use crate::searching::{Outcome, Searched, array_text, found_law, missed_answer};
+use crate::proof::{Proof, array_text};
+use crate::searching::{Outcome, Searched, found_law, missed_answer};
 use serde_json::Value;
 use std::alloc::{AllocError, Global};
 use tpl_analyser::{Depth, Form};
-use tpl_cert::{Certificate, Tree};
 use tpl_graph::Graph;
 use tpl_reader::{Document, LONGEST};
 
@@ -28,18 +28,18 @@ fn certified(
     document: &Document,
     depth: Depth,
     form: Form,
-    certificate: &Certificate,
+    proof: &Proof,
 ) -> Result<Answer, AllocError>
     requires spelled { Spells bytes.now (doc_of document.now) }
-    requires found { AreFound depth form (doc_of document.now) certificate.now }
+    requires found { IsFoundBy depth form (doc_of document.now) proof.now }
     ensures { IfOk result (λ given.
         IsCertifying depth form (doc_of document.now) given.exit (string_bytes given.text)
-        × IsWholeText document.now.graph.names (Outcome.Certificate certificate.now)
+        × IsWholeText document.now.graph.names (Outcome.Certificate proof.now)
         (string_bytes given.text)) }
 {
     let _ = (depth, form);
-    found_law(document, certificate);
-    let text = whole_text(alloc, bytes, &document.graph, certificate.trees())?;
+    found_law(document, proof);
+    let text = whole_text(alloc, bytes, &document.graph, proof)?;
     sized(alloc, text)
 }
 
@@ -58,9 +58,9 @@ pub(crate) fn certified_answer(
         × IsWholeText document.now.graph.names searched.now.outcome (string_bytes given.text)) }
 {
     match &searched.outcome {
-        Outcome::Certificate(certificate) => {
+        Outcome::Certificate(proof) => {
             let (depth, form) = (searched.depth, searched.form);
-            certified(alloc, bytes, document, depth, form, certificate)
+            certified(alloc, bytes, document, depth, form, proof)
         }
         Outcome::Missed { claim, .. } => missed_answer(alloc, *claim),
     }
@@ -88,16 +88,17 @@ fn whole_text(
     alloc: Global,
     bytes: &[u8],
     graph: &Graph,
-    trees: &[Tree],
+    proof: &Proof,
 ) -> Result<String, AllocError>
     requires json { IsTextOfObject bytes.now }
-    requires ids { list_all (has_ids graph.now.names) trees.now ≡ true }
-    requires limits { All (λ tree. height tree ≤ 6) trees.now }
+    requires ids { list_all (has_ids graph.now.names) (trees_of proof.now) ≡ true }
     ensures holds { IfOk result (λ text.
-        HoldsCertificate bytes.now (written_trees graph.now.names trees.now) (string_bytes text)) }
-    ensures read { IfOk result (λ _. All (IsRead graph.now.names) trees.now) }
+        HoldsCertificate bytes.now (proof_data graph.now.names proof.now) (string_bytes text)) }
+    ensures read { IfOk result (λ _.
+        All (IsRead (rules_for proof.now) graph.now.names) (trees_of proof.now)) }
 {
-    let certificate = certificate_value(alloc, graph, trees)?;
+    proof.limits_law();
+    let certificate = certificate_value(alloc, graph, proof)?;
     let value = document_value(alloc, bytes)?;
     let mut text = with_certificate(alloc, value, certificate)?.to_string(alloc)?;
     text.push_str("\n")?;
@@ -105,14 +106,13 @@ fn whole_text(
 }
 
 /// The JSON value of the trees as one array.
-fn certificate_value(alloc: Global, graph: &Graph, trees: &[Tree]) -> Result<Value, AllocError>
-    requires ids { list_all (has_ids graph.now.names) trees.now ≡ true }
-    requires limits { All (λ tree. height tree ≤ 6) trees.now }
-    ensures written { IfOk result (λ value.
-        view value ≡ written_trees graph.now.names trees.now) }
-    ensures read { IfOk result (λ _. All (IsRead graph.now.names) trees.now) }
+fn certificate_value(alloc: Global, graph: &Graph, proof: &Proof) -> Result<Value, AllocError>
+    requires { list_all (has_ids graph.now.names) (trees_of proof.now) ≡ true }
+    ensures written { IfOk result (λ value. view value ≡ proof_data graph.now.names proof.now) }
+    ensures read { IfOk result (λ _.
+        All (IsRead (rules_for proof.now) graph.now.names) (trees_of proof.now)) }
 {
-    let text = array_text(alloc, graph, trees)?;
+    let text = array_text(alloc, graph, proof)?;
     match Value::from_str(alloc, text.as_str()) {
         Ok(value) => Ok(value),
         Err(error) if error.is_memory() => Err(AllocError),

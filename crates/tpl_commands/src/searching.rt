@@ -1,26 +1,24 @@
 //! The search for a certificate of a document's claims.
 
-ghost use Rattle.std.specs.Prelude.{◌≡◌, ◌++◌, ◌≤◌, true, Some, codes, IfOk, string_bytes};
+ghost use Rattle.std.specs.Prelude.{◌≡◌, ◌++◌, true, Some, codes, IfOk, string_bytes};
 ghost use Rattle.std.specs.List.{All, list_all};
 ghost use Rattle.serde_json.specs.Read.{read};
 ghost use Rattle.serde_json.specs.Written.{compact_text};
-ghost use Rattle.tpl_cert.specs.Heights.{height};
 ghost use Rattle.tpl_cert.specs.Written.{has_ids};
 ghost use Rattle.tpl_graph.specs.Fits.{Fits};
 ghost use Rattle.tpl_reader.specs.SeenDocument.{doc_of};
-ghost use Rattle.tpl_model.specs.Certificate.{Accepts};
 ghost use Rattle.tpl_commands.specs.Checking.{ClaimsHold};
-ghost use Rattle.tpl_commands.specs.Rules.{is_judged_widely};
-ghost use Rattle.tpl_commands.specs.Searching.{AreFound, IsBackWhereRead, IsOutcome, IsOutcomeText, IsRead, IsSearching, IsSearchOf, written_trees};
+ghost use Rattle.tpl_commands.specs.Proof.{proof_data, rules_for, trees_of, IsRead};
+ghost use Rattle.tpl_commands.specs.Searching.{IsBackWhereRead, IsFoundBy, IsOutcomeText, IsProofOf, IsSearching, IsSearchOf};
 ghost use Rattle.tpl_commands.specs.Texts.{not_found as not_found_line};
 
 use crate::answer::Answer;
 use crate::exit::Exit;
+use crate::proof::{Proof, array_text, find_proof};
 use crate::rules::rules_of;
 use crate::text::not_found;
 use std::alloc::{AllocError, Global};
-use tpl_analyser::{Budget, Depth, Form, Gap, Leaves, RanOut, Watch, analyse_within};
-use tpl_cert::{Certificate, Tree, TreeToFault, trees_text};
+use tpl_analyser::{Budget, Depth, Form, Gap, Leaves, RanOut, Watch};
 use tpl_graph::Graph;
 use tpl_reader::{Document, certificate_is_read_back, one_document};
 
@@ -28,7 +26,7 @@ use tpl_reader::{Document, certificate_is_read_back, one_document};
 #[derive(Drop)]
 pub enum Outcome {
     /// This certificate was found.
-    Certificate(Certificate),
+    Certificate(Proof),
     /// The first claim for which no tree was found, and what ran out before; claims count from 1.
     Missed { claim: usize, ran_out: RanOut },
 }
@@ -38,7 +36,7 @@ pub enum Outcome {
 pub struct Searched {
     /// The most splits on each path.
     pub depth: Depth,
-    /// What the rows are to say.
+    /// What the leaves are to say.
     pub form: Form,
     /// How it ended.
     pub outcome: Outcome,
@@ -57,21 +55,14 @@ pub(crate) fn search<T: Watch>(
     ensures found { IfOk result (IsSearchOf (doc_of document.now)) }
     ensures asked { IfOk result (λ it. (it.depth ≡ depth) × (it.form ≡ form)) }
 {
-    let splits = depth.splits();
+    let (graph, claims) = (&document.graph, &document.claims);
+    let rules = rules_of(document);
     let mut budget = Budget::new(watch, Leaves::USUAL);
-    match analyse_within(
-        alloc,
-        &document.graph,
-        &document.claims,
-        rules_of(document),
-        splits,
-        form,
-        &mut budget,
-    ) {
-        Ok(certificate) => Ok(Searched {
+    match find_proof(alloc, graph, claims, rules, depth, form, &mut budget) {
+        Ok(proof) => Ok(Searched {
             depth,
             form,
-            outcome: Outcome::Certificate(certificate),
+            outcome: Outcome::Certificate(proof),
         }),
         Err(Gap::NotFound { claim }) => {
             let ran_out = budget.ran_out();
@@ -97,20 +88,19 @@ pub(crate) fn missed_answer(alloc: Global, claim: usize) -> Result<Answer, Alloc
 }
 
 /// A certificate that is accepted can be written, the claims hold, and what is written of it is taken back.
-pub(crate) fn found_law(document: &Document, certificate: &Certificate)
-    requires { Accepts (is_judged_widely (doc_of document.now)) document.now.graph.graph
-        document.now.claims.items certificate.now }
-    ensures ids { list_all (has_ids document.now.graph.names) certificate.now ≡ true }
-    ensures limits { All (λ tree. height tree ≤ 6) certificate.now }
+pub(crate) fn found_law(document: &Document, proof: &Proof)
+    requires { IsProofOf (doc_of document.now) proof.now }
+    ensures ids { list_all (has_ids document.now.graph.names) (trees_of proof.now) ≡ true }
     ensures hold { ClaimsHold (doc_of document.now) }
-    ensures back { IsBackWhereRead (doc_of document.now) certificate.now }
+    ensures back { IsBackWhereRead (doc_of document.now) (trees_of proof.now) }
 {
     document.graph.valid_law();
-    tpl_laws::soundness();
-    tpl_laws::plain_is_accepted();
+    tpl_laws::sound_by_rules();
+    tpl_laws::tokens_accept_more();
+    tpl_laws::wider_accepts();
     one_document();
     certificate_is_read_back();
-    certificate.limits_law();
+    proof.limits_law();
 }
 
 /// The certificate that was found, as the answer.
@@ -119,17 +109,17 @@ fn certificate_answer(
     document: &Document,
     depth: Depth,
     form: Form,
-    certificate: &Certificate,
+    proof: &Proof,
 ) -> Result<Answer, AllocError>
-    requires { AreFound depth form (doc_of document.now) certificate.now }
+    requires { IsFoundBy depth form (doc_of document.now) proof.now }
     ensures { IfOk result (λ given.
         IsSearching depth form (doc_of document.now) given.exit (string_bytes given.text)
-        × IsOutcomeText document.now.graph.names (Outcome.Certificate certificate.now)
+        × IsOutcomeText document.now.graph.names (Outcome.Certificate proof.now)
         (string_bytes given.text)) }
 {
     let _ = (depth, form);
-    found_law(document, certificate);
-    let text = certificate_text(alloc, &document.graph, certificate.trees())?;
+    found_law(document, proof);
+    let text = certificate_text(alloc, &document.graph, proof)?;
     Ok(Answer {
         exit: Exit::Success,
         text,
@@ -149,42 +139,25 @@ pub(crate) fn found_answer(
         × IsOutcomeText document.now.graph.names searched.now.outcome (string_bytes given.text)) }
 {
     match &searched.outcome {
-        Outcome::Certificate(certificate) => {
+        Outcome::Certificate(proof) => {
             let (depth, form) = (searched.depth, searched.form);
-            certificate_answer(alloc, document, depth, form, certificate)
+            certificate_answer(alloc, document, depth, form, proof)
         }
         Outcome::Missed { claim, .. } => missed_answer(alloc, *claim),
     }
 }
 
 /// The trees as one array, and a line break.
-fn certificate_text(alloc: Global, graph: &Graph, trees: &[Tree]) -> Result<String, AllocError>
-    requires ids { list_all (has_ids graph.now.names) trees.now ≡ true }
-    requires limits { All (λ tree. height tree ≤ 6) trees.now }
+fn certificate_text(alloc: Global, graph: &Graph, proof: &Proof) -> Result<String, AllocError>
+    requires { list_all (has_ids graph.now.names) (trees_of proof.now) ≡ true }
     ensures written { IfOk result (λ text.
-        string_bytes text ≡ compact_text (written_trees graph.now.names trees.now) ++ codes "\n") }
-    ensures read { IfOk result (λ _. All (IsRead graph.now.names) trees.now) }
-    ensures value { IfOk result (λ _. read (compact_text (written_trees graph.now.names trees.now))
-        ≡ Some (written_trees graph.now.names trees.now)) }
+        string_bytes text ≡ compact_text (proof_data graph.now.names proof.now) ++ codes "\n") }
+    ensures read { IfOk result (λ _.
+        All (IsRead (rules_for proof.now) graph.now.names) (trees_of proof.now)) }
+    ensures value { IfOk result (λ _. read (compact_text (proof_data graph.now.names proof.now))
+        ≡ Some (proof_data graph.now.names proof.now)) }
 {
-    let mut text = array_text(alloc, graph, trees)?;
+    let mut text = array_text(alloc, graph, proof)?;
     text.push_str("\n")?;
     Ok(text)
-}
-
-/// The trees as one array.
-pub(crate) fn array_text(alloc: Global, graph: &Graph, trees: &[Tree]) -> Result<String, AllocError>
-    requires ids { list_all (has_ids graph.now.names) trees.now ≡ true }
-    requires limits { All (λ tree. height tree ≤ 6) trees.now }
-    ensures written { IfOk result (λ text.
-        string_bytes text ≡ compact_text (written_trees graph.now.names trees.now)) }
-    ensures read { IfOk result (λ _. All (IsRead graph.now.names) trees.now) }
-    ensures value { IfOk result (λ text.
-        read (string_bytes text) ≡ Some (written_trees graph.now.names trees.now)) }
-{
-    match trees_text(alloc, graph, trees) {
-        Ok(text) => Ok(text),
-        Err(TreeToFault::Memory) => Err(AllocError),
-        Err(TreeToFault::Unknown) => unreachable!(),
-    }
 }

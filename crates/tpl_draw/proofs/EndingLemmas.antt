@@ -1,5 +1,5 @@
 -- How tasks end by the rows of a certificate.
-use Rattle.std.proofs.Common.{◌≡◌, ℕ, inl, inr, Bool, true, false, Some, List, [], ◌∷◌, map, sym, ap, subst}
+use Rattle.std.proofs.Common.{◌≡◌, ℕ, inl, inr, Bool, true, false, Some, List, [], ◌∷◌, map, refl, sym, ap, subst}
 use Rattle.std.proofs.lemmas.Bool.{or_left, or_right}
 use Rattle.tpl_model.specs.declared.finals.Final.{Final}
 use Rattle.tpl_model.specs.declared.finals.Final.TheVariants.{RanToCompletion, Canceled, Faulted}
@@ -14,7 +14,9 @@ use Rattle.tpl_model.specs.Rules.{final, Run}
 use Rattle.tpl_model.specs.Valid.{IsGraph}
 use Rattle.tpl_model.specs.Claims.{Claim}
 use Rattle.tpl_model.specs.Certificate.{Row, row, Assumed, assumed_for, taken, with_input, with_end, Closed, Tree, SplitInput, SplitEnd, Leaf, AcceptsTree, Accepts}
-use Rattle.tpl_model.specs.WiderRules.{WideRow, plain, WideTree, OnInput, OnEnd, OnWinner, WideLeaf, WidelyAccepts, as_wide, as_wide_tree}
+use Rattle.tpl_model.specs.WiderRules.{WideRow, plain, WideTree, OnInput, OnEnd, OnWinner, WideLeaf, LeastLeaf, as_wide, as_wide_tree}
+use Rattle.tpl_laws.specs.WideTrees.{WidelyAccepts}
+use Rattle.tpl_laws.specs.LeastRows.{ends_where}
 use Rattle.tpl_laws.specs.Soundness.{HasLeaf, RowsAreTrue, SomeLeafAgrees}
 use Rattle.tpl_laws.specs.WiderSoundness.{HasRows, SomeWideLeafIsTrue}
 use Rattle.tpl_laws.proofs.WideLaw.{plain_wide}
@@ -54,6 +56,12 @@ in_second a b RanToCompletion e = or_right a.ran b.ran e
 in_second a b Canceled e = or_right a.canceled b.canceled e
 in_second a b Faulted e = or_right a.faulted b.faulted e
 
+-- each way to end is one of all
+in_each : (f : Final) → has (ends_where (λ g. true)) f ≡ true
+in_each RanToCompletion = refl
+in_each Canceled = refl
+in_each Faulted = refl
+
 -- what a leaf's row says, its tree says
 rows_in_tree : (tree : WideTree) (rows : List WideRow) (t : ℕ) (f : Final) → HasRows tree rows → has (row (plain rows) t).ends f ≡ true → has (tree_ends tree t) f ≡ true
 rows_in_tree (OnInput i a b) rows t f (inl w) e = in_first (tree_ends a t) (tree_ends b t) f (rows_in_tree a rows t f w e)
@@ -69,6 +77,7 @@ rows_in_tree (OnEnd s a b c) rows t f (inr (inr w)) e =
 rows_in_tree (OnWinner n x a b) rows t f (inl w) e = in_first (tree_ends a t) (tree_ends b t) f (rows_in_tree a rows t f w e)
 rows_in_tree (OnWinner n x a b) rows t f (inr w) e = in_second (tree_ends a t) (tree_ends b t) f (rows_in_tree b rows t f w e)
 rows_in_tree (WideLeaf leaf) rows t f w e = subst (λ z. has (row (plain z) t).ends f ≡ true) (sym w) e
+rows_in_tree LeastLeaf rows t f w e = in_each f
 
 -- a task ends as the trees say in the runs of which what may be taken as given for one of the claims is true
 abbrev EndsAre : Bool → TaskGraph → List Claim → List WideTree → Type 0

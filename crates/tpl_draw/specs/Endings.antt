@@ -10,8 +10,9 @@ use Rattle.tpl_model.specs.Rules.{final, Run}
 use Rattle.tpl_model.specs.Valid.{IsGraph}
 use Rattle.tpl_model.specs.Claims.{Claim, IsGiven}
 use Rattle.tpl_model.specs.Certificate.{row, is_wide, taken}
-use Rattle.tpl_model.specs.WiderRules.{plain, WideTree, OnInput, OnEnd, OnWinner, WideLeaf}
+use Rattle.tpl_model.specs.WiderRules.{plain, WideTree, OnInput, OnEnd, OnWinner, WideLeaf, LeastLeaf}
 use Rattle.tpl_laws.specs.ByRules.{AcceptsBy}
+use Rattle.tpl_laws.specs.LeastRows.{ends_where}
 use Rattle.tpl_draw.specs.Below.{below}
 
 -- no way to end
@@ -22,12 +23,13 @@ no_ends = record { ran = false; canceled = false; faulted = false }
 abbrev pub either : Finals → Finals → Finals
 either a b = record { ran = a.ran || b.ran; canceled = a.canceled || b.canceled; faulted = a.faulted || b.faulted }
 
--- how a task may end by the rows of one leaf of the tree or another
+-- how a task may end by the rows of one leaf of the tree or another; a leaf without rows rules nothing out
 abbrev pub tree_ends : WideTree → ℕ → Finals
 tree_ends (OnInput i on_true on_false) t = either (tree_ends on_true t) (tree_ends on_false t)
 tree_ends (OnEnd s ran canceled faulted) t = either (tree_ends ran t) (either (tree_ends canceled t) (tree_ends faulted t))
 tree_ends (OnWinner n x on_yes on_no) t = either (tree_ends on_yes t) (tree_ends on_no t)
 tree_ends (WideLeaf rows) t = (row (plain rows) t).ends
+tree_ends LeastLeaf t = ends_where (λ f. true)
 
 -- how a task may end by one tree or another
 abbrev pub ends : List WideTree → ℕ → Finals

@@ -5,7 +5,7 @@ ghost use Rattle.tpl_model.specs.Certificate.{row};
 ghost use Rattle.tpl_model.specs.WiderRules.{plain};
 ghost use Rattle.tpl_draw.specs.Endings.{endings, ends, tree_ends};
 
-use crate::ending::{either, no_ends};
+use crate::ending::{each_end, either, no_ends};
 use std::alloc::{AllocError, Global};
 use tpl_cert::{WideNode, WideRow, WideTree};
 use tpl_model::Finals;
@@ -21,7 +21,7 @@ fn leaf_ends(rows: &[WideRow], task: usize) -> Finals
     }
 }
 
-/// How a task may end by the rows of one leaf of the tree or another.
+/// How a task may end by the rows of one leaf of the tree or another. A leaf without rows rules nothing out.
 fn tree_ends(tree: &WideTree, task: usize) -> Finals
     ensures { result ≡ tree_ends tree.now task }
 {
@@ -37,6 +37,7 @@ fn tree_ends(tree: &WideTree, task: usize) -> Finals
             either(tree_ends(on_yes, task), tree_ends(on_no, task))
         }
         WideNode::Leaf(rows) => leaf_ends(rows, task),
+        WideNode::Least => each_end(),
     }
 }
 

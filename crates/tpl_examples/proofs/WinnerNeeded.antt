@@ -11,7 +11,9 @@ use Rattle.tpl_model.specs.Recursion.{another}
 use Rattle.tpl_model.specs.declared.ids.TaskId.{TaskId}
 use Rattle.tpl_model.specs.declared.claim.Property.{Property}
 use Rattle.tpl_model.specs.Certificate.{row, IsBelow, child, deeper, may_end}
-use Rattle.tpl_model.specs.WiderRules.{WideRow, plain, begins_with, ends_with, asked_of, wide_view, known_at_start, may_run, ByBody, IsWay, WidelyClosed, WidelyProves, WideAssumed, WideTree, OnInput, OnEnd, OnWinner, WideLeaf, narrowed, end_split, winner_split, AcceptsWideTree, widely_assumed, WidelyAccepts}
+use Rattle.tpl_model.specs.WiderRules.{WideRow, plain, begins_with, ends_with, asked_of, wide_view, known_at_start, may_run, ByBody, IsWay, WidelyClosed, WidelyProves, WideAssumed, WideTree, OnInput, OnEnd, OnWinner, WideLeaf, LeastLeaf, narrowed, end_split, winner_split, widely_assumed}
+use Rattle.tpl_laws.specs.LeastRows.{least_rows}
+use Rattle.tpl_laws.specs.WideTrees.{AcceptsWideTree, WidelyAccepts}
 use Rattle.tpl_laws.specs.WiderTests.{WideLeafIsRight}
 use Rattle.tpl_laws.proofs.Basics.{same_number, final_self}
 use Rattle.tpl_laws.proofs.Settling.{filter_mem}
@@ -36,8 +38,8 @@ accepted right =
     let b = (right races says (narrowed races (winner_split assumes 2 0 false)) (races_rows (runs ran (1 ∷ []) [] []) (1 ∷ [])) g).0 refl in (
       (
         refl,
-        (refl, (tt, tt, tt, (tt, tt, tt, (tt, tt, tt, (tt, tt, tt, (tt, tt, tt, tt))))), (tt, tt, (tt, tt, (tt, tt, (tt, tt, (tt, tt, tt))))), a.0, a.1),
-        (refl, (tt, tt, tt, (tt, tt, tt, (tt, (one, tt), tt, ((one, tt), tt, tt, ((one, tt), tt, tt, tt))))), (tt, tt, (tt, tt, (tt, tt, (tt, tt, (tt, tt, tt))))), b.0, b.1),
+        (refl, (tt, tt, tt, (tt, tt, tt, (tt, tt, tt, (tt, tt, tt, (tt, tt, tt, tt))))), (tt, tt, (tt, tt, (tt, tt, (tt, tt, (tt, tt, tt))))), (a.0, a.1)),
+        (refl, (tt, tt, tt, (tt, tt, tt, (tt, (one, tt), tt, ((one, tt), tt, tt, ((one, tt), tt, tt, tt))))), (tt, tt, (tt, tt, (tt, tt, (tt, tt, (tt, tt, tt))))), (b.0, b.1)),
       ),
       tt,
     )
@@ -171,7 +173,8 @@ not_accepted l (OnEnd t a b c) o none acc =
     (λ e. not_accepted (end_split l t RanToCompletion) a (end_open l t RanToCompletion e o) none.0 acc.1)
     (λ e. not_accepted (end_split l t Faulted) c (end_open l t Faulted e o) none.2 acc.3)
 not_accepted l (OnWinner n x a b) o none acc = absurd none
-not_accepted l (WideLeaf rows) o none acc = proves_not (narrowed races l) rows (narrowed_open l o) acc.3 acc.4
+not_accepted l (WideLeaf rows) o none acc = proves_not (narrowed races l) rows (narrowed_open l o) acc.3.0 acc.3.1
+not_accepted l LeastLeaf o none acc = proves_not (narrowed races l) (least_rows races (narrowed races l) says) (narrowed_open l o) acc.0 acc.1
 
 pub needed : (tree : WideTree) → NoWinners tree → WidelyAccepts races (claim says ∷ []) (tree ∷ []) → ⊥
 needed tree none acc = not_accepted assumes tree (record { first = refl; second = refl; third = refl; given = λ t f. refl; wins = λ n x. refl }) none acc.0

@@ -10,7 +10,8 @@ use Rattle.tpl_model.specs.declared.claim.Given.{Given}
 use Rattle.tpl_model.specs.declared.ids.TaskId.{TaskId}
 use Rattle.tpl_model.specs.declared.claim.Property.{Property}
 use Rattle.tpl_model.specs.Certificate.{Row}
-use Rattle.tpl_model.specs.WiderRules.{WideRow, WideTree, OnInput, OnEnd, OnWinner, WideLeaf, winner_split, WidelyAccepts}
+use Rattle.tpl_model.specs.WiderRules.{WideRow, WideTree, OnInput, OnEnd, OnWinner, WideLeaf, LeastLeaf, winner_split}
+use Rattle.tpl_laws.specs.WideTrees.{WidelyAccepts}
 use Rattle.tpl_laws.specs.Verdict.{LeafFault, Breaks, ProvesNot}
 use Rattle.tpl_laws.specs.WiderTests.{wide_leaf_fault}
 use Rattle.tpl_examples.specs.Words.{root, child, continues, when_all, when_any, with_token, with_options, graph, with_tokens, returns, not_on_faulted, only_on_faulted, ran, faulted, ends_in, begins_after, is_observed, given_quiet, claim}
@@ -57,6 +58,7 @@ NoWinners (OnInput i on_true on_false) = NoWinners on_true × NoWinners on_false
 NoWinners (OnEnd t ran canceled faulted) = NoWinners ran × NoWinners canceled × NoWinners faulted
 NoWinners (OnWinner n x on_yes on_no) = ⊥
 NoWinners (WideLeaf rows) = Unit {0}
+NoWinners LeastLeaf = Unit {0}
 
 -- the first is accepted, and none of the others
 abbrev pub SplitIsNeeded : Type 0

@@ -2,7 +2,7 @@
 use Rattle.std.proofs.Common.{◌≡◌, List, [], ◌∷◌, map, refl, sym, ap, subst, ◌∙◌, false}
 use Rattle.tpl_model.specs.declared.rule_set.RuleSet.TheVariants.{Narrow, Wide}
 use Rattle.tpl_model.specs.Certificate.{Tree, SplitInput, SplitEnd, Leaf, Accepts}
-use Rattle.tpl_model.specs.WiderRules.{WideTree, OnInput, OnEnd, OnWinner, WideLeaf, plain, as_wide_tree}
+use Rattle.tpl_model.specs.WiderRules.{WideTree, OnInput, OnEnd, OnWinner, WideLeaf, LeastLeaf, plain, as_wide_tree}
 use Rattle.tpl_laws.specs.ByRules.{SoundByRules, PlainIsAccepted, PlainIsRefused}
 use Rattle.tpl_laws.specs.Soundness.{Soundness}
 use Rattle.tpl_laws.specs.WiderSoundness.{WideSoundness, TokensAcceptMore}
@@ -15,6 +15,7 @@ without (OnInput i a b) = SplitInput i (without a) (without b)
 without (OnEnd t a b c) = SplitEnd t (without a) (without b) (without c)
 without (OnWinner n x a b) = without a
 without (WideLeaf rows) = Leaf (plain rows)
+without LeastLeaf = Leaf []
 
 without_as_wide : (t : Tree) → without (as_wide_tree t) ≡ t
 without_as_wide (SplitInput i a b) = rw (without_as_wide a, without_as_wide b) refl

@@ -9,7 +9,8 @@ use Rattle.tpl_model.specs.declared.ids.TaskId.{TaskId}
 use Rattle.tpl_model.specs.declared.claim.Property.{Property}
 use Rattle.tpl_model.specs.Claims.{Claim}
 use Rattle.tpl_model.specs.Certificate.{row, IdsOfRows}
-use Rattle.tpl_model.specs.WiderRules.{WideRow, plain, WideAssumed, kind_left, may_run, IsWidelyClosed, narrowed, TokensOfRows, WideTree, OnInput, OnEnd, OnWinner, WideLeaf, input_split, end_split, winner_split, MayHaveWinner, AcceptsWideTree, widely_assumed}
+use Rattle.tpl_model.specs.WiderRules.{WideRow, plain, WideAssumed, kind_left, may_run, IsWidelyClosed, narrowed, TokensOfRows, WideTree, OnInput, OnEnd, OnWinner, WideLeaf, LeastLeaf, input_split, end_split, winner_split, MayHaveWinner, widely_assumed}
+use Rattle.tpl_laws.specs.WideTrees.{AcceptsWideTree}
 use Rattle.tpl_model.specs.declared.fault.Rule.{Rule}
 use Rattle.tpl_model.specs.declared.fault.CertFault.TheVariants.{NotClosed}
 use Rattle.tpl_laws.specs.PathLaws.{PathLaws}
@@ -22,6 +23,7 @@ use Rattle.tpl_laws.specs.WideFaults.{wide_row_rules, WideBranch, wide_leaves_of
 use Rattle.tpl_laws.proofs.Deciding.{same, both3, both4}
 use Rattle.tpl_laws.proofs.FaultsDecided.{below_decided, rows_decided}
 use Rattle.tpl_laws.proofs.WiderDecided.{runs_decided, ends_decided, begin_rule_decided, end_rule_decided, chain_decided, wide_broken_lem, wide_proves_lem}
+use Rattle.tpl_laws.specs.LeastRows.{least_rows}
 use Rattle.tpl_laws.proofs.WideTreesDecided.{tokens_of_rows, winner_decided}
 use Rattle.tpl_laws.proofs.FirstFault.{past_rule_is, breaks_first, LeafTests, leaves_fault, parts_joined, one_leaf, Tests, finds_first, first_names}
 use Rattle.tpl_laws.proofs.OneFault.{one_rule, Keeps, keeps_or_breaks, AreSound, all_joined, all_parted, one_first}
@@ -41,66 +43,70 @@ module _ (g : TaskGraph) (p : Property TaskId) where
   abbrev Passing : WideBranch → Type 0
   Passing b = Passes g (wide_leaf_rules g p b)
 
-  accepted_leaves : (l : WideAssumed) (tree : WideTree) → AcceptsWideTree g p l tree → AllByRecursion Passing (wide_leaves_of g l tree)
+  accepted_leaves : (l : WideAssumed) (tree : WideTree) → AcceptsWideTree g p l tree → AllByRecursion Passing (wide_leaves_of g p l tree)
   accepted_leaves l (OnInput i a b) e =
-      all_joined Passing (wide_leaves_of g (input_split l i true) a) (wide_leaves_of g (input_split l i false) b) (accepted_leaves (input_split l i true) a e.1) (accepted_leaves (input_split l i false) b e.2)
+      all_joined Passing (wide_leaves_of g p (input_split l i true) a) (wide_leaves_of g p (input_split l i false) b) (accepted_leaves (input_split l i true) a e.1) (accepted_leaves (input_split l i false) b e.2)
   accepted_leaves l (OnEnd t a b d) e =
-      all_joined Passing (wide_leaves_of g (end_split l t RanToCompletion) a) (wide_leaves_of g (end_split l t Canceled) b ++ wide_leaves_of g (end_split l t Faulted) d) (accepted_leaves (end_split l t RanToCompletion) a e.1)
-      (all_joined Passing (wide_leaves_of g (end_split l t Canceled) b) (wide_leaves_of g (end_split l t Faulted) d) (accepted_leaves (end_split l t Canceled) b e.2) (accepted_leaves (end_split l t Faulted) d e.3))
+      all_joined Passing (wide_leaves_of g p (end_split l t RanToCompletion) a) (wide_leaves_of g p (end_split l t Canceled) b ++ wide_leaves_of g p (end_split l t Faulted) d) (accepted_leaves (end_split l t RanToCompletion) a e.1)
+      (all_joined Passing (wide_leaves_of g p (end_split l t Canceled) b) (wide_leaves_of g p (end_split l t Faulted) d) (accepted_leaves (end_split l t Canceled) b e.2) (accepted_leaves (end_split l t Faulted) d e.3))
   accepted_leaves l (OnWinner m x a b) e =
-      all_joined Passing (wide_leaves_of g (winner_split l m x true) a) (wide_leaves_of g (winner_split l m x false) b) (accepted_leaves (winner_split l m x true) a e.1) (accepted_leaves (winner_split l m x false) b e.2)
-  accepted_leaves l (WideLeaf rows) e = ((e.3, e.4), tt)
+      all_joined Passing (wide_leaves_of g p (winner_split l m x true) a) (wide_leaves_of g p (winner_split l m x false) b) (accepted_leaves (winner_split l m x true) a e.1) (accepted_leaves (winner_split l m x false) b e.2)
+  accepted_leaves l (WideLeaf rows) e = (e.3, tt)
+  accepted_leaves l LeastLeaf e = (e, tt)
 
-  leaves_accepted : (l : WideAssumed) (tree : WideTree) → HasWideShape g tree → AllByRecursion Passing (wide_leaves_of g l tree) → AcceptsWideTree g p l tree
+  leaves_accepted : (l : WideAssumed) (tree : WideTree) → HasWideShape g tree → AllByRecursion Passing (wide_leaves_of g p l tree) → AcceptsWideTree g p l tree
   leaves_accepted l (OnInput i a b) s e =
-      let q = all_parted Passing (wide_leaves_of g (input_split l i true) a) (wide_leaves_of g (input_split l i false) b) e in
+      let q = all_parted Passing (wide_leaves_of g p (input_split l i true) a) (wide_leaves_of g p (input_split l i false) b) e in
       (s.0, leaves_accepted (input_split l i true) a s.1 q.0, leaves_accepted (input_split l i false) b s.2 q.1)
   leaves_accepted l (OnEnd t a b d) s e =
-      let q = all_parted Passing (wide_leaves_of g (end_split l t RanToCompletion) a) (wide_leaves_of g (end_split l t Canceled) b ++ wide_leaves_of g (end_split l t Faulted) d) e in
-      let w = all_parted Passing (wide_leaves_of g (end_split l t Canceled) b) (wide_leaves_of g (end_split l t Faulted) d) q.1 in
+      let q = all_parted Passing (wide_leaves_of g p (end_split l t RanToCompletion) a) (wide_leaves_of g p (end_split l t Canceled) b ++ wide_leaves_of g p (end_split l t Faulted) d) e in
+      let w = all_parted Passing (wide_leaves_of g p (end_split l t Canceled) b) (wide_leaves_of g p (end_split l t Faulted) d) q.1 in
       (s.0, leaves_accepted (end_split l t RanToCompletion) a s.1 q.0, leaves_accepted (end_split l t Canceled) b s.2 w.0, leaves_accepted (end_split l t Faulted) d s.3 w.1)
   leaves_accepted l (OnWinner m x a b) s e =
-      let q = all_parted Passing (wide_leaves_of g (winner_split l m x true) a) (wide_leaves_of g (winner_split l m x false) b) e in
+      let q = all_parted Passing (wide_leaves_of g p (winner_split l m x true) a) (wide_leaves_of g p (winner_split l m x false) b) e in
       (s.0, leaves_accepted (winner_split l m x true) a s.1 q.0, leaves_accepted (winner_split l m x false) b s.2 q.1)
-  leaves_accepted l (WideLeaf rows) s e = (s.0, s.1, s.2, e.0.0, e.0.1)
+  leaves_accepted l (WideLeaf rows) s e = (s.0, s.1, s.2, e.0)
+  leaves_accepted l LeastLeaf s e = e.0
 
-  count_leaves : (l : WideAssumed) (tree : WideTree) → wide_leaves tree ≡ length (wide_leaves_of g l tree)
+  count_leaves : (l : WideAssumed) (tree : WideTree) → wide_leaves tree ≡ length (wide_leaves_of g p l tree)
   count_leaves l (OnInput i a b) =
       let x = count_leaves (input_split l i true) a in
       let y = count_leaves (input_split l i false) b in
-      let z = length-append (wide_leaves_of g (input_split l i true) a) (wide_leaves_of g (input_split l i false) b) in
+      let z = length-append (wide_leaves_of g p (input_split l i true) a) (wide_leaves_of g p (input_split l i false) b) in
       omega (arith, x, y, z)
   count_leaves l (OnEnd t a b d) =
       let x = count_leaves (end_split l t RanToCompletion) a in
       let y = count_leaves (end_split l t Canceled) b in
       let w = count_leaves (end_split l t Faulted) d in
-      let z = length-append (wide_leaves_of g (end_split l t RanToCompletion) a) (wide_leaves_of g (end_split l t Canceled) b ++ wide_leaves_of g (end_split l t Faulted) d) in
-      let v = length-append (wide_leaves_of g (end_split l t Canceled) b) (wide_leaves_of g (end_split l t Faulted) d) in
+      let z = length-append (wide_leaves_of g p (end_split l t RanToCompletion) a) (wide_leaves_of g p (end_split l t Canceled) b ++ wide_leaves_of g p (end_split l t Faulted) d) in
+      let v = length-append (wide_leaves_of g p (end_split l t Canceled) b) (wide_leaves_of g p (end_split l t Faulted) d) in
       omega (arith, x, y, z, w, v)
   count_leaves l (OnWinner m w a b) =
       let x = count_leaves (winner_split l m w true) a in
       let y = count_leaves (winner_split l m w false) b in
-      let z = length-append (wide_leaves_of g (winner_split l m w true) a) (wide_leaves_of g (winner_split l m w false) b) in
+      let z = length-append (wide_leaves_of g p (winner_split l m w true) a) (wide_leaves_of g p (winner_split l m w false) b) in
       omega (arith, x, y, z)
   count_leaves l (WideLeaf rows) = refl
+  count_leaves l LeastLeaf = refl
 
   abbrev fault_of : WideBranch → Option LeafFault
   fault_of b = wide_leaf_fault g p b.assumes b.rows
 
-  tree_is : (c : ℕ) (l : WideAssumed) (n : ℕ) (tree : WideTree) → wide_tree_fault g p c l n tree ≡ leaves_fault fault_of c n (wide_leaves_of g l tree)
+  tree_is : (c : ℕ) (l : WideAssumed) (n : ℕ) (tree : WideTree) → wide_tree_fault g p c l n tree ≡ leaves_fault fault_of c n (wide_leaves_of g p l tree)
   tree_is c l n (OnInput i a b) =
-      parts_joined fault_of c n (n + wide_leaves a) (wide_leaves_of g (input_split l i true) a) (wide_leaves_of g (input_split l i false) b) (wide_tree_fault g p c (input_split l i true) n a) (wide_tree_fault g p c (input_split l i false) (n + wide_leaves a) b)
+      parts_joined fault_of c n (n + wide_leaves a) (wide_leaves_of g p (input_split l i true) a) (wide_leaves_of g p (input_split l i false) b) (wide_tree_fault g p c (input_split l i true) n a) (wide_tree_fault g p c (input_split l i false) (n + wide_leaves a) b)
       (ap (λ z. n + z) (count_leaves (input_split l i true) a)) (tree_is c (input_split l i true) n a) (tree_is c (input_split l i false) (n + wide_leaves a) b)
   tree_is c l n (OnEnd t a b d) =
-      parts_joined fault_of c n (n + wide_leaves a) (wide_leaves_of g (end_split l t RanToCompletion) a) (wide_leaves_of g (end_split l t Canceled) b ++ wide_leaves_of g (end_split l t Faulted) d) (wide_tree_fault g p c (end_split l t RanToCompletion) n a)
+      parts_joined fault_of c n (n + wide_leaves a) (wide_leaves_of g p (end_split l t RanToCompletion) a) (wide_leaves_of g p (end_split l t Canceled) b ++ wide_leaves_of g p (end_split l t Faulted) d) (wide_tree_fault g p c (end_split l t RanToCompletion) n a)
       (or_else (wide_tree_fault g p c (end_split l t Canceled) (n + wide_leaves a) b) (wide_tree_fault g p c (end_split l t Faulted) (n + wide_leaves a + wide_leaves b) d))
       (ap (λ z. n + z) (count_leaves (end_split l t RanToCompletion) a)) (tree_is c (end_split l t RanToCompletion) n a)
-      (parts_joined fault_of c (n + wide_leaves a) (n + wide_leaves a + wide_leaves b) (wide_leaves_of g (end_split l t Canceled) b) (wide_leaves_of g (end_split l t Faulted) d) (wide_tree_fault g p c (end_split l t Canceled) (n + wide_leaves a) b) (wide_tree_fault g p c (end_split l t Faulted) (n + wide_leaves a + wide_leaves b) d)
+      (parts_joined fault_of c (n + wide_leaves a) (n + wide_leaves a + wide_leaves b) (wide_leaves_of g p (end_split l t Canceled) b) (wide_leaves_of g p (end_split l t Faulted) d) (wide_tree_fault g p c (end_split l t Canceled) (n + wide_leaves a) b) (wide_tree_fault g p c (end_split l t Faulted) (n + wide_leaves a + wide_leaves b) d)
       (ap (λ z. n + wide_leaves a + z) (count_leaves (end_split l t Canceled) b)) (tree_is c (end_split l t Canceled) (n + wide_leaves a) b) (tree_is c (end_split l t Faulted) (n + wide_leaves a + wide_leaves b) d))
   tree_is c l n (OnWinner m x a b) =
-      parts_joined fault_of c n (n + wide_leaves a) (wide_leaves_of g (winner_split l m x true) a) (wide_leaves_of g (winner_split l m x false) b) (wide_tree_fault g p c (winner_split l m x true) n a) (wide_tree_fault g p c (winner_split l m x false) (n + wide_leaves a) b)
+      parts_joined fault_of c n (n + wide_leaves a) (wide_leaves_of g p (winner_split l m x true) a) (wide_leaves_of g p (winner_split l m x false) b) (wide_tree_fault g p c (winner_split l m x true) n a) (wide_tree_fault g p c (winner_split l m x false) (n + wide_leaves a) b)
       (ap (λ z. n + z) (count_leaves (winner_split l m x true) a)) (tree_is c (winner_split l m x true) n a) (tree_is c (winner_split l m x false) (n + wide_leaves a) b)
   tree_is c l n (WideLeaf rows) = one_leaf fault_of c n (record { assumes = narrowed g l; rows = rows })
+  tree_is c l n LeastLeaf = one_leaf fault_of c n (record { assumes = narrowed g l; rows = least_rows g (narrowed g l) p })
 
 module _ (paths : PathLaws) (g : TaskGraph) (valid : IsGraph g) where
   -- shapes
@@ -114,6 +120,7 @@ module _ (paths : PathLaws) (g : TaskGraph) (valid : IsGraph g) where
   shape_decided (WideLeaf rows) =
       both3 (length rows ≡ length g.tasks) (IdsOfRows g (plain rows)) (TokensOfRows g rows) (nat_eq (length rows) (length g.tasks)) (rows_fit g (plain rows)) (tokens_fit g rows)
       (same (length rows) (length g.tasks)) (rows_decided paths g (plain rows)) (tokens_of_rows g rows)
+  shape_decided LeastLeaf = (λ e. tt, λ u. refl)
 
   abbrev leaf_tests : (p : Property TaskId) (b : WideBranch) → LeafTests g (wide_leaf_rules g p b)
   leaf_tests p b = record {

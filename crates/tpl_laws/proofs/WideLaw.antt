@@ -16,7 +16,8 @@ use Rattle.tpl_model.specs.declared.ids.TaskId.{TaskId}
 use Rattle.tpl_model.specs.declared.claim.Property.{Property}
 use Rattle.tpl_model.specs.declared.claim.Property.TheVariants.{Final as EndsIn, After, Observed, Never, Excludes, Runs}
 use Rattle.tpl_model.specs.Certificate.{Row, row, Tree, SplitInput, SplitEnd, Leaf, end_left, is_loud, one_ends, subject_ends, subject_set, view, RunsRule, BodyMayEnd, MayEndAs, BeforeRule, may_end_early, may_end, PastRule, Links, ChainRule, Closed, Proves, IdsOfRows, AcceptsTree}
-use Rattle.tpl_model.specs.WiderRules.{WideRow, plain, wide_row, begins_with, ends_with, once_ended, WideAssumed, with_winners, kind_left, subject_left, wide_view, reading, asked_of, known_at_end, known_at_start, may_run, WideRunsRule, Way, ByBody, RootDropped, ChildDropped, DroppedEarly, DroppedLate, NotAllowed, way_final, MayEndBy, IsWay, HoldsBy, WideEndsRule, BeginRule, EndRule, WideLinks, WideChainRule, WidelyClosed, WidelyProves, TokensOfRows, narrowed, input_split, end_split, AcceptsWideTree, widely_assumed, as_wide, as_wide_tree}
+use Rattle.tpl_model.specs.WiderRules.{WideRow, plain, wide_row, begins_with, ends_with, once_ended, WideAssumed, with_winners, kind_left, subject_left, wide_view, reading, asked_of, known_at_end, known_at_start, may_run, WideRunsRule, Way, ByBody, RootDropped, ChildDropped, DroppedEarly, DroppedLate, NotAllowed, way_final, MayEndBy, IsWay, HoldsBy, WideEndsRule, BeginRule, EndRule, WideLinks, WideChainRule, WidelyClosed, WidelyProves, TokensOfRows, narrowed, input_split, end_split, widely_assumed, as_wide, as_wide_tree}
+use Rattle.tpl_laws.specs.WideTrees.{AcceptsWideTree}
 use Rattle.tpl_laws.specs.Wider.{AssumesMore}
 use Rattle.tpl_laws.proofs.Wider.{KnowsMore, may_end_more, may_throw_more, may_start_more, more_is_assumed_lem}
 use Rattle.tpl_laws.proofs.Destinies.{narrowed_less}
@@ -293,7 +294,7 @@ tree_more g p l (SplitEnd t a b c) acc = (
 tree_more g p l (Leaf rows) acc =
     let n = more_is_assumed_lem g l.assumed (narrowed g l).assumed rows (narrowed_more g l) acc.2 in
     let m = tokens_are_more_lem g (narrowed g l) rows n.0 in
-    (same_length rows ∙ acc.0, subst (IdsOfRows g) (sym (plain_wide rows)) acc.1, no_ids g rows, m.0, m.1 p (n.1 p acc.3))
+    (same_length rows ∙ acc.0, subst (IdsOfRows g) (sym (plain_wide rows)) acc.1, no_ids g rows, (m.0, m.1 p (n.1 p acc.3)))
 
 pub tokens_accept_more_lem : TokensAcceptMore
 tokens_accept_more_lem g [] [] acc = tt

@@ -16,7 +16,9 @@ use Rattle.tpl_model.specs.declared.claim.Property.{Property}
 use Rattle.tpl_model.specs.declared.claim.Property.TheVariants.{Final as EndsIn, After, Observed, Never, Excludes, Runs}
 use Rattle.tpl_model.specs.Claims.{input, Claim, IsGiven}
 use Rattle.tpl_model.specs.Certificate.{same, own_quiet, taken}
-use Rattle.tpl_model.specs.WiderRules.{WideRow, plain, WideAssumed, WideAgrees, WidelyClosed, WidelyProves, WideTree, OnInput, OnEnd, OnWinner, WideLeaf, narrowed, input_split, end_split, winner_split, AcceptsWideTree, widely_assumed}
+use Rattle.tpl_model.specs.WiderRules.{WideRow, plain, WideAssumed, WideAgrees, WidelyClosed, WidelyProves, WideTree, OnInput, OnEnd, OnWinner, WideLeaf, LeastLeaf, narrowed, input_split, end_split, winner_split, widely_assumed}
+use Rattle.tpl_laws.specs.WideTrees.{AcceptsWideTree}
+use Rattle.tpl_laws.specs.LeastRows.{least_rows}
 use Rattle.tpl_laws.specs.WiderSoundness.{HasRows, SomeWideLeafIsTrue, WideRowsAreTrue, WideSoundness}
 use Rattle.tpl_laws.proofs.Basics.{some_none, same_number, final_self}
 use Rattle.tpl_laws.proofs.RowsAreTrue.{Upheld, some_eq}
@@ -143,7 +145,9 @@ module _ (g : TaskGraph) (p : Property TaskId) (v : List Bool) (h : List Event) 
       (λ won. of_branch (OnWinner n x a b) a (λ rows h. inl h) (some_leaf (winner_split l n x true) a (takes_winner l n x true won agrees) bound acc.1))
       (λ won. of_branch (OnWinner n x a b) b (λ rows h. inr h) (some_leaf (winner_split l n x false) b (takes_winner l n x false won agrees) bound acc.2))
   some_leaf l (WideLeaf rows) agrees bound acc =
-      record { assumes = narrowed g l; rows = rows; has = refl; agrees = narrowed_agrees g v h valid run l agrees bound; closed = acc.3; proves = acc.4 }
+      record { assumes = narrowed g l; rows = rows; has = refl; agrees = narrowed_agrees g v h valid run l agrees bound; closed = acc.3.0; proves = acc.3.1 }
+  some_leaf l LeastLeaf agrees bound acc =
+      record { assumes = narrowed g l; rows = least_rows g (narrowed g l) p; has = tt; agrees = narrowed_agrees g v h valid run l agrees bound; closed = acc.0; proves = acc.1 }
 
 a_wide_leaf : (g : TaskGraph) (claim : Claim) (tree : WideTree) (v : List Bool) (h : List Event) → IsGraph g → AcceptsWideTree g claim.body (widely_assumed g claim) tree → Run g v h → IsGiven g v h claim.given → IsGiven g v h (own_quiet g claim.body) → ALeaf g v h claim.body
 a_wide_leaf g claim tree v h valid acc run i q =

@@ -1,6 +1,6 @@
 -- A certificate of rows with tokens has no fault just where it is accepted.
 use Rattle.std.proofs.Common.{◌≡◌, ℕ, suc, ◌+◌, ◌&&◌, true, false, Option, Some, None, Ok, List, [], ◌∷◌, refl, sym, ap, length, nat_eq, nat_lt}
-use Rattle.std.specs.Prelude.{Decides}
+use Rattle.std.specs.Prelude.{◌↔◌, Decides}
 use Rattle.std.proofs.lemmas.Bool.{ltb-true, lt-ltb, and_parts, and_from}
 use Rattle.tpl_model.proofs.Truths.{true_false}
 use Rattle.tpl_model.specs.declared.finals.Final.TheVariants.{RanToCompletion, Canceled, Faulted}
@@ -11,7 +11,9 @@ use Rattle.tpl_model.specs.declared.fault.CertFault.TheVariants.{Shape}
 use Rattle.tpl_model.specs.declared.claim.Property.{Property}
 use Rattle.tpl_model.specs.declared.ids.TaskId.{TaskId}
 use Rattle.tpl_model.specs.Claims.{Claim}
-use Rattle.tpl_model.specs.WiderRules.{WideRow, plain, WideAssumed, WidelyClosed, WidelyProves, narrowed, WideTree, OnInput, OnEnd, OnWinner, WideLeaf, input_split, end_split, winner_split, AllTokens, TokensOfRows, MayHaveWinner, AcceptsWideTree, widely_assumed, WidelyAccepts}
+use Rattle.tpl_model.specs.WiderRules.{WideRow, plain, WideAssumed, WidelyClosed, WidelyProves, narrowed, WideTree, OnInput, OnEnd, OnWinner, WideLeaf, LeastLeaf, input_split, end_split, winner_split, AllTokens, TokensOfRows, MayHaveWinner, widely_assumed}
+use Rattle.tpl_laws.specs.WideTrees.{AcceptsRows, AcceptsWideTree, WidelyAccepts}
+use Rattle.tpl_laws.specs.LeastRows.{least_rows}
 use Rattle.tpl_laws.specs.PathLaws.{PathLaws}
 use Rattle.tpl_laws.specs.Verdict.{or_else, rows_fit, no_fault}
 use Rattle.tpl_laws.specs.WiderTests.{wide_leaf_fault}
@@ -54,6 +56,12 @@ ok_none None e = refl
 ok_none (Some x) e = absurd (cc)
 
 module _ (paths : PathLaws) (g : TaskGraph) (valid : IsGraph g) where
+  -- a leaf without rows has no fault just where the least rows are accepted
+  clear_least : (p : Property TaskId) (c : ℕ) (l : WideAssumed) (n : ℕ) → (wide_tree_fault g p c l n LeastLeaf ≡ None) ↔ AcceptsWideTree g p l LeastLeaf
+  clear_least p c l n =
+      let rows = least_rows g (narrowed g l) p in
+      clear_leaf paths c n (AcceptsRows g p (narrowed g l) rows) (wide_leaf_fault g p (narrowed g l) rows) (wide_leaf_lem paths g p (narrowed g l) rows valid)
+
   -- a tree that fits and has no fault is accepted, and an accepted one fits and has none
   pub wide_tree_accepted : (p : Property TaskId) (c : ℕ) (l : WideAssumed) (n : ℕ) (tree : WideTree) → wide_fits g tree ≡ true → wide_tree_fault g p c l n tree ≡ None → AcceptsWideTree g p l tree
   wide_tree_accepted p c l n (OnInput i a b) f e =
@@ -77,7 +85,8 @@ module _ (paths : PathLaws) (g : TaskGraph) (valid : IsGraph g) where
       let s = and_parts (nat_eq (length rows) (length g.tasks)) (rows_fit g (plain rows) && tokens_fit g rows) f in
       let r = and_parts (rows_fit g (plain rows)) (tokens_fit g rows) s.1 in
       let q = (clear_leaf paths c n (WidelyClosed g (narrowed g l) rows × WidelyProves g (narrowed g l) rows p) (wide_leaf_fault g p (narrowed g l) rows) (wide_leaf_lem paths g p (narrowed g l) rows valid)).0 e in
-      ((same (length rows) (length g.tasks)).0 s.0, (rows_decided paths g (plain rows)).0 r.0, (tokens_of_rows g rows).0 r.1, q.0, q.1)
+      ((same (length rows) (length g.tasks)).0 s.0, (rows_decided paths g (plain rows)).0 r.0, (tokens_of_rows g rows).0 r.1, q)
+  wide_tree_accepted p c l n LeastLeaf f e = (clear_least p c l n).0 e
 
   pub wide_accepted_fits : (p : Property TaskId) (l : WideAssumed) (tree : WideTree) → AcceptsWideTree g p l tree → wide_fits g tree ≡ true
   wide_accepted_fits p l (OnInput i a b) e =
@@ -93,6 +102,7 @@ module _ (paths : PathLaws) (g : TaskGraph) (valid : IsGraph g) where
   wide_accepted_fits p l (WideLeaf rows) e =
       and_from (nat_eq (length rows) (length g.tasks)) (rows_fit g (plain rows) && tokens_fit g rows) ((same (length rows) (length g.tasks)).1 e.0)
       (and_from (rows_fit g (plain rows)) (tokens_fit g rows) ((rows_decided paths g (plain rows)).1 e.1) ((tokens_of_rows g rows).1 e.2))
+  wide_accepted_fits p l LeastLeaf e = refl
 
   pub wide_accepted_clear : (p : Property TaskId) (c : ℕ) (l : WideAssumed) (n : ℕ) (tree : WideTree) → AcceptsWideTree g p l tree → wide_tree_fault g p c l n tree ≡ None
   wide_accepted_clear p c l n (OnInput i a b) e =
@@ -103,7 +113,8 @@ module _ (paths : PathLaws) (g : TaskGraph) (valid : IsGraph g) where
   wide_accepted_clear p c l n (OnWinner m x a b) e =
       no_two (wide_tree_fault g p c (winner_split l m x true) n a) (wide_tree_fault g p c (winner_split l m x false) (n + wide_leaves a) b) (wide_accepted_clear p c (winner_split l m x true) n a e.1) (wide_accepted_clear p c (winner_split l m x false) (n + wide_leaves a) b e.2)
   wide_accepted_clear p c l n (WideLeaf rows) e =
-      (clear_leaf paths c n (WidelyClosed g (narrowed g l) rows × WidelyProves g (narrowed g l) rows p) (wide_leaf_fault g p (narrowed g l) rows) (wide_leaf_lem paths g p (narrowed g l) rows valid)).1 (e.3, e.4)
+      (clear_leaf paths c n (WidelyClosed g (narrowed g l) rows × WidelyProves g (narrowed g l) rows p) (wide_leaf_fault g p (narrowed g l) rows) (wide_leaf_lem paths g p (narrowed g l) rows valid)).1 e.3
+  wide_accepted_clear p c l n LeastLeaf e = (clear_least p c l n).1 e
 
   -- a certificate
   all_accepted : (n m : ℕ) (claims : List Claim) (trees : List WideTree) → wide_misfit g n claims trees ≡ None → wide_claims_fault g m claims trees ≡ None → WidelyAccepts g claims trees

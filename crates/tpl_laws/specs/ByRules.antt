@@ -9,7 +9,8 @@ use Rattle.tpl_model.specs.Rules.{Run}
 use Rattle.tpl_model.specs.Valid.{IsGraph}
 use Rattle.tpl_model.specs.Claims.{Claim, Holds}
 use Rattle.tpl_model.specs.Certificate.{Tree, Accepts, is_wide}
-use Rattle.tpl_model.specs.WiderRules.{WideTree, WidelyAccepts, as_wide_tree}
+use Rattle.tpl_model.specs.WiderRules.{WideTree, as_wide_tree}
+use Rattle.tpl_laws.specs.WideTrees.{WidelyAccepts}
 use Rattle.tpl_laws.specs.Faults.{IsFirstFault}
 use Rattle.tpl_laws.specs.Soundness.{Each}
 use Rattle.tpl_laws.specs.WideFaults.{IsFirstWideFault}

@@ -12,6 +12,8 @@ pub mod Faults
 pub mod Wider
 pub mod WiderSoundness
 pub mod WiderTests
+pub mod LeastRows
+pub mod WideTrees
 pub mod WideVerdict
 pub mod WideFaults
 pub mod ByRules

@@ -8,10 +8,12 @@ use Rattle.tpl_model.specs.declared.ids.TaskId.{TaskId}
 use Rattle.tpl_model.specs.declared.claim.Property.{Property}
 use Rattle.tpl_model.specs.Claims.{Claim}
 use Rattle.tpl_model.specs.Certificate.{row, IdsOfRows}
-use Rattle.tpl_model.specs.WiderRules.{WideRow, plain, begins_with, ends_with, WideAssumed, kind_left, may_run, WideRunsRule, WideEndsRule, BeginRule, EndRule, WideChainRule, IsWidelyClosed, WidelyProves, narrowed, TokensOfRows, WideTree, OnInput, OnEnd, OnWinner, WideLeaf, input_split, end_split, winner_split, MayHaveWinner, AcceptsWideTree, widely_assumed}
+use Rattle.tpl_model.specs.WiderRules.{WideRow, plain, begins_with, ends_with, WideAssumed, kind_left, may_run, WideRunsRule, WideEndsRule, BeginRule, EndRule, WideChainRule, IsWidelyClosed, WidelyProves, narrowed, TokensOfRows, WideTree, OnInput, OnEnd, OnWinner, WideLeaf, LeastLeaf, input_split, end_split, winner_split, MayHaveWinner, widely_assumed}
+use Rattle.tpl_laws.specs.WideTrees.{AcceptsWideTree}
 use Rattle.tpl_model.specs.declared.fault.Rule.{Rule}
 use Rattle.tpl_model.specs.declared.fault.CertFault.{CertFault}
 use Rattle.tpl_laws.specs.Verdict.{past_rule}
+use Rattle.tpl_laws.specs.LeastRows.{least_rows}
 use Rattle.tpl_laws.specs.WideVerdict.{wide_verdict}
 use Rattle.tpl_laws.specs.FirstFault.{RowRules, BreaksFirst, LeafRules, Certificates, IsFirst}
 
@@ -35,14 +37,15 @@ pub record WideBranch : Type 0 where
   pub assumes : WideAssumed
   pub rows : List WideRow
 
--- the leaves of a tree under what is assumed above it, in order
-abbrev pub wide_leaves_of : TaskGraph → WideAssumed → WideTree → List WideBranch
-wide_leaves_of g l (OnInput i on_true on_false) = wide_leaves_of g (input_split l i true) on_true ++ wide_leaves_of g (input_split l i false) on_false
-wide_leaves_of g l (OnEnd t ran canceled faulted) =
-    wide_leaves_of g (end_split l t RanToCompletion) ran
-    ++ (wide_leaves_of g (end_split l t Canceled) canceled ++ wide_leaves_of g (end_split l t Faulted) faulted)
-wide_leaves_of g l (OnWinner n x on_yes on_no) = wide_leaves_of g (winner_split l n x true) on_yes ++ wide_leaves_of g (winner_split l n x false) on_no
-wide_leaves_of g l (WideLeaf rows) = record { assumes = narrowed g l; rows = rows } ∷ []
+-- the leaves of a property's tree under what is assumed above it, in order; one without rows has the least ones
+abbrev pub wide_leaves_of : TaskGraph → Property TaskId → WideAssumed → WideTree → List WideBranch
+wide_leaves_of g p l (OnInput i on_true on_false) = wide_leaves_of g p (input_split l i true) on_true ++ wide_leaves_of g p (input_split l i false) on_false
+wide_leaves_of g p l (OnEnd t ran canceled faulted) =
+    wide_leaves_of g p (end_split l t RanToCompletion) ran
+    ++ (wide_leaves_of g p (end_split l t Canceled) canceled ++ wide_leaves_of g p (end_split l t Faulted) faulted)
+wide_leaves_of g p l (OnWinner n x on_yes on_no) = wide_leaves_of g p (winner_split l n x true) on_yes ++ wide_leaves_of g p (winner_split l n x false) on_no
+wide_leaves_of g p l (WideLeaf rows) = record { assumes = narrowed g l; rows = rows } ∷ []
+wide_leaves_of g p l LeastLeaf = record { assumes = narrowed g l; rows = least_rows g (narrowed g l) p } ∷ []
 
 -- what is asked of a leaf for a claim
 abbrev pub wide_leaf_rules : TaskGraph → Property TaskId → WideBranch → LeafRules
@@ -54,6 +57,7 @@ HasWideShape g (OnInput i on_true on_false) = (i < g.inputs) × HasWideShape g o
 HasWideShape g (OnEnd t ran canceled faulted) = is_task g t × HasWideShape g ran × HasWideShape g canceled × HasWideShape g faulted
 HasWideShape g (OnWinner n x on_yes on_no) = MayHaveWinner (kind g n) x × HasWideShape g on_yes × HasWideShape g on_no
 HasWideShape g (WideLeaf rows) = (length rows ≡ length g.tasks) × IdsOfRows g (plain rows) × TokensOfRows g rows
+HasWideShape g LeastLeaf = Unit {0}
 
 -- certificates of such trees
 abbrev pub wide_certificates : TaskGraph → Certificates
@@ -61,7 +65,7 @@ wide_certificates g = record {
   Tree = WideTree;
   Branch = WideBranch;
   HasShape = HasWideShape g;
-  leaves_for = λ claim tree. wide_leaves_of g (widely_assumed g claim) tree;
+  leaves_for = λ claim tree. wide_leaves_of g claim.body (widely_assumed g claim) tree;
   rules = wide_leaf_rules g;
   Accepts = λ claim tree. AcceptsWideTree g claim.body (widely_assumed g claim) tree;
 }

@@ -11,11 +11,13 @@ use Rattle.tpl_model.specs.declared.fault.CertFault.TheVariants.{Shape}
 use Rattle.tpl_model.specs.declared.claim.Property.{Property}
 use Rattle.tpl_model.specs.declared.ids.TaskId.{TaskId}
 use Rattle.tpl_model.specs.Claims.{Claim, Holds}
-use Rattle.tpl_model.specs.WiderRules.{WideRow, plain, WideAssumed, narrowed, WideTree, OnInput, OnEnd, OnWinner, WideLeaf, input_split, end_split, winner_split, AcceptsWideTree, widely_assumed, WidelyAccepts}
+use Rattle.tpl_model.specs.WiderRules.{WideRow, plain, WideAssumed, narrowed, WideTree, OnInput, OnEnd, OnWinner, WideLeaf, LeastLeaf, input_split, end_split, winner_split, widely_assumed}
+use Rattle.tpl_laws.specs.WideTrees.{AcceptsWideTree, WidelyAccepts}
 use Rattle.tpl_laws.specs.RowTests.{all_in}
 use Rattle.tpl_laws.specs.Soundness.{Each}
 use Rattle.tpl_laws.specs.Verdict.{or_else, unless, at_leaf, rows_fit, no_fault}
 use Rattle.tpl_laws.specs.WiderTests.{wide_leaf_fault}
+use Rattle.tpl_laws.specs.LeastRows.{least_rows}
 
 -- how many leaves a tree has
 abbrev pub wide_leaves : WideTree → ℕ
@@ -23,6 +25,7 @@ wide_leaves (OnInput i on_true on_false) = wide_leaves on_true + wide_leaves on_
 wide_leaves (OnEnd t ran canceled faulted) = wide_leaves ran + wide_leaves canceled + wide_leaves faulted
 wide_leaves (OnWinner n x on_yes on_no) = wide_leaves on_yes + wide_leaves on_no
 wide_leaves (WideLeaf rows) = 1
+wide_leaves LeastLeaf = 1
 
 -- the first leaf that fails, where the ends that its splits left are narrowed; the tree's first leaf has this number
 abbrev pub wide_tree_fault : TaskGraph → Property TaskId → ℕ → WideAssumed → ℕ → WideTree → Option CertFault
@@ -35,6 +38,7 @@ wide_tree_fault g p claim l leaf (OnEnd t ran canceled faulted) =
 wide_tree_fault g p claim l leaf (OnWinner n x on_yes on_no) =
     or_else (wide_tree_fault g p claim (winner_split l n x true) leaf on_yes) (wide_tree_fault g p claim (winner_split l n x false) (leaf + wide_leaves on_yes) on_no)
 wide_tree_fault g p claim l leaf (WideLeaf rows) = at_leaf claim leaf (wide_leaf_fault g p (narrowed g l) rows)
+wide_tree_fault g p claim l leaf LeastLeaf = at_leaf claim leaf (wide_leaf_fault g p (narrowed g l) (least_rows g (narrowed g l) p))
 
 -- the first claim whose tree fails; the first claim of the list has this number
 abbrev pub wide_claims_fault : TaskGraph → ℕ → List Claim → List WideTree → Option CertFault
@@ -62,6 +66,7 @@ wide_fits g (OnInput i on_true on_false) = nat_lt i g.inputs && (wide_fits g on_
 wide_fits g (OnEnd t ran canceled faulted) = nat_lt t (length g.tasks) && (wide_fits g ran && (wide_fits g canceled && wide_fits g faulted))
 wide_fits g (OnWinner n x on_yes on_no) = may_have_winner (kind g n) x && (wide_fits g on_yes && wide_fits g on_no)
 wide_fits g (WideLeaf rows) = nat_eq (length rows) (length g.tasks) && (rows_fit g (plain rows) && tokens_fit g rows)
+wide_fits g LeastLeaf = true
 
 -- the first claim without a tree that fits, or tree without a claim
 abbrev pub wide_misfit : TaskGraph → ℕ → List Claim → List WideTree → Option CertFault

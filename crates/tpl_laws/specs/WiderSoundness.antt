@@ -13,7 +13,8 @@ use Rattle.tpl_model.specs.declared.ids.TaskId.{TaskId}
 use Rattle.tpl_model.specs.declared.claim.Property.{Property}
 use Rattle.tpl_model.specs.Claims.{Claim, IsGiven, Holds}
 use Rattle.tpl_model.specs.Certificate.{Row, row, Tree, Closed, Proves, Accepts, taken}
-use Rattle.tpl_model.specs.WiderRules.{WideRow, plain, begins_with, ends_with, WideAssumed, WideAgrees, may_run, WidelyClosed, WidelyProves, WideTree, OnInput, OnEnd, OnWinner, WideLeaf, AcceptsWideTree, widely_assumed, WidelyAccepts, as_wide, as_wide_tree}
+use Rattle.tpl_model.specs.WiderRules.{WideRow, plain, begins_with, ends_with, WideAssumed, WideAgrees, may_run, WidelyClosed, WidelyProves, WideTree, OnInput, OnEnd, OnWinner, WideLeaf, LeastLeaf, widely_assumed, as_wide, as_wide_tree}
+use Rattle.tpl_laws.specs.WideTrees.{AcceptsWideTree, WidelyAccepts}
 use Rattle.tpl_laws.specs.Soundness.{Each}
 
 -- a fact holds in a run so far
@@ -57,12 +58,13 @@ abbrev pub TokensAcceptMore : Type 0
 TokensAcceptMore =
     (g : TaskGraph) (claims : List Claim) (trees : List Tree) → Accepts true g claims trees → WidelyAccepts g claims (map as_wide_tree trees)
 
--- the rows are those of a leaf of the tree
+-- the rows are those of a leaf of the tree; a leaf without rows may have any
 abbrev pub HasRows : WideTree → List WideRow → Type 0
 HasRows (OnInput i on_true on_false) rows = HasRows on_true rows ⊎ HasRows on_false rows
 HasRows (OnEnd t ran canceled faulted) rows = HasRows ran rows ⊎ HasRows canceled rows ⊎ HasRows faulted rows
 HasRows (OnWinner n x on_yes on_no) rows = HasRows on_yes rows ⊎ HasRows on_no rows
 HasRows (WideLeaf leaf) rows = leaf ≡ rows
+HasRows LeastLeaf rows = Unit {0}
 
 -- what the rows of some leaf of an accepted tree say is true of each run of which what may be taken as given for the claim is true
 abbrev pub SomeWideLeafIsTrue : Type 0

@@ -1,4 +1,4 @@
--- The wider rules for rows that speak of tokens too, and when a certificate of such rows is accepted.
+-- The wider rules for rows that speak of tokens too, and the trees of such rows.
 use Rattle.std.specs.Prelude.{◌≡◌, ℕ, zero, suc, ◌<◌, ◌&&◌, ◌||◌, ◌⊎◌, not, Bool, true, false, if◌then◌else◌, Option, Some, None, List, [], ◌∷◌, map, filter, length, nat_eq, slice_index_or}
 use Rattle.tpl_model.specs.declared.finals.Final.{Final}
 use Rattle.tpl_model.specs.declared.finals.Final.TheVariants.{RanToCompletion, Canceled, Faulted}
@@ -289,12 +289,13 @@ TokensOfRows g [] = Unit {0}
 TokensOfRows g (r ∷ rows) = AllTokens g r.asked × AllTokens g r.asks × TokensOfRows g rows
 
 -- a tree: splits on an input, on how a task ends or on whether an argument wins a WhenAny task, and leaves with a row
--- for each task
+-- for each task, or without rows, which has the least ones
 pub data WideTree : Type 0 where
   OnInput : (input : ℕ) → (on_true : WideTree) → (on_false : WideTree) → WideTree
   OnEnd : (task : ℕ) → (ran : WideTree) → (canceled : WideTree) → (faulted : WideTree) → WideTree
   OnWinner : (task : ℕ) → (argument : ℕ) → (on_yes : WideTree) → (on_no : WideTree) → WideTree
   WideLeaf : (rows : List WideRow) → WideTree
+  LeastLeaf : WideTree
 
 -- on a branch of a split on an input, on how t ends, and on whether x wins n
 abbrev pub input_split : WideAssumed → ℕ → Bool → WideAssumed
@@ -311,30 +312,9 @@ abbrev pub MayHaveWinner : TaskKind → ℕ → Type 0
 MayHaveWinner (WhenAny args) x = mem x args ≡ true
 MayHaveWinner kind x = ⊥
 
--- each leaf of the tree is closed and proves the claim, where the ends that its splits left are narrowed
-abbrev pub AcceptsWideTree : TaskGraph → Property TaskId → WideAssumed → WideTree → Type 0
-AcceptsWideTree g p l (OnInput i on_true on_false) =
-    (i < g.inputs) × AcceptsWideTree g p (input_split l i true) on_true × AcceptsWideTree g p (input_split l i false) on_false
-AcceptsWideTree g p l (OnEnd t ran canceled faulted) =
-    is_task g t
-    × AcceptsWideTree g p (end_split l t RanToCompletion) ran
-    × AcceptsWideTree g p (end_split l t Canceled) canceled
-    × AcceptsWideTree g p (end_split l t Faulted) faulted
-AcceptsWideTree g p l (OnWinner n x on_yes on_no) =
-    MayHaveWinner (kind g n) x × AcceptsWideTree g p (winner_split l n x true) on_yes × AcceptsWideTree g p (winner_split l n x false) on_no
-AcceptsWideTree g p l (WideLeaf rows) =
-    (length rows ≡ length g.tasks) × IdsOfRows g (plain rows) × TokensOfRows g rows × WidelyClosed g (narrowed g l) rows × WidelyProves g (narrowed g l) rows p
-
 -- what a certificate of such rows assumes for a claim, before its splits: each argument may win
 abbrev pub widely_assumed : TaskGraph → Claim → WideAssumed
 widely_assumed g claim = record { assumed = assumed_for true g claim; wins = λ n x. true }
-
--- a certificate of such rows has one tree for each claim, and each is accepted
-abbrev pub WidelyAccepts : TaskGraph → List Claim → List WideTree → Type 0
-WidelyAccepts g [] [] = Unit {0}
-WidelyAccepts g (claim ∷ claims) (tree ∷ trees) = AcceptsWideTree g claim.body (widely_assumed g claim) tree × WidelyAccepts g claims trees
-WidelyAccepts g [] (tree ∷ trees) = ⊥
-WidelyAccepts g (claim ∷ claims) [] = ⊥
 
 -- rows that say nothing of tokens
 abbrev pub as_wide : List Row → List WideRow

@@ -27,7 +27,7 @@ use Rattle.tpl_reader.specs.declared.fault.ReadFault.TheVariants as faults
 
 -- ---- with ids in place of names
 
--- a document; before version 3 its certificate says nothing of tokens and of winners
+-- a document; before version 3 its certificate says nothing of tokens and of winners, and has rows in each leaf
 pub record DocumentValue : Type 0 where
   pub version : Version
   pub graph : Named

@@ -10,8 +10,8 @@ pub fn one_document()
     ensures faultless { SpelledHasNoFault }
 {}
 
-/// What is written for trees that are read back can be the member `certificate` of any document that isn't too long
-/// then: it is read as just these trees, and all else as before.
+/// What is written by a document's rules for trees that are read back can be its member `certificate`, where it isn't
+/// too long then: it is read as just these trees, and all else as before.
 pub fn certificate_is_read_back()
     ensures { CertificateIsReadBack }
 {}

@@ -3,11 +3,12 @@
 ghost use Rattle.std.specs.Prelude.{◌≡◌};
 ghost use Rattle.tpl_reasons.specs.Reasons.{check_reason, yes_reason};
 
-use crate::leaves::{Parts, row_text, tree_count};
+use crate::leaves::{Parts, Rows, row_text, tree_count};
 use crate::reason::Reason;
 use crate::rules::rule_text;
 use crate::words::{Said, claim_text, count_text, name};
 use std::alloc::Global;
+use tpl_graph::Graph;
 use tpl_model::{CertFault, Property, TaskId};
 use tpl_reader::Document;
 
@@ -45,9 +46,10 @@ fn rows_text(alloc: Global, document: &Document, claim: usize) -> Said {
     let graph = &document.graph;
     let parts = Parts::of(alloc, document, claim)?;
     for (before, rows) in parts.leaves().iter().enumerate() {
-        if rows.len() != graph.len() {
+        let count = rows.count().unwrap_or(graph.len());
+        if count != graph.len() {
             let leaf = before.saturating_add(1);
-            let rows = count_text(alloc, rows.len(), "row")?;
+            let rows = count_text(alloc, count, "row")?;
             let tasks = count_text(alloc, graph.len(), "task")?;
             return format!(in alloc;
                 "claim {claim}, leaf {leaf} has {rows} for {tasks}; a leaf has one row for each task, in declared order\n"
@@ -110,25 +112,45 @@ fn proved_if(property: Property) -> &'static str {
     }
 }
 
+/// What the rows of a leaf say of the tasks of which the property speaks.
+fn rows_said(alloc: Global, graph: &Graph, rows: Rows<'_>, property: Property) -> Said {
+    let (one, other) = tasks_of(property);
+    let first = row_text(alloc, graph, rows, one)?;
+    if one == other {
+        return Ok(first);
+    }
+    let second = row_text(alloc, graph, rows, other)?;
+    format!(in alloc; "{first}{second}")
+}
+
+/// How the leaf keeps the rules.
+fn kept(rows: Rows<'_>) -> &'static str {
+    match rows {
+        Rows::Least => "leaves its rows out: the least ones don't prove it",
+        _ => "keeps the rules",
+    }
+}
+
 /// Why a leaf doesn't prove its claim.
 fn unproved_text(alloc: Global, document: &Document, claim: usize, leaf: usize) -> Said {
-    let graph = &document.graph;
     let number = claim_text(alloc, document, claim)?;
     let Some(asked) = document.claims.get(claim.saturating_sub(1)) else {
         return Ok(number);
     };
     let rows = Parts::of(alloc, document, claim)?.leaf(leaf);
-    let (one, other) = tasks_of(asked.body());
-    let first = row_text(alloc, graph, rows, one)?;
-    let second = if one == other {
-        String::new(alloc)
-    } else {
-        row_text(alloc, graph, rows, other)?
-    };
-    let proved = proved_if(asked.body());
+    let (kept, proved) = (kept(rows), proved_if(asked.body()));
+    let said = rows_said(alloc, &document.graph, rows, asked.body())?;
     format!(in alloc;
-        "{number} isn't proved by leaf {leaf}, which keeps the rules; it is proved where {proved}\n{first}{second}"
+        "{number} isn't proved by leaf {leaf}, which {kept}; it is proved where {proved}\n{said}"
     )
+}
+
+/// Whose rows they are, where the leaf doesn't have them.
+fn whose(rows: Rows<'_>) -> &'static str {
+    match rows {
+        Rows::Least => " by the least rows",
+        _ => "",
+    }
 }
 
 /// The fault of a certificate.
@@ -146,8 +168,9 @@ fn refusal_text(alloc: Global, document: &Document, fault: CertFault) -> Said {
             let number = claim_text(alloc, document, claim)?;
             let rule = rule_text(alloc, document, rule, task)?;
             let rows = Parts::of(alloc, document, claim)?.leaf(leaf);
+            let whose = whose(rows);
             let row = row_text(alloc, graph, rows, task)?;
-            format!(in alloc; "{number}, leaf {leaf}: {rule}\n{row}")
+            format!(in alloc; "{number}, leaf {leaf}{whose}: {rule}\n{row}")
         }
     }
 }

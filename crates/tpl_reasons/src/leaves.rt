@@ -8,11 +8,12 @@ use tpl_graph::{Graph, Role};
 use tpl_model::{RuleSet, TaskId};
 use tpl_reader::Document;
 
-/// The rows of a leaf; since version 3 they speak of tokens too.
+/// The rows of a leaf; since version 3 they speak of tokens too, or are left out.
 #[derive(Clone, Copy)]
 pub(crate) enum Rows<'d> {
     Plain(&'d [Row]),
     Wide(&'d [WideRow]),
+    Least,
 }
 
 /// What stands in a tree: the leaves in their order, and its splits on winners.
@@ -23,11 +24,12 @@ pub(crate) struct Parts<'d> {
 }
 
 impl<'d> Rows<'d> {
-    /// How many there are.
-    pub(crate) fn len(self) -> usize {
+    /// How many there are; none where they are left out.
+    pub(crate) fn count(self) -> Option<usize> {
         match self {
-            Rows::Plain(rows) => rows.len(),
-            Rows::Wide(rows) => rows.len(),
+            Rows::Plain(rows) => Some(rows.len()),
+            Rows::Wide(rows) => Some(rows.len()),
+            Rows::Least => None,
         }
     }
 
@@ -39,6 +41,7 @@ impl<'d> Rows<'d> {
                 Some(row) => Some(row.row()),
                 None => None,
             },
+            Rows::Least => None,
         }
     }
 
@@ -92,6 +95,7 @@ fn add_wide<'d>(parts: &mut Parts<'d>, tree: &'d WideTree) -> Result<(), AllocEr
             add_wide(parts, on_no)
         }
         WideNode::Leaf(rows) => Ok(parts.leaves.push(Rows::Wide(rows.as_slice()))?),
+        WideNode::Least => Ok(parts.leaves.push(Rows::Least)?),
     }
 }
 

@@ -10,9 +10,9 @@ use crate::obstacle::obstacle_words;
 use crate::reason::Reason;
 use crate::words::{Said, claim_text, count_text};
 use std::alloc::{AllocError, Global};
-use tpl_analyser::{Budget, Depth, Form, Gap, Leaves, RanOut, Unwatched, analyse_within};
+use tpl_analyser::{Budget, Depth, Form, Gap, Leaves, RanOut, Unwatched};
 use tpl_cert::MOST_SPLITS;
-use tpl_commands::{Outcome, Searched, rules_of};
+use tpl_commands::{Outcome, Searched, find_proof, rules_of};
 use tpl_graph::{Claim, Graph};
 use tpl_model::RuleSet;
 use tpl_reader::Document;
@@ -27,7 +27,7 @@ pub(crate) fn search_reason(document: &Document, searched: &Searched) -> Option<
     }
 }
 
-/// A certificate of the claim at this place alone is found.
+/// A certificate of the claim at this place alone is found by the rules.
 fn is_found(
     alloc: Global,
     graph: &Graph,
@@ -39,19 +39,12 @@ fn is_found(
     requires at { at < length claims.now }
     requires claims { All (Fits graph.now.graph) claims.now }
 {
+    let alone = &claims[at..at + 1];
     let mut budget = Budget::new(Unwatched, Leaves::USUAL);
-    match analyse_within(
-        alloc,
-        graph,
-        &claims[at..at + 1],
-        rules,
-        depth.splits(),
-        Form::Slim,
-        &mut budget,
-    ) {
+    match find_proof(alloc, graph, alone, rules, depth, Form::Slim, &mut budget) {
         Err(Gap::NotFound { .. }) => Ok(false),
         Err(Gap::Memory) => Err(AllocError),
-        Ok(_certificate) => Ok(true),
+        Ok(_proof) => Ok(true),
     }
 }
 

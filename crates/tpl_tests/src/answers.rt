@@ -8,9 +8,9 @@ use crate::graphs::{graph_answer, readers_answer, same_answer};
 use crate::lengths::lengths_answer;
 use crate::scripts::script_answer;
 use crate::sets::sets_answer;
-use crate::wide::wide_answer;
 use crate::words::words_answer;
 use std::alloc::{AllocError, Global};
+use tpl_model::RuleSet;
 use tpl_reader::{Document, read_document};
 
 /// What is answered to a question of this kind.
@@ -57,8 +57,8 @@ fn answer_about(
         "answers" => readers_answer(alloc, &document.graph),
         "same" => same_answer(alloc, &document.graph, question),
         "script" => script_answer(alloc, &document.graph, question),
-        "tree" => tree_answer(alloc, &document.graph, question),
-        "wide" => wide_answer(alloc, &document.graph, question),
+        "tree" => tree_answer(alloc, &document.graph, RuleSet::Narrow, question),
+        "wide" => tree_answer(alloc, &document.graph, RuleSet::Wide, question),
         "claims" => claims_answer(alloc, document),
         "lengths" => lengths_answer(alloc, document, question),
         _ => String::from_str(alloc, "no kind of question"),

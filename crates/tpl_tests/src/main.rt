@@ -18,7 +18,6 @@ mod names;
 mod scripts;
 mod sets;
 mod tell;
-mod wide;
 mod words;
 
 use crate::answers::answer;

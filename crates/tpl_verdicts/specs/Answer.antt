@@ -7,7 +7,7 @@ use Rattle.tpl_reader.specs.Document.{DocumentValue}
 use Rattle.tpl_commands.specs.declared.exit.Exit.{Exit}
 use Rattle.tpl_commands.specs.declared.exit.Exit.TheVariants.{Success, Failure}
 use Rattle.tpl_commands.specs.Documents.{Tells, ToDocument}
-use Rattle.tpl_commands.specs.Rules.{is_judged_widely}
+use Rattle.tpl_commands.specs.Rules.{rules_of}
 use Rattle.tpl_commands.specs.Responding.{Answers}
 use Rattle.tpl_verify.specs.declared.verdict.Verdict.{Verdict}
 use Rattle.tpl_verify.specs.Verdicts.{HoldsAlways, HoldsFully, IsVerdict}
@@ -33,7 +33,7 @@ IsStyled Junit names verdicts text = IsJunit verdicts text
 -- each run.
 pub record IsVerified (style : Style) (doc : DocumentValue) (exit : Exit) (text : List ℕ) : Type 0 where
   pub verdicts : List Verdict
-  pub true_of : AllZip (IsVerdict (is_judged_widely doc) doc.graph.graph) doc.claims verdicts
+  pub true_of : AllZip (IsVerdict (rules_of doc) doc.graph.graph) doc.claims verdicts
   pub ends : IsExit verdicts exit
   pub sound : exit ≡ Success → All (HoldsAlways doc.graph.graph) doc.claims
   pub says : IsStyled style doc.graph.names verdicts text

@@ -7,7 +7,7 @@ ghost use Rattle.tpl_journal.specs.Counting.{calls_of};
 ghost use Rattle.tpl_reader.specs.SeenDocument.{doc_of};
 ghost use Rattle.tpl_commands.specs.Exit.{is_verdict};
 ghost use Rattle.tpl_commands.specs.Finding.{IsAnswer, IsFindingOf};
-ghost use Rattle.tpl_commands.specs.Rules.{is_judged_widely};
+ghost use Rattle.tpl_commands.specs.Rules.{rules_of};
 ghost use Rattle.tpl_commands.specs.Responding.{longest, Responds};
 ghost use Rattle.tpl_verify.specs.Verdicts.{AreVerdicts, HoldsAlways, IsVerdict};
 ghost use Rattle.tpl_verdicts.specs.Answer.{IsExit, IsStyled, IsVerified, Verified, Verifies};
@@ -75,7 +75,7 @@ fn answer_of(
     verdicts: &[Verdict],
 ) -> Result<Answer, AllocError>
     requires claims { All (Fits document.now.graph.graph) document.now.claims.items }
-    requires verdicts { AllZip (IsVerdict (is_judged_widely (doc_of document.now))
+    requires verdicts { AllZip (IsVerdict (rules_of (doc_of document.now))
         document.now.graph.graph) document.now.claims.items verdicts.now }
     ensures { IfOk result (λ given.
         IsVerified style (doc_of document.now) given.exit (string_bytes given.text)) }

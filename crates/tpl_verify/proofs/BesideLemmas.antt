@@ -1,7 +1,8 @@
 -- Verdicts by their places.
-use Rattle.std.proofs.Common.{◌≡◌, ℕ, zero, suc, ◌<◌, Bool, Option, Some, None, List, [], ◌∷◌, length, map, refl, ap, arith}
+use Rattle.std.proofs.Common.{◌≡◌, ℕ, zero, suc, ◌<◌, Option, Some, None, List, [], ◌∷◌, length, map, refl, ap, arith}
 use Rattle.std.specs.Prelude.{slice_get, slice_index_or}
 use Rattle.std.specs.List.{AllZip}
+use Rattle.tpl_model.specs.declared.rule_set.RuleSet.{RuleSet}
 use Rattle.tpl_model.specs.Graph.{TaskGraph}
 use Rattle.tpl_model.specs.Claims.{Claim}
 use Rattle.tpl_verify.specs.declared.verdict.Verdict.{Verdict}
@@ -9,13 +10,13 @@ use Rattle.tpl_verify.specs.Verdicts.{IsVerdict}
 use Rattle.tpl_verify.specs.Beside.{IsVerdictAt}
 
 -- the verdicts at all places are those on all claims
-pub zip_places : (wide : Bool) (g : TaskGraph) (claims : List Claim) (verdicts : List Verdict) → length verdicts ≡ length claims → ((i : ℕ) (verdict : Verdict) → slice_get verdicts i ≡ Some verdict → IsVerdictAt wide g claims i verdict) → AllZip (IsVerdict wide g) claims verdicts
-zip_places wide g [] [] len each = tt
-zip_places wide g [] (v ∷ verdicts) len each = absurd (omega arith)
-zip_places wide g (claim ∷ claims) [] len each = absurd (omega arith)
-zip_places wide g (claim ∷ claims) (v ∷ verdicts) len each = (
+pub zip_places : (rules : RuleSet) (g : TaskGraph) (claims : List Claim) (verdicts : List Verdict) → length verdicts ≡ length claims → ((i : ℕ) (verdict : Verdict) → slice_get verdicts i ≡ Some verdict → IsVerdictAt rules g claims i verdict) → AllZip (IsVerdict rules g) claims verdicts
+zip_places rules g [] [] len each = tt
+zip_places rules g [] (v ∷ verdicts) len each = absurd (omega arith)
+zip_places rules g (claim ∷ claims) [] len each = absurd (omega arith)
+zip_places rules g (claim ∷ claims) (v ∷ verdicts) len each = (
   each 0 v refl claim refl,
-  zip_places wide g claims verdicts (omega arith) (λ i verdict e. each (suc i) verdict e),
+  zip_places rules g claims verdicts (omega arith) (λ i verdict e. each (suc i) verdict e),
 )
 
 pub same_length : (verdicts : List Verdict) (places : List (Option Verdict)) → places ≡ map (λ v. Some v) verdicts → length places ≡ length verdicts

@@ -1,5 +1,5 @@
 -- From what is certified to what is answered.
-use Rattle.std.proofs.Common.{◌≡◌, ℕ, ◌+◌, ◌<◌, ◌++◌, Bool, true, false, is_some, Option, Some, None, List, [], ◌∷◌, length, take, subst, sym, refl}
+use Rattle.std.proofs.Common.{◌≡◌, ℕ, ◌+◌, ◌<◌, ◌++◌, Bool, true, false, is_some, Option, Some, None, List, [], ◌∷◌, length, map, take, subst, sym, refl, arith}
 use Rattle.std.specs.Prelude.{slice_index_or}
 use Rattle.std.specs.List.{All, AllByRecursion, AllZip}
 use Rattle.tpl_model.specs.declared.ids.TaskId.{TaskId}
@@ -17,9 +17,13 @@ use Rattle.tpl_model.specs.Facts.{Ending, ending, started, final_in}
 use Rattle.tpl_model.specs.Rules.{to_end}
 use Rattle.tpl_model.specs.Valid.{IsGraph}
 use Rattle.tpl_model.specs.Claims.{Claim}
+use Rattle.tpl_model.specs.declared.rule_set.RuleSet.{RuleSet}
+use Rattle.tpl_model.specs.declared.rule_set.RuleSet.TheVariants.{Narrow, Wide}
 use Rattle.tpl_model.specs.Certificate.{Tree, Accepts}
-use Rattle.tpl_cert.specs.Heights.{height}
-use Rattle.tpl_laws.specs.Soundness.{Soundness}
+use Rattle.tpl_model.specs.WiderRules.{WideTree, as_wide_tree}
+use Rattle.tpl_laws.specs.ByRules.{AcceptsBy, SoundByRules}
+use Rattle.tpl_laws.specs.WideTrees.{WidelyAccepts}
+use Rattle.tpl_cert.specs.WideHeights.{wide_height}
 use Rattle.tpl_verify.specs.declared.verdict.Verdict.{Verdict}
 use Rattle.tpl_verify.specs.declared.verdict.Verdict.TheVariants as verdict
 use Rattle.std.proofs.lemmas.List.{take_more}
@@ -27,22 +31,36 @@ use Rattle.std.proofs.lemmas.List.Elements.{recursion_from_All, All-from_recursi
 use Rattle.tpl_verify.specs.Verdicts.{HoldsAlways, IsCertified, under, IsNeverKept, IsVerdict, HoldsFully}
 
 -- an accepted certificate of one claim has one tree
-one_tree-of : (wide : Bool) (g : TaskGraph) (claim : Claim) (trees : List Tree) → Accepts wide g (claim ∷ []) trees → length trees ≡ 1
-one_tree-of wide g claim [] accepted = absurd accepted
-one_tree-of wide g claim (tree ∷ []) accepted = refl
-one_tree-of wide g claim (tree ∷ other ∷ rest) accepted = absurd accepted.1
+one_plain : (g : TaskGraph) (claim : Claim) (trees : List Tree) → Accepts false g (claim ∷ []) trees → length (map as_wide_tree trees) ≡ 1
+one_plain g claim [] accepted = absurd accepted
+one_plain g claim (tree ∷ []) accepted = refl
+one_plain g claim (tree ∷ other ∷ rest) accepted = absurd accepted.1
 
-only : (wide : Bool) (g : TaskGraph) (claim : Claim) (trees : List Tree) (n : ℕ) → Accepts wide g (claim ∷ []) trees → ((tree : Tree) → trees ≡ tree ∷ [] → n ≡ height tree) → IsCertified wide g claim n
-only wide g claim [] n accepted splits = absurd accepted
-only wide g claim (tree ∷ []) n accepted splits = record { tree = tree; accepted = accepted; splits = sym (splits tree refl) }
-only wide g claim (tree ∷ other ∷ rest) n accepted splits = absurd accepted.1
+one_wide : (g : TaskGraph) (claim : Claim) (trees : List WideTree) → WidelyAccepts g (claim ∷ []) trees → length trees ≡ 1
+one_wide g claim [] accepted = absurd accepted
+one_wide g claim (tree ∷ []) accepted = refl
+one_wide g claim (tree ∷ other ∷ rest) accepted = absurd accepted.1
 
-pub certified : (wide : Bool) (g : TaskGraph) (claim : Claim) (claims : List Claim) (trees : List Tree) (n : ℕ) → claims ≡ claim ∷ [] → Accepts wide g claims trees → ((tree : Tree) → trees ≡ tree ∷ [] → n ≡ height tree) → IsCertified wide g claim n
-certified wide g claim claims trees n e accepted splits =
-    only wide g claim trees n (subst (λ (z : List Claim). Accepts wide g z trees) e accepted) splits
+one_tree-of : (rules : RuleSet) (g : TaskGraph) (claim : Claim) (trees : List WideTree) → AcceptsBy rules g (claim ∷ []) trees → length trees ≡ 1
+one_tree-of Narrow g claim trees accepted = subst (λ (ts : List WideTree). length ts ≡ 1) (sym accepted.1) (one_plain g claim accepted.0 accepted.2)
+one_tree-of Wide g claim trees accepted = one_wide g claim trees accepted
 
-pub one_tree : (wide : Bool) (g : TaskGraph) (claim : Claim) (claims : List Claim) (trees : List Tree) → claims ≡ claim ∷ [] → Accepts wide g claims trees → length trees ≡ 1
-one_tree wide g claim claims trees e accepted = one_tree-of wide g claim trees (subst (λ (z : List Claim). Accepts wide g z trees) e accepted)
+only : (rules : RuleSet) (g : TaskGraph) (claim : Claim) (trees : List WideTree) (n : ℕ) → length trees ≡ 1 → AcceptsBy rules g (claim ∷ []) trees → ((tree : WideTree) → trees ≡ tree ∷ [] → n ≡ wide_height tree) → IsCertified rules g claim n
+only rules g claim [] n one accepted splits = absurd (omega arith)
+only rules g claim (tree ∷ []) n one accepted splits = record { tree = tree; accepted = accepted; splits = sym (splits tree refl) }
+only rules g claim (tree ∷ other ∷ rest) n one accepted splits = absurd (omega arith)
+
+-- what is accepted for a list of one claim is accepted for the claim
+for_one : (rules : RuleSet) (g : TaskGraph) (claim : Claim) (claims : List Claim) (trees : List WideTree) → claims ≡ claim ∷ [] → AcceptsBy rules g claims trees → AcceptsBy rules g (claim ∷ []) trees
+for_one rules g claim claims trees e accepted = subst (λ (z : List Claim). AcceptsBy rules g z trees) e accepted
+
+pub certified : (rules : RuleSet) (g : TaskGraph) (claim : Claim) (claims : List Claim) (trees : List WideTree) (n : ℕ) → claims ≡ claim ∷ [] → AcceptsBy rules g claims trees → ((tree : WideTree) → trees ≡ tree ∷ [] → n ≡ wide_height tree) → IsCertified rules g claim n
+certified rules g claim claims trees n e accepted splits =
+    let one = for_one rules g claim claims trees e accepted in
+    only rules g claim trees n (one_tree-of rules g claim trees one) one splits
+
+pub one_tree : (rules : RuleSet) (g : TaskGraph) (claim : Claim) (claims : List Claim) (trees : List WideTree) → claims ≡ claim ∷ [] → AcceptsBy rules g claims trees → length trees ≡ 1
+one_tree rules g claim claims trees e accepted = one_tree-of rules g claim trees (for_one rules g claim claims trees e accepted)
 
 -- the same under the same given
 pub likewise : (g : TaskGraph) (other : Claim) (given : List Given) (body : Property TaskId) → other.given ≡ given → other.body ≡ body → HoldsAlways g other → HoldsAlways g (under given body)
@@ -50,9 +68,8 @@ likewise g other given body e f always =
     subst (λ (x : List Given). HoldsAlways g (under x body)) e (subst (λ (p : Property TaskId). HoldsAlways g (under other.given p)) f always)
 
 -- its claim holds in each run
-pub always : (wide : Bool) (g : TaskGraph) (claim : Claim) (claims : List Claim) (trees : List Tree) → Soundness → IsGraph g → claims ≡ claim ∷ [] → Accepts wide g claims trees → HoldsAlways g claim
-always wide g claim claims trees sound is e accepted v h run =
-    (sound wide g (claim ∷ []) trees is (subst (λ (z : List Claim). Accepts wide g z trees) e accepted) v h run).0
+pub always : (rules : RuleSet) (g : TaskGraph) (claim : Claim) (claims : List Claim) (trees : List WideTree) → SoundByRules → IsGraph g → claims ≡ claim ∷ [] → AcceptsBy rules g claims trees → HoldsAlways g claim
+always rules g claim claims trees sound is e accepted v h run = (sound rules g (claim ∷ []) trees is (for_one rules g claim claims trees e accepted) v h run).0
 
 -- no end
 abbrev pub no_end : Finals
@@ -88,24 +105,24 @@ zip_snoc R (a ∷ xs) [] x y all one = absurd all
 zip_snoc R (a ∷ xs) (b ∷ ys) x y all one = (all.0, zip_snoc R xs ys x y all.1 one)
 
 -- the verdicts on one claim more
-pub verdict_more : (wide : Bool) (g : TaskGraph) (claims : List Claim) (verdicts more : List Verdict) (i : ℕ) (claim : Claim) (v : Verdict) → i < length claims → claim ≡ slice_index_or claims i claim → AllZip (IsVerdict wide g) (take i claims) verdicts → IsVerdict wide g claim v → more ≡ verdicts ++ v ∷ [] → AllZip (IsVerdict wide g) (take (i + 1) claims) more
-verdict_more wide g claims verdicts more i claim v lt is so_far one pushed =
-    subst (λ (z : List Verdict). AllZip (IsVerdict wide g) (take (i + 1) claims) z) (sym pushed)
-    (subst (λ (z : List Claim). AllZip (IsVerdict wide g) z (verdicts ++ v ∷ [])) (sym (take_more claims i claim lt))
-    (zip_snoc (IsVerdict wide g) (take i claims) verdicts (slice_index_or claims i claim) v so_far (subst (λ (z : Claim). IsVerdict wide g z v) is one)))
+pub verdict_more : (rules : RuleSet) (g : TaskGraph) (claims : List Claim) (verdicts more : List Verdict) (i : ℕ) (claim : Claim) (v : Verdict) → i < length claims → claim ≡ slice_index_or claims i claim → AllZip (IsVerdict rules g) (take i claims) verdicts → IsVerdict rules g claim v → more ≡ verdicts ++ v ∷ [] → AllZip (IsVerdict rules g) (take (i + 1) claims) more
+verdict_more rules g claims verdicts more i claim v lt is so_far one pushed =
+    subst (λ (z : List Verdict). AllZip (IsVerdict rules g) (take (i + 1) claims) z) (sym pushed)
+    (subst (λ (z : List Claim). AllZip (IsVerdict rules g) z (verdicts ++ v ∷ [])) (sym (take_more claims i claim lt))
+    (zip_snoc (IsVerdict rules g) (take i claims) verdicts (slice_index_or claims i claim) v so_far (subst (λ (z : Claim). IsVerdict rules g z v) is one)))
 
 -- a claim whose verdict says that it holds does so
-held_always : (wide : Bool) (g : TaskGraph) (claim : Claim) (v : Verdict) → IsVerdict wide g claim v → HoldsFully v → HoldsAlways g claim
-held_always wide g claim (verdict.Holds splits empty) is holds = is.always
-held_always wide g claim (verdict.Fails run) is holds = absurd holds
-held_always wide g claim (verdict.Unknown tried) is holds = absurd holds
+held_always : (rules : RuleSet) (g : TaskGraph) (claim : Claim) (v : Verdict) → IsVerdict rules g claim v → HoldsFully v → HoldsAlways g claim
+held_always rules g claim (verdict.Holds splits empty) is holds = is.always
+held_always rules g claim (verdict.Fails run) is holds = absurd holds
+held_always rules g claim (verdict.Unknown tried) is holds = absurd holds
 
-each_held : (wide : Bool) (g : TaskGraph) (claims : List Claim) (verdicts : List Verdict) → AllZip (IsVerdict wide g) claims verdicts → AllByRecursion HoldsFully verdicts → AllByRecursion (HoldsAlways g) claims
-each_held wide g [] [] is holds = tt
-each_held wide g [] (v ∷ verdicts) is holds = absurd is
-each_held wide g (claim ∷ claims) [] is holds = absurd is
-each_held wide g (claim ∷ claims) (v ∷ verdicts) is holds = (held_always wide g claim v is.0 holds.0, each_held wide g claims verdicts is.1 holds.1)
+each_held : (rules : RuleSet) (g : TaskGraph) (claims : List Claim) (verdicts : List Verdict) → AllZip (IsVerdict rules g) claims verdicts → AllByRecursion HoldsFully verdicts → AllByRecursion (HoldsAlways g) claims
+each_held rules g [] [] is holds = tt
+each_held rules g [] (v ∷ verdicts) is holds = absurd is
+each_held rules g (claim ∷ claims) [] is holds = absurd is
+each_held rules g (claim ∷ claims) (v ∷ verdicts) is holds = (held_always rules g claim v is.0 holds.0, each_held rules g claims verdicts is.1 holds.1)
 
-pub all_held : (wide : Bool) (g : TaskGraph) (claims : List Claim) (verdicts : List Verdict) → AllZip (IsVerdict wide g) claims verdicts → All HoldsFully verdicts → All (HoldsAlways g) claims
-all_held wide g claims verdicts is holds =
-    All-from_recursion (HoldsAlways g) claims (each_held wide g claims verdicts is (recursion_from_All HoldsFully verdicts holds))
+pub all_held : (rules : RuleSet) (g : TaskGraph) (claims : List Claim) (verdicts : List Verdict) → AllZip (IsVerdict rules g) claims verdicts → All HoldsFully verdicts → All (HoldsAlways g) claims
+all_held rules g claims verdicts is holds =
+    All-from_recursion (HoldsAlways g) claims (each_held rules g claims verdicts is (recursion_from_All HoldsFully verdicts holds))

@@ -12,8 +12,11 @@ use Rattle.tpl_model.specs.declared.claim.Property.TheVariants.{Final as EndsIn,
 use Rattle.tpl_model.specs.Graph.{TaskGraph, body, task}
 use Rattle.tpl_model.specs.Rules.{Run, Complete, label}
 use Rattle.tpl_model.specs.Claims.{Claim, IsGiven, Holds}
-use Rattle.tpl_model.specs.Certificate.{Tree, Accepts, assumed}
-use Rattle.tpl_cert.specs.Heights.{height}
+use Rattle.tpl_model.specs.declared.rule_set.RuleSet.{RuleSet}
+use Rattle.tpl_model.specs.Certificate.{assumed, is_wide}
+use Rattle.tpl_model.specs.WiderRules.{WideTree}
+use Rattle.tpl_laws.specs.ByRules.{AcceptsBy}
+use Rattle.tpl_cert.specs.WideHeights.{wide_height}
 use Rattle.tpl_refute.specs.Refuting.{Refutes}
 use Rattle.tpl_verify.specs.declared.verdict.Empty.{Empty}
 use Rattle.tpl_verify.specs.declared.verdict.Empty.TheVariants.{NeverBegins, NamesAllEnds, NeverThrows, NeverKept}
@@ -24,11 +27,11 @@ use Rattle.tpl_verify.specs.declared.verdict.Verdict.TheVariants as verdict
 abbrev pub HoldsAlways : TaskGraph → Claim → Type 0
 HoldsAlways g claim = (v : List Bool) (h : List Event) → Run g v h → Holds g claim v h
 
--- a tree with n splits above its deepest leaf is accepted for the claim, by the wider rules or the others
-pub record IsCertified (wide : Bool) (g : TaskGraph) (claim : Claim) (n : ℕ) : Type 0 where
-  pub tree : Tree
-  pub accepted : Accepts wide g (claim ∷ []) (tree ∷ [])
-  pub splits : height tree ≡ n
+-- a tree with n splits above its deepest leaf is accepted for the claim by the rules
+pub record IsCertified (rules : RuleSet) (g : TaskGraph) (claim : Claim) (n : ℕ) : Type 0 where
+  pub tree : WideTree
+  pub accepted : AcceptsBy rules g (claim ∷ []) (tree ∷ [])
+  pub splits : wide_height tree ≡ n
 
 -- a claim of another property under the same given
 abbrev pub under : List Given → Property TaskId → Claim
@@ -92,31 +95,31 @@ IsEmpty g claim NeverKept = IsNeverKept g claim.given
 
 -- the claim holds always, by a certificate with this many splits; where it is said to say nothing, it does, and where
 -- that is plain, it is said
-pub record IsHeld (wide : Bool) (g : TaskGraph) (claim : Claim) (splits : ℕ) (why : Option Empty) : Type 0 where
+pub record IsHeld (rules : RuleSet) (g : TaskGraph) (claim : Claim) (splits : ℕ) (why : Option Empty) : Type 0 where
   pub always : HoldsAlways g claim
-  pub certified : IsCertified wide g claim splits
+  pub certified : IsCertified rules g claim splits
   pub empty : IfSome why (IsEmpty g claim)
-  pub plain : IsPlainlyEmpty wide g claim → IsTrue (is_some why)
+  pub plain : IsPlainlyEmpty (is_wide rules) g claim → IsTrue (is_some why)
 
 -- a true verdict on a claim of which it isn't asked whether it says nothing
-abbrev pub IsJudged : Bool → TaskGraph → Claim → Verdict → Type 0
-IsJudged wide g claim (verdict.Holds splits empty) = HoldsAlways g claim × IsCertified wide g claim splits
-IsJudged wide g claim (verdict.Fails run) = Refutes g claim run.inputs run.events.items
-IsJudged wide g claim (verdict.Unknown tried) = Unit {0}
+abbrev pub IsJudged : RuleSet → TaskGraph → Claim → Verdict → Type 0
+IsJudged rules g claim (verdict.Holds splits empty) = HoldsAlways g claim × IsCertified rules g claim splits
+IsJudged rules g claim (verdict.Fails run) = Refutes g claim run.inputs run.events.items
+IsJudged rules g claim (verdict.Unknown tried) = Unit {0}
 
 -- a true verdict on a claim
-abbrev pub IsVerdict : Bool → TaskGraph → Claim → Verdict → Type 0
-IsVerdict wide g claim (verdict.Holds splits empty) = IsHeld wide g claim splits empty
-IsVerdict wide g claim (verdict.Fails run) = Refutes g claim run.inputs run.events.items
-IsVerdict wide g claim (verdict.Unknown tried) = Unit {0}
+abbrev pub IsVerdict : RuleSet → TaskGraph → Claim → Verdict → Type 0
+IsVerdict rules g claim (verdict.Holds splits empty) = IsHeld rules g claim splits empty
+IsVerdict rules g claim (verdict.Fails run) = Refutes g claim run.inputs run.events.items
+IsVerdict rules g claim (verdict.Unknown tried) = Unit {0}
 
--- a true verdict on a claim, by the wider rules or the others
+-- a true verdict on a claim, by some rules
 abbrev pub IsSomeVerdict : TaskGraph → Claim → Verdict → Type 0
-IsSomeVerdict g claim verdict = (wide : Bool) × IsVerdict wide g claim verdict
+IsSomeVerdict g claim verdict = (rules : RuleSet) × IsVerdict rules g claim verdict
 
 -- true verdicts on the claims, all by the same rules
 abbrev pub AreVerdicts : TaskGraph → List Claim → List Verdict → Type 0
-AreVerdicts g claims verdicts = (wide : Bool) × AllZip (IsVerdict wide g) claims verdicts
+AreVerdicts g claims verdicts = (rules : RuleSet) × AllZip (IsVerdict rules g) claims verdicts
 
 -- the claim holds, and nothing says that it is empty
 abbrev pub HoldsFully : Verdict → Type 0

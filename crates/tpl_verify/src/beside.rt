@@ -3,7 +3,6 @@
 ghost use Rattle.std.specs.Prelude.{◌≡◌, ◌<◌, ℕ, length, map, IfOk, IfSome, Some, None, slice_get, slice_index_or};
 ghost use Rattle.std.specs.List.{All, AllZip};
 ghost use Rattle.tpl_graph.specs.Fits.{Fits};
-ghost use Rattle.tpl_model.specs.Certificate.{is_wide};
 ghost use Rattle.tpl_verify.specs.declared.verdict.Verdict.{Verdict};
 ghost use Rattle.tpl_verify.specs.Verdicts.{IsVerdict};
 ghost use Rattle.tpl_verify.specs.Beside.{IsVerdictAt};
@@ -30,7 +29,7 @@ fn verdict_at<A: Attend>(
 ) -> Option<Verdict>
     requires claims { All (Fits graph.now.graph) claims.now }
     requires at { at < length claims.now }
-    ensures { IfSome result (IsVerdictAt (is_wide rules) graph.now.graph claims.now at) }
+    ensures { IfSome result (IsVerdictAt rules graph.now.graph claims.now at) }
 {
     let number = at as u64 + 1;
     match verify_claim(alloc, graph, &claims[at], rules, number, limits) {
@@ -150,11 +149,11 @@ pub fn verify_beside<R: Threads + Sync, A: Attend + Sync>(
     requires claims { All (Fits graph.now.graph) claims.now }
     requires jobs { 0 < jobs }
     ensures { IfOk result (λ verdicts.
-        AllZip (IsVerdict (is_wide rules) graph.now.graph) claims.now verdicts.items) }
+        AllZip (IsVerdict rules graph.now.graph) claims.now verdicts.items) }
 {
     let answer = |at: usize| -> Option<Verdict>
         requires { All (Fits graph.now.graph) claims.now × (at < length claims.now) }
-        ensures { IfSome result (IsVerdictAt (is_wide rules) graph.entry.now.graph claims.entry.now at) }
+        ensures { IfSome result (IsVerdictAt rules graph.entry.now.graph claims.entry.now at) }
     { verdict_at(alloc, graph, claims, rules, limits, attend, at) };
     let verdicts = answers(rt, alloc, claims.len(), jobs, &answer)?;
     Ok(verdicts)

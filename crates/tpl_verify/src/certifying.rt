@@ -1,23 +1,25 @@
 //! The search for a certificate of one claim.
 
 ghost use Rattle.std.specs.Prelude.{◌≡◌, ◌≤◌, ◌∷◌, [], length, IfOk, IsTrue};
-ghost use Rattle.tpl_model.specs.Certificate.{Tree, is_wide};
-ghost use Rattle.tpl_cert.specs.Heights.{height};
+ghost use Rattle.tpl_model.specs.WiderRules.{WideTree, as_wide_tree};
+ghost use Rattle.tpl_cert.specs.WideHeights.{wide_height};
 ghost use Rattle.tpl_graph.specs.Fits.{Fits};
+ghost use Rattle.tpl_commands.specs.Proof.{trees_of};
 ghost use Rattle.tpl_verify.specs.Verdicts.{HoldsAlways, IsCertified, under};
 
 use crate::limits::FEW_LEAVES;
 use std::alloc::{AllocError, Global};
 use std::slice;
-use tpl_analyser::{Budget, Depth, Form, Gap, Unwatched, analyse_within};
-use tpl_cert::{Certificate, Node, Tree};
+use tpl_analyser::{Budget, Depth, Form, Gap, Unwatched};
+use tpl_cert::{Node, Tree, WideNode, WideTree};
+use tpl_commands::{Proof, find_proof};
 use tpl_graph::{Claim, Graph};
 use tpl_model::{Property, RuleSet};
 
 /// How many splits the tree has above its deepest leaf.
 fn splits_of(tree: &Tree) -> u8
-    requires { height tree.now ≤ 6 }
-    ensures { result ≡ height tree.now }
+    requires { wide_height (as_wide_tree tree.now) ≤ 6 }
+    ensures { result ≡ wide_height (as_wide_tree tree.now) }
 {
     match tree.node() {
         Node::SplitInput(_, first, second) => splits_of(first).max(splits_of(second)) + 1,
@@ -28,17 +30,37 @@ fn splits_of(tree: &Tree) -> u8
     }
 }
 
-/// How many splits the only tree of a certificate has above its deepest leaf.
-fn splits_in(certificate: &Certificate) -> u8
-    requires { length certificate.now ≡ 1 }
-    ensures { (tree : Tree) → certificate.now ≡ tree ∷ [] → result ≡ height tree }
+/// The same of a tree that may speak of tokens and of winners.
+fn wide_splits_of(tree: &WideTree) -> u8
+    requires { wide_height tree.now ≤ 6 }
+    ensures { result ≡ wide_height tree.now }
 {
-    certificate.limits_law();
-    let trees = certificate.trees();
-    splits_of(&trees[0])
+    match tree.node() {
+        WideNode::SplitInput(_, first, second) | WideNode::SplitWinner(_, _, first, second) => {
+            wide_splits_of(first).max(wide_splits_of(second)) + 1
+        }
+        WideNode::SplitEnd(_, ran, canceled, faulted) => {
+            let others = wide_splits_of(canceled).max(wide_splits_of(faulted));
+            wide_splits_of(ran).max(others) + 1
+        }
+        WideNode::Leaf(_) | WideNode::Least => 0,
+    }
 }
 
-/// Searches a certificate of the claim within this budget, and says how many splits it has above its deepest leaf.
+/// How many splits the only tree of a certificate has above its deepest leaf.
+fn splits_in(proof: &Proof) -> u8
+    requires { length (trees_of proof.now) ≡ 1 }
+    ensures { (tree : WideTree) → trees_of proof.now ≡ tree ∷ [] → result ≡ wide_height tree }
+{
+    proof.limits_law();
+    match proof {
+        Proof::Plain(certificate) => splits_of(&certificate.trees()[0]),
+        Proof::Wide(certificate) => wide_splits_of(&certificate.trees()[0]),
+    }
+}
+
+/// Searches a certificate of the claim by the rules within this budget, and says how many splits it has above its deepest
+/// leaf.
 /// `NotFound` doesn't say that the claim is false. `Memory` says that an allocation was refused.
 pub(crate) fn certify(
     alloc: Global,
@@ -49,15 +71,14 @@ pub(crate) fn certify(
     budget: &mut Budget<Unwatched>,
 ) -> Result<u8, Gap>
     requires { Fits graph.now.graph claim.now }
-    ensures certified { IfOk result (IsCertified (is_wide rules) graph.now.graph claim.now) }
+    ensures certified { IfOk result (IsCertified rules graph.now.graph claim.now) }
     ensures always { IfOk result (λ splits. HoldsAlways graph.now.graph claim.now) }
 {
     graph.valid_law();
-    tpl_laws::soundness();
+    tpl_laws::sound_by_rules();
     let alone = slice::from_ref(claim);
-    let most = depth.splits();
-    let certificate = analyse_within(alloc, graph, alone, rules, most, Form::Slim, budget)?;
-    Ok(splits_in(&certificate))
+    let proof = find_proof(alloc, graph, alone, rules, depth, Form::Slim, budget)?;
+    Ok(splits_in(&proof))
 }
 
 /// Under what the claim takes as given, this property holds in each run: a certificate says so, which a quick search finds.

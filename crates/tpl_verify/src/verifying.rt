@@ -3,7 +3,6 @@
 ghost use Rattle.std.specs.Prelude.{IfOk};
 ghost use Rattle.std.specs.List.{All, AllZip};
 ghost use Rattle.tpl_graph.specs.Fits.{Fits};
-ghost use Rattle.tpl_model.specs.Certificate.{is_wide};
 ghost use Rattle.tpl_verify.specs.Verdicts.{HoldsAlways, IsCertified, IsJudged, IsVerdict};
 
 use crate::certifying::certify;
@@ -26,9 +25,9 @@ fn held(
     depth: Depth,
 ) -> Result<Verdict, AllocError>
     requires fits { Fits graph.now.graph claim.now }
-    requires certified { IsCertified (is_wide rules) graph.now.graph claim.now splits }
+    requires certified { IsCertified rules graph.now.graph claim.now splits }
     requires always { HoldsAlways graph.now.graph claim.now }
-    ensures { IfOk result (IsVerdict (is_wide rules) graph.now.graph claim.now) }
+    ensures { IfOk result (IsVerdict rules graph.now.graph claim.now) }
 {
     let empty = why_empty(alloc, graph, claim, rules, depth)?;
     Ok(Verdict::Holds { splits, empty })
@@ -44,7 +43,7 @@ fn tried(
     ran_out: RanOut,
 ) -> Result<Verdict, AllocError>
     requires { Fits graph.now.graph claim.now }
-    ensures { IfOk result (IsJudged (is_wide rules) graph.now.graph claim.now) }
+    ensures { IfOk result (IsJudged rules graph.now.graph claim.now) }
 {
     let sought = refute(alloc, graph, claim, effort)?;
     match sought.found {
@@ -67,7 +66,7 @@ fn certified_or_tried(
     limits: &Limits,
 ) -> Result<Verdict, AllocError>
     requires { Fits graph.now.graph claim.now }
-    ensures { IfOk result (IsJudged (is_wide rules) graph.now.graph claim.now) }
+    ensures { IfOk result (IsJudged rules graph.now.graph claim.now) }
 {
     let mut budget = Budget::new(Unwatched, limits.leaves);
     match certify(alloc, graph, claim, rules, limits.depth, &mut budget) {
@@ -98,7 +97,7 @@ pub fn judge_claim(
     limits: &Limits,
 ) -> Result<Verdict, AllocError>
     requires { Fits graph.now.graph claim.now }
-    ensures { IfOk result (IsJudged (is_wide rules) graph.now.graph claim.now) }
+    ensures { IfOk result (IsJudged rules graph.now.graph claim.now) }
 {
     let first = refute(alloc, graph, claim, limits.first_runs(number))?;
     match first.found {
@@ -118,7 +117,7 @@ pub fn verify_claim(
     limits: &Limits,
 ) -> Result<Verdict, AllocError>
     requires { Fits graph.now.graph claim.now }
-    ensures { IfOk result (IsVerdict (is_wide rules) graph.now.graph claim.now) }
+    ensures { IfOk result (IsVerdict rules graph.now.graph claim.now) }
 {
     match judge_claim(alloc, graph, claim, rules, number, limits)? {
         Verdict::Holds { splits, .. } => held(alloc, graph, claim, rules, splits, limits.depth),
@@ -137,7 +136,7 @@ pub fn verify(
 ) -> Result<Vec<Verdict>, AllocError>
     requires { All (Fits graph.now.graph) claims.now }
     ensures { IfOk result (λ verdicts.
-        AllZip (IsVerdict (is_wide rules) graph.now.graph) claims.now verdicts.items) }
+        AllZip (IsVerdict rules graph.now.graph) claims.now verdicts.items) }
 {
     let mut verdicts = Vec::new(alloc);
     for at in 0..claims.len() {

@@ -4,7 +4,7 @@ use Rattle.std.proofs.lemmas.Bool.{cases_lt}
 use Rattle.std.proofs.lemmas.List.{drop_more, length-drop}
 use Rattle.tpl_model.specs.Graph.{TaskGraph}
 use Rattle.tpl_model.specs.Claims.{Claim}
-use Rattle.tpl_model.specs.WiderRules.{WideTree, OnInput, OnEnd, OnWinner, WideLeaf}
+use Rattle.tpl_model.specs.WiderRules.{WideTree, OnInput, OnEnd, OnWinner, WideLeaf, LeastLeaf}
 use Rattle.tpl_model.specs.declared.fault.CertFault.TheVariants.{Shape}
 use Rattle.tpl_cert.specs.WideHeights.{wide_height}
 use Rattle.tpl_laws.specs.Verdict.{unless}
@@ -67,6 +67,7 @@ one_leaf (suc n) = omega (arith, one_leaf n)
 
 leaves_within : (n : ℕ) (t : WideTree) → wide_height t ≤ n → wide_leaves t ≤ most_leaves n
 leaves_within n (WideLeaf rows) le = one_leaf n
+leaves_within n LeastLeaf le = one_leaf n
 leaves_within zero (OnInput i a b) le = absurd (omega arith)
 leaves_within zero (OnEnd t a b c) le = absurd (omega arith)
 leaves_within zero (OnWinner n x a b) le = absurd (omega arith)

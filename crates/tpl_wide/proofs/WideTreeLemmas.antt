@@ -1,5 +1,5 @@
 -- Leaf by leaf, and claim by claim.
-use Rattle.std.proofs.Common.{◌≡◌, ℕ, zero, suc, ◌+◌, ◌<◌, ◌≤◌, ◌&&◌, ◌||◌, not, ◌++◌, Bool, true, false, Option, Some, None, Result, Ok, Err, List, [], ◌∷◌, drop, length, map, take, nat_eq, refl, sym, ap, ◌∙◌, subst, slice_index_or, nat_lt, add_assoc, inl, inr, arith}
+use Rattle.std.proofs.Common.{◌≡◌, ℕ, suc, ◌+◌, ◌<◌, ◌≤◌, ◌&&◌, ◌++◌, Bool, true, false, Option, Some, None, Result, Ok, Err, List, [], ◌∷◌, drop, length, map, take, nat_eq, refl, sym, ap, ◌∙◌, subst, slice_index_or, nat_lt, add_assoc, inl, inr, arith}
 use Rattle.std.specs.Prelude.{IfOk, IfErr, slice_get}
 use Rattle.std.specs.Option.{option_map}
 use Rattle.std.proofs.lemmas.Bool.{cases_lt, eqb-true, ltb-true, and_parts}
@@ -19,24 +19,22 @@ use Rattle.tpl_model.specs.declared.fault.CertFault.TheVariants.{Shape}
 use Rattle.tpl_model.specs.declared.ids.TaskId.{TaskId}
 use Rattle.tpl_paths.specs.declared.reading.ChildEnd.{ChildEnd as StoredChildEnd}
 use Rattle.tpl_paths.specs.Reading.{end_of}
-use Rattle.tpl_laws.specs.Verdict.{at_leaf, or_else, no_fault, rows_fit}
+use Rattle.tpl_laws.specs.Verdict.{or_else, no_fault, rows_fit}
 use Rattle.tpl_laws.specs.WiderTests.{wide_leaf_fault}
 use Rattle.tpl_laws.specs.WideVerdict.{may_have_winner, tokens_fit, wide_claims_fault, wide_fits, wide_misfit, wide_tree_fault, wide_leaves}
 use Rattle.tpl_checker.specs.declared.assumptions.Assumptions.{Assumptions}
-use Rattle.tpl_checker.specs.declared.leaf.LeafFault.{LeafFault}
 use Rattle.tpl_checker.specs.Assumptions.{assumed_of}
-use Rattle.tpl_checker.specs.Leaves.{why}
 use Rattle.tpl_checker.proofs.Basics.{drop_all}
 use Rattle.tpl_checker.proofs.ShapeLemmas.{no_one}
 use Rattle.tpl_checker.proofs.TreeLemmas.{or_else_first, or_else_second}
 use Rattle.tpl_wide.specs.declared.error.WideFault.{WideFault}
 use Rattle.tpl_wide.specs.declared.error.WideFault.TheVariants.{Fails, Memory}
-use Rattle.tpl_wide.specs.declared.winners.WinnerSplit.{WinnerSplit}
+use Rattle.tpl_leaf.specs.declared.winners.WinnerSplit.{WinnerSplit}
 use Rattle.tpl_wide.specs.Faults.{IsAnswer, WidelyFailing}
-use Rattle.tpl_wide.specs.Leaf.{row_end, row_facts, wide_assumed}
-use Rattle.tpl_wide.specs.Narrowed.{narrowed_before}
-use Rattle.tpl_wide.specs.Winners.{all_leave, leaves_winner}
-use Rattle.tpl_wide.proofs.Rows.{by_fact, plain_row}
+use Rattle.tpl_leaf.specs.Leaf.{row_end, row_facts, wide_assumed}
+use Rattle.tpl_leaf.specs.Narrowed.{narrowed_before}
+use Rattle.tpl_leaf.specs.Winners.{all_leave, leaves_winner}
+use Rattle.tpl_leaf.proofs.Rows.{by_fact, plain_row}
 
 -- where the first part fails, so does the whole
 pub failing_first : (a b : Option CertFault) (n m : ℕ) (e : WideFault) → WidelyFailing a n (Err e) → WidelyFailing (or_else a b) m (Err e)
@@ -125,15 +123,9 @@ module _ (g : TaskGraph) (p : Property TaskId) (claim first : ℕ) (l won : Wide
       (subst (λ (o : Option CertFault). WidelyFailing o (next + wide_leaves other) r) there h))
 
 -- a leaf, where the ends that its splits left are narrowed
-module _ (g : TaskGraph) (p : Property TaskId) (claim n : ℕ) (a b : Assumptions) (splits : List WinnerSplit) (rows : List WideRow) (narrow : assumed_of b ≡ narrowed_before g (assumed_of a) (length g.tasks)) where
-  narrowed_leaf : wide_leaf_fault g p (wide_assumed b splits) rows ≡ wide_leaf_fault g p (narrowed g (wide_assumed a splits)) rows
+module _ (g : TaskGraph) (p : Property TaskId) (a b : Assumptions) (splits : List WinnerSplit) (rows : List WideRow) (narrow : assumed_of b ≡ narrowed_before g (assumed_of a) (length g.tasks)) where
+  pub narrowed_leaf : wide_leaf_fault g p (wide_assumed b splits) rows ≡ wide_leaf_fault g p (narrowed g (wide_assumed a splits)) rows
   narrowed_leaf = λ i. wide_leaf_fault g p (record { assumed = narrow i; wins = all_leave splits }) rows
-
-  pub leaf_clear : None ≡ wide_leaf_fault g p (wide_assumed b splits) rows → wide_tree_fault g p claim (wide_assumed a splits) n (WideLeaf rows) ≡ None
-  leaf_clear e = ap (at_leaf claim n) (sym (e ∙ narrowed_leaf))
-
-  pub leaf_fails : (fault : LeafFault) (placed : CertFault) → Some (why fault) ≡ wide_leaf_fault g p (wide_assumed b splits) rows → Some placed ≡ at_leaf claim n (Some (why fault)) → wide_tree_fault g p claim (wide_assumed a splits) n (WideLeaf rows) ≡ Some placed
-  leaf_fails fault placed e h = ap (at_leaf claim n) (sym (e ∙ narrowed_leaf)) ∙ sym h
 
 -- how tasks end, by their rows
 same_end : (rows : List WideRow) (t : ℕ) → row_end (wide_row rows t) ≡ record { ends = (row (plain rows) t).ends; facts = ends_with rows t }

@@ -1,6 +1,6 @@
-pub mod Winners
-pub mod Leaf
-pub mod Ways
-pub mod Narrowed
 pub mod Faults
 pub mod Check
+pub mod Rows
+pub mod Within
+pub mod Case
+pub mod Levels

@@ -1,27 +1,24 @@
-//! The check of certificates whose rows speak of tokens too.
+//! The check of certificates whose rows speak of tokens too, and of leaves that leave their rows out.
 #![tactic(auto)]
 
-mod before;
-mod begins;
-mod both;
-mod chain;
-mod ends;
+mod accepted;
+mod begun;
+mod case;
+mod check;
+mod ended;
 mod error;
-mod facts;
-mod fault;
-mod leaf;
-mod links;
-mod narrowed;
-mod past;
-mod paths;
-mod property;
+mod least;
+mod readers;
+mod rows;
 mod shape;
+mod shortest;
 mod tree;
 mod verdict;
-mod view;
-mod ways;
-mod ways_of;
-mod winners;
+mod within;
 
+pub use accepted::{accepts_tree, least_leaf_proves, rows_left_out};
+pub use check::Check;
 pub use error::WideFault;
+pub use tpl_leaf::{WinnerSplit, links};
+pub use tree::with_split;
 pub use verdict::check_wide;

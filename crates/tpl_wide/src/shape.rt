@@ -7,10 +7,10 @@ ghost use Rattle.tpl_model.specs.WiderRules.{plain};
 ghost use Rattle.tpl_laws.specs.Verdict.{rows_fit};
 ghost use Rattle.tpl_laws.specs.WideVerdict.{has_tokens, may_have_winner, tokens_fit, wide_fits, wide_misfit};
 
-use crate::both::both;
 use tpl_cert::{WideNode, WideRow, WideTree};
 use tpl_checker::{all_tasks, is_member, row_fits};
 use tpl_graph::{Claim, Graph, Role};
+use tpl_leaf::both;
 use tpl_model::{CertFault, TaskId, TokenId};
 use tpl_paths::TokenSet;
 
@@ -36,6 +36,7 @@ pub(crate) fn fits(graph: &Graph, tree: &WideTree) -> bool
         WideNode::Leaf(rows) => {
             rows.len() == graph.len() && rows_fit(graph, rows) && tokens_fit(graph, rows)
         }
+        WideNode::Least => true,
     }
 }
 
@@ -90,7 +91,7 @@ fn tokens_of_row_fit(graph: &Graph, row: &WideRow, all: TokenSet) -> bool
 }
 
 /// All tokens of the graph.
-fn all_tokens(graph: &Graph) -> TokenSet
+pub(crate) fn all_tokens(graph: &Graph) -> TokenSet
     ensures { (k : ℕ) → has_token result k ≡ nat_lt k (length graph.now.graph.tokens) }
 {
     let mut all = TokenSet::empty();

@@ -1,34 +1,24 @@
 //! The first leaf of a tree that fails.
 
-ghost use Rattle.std.specs.Prelude.{◌≡◌, ◌+◌, ◌<◌, ◌^◌, ◌++◌, ◌∷◌, [], IfOk, IsTrue, map};
-ghost use Rattle.tpl_model.specs.WiderRules.{WideLeaf};
+ghost use Rattle.std.specs.Prelude.{◌≡◌, ◌+◌, ◌<◌, ◌^◌, ◌++◌, ◌∷◌, [], IfOk, IsTrue};
+ghost use Rattle.tpl_model.specs.WiderRules.{WideLeaf, LeastLeaf};
+ghost use Rattle.tpl_laws.specs.Verdict.{at_leaf};
 ghost use Rattle.tpl_laws.specs.WideVerdict.{wide_fits, wide_leaves, wide_tree_fault};
-ghost use Rattle.tpl_paths.specs.Reading.{end_of};
+ghost use Rattle.tpl_checker.specs.Leaves.{fault_in};
+ghost use Rattle.tpl_leaf.specs.Leaf.{wide_assumed};
 ghost use Rattle.tpl_wide.specs.Check.{IsCheck, graph_in};
-ghost use Rattle.tpl_wide.specs.Faults.{WidelyFailing};
-ghost use Rattle.tpl_wide.specs.Leaf.{row_end, wide_assumed};
+ghost use Rattle.tpl_wide.specs.Faults.{WidelyFailing, least_fault};
 
+use crate::case::Case;
+use crate::check::Check;
 use crate::error::WideFault;
-use crate::fault::leaf_fault;
-use crate::leaf::Leaf;
-use crate::narrowed::narrowed;
-use crate::winners::WinnerSplit;
+use crate::least::least_rows;
+use crate::rows::child_ends;
 use std::alloc::{AllocError, Global};
 use tpl_cert::{WideNode, WideRow, WideTree};
-use tpl_checker::{Assumptions, Below, placed};
-use tpl_graph::Graph;
-use tpl_model::{Final, Property, TaskId};
-use tpl_paths::{ChildEnd, Facts, TokenSet};
-
-/// What is the same for all leaves of a tree: the graph, the claim with its number, and what is read off the graph.
-#[derive(Drop)]
-pub(crate) struct Check<'c> {
-    pub(crate) graph: &'c Graph,
-    pub(crate) property: Property,
-    pub(crate) claim: usize,
-    pub(crate) below: &'c Below,
-    pub(crate) linked: &'c [TokenSet],
-}
+use tpl_checker::{Assumptions, LeafFault, placed};
+use tpl_leaf::{Leaf, WinnerSplit, leaf_fault, narrowed};
+use tpl_model::{Final, TaskId};
 
 /// The first leaf of the tree that fails, of which the first has the number `first`. Where none does, the number after the
 /// last one.
@@ -70,11 +60,12 @@ pub(crate) fn tree_fault(
             tree_fault(alloc, check, assumed, no.as_slice(), next, on_no)
         }
         WideNode::Leaf(rows) => leaf_at(alloc, check, assumed, winners, first, rows),
+        WideNode::Least => least_leaf_at(alloc, check, assumed, winners, first),
     }
 }
 
 /// The splits, and one on whether the argument wins the task.
-fn with_split(
+pub fn with_split(
     alloc: Global,
     splits: &[WinnerSplit],
     task: TaskId,
@@ -122,32 +113,50 @@ fn leaf_at(
         ends: ends.as_slice(),
         below: check.below,
     };
-    match leaf_fault(&leaf, check.property) {
+    answer(check.claim, number, leaf_fault(&leaf, check.property))
+}
+
+/// The same of a leaf without rows, which has the least ones.
+fn least_leaf_at(
+    alloc: Global,
+    check: &Check<'_>,
+    assumed: &Assumptions,
+    winners: &[WinnerSplit],
+    number: usize,
+) -> Result<usize, WideFault>
+    requires check { IsCheck check.now }
+    requires room { number + 1 < 2 ^ 64 }
+    ensures { WidelyFailing (wide_tree_fault (graph_in check.now) check.now.property check.now.claim
+        (wide_assumed assumed.now winners.now) number LeastLeaf) (number + 1) result }
+{
+    let fault = least_leaf_fault(alloc, check, assumed, winners)?;
+    answer(check.claim, number, fault)
+}
+
+/// The fault with the numbers of claim and leaf, or the number after the leaf's.
+fn answer(claim: usize, number: usize, fault: Option<LeafFault>) -> Result<usize, WideFault>
+    requires { number + 1 < 2 ^ 64 }
+    ensures { WidelyFailing (at_leaf claim number (fault_in fault)) (number + 1) result }
+{
+    match fault {
         None => Ok(number + 1),
-        Some(fault) => Err(WideFault::Fails(placed(check.claim, number, fault))),
+        Some(fault) => Err(WideFault::Fails(placed(claim, number, fault))),
     }
 }
 
-/// By each row how its task ends.
-fn child_ends(alloc: Global, rows: &[WideRow]) -> Result<Vec<ChildEnd>, AllocError>
-    ensures { IfOk result (λ v. map end_of v.items ≡ map row_end rows.now) }
+/// The fault of a leaf without rows.
+pub(crate) fn least_leaf_fault(
+    alloc: Global,
+    check: &Check<'_>,
+    assumed: &Assumptions,
+    winners: &[WinnerSplit],
+) -> Result<Option<LeafFault>, AllocError>
+    requires { IsCheck check.now }
+    ensures { IfOk result (λ fault. fault_in fault ≡ least_fault (graph_in check.now)
+        check.now.property (wide_assumed assumed.now winners.now)) }
 {
-    let mut ends = Vec::new(alloc);
-    for row in rows {
-        ends.push(end_of_row(row))?;
-    }
-    Ok(ends)
-}
-
-/// How a task ends, by its row.
-fn end_of_row(row: &WideRow) -> ChildEnd
-    ensures { end_of result ≡ row_end row.now }
-{
-    ChildEnd {
-        ends: row.row().ends(),
-        facts: Facts {
-            tasks: row.row().past().copy(),
-            tokens: row.asks(),
-        },
-    }
+    let narrowed = narrowed(check.graph, assumed);
+    let case = Case::new(check, &narrowed, winners);
+    let rows = least_rows(alloc, &case)?;
+    Ok(leaf_fault(&case.leaf(&rows), check.property))
 }

@@ -8,22 +8,24 @@ ghost use Rattle.tpl_laws.specs.Soundness.{Each};
 ghost use Rattle.tpl_laws.specs.Verdict.{no_fault};
 ghost use Rattle.tpl_laws.specs.WideVerdict.{wide_claims_fault, wide_fits, wide_leaves, wide_misfit, wide_tree_fault, wide_verdict};
 ghost use Rattle.tpl_checker.specs.Below.{AreBelow};
-ghost use Rattle.tpl_model.specs.WiderRules.{WidelyAccepts, widely_assumed};
+ghost use Rattle.tpl_model.specs.WiderRules.{widely_assumed};
+ghost use Rattle.tpl_laws.specs.WideTrees.{WidelyAccepts};
 ghost use Rattle.tpl_model.specs.Claims.{Holds};
 ghost use Rattle.tpl_model.specs.Rules.{Run};
 ghost use Rattle.tpl_model.specs.declared.event.Event.{Event};
 ghost use Rattle.tpl_wide.specs.declared.error.WideFault.TheVariants as faults;
-ghost use Rattle.tpl_wide.specs.Check.{AreLinks};
+ghost use Rattle.tpl_leaf.specs.Links.{AreLinks};
 ghost use Rattle.tpl_wide.specs.Faults.{IsAnswer, WidelyFailing};
 
+use crate::check::Check;
 use crate::error::WideFault;
-use crate::links::links;
 use crate::shape::misfit;
-use crate::tree::{Check, tree_fault};
+use crate::tree::tree_fault;
 use std::alloc::Global;
 use tpl_cert::WideTree;
 use tpl_checker::{Below, assumed_for};
 use tpl_graph::{Claim, Graph};
+use tpl_leaf::links;
 use tpl_model::RuleSet;
 use tpl_paths::TokenSet;
 

@@ -44,12 +44,14 @@ pub(crate) enum Form {
     GivenEnd,
     GivenJob,
     GivenWord,
-    /// A tree of the certificate, one of the four below; the last in version 3 alone.
+    /// A tree of the certificate, one of the five below; the last two in version 3 alone.
     Tree,
     Leaf,
     SplitInput,
     SplitEnd,
     SplitWinner,
+    /// A leaf without rows.
+    LeastWord,
     Row,
     Start,
     /// Lists whose elements are parts of their own.
@@ -386,6 +388,7 @@ impl Form {
             (Form::Token, Value::String(_)) => Form::NewToken,
             (Form::Statement, Value::String(_)) => Form::Word,
             (Form::Given, Value::String(_)) if third => Form::GivenWord,
+            (Form::Tree, Value::String(_)) if third => Form::LeastWord,
             _ => {
                 for form in self.choices(third) {
                     if find(value, form.key()).is_some() {

@@ -31,6 +31,8 @@ const GIVEN: &str =
 
 const GIVEN_WORDS: [&str; 2] = ["no_failure", "no_request"];
 
+const LEAST_WORDS: [&str; 1] = ["least"];
+
 impl Form {
     /// The words of which a text of the form is one; none where it may be any text.
     pub(crate) fn words(self) -> &'static [&'static str] {
@@ -40,6 +42,7 @@ impl Form {
             Form::Option => &OPTIONS,
             Form::Word => &WORDS,
             Form::GivenWord => &GIVEN_WORDS,
+            Form::LeastWord => &LEAST_WORDS,
             _ => &[],
         }
     }
@@ -111,6 +114,7 @@ impl Form {
             Form::Claim | Form::Tree => "an object",
             Form::Given => "{\"input\": name, \"is\": true or false} or {\"quiet\": token}",
             Form::GivenWord => "a word for what is given of all",
+            Form::LeastWord => "the word for a leaf without rows",
             Form::Version => "1, 2 or 3, written as an integer",
             Form::ClaimName => "a claim's name, 1 to 100 bytes of text without control characters",
             Form::Note => "a note, which is a text",

@@ -1,8 +1,8 @@
-use Rattle.std.proofs.Common.{◌≤◌, IfOk, IfSome, ap, ◌∙◌, subst}
+use Rattle.std.proofs.Common.{false, ◌≤◌, IfOk, IfSome, ap, ◌∙◌, subst}
 use Rattle.tpl_model.specs.declared.ids.TaskId.{TaskId}
 use Rattle.tpl_model.specs.declared.claim.Property.{Property}
-use Rattle.tpl_model.specs.Certificate.{Assumed, assumed_for, is_wide}
-use Rattle.tpl_cert.specs.Heights.{height}
+use Rattle.tpl_model.specs.Certificate.{Assumed, assumed_for}
+use Rattle.tpl_cert.specs.WideHeights.{wide_height}
 use Rattle.tpl_checker.specs.Assumptions.{assumed_of}
 use Rattle.tpl_analyser.specs.Found.{IsFound}
 use Rattle.tpl_analyser.specs.Plans.{IsPlan}
@@ -12,11 +12,11 @@ use Rattle.tpl_analyser.proofs.certificate.tree_for.Goals as goal
 pub returns-in-Some : goal.returns-in-Some
 returns-in-Some over c =
     let g = c.args.graph.now.graph in
-    let n = height c.in-Some.plan in
-    let l = assumed_of c.root-root.result.assumed in
+    let n = wide_height c.in-Some.plan in
+    let l = assumed_of c.root-root.result.premises.assumptions in
     let planned : IfSome c.in_ok-deepened.field-0 (IsPlan g c.args.depth) = c.in_ok-deepened.ensures in
     let le : n ≤ c.args.depth = (rw c.in-Some.is at planned).height in
     let deep = if_found (IsFound g c.body-2.result c.args.form l n) (IsFound g c.body-2.result c.args.form l c.args.depth)
     (λ t f. found_deeper g c.body-2.result c.args.form l n c.args.depth t le f) c.grown.result c.grown.ensures in
-    subst (λ (p : Property TaskId). IfOk c.grown.result (λ found. IfSome found (IsFound g p c.args.form (assumed_for (is_wide c.args.rules) g c.args.claim.now) c.args.depth))) c.body-2.ensures
+    subst (λ (p : Property TaskId). IfOk c.grown.result (λ found. IfSome found (IsFound g p c.args.form (assumed_for false g c.args.claim.now) c.args.depth))) c.body-2.ensures
     (subst (λ (a : Assumed). IfOk c.grown.result (λ found. IfSome found (IsFound g c.body-2.result c.args.form a c.args.depth))) (ap assumed_of c.root-root.ensures ∙ c.assumed_for-assumed.ensures) deep)

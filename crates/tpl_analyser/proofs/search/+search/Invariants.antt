@@ -15,3 +15,6 @@ decreases-by_input over l = 4 * l.reach.splits + 1
 
 abbrev pub decreases-by_end : goal.decreases-by_end
 decreases-by_end over l = 4 * l.reach.splits + 1
+
+abbrev pub decreases-by_winner : goal.decreases-by_winner
+decreases-by_winner over l = 4 * l.reach.splits + 1

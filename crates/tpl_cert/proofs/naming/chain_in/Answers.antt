@@ -1,4 +1,4 @@
-use Rattle.std.proofs.Common.{map, ok_or, refl}
+use Rattle.std.proofs.Common.{map, refl}
 use Rattle.std.proofs.lemmas.Result.{err_from_is_err_and}
 use Rattle.std.proofs.lemmas.List.{map_push}
 use Rattle.tpl_draft.specs.Ids.{task_number}

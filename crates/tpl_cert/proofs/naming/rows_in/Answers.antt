@@ -8,7 +8,8 @@ use Rattle.tpl_json.proofs.Passes.{each_more, each_done, each_fails}
 use Rattle.tpl_cert.specs.Plain.{IsPlainRow}
 use Rattle.tpl_cert.specs.Seen.{row_of}
 use Rattle.tpl_cert.specs.Naming.{wide_row_in}
-use Rattle.tpl_cert.proofs.Names.{bare, bare_row, bare_fails}
+use Rattle.tpl_cert.specs.Written.{bare}
+use Rattle.tpl_cert.proofs.Names.{bare_row, bare_fails}
 use Rattle.tpl_cert.proofs.naming.rows_in.Goals as goal
 
 pub loop-row-init : goal.loop-row-init

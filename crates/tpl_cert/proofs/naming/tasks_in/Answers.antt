@@ -1,4 +1,4 @@
-use Rattle.std.proofs.Common.{◌≡◌, false, ok_or, refl}
+use Rattle.std.proofs.Common.{refl}
 use Rattle.std.proofs.lemmas.Result.{err_from_is_err_and}
 use Rattle.tpl_model.specs.Members.{mem}
 use Rattle.tpl_json.proofs.Passes.{each_more, each_done, each_fails, fails_bind}

@@ -1,5 +1,3 @@
-use Rattle.tpl_reader.specs.SeenDocument.{doc_of}
-use Rattle.tpl_commands.proofs.Checked.{wide_trees, accepted_with_tokens, refused_with_tokens}
 use Rattle.tpl_commands.proofs.checking.check_with_tokens.Goals as goal
 
 pub check_wide-requires-clause-trees : goal.check_wide-requires-clause-trees

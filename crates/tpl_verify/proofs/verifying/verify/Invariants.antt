@@ -1,8 +1,7 @@
 use Rattle.std.proofs.Common.{take}
 use Rattle.std.specs.List.{AllZip}
-use Rattle.tpl_model.specs.Certificate.{is_wide}
 use Rattle.tpl_verify.specs.Verdicts.{IsVerdict}
 use Rattle.tpl_verify.proofs.verifying.verify.Given as goal
 
 abbrev pub invariant-loop-at : goal.invariant-loop-at
-invariant-loop-at l = AllZip (IsVerdict (is_wide l.rules) l.graph.graph) (take l.at l.claims) l.verdicts.items
+invariant-loop-at l = AllZip (IsVerdict l.rules l.graph.graph) (take l.at l.claims) l.verdicts.items

@@ -1,6 +1,5 @@
-use Rattle.std.proofs.Common.{ap, sym, ◌∙◌}
+use Rattle.std.proofs.Common.{ap, ◌∙◌}
 use Rattle.tpl_laws.specs.WideVerdict.{may_have_winner}
-use Rattle.tpl_wide.proofs.ShapeTests.{no_kind}
 use Rattle.tpl_wide.proofs.shape.may_have_winner.Goals as goal
 
 pub returns-in-Any : goal.returns-in-Any

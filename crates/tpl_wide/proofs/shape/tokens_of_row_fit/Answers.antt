@@ -8,7 +8,7 @@ returns c =
     let g = c.args.graph.now.graph in
     let row = c.args.row.now in
     let asked : c.is_subset-asked.result ≡ has_tokens g row.asked =
-    tokens_test c.is_subset-asked.result c.asked.result c.args.all row.asked (λ k. nat_lt k (length g.tokens)) c.is_subset-asked.ensures.0 c.is_subset-asked.ensures.1 c.asked.ensures c.requires in
+    tokens_test c.is_subset-asked.result c.asked.result c.args.all row.asked (λ k. nat_lt k (length g.tokens)) c.is_subset-asked.ensures.0 c.is_subset-asked.ensures.1 c.asked.ensures.members c.requires in
     let asks : c.is_subset-asks.result ≡ has_tokens g row.asks =
-    tokens_test c.is_subset-asks.result c.asks.result c.args.all row.asks (λ k. nat_lt k (length g.tokens)) c.is_subset-asks.ensures.0 c.is_subset-asks.ensures.1 c.asks.ensures c.requires in
+    tokens_test c.is_subset-asks.result c.asks.result c.args.all row.asks (λ k. nat_lt k (length g.tokens)) c.is_subset-asks.ensures.0 c.is_subset-asks.ensures.1 c.asks.ensures.members c.requires in
     c.both.ensures ∙ (λ i. asked i && asks i)

@@ -1,10 +1,10 @@
 use Rattle.std.proofs.Common.{◌≡◌, ◌∙◌, true, false, ap, subst, arith}
 use Rattle.std.proofs.lemmas.Result.{err_from_is_err_and}
 use Rattle.tpl_cert.specs.WideTrees.{wide_node_of}
-use Rattle.tpl_model.specs.WiderRules.{WideTree, winner_split}
+use Rattle.tpl_model.specs.WiderRules.{WideTree}
 use Rattle.tpl_laws.specs.WideVerdict.{wide_fits}
 use Rattle.tpl_wide.specs.Check.{graph_in}
-use Rattle.tpl_wide.specs.Leaf.{wide_assumed}
+use Rattle.tpl_leaf.specs.Leaf.{wide_assumed}
 use Rattle.tpl_wide.proofs.WideTreeLemmas.{end_fits, input_fits, loser_decides, one_more_split, winner_fails}
 use Rattle.tpl_wide.proofs.tree.+tree_fault.Goals as goal
 

@@ -1,9 +1,11 @@
-use Rattle.std.proofs.Common.{List, map, ap, ◌∙◌, subst, sym, refl, length, ◌<◌}
+use Rattle.std.proofs.Common.{◌+◌, Option, List, map, ap, ◌∙◌, subst, sym, ◌<◌}
 use Rattle.std.proofs.lemmas.Result.{err_from_is_err_and}
 use Rattle.tpl_paths.specs.declared.reading.ChildEnd.{ChildEnd as StoredChildEnd}
 use Rattle.tpl_paths.specs.Reading.{end_of}
+use Rattle.tpl_laws.specs.Verdict.{LeafFault, at_leaf}
 use Rattle.tpl_wide.specs.Check.{graph_in}
-use Rattle.tpl_wide.proofs.WideTreeLemmas.{ends_of_rows, leaf_clear, leaf_fails, leaf_fits}
+use Rattle.tpl_wide.specs.Faults.{WidelyFailing}
+use Rattle.tpl_wide.proofs.WideTreeLemmas.{ends_of_rows, leaf_fits, narrowed_leaf}
 use Rattle.tpl_wide.proofs.tree.leaf_at.Goals as goal
 
 pub leaf_fault-requires-clause-leaf : goal.leaf_fault-requires-clause-leaf
@@ -24,8 +26,10 @@ leaf_fault-requires-clause-ids c = (leaf_fits (graph_in c.args.check.now) c.args
 pub returns-in_err-ends : goal.returns-in_err-ends
 returns-in_err-ends c = let p = err_from_is_err_and c.from_residual.result c.from_residual.ensures.1 in rw (p.1, p.2) tt
 
-pub returns-in-None : goal.returns-in-None
-returns-in-None c = (leaf_clear (graph_in c.args.check.now) c.args.check.now.property c.args.check.now.claim c.args.number c.args.assumed.now c.narrowed-narrowed.result c.args.winners.now c.args.rows.now c.narrowed-narrowed.ensures c.in-None.ensures, refl)
-
 pub returns : goal.returns
-returns c = leaf_fails (graph_in c.args.check.now) c.args.check.now.property c.args.check.now.claim c.args.number c.args.assumed.now c.narrowed-narrowed.result c.args.winners.now c.args.rows.now c.narrowed-narrowed.ensures c.in-Some.fault c.placed.result c.in-Some.ensures c.placed.ensures
+returns c =
+    let g = graph_in c.args.check.now in
+    let p = c.args.check.now.property in
+    subst (λ (o : Option LeafFault). WidelyFailing (at_leaf c.args.check.now.claim c.args.number o) (c.args.number + 1) c.answer.result)
+    (c.leaf_fault.ensures ∙ narrowed_leaf g p c.args.assumed.now c.narrowed-narrowed.result c.args.winners.now c.args.rows.now c.narrowed-narrowed.ensures)
+    c.answer.ensures

@@ -1,0 +1,95 @@
+//! Plans with as few splits as one is found with.
+
+ghost use Rattle.std.specs.Prelude.{◌<◌};
+ghost use Rattle.tpl_analyser.specs.Plans.{IsPlanIfAny};
+ghost use Rattle.tpl_analyser.specs.Questions.{IsReady};
+
+use crate::branch::Branch;
+use crate::budget::Budget;
+use crate::choice::{Bound, bound_of};
+use crate::leaf::try_leaf;
+use crate::plan::no_split;
+use crate::question::Question;
+use crate::ran_out::RanOut;
+use crate::search::{Reach, split};
+use crate::watch::Watch;
+use std::alloc::{AllocError, Global};
+use tpl_cert::WideTree;
+
+/// The plan of a tree with as few splits on a path as one is found with: in the order of the search, and where
+/// that uses its leaves up, by a directed search.
+pub(crate) fn deepened<W: Watch>(
+    alloc: Global,
+    question: Question<'_>,
+    root: &Branch,
+    depth: u8,
+    budget: &mut Budget<W>,
+) -> Result<Option<WideTree>, AllocError>
+    requires { IsReady question }
+    ensures { IsPlanIfAny question.entry.graph.now.graph depth result }
+{
+    if try_leaf(alloc, question, root, budget)?.unwrap_or(false) {
+        return Ok(Some(no_split()));
+    }
+    if depth == 0 {
+        return Ok(None);
+    }
+    if let Some(tree) = by_depth(alloc, question, root, depth, false, budget)? {
+        return Ok(Some(tree));
+    }
+    if budget.ran_out() != RanOut::Leaves {
+        return Ok(None);
+    }
+    budget.renew();
+    by_depth(alloc, question, root, depth, true, budget)
+}
+
+/// A plan with a split at its top: one with few splits on a path before one with more.
+fn by_depth<W: Watch>(
+    alloc: Global,
+    question: Question<'_>,
+    root: &Branch,
+    depth: u8,
+    directed: bool,
+    budget: &mut Budget<W>,
+) -> Result<Option<WideTree>, AllocError>
+    requires { IsReady question }
+    ensures { IsPlanIfAny question.entry.graph.now.graph depth result }
+{
+    let Some(bound) = bound_of(alloc, question, root, depth, budget)? else {
+        return Ok(None);
+    };
+    for fewer in 0..depth {
+        let reach = Reach {
+            splits: fewer + 1,
+            failed: true,
+            directed,
+        };
+        if let Some(tree) = at_depth(alloc, question, root, reach, &bound, budget)? {
+            return Ok(Some(tree));
+        }
+    }
+    Ok(None)
+}
+
+/// A plan with a split at its top and this many on a path, if that many may be enough.
+fn at_depth<W: Watch>(
+    alloc: Global,
+    question: Question<'_>,
+    root: &Branch,
+    reach: Reach,
+    bound: &Bound,
+    budget: &mut Budget<W>,
+) -> Result<Option<WideTree>, AllocError>
+    requires question { IsReady question }
+    requires splits { 0 < reach.splits }
+    ensures { IsPlanIfAny question.entry.graph.now.graph reach.splits result }
+{
+    if bound.least() > reach.splits as u32 {
+        return Ok(None);
+    }
+    match bound.choice(alloc, question, root, reach, budget)? {
+        None => Ok(None),
+        Some(choice) => split(alloc, question, root, reach, &choice, budget),
+    }
+}

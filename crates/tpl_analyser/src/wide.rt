@@ -1,0 +1,187 @@
+//! The search for a certificate by the rules that know of tokens and of winners.
+
+ghost use Rattle.std.specs.Prelude.{◌≡◌, ◌≤◌, [], IfOk, IfErr, IfSome};
+ghost use Rattle.std.specs.List.{All};
+ghost use Rattle.tpl_cert.specs.WideHeights.{wide_height};
+ghost use Rattle.tpl_graph.specs.Fits.{Fits};
+ghost use Rattle.tpl_model.specs.WiderRules.{widely_assumed};
+ghost use Rattle.tpl_model.specs.declared.rule_set.RuleSet.TheVariants.{Wide};
+ghost use Rattle.tpl_laws.specs.WideTrees.{WidelyAccepts};
+ghost use Rattle.tpl_checker.specs.Below.{AreBelow};
+ghost use Rattle.tpl_leaf.specs.Leaf.{wide_assumed};
+ghost use Rattle.tpl_leaf.specs.Links.{AreLinks};
+ghost use Rattle.tpl_wide.specs.Check.{IsCheck, graph_in};
+ghost use Rattle.tpl_analyser.specs.Gaps.{IsGap};
+ghost use Rattle.tpl_analyser.specs.Plans.{IsPlan, IsPlanIfAny};
+ghost use Rattle.tpl_analyser.specs.Questions.{IsReady};
+ghost use Rattle.tpl_analyser.specs.Slim.{HasLeavesOf};
+ghost use Rattle.tpl_analyser.specs.Splits.{IsSplitOf};
+ghost use Rattle.tpl_analyser.specs.WideFound.{IsWidelyFound};
+ghost use Rattle.tpl_outline.specs.Stages.{IsStageOf};
+
+use crate::branch::Branch;
+use crate::budget::Budget;
+use crate::certificate::{Made, made_of};
+use crate::cone::Cone;
+use crate::deepening::deepened;
+use crate::form::Form;
+use crate::gap::Gap;
+use crate::question::Question;
+use crate::ran_out::RanOut;
+use crate::watch::Watch;
+use crate::written::in_form;
+use std::alloc::{AllocError, Global};
+use tpl_cert::{WideCertificate, WideTree, is_within_wide_limits};
+use tpl_checker::{Assumptions, Below, assumed_for};
+use tpl_graph::{Claim, Graph};
+use tpl_model::RuleSet;
+use tpl_wide::{Check, accepts_tree};
+
+/// Searches for a certificate of the claims as [`crate::analyse_within`] does, by the rules that know of tokens and of
+/// winners. Its leaves leave their rows out, but where the form asks for rows. Splits on winners are tried last.
+pub fn analyse_widely<W: Watch>(
+    alloc: Global,
+    graph: &Graph,
+    claims: &[Claim],
+    depth: u8,
+    form: Form,
+    budget: &mut Budget<W>,
+) -> Result<WideCertificate, Gap>
+    requires claims { All (Fits graph.now.graph) claims.now }
+    requires depth { depth ≤ 6 }
+    ensures accepted { IfOk result (λ c. WidelyAccepts graph.now.graph claims.now c) }
+    ensures splits { IfOk result (All (λ tree. wide_height tree ≤ depth)) }
+    ensures form { IfOk result (All (HasLeavesOf form)) }
+    ensures gap { IfErr result (IsGap Wide graph.now.graph claims.now depth) }
+{
+    let below = Below::of_graph(graph);
+    let made = made_of(alloc, graph, &below, RuleSet::Wide)?;
+    certificate_for(alloc, graph, &below, &made, claims, depth, form, budget)
+}
+
+/// Trees for the claims, one after another.
+fn certificate_for<W: Watch>(
+    alloc: Global,
+    graph: &Graph,
+    below: &Below,
+    made: &Made,
+    claims: &[Claim],
+    depth: u8,
+    form: Form,
+    budget: &mut Budget<W>,
+) -> Result<WideCertificate, Gap>
+    requires below { AreBelow graph.now.graph below.now }
+    requires stages { All (IsStageOf graph.now.graph) made.now.stages.items }
+    requires splits { All (IsSplitOf graph.now.graph) made.now.splits.items }
+    requires linked { AreLinks graph.now.graph made.now.linked }
+    requires claims { All (Fits graph.now.graph) claims.now }
+    requires depth { depth ≤ 6 }
+    ensures accepted { IfOk result (λ c. WidelyAccepts graph.now.graph claims.now c) }
+    ensures splits { IfOk result (All (λ tree. wide_height tree ≤ depth)) }
+    ensures form { IfOk result (All (HasLeavesOf form)) }
+    ensures gap { IfErr result (IsGap Wide graph.now.graph claims.now depth) }
+{
+    let mut trees = Vec::new(alloc);
+    for at in 0..claims.len() {
+        budget.begin(at + 1);
+        match tree_for(alloc, graph, below, made, &claims[at], form, depth, budget)? {
+            Some(tree) => trees.push(tree)?,
+            None => return Err(Gap::NotFound { claim: at + 1 }),
+        }
+    }
+    Ok(WideCertificate::new(trees))
+}
+
+/// A tree for one claim.
+fn tree_for<W: Watch>(
+    alloc: Global,
+    graph: &Graph,
+    below: &Below,
+    made: &Made,
+    claim: &Claim,
+    form: Form,
+    depth: u8,
+    budget: &mut Budget<W>,
+) -> Result<Option<WideTree>, AllocError>
+    requires claim { Fits graph.now.graph claim.now }
+    requires below { AreBelow graph.now.graph below.now }
+    requires stages { All (IsStageOf graph.now.graph) made.now.stages.items }
+    requires splits { All (IsSplitOf graph.now.graph) made.now.splits.items }
+    requires linked { AreLinks graph.now.graph made.now.linked }
+    requires depth { depth ≤ 6 }
+    ensures { IfOk result (λ found. IfSome found (IsWidelyFound graph.now.graph claim.now.body
+        form (widely_assumed graph.now.graph claim.now) depth)) }
+{
+    let rules = RuleSet::Wide;
+    let assumed = assumed_for(graph, claim, rules);
+    let cone = Cone::of(graph, claim.body(), &assumed, rules, &made.splits);
+    let question = Question {
+        graph,
+        below,
+        stages: &made.stages,
+        followers: &made.followers,
+        property: claim.body(),
+        form,
+        splits: &made.splits,
+        cone: &cone,
+        linked: &made.linked,
+        rules,
+    };
+    let root = Branch::root(question, assumed.copy());
+    match plan_for(alloc, question, &root, depth, budget)? {
+        None => Ok(None),
+        Some(plan) => {
+            let check = Check::new(graph, claim.body(), 1, below, &made.linked);
+            tested(alloc, &check, &assumed, form, depth, plan)
+        }
+    }
+}
+
+/// The plan of a tree. Where the leaves that may be tried with all that their rows say are used up, as in a large graph, as
+/// many are tried again by what becomes of tasks alone, which takes less time.
+fn plan_for<W: Watch>(
+    alloc: Global,
+    question: Question<'_>,
+    root: &Branch,
+    depth: u8,
+    budget: &mut Budget<W>,
+) -> Result<Option<WideTree>, AllocError>
+    requires { IsReady question }
+    ensures { IsPlanIfAny question.entry.graph.now.graph depth result }
+{
+    if let Some(plan) = deepened(alloc, question, root, depth, budget)? {
+        return Ok(Some(plan));
+    }
+    if budget.ran_out() != RanOut::Leaves {
+        return Ok(None);
+    }
+    budget.again();
+    let question = Question {
+        rules: RuleSet::Narrow,
+        ..question
+    };
+    deepened(alloc, question, root, depth, budget)
+}
+
+/// The tree of a plan in this form, if it is accepted and within the limits.
+fn tested(
+    alloc: Global,
+    check: &Check<'_>,
+    assumed: &Assumptions,
+    form: Form,
+    depth: u8,
+    plan: WideTree,
+) -> Result<Option<WideTree>, AllocError>
+    requires check { IsCheck check.now }
+    requires plan { IsPlan (graph_in check.now) depth plan }
+    requires depth { depth ≤ 6 }
+    ensures { IfOk result (λ found. IfSome found (IsWidelyFound (graph_in check.now)
+        check.now.property form (wide_assumed assumed.now []) depth)) }
+{
+    let tree = in_form(alloc, check, assumed, form, plan)?;
+    if accepts_tree(alloc, check, assumed, &tree)? && is_within_wide_limits(&tree) {
+        Ok(Some(tree))
+    } else {
+        Ok(None)
+    }
+}

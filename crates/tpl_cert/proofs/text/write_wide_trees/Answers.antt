@@ -1,0 +1,26 @@
+use Rattle.std.proofs.lemmas.Result.{err_from_is_err_and}
+use Rattle.std.proofs.lemmas.List.{map-id}
+use Rattle.tpl_model.specs.declared.rule_set.RuleSet.TheVariants.{Wide}
+use Rattle.tpl_cert.specs.Written.{has_ids, tree_data, HasSets}
+use Rattle.tpl_cert.proofs.Ids.{unwritten_some}
+use Rattle.tpl_cert.proofs.Tokens.{one_more, all_written}
+use Rattle.tpl_cert.proofs.text.write_wide_trees.Goals as goal
+
+pub returns-in_err-write_wide_tree : goal.returns-in_err-write_wide_tree
+returns-in_err-write_wide_tree c =
+    let p = err_from_is_err_and c.from_residual-in_err-write_wide_tree.result c.from_residual-in_err-write_wide_tree.ensures.1 in
+    rw (p.1, p.2)
+    (unwritten_some (has_ids c.args.graph.now.names) c.args.trees.now c.loop-tree.tree-index c.tree-item.result c.in_err-write_wide_tree.field-0.0 c.loop-tree-test.true (rw (← c.tree-item.is) c.in_err-write_wide_tree.ensures))
+
+pub loop-tree-preserved : goal.loop-tree-preserved
+loop-tree-preserved c =
+    let e = c.in_ok-write_wide_tree.ensures in
+    let n = c.args.graph.now.names in
+    one_more (λ t. t) (has_ids n) HasSets (tree_data Wide n) c.args.trees.now c.loop-tree.tree-index c.tree-item.result _ c.loop-tree.out c.write_wide_tree.new.out c.loop-tree-test.true c.loop-tree.invariant
+    (rw (← c.tree-item.is) e.0) (rw (← c.tree-item.is) e.1.1) (rw (← c.tree-item.is) e.1.0)
+
+pub returns : goal.returns
+returns c =
+    let n = c.args.graph.now.names in
+    let all = rw map-id at (all_written (λ t. t) (has_ids n) HasSets (tree_data Wide n) c.args.trees.now c.loop-tree.tree-index c.args.out.now c.begin_array.new.self c.loop-tree.out c.end_array.new.self c.loop-tree-test.false c.loop-tree.invariant (c.begin_array.ensures.room.0, c.in_ok-begin_array.ensures.ok) (c.end_array.ensures.room.0, c.in_ok-end_array.ensures.ok)) in
+    (all.known, (all.puts, all.are))

@@ -1,0 +1,107 @@
+//! Certificates that a search finds, by the narrow rules or by the wide ones.
+
+ghost use Rattle.std.specs.Prelude.{◌≡◌, ◌≤◌, true, Ok, Err, IfOk, IfErr, Some, string_bytes};
+ghost use Rattle.std.specs.List.{All, list_all};
+ghost use Rattle.serde_json.specs.Read.{read};
+ghost use Rattle.serde_json.specs.Written.{compact_text};
+ghost use Rattle.tpl_analyser.specs.Gaps.{IsGap};
+ghost use Rattle.tpl_analyser.specs.Slim.{IsOfFormBy};
+ghost use Rattle.tpl_cert.specs.WideHeights.{wide_height, IsWithinWideLimits};
+ghost use Rattle.tpl_cert.specs.Written.{has_ids};
+ghost use Rattle.tpl_graph.specs.Fits.{Fits};
+ghost use Rattle.tpl_laws.specs.ByRules.{AcceptsBy};
+ghost use Rattle.tpl_commands.specs.Proof.{proof_data, rules_for, trees_of, IsRead};
+
+use std::alloc::{AllocError, Global};
+use tpl_analyser::{Budget, Depth, Form, Gap, Watch, analyse_widely, analyse_within};
+use tpl_cert::{Certificate, TreeToFault, WideCertificate, trees_text, wide_trees_text};
+use tpl_graph::{Claim, Graph};
+use tpl_model::RuleSet;
+
+/// A certificate of one of two sorts.
+#[derive(Drop)]
+pub enum Proof {
+    /// It says nothing of tokens and of winners, and is judged by the narrow rules.
+    Plain(Certificate),
+    /// It may speak of them, and is judged by the wide rules.
+    Wide(WideCertificate),
+}
+
+impl Proof {
+    /// Each of its trees is within the limits.
+    pub fn limits_law(&self)
+        ensures { All IsWithinWideLimits (trees_of self.now) }
+    {
+        match self {
+            Proof::Plain(certificate) => certificate.limits_law(),
+            Proof::Wide(certificate) => certificate.limits_law(),
+        }
+    }
+}
+
+/// Searches for a certificate of the claims by these rules, with at most so many splits on each path, within this budget
+/// of leaves for each claim, and gives it in this form. `NotFound` names the first claim for which no tree is found; it
+/// doesn't say that the claim is false. `Memory` says that an allocation was refused.
+pub fn find_proof<W: Watch>(
+    alloc: Global,
+    graph: &Graph,
+    claims: &[Claim],
+    rules: RuleSet,
+    depth: Depth,
+    form: Form,
+    budget: &mut Budget<W>,
+) -> Result<Proof, Gap>
+    requires { All (Fits graph.now.graph) claims.now }
+    ensures rules { IfOk result (λ proof. rules_for proof ≡ rules) }
+    ensures accepted { IfOk result (λ proof.
+        AcceptsBy rules graph.now.graph claims.now (trees_of proof)) }
+    ensures splits { IfOk result (λ proof. All (λ tree. wide_height tree ≤ depth) (trees_of proof)) }
+    ensures form { IfOk result (λ proof. IsOfFormBy rules form claims.now (trees_of proof)) }
+    ensures gap { IfErr result (IsGap rules graph.now.graph claims.now depth) }
+{
+    let splits = depth.splits();
+    match rules {
+        RuleSet::Narrow => {
+            let found = analyse_within(alloc, graph, claims, splits, form, budget)?;
+            Ok(Proof::Plain(found))
+        }
+        RuleSet::Wide => {
+            let found = analyse_widely(alloc, graph, claims, splits, form, budget)?;
+            Ok(Proof::Wide(found))
+        }
+    }
+}
+
+/// The text that was written; out of memory is the only fault.
+fn written(text: Result<String, TreeToFault>) -> Result<String, AllocError>
+    requires { text ≡ Err TreeToFault.Unknown → ⊥ }
+    ensures { IfOk result (λ written. text ≡ Ok written) }
+{
+    match text {
+        Ok(text) => Ok(text),
+        Err(TreeToFault::Memory) => Err(AllocError),
+        Err(TreeToFault::Unknown) => unreachable!(),
+    }
+}
+
+/// The trees as one array.
+pub(crate) fn array_text(alloc: Global, graph: &Graph, proof: &Proof) -> Result<String, AllocError>
+    requires { list_all (has_ids graph.now.names) (trees_of proof.now) ≡ true }
+    ensures written { IfOk result (λ text.
+        string_bytes text ≡ compact_text (proof_data graph.now.names proof.now)) }
+    ensures read { IfOk result (λ _.
+        All (IsRead (rules_for proof.now) graph.now.names) (trees_of proof.now)) }
+    ensures value { IfOk result (λ text.
+        read (string_bytes text) ≡ Some (proof_data graph.now.names proof.now)) }
+{
+    match proof {
+        Proof::Plain(certificate) => {
+            certificate.limits_law();
+            written(trees_text(alloc, graph, certificate.trees()))
+        }
+        Proof::Wide(certificate) => {
+            certificate.limits_law();
+            written(wide_trees_text(alloc, graph, certificate.trees()))
+        }
+    }
+}

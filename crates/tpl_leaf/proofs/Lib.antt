@@ -1,0 +1,12 @@
+pub mod Rows
+pub mod LinkLemmas
+pub mod Readings
+pub mod WayLemmas
+pub mod EndLemmas
+pub mod Winning
+pub mod NarrowLemmas
+pub mod TaskSets
+pub mod FactTests
+pub mod PastLemmas
+pub mod WideChainLemmas
+pub mod WideLeafLemmas

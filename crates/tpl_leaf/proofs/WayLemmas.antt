@@ -1,0 +1,107 @@
+-- What all ways have, put together.
+use Rattle.std.proofs.Common.{◌≡◌, ◌&&◌, ◌||◌, Bool, true, false, Option, Some, None, refl, sym, ap, ◌∙◌, subst}
+use Rattle.tpl_model.proofs.Truths.{and_true}
+use Rattle.tpl_model.specs.declared.finals.Final.{Final}
+use Rattle.tpl_model.specs.declared.finals.Final.TheVariants.{RanToCompletion, Canceled, Faulted}
+use Rattle.tpl_model.specs.declared.finals.Finals.{Finals}
+use Rattle.tpl_model.specs.Finals.{has, is_final}
+use Rattle.tpl_model.specs.Knowledge.{Fact, Knowledge}
+use Rattle.tpl_paths.specs.declared.facts.Facts.{Facts}
+use Rattle.tpl_paths.specs.Facts.{has_fact}
+use Rattle.tpl_model.specs.WiderRules.{Way, way_final}
+use Rattle.tpl_laws.specs.RowTests.{implies, each_end}
+use Rattle.tpl_laws.specs.WiderTests.{if_known}
+use Rattle.tpl_leaf.specs.declared.ways.Ways.{Ways}
+use Rattle.tpl_leaf.specs.Ways.{holds_in_all, AreWays}
+
+implies_or : (a b o : Bool) → implies (a || b) o ≡ (implies a o && implies b o)
+implies_or true true true = refl
+implies_or true true false = refl
+implies_or true false true = refl
+implies_or true false false = refl
+implies_or false b o = refl
+
+and_turn : (x y z u v w : Bool) → ((x && u) && ((y && v) && (z && w))) ≡ ((x && (y && z)) && (u && (v && w)))
+and_turn false y z u v w = refl
+and_turn true false z true v w = refl
+and_turn true false z false v w = refl
+and_turn true true false true true w = refl
+and_turn true true false true false w = refl
+and_turn true true false false v w = refl
+and_turn true true true true v w = refl
+and_turn true true true false v w = refl
+
+pub each_implies : (s : Finals) (p : Final → Bool) (ends : Finals) → ((f : Final) → has s f ≡ p f) → each_end (λ f. implies (has s f) (has ends f)) ≡ each_end (λ f. implies (p f) (has ends f))
+each_implies s p ends e =
+    λ i. implies (e RanToCompletion i) (has ends RanToCompletion) && (implies (e Canceled i) (has ends Canceled) && implies (e Faulted i) (has ends Faulted))
+
+only : (e : Final) (ends : Finals) → each_end (λ f. implies (is_final e f) (has ends f)) ≡ has ends e
+only RanToCompletion ends = and_true ends.ran
+only Canceled ends = and_true ends.canceled
+only Faulted ends = refl
+
+module _ (holds : Fact → Way → Bool) (r : Ways) where
+  pub no_ways : ((f : Final) → has r.ends f ≡ false) → ((fact : Fact) → holds_in_all r.common fact ≡ true) → AreWays (λ (test : Way → Bool). true) holds r
+  no_ways e c = record {
+    ends = λ ends. sym (each_implies r.ends (λ f. false) ends e);
+    common = λ fact. sym (c fact);
+  }
+
+  pub one_way : (way : Way) (facts : Facts) → ((f : Final) → has r.ends f ≡ is_final (way_final way) f) → ((fact : Fact) → holds_in_all r.common fact ≡ has_fact facts fact) → ((fact : Fact) → holds fact way ≡ has_fact facts fact)
+      → AreWays (λ (test : Way → Bool). test way) holds r
+  one_way way facts e c h = record {
+    ends = λ ends. sym (each_implies r.ends (is_final (way_final way)) ends e ∙ only (way_final way) ends);
+    common = λ fact. h fact ∙ sym (c fact);
+  }
+
+  pub joined_ways : (e d : (Way → Bool) → Bool) (a b : Ways) → AreWays e holds a → AreWays d holds b → ((f : Final) → has r.ends f ≡ (has a.ends f || has b.ends f))
+      → ((fact : Fact) → holds_in_all r.common fact ≡ (holds_in_all a.common fact && holds_in_all b.common fact)) → AreWays (λ (test : Way → Bool). e test && d test) holds r
+  joined_ways e d a b p q re rc = record {
+    ends = λ ends. (λ i. p.ends ends i && q.ends ends i) ∙ sym (split ends);
+    common = λ fact. (λ i. p.common fact i && q.common fact i) ∙ sym (rc fact);
+  }
+    where
+      one : (ends : Finals) (f : Final) → implies (has r.ends f) (has ends f) ≡ (implies (has a.ends f) (has ends f) && implies (has b.ends f) (has ends f))
+      one ends f = ap (λ z. implies z (has ends f)) (re f) ∙ implies_or (has a.ends f) (has b.ends f) (has ends f)
+
+      split : (ends : Finals) → each_end (λ f. implies (has r.ends f) (has ends f)) ≡ (each_end (λ f. implies (has a.ends f) (has ends f)) && each_end (λ f. implies (has b.ends f) (has ends f)))
+      split ends =
+          (λ i. one ends RanToCompletion i && (one ends Canceled i && one ends Faulted i))
+          ∙ and_turn (implies (has a.ends RanToCompletion) (has ends RanToCompletion)) (implies (has a.ends Canceled) (has ends Canceled)) (implies (has a.ends Faulted) (has ends Faulted)) (implies (has b.ends RanToCompletion) (has ends RanToCompletion)) (implies (has b.ends Canceled) (has ends Canceled)) (implies (has b.ends Faulted) (has ends Faulted))
+
+  pub guarded_ways : (t : Bool) (e : (Way → Bool) → Bool) (a : Ways) → AreWays e holds a → ((f : Final) → has r.ends f ≡ (t && has a.ends f)) → ((fact : Fact) → holds_in_all r.common fact ≡ implies t (holds_in_all a.common fact))
+      → AreWays (λ (test : Way → Bool). implies t (e test)) holds r
+  guarded_ways true e a p re rc = record {
+    ends = λ ends. p.ends ends ∙ sym (each_implies r.ends (has a.ends) ends re);
+    common = λ fact. p.common fact ∙ sym (rc fact);
+  }
+  guarded_ways false e a p re rc = record {
+    ends = λ ends. sym (each_implies r.ends (λ f. false) ends re);
+    common = λ fact. sym (rc fact);
+  }
+
+  -- under a test that fails, and one that holds
+  pub not_left : (b : Bool) (e : (Way → Bool) → Bool) → b ≡ false → AreWays (λ (test : Way → Bool). true) holds r → AreWays (λ (test : Way → Bool). implies b (e test)) holds r
+  not_left true e q w = absurd (cc)
+  not_left false e q w = w
+
+  pub is_left : (b : Bool) (e : (Way → Bool) → Bool) → b ≡ true → AreWays e holds r → AreWays (λ (test : Way → Bool). implies b (e test)) holds r
+  is_left true e q w = w
+  is_left false e q w = absurd (cc)
+
+  -- where there are no paths, and where there are some
+  pub no_paths : (o : Option Knowledge) (way : Knowledge → Way) → o ≡ None → AreWays (λ (test : Way → Bool). true) holds r → AreWays (λ (test : Way → Bool). if_known o (λ known. test (way known))) holds r
+  no_paths None way q w = w
+  no_paths (Some k) way q w = absurd (cc)
+
+  pub some_paths : (o : Option Knowledge) (way : Knowledge → Way) (known : Knowledge) → Some known ≡ o → AreWays (λ (test : Way → Bool). test (way known)) holds r → AreWays (λ (test : Way → Bool). if_known o (λ k. test (way k))) holds r
+  some_paths o way known q w = subst (λ (z : Option Knowledge). AreWays (λ (test : Way → Bool). if_known z (λ k. test (way k))) holds r) q w
+
+-- what holds by one of four
+pub or_four : (a b x y ab abx all : Bool) → ab ≡ (a || b) → abx ≡ (ab || x) → all ≡ (abx || y) → (a || (b || (x || y))) ≡ all
+or_four a b x y ab abx all p q r = by_cases a b ∙ sym (r ∙ ap (λ z. z || y) (q ∙ ap (λ z. z || x) p))
+  where
+    by_cases : (c d : Bool) → (c || (d || (x || y))) ≡ (((c || d) || x) || y)
+    by_cases true d = refl
+    by_cases false true = refl
+    by_cases false false = refl

@@ -1,0 +1,5 @@
+pub mod Winners
+pub mod Links
+pub mod Leaf
+pub mod Ways
+pub mod Narrowed

@@ -1,5 +1,0 @@
-use Rattle.tpl_wide.proofs.LinkLemmas.{LinkedSoFar}
-use Rattle.tpl_wide.proofs.links.links_of.Given as goal
-
-abbrev pub invariant-loop-number : goal.invariant-loop-number
-invariant-loop-number l = LinkedSoFar l.graph.graph l.token.0 l.number l.found

@@ -1,0 +1,13 @@
+-- Rows in memory while they are worked out.
+use Rattle.std.specs.Prelude.{◌≡◌, List, length, map}
+use Rattle.tpl_model.specs.Graph.{TaskGraph}
+use Rattle.tpl_model.specs.WiderRules.{WideRow}
+use Rattle.tpl_paths.specs.Reading.{end_of}
+use Rattle.tpl_leaf.specs.Leaf.{row_end}
+use Rattle.tpl_wide.specs.declared.rows.Rows.{Rows}
+
+-- these rows, one for each task, and beside each how its task ends
+pub record AreRows (g : TaskGraph) (rows : List WideRow) (r : Rows) : Type 0 where
+  pub same : r.rows.items ≡ rows
+  pub count : length rows ≡ length g.tasks
+  pub ends : map end_of r.ends.items ≡ map row_end rows

@@ -1,0 +1,33 @@
+//! The least row of a task once it is known whether it begins.
+
+ghost use Rattle.std.specs.Prelude.{◌≡◌, not};
+ghost use Rattle.tpl_model.specs.Graph.{is_task, kind};
+ghost use Rattle.tpl_laws.specs.LeastRows.{begun_row};
+ghost use Rattle.tpl_laws.specs.WiderTests.{wide_runs_by};
+ghost use Rattle.tpl_leaf.specs.Leaf.{graph_of, assumed_in, rows_in, IsLeaf};
+ghost use Rattle.tpl_wide.specs.Within.{IsAll};
+
+use crate::rows::blank_row;
+use crate::within::within;
+use std::alloc::Global;
+use tpl_cert::{Row, WideRow};
+use tpl_leaf::{Leaf, NO_END, begin_facts, runs};
+use tpl_model::{TaskId, TaskSet};
+use tpl_paths::{Facts, TokenSet};
+
+/// The row runs, if it has to, and then has all that it may say of its task's begin.
+pub(crate) fn begun_row(alloc: Global, leaf: &Leaf<'_>, all: &Facts, task: TaskId) -> WideRow
+    requires leaf { IsLeaf leaf.now }
+    requires task { is_task (graph_of leaf.now) task.0 }
+    requires all { IsAll (graph_of leaf.now) all.now }
+    ensures { result ≡ begun_row (graph_of leaf.now) (assumed_in leaf.now) (rows_in leaf.now) task.0
+        (not (wide_runs_by (graph_of leaf.now) (assumed_in leaf.now) (rows_in leaf.now) task.0
+        (kind (graph_of leaf.now) task.0))) }
+{
+    if runs(leaf, task) {
+        return blank_row(alloc);
+    }
+    let facts = within(all, Some(begin_facts(leaf, task)));
+    let row = Row::new(NO_END, true, facts.tasks, TaskSet::empty(), Vec::new(alloc));
+    WideRow::new(row, facts.tokens, TokenSet::empty())
+}

@@ -1,0 +1,73 @@
+//! A leaf whose rows are left out.
+
+ghost use Rattle.std.specs.Prelude.{◌≡◌};
+ghost use Rattle.tpl_leaf.specs.Leaf.{assumed_in, graph_of, rows_in, wide_assumed, IsLeaf};
+ghost use Rattle.tpl_wide.specs.Check.{IsCheck, graph_in};
+ghost use Rattle.tpl_wide.specs.Case.{assumed_by, graph_by, IsCase};
+ghost use Rattle.tpl_wide.specs.Rows.{AreRows};
+
+use crate::check::Check;
+use crate::rows::Rows;
+use crate::within::all_facts;
+use tpl_checker::{Assumptions, Below};
+use tpl_graph::Graph;
+use tpl_leaf::{Leaf, WinnerSplit};
+use tpl_model::Property;
+use tpl_paths::{Facts, TokenSet};
+
+/// A leaf whose rows are left out: what it assumes, what it is to prove, and what is read once for all of its rows.
+#[derive(Drop)]
+pub(crate) struct Case<'c> {
+    pub(crate) graph: &'c Graph,
+    pub(crate) property: Property,
+    pub(crate) assumed: &'c Assumptions,
+    pub(crate) winners: &'c [WinnerSplit],
+    pub(crate) linked: &'c [TokenSet],
+    pub(crate) below: &'c Below,
+    pub(crate) all: Facts,
+}
+
+impl<'c> Case<'c> {
+    /// The leaf of a check that assumes this.
+    pub(crate) fn new(
+        check: &'c Check<'_>,
+        assumed: &'c Assumptions,
+        winners: &'c [WinnerSplit],
+    ) -> Case<'c>
+        requires { IsCheck check.now }
+        ensures case { IsCase result }
+        ensures graph { graph_by result ≡ graph_in check.now }
+        ensures property { result.property ≡ check.now.property }
+        ensures assumed { assumed_by result ≡ wide_assumed assumed.now winners.now }
+    {
+        Case {
+            graph: check.graph,
+            property: check.property,
+            assumed,
+            winners,
+            linked: check.linked,
+            below: check.below,
+            all: all_facts(check.graph),
+        }
+    }
+
+    /// The leaf with these rows.
+    pub(crate) fn leaf<'l>(&'l self, rows: &'l Rows) -> Leaf<'l>
+        requires case { IsCase self.now }
+        requires rows { AreRows (graph_by self.now) rows.now.rows.items rows.now }
+        ensures leaf { IsLeaf result }
+        ensures graph { graph_of result ≡ graph_by self.now }
+        ensures assumed { assumed_in result ≡ assumed_by self.now }
+        ensures rows { rows_in result ≡ rows.now.rows.items }
+    {
+        Leaf {
+            graph: self.graph,
+            assumed: self.assumed,
+            winners: self.winners,
+            rows: rows.rows.as_slice(),
+            linked: self.linked,
+            ends: rows.ends.as_slice(),
+            below: self.below,
+        }
+    }
+}
