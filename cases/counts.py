@@ -1,9 +1,11 @@
 #!/usr/bin/env python3
 """Counts what `check` costs: instructions beside those of a plain program that only reads the same bytes by Rust's
-serde_json, and the most memory that it takes. With --explained, what each command costs with and without --explain.
+serde_json, and the most memory that it takes. With --explained, what each command costs with and without --explain; with
+--least, what `check` costs in version 3 with the rows of each leaf and without them.
 
-It wants Debian's packages valgrind and librust-serde-json-dev, and cargo; with --explained, valgrind alone. Instructions
-hardly differ from run to run, so one run is enough. It is a measurement and no test: nothing fails where a number is large.
+It wants Debian's packages valgrind and librust-serde-json-dev, and cargo; with --explained or --least, valgrind alone.
+Instructions hardly differ from run to run, so one run is enough. It is a measurement and no test: nothing fails where a
+number is large.
 """
 import argparse
 import json
@@ -107,6 +109,28 @@ def tell_explained(named, folder):
             print(f"{name}: {command}: {said}", flush=True)
 
 
+def without_rows(tree):
+    """The same tree, whose leaves leave their rows out."""
+    if "rows" in tree:
+        return "least"
+    return {name: without_rows(it) if isinstance(it, dict) else it for name, it in tree.items()}
+
+
+def as_version_3():
+    """The texts of the counted documents as documents of version 3, with rows and without them, by name."""
+    for name, counted in COUNTED.items():
+        document = {**sized(counted), "version": 3}
+        yield name, text_of(document)
+        least = [without_rows(it) for it in document.get("certificate", [])]
+        yield f"{name} without rows", text_of({**document, "certificate": least})
+
+
+def tell_least(named, folder):
+    """Says what `check` costs on each counted document in version 3, with the rows of its leaves and without them."""
+    for name, file, size in written(dict(as_version_3()), folder):
+        print(f"{name}: {size} bytes, check {instructions([named, 'check'], file)}", flush=True)
+
+
 def tell_checked(named, folder):
     """Says what `check` costs on each counted document, and what memory on those that are all small objects."""
     plain = plain_program(folder)
@@ -122,10 +146,13 @@ def tell_checked(named, folder):
 def main() -> int:
     parser = argparse.ArgumentParser(description=__doc__, formatter_class=argparse.RawDescriptionHelpFormatter)
     parser.add_argument("--program", type=pathlib.Path, default=built(PROGRAM), help="the program (%(default)s)")
-    parser.add_argument("--explained", action="store_true", help="counts each command with and without --explain")
+    what = parser.add_mutually_exclusive_group()
+    explained = "counts each command with and without --explain"
+    what.add_argument("--explained", action="store_const", const=tell_explained, help=explained)
+    what.add_argument("--least", action="store_const", const=tell_least, help="counts version 3 with rows and without them")
     given = parser.parse_args()
     with tempfile.TemporaryDirectory() as folder:
-        (tell_explained if given.explained else tell_checked)(given.program, folder)
+        (given.explained or given.least or tell_checked)(given.program, folder)
     return 0
 
 

@@ -2,7 +2,8 @@
 """Counts how many claims of generated graphs are settled: by a certificate, by a run in which they fail, or by neither.
 
 There are 200 graphs of 4 to 12 tasks, of all kinds, with 4 claims each, always the same ones: of the five kinds that each
-version has. This measures and judges nothing, but that no claim is both. The last line is what was counted.
+version has. With `--shape pipelines` there are 1,000 pipelines, shaped as those that teams run, and claims of all six kinds,
+which need version 3. This measures and judges nothing, but that no claim is both. The last line is what was counted.
 """
 import argparse
 import json
@@ -13,18 +14,21 @@ import time
 
 from graphs import Drawn
 from harness import TOP, Program
+from pipelines import Pipeline
 
-GRAPHS, CLAIMS, SEED, VERSION = 200, 4, 26, 3
+CLAIMS, SEED, VERSION = 4, 26, 3
+# how each shape is drawn, and how many graphs of it
+SHAPES = {"graphs": (Drawn, 200), "pipelines": (Pipeline, 1_000)}
 DEPTH = "3"
 # seconds for an answer
 LIMIT = 600
 
 
-def documents(count: int, seed: int, version: int):
-    """A name and a document for each claim of so many graphs, in this version."""
-    chance = random.Random(seed)
+def documents(shape: str, count: int, seed: int, version: int):
+    """A name and a document for each claim of so many graphs of this shape, in this version."""
+    chance, (kind, _) = random.Random(seed), SHAPES[shape]
     for number in range(count):
-        drawn = Drawn(chance)
+        drawn = kind(chance)
         for letter in "abcd"[:CLAIMS]:
             yield f"{number}{letter}", {**drawn.document(drawn.claim()), "version": version}
 
@@ -51,7 +55,8 @@ def settled(program: Program, text: str):
 def main() -> int:
     parser = argparse.ArgumentParser(description=__doc__, formatter_class=argparse.RawDescriptionHelpFormatter)
     parser.add_argument("--program", type=pathlib.Path, default=TOP / "taskgraph", help="the script taskgraph, if none is named")
-    parser.add_argument("--graphs", type=int, default=GRAPHS, help="how many graphs (%(default)s)")
+    parser.add_argument("--shape", choices=SHAPES, default="graphs", help="what is drawn (%(default)s)")
+    parser.add_argument("--graphs", type=int, help="how many graphs (200, or 1,000 pipelines)")
     parser.add_argument("--seed", type=int, default=SEED, help="by which number they are drawn (%(default)s)")
     parser.add_argument("--version", type=int, default=VERSION, help="the version of the documents (%(default)s)")
     parser.add_argument("--keep", type=pathlib.Path, metavar="FOLDER", help="write the documents that are settled by neither")
@@ -60,7 +65,8 @@ def main() -> int:
     counts = dict.fromkeys(("certified", "refuted", "neither"), 0)
     times: dict[str, list[float]] = {name: [] for name in counts}
     certify = []
-    for name, document in documents(given.graphs, given.seed, given.version):
+    count = given.graphs or SHAPES[given.shape][1]
+    for name, document in documents(given.shape, count, given.seed, given.version):
         text = json.dumps(document)
         how, first, second = settled(program, text)
         counts[how] += 1

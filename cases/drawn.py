@@ -2,12 +2,15 @@
 """The picture of a document, worked out by the rules of docs/PICTURES.md alone. As a script it draws the examples."""
 import argparse
 import collections
+import itertools
 import json
 import pathlib
 import sys
 from typing import NamedTuple
 
 from harness import HERE, TOP, examples
+from rules import LEAST
+from small import FINALS
 from stood import statuses
 
 PICTURES = HERE / "pictures"
@@ -130,21 +133,24 @@ def token_node(language, name):
 
 
 def leaves(tree):
-    """The rows of each leaf."""
-    if "rows" in tree:
-        yield tree["rows"]
-    for branch in ("yes", "no", "ran", "canceled", "faulted"):
-        if branch in tree:
-            yield from leaves(tree[branch])
+    """The ends that each leaf has of the tasks, one after another. A leaf without rows rules none out."""
+    if tree == LEAST:
+        yield itertools.repeat(FINALS)
+    elif "rows" in tree:
+        yield [row["ends"] for row in tree["rows"]]
+    else:
+        for branch in ("yes", "no", "ran", "canceled", "faulted"):
+            if branch in tree:
+                yield from leaves(tree[branch])
 
 
 def endings(document):
-    """For each task the ways in which it may end by the rows of the certificate, of whatever leaf."""
+    """For each task the ways in which it may end by the certificate, in whatever leaf."""
     found = [set() for _ in document["tasks"]]
     for tree in document.get("certificate", []):
-        for rows in leaves(tree):
-            for ends, row in zip(found, rows):
-                ends.update(row["ends"])
+        for each in leaves(tree):
+            for ends, more in zip(found, each):
+                ends.update(more)
     return found
 
 

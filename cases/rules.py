@@ -52,6 +52,12 @@ class Row:
         return self.past
 
 
+# a leaf without rows, which stands for the least ones; version 3 has it
+LEAST = "least"
+# a tree of a document
+Tree = dict | str
+# how many tasks a chain has at most
+LONGEST_CHAIN = 16
 # the members of a split's trees
 MEMBERS = {"split_input": ("yes", "no"), "split_end": ("ran", "canceled", "faulted"), "split_winner": ("yes", "no")}
 # the values of an input, in this order
@@ -65,7 +71,7 @@ class Split(NamedTuple):
     what: str
     task: str | None = None
 
-    def tree(self, trees) -> dict:
+    def tree(self, trees: Sequence[Tree]) -> dict:
         """A tree of a document with this split and these trees below it."""
         more = {"task": self.task} if self.task else {}
         return {self.word: self.what, **more, **dict(zip(MEMBERS[self.word], trees))}
@@ -78,8 +84,10 @@ class Branches(NamedTuple):
     trees: tuple
 
 
-def split_on(tree: dict) -> Branches | None:
+def split_on(tree: Tree) -> Branches | None:
     """The split of a tree of a document, or None for a leaf."""
+    if isinstance(tree, str):
+        return None
     word = next((it for it in MEMBERS if it in tree), None)
     if word is None:
         return None
@@ -468,9 +476,9 @@ def least(leaf: Leaf) -> list[Row]:
 
 
 def chain_of(rules: Rules, place: int) -> list[int] | None:
-    """A shortest chain from a task to a reader of its exception."""
+    """A shortest chain from a task to a reader of its exception; of those the one with the least task where they differ."""
     chains, known = [[place]], {place}
-    while chains:
+    while chains and len(chains[0]) <= LONGEST_CHAIN:
         *_, last = chain = chains.pop(0)
         reader = next((it for it in rules.graph.having("then") if rules.reads(it, last)), None)
         if reader is not None:
@@ -527,8 +535,10 @@ def searched(leaves, claim: dict, depth: int, used: frozenset[Split]) -> list[di
 # ---- what is said of a certificate
 
 
-def fits(graph: Graph, tree: dict) -> bool:
-    """Each leaf has one row for each task, and each split on a winner is of a task in the list of a WhenAny task."""
+def fits(graph: Graph, tree: Tree) -> bool:
+    """Each leaf has one row for each task, or none, and each split on a winner is of a task in the list of a WhenAny task."""
+    if isinstance(tree, str):
+        return tree == LEAST
     branches = split_on(tree)
     if branches is None:
         return len(tree["rows"]) == len(graph.tasks)
@@ -543,8 +553,11 @@ def is_fitting(graph: Graph, split: Split) -> bool:
     return task.kind == "any" and graph.places[split.task] in task.of
 
 
-def leaves_of(leaf: Leaf, tree: dict):
+def leaves_of(leaf: Leaf, tree: Tree):
     """The rules for each leaf of a tree, from left to right."""
+    if isinstance(tree, str):
+        yield leaf.best()
+        return
     branches = split_on(tree)
     if branches is None:
         yield leaf.read(tree["rows"])
@@ -553,7 +566,7 @@ def leaves_of(leaf: Leaf, tree: dict):
         yield from leaves_of(branch, below)
 
 
-def judged(leaf: Leaf, claim: dict, tree: dict) -> str:
+def judged(leaf: Leaf, claim: dict, tree: Tree) -> str:
     """What `check` answers to a document with this claim and this tree alone, where this is assumed before its splits."""
     if not fits(leaf.graph, tree):
         return "refused: shape claim 1"

@@ -6,9 +6,12 @@ Graphs are drawn by chance, and claims of each kind about them, with each kind o
 know of tokens and of winners (tokens.py). Then it has to be so that
 
 - the program accepts a certificate exactly where the rules do, and says the same of one that it refuses: the best that the
-  rules permit, such in which a row is another, such with splits by chance, and such by rules in which there is a mistake;
+  rules permit, such in which a row is another, such with splits by chance and with leaves without rows, and such by rules in
+  which there is a mistake;
+- of the best certificate it says the same with rows and without, and what is accepted with rows is accepted without;
 - what version 2 accepts is accepted in version 3;
-- `analyse` finds one exactly where the rules have one that know neither of tokens nor of winners, and it is accepted;
+- `analyse` finds one exactly where the rules of the version have one, and it is accepted; in version 3 its leaves have no rows,
+  and with --rows those for which they stand;
 - a claim whose certificate is accepted holds in all runs, and no run in which it fails is found by `refute`;
 - each run that is found, or made by `run`, is one of them.
 
@@ -33,8 +36,9 @@ from chance import LINK, Wide
 from every_run import TooManyStates, Truth
 from graphs import FINALS
 from harness import TOP, Program
-from rules import judged, search, split_on
+from rules import LEAST, Tree, judged, leaves_of, search, split_on
 from small import Graph
+from tokens import with_rows, without_rows
 
 GRAPHS, SEED, TASKS = 60, 0, (2, 6)
 # splits on a path of what is searched for
@@ -124,7 +128,7 @@ class Asked(NamedTuple):
     """A claim about a graph, in a version of documents, with a tree for it."""
 
     document: dict
-    tree: dict
+    tree: Tree
 
     @property
     def claim(self) -> dict:
@@ -171,11 +175,20 @@ def split_by_chance(chance: random.Random, leaf: rules.Leaf, depth: int) -> dict
     return split.tree([split_by_chance(chance, it, depth - 1) for it in leaf.split(split)])
 
 
-def changed(chance: random.Random, drawn: Small, tree: dict) -> dict:
-    """The tree with another row in one of its leaves."""
+def left_out(chance: random.Random, tree: dict) -> Tree:
+    """The tree with some of its leaves without rows."""
+    branches = split_on(tree)
+    if branches is None:
+        return LEAST if chance.random() < 0.7 else tree
+    return branches.split.tree([left_out(chance, it) for it in branches.trees])
+
+
+def changed(chance: random.Random, drawn: Small, tree: Tree) -> dict:
+    """The tree, whose leaves have rows, with another row in one of them."""
     tree = leaf = copy.deepcopy(tree)
     while (split := split_on(leaf)) is not None:
         leaf = chance.choice(split.trees)
+    assert isinstance(tree, dict) and isinstance(leaf, dict)
     row = chance.choice(leaf["rows"])
     names = {"ends": FINALS, **dict.fromkeys(("before", "past", "chain"), [task["name"] for task in drawn.tasks])}
     if "asks" in row and drawn.tokens:
@@ -189,18 +202,28 @@ def changed(chance: random.Random, drawn: Small, tree: dict) -> dict:
     return tree
 
 
-def without_tokens(tree: dict) -> dict:
-    """The tree with rows that say nothing of tokens."""
+def without_tokens(tree: Tree) -> Tree:
+    """The tree with rows that say nothing of tokens, where it has rows."""
+    if isinstance(tree, str):
+        return tree
     branches = split_on(tree)
     if branches is None:
         return {"rows": [{**it, "asked": [], "asks": []} for it in tree["rows"]]}
     return branches.split.tree([without_tokens(it) for it in branches.trees])
 
 
-def has_winner(tree: dict) -> bool:
+def has_winner(tree: Tree) -> bool:
     """A split of the tree is one on a winner."""
     branches = split_on(tree)
     return branches is not None and (branches.split.task is not None or any(map(has_winner, branches.trees)))
+
+
+def has_same_rows(leaf: rules.Leaf, tree: Tree, other: Tree) -> bool:
+    """Both trees split in the same way and have rows that say the same."""
+    if without_rows(tree) != without_rows(other):
+        return False
+    pairs = zip(leaves_of(leaf, tree), leaves_of(leaf, other))
+    return all(one.rows == two.rows for one, two in pairs)
 
 
 def misplaced(chance: random.Random, drawn: Small, tree: dict) -> dict:
@@ -234,6 +257,7 @@ class Comparison:
         others = [Asked(it.document, changed(chance, drawn, it.tree)) for it in asked for _ in range(CHANGED)]
         self.compare_certificates(truth, [*asked, *others, *self.wider(chance, drawn, truth.graph, each)])
         self.compare_versions(truth.graph, asked)
+        self.compare_leaves(truth.graph, asked)
         for it in chance.sample(each, min(len(each), ASKED)) if self.program else []:
             self.compare_search(truth, it)
             self.compare_refutation(truth, it)
@@ -246,7 +270,9 @@ class Comparison:
         for document in (it for it in each if it["version"] > 2):
             tree = split_by_chance(chance, leaf_of(graph, document), chance.randint(1, SPLITS))
             yield Asked(document, tree)
-            yield Asked(document, misplaced(chance, drawn, changed(chance, drawn, tree)))
+            other = changed(chance, drawn, tree)
+            yield Asked(document, misplaced(chance, drawn, other))
+            yield Asked(document, left_out(chance, chance.choice((tree, other))))
             mistaken_leaf = leaf_with(graph, document["claims"][0], chance.choice(MISTAKES))
             yield Asked(document, mistaken_leaf.best().tree())
             yield Asked(document, split_by_chance(chance, mistaken_leaf, 1))
@@ -263,6 +289,8 @@ class Comparison:
             self.counts["certificates"] += 1
             self.counts["accepted"] += answer == "accepted"
             if wanted == "accepted" and it.is_wide:
+                if Asked(it.document, without_rows(it.tree)).verdict(truth.graph) != "accepted":
+                    self.tell("accepted with rows, and not without:", it.text())
                 self.counts["accepted by tokens"] += tokens.verdict(truth.graph, it.claim, without_tokens(it.tree)) != wanted
                 self.counts["accepted with a split on a winner"] += has_winner(it.tree)
             if answer != wanted:
@@ -291,11 +319,21 @@ class Comparison:
             if (answer, it.verdict(graph)) != ("accepted", "accepted"):
                 self.tell("accepted without knowing of tokens, and not in version 3:", it.text())
 
+    def compare_leaves(self, graph: Graph, asked: list[Asked]):
+        """Of the best certificate the same is said with rows and without."""
+        wide = [it for it in asked if it.is_wide]
+        each = [Asked(it.document, without_rows(it.tree)) for it in wide]
+        said = self.checked(each) if self.program else [it.verdict(graph) for it in each]
+        for it, answer in zip(wide, said):
+            self.counts["without rows"] += 1
+            if answer != it.verdict(graph):
+                self.tell("without rows the answer is", answer, "and not", it.verdict(graph), "of", it.text())
+
     def compare_search(self, truth: Truth, document: dict):
-        """`analyse` finds a certificate exactly where the rules have one that know neither of tokens nor of winners."""
+        """`analyse` finds a certificate exactly where the rules of the version have one."""
         assert self.program
-        (claim,) = document["claims"]
-        wanted = search(rules.assumed(truth.graph, claim, document["version"] > 2), claim, self.depth)
+        (claim,), leaf = document["claims"], leaf_of(truth.graph, document)
+        wanted = search(leaf, claim, self.depth)
         answer = self.program("analyse", "--depth", str(self.depth), given=json.dumps(document))
         self.counts["searched"] += 1
         if answer.exit == 1 and not wanted:
@@ -309,6 +347,19 @@ class Comparison:
             self.tell("found, and not accepted:", found.text())
         if not truth.holds(claim):
             self.tell("found, and there is a run in which it fails:", found.text())
+        if found.is_wide:
+            self.compare_rows(found, leaf)
+
+    def compare_rows(self, found: Asked, leaf: rules.Leaf):
+        """The leaves that `analyse` finds in version 3 have no rows, and with --rows it writes those for which they stand."""
+        assert self.program and isinstance(leaf, tokens.Leaf)
+        if found.tree != without_rows(found.tree):
+            self.tell("found with rows:", found.text())
+        text = json.dumps(found.document)
+        answer = self.program("analyse", "--rows", "--depth", str(self.depth), given=text)
+        (tree,) = json.loads(answer.stdout) if answer.exit == 0 else [None]
+        if tree is None or tree != with_rows(leaf, tree) or not has_same_rows(leaf, tree, with_rows(leaf, found.tree)):
+            self.tell("written out as", answer.stdout, "and not as", with_rows(leaf, found.tree), "for", text)
 
     def compare_refutation(self, truth: Truth, document: dict):
         """`refute` finds a run only of a claim that doesn't hold in all runs, and `audit` says the same of that run."""

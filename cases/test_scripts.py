@@ -9,6 +9,7 @@ import subprocess
 import pytest
 
 import chance
+import decided
 import pages
 from harness import COMMANDS, LIMIT, TOP, USAGE, Program
 
@@ -188,6 +189,26 @@ def test_each_line_in_the_code_is_on_the_page():
     lines = in_sources(r'"([^"{}]+)\\n"', *ANSWERING)
     assert "accepted" in lines
     assert sorted(line for line in lines if pages.ending(f"{line}\n", pages.known_rows())[1] is not None) == []
+
+
+# ---- the claims that are counted
+
+# the six kinds of claims, by their members
+SAID = {"final", "after", "observed", "never", "excludes", "runs"}
+
+
+@pytest.mark.parametrize("shape, kinds", [("graphs", SAID - {"runs"}), ("pipelines", SAID)])
+def test_claims_that_are_counted_can_be_asked(program, shape: str, kinds: set[str]):
+    """Each document is read; it has no tree for its claim."""
+    drawn = dict(decided.documents(shape, 25, 0, 3))
+    lines = program("check", "--each", given="".join(f"{json.dumps(it)}\n" for it in drawn.values())).stdout.splitlines()
+    assert lines == [f"{number} 1 refused: shape claim 1" for number in range(1, 25 * decided.CLAIMS + 1)]
+    assert {word for it in drawn.values() for word in it["claims"][0]} & SAID == kinds
+
+
+def test_claims_that_are_counted_are_always_the_same():
+    one, other = (json.dumps([*decided.documents("pipelines", 5, 7, 3)]) for _ in range(2))
+    assert one == other != json.dumps([*decided.documents("pipelines", 5, 8, 3)])
 
 
 # ---- the documents that both machines play

@@ -12,7 +12,7 @@ import rules
 import tokens
 from every_run import Runs, Truth
 from harness import Case, all_cases
-from rules import judged
+from rules import LEAST, LONGEST_CHAIN, Split, judged
 from small import Graph
 from sound import MISTAKES, Asked, Comparison, Mistake, leaf_with, mistaken
 
@@ -86,7 +86,7 @@ def test_the_rules_say_what_was_worked_out(case: Case):
     assert f"{Asked(said, tree).verdict(Graph(said))}\n" == case.stdout
 
 
-# ---- how runs are gone through
+# ---- small documents
 
 
 def document(*tasks: dict, tokens=(), inputs=()) -> dict:
@@ -95,6 +95,71 @@ def document(*tasks: dict, tokens=(), inputs=()) -> dict:
 
 def root(name: str, *body, **more) -> dict:
     return {"name": name, "kind": "root", "body": list(body), **more}
+
+
+def after(name: str, antecedent: str, *body, **more) -> dict:
+    return {"name": name, "kind": "then", "after": antecedent, "body": list(body), **more}
+
+
+def waits(name: str, kind: str, *of: str) -> dict:
+    return {"name": name, "kind": kind, "of": list(of)}
+
+
+# ---- the rows for which a leaf without rows stands
+
+
+def least_rows(said: dict, claim: dict) -> dict[str, tokens.Row]:
+    """The least rows for a claim about the graph, by the names of the tasks."""
+    graph = Graph(said)
+    return dict(zip(graph.places, tokens.least(tokens.assumed(graph, claim)).rows))
+
+
+def test_least_rows_say_all_that_holds():
+    """A requests the token of B, which is canceled before it begins and says nothing of that; C begins behind both."""
+    said = document(root("A", {"cancel": "stop"}), after("B", "A", token="stop"), after("C", "B"), tokens=["stop"])
+    rows = least_rows(said, {"final": "B", "in": ["Canceled"]})
+    assert rows["A"] == tokens.Row({"RanToCompletion"}, True, asks={"stop"})
+    assert rows["B"] == tokens.Row({"Canceled"}, False, asks={"stop"})
+    assert rows["C"] == tokens.Row({"RanToCompletion"}, True, {1}, {1}, asked={"stop"}, asks={"stop"})
+
+
+def test_least_rows_say_nothing_of_what_never_ends():
+    """A root that can't pass its statement where the token is quiet, what waits for it, and what follows."""
+    said = document(root("A", {"cancel": "k"}), waits("W", "all", "A"), after("B", "W"), tokens=["k"])
+    rows = least_rows(said, {"given": [{"quiet": "k"}], "never": "B"})
+    assert list(rows.values()) == [tokens.Row(runs=True), tokens.Row(), tokens.Row()]
+
+
+def test_least_rows_have_one_chain():
+    """Of the two WhenAll tasks with a reader the least one; no chain for a task that the claim doesn't name."""
+    roots, alls = [root(it, {"throw": "x"}) for it in "AB"], [waits("W1", "all", "A"), waits("W2", "all", "A", "B")]
+    said = document(*roots, *alls, *(after(f"R{it}", f"W{it}", "observe") for it in "21"))
+    chains = {name: row.chain for name, row in least_rows(said, {"observed": "A"}).items() if row.chain}
+    assert chains == {"A": [2, 5]}
+
+
+@pytest.mark.parametrize("links", [LONGEST_CHAIN - 1, LONGEST_CHAIN])
+def test_least_rows_have_no_chain_that_is_too_long(links: int):
+    """So many WhenAll tasks, each of the one before it, and then the reader."""
+    names = ["A", *(f"W{it}" for it in range(links))]
+    alls = [waits(name, "all", before) for before, name in zip(names, names[1:])]
+    said = document(root("A", {"throw": "x"}), *alls, after("R", names[-1], "observe"))
+    chain = [*range(1, links + 2)] if links < LONGEST_CHAIN else []
+    assert least_rows(said, {"observed": "A"})["A"].chain == chain
+
+
+def test_rows_are_left_out_and_written_out():
+    said = document(root("A", {"throw": "x"}), root("B"), waits("N", "any", "A", "B"), after("C", "N", "observe"))
+    graph, claim = Graph(said), {"observed": "A"}
+    leaf, split = tokens.assumed(graph, claim), Split("split_winner", "N", "A")
+    short = split.tree([LEAST, LEAST])
+    whole = tokens.with_rows(leaf, short)
+    assert [it["rows"][0]["chain"] for it in (whole["yes"], whole["no"])] == [["C"], []]
+    assert tokens.without_rows(whole) == short
+    assert [tokens.verdict(graph, claim, it) for it in (short, whole)] == ["refused: claim 1 leaf 2"] * 2
+
+
+# ---- how runs are gone through
 
 
 def test_states_are_counted():
@@ -114,8 +179,8 @@ def test_a_token_is_requested_at_any_moment():
 
 def test_claims_hold_or_fail():
     """Worked out by hand, of a job that may fail and a task that follows a failure."""
-    after = {"name": "X", "kind": "then", "after": "A", "body": ["observe"], "options": ["OnlyOnFaulted"]}
-    truth = Truth(document(root("A", {"work": "a", "may_fail": True}), after))
+    handler = after("X", "A", "observe", options=["OnlyOnFaulted"])
+    truth = Truth(document(root("A", {"work": "a", "may_fail": True}), handler))
     faulted, calm = {"given": [{"ended": "A", "in": ["Faulted"]}]}, {"given": ["no_failure"]}
     hold = [{"after": ["A", "X"]}, {"observed": "A"}, {"runs": "A"}, {**faulted, "runs": "X"}, {**calm, "never": "X"}]
     fail = [{"runs": "X"}, {"never": "X"}, {**calm, "runs": "X"}, {**faulted, "never": "A"}, {"excludes": ["A", "X"]}]

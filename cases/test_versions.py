@@ -1,8 +1,9 @@
 """Each case of a document of version 1 or 2 is asked again as one of version 3, which has wider rules and more members.
 
-The answer is the same, byte for byte, but for the cases of OTHERWISE. There a certificate is found by a wider rule, where
-there was none or one by the narrower rules, which has more splits or other rows; or what only a later version has is read.
-Nothing that was accepted is refused, and nothing that was found isn't.
+The answer is the same, byte for byte, but for certificates that are found, and the cases of OTHERWISE. In version 3 the leaves
+of what is found have no rows, and it may have fewer splits. In OTHERWISE a certificate is found by a wider rule, where there was
+none by the narrower ones; or what only a later version has is read. Nothing that was accepted is refused, and nothing that was
+found isn't.
 """
 import dataclasses
 import json
@@ -11,22 +12,26 @@ import re
 import pytest
 
 from harness import Answer, Case, Program, all_cases
+from tokens import without_rows
 
 VERSION = re.compile(rb'("version"\s*:\s*)[12](?=\s*[,}])')
 # these show members and certificates of version 3 beside what earlier versions say of them
-NEW = ("wider-documents", "wider-certificates", "version3-reading")
-# a certificate is found, which `check` accepts in version 3, and not in the version of the case
+NEW = ("wider-documents", "wider-certificates", "version3-reading", "least")
+# a certificate is found, which `check` accepts in version 3; in the version of the case there is none
 FOUND = "found"
 # each case that is answered otherwise, and how
 OTHERWISE = {
     # the claim is about the beginning of a task, and its own token is quiet up to that
-    "ten stages with a token, the last after the third: a split on each of the six between": FOUND,
     "the last of ten stages after the third, with five splits: none": FOUND,
     "the last of ten stages after the second needs seven splits": FOUND,
     "six splits are needed, and five are allowed": FOUND,
     "more splits are needed than may be asked for": FOUND,
-    "loud tokens, at most no split": FOUND,
     "the own token of the later task, version 2": FOUND,
+    # the end of a WhenAll task says how those of its list ended
+    "an exclusion over four steps beside a hundred tasks, with three splits: none": FOUND,
+    "an exclusion over nine steps needs nine splits": FOUND,
+    # a split on who wins a WhenAny task
+    "winner, at most 2 splits": FOUND,
     # version 2 and later have linked tokens; this document has no tree for its claim
     "a link in version 1": "accepted\n",
     "a linked token in version 1": "refused: shape claim 1\n",
@@ -34,7 +39,7 @@ OTHERWISE = {
     "65 claims": "refused: shape claim 1\n",
 }
 # what an answer may be before, where it is another in version 3
-BEFORE = ("[", "not found: ", "unreadable: shape top\n", "unreadable: claim 65 TooMany\n")
+BEFORE = ("not found: ", "unreadable: shape top\n", "unreadable: claim 65 TooMany\n")
 
 
 def newer(text: bytes) -> bytes:
@@ -49,26 +54,36 @@ def cases():
             yield pytest.param(case, dataclasses.replace(case, stdin=newer(case.stdin)), id=str(case))
 
 
-def checked(program: Program, case: Case, answer: Answer) -> str:
-    """What `check` says of the document with the certificate that was found."""
-    document = {**json.loads(case.stdin), "certificate": json.loads(answer.stdout)}
-    return program("check", given=json.dumps(document)).stdout
+def split_up(text: str) -> tuple[dict, list]:
+    """The document of an answer of `analyse`, if it is one, without its certificate; and the certificate."""
+    said = json.loads(text)
+    return (said, said.pop("certificate")) if isinstance(said, dict) else ({}, said)
+
+
+def check_found(program: Program, case: Case, answer: Answer):
+    """It is a certificate whose leaves have rows only where they are asked for, and is accepted."""
+    _, trees = split_up(answer.stdout)
+    assert "--rows" in case.words or trees == [without_rows(it) for it in trees]
+    document = {**json.loads(case.stdin), "certificate": trees}
+    assert program("check", given=json.dumps(document)).stdout == "accepted\n"
 
 
 @pytest.mark.parametrize("old, new", cases())
 def test_case(program, old: Case, new: Case):
     answer, how = program(*new.words, given=new.stdin), OTHERWISE.get(old.name)
-    if how is None:
+    if how is not None:
+        assert old.stdout is not None and old.stdout.startswith(BEFORE) and answer.stdout != old.stdout
+        assert how in (FOUND, answer.stdout)
+    else:
         assert answer.exit == old.exit
+    is_found = how == FOUND or old.command == "analyse" and old.exit == 0
+    if is_found:
+        check_found(program, new, answer)
+    if is_found and how is None and old.stdout is not None:
+        assert split_up(answer.stdout)[0] == split_up(newer(old.stdout.encode()).decode())[0]
+    if not is_found and how is None:
         assert old.stdout is None or answer.stdout == newer(old.stdout.encode()).decode()
         assert set(old.contains) <= set(answer.stdout.splitlines())
-        return
-    assert old.stdout is not None and old.stdout.startswith(BEFORE) and answer.stdout != old.stdout
-    if how != FOUND:
-        assert answer.stdout == how
-        return
-    assert checked(program, new, answer) == "accepted\n"
-    assert checked(program, old, answer).startswith("refused: not closed ")
 
 
 def test_cases_that_differ_are_there():

@@ -11,7 +11,7 @@ from collections.abc import Iterable, Iterator, Sequence, Set
 from typing import NamedTuple
 
 import rules
-from rules import ACKNOWLEDGED, BY_BODY, RETURNED, THROWN, Fact, Split, taken_lists
+from rules import ACKNOWLEDGED, BY_BODY, LEAST, RETURNED, THROWN, Fact, Split, Tree, split_on, taken_lists
 from small import CANCELED, FAULTED, FINALS, RAN, Graph
 
 FINAL_OF = {how: final for final, how in BY_BODY.items()}
@@ -181,11 +181,12 @@ class Paths:
 @dataclasses.dataclass(frozen=True)
 class Leaf(rules.Leaf):
     """What a leaf assumes: in `cut` what is given of ends, in `left` the ends that splits left to each task, and of each
-    WhenAny task those that may win."""
+    WhenAny task those that may win. Then the task whose exception is to be observed, if the claim says so of one."""
 
     left: tuple[frozenset[str], ...]
     winners: tuple[frozenset[int], ...]
     planted: frozenset[Mistake]
+    observed: int | None
 
     def split(self, split: Split) -> list:
         place = self.graph.places[split.what] if split.word != "split_input" else 0
@@ -244,7 +245,8 @@ def assumed(graph: Graph, claim: dict, planted: Iterable[Mistake] = ()) -> Leaf:
     given = rules.assumed(graph, claim, True)
     said = {it.name: getattr(given, it.name) for it in dataclasses.fields(given)}
     every, winners = frozenset(FINALS), tuple(frozenset(it.of) for it in graph.tasks)
-    return Leaf(**said, left=tuple(every for _ in graph.tasks), winners=winners, planted=frozenset(planted))
+    observed = graph.places[claim["observed"]] if "observed" in claim else None
+    return Leaf(**said, left=tuple(every for _ in graph.tasks), winners=winners, planted=frozenset(planted), observed=observed)
 
 
 # ---- the rules
@@ -421,26 +423,58 @@ class Rules(rules.Rules):
 
 
 def least(leaf: Leaf) -> Rules:
-    """The rules for the rows with the least `ends` and `runs` and the most facts, and a chain wherever there is one."""
-    made = Rules(leaf, [Row() for _ in leaf.graph.tasks])
-    for place in leaf.graph.having("root", "then", "all", "any"):
-        make_family(made, place)
-    for place, row in enumerate(made.rows):
-        row.chain = rules.chain_of(made, place) or []
+    """The rules for the least rows, those of a leaf without rows: they run and end only as K1 and K2 demand, and say all that
+    K3 to K5 permit of begins and ends. They are made family by family, in declared order."""
+    made, graph = Rules(leaf, [Row() for _ in leaf.graph.tasks]), leaf.graph
+    attached = {child for each in graph.attached for child in each}
+    for place in range(len(graph.tasks)):
+        if place not in attached:
+            make_family(made, place)
     return made
 
 
 def make_family(made: Rules, place: int):
-    """Makes the row of a task, behind those of the tasks before it, and those of its children with it."""
+    """Makes the row of a task, and those of its attached children with it. No row is read by how another child begins or
+    ends, but for its own children's, so it makes no difference that the rows of one child are whole before the next one's."""
+    make_begin(made, place)
+    for child in sorted(made.graph.attached[place]):
+        make_family(made, child)
+    make_end(made, place)
+
+
+def make_begin(made: Rules, place: int):
+    """The row says whether the task runs, and what holds then. One that doesn't run says nothing of its begin."""
     row = made.rows[place]
     row.runs = made.must_run(place)
-    begins = made.may_hold_before(place)
+    begins = made.may_hold_before(place) if row.runs else set()
     row.before, row.asked = tasks_of(begins), tokens_of(begins)
-    for child in sorted(made.graph.started_by(place)):
-        make_family(made, child)
+
+
+def make_end(made: Rules, place: int):
+    """The row says how the task ends, and what holds then. One that can't end says nothing of its end. Only the task of a
+    claim `observed` has a chain, since no other chain is looked at."""
+    row = made.rows[place]
     row.ends = made.must_end(place)
-    ended = made.may_hold_past(place)
+    ended = made.may_hold_past(place) if row.ends else set()
     row.past, row.asks = tasks_of(ended), tokens_of(ended)
+    if place == made.leaf.observed:
+        row.chain = rules.chain_of(made, place) or []
+
+
+def without_rows(tree: Tree) -> Tree:
+    """The tree with leaves without rows."""
+    branches = split_on(tree)
+    return branches.split.tree([without_rows(it) for it in branches.trees]) if branches else LEAST
+
+
+def with_rows(leaf: Leaf, tree: Tree) -> Tree:
+    """The tree with the rows written out for which its leaves without rows stand, where this is assumed above it."""
+    if isinstance(tree, str):
+        return least(leaf).tree()
+    branches = split_on(tree)
+    if branches is None:
+        return tree
+    return branches.split.tree([with_rows(*each) for each in zip(leaf.split(branches.split), branches.trees)])
 
 
 # ---- what is said of a certificate
@@ -458,6 +492,6 @@ def row_of(graph: Graph, said: dict) -> Row:
     return Row(it.ends, it.runs, it.before, it.past, it.chain, set(said.get("asked", [])), set(said.get("asks", [])))
 
 
-def verdict(graph: Graph, claim: dict, tree: dict) -> str:
+def verdict(graph: Graph, claim: dict, tree: Tree) -> str:
     """What `check` answers to a document of version 3 with this claim and this tree alone."""
     return rules.judged(assumed(graph, claim), claim, tree)
