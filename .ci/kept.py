@@ -1,9 +1,9 @@
 """The wrong bodies that were refused already: crates/NAME/wrong/refused.txt, a line 'EDIT CHECKSUM' for each.
 
-A wrong body that was refused needs no second try while nothing that its refusal rests on has changed: the toolchain, the
-scripts that try it, the edit, all files of its crate, and the sources and definitions of the crates below. The checksum is
-over all of these, but for lines that are comments: no proof reads them. A tenth of them, another one with each commit, is
-tried all the same.
+A wrong body that was refused needs no second try while nothing that its refusal rests on has changed: the toolchain's
+logic, the scripts that try it, the edit, all files of its crate, and the sources and definitions of the crates below. The
+checksum is over all of these, but for lines that are comments: no proof reads them. A tenth of them, another one with each
+commit, is tried all the same.
 """
 import functools
 import hashlib
@@ -54,10 +54,10 @@ def of_files(name, parts):
 
 @functools.lru_cache(maxsize=None)
 def of_tools():
-    """The checksum of what tries the edits."""
-    version = subprocess.run(["rt", "version"], stdout=subprocess.PIPE, check=True).stdout
+    """The checksum of what tries the edits: the toolchain's logic, which its version names last, and the scripts."""
+    version = subprocess.run(["rt", "version"], stdout=subprocess.PIPE, text=True, check=True).stdout
     here = os.path.dirname(os.path.realpath(__file__))
-    return digest(version, *(bytes_of(f"{here}/{it}") for it in SCRIPTS))
+    return digest(version.split()[-1], *(bytes_of(f"{here}/{it}") for it in SCRIPTS))
 
 
 @functools.lru_cache(maxsize=None)
