@@ -5,7 +5,7 @@ use Rattle.tpl_model.specs.Graph.{TaskGraph, is_task}
 use Rattle.tpl_model.specs.declared.ids.TaskId.{TaskId}
 use Rattle.tpl_model.specs.declared.claim.Property.{Property}
 use Rattle.tpl_model.specs.Certificate.{Row, Tree, SplitInput, SplitEnd, Leaf, Assumed, with_input, with_end, AcceptsTree}
-use Rattle.tpl_cert.specs.Heights.{height, HasShortChains}
+use Rattle.tpl_trees.specs.Heights.{height, HasShortChains}
 use Rattle.tpl_analyser.specs.declared.form.Form.{Form}
 use Rattle.tpl_analyser.specs.Found.{IsFound}
 use Rattle.tpl_analyser.specs.Slim.{AreOfForm, IsOfForm}

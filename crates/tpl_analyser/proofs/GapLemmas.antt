@@ -9,9 +9,9 @@ use Rattle.tpl_model.specs.Claims.{Claim}
 use Rattle.tpl_model.specs.Certificate.{Tree, AcceptsTree, Accepts, assumed_for}
 use Rattle.tpl_model.specs.WiderRules.{WideTree, as_wide_tree}
 use Rattle.tpl_model.specs.declared.rule_set.RuleSet.TheVariants.{Narrow}
-use Rattle.tpl_cert.proofs.WithinLimits.{same_height}
-use Rattle.tpl_cert.specs.Heights.{height, IsWithinLimits}
-use Rattle.tpl_cert.specs.WideHeights.{wide_height}
+use Rattle.tpl_trees.proofs.WithinLimits.{same_height}
+use Rattle.tpl_trees.specs.Heights.{height, IsWithinLimits}
+use Rattle.tpl_trees.specs.WideHeights.{wide_height}
 use Rattle.tpl_analyser.specs.declared.form.Form.{Form}
 use Rattle.tpl_analyser.specs.Found.{IsFound}
 use Rattle.tpl_analyser.specs.Gaps.{IsFirstWithout}

@@ -9,7 +9,7 @@ use Rattle.tpl_model.specs.Claims.{Claim}
 use Rattle.tpl_model.specs.declared.rule_set.RuleSet.TheVariants.{Wide}
 use Rattle.tpl_model.specs.WiderRules.{WideTree, widely_assumed}
 use Rattle.tpl_laws.specs.WideTrees.{AcceptsWideTree, WidelyAccepts}
-use Rattle.tpl_cert.specs.WideHeights.{wide_height, IsWithinWideLimits}
+use Rattle.tpl_trees.specs.WideHeights.{wide_height, IsWithinWideLimits}
 use Rattle.tpl_analyser.specs.declared.form.Form.{Form}
 use Rattle.tpl_analyser.specs.WideFound.{IsWidelyFound}
 use Rattle.tpl_analyser.specs.Gaps.{IsFirstWithout}

@@ -4,7 +4,7 @@ use Rattle.tpl_model.specs.Graph.{TaskGraph}
 use Rattle.tpl_model.specs.declared.ids.TaskId.{TaskId}
 use Rattle.tpl_model.specs.declared.claim.Property.{Property}
 use Rattle.tpl_model.specs.Certificate.{Tree, Assumed, AcceptsTree}
-use Rattle.tpl_cert.specs.Heights.{height, HasShortChains}
+use Rattle.tpl_trees.specs.Heights.{height, HasShortChains}
 use Rattle.tpl_analyser.specs.declared.form.Form.{Form}
 use Rattle.tpl_analyser.specs.Slim.{IsOfForm}
 

@@ -5,7 +5,7 @@ use Rattle.tpl_model.specs.Graph.{TaskGraph}
 use Rattle.tpl_model.specs.Claims.{Claim}
 use Rattle.tpl_model.specs.WiderRules.{WideTree}
 use Rattle.tpl_laws.specs.ByRules.{AcceptsBy}
-use Rattle.tpl_cert.specs.WideHeights.{wide_height}
+use Rattle.tpl_trees.specs.WideHeights.{wide_height}
 use Rattle.tpl_analyser.specs.declared.gap.Gap.{Gap}
 use Rattle.tpl_analyser.specs.declared.gap.Gap.TheVariants.{NotFound, Memory}
 

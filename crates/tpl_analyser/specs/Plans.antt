@@ -2,7 +2,7 @@
 use Rattle.std.specs.Prelude.{ℕ, ◌<◌, ◌≤◌, ⊤, Option, IfSome, Result, IfOk}
 use Rattle.tpl_model.specs.Graph.{TaskGraph, is_task}
 use Rattle.tpl_model.specs.WiderRules.{WideTree, OnInput, OnEnd, OnWinner, WideLeaf, LeastLeaf}
-use Rattle.tpl_cert.specs.WideHeights.{wide_height}
+use Rattle.tpl_trees.specs.WideHeights.{wide_height}
 
 -- each split is on one of the graph's inputs, on how one of its tasks ends, or on a winner
 abbrev pub HasSplitsOf : TaskGraph → WideTree → Type 0

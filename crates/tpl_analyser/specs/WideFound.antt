@@ -5,7 +5,7 @@ use Rattle.tpl_model.specs.declared.ids.TaskId.{TaskId}
 use Rattle.tpl_model.specs.declared.claim.Property.{Property}
 use Rattle.tpl_model.specs.WiderRules.{WideTree, WideAssumed}
 use Rattle.tpl_laws.specs.WideTrees.{AcceptsWideTree}
-use Rattle.tpl_cert.specs.WideHeights.{wide_height, HasShortWideChains}
+use Rattle.tpl_trees.specs.WideHeights.{wide_height, HasShortWideChains}
 use Rattle.tpl_analyser.specs.declared.form.Form.{Form}
 use Rattle.tpl_analyser.specs.Slim.{HasLeavesOf}
 

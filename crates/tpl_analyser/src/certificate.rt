@@ -2,7 +2,7 @@
 
 ghost use Rattle.std.specs.Prelude.{◌≡◌, ◌≤◌, IfOk, IfErr, IfSome, None, false};
 ghost use Rattle.std.specs.List.{All};
-ghost use Rattle.tpl_cert.specs.Heights.{height};
+ghost use Rattle.tpl_trees.specs.Heights.{height};
 ghost use Rattle.tpl_graph.specs.Fits.{Fits};
 ghost use Rattle.tpl_model.specs.Certificate.{Accepts, assumed_for};
 ghost use Rattle.tpl_model.specs.declared.rule_set.RuleSet.TheVariants.{Narrow};
@@ -26,12 +26,12 @@ use crate::question::Question;
 use crate::split::{Split, all_splits};
 use crate::watch::{Unwatched, Watch};
 use std::alloc::{AllocError, Global};
-use tpl_cert::{Certificate, Tree};
 use tpl_checker::{Below, assumed_for};
 use tpl_graph::{Claim, Graph};
 use tpl_model::{MOST_TOKENS, RuleSet};
 use tpl_outline::{Followers, Stage, stages_of};
 use tpl_paths::TokenSet;
+use tpl_trees::{Certificate, Tree};
 use tpl_wide::links;
 
 /// Searches for a certificate of the claims, each of which can be asked of the graph, by the narrow rules and with at most

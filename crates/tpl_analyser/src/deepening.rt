@@ -14,7 +14,7 @@ use crate::ran_out::RanOut;
 use crate::search::{Reach, split};
 use crate::watch::Watch;
 use std::alloc::{AllocError, Global};
-use tpl_cert::WideTree;
+use tpl_trees::WideTree;
 
 /// The plan of a tree with as few splits on a path as one is found with: in the order of the search, and where
 /// that uses its leaves up, by a directed search.

@@ -3,7 +3,7 @@
 ghost use Rattle.std.specs.Prelude.{◌≡◌, ◌≤◌, ◌↔◌, ℕ, IsSome, IfSome};
 
 use std::marker::Model;
-use tpl_cert::MOST_SPLITS;
+use tpl_trees::MOST_SPLITS;
 
 /// The most splits on each path of the trees that a search gives: 0 to 6.
 #[derive(Clone, Copy, Debug, PartialEq, Eq)]

@@ -6,8 +6,8 @@ ghost use Rattle.tpl_model.specs.Members.{mem};
 ghost use Rattle.tpl_analyser.specs.Slim.{AreOfForm, IsSlimRow, IsUsed};
 
 use std::alloc::{AllocError, Global};
-use tpl_cert::Row;
 use tpl_model::{MOST_TASKS, Property, TaskSet};
+use tpl_trees::Row;
 
 /// How much the rows of a certificate say in `before` and `past`. By the wide rules a leaf may leave its rows out, and does
 /// so but where they are asked for.

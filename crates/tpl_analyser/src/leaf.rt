@@ -12,10 +12,10 @@ use crate::form::in_form;
 use crate::question::Question;
 use crate::watch::Watch;
 use std::alloc::{AllocError, Global};
-use tpl_cert::{Node, Row, Tree, is_within_limits};
 use tpl_checker::accepts_leaf;
 use tpl_model::{RuleSet, TaskId};
 use tpl_outline::{least_rows, reached};
+use tpl_trees::{Node, Row, Tree, is_within_limits};
 use tpl_wide::{Check, least_leaf_proves};
 
 /// The rows of so many tasks are worked out in the time in which a leaf is tried by what becomes of tasks alone.

@@ -3,7 +3,7 @@
 ghost use Rattle.std.specs.Prelude.{◌≡◌, IfOk, IfSome};
 ghost use Rattle.tpl_model.specs.Certificate.{SplitEnd, SplitInput};
 ghost use Rattle.tpl_model.specs.WiderRules.{LeastLeaf, OnEnd, OnInput, OnWinner};
-ghost use Rattle.tpl_cert.specs.WideHeights.{wide_height};
+ghost use Rattle.tpl_trees.specs.WideHeights.{wide_height};
 ghost use Rattle.tpl_checker.specs.Assumptions.{assumed_of};
 ghost use Rattle.tpl_analyser.specs.Found.{IsFound};
 ghost use Rattle.tpl_analyser.specs.Plans.{HasSplitsOf};
@@ -14,8 +14,8 @@ use crate::leaf::leaf;
 use crate::question::Question;
 use crate::win::Win;
 use std::alloc::{AllocError, Global};
-use tpl_cert::{Node, Tree, WideNode, WideTree};
 use tpl_model::{Final, InputId, TaskId};
+use tpl_trees::{Node, Tree, WideNode, WideTree};
 
 /// The plan with no split.
 pub(crate) fn no_split() -> WideTree

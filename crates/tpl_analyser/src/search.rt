@@ -18,8 +18,8 @@ use crate::split::Split;
 use crate::watch::Watch;
 use crate::win::Win;
 use std::alloc::{AllocError, Global};
-use tpl_cert::WideTree;
 use tpl_model::{Final, InputId, TaskId};
+use tpl_trees::WideTree;
 
 /// How far a search may go on.
 #[derive(Clone, Copy)]

@@ -2,7 +2,7 @@
 
 ghost use Rattle.std.specs.Prelude.{◌≡◌, ◌≤◌, [], IfOk, IfErr, IfSome};
 ghost use Rattle.std.specs.List.{All};
-ghost use Rattle.tpl_cert.specs.WideHeights.{wide_height};
+ghost use Rattle.tpl_trees.specs.WideHeights.{wide_height};
 ghost use Rattle.tpl_graph.specs.Fits.{Fits};
 ghost use Rattle.tpl_model.specs.WiderRules.{widely_assumed};
 ghost use Rattle.tpl_model.specs.declared.rule_set.RuleSet.TheVariants.{Wide};
@@ -31,10 +31,10 @@ use crate::ran_out::RanOut;
 use crate::watch::Watch;
 use crate::written::in_form;
 use std::alloc::{AllocError, Global};
-use tpl_cert::{WideCertificate, WideTree, is_within_wide_limits};
 use tpl_checker::{Assumptions, Below, assumed_for};
 use tpl_graph::{Claim, Graph};
 use tpl_model::RuleSet;
+use tpl_trees::{WideCertificate, WideTree, is_within_wide_limits};
 use tpl_wide::{Check, accepts_tree};
 
 /// Searches for a certificate of the claims as [`crate::analyse_within`] does, by the rules that know of tokens and of

@@ -2,7 +2,7 @@
 
 ghost use Rattle.std.specs.Prelude.{◌≡◌, ◌<◌, IfOk};
 ghost use Rattle.tpl_model.specs.WiderRules.{OnEnd, OnInput, OnWinner};
-ghost use Rattle.tpl_cert.specs.WideHeights.{wide_height};
+ghost use Rattle.tpl_trees.specs.WideHeights.{wide_height};
 ghost use Rattle.tpl_wide.specs.Check.{IsCheck, graph_in};
 ghost use Rattle.tpl_analyser.specs.Plans.{HasNoRows, HasSplitsOf};
 ghost use Rattle.tpl_analyser.specs.Slim.{HasAllRows, HasLeavesOf};
@@ -11,9 +11,9 @@ use crate::form::Form;
 use crate::plan::{end_plan, input_plan, winner_plan};
 use crate::win::Win;
 use std::alloc::{AllocError, Global};
-use tpl_cert::{WideNode, WideTree};
 use tpl_checker::Assumptions;
 use tpl_model::{Final, InputId, TaskId};
+use tpl_trees::{WideNode, WideTree};
 use tpl_wide::{Check, WinnerSplit, rows_left_out, with_split};
 
 /// The tree of a plan in this form.

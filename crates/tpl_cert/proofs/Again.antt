@@ -11,10 +11,11 @@ use Rattle.tpl_draft.specs.Named.{Names}
 use Rattle.tpl_draft.specs.Names.{some_twice}
 use Rattle.tpl_json.specs.Members.{◌>>=◌, has_only, text_in, list_or_none, each, texts_in}
 use Rattle.tpl_json.specs.Finals.{no_finals, final_word, final_at, finals_at}
+use Rattle.tpl_trees.specs.Sets.{IsSet}
 use Rattle.tpl_cert.specs.NamedTrees.{NamedRow, NamedTree, SplitInput, SplitEnd, SplitWinner, Leaf, Least}
 use Rattle.tpl_cert.specs.Reading.{row_at, leaf_at, input_at, end_at, winner_at, node_at, whole_tree}
 use Rattle.tpl_cert.specs.Naming.{number_of, set_in, row_in, wide_row_in, tree_in}
-use Rattle.tpl_cert.specs.Written.{texts_data, words_of, row_data, tree_data, name_at, is_id, has_row_ids, has_ids, IsSet, HasRowSets, HasSets, bare}
+use Rattle.tpl_cert.specs.Written.{texts_data, words_of, row_data, tree_data, name_at, is_id, has_row_ids, has_ids, HasRowSets, HasSets, bare}
 use Rattle.tpl_cert.specs.Spelled.{spelled_tree}
 use Rattle.tpl_model.specs.declared.rule_set.RuleSet.{RuleSet}
 use Rattle.tpl_model.specs.declared.rule_set.RuleSet.TheVariants.{Narrow, Wide}

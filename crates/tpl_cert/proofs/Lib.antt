@@ -2,12 +2,11 @@ pub mod Levels
 pub mod Names
 pub mod Trees
 pub mod PlainTrees
-pub mod WithinLimits
+pub mod ReadWithin
 pub mod Ids
 pub mod Unique
 pub mod Again
 pub mod Nesting
 pub mod Tokens
 pub mod Texts
-pub mod TokenLists
 pub mod TokensWritten

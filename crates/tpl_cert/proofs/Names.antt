@@ -8,7 +8,7 @@ use Rattle.std.specs.Str.{bytes_eq}
 use Rattle.tpl_model.proofs.SetLists.{mem_within, sets_lem, mem-passing_from, passing_from-mem, passing_from-ascends}
 use Rattle.tpl_model.proofs.Truths.{same_tests}
 use Rattle.tpl_model.specs.Members.{mem}
-use Rattle.tpl_model.specs.TaskSet.{IsTaskSet, passing_from}
+use Rattle.tpl_model.specs.TaskSet.{IsTaskSet}
 use Rattle.tpl_model.specs.Certificate.{Row}
 use Rattle.tpl_draft.specs.Named.{Names}
 use Rattle.tpl_json.specs.declared.miss.Miss.{Miss}
@@ -17,13 +17,15 @@ use Rattle.tpl_json.specs.Passes.{Fails}
 use Rattle.tpl_json.proofs.Passes.{each_empty, or_ok}
 use Rattle.tpl_paths.specs.declared.token_set.TokenSet.{TokenSet}
 use Rattle.tpl_paths.specs.TokenSet.{has_token, no_tokens}
+use Rattle.tpl_trees.specs.Sets.{as_set, IsSet}
+use Rattle.tpl_trees.specs.WideCoding.{tokens_in}
+use Rattle.tpl_trees.proofs.TokenLists.{tokens_are}
 use Rattle.tpl_cert.specs.NamedTrees.{NamedRow}
 use Rattle.tpl_cert.specs.Plain.{IsPlainRow}
-use Rattle.tpl_cert.specs.WideCoding.{tokens_in}
 use Rattle.tpl_cert.specs.declared.fault.TreeFault.{TreeFault}
 use Rattle.tpl_cert.specs.declared.fault.TreeFault.TheVariants.{Unknown}
-use Rattle.tpl_cert.specs.Written.{IsSet, bare}
-use Rattle.tpl_cert.specs.Naming.{number_of, number_in, numbers_in, as_set, set_in, row_in, wide_row_in}
+use Rattle.tpl_cert.specs.Written.{bare}
+use Rattle.tpl_cert.specs.Naming.{number_of, number_in, numbers_in, set_in, row_in, wide_row_in}
 
 pub list_all_stops : {X Y : Type 0} (p : Y → Bool) (g : X → Y) (xs : List X) (i : ℕ) (d : X) → i < length xs → p (g (get_or xs i d)) ≡ false → list_all p (map g xs) ≡ false
 list_all_stops p g [] i d lt h = absurd (omega arith)
@@ -72,15 +74,6 @@ set_is ns set ascends same =
     sets_lem (as_set 1024 ns) set (passing_from-ascends (λ x. mem x ns) 0 1024 1024 (omega arith)) ascends
     (λ x. same_tests (mem x (as_set 1024 ns)) (mem x set) (λ m. same x ∙ mem-passing_from (λ y. mem y ns) 0 1024 x m)
     (λ m. let within = (mem_within 0 1024 set x ascends m).1 in passing_from-mem (λ y. mem y ns) 0 1024 x (omega arith) (omega arith) (sym (same x) ∙ m)))
-
-passing_same : (p q : ℕ → Bool) (low n : ℕ) → ((x : ℕ) → p x ≡ q x) → passing_from p low n ≡ passing_from q low n
-passing_same p q low zero same = refl
-passing_same p q low (suc n) same = rw (same low, passing_same p q (suc low) n same) refl
-
--- a set of tokens with these members
-pub tokens_are : (ns : List ℕ) (set : TokenSet) → ((k : ℕ) → has_token set k ≡ mem k ns) → as_set 32 ns ≡ tokens_in set
-unfolding tokens_in
-tokens_are ns set same = sym (passing_same (has_token set) (λ k. mem k ns) 0 32 same)
 
 pub task_set : (set : List ℕ) → IsTaskSet set → IsSet 1024 set
 unfolding IsSet

@@ -9,7 +9,7 @@ use Rattle.tpl_model.specs.declared.rule_set.RuleSet.TheVariants.{Narrow, Wide}
 use Rattle.tpl_model.specs.Certificate.{Row}
 use Rattle.tpl_model.specs.WiderRules.{WideRow, WideTree, OnInput, OnEnd, OnWinner, WideLeaf, LeastLeaf}
 use Rattle.tpl_draft.specs.Named.{Names}
-use Rattle.tpl_cert.specs.WideHeights.{wide_height}
+use Rattle.tpl_trees.specs.WideHeights.{wide_height}
 use Rattle.tpl_cert.specs.Written.{words_of, name_at, row_members, row_data, tree_data, certificate_data}
 
 texts_flat : (texts : List (List ℕ)) → items_depth (items_of (map string texts)) ≤ 0

@@ -2,15 +2,7 @@ pub mod NamedTrees
 pub mod Plain
 pub mod Reading
 pub mod Seen
-pub mod Trees
-pub mod Heights
-pub mod Coding
-pub mod Falls
 pub mod Naming
 pub mod Laws
 pub mod Spelled
 pub mod Written
-pub mod WideCoding
-pub mod WideTrees
-pub mod WideHeights
-pub mod WideFalls

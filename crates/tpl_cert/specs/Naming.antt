@@ -3,12 +3,11 @@ use Rattle.std.specs.Prelude.{ℕ, Bool, List, Option, is_some, Result, Ok, ok_o
 use Rattle.std.specs.List.{position}
 use Rattle.std.specs.Str.{bytes_eq}
 use Rattle.tpl_model.specs.declared.limits.TheConstants.{MOST_TASKS, MOST_TOKENS}
-use Rattle.tpl_model.specs.Members.{mem}
-use Rattle.tpl_model.specs.TaskSet.{passing_from}
 use Rattle.tpl_model.specs.Certificate.{Row}
 use Rattle.tpl_model.specs.WiderRules.{WideRow, WideTree, OnInput, OnEnd, OnWinner, WideLeaf, LeastLeaf}
 use Rattle.tpl_draft.specs.Named.{Names}
 use Rattle.tpl_json.specs.Passes.{◌>>=◌, each_from, all_or}
+use Rattle.tpl_trees.specs.Sets.{as_set}
 use Rattle.tpl_cert.specs.NamedTrees.{NamedRow, NamedTree, SplitInput, SplitEnd, SplitWinner, Leaf, Least}
 use Rattle.tpl_cert.specs.declared.fault.TreeFault.{TreeFault}
 use Rattle.tpl_cert.specs.declared.fault.TreeFault.TheVariants.{Unknown}
@@ -26,10 +25,6 @@ number_in names name = ok_or (number_of names name) Unknown
 
 abbrev pub numbers_in : List (List ℕ) → List (List ℕ) → Result (List ℕ) TreeFault
 numbers_in names texts = all_or Unknown (number_of names) texts
-
--- the numbers among these, of those below the most, in ascending order and none twice
-abbrev pub as_set : ℕ → List ℕ → List ℕ
-as_set most ns = passing_from (λ x. mem x ns) 0 most
 
 -- the set of what the texts name
 abbrev pub set_in : ℕ → List (List ℕ) → List (List ℕ) → Result (List ℕ) TreeFault

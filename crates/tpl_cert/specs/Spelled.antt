@@ -10,7 +10,7 @@ use Rattle.tpl_cert.specs.declared.fault.TreeFault.{TreeFault}
 use Rattle.tpl_cert.specs.declared.fault.TreeFault.TheVariants.{Shape, Limit}
 use Rattle.tpl_cert.specs.Reading.{whole_tree}
 use Rattle.tpl_cert.specs.Naming.{tree_in}
-use Rattle.tpl_cert.specs.WideHeights.{is_within_limits}
+use Rattle.tpl_trees.specs.WideHeights.{is_within_limits}
 
 -- the tree that the value spells, with the names of a graph for the ids, or what is wrong: no tree is spelled so, or a name in it isn't the graph's
 unfoldable pub spelled_tree : RuleSet → Names → Data → Result WideTree TreeFault

@@ -8,13 +8,12 @@ use Rattle.serde_json.specs.Written.{outline, members_outline}
 use Rattle.serde_json.specs.Data.{Data, string, boolean, array, object, Members, no_members, member}
 use Rattle.serde_json.specs.View.{items_of}
 use Rattle.tpl_model.specs.declared.finals.Finals.{Finals}
-use Rattle.tpl_model.specs.declared.limits.TheConstants.{MOST_TASKS, MOST_TOKENS}
 use Rattle.tpl_model.specs.declared.rule_set.RuleSet.{RuleSet}
 use Rattle.tpl_model.specs.declared.rule_set.RuleSet.TheVariants.{Narrow, Wide}
 use Rattle.tpl_model.specs.Certificate.{Row}
 use Rattle.tpl_model.specs.WiderRules.{WideRow, WideTree, OnInput, OnEnd, OnWinner, WideLeaf, LeastLeaf}
 use Rattle.tpl_draft.specs.Named.{Names}
-use Rattle.tpl_cert.specs.Naming.{as_set}
+use Rattle.tpl_trees.specs.Sets.{HasTaskSets, HasTokenSets}
 use Rattle.tpl_cert.specs.declared.fault.TreeToFault.{TreeToFault}
 use Rattle.tpl_cert.specs.declared.fault.TreeToFault.TheVariants as faults
 
@@ -99,17 +98,7 @@ has_ids n (OnWinner t x a b) = is_id n.tasks t && (is_id n.tasks x && (has_ids n
 has_ids n (WideLeaf rows) = list_all (has_row_ids n) rows
 has_ids n LeastLeaf = true
 
--- the list is a set of ids: they ascend, none is there twice, and each is below the most
-unfoldable pub IsSet : ℕ → List ℕ → Type 0
-IsSet most ids = as_set most ids ≡ ids
-
 -- what stands before and past is a set of tasks, and the tokens are sets
-abbrev pub HasTaskSets : Row → Type 0
-HasTaskSets r = IsSet MOST_TASKS r.before × IsSet MOST_TASKS r.past
-
-abbrev pub HasTokenSets : WideRow → Type 0
-HasTokenSets r = IsSet MOST_TOKENS r.asked × IsSet MOST_TOKENS r.asks
-
 abbrev pub HasRowSets : WideRow → Type 0
 HasRowSets r = HasTokenSets r × HasTaskSets r.row
 

@@ -11,18 +11,15 @@ ghost use Rattle.tpl_cert.specs.Spelled.{spelled_tree, read_tree};
 ghost use Rattle.tpl_cert.specs.declared.fault.TreeFault.TheVariants.{Memory};
 
 use crate::fault::TreeFault;
-use crate::limits::is_within_limits;
 use crate::named::NamedTree;
 use crate::naming::{tree_in, wide_tree_in};
 use crate::read::named_tree;
-use crate::tree::Tree;
-use crate::wide_limits::is_within_wide_limits;
-use crate::wide_tree::WideTree;
 use json::Value;
 use std::alloc::Global;
 use tpl_graph::Graph;
 use tpl_json::{Miss, Shape};
 use tpl_model::RuleSet;
+use tpl_trees::{Tree, WideTree, is_within_limits, is_within_wide_limits};
 
 /// The tree that the value spells, still with names.
 fn named_from<'v, 't>(

@@ -8,20 +8,17 @@ ghost use Rattle.tpl_json.specs.declared.miss.Miss.TheVariants as miss;
 ghost use Rattle.tpl_model.specs.WiderRules.{as_wide, as_wide_tree};
 ghost use Rattle.tpl_cert.specs.Seen.{row_of, tree_of};
 ghost use Rattle.tpl_cert.specs.Plain.{IsPlainRow, IsPlain};
-ghost use Rattle.tpl_cert.specs.WideCoding.{tokens_in};
+ghost use Rattle.tpl_trees.specs.WideCoding.{tokens_in};
 ghost use Rattle.tpl_cert.specs.Naming.{number_in, numbers_in, set_in, row_in, wide_row_in, wide_rows_in, tree_in};
 
 use crate::fault::TreeFault;
 use crate::named::{NamedRow, NamedTree};
-use crate::row::Row;
-use crate::tree::{Node, Tree};
-use crate::wide_row::WideRow;
-use crate::wide_tree::{WideNode, WideTree};
 use std::alloc::Global;
 use tpl_graph::Graph;
 use tpl_json::Miss;
 use tpl_model::{InputId, MOST_TASKS, MOST_TOKENS, TaskId, TaskSet, TokenId};
 use tpl_paths::TokenSet;
+use tpl_trees::{Node, Row, Tree, WideNode, WideRow, WideTree};
 
 fn input_in(graph: &Graph, name: &str) -> Result<InputId, Miss<TreeFault>>
     ensures yields { Yields input_number result (number_in graph.now.names.inputs name.now) }

@@ -9,17 +9,17 @@ ghost use Rattle.tpl_draft.specs.Ids.{task_number};
 ghost use Rattle.tpl_model.specs.TaskSet.{IsTaskSet};
 ghost use Rattle.tpl_model.specs.WiderRules.{as_wide};
 ghost use Rattle.tpl_model.specs.declared.rule_set.RuleSet.TheVariants.{Narrow, Wide};
-ghost use Rattle.tpl_cert.specs.WideCoding.{tokens_in};
-ghost use Rattle.tpl_cert.specs.Written.{texts_data, word_if, words_of, row_members, row_data, names_data, name_at, is_id, has_task_ids, has_row_ids, HasTaskSets, HasRowSets, bare, Writes, Puts, PutsValue, PutsMembers};
+ghost use Rattle.tpl_trees.specs.Sets.{HasTaskSets};
+ghost use Rattle.tpl_trees.specs.WideCoding.{tokens_in};
+ghost use Rattle.tpl_cert.specs.Written.{texts_data, word_if, words_of, row_members, row_data, names_data, name_at, is_id, has_task_ids, has_row_ids, HasRowSets, bare, Writes, Puts, PutsValue, PutsMembers};
 
 use crate::fault::TreeToFault;
-use crate::row::Row;
-use crate::wide_row::WideRow;
 use json::Writer;
 use std::alloc::AllocError;
 use tpl_graph::Graph;
 use tpl_model::{Finals, MOST_TOKENS, TaskId, TaskSet, TokenId};
 use tpl_paths::TokenSet;
+use tpl_trees::{Row, WideRow};
 
 /// The name of a task, where it is the graph's.
 pub(crate) fn task_name(graph: &Graph, task: TaskId) -> Result<&str, TreeToFault>

@@ -9,8 +9,8 @@ ghost use Rattle.serde_json.specs.Data.{array};
 ghost use Rattle.serde_json.specs.Read.{read};
 ghost use Rattle.serde_json.specs.View.{items_of};
 ghost use Rattle.serde_json.specs.Written.{compact_text};
-ghost use Rattle.tpl_cert.specs.Heights.{height};
-ghost use Rattle.tpl_cert.specs.WideHeights.{wide_height};
+ghost use Rattle.tpl_trees.specs.Heights.{height};
+ghost use Rattle.tpl_trees.specs.WideHeights.{wide_height};
 ghost use Rattle.tpl_cert.specs.Spelled.{spelled_tree};
 ghost use Rattle.tpl_model.specs.WiderRules.{as_wide, as_wide_tree};
 ghost use Rattle.tpl_model.specs.declared.rule_set.RuleSet.{RuleSet};
@@ -18,15 +18,12 @@ ghost use Rattle.tpl_model.specs.declared.rule_set.RuleSet.TheVariants.{Narrow, 
 ghost use Rattle.tpl_cert.specs.Written.{row_data, leaf_data, tree_data, name_at, is_id, certificate_data, has_row_ids, has_ids, HasRowSets, HasSets, Writes, Puts, PutsValue};
 
 use crate::fault::TreeToFault;
-use crate::row::Row;
 use crate::row_text::{open_object, task_name, write_rows, write_wide_rows};
-use crate::tree::{Node, Tree};
-use crate::wide_row::WideRow;
-use crate::wide_tree::{WideNode, WideTree};
 use json::Writer;
 use std::alloc::{AllocError, Global};
 use tpl_graph::Graph;
 use tpl_model::InputId;
+use tpl_trees::{Node, Row, Tree, WideNode, WideRow, WideTree};
 
 /// The name of an input, where it is the graph's.
 fn input_name(graph: &Graph, input: InputId) -> Result<&str, TreeToFault>

@@ -7,7 +7,7 @@ use Rattle.tpl_model.specs.Claims.{Claim}
 use Rattle.tpl_model.specs.Certificate.{Tree, SplitInput, SplitEnd, Leaf}
 use Rattle.tpl_model.specs.declared.fault.CertFault.TheVariants.{Shape}
 use Rattle.tpl_model.specs.declared.claim.Property.TheVariants.{Never}
-use Rattle.tpl_cert.specs.Heights.{height}
+use Rattle.tpl_trees.specs.Heights.{height}
 use Rattle.tpl_laws.specs.Verdict.{unless, fits, misfit, leaves}
 use Rattle.tpl_checker.proofs.Basics.{drop_all}
 

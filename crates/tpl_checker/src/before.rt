@@ -7,9 +7,9 @@ ghost use Rattle.tpl_laws.specs.RowTests.{all_in, before, before_by};
 
 use crate::parents::parent;
 use crate::rows::{implies, row, settled_after, within};
-use tpl_cert::Row;
 use tpl_graph::{Graph, Role};
 use tpl_model::{TaskId, TaskSet};
+use tpl_trees::Row;
 
 /// What stands before a task whose row runs may be taken as settled when it begins.
 pub(crate) fn before(graph: &Graph, rows: &[Row], task: TaskId) -> bool

@@ -10,9 +10,9 @@ ghost use Rattle.tpl_checker.specs.Bodies.{AreBodies};
 use crate::bodies::Bodies;
 use crate::parents::parent;
 use crate::rows::{allowed, implies, row, some_end};
-use tpl_cert::Row;
 use tpl_graph::{Graph, Role};
 use tpl_model::TaskId;
+use tpl_trees::Row;
 
 /// The row runs, if it is a root's, or its antecedent may end in a way that the options let the
 /// continuation run after, or its parent may start it.

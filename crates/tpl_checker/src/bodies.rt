@@ -9,9 +9,9 @@ ghost use Rattle.tpl_checker.specs.Bodies.{AreBodies, AreFirstBodies};
 use crate::assumptions::Assumptions;
 use crate::rows::with_if;
 use crate::view::view;
-use tpl_cert::Row;
 use tpl_graph::Graph;
 use tpl_model::{TaskId, TaskSet};
+use tpl_trees::Row;
 
 /// How the bodies may end in the runs of a leaf, and which children they may start: the tasks of which
 /// some path returns, throws or acknowledges a cancellation, and the children that some path starts. A

@@ -13,9 +13,9 @@ ghost use Rattle.tpl_graph.specs.Roles.{AreTasks};
 use crate::assumptions::Assumptions;
 use crate::rows::{is_member, row};
 use crate::view::faulted_view;
-use tpl_cert::Row;
 use tpl_graph::{Graph, Role};
 use tpl_model::{Final, TaskId};
+use tpl_trees::Row;
 
 /// The chain of the row of the task, if it has one, leads to a reader.
 pub(crate) fn chain(graph: &Graph, assumed: &Assumptions, rows: &[Row], task: TaskId) -> bool

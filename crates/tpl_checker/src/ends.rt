@@ -17,9 +17,9 @@ use crate::assumptions::Assumptions;
 use crate::bodies::Bodies;
 use crate::rows::{excluded, implies, row, some_end};
 use crate::view::{NO_END, ends_of_one};
-use tpl_cert::Row;
 use tpl_graph::{Graph, Role};
 use tpl_model::{Final, Finals, TaskId, TaskSet};
+use tpl_trees::Row;
 
 /// Each way in which the task may end stands in its row, but for those that the leaf leaves out.
 pub(crate) fn ends(

@@ -9,9 +9,9 @@ ghost use Rattle.tpl_checker.specs.Last.{IsLast};
 use crate::assumptions::Assumptions;
 use crate::bodies::Bodies;
 use crate::view::subject;
-use tpl_cert::Row;
 use tpl_graph::Graph;
 use tpl_model::TaskId;
+use tpl_trees::Row;
 
 /// A leaf whose bodies were read: what it assumes, its rows, and how the bodies may end in its runs.
 #[derive(Drop)]

@@ -20,9 +20,9 @@ use crate::ends::ends;
 use crate::past::past;
 use crate::property::proves;
 use crate::shape::rows_fit;
-use tpl_cert::Row;
 use tpl_graph::{Graph, Role};
 use tpl_model::{Property, Rule, TaskId};
+use tpl_trees::Row;
 
 /// Why a leaf fails.
 #[derive(Clone, Copy)]

@@ -14,9 +14,9 @@ use crate::assumptions::Assumptions;
 use crate::below::Below;
 use crate::parents::parent;
 use crate::rows::{may_end, row, settled_after, within};
-use tpl_cert::Row;
 use tpl_graph::{Graph, Role};
 use tpl_model::{TaskId, TaskSet};
+use tpl_trees::Row;
 
 /// Whether each member of a row's `past` may be taken as settled when the task has ended. Where the
 /// task has a body that goes for what is below it, since a parent ends after its attached children.

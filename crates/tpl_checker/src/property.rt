@@ -14,9 +14,9 @@ ghost use Rattle.tpl_checker.specs.Bodies.{AreBodies};
 use crate::assumptions::Assumptions;
 use crate::bodies::Bodies;
 use crate::rows::{implies, may_end, row};
-use tpl_cert::Row;
 use tpl_graph::{Graph, Kind};
 use tpl_model::{Finals, Property, TaskId};
+use tpl_trees::Row;
 
 /// The rows of a closed leaf prove the claim's property.
 pub(crate) fn proves(

@@ -8,8 +8,8 @@ ghost use Rattle.tpl_model.specs.Certificate.{may_end, row};
 ghost use Rattle.tpl_draft.specs.Ids.{task_number};
 ghost use Rattle.tpl_laws.specs.RowTests.{all_in, implies, some_end};
 
-use tpl_cert::Row;
 use tpl_model::{Final, Finals, Options, TaskId, TaskSet};
+use tpl_trees::Row;
 
 /// The row of a task.
 pub(crate) fn row(rows: &[Row], task: TaskId) -> &Row

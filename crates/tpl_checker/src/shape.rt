@@ -6,9 +6,9 @@ ghost use Rattle.tpl_draft.specs.Ids.{task_number};
 ghost use Rattle.tpl_laws.specs.Verdict.{fits, has_tasks, misfit, rows_fit};
 
 use crate::rows::within;
-use tpl_cert::{Node, Row, Tree};
 use tpl_graph::{Claim, Graph};
 use tpl_model::{CertFault, TaskId, TaskSet};
+use tpl_trees::{Node, Row, Tree};
 
 /// Each leaf of the tree has one row for each task, and each id in it is the graph's.
 pub(crate) fn fits(graph: &Graph, tree: &Tree) -> bool

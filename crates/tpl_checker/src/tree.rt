@@ -13,9 +13,9 @@ use crate::assumptions::Assumptions;
 use crate::below::Below;
 use crate::last::{LastLeaf, bodies_of};
 use crate::leaf::{LeafFault, leaf_fault};
-use tpl_cert::{Node, Row, Tree};
 use tpl_graph::Graph;
 use tpl_model::{CertFault, Final, Property};
+use tpl_trees::{Node, Row, Tree};
 
 /// The first leaf of the tree that fails, of which the first has the number `first`. Where none
 /// does, the number after the last one.

@@ -2,7 +2,7 @@
 
 ghost use Rattle.std.specs.Prelude.{◌≡◌, ◌≤◌, ◌↔◌, List, Bool, IsOk, IfOk, IfErr, None};
 ghost use Rattle.std.specs.List.{All};
-ghost use Rattle.tpl_cert.specs.Heights.{height};
+ghost use Rattle.tpl_trees.specs.Heights.{height};
 ghost use Rattle.tpl_graph.specs.Fits.{Fits};
 ghost use Rattle.tpl_laws.specs.Faults.{IsFirstFault};
 ghost use Rattle.tpl_laws.specs.Soundness.{Each};
@@ -16,9 +16,9 @@ use crate::below::Below;
 use crate::given::assumed_for;
 use crate::shape::misfit;
 use crate::tree::tree_fault;
-use tpl_cert::{Certificate, Tree};
 use tpl_graph::{Claim, Graph};
 use tpl_model::{CertFault, RuleSet};
+use tpl_trees::{Certificate, Tree};
 
 /// Checks that the certificate proves the claims of the graph, each of which can be asked of it, by
 /// these rules.

@@ -12,9 +12,9 @@ ghost use Rattle.tpl_graph.specs.Roles.{AreTasks};
 
 use crate::assumptions::Assumptions;
 use crate::rows::{allowed, row};
-use tpl_cert::Row;
 use tpl_graph::{Graph, Role};
 use tpl_model::{Final, Finals, TaskId, View};
+use tpl_trees::Row;
 
 /// No way to end.
 pub(crate) const NO_END: Finals = Finals {

@@ -7,10 +7,10 @@ use Rattle.tpl_model.specs.declared.rule_set.RuleSet.{RuleSet}
 use Rattle.tpl_model.specs.declared.rule_set.RuleSet.TheVariants.{Narrow}
 use Rattle.tpl_model.specs.Certificate.{Tree}
 use Rattle.tpl_model.specs.WiderRules.{WideTree, as_wide_tree}
-use Rattle.tpl_cert.proofs.WithinLimits.{plain_within_to, same_height, within_from}
-use Rattle.tpl_cert.specs.Heights.{height, IsWithinLimits}
+use Rattle.tpl_trees.proofs.WithinLimits.{plain_within_to, same_height, within_from}
+use Rattle.tpl_trees.specs.Heights.{height, IsWithinLimits}
 use Rattle.tpl_cert.specs.Spelled.{spelled_tree}
-use Rattle.tpl_cert.specs.WideHeights.{wide_height, IsWithinWideLimits}
+use Rattle.tpl_trees.specs.WideHeights.{wide_height, IsWithinWideLimits}
 use Rattle.tpl_cert.specs.Written.{tree_data}
 use Rattle.tpl_commands.specs.Proof.{IsRead}
 

@@ -4,8 +4,8 @@ use Rattle.std.specs.List.{All}
 use Rattle.tpl_model.specs.declared.rule_set.RuleSet.{RuleSet}
 use Rattle.tpl_model.specs.WiderRules.{WideTree}
 use Rattle.tpl_laws.specs.ByRules.{AcceptsBy}
-use Rattle.tpl_cert.proofs.WithinLimits.{read_wide_within}
-use Rattle.tpl_cert.specs.WideHeights.{IsWithinWideLimits}
+use Rattle.tpl_cert.proofs.ReadWithin.{read_wide_within}
+use Rattle.tpl_trees.specs.WideHeights.{IsWithinWideLimits}
 use Rattle.tpl_cert.specs.Written.{tree_data}
 use Rattle.tpl_draft.specs.Named.{Names}
 use Rattle.tpl_reader.specs.declared.fault.ReadFault.{ReadFault}

@@ -9,7 +9,7 @@ use Rattle.tpl_json.proofs.Puts.{depth_put}
 use Rattle.tpl_model.specs.declared.rule_set.RuleSet.{RuleSet}
 use Rattle.tpl_model.specs.WiderRules.{WideTree}
 use Rattle.tpl_draft.specs.Named.{Names}
-use Rattle.tpl_cert.specs.WideHeights.{wide_height, IsWithinWideLimits}
+use Rattle.tpl_trees.specs.WideHeights.{wide_height, IsWithinWideLimits}
 use Rattle.tpl_cert.specs.Written.{tree_data, certificate_data}
 use Rattle.tpl_cert.proofs.Nesting.{tree_depth}
 use Rattle.std.specs.declared.alloc.AllocError.{AllocError}

@@ -7,7 +7,7 @@ use Rattle.serde_json.specs.Written.{compact_text}
 use Rattle.tpl_model.specs.WiderRules.{WideTree}
 use Rattle.tpl_laws.specs.ByRules.{AcceptsBy}
 use Rattle.tpl_draft.specs.Named.{Names}
-use Rattle.tpl_cert.specs.WideHeights.{wide_height}
+use Rattle.tpl_trees.specs.WideHeights.{wide_height}
 use Rattle.tpl_cert.specs.Written.{certificate_data}
 use Rattle.tpl_analyser.specs.declared.form.Form.{Form}
 use Rattle.tpl_analyser.specs.Gaps.{IsFirstWithout}

@@ -2,7 +2,7 @@
 
 ghost use Rattle.std.specs.Prelude.{◌≡◌, ◌+◌, ◌≤◌, IfOk, IfErr};
 ghost use Rattle.std.specs.List.{All};
-ghost use Rattle.tpl_cert.specs.Heights.{IsWithinLimits};
+ghost use Rattle.tpl_trees.specs.Heights.{IsWithinLimits};
 ghost use Rattle.tpl_graph.specs.Fits.{Fits};
 ghost use Rattle.tpl_journal.specs.Counting.{calls_of};
 ghost use Rattle.tpl_reader.specs.Document.{Spells};

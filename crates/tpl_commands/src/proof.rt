@@ -6,7 +6,7 @@ ghost use Rattle.serde_json.specs.Read.{read};
 ghost use Rattle.serde_json.specs.Written.{compact_text};
 ghost use Rattle.tpl_analyser.specs.Gaps.{IsGap};
 ghost use Rattle.tpl_analyser.specs.Slim.{IsOfFormBy};
-ghost use Rattle.tpl_cert.specs.WideHeights.{wide_height, IsWithinWideLimits};
+ghost use Rattle.tpl_trees.specs.WideHeights.{wide_height, IsWithinWideLimits};
 ghost use Rattle.tpl_cert.specs.Written.{has_ids};
 ghost use Rattle.tpl_graph.specs.Fits.{Fits};
 ghost use Rattle.tpl_laws.specs.ByRules.{AcceptsBy};
@@ -14,9 +14,10 @@ ghost use Rattle.tpl_commands.specs.Proof.{proof_data, rules_for, trees_of, IsRe
 
 use std::alloc::{AllocError, Global};
 use tpl_analyser::{Budget, Depth, Form, Gap, Watch, analyse_widely, analyse_within};
-use tpl_cert::{Certificate, TreeToFault, WideCertificate, trees_text, wide_trees_text};
+use tpl_cert::{TreeToFault, trees_text, wide_trees_text};
 use tpl_graph::{Claim, Graph};
 use tpl_model::RuleSet;
+use tpl_trees::{Certificate, WideCertificate};
 
 /// A certificate of one of two sorts.
 #[derive(Drop)]

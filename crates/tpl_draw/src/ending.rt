@@ -7,8 +7,8 @@ ghost use Rattle.tpl_laws.specs.LeastRows.{ends_where};
 ghost use Rattle.tpl_draw.specs.Endings.{either, endings, ends, no_ends, tree_ends, EndingsAreTrue};
 
 use std::alloc::{AllocError, Global};
-use tpl_cert::{Node, Row, Tree};
 use tpl_model::Finals;
+use tpl_trees::{Node, Row, Tree};
 
 /// No way to end.
 pub(crate) fn no_ends() -> Finals

@@ -7,8 +7,8 @@ ghost use Rattle.tpl_draw.specs.Endings.{endings, ends, tree_ends};
 
 use crate::ending::{each_end, either, no_ends};
 use std::alloc::{AllocError, Global};
-use tpl_cert::{WideNode, WideRow, WideTree};
 use tpl_model::Finals;
+use tpl_trees::{WideNode, WideRow, WideTree};
 
 /// How a task may end by its row; in no way past the last row.
 fn leaf_ends(rows: &[WideRow], task: usize) -> Finals

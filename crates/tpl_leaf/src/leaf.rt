@@ -11,11 +11,11 @@ ghost use Rattle.tpl_leaf.specs.Leaf.{graph_of, assumed_in, rows_in, IsLeaf};
 
 use crate::linking::linked_with;
 use crate::winners::{WinnerSplit, all_leave};
-use tpl_cert::{Row, WideRow};
 use tpl_checker::{Assumptions, Below, some_end};
 use tpl_graph::Graph;
 use tpl_model::TaskId;
 use tpl_paths::{ChildEnd, TokenSet};
+use tpl_trees::{Row, WideRow};
 
 /// A leaf that is checked: what it assumes, and a row for each task, with what is read once for all tasks: by each token
 /// those that are requested with it, by each task how it ends, and by each task those below it.

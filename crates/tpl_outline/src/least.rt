@@ -12,8 +12,8 @@ use crate::pass::whole_outline;
 use crate::rows::{Parts, rows};
 use crate::setting::Setting;
 use std::alloc::{AllocError, Global};
-use tpl_cert::Row;
 use tpl_model::{Property, TaskId, TaskSet};
+use tpl_trees::Row;
 
 /// The chain of the observed task, or an empty one, if the least rows prove the property with it.
 /// The outline and the tasks are those that bear on the property.

@@ -6,10 +6,10 @@ ghost use Rattle.tpl_model.specs.Graph.{is_task};
 use crate::followers::Followers;
 use crate::outline::Outline;
 use std::alloc::{AllocError, Global};
-use tpl_cert::Row;
 use tpl_checker::{Assumptions, Below, parent, some_end};
 use tpl_graph::{Graph, Role};
 use tpl_model::{MOST_TASKS, TaskId, TaskSet};
+use tpl_trees::Row;
 
 /// What the rows of a leaf are made of.
 #[derive(Clone, Copy)]

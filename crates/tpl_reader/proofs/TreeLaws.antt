@@ -12,12 +12,12 @@ use Rattle.tpl_json.specs.Members.{only_if}
 use Rattle.tpl_json.specs.Passes.{each_from, at_number}
 use Rattle.tpl_json.proofs.Json.{only_is}
 use Rattle.tpl_json.proofs.Passes.{bind_ok, bind_or, each_every, ok_is}
-use Rattle.tpl_cert.specs.Heights.{IsWithinLimits}
+use Rattle.tpl_trees.specs.Heights.{IsWithinLimits}
 use Rattle.tpl_cert.specs.Spelled.{spelled_tree, read_tree}
-use Rattle.tpl_cert.specs.WideHeights.{IsWithinWideLimits, is_within_limits}
+use Rattle.tpl_trees.specs.WideHeights.{IsWithinWideLimits, is_within_limits}
 use Rattle.tpl_cert.specs.declared.fault.TreeFault.{TreeFault}
 use Rattle.tpl_cert.specs.declared.fault.TreeFault.TheVariants.{Limit}
-use Rattle.tpl_cert.proofs.WithinLimits.{within_from, plain_within_from}
+use Rattle.tpl_trees.proofs.WithinLimits.{within_from, plain_within_from}
 use Rattle.tpl_reader.specs.Trees.{trees_in}
 use Rattle.tpl_reader.proofs.Asking.{numbered_ok}
 

@@ -4,10 +4,10 @@ ghost use Rattle.std.specs.Prelude.{◌≡◌};
 ghost use Rattle.tpl_reader.specs.SeenDocument.{doc_of};
 ghost use Rattle.tpl_reader.specs.Starting.{inputs_of};
 
-use tpl_cert::{Certificate, WideCertificate};
 use tpl_graph::{Claim, Graph};
 use tpl_model::{Final, Inputs, SiteId, TaskId, TokenId};
 use tpl_parts::Version;
+use tpl_trees::{Certificate, WideCertificate};
 
 /// Where a run starts.
 #[derive(Drop)]

@@ -9,8 +9,8 @@ ghost use Rattle.tpl_draft.specs.Draft as spec;
 ghost use Rattle.tpl_draft.specs.Numbered.{numbered};
 ghost use Rattle.tpl_draft.specs.Refusals.{IsValid};
 ghost use Rattle.tpl_draft.specs.SeenTasks.{draft_of};
-ghost use Rattle.tpl_cert.specs.Heights.{IsWithinLimits};
-ghost use Rattle.tpl_cert.specs.WideHeights.{IsWithinWideLimits};
+ghost use Rattle.tpl_trees.specs.Heights.{IsWithinLimits};
+ghost use Rattle.tpl_trees.specs.WideHeights.{IsWithinWideLimits};
 ghost use Rattle.tpl_graph.specs.Fits.{Fits};
 ghost use Rattle.tpl_parts.specs.Versions.{rules_since};
 ghost use Rattle.tpl_parts.specs.SeenClaims.{claim_of};
@@ -33,11 +33,11 @@ use crate::shape::{NamedRest, Shaped, shape_of};
 use crate::trees::{Trees, trees_in};
 use json::{Scratch, Value};
 use std::alloc::Global;
-use tpl_cert::{Certificate, WideCertificate};
 use tpl_graph::{Claim, Draft, Graph, Why};
 use tpl_json::{Miss, NotRead, value_from};
 use tpl_model::{Final, TaskId};
 use tpl_parts::{NamedClaim, Version};
+use tpl_trees::{Certificate, WideCertificate};
 
 /// The most bytes of a document (this program's own limit).
 pub const LONGEST: usize = 16_777_216;

@@ -6,17 +6,18 @@ ghost use Rattle.tpl_json.specs.Passes.{Yields, at_number};
 ghost use Rattle.tpl_json.specs.View.{view};
 ghost use Rattle.tpl_model.specs.WiderRules.{as_wide_tree};
 ghost use Rattle.tpl_model.specs.declared.rule_set.RuleSet.TheVariants.{Narrow, Wide};
-ghost use Rattle.tpl_cert.specs.Heights.{IsWithinLimits};
+ghost use Rattle.tpl_trees.specs.Heights.{IsWithinLimits};
 ghost use Rattle.tpl_cert.specs.Spelled.{read_tree};
-ghost use Rattle.tpl_cert.specs.WideHeights.{IsWithinWideLimits};
+ghost use Rattle.tpl_trees.specs.WideHeights.{IsWithinWideLimits};
 ghost use Rattle.tpl_reader.specs.Trees.{HasNoOthers, trees_by, trees_in};
 
 use json::Value;
 use std::alloc::Global;
-use tpl_cert::{Tree, TreeFault, WideTree, tree_from, wide_tree_from};
+use tpl_cert::{TreeFault, tree_from, wide_tree_from};
 use tpl_graph::Graph;
 use tpl_json::Miss;
 use tpl_model::RuleSet;
+use tpl_trees::{Tree, WideTree};
 
 /// The trees of a document: of one sort or the other, by the rules of its version.
 #[derive(Drop)]

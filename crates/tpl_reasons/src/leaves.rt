@@ -3,10 +3,10 @@
 use crate::rules::role;
 use crate::words::{Said, ends_text, list_text, name, set_text, tokens_text};
 use std::alloc::{AllocError, Global};
-use tpl_cert::{Node, Row, Tree, WideNode, WideRow, WideTree};
 use tpl_graph::{Graph, Role};
 use tpl_model::{RuleSet, TaskId};
 use tpl_reader::Document;
+use tpl_trees::{Node, Row, Tree, WideNode, WideRow, WideTree};
 
 /// The rows of a leaf; since version 3 they speak of tokens too, or are left out.
 #[derive(Clone, Copy)]

@@ -11,11 +11,11 @@ use crate::reason::Reason;
 use crate::words::{Said, claim_text, count_text};
 use std::alloc::{AllocError, Global};
 use tpl_analyser::{Budget, Depth, Form, Gap, Leaves, RanOut, Unwatched};
-use tpl_cert::MOST_SPLITS;
 use tpl_commands::{Outcome, Searched, find_proof, rules_of};
 use tpl_graph::{Claim, Graph};
 use tpl_model::RuleSet;
 use tpl_reader::Document;
+use tpl_trees::MOST_SPLITS;
 
 /// Why no certificate was found: the claim that the answer names, if it names one.
 pub(crate) fn search_reason(document: &Document, searched: &Searched) -> Option<Reason>

@@ -3,14 +3,14 @@
 use json::{Scratch, Value};
 use std::alloc::{AllocError, Global};
 use std::slice;
-use tpl_cert::{
-    Node, Row, Tree, TreeToFault, WideNode, WideRow, WideTree, is_within_limits,
-    is_within_wide_limits, tree_from, trees_text, wide_tree_from, wide_trees_text,
-};
+use tpl_cert::{TreeToFault, tree_from, trees_text, wide_tree_from, wide_trees_text};
 use tpl_graph::Graph;
 use tpl_json::value_from;
 use tpl_model::{Finals, RuleSet, TaskId, TaskSet, TokenId};
 use tpl_paths::TokenSet;
+use tpl_trees::{
+    Node, Row, Tree, WideNode, WideRow, WideTree, is_within_limits, is_within_wide_limits,
+};
 
 /// What stands within the brackets of an array.
 fn within_brackets(text: &str) -> Option<&str> {

@@ -23,7 +23,7 @@ use Rattle.tpl_model.specs.Certificate.{Tree, Accepts}
 use Rattle.tpl_model.specs.WiderRules.{WideTree, as_wide_tree}
 use Rattle.tpl_laws.specs.ByRules.{AcceptsBy, SoundByRules}
 use Rattle.tpl_laws.specs.WideTrees.{WidelyAccepts}
-use Rattle.tpl_cert.specs.WideHeights.{wide_height}
+use Rattle.tpl_trees.specs.WideHeights.{wide_height}
 use Rattle.tpl_verify.specs.declared.verdict.Verdict.{Verdict}
 use Rattle.tpl_verify.specs.declared.verdict.Verdict.TheVariants as verdict
 use Rattle.std.proofs.lemmas.List.{take_more}

@@ -16,7 +16,7 @@ use Rattle.tpl_model.specs.declared.rule_set.RuleSet.{RuleSet}
 use Rattle.tpl_model.specs.Certificate.{assumed, is_wide}
 use Rattle.tpl_model.specs.WiderRules.{WideTree}
 use Rattle.tpl_laws.specs.ByRules.{AcceptsBy}
-use Rattle.tpl_cert.specs.WideHeights.{wide_height}
+use Rattle.tpl_trees.specs.WideHeights.{wide_height}
 use Rattle.tpl_refute.specs.Refuting.{Refutes}
 use Rattle.tpl_verify.specs.declared.verdict.Empty.{Empty}
 use Rattle.tpl_verify.specs.declared.verdict.Empty.TheVariants.{NeverBegins, NamesAllEnds, NeverThrows, NeverKept}

@@ -2,7 +2,7 @@
 
 ghost use Rattle.std.specs.Prelude.{◌≡◌, ◌≤◌, ◌∷◌, [], length, IfOk, IsTrue};
 ghost use Rattle.tpl_model.specs.WiderRules.{WideTree, as_wide_tree};
-ghost use Rattle.tpl_cert.specs.WideHeights.{wide_height};
+ghost use Rattle.tpl_trees.specs.WideHeights.{wide_height};
 ghost use Rattle.tpl_graph.specs.Fits.{Fits};
 ghost use Rattle.tpl_commands.specs.Proof.{trees_of};
 ghost use Rattle.tpl_verify.specs.Verdicts.{HoldsAlways, IsCertified, under};
@@ -11,10 +11,10 @@ use crate::limits::FEW_LEAVES;
 use std::alloc::{AllocError, Global};
 use std::slice;
 use tpl_analyser::{Budget, Depth, Form, Gap, Unwatched};
-use tpl_cert::{Node, Tree, WideNode, WideTree};
 use tpl_commands::{Proof, find_proof};
 use tpl_graph::{Claim, Graph};
 use tpl_model::{Property, RuleSet};
+use tpl_trees::{Node, Tree, WideNode, WideTree};
 
 /// How many splits the tree has above its deepest leaf.
 fn splits_of(tree: &Tree) -> u8

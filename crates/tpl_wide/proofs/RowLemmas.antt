@@ -6,7 +6,7 @@ use Rattle.tpl_model.specs.TaskSet.{passing_from}
 use Rattle.tpl_model.specs.Graph.{TaskGraph}
 use Rattle.tpl_model.specs.Certificate.{Row}
 use Rattle.tpl_model.specs.WiderRules.{WideRow}
-use Rattle.tpl_cert.specs.WideCoding.{tokens_in}
+use Rattle.tpl_trees.specs.WideCoding.{tokens_in}
 use Rattle.tpl_paths.proofs.TokenBits.{none_set}
 use Rattle.tpl_paths.specs.TokenSet.{has_token, no_tokens}
 use Rattle.tpl_paths.specs.declared.reading.ChildEnd.{ChildEnd as StoredChildEnd}

@@ -6,7 +6,7 @@ use Rattle.tpl_model.specs.Graph.{TaskGraph}
 use Rattle.tpl_model.specs.Claims.{Claim}
 use Rattle.tpl_model.specs.WiderRules.{WideTree, OnInput, OnEnd, OnWinner, WideLeaf, LeastLeaf}
 use Rattle.tpl_model.specs.declared.fault.CertFault.TheVariants.{Shape}
-use Rattle.tpl_cert.specs.WideHeights.{wide_height}
+use Rattle.tpl_trees.specs.WideHeights.{wide_height}
 use Rattle.tpl_laws.specs.Verdict.{unless}
 use Rattle.tpl_laws.specs.WideVerdict.{wide_fits, wide_misfit, wide_leaves}
 use Rattle.tpl_checker.proofs.Basics.{drop_all}

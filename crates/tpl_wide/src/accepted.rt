@@ -3,7 +3,7 @@
 ghost use Rattle.std.specs.Prelude.{◌≡◌, ◌≤◌, ◌↔◌, [], IfOk, IsTrue};
 ghost use Rattle.tpl_model.specs.WiderRules.{LeastLeaf, narrowed};
 ghost use Rattle.tpl_laws.specs.LeastRows.{least_rows};
-ghost use Rattle.tpl_cert.specs.WideHeights.{wide_height};
+ghost use Rattle.tpl_trees.specs.WideHeights.{wide_height};
 ghost use Rattle.tpl_laws.specs.WideTrees.{AcceptsWideTree};
 ghost use Rattle.tpl_leaf.specs.Leaf.{wide_assumed};
 ghost use Rattle.tpl_wide.specs.Check.{IsCheck, graph_in};
@@ -16,9 +16,9 @@ use crate::rows::Rows;
 use crate::shape::fits;
 use crate::tree::{least_leaf_fault, tree_fault};
 use std::alloc::{AllocError, Global};
-use tpl_cert::{WideRow, WideTree};
 use tpl_checker::Assumptions;
 use tpl_leaf::{WinnerSplit, narrowed};
+use tpl_trees::{WideRow, WideTree};
 
 /// Whether a leaf that leaves its rows out is accepted, where its splits left this.
 pub fn least_leaf_proves(

@@ -10,10 +10,10 @@ ghost use Rattle.tpl_wide.specs.Within.{IsAll};
 use crate::rows::blank_row;
 use crate::within::within;
 use std::alloc::Global;
-use tpl_cert::{Row, WideRow};
 use tpl_leaf::{Leaf, NO_END, begin_facts, runs};
 use tpl_model::{TaskId, TaskSet};
 use tpl_paths::{Facts, TokenSet};
+use tpl_trees::{Row, WideRow};
 
 /// The row runs, if it has to, and then has all that it may say of its task's begin.
 pub(crate) fn begun_row(alloc: Global, leaf: &Leaf<'_>, all: &Facts, task: TaskId) -> WideRow

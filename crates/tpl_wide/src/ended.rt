@@ -4,7 +4,7 @@ ghost use Rattle.std.specs.Prelude.{◌≡◌, IfOk};
 ghost use Rattle.tpl_model.specs.Graph.{is_task, kind};
 ghost use Rattle.tpl_model.specs.declared.claim.Property as claims;
 ghost use Rattle.tpl_model.specs.declared.ids.TaskId as ids;
-ghost use Rattle.tpl_cert.specs.WideCoding.{tokens_in};
+ghost use Rattle.tpl_trees.specs.WideCoding.{tokens_in};
 ghost use Rattle.tpl_laws.specs.WiderTests.{each_way, holds_by};
 ghost use Rattle.tpl_laws.specs.LeastRows.{ended_by, ended_row};
 ghost use Rattle.tpl_leaf.specs.Leaf.{graph_of, assumed_in, rows_in, IsLeaf};
@@ -14,11 +14,11 @@ ghost use Rattle.tpl_wide.specs.Within.{IsAll};
 use crate::shortest::chain_for;
 use crate::within::within;
 use std::alloc::{AllocError, Global};
-use tpl_cert::{Row, WideRow};
 use tpl_checker::some_end;
 use tpl_leaf::{Leaf, Ways, demanded, end_facts, ways_to_end};
 use tpl_model::{Finals, Property, TaskId, TaskSet};
 use tpl_paths::{Facts, TokenSet};
+use tpl_trees::{Row, WideRow};
 
 /// The row ends in each way in which it has to, and if in any, has all that it may say of its task's end.
 pub(crate) fn ended_row(

@@ -9,11 +9,11 @@ ghost use Rattle.tpl_leaf.specs.Leaf.{row_end};
 ghost use Rattle.tpl_wide.specs.Rows.{AreRows};
 
 use std::alloc::{AllocError, Global};
-use tpl_cert::{Row, WideRow};
 use tpl_graph::Graph;
 use tpl_leaf::NO_END;
 use tpl_model::{TaskId, TaskSet};
 use tpl_paths::{ChildEnd, Facts, TokenSet};
+use tpl_trees::{Row, WideRow};
 
 /// A row for each task while the rows are worked out, and beside each how its task ends.
 #[derive(Drop)]

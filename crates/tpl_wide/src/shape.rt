@@ -7,12 +7,12 @@ ghost use Rattle.tpl_model.specs.WiderRules.{plain};
 ghost use Rattle.tpl_laws.specs.Verdict.{rows_fit};
 ghost use Rattle.tpl_laws.specs.WideVerdict.{has_tokens, may_have_winner, tokens_fit, wide_fits, wide_misfit};
 
-use tpl_cert::{WideNode, WideRow, WideTree};
 use tpl_checker::{all_tasks, is_member, row_fits};
 use tpl_graph::{Claim, Graph, Role};
 use tpl_leaf::both;
 use tpl_model::{CertFault, TaskId, TokenId};
 use tpl_paths::TokenSet;
+use tpl_trees::{WideNode, WideRow, WideTree};
 
 /// Each leaf of the tree has one row for each task, and each id in it is the graph's.
 pub(crate) fn fits(graph: &Graph, tree: &WideTree) -> bool

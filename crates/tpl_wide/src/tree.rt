@@ -15,10 +15,10 @@ use crate::error::WideFault;
 use crate::least::least_rows;
 use crate::rows::child_ends;
 use std::alloc::{AllocError, Global};
-use tpl_cert::{WideNode, WideRow, WideTree};
 use tpl_checker::{Assumptions, LeafFault, placed};
 use tpl_leaf::{Leaf, WinnerSplit, leaf_fault, narrowed};
 use tpl_model::{Final, TaskId};
+use tpl_trees::{WideNode, WideRow, WideTree};
 
 /// The first leaf of the tree that fails, of which the first has the number `first`. Where none does, the number after the
 /// last one.

@@ -2,7 +2,7 @@
 
 ghost use Rattle.std.specs.Prelude.{◌≡◌, ◌+◌, ◌≤◌, ◌<◌, ◌^◌, List, Bool, IfOk, IfErr, IsTrue, None};
 ghost use Rattle.std.specs.List.{All};
-ghost use Rattle.tpl_cert.specs.WideHeights.{wide_height};
+ghost use Rattle.tpl_trees.specs.WideHeights.{wide_height};
 ghost use Rattle.tpl_graph.specs.Fits.{Fits};
 ghost use Rattle.tpl_laws.specs.Soundness.{Each};
 ghost use Rattle.tpl_laws.specs.Verdict.{no_fault};
@@ -22,16 +22,16 @@ use crate::error::WideFault;
 use crate::shape::misfit;
 use crate::tree::tree_fault;
 use std::alloc::Global;
-use tpl_cert::WideTree;
 use tpl_checker::{Below, assumed_for};
 use tpl_graph::{Claim, Graph};
 use tpl_leaf::links;
 use tpl_model::RuleSet;
 use tpl_paths::TokenSet;
+use tpl_trees::WideTree;
 
 /// Checks that the trees prove the claims of the graph, each of which can be asked of it, by the wide
 /// rules for rows that speak of tokens too. No tree has more than 6 splits on a path
-/// (`tpl_cert::is_within_wide_limits` tests that).
+/// (`tpl_trees::is_within_wide_limits` tests that).
 ///
 /// The first fault is reported. `Shape` comes first, for the first claim that has it: it has no tree,
 /// or a tree has no claim, a leaf doesn't have one row for each task, a split on a winner isn't on an

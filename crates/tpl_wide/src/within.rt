@@ -4,7 +4,7 @@ ghost use Rattle.std.specs.Prelude.{◌≡◌, ◌<◌, ℕ, Bool, length};
 ghost use Rattle.tpl_model.specs.Members.{mem};
 ghost use Rattle.tpl_model.specs.Graph.{TaskGraph};
 ghost use Rattle.tpl_model.specs.Knowledge.{IsSettled, IsRequested};
-ghost use Rattle.tpl_cert.specs.WideCoding.{tokens_in};
+ghost use Rattle.tpl_trees.specs.WideCoding.{tokens_in};
 ghost use Rattle.tpl_paths.specs.TokenSet.{has_token};
 ghost use Rattle.tpl_laws.specs.LeastRows.{tasks_where, tokens_where};
 ghost use Rattle.tpl_leaf.specs.Ways.{holds_in_all};

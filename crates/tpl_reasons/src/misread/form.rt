@@ -1,9 +1,9 @@
 //! What may stand at a place of a document, where a place is looked for.
 
 use json::Value;
-use tpl_cert::MOST_IN_CHAIN;
 use tpl_json::{find, text_in};
 use tpl_model::{MOST_ARGUMENTS, MOST_INPUTS, MOST_TOKENS};
+use tpl_trees::MOST_IN_CHAIN;
 
 /// What may stand at a place of a document.
 #[derive(Clone, Copy)]

@@ -2,7 +2,7 @@ use Rattle.std.proofs.Common.{false, ◌≤◌, IfOk, IfSome, ap, ◌∙◌, sub
 use Rattle.tpl_model.specs.declared.ids.TaskId.{TaskId}
 use Rattle.tpl_model.specs.declared.claim.Property.{Property}
 use Rattle.tpl_model.specs.Certificate.{Assumed, assumed_for}
-use Rattle.tpl_cert.specs.WideHeights.{wide_height}
+use Rattle.tpl_trees.specs.WideHeights.{wide_height}
 use Rattle.tpl_checker.specs.Assumptions.{assumed_of}
 use Rattle.tpl_analyser.specs.Found.{IsFound}
 use Rattle.tpl_analyser.specs.Plans.{IsPlan}

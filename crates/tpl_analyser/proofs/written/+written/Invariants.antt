@@ -1,5 +1,5 @@
 use Rattle.std.proofs.Common.{◌+◌, ◌*◌, max}
-use Rattle.tpl_cert.specs.WideHeights.{wide_height}
+use Rattle.tpl_trees.specs.WideHeights.{wide_height}
 use Rattle.tpl_analyser.proofs.written.+written.Given as goal
 
 abbrev pub decreases-with_rows : goal.decreases-with_rows

@@ -8,7 +8,7 @@ use Rattle.tpl_model.specs.declared.rule_set.RuleSet.TheVariants.{Narrow}
 use Rattle.tpl_cert.specs.Written.{certificate_data}
 use Rattle.tpl_cert.proofs.Again.{all_read_again}
 use Rattle.tpl_cert.proofs.Texts.{certificate_read}
-use Rattle.tpl_cert.proofs.WithinLimits.{all_low}
+use Rattle.tpl_trees.proofs.WithinLimits.{all_low}
 use Rattle.tpl_cert.proofs.text.trees_text.Goals as goal
 
 pub returns-clause-written : goal.returns-clause-written

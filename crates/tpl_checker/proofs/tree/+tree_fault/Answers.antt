@@ -1,5 +1,5 @@
 use Rattle.std.proofs.Common.{◌≡◌, ◌∙◌, true, ap, subst, arith}
-use Rattle.tpl_cert.specs.Trees.{node_of}
+use Rattle.tpl_trees.specs.Trees.{node_of}
 use Rattle.tpl_model.specs.Certificate.{Tree}
 use Rattle.tpl_laws.specs.Verdict.{fits}
 use Rattle.tpl_checker.proofs.TreeLemmas.{input_fits, end_fits}

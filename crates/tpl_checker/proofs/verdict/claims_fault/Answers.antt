@@ -1,7 +1,7 @@
 use Rattle.std.proofs.Common.{◌≡◌, ◌≤◌, ◌+◌, Some, ap, sym, subst, ◌∙◌, arith, slice_index_or}
 use Rattle.std.proofs.lemmas.Result.{err_from_is_err_and}
 use Rattle.tpl_model.specs.Certificate.{Tree, assumed_for, is_wide}
-use Rattle.tpl_cert.specs.Heights.{height}
+use Rattle.tpl_trees.specs.Heights.{height}
 use Rattle.tpl_laws.specs.Verdict.{tree_fault}
 use Rattle.tpl_checker.proofs.ShapeLemmas.{at_most_729_leaves}
 use Rattle.tpl_checker.proofs.TreeLemmas.{claim_fails, claim_next, tree_there}

@@ -1,7 +1,7 @@
 use Rattle.std.proofs.Common.{not, true, [], map, ap, sym, ◌∙◌}
 use Rattle.tpl_draft.specs.Ids.{task_number}
 use Rattle.tpl_model.specs.Knowledge.{IsSettled, IsRequested}
-use Rattle.tpl_cert.specs.WideCoding.{tokens_in}
+use Rattle.tpl_trees.specs.WideCoding.{tokens_in}
 use Rattle.tpl_laws.specs.LeastRows.{begun_row, tasks_where, tokens_where}
 use Rattle.tpl_leaf.specs.Leaf.{graph_of, assumed_in, rows_in}
 use Rattle.tpl_wide.proofs.RowLemmas.{no_tokens_in, row_is, wide_row_is}

@@ -1,7 +1,7 @@
 use Rattle.std.proofs.Common.{if◌then◌else◌, [], ap, sym, ◌∙◌}
 use Rattle.tpl_model.specs.Knowledge.{IsSettled, IsRequested}
 use Rattle.tpl_model.specs.WiderRules.{kind_left}
-use Rattle.tpl_cert.specs.WideCoding.{tokens_in}
+use Rattle.tpl_trees.specs.WideCoding.{tokens_in}
 use Rattle.tpl_laws.specs.WiderTests.{end_by}
 use Rattle.tpl_laws.specs.LeastRows.{tasks_where, tokens_where}
 use Rattle.tpl_leaf.specs.Leaf.{graph_of, assumed_in, rows_in}

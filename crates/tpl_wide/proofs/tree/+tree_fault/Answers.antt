@@ -1,6 +1,6 @@
 use Rattle.std.proofs.Common.{◌≡◌, ◌∙◌, true, false, ap, subst, arith}
 use Rattle.std.proofs.lemmas.Result.{err_from_is_err_and}
-use Rattle.tpl_cert.specs.WideTrees.{wide_node_of}
+use Rattle.tpl_trees.specs.WideTrees.{wide_node_of}
 use Rattle.tpl_model.specs.WiderRules.{WideTree}
 use Rattle.tpl_laws.specs.WideVerdict.{wide_fits}
 use Rattle.tpl_wide.specs.Check.{graph_in}

@@ -1,7 +1,7 @@
 use Rattle.std.proofs.Common.{◌≤◌, ◌+◌, sym, subst, arith, length}
 use Rattle.std.proofs.lemmas.Result.{err_from_is_err_and}
 use Rattle.tpl_model.specs.WiderRules.{WideTree}
-use Rattle.tpl_cert.specs.WideHeights.{wide_height}
+use Rattle.tpl_trees.specs.WideHeights.{wide_height}
 use Rattle.tpl_laws.specs.WideVerdict.{wide_leaves}
 use Rattle.tpl_wide.proofs.WideTreeLemmas.{all_proved, claim_fails, claim_proved, tree_there}
 use Rattle.tpl_wide.proofs.verdict.claims_fault.Goals as goal

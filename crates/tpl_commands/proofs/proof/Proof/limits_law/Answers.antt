@@ -1,6 +1,6 @@
 use Rattle.std.proofs.Common.{subst, sym}
 use Rattle.std.specs.List.{All}
-use Rattle.tpl_cert.specs.WideHeights.{IsWithinWideLimits}
+use Rattle.tpl_trees.specs.WideHeights.{IsWithinWideLimits}
 use Rattle.tpl_commands.specs.declared.proof.Proof.{Proof}
 use Rattle.tpl_commands.specs.Proof.{trees_of}
 use Rattle.tpl_commands.proofs.Proofs.{all_within}

@@ -1,0 +1,2 @@
+pub mod TokenLists
+pub mod WithinLimits

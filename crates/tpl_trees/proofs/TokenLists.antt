@@ -1,0 +1,30 @@
+-- Sets of tokens as lists.
+use Rattle.std.proofs.Common.{◌≡◌, ℕ, zero, suc, ◌≤◌, List, Bool, inl, inr, false, refl, sym, ◌∙◌, arith}
+use Rattle.std.proofs.lemmas.Bool.{cases_lt}
+use Rattle.tpl_model.proofs.SetLists.{mem-passing_from, passing_from-mem}
+use Rattle.tpl_model.proofs.Truths.{same_tests, true_false}
+use Rattle.tpl_model.specs.Members.{mem}
+use Rattle.tpl_model.specs.TaskSet.{passing_from}
+use Rattle.tpl_paths.specs.declared.token_set.TokenSet.{TokenSet}
+use Rattle.tpl_paths.specs.TokenSet.{has_token}
+use Rattle.tpl_trees.specs.WideCoding.{tokens_in}
+use Rattle.tpl_trees.specs.Sets.{as_set, IsSet}
+
+passing_same : (p q : ℕ → Bool) (low n : ℕ) → ((x : ℕ) → p x ≡ q x) → passing_from p low n ≡ passing_from q low n
+passing_same p q low zero same = refl
+passing_same p q low (suc n) same = rw (same low, passing_same p q (suc low) n same) refl
+
+-- a set of tokens with these members
+pub tokens_are : (ns : List ℕ) (set : TokenSet) → ((k : ℕ) → has_token set k ≡ mem k ns) → as_set 32 ns ≡ tokens_in set
+unfolding tokens_in
+tokens_are ns set same = sym (passing_same (has_token set) (λ k. mem k ns) 0 32 same)
+
+pub mem-tokens_in : (s : TokenSet) → ((k : ℕ) → 32 ≤ k → has_token s k ≡ false) → (k : ℕ) → mem k (tokens_in s) ≡ has_token s k
+unfolding tokens_in
+mem-tokens_in s limit k =
+    same_tests (mem k (tokens_in s)) (has_token s k) (mem-passing_from (has_token s) 0 32 k)
+    (λ h. elim (cases_lt k 32) [ inl lt ↦ passing_from-mem (has_token s) 0 32 k (omega arith) (omega arith) h | inr le ↦ true_false (sym h ∙ limit k le) ])
+
+pub token_set : (s : TokenSet) → ((k : ℕ) → 32 ≤ k → has_token s k ≡ false) → IsSet 32 (tokens_in s)
+unfolding IsSet
+token_set s limit = tokens_are (tokens_in s) s (λ k. sym (mem-tokens_in s limit k))

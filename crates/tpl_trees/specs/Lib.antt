@@ -1,0 +1,9 @@
+pub mod Sets
+pub mod Heights
+pub mod Coding
+pub mod Trees
+pub mod Falls
+pub mod WideCoding
+pub mod WideTrees
+pub mod WideHeights
+pub mod WideFalls

@@ -1,0 +1,59 @@
+//! The limits of certificate trees.
+
+ghost use Rattle.std.specs.Prelude.{◌≡◌, ◌≤◌, ◌↔◌, IsTrue};
+ghost use Rattle.std.specs.List.{All};
+ghost use Rattle.tpl_model.specs.WiderRules.{as_wide_tree};
+ghost use Rattle.tpl_trees.specs.WideHeights.{is_within_limits};
+ghost use Rattle.tpl_trees.specs.Heights.{height, HasShortChain, HasShortChains, IsWithinLimits};
+
+use crate::row::Row;
+use crate::tree::{Node, Tree};
+
+/// The most splits on a path of a certificate tree (this program's own limit).
+pub const MOST_SPLITS: u8 = 6;
+
+/// The most tasks in a chain (this program's own limit).
+pub const MOST_IN_CHAIN: usize = 16;
+
+fn is_no_higher(tree: &Tree, splits: u8) -> bool
+    ensures { IsTrue result ↔ (height tree.now ≤ splits) }
+{
+    match tree.node() {
+        Node::SplitInput(_, first, second) => {
+            splits > 0 && is_no_higher(first, splits - 1) && is_no_higher(second, splits - 1)
+        }
+        Node::SplitEnd(_, ran, canceled, faulted) => {
+            splits > 0
+                && is_no_higher(ran, splits - 1)
+                && is_no_higher(canceled, splits - 1)
+                && is_no_higher(faulted, splits - 1)
+        }
+        Node::Leaf(_) => true,
+    }
+}
+
+fn have_short_chains(rows: &[Row]) -> bool
+    ensures { IsTrue result ↔ All HasShortChain rows.now }
+{
+    rows.iter().all(|row| row.chain().len() <= MOST_IN_CHAIN)
+}
+
+fn has_short_chains(tree: &Tree) -> bool
+    ensures { IsTrue result ↔ HasShortChains tree.now }
+{
+    match tree.node() {
+        Node::SplitInput(_, first, second) => has_short_chains(first) && has_short_chains(second),
+        Node::SplitEnd(_, ran, canceled, faulted) => {
+            has_short_chains(ran) && has_short_chains(canceled) && has_short_chains(faulted)
+        }
+        Node::Leaf(rows) => have_short_chains(rows),
+    }
+}
+
+/// Whether the tree has at most 6 splits on each path, and no chain of more than 16 tasks.
+pub fn is_within_limits(tree: &Tree) -> bool
+    ensures within { IsTrue result ↔ IsWithinLimits tree.now }
+    ensures test { result ≡ is_within_limits (as_wide_tree tree.now) }
+{
+    is_no_higher(tree, MOST_SPLITS) && has_short_chains(tree)
+}
