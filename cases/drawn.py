@@ -2,15 +2,15 @@
 """The picture of a document, worked out by the rules of docs/PICTURES.md alone. As a script it draws the examples."""
 import argparse
 import collections
-import itertools
 import json
 import pathlib
 import sys
 from typing import NamedTuple
 
+import tokens
 from harness import HERE, TOP, examples
-from rules import LEAST
-from small import FINALS
+from rules import split_on
+from small import Graph
 from stood import statuses
 
 PICTURES = HERE / "pictures"
@@ -132,22 +132,29 @@ def token_node(language, name):
     return f'  k_{name} [label="{name}\\ntoken", shape=note];\n'
 
 
+def written(document):
+    """The trees of the certificate with the rows that their leaves leave out, which only version 3 has."""
+    trees = document.get("certificate", [])
+    if document["version"] < 3:
+        return trees
+    graph = Graph(document)
+    return [tokens.with_rows(tokens.assumed(graph, claim), tree) for claim, tree in zip(document.get("claims", []), trees)]
+
+
 def leaves(tree):
-    """The ends that each leaf has of the tasks, one after another. A leaf without rows rules none out."""
-    if tree == LEAST:
-        yield itertools.repeat(FINALS)
-    elif "rows" in tree:
+    """The ends that the rows of each leaf have of the tasks."""
+    branches = split_on(tree)
+    if branches is None:
         yield [row["ends"] for row in tree["rows"]]
     else:
-        for branch in ("yes", "no", "ran", "canceled", "faulted"):
-            if branch in tree:
-                yield from leaves(tree[branch])
+        for branch in branches.trees:
+            yield from leaves(branch)
 
 
 def endings(document):
     """For each task the ways in which it may end by the certificate, in whatever leaf."""
     found = [set() for _ in document["tasks"]]
-    for tree in document.get("certificate", []):
+    for tree in written(document):
         for each in leaves(tree):
             for ends, more in zip(found, each):
                 ends.update(more)

@@ -6,6 +6,7 @@ use Rattle.tpl_model.specs.Claims.{Claim}
 use Rattle.tpl_audit.specs.declared.verdict.Failure.{Failure}
 use Rattle.tpl_audit.specs.Audit.{first_events, FirstFails}
 use Rattle.tpl_audit.specs.Standing.{statuses}
+use Rattle.tpl_laws.specs.ByRules.{written_by}
 use Rattle.tpl_draw.specs.declared.language.Language.{Language}
 use Rattle.tpl_draw.specs.declared.shown.Failing.{Failing}
 use Rattle.tpl_draw.specs.declared.shown.Moment.{Moment}
@@ -15,15 +16,16 @@ use Rattle.tpl_draw.specs.Endings.{endings}
 use Rattle.tpl_draw.specs.Picture.{picture}
 use Rattle.tpl_reader.specs.Document.{DocumentValue}
 use Rattle.tpl_commands.specs.Auditing.{HasRun}
-use Rattle.tpl_commands.specs.Rules.{HasProof}
+use Rattle.tpl_commands.specs.Rules.{HasProof, rules_of}
 use Rattle.tpl_commands.specs.declared.exit.Exit.{Exit}
 use Rattle.tpl_commands.specs.declared.exit.Exit.TheVariants.{Success}
 use Rattle.tpl_commands.specs.Responding.{Answers}
 use Rattle.tpl_commands.specs.Documents.{ToDocument}
 
--- The ends are how the tasks may end, where the certificate is accepted; else there are none.
+-- The ends are how the tasks may end by the rows of the certificate, written or left out, where it is accepted; else there
+-- are none.
 pub record AreEndings (doc : DocumentValue) (ends : List Finals) : Type 0 where
-  pub accepted : HasProof doc → ends ≡ endings doc.certificate (length doc.graph.graph.tasks)
+  pub accepted : HasProof doc → ends ≡ endings (written_by (rules_of doc) doc.graph.graph doc.claims doc.certificate) (length doc.graph.graph.tasks)
   pub refused : (HasProof doc → ⊥) → ends ≡ []
 
 -- the moment of a run that is drawn: where a claim fails first, or the end

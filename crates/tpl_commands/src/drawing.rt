@@ -64,13 +64,15 @@ fn shown_endings(
     document: &Document,
     verdict: &Result<(), CertFault>,
 ) -> Result<Vec<Finals>, AllocError>
-    requires { IsCheckOf (doc_of document.now) verdict.now }
+    requires claims { All (Fits document.now.graph.graph) document.now.claims.items }
+    requires checked { IsCheckOf (doc_of document.now) verdict.now }
     ensures { IfOk result (λ ends. AreEndings (doc_of document.now) ends.items) }
 {
+    let (graph, claims) = (&document.graph, document.claims.as_slice());
     match verdict {
         Ok(()) => match rules_of(document) {
-            RuleSet::Narrow => endings(alloc, document.certificate.trees(), document.graph.len()),
-            RuleSet::Wide => wide_endings(alloc, document.wide.trees(), document.graph.len()),
+            RuleSet::Narrow => endings(alloc, document.certificate.trees(), graph.len()),
+            RuleSet::Wide => wide_endings(alloc, graph, claims, document.wide.trees()),
         },
         Err(_) => Ok(Vec::new(alloc)),
     }

@@ -14,8 +14,8 @@ use Rattle.tpl_model.specs.Rules.{final, Run}
 use Rattle.tpl_model.specs.Valid.{IsGraph}
 use Rattle.tpl_model.specs.Claims.{Claim}
 use Rattle.tpl_model.specs.Certificate.{Row, row, Assumed, assumed_for, taken, with_input, with_end, Closed, Tree, SplitInput, SplitEnd, Leaf, AcceptsTree, Accepts}
-use Rattle.tpl_model.specs.WiderRules.{WideRow, plain, WideTree, OnInput, OnEnd, OnWinner, WideLeaf, LeastLeaf, as_wide, as_wide_tree}
-use Rattle.tpl_laws.specs.WideTrees.{WidelyAccepts}
+use Rattle.tpl_model.specs.WiderRules.{WideRow, plain, WideTree, OnInput, OnEnd, OnWinner, WideLeaf, LeastLeaf, as_wide, as_wide_tree, widely_assumed}
+use Rattle.tpl_laws.specs.WideTrees.{WidelyAccepts, all_written, written}
 use Rattle.tpl_laws.specs.LeastRows.{ends_where}
 use Rattle.tpl_laws.specs.Soundness.{HasLeaf, RowsAreTrue, SomeLeafAgrees}
 use Rattle.tpl_laws.specs.WiderSoundness.{HasRows, SomeWideLeafIsTrue}
@@ -102,15 +102,17 @@ narrow_ends rows_true some_leaf g (claim ∷ claims) (tree ∷ trees) valid acc 
     (narrow_ends rows_true some_leaf g claims trees valid acc.1 v h run given t f e)
 
 -- by the wide ones
-wide_ends : SomeWideLeafIsTrue → (g : TaskGraph) (claims : List Claim) (trees : List WideTree) → IsGraph g → WidelyAccepts g claims trees → EndsAre true g claims trees
+wide_ends : SomeWideLeafIsTrue → (g : TaskGraph) (claims : List Claim) (trees : List WideTree) → IsGraph g → WidelyAccepts g claims trees → EndsAre true g claims (all_written g claims trees)
 wide_ends some_leaf g [] [] valid acc v h run given t f e = absurd given
 wide_ends some_leaf g (claim ∷ claims) [] valid acc v h run given t f e = absurd acc
 wide_ends some_leaf g [] (tree ∷ trees) valid acc v h run given t f e = absurd acc
 wide_ends some_leaf g (claim ∷ claims) (tree ∷ trees) valid acc v h run (inl given) t f e =
     let w = some_leaf g claim tree v h valid acc.0 run given in
-    in_first (tree_ends tree t) (ends trees t) f (rows_in_tree tree w.0 t f w.1 (w.2.ends t f e))
+    let whole = written g claim.body (widely_assumed g claim) tree in
+    in_first (tree_ends whole t) (ends (all_written g claims trees) t) f (rows_in_tree whole w.0 t f w.1 (w.2.ends t f e))
 wide_ends some_leaf g (claim ∷ claims) (tree ∷ trees) valid acc v h run (inr given) t f e =
-    in_second (tree_ends tree t) (ends trees t) f (wide_ends some_leaf g claims trees valid acc.1 v h run given t f e)
+    in_second (tree_ends (written g claim.body (widely_assumed g claim) tree) t) (ends (all_written g claims trees) t) f
+    (wide_ends some_leaf g claims trees valid acc.1 v h run given t f e)
 
 pub endings_lem : RowsAreTrue → SomeLeafAgrees → SomeWideLeafIsTrue → EndingsAreTrue
 endings_lem rows_true some_leaf some_wide_leaf Narrow g claims certificate valid acc v h run given t f e =

@@ -1,3 +1,4 @@
 pub mod ActLemmas
 pub mod AddedLemmas
 pub mod EndingLemmas
+pub mod EachTask

@@ -11,7 +11,7 @@ use Rattle.tpl_model.specs.Valid.{IsGraph}
 use Rattle.tpl_model.specs.Claims.{Claim, IsGiven}
 use Rattle.tpl_model.specs.Certificate.{row, is_wide, taken}
 use Rattle.tpl_model.specs.WiderRules.{plain, WideTree, OnInput, OnEnd, OnWinner, WideLeaf, LeastLeaf}
-use Rattle.tpl_laws.specs.ByRules.{AcceptsBy}
+use Rattle.tpl_laws.specs.ByRules.{AcceptsBy, written_by}
 use Rattle.tpl_laws.specs.LeastRows.{ends_where}
 use Rattle.tpl_draw.specs.Below.{below}
 
@@ -36,9 +36,13 @@ abbrev pub ends : List WideTree → ℕ → Finals
 ends [] t = no_ends
 ends (tree ∷ trees) t = either (tree_ends tree t) (ends trees t)
 
+-- the ways to end of each of the first n tasks
+abbrev pub each_task : (ℕ → Finals) → ℕ → List Finals
+each_task ends n = below (λ t. ends t ∷ []) n
+
 -- how each of the first n tasks may end by the trees
 abbrev pub endings : List WideTree → ℕ → List Finals
-endings trees n = below (λ t. ends trees t ∷ []) n
+endings trees n = each_task (ends trees) n
 
 -- what a certificate may take as given for one of the claims is true of a run so far: by the wider rules for a claim
 -- about a beginning also that the own token isn't requested
@@ -46,10 +50,10 @@ abbrev pub IsSomeTaken : Bool → TaskGraph → List Bool → List Event → Lis
 IsSomeTaken wide g v h [] = ⊥
 IsSomeTaken wide g v h (claim ∷ claims) = IsGiven g v h (taken wide g claim) ⊎ IsSomeTaken wide g v h claims
 
--- where a certificate is accepted by the rules, a task ends as one of its rows says, in each run of which what may be
--- taken as given for one of the claims is true
+-- where a certificate is accepted by the rules, a task ends as one of its rows says, written or left out, in each run of
+-- which what may be taken as given for one of the claims is true
 abbrev pub EndingsAreTrue : Type 0
 EndingsAreTrue =
     (rules : RuleSet) (g : TaskGraph) (claims : List Claim) (certificate : List WideTree) → IsGraph g → AcceptsBy rules g claims certificate
     → (v : List Bool) (h : List Event) → Run g v h → IsSomeTaken (is_wide rules) g v h claims
-    → (t : ℕ) (f : Final) → final g v h t ≡ Some f → has (ends certificate t) f ≡ true
+    → (t : ℕ) (f : Final) → final g v h t ≡ Some f → has (ends (written_by rules g claims certificate) t) f ≡ true

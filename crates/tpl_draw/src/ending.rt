@@ -1,9 +1,8 @@
 //! How the tasks may end by the rows of a certificate.
 
-ghost use Rattle.std.specs.Prelude.{◌≡◌, IfOk, map, true};
+ghost use Rattle.std.specs.Prelude.{◌≡◌, IfOk, map};
 ghost use Rattle.tpl_model.specs.Certificate.{row};
 ghost use Rattle.tpl_model.specs.WiderRules.{as_wide_tree};
-ghost use Rattle.tpl_laws.specs.LeastRows.{ends_where};
 ghost use Rattle.tpl_draw.specs.Endings.{either, endings, ends, no_ends, tree_ends, EndingsAreTrue};
 
 use std::alloc::{AllocError, Global};
@@ -18,17 +17,6 @@ pub(crate) fn no_ends() -> Finals
         ran: false,
         canceled: false,
         faulted: false,
-    }
-}
-
-/// Each way to end.
-pub(crate) fn each_end() -> Finals
-    ensures { result ≡ ends_where (λ f. true) }
-{
-    Finals {
-        ran: true,
-        canceled: true,
-        faulted: true,
     }
 }
 

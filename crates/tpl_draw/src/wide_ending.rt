@@ -1,14 +1,26 @@
-//! How the tasks may end by the rows of a certificate that may speak of tokens and of winners.
+//! How the tasks may end by the rows of a certificate that may speak of tokens and of winners, and may leave rows out.
 
-ghost use Rattle.std.specs.Prelude.{◌≡◌, IfOk};
+ghost use Rattle.std.specs.Prelude.{◌≡◌, ℕ, IfOk, length};
+ghost use Rattle.std.specs.List.{All};
+ghost use Rattle.tpl_model.specs.declared.finals.Finals.{Finals};
 ghost use Rattle.tpl_model.specs.Certificate.{row};
 ghost use Rattle.tpl_model.specs.WiderRules.{plain};
-ghost use Rattle.tpl_draw.specs.Endings.{endings, ends, tree_ends};
+ghost use Rattle.tpl_graph.specs.Fits.{Fits};
+ghost use Rattle.tpl_checker.specs.Below.{AreBelow};
+ghost use Rattle.tpl_laws.specs.WideTrees.{AcceptsWideTree, WidelyAccepts, all_written, written};
+ghost use Rattle.tpl_leaf.specs.Leaf.{wide_assumed};
+ghost use Rattle.tpl_leaf.specs.Links.{AreLinks};
+ghost use Rattle.tpl_wide.specs.Check.{IsCheck, graph_in};
+ghost use Rattle.tpl_draw.specs.Endings.{each_task, either, endings, no_ends, tree_ends};
 
-use crate::ending::{each_end, either, no_ends};
+use crate::ending::{either, no_ends};
 use std::alloc::{AllocError, Global};
-use tpl_model::Finals;
+use tpl_checker::{Assumptions, Below, assumed_for};
+use tpl_graph::{Claim, Graph};
+use tpl_model::{Final, Finals, RuleSet};
+use tpl_paths::TokenSet;
 use tpl_trees::{WideNode, WideRow, WideTree};
+use tpl_wide::{Check, WinnerSplit, links, rows_left_out, with_split};
 
 /// How a task may end by its row; in no way past the last row.
 fn leaf_ends(rows: &[WideRow], task: usize) -> Finals
@@ -21,48 +33,121 @@ fn leaf_ends(rows: &[WideRow], task: usize) -> Finals
     }
 }
 
-/// How a task may end by the rows of one leaf of the tree or another. A leaf without rows rules nothing out.
-fn tree_ends(tree: &WideTree, task: usize) -> Finals
-    ensures { result ≡ tree_ends tree.now task }
-{
-    match tree.node() {
-        WideNode::SplitInput(_, on_true, on_false) => {
-            either(tree_ends(on_true, task), tree_ends(on_false, task))
-        }
-        WideNode::SplitEnd(_, ran, canceled, faulted) => {
-            let others = either(tree_ends(canceled, task), tree_ends(faulted, task));
-            either(tree_ends(ran, task), others)
-        }
-        WideNode::SplitWinner(_, _, on_yes, on_no) => {
-            either(tree_ends(on_yes, task), tree_ends(on_no, task))
-        }
-        WideNode::Leaf(rows) => leaf_ends(rows, task),
-        WideNode::Least => each_end(),
-    }
-}
-
-/// How a task may end by one tree or another.
-fn ends(trees: &[WideTree], task: usize) -> Finals
-    ensures { result ≡ ends trees.now task }
-{
-    let mut found = no_ends();
-    for tree in trees {
-        found = either(found, tree_ends(tree, task));
-    }
-    found
-}
-
-/// How each of this many tasks may end by the trees of a certificate whose rows may speak of tokens too.
-pub fn wide_endings(
+/// How each task may end by the rows of a leaf, or in these other ways.
+fn ends_in_rows(
     alloc: Global,
-    trees: &[WideTree],
-    tasks: usize,
+    rows: &[WideRow],
+    others: &[Finals],
 ) -> Result<Vec<Finals>, AllocError>
-    ensures { IfOk result (λ found. found.items ≡ endings trees.now tasks) }
+    ensures { (other : ℕ → Finals) (n : ℕ) → others.now ≡ each_task other n
+        → IfOk result (λ found. found.items
+        ≡ each_task (λ t. either (row (plain rows.now) t).ends (other t)) n) }
 {
     let mut found = Vec::new(alloc);
-    for task in 0..tasks {
-        found.push(ends(trees, task))?;
+    for task in 0..others.len() {
+        found.push(either(leaf_ends(rows, task), others[task]))?;
     }
     Ok(found)
+}
+
+/// How each task may end by the rows of a tree, written or left out, or in these other ways.
+fn ends_in_tree(
+    alloc: Global,
+    check: &Check<'_>,
+    assumed: &Assumptions,
+    winners: &[WinnerSplit],
+    tree: &WideTree,
+    others: &[Finals],
+) -> Result<Vec<Finals>, AllocError>
+    requires check { IsCheck check.now }
+    requires accepted { AcceptsWideTree (graph_in check.now) check.now.property
+        (wide_assumed assumed.now winners.now) tree.now }
+    ensures { (other : ℕ → Finals) (n : ℕ) → others.now ≡ each_task other n
+        → IfOk result (λ found. found.items ≡ each_task (λ t. either
+        (tree_ends (written (graph_in check.now) check.now.property
+        (wide_assumed assumed.now winners.now) tree.now) t) (other t)) n) }
+{
+    check.graph().valid_law();
+    match tree.node() {
+        WideNode::SplitInput(input, on_true, on_false) => {
+            let yes = assumed.with_input(*input, true);
+            let no = assumed.with_input(*input, false);
+            let found = ends_in_tree(alloc, check, &no, winners, on_false, others)?;
+            ends_in_tree(alloc, check, &yes, winners, on_true, found.as_slice())
+        }
+        WideNode::SplitEnd(task, ran, canceled, faulted) => {
+            let on_ran = assumed.with_end(*task, Final::RanToCompletion);
+            let on_canceled = assumed.with_end(*task, Final::Canceled);
+            let on_faulted = assumed.with_end(*task, Final::Faulted);
+            let found = ends_in_tree(alloc, check, &on_faulted, winners, faulted, others)?;
+            let found = ends_in_tree(alloc, check, &on_canceled, winners, canceled, found.as_slice())?;
+            ends_in_tree(alloc, check, &on_ran, winners, ran, found.as_slice())
+        }
+        WideNode::SplitWinner(task, argument, on_yes, on_no) => {
+            let yes = with_split(alloc, winners, *task, *argument, true)?;
+            let no = with_split(alloc, winners, *task, *argument, false)?;
+            let found = ends_in_tree(alloc, check, assumed, no.as_slice(), on_no, others)?;
+            ends_in_tree(alloc, check, assumed, yes.as_slice(), on_yes, found.as_slice())
+        }
+        WideNode::Leaf(rows) => ends_in_rows(alloc, rows, others),
+        WideNode::Least => {
+            let rows = rows_left_out(alloc, check, assumed, winners)?;
+            ends_in_rows(alloc, rows.as_slice(), others)
+        }
+    }
+}
+
+/// That no task ends.
+fn no_task_ends(alloc: Global, tasks: usize) -> Result<Vec<Finals>, AllocError>
+    ensures { IfOk result (λ found. found.items ≡ each_task (λ t. no_ends) tasks) }
+{
+    let mut found = Vec::new(alloc);
+    for _ in 0..tasks {
+        found.push(no_ends())?;
+    }
+    Ok(found)
+}
+
+/// How the tasks may end by the trees of these claims, with what all trees share.
+fn ends_in_trees(
+    alloc: Global,
+    graph: &Graph,
+    below: &Below,
+    linked: &[TokenSet],
+    claims: &[Claim],
+    trees: &[WideTree],
+) -> Result<Vec<Finals>, AllocError>
+    requires below { AreBelow graph.now.graph below.now }
+    requires linked { AreLinks graph.now.graph linked.now }
+    requires claims { All (Fits graph.now.graph) claims.now }
+    requires accepted { WidelyAccepts graph.now.graph claims.now trees.now }
+    ensures { IfOk result (λ found. found.items ≡ endings
+        (all_written graph.now.graph claims.now trees.now) (length graph.now.graph.tasks)) }
+{
+    match (claims, trees) {
+        ([claim, claims @ ..], [tree, trees @ ..]) => {
+            let others = ends_in_trees(alloc, graph, below, linked, claims, trees)?;
+            let check = Check::new(graph, claim.body(), 1, below, linked);
+            let assumed = assumed_for(graph, claim, RuleSet::Wide);
+            ends_in_tree(alloc, &check, &assumed, &[], tree, others.as_slice())
+        }
+        _ => no_task_ends(alloc, graph.len()),
+    }
+}
+
+/// How each task may end by the trees of an accepted certificate whose rows may speak of tokens too, and may be left out.
+pub fn wide_endings(
+    alloc: Global,
+    graph: &Graph,
+    claims: &[Claim],
+    trees: &[WideTree],
+) -> Result<Vec<Finals>, AllocError>
+    requires claims { All (Fits graph.now.graph) claims.now }
+    requires accepted { WidelyAccepts graph.now.graph claims.now trees.now }
+    ensures { IfOk result (λ found. found.items ≡ endings
+        (all_written graph.now.graph claims.now trees.now) (length graph.now.graph.tasks)) }
+{
+    let below = Below::of_graph(graph);
+    let linked = links(graph);
+    ends_in_trees(alloc, graph, &below, &linked, claims, trees)
 }

@@ -17,7 +17,7 @@ use Rattle.tpl_model.specs.declared.claim.Property.TheVariants.{Final as EndsIn,
 use Rattle.tpl_model.specs.Claims.{input, Claim, IsGiven}
 use Rattle.tpl_model.specs.Certificate.{same, own_quiet, taken}
 use Rattle.tpl_model.specs.WiderRules.{WideRow, plain, WideAssumed, WideAgrees, WidelyClosed, WidelyProves, WideTree, OnInput, OnEnd, OnWinner, WideLeaf, LeastLeaf, narrowed, input_split, end_split, winner_split, widely_assumed}
-use Rattle.tpl_laws.specs.WideTrees.{AcceptsWideTree}
+use Rattle.tpl_laws.specs.WideTrees.{AcceptsWideTree, written}
 use Rattle.tpl_laws.specs.LeastRows.{least_rows}
 use Rattle.tpl_laws.specs.WiderSoundness.{HasRows, SomeWideLeafIsTrue, WideRowsAreTrue, WideSoundness}
 use Rattle.tpl_laws.proofs.Basics.{some_none, same_number, final_self}
@@ -120,34 +120,34 @@ module _ (g : TaskGraph) (p : Property TaskId) (v : List Bool) (h : List Event) 
         | inr c ↦ on_no (λ w e. subst (λ z. not (nat_eq x z) ≡ true) (some_eq s w (sym q ∙ e)) (ap not c))
       ]
 
-  -- a leaf of a branch is one of the tree
+  -- a leaf of a branch is one of the tree; one without rows has the least ones
   of_branch : (tree branch : WideTree) → ((rows : List WideRow) → HasRows branch rows → HasRows tree rows) → AWideLeaf g p branch v h → AWideLeaf g p tree v h
   of_branch tree branch has leaf = record { assumes = leaf.assumes; rows = leaf.rows; has = has leaf.rows leaf.has; agrees = leaf.agrees; closed = leaf.closed; proves = leaf.proves }
 
-  some_leaf : (l : WideAssumed) (tree : WideTree) → WideAgrees g l v h → Bound l → AcceptsWideTree g p l tree → AWideLeaf g p tree v h
+  some_leaf : (l : WideAssumed) (tree : WideTree) → WideAgrees g l v h → Bound l → AcceptsWideTree g p l tree → AWideLeaf g p (written g p l tree) v h
   some_leaf l (OnInput i a b) agrees bound acc =
       elim (cases_Bool (input v i)) [
-        | inl e ↦ of_branch (OnInput i a b) a (λ rows h. inl h) (some_leaf (input_split l i true) a (takes_input l i true e agrees) bound acc.1)
-        | inr e ↦ of_branch (OnInput i a b) b (λ rows h. inr h) (some_leaf (input_split l i false) b (takes_input l i false e agrees) bound acc.2)
+        | inl e ↦ of_branch (written g p l (OnInput i a b)) (written g p (input_split l i true) a) (λ rows h. inl h) (some_leaf (input_split l i true) a (takes_input l i true e agrees) bound acc.1)
+        | inr e ↦ of_branch (written g p l (OnInput i a b)) (written g p (input_split l i false) b) (λ rows h. inr h) (some_leaf (input_split l i false) b (takes_input l i false e agrees) bound acc.2)
       ]
   some_leaf l (OnEnd t a b c) agrees bound acc =
       by_end (destiny g v h t) refl
-      (λ e. of_branch (OnEnd t a b c) a (λ rows h. inl h) (some_leaf (end_split l t RanToCompletion) a (takes_end l t RanToCompletion e agrees) (bound_end l t RanToCompletion e bound) acc.1))
-      (λ e. of_branch (OnEnd t a b c) b (λ rows h. inr (inl h)) (some_leaf (end_split l t Canceled) b (takes_end l t Canceled e agrees) (bound_end l t Canceled e bound) acc.2))
-      (λ e. of_branch (OnEnd t a b c) c (λ rows h. inr (inr h)) (some_leaf (end_split l t Faulted) c (takes_end l t Faulted e agrees) (bound_end l t Faulted e bound) acc.3))
+      (λ e. of_branch (written g p l (OnEnd t a b c)) (written g p (end_split l t RanToCompletion) a) (λ rows h. inl h) (some_leaf (end_split l t RanToCompletion) a (takes_end l t RanToCompletion e agrees) (bound_end l t RanToCompletion e bound) acc.1))
+      (λ e. of_branch (written g p l (OnEnd t a b c)) (written g p (end_split l t Canceled) b) (λ rows h. inr (inl h)) (some_leaf (end_split l t Canceled) b (takes_end l t Canceled e agrees) (bound_end l t Canceled e bound) acc.2))
+      (λ e. of_branch (written g p l (OnEnd t a b c)) (written g p (end_split l t Faulted) c) (λ rows h. inr (inr h)) (some_leaf (end_split l t Faulted) c (takes_end l t Faulted e agrees) (bound_end l t Faulted e bound) acc.3))
     where
       by_end : {A : Type 0} (f : Final) → destiny g v h t ≡ f → (destiny g v h t ≡ RanToCompletion → A) → (destiny g v h t ≡ Canceled → A) → (destiny g v h t ≡ Faulted → A) → A
       by_end RanToCompletion e x y z = x e
       by_end Canceled e x y z = y e
       by_end Faulted e x y z = z e
   some_leaf l (OnWinner n x a b) agrees bound acc =
-      by_winner n x (AWideLeaf g p (OnWinner n x a b) v h) (winner_of (ending g v h n)) refl
-      (λ won. of_branch (OnWinner n x a b) a (λ rows h. inl h) (some_leaf (winner_split l n x true) a (takes_winner l n x true won agrees) bound acc.1))
-      (λ won. of_branch (OnWinner n x a b) b (λ rows h. inr h) (some_leaf (winner_split l n x false) b (takes_winner l n x false won agrees) bound acc.2))
+      by_winner n x (AWideLeaf g p (written g p l (OnWinner n x a b)) v h) (winner_of (ending g v h n)) refl
+      (λ won. of_branch (written g p l (OnWinner n x a b)) (written g p (winner_split l n x true) a) (λ rows h. inl h) (some_leaf (winner_split l n x true) a (takes_winner l n x true won agrees) bound acc.1))
+      (λ won. of_branch (written g p l (OnWinner n x a b)) (written g p (winner_split l n x false) b) (λ rows h. inr h) (some_leaf (winner_split l n x false) b (takes_winner l n x false won agrees) bound acc.2))
   some_leaf l (WideLeaf rows) agrees bound acc =
       record { assumes = narrowed g l; rows = rows; has = refl; agrees = narrowed_agrees g v h valid run l agrees bound; closed = acc.3.0; proves = acc.3.1 }
   some_leaf l LeastLeaf agrees bound acc =
-      record { assumes = narrowed g l; rows = least_rows g (narrowed g l) p; has = tt; agrees = narrowed_agrees g v h valid run l agrees bound; closed = acc.0; proves = acc.1 }
+      record { assumes = narrowed g l; rows = least_rows g (narrowed g l) p; has = refl; agrees = narrowed_agrees g v h valid run l agrees bound; closed = acc.0; proves = acc.1 }
 
 a_wide_leaf : (g : TaskGraph) (claim : Claim) (tree : WideTree) (v : List Bool) (h : List Event) → IsGraph g → AcceptsWideTree g claim.body (widely_assumed g claim) tree → Run g v h → IsGiven g v h claim.given → IsGiven g v h (own_quiet g claim.body) → ALeaf g v h claim.body
 a_wide_leaf g claim tree v h valid acc run i q =

@@ -10,7 +10,7 @@ use Rattle.tpl_model.specs.Valid.{IsGraph}
 use Rattle.tpl_model.specs.Claims.{Claim, Holds}
 use Rattle.tpl_model.specs.Certificate.{Tree, Accepts, is_wide}
 use Rattle.tpl_model.specs.WiderRules.{WideTree, as_wide_tree}
-use Rattle.tpl_laws.specs.WideTrees.{WidelyAccepts}
+use Rattle.tpl_laws.specs.WideTrees.{WidelyAccepts, all_written}
 use Rattle.tpl_laws.specs.Faults.{IsFirstFault}
 use Rattle.tpl_laws.specs.Soundness.{Each}
 use Rattle.tpl_laws.specs.WideFaults.{IsFirstWideFault}
@@ -19,6 +19,11 @@ use Rattle.tpl_laws.specs.WideFaults.{IsFirstWideFault}
 abbrev pub AcceptsBy : RuleSet → TaskGraph → List Claim → List WideTree → Type 0
 AcceptsBy Narrow g claims trees = (plain : List Tree) × (trees ≡ map as_wide_tree plain) × Accepts false g claims plain
 AcceptsBy Wide g claims trees = WidelyAccepts g claims trees
+
+-- the certificate with the rows that its leaves leave out; by the narrow rules none does
+abbrev pub written_by : RuleSet → TaskGraph → List Claim → List WideTree → List WideTree
+written_by Narrow g claims trees = trees
+written_by Wide g claims trees = all_written g claims trees
 
 -- the certificate fails, and this is the first fault
 abbrev pub FailsFirst : RuleSet → TaskGraph → List Claim → List WideTree → CertFault → Type 0

@@ -35,3 +35,18 @@ WidelyAccepts g [] [] = Unit {0}
 WidelyAccepts g (claim ∷ claims) (tree ∷ trees) = AcceptsWideTree g claim.body (widely_assumed g claim) tree × WidelyAccepts g claims trees
 WidelyAccepts g [] (tree ∷ trees) = ⊥
 WidelyAccepts g (claim ∷ claims) [] = ⊥
+
+-- the tree with the rows that its leaves leave out, where this is assumed
+abbrev pub written : TaskGraph → Property TaskId → WideAssumed → WideTree → WideTree
+written g p l (OnInput i on_true on_false) = OnInput i (written g p (input_split l i true) on_true) (written g p (input_split l i false) on_false)
+written g p l (OnEnd t ran canceled faulted) =
+    OnEnd t (written g p (end_split l t RanToCompletion) ran) (written g p (end_split l t Canceled) canceled) (written g p (end_split l t Faulted) faulted)
+written g p l (OnWinner n x on_yes on_no) = OnWinner n x (written g p (winner_split l n x true) on_yes) (written g p (winner_split l n x false) on_no)
+written g p l (WideLeaf rows) = WideLeaf rows
+written g p l LeastLeaf = WideLeaf (least_rows g (narrowed g l) p)
+
+-- the trees of these claims with the rows that their leaves leave out
+abbrev pub all_written : TaskGraph → List Claim → List WideTree → List WideTree
+all_written g (claim ∷ claims) (tree ∷ trees) = written g claim.body (widely_assumed g claim) tree ∷ all_written g claims trees
+all_written g [] trees = []
+all_written g (claim ∷ claims) [] = []

@@ -14,7 +14,7 @@ use Rattle.tpl_model.specs.declared.claim.Property.{Property}
 use Rattle.tpl_model.specs.Claims.{Claim, IsGiven, Holds}
 use Rattle.tpl_model.specs.Certificate.{Row, row, Tree, Closed, Proves, Accepts, taken}
 use Rattle.tpl_model.specs.WiderRules.{WideRow, plain, begins_with, ends_with, WideAssumed, WideAgrees, may_run, WidelyClosed, WidelyProves, WideTree, OnInput, OnEnd, OnWinner, WideLeaf, LeastLeaf, widely_assumed, as_wide, as_wide_tree}
-use Rattle.tpl_laws.specs.WideTrees.{AcceptsWideTree, WidelyAccepts}
+use Rattle.tpl_laws.specs.WideTrees.{AcceptsWideTree, WidelyAccepts, written}
 use Rattle.tpl_laws.specs.Soundness.{Each}
 
 -- a fact holds in a run so far
@@ -66,8 +66,9 @@ HasRows (OnWinner n x on_yes on_no) rows = HasRows on_yes rows ⊎ HasRows on_no
 HasRows (WideLeaf leaf) rows = leaf ≡ rows
 HasRows LeastLeaf rows = Unit {0}
 
--- what the rows of some leaf of an accepted tree say is true of each run of which what may be taken as given for the claim is true
+-- what the rows of some leaf of an accepted tree say, written or left out, is true of each run of which what may be taken as
+-- given for the claim is true
 abbrev pub SomeWideLeafIsTrue : Type 0
 SomeWideLeafIsTrue =
     (g : TaskGraph) (claim : Claim) (tree : WideTree) (v : List Bool) (h : List Event) → IsGraph g → AcceptsWideTree g claim.body (widely_assumed g claim) tree → Run g v h → IsGiven g v h (taken true g claim)
-    → (rows : List WideRow) × HasRows tree rows × WideRowsHold g rows v h
+    → (rows : List WideRow) × HasRows (written g claim.body (widely_assumed g claim) tree) rows × WideRowsHold g rows v h
