@@ -11,9 +11,9 @@ use std::alloc::Global;
 use std::io::Write;
 use std::sync::Wait;
 use std::thread::Threads;
+use tpl_items::{Work, WorkItem};
 use tpl_journal::Counting;
 use tpl_model::{Answer, SiteId};
-use tpl_queue::{Work, WorkItem};
 use tpl_reader::Document;
 use tpl_report::{Crew, Exit, Follow, Telling, put_out_of_memory, serve_run_followed};
 

@@ -5,7 +5,7 @@ use denote.RattleType.{RattleType}
 use Rattle.std.proofs.Crossing.{crosses}
 use Rattle.std.proofs.MapsCrossing.{crosses as text_crosses}
 use Rattle.tpl_model.proofs.Crosses.{event_send}
-use Rattle.tpl_queue.proofs.Crosses.{receipt_send}
+use Rattle.tpl_items.proofs.Crosses.{receipt_send}
 use Rattle.tpl_fast.proofs.Crosses.{fast_send}
 use Rattle.tpl_hall.specs.contracts.hall.Hall as Hall
 

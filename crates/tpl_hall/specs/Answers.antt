@@ -7,7 +7,7 @@ use Rattle.tpl_model.specs.declared.event.Act.{Act}
 use Rattle.tpl_model.specs.declared.event.Act.TheVariants.{Worked}
 use Rattle.tpl_model.specs.declared.event.Event.{Event}
 use Rattle.tpl_model.specs.Facts.{rest}
-use Rattle.tpl_queue.specs.declared.receipt.Receipt.{Receipt}
+use Rattle.tpl_items.specs.declared.receipt.Receipt.{Receipt}
 
 -- the site of the work statement that stands next; 0 where none does
 abbrev pub site_next : Statements → ℕ

@@ -2,7 +2,7 @@
 
 ghost use Rattle.std.specs.Prelude.{◌≡◌, ◌≤◌, length, map, count_by, nat_eq};
 
-use tpl_queue::Receipt;
+use tpl_items::Receipt;
 
 /// How many receipts there are of a site.
 pub fn receipts_of<K>(site: u16, receipts: &[Receipt<K>]) -> usize

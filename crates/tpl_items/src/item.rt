@@ -1,7 +1,8 @@
 //! What a session runs.
 
+use crate::receipt::Receipt;
+use crate::work_item::WorkItem;
 use tpl_model::SiteId;
-use tpl_queue::{Receipt, WorkItem};
 
 /// The box of one work statement, stamped by a `K`. A session calls it at most once, and can make none.
 ///

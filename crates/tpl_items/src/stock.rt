@@ -8,11 +8,11 @@ ghost use Rattle.tpl_items.specs.Items.{count_of};
 ghost use Rattle.tpl_items.specs.Stock.{AreOthers, HasPlace, IfWorker, Takes, TakesKept, new_stock, unput_count};
 
 use crate::item::Item;
+use crate::job::Job;
 use std::alloc::Global;
 use std::collections::VecDeque;
 use std::marker::Model;
 use tpl_model::{Actor, SiteId, TaskId, Worker};
-use tpl_queue::Job;
 
 /// A job as the queue carries it. Its list is empty: items stay in the stock until they are called.
 pub type ItemJob<W> = Job<Vec<W>>;

@@ -1,6 +1,6 @@
 -- What the receipts of a run say.
 use Rattle.std.proofs.Common.{◌≡◌, List, [], ◌∷◌, map, refl, ap}
-use Rattle.tpl_queue.specs.declared.receipt.Receipt.{Receipt}
+use Rattle.tpl_items.specs.declared.receipt.Receipt.{Receipt}
 use Rattle.tpl_hall.specs.Answers.{shown}
 
 -- the sites of receipts

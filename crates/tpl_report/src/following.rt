@@ -8,7 +8,7 @@ use std::alloc::Global;
 use std::sync::Wait;
 use std::thread;
 use std::thread::{Scope, Threads};
-use tpl_queue::QueuePass;
+use tpl_items::QueuePass;
 use tpl_runtime::{Ended, Item, RunFault, Seat, Session, Watcher};
 
 /// Follows a run while it is made. The run doesn't depend on it.

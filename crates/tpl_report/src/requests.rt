@@ -14,8 +14,8 @@ use crate::fault::{RunFault, Stop, seat_stop};
 use std::alloc::{AllocError, Global};
 use std::sync::Wait;
 use tpl_graph::Graph;
+use tpl_items::QueuePass;
 use tpl_model::{Act, Actor, Event, MOST_TOKENS, TokenId};
-use tpl_queue::QueuePass;
 use tpl_run::tokens::{close, none_requested};
 use tpl_runtime::{Asked, Item, Seat, Session};
 

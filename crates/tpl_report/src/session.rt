@@ -5,7 +5,7 @@ ghost use Rattle.std.specs.List.{All};
 ghost use Rattle.tpl_draft.specs.Ids.{token_number};
 ghost use Rattle.tpl_journal.specs.Lines.{CanSpell};
 ghost use Rattle.tpl_model.specs.Graph.{is_token};
-ghost use Rattle.tpl_queue.specs.Tally.{new_tally};
+ghost use Rattle.tpl_items.specs.Tally.{new_tally};
 ghost use Rattle.tpl_report.specs.Made.{HaveRun, IsMadeBy};
 ghost use Rattle.tpl_report.specs.Prevents.{Prevents, StopsFor, StopsSession};
 ghost use Rattle.tpl_report.specs.Reported.{told, IsReport};
@@ -19,8 +19,8 @@ use std::alloc::{AllocError, Global};
 use std::sync::Wait;
 use std::thread::Threads;
 use tpl_graph::Graph;
+use tpl_items::{JobQueue, QueuePass};
 use tpl_model::{Inputs, TokenId};
-use tpl_queue::{JobQueue, QueuePass};
 use tpl_runtime::{Ended, Item, Report, Seat, Session};
 
 /// Makes a run of the graph: the tokens are requested first, and then the workers call the items.

@@ -9,8 +9,7 @@ use Rattle.std.specs.contracts.sync.Mutex as Mutex
 use Rattle.tpl_graph.proofs.Crosses.{graph_sync}
 use Rattle.tpl_model.proofs.Crosses.{event_send, event_sync}
 use Rattle.tpl_hall.proofs.Crosses.{hall_send}
-use Rattle.tpl_items.proofs.Crosses.{stock_send, children_send}
-use Rattle.tpl_queue.proofs.Crosses.{queue_sync}
+use Rattle.tpl_items.proofs.Crosses.{stock_send, children_send, queue_sync}
 use Rattle.tpl_runtime.specs.contracts.shared.Shared as Shared
 use Rattle.tpl_runtime.specs.contracts.session.Session as Session
 

@@ -6,8 +6,8 @@ use Rattle.tpl_model.specs.declared.status.Status.TheVariants.{WaitingToRun}
 use Rattle.tpl_model.specs.Graph.{is_task}
 use Rattle.tpl_model.specs.Rules.{status}
 use Rattle.tpl_machine.specs.Journal.{Journal}
-use Rattle.tpl_queue.specs.declared.rule.Tally.{Tally}
-use Rattle.tpl_queue.specs.Tally.{after_put}
+use Rattle.tpl_items.specs.declared.rule.Tally.{Tally}
+use Rattle.tpl_items.specs.Tally.{after_put}
 use Rattle.tpl_items.specs.Stock.{StockView}
 
 -- the task is ready to run, and its job wasn't put yet

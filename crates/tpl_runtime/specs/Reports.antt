@@ -12,7 +12,7 @@ use Rattle.tpl_laws.specs.Soundness.{Each}
 use Rattle.tpl_draft.specs.Ids.{task_number}
 use Rattle.tpl_draft.specs.Named.{Named}
 use Rattle.tpl_machine.specs.Journal.{Journal, named}
-use Rattle.tpl_queue.specs.declared.receipt.Receipt.{Receipt}
+use Rattle.tpl_items.specs.declared.receipt.Receipt.{Receipt}
 use Rattle.tpl_hall.specs.Answers.{answers, shown}
 use Rattle.tpl_hall.specs.Closes.{AllOwn, AllLast}
 use Rattle.tpl_hall.specs.Lists.{IsSeat, all_seated, are_seated}

@@ -11,9 +11,8 @@ use std::alloc::{AllocError, Global};
 use thiserror::Error;
 use tpl_graph::Graph;
 use tpl_hall::{Hall, Seat, all_last, are_own, are_seated, are_seats, have_seats, receipts_of};
-use tpl_items::{Item, items_of};
+use tpl_items::{Item, Receipt, items_of};
 use tpl_model::{Actor, Event, Inputs, Label, Status, TaskId};
-use tpl_queue::Receipt;
 
 /// What a session leaves: the run, the first event first; of each task where it stands, what its own body threw, and
 /// whose exceptions it carries; the tasks whose exception nobody has observed; the receipts in the order of the Worked

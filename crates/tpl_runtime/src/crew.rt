@@ -2,16 +2,15 @@
 
 ghost use Rattle.std.specs.Prelude.{◌≡◌};
 ghost use Rattle.tpl_hall.specs.Stays.{Leaves};
-ghost use Rattle.tpl_queue.specs.Tally.{first_half, second_half, both};
+ghost use Rattle.tpl_items.specs.Tally.{first_half, second_half, both};
 
 use crate::session::Session;
 use crate::shared::Halting;
 use std::sync::Wait;
 use tpl_graph::Graph;
 use tpl_hall::{Ended, Seat};
-use tpl_items::Item;
+use tpl_items::{Item, QueuePass};
 use tpl_model::Inputs;
-use tpl_queue::QueuePass;
 
 /// What workers share, seen without the items that its queue carries: so a thread's answer can be known to hold a pass
 /// of the same queue.
@@ -20,7 +19,7 @@ pub(crate) trait Crew {
 
     ghost use Rattle.std.specs.Prelude.{◌≡◌};
     ghost use Rattle.tpl_hall.specs.Stays.{Leaves};
-    ghost use Rattle.tpl_queue.specs.Tally.{first_half, second_half, both};
+    ghost use Rattle.tpl_items.specs.Tally.{first_half, second_half, both};
     ghost use Rattle.tpl_runtime.specs.Views.{SessionView};
 
     ghost session: { Self → SessionView };

@@ -2,7 +2,7 @@
 
 ghost use Rattle.std.specs.Prelude.{◌≡◌, length, slice_index_or, false, IfOk, IfErr, OnOk};
 ghost use Rattle.tpl_draft.specs.Named.{all_may_fail};
-ghost use Rattle.tpl_queue.specs.Tally.{new_tally};
+ghost use Rattle.tpl_items.specs.Tally.{new_tally};
 ghost use Rattle.tpl_items.specs.Items.{AreItems, RefusesItems};
 
 use crate::queue::{ItemPass, ItemQueue};

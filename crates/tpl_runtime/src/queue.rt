@@ -1,6 +1,6 @@
 //! The queue of a session's jobs.
 
-use tpl_queue::{JobQueue, QueuePass};
+use tpl_items::{JobQueue, QueuePass};
 
 /// The queue that carries jobs of items.
 pub type ItemQueue<W> = JobQueue<Vec<W>>;

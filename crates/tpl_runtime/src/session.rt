@@ -6,7 +6,7 @@ ghost use Rattle.tpl_hall.specs.Lists.{IsSeat};
 ghost use Rattle.tpl_runtime.specs.Reports.{ClosesWell, GivesBack};
 ghost use Rattle.tpl_runtime.specs.Turns.{Asks};
 ghost use Rattle.tpl_model.specs.Graph.{is_task, is_token};
-ghost use Rattle.tpl_queue.specs.Tally.{first_half, second_half, both};
+ghost use Rattle.tpl_items.specs.Tally.{first_half, second_half, both};
 ghost use Rattle.tpl_hall.specs.Moves.{MatchLooked};
 ghost use Rattle.tpl_hall.specs.Sights.{IsSeen};
 ghost use Rattle.tpl_hall.specs.Stays.{Leaves};

@@ -15,10 +15,9 @@ use std::alloc::{AllocError, Global};
 use std::sync::Wait;
 use tpl_graph::Graph;
 use tpl_hall::{Ended, Hall, Seat, SeatFault, has_seat};
-use tpl_items::{Children, Item, Stock};
+use tpl_items::{Children, Item, Receipt, Stock};
 use tpl_machine::Core;
 use tpl_model::{Act, Actor, TaskId};
-use tpl_queue::Receipt;
 
 /// What a worker holds when it has left the lock.
 #[derive(Clone, Copy)]

@@ -12,8 +12,8 @@ use std::thread;
 use std::thread::{Promise, PromisedHandle, Scope, Threads};
 use tpl_graph::Graph;
 use tpl_hall::{Ended, Seat};
+use tpl_items::QueuePass;
 use tpl_model::{Actor, Inputs};
-use tpl_queue::QueuePass;
 
 /// What a worker comes back with.
 type Back<L> = (Seat, QueuePass<L>, Ended);

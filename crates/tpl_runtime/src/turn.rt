@@ -13,9 +13,8 @@ use crate::shared::{Hand, Held, Shared, Turn, is_worker};
 use std::sync::Wait;
 use tpl_graph::Graph;
 use tpl_hall::{Ended, Seat, Stint};
-use tpl_items::Item;
+use tpl_items::{Item, Receipt};
 use tpl_model::{Inputs, TaskId};
-use tpl_queue::Receipt;
 
 /// How often a worker goes on under the lock that it has, before others may have it.
 const MORE_TURNS: u32 = 64;

@@ -4,8 +4,8 @@ ghost use Rattle.std.specs.Prelude.{◌≡◌};
 
 use std::sync::Wait;
 use tpl_graph::Graph;
+use tpl_items::QueuePass;
 use tpl_model::{Final, Status, TaskId, TokenId};
-use tpl_queue::QueuePass;
 use tpl_runtime::{Asked, Item, Looked, Seat, Session};
 
 pub const CANCELED: Status = Status::Completed(Final::Canceled);

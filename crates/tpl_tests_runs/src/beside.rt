@@ -20,8 +20,8 @@ use std::sync::atomic::AtomicU64;
 use std::sync::{Arc, Wait};
 use std::thread::Threads;
 use tpl_graph::Graph;
+use tpl_items::{QueuePass, Receipt, Work, WorkItem};
 use tpl_model::{Act, Actor, Answer, Event, SiteId, Status};
-use tpl_queue::{QueuePass, Receipt, Work, WorkItem};
 use tpl_runtime::{Item, Report, Session};
 
 /// The seat outside that looks at each task in the end. Those beside the workers have the first two.

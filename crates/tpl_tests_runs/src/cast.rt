@@ -6,8 +6,8 @@ use crate::closed::Back;
 use crate::parts::{Part, Role};
 use std::alloc::{AllocError, Global};
 use std::sync::Wait;
+use tpl_items::QueuePass;
 use tpl_model::{Actor, TokenId, Worker};
-use tpl_queue::QueuePass;
 use tpl_runtime::{Ended, Item, Session};
 
 /// Who is in threads beside the workers.

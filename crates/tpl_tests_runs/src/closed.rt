@@ -8,8 +8,8 @@ use crate::shut::shut;
 use std::alloc::Global;
 use std::sync::Wait;
 use tpl_graph::Graph;
+use tpl_items::QueuePass;
 use tpl_model::Status;
-use tpl_queue::QueuePass;
 use tpl_runtime::{Item, Report, Seat, Session, Watcher};
 
 /// What threads come back with, and whether each went as it must.

@@ -7,8 +7,8 @@ use std::alloc::{AllocError, Global};
 use std::sync::Wait;
 use std::thread::Threads;
 use tpl_graph::Graph;
+use tpl_items::QueuePass;
 use tpl_model::{Actor, Final, Status, TaskId};
-use tpl_queue::QueuePass;
 use tpl_runtime::{Ended, Item, Looked, Report, Seat, Session, Sight, Watcher};
 
 /// The outside seat that looks at the tasks.

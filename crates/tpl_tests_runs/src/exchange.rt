@@ -7,7 +7,7 @@ use std::sync::Wait;
 use std::sync::atomic::{AtomicU64, Ordering};
 use std::thread;
 use std::thread::Threads;
-use tpl_queue::{JobQueue, QueuePass, WorkItem, WorkJob};
+use tpl_items::{JobQueue, QueuePass, WorkItem, WorkJob};
 
 /// A stamp that can be neither copied nor cloned.
 #[derive(Drop)]

@@ -10,7 +10,7 @@ use std::sync::Wait;
 use std::sync::atomic::AtomicU64;
 use std::thread;
 use std::thread::Threads;
-use tpl_queue::QueuePass;
+use tpl_items::QueuePass;
 use tpl_runtime::{Ended, Item, RunFault, Seat, Session};
 
 /// Lets this many workers run a session, and halts it while the first box is called: each of them ends halted, and nothing

@@ -13,8 +13,8 @@ use std::sync::{Arc, Wait};
 use std::thread::Threads;
 use std::{io, thread};
 use tpl_graph::Graph;
+use tpl_items::{Work, WorkItem};
 use tpl_model::{Answer, SiteId};
-use tpl_queue::{Work, WorkItem};
 
 /// How often a box looks for the others before it gives up.
 const TURNS: usize = 20_000_000;

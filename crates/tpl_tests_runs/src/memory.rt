@@ -14,8 +14,8 @@ use std::io;
 use std::sync::Wait;
 use std::thread::Threads;
 use tpl_graph::Graph;
+use tpl_items::{JobQueue, QueuePass, Work, WorkItem};
 use tpl_model::{Actor, Answer, Inputs, SiteId, TokenId, Worker};
-use tpl_queue::{JobQueue, QueuePass, Work, WorkItem};
 use tpl_runtime::{
     Asked, CloseFault, CloseWhy, Ended, Item, OpenFault, OpenWhy, Report, RunFault, RunWhy, Seat,
     SeatFault, Session, Watcher,

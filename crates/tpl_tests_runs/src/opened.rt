@@ -4,8 +4,8 @@ ghost use Rattle.std.specs.Prelude.{◌≡◌, ◌<◌, IfSome};
 
 use std::alloc::Global;
 use tpl_graph::Graph;
+use tpl_items::{JobQueue, QueuePass};
 use tpl_model::Inputs;
-use tpl_queue::{JobQueue, QueuePass};
 use tpl_runtime::{Item, Session};
 
 /// How many places the queue of a graph has: one for each task.

@@ -10,8 +10,8 @@ use std::sync::atomic::AtomicU64;
 use std::thread;
 use std::thread::Threads;
 use tpl_graph::Graph;
+use tpl_items::QueuePass;
 use tpl_model::{Answer, Event, SiteId, Status, TaskId, TokenId};
-use tpl_queue::QueuePass;
 use tpl_runtime::{Asked, Ended, Item, Looked, Seat, Session, Watcher};
 
 /// How often a watcher looks.

@@ -9,8 +9,8 @@ use std::thread::Threads;
 use std::time::{Clock, Instant};
 use std::{io, thread};
 use tpl_graph::Graph;
+use tpl_items::WorkItem;
 use tpl_model::{SiteId, TaskId};
-use tpl_queue::WorkItem;
 
 /// The job of a task, if it has one.
 type Item = Option<WorkItem<()>>;

@@ -1,7 +1,7 @@
 //! The queue, between threads and in one.
 
 ghost use Rattle.std.specs.Prelude.{◌≡◌, ℕ, [], ◌∷◌, map, IfOk, IfSome};
-ghost use Rattle.tpl_queue.specs.Tally.{times};
+ghost use Rattle.tpl_items.specs.Tally.{times};
 
 use crate::exchange::{Items, Stamp, call_all, exchange_by_eight};
 use std::alloc::{AllocError, Global};
@@ -9,8 +9,8 @@ use std::io;
 use std::sync::atomic::{AtomicU64, Ordering};
 use std::sync::{Arc, Wait};
 use std::thread::Threads;
+use tpl_items::{Job, JobQueue, QueuePass, Work, WorkItem, WorkJob};
 use tpl_model::{Answer, SiteId, TaskId};
-use tpl_queue::{Job, JobQueue, QueuePass, Work, WorkItem, WorkJob};
 
 const JOBS: usize = 100_000;
 

@@ -12,8 +12,8 @@ use std::io;
 use std::sync::Wait;
 use std::thread::Threads;
 use tpl_graph::Graph;
+use tpl_items::{JobQueue, QueuePass, Work, WorkItem};
 use tpl_model::{Actor, Answer, Inputs, SiteId, Worker};
-use tpl_queue::{JobQueue, QueuePass, Work, WorkItem};
 use tpl_runtime::{Item, OpenFault, OpenWhy, RunWhy, Seat, SeatFault, Session};
 
 /// An item of a work statement, and whether it says that it may fail.

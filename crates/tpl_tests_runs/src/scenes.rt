@@ -16,8 +16,8 @@ use std::io;
 use std::sync::Wait;
 use std::thread::Threads;
 use tpl_graph::Graph;
+use tpl_items::{QueuePass, Work, WorkItem};
 use tpl_model::{Answer, SiteId};
-use tpl_queue::{QueuePass, Work, WorkItem};
 use tpl_runtime::{CloseWhy, Item, Session};
 
 /// A scene, and how one of its sessions is closed.

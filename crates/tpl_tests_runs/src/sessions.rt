@@ -12,8 +12,8 @@ use std::io;
 use std::sync::Wait;
 use std::thread::Threads;
 use tpl_graph::Graph;
+use tpl_items::{QueuePass, Work, WorkItem};
 use tpl_model::{Answer, SiteId};
-use tpl_queue::{QueuePass, Work, WorkItem};
 use tpl_runtime::{Item, Session};
 
 /// This many workers run a session, to a journal of this many events.

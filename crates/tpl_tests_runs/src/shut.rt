@@ -5,8 +5,8 @@ ghost use Rattle.std.specs.Prelude.{◌≡◌};
 use crate::steps::Hands;
 use std::alloc::{AllocError, Global};
 use std::sync::Wait;
+use tpl_items::{QueuePass, Receipt};
 use tpl_model::{Event, Status};
-use tpl_queue::{QueuePass, Receipt};
 use tpl_runtime::{CloseFault, CloseWhy, Item, Report, Seat, Session, Watcher};
 
 /// Which of the two sessions of a scene.

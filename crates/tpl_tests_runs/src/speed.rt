@@ -14,9 +14,9 @@ use std::sync::Wait;
 use std::thread::Threads;
 use std::time::{Clock, Duration, Instant};
 use tpl_graph::Graph;
+use tpl_items::{QueuePass, Work, WorkItem};
 use tpl_journal::{Counting, read_limited};
 use tpl_model::{Answer, SiteId};
-use tpl_queue::{QueuePass, Work, WorkItem};
 use tpl_reader::{LONGEST, read_document};
 use tpl_runtime::{Ended, Item, Session};
 

@@ -6,8 +6,8 @@ use crate::asked::{ask, look_at};
 use std::alloc::Global;
 use std::sync::Wait;
 use tpl_graph::Graph;
+use tpl_items::QueuePass;
 use tpl_model::{Actor, Event, TaskId, TokenId};
-use tpl_queue::QueuePass;
 use tpl_runtime::{Asked, Ended, Item, Looked, Seat, SeatFault, Session, Sight, Watcher};
 
 /// What is done, and what is to come of it. Seats and watchers have numbers, in the order in which they were made.

@@ -1,5 +1,0 @@
-use Rattle.tpl_queue.proofs.Steps.{new_is_balanced}
-use Rattle.tpl_queue.proofs.queue.JobQueue.new.Goals as goal
-
-pub ruled-requires-clause-rule : goal.ruled-requires-clause-rule
-ruled-requires-clause-rule g c = new_is_balanced

@@ -1,4 +1,0 @@
-pub mod Balance
-pub mod Pass
-pub mod Reserve
-pub mod Tally
