@@ -64,9 +64,10 @@ SENTENCES = [
     ),
     Sentence(
         "Where `check` says `accepted`, each claim of the document that was read holds in every run",
-        "Clause `accepted` of `tpl_commands::serve`: beside most of the above the grammar of documents. The rules for "
-        "certificates are among them, since the clause also says that the certificate is accepted.",
-        (Clauses(SERVE, "serve", ("accepted", "reads")),),
+        "Clause `proved` of `tpl_commands::serve`: beside most of the above how a document spells a graph and its claims. No "
+        "rule for certificates is among them, and not how trees are spelled: that the certificate is accepted is another "
+        "clause, `accepted`.",
+        (Clauses(SERVE, "serve", ("proved", "reads")),),
     ),
     Sentence(
         "Where `check` refuses, the line that it writes names the first thing wrong",

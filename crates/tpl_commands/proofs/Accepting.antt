@@ -1,6 +1,7 @@
 -- From the verdict on a document to what was read and written.
 use Rattle.std.proofs.Common.{◌≡◌, ◌+◌, ◌≤◌, ℕ, List, Option, codes, inl, subst}
 use Rattle.tpl_journal.specs.Counting.{calls_of}
+use Rattle.tpl_journal.specs.Writing.{Writes}
 use Rattle.tpl_journal.specs.declared.counting.Counting.{Counting}
 use Rattle.tpl_commands.specs.declared.exit.Exit.{Exit}
 use Rattle.tpl_commands.specs.declared.ask.Ask.{Ask}
@@ -14,7 +15,7 @@ use Rattle.tpl_commands.specs.Checking.{ClaimsHold, IsVerdict}
 use Rattle.tpl_commands.specs.Rules.{HasProof}
 use Rattle.tpl_commands.specs.Searching.{IsCertificate, IsSearching}
 use Rattle.tpl_commands.specs.Responding.{longest, Responds}
-use Rattle.tpl_commands.specs.Serving.{answers_of, Accepted, Found, Certified, Audited, Serves}
+use Rattle.tpl_commands.specs.Serving.{answers_of, Proved, Accepted, Found, Certified, Audited, Serves}
 use Rattle.tpl_commands.proofs.AuditLemmas.{audit_names_none}
 use Rattle.tpl_commands.proofs.Responses.{tells, IsYesOrNo}
 
@@ -27,6 +28,21 @@ module _ {R W : Type 0} (ask : Ask) (remaining : R → Option (List ℕ)) (from_
   accepts is e = tells remaining from_old from_new contents old new result IsVerdict (λ doc text. HasProof doc × ClaimsHold doc × (text ≡ codes "accepted\n")) (inl e)
       (λ doc text verdict. let v : IsVerdict doc Success text = subst (λ (x : Exit). IsVerdict doc x text) e verdict in (v.0.accepted, v.0.hold, v.1))
       (where_asked Check is)
+
+  proves : ask ≡ Check → result ≡ Success → Proved remaining from_old from_new contents old new
+  proves is e =
+      let found = accepts is e in
+      let spelled = found.spelled in
+      let parts = spelled.5 in
+      record {
+        input = found.input;
+        reads = found.reads;
+        graph = found.doc.graph;
+        claims = found.doc.claims;
+        spelled = (spelled.0, spelled.1, spelled.2, spelled.3, spelled.4, parts.valid, parts.graph, parts.claims);
+        hold = found.is.1;
+        writes = subst (Writes contents old new) found.is.2 found.writes;
+      }
 
   finds : (depth : ℕ) (form : Form) → Responds (answers_of (AnalyseIn depth form)) remaining from_old from_new contents old new result → result ≡ Success → Found remaining from_old from_new contents old new depth form
   finds depth form given e = tells remaining from_old from_new contents old new result (IsSearching depth form) (IsCertificate depth form) (inl e)
@@ -45,6 +61,7 @@ module _ {R W : Type 0} (ask : Ask) (remaining : R → Option (List ℕ)) (from_
   serves reads = record {
     responds = responds;
     reads = reads;
+    proved = proves;
     accepted = accepts;
     found = λ depth is e. finds depth Full (where_asked (Analyse depth) is) e;
     found_in = λ depth form is e. finds depth form (where_asked (AnalyseIn depth form) is) e;

@@ -5,7 +5,7 @@ use Rattle.tpl_model.specs.declared.fault.CertFault.{CertFault}
 use Rattle.tpl_model.specs.declared.fault.CertFault.TheVariants.{Shape, NotClosed, ClaimNot}
 use Rattle.tpl_model.specs.Graph.{TaskGraph, is_task}
 use Rattle.tpl_model.specs.Rules.{Run}
-use Rattle.tpl_model.specs.Claims.{Holds}
+use Rattle.tpl_model.specs.Claims.{Claim, Holds}
 use Rattle.tpl_laws.specs.ByRules.{FailsFirst}
 use Rattle.tpl_laws.specs.Soundness.{Each}
 use Rattle.tpl_reader.specs.Document.{DocumentValue}
@@ -16,11 +16,13 @@ use Rattle.tpl_commands.specs.Texts.{refused_shape, refused_leaf, refused_claim}
 use Rattle.tpl_commands.specs.Responding.{Answers}
 use Rattle.tpl_commands.specs.Documents.{ToDocument}
 
--- each claim holds in each run of the graph, for all inputs and whatever comes from outside
+-- each of the claims holds in each run of the graph, for all inputs and whatever comes from outside
+abbrev pub AllHold : TaskGraph → List Claim → Type 0
+AllHold g claims = (inputs : List Bool) (events : List Event) → Run g inputs events → Each (λ claim. Holds g claim inputs events) claims
+
+-- and so it is with those of the document
 abbrev pub ClaimsHold : DocumentValue → Type 0
-ClaimsHold doc =
-    (inputs : List Bool) (events : List Event) → Run doc.graph.graph inputs events
-    → Each (λ claim. Holds doc.graph.graph claim inputs events) doc.claims
+ClaimsHold doc = AllHold doc.graph.graph doc.claims
 
 -- The certificate is accepted, and so the claims hold.
 pub record IsAccepted (doc : DocumentValue) : Type 0 where

@@ -1,13 +1,17 @@
 -- What is asked of a document, and what is answered.
 use Rattle.std.specs.Prelude.{◌≡◌, ◌⊎◌, ◌+◌, ◌≤◌, ℕ, List, Option, codes}
+use Rattle.tpl_model.specs.Claims.{Claim}
+use Rattle.tpl_draft.specs.Named.{Named}
 use Rattle.tpl_journal.specs.Counting.{calls_of}
+use Rattle.tpl_journal.specs.Writing.{Writes}
 use Rattle.tpl_journal.specs.declared.counting.Counting.{Counting}
+use Rattle.tpl_reader.specs.Document.{SpellsClaims}
 use Rattle.tpl_commands.specs.Rules.{HasProof}
 use Rattle.tpl_commands.specs.declared.ask.Ask.{Ask}
 use Rattle.tpl_commands.specs.declared.ask.Ask.TheVariants.{Check, Analyse, AnalyseIn, Certify, Audit, Draw}
 use Rattle.tpl_commands.specs.Documents.{Tells}
-use Rattle.tpl_commands.specs.Responding.{Answers, longest, Responds}
-use Rattle.tpl_commands.specs.Checking.{Checks, ClaimsHold}
+use Rattle.tpl_commands.specs.Responding.{Answers, longest, Reads, Responds}
+use Rattle.tpl_commands.specs.Checking.{Checks, AllHold, ClaimsHold}
 use Rattle.tpl_analyser.specs.declared.form.Form.{Form}
 use Rattle.tpl_analyser.specs.declared.form.Form.TheVariants.{Full}
 use Rattle.tpl_commands.specs.Searching.{Finds, IsCertificate}
@@ -25,6 +29,16 @@ answers_of (AnalyseIn depth form) = Finds depth form
 answers_of (Certify depth form) = Certifies depth form
 answers_of Audit = Audits
 answers_of (Draw language) = Draws language
+
+-- What was read spells claims of a graph, each of which holds in each of its runs; `accepted` was written.
+pub record Proved {R W : Type 0} (remaining : R → Option (List ℕ)) (from_old from_new : Counting R) (contents : W → Option (List ℕ)) (to_old to_new : Counting W) : Type 0 where
+  pub input : List ℕ
+  pub reads : Reads remaining from_old from_new input
+  pub graph : Named
+  pub claims : List Claim
+  pub spelled : SpellsClaims input graph claims
+  pub hold : AllHold graph.graph claims
+  pub writes : Writes contents to_old to_new (codes "accepted\n")
 
 -- What was read spells a document whose certificate is accepted, and each of its claims holds in
 -- each run of its graph; `accepted` was written.
@@ -52,6 +66,7 @@ Audited remaining from_old from_new contents to_old to_new exit =
 pub record Serves {R W : Type 0} (ask : Ask) (remaining : R → Option (List ℕ)) (from_old from_new : Counting R) (contents : W → Option (List ℕ)) (to_old to_new : Counting W) (result : Exit) : Type 0 where
   pub responds : Responds (answers_of ask) remaining from_old from_new contents to_old to_new result
   pub reads : calls_of from_new ≤ calls_of from_old + (longest + 2)
+  pub proved : ask ≡ Check → result ≡ Success → Proved remaining from_old from_new contents to_old to_new
   pub accepted : ask ≡ Check → result ≡ Success → Accepted remaining from_old from_new contents to_old to_new
   pub found : (depth : ℕ) → ask ≡ Analyse depth → result ≡ Success
       → Found remaining from_old from_new contents to_old to_new depth Full

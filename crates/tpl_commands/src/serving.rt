@@ -3,7 +3,7 @@
 ghost use Rattle.std.specs.Prelude.{◌≡◌, ◌⊎◌, ◌+◌, ◌≤◌, ℕ};
 ghost use Rattle.tpl_journal.specs.Counting.{calls_of};
 ghost use Rattle.tpl_commands.specs.Responding.{longest, Responds};
-ghost use Rattle.tpl_commands.specs.Serving.{answers_of, Accepted, Found, Certified, Audited, Serves};
+ghost use Rattle.tpl_commands.specs.Serving.{answers_of, Proved, Accepted, Found, Certified, Audited, Serves};
 
 use crate::ask::Ask;
 use crate::exit::Exit;
@@ -52,6 +52,8 @@ pub fn serve<R: Read, W: Write>(
 
     // From the check's success each claim is known to hold in every run, for all inputs and
     // whatever comes from outside; and so it is where a certificate is written.
+    ensures proved { ask ≡ Ask.Check → result ≡ Exit.Success
+        → Proved R.remaining from.old from.new W.contents to.old to.new }
     ensures accepted { ask ≡ Ask.Check → result ≡ Exit.Success
         → Accepted R.remaining from.old from.new W.contents to.old to.new }
     ensures found { (depth : ℕ) → ask ≡ Ask.Analyse depth → result ≡ Exit.Success

@@ -96,6 +96,15 @@ Reads bytes d = IsUtf8 bytes × (read bytes ≡ Some d)
 abbrev pub Spells : List ℕ → DocumentValue → Type 0
 Spells bytes doc = (length bytes ≤ longest) × ((d : Data) × Reads bytes d × ((s : Spelled) × (spelled_at d ≡ Ok s) × IsDocument s doc))
 
+-- the graph and the claims that are spelled
+abbrev pub AreClaims : Spelled → Named → List Claim → Type 0
+AreClaims s graph claims = IsValid s.draft × (graph ≡ numbered s.draft) × (claims_for s.version graph s.claims ≡ Ok claims)
+
+-- the bytes spell a document with this graph and these claims, whatever else it says
+abbrev pub SpellsClaims : List ℕ → Named → List Claim → Type 0
+SpellsClaims bytes graph claims =
+    (length bytes ≤ longest) × ((d : Data) × Reads bytes d × ((s : Spelled) × (spelled_at d ≡ Ok s) × AreClaims s graph claims))
+
 -- what is wrong with bytes that spell no document, memory aside
 abbrev pub IsFault : List ℕ → ReadFault → Type 0
 IsFault bytes faults.TooLong = longest < length bytes
