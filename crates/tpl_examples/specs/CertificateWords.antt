@@ -36,15 +36,18 @@ ran_or_faulted = record { ran = true; canceled = false; faulted = true }
 abbrev pub any_end : Finals
 any_end = record { ran = true; canceled = true; faulted = true }
 
--- a row that runs, with what is before and past it and its chain, and one that doesn't run
+-- a row that runs, with what is before and past it and its chain, and one that doesn't run, with what is past it
 abbrev pub runs : Finals → List ℕ → List ℕ → List ℕ → Row
 runs ends before past chain = record { ends = ends; runs = true; before = before; past = past; chain = chain }
 
 abbrev pub ends : Finals → Row
 ends f = runs f [] [] []
 
+abbrev pub behind : Finals → List ℕ → Row
+behind ends past = record { ends = ends; runs = false; before = []; past = past; chain = [] }
+
 abbrev pub not_run : Finals → Row
-not_run ends = record { ends = ends; runs = false; before = []; past = []; chain = [] }
+not_run ends = behind ends []
 
 -- one claim, and what is given for it
 abbrev pub one_claim : Property TaskId → List Claim

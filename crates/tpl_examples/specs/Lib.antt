@@ -15,3 +15,4 @@ pub mod RowRules
 pub mod WiderRules
 pub mod TokenRules
 pub mod WinnerRules
+pub mod LeastRows

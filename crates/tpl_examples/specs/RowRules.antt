@@ -12,7 +12,7 @@ use Rattle.tpl_model.specs.Claims.{Claim}
 use Rattle.tpl_model.specs.Certificate.{Row, Tree, SplitInput, SplitEnd, Leaf}
 use Rattle.tpl_laws.specs.Verdict.{verdict}
 use Rattle.tpl_examples.specs.Words.{root, when_all, when_any, with_token, ran, canceled, faulted, ends_in, begins_after, never_begins, is_observed, exclude, given_input, given_quiet, returns}
-use Rattle.tpl_examples.specs.CertificateWords.{child_with, continuing, graph_with, nothing, ran_or_canceled, ran_or_faulted, any_end, runs, ends, not_run, one_claim, one_claim_given, not_closed, leaf, throws, observes}
+use Rattle.tpl_examples.specs.CertificateWords.{child_with, continuing, graph_with, nothing, ran_or_canceled, ran_or_faulted, any_end, runs, ends, behind, not_run, one_claim, one_claim_given, not_closed, leaf, throws, observes}
 
 -- a claim that each leaf proves, for certificates about the rules alone
 abbrev pub true_claim : List Claim
@@ -200,7 +200,7 @@ abbrev pub two_after_one : (List ℕ → Task) → TaskGraph
 two_after_one combinator = plain (root returns ∷ continuing 0 returns 0 ∷ continuing 0 returns 0 ∷ combinator (1 ∷ 2 ∷ []) ∷ [])
 
 abbrev pub past_both : List ℕ → List Row
-past_both tasks = ends ran ∷ ran_past (0 ∷ []) ∷ ran_past (0 ∷ []) ∷ record { ends = ran; runs = false; before = []; past = tasks; chain = [] } ∷ []
+past_both tasks = ends ran ∷ ran_past (0 ∷ []) ∷ ran_past (0 ∷ []) ∷ behind ran tasks ∷ []
 
 abbrev pub PastCombinator : Type 0
 PastCombinator =
@@ -208,7 +208,7 @@ PastCombinator =
     × (said (two_after_one when_all) (past_both (3 ∷ [])) ≡ Err (not_closed 1 1 3 K5))
     × (said (two_after_one when_any) (past_both (0 ∷ [])) ≡ Ok tt)
     × (said (two_after_one when_any) (past_both (1 ∷ [])) ≡ Err (not_closed 1 1 3 K5))
-    × (said (plain (root returns ∷ when_any (0 ∷ 0 ∷ []) ∷ [])) (ends ran ∷ record { ends = ran; runs = false; before = []; past = 0 ∷ []; chain = [] } ∷ []) ≡ Ok tt)
+    × (said (plain (root returns ∷ when_any (0 ∷ 0 ∷ []) ∷ [])) (ends ran ∷ behind ran (0 ∷ []) ∷ []) ≡ Ok tt)
 
 -- a chain goes from a task to the parent of which it is an attached child, or to a WhenAll task of it, and ends at a
 -- continuation

@@ -1,6 +1,6 @@
 -- Worked leaves of rows that speak of tokens: a case of each rule that is closed and proves its claim, and ones that
 -- aren't.
-use Rattle.std.specs.Prelude.{◌≡◌, ℕ, true, false, Option, Some, None, List, [], ◌∷◌}
+use Rattle.std.specs.Prelude.{◌≡◌, ℕ, true, Option, Some, None, List, [], ◌∷◌}
 use Rattle.tpl_model.specs.declared.finals.Final.{Final}
 use Rattle.tpl_model.specs.declared.finals.Final.TheVariants.{RanToCompletion, Canceled}
 use Rattle.tpl_model.specs.declared.finals.Finals.{Finals}
@@ -15,7 +15,7 @@ use Rattle.tpl_model.specs.WiderRules.{WideRow, WideAssumed, widely_assumed, nar
 use Rattle.tpl_laws.specs.Verdict.{LeafFault, Breaks, ProvesNot}
 use Rattle.tpl_laws.specs.WiderTests.{wide_leaf_fault}
 use Rattle.tpl_examples.specs.Words.{root, child, detached_child, continues, when_all, when_any, with_token, with_options, graph, with_tokens, returns, only_on_faulted, ran, canceled, faulted, ends_in, is_observed, never_begins, given_quiet, given_end}
-use Rattle.tpl_examples.specs.CertificateWords.{nothing, ran_or_canceled, ran_or_faulted, ends, not_run, throws}
+use Rattle.tpl_examples.specs.CertificateWords.{nothing, ran_or_canceled, ran_or_faulted, ends, behind, not_run, throws}
 
 -- what a leaf assumes for a claim
 abbrev pub for_claim : TaskGraph → List Given → Property TaskId → WideAssumed
@@ -121,7 +121,7 @@ ChildIsStuck =
 
 -- a child's facts hold once its parent has ended, and not while the parent's body goes on
 abbrev pub child_asks : Statements → TaskGraph
-child_asks behind = with_tokens two_tokens (graph (root (Start 1 ⨾ behind) ∷ child (Cancel 0 ⨾ Nothing) ∷ with_token 0 (continues 0 returns) ∷ []))
+child_asks rest = with_tokens two_tokens (graph (root (Start 1 ⨾ rest) ∷ child (Cancel 0 ⨾ Nothing) ∷ with_token 0 (continues 0 returns) ∷ []))
 
 abbrev pub child_rows : Finals → List WideRow
 child_rows first = knowing (ends first) [] (0 ∷ []) ∷ knowing (ends ran) [] (0 ∷ []) ∷ plainly (not_run canceled) ∷ []
@@ -147,7 +147,7 @@ abbrev pub only_canceled : ℕ → TaskGraph
 only_canceled word = with_tokens two_tokens (graph (root returns ∷ with_options word (with_token 0 (continues 0 returns)) ∷ []))
 
 abbrev pub never_runs : List ℕ → List ℕ → List WideRow
-never_runs past asks = plainly (ends ran) ∷ knowing (record { ends = canceled; runs = false; before = []; past = past; chain = [] }) [] asks ∷ []
+never_runs past asks = plainly (ends ran) ∷ knowing (behind canceled past) [] asks ∷ []
 
 abbrev pub DroppedEarlyOrNot : Type 0
 DroppedEarlyOrNot =

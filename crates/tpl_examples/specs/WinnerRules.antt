@@ -15,7 +15,7 @@ use Rattle.tpl_laws.specs.WideTrees.{WidelyAccepts}
 use Rattle.tpl_laws.specs.Verdict.{LeafFault, Breaks, ProvesNot}
 use Rattle.tpl_laws.specs.WiderTests.{wide_leaf_fault}
 use Rattle.tpl_examples.specs.Words.{root, child, continues, when_all, when_any, with_token, with_options, graph, with_tokens, returns, not_on_faulted, only_on_faulted, ran, faulted, ends_in, begins_after, is_observed, given_quiet, claim}
-use Rattle.tpl_examples.specs.CertificateWords.{nothing, runs, ends, not_run, throws, observes}
+use Rattle.tpl_examples.specs.CertificateWords.{nothing, runs, ends, behind, not_run, throws, observes}
 use Rattle.tpl_examples.specs.TokenRules.{for_claim, fault, plainly}
 
 -- the fault of a leaf on the branch of a split on whether x wins n, if it has one
@@ -32,7 +32,7 @@ abbrev pub races_rows : Row → List ℕ → List WideRow
 races_rows last settled =
     plainly (ends ran)
     ∷ plainly (ends faulted)
-    ∷ plainly (record { ends = ran; runs = false; before = []; past = settled; chain = [] })
+    ∷ plainly (behind ran settled)
     ∷ plainly (runs ran settled [] [])
     ∷ plainly last
     ∷ []
@@ -104,7 +104,7 @@ three_rows =
     plainly (ends ran)
     ∷ plainly (ends ran)
     ∷ plainly (ends ran)
-    ∷ plainly (record { ends = ran; runs = false; before = []; past = 2 ∷ []; chain = [] })
+    ∷ plainly (behind ran (2 ∷ []))
     ∷ plainly (runs ran (2 ∷ []) [] [])
     ∷ plainly (not_run ran)
     ∷ []

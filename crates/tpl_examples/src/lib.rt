@@ -10,6 +10,7 @@ pub mod claims;
 pub mod combinators;
 pub mod continuations;
 pub mod journals;
+pub mod least_rows;
 pub mod links;
 pub mod many_tasks;
 pub mod row_rules;
