@@ -1,6 +1,7 @@
 -- What a task carries, and how that decides its status.
 use Rattle.std.proofs.Common.{◌≡◌, ℕ, suc, ◌⊎◌, inl, inr, Bool, true, false, if◌then◌else◌, Option, Some, None, List, [], ◌∷◌, refl, sym, ap, ◌∙◌, subst, nat_eq, is_some, length}
-use Rattle.std.proofs.lemmas.Bool.{cases_Bool, and_parts}
+use Rattle.std.proofs.lemmas.Option.{same_Some}
+use Rattle.std.proofs.lemmas.Bool.{and_parts}
 use Rattle.tpl_model.proofs.MemberLemmas.{mem_split, mem_there}
 use Rattle.tpl_model.proofs.Truths.{true_false}
 use Rattle.tpl_model.specs.declared.finals.Final.{Final}
@@ -15,9 +16,10 @@ use Rattle.tpl_model.specs.declared.event.Act.TheVariants.{Request, Release, Beg
 use Rattle.tpl_model.specs.declared.event.Event.{Event}
 use Rattle.tpl_model.specs.Facts.{Ending, begun, left_body, ends_by, ending_by, final_in, all_over, rest, started, ending, ended_at_once, carried_in, gathered, own_atom, those_started, outcome_in, body_final, all_final, worse, settled_as, body_over}
 use Rattle.tpl_model.specs.Rules.{status, IsRunning, MayDrop, Allows, Run, can_settle}
-use Rattle.tpl_laws.proofs.Basics.{if_false, some_none, same_number, mem_here, joined_keeps, joined_adds, joined_from}
+use Rattle.tpl_laws.proofs.Basics.{some_none, same_number, mem_here, joined_keeps, joined_adds, joined_from}
 use Rattle.tpl_laws.proofs.Kept.{after, running_facts, close_facts, ending_new}
 use Rattle.tpl_laws.proofs.Ready.{left_begun}
+use Rattle.tpl_laws.proofs.Begins.{begun_now}
 
 -- what stands in gathered exceptions
 pub gathered_keeps : (x : ℕ) (atoms cs : List ℕ) (en : ℕ → Option Ending) → mem x atoms ≡ true → mem x (gathered atoms cs en) ≡ true
@@ -93,64 +95,35 @@ pub data Ends (g : TaskGraph) (v : List Bool) (h : List Event) (t : ℕ) (r : En
   leaves : is_task g t → BodyEnds g v h t r → Ends g v h t r
   settled : is_task g t → can_settle (kind g t) (ending g v h) ≡ true → (place : ℕ) (by_whom : Option Actor) → settled_as (kind g t) place by_whom (ending g v h) ≡ Some r → Ends g v h t r
 
-some_same : (x y : Ending) → Some x ≡ Some y → x ≡ y
-some_same x y e = cc
-
 pub begun_task : (g : TaskGraph) (v : List Bool) (h : List Event) (t : ℕ) → Run g v h → is_some (begun h t) ≡ true → is_task g t
 begun_task g v [] t run e = true_false (sym e)
-begun_task g v (e ∷ h) t run b = here (λ o. begun_task g v h t run.0 o) e.actor e.act run.1 b
-  where
-    here : (is_some (begun h t) ≡ true → is_task g t) → (a : Actor) (x : Act) → Allows g v h a x → is_some (begun (after a x h) t) ≡ true → is_task g t
-    here old a (Begin d) al n =
-        elim (cases_Bool (nat_eq d.0 t)) [
-          | inl q ↦ subst (λ z. is_task g z) (same_number d.0 t q) al.0
-          | inr q ↦ old (subst (λ z. is_some z ≡ true) (if_false (nat_eq d.0 t) (Some a) (begun h t) q) n)
-        ]
-    here old a (Request d) al n = old n
-    here old a (Release d) al n = old n
-    here old a (Step d) al n = old n
-    here old a (Worked d w) al n = old n
-    here old a (Leave d) al n = old n
-    here old a (Close d) al n = old n
-    here old a (Drop d) al n = old n
-    here old a (Settle d) al n = old n
+begun_task g v (e ∷ h) t run b = elim (begun_now g v h e.actor e.act t run.0 run.1 b) [ inl old ↦ begun_task g v h t run.0 old | inr now ↦ now.1.task ]
+
+abbrev final_or_canceled : Option Ending → Final
+final_or_canceled None = Canceled
+final_or_canceled (Some q) = q.final
+
+body_ends : (g : TaskGraph) (v : List Bool) (h : List Event) (a : Actor) (t : ℕ) (r : Ending)
+    → body_over (suc (length h)) a (gathered (own_atom t (outcome_in (rest g v h t))) (those_started (attached g t) (started g v h)) (ending g v h)) (outcome_in (rest g v h t)) ≡ Some r
+    → is_some (begun h t) ≡ true → all_over (attached g t) (started g v h) (ending g v h) ≡ true → (left_body h t ≡ true) ⊎ (is_some (outcome_in (rest g v h t)) ≡ true) → BodyEnds g v h t r
+body_ends g v h a t r m b o l =
+    let c = ap carried_in m in
+    record { begun = b; carried = sym c; final = sym (ap final_or_canceled m) ∙ ap (λ z. body_final z (outcome_in (rest g v h t))) c; over = o; left = l }
 
 pub how_ends : (g : TaskGraph) (v : List Bool) (h : List Event) (a : Actor) (x : Act) (t : ℕ) (r : Ending) → Run g v h → Allows g v h a x → ends_by g t x (started g v h) (ending g v h) ≡ true → ending_by g t (suc (length h)) a x (rest g v h) (started g v h) (ending g v h) ≡ Some r → Ends g v h t r
 how_ends g v h a (Drop s) t r run al e m =
     let same = same_number s.0 t e in
-    drops (subst (λ z. is_task g z) same al.0) (subst (λ z. MayDrop g v h z) same al.1) (sym (ap final_of_some m)) (sym (ap (λ o. carried_in o) m))
-  where
-    final_of_some : Option Ending → Final
-    final_of_some None = Canceled
-    final_of_some (Some q) = q.final
+    drops (subst (λ z. is_task g z) same al.0) (subst (λ z. MayDrop g v h z) same al.1) (sym (ap final_or_canceled m)) (sym (ap (λ o. carried_in o) m))
 how_ends g v h a (Leave s) t r run al e m =
     let parts = and_parts (nat_eq s.0 t) (all_over (attached g t) (started g v h) (ending g v h)) e in
     let same = same_number s.0 t parts.0 in
     let running = subst (λ z. IsRunning g v h a z) same al.0 in
-    leaves running.task (body_ends r m (running_facts g v h a t running).2 parts.1 (inr (subst (λ z. is_some (outcome_in (rest g v h z)) ≡ true) same al.1)))
-  where
-    body_ends : (r : Ending) → body_over (suc (length h)) a (gathered (own_atom t (outcome_in (rest g v h t))) (those_started (attached g t) (started g v h)) (ending g v h)) (outcome_in (rest g v h t)) ≡ Some r → is_some (begun h t) ≡ true → all_over (attached g t) (started g v h) (ending g v h) ≡ true → (left_body h t ≡ true) ⊎ (is_some (outcome_in (rest g v h t)) ≡ true) → BodyEnds g v h t r
-    body_ends r m b o l =
-        let c = ap carried_in m in
-        record { begun = b; carried = sym c; final = ap (λ z. z) (sym (ap final_of_some m)) ∙ ap (λ z. body_final z (outcome_in (rest g v h t))) c; over = o; left = l }
-      where
-        final_of_some : Option Ending → Final
-        final_of_some None = Canceled
-        final_of_some (Some q) = q.final
+    leaves running.task (body_ends g v h a t r m (running_facts g v h a t running).2 parts.1 (inr (subst (λ z. is_some (outcome_in (rest g v h z)) ≡ true) same al.1)))
 how_ends g v h a (Close s) t r run al e m =
     let same = same_number s.0 t e in
     let waits = subst (λ z. status g v h z ≡ WaitingForChildrenToComplete) same al.1 in
     let left = (close_facts g v h t waits).1 in
-    leaves (subst (λ z. is_task g z) same al.0) (body_ends r m (left_begun g v h t run left) (subst (λ z. all_over (attached g z) (started g v h) (ending g v h) ≡ true) same al.2) (inl left))
-  where
-    body_ends : (r : Ending) → body_over (suc (length h)) a (gathered (own_atom t (outcome_in (rest g v h t))) (those_started (attached g t) (started g v h)) (ending g v h)) (outcome_in (rest g v h t)) ≡ Some r → is_some (begun h t) ≡ true → all_over (attached g t) (started g v h) (ending g v h) ≡ true → (left_body h t ≡ true) ⊎ (is_some (outcome_in (rest g v h t)) ≡ true) → BodyEnds g v h t r
-    body_ends r m b o l =
-        let c = ap carried_in m in
-        record { begun = b; carried = sym c; final = ap (λ z. z) (sym (ap final_of_some m)) ∙ ap (λ z. body_final z (outcome_in (rest g v h t))) c; over = o; left = l }
-      where
-        final_of_some : Option Ending → Final
-        final_of_some None = Canceled
-        final_of_some (Some q) = q.final
+    leaves (subst (λ z. is_task g z) same al.0) (body_ends g v h a t r m (left_begun g v h t run left) (subst (λ z. all_over (attached g z) (started g v h) (ending g v h) ≡ true) same al.2) (inl left))
 how_ends g v h a (Settle s) t r run al e m =
     let same = same_number s.0 t e in
     settled (subst (λ z. is_task g z) same al.0) (subst (λ z. can_settle (kind g z) (ending g v h) ≡ true) same al.2) (suc (length h)) (Some a) m
@@ -182,11 +155,8 @@ carries_faulted g v (e ∷ h) t x r run n m = here (λ o. carries_faulted g v h 
           | inr b ↦
               let w = carried_some x (ending g v h b.0) b.2 in
               let f = ih b.0 w.0 w.1 w.2 in
-              sym (some_final (ap final_in q)) ∙ all_faulted b.0 args (ending g v h) b.1 (ap final_in w.1 ∙ ap Some f)
+              sym (same_Some (all_final args (ending g v h)) r.final (ap final_in q)) ∙ all_faulted b.0 args (ending g v h) b.1 (ap final_in w.1 ∙ ap Some f)
         ]
-      where
-        some_final : {a b : Final} → Some a ≡ Some b → a ≡ b
-        some_final z = cc
     from_all ih (WhenAny args) place who q = true_false (sym (subst (λ z. mem x z ≡ true) (sym (ap carried_in q)) m))
     from_all ih Root place who q = some_none r (sym q)
     from_all ih Child place who q = some_none r (sym q)

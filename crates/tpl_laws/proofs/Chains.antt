@@ -1,8 +1,8 @@
 -- A chain leads to a task that observes the exception.
 use Rattle.std.proofs.Common.{◌≡◌, ℕ, ◌⊎◌, inl, inr, Bool, true, false, if◌then◌else◌, Option, Some, None, List, [], ◌∷◌, refl, sym, ap, ◌∙◌, subst, is_some}
+use Rattle.std.proofs.lemmas.Option.{same_Some}
 use Rattle.std.proofs.lemmas.Bool.{cases_Bool}
 use Rattle.tpl_model.proofs.Truths.{true_false}
-use Rattle.tpl_model.specs.declared.finals.Final.{Final}
 use Rattle.tpl_model.specs.declared.finals.Final.TheVariants.{RanToCompletion, Canceled}
 use Rattle.tpl_model.specs.declared.status.Label.{Label}
 use Rattle.tpl_model.specs.declared.outcome.Outcome.TheVariants.{Threw}
@@ -178,15 +178,12 @@ pub any_ends : (g : TaskGraph) (v : List Bool) (h : List Event) (t : ℕ) (args 
 any_ends g v [] t args r run k e = some_none r (sym e ∙ ap ended_at_once k)
 any_ends g v (ev ∷ h) t args r run k e = here (λ o. any_ends g v h t args r run.0 k o) ev.actor ev.act run.1 e
   where
-    some_final : (x z : Final) → Some x ≡ Some z → x ≡ z
-    some_final x z w = cc
-
     by_end : Ends g v h t r → EndsAsAny r
     by_end (drops i d f c) = absurd (subst IsBody k (drop_body g v h t run.0 d))
     by_end (leaves i b) = absurd (subst IsBody k (begun_body g v h t run.0 b.begun))
     by_end (settled i c place who q) =
         let e = subst (λ z. settled_as z place who (ending g v h) ≡ Some r) k q in
-        (sym (ap carried_in e), sym (some_final RanToCompletion r.final (ap final_in e)))
+        (sym (ap carried_in e), sym (same_Some RanToCompletion r.final (ap final_in e)))
 
     here : (ending g v h t ≡ Some r → EndsAsAny r) → (a : Actor) (x : Act) → Allows g v h a x → ending g v (after a x h) t ≡ Some r → EndsAsAny r
     here old a x al z =
@@ -242,30 +239,23 @@ taken_over g v h x y a r valid run complete i (inl m) e n =
     let b = subst (λ z. is_some (begun h z) ≡ true) ((child_rules g x y valid par).one_parent s.0 x s.1.parent par) s.1.begun in
     let q = the_some (ending g v h x) (begun_ends g v h x run complete b) in
     let c = parent_carries g v h x y q.0 valid run m st q.1 in
-    let same = some_ending c.ending r (sym c.ended ∙ e) in
+    let same = same_Some c.ending r (sym c.ended ∙ e) in
     (q.0, q.1, c.carries a (subst (λ z. mem a z.carried ≡ true) (sym same) n))
-  where
-    some_ending : (p q : Ending) → Some p ≡ Some q → p ≡ q
-    some_ending p q e = cc
 taken_over g v h x y a r valid run complete i (inr w) e n =
     let q = the_some (ending g v h x) (complete x i (subst (λ z. to_end z (started g v h x) ≡ true) (sym w.1) refl)) in
     let c = all_carries g v h x y w.0 q.0 run w.1 w.2 q.1 in
-    let same = some_ending c.ending r (sym c.ended ∙ e) in
+    let same = same_Some c.ending r (sym c.ended ∙ e) in
     (q.0, q.1, c.carries a (subst (λ z. mem a z.carried ≡ true) (sym same) n))
-  where
-    some_ending : (p q : Ending) → Some p ≡ Some q → p ≡ q
-    some_ending p q e = cc
 
--- a task with a body that ended in another way than Canceled had begun
+-- a task with a body hasn't ended before the first event
+pub ends_later : (k : TaskKind) (r : Ending) → IsBody k → ended_at_once k ≡ Some r → ⊥
+ends_later (WhenAll args) r b e = b
+ends_later (WhenAny args) r b e = b
+ends_later k r b e = some_none r (sym e)
+
+-- one that ended in another way than Canceled had begun
 pub ended_begun : (g : TaskGraph) (v : List Bool) (h : List Event) (t : ℕ) (r : Ending) → Run g v h → IsBody (kind g t) → ending g v h t ≡ Some r → (r.final ≡ Canceled → ⊥) → is_some (begun h t) ≡ true
-ended_begun g v [] t r run b e n = absurd (at_once (kind g t) b e)
-  where
-    at_once : (k : TaskKind) → IsBody k → ended_at_once k ≡ Some r → ⊥
-    at_once Root b e = some_none r (sym e)
-    at_once Child b e = some_none r (sym e)
-    at_once (Continues a) b e = some_none r (sym e)
-    at_once (WhenAll args) b e = b
-    at_once (WhenAny args) b e = b
+ended_begun g v [] t r run b e n = absurd (ends_later (kind g t) r b e)
 ended_begun g v (x ∷ h) t r run b e n =
     begun_kept h x.actor x.act t
     (elim (ending_new g v h x.actor x.act t r e) [

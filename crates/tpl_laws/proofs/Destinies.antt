@@ -1,6 +1,7 @@
 -- How each task of a run is bound to end, by what has ended so far.
 use Rattle.std.proofs.Common.{◌≡◌, ℕ, zero, suc, ◌<◌, ◌||◌, ◌⊎◌, inl, inr, not, Bool, true, false, if◌then◌else◌, Option, Some, None, List, [], ◌∷◌, refl, sym, ap, ◌∙◌, subst, arith, nat_eq, is_some, length}
-use Rattle.std.proofs.lemmas.Bool.{cases_lt, cases_Bool, and_parts, and_from, or_left, or_right}
+use Rattle.std.proofs.lemmas.Option.{same_Some}
+use Rattle.std.proofs.lemmas.Bool.{cases_Bool, and_parts, and_from, or_left, or_right}
 use Rattle.tpl_model.proofs.MemberLemmas.{mem_split, mem_there}
 use Rattle.tpl_model.proofs.Truths.{true_false}
 use Rattle.tpl_model.specs.declared.finals.Final.{Final}
@@ -19,7 +20,7 @@ use Rattle.tpl_model.specs.WiderRules.{WideAssumed, WideAgrees, keeps, narrowed_
 use Rattle.tpl_laws.proofs.Basics.{some_none, same_number, mem_here}
 use Rattle.tpl_laws.proofs.Kept.{after, ending_new, final_kept, final_of}
 use Rattle.tpl_laws.proofs.Ready.{EndedSo, Ready, begun_ready, IsBody, begun_body, drop_body}
-use Rattle.tpl_laws.proofs.Settling.{no_task}
+use Rattle.tpl_laws.proofs.Settling.{other_task}
 use Rattle.tpl_laws.proofs.Carrying.{Ends, drops, leaves, settled, how_ends, worse_faulted}
 use Rattle.tpl_laws.proofs.Chains.{ended_begun}
 use Rattle.tpl_laws.proofs.WideRows.{end_or}
@@ -72,11 +73,7 @@ placed_before g t x [] p m = true_false (sym m)
 placed_before g t x (y ∷ args) p m = elim (mem_split x y args m) [ inl q ↦ subst (λ z. z < t) (sym q) p.0 | inr q ↦ placed_before g t x args p.2 q ]
 
 waits_before : (g : TaskGraph) (t x : ℕ) → IsGraph g → Waits (kind g t) x → x < t
-waits_before g t x valid w =
-    elim (cases_lt t (length g.tasks)) [
-      | inl lt ↦ by_kind (kind g t) (valid.each t lt).placed w
-      | inr le ↦ absurd (subst (λ z. Waits z x) (no_task g t le).0 w)
-    ]
+waits_before g t x valid w = by_kind (kind g t) (valid.each t (other_task g t (kind g t) refl (λ r. subst (λ z. Waits z x) (sym r) w))).placed w
   where
     by_kind : (k : TaskKind) → IsPlaced g t k → Waits k x → x < t
     by_kind (Continues a) p w = subst (λ z. z < t) (sym w) p.0
@@ -125,23 +122,14 @@ all_ended_as : (g : TaskGraph) (v : List Bool) (h : List Event) (t : ℕ) (args 
 all_ended_as g v [] t args r run k e = at_once args (subst (λ z. ended_at_once z ≡ Some r) k e)
   where
     at_once : (xs : List ℕ) → ended_at_once (WhenAll xs) ≡ Some r → AllEnded g v [] xs r.final
-    at_once [] q = ((λ x. RanToCompletion), (λ x m. true_false (sym m)), same q)
-      where
-        same : ended_at_once (WhenAll []) ≡ Some r → r.final ≡ RanToCompletion
-        same q = let w : Some RanToCompletion ≡ Some r.final = ap final_in q in sym (the_same RanToCompletion r.final w)
-          where
-            the_same : (a b : Final) → Some a ≡ Some b → a ≡ b
-            the_same a b w = cc
+    at_once [] q = ((λ x. RanToCompletion), (λ x m. true_false (sym m)), sym (same_Some RanToCompletion r.final (ap final_in q)))
     at_once (x ∷ xs) q = some_none r (sym q)
 all_ended_as g v (ev ∷ h) t args r run k e = kept (here (λ o. all_ended_as g v h t args r run.0 k o) ev.actor ev.act run.1 e)
   where
-    some_final : (a b : Final) → Some a ≡ Some b → a ≡ b
-    some_final a b w = cc
-
     by_settle : (place : ℕ) (who : Option Actor) → all_ended args (ending g v h) ≡ true → settled_as (WhenAll args) place who (ending g v h) ≡ Some r → AllEnded g v h args r.final
     by_settle place who c q =
         let f = fold_ended args (ending g v h) c in
-        ((λ x. end_or (ending g v h x)), f.0, sym (some_final (all_final args (ending g v h)) r.final (ap final_in q)) ∙ f.1)
+        ((λ x. end_or (ending g v h x)), f.0, sym (same_Some (all_final args (ending g v h)) r.final (ap final_in q)) ∙ f.1)
 
     by_end : Ends g v h t r → AllEnded g v h args r.final
     by_end (drops i d f c) = absurd (subst IsBody k (drop_body g v h t run.0 d))

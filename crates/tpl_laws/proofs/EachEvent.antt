@@ -1,5 +1,6 @@
 -- Each event keeps the rows true.
-use Rattle.std.proofs.Common.{◌≡◌, ℕ, ◌&&◌, ◌||◌, ◌⊎◌, inl, inr, not, Bool, true, false, Option, Some, None, List, [], ◌∷◌, refl, sym, ap, ◌∙◌, subst, nat_eq, is_some, length}
+use Rattle.std.proofs.Common.{◌≡◌, ℕ, ◌&&◌, ◌||◌, ◌⊎◌, inl, inr, not, Bool, true, false, Option, Some, None, List, [], ◌∷◌, refl, sym, ap, ◌∙◌, subst, nat_eq, is_some}
+use Rattle.std.proofs.lemmas.Option.{same_Some}
 use Rattle.tpl_model.specs.declared.finals.Final.{Final}
 use Rattle.tpl_model.specs.declared.finals.Final.TheVariants.{RanToCompletion, Canceled, Faulted}
 use Rattle.tpl_model.specs.Finals.{is_final, has}
@@ -22,10 +23,10 @@ use Rattle.tpl_model.specs.Certificate.{Row, row, Assumed, end_left, Agrees, is_
 use Rattle.tpl_laws.proofs.Execution.{passed, StartedBy, started_parent}
 use Rattle.tpl_laws.proofs.Ready.{may_not_start_so, Ready, begun_ready, waiting_ready, IsBody, begun_body}
 use Rattle.tpl_laws.proofs.Follows.{follows}
-use Rattle.tpl_laws.proofs.Settling.{no_task, child_rules, has_subject_of, attached_child, settled_kept, below_settled}
+use Rattle.tpl_laws.proofs.Settling.{child_rules, has_subject_of, attached_child, settled_kept, below_settled, all_task}
 use Rattle.tpl_laws.proofs.Carrying.{Ends, drops, leaves, settled, BodyEnds, how_ends, carries_faulted, gathered_from, those_mem, gathered_keeps, carried_some}
-use Rattle.tpl_laws.proofs.RowsAreTrue.{Now, AreTrue, left_verdict, verdict_path, view_fits, starts_on_path, ready_runs, ready_before, requested_loud, agrees_before, some_eq}
-use Rattle.std.proofs.lemmas.Bool.{cases_lt, cases_Bool, and_parts, or_cases, or_left, or_right}
+use Rattle.tpl_laws.proofs.RowsAreTrue.{Now, AreTrue, left_verdict, verdict_path, view_fits, starts_on_path, ready_runs, ready_before, requested_loud, agrees_before}
+use Rattle.std.proofs.lemmas.Bool.{cases_Bool, and_parts, or_cases, or_left, or_right}
 use Rattle.tpl_model.proofs.MemberLemmas.{mem_split, mem_there}
 use Rattle.tpl_model.proofs.Truths.{true_false}
 
@@ -171,15 +172,12 @@ ends_so g l rows v h t r now cut (leaves i b) =
 ends_so g l rows v h t r now cut (settled i c place who q) =
     (now.closed t i).ends r.final cut (by_kind (kind g t) c q)
   where
-    some_final : (a b : Final) → Some a ≡ Some b → a ≡ b
-    some_final a b z = cc
-
     by_kind : (k : TaskKind) → can_settle k (ending g v h) ≡ true → settled_as k place who (ending g v h) ≡ Some r → MayEndAs g l rows t k r.final
-    by_kind (WhenAll args) c q = subst (λ z. AllMayEnd rows args z) (some_final (all_final args (ending g v h)) r.final (ap final_in q)) (all_may rows args (ending g v h) (all_final args (ending g v h)) c now.true_rows.ends (all_is args (ending g v h) c))
+    by_kind (WhenAll args) c q = subst (λ z. AllMayEnd rows args z) (same_Some (all_final args (ending g v h)) r.final (ap final_in q)) (all_may rows args (ending g v h) (all_final args (ending g v h)) c now.true_rows.ends (all_is args (ending g v h) c))
     by_kind (WhenAny args) c q =
         let w = some_ended_mem args (ending g v h) c in
         let e = end_of (ending g v h w.0) w.2 in
-        (sym (some_final RanToCompletion r.final (ap final_in q)), (w.0, e.0, w.1, now.true_rows.ends w.0 e.0 e.1))
+        (sym (same_Some RanToCompletion r.final (ap final_in q)), (w.0, e.0, w.1, now.true_rows.ends w.0 e.0 e.1))
     by_kind Root c q = true_false (sym c)
     by_kind Child c q = true_false (sym c)
     by_kind (Continues a) c q = true_false (sym c)
@@ -348,17 +346,11 @@ rows_at_first g l rows v valid closed ag = record {
   past = λ t x e m. first_past t x (kind g t) refl e m;
 }
   where
-    in_graph : (t : ℕ) → kind g t ≡ WhenAll [] → is_task g t
-    in_graph t k = elim (cases_lt t (length g.tasks)) [ inl lt ↦ lt | inr le ↦ absurd (no_root (sym (no_task g t le).0 ∙ k)) ]
-      where
-        no_root : Root ≡ WhenAll [] → ⊥
-        no_root e = absurd (cc)
-
     first_end : (t : ℕ) (f : Final) (k : TaskKind) → kind g t ≡ k → final_in (ended_at_once k) ≡ Some f → end_left l t f ≡ true → has (row rows t).ends f ≡ true
     first_end t f (WhenAll []) k e c =
-        let f_is = some_eq RanToCompletion f e in
+        let f_is = same_Some RanToCompletion f e in
         subst (λ z. has (row rows t).ends z ≡ true) f_is
-        ((closed t (in_graph t k)).ends RanToCompletion (subst (λ z. end_left l t z ≡ true) (sym f_is) c) (subst (λ z. MayEndAs g l rows t z RanToCompletion) (sym k) (λ x m. true_false (sym m))))
+        ((closed t (all_task g t [] k)).ends RanToCompletion (subst (λ z. end_left l t z ≡ true) (sym f_is) c) (subst (λ z. MayEndAs g l rows t z RanToCompletion) (sym k) (λ x m. true_false (sym m))))
     first_end t f (WhenAll (y ∷ ys)) k e c = some_none f (sym e)
     first_end t f Root k e c = some_none f (sym e)
     first_end t f Child k e c = some_none f (sym e)
@@ -366,7 +358,7 @@ rows_at_first g l rows v valid closed ag = record {
     first_end t f (WhenAny args) k e c = some_none f (sym e)
 
     first_past : (t x : ℕ) (k : TaskKind) → kind g t ≡ k → is_some (ended_at_once k) ≡ true → mem x (row rows t).past ≡ true → Settled g v [] x
-    first_past t x (WhenAll []) k e m = let c = subst (λ z. PastRule g l rows t z x) k ((closed t (in_graph t k)).past x m) in true_false (sym c.1)
+    first_past t x (WhenAll []) k e m = let c = subst (λ z. PastRule g l rows t z x) k ((closed t (all_task g t [] k)).past x m) in true_false (sym c.1)
     first_past t x (WhenAll (y ∷ ys)) k e m = true_false (sym e)
     first_past t x Root k e m = true_false (sym e)
     first_past t x Child k e m = true_false (sym e)

@@ -149,32 +149,15 @@ next_start g v h p c e =
 pub reads_left : (g : TaskGraph) (v : List Bool) (h : List Event) (t : ℕ) → reads_nothing (body g t) ≡ true → reads_nothing (rest g v h t).left ≡ true
 reads_left g v h t q = rest_keeps (λ left. reads_nothing left ≡ true) nothing_kept g v h t q
 
+-- a statement that is pushed takes none away
+push_kept : (c : ℕ) (b : Bool) (left : Statements) (ps : List Statement) → passes_start c ps ≡ true → passes_start c (if b then pushed left ps else ps) ≡ true
+push_kept c true (s ⨾ more) ps e = or_right (is_start_of c s) (passes_start c ps) e
+push_kept c b left ps e = e
+
 passes_kept : (c : ℕ) (x : Act) (t : ℕ) (left : Statements) (ps : List Statement) → passes_start c ps ≡ true → passes_start c (passed_after t x left ps) ≡ true
-passes_kept c (Step s) t left ps e = choose (nat_eq s.0 t) (push left)
-  where
-    push : (l : Statements) → passes_start c (pushed l ps) ≡ true
-    push Nothing = e
-    push (s' ⨾ more) = or_right (is_start_of c s') (passes_start c ps) e
-
-    choose : (b : Bool) → passes_start c (pushed left ps) ≡ true → passes_start c (if b then pushed left ps else ps) ≡ true
-    choose true p = p
-    choose false p = e
-passes_kept c (Worked s w) t left ps e = choose (nat_eq s.0 t) (push left)
-  where
-    push : (l : Statements) → passes_start c (pushed l ps) ≡ true
-    push Nothing = e
-    push (s' ⨾ more) = or_right (is_start_of c s') (passes_start c ps) e
-
-    choose : (b : Bool) → passes_start c (pushed left ps) ≡ true → passes_start c (if b then pushed left ps else ps) ≡ true
-    choose true p = p
-    choose false p = e
-passes_kept c (Request k) t left ps e = e
-passes_kept c (Release d) t left ps e = e
-passes_kept c (Begin s) t left ps e = e
-passes_kept c (Leave s) t left ps e = e
-passes_kept c (Close s) t left ps e = e
-passes_kept c (Drop s) t left ps e = e
-passes_kept c (Settle s) t left ps e = e
+passes_kept c (Step s) t left ps e = push_kept c (nat_eq s.0 t) left ps e
+passes_kept c (Worked s w) t left ps e = push_kept c (nat_eq s.0 t) left ps e
+passes_kept c x t left ps e = e
 
 -- who started a child
 pub record StartedBy (g : TaskGraph) (v : List Bool) (h : List Event) (c p : ℕ) : Type 0 where

@@ -34,6 +34,7 @@ use Rattle.tpl_laws.proofs.EachEvent.{may_end_so, rows_are_true}
 use Rattle.tpl_laws.proofs.Chains.{carries_own, threw_begun, begun_ends, ended_begun}
 use Rattle.tpl_laws.proofs.Observing.{label_verdict, chain_seen}
 use Rattle.std.proofs.Common.{◌≡◌, ℕ, ◌++◌, ◌&&◌, ◌||◌, ◌⊎◌, inl, inr, not, Bool, true, false, if◌then◌else◌, Option, Some, None, List, [], ◌∷◌, refl, sym, ap, ◌∙◌, subst, nat_eq, is_some}
+use Rattle.std.proofs.lemmas.Option.{same_Some}
 use Rattle.std.proofs.lemmas.Bool.{cases_Bool, and_parts, and_from, or_cases}
 use Rattle.tpl_model.proofs.Truths.{true_false}
 
@@ -165,14 +166,11 @@ Branch g v h t f = (e : Final) → final g v h t ≡ Some e → is_final f e ≡
 pub branch_of : (g : TaskGraph) (v : List Bool) (h : List Event) (t : ℕ) → Branch g v h t RanToCompletion ⊎ Branch g v h t Canceled ⊎ Branch g v h t Faulted
 branch_of g v h t = by_end (final g v h t)
   where
-    some_final : (x z : Final) → Some x ≡ Some z → x ≡ z
-    some_final x z w = cc
-
     by_end : (o : Option Final) → ((e : Final) → o ≡ Some e → is_final RanToCompletion e ≡ true) ⊎ ((e : Final) → o ≡ Some e → is_final Canceled e ≡ true) ⊎ ((e : Final) → o ≡ Some e → is_final Faulted e ≡ true)
     by_end None = inl (λ e q. some_none e (sym q))
-    by_end (Some RanToCompletion) = inl (λ e q. ap (is_final RanToCompletion) (sym (some_final RanToCompletion e q)))
-    by_end (Some Canceled) = inr (inl (λ e q. ap (is_final Canceled) (sym (some_final Canceled e q))))
-    by_end (Some Faulted) = inr (inr (λ e q. ap (is_final Faulted) (sym (some_final Faulted e q))))
+    by_end (Some RanToCompletion) = inl (λ e q. ap (is_final RanToCompletion) (sym (same_Some RanToCompletion e q)))
+    by_end (Some Canceled) = inr (inl (λ e q. ap (is_final Canceled) (sym (same_Some Canceled e q))))
+    by_end (Some Faulted) = inr (inr (λ e q. ap (is_final Faulted) (sym (same_Some Faulted e q))))
 
 leaf_agrees : (g : TaskGraph) (l : Assumed) (tree : Tree) (v : List Bool) (h : List Event) → Agrees g l v h → (m : Assumed) × (rows : List Row) × HasLeaf l tree m rows × Agrees g m v h
 leaf_agrees g l (SplitInput i a b) v h agrees =

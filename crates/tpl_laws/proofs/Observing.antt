@@ -1,5 +1,6 @@
 -- The exception of a task with a chain is observed in each complete run.
-use Rattle.std.proofs.Common.{◌≡◌, ℕ, ◌⊎◌, inl, inr, Bool, true, false, Option, Some, None, List, [], ◌∷◌, refl, sym, ap, ◌∙◌, subst, nat_eq, is_some, length}
+use Rattle.std.proofs.Common.{◌≡◌, ℕ, ◌⊎◌, inl, inr, Bool, true, false, Option, Some, None, List, [], ◌∷◌, refl, sym, ap, ◌∙◌, subst, nat_eq, is_some}
+use Rattle.std.proofs.lemmas.Option.{same_Some}
 use Rattle.tpl_model.specs.declared.finals.Final.{Final}
 use Rattle.tpl_model.specs.declared.finals.Final.TheVariants.{Faulted}
 use Rattle.tpl_model.specs.Finals.{is_final}
@@ -8,7 +9,7 @@ use Rattle.tpl_model.specs.declared.status.Label.{Label}
 use Rattle.tpl_model.specs.declared.outcome.Outcome.{Outcome}
 use Rattle.tpl_model.specs.declared.outcome.Outcome.TheVariants.{Returned, Threw, Acknowledged}
 use Rattle.tpl_model.specs.Members.{mem}
-use Rattle.tpl_model.specs.Statements.{Statement, Return, Throw, Check, Cancel, Start, Observe, Work, If, When, Statements, Nothing, ◌⨾◌, starts}
+use Rattle.tpl_model.specs.Statements.{Statement, Return, Throw, Check, Cancel, Start, Observe, Work, If, When, Statements, Nothing, ◌⨾◌}
 use Rattle.tpl_model.specs.Graph.{TaskGraph, TaskKind, Root, Child, Continues, WhenAll, WhenAny, kind, body, options, is_task}
 use Rattle.tpl_model.specs.declared.status.Actor.{Actor}
 use Rattle.tpl_model.specs.declared.status.Answer.{Answer}
@@ -25,11 +26,11 @@ use Rattle.tpl_laws.proofs.Kept.{id, after, running_facts, ending_kept, begun_ke
 use Rattle.tpl_model.specs.Certificate.{Row, row, Assumed, is_loud, TakesOver, Reads, Links, ChainRule}
 use Rattle.tpl_laws.proofs.Execution.{passed, pushed}
 use Rattle.tpl_laws.proofs.Follows.{Fits, follows, subject_kept, has_subject}
-use Rattle.tpl_laws.proofs.Settling.{no_task, has_subject_of, attached_child}
+use Rattle.tpl_laws.proofs.Settling.{has_subject_of, attached_child, parent_task, continues_task, all_task}
 use Rattle.tpl_laws.proofs.Carrying.{begun_task, carries_faulted}
-use Rattle.tpl_laws.proofs.RowsAreTrue.{Upheld, verdict_path, view_fits, requested_loud, some_eq}
+use Rattle.tpl_laws.proofs.RowsAreTrue.{Upheld, verdict_path, view_fits, requested_loud}
 use Rattle.tpl_laws.proofs.Chains.{carries_own, threw_begun, begun_ends, taken_over, any_ends, ended_as}
-use Rattle.std.proofs.lemmas.Bool.{cases_lt, cases_Bool, and_from, or_left, or_right}
+use Rattle.std.proofs.lemmas.Bool.{cases_Bool, and_from, or_left, or_right}
 use Rattle.tpl_model.proofs.Truths.{true_false}
 
 -- only a task that has begun has passed anything
@@ -110,16 +111,13 @@ pub observed_by : (g : TaskGraph) (v : List Bool) (h : List Event) (r n y a : �
 observed_by g v [] r n y a q run k e m p = true_false (sym p)
 observed_by g v (ev ∷ h) r n y a q run k e m p = here (λ o. λ e'. observed_by g v h r n y a q run.0 k e' m o) ev.actor ev.act run.1 e p
   where
-    some_ending : (p q : Ending) → Some p ≡ Some q → p ≡ q
-    some_ending p q e = cc
-
     -- once it had begun it saw y
     saw : (x : Actor) (act : Act) → Allows g v h x act → Sees g v (after x act h) r y q → is_some (begun h r) ≡ true → Sees g v h r y q
     saw x act al e2 b =
         let s = has_subject g v h r n run.0 b k in
-        let same = some_eq s.0 y (sym (subject_kept g v h x act r s.0 al s.2) ∙ e2.0) in
+        let same = same_Some s.0 y (sym (subject_kept g v h x act r s.0 al s.2) ∙ e2.0) in
         let w = final_of (ending g v h y) s.1 (subst (λ z. final g v h z ≡ Some s.1) same s.3) in
-        (s.2 ∙ ap Some same, w.1 ∙ ap Some (some_ending w.0 q (sym (ending_kept g v h x act y w.0 al w.1) ∙ e2.1)))
+        (s.2 ∙ ap Some same, w.1 ∙ ap Some (same_Some w.0 q (sym (ending_kept g v h x act y w.0 al w.1) ∙ e2.1)))
 
     older : (passes_observe (passed g v h r) ≡ true → Sees g v h r y q → seen g v h a ≡ true) → (x : Actor) (act : Act) → Allows g v h x act → Sees g v (after x act h) r y q → passes_observe (passed g v h r) ≡ true → seen g v (after x act h) a ≡ true
     older old x act al e2 o =
@@ -159,31 +157,10 @@ observed_by g v (ev ∷ h) r n y a q run k e m p = here (λ o. λ e'. observed_b
     here old x (Drop s) al e2 o = older old x (Drop s) al e2 o
     here old x (Settle s) al e2 o = older old x (Settle s) al e2 o
 
--- what takes over, and what continues, is a task of the graph
+-- what takes over is a task of the graph
 pub takes_task : (g : TaskGraph) (x y : ℕ) → TakesOver g x y → is_task g x
-takes_task g x y w =
-    elim (cases_lt x (length g.tasks)) [
-      | inl lt ↦ lt
-      | inr le ↦
-          let n = no_task g x le in
-          elim w [
-            | inl m ↦ true_false (sym (subst (λ z. mem y (starts z) ≡ true) n.1 (attached_child g x y m)))
-            | inr a ↦ absurd (no_root a.0 (sym n.0 ∙ a.1))
-          ]
-    ]
-  where
-    no_root : (args : List ℕ) → Root ≡ WhenAll args → ⊥
-    no_root args e = absurd (cc)
-
-continues_task : (g : TaskGraph) (r y : ℕ) → kind g r ≡ Continues y → is_task g r
-continues_task g r y k =
-    elim (cases_lt r (length g.tasks)) [
-      | inl lt ↦ lt
-      | inr le ↦ absurd (no_root (sym (no_task g r le).0 ∙ k))
-    ]
-  where
-    no_root : Root ≡ Continues y → ⊥
-    no_root e = absurd (cc)
+takes_task g x y (inl m) = parent_task g x y (attached_child g x y m)
+takes_task g x y (inr a) = all_task g x a.0 a.1
 
 -- a continuation that surely begins and sees y observes what y carries
 pub seer_observes : (g : TaskGraph) (l : Assumed) (rows : List Row) (v : List Bool) (h : List Event) (r n y a : ℕ) (q : Ending) → Upheld g l rows v h → Complete g v h → kind g r ≡ Continues n → ((f : Final) → final g v h n ≡ Some f → allows (options g r) f ≡ true) → is_loud g l r ≡ false → MustObserve (faulted_view g l r) (body g r) → Sees g v h r y q → mem a q.carried ≡ true → seen g v h a ≡ true
@@ -200,11 +177,8 @@ seer_observes g l rows v h r n y a q now complete k allowed not_loud observes e 
     faulted : q.final ≡ Faulted
     faulted = carries_faulted g v h y a q now.run e.1 m
 
-    some_final : (x z : Final) → Some x ≡ Some z → x ≡ z
-    some_final x z w = cc
-
     end_is : (f : Final) → final g v h y ≡ Some f → f ≡ Faulted
-    end_is f p = some_final f Faulted (sym p ∙ ap final_in e.1 ∙ ap Some faulted)
+    end_is f p = same_Some f Faulted (sym p ∙ ap final_in e.1 ∙ ap Some faulted)
 
     by_body : is_some (begun h r) ≡ true → is_some (outcome_in (rest g v h r)) ≡ true → seen g v h a ≡ true
     by_body b d =
@@ -215,7 +189,7 @@ seer_observes g l rows v h r n y a q now complete k allowed not_loud observes e 
           own = refl;
           inputs = full.inputs;
           quiet = full.quiet;
-          subject = λ s f p z. let same = some_eq y s (sym e.0 ∙ p) in subst (λ n. is_final n Faulted ≡ true) (sym (end_is f (subst (λ n. final g v h n ≡ Some f) (sym same) z))) refl;
+          subject = λ s f p z. let same = same_Some y s (sym e.0 ∙ p) in subst (λ n. is_final n Faulted ≡ true) (sym (end_is f (subst (λ n. final g v h n ≡ Some f) (sym same) z))) refl;
           jobs = full.jobs;
         } in
         let path = verdict_path w (body g r) (rest g v h r).outcome (rest g v h r).left (passed g v h r) vd.0 vd.1 (follows g v h r w now.run fits (has_subject_of g r now.valid)) in
@@ -227,11 +201,8 @@ reader_observes g l rows v h r y a q now complete reads e m =
     seer_observes g l rows v h r y y a q now complete reads.after
     (λ f p. subst (λ z. allows (options g r) z ≡ true) (sym (end_is f p)) reads.on_faulted) reads.not_loud reads.observes (subject_is g v h r y a q now.run reads.after e m, e) m
   where
-    some_final : (x z : Final) → Some x ≡ Some z → x ≡ z
-    some_final x z w = cc
-
     end_is : (f : Final) → final g v h y ≡ Some f → f ≡ Faulted
-    end_is f p = some_final f Faulted (sym p ∙ ap final_in e ∙ ap Some (carries_faulted g v h y a q now.run e m))
+    end_is f p = same_Some f Faulted (sym p ∙ ap final_in e ∙ ap Some (carries_faulted g v h y a q now.run e m))
 
 -- a chain carries an exception to its reader
 pub chain_observes : (g : TaskGraph) (l : Assumed) (rows : List Row) (v : List Bool) (h : List Event) (chain : List ℕ) (y a : ℕ) (q : Ending) → Upheld g l rows v h → Complete g v h → Links g l rows y chain → ending g v h y ≡ Some q → mem a q.carried ≡ true → seen g v h a ≡ true

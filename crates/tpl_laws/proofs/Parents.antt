@@ -1,5 +1,6 @@
 -- The parent of a child, and the tasks below one.
 use Rattle.std.proofs.Common.{◌≡◌, ℕ, zero, suc, ◌+◌, ◌<◌, ◌≤◌, inl, inr, ◌||◌, Bool, true, Option, Some, None, refl, sym, ap, ◌∙◌, subst, arith, nat_eq, length}
+use Rattle.std.proofs.lemmas.Option.{same_Some}
 use Rattle.std.specs.Prelude.{Decides}
 use Rattle.std.proofs.lemmas.Bool.{cases_lt, cases_Bool, and_parts, and_from, or_cases, or_left, or_right}
 use Rattle.tpl_model.proofs.MemberLemmas.{same_self}
@@ -10,7 +11,7 @@ use Rattle.tpl_model.specs.Graph.{TaskGraph, body, attached, IsParent}
 use Rattle.tpl_model.specs.Valid.{IsGraph}
 use Rattle.tpl_model.specs.Certificate.{IsBelow, child, deeper}
 use Rattle.tpl_laws.proofs.Basics.{if_true, if_false, same_number}
-use Rattle.tpl_laws.proofs.Settling.{no_task, child_rules, attached_child}
+use Rattle.tpl_laws.proofs.Settling.{child_rules, attached_child, parent_task}
 use Rattle.tpl_laws.specs.RowTests.{parent_from, parent_of, by_parent, below_by, below_within, is_below}
 
 -- what is found is a parent
@@ -43,7 +44,7 @@ finds_from g t p (suc n) q m a b =
 -- a child's parent is the one
 pub the_parent : (g : TaskGraph) (p t : ℕ) → IsGraph g → IsParent g p t → parent_of g t ≡ Some p
 the_parent g p t valid m =
-    let inside : p < length g.tasks = elim (cases_lt p (length g.tasks)) [ inl lt ↦ lt | inr le ↦ true_false (sym (subst (λ z. mem t (starts z) ≡ true) (no_task g p le).1 m)) ] in
+    let inside : p < length g.tasks = parent_task g p t m in
     let r = finds_from g t 0 (length g.tasks) p m (omega arith) (omega arith) in
     r.1 ∙ ap Some ((child_rules g p t valid m).one_parent r.0 p (parent_is g t r.0 r.1) m)
 
@@ -62,12 +63,9 @@ at_parent g t P q valid d = by_option (parent_of g t) refl
         none_here : (p : ℕ) → Some p ≡ None → P p
         none_here p s = absurd (cc)
     by_option (Some r) e = (
-      λ b p m. subst P (same_parent p (sym e ∙ the_parent g p t valid m)) ((d r).0 b),
+      λ b p m. subst P (same_Some r p (sym e ∙ the_parent g p t valid m)) ((d r).0 b),
       λ f. (d r).1 (f r (parent_is g t r e)),
     )
-      where
-        same_parent : (p : ℕ) → Some r ≡ Some p → r ≡ p
-        same_parent p s = cc
 
 -- up from x
 below_found : (g : TaskGraph) (t n x : ℕ) → below_within g t n x ≡ true → IsBelow g t x

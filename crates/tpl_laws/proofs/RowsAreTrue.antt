@@ -1,5 +1,6 @@
 -- The rows of a closed leaf are true of each run that agrees with it.
 use Rattle.std.proofs.Common.{◌≡◌, ℕ, ◌&&◌, inl, inr, not, Bool, true, false, Option, Some, None, List, [], ◌∷◌, refl, sym, ◌∙◌, subst, nat_eq, is_some}
+use Rattle.std.proofs.lemmas.Option.{same_Some}
 use Rattle.std.proofs.lemmas.Bool.{cases_Bool, and_from, or_cases, or_left, or_right}
 use Rattle.tpl_model.proofs.MemberLemmas.{mem_split}
 use Rattle.tpl_model.proofs.Truths.{true_false}
@@ -88,9 +89,6 @@ one_ends_mem (x ∷ args) rows s f m e =
       | inr q ↦ or_right (has (row rows x).ends f) (one_ends args rows f) (one_ends_mem args rows s f q e)
     ]
 
-pub some_eq : {A : Type 0} (x y : A) → Some x ≡ Some y → x ≡ y
-some_eq x y e = cc
-
 -- the view of a task that has begun is true of the run
 pub view_fits : (g : TaskGraph) (v : List Bool) (h : List Event) (l : Assumed) (rows : List Row) (t : ℕ) → Run g v h → Agrees g l v h → ((s : ℕ) (f : Final) → final g v h s ≡ Some f → has (row rows s).ends f ≡ true) → is_some (begun h t) ≡ true → Fits g v h t (view g l rows t)
 view_fits g v h l rows t run agrees ends b = record {
@@ -103,16 +101,16 @@ view_fits g v h l rows t run agrees ends b = record {
   where
     plain : (a : ℕ) → EndedSo g v h t a true → (s : ℕ) (f : Final) → Some a ≡ Some s → final g v h s ≡ Some f → has (row rows a).ends f && allows (options g t) f ≡ true
     plain a m s f e p =
-        let same = some_eq a s e in
+        let same = same_Some a s e in
         let p' = subst (λ z. final g v h z ≡ Some f) (sym same) p in
-        let f' = some_eq m.0 f (sym m.1 ∙ p') in
+        let f' = same_Some m.0 f (sym m.1 ∙ p') in
         and_from (has (row rows a).ends f) (allows (options g t) f) (ends a f p') (subst (λ z. allows (options g t) z ≡ true) f' m.2)
 
     of_kind : (a : ℕ) (k : TaskKind) → kind g a ≡ k → EndedSo g v h t a true → (s : ℕ) (f : Final) → subject_of k a (ending g v h a) ≡ Some s → final g v h s ≡ Some f → subject_ends k (options g t) a rows f ≡ true
     of_kind a (WhenAny args) k m s f e p =
         let r = winner_some (ending g v h a) e in
         let w = any_winner g v h a args r.0 run k r.1 in
-        let same = some_eq w.0 s (sym w.2 ∙ r.2) in
+        let same = same_Some w.0 s (sym w.2 ∙ r.2) in
         one_ends_mem args rows s f (subst (λ z. mem z args ≡ true) same w.3) (ends s f p)
       where
         winner_some : (o : Option Ending) → winner_of o ≡ Some s → (r : Ending) × (o ≡ Some r) × (r.winner ≡ Some s)

@@ -32,6 +32,23 @@ no_task g t e =
     let b = beyond g.tasks t (record { kind = Root; body = Nothing; token = None; options = 0 }) e in
     (ap (λ z. z.kind) b, ap (λ z. z.body) b)
 
+-- so what has a child is a task of the graph, and what is of another kind
+pub parent_task : (g : TaskGraph) (p c : ℕ) → IsParent g p c → is_task g p
+parent_task g p c m =
+    elim (cases_lt p (length g.tasks)) [
+      | inl lt ↦ lt
+      | inr le ↦ true_false (sym (subst (λ z. mem c (starts z) ≡ true) (no_task g p le).1 m))
+    ]
+
+pub other_task : (g : TaskGraph) (t : ℕ) (k : TaskKind) → kind g t ≡ k → (Root ≡ k → ⊥) → is_task g t
+other_task g t k e other = elim (cases_lt t (length g.tasks)) [ inl lt ↦ lt | inr le ↦ absurd (other (sym (no_task g t le).0 ∙ e)) ]
+
+pub continues_task : (g : TaskGraph) (t a : ℕ) → kind g t ≡ Continues a → is_task g t
+continues_task g t a e = other_task g t (Continues a) e (λ r. absurd (cc))
+
+pub all_task : (g : TaskGraph) (t : ℕ) (args : List ℕ) → kind g t ≡ WhenAll args → is_task g t
+all_task g t args e = other_task g t (WhenAll args) e (λ r. absurd (cc))
+
 mutual
   start_ids : (g : TaskGraph) (c : ℕ) (s : Statements) → IdsOf g s → mem c (starts s) ≡ true → is_task g c
   start_ids g c Nothing i m = true_false (sym m)
@@ -53,11 +70,7 @@ mutual
 
 -- a started child is a task with the rules of one
 pub child_task : (g : TaskGraph) (p c : ℕ) → IsGraph g → IsParent g p c → is_task g c
-child_task g p c valid m =
-    elim (cases_lt p (length g.tasks)) [
-      | inl lt ↦ start_ids g c (body g p) (valid.each p lt).ids m
-      | inr le ↦ true_false (sym (subst (λ z. mem c (starts z) ≡ true) (no_task g p le).1 m))
-    ]
+child_task g p c valid m = start_ids g c (body g p) (valid.each p (parent_task g p c m)).ids m
 
 pub child_rules : (g : TaskGraph) (p c : ℕ) → IsGraph g → IsParent g p c → IsTask g c
 child_rules g p c valid m = valid.each c (child_task g p c valid m)

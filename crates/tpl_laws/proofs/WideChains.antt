@@ -1,7 +1,6 @@
 -- The exception of a task with a chain of rows with tokens is observed in each complete run, also behind WhenAny.
-use Rattle.std.proofs.Common.{◌≡◌, ℕ, inl, inr, Bool, true, Some, List, [], ◌∷◌, refl, sym, ap, ◌∙◌, subst, length}
-use Rattle.std.proofs.lemmas.Bool.{cases_lt}
-use Rattle.tpl_model.specs.declared.finals.Final.{Final}
+use Rattle.std.proofs.Common.{◌≡◌, ℕ, inl, inr, Bool, true, Some, List, [], ◌∷◌, refl, sym, ap, ◌∙◌, subst}
+use Rattle.std.proofs.lemmas.Option.{same_Some}
 use Rattle.tpl_model.specs.declared.finals.Final.TheVariants.{RanToCompletion}
 use Rattle.tpl_model.specs.Members.{mem}
 use Rattle.tpl_model.specs.Options.{allows}
@@ -14,7 +13,7 @@ use Rattle.tpl_model.specs.Certificate.{row}
 use Rattle.tpl_model.specs.WiderRules.{WideRow, plain, WideAssumed, with_winners, kind_left, IsWonBy, ReadsWinner, WideLinks, WideChainRule}
 use Rattle.tpl_laws.proofs.Basics.{the_some}
 use Rattle.tpl_laws.proofs.Ready.{any_winner}
-use Rattle.tpl_laws.proofs.Settling.{no_task, filter_mem}
+use Rattle.tpl_laws.proofs.Settling.{filter_mem, other_task}
 use Rattle.tpl_laws.proofs.RowsAreTrue.{Upheld}
 use Rattle.tpl_laws.proofs.Chains.{any_ends, taken_over}
 use Rattle.tpl_laws.proofs.Observing.{takes_task, seer_observes, reader_observes, thrown_seen}
@@ -28,9 +27,6 @@ wide_upheld g l rows v h now = record {
   ends = now.true_rows.ends;
   runs = now.true_rows.runs;
 }
-
-some_final : (x z : Final) → Some x ≡ Some z → x ≡ z
-some_final x z w = cc
 
 -- a task that somebody alone may win has to end
 always_ends : (may_win : ℕ → Bool) (y : ℕ) (k : TaskKind) (s : Bool) → IsWonBy (with_winners may_win k) y → to_end k s ≡ true
@@ -48,7 +44,7 @@ module _ (g : TaskGraph) (l : WideAssumed) (rows : List WideRow) (v : List Bool)
       by_kind (kind g n) refl e.0 e.1 w
     where
       in_graph : is_task g n
-      in_graph = elim (cases_lt n (length g.tasks)) [ inl lt ↦ lt | inr le ↦ absurd (subst (λ z. IsWonBy (with_winners (l.wins n) z) y) (no_task g n le).0 w) ]
+      in_graph = other_task g n (kind g n) refl (λ r. subst (λ z. IsWonBy (with_winners (l.wins n) z) y) (sym r) w)
 
       by_kind : (k : TaskKind) → kind g n ≡ k → (q : Ending) → ending g v h n ≡ Some q → IsWonBy (with_winners (l.wins n) k) y → (final g v h n ≡ Some RanToCompletion) × (subject_of k n (ending g v h n) ≡ Some y)
       by_kind (WhenAny args) k q e w =
@@ -68,7 +64,7 @@ module _ (g : TaskGraph) (l : WideAssumed) (rows : List WideRow) (v : List Bool)
       by_kind (Continues n) k w =
           let s = won n y w.0 in
           seer_observes g l.assumed (plain rows) v h r n y a q (wide_upheld g l rows v h now) complete k
-          (λ f p. subst (λ z. allows (options g r) z ≡ true) (some_final RanToCompletion f (sym s.0 ∙ p)) w.1) w.2 w.3 (ap (λ z. subject_in g z (ending g v h)) k ∙ s.1, e) m
+          (λ f p. subst (λ z. allows (options g r) z ≡ true) (same_Some RanToCompletion f (sym s.0 ∙ p)) w.1) w.2 w.3 (ap (λ z. subject_in g z (ending g v h)) k ∙ s.1, e) m
       by_kind Root k w = absurd w
       by_kind Child k w = absurd w
       by_kind (WhenAll args) k w = absurd w

@@ -1,6 +1,6 @@
 -- Each event keeps rows true that are closed by the wider rules.
-use Rattle.std.proofs.Common.{◌≡◌, ℕ, ◌⊎◌, inl, inr, Bool, true, Option, Some, None, List, [], ◌∷◌, refl, sym, ap, ◌∙◌, subst, is_some, length}
-use Rattle.std.proofs.lemmas.Bool.{cases_lt}
+use Rattle.std.proofs.Common.{◌≡◌, ℕ, ◌⊎◌, inl, inr, Bool, true, Option, Some, None, List, [], ◌∷◌, refl, sym, ap, ◌∙◌, subst, is_some}
+use Rattle.std.proofs.lemmas.Option.{same_Some}
 use Rattle.tpl_model.proofs.Truths.{true_false}
 use Rattle.tpl_model.specs.declared.finals.Final.{Final}
 use Rattle.tpl_model.specs.declared.finals.Final.TheVariants.{RanToCompletion}
@@ -22,15 +22,12 @@ use Rattle.tpl_laws.proofs.Kept.{after, ending_new, ending_kept, final_of}
 use Rattle.tpl_laws.proofs.Ready.{IsBody, begun_body, drop_body, FirstIs, first_is}
 use Rattle.tpl_laws.proofs.Follows.{winner_some}
 use Rattle.tpl_laws.proofs.Begins.{begun_now, begins}
-use Rattle.tpl_laws.proofs.Settling.{no_task, below_settled, filter_mem}
+use Rattle.tpl_laws.proofs.Settling.{below_settled, filter_mem, all_task}
 use Rattle.tpl_laws.proofs.Carrying.{Ends, drops, leaves, settled, how_ends}
-use Rattle.tpl_laws.proofs.RowsAreTrue.{agrees_before, some_eq}
+use Rattle.tpl_laws.proofs.RowsAreTrue.{agrees_before}
 use Rattle.tpl_laws.proofs.EachEvent.{end_of, all_ended_mem, all_is, all_may, may_end_so}
 use Rattle.tpl_laws.proofs.Telling.{told_kept, told_first}
 use Rattle.tpl_laws.proofs.WideRows.{WideTrue, WideNow, WayTaken, fact_kept, once_holds, ready_runs, ready_begins, drop_way, body_way}
-
-some_final : (a b : Final) → Some a ≡ Some b → a ≡ b
-some_final a b z = cc
 
 -- the winner of a WhenAny task that settles is an argument that has ended
 any_settled : (args : List ℕ) (en : ℕ → Option Ending) (place : ℕ) (who : Option Actor) (r : Ending) → some_ended args en ≡ true → settled_as (WhenAny args) place who en ≡ Some r → (s : ℕ) × (r.winner ≡ Some s) × (mem s args ≡ true) × (is_some (en s) ≡ true)
@@ -79,11 +76,11 @@ module _ (g : TaskGraph) (l : WideAssumed) (rows : List WideRow) (v : List Bool)
     where
       by_kind : (k : TaskKind) → can_settle k (ending g v h) ≡ true → settled_as k place who (ending g v h) ≡ Some r → WideEndsRule g l rows t (with_winners (l.wins t) k) → has (row (plain rows) t).ends r.final ≡ true
       by_kind (WhenAll args) c q rule =
-          rule r.final cut (subst (λ z. AllMayEnd (plain rows) args z) (some_final (all_final args (ending g v h)) r.final (ap final_in q)) (all_may (plain rows) args (ending g v h) (all_final args (ending g v h)) c now.true_rows.ends (all_is args (ending g v h) c)))
+          rule r.final cut (subst (λ z. AllMayEnd (plain rows) args z) (same_Some (all_final args (ending g v h)) r.final (ap final_in q)) (all_may (plain rows) args (ending g v h) (all_final args (ending g v h)) c now.true_rows.ends (all_is args (ending g v h) c)))
       by_kind (WhenAny args) c q rule =
           let w = any_settled args (ending g v h) place who r c q in
           let e = end_of (ending g v h w.0) w.3 in
-          let same = some_final RanToCompletion r.final (ap final_in q) in
+          let same = same_Some RanToCompletion r.final (ap final_in q) in
           subst (λ z. has (row (plain rows) t).ends z ≡ true) same
           (rule w.0 (subst (λ z. end_left l.assumed t z ≡ true) (sym same) cut) (filter_mem (l.wins t) w.0 args w.2 (won w.0 w.1)) (may_end_so (plain rows) w.0 e.0 (now.true_rows.ends w.0 e.0 e.1)))
       by_kind Root c q rule = true_false (sym c)
@@ -170,16 +167,10 @@ rows_at_first g l rows v valid closed ag = record {
   told = λ t b. true_false (sym b);
 }
   where
-    in_graph : (t : ℕ) → kind g t ≡ WhenAll [] → is_task g t
-    in_graph t k = elim (cases_lt t (length g.tasks)) [ inl lt ↦ lt | inr le ↦ absurd (no_root (sym (no_task g t le).0 ∙ k)) ]
-      where
-        no_root : Root ≡ WhenAll [] → ⊥
-        no_root e = absurd (cc)
-
     first_end : (t : ℕ) (f : Final) (k : TaskKind) → kind g t ≡ k → final_in (ended_at_once k) ≡ Some f → end_left l.assumed t f ≡ true → has (row (plain rows) t).ends f ≡ true
     first_end t f (WhenAll []) k e c =
-        let f_is = some_eq RanToCompletion f e in
-        let rule = subst (λ z. WideEndsRule g l rows t (with_winners (l.wins t) z)) k (closed t (in_graph t k)).ends in
+        let f_is = same_Some RanToCompletion f e in
+        let rule = subst (λ z. WideEndsRule g l rows t (with_winners (l.wins t) z)) k (closed t (all_task g t [] k)).ends in
         subst (λ z. has (row (plain rows) t).ends z ≡ true) f_is (rule RanToCompletion (subst (λ z. end_left l.assumed t z ≡ true) (sym f_is) c) (λ x m. true_false (sym m)))
     first_end t f (WhenAll (y ∷ ys)) k e c = some_none f (sym e)
     first_end t f Root k e c = some_none f (sym e)
@@ -188,7 +179,7 @@ rows_at_first g l rows v valid closed ag = record {
     first_end t f (WhenAny args) k e c = some_none f (sym e)
 
     first_fact : (t : ℕ) (fact : Fact) (k : TaskKind) → kind g t ≡ k → is_some (ended_at_once k) ≡ true → ends_with rows t fact ≡ true → FactHolds g v [] fact
-    first_fact t fact (WhenAll []) k e m = let c = subst (λ z. EndRule g l rows t (with_winners (l.wins t) z) fact) k ((closed t (in_graph t k)).end fact m) in true_false (sym c.1)
+    first_fact t fact (WhenAll []) k e m = let c = subst (λ z. EndRule g l rows t (with_winners (l.wins t) z) fact) k ((closed t (all_task g t [] k)).end fact m) in true_false (sym c.1)
     first_fact t fact (WhenAll (y ∷ ys)) k e m = true_false (sym e)
     first_fact t fact Root k e m = true_false (sym e)
     first_fact t fact Child k e m = true_false (sym e)

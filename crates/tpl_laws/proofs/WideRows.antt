@@ -1,5 +1,6 @@
 -- What a leaf that is closed by the wider rules says of a run, where a task begins or ends.
 use Rattle.std.proofs.Common.{◌≡◌, ℕ, ◌⊎◌, inl, inr, Bool, true, false, if◌then◌else◌, Option, Some, None, List, [], ◌∷◌, filter, refl, sym, ap, ◌∙◌, subst, nat_eq, is_some}
+use Rattle.std.proofs.lemmas.Option.{same_Some}
 use Rattle.std.proofs.lemmas.Bool.{cases_Bool, or_cases, or_left}
 use Rattle.tpl_model.proofs.Truths.{true_false}
 use Rattle.tpl_model.specs.declared.finals.Final.{Final}
@@ -21,7 +22,7 @@ use Rattle.tpl_model.specs.declared.status.Answer.TheVariants.{Done, Failed}
 use Rattle.tpl_model.specs.declared.event.Act.{Act}
 use Rattle.tpl_model.specs.declared.event.Act.TheVariants.{Request, Release, Begin, Step, Worked, Leave, Close, Drop, Settle}
 use Rattle.tpl_model.specs.declared.event.Event.{Event}
-use Rattle.tpl_model.specs.Facts.{Ending, begun, final_in, rest, started, starts_by, is_start, ending, ended_at_once, carried_in, own_atom, those_started, outcome_in, body_final, requested, subject_in, subject_of}
+use Rattle.tpl_model.specs.Facts.{Ending, begun, final_in, rest, started, starts_by, is_start, ending, carried_in, own_atom, those_started, outcome_in, body_final, requested, subject_in, subject_of}
 use Rattle.tpl_model.specs.Rules.{final, MayDrop, MayNotStart, MayCancel, Allows, Run, works, Settled, ended, token_requested, token_requested_by}
 use Rattle.tpl_model.specs.Valid.{IsGraph}
 use Rattle.tpl_model.specs.Certificate.{row, is_loud, subject_ends, subject_set}
@@ -34,9 +35,9 @@ use Rattle.tpl_laws.proofs.Ready.{may_not_start_so, Ready, begun_ready, waiting_
 use Rattle.tpl_laws.proofs.Follows.{Fits, Follows, follows, winner_some}
 use Rattle.tpl_laws.proofs.Settling.{child_rules, has_subject_of, attached_child, filter_mem, settled_kept, all_over_mem, children_over}
 use Rattle.tpl_laws.proofs.Carrying.{Ends, drops, leaves, settled, BodyEnds, how_ends, carries_faulted, gathered_from, gathered_adds, gathered_keeps, those_mem, mem_those, body_faulted, carried_some}
-use Rattle.tpl_laws.proofs.RowsAreTrue.{left_verdict, view_fits, one_ends_mem, requested_loud, some_eq}
+use Rattle.tpl_laws.proofs.RowsAreTrue.{left_verdict, view_fits, one_ends_mem, requested_loud}
 use Rattle.tpl_laws.proofs.EachEvent.{may_end_so}
-use Rattle.tpl_laws.proofs.Chains.{no_settle}
+use Rattle.tpl_laws.proofs.Chains.{no_settle, ends_later}
 use Rattle.tpl_laws.proofs.Telling.{ToldIn, linked_requested}
 
 -- what the rows say of a run
@@ -69,7 +70,7 @@ left_fits g l rows v h t run agrees ends b =
     of_kind a (WhenAny args) k old s f p q =
         let r = winner_some (ending g v h a) s p in
         let w = any_winner g v h a args r.0 run k r.1 in
-        let same = some_eq w.0 s (sym w.2 ∙ r.2) in
+        let same = same_Some w.0 s (sym w.2 ∙ r.2) in
         one_ends_mem (filter (l.wins a) args) (plain rows) s f (filter_mem (l.wins a) s args (subst (λ z. mem z args ≡ true) same w.3) (agrees.winners a s p)) (ends s f q)
     of_kind a Root k old s f p q = old s f p q
     of_kind a Child k old s f p q = old s f p q
@@ -154,14 +155,7 @@ passes_started g v (ev ∷ h) p c run e = here (λ o. passes_started g v h p c r
 
 -- a task with a body that ended Faulted carries something
 pub faulted_carries : (g : TaskGraph) (v : List Bool) (h : List Event) (t : ℕ) (r : Ending) → Run g v h → IsBody (kind g t) → ending g v h t ≡ Some r → r.final ≡ Faulted → (x : ℕ) × (mem x r.carried ≡ true)
-faulted_carries g v [] t r run b e f = absurd (at_once (kind g t) b e)
-  where
-    at_once : (k : TaskKind) → IsBody k → ended_at_once k ≡ Some r → ⊥
-    at_once Root b e = some_none r (sym e)
-    at_once Child b e = some_none r (sym e)
-    at_once (Continues a) b e = some_none r (sym e)
-    at_once (WhenAll args) b e = b
-    at_once (WhenAny args) b e = b
+faulted_carries g v [] t r run b e f = absurd (ends_later (kind g t) r b e)
 faulted_carries g v (x ∷ h) t r run b e f =
     elim (ending_new g v h x.actor x.act t r e) [
       | inl old ↦ faulted_carries g v h t r run.0 b old f

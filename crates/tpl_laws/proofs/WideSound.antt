@@ -1,5 +1,6 @@
 -- What a certificate of rows with tokens proves holds.
 use Rattle.std.proofs.Common.{◌≡◌, ℕ, ◌||◌, inl, inr, not, nat_eq, Bool, true, false, Option, Some, None, List, [], ◌∷◌, refl, sym, ap, ◌∙◌, subst}
+use Rattle.std.proofs.lemmas.Option.{same_Some}
 use Rattle.std.proofs.lemmas.Bool.{cases_Bool, and_from}
 use Rattle.tpl_model.specs.declared.finals.Final.{Final}
 use Rattle.tpl_model.specs.declared.finals.Final.TheVariants.{RanToCompletion, Canceled, Faulted}
@@ -21,7 +22,7 @@ use Rattle.tpl_laws.specs.WideTrees.{AcceptsWideTree, written}
 use Rattle.tpl_laws.specs.LeastRows.{least_rows}
 use Rattle.tpl_laws.specs.WiderSoundness.{HasRows, SomeWideLeafIsTrue, WideRowsAreTrue, WideSoundness}
 use Rattle.tpl_laws.proofs.Basics.{some_none, same_number, final_self}
-use Rattle.tpl_laws.proofs.RowsAreTrue.{Upheld, some_eq}
+use Rattle.tpl_laws.proofs.RowsAreTrue.{Upheld}
 use Rattle.tpl_laws.proofs.Chains.{threw_begun, begun_ends}
 use Rattle.tpl_laws.proofs.Observing.{label_verdict}
 use Rattle.tpl_laws.proofs.WideRows.{WideNow, ready_runs, ready_begins, throw_known}
@@ -116,8 +117,8 @@ module _ (g : TaskGraph) (p : Property TaskId) (v : List Bool) (h : List Event) 
   by_winner n x A None q on_yes on_no = on_yes (λ w e. some_none w (sym e ∙ q))
   by_winner n x A (Some s) q on_yes on_no =
       elim (cases_Bool (nat_eq x s)) [
-        | inl c ↦ on_yes (λ w e. subst (λ z. nat_eq x z ≡ true) (some_eq s w (sym q ∙ e)) c)
-        | inr c ↦ on_no (λ w e. subst (λ z. not (nat_eq x z) ≡ true) (some_eq s w (sym q ∙ e)) (ap not c))
+        | inl c ↦ on_yes (λ w e. subst (λ z. nat_eq x z ≡ true) (same_Some s w (sym q ∙ e)) c)
+        | inr c ↦ on_no (λ w e. subst (λ z. not (nat_eq x z) ≡ true) (same_Some s w (sym q ∙ e)) (ap not c))
       ]
 
   -- a leaf of a branch is one of the tree; one without rows has the least ones

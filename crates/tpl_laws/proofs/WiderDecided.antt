@@ -1,5 +1,6 @@
 -- The wider rules for rows with tokens are decided by their tests.
 use Rattle.std.proofs.Common.{◌≡◌, ℕ, zero, suc, ◌+◌, ◌<◌, ◌≤◌, ◌⊎◌, inl, inr, ◌&&◌, ◌||◌, not, Bool, true, false, Option, Some, None, List, [], ◌∷◌, refl, sym, subst, arith, nat_eq, is_some, length}
+use Rattle.std.proofs.lemmas.Option.{same_Some}
 use Rattle.std.specs.Prelude.{Decides}
 use Rattle.std.proofs.lemmas.Bool.{cases_lt}
 use Rattle.tpl_model.proofs.Truths.{true_false}
@@ -32,10 +33,7 @@ use Rattle.tpl_laws.proofs.FaultsDecided.{Clears, clear, clear_unless, clear_or_
 -- what is known, if there are paths
 at_known : (P : Knowledge → Type 0) (q : Knowledge → Bool) (o : Option Knowledge) → ((k : Knowledge) → Decides (q k) (P k)) → Decides (if_known o q) ((k : Knowledge) → o ≡ Some k → P k)
 at_known P q None d = (λ e k s. absurd (cc), λ f. refl)
-at_known P q (Some a) d = (λ e k s. subst P (same k s) ((d a).0 e), λ f. (d a).1 (f a refl))
-  where
-    same : (k : Knowledge) → Some a ≡ Some k → a ≡ k
-    same k s = cc
+at_known P q (Some a) d = (λ e k s. subst P (same_Some a k s) ((d a).0 e), λ f. (d a).1 (f a refl))
 
 -- the facts of a begin and of an end
 of_facts : (P : Fact → Type 0) (q : Fact → Bool) (xs ks : List ℕ) → ((f : Fact) → Decides (q f) (P f))
