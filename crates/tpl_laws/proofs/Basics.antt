@@ -40,14 +40,9 @@ same_number x y e = eqb→eq x y (subst T (sym e) tt)
 
 pub final_same : (e f : Final) → is_final e f ≡ true → e ≡ f
 final_same RanToCompletion RanToCompletion h = refl
-final_same RanToCompletion Canceled h = true_false (sym h)
-final_same RanToCompletion Faulted h = true_false (sym h)
-final_same Canceled RanToCompletion h = true_false (sym h)
 final_same Canceled Canceled h = refl
-final_same Canceled Faulted h = true_false (sym h)
-final_same Faulted RanToCompletion h = true_false (sym h)
-final_same Faulted Canceled h = true_false (sym h)
 final_same Faulted Faulted h = refl
+final_same e f h = true_false (sym h)
 
 pub final_self : (f : Final) → is_final f f ≡ true
 final_self RanToCompletion = refl

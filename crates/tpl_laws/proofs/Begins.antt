@@ -6,7 +6,7 @@ use Rattle.tpl_model.specs.Graph.{TaskGraph, kind, is_task}
 use Rattle.tpl_model.specs.declared.status.Actor.{Actor}
 use Rattle.tpl_model.specs.declared.status.Status.TheVariants.{WaitingToRun}
 use Rattle.tpl_model.specs.declared.event.Act.{Act}
-use Rattle.tpl_model.specs.declared.event.Act.TheVariants.{Request, Release, Begin, Step, Worked, Leave, Close, Drop, Settle}
+use Rattle.tpl_model.specs.declared.event.Act.TheVariants.{Begin}
 use Rattle.tpl_model.specs.declared.event.Event.{Event}
 use Rattle.tpl_model.specs.Facts.{begun, begun_by}
 use Rattle.tpl_model.specs.Rules.{Allows, Run, token_requested}
@@ -25,14 +25,7 @@ pub begins : (g : TaskGraph) (v : List Bool) (h : List Event) (a : Actor) (act :
 begins g v h a (Begin s) t run al b =
     subst (Begins g v h) (same_number s.0 t b)
     (record { task = al.0; ready = waiting_ready g v h s.0 run al.1; not_requested = al.2; unbegun = (waiting_facts g v h s.0 WaitingToRun al.1 (inl refl)).2 })
-begins g v h a (Request s) t run al b = true_false (sym b)
-begins g v h a (Release s) t run al b = true_false (sym b)
-begins g v h a (Step s) t run al b = true_false (sym b)
-begins g v h a (Worked s w) t run al b = true_false (sym b)
-begins g v h a (Leave s) t run al b = true_false (sym b)
-begins g v h a (Close s) t run al b = true_false (sym b)
-begins g v h a (Drop s) t run al b = true_false (sym b)
-begins g v h a (Settle s) t run al b = true_false (sym b)
+begins g v h a act t run al b = true_false (sym b)
 
 -- a task that has begun after an event had begun before it, or begins by it
 pub begun_now : (g : TaskGraph) (v : List Bool) (h : List Event) (a : Actor) (act : Act) (t : ℕ) → Run g v h → Allows g v h a act → is_some (begun (after a act h) t) ≡ true

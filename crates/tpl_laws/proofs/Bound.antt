@@ -128,9 +128,7 @@ not_released (WhenAny args) s true e = absurd (cc)
 settled_some : (k : TaskKind) (place : ℕ) (who : Option Actor) (en : ℕ → Option Ending) → can_settle k en ≡ true → is_some (settled_as k place who en) ≡ true
 settled_some (WhenAll args) place who en c = refl
 settled_some (WhenAny args) place who en c = refl
-settled_some Root place who en c = true_false (sym c)
-settled_some Child place who en c = true_false (sym c)
-settled_some (Continues a) place who en c = true_false (sym c)
+settled_some k place who en c = true_false (sym c)
 
 -- what an event uses up
 abbrev UsesUp : TaskGraph → List Bool → List Event → List Event → Type 0

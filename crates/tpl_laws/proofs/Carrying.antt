@@ -9,10 +9,10 @@ use Rattle.tpl_model.specs.declared.finals.Final.TheVariants.{RanToCompletion, C
 use Rattle.tpl_model.specs.declared.status.Status.TheVariants.{WaitingForChildrenToComplete}
 use Rattle.tpl_model.specs.declared.outcome.Outcome.{Outcome}
 use Rattle.tpl_model.specs.Members.{mem, joined}
-use Rattle.tpl_model.specs.Graph.{TaskGraph, TaskKind, Root, Child, Continues, WhenAll, WhenAny, kind, is_task, attached}
+use Rattle.tpl_model.specs.Graph.{TaskGraph, TaskKind, WhenAll, WhenAny, kind, is_task, attached}
 use Rattle.tpl_model.specs.declared.status.Actor.{Actor}
 use Rattle.tpl_model.specs.declared.event.Act.{Act}
-use Rattle.tpl_model.specs.declared.event.Act.TheVariants.{Request, Release, Begin, Step, Worked, Leave, Close, Drop, Settle}
+use Rattle.tpl_model.specs.declared.event.Act.TheVariants.{Leave, Close, Drop, Settle}
 use Rattle.tpl_model.specs.declared.event.Event.{Event}
 use Rattle.tpl_model.specs.Facts.{Ending, begun, left_body, ends_by, ending_by, final_in, all_over, rest, started, ending, ended_at_once, carried_in, gathered, own_atom, those_started, outcome_in, body_final, all_final, worse, settled_as, body_over}
 use Rattle.tpl_model.specs.Rules.{status, IsRunning, MayDrop, Allows, Run, can_settle}
@@ -127,11 +127,7 @@ how_ends g v h a (Close s) t r run al e m =
 how_ends g v h a (Settle s) t r run al e m =
     let same = same_number s.0 t e in
     settled (subst (λ z. is_task g z) same al.0) (subst (λ z. can_settle (kind g z) (ending g v h) ≡ true) same al.2) (suc (length h)) (Some a) m
-how_ends g v h a (Request s) t r run al e m = true_false (sym e)
-how_ends g v h a (Release s) t r run al e m = true_false (sym e)
-how_ends g v h a (Begin s) t r run al e m = true_false (sym e)
-how_ends g v h a (Step s) t r run al e m = true_false (sym e)
-how_ends g v h a (Worked s w) t r run al e m = true_false (sym e)
+how_ends g v h a x t r run al e m = true_false (sym e)
 
 -- a task that carries something is faulted
 pub carries_faulted : (g : TaskGraph) (v : List Bool) (h : List Event) (t x : ℕ) (r : Ending) → Run g v h → ending g v h t ≡ Some r → mem x r.carried ≡ true → r.final ≡ Faulted
@@ -139,11 +135,7 @@ carries_faulted g v [] t x r run e m = at_once (kind g t) e
   where
     at_once : (k : TaskKind) → ended_at_once k ≡ Some r → r.final ≡ Faulted
     at_once (WhenAll []) q = true_false (sym (subst (λ z. mem x z ≡ true) (sym (ap carried_in q)) m))
-    at_once (WhenAll (y ∷ ys)) q = some_none r (sym q)
-    at_once Root q = some_none r (sym q)
-    at_once Child q = some_none r (sym q)
-    at_once (Continues a) q = some_none r (sym q)
-    at_once (WhenAny args) q = some_none r (sym q)
+    at_once k q = some_none r (sym q)
 carries_faulted g v (e ∷ h) t x r run n m = here (λ o. carries_faulted g v h t x r run.0 o m) (λ c q p w. carries_faulted g v h c x q run.0 p w) e.actor e.act run.1 n
   where
     from_all : ((c : ℕ) (q : Ending) → ending g v h c ≡ Some q → mem x q.carried ≡ true → q.final ≡ Faulted) → (k : TaskKind) (place : ℕ) (who : Option Actor) → settled_as k place who (ending g v h) ≡ Some r → r.final ≡ Faulted
@@ -158,9 +150,7 @@ carries_faulted g v (e ∷ h) t x r run n m = here (λ o. carries_faulted g v h 
               sym (same_Some (all_final args (ending g v h)) r.final (ap final_in q)) ∙ all_faulted b.0 args (ending g v h) b.1 (ap final_in w.1 ∙ ap Some f)
         ]
     from_all ih (WhenAny args) place who q = true_false (sym (subst (λ z. mem x z ≡ true) (sym (ap carried_in q)) m))
-    from_all ih Root place who q = some_none r (sym q)
-    from_all ih Child place who q = some_none r (sym q)
-    from_all ih (Continues a) place who q = some_none r (sym q)
+    from_all ih k place who q = some_none r (sym q)
 
     by_end : ((c : ℕ) (q : Ending) → ending g v h c ≡ Some q → mem x q.carried ≡ true → q.final ≡ Faulted) → Ends g v h t r → r.final ≡ Faulted
     by_end ih (drops i d f c) = true_false (sym (subst (λ z. mem x z ≡ true) c m))

@@ -8,10 +8,10 @@ use Rattle.tpl_model.specs.declared.status.Label.{Label}
 use Rattle.tpl_model.specs.declared.outcome.Outcome.TheVariants.{Threw}
 use Rattle.tpl_model.specs.Members.{mem}
 use Rattle.tpl_model.specs.Statements.{Statements, Nothing, ◌⨾◌}
-use Rattle.tpl_model.specs.Graph.{TaskGraph, TaskKind, Root, Child, Continues, WhenAll, WhenAny, task, kind, body, is_task, attached, IsParent}
+use Rattle.tpl_model.specs.Graph.{TaskGraph, TaskKind, Child, Continues, WhenAll, WhenAny, task, kind, body, is_task, attached, IsParent}
 use Rattle.tpl_model.specs.declared.status.Actor.{Actor}
 use Rattle.tpl_model.specs.declared.event.Act.{Act}
-use Rattle.tpl_model.specs.declared.event.Act.TheVariants.{Request, Release, Begin, Step, Worked, Leave, Close, Drop, Settle}
+use Rattle.tpl_model.specs.declared.event.Act.TheVariants.{Leave, Close, Drop, Settle}
 use Rattle.tpl_model.specs.declared.event.Event.{Event}
 use Rattle.tpl_model.specs.Facts.{Ending, on, over, begun, begun_by, ends_by, rest, requested, started, ending, ended_at_once, final_in, carried_in, own_atom, those_started, outcome_in, settled_as}
 use Rattle.tpl_model.specs.Rules.{IsRunning, MayDrop, MayNotStart, MayCancel, Allows, Run, can_settle, all_ended, ended, token_requested, token_requested_by, Complete, to_end}
@@ -64,18 +64,12 @@ at_end g v h a (Leave s) t e = (refl, λ c q. q)
 at_end g v h a (Close s) t e = (refl, λ c q. q)
 at_end g v h a (Drop s) t e = (refl, λ c q. q)
 at_end g v h a (Settle s) t e = (refl, λ c q. q)
-at_end g v h a (Request s) t e = true_false (sym e)
-at_end g v h a (Release s) t e = true_false (sym e)
-at_end g v h a (Begin s) t e = true_false (sym e)
-at_end g v h a (Step s) t e = true_false (sym e)
-at_end g v h a (Worked s w) t e = true_false (sym e)
+at_end g v h a x t e = true_false (sym e)
 
 pub no_settle : (k : TaskKind) (en : ℕ → Option Ending) → IsBody k → can_settle k en ≡ true → ⊥
-no_settle Root en b c = true_false (sym c)
-no_settle Child en b c = true_false (sym c)
-no_settle (Continues d) en b c = true_false (sym c)
 no_settle (WhenAll args) en b c = b
 no_settle (WhenAny args) en b c = b
+no_settle k en b c = true_false (sym c)
 
 ended_idle : (g : TaskGraph) (v : List Bool) (h : List Event) (a : Actor) (t : ℕ) (r : Ending) → ending g v h t ≡ Some r → IsRunning g v h a t → ⊥
 ended_idle g v h a t r e q = some_none r (sym e ∙ (running_facts g v h a t q).0)
@@ -224,11 +218,8 @@ pub begun_ends : (g : TaskGraph) (v : List Bool) (h : List Event) (t : ℕ) → 
 begun_ends g v h t run complete b = complete t (begun_task g v h t run b) (by_kind (kind g t) (begun_ready g v h t run b))
   where
     by_kind : (k : TaskKind) → Ready g v h t k → to_end k (started g v h t) ≡ true
-    by_kind Root r = refl
     by_kind Child r = r
-    by_kind (Continues a) r = refl
-    by_kind (WhenAll args) r = refl
-    by_kind (WhenAny args) r = refl
+    by_kind k r = refl
 
 -- what takes over carries it, in a complete run
 pub taken_over : (g : TaskGraph) (v : List Bool) (h : List Event) (x y a : ℕ) (r : Ending) → IsGraph g → Run g v h → Complete g v h → is_task g x → TakesOver g x y → ending g v h y ≡ Some r → mem a r.carried ≡ true → (q : Ending) × (ending g v h x ≡ Some q) × (mem a q.carried ≡ true)

@@ -78,9 +78,7 @@ waits_before g t x valid w = by_kind (kind g t) (valid.each t (other_task g t (k
     by_kind : (k : TaskKind) → IsPlaced g t k → Waits k x → x < t
     by_kind (Continues a) p w = subst (λ z. z < t) (sym w) p.0
     by_kind (WhenAll args) p w = placed_before g t x args p.0 w
-    by_kind Root p w = absurd w
-    by_kind Child p w = absurd w
-    by_kind (WhenAny args) p w = absurd w
+    by_kind k p w = absurd w
 
 -- more tasks make no difference
 bound_same : (g : TaskGraph) (v : List Bool) (h : List Event) → IsGraph g → (n m t : ℕ) → t < n → t < m → bound_within g v h n t ≡ bound_within g v h m t
@@ -249,9 +247,7 @@ module _ (g : TaskGraph) (v : List Bool) (h : List Event) (valid : IsGraph g) (r
       by_test : (s : ℕ) (b : Bool) → mem s args ≡ b → not b || keeps (cut t) (d s) ≡ true
       by_test s false m = refl
       by_test s true m = keeps_it cut t s args left k m (d s) refl
-  left_by cut t Root k left = left
-  left_by cut t Child k left = left
-  left_by cut t (WhenAny args) k left = left
+  left_by cut t other k left = left
 
   left_from : (n : ℕ) (cut : ℕ → Final → Bool) → Left cut → Left (narrowed_from g n cut)
   left_from zero cut left = left
@@ -282,6 +278,4 @@ narrowed_less g (suc t) cut s f e = by_kind (kind g t) (narrowed_less g t (narro
     by_kind : (k : TaskKind) → narrowed_by g t k cut s f ≡ true → cut s f ≡ true
     by_kind (Continues a) e = (and_parts (cut s f) (cut t Canceled || (not (nat_eq a s) || allows (options g t) f)) e).0
     by_kind (WhenAll args) e = (and_parts (cut s f) (not (mem s args) || keeps (cut t) f) e).0
-    by_kind Root e = e
-    by_kind Child e = e
-    by_kind (WhenAny args) e = e
+    by_kind k e = e

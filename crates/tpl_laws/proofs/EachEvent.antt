@@ -10,7 +10,7 @@ use Rattle.tpl_model.specs.Members.{mem}
 use Rattle.tpl_model.specs.Graph.{TaskGraph, TaskKind, Root, Child, Continues, WhenAll, WhenAny, kind, body, options, is_task, attached}
 use Rattle.tpl_model.specs.declared.status.Actor.{Actor}
 use Rattle.tpl_model.specs.declared.event.Act.{Act}
-use Rattle.tpl_model.specs.declared.event.Act.TheVariants.{Request, Release, Begin, Step, Worked, Leave, Close, Drop, Settle}
+use Rattle.tpl_model.specs.declared.event.Act.TheVariants.{Begin}
 use Rattle.tpl_model.specs.declared.event.Event.{Event}
 use Rattle.tpl_model.specs.Facts.{Ending, begun, final_in, rest, started, ending, ended_at_once, carried_in, gathered, own_atom, those_started, outcome_in, body_final, all_final, worse, settled_as}
 use Rattle.tpl_model.specs.Rules.{final, MayDrop, MayNotStart, MayCancel, Allows, Run, some_ended, can_settle, all_ended, Settled, ended}
@@ -57,9 +57,6 @@ some_ended_mem (y ∷ args) en e =
     ]
 
 all_step : (y : ℕ) (args : List ℕ) (en : ℕ → Option Ending) (e f : Final) → final_in (en y) ≡ Some e → AllIs args en f → AllIs (y ∷ args) en (worse (Some e) f)
-all_step y args en Faulted RanToCompletion p w = (y, mem_here y y args refl, p)
-all_step y args en Faulted Canceled p w = (y, mem_here y y args refl, p)
-all_step y args en Faulted Faulted p w = (y, mem_here y y args refl, p)
 all_step y args en Canceled Faulted p w = (w.0, mem_there w.0 y args w.1, w.2)
 all_step y args en Canceled Canceled p w =
     ((λ x m. elim (mem_split x y args m) [ inl q ↦ (Canceled, refl, ap (λ z. final_in (en z)) q ∙ p) | inr q ↦ w.0 x q ]), (y, mem_here y y args refl, p))
@@ -69,6 +66,7 @@ all_step y args en RanToCompletion RanToCompletion p w = λ x m. elim (mem_split
 all_step y args en RanToCompletion Canceled p w =
     ((λ x m. elim (mem_split x y args m) [ inl q ↦ (RanToCompletion, refl, ap (λ z. final_in (en z)) q ∙ p) | inr q ↦ w.0 x q ]), (w.1.0, mem_there w.1.0 y args w.1.1, w.1.2))
 all_step y args en RanToCompletion Faulted p w = (w.0, mem_there w.0 y args w.1, w.2)
+all_step y args en Faulted f p w = (y, mem_here y y args refl, p)
 
 pub all_is : (args : List ℕ) (en : ℕ → Option Ending) → all_ended args en ≡ true → AllIs args en (all_final args en)
 all_is [] en e = λ x m. true_false (sym m)
@@ -107,17 +105,11 @@ drop_may g l rows v h t now i d =
     cancels : (k : TaskKind) → MayCancel g v h t k → is_loud g l t ≡ true → MayEndAs g l rows t k Canceled
     cancels (Continues a) m loud =
         elim m [ inl z ↦ inr (refl, inl (loud, z)) | inr z ↦ (let f = the_some (final g v h a) z in inr (refl, inr (inl (loud, (f.0, now.true_rows.ends a f.0 f.1))))) ]
-    cancels Root m loud = absurd m
-    cancels Child m loud = absurd m
-    cancels (WhenAll args) m loud = absurd m
-    cancels (WhenAny args) m loud = absurd m
+    cancels k m loud = absurd m
 
     not_starts : (k : TaskKind) → MayNotStart g v h t k → MayEndAs g l rows t k Canceled
     not_starts (Continues a) m = let so = may_not_start_so g v h t a m in inr (refl, inr (inr (so.0, now.true_rows.ends a so.0 so.1, so.2)))
-    not_starts Root m = absurd m
-    not_starts Child m = absurd m
-    not_starts (WhenAll args) m = absurd m
-    not_starts (WhenAny args) m = absurd m
+    not_starts k m = absurd m
 
 -- a body that is over may end its task so by its leaf
 body_may : (g : TaskGraph) (l : Assumed) (rows : List Row) (v : List Bool) (h : List Event) (t : ℕ) (r : Ending) → Now g l rows v h → BodyEnds g v h t r → BodyMayEnd g l rows t r.final
@@ -178,9 +170,7 @@ ends_so g l rows v h t r now cut (settled i c place who q) =
         let w = some_ended_mem args (ending g v h) c in
         let e = end_of (ending g v h w.0) w.2 in
         (sym (same_Some RanToCompletion r.final (ap final_in q)), (w.0, e.0, w.1, now.true_rows.ends w.0 e.0 e.1))
-    by_kind Root c q = true_false (sym c)
-    by_kind Child c q = true_false (sym c)
-    by_kind (Continues a) c q = true_false (sym c)
+    by_kind k c q = true_false (sym c)
 
 -- what has happened before a task of this kind ends
 abbrev pub DoneBefore : TaskGraph → Assumed → List Bool → List Event → ℕ → Ending → TaskKind → Type 0
@@ -214,25 +204,17 @@ done_before g l rows v h t r now (drops i d f c) =
   where
     cancels : (k : TaskKind) → MayCancel g v h t k → is_loud g l t ≡ true → DoneBefore g l v h t r k
     cancels (Continues a) m loud = elim m [ inl z ↦ inr (loud, z, f) | inr z ↦ (let f = the_some (final g v h a) z in inl (some_of_final (ending g v h a) f.0 f.1)) ]
-    cancels Root m loud = absurd m
-    cancels Child m loud = absurd m
-    cancels (WhenAll args) m loud = absurd m
-    cancels (WhenAny args) m loud = absurd m
+    cancels k m loud = absurd m
 
     not_starts : (k : TaskKind) → MayNotStart g v h t k → DoneBefore g l v h t r k
     not_starts (Continues a) m = let so = may_not_start_so g v h t a m in inl (some_of_final (ending g v h a) so.0 so.1)
-    not_starts Root m = absurd m
-    not_starts Child m = absurd m
-    not_starts (WhenAll args) m = absurd m
-    not_starts (WhenAny args) m = absurd m
+    not_starts k m = absurd m
 done_before g l rows v h t r now (settled i c place who q) = by_kind (kind g t) c
   where
     by_kind : (k : TaskKind) → can_settle k (ending g v h) ≡ true → DoneBefore g l v h t r k
     by_kind (WhenAll args) c = c
     by_kind (WhenAny args) c = c
-    by_kind Root c = true_false (sym c)
-    by_kind Child c = true_false (sym c)
-    by_kind (Continues a) c = true_false (sym c)
+    by_kind k c = true_false (sym c)
 
 -- a task whose row has an end may end
 pub may_end_so : (rows : List Row) (t : ℕ) (f : Final) → has (row rows t).ends f ≡ true → may_end rows t ≡ true
@@ -307,14 +289,7 @@ event_keeps g l rows v h a x now al ag = record {
           | inl q ↦ let same = same_number s.0 t q in inr (subst (λ z. is_task g z) same al2.0, subst (λ z. Ready g v h z (kind g z)) same (waiting_ready g v h s.0 now.run al2.1))
           | inr q ↦ inl (subst (λ z. is_some z ≡ true) (if_false (nat_eq s.0 t) (Some a) (begun h t) q) b)
         ]
-    begins t (Request s) al2 b = inl b
-    begins t (Release s) al2 b = inl b
-    begins t (Step s) al2 b = inl b
-    begins t (Worked s w) al2 b = inl b
-    begins t (Leave s) al2 b = inl b
-    begins t (Close s) al2 b = inl b
-    begins t (Drop s) al2 b = inl b
-    begins t (Settle s) al2 b = inl b
+    begins t act al2 b = inl b
 
     begun_after : (t : ℕ) → is_some (begun (after a x h) t) ≡ true → ((row rows t).runs ≡ true) × ((y : ℕ) → mem y (row rows t).before ≡ true → Settled g v h y)
     begun_after t b =
@@ -351,19 +326,11 @@ rows_at_first g l rows v valid closed ag = record {
         let f_is = same_Some RanToCompletion f e in
         subst (λ z. has (row rows t).ends z ≡ true) f_is
         ((closed t (all_task g t [] k)).ends RanToCompletion (subst (λ z. end_left l t z ≡ true) (sym f_is) c) (subst (λ z. MayEndAs g l rows t z RanToCompletion) (sym k) (λ x m. true_false (sym m))))
-    first_end t f (WhenAll (y ∷ ys)) k e c = some_none f (sym e)
-    first_end t f Root k e c = some_none f (sym e)
-    first_end t f Child k e c = some_none f (sym e)
-    first_end t f (Continues a) k e c = some_none f (sym e)
-    first_end t f (WhenAny args) k e c = some_none f (sym e)
+    first_end t f other k e c = some_none f (sym e)
 
     first_past : (t x : ℕ) (k : TaskKind) → kind g t ≡ k → is_some (ended_at_once k) ≡ true → mem x (row rows t).past ≡ true → Settled g v [] x
     first_past t x (WhenAll []) k e m = let c = subst (λ z. PastRule g l rows t z x) k ((closed t (all_task g t [] k)).past x m) in true_false (sym c.1)
-    first_past t x (WhenAll (y ∷ ys)) k e m = true_false (sym e)
-    first_past t x Root k e m = true_false (sym e)
-    first_past t x Child k e m = true_false (sym e)
-    first_past t x (Continues a) k e m = true_false (sym e)
-    first_past t x (WhenAny args) k e m = true_false (sym e)
+    first_past t x other k e m = true_false (sym e)
 
 -- the rows of a closed leaf are true of each run that agrees with it
 pub rows_are_true : (g : TaskGraph) (l : Assumed) (rows : List Row) (v : List Bool) (h : List Event) → IsGraph g → Closed g l rows → Run g v h → Agrees g l v h → AreTrue g rows v h

@@ -5,13 +5,13 @@ use Rattle.tpl_model.proofs.MemberLemmas.{same_self, mem_append, mem_left, mem_r
 use Rattle.tpl_model.proofs.Truths.{true_false}
 use Rattle.tpl_model.specs.declared.finals.Final.{Final}
 use Rattle.tpl_model.specs.Members.{mem}
-use Rattle.tpl_model.specs.Statements.{Statement, Return, Throw, Check, Cancel, Start, Observe, Work, If, When, Statements, Nothing, ◌⨾◌, followed_by, starts, starts_of, reads_nothing}
+use Rattle.tpl_model.specs.Statements.{Statement, Return, Throw, Check, Start, Work, If, When, Statements, Nothing, ◌⨾◌, followed_by, starts, starts_of, reads_nothing}
 use Rattle.tpl_model.specs.Graph.{TaskGraph, task, kind, body, IsParent}
 use Rattle.tpl_model.specs.declared.status.Actor.{Actor}
 use Rattle.tpl_model.specs.declared.status.Answer.{Answer}
 use Rattle.tpl_model.specs.declared.status.Answer.TheVariants.{Done, Failed}
 use Rattle.tpl_model.specs.declared.event.Act.{Act}
-use Rattle.tpl_model.specs.declared.event.Act.TheVariants.{Request, Release, Begin, Step, Worked, Leave, Close, Drop, Settle}
+use Rattle.tpl_model.specs.declared.event.Act.TheVariants.{Step, Worked}
 use Rattle.tpl_model.specs.declared.event.Event.{Event}
 use Rattle.tpl_model.specs.Facts.{Rest, Ending, on, over, begun, starts_by, rest_after, step_of, stepped, worked, rest, requested, started, ending, is_start, subject_in, has_final}
 use Rattle.tpl_model.specs.Paths.{cancellation, is_start_of, passes_start}
@@ -55,41 +55,24 @@ step_keeps : (Q : Statements → Type 0) → IsKept Q → (g : TaskGraph) (v : L
 step_keeps Q k g v t Return more req en q = k.empty
 step_keeps Q k g v t (Throw l) more req en q = k.empty
 step_keeps Q k g v t (Check j) more req en q = either_rest Q (req j) (over (cancellation (task g t).token j)) (on more) k.empty (k.tail (Check j) more q)
-step_keeps Q k g v t (Cancel j) more req en q = k.tail (Cancel j) more q
-step_keeps Q k g v t (Start c) more req en q = k.tail (Start c) more q
-step_keeps Q k g v t Observe more req en q = k.tail Observe more q
 step_keeps Q k g v t (Work s f) more req en q = q
 step_keeps Q k g v t (If i a b) more req en q = either_script Q (slice_index_or v i false) a b more (k.first_if i a b more q) (k.second_if i a b more q)
 step_keeps Q k g v t (When f a b) more req en q = either_script Q (has_final f en (subject_in g (kind g t) en)) a b more (k.first_when f a b more q) (k.second_when f a b more q)
+step_keeps Q k g v t s more req en q = k.tail s more q
 
 stepped_keeps : (Q : Statements → Type 0) → IsKept Q → (g : TaskGraph) (v : List Bool) (t : ℕ) (left : Statements) (req : ℕ → Bool) (en : ℕ → Option Ending) → Q left → Q (stepped g v t left req en).left
 stepped_keeps Q k g v t Nothing req en q = q
 stepped_keeps Q k g v t (s ⨾ more) req en q = step_keeps Q k g v t s more req en q
 
 worked_keeps : (Q : Statements → Type 0) → IsKept Q → (w : Answer) (left : Statements) → Q left → Q (worked w left).left
-worked_keeps Q k Done Nothing q = q
 worked_keeps Q k Done (s ⨾ more) q = k.tail s more q
-worked_keeps Q k Failed Nothing q = q
-worked_keeps Q k Failed (Return ⨾ more) q = q
-worked_keeps Q k Failed (Throw l ⨾ more) q = q
-worked_keeps Q k Failed (Check j ⨾ more) q = q
-worked_keeps Q k Failed (Cancel j ⨾ more) q = q
-worked_keeps Q k Failed (Start c ⨾ more) q = q
-worked_keeps Q k Failed (Observe ⨾ more) q = q
 worked_keeps Q k Failed (Work s f ⨾ more) q = k.empty
-worked_keeps Q k Failed (If i a b ⨾ more) q = q
-worked_keeps Q k Failed (When f a b ⨾ more) q = q
+worked_keeps Q k w left q = q
 
 after_keeps : (Q : Statements → Type 0) → IsKept Q → (g : TaskGraph) (v : List Bool) (t : ℕ) (x : Act) (now : Rest) (req : ℕ → Bool) (en : ℕ → Option Ending) → Q now.left → Q (rest_after g v t x now req en).left
 after_keeps Q k g v t (Step s) now req en q = either_rest Q (nat_eq s.0 t) (stepped g v t now.left req en) now (stepped_keeps Q k g v t now.left req en q) q
 after_keeps Q k g v t (Worked s w) now req en q = either_rest Q (nat_eq s.0 t) (worked w now.left) now (worked_keeps Q k w now.left q) q
-after_keeps Q k g v t (Request j) now req en q = q
-after_keeps Q k g v t (Release c) now req en q = q
-after_keeps Q k g v t (Begin s) now req en q = q
-after_keeps Q k g v t (Leave s) now req en q = q
-after_keeps Q k g v t (Close s) now req en q = q
-after_keeps Q k g v t (Drop s) now req en q = q
-after_keeps Q k g v t (Settle s) now req en q = q
+after_keeps Q k g v t x now req en q = q
 
 pub rest_keeps : (Q : Statements → Type 0) → IsKept Q → (g : TaskGraph) (v : List Bool) (h : List Event) (t : ℕ) → Q (body g t) → Q (rest g v h t).left
 rest_keeps Q k g v [] t q = q
@@ -135,16 +118,8 @@ next_start g v h p c e =
     rest_keeps (λ left. mem c (starts left) ≡ true → mem c (starts (body g p)) ≡ true) (starts_kept c (body g p)) g v h p (λ m. m) (first (rest g v h p).left e)
   where
     first : (left : Statements) → is_start c left ≡ true → mem c (starts left) ≡ true
-    first Nothing x = true_false (sym x)
-    first (Return ⨾ more) x = true_false (sym x)
-    first (Throw l ⨾ more) x = true_false (sym x)
-    first (Check k ⨾ more) x = true_false (sym x)
-    first (Cancel k ⨾ more) x = true_false (sym x)
     first (Start d ⨾ more) x = or_left (nat_eq c d) (mem c (starts more)) (subst (λ z. nat_eq c z ≡ true) (sym (same_number d c x)) (same_self c))
-    first (Observe ⨾ more) x = true_false (sym x)
-    first (Work s f ⨾ more) x = true_false (sym x)
-    first (If i a b ⨾ more) x = true_false (sym x)
-    first (When f a b ⨾ more) x = true_false (sym x)
+    first left x = true_false (sym x)
 
 pub reads_left : (g : TaskGraph) (v : List Bool) (h : List Event) (t : ℕ) → reads_nothing (body g t) ≡ true → reads_nothing (rest g v h t).left ≡ true
 reads_left g v h t q = rest_keeps (λ left. reads_nothing left ≡ true) nothing_kept g v h t q
@@ -177,24 +152,9 @@ started_parent g v (e ∷ h) c run s =
     kept q = (q.0, record { parent = q.1.parent; begun = begun_kept h e.actor e.act q.0 q.1.begun; passes = passes_kept c e.act q.0 (rest g v h q.0).left (passed g v h q.0) q.1.passes })
 
     push : (p : ℕ) (left : Statements) → is_start c left ≡ true → passes_start c (if nat_eq p p then pushed left (passed g v h p) else passed g v h p) ≡ true
-    push p Nothing x = true_false (sym x)
-    push p (Return ⨾ more) x = true_false (sym x)
-    push p (Throw l ⨾ more) x = true_false (sym x)
-    push p (Check k ⨾ more) x = true_false (sym x)
-    push p (Cancel k ⨾ more) x = true_false (sym x)
     push p (Start d ⨾ more) x = subst (λ z. passes_start c z ≡ true) (sym (if_true (nat_eq p p) (Start d ∷ passed g v h p) (passed g v h p) (same_self p))) (or_left (nat_eq d c) (passes_start c (passed g v h p)) x)
-    push p (Observe ⨾ more) x = true_false (sym x)
-    push p (Work s f ⨾ more) x = true_false (sym x)
-    push p (If i a b ⨾ more) x = true_false (sym x)
-    push p (When f a b ⨾ more) x = true_false (sym x)
+    push p left x = true_false (sym x)
 
     here : (a : Actor) (x : Act) → Allows g v h a x → starts_by c x (rest g v h) ≡ true → (p : ℕ) × StartedBy g v (after a x h) c p
     here a (Step p) al n = (p.0, record { parent = next_start g v h p.0 c n; begun = begun_kept h a (Step p) p.0 (running_facts g v h a p.0 al.0).2; passes = push p.0 (rest g v h p.0).left n })
-    here a (Request k) al n = true_false (sym n)
-    here a (Release d) al n = true_false (sym n)
-    here a (Begin d) al n = true_false (sym n)
-    here a (Worked d w) al n = true_false (sym n)
-    here a (Leave d) al n = true_false (sym n)
-    here a (Close d) al n = true_false (sym n)
-    here a (Drop d) al n = true_false (sym n)
-    here a (Settle d) al n = true_false (sym n)
+    here a x al n = true_false (sym n)

@@ -150,31 +150,19 @@ is_over g v h t complete task to none = true_false (sym (complete t task to) ∙
 
 continuation : (g : TaskGraph) (v : List Bool) (h : List Event) (t : ℕ) (k : TaskKind) → MayStart g v h t k → to_end k (started g v h t) ≡ true
 continuation g v h t (Continues a) m = refl
-continuation g v h t Root m = absurd m
-continuation g v h t Child m = absurd m
-continuation g v h t (WhenAll args) m = absurd m
-continuation g v h t (WhenAny args) m = absurd m
+continuation g v h t k m = absurd m
 
 excluded : (g : TaskGraph) (v : List Bool) (h : List Event) (t : ℕ) (k : TaskKind) → MayNotStart g v h t k → to_end k (started g v h t) ≡ true
 excluded g v h t (Continues a) m = refl
-excluded g v h t Root m = absurd m
-excluded g v h t Child m = absurd m
-excluded g v h t (WhenAll args) m = absurd m
-excluded g v h t (WhenAny args) m = absurd m
+excluded g v h t k m = absurd m
 
 cancelable : (g : TaskGraph) (v : List Bool) (h : List Event) (t : ℕ) (k : TaskKind) → MayCancel g v h t k → to_end k (started g v h t) ≡ true
 cancelable g v h t (Continues a) m = refl
-cancelable g v h t Root m = absurd m
-cancelable g v h t Child m = absurd m
-cancelable g v h t (WhenAll args) m = absurd m
-cancelable g v h t (WhenAny args) m = absurd m
+cancelable g v h t k m = absurd m
 
 combined : (g : TaskGraph) (v : List Bool) (h : List Event) (t : ℕ) (k : TaskKind) → can_settle k (ending g v h) ≡ true → to_end k (started g v h t) ≡ true
-combined g v h t Root e = refl
 combined g v h t Child e = true_false (sym e)
-combined g v h t (Continues a) e = refl
-combined g v h t (WhenAll args) e = refl
-combined g v h t (WhenAny args) e = refl
+combined g v h t k e = refl
 
 begun_to_end : (g : TaskGraph) (v : List Bool) (h : List Event) (t : ℕ) → Run g v h → is_some (begun h t) ≡ true → to_end (kind g t) (started g v h t) ≡ true
 begun_to_end g v h t run b = to_end_of g v h t (kind g t) (begun_ready g v h t run b)

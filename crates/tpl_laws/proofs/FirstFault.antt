@@ -4,7 +4,7 @@ use Rattle.std.specs.Prelude.{Decides}
 use Rattle.std.specs.List.{AllByRecursion}
 use Rattle.std.proofs.lemmas.Bool.{cases_lt}
 use Rattle.tpl_model.proofs.Truths.{true_false}
-use Rattle.tpl_model.specs.Graph.{TaskGraph, TaskKind, Root, Child, Continues, WhenAll, WhenAny, is_task}
+use Rattle.tpl_model.specs.Graph.{TaskGraph, TaskKind, WhenAll, WhenAny, is_task}
 use Rattle.tpl_model.specs.declared.ids.TaskId.{TaskId}
 use Rattle.tpl_model.specs.declared.claim.Property.{Property}
 use Rattle.tpl_model.specs.Claims.{Claim}
@@ -36,11 +36,9 @@ fails P b d e p = true_false (sym (d.1 p) ∙ e)
 
 -- a row: the first test that fails is that of the first rule which is broken
 pub past_rule_is : (k : TaskKind) → (past_rule k ≡ K4) ⊎ (past_rule k ≡ K5)
-past_rule_is Root = inl refl
-past_rule_is Child = inl refl
-past_rule_is (Continues a) = inl refl
 past_rule_is (WhenAll args) = inr refl
 past_rule_is (WhenAny args) = inr refl
+past_rule_is k = inl refl
 
 pub breaks_first : (r : RowRules) (a b c d e : Bool) → Decides a r.runs → Decides b r.ends → Decides c r.before → Decides d r.past → Decides e r.chain → (r.past_rule ≡ K4) ⊎ (r.past_rule ≡ K5)
     → (rule : Rule) → unless a K1 (unless b K2 (unless c K3 (unless d r.past_rule (unless e K6 None)))) ≡ Some rule → BreaksFirst r rule

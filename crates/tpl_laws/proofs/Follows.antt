@@ -3,12 +3,12 @@ use Rattle.tpl_laws.proofs.Sources.{through_here}
 use Rattle.tpl_model.specs.declared.finals.Final.{Final}
 use Rattle.tpl_model.specs.Finals.{is_final}
 use Rattle.tpl_model.specs.Statements.{Statement, Return, Throw, Check, Cancel, Start, Observe, Work, If, When, Statements, Nothing, ◌⨾◌, followed_by, reads_nothing}
-use Rattle.tpl_model.specs.Graph.{TaskGraph, TaskKind, Root, Child, Continues, WhenAll, WhenAny, task, kind, body}
+use Rattle.tpl_model.specs.Graph.{TaskGraph, TaskKind, Continues, WhenAny, task, kind, body}
 use Rattle.tpl_model.specs.declared.status.Actor.{Actor}
 use Rattle.tpl_model.specs.declared.status.Answer.{Answer}
 use Rattle.tpl_model.specs.declared.status.Answer.TheVariants.{Done, Failed}
 use Rattle.tpl_model.specs.declared.event.Act.{Act}
-use Rattle.tpl_model.specs.declared.event.Act.TheVariants.{Request, Release, Begin, Step, Worked, Leave, Close, Drop, Settle}
+use Rattle.tpl_model.specs.declared.event.Act.TheVariants.{Step, Worked}
 use Rattle.tpl_model.specs.declared.event.Event.{Event}
 use Rattle.tpl_model.specs.Facts.{Rest, Ending, on, over, begun, stepped, worked, final_in, winner_of, rest, requested, failed, fails_by, is_work, ending, is_cancel, subject_in, subject_of, has_final, is_end, requested_itself}
 use Rattle.tpl_model.specs.Paths.{cancellation, Known, Passes}
@@ -44,17 +44,11 @@ subject_kept g v h a x t s al e = by_kind (kind g t) e
     of_kind c (WhenAny args) n =
         let r = winner_some (ending g v h c) s n in
         ap winner_of (ending_kept g v h a x c r.0 al r.1) ∙ r.2
-    of_kind c Root n = n
-    of_kind c Child n = n
-    of_kind c (Continues b) n = n
-    of_kind c (WhenAll args) n = n
+    of_kind c k n = n
 
     by_kind : (k : TaskKind) → subject_in g k (ending g v h) ≡ Some s → subject_in g k (ending g v (after a x h)) ≡ Some s
     by_kind (Continues c) n = of_kind c (kind g c) n
-    by_kind Root n = n
-    by_kind Child n = n
-    by_kind (WhenAll args) n = n
-    by_kind (WhenAny args) n = n
+    by_kind k n = n
 
 fits_before : (g : TaskGraph) (v : List Bool) (h : List Event) (a : Actor) (x : Act) (t : ℕ) (w : Known) → Allows g v h a x → Fits g v (after a x h) t w → Fits g v h t w
 fits_before g v h a x t w al f = record {
@@ -77,10 +71,7 @@ has_subject g v h t a run b k =
         let r = final_of (ending g v h a) f m in
         let w = any_winner g v h a args r.0 run e r.1 in
         (w.0, w.1.final, ap winner_of r.1 ∙ w.2, ap final_in w.4)
-    by_kind Root e f m = (a, f, refl, m)
-    by_kind Child e f m = (a, f, refl, m)
-    by_kind (Continues c) e f m = (a, f, refl, m)
-    by_kind (WhenAll args) e f m = (a, f, refl, m)
+    by_kind k2 e f m = (a, f, refl, m)
 
 -- what is left of a body after these statements, or the verdict with which it ended
 abbrev pub Follows : Known → Statements → Rest → List Statement → Type 0
@@ -128,36 +119,16 @@ step_follows g v h t w body ps (When n a b ⨾ more) f c (inr s) st p =
     same_test = ap (has_final n (ending g v h)) s.2 ∙ ap (is_end n) s.3
 
 work_follows : (g : TaskGraph) (w : Known) (body : Statements) (ps : List Statement) (answer : Answer) (left : Statements) → ((site : ℕ) → answer ≡ Failed → is_work site left ≡ true → w.sure site ≡ false) → works answer left ≡ true → Passes w body ps left → Follows w body (worked answer left) (pushed left ps)
-work_follows g w body ps Done Nothing c e p = true_false (sym e)
-work_follows g w body ps Done (Return ⨾ more) c e p = true_false (sym e)
-work_follows g w body ps Done (Throw l ⨾ more) c e p = true_false (sym e)
-work_follows g w body ps Done (Check k ⨾ more) c e p = true_false (sym e)
-work_follows g w body ps Done (Cancel k ⨾ more) c e p = true_false (sym e)
-work_follows g w body ps Done (Start d ⨾ more) c e p = true_false (sym e)
-work_follows g w body ps Done (Observe ⨾ more) c e p = true_false (sym e)
 work_follows g w body ps Done (Work s m ⨾ more) c e p = (more, p, refl)
-work_follows g w body ps Done (If i a b ⨾ more) c e p = true_false (sym e)
-work_follows g w body ps Done (When n a b ⨾ more) c e p = true_false (sym e)
-work_follows g w body ps Failed Nothing c e p = true_false (sym e)
-work_follows g w body ps Failed (Return ⨾ more) c e p = true_false (sym e)
-work_follows g w body ps Failed (Throw l ⨾ more) c e p = true_false (sym e)
-work_follows g w body ps Failed (Check k ⨾ more) c e p = true_false (sym e)
-work_follows g w body ps Failed (Cancel k ⨾ more) c e p = true_false (sym e)
-work_follows g w body ps Failed (Start d ⨾ more) c e p = true_false (sym e)
-work_follows g w body ps Failed (Observe ⨾ more) c e p = true_false (sym e)
 work_follows g w body ps Failed (Work s m ⨾ more) c e p = (refl, (more, p, (e, c s refl (same_self s), refl)))
-work_follows g w body ps Failed (If i a b ⨾ more) c e p = true_false (sym e)
-work_follows g w body ps Failed (When n a b ⨾ more) c e p = true_false (sym e)
+work_follows g w body ps answer left c e p = true_false (sym e)
 
 reads_subject : (g : TaskGraph) (v : List Bool) (h : List Event) (t : ℕ) → Run g v h → is_some (begun h t) ≡ true → HasSubject (kind g t) (body g t) → (reads_nothing (rest g v h t).left ≡ true) ⊎ ((s : ℕ) × (f : Final) × (subject g v h t ≡ Some s) × (final g v h s ≡ Some f))
 reads_subject g v h t run b = by_kind (kind g t) refl
   where
     by_kind : (k : TaskKind) → kind g t ≡ k → HasSubject k (body g t) → (reads_nothing (rest g v h t).left ≡ true) ⊎ ((s : ℕ) × (f : Final) × (subject g v h t ≡ Some s) × (final g v h s ≡ Some f))
     by_kind (Continues a) e n = inr (has_subject g v h t a run b e)
-    by_kind Root e n = inl (reads_left g v h t n)
-    by_kind Child e n = inl (reads_left g v h t n)
-    by_kind (WhenAll args) e n = inl (reads_left g v h t n)
-    by_kind (WhenAny args) e n = inl (reads_left g v h t n)
+    by_kind k e n = inl (reads_left g v h t n)
 
 -- what t has passed is a path of its body, in each view whose assumptions are true of the run
 pub follows : (g : TaskGraph) (v : List Bool) (h : List Event) (t : ℕ) (w : Known) → Run g v h → Fits g v h t w → HasSubject (kind g t) (body g t) → Follows w (body g t) (rest g v h t) (passed g v h t)
@@ -188,10 +159,4 @@ follows g v (e ∷ h) t w run f n = here (follows g v h t w run.0 (fits_before g
         either_follows w (body g t) (nat_eq s.0 t) (worked answer (rest g v h t).left) (rest g v h t) (pushed (rest g v h t).left (passed g v h t)) (passed g v h t)
         (λ q. work_case a answer old (subst (λ z. Allows g v h a (Worked (id z) answer)) (same_number s.0 t q) al) (subst (λ z. Fits g v (after a (Worked (id z) answer) h) t w) (same_number s.0 t q) f2))
         (λ q. old)
-    here old a (Request k) al f2 = old
-    here old a (Release s) al f2 = old
-    here old a (Begin s) al f2 = old
-    here old a (Leave s) al f2 = old
-    here old a (Close s) al f2 = old
-    here old a (Drop s) al f2 = old
-    here old a (Settle s) al f2 = old
+    here old a x al f2 = old

@@ -19,7 +19,7 @@ use Rattle.tpl_model.specs.Statements.{Return, Throw, Check, Cancel, Start, Obse
 use Rattle.tpl_model.specs.Paths.{cancellation, is_own}
 use Rattle.tpl_model.specs.Graph.{TaskGraph, Task, Root, task, kind, body}
 use Rattle.tpl_model.specs.declared.event.Act.{Act}
-use Rattle.tpl_model.specs.declared.event.Act.TheVariants.{Request, Release, Begin, Step, Worked, Leave, Close, Drop, Settle}
+use Rattle.tpl_model.specs.declared.event.Act.TheVariants.{Step, Worked}
 use Rattle.tpl_model.specs.declared.event.Event.{Event}
 use Rattle.tpl_model.specs.Facts.{Ending, on, over, stepped, worked, outcome_in, outcome_of, has_final, subject_in, is_work, fails_by, rest, requested, failed, ending}
 use Rattle.tpl_model.specs.Rules.{Allows, Run, label, label_in}
@@ -53,26 +53,12 @@ threw_stays g v h a (Worked s w) t lb al e =
       | inl q ↦ true_false (sym (threw_outcome (rest g v h s.0).outcome (rest g v h s.0).left lb (subst (λ z. outcome_in (rest g v h z) ≡ Some (Threw lb)) (sym (same_number s.0 t q)) e)) ∙ al.1)
       | inr q ↦ ap outcome_in (if_false (nat_eq s.0 t) (worked w (rest g v h t).left) (rest g v h t) q) ∙ e
     ]
-threw_stays g v h a (Request s) t lb al e = e
-threw_stays g v h a (Release s) t lb al e = e
-threw_stays g v h a (Begin s) t lb al e = e
-threw_stays g v h a (Leave s) t lb al e = e
-threw_stays g v h a (Close s) t lb al e = e
-threw_stays g v h a (Drop s) t lb al e = e
-threw_stays g v h a (Settle s) t lb al e = e
+threw_stays g v h a x t lb al e = e
 
 -- the body whose job has failed
 fails_work : (site : ℕ) (left : Statements) → is_work site left ≡ true → outcome_in (worked Failed left) ≡ Fails site
-fails_work site Nothing e = true_false (sym e)
-fails_work site (Return ⨾ more) e = true_false (sym e)
-fails_work site (Throw l ⨾ more) e = true_false (sym e)
-fails_work site (Check k ⨾ more) e = true_false (sym e)
-fails_work site (Cancel k ⨾ more) e = true_false (sym e)
-fails_work site (Start c ⨾ more) e = true_false (sym e)
-fails_work site (Observe ⨾ more) e = true_false (sym e)
 fails_work site (Work n m ⨾ more) e = ap Fails (same_number n site e)
-fails_work site (If i x y ⨾ more) e = true_false (sym e)
-fails_work site (When f x y ⨾ more) e = true_false (sym e)
+fails_work site left e = true_false (sym e)
 
 -- no other act than the answer makes a body fail so
 goes_on : (left : Statements) (lb : Label) → outcome_in (on left) ≡ Some (Threw lb) → ⊥
@@ -101,16 +87,8 @@ site_in (Some (Threw (WorkFailed s))) = s.0
 site_in o = 0
 
 work_site : (site : ℕ) (left : Statements) → outcome_in (worked Failed left) ≡ Fails site → is_work site left ≡ true
-work_site site Nothing e = absurd (goes_on Nothing _ e)
-work_site site (Return ⨾ more) e = absurd (goes_on (Return ⨾ more) _ e)
-work_site site (Throw l ⨾ more) e = absurd (goes_on (Throw l ⨾ more) _ e)
-work_site site (Check k ⨾ more) e = absurd (goes_on (Check k ⨾ more) _ e)
-work_site site (Cancel k ⨾ more) e = absurd (goes_on (Cancel k ⨾ more) _ e)
-work_site site (Start c ⨾ more) e = absurd (goes_on (Start c ⨾ more) _ e)
-work_site site (Observe ⨾ more) e = absurd (goes_on (Observe ⨾ more) _ e)
 work_site site (Work n m ⨾ more) e = subst (λ z. nat_eq n z ≡ true) (ap site_in e) (same_self n)
-work_site site (If i x y ⨾ more) e = absurd (goes_on (If i x y ⨾ more) _ e)
-work_site site (When f x y ⨾ more) e = absurd (goes_on (When f x y ⨾ more) _ e)
+work_site site left e = absurd (goes_on left _ e)
 
 threw_failed : (g : TaskGraph) (v : List Bool) (h : List Event) (site t : ℕ) → outcome_in (rest g v h t) ≡ Fails site → failed g v h site ≡ true
 threw_failed g v [] site t e = absurd (goes_on (body g t) _ e)
@@ -141,13 +119,7 @@ threw_failed g v (x ∷ h) site t e = here (threw_failed g v h site t) x.act e
               (subst (λ z. is_work site (rest g v h z).left ≡ true) (sym (same_number s.0 t n)) (work_site site (rest g v h t).left (sym (ap outcome_in (if_true (nat_eq s.0 t) (worked Failed (rest g v h t).left) (rest g v h t) n)) ∙ q)))
           | inr n ↦ older old (Worked s Failed) (sym (ap outcome_in (if_false (nat_eq s.0 t) (worked Failed (rest g v h t).left) (rest g v h t) n)) ∙ q)
         ]
-    here old (Request s) q = older old (Request s) q
-    here old (Release s) q = older old (Release s) q
-    here old (Begin s) q = older old (Begin s) q
-    here old (Leave s) q = older old (Leave s) q
-    here old (Close s) q = older old (Close s) q
-    here old (Drop s) q = older old (Drop s) q
-    here old (Settle s) q = older old (Settle s) q
+    here old act q = older old act q
 
 -- a job that failed stands in the body of its task
 sites_ahead : (site : ℕ) (a more : Statements) → mem site (sites (followed_by a more)) ≡ true → (mem site (sites a) ≡ true) ⊎ (mem site (sites more) ≡ true)
@@ -177,16 +149,8 @@ sites_kept site whole = record {
     second a b more (inr y) = mem_right site (sites a ++ sites b) (sites more) y
 
 next_work : (site : ℕ) (left : Statements) → is_work site left ≡ true → mem site (sites left) ≡ true
-next_work site Nothing x = true_false (sym x)
-next_work site (Return ⨾ more) x = true_false (sym x)
-next_work site (Throw l ⨾ more) x = true_false (sym x)
-next_work site (Check k ⨾ more) x = true_false (sym x)
-next_work site (Cancel k ⨾ more) x = true_false (sym x)
-next_work site (Start d ⨾ more) x = true_false (sym x)
-next_work site (Observe ⨾ more) x = true_false (sym x)
 next_work site (Work n m ⨾ more) x = or_left (nat_eq site n) (mem site (sites more)) (subst (λ z. nat_eq site z ≡ true) (sym (same_number n site x)) (same_self site))
-next_work site (If i a b ⨾ more) x = true_false (sym x)
-next_work site (When f a b ⨾ more) x = true_false (sym x)
+next_work site left x = true_false (sym x)
 
 failed_stands : (g : TaskGraph) (v : List Bool) (h : List Event) (site : ℕ) → Run g v h → failed g v h site ≡ true → (t : ℕ) × (outcome_in (rest g v h t) ≡ Fails site) × (mem site (sites (body g t)) ≡ true)
 failed_stands g v [] site run e = true_false (sym e)
@@ -203,14 +167,7 @@ failed_stands g v (x ∷ h) site run e =
       rest_keeps (λ left. mem site (sites left) ≡ true → mem site (sites (body g t.0)) ≡ true) (sites_kept site (body g t.0)) g v h t.0 (λ m. m) (next_work site (rest g v h t.0).left q),
     )
     here (Worked t Done) q = true_false (sym q)
-    here (Request s) q = true_false (sym q)
-    here (Release s) q = true_false (sym q)
-    here (Begin s) q = true_false (sym q)
-    here (Step s) q = true_false (sym q)
-    here (Leave s) q = true_false (sym q)
-    here (Close s) q = true_false (sym q)
-    here (Drop s) q = true_false (sym q)
-    here (Settle s) q = true_false (sym q)
+    here act q = true_false (sym q)
 
 -- a site stands in one body
 counted_both : (site : ℕ) (xs ys : List ℕ) → counted site (xs ++ ys) ≡ counted site xs + counted site ys

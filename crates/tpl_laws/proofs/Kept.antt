@@ -7,7 +7,7 @@ use Rattle.tpl_model.specs.declared.status.Status.TheVariants.{Created, WaitingF
 use Rattle.tpl_model.specs.Graph.{TaskGraph, TaskKind, Root, Child, Continues, WhenAll, WhenAny, kind, attached}
 use Rattle.tpl_model.specs.declared.status.Actor.{Actor}
 use Rattle.tpl_model.specs.declared.event.Act.{Act}
-use Rattle.tpl_model.specs.declared.event.Act.TheVariants.{Request, Release, Begin, Step, Worked, Leave, Close, Drop, Settle}
+use Rattle.tpl_model.specs.declared.event.Act.TheVariants.{Leave, Close, Drop, Settle}
 use Rattle.tpl_model.specs.declared.event.Event.{Event}
 use Rattle.tpl_model.specs.Facts.{Ending, begun, begun_by, released, released_by, left_body, left_by, requests, fails_by, starts_by, ends_by, ending_by, final_in, all_over, rest, requested, failed, started, ending, requested_itself}
 use Rattle.tpl_model.specs.Rules.{final, status, status_by, opening, IsRunning, MayDrop, Allows}
@@ -60,12 +60,10 @@ opening_waits Root s r = inl refl
 opening_waits Child true r = inl refl
 opening_waits Child false true = inl refl
 opening_waits Child false false = inr (inr refl)
-opening_waits (Continues a) s true = inl refl
 opening_waits (Continues a) s false = inr (inl refl)
-opening_waits (WhenAll args) s true = inl refl
 opening_waits (WhenAll args) s false = inr (inl refl)
-opening_waits (WhenAny args) s true = inl refl
 opening_waits (WhenAny args) s false = inr (inl refl)
+opening_waits k s true = inl refl
 
 pub opening_not_running : (k : TaskKind) (s r : Bool) → opening k s r ≡ Running → ⊥
 opening_not_running k s r e = elim (opening_waits k s r) [ inl a ↦ absurd (cc) | inr b ↦ elim b [ inl c ↦ absurd (cc) | inr d ↦ absurd (cc) ] ]
@@ -101,16 +99,12 @@ not_some (Some x) e = true_false e
 
 -- an act ends only what hasn't ended
 pub ends_open : (g : TaskGraph) (v : List Bool) (h : List Event) (a : Actor) (x : Act) (t : ℕ) → Allows g v h a x → ends_by g t x (started g v h) (ending g v h) ≡ true → ending g v h t ≡ None
-ends_open g v h a (Request k) t al e = true_false (sym e)
-ends_open g v h a (Release c) t al e = true_false (sym e)
-ends_open g v h a (Begin s) t al e = true_false (sym e)
-ends_open g v h a (Step s) t al e = true_false (sym e)
-ends_open g v h a (Worked s w) t al e = true_false (sym e)
 ends_open g v h a (Leave s) t al e =
     subst (λ z. ending g v h z ≡ None) (same_number s.0 t (and_parts (nat_eq s.0 t) (all_over (attached g t) (started g v h) (ending g v h)) e).0) (running_facts g v h a s.0 al.0).0
 ends_open g v h a (Close s) t al e = subst (λ z. ending g v h z ≡ None) (same_number s.0 t e) (close_facts g v h s.0 al.1).0
 ends_open g v h a (Drop s) t al e = subst (λ z. ending g v h z ≡ None) (same_number s.0 t e) (drop_facts g v h s.0 al.1).0
 ends_open g v h a (Settle s) t al e = subst (λ z. ending g v h z ≡ None) (same_number s.0 t e) (not_some (ending g v h s.0) al.1)
+ends_open g v h a x t al e = true_false (sym e)
 
 -- an ending stays
 pub ending_kept : (g : TaskGraph) (v : List Bool) (h : List Event) (a : Actor) (x : Act) (t : ℕ) (r : Ending) → Allows g v h a x → ending g v h t ≡ Some r → ending g v (after a x h) t ≡ Some r

@@ -7,7 +7,7 @@ use Rattle.tpl_model.specs.Members.{mem}
 use Rattle.tpl_model.specs.declared.ids.TaskId.{TaskId}
 use Rattle.tpl_model.specs.declared.status.Label.{Label}
 use Rattle.tpl_model.specs.declared.outcome.Outcome.TheVariants.{Threw}
-use Rattle.tpl_model.specs.Graph.{TaskGraph, TaskKind, Root, Child, Continues, WhenAll, WhenAny, task, kind, body, is_task, through}
+use Rattle.tpl_model.specs.Graph.{TaskGraph, TaskKind, Root, Child, Continues, task, kind, body, is_task, through}
 use Rattle.tpl_model.specs.declared.status.Actor.{Actor}
 use Rattle.tpl_model.specs.declared.event.Act.{Act}
 use Rattle.tpl_model.specs.declared.event.Event.{Event}
@@ -255,10 +255,7 @@ never_complete g l rows v h now w complete =
   where
     whatever : (k : TaskKind) (s : Bool) → to_end k false ≡ true → to_end k s ≡ true
     whatever Child s e = true_false (sym e)
-    whatever Root s e = refl
-    whatever (Continues a) s e = refl
-    whatever (WhenAll args) s e = refl
-    whatever (WhenAny args) s e = refl
+    whatever k s e = refl
 
 -- in a complete run a root or continuation that can't be canceled has begun
 never_canceled : (g : TaskGraph) (l : Assumed) (rows : List Row) (v : List Bool) (h : List Event) (t : ℕ) → Upheld g l rows v h → is_task g t → begins_itself (kind g t) ≡ true → has (row rows t).ends Canceled ≡ false → Complete g v h → is_some (begun h t) ≡ true
@@ -271,9 +268,7 @@ never_canceled g l rows v h t now i b n complete =
     by_kind : (k : TaskKind) → begins_itself k ≡ true → IsBody k × ((s : Bool) → to_end k s ≡ true)
     by_kind Root b = (tt, λ s. refl)
     by_kind (Continues a) b = (tt, λ s. refl)
-    by_kind Child b = true_false (sym b)
-    by_kind (WhenAll args) b = true_false (sym b)
-    by_kind (WhenAny args) b = true_false (sym b)
+    by_kind k b = true_false (sym b)
 
 -- in a complete run an exception is observed
 pub observed_holds : (g : TaskGraph) (l : Assumed) (rows : List Row) (v : List Bool) (h : List Event) (t : ℕ) (lb : Label) → Upheld g l rows v h → (((row rows t).chain ≡ [] → ⊥) → seen g v h t ≡ true) → Complete g v h → label g v h t ≡ Some lb → Proves g l rows (Observed (record { 0 = t })) → seen g v h t ≡ true
@@ -302,11 +297,7 @@ shows : (g : TaskGraph) (l : Assumed) (rows : List Row) (v : List Bool) (h : Lis
 shows g l rows v h (Observed t) now pr = λ complete lb e.
     let up = upheld g l rows v h now in
     observed_holds g l rows v h t.0 lb up (λ c. chain_seen g l rows v h t.0 lb up (λ s i. (now.closed s i).chain) complete c e) complete e pr
-shows g l rows v h (EndsIn t ends) now pr = pr
-shows g l rows v h (After a b) now pr = pr
-shows g l rows v h (Never t) now pr = pr
-shows g l rows v h (Excludes a b) now pr = pr
-shows g l rows v h (Runs t) now pr = pr
+shows g l rows v h p now pr = pr
 
 a_leaf : (wide : Bool) (g : TaskGraph) (claim : Claim) (tree : Tree) (v : List Bool) (h : List Event) → IsGraph g → AcceptsTree g claim.body (assumed_for wide g claim) tree → Run g v h → IsGiven g v h claim.given → IsGiven g v h (own_quiet g claim.body) → ALeaf g v h claim.body
 a_leaf wide g claim tree v h valid acc run i q =

@@ -1,5 +1,5 @@
 -- The exception of a task with a chain is observed in each complete run.
-use Rattle.std.proofs.Common.{◌≡◌, ℕ, ◌⊎◌, inl, inr, Bool, true, false, Option, Some, None, List, [], ◌∷◌, refl, sym, ap, ◌∙◌, subst, nat_eq, is_some}
+use Rattle.std.proofs.Common.{◌≡◌, ℕ, ◌⊎◌, inl, inr, Bool, true, false, Option, Some, List, [], ◌∷◌, refl, sym, ap, ◌∙◌, subst, nat_eq, is_some}
 use Rattle.std.proofs.lemmas.Option.{same_Some}
 use Rattle.tpl_model.specs.declared.finals.Final.{Final}
 use Rattle.tpl_model.specs.declared.finals.Final.TheVariants.{Faulted}
@@ -7,15 +7,15 @@ use Rattle.tpl_model.specs.Finals.{is_final}
 use Rattle.tpl_model.specs.Options.{allows}
 use Rattle.tpl_model.specs.declared.status.Label.{Label}
 use Rattle.tpl_model.specs.declared.outcome.Outcome.{Outcome}
-use Rattle.tpl_model.specs.declared.outcome.Outcome.TheVariants.{Returned, Threw, Acknowledged}
+use Rattle.tpl_model.specs.declared.outcome.Outcome.TheVariants.{Threw}
 use Rattle.tpl_model.specs.Members.{mem}
-use Rattle.tpl_model.specs.Statements.{Statement, Return, Throw, Check, Cancel, Start, Observe, Work, If, When, Statements, Nothing, ◌⨾◌}
-use Rattle.tpl_model.specs.Graph.{TaskGraph, TaskKind, Root, Child, Continues, WhenAll, WhenAny, kind, body, options, is_task}
+use Rattle.tpl_model.specs.Statements.{Statement, Observe, Statements, ◌⨾◌}
+use Rattle.tpl_model.specs.Graph.{TaskGraph, TaskKind, Continues, WhenAny, kind, body, options, is_task}
 use Rattle.tpl_model.specs.declared.status.Actor.{Actor}
 use Rattle.tpl_model.specs.declared.status.Answer.{Answer}
 use Rattle.tpl_model.specs.declared.status.Answer.TheVariants.{Done, Failed}
 use Rattle.tpl_model.specs.declared.event.Act.{Act}
-use Rattle.tpl_model.specs.declared.event.Act.TheVariants.{Request, Release, Begin, Step, Worked, Leave, Close, Drop, Settle}
+use Rattle.tpl_model.specs.declared.event.Act.TheVariants.{Step, Worked}
 use Rattle.tpl_model.specs.declared.event.Event.{Event}
 use Rattle.tpl_model.specs.Facts.{Ending, begun, final_in, rest, started, ending, subject_in, subject_of, carried_in, outcome_in, is_observe}
 use Rattle.tpl_model.specs.Rules.{final, subject, Allows, Run, works, seen, sees, carried_by, label, label_in, Complete, to_end}
@@ -49,47 +49,16 @@ passed_begun g v (ev ∷ h) t run e = begun_kept h ev.actor ev.act t (here (λ o
           | inl same ↦ subst (λ z. is_some (begun h z) ≡ true) (same_number s.0 t same) (running_facts g v h a s.0 al.0).2
           | inr other ↦ old (subst (λ z. passes_observe z ≡ true) (if_false (nat_eq s.0 t) (pushed (rest g v h t).left (passed g v h t)) (passed g v h t) other) q)
         ]
-    here old a (Request s) al q = old q
-    here old a (Release s) al q = old q
-    here old a (Begin s) al q = old q
-    here old a (Leave s) al q = old q
-    here old a (Close s) al q = old q
-    here old a (Drop s) al q = old q
-    here old a (Settle s) al q = old q
+    here old a x al q = old q
 
 pushed_observe : (left : Statements) (ps : List Statement) → passes_observe (pushed left ps) ≡ true → (is_observe left ≡ true) ⊎ (passes_observe ps ≡ true)
-pushed_observe Nothing ps e = inr e
-pushed_observe (Return ⨾ more) ps e = inr e
-pushed_observe (Throw l ⨾ more) ps e = inr e
-pushed_observe (Check k ⨾ more) ps e = inr e
-pushed_observe (Cancel k ⨾ more) ps e = inr e
-pushed_observe (Start c ⨾ more) ps e = inr e
 pushed_observe (Observe ⨾ more) ps e = inl refl
-pushed_observe (Work s f ⨾ more) ps e = inr e
-pushed_observe (If i a b ⨾ more) ps e = inr e
-pushed_observe (When f a b ⨾ more) ps e = inr e
+pushed_observe left ps e = inr e
 
 work_no_observe : (answer : Answer) (left : Statements) → works answer left ≡ true → is_observe left ≡ true → ⊥
-work_no_observe Done Nothing e q = true_false (sym q)
-work_no_observe Done (Return ⨾ more) e q = true_false (sym q)
-work_no_observe Done (Throw l ⨾ more) e q = true_false (sym q)
-work_no_observe Done (Check k ⨾ more) e q = true_false (sym q)
-work_no_observe Done (Cancel k ⨾ more) e q = true_false (sym q)
-work_no_observe Done (Start c ⨾ more) e q = true_false (sym q)
 work_no_observe Done (Observe ⨾ more) e q = true_false (sym e)
-work_no_observe Done (Work s f ⨾ more) e q = true_false (sym q)
-work_no_observe Done (If i a b ⨾ more) e q = true_false (sym q)
-work_no_observe Done (When f a b ⨾ more) e q = true_false (sym q)
-work_no_observe Failed Nothing e q = true_false (sym q)
-work_no_observe Failed (Return ⨾ more) e q = true_false (sym q)
-work_no_observe Failed (Throw l ⨾ more) e q = true_false (sym q)
-work_no_observe Failed (Check k ⨾ more) e q = true_false (sym q)
-work_no_observe Failed (Cancel k ⨾ more) e q = true_false (sym q)
-work_no_observe Failed (Start c ⨾ more) e q = true_false (sym q)
 work_no_observe Failed (Observe ⨾ more) e q = true_false (sym e)
-work_no_observe Failed (Work s f ⨾ more) e q = true_false (sym q)
-work_no_observe Failed (If i a b ⨾ more) e q = true_false (sym q)
-work_no_observe Failed (When f a b ⨾ more) e q = true_false (sym q)
+work_no_observe answer left e q = true_false (sym q)
 
 -- the subject of a continuation of a task that carries something is that task
 subject_is : (g : TaskGraph) (v : List Bool) (h : List Event) (r y a : ℕ) (q : Ending) → Run g v h → kind g r ≡ Continues y → ending g v h y ≡ Some q → mem a q.carried ≡ true → subject g v h r ≡ Some y
@@ -97,10 +66,7 @@ subject_is g v h r y a q run k e m = ap (λ z. subject_in g z (ending g v h)) k 
   where
     by_kind : (k2 : TaskKind) → kind g y ≡ k2 → subject_of k2 y (ending g v h y) ≡ Some y
     by_kind (WhenAny args) k2 = true_false (sym (subst (λ z. mem a z ≡ true) ((any_ends g v h y args q run k2 e).0) m))
-    by_kind Root k2 = refl
-    by_kind Child k2 = refl
-    by_kind (Continues c) k2 = refl
-    by_kind (WhenAll args) k2 = refl
+    by_kind k k2 = refl
 
 -- the task y has ended so, and r sees it
 abbrev Sees : TaskGraph → List Bool → List Event → ℕ → ℕ → Ending → Type 0
@@ -149,13 +115,7 @@ observed_by g v (ev ∷ h) r n y a q run k e m p = here (λ o. λ e'. observed_b
               ]
           | inr other ↦ older old x (Worked s w) al e2 (subst (λ z. passes_observe z ≡ true) (if_false (nat_eq s.0 r) (pushed (rest g v h r).left (passed g v h r)) (passed g v h r) other) o)
         ]
-    here old x (Request s) al e2 o = older old x (Request s) al e2 o
-    here old x (Release s) al e2 o = older old x (Release s) al e2 o
-    here old x (Begin s) al e2 o = older old x (Begin s) al e2 o
-    here old x (Leave s) al e2 o = older old x (Leave s) al e2 o
-    here old x (Close s) al e2 o = older old x (Close s) al e2 o
-    here old x (Drop s) al e2 o = older old x (Drop s) al e2 o
-    here old x (Settle s) al e2 o = older old x (Settle s) al e2 o
+    here old x act al e2 o = older old x act al e2 o
 
 -- what takes over is a task of the graph
 pub takes_task : (g : TaskGraph) (x y : ℕ) → TakesOver g x y → is_task g x
@@ -214,10 +174,8 @@ chain_observes g l rows v h (x ∷ z ∷ zs) y a q now complete links e m =
 
 -- what a body threw
 pub label_verdict : (o : Option Outcome) (lb : Label) → label_in o ≡ Some lb → o ≡ Some (Threw lb)
-label_verdict None lb e = some_none lb (sym e)
-label_verdict (Some Returned) lb e = some_none lb (sym e)
-label_verdict (Some Acknowledged) lb e = some_none lb (sym e)
 label_verdict (Some (Threw x)) lb e = let s : x ≡ lb = cc in ap (λ z. Some (Threw z)) s
+label_verdict o lb e = some_none lb (sym e)
 
 -- in a complete run the exception that a body threw is seen where what its task carries is
 pub thrown_seen : (g : TaskGraph) (v : List Bool) (h : List Event) (t : ℕ) (lb : Label) → Run g v h → Complete g v h → label g v h t ≡ Some lb → (is_task g t → (q : Ending) → ending g v h t ≡ Some q → mem t q.carried ≡ true → seen g v h t ≡ true) → seen g v h t ≡ true

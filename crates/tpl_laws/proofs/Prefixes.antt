@@ -5,7 +5,7 @@ use Rattle.tpl_model.specs.declared.status.Status.TheVariants.{WaitingToRun}
 use Rattle.tpl_model.specs.Graph.{TaskGraph}
 use Rattle.tpl_model.specs.declared.status.Actor.{Actor}
 use Rattle.tpl_model.specs.declared.event.Act.{Act}
-use Rattle.tpl_model.specs.declared.event.Act.TheVariants.{Request, Release, Begin, Step, Worked, Leave, Close, Drop, Settle}
+use Rattle.tpl_model.specs.declared.event.Act.TheVariants.{Begin}
 use Rattle.tpl_model.specs.declared.event.Event.{Event}
 use Rattle.tpl_model.specs.Facts.{begun}
 use Rattle.tpl_model.specs.Rules.{Allows}
@@ -24,14 +24,7 @@ begun_stays g v h a b (Begin s) t al e =
       | inl q ↦ some_none b (sym e ∙ subst (λ z. begun h z ≡ None) (same_number s.0 t q) (waiting_facts g v h s.0 WaitingToRun al.1 (inl refl)).2)
       | inr q ↦ if_false (nat_eq s.0 t) (Some a) (begun h t) q ∙ e
     ]
-begun_stays g v h a b (Request s) t al e = e
-begun_stays g v h a b (Release s) t al e = e
-begun_stays g v h a b (Step s) t al e = e
-begun_stays g v h a b (Worked s w) t al e = e
-begun_stays g v h a b (Leave s) t al e = e
-begun_stays g v h a b (Close s) t al e = e
-begun_stays g v h a b (Drop s) t al e = e
-begun_stays g v h a b (Settle s) t al e = e
+begun_stays g v h a b x t al e = e
 
 pub nothing_goes_back_lem : NothingGoesBack
 nothing_goes_back_lem g v [] h run = record { still_requested = λ k e. e; still_started = λ t e. e; still_begun = λ t a e. e; still_ended = λ t r e. e }

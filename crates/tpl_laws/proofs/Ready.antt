@@ -9,7 +9,7 @@ use Rattle.tpl_model.specs.Graph.{TaskGraph, TaskKind, Root, Child, Continues, W
 use Rattle.tpl_model.specs.declared.status.Actor.{Actor}
 use Rattle.tpl_model.specs.declared.finals.Final.{Final}
 use Rattle.tpl_model.specs.declared.event.Act.{Act}
-use Rattle.tpl_model.specs.declared.event.Act.TheVariants.{Request, Release, Begin, Step, Worked, Leave, Close, Drop, Settle}
+use Rattle.tpl_model.specs.declared.event.Act.TheVariants.{Release, Begin, Leave, Close, Drop, Settle}
 use Rattle.tpl_model.specs.declared.event.Event.{Event}
 use Rattle.tpl_model.specs.Facts.{Ending, begun, released, released_by, left_body, left_by, ends_by, ending_by, all_over, rest, started, ending, first_ended, earlier, place_in, ended_at_once, settled_as}
 use Rattle.tpl_model.specs.Options.{allows}
@@ -34,10 +34,7 @@ pub may_start_kept : (g : TaskGraph) (v : List Bool) (h : List Event) (a : Actor
 may_start_kept g v h a x c (Continues s) al m =
     let kept = ended_so_kept g v h a x c s true al (may_start_so g v h c s m) in
     some_and (final g v (after a x h) s) (λ f. allows (options g c) f ≡ true) kept.0 kept.1 kept.2
-may_start_kept g v h a x c Root al m = absurd m
-may_start_kept g v h a x c Child al m = absurd m
-may_start_kept g v h a x c (WhenAll args) al m = absurd m
-may_start_kept g v h a x c (WhenAny args) al m = absurd m
+may_start_kept g v h a x c k al m = absurd m
 
 -- a released task is a continuation whose antecedent has ended as its options allow
 pub released_ready : (g : TaskGraph) (v : List Bool) (h : List Event) (c : ℕ) → Run g v h → released h c ≡ true → MayStart g v h c (kind g c)
@@ -48,14 +45,7 @@ released_ready g v (e ∷ h) c run r =
   where
     here : (a : Actor) (x : Act) → Allows g v h a x → released_by x c ≡ true → MayStart g v h c (kind g c)
     here a (Release d) al n = subst (λ z. MayStart g v h z (kind g z)) (same_number d.0 c n) al.2
-    here a (Request d) al n = true_false (sym n)
-    here a (Begin d) al n = true_false (sym n)
-    here a (Step d) al n = true_false (sym n)
-    here a (Worked d w) al n = true_false (sym n)
-    here a (Leave d) al n = true_false (sym n)
-    here a (Close d) al n = true_false (sym n)
-    here a (Drop d) al n = true_false (sym n)
-    here a (Settle d) al n = true_false (sym n)
+    here a x al n = true_false (sym n)
 
 -- what has happened before a task of this kind begins
 abbrev pub Ready : TaskGraph → List Bool → List Event → ℕ → TaskKind → Type 0
@@ -74,11 +64,9 @@ IsBody (WhenAll args) = ⊥
 IsBody (WhenAny args) = ⊥
 
 pub ready_body : (g : TaskGraph) (v : List Bool) (h : List Event) (t : ℕ) (k : TaskKind) → Ready g v h t k → IsBody k
-ready_body g v h t Root r = tt
-ready_body g v h t Child r = tt
-ready_body g v h t (Continues a) r = tt
 ready_body g v h t (WhenAll args) r = r
 ready_body g v h t (WhenAny args) r = r
+ready_body g v h t k r = tt
 
 ready_kept : (g : TaskGraph) (v : List Bool) (h : List Event) (a : Actor) (x : Act) (t : ℕ) (k : TaskKind) → Allows g v h a x → Ready g v h t k → Ready g v (after a x h) t k
 ready_kept g v h a x t Root al r = tt
@@ -96,11 +84,9 @@ waiting_ready g v h t run e = by_kind (kind g t) (started g v h t) (released h t
     by_kind Child false true st rl o = absurd (rl refl)
     by_kind Child false false st rl o = absurd (cc)
     by_kind (Continues a) s true st rl o = may_start_so g v h t a (rl refl)
-    by_kind (Continues a) s false st rl o = absurd (cc)
     by_kind (WhenAll args) s true st rl o = rl refl
-    by_kind (WhenAll args) s false st rl o = absurd (cc)
     by_kind (WhenAny args) s true st rl o = rl refl
-    by_kind (WhenAny args) s false st rl o = absurd (cc)
+    by_kind k s false st rl o = absurd (cc)
 
 pub begun_ready : (g : TaskGraph) (v : List Bool) (h : List Event) (t : ℕ) → Run g v h → is_some (begun h t) ≡ true → Ready g v h t (kind g t)
 begun_ready g v [] t run e = true_false (sym e)
@@ -112,14 +98,7 @@ begun_ready g v (e ∷ h) t run b = ready_kept g v h e.actor e.act t (kind g t) 
           | inl q ↦ subst (λ z. Ready g v h z (kind g z)) (same_number d.0 t q) (waiting_ready g v h d.0 run.0 al.1)
           | inr q ↦ old (subst (λ z. is_some z ≡ true) (if_false (nat_eq d.0 t) (Some a) (begun h t) q) n)
         ]
-    here old a (Request d) al n = old n
-    here old a (Release d) al n = old n
-    here old a (Step d) al n = old n
-    here old a (Worked d w) al n = old n
-    here old a (Leave d) al n = old n
-    here old a (Close d) al n = old n
-    here old a (Drop d) al n = old n
-    here old a (Settle d) al n = old n
+    here old a x al n = old n
 
 pub left_begun : (g : TaskGraph) (v : List Bool) (h : List Event) (t : ℕ) → Run g v h → left_body h t ≡ true → is_some (begun h t) ≡ true
 left_begun g v [] t run e = true_false (sym e)
@@ -129,14 +108,7 @@ left_begun g v (e ∷ h) t run l =
   where
     here : (a : Actor) (x : Act) → Allows g v h a x → left_by x t ≡ true → is_some (begun h t) ≡ true
     here a (Leave d) al n = subst (λ z. is_some (begun h z) ≡ true) (same_number d.0 t n) (running_facts g v h a d.0 al.0).2
-    here a (Request d) al n = true_false (sym n)
-    here a (Release d) al n = true_false (sym n)
-    here a (Begin d) al n = true_false (sym n)
-    here a (Step d) al n = true_false (sym n)
-    here a (Worked d w) al n = true_false (sym n)
-    here a (Close d) al n = true_false (sym n)
-    here a (Drop d) al n = true_false (sym n)
-    here a (Settle d) al n = true_false (sym n)
+    here a x al n = true_false (sym n)
 
 -- only a task with a body begins, leaves, closes or is dropped
 pub drop_body : (g : TaskGraph) (v : List Bool) (h : List Event) (t : ℕ) → Run g v h → MayDrop g v h t → IsBody (kind g t)
@@ -147,18 +119,14 @@ drop_body g v h t run d =
     ]
   where
     cancels : (k : TaskKind) → MayCancel g v h t k → IsBody k
-    cancels (Continues a) m = tt
-    cancels Root m = tt
-    cancels Child m = tt
     cancels (WhenAll args) m = m
     cancels (WhenAny args) m = m
+    cancels k m = tt
 
     not_starts : (k : TaskKind) → MayNotStart g v h t k → IsBody k
-    not_starts (Continues a) m = tt
-    not_starts Root m = tt
-    not_starts Child m = tt
     not_starts (WhenAll args) m = m
     not_starts (WhenAny args) m = m
+    not_starts k m = tt
 
 pub begun_body : (g : TaskGraph) (v : List Bool) (h : List Event) (t : ℕ) → Run g v h → is_some (begun h t) ≡ true → IsBody (kind g t)
 begun_body g v h t run b = ready_body g v h t (kind g t) (begun_ready g v h t run b)
@@ -171,11 +139,7 @@ settles g v h a (Leave s) t run al nb e =
     absurd (nb (subst (λ z. IsBody (kind g z)) (same_number s.0 t (and_parts (nat_eq s.0 t) (all_over (attached g t) (started g v h) (ending g v h)) e).0) (begun_body g v h s.0 run (running_facts g v h a s.0 al.0).2)))
 settles g v h a (Close s) t run al nb e =
     absurd (nb (subst (λ z. IsBody (kind g z)) (same_number s.0 t e) (begun_body g v h s.0 run (left_begun g v h s.0 run (close_facts g v h s.0 al.1).1))))
-settles g v h a (Request s) t run al nb e = true_false (sym e)
-settles g v h a (Release s) t run al nb e = true_false (sym e)
-settles g v h a (Begin s) t run al nb e = true_false (sym e)
-settles g v h a (Step s) t run al nb e = true_false (sym e)
-settles g v h a (Worked s w) t run al nb e = true_false (sym e)
+settles g v h a x t run al nb e = true_false (sym e)
 
 -- the argument that ended first
 abbrev pub FirstIs : List ℕ → (ℕ → Option Ending) → Option ℕ → Type 0

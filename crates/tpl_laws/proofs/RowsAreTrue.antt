@@ -13,7 +13,7 @@ use Rattle.tpl_model.specs.Statements.{Statement, Statements, Nothing, ◌⨾◌
 use Rattle.tpl_model.specs.Graph.{TaskGraph, TaskKind, Root, Child, Continues, WhenAll, WhenAny, task, kind, body, options, is_task}
 use Rattle.tpl_model.specs.declared.status.Actor.{Actor}
 use Rattle.tpl_model.specs.declared.event.Act.{Act}
-use Rattle.tpl_model.specs.declared.event.Act.TheVariants.{Request, Release, Begin, Step, Worked, Leave, Close, Drop, Settle}
+use Rattle.tpl_model.specs.declared.event.Act.TheVariants.{Step, Worked, Leave}
 use Rattle.tpl_model.specs.declared.event.Event.{Event}
 use Rattle.tpl_model.specs.Facts.{Ending, begun, left_body, stepped, worked, winner_of, rest, requested, failed, ending, subject_in, subject_of, outcome_in, outcome_of}
 use Rattle.tpl_model.specs.Rules.{final, IsRunning, Allows, Run, Settled, ended, token_requested, token_requested_by}
@@ -40,13 +40,7 @@ rest_idle g v h a (Worked s w) t al idle =
       | inl q ↦ absurd (idle (subst (λ z. IsRunning g v h a z) (same_number s.0 t q) al.0))
       | inr q ↦ (if_false (nat_eq s.0 t) (worked w (rest g v h t).left) (rest g v h t) q, if_false (nat_eq s.0 t) _ (passed g v h t) q)
     ]
-rest_idle g v h a (Request s) t al idle = (refl, refl)
-rest_idle g v h a (Release s) t al idle = (refl, refl)
-rest_idle g v h a (Begin s) t al idle = (refl, refl)
-rest_idle g v h a (Leave s) t al idle = (refl, refl)
-rest_idle g v h a (Close s) t al idle = (refl, refl)
-rest_idle g v h a (Drop s) t al idle = (refl, refl)
-rest_idle g v h a (Settle s) t al idle = (refl, refl)
+rest_idle g v h a x t al idle = (refl, refl)
 
 -- the body of a task that has left it is over
 pub left_verdict : (g : TaskGraph) (v : List Bool) (h : List Event) (t : ℕ) → Run g v h → left_body h t ≡ true → is_some (outcome_in (rest g v h t)) ≡ true
@@ -62,14 +56,7 @@ left_verdict g v (e ∷ h) t run l = here (λ o. left_verdict g v h t run.0 o) e
           | inl q ↦ subst (λ z. is_some (outcome_in (rest g v h z)) ≡ true) (same_number s.0 t q) al.1
           | inr q ↦ old q
         ]
-    here old a (Request s) al n = was old a (Request s) al n
-    here old a (Release s) al n = was old a (Release s) al n
-    here old a (Begin s) al n = was old a (Begin s) al n
-    here old a (Step s) al n = was old a (Step s) al n
-    here old a (Worked s w) al n = was old a (Worked s w) al n
-    here old a (Close s) al n = was old a (Close s) al n
-    here old a (Drop s) al n = was old a (Drop s) al n
-    here old a (Settle s) al n = was old a (Settle s) al n
+    here old a x al n = was old a x al n
 
 -- what follows a path is one, with its verdict where it has one
 pub path_by : (w : Known) (body : Statements) (verdict : Option Outcome) (left : Statements) (ps : List Statement) → FollowsBy w body verdict left ps → Path w body ps verdict
@@ -116,17 +103,11 @@ view_fits g v h l rows t run agrees ends b = record {
         winner_some : (o : Option Ending) → winner_of o ≡ Some s → (r : Ending) × (o ≡ Some r) × (r.winner ≡ Some s)
         winner_some None e = some_none s (sym e)
         winner_some (Some r) e = (r, refl, e)
-    of_kind a Root k m s f e p = plain a m s f e p
-    of_kind a Child k m s f e p = plain a m s f e p
-    of_kind a (Continues c) k m s f e p = plain a m s f e p
-    of_kind a (WhenAll args) k m s f e p = plain a m s f e p
+    of_kind a other k m s f e p = plain a m s f e p
 
     by_kind : (k : TaskKind) → kind g t ≡ k → (s : ℕ) (f : Final) → subject_in g k (ending g v h) ≡ Some s → final g v h s ≡ Some f → subject_set g rows t k f ≡ true
     by_kind (Continues a) k s f e p = of_kind a (kind g a) refl (subst (λ z. Ready g v h t z) k (begun_ready g v h t run b)) s f e p
-    by_kind Root k s f e p = some_none s (sym e)
-    by_kind Child k s f e p = some_none s (sym e)
-    by_kind (WhenAll args) k s f e p = some_none s (sym e)
-    by_kind (WhenAny args) k s f e p = some_none s (sym e)
+    by_kind other k s f e p = some_none s (sym e)
 
 pub agrees_before : (g : TaskGraph) (v : List Bool) (h : List Event) (l : Assumed) (a : Actor) (x : Act) → Allows g v h a x → Agrees g l v (after a x h) → Agrees g l v h
 agrees_before g v h l a x al ag = record {

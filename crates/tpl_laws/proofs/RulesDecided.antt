@@ -206,23 +206,17 @@ module _ (paths : PathLaws) where
 
   -- who reads its exception
   argument_decided : (y : ℕ) (k : TaskKind) → Decides (is_argument y k) ((args : List ℕ) × (k ≡ WhenAll args) × (mem y args ≡ true))
-  argument_decided y Root = (λ e. true_false (sym e), λ e. absurd (let q = e.1 in (cc)))
-  argument_decided y Child = (λ e. true_false (sym e), λ e. absurd (let q = e.1 in (cc)))
-  argument_decided y (Continues a) = (λ e. true_false (sym e), λ e. absurd (let q = e.1 in (cc)))
   argument_decided y (WhenAll args) = (λ e. (args, refl, e), λ e. subst (λ z. is_argument y z ≡ true) (sym e.1) e.2)
-  argument_decided y (WhenAny args) = (λ e. true_false (sym e), λ e. absurd (let q = e.1 in (cc)))
+  argument_decided y k = (λ e. true_false (sym e), λ e. absurd (let q = e.1 in (cc)))
 
   pub takes_decided : (g : TaskGraph) (x y : ℕ) → Decides (takes_over g x y) (TakesOver g x y)
   takes_decided g x y =
       either (mem y (attached g x) ≡ true) ((args : List ℕ) × (kind g x ≡ WhenAll args) × (mem y args ≡ true)) (mem y (attached g x)) (is_argument y (kind g x)) (itself (mem y (attached g x))) (argument_decided y (kind g x))
 
   continues_decided : (y : ℕ) (k : TaskKind) → Decides (continues y k) (k ≡ Continues y)
-  continues_decided y Root = (λ e. true_false (sym e), λ e. absurd (cc))
-  continues_decided y Child = (λ e. true_false (sym e), λ e. absurd (cc))
   continues_decided y (Continues a) =
       means (a ≡ y) (Continues a ≡ Continues y) (nat_eq a y) (same a y) (λ e. subst (λ z. Continues a ≡ Continues z) e refl) (λ e. cc)
-  continues_decided y (WhenAll args) = (λ e. true_false (sym e), λ e. absurd (cc))
-  continues_decided y (WhenAny args) = (λ e. true_false (sym e), λ e. absurd (cc))
+  continues_decided y k = (λ e. true_false (sym e), λ e. absurd (cc))
 
   pub reads_decided : (g : TaskGraph) (l : Assumed) (rows : List Row) (r y : ℕ) → Decides (reads g l r y) (Reads g l rows r y)
   reads_decided g l rows r y =

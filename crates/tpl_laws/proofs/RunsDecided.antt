@@ -8,7 +8,7 @@ use Rattle.tpl_model.specs.declared.finals.Final.{Final}
 use Rattle.tpl_model.specs.declared.finals.Finals.{Finals}
 use Rattle.tpl_model.specs.Finals.{has}
 use Rattle.tpl_model.specs.declared.status.Label.{Label}
-use Rattle.tpl_model.specs.Graph.{TaskGraph, TaskKind, Root, Child, Continues, WhenAll, WhenAny, kind}
+use Rattle.tpl_model.specs.Graph.{TaskGraph, TaskKind, Child, kind}
 use Rattle.tpl_model.specs.declared.event.Event.{Event}
 use Rattle.tpl_model.specs.Facts.{begun, begun_by, requested, failed, started, ending}
 use Rattle.tpl_model.specs.Rules.{final, label, seen, Settled, ended, unstarted, to_end, Complete}
@@ -23,11 +23,8 @@ use Rattle.tpl_laws.specs.RunTests.{is_child, some_parent, settled_within, is_se
 use Rattle.tpl_laws.proofs.Parents.{parent_is, the_parent, parent_before}
 
 pub of_child : (k : TaskKind) → is_child k ≡ true → k ≡ Child
-of_child Root e = cc
 of_child Child e = refl
-of_child (Continues a) e = cc
-of_child (WhenAll args) e = cc
-of_child (WhenAny args) e = cc
+of_child k e = cc
 
 module _ (g : TaskGraph) (v : List Bool) (h : List Event) where
   settled_of : (n t : ℕ) → settled_within g v h n t ≡ true → Settled g v h t

@@ -3,10 +3,10 @@ use Rattle.std.proofs.Common.{◌≡◌, ℕ, suc, ◌≤◌, ◌++◌, inl, inr
 use Rattle.std.proofs.lemmas.Bool.{cases_Bool}
 use Rattle.tpl_model.proofs.Truths.{true_false}
 use Rattle.tpl_model.specs.declared.status.Status.TheVariants.{WaitingToRun}
-use Rattle.tpl_model.specs.Graph.{TaskGraph, TaskKind, Root, Child, Continues, WhenAll, WhenAny, kind, IsParent}
+use Rattle.tpl_model.specs.Graph.{TaskGraph, TaskKind, WhenAll, WhenAny, kind, IsParent}
 use Rattle.tpl_model.specs.declared.status.Actor.{Actor}
 use Rattle.tpl_model.specs.declared.event.Act.{Act}
-use Rattle.tpl_model.specs.declared.event.Act.TheVariants.{Request, Release, Begin, Step, Worked, Leave, Close, Drop, Settle}
+use Rattle.tpl_model.specs.declared.event.Act.TheVariants.{Begin, Settle}
 use Rattle.tpl_model.specs.declared.event.Event.{Event}
 use Rattle.tpl_model.specs.Facts.{Ending, Rest, begun, begun_by, place_in, ended_at_once, settled_as, ending_by, rest, started, ending}
 use Rattle.tpl_model.specs.Rules.{Allows, Run, Settled, ended, unstarted}
@@ -20,30 +20,17 @@ use Rattle.tpl_laws.specs.Settling.{SettledBefore, ended_before, never_started, 
 
 -- a task ends at the place of an event, or before the first one
 at_once_place : (k : TaskKind) (r : Ending) → ended_at_once k ≡ Some r → r.place ≡ 0
-at_once_place Root r e = some_none r (sym e)
-at_once_place Child r e = some_none r (sym e)
-at_once_place (Continues a) r e = some_none r (sym e)
 at_once_place (WhenAll []) r e = ap place_in (sym e)
-at_once_place (WhenAll (x ∷ xs)) r e = some_none r (sym e)
-at_once_place (WhenAny args) r e = some_none r (sym e)
+at_once_place k r e = some_none r (sym e)
 
 settled_place : (k : TaskKind) (place : ℕ) (a : Option Actor) (en : ℕ → Option Ending) (r : Ending) → settled_as k place a en ≡ Some r → r.place ≡ place
-settled_place Root place a en r e = some_none r (sym e)
-settled_place Child place a en r e = some_none r (sym e)
-settled_place (Continues c) place a en r e = some_none r (sym e)
 settled_place (WhenAll args) place a en r e = ap place_in (sym e)
 settled_place (WhenAny args) place a en r e = ap place_in (sym e)
+settled_place k place a en r e = some_none r (sym e)
 
 act_place : (g : TaskGraph) (t place : ℕ) (a : Actor) (x : Act) (re : ℕ → Rest) (st : ℕ → Bool) (en : ℕ → Option Ending) (r : Ending) → ending_by g t place a x re st en ≡ Some r → r.place ≡ place
-act_place g t place a (Drop s) re st en r e = ap place_in (sym e)
 act_place g t place a (Settle s) re st en r e = settled_place (kind g t) place (Some a) en r e
-act_place g t place a (Request s) re st en r e = ap place_in (sym e)
-act_place g t place a (Release s) re st en r e = ap place_in (sym e)
-act_place g t place a (Begin s) re st en r e = ap place_in (sym e)
-act_place g t place a (Step s) re st en r e = ap place_in (sym e)
-act_place g t place a (Worked s w) re st en r e = ap place_in (sym e)
-act_place g t place a (Leave s) re st en r e = ap place_in (sym e)
-act_place g t place a (Close s) re st en r e = ap place_in (sym e)
+act_place g t place a x re st en r e = ap place_in (sym e)
 
 -- no task has ended at a later place than that of the newest event
 pub ended_within : (g : TaskGraph) (v : List Bool) (h : List Event) (t : ℕ) (r : Ending) → ending g v h t ≡ Some r → r.place ≤ length h
@@ -103,14 +90,7 @@ seen_then g v later h t valid run (never_started {p = p} n par s) =
 -- nobody begins a task that has begun
 pub begins_once : (g : TaskGraph) (v : List Bool) (h : List Event) (a : Actor) (x : Act) (b : ℕ) → Allows g v h a x → begun_by x b ≡ true → begun h b ≡ None
 begins_once g v h a (Begin s) b al e = subst (λ z. begun h z ≡ None) (same_number s.0 b e) (waiting_facts g v h s.0 WaitingToRun al.1 (inl refl)).2
-begins_once g v h a (Request s) b al e = true_false (sym e)
-begins_once g v h a (Release s) b al e = true_false (sym e)
-begins_once g v h a (Step s) b al e = true_false (sym e)
-begins_once g v h a (Worked s w) b al e = true_false (sym e)
-begins_once g v h a (Leave s) b al e = true_false (sym e)
-begins_once g v h a (Close s) b al e = true_false (sym e)
-begins_once g v h a (Drop s) b al e = true_false (sym e)
-begins_once g v h a (Settle s) b al e = true_false (sym e)
+begins_once g v h a x b al e = true_false (sym e)
 
 pub begun_once : (x : Event) (h : List Event) (b : ℕ) → begun (x ∷ h) b ≡ None → (begun_by x.act b ≡ false) × (begun h b ≡ None)
 begun_once x h b e =

@@ -1,11 +1,11 @@
 -- What is settled stays so, and is settled below a settled task.
 use Rattle.std.proofs.Common.{◌≡◌, ℕ, zero, suc, ◌&&◌, ◌||◌, inl, inr, not, Bool, true, false, if◌then◌else◌, Option, None, List, [], ◌∷◌, refl, sym, ap, ◌∙◌, subst, arith, nat_eq, is_some, length, slice_index_or}
 use Rattle.tpl_model.specs.Members.{mem}
-use Rattle.tpl_model.specs.Statements.{Statement, Return, Throw, Check, Cancel, Start, Observe, Work, If, When, Statements, Nothing, ◌⨾◌, starts, starts_of, reads_nothing}
-use Rattle.tpl_model.specs.Graph.{TaskGraph, TaskKind, Root, Child, Continues, WhenAll, WhenAny, kind, body, options, is_task, attached, IsParent, Task}
+use Rattle.tpl_model.specs.Statements.{Statement, Start, If, When, Statements, Nothing, ◌⨾◌, starts, starts_of, reads_nothing}
+use Rattle.tpl_model.specs.Graph.{TaskGraph, TaskKind, Root, Continues, WhenAll, WhenAny, kind, body, options, is_task, attached, IsParent, Task}
 use Rattle.tpl_model.specs.declared.status.Actor.{Actor}
 use Rattle.tpl_model.specs.declared.event.Act.{Act}
-use Rattle.tpl_model.specs.declared.event.Act.TheVariants.{Request, Release, Begin, Step, Worked, Leave, Close, Drop, Settle}
+use Rattle.tpl_model.specs.declared.event.Act.TheVariants.{Step, Leave, Close, Drop, Settle}
 use Rattle.tpl_model.specs.declared.event.Event.{Event}
 use Rattle.tpl_model.specs.Facts.{Ending, begun, starts_by, ends_by, all_over, rest, started, ending}
 use Rattle.tpl_model.specs.Rules.{IsRunning, Allows, Run, can_settle, Settled, ended, unstarted}
@@ -56,17 +56,12 @@ mutual
       elim (mem_append c (starts_of s) (starts rest) m) [ inl a ↦ start_ids_within g c s i.0 a | inr b ↦ start_ids g c rest i.1 b ]
 
   start_ids_within : (g : TaskGraph) (c : ℕ) (s : Statement) → IdsWithin g s → mem c (starts_of s) ≡ true → is_task g c
-  start_ids_within g c Return i m = true_false (sym m)
-  start_ids_within g c (Throw l) i m = true_false (sym m)
-  start_ids_within g c (Check k) i m = true_false (sym m)
-  start_ids_within g c (Cancel k) i m = true_false (sym m)
   start_ids_within g c (Start d) i m = elim (mem_split c d [] m) [ inl a ↦ subst (λ z. is_task g z) (sym a) i | inr b ↦ true_false (sym b) ]
-  start_ids_within g c Observe i m = true_false (sym m)
-  start_ids_within g c (Work s f) i m = true_false (sym m)
   start_ids_within g c (If n a b) i m =
       elim (mem_append c (starts a) (starts b) m) [ inl x ↦ start_ids g c a i.1 x | inr y ↦ start_ids g c b i.2 y ]
   start_ids_within g c (When f a b) i m =
       elim (mem_append c (starts a) (starts b) m) [ inl x ↦ start_ids g c a i.0 x | inr y ↦ start_ids g c b i.1 y ]
+  start_ids_within g c s i m = true_false (sym m)
 
 -- a started child is a task with the rules of one
 pub child_task : (g : TaskGraph) (p c : ℕ) → IsGraph g → IsParent g p c → is_task g c
@@ -117,14 +112,7 @@ still_unstarted : (g : TaskGraph) (v : List Bool) (h : List Event) (a : Actor) (
 still_unstarted g v h a (Step q) c p valid run al par sp e =
     let same = (child_rules g p c valid par).one_parent q.0 p (next_start g v h q.0 c e) par in
     settled_idle g v h a p run sp (subst (λ z. IsRunning g v h a z) same al.0)
-still_unstarted g v h a (Request q) c p valid run al par sp e = true_false (sym e)
-still_unstarted g v h a (Release q) c p valid run al par sp e = true_false (sym e)
-still_unstarted g v h a (Begin q) c p valid run al par sp e = true_false (sym e)
-still_unstarted g v h a (Worked q w) c p valid run al par sp e = true_false (sym e)
-still_unstarted g v h a (Leave q) c p valid run al par sp e = true_false (sym e)
-still_unstarted g v h a (Close q) c p valid run al par sp e = true_false (sym e)
-still_unstarted g v h a (Drop q) c p valid run al par sp e = true_false (sym e)
-still_unstarted g v h a (Settle q) c p valid run al par sp e = true_false (sym e)
+still_unstarted g v h a x c p valid run al par sp e = true_false (sym e)
 
 -- a child of a settled task that is started had been started before
 pub started_before : (g : TaskGraph) (v : List Bool) (h : List Event) (a : Actor) (x : Act) (c p : ℕ) → IsGraph g → Run g v h → Allows g v h a x → IsParent g p c → Settled g v h p → started g v (after a x h) c ≡ true → started g v h c ≡ true
@@ -178,16 +166,10 @@ children_over g v (e ∷ h) p c valid run n m s = ended_kept g v h e.actor e.act
         absurd (no_settle (kind g p) (begun_body g v h p run.0 (begun_parent st)) (subst (λ z. can_settle (kind g z) (ending g v h) ≡ true) (same_number q.0 p en) al.2))
       where
         no_settle : (k : TaskKind) → IsBody k → can_settle k (ending g v h) ≡ true → ⊥
-        no_settle Root b c = true_false (sym c)
-        no_settle Child b c = true_false (sym c)
-        no_settle (Continues d) b c = true_false (sym c)
         no_settle (WhenAll args) b c = b
         no_settle (WhenAny args) b c = b
-    by_act a (Request q) al en st = true_false (sym en)
-    by_act a (Release q) al en st = true_false (sym en)
-    by_act a (Begin q) al en st = true_false (sym en)
-    by_act a (Step q) al en st = true_false (sym en)
-    by_act a (Worked q w) al en st = true_false (sym en)
+        no_settle k b c = true_false (sym c)
+    by_act a x al en st = true_false (sym en)
 
     here : (is_some (ending g v h p) ≡ true → started g v h c ≡ true → is_some (ending g v h c) ≡ true) → (a : Actor) (x : Act) → Allows g v h a x → is_some (ending g v (after a x h) p) ≡ true → started g v (after a x h) c ≡ true → is_some (ending g v h c) ≡ true
     here old a x al en st =

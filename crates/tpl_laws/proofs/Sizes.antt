@@ -3,13 +3,13 @@ use Rattle.std.proofs.Common.{◌≡◌, ℕ, ◌+◌, ◌<◌, ◌≤◌, Bool,
 use Rattle.std.proofs.lemmas.Bool.{cases_Bool}
 use Rattle.tpl_model.proofs.MemberLemmas.{same_self}
 use Rattle.tpl_model.proofs.Truths.{true_false}
-use Rattle.tpl_model.specs.Statements.{Return, Throw, Check, Cancel, Start, Observe, Work, If, When, Statements, Nothing, ◌⨾◌, followed_by}
+use Rattle.tpl_model.specs.Statements.{Check, Work, If, When, Statements, Nothing, ◌⨾◌, followed_by}
 use Rattle.tpl_model.specs.Graph.{TaskGraph, task, kind}
 use Rattle.tpl_model.specs.declared.status.Actor.{Actor}
 use Rattle.tpl_model.specs.declared.status.Answer.{Answer}
 use Rattle.tpl_model.specs.declared.status.Answer.TheVariants.{Done, Failed}
 use Rattle.tpl_model.specs.declared.event.Act.{Act}
-use Rattle.tpl_model.specs.declared.event.Act.TheVariants.{Request, Release, Begin, Step, Worked, Leave, Close, Drop, Settle}
+use Rattle.tpl_model.specs.declared.event.Act.TheVariants.{Step, Worked}
 use Rattle.tpl_model.specs.declared.event.Event.{Event}
 use Rattle.tpl_model.specs.Facts.{Rest, Ending, on, over, has_final, subject_in, stepped, worked, rest, requested, ending}
 use Rattle.tpl_model.specs.Paths.{cancellation}
@@ -33,38 +33,17 @@ either_ahead false x y more = let r = size_ahead y more in omega arith
 -- a step leaves less
 step_smaller : (g : TaskGraph) (v : List Bool) (t : ℕ) (left : Statements) (req : ℕ → Bool) (en : ℕ → Option Ending) → steps left ≡ true → statement_count (stepped g v t left req en).left < statement_count left
 step_smaller g v t Nothing req en s = true_false (sym s)
-step_smaller g v t (Return ⨾ more) req en s = omega arith
-step_smaller g v t (Throw l ⨾ more) req en s = omega arith
 step_smaller g v t (Check k ⨾ more) req en s = either_rest (req k) (over (cancellation (task g t).token k)) (on more) (1 + statement_count more) (omega arith) (omega arith)
-step_smaller g v t (Cancel k ⨾ more) req en s = omega arith
-step_smaller g v t (Start c ⨾ more) req en s = omega arith
-step_smaller g v t (Observe ⨾ more) req en s = omega arith
 step_smaller g v t (Work site f ⨾ more) req en s = true_false (sym s)
 step_smaller g v t (If i a b ⨾ more) req en s = either_ahead (slice_index_or v i false) a b more
 step_smaller g v t (When f a b ⨾ more) req en s = either_ahead (has_final f en (subject_in g (kind g t) en)) a b more
+step_smaller g v t left req en s = omega arith
 
 -- a job leaves less
 work_smaller : (answer : Answer) (left : Statements) → works answer left ≡ true → statement_count (worked answer left).left < statement_count left
-work_smaller Done Nothing e = true_false (sym e)
-work_smaller Done (Return ⨾ more) e = true_false (sym e)
-work_smaller Done (Throw l ⨾ more) e = true_false (sym e)
-work_smaller Done (Check k ⨾ more) e = true_false (sym e)
-work_smaller Done (Cancel k ⨾ more) e = true_false (sym e)
-work_smaller Done (Start d ⨾ more) e = true_false (sym e)
-work_smaller Done (Observe ⨾ more) e = true_false (sym e)
 work_smaller Done (Work s m ⨾ more) e = omega arith
-work_smaller Done (If i a b ⨾ more) e = true_false (sym e)
-work_smaller Done (When n a b ⨾ more) e = true_false (sym e)
-work_smaller Failed Nothing e = true_false (sym e)
-work_smaller Failed (Return ⨾ more) e = true_false (sym e)
-work_smaller Failed (Throw l ⨾ more) e = true_false (sym e)
-work_smaller Failed (Check k ⨾ more) e = true_false (sym e)
-work_smaller Failed (Cancel k ⨾ more) e = true_false (sym e)
-work_smaller Failed (Start d ⨾ more) e = true_false (sym e)
-work_smaller Failed (Observe ⨾ more) e = true_false (sym e)
 work_smaller Failed (Work s m ⨾ more) e = omega arith
-work_smaller Failed (If i a b ⨾ more) e = true_false (sym e)
-work_smaller Failed (When n a b ⨾ more) e = true_false (sym e)
+work_smaller answer left e = true_false (sym e)
 
 -- the task whose statement an act passes has less left
 pub passed_smaller : (g : TaskGraph) (v : List Bool) (h : List Event) (a : Actor) (x : Act) (t : ℕ) → (x ≡ Step (id t)) ⊎ ((w : Answer) × (x ≡ Worked (id t) w)) → Allows g v h a x → statement_count (rest g v (after a x h) t).left < statement_count (rest g v h t).left
@@ -89,10 +68,4 @@ rest_no_larger g v h a (Worked s w) t al =
       | inl q ↦ let r = passed_smaller g v h a (Worked s w) t (inr (w, ap (λ z. Worked (id z) w) (same_number s.0 t q))) al in omega arith
       | inr q ↦ subst (λ z. statement_count z.left ≤ statement_count (rest g v h t).left) (sym (if_false (nat_eq s.0 t) (worked w (rest g v h t).left) (rest g v h t) q)) (omega arith)
     ]
-rest_no_larger g v h a (Request s) t al = omega arith
-rest_no_larger g v h a (Release s) t al = omega arith
-rest_no_larger g v h a (Begin s) t al = omega arith
-rest_no_larger g v h a (Leave s) t al = omega arith
-rest_no_larger g v h a (Close s) t al = omega arith
-rest_no_larger g v h a (Drop s) t al = omega arith
-rest_no_larger g v h a (Settle s) t al = omega arith
+rest_no_larger g v h a x t al = omega arith

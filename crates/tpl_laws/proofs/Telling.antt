@@ -4,7 +4,7 @@ use Rattle.std.proofs.lemmas.Bool.{or_cases, or_left}
 use Rattle.tpl_model.proofs.MemberLemmas.{same_self}
 use Rattle.tpl_model.proofs.Truths.{true_false}
 use Rattle.tpl_model.specs.declared.outcome.Outcome.{Outcome}
-use Rattle.tpl_model.specs.Statements.{Statement, Return, Throw, Check, Cancel, Start, Observe, Work, If, When, Statements, Nothing, ◌⨾◌}
+use Rattle.tpl_model.specs.Statements.{Statement, Check, Cancel, Work, Statements, Nothing, ◌⨾◌}
 use Rattle.tpl_model.specs.Paths.{cancellation}
 use Rattle.tpl_model.proofs.KnownPaths.{requested_on, told_by, HeedsBy}
 use Rattle.tpl_model.specs.declared.status.Actor.{Actor}
@@ -12,7 +12,7 @@ use Rattle.tpl_model.specs.declared.status.Answer.{Answer}
 use Rattle.tpl_model.specs.declared.status.Answer.TheVariants.{Done, Failed}
 use Rattle.tpl_model.specs.Graph.{TaskGraph, task}
 use Rattle.tpl_model.specs.declared.event.Act.{Act}
-use Rattle.tpl_model.specs.declared.event.Act.TheVariants.{Request, Release, Begin, Step, Worked, Leave, Close, Drop, Settle}
+use Rattle.tpl_model.specs.declared.event.Act.TheVariants.{Step, Worked}
 use Rattle.tpl_model.specs.declared.event.Event.{Event}
 use Rattle.tpl_model.specs.Facts.{Rest, Ending, on, over, begun, is_cancel, stepped, worked, rest, requested, requested_itself, ending}
 use Rattle.tpl_model.specs.Rules.{Allows, Run, steps, works}
@@ -43,8 +43,6 @@ module _ (quiet : ℕ → Bool) (links : ℕ → ℕ → Bool) (tokens : ℕ →
   module _ (g : TaskGraph) (v : List Bool) (t : ℕ) (en : ℕ → Option Ending) (req req2 : ℕ → Bool) (kept : (k : ℕ) → req k ≡ true → req2 k ≡ true) (closed : (k j : ℕ) → req2 k ≡ true → links k j ≡ true → req2 j ≡ true) where
     pub step_told : (left : Statements) (ps : List Statement) → ((k : ℕ) → is_cancel k left ≡ true → req2 k ≡ true) → steps left ≡ true → Told req None ps → Told req2 (stepped g v t left req en).outcome (pushed left ps)
     step_told Nothing ps c st old = true_false (sym st)
-    step_told (Return ⨾ more) ps c st old = ((λ k e. kept k (old.0 k e)), old.1)
-    step_told (Throw l ⨾ more) ps c st old = ((λ k e. kept k (old.0 k e)), old.1)
     step_told (Check k ⨾ more) ps c st old =
         either_told req2 (req k) (over (cancellation (task g t).token k)) (on more) (Check k ∷ ps)
         (λ r. ((λ j e. elim (or_cases (links k j) (requested_on links tokens ps j) e) [ inl q ↦ closed k j (kept k r) q | inr q ↦ kept j (old.0 j q) ]), old.1))
@@ -56,33 +54,13 @@ module _ (quiet : ℕ → Bool) (links : ℕ → ℕ → Bool) (tokens : ℕ →
         unknown false false n = refl
     step_told (Cancel k ⨾ more) ps c st old =
         ((λ j e. elim (or_cases (links k j) (requested_on links tokens ps j) e) [ inl q ↦ closed k j (c k (same_self k)) q | inr q ↦ kept j (old.0 j q) ]), old.1)
-    step_told (Start d ⨾ more) ps c st old = ((λ k e. kept k (old.0 k e)), old.1)
-    step_told (Observe ⨾ more) ps c st old = ((λ k e. kept k (old.0 k e)), old.1)
     step_told (Work s m ⨾ more) ps c st old = true_false (sym st)
-    step_told (If i a b ⨾ more) ps c st old = ((λ k e. kept k (old.0 k e)), old.1)
-    step_told (When f a b ⨾ more) ps c st old = ((λ k e. kept k (old.0 k e)), old.1)
+    step_told left ps c st old = ((λ k e. kept k (old.0 k e)), old.1)
 
     pub work_told : (answer : Answer) (left : Statements) (ps : List Statement) → works answer left ≡ true → Told req None ps → Told req2 (worked answer left).outcome (pushed left ps)
     work_told Done (Work s m ⨾ more) ps e old = ((λ k q. kept k (old.0 k q)), old.1)
     work_told Failed (Work s m ⨾ more) ps e old = ((λ k q. kept k (old.0 k q)), old.1)
-    work_told Done Nothing ps e old = true_false (sym e)
-    work_told Done (Return ⨾ more) ps e old = true_false (sym e)
-    work_told Done (Throw l ⨾ more) ps e old = true_false (sym e)
-    work_told Done (Check k ⨾ more) ps e old = true_false (sym e)
-    work_told Done (Cancel k ⨾ more) ps e old = true_false (sym e)
-    work_told Done (Start d ⨾ more) ps e old = true_false (sym e)
-    work_told Done (Observe ⨾ more) ps e old = true_false (sym e)
-    work_told Done (If i a b ⨾ more) ps e old = true_false (sym e)
-    work_told Done (When f a b ⨾ more) ps e old = true_false (sym e)
-    work_told Failed Nothing ps e old = true_false (sym e)
-    work_told Failed (Return ⨾ more) ps e old = true_false (sym e)
-    work_told Failed (Throw l ⨾ more) ps e old = true_false (sym e)
-    work_told Failed (Check k ⨾ more) ps e old = true_false (sym e)
-    work_told Failed (Cancel k ⨾ more) ps e old = true_false (sym e)
-    work_told Failed (Start d ⨾ more) ps e old = true_false (sym e)
-    work_told Failed (Observe ⨾ more) ps e old = true_false (sym e)
-    work_told Failed (If i a b ⨾ more) ps e old = true_false (sym e)
-    work_told Failed (When f a b ⨾ more) ps e old = true_false (sym e)
+    work_told answer left ps e old = true_false (sym e)
 
 -- what the body of t knows at a moment of a run
 abbrev pub ToldIn : (ℕ → Bool) → (ℕ → Bool) → TaskGraph → List Bool → List Event → ℕ → Type 0
@@ -121,13 +99,7 @@ module _ (quiet : ℕ → Bool) (tokens : ℕ → Bool) (g : TaskGraph) (v : Lis
       answer (rest g v h t).left (passed g v h t) al2.2
       (subst (λ z. Told quiet (linked g) tokens (requested g v h) z (passed g v h t)) (not_some (rest g v h t).outcome al2.1) old))
       (λ q. told_more quiet (linked g) tokens (requested g v h) (requested g v (after a (Worked s answer) h)) (rest g v h t).outcome (passed g v h t) (λ k r. requested_kept g v h a (Worked s answer) k r) old)
-  told_kept a (Request s) al old = told_more quiet (linked g) tokens (requested g v h) (requested g v (after a (Request s) h)) (rest g v h t).outcome (passed g v h t) (λ k r. requested_kept g v h a (Request s) k r) old
-  told_kept a (Release s) al old = told_more quiet (linked g) tokens (requested g v h) (requested g v (after a (Release s) h)) (rest g v h t).outcome (passed g v h t) (λ k r. requested_kept g v h a (Release s) k r) old
-  told_kept a (Begin s) al old = told_more quiet (linked g) tokens (requested g v h) (requested g v (after a (Begin s) h)) (rest g v h t).outcome (passed g v h t) (λ k r. requested_kept g v h a (Begin s) k r) old
-  told_kept a (Leave s) al old = told_more quiet (linked g) tokens (requested g v h) (requested g v (after a (Leave s) h)) (rest g v h t).outcome (passed g v h t) (λ k r. requested_kept g v h a (Leave s) k r) old
-  told_kept a (Close s) al old = told_more quiet (linked g) tokens (requested g v h) (requested g v (after a (Close s) h)) (rest g v h t).outcome (passed g v h t) (λ k r. requested_kept g v h a (Close s) k r) old
-  told_kept a (Drop s) al old = told_more quiet (linked g) tokens (requested g v h) (requested g v (after a (Drop s) h)) (rest g v h t).outcome (passed g v h t) (λ k r. requested_kept g v h a (Drop s) k r) old
-  told_kept a (Settle s) al old = told_more quiet (linked g) tokens (requested g v h) (requested g v (after a (Settle s) h)) (rest g v h t).outcome (passed g v h t) (λ k r. requested_kept g v h a (Settle s) k r) old
+  told_kept a x al old = told_more quiet (linked g) tokens (requested g v h) (requested g v (after a x h)) (rest g v h t).outcome (passed g v h t) (λ k r. requested_kept g v h a x k r) old
 
   -- a body that hasn't begun has passed nothing
   pub told_first : Run g v h → begun h t ≡ None → ((k : ℕ) → tokens k ≡ true → requested g v h k ≡ true) → ToldIn quiet tokens g v h t

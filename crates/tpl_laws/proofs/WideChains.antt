@@ -5,7 +5,7 @@ use Rattle.tpl_model.specs.declared.finals.Final.TheVariants.{RanToCompletion}
 use Rattle.tpl_model.specs.Members.{mem}
 use Rattle.tpl_model.specs.Options.{allows}
 use Rattle.tpl_model.specs.declared.status.Label.{Label}
-use Rattle.tpl_model.specs.Graph.{TaskGraph, TaskKind, Root, Child, Continues, WhenAll, WhenAny, kind, options, is_task}
+use Rattle.tpl_model.specs.Graph.{TaskGraph, TaskKind, Continues, WhenAny, kind, options, is_task}
 use Rattle.tpl_model.specs.declared.event.Event.{Event}
 use Rattle.tpl_model.specs.Facts.{Ending, final_in, winner_of, started, ending, subject_in, subject_of}
 use Rattle.tpl_model.specs.Rules.{final, label, seen, Complete, to_end}
@@ -31,10 +31,7 @@ wide_upheld g l rows v h now = record {
 -- a task that somebody alone may win has to end
 always_ends : (may_win : ℕ → Bool) (y : ℕ) (k : TaskKind) (s : Bool) → IsWonBy (with_winners may_win k) y → to_end k s ≡ true
 always_ends may_win y (WhenAny args) s w = refl
-always_ends may_win y Root s w = absurd w
-always_ends may_win y Child s w = absurd w
-always_ends may_win y (Continues a) s w = absurd w
-always_ends may_win y (WhenAll args) s w = absurd w
+always_ends may_win y k s w = absurd w
 
 module _ (g : TaskGraph) (l : WideAssumed) (rows : List WideRow) (v : List Bool) (h : List Event) (now : WideNow g l rows v h) (complete : Complete g v h) where
   -- and has, to completion, and y won it
@@ -52,10 +49,7 @@ module _ (g : TaskGraph) (l : WideAssumed) (rows : List WideRow) (v : List Bool)
           let won = ap winner_of e ∙ s.2 in
           let same = w.1 s.0 (filter_mem (l.wins n) s.0 args s.3 (now.agrees.winners n s.0 won)) in
           (ap final_in e ∙ ap Some (any_ends g v h n args q now.run k e).1, won ∙ ap Some same)
-      by_kind Root k q e w = absurd w
-      by_kind Child k q e w = absurd w
-      by_kind (Continues a) k q e w = absurd w
-      by_kind (WhenAll args) k q e w = absurd w
+      by_kind other k q e w = absurd w
 
   winner_observes : (r y a : ℕ) (q : Ending) → ReadsWinner g l rows r y (kind g r) → ending g v h y ≡ Some q → mem a q.carried ≡ true → seen g v h a ≡ true
   winner_observes r y a q reads e m = by_kind (kind g r) refl reads
@@ -65,10 +59,7 @@ module _ (g : TaskGraph) (l : WideAssumed) (rows : List WideRow) (v : List Bool)
           let s = won n y w.0 in
           seer_observes g l.assumed (plain rows) v h r n y a q (wide_upheld g l rows v h now) complete k
           (λ f p. subst (λ z. allows (options g r) z ≡ true) (same_Some RanToCompletion f (sym s.0 ∙ p)) w.1) w.2 w.3 (ap (λ z. subject_in g z (ending g v h)) k ∙ s.1, e) m
-      by_kind Root k w = absurd w
-      by_kind Child k w = absurd w
-      by_kind (WhenAll args) k w = absurd w
-      by_kind (WhenAny args) k w = absurd w
+      by_kind other k w = absurd w
 
   links_observe : (chain : List ℕ) (y a : ℕ) (q : Ending) → WideLinks g l rows y chain → ending g v h y ≡ Some q → mem a q.carried ≡ true → seen g v h a ≡ true
   links_observe [] y a q links e m = absurd links

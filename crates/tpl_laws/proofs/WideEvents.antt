@@ -7,7 +7,7 @@ use Rattle.tpl_model.specs.declared.finals.Final.TheVariants.{RanToCompletion}
 use Rattle.tpl_model.specs.Finals.{has}
 use Rattle.tpl_model.specs.Members.{mem}
 use Rattle.tpl_model.specs.Knowledge.{Fact, IsSettled, IsRequested}
-use Rattle.tpl_model.specs.Graph.{TaskGraph, TaskKind, Root, Child, Continues, WhenAll, WhenAny, kind, is_task}
+use Rattle.tpl_model.specs.Graph.{TaskGraph, TaskKind, WhenAll, WhenAny, kind, is_task}
 use Rattle.tpl_model.specs.declared.status.Actor.{Actor}
 use Rattle.tpl_model.specs.declared.event.Act.{Act}
 use Rattle.tpl_model.specs.declared.event.Event.{Event}
@@ -39,18 +39,14 @@ any_settled args en place who r c q = by_first (first_ended args en) refl (first
 
 -- the rules for a task with a body, by its ways to end
 body_ends : (g : TaskGraph) (l : WideAssumed) (rows : List WideRow) (t : ℕ) (k : TaskKind) → IsBody k → WideEndsRule g l rows t (with_winners (l.wins t) k) → (way : Way) → IsWay g l rows t way → has (row (plain rows) t).ends (way_final way) ≡ true
-body_ends g l rows t Root b c = c
-body_ends g l rows t Child b c = c
-body_ends g l rows t (Continues a) b c = c
 body_ends g l rows t (WhenAll args) b c = absurd b
 body_ends g l rows t (WhenAny args) b c = absurd b
+body_ends g l rows t k b c = c
 
 body_facts : (g : TaskGraph) (l : WideAssumed) (rows : List WideRow) (t : ℕ) (k : TaskKind) (fact : Fact) → IsBody k → EndRule g l rows t (with_winners (l.wins t) k) fact → SettledBelow g t fact ⊎ ((way : Way) → IsWay g l rows t way → HoldsBy g rows t k fact way)
-body_facts g l rows t Root fact b c = c
-body_facts g l rows t Child fact b c = c
-body_facts g l rows t (Continues a) fact b c = c
 body_facts g l rows t (WhenAll args) fact b c = absurd b
 body_facts g l rows t (WhenAny args) fact b c = absurd b
+body_facts g l rows t k fact b c = c
 
 module _ (g : TaskGraph) (l : WideAssumed) (rows : List WideRow) (v : List Bool) (h : List Event) (now : WideNow g l rows v h) where
   -- the way that a task with a body takes is one of its ways
@@ -83,9 +79,7 @@ module _ (g : TaskGraph) (l : WideAssumed) (rows : List WideRow) (v : List Bool)
           let same = same_Some RanToCompletion r.final (ap final_in q) in
           subst (λ z. has (row (plain rows) t).ends z ≡ true) same
           (rule w.0 (subst (λ z. end_left l.assumed t z ≡ true) (sym same) cut) (filter_mem (l.wins t) w.0 args w.2 (won w.0 w.1)) (may_end_so (plain rows) w.0 e.0 (now.true_rows.ends w.0 e.0 e.1)))
-      by_kind Root c q rule = true_false (sym c)
-      by_kind Child c q rule = true_false (sym c)
-      by_kind (Continues a) c q rule = true_false (sym c)
+      by_kind k c q rule = true_false (sym c)
 
   -- what its row says of its end holds, or is settled below it
   facts_so : (t : ℕ) (r : Ending) (fact : Fact) → end_left l.assumed t r.final ≡ true → ((s : ℕ) → r.winner ≡ Some s → l.wins t s ≡ true) → Ends g v h t r → ends_with rows t fact ≡ true → FactHolds g v h fact ⊎ SettledBelow g t fact
@@ -104,9 +98,7 @@ module _ (g : TaskGraph) (l : WideAssumed) (rows : List WideRow) (v : List Bool)
           let w = any_settled args (ending g v h) place who r c q in
           let f = end_of (ending g v h w.0) w.3 in
           once_holds g l rows v h now w.0 fact w.3 (rule w.0 (filter_mem (l.wins t) w.0 args w.2 (won w.0 w.1)) (may_end_so (plain rows) w.0 f.0 (now.true_rows.ends w.0 f.0 f.1)))
-      by_kind Root place who c q rule = true_false (sym c)
-      by_kind Child place who c q rule = true_false (sym c)
-      by_kind (Continues a) place who c q rule = true_false (sym c)
+      by_kind k place who c q rule = true_false (sym c)
 
   module _ (a : Actor) (x : Act) (al : Allows g v h a x) (ag : WideAgrees g l v (after a x h)) where
     kept : (fact : Fact) → FactHolds g v h fact → FactHolds g v (after a x h) fact
@@ -172,19 +164,11 @@ rows_at_first g l rows v valid closed ag = record {
         let f_is = same_Some RanToCompletion f e in
         let rule = subst (λ z. WideEndsRule g l rows t (with_winners (l.wins t) z)) k (closed t (all_task g t [] k)).ends in
         subst (λ z. has (row (plain rows) t).ends z ≡ true) f_is (rule RanToCompletion (subst (λ z. end_left l.assumed t z ≡ true) (sym f_is) c) (λ x m. true_false (sym m)))
-    first_end t f (WhenAll (y ∷ ys)) k e c = some_none f (sym e)
-    first_end t f Root k e c = some_none f (sym e)
-    first_end t f Child k e c = some_none f (sym e)
-    first_end t f (Continues a) k e c = some_none f (sym e)
-    first_end t f (WhenAny args) k e c = some_none f (sym e)
+    first_end t f other k e c = some_none f (sym e)
 
     first_fact : (t : ℕ) (fact : Fact) (k : TaskKind) → kind g t ≡ k → is_some (ended_at_once k) ≡ true → ends_with rows t fact ≡ true → FactHolds g v [] fact
     first_fact t fact (WhenAll []) k e m = let c = subst (λ z. EndRule g l rows t (with_winners (l.wins t) z) fact) k ((closed t (all_task g t [] k)).end fact m) in true_false (sym c.1)
-    first_fact t fact (WhenAll (y ∷ ys)) k e m = true_false (sym e)
-    first_fact t fact Root k e m = true_false (sym e)
-    first_fact t fact Child k e m = true_false (sym e)
-    first_fact t fact (Continues a) k e m = true_false (sym e)
-    first_fact t fact (WhenAny args) k e m = true_false (sym e)
+    first_fact t fact other k e m = true_false (sym e)
 
 -- a run that agrees did so before
 wide_before : (g : TaskGraph) (v : List Bool) (h : List Event) (l : WideAssumed) (a : Actor) (x : Act) → Allows g v h a x → WideAgrees g l v (after a x h) → WideAgrees g l v h

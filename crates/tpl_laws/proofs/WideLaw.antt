@@ -14,7 +14,7 @@ use Rattle.tpl_model.proofs.KnownReach.{MayFault, may_start, may_return, may_ack
 use Rattle.tpl_model.specs.Graph.{TaskGraph, TaskKind, Root, Child, Continues, WhenAll, WhenAny, kind, body, options, is_task, attached, IsParent}
 use Rattle.tpl_model.specs.declared.ids.TaskId.{TaskId}
 use Rattle.tpl_model.specs.declared.claim.Property.{Property}
-use Rattle.tpl_model.specs.declared.claim.Property.TheVariants.{Final as EndsIn, After, Observed, Never, Excludes, Runs}
+use Rattle.tpl_model.specs.declared.claim.Property.TheVariants.{Observed}
 use Rattle.tpl_model.specs.Certificate.{Row, row, Tree, SplitInput, SplitEnd, Leaf, end_left, is_loud, one_ends, subject_ends, subject_set, view, RunsRule, BodyMayEnd, MayEndAs, BeforeRule, may_end_early, may_end, PastRule, Links, ChainRule, Closed, Proves, IdsOfRows, AcceptsTree}
 use Rattle.tpl_model.specs.WiderRules.{WideRow, plain, wide_row, begins_with, ends_with, once_ended, WideAssumed, with_winners, kind_left, subject_left, wide_view, reading, asked_of, known_at_end, known_at_start, may_run, WideRunsRule, Way, ByBody, RootDropped, ChildDropped, DroppedEarly, DroppedLate, NotAllowed, way_final, MayEndBy, IsWay, HoldsBy, WideEndsRule, BeginRule, EndRule, WideLinks, WideChainRule, WidelyClosed, WidelyProves, TokensOfRows, narrowed, input_split, end_split, widely_assumed, as_wide, as_wide_tree}
 use Rattle.tpl_laws.specs.WideTrees.{AcceptsWideTree}
@@ -76,17 +76,11 @@ view_more g l rows t = record {
   where
     of_kind : (a : ℕ) (k : TaskKind) (f : Final) → subject_ends (with_winners (l.wins a) k) (options g t) a (plain rows) f ≡ true → subject_ends k (options g t) a (plain rows) f ≡ true
     of_kind a (WhenAny args) f e = one_ends_less (plain rows) (l.wins a) args f e
-    of_kind a Root f e = e
-    of_kind a Child f e = e
-    of_kind a (Continues c) f e = e
-    of_kind a (WhenAll args) f e = e
+    of_kind a k f e = e
 
     by_kind : (k : TaskKind) (f : Final) → subject_left g l rows t k f ≡ true → subject_set g (plain rows) t k f ≡ true
     by_kind (Continues a) f e = of_kind a (kind g a) f e
-    by_kind Root f e = e
-    by_kind Child f e = e
-    by_kind (WhenAll args) f e = e
-    by_kind (WhenAny args) f e = e
+    by_kind k f e = e
 
 module _ (g : TaskGraph) (l : WideAssumed) (rows : List WideRow) (nothing : (t : ℕ) → ((wide_row rows t).asked ≡ []) × ((wide_row rows t).asks ≡ [])) (closed : Closed g l.assumed (plain rows)) where
   abbrev flat : List Row
@@ -144,26 +138,7 @@ module _ (g : TaskGraph) (l : WideAssumed) (rows : List WideRow) (nothing : (t :
   way_before t (Continues a) DroppedEarly i k m = inl (inr (refl, inl m))
   way_before t (Continues a) DroppedLate i k m = inl (inr (refl, inr (inl (m.0, some_end flat a m.1))))
   way_before t (Continues a) NotAllowed i k m = inl (inr (refl, inr (inr m)))
-  way_before t Root (ChildDropped p known) i k m = absurd m
-  way_before t Root DroppedEarly i k m = absurd m
-  way_before t Root DroppedLate i k m = absurd m
-  way_before t Root NotAllowed i k m = absurd m
-  way_before t Child RootDropped i k m = absurd m
-  way_before t Child DroppedEarly i k m = absurd m
-  way_before t Child DroppedLate i k m = absurd m
-  way_before t Child NotAllowed i k m = absurd m
-  way_before t (Continues a) RootDropped i k m = absurd m
-  way_before t (Continues a) (ChildDropped p known) i k m = absurd m
-  way_before t (WhenAll args) RootDropped i k m = absurd m
-  way_before t (WhenAll args) (ChildDropped p known) i k m = absurd m
-  way_before t (WhenAll args) DroppedEarly i k m = absurd m
-  way_before t (WhenAll args) DroppedLate i k m = absurd m
-  way_before t (WhenAll args) NotAllowed i k m = absurd m
-  way_before t (WhenAny args) RootDropped i k m = absurd m
-  way_before t (WhenAny args) (ChildDropped p known) i k m = absurd m
-  way_before t (WhenAny args) DroppedEarly i k m = absurd m
-  way_before t (WhenAny args) DroppedLate i k m = absurd m
-  way_before t (WhenAny args) NotAllowed i k m = absurd m
+  way_before t other way i k m = absurd m
 
   abbrev EndsBefore : ℕ → TaskKind → Type 0
   EndsBefore t k = (f : Final) → end_left l.assumed t f ≡ true → MayEndAs g l.assumed flat t k f → has (row flat t).ends f ≡ true
@@ -176,11 +151,9 @@ module _ (g : TaskGraph) (l : WideAssumed) (rows : List WideRow) (nothing : (t :
       ]
 
   ends_more : (t : ℕ) (k : TaskKind) → is_task g t → kind g t ≡ k → EndsBefore t k → WideEndsRule g l rows t (with_winners (l.wins t) k)
-  ends_more t Root i same c = way_ends t Root i same (λ args e. elim e [ inl q ↦ absurd (cc) | inr q ↦ absurd (cc) ]) c
-  ends_more t Child i same c = way_ends t Child i same (λ args e. elim e [ inl q ↦ absurd (cc) | inr q ↦ absurd (cc) ]) c
-  ends_more t (Continues a) i same c = way_ends t (Continues a) i same (λ args e. elim e [ inl q ↦ absurd (cc) | inr q ↦ absurd (cc) ]) c
   ends_more t (WhenAll args) i same c = c
   ends_more t (WhenAny args) i same c = λ x cut m e. let f = some_end flat x e in c RanToCompletion cut (refl, (x, f.0, mem_filter (l.wins t) x args m, f.1))
+  ends_more t k i same c = way_ends t k i same (λ args e. elim e [ inl q ↦ absurd (cc) | inr q ↦ absurd (cc) ]) c
 
   no_member : (k : ℕ) (xs : List ℕ) → xs ≡ [] → mem k xs ≡ true → ⊥
   no_member k [] q m = true_false (sym m)
@@ -201,10 +174,7 @@ module _ (g : TaskGraph) (l : WideAssumed) (rows : List WideRow) (nothing : (t :
   child_holds : (t x : ℕ) → kind g t ≡ Child → ((p : ℕ) → IsParent g p t → mem x (row flat p).before ≡ true) → (way : Way) → IsWay g l rows t way → HoldsBy g rows t Child (IsSettled x) way
   child_holds t x same f (ByBody e known) w = inr (inl f)
   child_holds t x same f (ChildDropped p known) w = inr (inl (f p (subst (λ z. MayEndBy g l rows t z (ChildDropped p known)) same w.1).1))
-  child_holds t x same f RootDropped w = absurd (subst (λ z. MayEndBy g l rows t z RootDropped) same w.1)
-  child_holds t x same f DroppedEarly w = absurd (subst (λ z. MayEndBy g l rows t z DroppedEarly) same w.1)
-  child_holds t x same f DroppedLate w = absurd (subst (λ z. MayEndBy g l rows t z DroppedLate) same w.1)
-  child_holds t x same f NotAllowed w = absurd (subst (λ z. MayEndBy g l rows t z NotAllowed) same w.1)
+  child_holds t x same f way w = absurd (subst (λ z. MayEndBy g l rows t z way) same w.1)
 
   -- and a continuation that isn't canceled early
   late_holds : (t a x : ℕ) → is_task g t → kind g t ≡ Continues a → may_end_early g l.assumed flat t ≡ false → once_ended rows a (IsSettled x) ≡ true → (way : Way) → IsWay g l rows t way → HoldsBy g rows t (Continues a) (IsSettled x) way
@@ -260,11 +230,7 @@ proves_more g l rows (Observed t) (inr (inr (inl p))) = inr (inr (inl p))
 proves_more g l rows (Observed t) (inr (inr (inr (inl p)))) =
     inr (inr (inr (inl (none_of Knowledge (at_throw (reading g l rows t.0) (asked_of rows t.0) (body g t.0)) (λ e. p (may_throw_more (view g l.assumed (plain rows) t.0) (wide_view g l rows t.0) (body g t.0) (view_more g l rows t.0) (may_throw (reading g l rows t.0) (asked_of rows t.0) (body g t.0) e)))))))
 proves_more g l rows (Observed t) (inr (inr (inr (inr p)))) = inr (inr (inr (inr p.1)))
-proves_more g l rows (EndsIn t ends) p = p
-proves_more g l rows (After a b) p = p
-proves_more g l rows (Never t) p = p
-proves_more g l rows (Excludes a b) p = p
-proves_more g l rows (Runs t) p = p
+proves_more g l rows other p = p
 
 pub tokens_are_more_lem : TokensAreMore
 tokens_are_more_lem g l rows closed = (

@@ -10,7 +10,7 @@ use Rattle.tpl_model.specs.Members.{mem}
 use Rattle.tpl_model.specs.declared.status.Label.{Label}
 use Rattle.tpl_model.specs.declared.outcome.Outcome.{Outcome}
 use Rattle.tpl_model.specs.declared.outcome.Outcome.TheVariants.{Returned, Threw, Acknowledged}
-use Rattle.tpl_model.specs.Statements.{Statement, Return, Throw, Check, Cancel, Start, Observe, Work, If, When, Statements, Nothing, ◌⨾◌}
+use Rattle.tpl_model.specs.Statements.{Statement, Start, Statements, ◌⨾◌}
 use Rattle.tpl_model.specs.Paths.{passes_start}
 use Rattle.tpl_model.specs.Knowledge.{Fact, IsSettled, IsRequested, Knowledge, ChildEnd, all, ending_as, throwing, at_throw}
 use Rattle.tpl_model.proofs.Known.{under_trans}
@@ -20,7 +20,7 @@ use Rattle.tpl_model.specs.declared.status.Actor.{Actor}
 use Rattle.tpl_model.specs.declared.status.Answer.{Answer}
 use Rattle.tpl_model.specs.declared.status.Answer.TheVariants.{Done, Failed}
 use Rattle.tpl_model.specs.declared.event.Act.{Act}
-use Rattle.tpl_model.specs.declared.event.Act.TheVariants.{Request, Release, Begin, Step, Worked, Leave, Close, Drop, Settle}
+use Rattle.tpl_model.specs.declared.event.Act.TheVariants.{Step, Worked}
 use Rattle.tpl_model.specs.declared.event.Event.{Event}
 use Rattle.tpl_model.specs.Facts.{Ending, begun, final_in, rest, started, starts_by, is_start, ending, carried_in, own_atom, those_started, outcome_in, body_final, requested, subject_in, subject_of}
 use Rattle.tpl_model.specs.Rules.{final, MayDrop, MayNotStart, MayCancel, Allows, Run, works, Settled, ended, token_requested, token_requested_by}
@@ -72,52 +72,21 @@ left_fits g l rows v h t run agrees ends b =
         let w = any_winner g v h a args r.0 run k r.1 in
         let same = same_Some w.0 s (sym w.2 ∙ r.2) in
         one_ends_mem (filter (l.wins a) args) (plain rows) s f (filter_mem (l.wins a) s args (subst (λ z. mem z args ≡ true) same w.3) (agrees.winners a s p)) (ends s f q)
-    of_kind a Root k old s f p q = old s f p q
-    of_kind a Child k old s f p q = old s f p q
-    of_kind a (Continues c) k old s f p q = old s f p q
-    of_kind a (WhenAll args) k old s f p q = old s f p q
+    of_kind a other k old s f p q = old s f p q
 
     by_kind : (k : TaskKind) → ((s : ℕ) (f : Final) → subject_in g k (ending g v h) ≡ Some s → final g v h s ≡ Some f → subject_set g (plain rows) t k f ≡ true) → (s : ℕ) (f : Final) → subject_in g k (ending g v h) ≡ Some s → final g v h s ≡ Some f → subject_left g l rows t k f ≡ true
     by_kind (Continues a) old s f p q = of_kind a (kind g a) refl old s f p q
-    by_kind Root old s f p q = some_none s (sym p)
-    by_kind Child old s f p q = some_none s (sym p)
-    by_kind (WhenAll args) old s f p q = some_none s (sym p)
-    by_kind (WhenAny args) old s f p q = some_none s (sym p)
+    by_kind k old s f p q = some_none s (sym p)
 
 -- a body passes the start of started children alone
 pushed_start : (c : ℕ) (left : Statements) (ps : List Statement) → passes_start c (pushed left ps) ≡ true → (is_start c left ≡ true) ⊎ (passes_start c ps ≡ true)
-pushed_start c Nothing ps e = inr e
-pushed_start c (Return ⨾ more) ps e = inr e
-pushed_start c (Throw l ⨾ more) ps e = inr e
-pushed_start c (Check k ⨾ more) ps e = inr e
-pushed_start c (Cancel k ⨾ more) ps e = inr e
 pushed_start c (Start d ⨾ more) ps e = or_cases (nat_eq d c) (passes_start c ps) e
-pushed_start c (Observe ⨾ more) ps e = inr e
-pushed_start c (Work s f ⨾ more) ps e = inr e
-pushed_start c (If i a b ⨾ more) ps e = inr e
-pushed_start c (When f a b ⨾ more) ps e = inr e
+pushed_start c left ps e = inr e
 
 work_no_start : (c : ℕ) (answer : Answer) (left : Statements) → works answer left ≡ true → is_start c left ≡ true → ⊥
-work_no_start c Done Nothing e q = true_false (sym q)
-work_no_start c Done (Return ⨾ more) e q = true_false (sym q)
-work_no_start c Done (Throw l ⨾ more) e q = true_false (sym q)
-work_no_start c Done (Check k ⨾ more) e q = true_false (sym q)
-work_no_start c Done (Cancel k ⨾ more) e q = true_false (sym q)
 work_no_start c Done (Start d ⨾ more) e q = true_false (sym e)
-work_no_start c Done (Observe ⨾ more) e q = true_false (sym q)
-work_no_start c Done (Work s f ⨾ more) e q = true_false (sym q)
-work_no_start c Done (If i a b ⨾ more) e q = true_false (sym q)
-work_no_start c Done (When f a b ⨾ more) e q = true_false (sym q)
-work_no_start c Failed Nothing e q = true_false (sym q)
-work_no_start c Failed (Return ⨾ more) e q = true_false (sym q)
-work_no_start c Failed (Throw l ⨾ more) e q = true_false (sym q)
-work_no_start c Failed (Check k ⨾ more) e q = true_false (sym q)
-work_no_start c Failed (Cancel k ⨾ more) e q = true_false (sym q)
 work_no_start c Failed (Start d ⨾ more) e q = true_false (sym e)
-work_no_start c Failed (Observe ⨾ more) e q = true_false (sym q)
-work_no_start c Failed (Work s f ⨾ more) e q = true_false (sym q)
-work_no_start c Failed (If i a b ⨾ more) e q = true_false (sym q)
-work_no_start c Failed (When f a b ⨾ more) e q = true_false (sym q)
+work_no_start c answer left e q = true_false (sym q)
 
 pub passes_started : (g : TaskGraph) (v : List Bool) (h : List Event) (p c : ℕ) → Run g v h → passes_start c (passed g v h p) ≡ true → started g v h c ≡ true
 passes_started g v [] p c run e = true_false (sym e)
@@ -145,13 +114,7 @@ passes_started g v (ev ∷ h) p c run e = here (λ o. passes_started g v h p c r
               ]
           | inr other ↦ started_kept g v h a (Worked s w) c (old (subst (λ z. passes_start c z ≡ true) (if_false (nat_eq s.0 p) (pushed (rest g v h p).left (passed g v h p)) (passed g v h p) other) q))
         ]
-    here old a (Request s) al q = started_kept g v h a (Request s) c (old q)
-    here old a (Release s) al q = started_kept g v h a (Release s) c (old q)
-    here old a (Begin s) al q = started_kept g v h a (Begin s) c (old q)
-    here old a (Leave s) al q = started_kept g v h a (Leave s) c (old q)
-    here old a (Close s) al q = started_kept g v h a (Close s) c (old q)
-    here old a (Drop s) al q = started_kept g v h a (Drop s) c (old q)
-    here old a (Settle s) al q = started_kept g v h a (Settle s) c (old q)
+    here old a x al q = started_kept g v h a x c (old q)
 
 -- a task with a body that ended Faulted carries something
 pub faulted_carries : (g : TaskGraph) (v : List Bool) (h : List Event) (t : ℕ) (r : Ending) → Run g v h → IsBody (kind g t) → ending g v h t ≡ Some r → r.final ≡ Faulted → (x : ℕ) × (mem x r.carried ≡ true)
@@ -288,9 +251,7 @@ module _ (g : TaskGraph) (l : WideAssumed) (rows : List WideRow) (v : List Bool)
   ready_holds : (t : ℕ) (k : TaskKind) (fact : Fact) → Ready g v h t k → BeforeBegin g rows t k fact → FactHolds g v h fact
   ready_holds t (Continues a) fact r c = once_holds a fact (some_of_final a r.0 r.1) c
   ready_holds t Child fact r c = let s = started_parent g v h t now.run r in before_holds s.0 fact s.1.begun (c s.0 s.1.parent)
-  ready_holds t Root fact r c = absurd c
-  ready_holds t (WhenAll args) fact r c = absurd c
-  ready_holds t (WhenAny args) fact r c = absurd c
+  ready_holds t k fact r c = absurd c
 
   -- a task that is dropped ends in one of its ways
   pub drop_way : (t : ℕ) → MayDrop g v h t → WayTaken g l rows v h t (kind g t) Canceled
@@ -332,19 +293,13 @@ module _ (g : TaskGraph) (l : WideAssumed) (rows : List WideRow) (v : List Bool)
       cancels : (k : TaskKind) → MayCancel g v h t k → token_requested g v h t ≡ true → is_loud g l.assumed t ≡ true → WayTaken g l rows v h t k Canceled
       cancels (Continues a) (inl z) q loud = record { way = DroppedEarly; may = (loud, z); final = refl; holds = λ fact c. own_holds t fact q c }
       cancels (Continues a) (inr z) q loud = let f = the_some (final g v h a) z in late a f.0 f.1 q loud
-      cancels Root m q loud = absurd m
-      cancels Child m q loud = absurd m
-      cancels (WhenAll args) m q loud = absurd m
-      cancels (WhenAny args) m q loud = absurd m
+      cancels k m q loud = absurd m
 
       not_starts : (k : TaskKind) → MayNotStart g v h t k → WayTaken g l rows v h t k Canceled
       not_starts (Continues a) m =
           let so = may_not_start_so g v h t a m in
           record { way = NotAllowed; may = (so.0, now.true_rows.ends a so.0 so.1, so.2); final = refl; holds = λ fact c. once_holds a fact (some_of_final a so.0 so.1) c }
-      not_starts Root m = absurd m
-      not_starts Child m = absurd m
-      not_starts (WhenAll args) m = absurd m
-      not_starts (WhenAny args) m = absurd m
+      not_starts k m = absurd m
 
   -- the ends of the attached children that a body started are ones of their rows
   ends_chosen : (t : ℕ) → ((c : ℕ) → mem c (attached g t) ≡ true → started g v h c ≡ true → is_some (ending g v h c) ≡ true) → (c : ℕ) → passes_start c (passed g v h t) ≡ true → MayChoose (child_end g rows t c) (end_or (ending g v h c))

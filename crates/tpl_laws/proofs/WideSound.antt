@@ -14,7 +14,7 @@ use Rattle.tpl_model.specs.Rules.{Run, label, seen, Complete}
 use Rattle.tpl_model.specs.Valid.{IsGraph}
 use Rattle.tpl_model.specs.declared.ids.TaskId.{TaskId}
 use Rattle.tpl_model.specs.declared.claim.Property.{Property}
-use Rattle.tpl_model.specs.declared.claim.Property.TheVariants.{Final as EndsIn, After, Observed, Never, Excludes, Runs}
+use Rattle.tpl_model.specs.declared.claim.Property.TheVariants.{Observed}
 use Rattle.tpl_model.specs.Claims.{input, Claim, IsGiven}
 use Rattle.tpl_model.specs.Certificate.{same, own_quiet, taken}
 use Rattle.tpl_model.specs.WiderRules.{WideRow, plain, WideAssumed, WideAgrees, WidelyClosed, WidelyProves, WideTree, OnInput, OnEnd, OnWinner, WideLeaf, LeastLeaf, narrowed, input_split, end_split, winner_split, widely_assumed}
@@ -62,11 +62,7 @@ wide_shows g l rows v h (Observed t) now pr = λ complete lb e. by_proof lb comp
         let w = throw_known g l rows v h now t.0 lb threw b (begun_ends g v h t.0 now.run complete b) in
         some_none w.0 (sym w.1 ∙ none)
     by_proof lb complete e (inr (inr (inr (inr never)))) = absurd (never_complete g l.assumed (plain rows) v h up never complete)
-wide_shows g l rows v h (EndsIn t ends) now pr = pr
-wide_shows g l rows v h (After a b) now pr = pr
-wide_shows g l rows v h (Never t) now pr = pr
-wide_shows g l rows v h (Excludes a b) now pr = pr
-wide_shows g l rows v h (Runs t) now pr = pr
+wide_shows g l rows v h p now pr = pr
 
 -- a leaf of an accepted tree that agrees with a run so far
 record AWideLeaf (g : TaskGraph) (p : Property TaskId) (tree : WideTree) (v : List Bool) (h : List Event) : Type 0 where

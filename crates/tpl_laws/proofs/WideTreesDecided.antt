@@ -4,7 +4,7 @@ use Rattle.std.specs.Prelude.{◌↔◌, Decides}
 use Rattle.std.proofs.lemmas.Bool.{ltb-true, lt-ltb, and_parts, and_from}
 use Rattle.tpl_model.proofs.Truths.{true_false}
 use Rattle.tpl_model.specs.declared.finals.Final.TheVariants.{RanToCompletion, Canceled, Faulted}
-use Rattle.tpl_model.specs.Graph.{TaskGraph, TaskKind, Root, Child, Continues, WhenAll, WhenAny, kind, is_token}
+use Rattle.tpl_model.specs.Graph.{TaskGraph, TaskKind, WhenAny, kind, is_token}
 use Rattle.tpl_model.specs.Valid.{IsGraph}
 use Rattle.tpl_model.specs.declared.fault.CertFault.{CertFault}
 use Rattle.tpl_model.specs.declared.fault.CertFault.TheVariants.{Shape}
@@ -41,11 +41,8 @@ tokens_of_rows g (r ∷ rows) = (
 )
 
 pub winner_decided : (k : TaskKind) (x : ℕ) → Decides (may_have_winner k x) (MayHaveWinner k x)
-winner_decided Root x = (λ e. true_false (sym e), λ f. absurd f)
-winner_decided Child x = (λ e. true_false (sym e), λ f. absurd f)
-winner_decided (Continues a) x = (λ e. true_false (sym e), λ f. absurd f)
-winner_decided (WhenAll args) x = (λ e. true_false (sym e), λ f. absurd f)
 winner_decided (WhenAny args) x = (λ e. e, λ e. e)
+winner_decided k x = (λ e. true_false (sym e), λ f. absurd f)
 
 no_two : (x y : Option CertFault) → x ≡ None → y ≡ None → or_else x y ≡ None
 no_two None y p q = q

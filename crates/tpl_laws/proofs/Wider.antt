@@ -7,13 +7,13 @@ use Rattle.tpl_model.specs.declared.finals.Final.TheVariants.{RanToCompletion, C
 use Rattle.tpl_model.specs.Finals.{has, is_final}
 use Rattle.tpl_model.specs.Options.{lazy_cancellation}
 use Rattle.tpl_model.specs.declared.outcome.Outcome.{Outcome}
-use Rattle.tpl_model.specs.Statements.{Statement, Return, Throw, Check, Cancel, Start, Observe, Work, If, When, Statements}
+use Rattle.tpl_model.specs.Statements.{Statement, Check, Cancel, Work, If, When, Statements}
 use Rattle.tpl_model.specs.Paths.{cancellation, Known, GoesOn, EndsAt, Passes, Path, MayEnd, MayThrow, MayStartChild}
 use Rattle.tpl_model.specs.Graph.{TaskGraph, TaskKind, Root, Child, Continues, WhenAll, WhenAny, task, kind, body, options}
 use Rattle.tpl_model.specs.declared.claim.Given.{Given}
 use Rattle.tpl_model.specs.declared.ids.TaskId.{TaskId}
 use Rattle.tpl_model.specs.declared.claim.Property.{Property}
-use Rattle.tpl_model.specs.declared.claim.Property.TheVariants.{Final as EndsIn, After, Observed, Never, Excludes, Runs}
+use Rattle.tpl_model.specs.declared.claim.Property.TheVariants.{After, Observed, Never, Excludes}
 use Rattle.tpl_model.specs.Certificate.{Row, row, Tree, SplitInput, SplitEnd, Leaf, Assumed, end_left, same, given_quiet, assumed, assumed_for, with_input, with_end, is_loud, loud_token, view, RunsRule, BodyMayEnd, MayBeCanceled, MayEndAs, may_end_early, may_end, may_win, PastRule, Reads, Links, ChainRule, Closed, Proves, AcceptsTree, as_quiet, same_token, own_quiet}
 use Rattle.tpl_laws.specs.Wider.{AssumesMore, MoreIsAssumed, WiderAccepts}
 use Rattle.tpl_laws.specs.Soundness.{Soundness}
@@ -28,28 +28,17 @@ pub record KnowsMore (w u : Known) : Type 0 where
   pub unsure : (site : ℕ) → u.sure site ≡ false → w.sure site ≡ false
 
 goes_on : (w u : Known) (s : Statement) (more left : Statements) → KnowsMore w u → GoesOn u s more left → GoesOn w s more left
-goes_on w u Return more left k g = g
-goes_on w u (Throw l) more left k g = g
-goes_on w u (Check n) more left k g = g
 goes_on w u (Cancel n) more left k g = (k.loud n g.0, g.1)
-goes_on w u (Start c) more left k g = g
-goes_on w u Observe more left k g = g
-goes_on w u (Work site may_fail) more left k g = g
 goes_on w u (If i first second) more left k (inl g) = inl (k.possible i true g.0, g.1)
 goes_on w u (If i first second) more left k (inr g) = inr (k.possible i false g.0, g.1)
 goes_on w u (When f first second) more left k (inl g) = inl (k.subject f g.0, g.1)
 goes_on w u (When f first second) more left k (inr g) = inr (g.0, g.1, k.subject g.0 g.2, g.3)
+goes_on w u s more left k g = g
 
 ends_at : (w u : Known) (s : Statement) (outcome : Outcome) → KnowsMore w u → EndsAt u s outcome → EndsAt w s outcome
-ends_at w u Return outcome k e = e
-ends_at w u (Throw l) outcome k e = e
 ends_at w u (Check n) outcome k e = (k.loud n e.0, e.1 ∙ ap (λ o. cancellation o n) k.own)
-ends_at w u (Cancel n) outcome k e = e
-ends_at w u (Start c) outcome k e = e
-ends_at w u Observe outcome k e = e
 ends_at w u (Work site may_fail) outcome k e = (e.0, k.unsure site e.1, e.2)
-ends_at w u (If i first second) outcome k e = e
-ends_at w u (When f first second) outcome k e = e
+ends_at w u s outcome k e = e
 
 passes : (w u : Known) (body : Statements) (ps : List Statement) (left : Statements) → KnowsMore w u → Passes u body ps left → Passes w body ps left
 passes w u body [] left k p = p
@@ -96,11 +85,8 @@ module _ (g : TaskGraph) (l m : Assumed) (rows : List Row) (more : AssumesMore l
       by_token (Some k) e = not_so (l.quiet k) (m.quiet k) (more.quiet k) e
 
   runs_more : (t : ℕ) (k : TaskKind) → RunsRule g l rows t k → RunsRule g m rows t k
-  runs_more t Root r = r
-  runs_more t (Continues a) r = r
   runs_more t Child r = λ p par run s. r p par run (may_start_more (view g l rows p) (view g m rows p) (body g p) t (view_more p) s)
-  runs_more t (WhenAll args) r = r
-  runs_more t (WhenAny args) r = r
+  runs_more t k r = r
 
   body_more : (t : ℕ) (f : Final) → BodyMayEnd g m rows t f → BodyMayEnd g l rows t f
   body_more t RanToCompletion e = may_end_more (view g l rows t) (view g m rows t) (body g t) _ (view_more t) e
@@ -136,12 +122,10 @@ module _ (g : TaskGraph) (l m : Assumed) (rows : List Row) (more : AssumesMore l
       ]
 
   past_more : (t : ℕ) (k : TaskKind) (x : ℕ) → PastRule g l rows t k x → PastRule g m rows t k x
-  past_more t Root x p = p
-  past_more t Child x p = p
   past_more t (Continues a) x (inl p) = inl (unless_so (may_end_early g m rows t) (may_end_early g l rows t) (early_more t) p.0, p.1)
   past_more t (Continues a) x (inr p) = inr p
-  past_more t (WhenAll args) x p = p
   past_more t (WhenAny args) x p = λ y n w. p y n (win_more y w)
+  past_more t k x p = p
 
   reads_more : (r y : ℕ) → Reads g l rows r y → Reads g m rows r y
   reads_more r y p =
@@ -178,16 +162,12 @@ module _ (g : TaskGraph) (l m : Assumed) (rows : List Row) (more : AssumesMore l
   }
 
   proves_more : (p : Property TaskId) → Proves g l rows p → Proves g m rows p
-  proves_more (EndsIn t ends) p = p
-  proves_more (After a b) p = p
   proves_more (Observed t) (inl p) = inl p
   proves_more (Observed t) (inr (inl p)) = inr (inl p)
   proves_more (Observed t) (inr (inr (inl p))) = inr (inr (inl p))
   proves_more (Observed t) (inr (inr (inr (inl p)))) = inr (inr (inr (inl (λ q. p (may_throw_more (view g l rows t.0) (view g m rows t.0) (body g t.0) (view_more t.0) q)))))
   proves_more (Observed t) (inr (inr (inr (inr p)))) = inr (inr (inr (inr (more.wide p.0, p.1))))
-  proves_more (Never t) p = p
-  proves_more (Excludes a b) p = p
-  proves_more (Runs t) p = p
+  proves_more other p = p
 
 pub more_is_assumed_lem : MoreIsAssumed
 more_is_assumed_lem g l m rows more closed = (closed_more g l m rows more closed, proves_more g l m rows more)
@@ -230,16 +210,14 @@ own_more g given None = record { possible = λ i value e. e; quiet = λ k e. e; 
 own_more g given (Some k) = record { possible = λ i value e. e; quiet = λ j e. or_right _ (given_quiet g given j) e; cut = λ t f e. e; ended = λ t f e. e; sure = λ site e. e; wide = λ e. refl }
 
 wide_more : (g : TaskGraph) (given : List Given) (p : Property TaskId) → AssumesMore (assumed false g given) (assumed true g (own_quiet g p ++ given))
-wide_more g given (EndsIn t ends) = own_more g given None
 wide_more g given (After a b) = own_more g given (task g b.0).token
-wide_more g given (Observed t) = own_more g given None
 wide_more g given (Never t) = own_more g given (task g t.0).token
 wide_more g given (Excludes a b) = by_test (same_token (task g a.0).token (task g b.0).token)
   where
     by_test : (c : Bool) → AssumesMore (assumed false g given) (assumed true g ((if c then as_quiet (task g b.0).token else []) ++ given))
     by_test true = own_more g given (task g b.0).token
     by_test false = own_more g given None
-wide_more g given (Runs t) = own_more g given None
+wide_more g given p = own_more g given None
 
 pub wider_accepts_lem : WiderAccepts
 wider_accepts_lem g [] [] acc = tt

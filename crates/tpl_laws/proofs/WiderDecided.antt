@@ -17,7 +17,7 @@ use Rattle.tpl_model.specs.Rules.{token_requested_by}
 use Rattle.tpl_model.specs.Valid.{IsGraph}
 use Rattle.tpl_model.specs.declared.ids.TaskId.{TaskId}
 use Rattle.tpl_model.specs.declared.claim.Property.{Property}
-use Rattle.tpl_model.specs.declared.claim.Property.TheVariants.{Final as EndsIn, After, Observed, Never, Excludes, Runs}
+use Rattle.tpl_model.specs.declared.claim.Property.TheVariants.{Observed}
 use Rattle.tpl_model.specs.declared.fault.Rule.TheVariants.{K1, K2, K3, K6}
 use Rattle.tpl_model.specs.Certificate.{row, end_left, is_loud, AllMayEnd, may_end, TakesOver, Reads, NoneComplete}
 use Rattle.tpl_model.specs.WiderRules.{WideRow, plain, wide_row, begins_with, ends_with, once_ended, linked, WideAssumed, kind_left, reading, asked_of, known_at_end, known_at_start, own_among, may_run, WideRunsRule, Way, ByBody, RootDropped, ChildDropped, DroppedEarly, DroppedLate, NotAllowed, way_final, MayEndBy, IsWay, OwnRequested, SettledBefore, KnownThere, BeforeBegin, HoldsBy, WideEndsRule, BeginRule, SettledBelow, EndRule, IsWonBy, ReadsWinner, WideLinks, WideChainRule, IsWidelyClosed, WidelyClosed, WidelyProves}
@@ -187,9 +187,7 @@ module _ (g : TaskGraph) (l : WideAssumed) (rows : List WideRow) (t : ℕ) (vali
       (of_some (λ x. may_end (plain rows) x ≡ true) (may_end (plain rows)) args (λ x. itself (may_end (plain rows) x))) (itself it)))
       (λ f x cut m e. f cut (x, m, e))
       (λ f cut e. f e.0 cut e.1 e.2)
-  ends_decided paths Root = way_has
-  ends_decided paths Child = way_has
-  ends_decided paths (Continues a) = way_has
+  ends_decided paths k = way_has
 
   -- what holds when it begins
   begins_decided : (k : TaskKind) (f : Fact) → Decides (begin_by g l rows t k f) (BeginRule g l rows t k f)
@@ -224,9 +222,7 @@ module _ (g : TaskGraph) (l : WideAssumed) (rows : List WideRow) (t : ℕ) (vali
   before_decided : (k : TaskKind) (f : Fact) → Decides (before_begin g rows t k f) (BeforeBegin g rows t k f)
   before_decided (Continues a) f = itself (once_ended rows a f)
   before_decided Child f = at_parent g t (λ p. SettledBefore rows p f) (λ p. settled_before rows p f) valid (λ p. settled_decided p f)
-  before_decided Root f = nothing
-  before_decided (WhenAll args) f = nothing
-  before_decided (WhenAny args) f = nothing
+  before_decided k f = nothing
 
   holds_decided : (k : TaskKind) (f : Fact) (way : Way) → Decides (holds_by g rows t k f way) (HoldsBy g rows t k f way)
   holds_decided k f (ByBody e known) =
@@ -255,18 +251,13 @@ module _ (g : TaskGraph) (l : WideAssumed) (rows : List WideRow) (t : ℕ) (vali
   end_decided (WhenAny args) f =
       of_all (λ y. may_end (plain rows) y ≡ true → once_ended rows y f ≡ true) (λ y. implies (may_end (plain rows) y) (once_ended rows y f)) args
       (λ y. only_if (may_end (plain rows) y ≡ true) (once_ended rows y f ≡ true) (may_end (plain rows) y) (once_ended rows y f) (itself (may_end (plain rows) y)) (itself (once_ended rows y f)))
-  end_decided Root f = way_holds Root f
-  end_decided Child f = way_holds Child f
-  end_decided (Continues a) f = way_holds (Continues a) f
+  end_decided k f = way_holds k f
 
   -- a chain leads to its reader
   won_decided : (k : TaskKind) (y : ℕ) → Decides (is_won_by k y) (IsWonBy k y)
   won_decided (WhenAny args) y =
       both (mem y args ≡ true) ((x : ℕ) → mem x args ≡ true → x ≡ y) (mem y args) (all_in (λ x. nat_eq x y) args) (itself (mem y args)) (of_all (λ x. x ≡ y) (λ x. nat_eq x y) args (λ x. same x y))
-  won_decided Root y = nothing
-  won_decided Child y = nothing
-  won_decided (Continues a) y = nothing
-  won_decided (WhenAll args) y = nothing
+  won_decided k y = nothing
 
   winner_decided : PathLaws → (r y : ℕ) (k : TaskKind) → Decides (reads_winner g l r y k) (ReadsWinner g l rows r y k)
   winner_decided paths r y (Continues n) =
@@ -281,10 +272,7 @@ module _ (g : TaskGraph) (l : WideAssumed) (rows : List WideRow) (t : ℕ) (vali
       (both Quiet_ (MustObserve w (body g r)) (not (is_loud g l.assumed r)) observes (opposite (is_loud g l.assumed r)) (observes_it paths w (body g r)))))
       (λ e. (e.0, e.1.0, e.1.1.0, e.1.1.1))
       (λ e. (e.0, (e.1, (e.2, e.3))))
-  winner_decided paths r y Root = nothing
-  winner_decided paths r y Child = nothing
-  winner_decided paths r y (WhenAll args) = nothing
-  winner_decided paths r y (WhenAny args) = nothing
+  winner_decided paths r y k = nothing
 
   links_decided : PathLaws → (y : ℕ) (xs : List ℕ) → Decides (wide_links g l y xs) (WideLinks g l rows y xs)
   links_decided paths y [] = nothing
@@ -353,11 +341,7 @@ wide_proves_lem paths g l rows (Observed t) =
     (either (faulted ≡ false) ((may_run rows t.0 ≡ false) ⊎ (thrown ≡ None) ⊎ NoneComplete g (plain rows)) (not faulted) (not (may_run rows t.0) || (not (is_some thrown) || none_complete g (plain rows))) (opposite faulted)
     (either (may_run rows t.0 ≡ false) ((thrown ≡ None) ⊎ NoneComplete g (plain rows)) (not (may_run rows t.0)) (not (is_some thrown) || none_complete g (plain rows)) (opposite (may_run rows t.0))
     (either (thrown ≡ None) (NoneComplete g (plain rows)) (not (is_some thrown)) (none_complete g (plain rows)) (some_decided thrown) (none_complete_decided paths g (plain rows)))))
-wide_proves_lem paths g l rows (EndsIn t ends) = proves_lem paths g l.assumed (plain rows) (EndsIn t ends)
-wide_proves_lem paths g l rows (After a b) = proves_lem paths g l.assumed (plain rows) (After a b)
-wide_proves_lem paths g l rows (Never t) = proves_lem paths g l.assumed (plain rows) (Never t)
-wide_proves_lem paths g l rows (Excludes a b) = proves_lem paths g l.assumed (plain rows) (Excludes a b)
-wide_proves_lem paths g l rows (Runs t) = proves_lem paths g l.assumed (plain rows) (Runs t)
+wide_proves_lem paths g l rows p = proves_lem paths g l.assumed (plain rows) p
 
 pub wide_leaf_lem : (paths : PathLaws) (g : TaskGraph) (p : Property TaskId) (l : WideAssumed) (rows : List WideRow) → IsGraph g → Clears (wide_leaf_fault g p l rows) (WidelyClosed g l rows × WidelyProves g l rows p)
 wide_leaf_lem paths g p l rows valid =
