@@ -1,5 +1,6 @@
 -- Each real execution of a body is one of its paths.
 use Rattle.std.proofs.Common.{◌≡◌, ℕ, ◌++◌, ◌&&◌, ◌⊎◌, inl, inr, Bool, true, false, if◌then◌else◌, Option, List, [], ◌∷◌, refl, sym, subst, nat_eq, is_some, slice_index_or}
+use Rattle.std.specs.Prelude.{◌↔◌}
 use Rattle.std.proofs.lemmas.Bool.{and_parts, and_from, or_cases, or_left, or_right}
 use Rattle.tpl_model.proofs.MemberLemmas.{same_self, mem_append, mem_left, mem_right}
 use Rattle.tpl_model.proofs.Truths.{true_false}
@@ -78,22 +79,45 @@ pub rest_keeps : (Q : Statements → Type 0) → IsKept Q → (g : TaskGraph) (v
 rest_keeps Q k g v [] t q = q
 rest_keeps Q k g v (e ∷ h) t q = after_keeps Q k g v t e.act (rest g v h t) (requested g v h) (ending g v h) (rest_keeps Q k g v h t q)
 
-starts_ahead : (c : ℕ) (a more : Statements) → mem c (starts (followed_by a more)) ≡ true → (mem c (starts a) ≡ true) ⊎ (mem c (starts more) ≡ true)
-starts_ahead c Nothing more e = inr e
-starts_ahead c (s ⨾ a) more e =
-    elim (mem_append c (starts_of s) (starts (followed_by a more)) e) [
-      | inl x ↦ inl (mem_left c (starts_of s) (starts a) x)
-      | inr y ↦ elim (starts_ahead c a more y) [ inl z ↦ inl (mem_right c (starts_of s) (starts a) z) | inr z ↦ inr z ]
-    ]
+-- what stands in a body stands in one of its statements, and in a branch it stands in one of its lists
+pub record Stands (In : Statements → Type 0) (One : Statement → Type 0) : Type 0 where
+  pub none : In Nothing → ⊥
+  pub more : (s : Statement) (rest : Statements) → In (s ⨾ rest) ↔ (One s ⊎ In rest)
+  pub in_if : (i : ℕ) (a b : Statements) → One (If i a b) ↔ (In a ⊎ In b)
+  pub in_when : (f : Final) (a b : Statements) → One (When f a b) ↔ (In a ⊎ In b)
 
-starts_kept : (c : ℕ) (whole : Statements) → IsKept (λ left. mem c (starts left) ≡ true → mem c (starts whole) ≡ true)
-starts_kept c whole = record {
-  empty = λ e. true_false (sym e);
-  tail = λ s more q e. q (mem_right c (starts_of s) (starts more) e);
-  first_if = λ i a b more q e. q (elim (starts_ahead c a more e) [ inl x ↦ mem_left c (starts a ++ starts b) (starts more) (mem_left c (starts a) (starts b) x) | inr y ↦ mem_right c (starts a ++ starts b) (starts more) y ]);
-  second_if = λ i a b more q e. q (elim (starts_ahead c b more e) [ inl x ↦ mem_left c (starts a ++ starts b) (starts more) (mem_right c (starts a) (starts b) x) | inr y ↦ mem_right c (starts a ++ starts b) (starts more) y ]);
-  first_when = λ i a b more q e. q (elim (starts_ahead c a more e) [ inl x ↦ mem_left c (starts a ++ starts b) (starts more) (mem_left c (starts a) (starts b) x) | inr y ↦ mem_right c (starts a ++ starts b) (starts more) y ]);
-  second_when = λ i a b more q e. q (elim (starts_ahead c b more e) [ inl x ↦ mem_left c (starts a ++ starts b) (starts more) (mem_right c (starts a) (starts b) x) | inr y ↦ mem_right c (starts a ++ starts b) (starts more) y ]);
+-- so what stands in a part that is left of a body stands in the whole of it
+module _ {In : Statements → Type 0} {One : Statement → Type 0} (stands : Stands In One) where
+  ahead : (a rest : Statements) → In (followed_by a rest) → In a ⊎ In rest
+  ahead Nothing rest m = inr m
+  ahead (s ⨾ a) rest m =
+      elim ((stands.more s (followed_by a rest)).0 m) [
+        | inl x ↦ inl ((stands.more s a).1 (inl x))
+        | inr y ↦ elim (ahead a rest y) [ inl z ↦ inl ((stands.more s a).1 (inr z)) | inr z ↦ inr z ]
+      ]
+
+  branched : (s : Statement) (a rest : Statements) → (In a → One s) → In (followed_by a rest) → In (s ⨾ rest)
+  branched s a rest f m = (stands.more s rest).1 (elim (ahead a rest m) [ inl x ↦ inl (f x) | inr y ↦ inr y ])
+
+  pub stands_kept : (whole : Statements) → IsKept (λ left. In left → In whole)
+  stands_kept whole = record {
+    empty = λ m. absurd (stands.none m);
+    tail = λ s rest q m. q ((stands.more s rest).1 (inr m));
+    first_if = λ i a b rest q m. q (branched (If i a b) a rest (λ x. (stands.in_if i a b).1 (inl x)) m);
+    second_if = λ i a b rest q m. q (branched (If i a b) b rest (λ x. (stands.in_if i a b).1 (inr x)) m);
+    first_when = λ f a b rest q m. q (branched (When f a b) a rest (λ x. (stands.in_when f a b).1 (inl x)) m);
+    second_when = λ f a b rest q m. q (branched (When f a b) b rest (λ x. (stands.in_when f a b).1 (inr x)) m);
+  }
+
+pub in_either : (x : ℕ) (xs ys : List ℕ) → (mem x (xs ++ ys) ≡ true) ↔ ((mem x xs ≡ true) ⊎ (mem x ys ≡ true))
+in_either x xs ys = (mem_append x xs ys, λ e. elim e [ inl a ↦ mem_left x xs ys a | inr b ↦ mem_right x xs ys b ])
+
+start_stands : (c : ℕ) → Stands (λ b. mem c (starts b) ≡ true) (λ s. mem c (starts_of s) ≡ true)
+start_stands c = record {
+  none = λ m. true_false (sym m);
+  more = λ s rest. in_either c (starts_of s) (starts rest);
+  in_if = λ i a b. in_either c (starts a) (starts b);
+  in_when = λ f a b. in_either c (starts a) (starts b);
 }
 
 nothing_ahead : (a more : Statements) → reads_nothing a ≡ true → reads_nothing more ≡ true → reads_nothing (followed_by a more) ≡ true
@@ -115,7 +139,7 @@ nothing_kept = record {
 -- a child that is the next to be started is a child of the task
 pub next_start : (g : TaskGraph) (v : List Bool) (h : List Event) (p c : ℕ) → is_start c (rest g v h p).left ≡ true → IsParent g p c
 next_start g v h p c e =
-    rest_keeps (λ left. mem c (starts left) ≡ true → mem c (starts (body g p)) ≡ true) (starts_kept c (body g p)) g v h p (λ m. m) (first (rest g v h p).left e)
+    rest_keeps (λ left. mem c (starts left) ≡ true → mem c (starts (body g p)) ≡ true) (stands_kept (start_stands c) (body g p)) g v h p (λ m. m) (first (rest g v h p).left e)
   where
     first : (left : Statements) → is_start c left ≡ true → mem c (starts left) ≡ true
     first (Start d ⨾ more) x = or_left (nat_eq c d) (mem c (starts more)) (subst (λ z. nat_eq c z ≡ true) (sym (same_number d c x)) (same_self c))

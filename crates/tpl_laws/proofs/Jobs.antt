@@ -1,12 +1,12 @@
 -- A job has failed just where its task's label says so.
-use Rattle.std.proofs.Common.{◌≡◌, ℕ, zero, suc, ◌+◌, ◌≤◌, ◌++◌, ◌||◌, ◌⊎◌, inl, inr, Bool, true, false, cond, if◌then◌else◌, Option, Some, None, List, [], ◌∷◌, refl, sym, ap, ◌∙◌, subst, arith, flat_map, nat_eq, is_some, slice_index_or}
+use Rattle.std.proofs.Common.{◌≡◌, ℕ, zero, suc, ◌+◌, ◌≤◌, ◌++◌, ◌||◌, inl, inr, Bool, true, false, cond, if◌then◌else◌, Option, Some, None, List, [], ◌∷◌, refl, sym, ap, ◌∙◌, subst, arith, flat_map, nat_eq, is_some, slice_index_or}
 use Rattle.std.proofs.lemmas.Bool.{cases_Bool, or_cases, or_left, or_right}
-use Rattle.tpl_model.proofs.MemberLemmas.{same_self, mem_append, mem_left, mem_right}
+use Rattle.tpl_model.proofs.MemberLemmas.{same_self}
 use Rattle.std.proofs.lemmas.List.Recursion.{is_count_by}
 use Rattle.std.proofs.lemmas.List.Concat.{flat_map-cons}
 use Rattle.tpl_model.specs.Members.{mem}
 use Rattle.tpl_model.specs.Valid.{all_sites}
-use Rattle.tpl_laws.proofs.Execution.{IsKept, rest_keeps}
+use Rattle.tpl_laws.proofs.Execution.{rest_keeps, Stands, stands_kept, in_either}
 use Rattle.tpl_model.proofs.Truths.{true_false}
 use Rattle.tpl_model.specs.declared.ids.SiteId.{SiteId}
 use Rattle.tpl_model.specs.declared.status.Label.{Label}
@@ -122,31 +122,13 @@ threw_failed g v (x ∷ h) site t e = here (threw_failed g v h site t) x.act e
     here old act q = older old act q
 
 -- a job that failed stands in the body of its task
-sites_ahead : (site : ℕ) (a more : Statements) → mem site (sites (followed_by a more)) ≡ true → (mem site (sites a) ≡ true) ⊎ (mem site (sites more) ≡ true)
-sites_ahead site Nothing more e = inr e
-sites_ahead site (s ⨾ a) more e =
-    elim (mem_append site (sites_of s) (sites (followed_by a more)) e) [
-      | inl x ↦ inl (mem_left site (sites_of s) (sites a) x)
-      | inr y ↦ elim (sites_ahead site a more y) [ inl z ↦ inl (mem_right site (sites_of s) (sites a) z) | inr z ↦ inr z ]
-    ]
-
-sites_kept : (site : ℕ) (whole : Statements) → IsKept (λ left. mem site (sites left) ≡ true → mem site (sites whole) ≡ true)
-sites_kept site whole = record {
-  empty = λ e. true_false (sym e);
-  tail = λ s more q e. q (mem_right site (sites_of s) (sites more) e);
-  first_if = λ i a b more q e. q (first a b more (sites_ahead site a more e));
-  second_if = λ i a b more q e. q (second a b more (sites_ahead site b more e));
-  first_when = λ f a b more q e. q (first a b more (sites_ahead site a more e));
-  second_when = λ f a b more q e. q (second a b more (sites_ahead site b more e));
+site_stands : (site : ℕ) → Stands (λ b. mem site (sites b) ≡ true) (λ s. mem site (sites_of s) ≡ true)
+site_stands site = record {
+  none = λ m. true_false (sym m);
+  more = λ s rest. in_either site (sites_of s) (sites rest);
+  in_if = λ i a b. in_either site (sites a) (sites b);
+  in_when = λ f a b. in_either site (sites a) (sites b);
 }
-  where
-    first : (a b more : Statements) → (mem site (sites a) ≡ true) ⊎ (mem site (sites more) ≡ true) → mem site ((sites a ++ sites b) ++ sites more) ≡ true
-    first a b more (inl x) = mem_left site (sites a ++ sites b) (sites more) (mem_left site (sites a) (sites b) x)
-    first a b more (inr y) = mem_right site (sites a ++ sites b) (sites more) y
-
-    second : (a b more : Statements) → (mem site (sites b) ≡ true) ⊎ (mem site (sites more) ≡ true) → mem site ((sites a ++ sites b) ++ sites more) ≡ true
-    second a b more (inl x) = mem_left site (sites a ++ sites b) (sites more) (mem_right site (sites a) (sites b) x)
-    second a b more (inr y) = mem_right site (sites a ++ sites b) (sites more) y
 
 next_work : (site : ℕ) (left : Statements) → is_work site left ≡ true → mem site (sites left) ≡ true
 next_work site (Work n m ⨾ more) x = or_left (nat_eq site n) (mem site (sites more)) (subst (λ z. nat_eq site z ≡ true) (sym (same_number n site x)) (same_self site))
@@ -164,7 +146,7 @@ failed_stands g v (x ∷ h) site run e =
     here (Worked t Failed) q = (
       t.0,
       ap outcome_in (if_true (nat_eq t.0 t.0) (worked Failed (rest g v h t.0).left) (rest g v h t.0) (same_self t.0)) ∙ fails_work site (rest g v h t.0).left q,
-      rest_keeps (λ left. mem site (sites left) ≡ true → mem site (sites (body g t.0)) ≡ true) (sites_kept site (body g t.0)) g v h t.0 (λ m. m) (next_work site (rest g v h t.0).left q),
+      rest_keeps (λ left. mem site (sites left) ≡ true → mem site (sites (body g t.0)) ≡ true) (stands_kept (site_stands site) (body g t.0)) g v h t.0 (λ m. m) (next_work site (rest g v h t.0).left q),
     )
     here (Worked t Done) q = true_false (sym q)
     here act q = true_false (sym q)
