@@ -95,13 +95,15 @@ SENTENCES = [
     ),
     Sentence(
         "`refute` writes the document with a run in which a claim fails",
-        "The clauses of `tpl_verify::refute_document`.",
-        (Clauses("tpl_verify/src/refuting.rt", "refute_document"),),
+        "Clause `fails` of `tpl_verify::refute_document`: what is written spells the same claims, with a run. That all else of the "
+        "document stays as it was, and that no certificate is accepted for it, is another clause, `refuted`.",
+        (Clauses("tpl_verify/src/refuting.rt", "refute_document", ("fails", "reads")),),
     ),
     Sentence(
         "What `verify` says of a claim is so: it holds in every run, it fails in a run that is shown, or it says nothing",
-        "The clauses of `tpl_verdicts::verify_document`.",
-        (Clauses("tpl_verdicts/src/verifying.rt", "verify_document"),),
+        "Clause `judged` of `tpl_verdicts::verify_document`. That a claim is said to hold only where a certificate of it is "
+        "accepted, with as many splits as is said, is another clause, `verified`.",
+        (Clauses("tpl_verdicts/src/verifying.rt", "verify_document", ("judged", "reads")),),
     ),
     Sentence(
         "What a session gives back is a run, and its seats and watchers saw that run",

@@ -3,6 +3,7 @@ use Rattle.std.proofs.Common.{◌≡◌, ◌+◌, ◌≤◌, ℕ, List, Option, 
 use Rattle.tpl_journal.specs.Counting.{calls_of}
 use Rattle.tpl_journal.specs.Writing.{Writes}
 use Rattle.tpl_journal.specs.declared.counting.Counting.{Counting}
+use Rattle.tpl_reader.proofs.Claimed.{claims_spelled}
 use Rattle.tpl_commands.specs.declared.exit.Exit.{Exit}
 use Rattle.tpl_commands.specs.declared.ask.Ask.{Ask}
 use Rattle.tpl_commands.specs.declared.ask.Ask.TheVariants.{Check, Analyse, AnalyseIn, Certify, Audit}
@@ -32,14 +33,12 @@ module _ {R W : Type 0} (ask : Ask) (remaining : R → Option (List ℕ)) (from_
   proves : ask ≡ Check → result ≡ Success → Proved remaining from_old from_new contents old new
   proves is e =
       let found = accepts is e in
-      let spelled = found.spelled in
-      let parts = spelled.5 in
       record {
         input = found.input;
         reads = found.reads;
         graph = found.doc.graph;
         claims = found.doc.claims;
-        spelled = (spelled.0, spelled.1, spelled.2, spelled.3, spelled.4, parts.valid, parts.graph, parts.claims);
+        spelled = claims_spelled found.input found.doc found.spelled;
         hold = found.is.1;
         writes = subst (Writes contents old new) found.is.2 found.writes;
       }

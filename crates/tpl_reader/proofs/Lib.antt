@@ -10,3 +10,4 @@ pub mod Pieces
 pub mod OneDocument
 pub mod Faultless
 pub mod Certified
+pub mod Claimed

@@ -1,5 +1,5 @@
 -- Which document bytes spell, and what is wrong with bytes that spell none.
-use Rattle.std.specs.Prelude.{◌≡◌, ◌≤◌, ◌<◌, ℕ, List, Option, Some, length, map, Result, Ok, Err, ok_or, IsUtf8}
+use Rattle.std.specs.Prelude.{◌≡◌, ◌≤◌, ◌<◌, ℕ, Bool, List, Option, Some, length, map, Result, Ok, Err, ok_or, IsUtf8}
 use Rattle.serde_json.specs.Data.{Data}
 use Rattle.serde_json.specs.Read.{read}
 use Rattle.tpl_model.specs.declared.ids.TaskId.{TaskId}
@@ -104,6 +104,16 @@ AreClaims s graph claims = IsValid s.draft × (graph ≡ numbered s.draft) × (c
 abbrev pub SpellsClaims : List ℕ → Named → List Claim → Type 0
 SpellsClaims bytes graph claims =
     (length bytes ≤ longest) × ((d : Data) × Reads bytes d × ((s : Spelled) × (spelled_at d ≡ Ok s) × AreClaims s graph claims))
+
+-- the start gives these inputs
+abbrev pub GivesInputs : Spelled → Named → List Bool → Type 0
+GivesInputs s graph inputs = (start : StartValue) × (begin_in graph s.start s.ended ≡ Ok (Some start)) × (start.inputs ≡ inputs)
+
+-- the bytes spell a document with this graph and these claims, these inputs and this journal
+abbrev pub SpellsClaimsWith : List ℕ → Named → List Claim → List Bool → List ℕ → Type 0
+SpellsClaimsWith bytes graph claims inputs journal =
+    (length bytes ≤ longest)
+    × ((d : Data) × Reads bytes d × ((s : Spelled) × (spelled_at d ≡ Ok s) × AreClaims s graph claims × GivesInputs s graph inputs × (journal ≡ s.journal)))
 
 -- what is wrong with bytes that spell no document, memory aside
 abbrev pub IsFault : List ℕ → ReadFault → Type 0

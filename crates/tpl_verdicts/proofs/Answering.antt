@@ -1,14 +1,23 @@
 -- From the answer to what was read and written.
-use Rattle.std.proofs.Common.{ℕ, inr, List, Option, Result, Ok, Err, IfOk, string_bytes}
+use Rattle.std.proofs.Common.{ℕ, inr, List, [], ◌∷◌, Option, Result, Ok, Err, IfOk, string_bytes}
+use Rattle.std.specs.List.{AllZip}
 use Rattle.std.specs.declared.alloc.AllocError.{AllocError}
+use Rattle.tpl_model.specs.Graph.{TaskGraph}
+use Rattle.tpl_model.specs.Claims.{Claim}
+use Rattle.tpl_model.specs.declared.rule_set.RuleSet.{RuleSet}
 use Rattle.tpl_journal.specs.declared.counting.Counting.{Counting}
 use Rattle.tpl_commands.specs.declared.exit.Exit.{Exit}
 use Rattle.tpl_commands.specs.declared.responding.Answered.{Answered}
 use Rattle.tpl_commands.specs.Documents.{NoDocument}
 use Rattle.tpl_commands.specs.Responding.{Responds}
+use Rattle.tpl_commands.specs.Rules.{rules_of}
+use Rattle.tpl_reader.proofs.Claimed.{claims_spelled}
+use Rattle.tpl_verify.specs.declared.verdict.Verdict.{Verdict}
+use Rattle.tpl_verify.specs.declared.verdict.Verdict.TheVariants as verdict
+use Rattle.tpl_verify.specs.Verdicts.{IsSo, IsVerdict}
 use Rattle.tpl_commands.proofs.Responses.{tells, IsYesOrNo}
 use Rattle.tpl_verdicts.specs.declared.style.Style.{Style}
-use Rattle.tpl_verdicts.specs.Answer.{IsVerified, Verified, Verifies}
+use Rattle.tpl_verdicts.specs.Answer.{IsVerified, Judged, Verified, Verifies}
 
 -- the answer to bytes that spell no document
 pub unread : (style : Style) (bytes : List ℕ) (r : Result Answered AllocError) → IfOk r (λ it. NoDocument bytes it.answer.exit (string_bytes it.answer.text)) → IfOk r (λ it. Verifies style bytes it.answer.exit (string_bytes it.answer.text))
@@ -18,3 +27,31 @@ unread style bytes (Err e) wrong = tt
 pub done_verifies : {R W : Type 0} (remaining : R → Option (List ℕ)) (from_old from_new : Counting R) (contents : W → Option (List ℕ)) (old new : Counting W) (style : Style) (result : Exit) → Responds (Verifies style) remaining from_old from_new contents old new result → IsYesOrNo result → Verified remaining from_old from_new contents old new style result
 done_verifies remaining from_old from_new contents old new style result responds done =
     tells remaining from_old from_new contents old new result (IsVerified style) (λ doc text. IsVerified style doc result text) done (λ doc text verified. verified) responds
+
+-- ---- the verdicts, whatever they were found by
+
+is_so : (rules : RuleSet) (g : TaskGraph) (claim : Claim) (v : Verdict) → IsVerdict rules g claim v → IsSo g claim v
+is_so rules g claim (verdict.Holds splits empty) held = (held.always, held.empty)
+is_so rules g claim (verdict.Fails run) fails = fails
+is_so rules g claim (verdict.Unknown tried) is = tt
+
+all_so : (rules : RuleSet) (g : TaskGraph) (claims : List Claim) (verdicts : List Verdict) → AllZip (IsVerdict rules g) claims verdicts → AllZip (IsSo g) claims verdicts
+all_so rules g [] [] all = tt
+all_so rules g [] (v ∷ verdicts) all = absurd all
+all_so rules g (claim ∷ claims) [] all = absurd all
+all_so rules g (claim ∷ claims) (v ∷ verdicts) all = (is_so rules g claim v all.0, all_so rules g claims verdicts all.1)
+
+pub verified_judges : {R W : Type 0} (remaining : R → Option (List ℕ)) (from_old from_new : Counting R) (contents : W → Option (List ℕ)) (old new : Counting W) (style : Style) (result : Exit) → Verified remaining from_old from_new contents old new style result → Judged remaining from_old from_new contents old new style result
+verified_judges remaining from_old from_new contents old new style result told = record {
+  input = told.input;
+  reads = told.reads;
+  graph = told.doc.graph;
+  claims = told.doc.claims;
+  spelled = claims_spelled told.input told.doc told.spelled;
+  verdicts = told.is.verdicts;
+  true_of = all_so (rules_of told.doc) told.doc.graph.graph told.doc.claims told.is.verdicts told.is.true_of;
+  ends = told.is.ends;
+  text = told.text;
+  says = told.is.says;
+  writes = told.writes;
+}

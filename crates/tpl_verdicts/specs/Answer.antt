@@ -1,16 +1,18 @@
 -- What `verify` answers to a document.
 use Rattle.std.specs.Prelude.{◌≡◌, ◌⊎◌, ℕ, List, Option}
 use Rattle.std.specs.List.{All, AllZip}
-use Rattle.tpl_draft.specs.Named.{Names}
+use Rattle.tpl_model.specs.Claims.{Claim}
+use Rattle.tpl_draft.specs.Named.{Names, Named}
+use Rattle.tpl_journal.specs.Writing.{Writes}
 use Rattle.tpl_journal.specs.declared.counting.Counting.{Counting}
-use Rattle.tpl_reader.specs.Document.{DocumentValue}
+use Rattle.tpl_reader.specs.Document.{DocumentValue, SpellsClaims}
 use Rattle.tpl_commands.specs.declared.exit.Exit.{Exit}
 use Rattle.tpl_commands.specs.declared.exit.Exit.TheVariants.{Success, Failure}
 use Rattle.tpl_commands.specs.Documents.{Tells, ToDocument}
 use Rattle.tpl_commands.specs.Rules.{rules_of}
-use Rattle.tpl_commands.specs.Responding.{Answers}
+use Rattle.tpl_commands.specs.Responding.{Answers, Reads}
 use Rattle.tpl_verify.specs.declared.verdict.Verdict.{Verdict}
-use Rattle.tpl_verify.specs.Verdicts.{HoldsAlways, HoldsFully, IsVerdict}
+use Rattle.tpl_verify.specs.Verdicts.{HoldsAlways, HoldsFully, IsSo, IsVerdict}
 use Rattle.tpl_verdicts.specs.declared.style.Style.{Style}
 use Rattle.tpl_verdicts.specs.declared.style.Style.TheVariants.{Text, Json, Junit}
 use Rattle.tpl_verdicts.specs.Json.{IsJson}
@@ -46,3 +48,17 @@ Verifies style = ToDocument (IsVerified style)
 abbrev pub Verified : {R W : Type 0} → (R → Option (List ℕ)) → Counting R → Counting R → (W → Option (List ℕ)) → Counting W → Counting W → Style → Exit → Type 0
 Verified remaining from_old from_new contents to_old to_new style exit =
     Tells (λ doc text. IsVerified style doc exit text) remaining from_old from_new contents to_old to_new
+
+-- What was read spells claims of a graph, and a verdict on each was written, which is true.
+pub record Judged {R W : Type 0} (remaining : R → Option (List ℕ)) (from_old from_new : Counting R) (contents : W → Option (List ℕ)) (to_old to_new : Counting W) (style : Style) (exit : Exit) : Type 0 where
+  pub input : List ℕ
+  pub reads : Reads remaining from_old from_new input
+  pub graph : Named
+  pub claims : List Claim
+  pub spelled : SpellsClaims input graph claims
+  pub verdicts : List Verdict
+  pub true_of : AllZip (IsSo graph.graph) claims verdicts
+  pub ends : IsExit verdicts exit
+  pub text : List ℕ
+  pub says : IsStyled style graph.names verdicts text
+  pub writes : Writes contents to_old to_new text

@@ -10,7 +10,7 @@ ghost use Rattle.tpl_commands.specs.Finding.{IsAnswer, IsFindingOf};
 ghost use Rattle.tpl_commands.specs.Rules.{rules_of};
 ghost use Rattle.tpl_commands.specs.Responding.{longest, Responds};
 ghost use Rattle.tpl_verify.specs.Verdicts.{AreVerdicts, HoldsAlways, IsVerdict};
-ghost use Rattle.tpl_verdicts.specs.Answer.{IsExit, IsStyled, IsVerified, Verified, Verifies};
+ghost use Rattle.tpl_verdicts.specs.Answer.{IsExit, IsStyled, IsVerified, Judged, Verified, Verifies};
 
 use crate::json::json_of;
 use crate::junit::junit_of;
@@ -221,7 +221,11 @@ pub fn verify_document<T: Threads + Sync, A: Attend + Sync, L: Listen, I: Read, 
         O.contents to.old to.new result }
     ensures reads { calls_of from.new ≤ calls_of from.old + (longest + 2) }
 
-    // With success or failure a true verdict on each claim was written; with success each claim holds in each run of the
+    // With success or failure a true verdict on each claim was written.
+    ensures judged { (result ≡ Exit.Success) ⊎ (result ≡ Exit.Failure)
+        → Judged I.remaining from.old from.new O.contents to.old to.new asked.style result }
+
+    // A claim is said to hold where a certificate of it is accepted; with success each claim holds in each run of the
     // graph, for all inputs and whatever comes from outside, and none is known to be empty.
     ensures verified { (result ≡ Exit.Success) ⊎ (result ≡ Exit.Failure)
         → Verified I.remaining from.old from.new O.contents to.old to.new asked.style result }

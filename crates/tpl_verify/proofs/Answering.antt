@@ -1,5 +1,5 @@
 -- From what was found to what was read and written.
-use Rattle.std.proofs.Common.{◌≡◌, ℕ, suc, ◌≤◌, ◌++◌, inl, inr, Bool, List, [], ◌∷◌, zero, length, reverse, Option, Some, Result, Ok, Err, IfOk, string_bytes, codes, refl, sym, subst, ◌∙◌, arith}
+use Rattle.std.proofs.Common.{◌≡◌, ℕ, suc, ◌≤◌, ◌++◌, inl, inr, Bool, List, [], ◌∷◌, zero, length, reverse, Option, Some, None, Result, Ok, Err, IfOk, string_bytes, codes, refl, sym, subst, ◌∙◌, arith}
 use Rattle.std.specs.Prelude.{slice_get}
 use Rattle.std.specs.declared.alloc.AllocError.{AllocError}
 use Rattle.std.proofs.lemmas.List.{length-reverse}
@@ -15,8 +15,10 @@ use Rattle.tpl_draft.specs.Named.{Named}
 use Rattle.tpl_journal.specs.declared.counting.Counting.{Counting}
 use Rattle.tpl_journal.specs.Lines.{IsJournal, lines, TextIsUnambiguous, FaultIsNoJournal, SpellsRun}
 use Rattle.tpl_refute.specs.Refuting.{Refutes}
+use Rattle.tpl_reader.specs.Begin.{StartValue}
 use Rattle.tpl_reader.specs.Document.{DocumentValue, Spells, longest}
 use Rattle.tpl_reader.specs.Laws.{SpellsOneDocument, SpelledHasNoFault}
+use Rattle.tpl_reader.proofs.Claimed.{claims_spelled}
 use Rattle.tpl_commands.specs.declared.exit.Exit.{Exit}
 use Rattle.tpl_commands.specs.declared.exit.Exit.TheVariants.{Success, Failure as Failed}
 use Rattle.tpl_commands.specs.declared.responding.Answered.{Answered}
@@ -24,8 +26,8 @@ use Rattle.tpl_commands.specs.Documents.{NoDocument}
 use Rattle.tpl_commands.specs.Responding.{Responds}
 use Rattle.tpl_commands.proofs.Responses.{tells}
 use Rattle.tpl_verify.specs.Asking.{IsKnown}
-use Rattle.tpl_verify.specs.Filled.{IsTextOf}
-use Rattle.tpl_verify.specs.Serving.{Refuted, Unrefuted}
+use Rattle.tpl_verify.specs.Filled.{IsTextOf, started}
+use Rattle.tpl_verify.specs.Serving.{Refuted, ShowsFailure, Unrefuted}
 use Rattle.tpl_verify.specs.Witness.{IsFound, IsSearched, refuted_by, IsRefutation, Searches}
 use Rattle.tpl_verify.proofs.Auditing.{audited_so}
 
@@ -87,10 +89,42 @@ unread asked bytes (Err e) wrong = tt
 
 -- ---- what was read and written
 
+-- the start with these inputs gives them
+starts_with : (start : Option StartValue) (inputs : List Bool) → (started start inputs).inputs ≡ inputs
+starts_with None inputs = refl
+starts_with (Some start) inputs = refl
+
 module _ {R W : Type 0} (remaining : R → Option (List ℕ)) (from_old from_new : Counting R) (contents : W → Option (List ℕ)) (old new : Counting W) (asked : Option ℕ) (result : Exit) (responds : Responds (Searches asked) remaining from_old from_new contents old new result) where
   pub failure_refutes : result ≡ Failed → Refuted remaining from_old from_new contents old new asked
   failure_refutes e = tells remaining from_old from_new contents old new result (IsSearched asked) (IsRefutation asked) (inr e)
       (λ doc text is. subst (λ (x : Exit). IsSearched asked doc x text) e is) responds
+
+  pub failure_shows : result ≡ Failed → ShowsFailure remaining from_old from_new contents old new asked
+  failure_shows e =
+      let told = failure_refutes e in
+      let found = told.is.found in
+      let written = told.is.spelled in
+      let parts = written.5 in
+      record {
+        input = told.input;
+        reads = told.reads;
+        graph = told.doc.graph;
+        claims = told.doc.claims;
+        spelled = claims_spelled told.input told.doc told.spelled;
+        number = told.is.number;
+        asks = found.asks;
+        claim = found.claim;
+        numbered = found.numbered;
+        inputs = told.is.inputs;
+        events = told.is.events;
+        refutes = found.refutes;
+        text = told.text;
+        written = (
+          written.0, written.1, written.2, written.3, written.4, (parts.valid, parts.graph, parts.claims),
+          (started told.doc.start told.is.inputs, parts.start, starts_with told.doc.start told.is.inputs), parts.journal,
+        );
+        writes = told.writes;
+      }
 
   pub success_finds_none : result ≡ Success → Unrefuted remaining from_old from_new contents old new asked
   success_finds_none e = tells remaining from_old from_new contents old new result (IsSearched asked) (λ doc text. IsKnown (length doc.claims) asked × (text ≡ codes "not refuted\n")) (inl e)

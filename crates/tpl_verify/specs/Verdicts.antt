@@ -113,6 +113,12 @@ IsVerdict rules g claim (verdict.Holds splits empty) = IsHeld rules g claim spli
 IsVerdict rules g claim (verdict.Fails run) = Refutes g claim run.inputs run.events.items
 IsVerdict rules g claim (verdict.Unknown tried) = Unit {0}
 
+-- the verdict is true of the claim, whatever it was found by
+abbrev pub IsSo : TaskGraph → Claim → Verdict → Type 0
+IsSo g claim (verdict.Holds splits empty) = HoldsAlways g claim × IfSome empty (IsEmpty g claim)
+IsSo g claim (verdict.Fails run) = Refutes g claim run.inputs run.events.items
+IsSo g claim (verdict.Unknown tried) = Unit {0}
+
 -- a true verdict on a claim, by some rules
 abbrev pub IsSomeVerdict : TaskGraph → Claim → Verdict → Type 0
 IsSomeVerdict g claim verdict = (rules : RuleSet) × IsVerdict rules g claim verdict

@@ -7,7 +7,7 @@ ghost use Rattle.tpl_journal.specs.Counting.{calls_of};
 ghost use Rattle.tpl_reader.specs.Document.{Spells};
 ghost use Rattle.tpl_reader.specs.SeenDocument.{doc_of};
 ghost use Rattle.tpl_commands.specs.Responding.{longest, Responds};
-ghost use Rattle.tpl_verify.specs.Serving.{Refuted, Unrefuted};
+ghost use Rattle.tpl_verify.specs.Serving.{Refuted, ShowsFailure, Unrefuted};
 ghost use Rattle.tpl_verify.specs.Witness.{IsFound, IsSearched, Searches};
 
 use crate::Attend;
@@ -137,8 +137,11 @@ pub fn refute_document<L: Listen, A: Attend, I: Read, O: Write>(
         O.contents to.old to.new result }
     ensures reads { calls_of from.new ≤ calls_of from.old + (longest + 2) }
 
-    // Where the claim is refuted, what was written spells the same document with a run in which the claim fails: the
-    // audit says so, and no certificate of its claims is accepted.
+    // Where the claim is refuted, what was written spells the same claims with a run in which the claim fails.
+    ensures fails { result ≡ Exit.Failure → ShowsFailure I.remaining from.old from.new
+        O.contents to.old to.new search.claim }
+
+    // It spells the same document with that run: the audit says so, and no certificate of its claims is accepted.
     ensures refuted { result ≡ Exit.Failure → Refuted I.remaining from.old from.new
         O.contents to.old to.new search.claim }
 
