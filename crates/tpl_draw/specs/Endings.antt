@@ -40,6 +40,10 @@ ends (tree ∷ trees) t = either (tree_ends tree t) (ends trees t)
 abbrev pub each_task : (ℕ → Finals) → ℕ → List Finals
 each_task ends n = below (λ t. ends t ∷ []) n
 
+-- the ways that are found are the other ones of each task, and beside them these
+abbrev pub JoinsEnds : List Finals → (ℕ → Finals) → List Finals → Type 0
+JoinsEnds others ends found = (other : ℕ → Finals) (n : ℕ) → others ≡ each_task other n → found ≡ each_task (λ t. either (ends t) (other t)) n
+
 -- how each of the first n tasks may end by the trees
 abbrev pub endings : List WideTree → ℕ → List Finals
 endings trees n = each_task (ends trees) n

@@ -1,8 +1,7 @@
 //! How the tasks may end by the rows of a certificate that may speak of tokens and of winners, and may leave rows out.
 
-ghost use Rattle.std.specs.Prelude.{◌≡◌, ℕ, IfOk, length};
+ghost use Rattle.std.specs.Prelude.{◌≡◌, IfOk, length};
 ghost use Rattle.std.specs.List.{All};
-ghost use Rattle.tpl_model.specs.declared.finals.Finals.{Finals};
 ghost use Rattle.tpl_model.specs.Certificate.{row};
 ghost use Rattle.tpl_model.specs.WiderRules.{plain};
 ghost use Rattle.tpl_graph.specs.Fits.{Fits};
@@ -11,9 +10,9 @@ ghost use Rattle.tpl_laws.specs.WideTrees.{AcceptsWideTree, WidelyAccepts, all_w
 ghost use Rattle.tpl_leaf.specs.Leaf.{wide_assumed};
 ghost use Rattle.tpl_leaf.specs.Links.{AreLinks};
 ghost use Rattle.tpl_wide.specs.Check.{IsCheck, graph_in};
-ghost use Rattle.tpl_draw.specs.Endings.{each_task, either, endings, no_ends, tree_ends};
+ghost use Rattle.tpl_draw.specs.Endings.{endings, tree_ends, JoinsEnds};
 
-use crate::ending::{either, no_ends};
+use crate::ending::{either, endings, no_ends};
 use std::alloc::{AllocError, Global};
 use tpl_checker::{Assumptions, Below, assumed_for};
 use tpl_graph::{Claim, Graph};
@@ -39,9 +38,8 @@ fn ends_in_rows(
     rows: &[WideRow],
     others: &[Finals],
 ) -> Result<Vec<Finals>, AllocError>
-    ensures { (other : ℕ → Finals) (n : ℕ) → others.now ≡ each_task other n
-        → IfOk result (λ found. found.items
-        ≡ each_task (λ t. either (row (plain rows.now) t).ends (other t)) n) }
+    ensures { IfOk result (λ found.
+        JoinsEnds others.now (λ t. (row (plain rows.now) t).ends) found.items) }
 {
     let mut found = Vec::new(alloc);
     for task in 0..others.len() {
@@ -62,10 +60,9 @@ fn ends_in_tree(
     requires check { IsCheck check.now }
     requires accepted { AcceptsWideTree (graph_in check.now) check.now.property
         (wide_assumed assumed.now winners.now) tree.now }
-    ensures { (other : ℕ → Finals) (n : ℕ) → others.now ≡ each_task other n
-        → IfOk result (λ found. found.items ≡ each_task (λ t. either
-        (tree_ends (written (graph_in check.now) check.now.property
-        (wide_assumed assumed.now winners.now) tree.now) t) (other t)) n) }
+    ensures { IfOk result (λ found. JoinsEnds others.now (tree_ends (written
+        (graph_in check.now) check.now.property (wide_assumed assumed.now winners.now) tree.now))
+        found.items) }
 {
     check.graph().valid_law();
     match tree.node() {
@@ -80,14 +77,28 @@ fn ends_in_tree(
             let on_canceled = assumed.with_end(*task, Final::Canceled);
             let on_faulted = assumed.with_end(*task, Final::Faulted);
             let found = ends_in_tree(alloc, check, &on_faulted, winners, faulted, others)?;
-            let found = ends_in_tree(alloc, check, &on_canceled, winners, canceled, found.as_slice())?;
+            let found = ends_in_tree(
+                alloc,
+                check,
+                &on_canceled,
+                winners,
+                canceled,
+                found.as_slice(),
+            )?;
             ends_in_tree(alloc, check, &on_ran, winners, ran, found.as_slice())
         }
         WideNode::SplitWinner(task, argument, on_yes, on_no) => {
             let yes = with_split(alloc, winners, *task, *argument, true)?;
             let no = with_split(alloc, winners, *task, *argument, false)?;
             let found = ends_in_tree(alloc, check, assumed, no.as_slice(), on_no, others)?;
-            ends_in_tree(alloc, check, assumed, yes.as_slice(), on_yes, found.as_slice())
+            ends_in_tree(
+                alloc,
+                check,
+                assumed,
+                yes.as_slice(),
+                on_yes,
+                found.as_slice(),
+            )
         }
         WideNode::Leaf(rows) => ends_in_rows(alloc, rows, others),
         WideNode::Least => {
@@ -95,17 +106,6 @@ fn ends_in_tree(
             ends_in_rows(alloc, rows.as_slice(), others)
         }
     }
-}
-
-/// That no task ends.
-fn no_task_ends(alloc: Global, tasks: usize) -> Result<Vec<Finals>, AllocError>
-    ensures { IfOk result (λ found. found.items ≡ each_task (λ t. no_ends) tasks) }
-{
-    let mut found = Vec::new(alloc);
-    for _ in 0..tasks {
-        found.push(no_ends())?;
-    }
-    Ok(found)
 }
 
 /// How the tasks may end by the trees of these claims, with what all trees share.
@@ -124,15 +124,16 @@ fn ends_in_trees(
     ensures { IfOk result (λ found. found.items ≡ endings
         (all_written graph.now.graph claims.now trees.now) (length graph.now.graph.tasks)) }
 {
-    match (claims, trees) {
-        ([claim, claims @ ..], [tree, trees @ ..]) => {
-            let others = ends_in_trees(alloc, graph, below, linked, claims, trees)?;
-            let check = Check::new(graph, claim.body(), 1, below, linked);
-            let assumed = assumed_for(graph, claim, RuleSet::Wide);
-            ends_in_tree(alloc, &check, &assumed, &[], tree, others.as_slice())
-        }
-        _ => no_task_ends(alloc, graph.len()),
-    }
+    let Some((claim, more)) = claims.split_first() else {
+        return endings(alloc, &[], graph.len());
+    };
+    let Some((tree, others)) = trees.split_first() else {
+        return endings(alloc, &[], graph.len());
+    };
+    let found = ends_in_trees(alloc, graph, below, linked, more, others)?;
+    let check = Check::new(graph, claim.body(), 1, below, linked);
+    let assumed = assumed_for(graph, claim, RuleSet::Wide);
+    ends_in_tree(alloc, &check, &assumed, &[], tree, found.as_slice())
 }
 
 /// How each task may end by the trees of an accepted certificate whose rows may speak of tokens too, and may be left out.
