@@ -140,6 +140,11 @@ ends_now : (g : TaskGraph) (v : List Bool) (h : List Event) (a : Actor) (x : Act
 ends_now g v h a x t e s =
     subst (λ z. is_some z ≡ true) (sym (if_true (ends_by g t x (started g v h) (ending g v h)) (ending_by g t (suc (length h)) a x (rest g v h) (started g v h) (ending g v h)) (ending g v h t) e)) s
 
+-- an act that ends a task uses up that it hadn't ended
+end_used : (g : TaskGraph) (v : List Bool) (h : List Event) (a : Actor) (x : Act) (t : ℕ) → is_task g t → is_some (ending g v h t) ≡ false → ends_by g t x (started g v h) (ending g v h) ≡ true → is_some (ending_by g t (suc (length h)) a x (rest g v h) (started g v h) (ending g v h)) ≡ true → UsesUp g v h (after a x h)
+end_used g v h a x t i unended e s =
+    inr (t, i, inr (inr (inr (inl (unused_lt (is_some (ending g v h t)) (is_some (ending g v (after a x h) t)) unended (ends_now g v h a x t e s))))))
+
 uses_up : (g : TaskGraph) (v : List Bool) (h : List Event) (a : Actor) (x : Act) → Allows g v h a x → UsesUp g v h (after a x h)
 uses_up g v h a (Request k) al =
     inl (k.0, al.1, unused_lt (requested_itself g v h k.0) (requested_itself g v (after a (Request k) h) k.0) before (or_left (nat_eq k.0 k.0) (requested_itself g v h k.0) (same_self k.0)))
@@ -166,27 +171,10 @@ uses_up g v h a (Step t) al = inr (t.0, al.0.task, inr (inr (inr (inr (passed_sm
 uses_up g v h a (Worked t w) al = inr (t.0, al.0.task, inr (inr (inr (inr (passed_smaller g v h a (Worked t w) t.0 (inr (w, refl)) al)))))
 uses_up g v h a (Leave t) al =
     inr (t.0, al.0.task, inr (inr (inl (unused_lt (left_body h t.0) (left_body (after a (Leave t) h) t.0) (running_facts g v h a t.0 al.0).1 (or_left (nat_eq t.0 t.0) (left_body h t.0) (same_self t.0))))))
-uses_up g v h a (Close t) al =
-    inr (
-      t.0,
-      al.0,
-      inr (inr (inr (inl (unused_lt (is_some (ending g v h t.0)) (is_some (ending g v (after a (Close t) h) t.0))
-          (none_false (ending g v h t.0) (close_facts g v h t.0 al.1).0) (ends_now g v h a (Close t) t.0 (same_self t.0) refl))))),
-    )
-uses_up g v h a (Drop t) al =
-    inr (
-      t.0,
-      al.0,
-      inr (inr (inr (inl (unused_lt (is_some (ending g v h t.0)) (is_some (ending g v (after a (Drop t) h) t.0))
-          (none_false (ending g v h t.0) (drop_facts g v h t.0 al.1).0) (ends_now g v h a (Drop t) t.0 (same_self t.0) refl))))),
-    )
+uses_up g v h a (Close t) al = end_used g v h a (Close t) t.0 al.0 (none_false (ending g v h t.0) (close_facts g v h t.0 al.1).0) (same_self t.0) refl
+uses_up g v h a (Drop t) al = end_used g v h a (Drop t) t.0 al.0 (none_false (ending g v h t.0) (drop_facts g v h t.0 al.1).0) (same_self t.0) refl
 uses_up g v h a (Settle t) al =
-    inr (
-      t.0,
-      al.0,
-      inr (inr (inr (inl (unused_lt (is_some (ending g v h t.0)) (is_some (ending g v (after a (Settle t) h) t.0))
-          al.1 (ends_now g v h a (Settle t) t.0 (same_self t.0) (settled_some (kind g t.0) (suc (length h)) (Some a) (ending g v h) al.2)))))),
-    )
+    end_used g v h a (Settle t) t.0 al.0 al.1 (same_self t.0) (settled_some (kind g t.0) (suc (length h)) (Some a) (ending g v h) al.2)
 
 -- each event uses up something
 less_left : (g : TaskGraph) (v : List Bool) (h : List Event) (a : Actor) (x : Act) → Allows g v h a x → all_left g v (after a x h) < all_left g v h

@@ -1,5 +1,5 @@
 -- The wider rules for rows with tokens are decided by their tests.
-use Rattle.std.proofs.Common.{◌≡◌, ℕ, zero, suc, ◌+◌, ◌<◌, ◌≤◌, ◌⊎◌, inl, inr, ◌&&◌, ◌||◌, not, Bool, true, false, Option, Some, None, List, [], ◌∷◌, refl, sym, subst, arith, nat_eq, is_some, length}
+use Rattle.std.proofs.Common.{◌≡◌, ℕ, zero, suc, ◌+◌, ◌<◌, ◌≤◌, ◌⊎◌, inl, inr, ◌&&◌, ◌||◌, not, Bool, true, false, Option, Some, None, List, [], ◌∷◌, refl, sym, ◌∙◌, subst, arith, nat_eq, is_some, length}
 use Rattle.std.proofs.lemmas.Option.{same_Some}
 use Rattle.std.specs.Prelude.{Decides}
 use Rattle.std.proofs.lemmas.Bool.{cases_lt}
@@ -47,19 +47,20 @@ by_fact : (P : Fact → Type 0) → ((x : ℕ) → P (IsSettled x)) → ((k : �
 by_fact P a b (IsSettled x) = a x
 by_fact P a b (IsRequested k) = b k
 
+-- those among which a test finds what stands in two lists
+facts_decided : (among : Fact → Bool) (xs ks : List ℕ) → ((x : ℕ) → among (IsSettled x) ≡ mem x xs) → ((k : ℕ) → among (IsRequested k) ≡ mem k ks) → (P : Fact → Type 0) (q : Fact → Bool) → ((f : Fact) → Decides (q f) (P f))
+    → Decides (all_in (λ x. q (IsSettled x)) xs && all_in (λ k. q (IsRequested k)) ks) ((f : Fact) → among f ≡ true → P f)
+facts_decided among xs ks settled requested P q d =
+    means (((x : ℕ) → mem x xs ≡ true → P (IsSettled x)) × ((k : ℕ) → mem k ks ≡ true → P (IsRequested k))) ((f : Fact) → among f ≡ true → P f) (all_in (λ x. q (IsSettled x)) xs && all_in (λ k. q (IsRequested k)) ks)
+    (of_facts P q xs ks d)
+    (λ e. by_fact (λ f. among f ≡ true → P f) (λ x m. e.0 x (sym (settled x) ∙ m)) (λ k m. e.1 k (sym (requested k) ∙ m)))
+    (λ f. ((λ x m. f (IsSettled x) (settled x ∙ m)), (λ k m. f (IsRequested k) (requested k ∙ m))))
+
 begin_decided : (rows : List WideRow) (t : ℕ) (P : Fact → Type 0) (q : Fact → Bool) → ((f : Fact) → Decides (q f) (P f)) → Decides (each_begin rows t q) ((f : Fact) → begins_with rows t f ≡ true → P f)
-begin_decided rows t P q d =
-    means (((x : ℕ) → mem x (row (plain rows) t).before ≡ true → P (IsSettled x)) × ((k : ℕ) → mem k (wide_row rows t).asked ≡ true → P (IsRequested k))) ((f : Fact) → begins_with rows t f ≡ true → P f) (each_begin rows t q)
-    (of_facts P q (row (plain rows) t).before (wide_row rows t).asked d)
-    (λ e. by_fact (λ f. begins_with rows t f ≡ true → P f) e.0 e.1)
-    (λ f. ((λ x m. f (IsSettled x) m), (λ k m. f (IsRequested k) m)))
+begin_decided rows t P q d = facts_decided (begins_with rows t) (row (plain rows) t).before (wide_row rows t).asked (λ x. refl) (λ k. refl) P q d
 
 ending_decided : (rows : List WideRow) (t : ℕ) (P : Fact → Type 0) (q : Fact → Bool) → ((f : Fact) → Decides (q f) (P f)) → Decides (each_ending rows t q) ((f : Fact) → ends_with rows t f ≡ true → P f)
-ending_decided rows t P q d =
-    means (((x : ℕ) → mem x (row (plain rows) t).past ≡ true → P (IsSettled x)) × ((k : ℕ) → mem k (wide_row rows t).asks ≡ true → P (IsRequested k))) ((f : Fact) → ends_with rows t f ≡ true → P f) (each_ending rows t q)
-    (of_facts P q (row (plain rows) t).past (wide_row rows t).asks d)
-    (λ e. by_fact (λ f. ends_with rows t f ≡ true → P f) e.0 e.1)
-    (λ f. ((λ x m. f (IsSettled x) m), (λ k m. f (IsRequested k) m)))
+ending_decided rows t P q d = facts_decided (ends_with rows t) (row (plain rows) t).past (wide_row rows t).asks (λ x. refl) (λ k. refl) P q d
 
 module _ (g : TaskGraph) (l : WideAssumed) (rows : List WideRow) (t : ℕ) (valid : IsGraph g) where
   -- it runs, unless its token is known
