@@ -44,9 +44,6 @@ not_reached p n h = grind (arith, nat_tests)
 pub is_reached : (p n : ℕ) → nat_le p n ≡ true → p ≤ n
 is_reached p n h = grind (arith, nat_tests)
 
-pub is_not_reached : (p n : ℕ) → nat_le p n ≡ false → n < p
-is_not_reached p n h = grind (arith, nat_tests)
-
 -- a place that is reached stays so
 pub still_at : (o : Option ℕ) (n m : ℕ) → n ≤ m → is_at o n ≡ true → is_at o m ≡ true
 still_at None n m le e = e
