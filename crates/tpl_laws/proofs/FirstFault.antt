@@ -1,7 +1,7 @@
 -- The first fault is what it says, whatever the rows and trees are.
-use Rattle.std.proofs.Common.{◌≡◌, ℕ, zero, suc, ◌+◌, ◌<◌, ◌≤◌, ◌⊎◌, inl, inr, ◌++◌, Bool, true, false, Option, Some, None, Err, List, [], ◌∷◌, refl, sym, ap, ◌∙◌, subst, arith, length}
-use Rattle.std.specs.Prelude.{Decides}
-use Rattle.std.specs.List.{AllByRecursion}
+use Rattle.std.proofs.Common.{◌≡◌, ℕ, zero, suc, ◌+◌, ◌<◌, ◌≤◌, ◌⊎◌, inl, inr, ◌++◌, Bool, true, false, Option, Some, None, Ok, Err, List, [], ◌∷◌, refl, sym, ap, ◌∙◌, subst, arith, length}
+use Rattle.std.specs.Prelude.{◌↔◌, Decides}
+use Rattle.std.specs.List.{AllByRecursion, AllZip}
 use Rattle.std.proofs.lemmas.Bool.{cases_lt}
 use Rattle.tpl_model.proofs.Truths.{true_false}
 use Rattle.tpl_model.specs.Graph.{TaskGraph, TaskKind, WhenAll, WhenAny, is_task}
@@ -14,7 +14,8 @@ use Rattle.tpl_model.specs.declared.fault.CertFault.{CertFault}
 use Rattle.tpl_model.specs.declared.fault.CertFault.TheVariants.{Shape, NotClosed}
 use Rattle.tpl_laws.specs.Verdict.{or_else, unless, past_rule, LeafFault, Breaks, ProvesNot, breaks, at_leaf, no_fault}
 use Rattle.tpl_laws.specs.FirstFault.{RowRules, BreaksFirst, LeafRules, Passes, Fails, place, Certificates, LeavesFail, ClaimsFail, HaveShape, FirstMisfits, Misfits, IsFirst}
-use Rattle.tpl_laws.proofs.FaultsDecided.{Clears, no_unless}
+use Rattle.tpl_laws.proofs.Basics.{some_none}
+use Rattle.tpl_laws.proofs.FaultsDecided.{Clears, clear, clear_unless, clear_or_else, clear_means, all_closed}
 
 some_unless : {A : Type 0} (b : Bool) (x y : A) (o : Option A) → unless b x o ≡ Some y → ((b ≡ false) × (x ≡ y)) ⊎ ((b ≡ true) × (o ≡ Some y))
 some_unless true x y o e = inr (refl, e)
@@ -88,17 +89,17 @@ abbrev pub tested : (g : TaskGraph) (r : LeafRules) → LeafTests g r → Option
 tested g r tests = or_else (tests.first 0 (length g.tasks)) (unless tests.proves ProvesNot None)
 
 module _ (g : TaskGraph) (r : LeafRules) (tests : LeafTests g r) where
-  all_closed : (t n : ℕ) → tests.first t n ≡ None → (x : ℕ) → t ≤ x → x < t + n → r.IsClosed x
-  all_closed t zero e x a b = absurd (omega arith)
-  all_closed t (suc n) e x a b =
-      let q = none_or_else (breaks t (tests.broken t)) (tests.first (suc t) n) (sym (tests.first_of_more t n) ∙ e) in
-      elim (cases_lt t x) [
-        | inl lt ↦ all_closed (suc t) n q.1 x (omega arith) (omega arith)
-        | inr ge ↦ let same : t ≡ x = omega arith in subst r.IsClosed same ((tests.closed t).0 (none_breaks t (tests.broken t) q.0))
-      ]
+  is_clear : Clears (tests.first 0 (length g.tasks)) ((t : ℕ) → is_task g t → r.IsClosed t)
+  is_clear = all_closed r.IsClosed tests.broken tests.first tests.closed tests.first_of_none tests.first_of_more (length g.tasks)
 
-  is_closed : tests.first 0 (length g.tasks) ≡ None → (t : ℕ) → is_task g t → r.IsClosed t
-  is_closed e t a = all_closed 0 (length g.tasks) e t (omega arith) (omega arith)
+  -- no fault is found just where the leaf is closed and proves the claim
+  pub leaf_clear : Clears (tested g r tests) (Passes g r)
+  leaf_clear =
+      let Closed = (t : ℕ) → is_task g t → r.IsClosed t in
+      clear_means (Closed × (r.Proves × Unit {0})) (Passes g r) (tested g r tests)
+      (clear_or_else Closed (r.Proves × Unit {0}) (tests.first 0 (length g.tasks)) (unless tests.proves ProvesNot None) is_clear (clear_unless r.Proves (Unit {0}) tests.proves ProvesNot None tests.proved clear))
+      (λ e. (e.0, e.1.0))
+      (λ e. (e.0, (e.1, tt)))
 
   record FirstBreaks (t n : ℕ) (f : LeafFault) : Type 0 where
     pub number : ℕ
@@ -138,15 +139,10 @@ module _ (g : TaskGraph) (r : LeafRules) (tests : LeafTests g r) where
             let a : s.number < 0 + length g.tasks = s.to in
             subst (Fails g r) s.is (omega arith, (λ x b. s.earlier x (omega arith) b), s.breaks)
         | inr q ↦ elim (some_unless tests.proves ProvesNot f None q.1) [
-          | inl u ↦ subst (Fails g r) u.1 (is_closed q.0, fails r.Proves tests.proves tests.proved u.0)
+          | inl u ↦ subst (Fails g r) u.1 (is_clear.0 q.0, fails r.Proves tests.proves tests.proved u.0)
           | inr u ↦ absurd (none_some f u.1)
         ]
       ]
-
-  leaf_passes : tested g r tests ≡ None → Passes g r
-  leaf_passes e =
-      let q = none_or_else (tests.first 0 (length g.tasks)) (unless tests.proves ProvesNot None) e in
-      (is_closed q.0, tests.proved.0 (no_unless tests.proves ProvesNot None q.1).0)
 
 -- the leaves of a tree, one after another
 abbrev pub leaves_fault : {B : Type 0} → (B → Option LeafFault) → ℕ → ℕ → List B → Option CertFault
@@ -179,20 +175,25 @@ some_leaf c n None fault e = absurd (cc)
 some_leaf c n (Some (Breaks t r)) fault e = (Breaks t r, refl, cc)
 some_leaf c n (Some ProvesNot) fault e = (ProvesNot, refl, cc)
 
-none_leaf : (c n : ℕ) (o : Option LeafFault) → at_leaf c n o ≡ None → o ≡ None
-none_leaf c n None e = refl
-none_leaf c n (Some (Breaks t r)) e = absurd (cc)
-none_leaf c n (Some ProvesNot) e = absurd (cc)
+clear_leaf : (c n : ℕ) (P : Type 0) (o : Option LeafFault) → Clears o P → Clears (at_leaf c n o) P
+clear_leaf c n P None d = (λ e. d.0 refl, λ p. refl)
+clear_leaf c n P (Some f) d = (λ e. absurd (none_some (place c n f) (sym e ∙ at_place f)), λ p. some_none f (d.1 p))
+  where
+    at_place : (f : LeafFault) → at_leaf c n (Some f) ≡ Some (place c n f)
+    at_place (Breaks t r) = refl
+    at_place ProvesNot = refl
 
 module _ {B : Type 0} (g : TaskGraph) (rules : B → LeafRules) (tests : (b : B) → LeafTests g (rules b)) (c : ℕ) where
   abbrev fault : B → Option LeafFault
   fault b = tested g (rules b) (tests b)
 
-  each_passes : (n : ℕ) (bs : List B) → leaves_fault fault c n bs ≡ None → AllByRecursion (λ b. Passes g (rules b)) bs
-  each_passes n [] e = tt
-  each_passes n (b ∷ bs) e =
-      let q = none_or_else (at_leaf c n (fault b)) (leaves_fault fault c (suc n) bs) e in
-      (leaf_passes g (rules b) (tests b) (none_leaf c n (fault b) q.0), each_passes (suc n) bs q.1)
+  passes : (n : ℕ) (b : B) → Clears (at_leaf c n (fault b)) (Passes g (rules b))
+  passes n b = clear_leaf c n (Passes g (rules b)) (fault b) (leaf_clear g (rules b) (tests b))
+
+  pub leaves_clear : (n : ℕ) (bs : List B) → Clears (leaves_fault fault c n bs) (AllByRecursion (λ b. Passes g (rules b)) bs)
+  leaves_clear n [] = (λ e. tt, λ u. refl)
+  leaves_clear n (b ∷ bs) =
+      clear_or_else (Passes g (rules b)) (AllByRecursion (λ b. Passes g (rules b)) bs) (at_leaf c n (fault b)) (leaves_fault fault c (suc n) bs) (passes n b) (leaves_clear (suc n) bs)
 
   one_fails : (n : ℕ) (bs : List B) (f : CertFault) → leaves_fault fault c n bs ≡ Some f → LeavesFail g rules c n bs f
   one_fails n [] f e = absurd (none_some f e)
@@ -219,7 +220,7 @@ module _ {B : Type 0} (g : TaskGraph) (rules : B → LeafRules) (tests : (b : B)
               branch = r.branch;
               later = r.later;
               list = ap (λ z. b ∷ z) r.list;
-              passed = (leaf_passes g (rules b) (tests b) (none_leaf c n (fault b) q.0), r.passed);
+              passed = ((passes n b).0 q.0, r.passed);
               why = r.why;
               fails = r.fails;
               at = r.at ∙ ap (λ z. place c z r.why) number;
@@ -243,10 +244,13 @@ pub record Tests (g : TaskGraph) (c : Certificates) : Type 0 where
   pub claims_of_none : (n : ℕ) → claims n [] [] ≡ None
   pub claims_of_more : (n : ℕ) (claim : Claim) (more : List Claim) (t : c.Tree) (trees : List c.Tree) → claims n (claim ∷ more) (t ∷ trees) ≡ or_else (tree n claim t) (claims (suc n) more trees)
   pub accepts : (claim : Claim) (t : c.Tree) → c.HasShape t → AllByRecursion (λ b. Passes g (c.rules claim.body b)) (c.leaves_for claim t) → c.Accepts claim t
+  pub accepted : (claim : Claim) (t : c.Tree) → c.Accepts claim t → c.HasShape t × AllByRecursion (λ b. Passes g (c.rules claim.body b)) (c.leaves_for claim t)
 
 module _ (g : TaskGraph) (c : Certificates) (tests : Tests g c) where
-  tree_passes : (n : ℕ) (claim : Claim) (tree : c.Tree) → c.HasShape tree → tests.tree n claim tree ≡ None → c.Accepts claim tree
-  tree_passes n claim tree shape e = tests.accepts claim tree shape (each_passes g (c.rules claim.body) (tests.leaf claim.body) n 1 (c.leaves_for claim tree) (sym (tests.tree_is n claim tree) ∙ e))
+  tree_clear : (n : ℕ) (claim : Claim) (tree : c.Tree) → c.HasShape tree → Clears (tests.tree n claim tree) (c.Accepts claim tree)
+  tree_clear n claim tree shape =
+      let clears = leaves_clear g (c.rules claim.body) (tests.leaf claim.body) n 1 (c.leaves_for claim tree) in
+      (λ e. tests.accepts claim tree shape (clears.0 (sym (tests.tree_is n claim tree) ∙ e)), λ a. tests.tree_is n claim tree ∙ clears.1 (tests.accepted claim tree a).1)
 
   tree_fails : (n : ℕ) (claim : Claim) (tree : c.Tree) (fault : CertFault) → tests.tree n claim tree ≡ Some fault → LeavesFail g (c.rules claim.body) n 1 (c.leaves_for claim tree) fault
   tree_fails n claim tree fault e = one_fails g (c.rules claim.body) (tests.leaf claim.body) n 1 (c.leaves_for claim tree) fault (sym (tests.tree_is n claim tree) ∙ e)
@@ -283,19 +287,19 @@ module _ (g : TaskGraph) (c : Certificates) (tests : Tests g c) where
               later_trees = r.later_trees;
               claims_are = ap (λ z. claim ∷ z) r.claims_are;
               trees_are = ap (λ z. tree ∷ z) r.trees_are;
-              accepted = (tree_passes n claim tree shapes.0 q.0, r.accepted);
+              accepted = ((tree_clear n claim tree shapes.0).0 q.0, r.accepted);
               fails = subst (λ z. LeavesFail g (c.rules r.claim.body) z 1 (c.leaves_for r.claim r.tree) fault) number r.fails;
             }
       ]
 
   -- shapes
-  have_shape : (n : ℕ) (claims : List Claim) (trees : List c.Tree) → tests.misfit n claims trees ≡ None → HaveShape c.HasShape claims trees
-  have_shape n [] [] e = tt
-  have_shape n [] (tree ∷ trees) e = absurd (none_some (Shape n) (sym e ∙ tests.misfit_of_tree n tree trees))
-  have_shape n (claim ∷ claims) [] e = absurd (none_some (Shape n) (sym e ∙ tests.misfit_of_claim n claim claims))
-  have_shape n (claim ∷ claims) (tree ∷ trees) e =
-      let s = no_unless (tests.fits tree) (Shape n) (tests.misfit (suc n) claims trees) (sym (tests.misfit_of_both n claim claims tree trees) ∙ e) in
-      ((tests.shaped tree).0 s.0, have_shape (suc n) claims trees s.1)
+  shapes_clear : (n : ℕ) (claims : List Claim) (trees : List c.Tree) → Clears (tests.misfit n claims trees) (HaveShape c.HasShape claims trees)
+  shapes_clear n [] [] = (λ e. tt, λ u. tests.misfit_of_none n)
+  shapes_clear n [] (tree ∷ trees) = (λ e. none_some (Shape n) (sym e ∙ tests.misfit_of_tree n tree trees), λ f. absurd f)
+  shapes_clear n (claim ∷ claims) [] = (λ e. none_some (Shape n) (sym e ∙ tests.misfit_of_claim n claim claims), λ f. absurd f)
+  shapes_clear n (claim ∷ claims) (tree ∷ trees) =
+      subst (λ z. Clears z (c.HasShape tree × HaveShape c.HasShape claims trees)) (sym (tests.misfit_of_both n claim claims tree trees))
+      (clear_unless (c.HasShape tree) (HaveShape c.HasShape claims trees) (tests.fits tree) (Shape n) (tests.misfit (suc n) claims trees) (tests.shaped tree) (shapes_clear (suc n) claims trees))
 
   misfits_here : (n : ℕ) (claims : List Claim) (trees : List c.Tree) (fault : CertFault) → FirstMisfits c.HasShape claims trees → Shape n ≡ fault → Misfits c.HasShape n claims trees fault
   misfits_here n claims trees fault f e =
@@ -333,12 +337,41 @@ module _ (g : TaskGraph) (c : Certificates) (tests : Tests g c) where
   finds_first claims trees fault e =
       elim (some_or_else (tests.misfit 1 claims trees) (tests.claims 1 claims trees) fault (err_some (or_else (tests.misfit 1 claims trees) (tests.claims 1 claims trees)) fault e)) [
         | inl q ↦ inl (misfit_is 1 claims trees fault q)
-        | inr q ↦ let shapes = have_shape 1 claims trees q.0 in inr (shapes, claims_fail 1 claims trees fault shapes q.1)
+        | inr q ↦ let shapes = (shapes_clear 1 claims trees).0 q.0 in inr (shapes, claims_fail 1 claims trees fault shapes q.1)
       ]
     where
       err_some : (o : Option CertFault) (f : CertFault) → no_fault o ≡ Err f → o ≡ Some f
       err_some None f e = absurd (cc)
       err_some (Some x) f e = let q : x ≡ f = cc in ap Some q
+
+  claims_clear : (n : ℕ) (claims : List Claim) (trees : List c.Tree) → HaveShape c.HasShape claims trees → Clears (tests.claims n claims trees) (AllZip c.Accepts claims trees)
+  claims_clear n [] [] shapes = (λ e. tt, λ u. tests.claims_of_none n)
+  claims_clear n [] (tree ∷ trees) shapes = absurd shapes
+  claims_clear n (claim ∷ claims) [] shapes = absurd shapes
+  claims_clear n (claim ∷ claims) (tree ∷ trees) shapes =
+      subst (λ z. Clears z (c.Accepts claim tree × AllZip c.Accepts claims trees)) (sym (tests.claims_of_more n claim claims tree trees))
+      (clear_or_else (c.Accepts claim tree) (AllZip c.Accepts claims trees) (tests.tree n claim tree) (tests.claims (suc n) claims trees) (tree_clear n claim tree shapes.0) (claims_clear (suc n) claims trees shapes.1))
+
+  all_shaped : (claims : List Claim) (trees : List c.Tree) → AllZip c.Accepts claims trees → HaveShape c.HasShape claims trees
+  all_shaped [] [] a = tt
+  all_shaped [] (tree ∷ trees) a = a
+  all_shaped (claim ∷ claims) [] a = a
+  all_shaped (claim ∷ claims) (tree ∷ trees) a = ((tests.accepted claim tree a.0).0, all_shaped claims trees a.1)
+
+  -- they find none just where each tree is accepted
+  pub finds_none : (claims : List Claim) (trees : List c.Tree) → (no_fault (or_else (tests.misfit 1 claims trees) (tests.claims 1 claims trees)) ≡ Ok tt) ↔ AllZip c.Accepts claims trees
+  finds_none claims trees = (
+    λ e.
+        let q = none_or_else (tests.misfit 1 claims trees) (tests.claims 1 claims trees) (ok_none (or_else (tests.misfit 1 claims trees) (tests.claims 1 claims trees)) e) in
+        (claims_clear 1 claims trees ((shapes_clear 1 claims trees).0 q.0)).0 q.1,
+    λ a.
+        let shapes = all_shaped claims trees a in
+        ap no_fault ((clear_or_else (HaveShape c.HasShape claims trees) (AllZip c.Accepts claims trees) (tests.misfit 1 claims trees) (tests.claims 1 claims trees) (shapes_clear 1 claims trees) (claims_clear 1 claims trees shapes)).1 (shapes, a)),
+  )
+    where
+      ok_none : (o : Option CertFault) → no_fault o ≡ Ok tt → o ≡ None
+      ok_none None e = refl
+      ok_none (Some x) e = absurd (cc)
 
 -- the first fault names a task of the graph
 fault_names : (g : TaskGraph) (r : LeafRules) (why : LeafFault) (claim leaf c n : ℕ) (t : TaskId) (rule : Rule) → Fails g r why → NotClosed claim leaf t rule ≡ place c n why → is_task g t.0

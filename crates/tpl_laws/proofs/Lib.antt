@@ -28,7 +28,6 @@ pub mod Parents
 pub mod RulesDecided
 pub mod FaultsDecided
 pub mod WiderDecided
-pub mod WideTreesDecided
 pub mod FirstFault
 pub mod OneFault
 pub mod PlainFaults

@@ -1,16 +1,17 @@
--- The first fault of a certificate of rows without tokens.
-use Rattle.std.proofs.Common.{◌≡◌, ℕ, ◌+◌, ◌<◌, ◌++◌, Bool, true, false, Option, List, refl, ap, arith, length, nat_eq, nat_lt, length-append}
-use Rattle.std.specs.Prelude.{Decides}
-use Rattle.std.specs.List.{AllByRecursion}
+-- The first fault of a certificate of rows without tokens, and when there is none.
+use Rattle.std.proofs.Common.{◌≡◌, ℕ, ◌+◌, ◌<◌, ◌++◌, Bool, true, false, Option, List, [], ◌∷◌, refl, ap, arith, length, nat_eq, nat_lt, length-append}
+use Rattle.std.specs.Prelude.{◌↔◌, Decides}
+use Rattle.std.specs.List.{AllByRecursion, AllZip}
 use Rattle.tpl_model.specs.declared.finals.Final.TheVariants.{RanToCompletion, Canceled, Faulted}
 use Rattle.tpl_model.specs.Graph.{TaskGraph, kind, is_task}
 use Rattle.tpl_model.specs.Valid.{IsGraph}
 use Rattle.tpl_model.specs.declared.ids.TaskId.{TaskId}
 use Rattle.tpl_model.specs.declared.claim.Property.{Property}
 use Rattle.tpl_model.specs.Claims.{Claim}
-use Rattle.tpl_model.specs.Certificate.{Row, Tree, SplitInput, SplitEnd, Leaf, Assumed, assumed_for, with_input, with_end, IsClosed, IdsOfRows, AcceptsTree}
+use Rattle.tpl_model.specs.Certificate.{Row, Tree, SplitInput, SplitEnd, Leaf, Assumed, assumed_for, with_input, with_end, IsClosed, IdsOfRows, AcceptsTree, Accepts}
 use Rattle.tpl_model.specs.declared.fault.Rule.{Rule}
 use Rattle.tpl_model.specs.declared.fault.CertFault.TheVariants.{NotClosed}
+use Rattle.tpl_laws.specs.Decided.{VerdictIsRight}
 use Rattle.tpl_laws.specs.PathLaws.{PathLaws}
 use Rattle.tpl_laws.specs.RowTests.{runs, ends, before, past, chain, proves}
 use Rattle.tpl_laws.specs.Verdict.{or_else, broken, first_broken, LeafFault, leaf_fault, leaves, tree_fault, claims_fault, rows_fit, fits, misfit}
@@ -19,7 +20,7 @@ use Rattle.tpl_laws.specs.Faults.{row_rules, Branch, leaves_of, leaf_rules, HasS
 use Rattle.tpl_laws.proofs.Deciding.{same, both, both3, both4}
 use Rattle.tpl_laws.proofs.RulesDecided.{runs_lem, ends_lem, before_lem, past_lem, chain_lem, proves_lem}
 use Rattle.tpl_laws.proofs.FaultsDecided.{broken_lem, below_decided, rows_decided}
-use Rattle.tpl_laws.proofs.FirstFault.{past_rule_is, breaks_first, LeafTests, leaves_fault, parts_joined, one_leaf, Tests, finds_first, first_names}
+use Rattle.tpl_laws.proofs.FirstFault.{past_rule_is, breaks_first, LeafTests, leaves_fault, parts_joined, one_leaf, Tests, finds_first, finds_none, first_names}
 use Rattle.tpl_laws.proofs.OneFault.{one_rule, Keeps, keeps_or_breaks, AreSound, all_joined, all_parted, one_first}
 
 -- the rules of a leaf
@@ -44,6 +45,12 @@ module _ (g : TaskGraph) (p : Property TaskId) where
       all_joined Passing (leaves_of (with_end l t RanToCompletion) a) (leaves_of (with_end l t Canceled) b ++ leaves_of (with_end l t Faulted) d) (accepted_leaves (with_end l t RanToCompletion) a e.1)
       (all_joined Passing (leaves_of (with_end l t Canceled) b) (leaves_of (with_end l t Faulted) d) (accepted_leaves (with_end l t Canceled) b e.2) (accepted_leaves (with_end l t Faulted) d e.3))
   accepted_leaves l (Leaf rows) e = ((e.2, e.3), tt)
+
+  accepted_shape : (l : Assumed) (tree : Tree) → AcceptsTree g p l tree → HasShape g tree
+  accepted_shape l (SplitInput i a b) e = (e.0, accepted_shape (with_input l i true) a e.1, accepted_shape (with_input l i false) b e.2)
+  accepted_shape l (SplitEnd t a b d) e =
+      (e.0, accepted_shape (with_end l t RanToCompletion) a e.1, accepted_shape (with_end l t Canceled) b e.2, accepted_shape (with_end l t Faulted) d e.3)
+  accepted_shape l (Leaf rows) e = (e.0, e.1)
 
   leaves_accepted : (l : Assumed) (tree : Tree) → HasShape g tree → AllByRecursion Passing (leaves_of l tree) → AcceptsTree g p l tree
   leaves_accepted l (SplitInput i a b) s e =
@@ -89,11 +96,11 @@ module _ (paths : PathLaws) (g : TaskGraph) (valid : IsGraph g) where
   -- shapes
   shape_decided : (tree : Tree) → Decides (fits g tree) (HasShape g tree)
   shape_decided (SplitInput i a b) =
-      both3 (i < g.inputs) (HasShape g a) (HasShape g b) (nat_lt i g.inputs) (fits g a) (fits g b) (below_decided paths i g.inputs) (shape_decided a) (shape_decided b)
+      both3 (i < g.inputs) (HasShape g a) (HasShape g b) (nat_lt i g.inputs) (fits g a) (fits g b) (below_decided i g.inputs) (shape_decided a) (shape_decided b)
   shape_decided (SplitEnd t a b d) =
-      both4 (is_task g t) (HasShape g a) (HasShape g b) (HasShape g d) (nat_lt t (length g.tasks)) (fits g a) (fits g b) (fits g d) (below_decided paths t (length g.tasks)) (shape_decided a) (shape_decided b) (shape_decided d)
+      both4 (is_task g t) (HasShape g a) (HasShape g b) (HasShape g d) (nat_lt t (length g.tasks)) (fits g a) (fits g b) (fits g d) (below_decided t (length g.tasks)) (shape_decided a) (shape_decided b) (shape_decided d)
   shape_decided (Leaf rows) =
-      both (length rows ≡ length g.tasks) (IdsOfRows g rows) (nat_eq (length rows) (length g.tasks)) (rows_fit g rows) (same (length rows) (length g.tasks)) (rows_decided paths g rows)
+      both (length rows ≡ length g.tasks) (IdsOfRows g rows) (nat_eq (length rows) (length g.tasks)) (rows_fit g rows) (same (length rows) (length g.tasks)) (rows_decided g rows)
 
   abbrev leaf_tests : (p : Property TaskId) (b : Branch) → LeafTests g (leaf_rules g p b)
   leaf_tests p b = record {
@@ -126,7 +133,21 @@ module _ (paths : PathLaws) (g : TaskGraph) (valid : IsGraph g) where
     claims_of_none = λ n. refl;
     claims_of_more = λ n claim more tree trees. refl;
     accepts = λ claim tree. leaves_accepted g claim.body (assumed_for wide g claim) tree;
+    accepted = λ claim tree a. (accepted_shape g claim.body (assumed_for wide g claim) tree a, accepted_leaves g claim.body (assumed_for wide g claim) tree a);
   }
+
+-- each tree is accepted just where the certificate is
+all_accepted : (wide : Bool) (g : TaskGraph) (claims : List Claim) (trees : List Tree) → AllZip (λ claim tree. AcceptsTree g claim.body (assumed_for wide g claim) tree) claims trees ↔ Accepts wide g claims trees
+all_accepted wide g [] [] = (λ a. a, λ a. a)
+all_accepted wide g [] (tree ∷ trees) = (λ a. a, λ a. a)
+all_accepted wide g (claim ∷ claims) [] = (λ a. a, λ a. a)
+all_accepted wide g (claim ∷ claims) (tree ∷ trees) = let rest = all_accepted wide g claims trees in (λ a. (a.0, rest.0 a.1), λ a. (a.0, rest.1 a.1))
+
+pub verdict_lem : PathLaws → VerdictIsRight
+verdict_lem paths wide g claims trees valid =
+    let none = finds_none g (certificates wide g) (tests paths g valid wide) claims trees in
+    let all = all_accepted wide g claims trees in
+    (λ e. all.0 (none.0 e), λ a. none.1 (all.1 a))
 
 pub first_fault : PathLaws → FaultIsFirst
 first_fault paths wide g claims trees fault valid e = finds_first g (certificates wide g) (tests paths g valid wide) claims trees fault e

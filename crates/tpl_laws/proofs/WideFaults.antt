@@ -1,31 +1,32 @@
--- The first fault of a certificate of rows with tokens.
-use Rattle.std.proofs.Common.{◌≡◌, ℕ, ◌+◌, ◌<◌, ◌++◌, true, false, Option, List, refl, ap, arith, length, nat_eq, nat_lt, length-append}
-use Rattle.std.specs.Prelude.{Decides}
-use Rattle.std.specs.List.{AllByRecursion}
+-- The first fault of a certificate of rows with tokens, and when there is none.
+use Rattle.std.proofs.lemmas.Bool.{ltb-true, lt-ltb}
+use Rattle.tpl_model.proofs.Truths.{true_false}
+use Rattle.std.proofs.Common.{◌≡◌, ℕ, ◌+◌, ◌<◌, ◌++◌, ◌&&◌, true, false, Option, List, [], ◌∷◌, refl, sym, ◌∙◌, ap, arith, length, nat_eq, nat_lt, length-append}
+use Rattle.std.specs.Prelude.{◌↔◌, Decides}
+use Rattle.std.specs.List.{AllByRecursion, AllZip}
 use Rattle.tpl_model.specs.declared.finals.Final.TheVariants.{RanToCompletion, Canceled, Faulted}
-use Rattle.tpl_model.specs.Graph.{TaskGraph, kind, is_task}
+use Rattle.tpl_model.specs.Graph.{TaskGraph, TaskKind, WhenAny, kind, is_task, is_token}
 use Rattle.tpl_model.specs.Valid.{IsGraph}
 use Rattle.tpl_model.specs.declared.ids.TaskId.{TaskId}
 use Rattle.tpl_model.specs.declared.claim.Property.{Property}
 use Rattle.tpl_model.specs.Claims.{Claim}
 use Rattle.tpl_model.specs.Certificate.{row, IdsOfRows}
-use Rattle.tpl_model.specs.WiderRules.{WideRow, plain, WideAssumed, kind_left, may_run, IsWidelyClosed, narrowed, TokensOfRows, WideTree, OnInput, OnEnd, OnWinner, WideLeaf, LeastLeaf, input_split, end_split, winner_split, MayHaveWinner, widely_assumed}
-use Rattle.tpl_laws.specs.WideTrees.{AcceptsWideTree}
+use Rattle.tpl_model.specs.WiderRules.{WideRow, plain, WideAssumed, kind_left, may_run, IsWidelyClosed, narrowed, AllTokens, TokensOfRows, WideTree, OnInput, OnEnd, OnWinner, WideLeaf, LeastLeaf, input_split, end_split, winner_split, MayHaveWinner, widely_assumed}
+use Rattle.tpl_laws.specs.WideTrees.{AcceptsWideTree, WidelyAccepts}
 use Rattle.tpl_model.specs.declared.fault.Rule.{Rule}
 use Rattle.tpl_model.specs.declared.fault.CertFault.TheVariants.{NotClosed}
 use Rattle.tpl_laws.specs.PathLaws.{PathLaws}
 use Rattle.tpl_laws.specs.RowTests.{implies}
 use Rattle.tpl_laws.specs.Verdict.{or_else, LeafFault, rows_fit}
-use Rattle.tpl_laws.specs.WiderTests.{each_begin, each_ending, wide_runs_by, wide_ends_by, begin_by, end_by, wide_chain, wide_broken, wide_proves, wide_first_broken, wide_leaf_fault}
-use Rattle.tpl_laws.specs.WideVerdict.{wide_leaves, wide_tree_fault, wide_claims_fault, tokens_fit, may_have_winner, wide_fits, wide_misfit}
+use Rattle.tpl_laws.specs.WiderTests.{each_begin, each_ending, wide_runs_by, wide_ends_by, begin_by, end_by, wide_chain, wide_broken, wide_proves, wide_first_broken, wide_leaf_fault, WideLeafIsRight}
+use Rattle.tpl_laws.specs.WideVerdict.{wide_leaves, wide_tree_fault, wide_claims_fault, tokens_fit, may_have_winner, wide_fits, wide_misfit, has_tokens, WideTreeIsRight, WideVerdictIsRight}
 use Rattle.tpl_laws.specs.FirstFault.{Passes}
 use Rattle.tpl_laws.specs.WideFaults.{wide_row_rules, WideBranch, wide_leaves_of, wide_leaf_rules, HasWideShape, wide_certificates, IsFirstWideFault, WideFaultIsFirst, OneFirstWideFault}
-use Rattle.tpl_laws.proofs.Deciding.{same, both3, both4}
+use Rattle.tpl_laws.proofs.Deciding.{same, both, both3, both4}
 use Rattle.tpl_laws.proofs.FaultsDecided.{below_decided, rows_decided}
 use Rattle.tpl_laws.proofs.WiderDecided.{runs_decided, ends_decided, begin_rule_decided, end_rule_decided, chain_decided, wide_broken_lem, wide_proves_lem}
 use Rattle.tpl_laws.specs.LeastRows.{least_rows}
-use Rattle.tpl_laws.proofs.WideTreesDecided.{tokens_of_rows, winner_decided}
-use Rattle.tpl_laws.proofs.FirstFault.{past_rule_is, breaks_first, LeafTests, leaves_fault, parts_joined, one_leaf, Tests, finds_first, first_names}
+use Rattle.tpl_laws.proofs.FirstFault.{past_rule_is, breaks_first, LeafTests, leaves_fault, parts_joined, one_leaf, leaf_clear, leaves_clear, Tests, finds_first, finds_none, first_names}
 use Rattle.tpl_laws.proofs.OneFault.{one_rule, Keeps, keeps_or_breaks, AreSound, all_joined, all_parted, one_first}
 
 -- the rules of a leaf
@@ -53,6 +54,14 @@ module _ (g : TaskGraph) (p : Property TaskId) where
       all_joined Passing (wide_leaves_of g p (winner_split l m x true) a) (wide_leaves_of g p (winner_split l m x false) b) (accepted_leaves (winner_split l m x true) a e.1) (accepted_leaves (winner_split l m x false) b e.2)
   accepted_leaves l (WideLeaf rows) e = (e.3, tt)
   accepted_leaves l LeastLeaf e = (e, tt)
+
+  accepted_shape : (l : WideAssumed) (tree : WideTree) → AcceptsWideTree g p l tree → HasWideShape g tree
+  accepted_shape l (OnInput i a b) e = (e.0, accepted_shape (input_split l i true) a e.1, accepted_shape (input_split l i false) b e.2)
+  accepted_shape l (OnEnd t a b d) e =
+      (e.0, accepted_shape (end_split l t RanToCompletion) a e.1, accepted_shape (end_split l t Canceled) b e.2, accepted_shape (end_split l t Faulted) d e.3)
+  accepted_shape l (OnWinner m x a b) e = (e.0, accepted_shape (winner_split l m x true) a e.1, accepted_shape (winner_split l m x false) b e.2)
+  accepted_shape l (WideLeaf rows) e = (e.0, e.1, e.2)
+  accepted_shape l LeastLeaf e = tt
 
   leaves_accepted : (l : WideAssumed) (tree : WideTree) → HasWideShape g tree → AllByRecursion Passing (wide_leaves_of g p l tree) → AcceptsWideTree g p l tree
   leaves_accepted l (OnInput i a b) s e =
@@ -108,18 +117,39 @@ module _ (g : TaskGraph) (p : Property TaskId) where
   tree_is c l n (WideLeaf rows) = one_leaf fault_of c n (record { assumes = narrowed g l; rows = rows })
   tree_is c l n LeastLeaf = one_leaf fault_of c n (record { assumes = narrowed g l; rows = least_rows g (narrowed g l) p })
 
+-- shapes
+tokens_decided : (g : TaskGraph) (ks : List ℕ) → Decides (has_tokens g ks) (AllTokens g ks)
+tokens_decided g [] = (λ e. tt, λ u. refl)
+tokens_decided g (k ∷ ks) = both (is_token g k) (AllTokens g ks) (nat_lt k (length g.tokens)) (has_tokens g ks) (ltb-true k (length g.tokens), lt-ltb k (length g.tokens)) (tokens_decided g ks)
+
+row_tokens : (g : TaskGraph) (r : WideRow) (rows : List WideRow) → Decides (tokens_fit g rows) (TokensOfRows g rows) → Decides (tokens_fit g (r ∷ rows)) ((AllTokens g r.asked × AllTokens g r.asks) × TokensOfRows g rows)
+row_tokens g r rows d =
+    both (AllTokens g r.asked × AllTokens g r.asks) (TokensOfRows g rows) (has_tokens g r.asked && has_tokens g r.asks) (tokens_fit g rows)
+    (both (AllTokens g r.asked) (AllTokens g r.asks) (has_tokens g r.asked) (has_tokens g r.asks) (tokens_decided g r.asked) (tokens_decided g r.asks))
+    d
+
+pub tokens_of_rows : (g : TaskGraph) (rows : List WideRow) → Decides (tokens_fit g rows) (TokensOfRows g rows)
+tokens_of_rows g [] = (λ e. tt, λ u. refl)
+tokens_of_rows g (r ∷ rows) = (
+  λ e. let q = (row_tokens g r rows (tokens_of_rows g rows)).0 e in (q.0.0, q.0.1, q.1),
+  λ e. (row_tokens g r rows (tokens_of_rows g rows)).1 ((e.0, e.1), e.2),
+)
+
+pub winner_decided : (k : TaskKind) (x : ℕ) → Decides (may_have_winner k x) (MayHaveWinner k x)
+winner_decided (WhenAny args) x = (λ e. e, λ e. e)
+winner_decided k x = (λ e. true_false (sym e), λ f. absurd f)
+
 module _ (paths : PathLaws) (g : TaskGraph) (valid : IsGraph g) where
-  -- shapes
   shape_decided : (tree : WideTree) → Decides (wide_fits g tree) (HasWideShape g tree)
   shape_decided (OnInput i a b) =
-      both3 (i < g.inputs) (HasWideShape g a) (HasWideShape g b) (nat_lt i g.inputs) (wide_fits g a) (wide_fits g b) (below_decided paths i g.inputs) (shape_decided a) (shape_decided b)
+      both3 (i < g.inputs) (HasWideShape g a) (HasWideShape g b) (nat_lt i g.inputs) (wide_fits g a) (wide_fits g b) (below_decided i g.inputs) (shape_decided a) (shape_decided b)
   shape_decided (OnEnd t a b d) =
-      both4 (is_task g t) (HasWideShape g a) (HasWideShape g b) (HasWideShape g d) (nat_lt t (length g.tasks)) (wide_fits g a) (wide_fits g b) (wide_fits g d) (below_decided paths t (length g.tasks)) (shape_decided a) (shape_decided b) (shape_decided d)
+      both4 (is_task g t) (HasWideShape g a) (HasWideShape g b) (HasWideShape g d) (nat_lt t (length g.tasks)) (wide_fits g a) (wide_fits g b) (wide_fits g d) (below_decided t (length g.tasks)) (shape_decided a) (shape_decided b) (shape_decided d)
   shape_decided (OnWinner m x a b) =
       both3 (MayHaveWinner (kind g m) x) (HasWideShape g a) (HasWideShape g b) (may_have_winner (kind g m) x) (wide_fits g a) (wide_fits g b) (winner_decided (kind g m) x) (shape_decided a) (shape_decided b)
   shape_decided (WideLeaf rows) =
       both3 (length rows ≡ length g.tasks) (IdsOfRows g (plain rows)) (TokensOfRows g rows) (nat_eq (length rows) (length g.tasks)) (rows_fit g (plain rows)) (tokens_fit g rows)
-      (same (length rows) (length g.tasks)) (rows_decided paths g (plain rows)) (tokens_of_rows g rows)
+      (same (length rows) (length g.tasks)) (rows_decided g (plain rows)) (tokens_of_rows g rows)
   shape_decided LeastLeaf = (λ e. tt, λ u. refl)
 
   abbrev leaf_tests : (p : Property TaskId) (b : WideBranch) → LeafTests g (wide_leaf_rules g p b)
@@ -154,7 +184,33 @@ module _ (paths : PathLaws) (g : TaskGraph) (valid : IsGraph g) where
     claims_of_none = λ n. refl;
     claims_of_more = λ n claim more tree trees. refl;
     accepts = λ claim tree. leaves_accepted g claim.body (widely_assumed g claim) tree;
+    accepted = λ claim tree a. (accepted_shape g claim.body (widely_assumed g claim) tree a, accepted_leaves g claim.body (widely_assumed g claim) tree a);
   }
+
+-- there is none in a leaf, in a tree and in a certificate just where they are accepted
+pub wide_leaf_lem : PathLaws → WideLeafIsRight
+wide_leaf_lem paths g p l rows valid = let b : WideBranch = record { assumes = l; rows = rows } in leaf_clear g (wide_leaf_rules g p b) (leaf_tests paths g valid p b)
+
+pub wide_tree_lem : PathLaws → WideTreeIsRight
+wide_tree_lem paths g p claim l leaf tree valid =
+    let shape = shape_decided paths g valid tree in
+    let clears = leaves_clear g (wide_leaf_rules g p) (leaf_tests paths g valid p) claim leaf (wide_leaves_of g p l tree) in
+    let same = tree_is g p claim l leaf tree in (
+      λ e. leaves_accepted g p l tree (shape.0 e.0) (clears.0 (sym same ∙ e.1)),
+      λ a. (shape.1 (accepted_shape g p l tree a), same ∙ clears.1 (accepted_leaves g p l tree a)),
+    )
+
+all_accepted : (g : TaskGraph) (claims : List Claim) (trees : List WideTree) → AllZip (λ claim tree. AcceptsWideTree g claim.body (widely_assumed g claim) tree) claims trees ↔ WidelyAccepts g claims trees
+all_accepted g [] [] = (λ a. a, λ a. a)
+all_accepted g [] (tree ∷ trees) = (λ a. a, λ a. a)
+all_accepted g (claim ∷ claims) [] = (λ a. a, λ a. a)
+all_accepted g (claim ∷ claims) (tree ∷ trees) = let rest = all_accepted g claims trees in (λ a. (a.0, rest.0 a.1), λ a. (a.0, rest.1 a.1))
+
+pub wide_verdict_lem : PathLaws → WideVerdictIsRight
+wide_verdict_lem paths g claims trees valid =
+    let none = finds_none g (wide_certificates g) (tests paths g valid) claims trees in
+    let all = all_accepted g claims trees in
+    (λ e. all.0 (none.0 e), λ a. none.1 (all.1 a))
 
 pub wide_first_fault : PathLaws → WideFaultIsFirst
 wide_first_fault paths g claims trees fault valid e = finds_first g (wide_certificates g) (tests paths g valid) claims trees fault e

@@ -1,8 +1,7 @@
 -- The wider rules for rows with tokens are decided by their tests.
-use Rattle.std.proofs.Common.{◌≡◌, ℕ, zero, suc, ◌+◌, ◌<◌, ◌≤◌, ◌⊎◌, inl, inr, ◌&&◌, ◌||◌, not, Bool, true, false, Option, Some, None, List, [], ◌∷◌, refl, sym, ◌∙◌, subst, arith, nat_eq, is_some, length}
+use Rattle.std.proofs.Common.{◌≡◌, ℕ, ◌⊎◌, ◌&&◌, ◌||◌, not, Bool, true, false, Option, Some, None, List, [], ◌∷◌, refl, sym, ◌∙◌, subst, nat_eq, is_some}
 use Rattle.std.proofs.lemmas.Option.{same_Some}
 use Rattle.std.specs.Prelude.{Decides}
-use Rattle.std.proofs.lemmas.Bool.{cases_lt}
 use Rattle.tpl_model.proofs.Truths.{true_false}
 use Rattle.tpl_model.specs.declared.finals.Final.{Final}
 use Rattle.tpl_model.specs.declared.finals.Final.TheVariants.{RanToCompletion, Canceled, Faulted}
@@ -18,17 +17,16 @@ use Rattle.tpl_model.specs.Valid.{IsGraph}
 use Rattle.tpl_model.specs.declared.ids.TaskId.{TaskId}
 use Rattle.tpl_model.specs.declared.claim.Property.{Property}
 use Rattle.tpl_model.specs.declared.claim.Property.TheVariants.{Observed}
-use Rattle.tpl_model.specs.declared.fault.Rule.TheVariants.{K1, K2, K3, K6}
 use Rattle.tpl_model.specs.Certificate.{row, end_left, is_loud, AllMayEnd, may_end, TakesOver, Reads, NoneComplete}
-use Rattle.tpl_model.specs.WiderRules.{WideRow, plain, wide_row, begins_with, ends_with, once_ended, linked, WideAssumed, kind_left, reading, asked_of, known_at_end, known_at_start, own_among, may_run, WideRunsRule, Way, ByBody, RootDropped, ChildDropped, DroppedEarly, DroppedLate, NotAllowed, way_final, MayEndBy, IsWay, OwnRequested, SettledBefore, KnownThere, BeforeBegin, HoldsBy, WideEndsRule, BeginRule, SettledBelow, EndRule, IsWonBy, ReadsWinner, WideLinks, WideChainRule, IsWidelyClosed, WidelyClosed, WidelyProves}
+use Rattle.tpl_model.specs.WiderRules.{WideRow, plain, wide_row, begins_with, ends_with, once_ended, linked, WideAssumed, kind_left, reading, asked_of, known_at_end, known_at_start, own_among, may_run, WideRunsRule, Way, ByBody, RootDropped, ChildDropped, DroppedEarly, DroppedLate, NotAllowed, way_final, MayEndBy, IsWay, OwnRequested, SettledBefore, KnownThere, BeforeBegin, HoldsBy, WideEndsRule, BeginRule, SettledBelow, EndRule, IsWonBy, ReadsWinner, WideLinks, WideChainRule, IsWidelyClosed, WidelyProves}
 use Rattle.tpl_laws.specs.PathLaws.{PathLaws}
 use Rattle.tpl_laws.specs.RowTests.{implies, all_in, each_end, some_end, all_may_end, takes_over, faulted_view, reads, is_none, none_complete}
-use Rattle.tpl_laws.specs.Verdict.{unless, past_rule, ProvesNot, breaks}
-use Rattle.tpl_laws.specs.WiderTests.{if_known, each_begin, each_ending, wide_runs_by, each_drop, each_body_end, each_way, wide_ends_by, begin_by, own_requested, settled_before, known_there, before_begin, holds_by, settled_below, end_by, is_won_by, reads_winner, wide_links, wide_chain, wide_broken, wide_proves, wide_first_broken, wide_leaf_fault}
+use Rattle.tpl_laws.specs.WiderTests.{if_known, each_begin, each_ending, wide_runs_by, each_drop, each_body_end, each_way, wide_ends_by, begin_by, own_requested, settled_before, known_there, before_begin, holds_by, settled_below, end_by, is_won_by, reads_winner, wide_links, wide_chain, wide_broken, wide_proves}
 use Rattle.tpl_laws.proofs.Deciding.{itself, opposite, denied, same, both, either, only_if, means, at_each_end, at_some_end, of_all, of_some}
 use Rattle.tpl_laws.proofs.Parents.{at_parent, below}
 use Rattle.tpl_laws.proofs.RulesDecided.{observes_it, all_decided, takes_decided, reads_decided, none_decided, none_complete_decided, proves_lem}
-use Rattle.tpl_laws.proofs.FaultsDecided.{Clears, clear, clear_unless, clear_or_else, clear_means, clear_breaks}
+use Rattle.tpl_laws.specs.WideFaults.{wide_row_rules}
+use Rattle.tpl_laws.proofs.FaultsDecided.{Clears, clear_means, rules_clear}
 
 -- what is known, if there are paths
 at_known : (P : Knowledge → Type 0) (q : Knowledge → Bool) (o : Option Knowledge) → ((k : Knowledge) → Decides (q k) (P k)) → Decides (if_known o q) ((k : Knowledge) → o ≡ Some k → P k)
@@ -298,35 +296,12 @@ module _ (g : TaskGraph) (l : WideAssumed) (rows : List WideRow) (t : ℕ) (vali
   -- no rule is broken just where all are kept
   pub wide_broken_lem : PathLaws → Clears (wide_broken g l rows t) (IsWidelyClosed g l rows t)
   wide_broken_lem paths =
-      let k = kind g t in
-      let Runs_ = WideRunsRule g l rows t k in
-      let Ends_ = WideEndsRule g l rows t (kind_left g l t) in
-      let Begin_ = may_run rows t ≡ true → (f : Fact) → begins_with rows t f ≡ true → BeginRule g l rows t k f in
-      let End_ = (f : Fact) → ends_with rows t f ≡ true → EndRule g l rows t (kind_left g l t) f in
-      let chain = (row (plain rows) t).chain in
-      let Chain_ = WideChainRule g l rows t chain in
-      let last = unless (wide_chain g l t chain) K6 None in
-      let past = unless (each_ending rows t (end_by g l rows t (kind_left g l t))) (past_rule k) last in
-      let begin = unless (implies (may_run rows t) (each_begin rows t (begin_by g l rows t k))) K3 past in
-      let ends = unless (wide_ends_by g l rows t (kind_left g l t)) K2 begin in
-      clear_means (Runs_ × (Ends_ × (Begin_ × (End_ × (Chain_ × Unit {0}))))) (IsWidelyClosed g l rows t) (wide_broken g l rows t)
-      (clear_unless Runs_ (Ends_ × (Begin_ × (End_ × (Chain_ × Unit {0})))) (wide_runs_by g l rows t k) K1 ends (runs_decided k)
-      (clear_unless Ends_ (Begin_ × (End_ × (Chain_ × Unit {0}))) (wide_ends_by g l rows t (kind_left g l t)) K2 begin (ends_decided paths (kind_left g l t))
-      (clear_unless Begin_ (End_ × (Chain_ × Unit {0})) (implies (may_run rows t) (each_begin rows t (begin_by g l rows t k))) K3 past
-      begin_rule_decided
-      (clear_unless End_ (Chain_ × Unit {0}) (each_ending rows t (end_by g l rows t (kind_left g l t))) (past_rule k) last end_rule_decided
-      (clear_unless Chain_ (Unit {0}) (wide_chain g l t chain) K6 None (chain_decided paths chain) clear)))))
+      let r = wide_row_rules g l rows t in
+      clear_means (r.runs × (r.ends × (r.before × (r.past × (r.chain × Unit {0}))))) (IsWidelyClosed g l rows t) (wide_broken g l rows t)
+      (rules_clear r (wide_runs_by g l rows t (kind g t)) (wide_ends_by g l rows t (kind_left g l t)) (implies (may_run rows t) (each_begin rows t (begin_by g l rows t (kind g t)))) (each_ending rows t (end_by g l rows t (kind_left g l t))) (wide_chain g l t (row (plain rows) t).chain)
+      (runs_decided (kind g t)) (ends_decided paths (kind_left g l t)) begin_rule_decided end_rule_decided (chain_decided paths (row (plain rows) t).chain))
       (λ e. record { runs = e.0; ends = e.1.0; begin = e.1.1.0; end = e.1.1.1.0; chain = e.1.1.1.1.0 })
-      (λ e. (e.runs, (e.ends, (e.begin, (e.end, (e.chain, tt))))))
-
--- the rows of a leaf
-wide_first : (paths : PathLaws) (g : TaskGraph) (l : WideAssumed) (rows : List WideRow) → IsGraph g → (t n : ℕ) → Clears (wide_first_broken g l rows t n) ((x : ℕ) → t ≤ x → x < t + n → IsWidelyClosed g l rows x)
-wide_first paths g l rows valid t zero = (λ e x a b. absurd (omega arith), λ f. refl)
-wide_first paths g l rows valid t (suc n) =
-    clear_means (IsWidelyClosed g l rows t × ((x : ℕ) → suc t ≤ x → x < suc t + n → IsWidelyClosed g l rows x)) ((x : ℕ) → t ≤ x → x < t + suc n → IsWidelyClosed g l rows x) (wide_first_broken g l rows t (suc n))
-    (clear_or_else (IsWidelyClosed g l rows t) ((x : ℕ) → suc t ≤ x → x < suc t + n → IsWidelyClosed g l rows x) (breaks t (wide_broken g l rows t)) (wide_first_broken g l rows (suc t) n) (clear_breaks paths t (IsWidelyClosed g l rows t) (wide_broken g l rows t) (wide_broken_lem g l rows t valid paths)) (wide_first paths g l rows valid (suc t) n))
-    (λ e x a b. elim (cases_lt t x) [ inl lt ↦ e.1 x (omega arith) (omega arith) | inr ge ↦ let q : t ≡ x = omega arith in subst (λ z. IsWidelyClosed g l rows z) q e.0 ])
-    (λ f. (f t (omega arith) (omega arith), λ x a b. f x (omega arith) (omega arith)))
+      (λ c. (c.runs, (c.ends, (c.begin, (c.end, (c.chain, tt))))))
 
 some_decided : (o : Option Knowledge) → Decides (not (is_some o)) (o ≡ None)
 some_decided None = (λ e. refl, λ e. refl)
@@ -343,12 +318,3 @@ wide_proves_lem paths g l rows (Observed t) =
     (either (may_run rows t.0 ≡ false) ((thrown ≡ None) ⊎ NoneComplete g (plain rows)) (not (may_run rows t.0)) (not (is_some thrown) || none_complete g (plain rows)) (opposite (may_run rows t.0))
     (either (thrown ≡ None) (NoneComplete g (plain rows)) (not (is_some thrown)) (none_complete g (plain rows)) (some_decided thrown) (none_complete_decided paths g (plain rows)))))
 wide_proves_lem paths g l rows p = proves_lem paths g l.assumed (plain rows) p
-
-pub wide_leaf_lem : (paths : PathLaws) (g : TaskGraph) (p : Property TaskId) (l : WideAssumed) (rows : List WideRow) → IsGraph g → Clears (wide_leaf_fault g p l rows) (WidelyClosed g l rows × WidelyProves g l rows p)
-wide_leaf_lem paths g p l rows valid =
-    clear_means (((x : ℕ) → 0 ≤ x → x < 0 + length g.tasks → IsWidelyClosed g l rows x) × (WidelyProves g l rows p × Unit {0})) (WidelyClosed g l rows × WidelyProves g l rows p) (wide_leaf_fault g p l rows)
-    (clear_or_else ((x : ℕ) → 0 ≤ x → x < 0 + length g.tasks → IsWidelyClosed g l rows x) (WidelyProves g l rows p × Unit {0}) (wide_first_broken g l rows 0 (length g.tasks)) (unless (wide_proves g l rows p) ProvesNot None)
-    (wide_first paths g l rows valid 0 (length g.tasks))
-    (clear_unless (WidelyProves g l rows p) (Unit {0}) (wide_proves g l rows p) ProvesNot None (wide_proves_lem paths g l rows p) clear))
-    (λ e. ((λ x a. e.0 x (omega arith) (omega arith)), e.1.0))
-    (λ e. ((λ x a b. e.0 x (omega arith)), (e.1, tt)))
