@@ -18,9 +18,9 @@ use Rattle.tpl_model.specs.Rules.{IsRunning, MayDrop, MayNotStart, MayCancel, Al
 use Rattle.tpl_laws.proofs.Basics.{some_none, the_some, is_some_of, mem_here}
 use Rattle.tpl_laws.proofs.Kept.{after, not_some, running_facts, drop_facts, ending_new, ending_kept, final_kept, requested_kept, started_kept, begun_kept}
 use Rattle.tpl_model.specs.Valid.{IsGraph}
-use Rattle.tpl_laws.proofs.Execution.{passed, started_parent}
+use Rattle.tpl_laws.proofs.Execution.{passed}
 use Rattle.tpl_laws.proofs.Ready.{EndedSo, may_not_start_so, Ready, begun_ready, waiting_ready, IsBody, begun_body, drop_body}
-use Rattle.tpl_laws.proofs.Settling.{child_rules, attached_child, started_before, all_over_mem}
+use Rattle.tpl_laws.proofs.Settling.{child_rules, attached_child, started_before, all_over_mem, started_by_parent}
 use Rattle.tpl_laws.proofs.Carrying.{Ends, drops, leaves, settled, how_ends, begun_task, gathered_keeps, gathered_adds, mem_those}
 use Rattle.tpl_model.specs.Certificate.{TakesOver}
 use Rattle.tpl_laws.proofs.RowsAreTrue.{rest_idle, left_verdict}
@@ -112,11 +112,8 @@ parent_carries g v (ev ∷ h) p c r valid run m s e =
     par : IsParent g p c
     par = attached_child g p c m
 
-    begun_parent : started g v h c ≡ true → is_some (begun h p) ≡ true
-    begun_parent t = let q = started_parent g v h c run.0 t in subst (λ z. is_some (begun h z) ≡ true) ((child_rules g p c valid par).one_parent q.0 p q.1.parent par) q.1.begun
-
     by_end : started g v h c ≡ true → Ends g v h p r → CarriedOn g v h c r
-    by_end q (drops i d f z) = true_false (sym (begun_parent q) ∙ ap is_some (drop_facts g v h p d).2)
+    by_end q (drops i d f z) = true_false (sym (started_by_parent g v h p c valid run.0 par q).begun ∙ ap is_some (drop_facts g v h p d).2)
     by_end q (leaves i b) =
         let o = the_some (ending g v h c) (all_over_mem (attached g p) (started g v h) (ending g v h) c b.over m q) in
         record {
@@ -124,7 +121,7 @@ parent_carries g v (ev ∷ h) p c r valid run m s e =
           ended = o.1;
           carries = λ a n. subst (λ z. mem a z ≡ true) (sym b.carried) (gathered_adds a c (own_atom p (outcome_in (rest g v h p))) (those_started (attached g p) (started g v h)) (ending g v h) (mem_those c (attached g p) (started g v h) m q) (subst (λ z. mem a (carried_in z) ≡ true) (sym o.1) n));
         }
-    by_end q (settled i z place who w) = absurd (no_settle (kind g p) (ending g v h) (begun_body g v h p run.0 (begun_parent q)) z)
+    by_end q (settled i z place who w) = absurd (no_settle (kind g p) (ending g v h) (begun_body g v h p run.0 (started_by_parent g v h p c valid run.0 par q).begun) z)
 
     here : (started g v h c ≡ true → ending g v h p ≡ Some r → CarriedOn g v h c r) → (a : Actor) (x : Act) → Allows g v h a x → started g v (after a x h) c ≡ true → ending g v (after a x h) p ≡ Some r → CarriedOn g v h c r
     here old a x al q z =
@@ -226,8 +223,7 @@ pub taken_over : (g : TaskGraph) (v : List Bool) (h : List Event) (x y a : ℕ) 
 taken_over g v h x y a r valid run complete i (inl m) e n =
     let par = attached_child g x y m in
     let st = ended_started g v h y r run ((child_rules g x y valid par).child x par) e in
-    let s = started_parent g v h y run st in
-    let b = subst (λ z. is_some (begun h z) ≡ true) ((child_rules g x y valid par).one_parent s.0 x s.1.parent par) s.1.begun in
+    let b = (started_by_parent g v h x y valid run par st).begun in
     let q = the_some (ending g v h x) (begun_ends g v h x run complete b) in
     let c = parent_carries g v h x y q.0 valid run m st q.1 in
     let same = same_Some c.ending r (sym c.ended ∙ e) in

@@ -20,10 +20,10 @@ use Rattle.tpl_laws.proofs.Kept.{after, ending_new, final_of}
 use Rattle.tpl_model.specs.Options.{lazy_cancellation}
 use Rattle.tpl_model.specs.Valid.{IsGraph}
 use Rattle.tpl_model.specs.Certificate.{Row, row, Assumed, end_left, Agrees, is_loud, view, IsBelow, BodyMayEnd, AllMayEnd, MayEndAs, may_end, may_win, PastRule, Closed}
-use Rattle.tpl_laws.proofs.Execution.{passed, StartedBy, started_parent}
+use Rattle.tpl_laws.proofs.Execution.{passed, started_parent}
 use Rattle.tpl_laws.proofs.Ready.{may_not_start_so, Ready, begun_ready, waiting_ready, IsBody, begun_body}
 use Rattle.tpl_laws.proofs.Follows.{follows}
-use Rattle.tpl_laws.proofs.Settling.{child_rules, has_subject_of, attached_child, settled_kept, below_settled, all_task}
+use Rattle.tpl_laws.proofs.Settling.{has_subject_of, attached_child, settled_kept, below_settled, all_task, started_by_parent}
 use Rattle.tpl_laws.proofs.Carrying.{Ends, drops, leaves, settled, BodyEnds, how_ends, carries_faulted, gathered_from, those_mem, gathered_keeps, carried_some}
 use Rattle.tpl_laws.proofs.RowsAreTrue.{Now, AreTrue, left_verdict, verdict_path, view_fits, starts_on_path, ready_runs, ready_before, requested_loud, agrees_before}
 use Rattle.std.proofs.lemmas.Bool.{cases_Bool, and_parts, or_cases, or_left, or_right}
@@ -127,13 +127,10 @@ body_may g l rows v h t r now b =
     of_child x w =
         let ms = those_mem w.0 (attached g t) (started g v h) w.1 in
         let e = carried_some x (ending g v h w.0) w.2 in
-        let s = started_parent g v h w.0 now.run ms.1 in
-        let par = attached_child g t w.0 ms.0 in
-        let same = (child_rules g t w.0 now.valid par).one_parent s.0 t s.1.parent par in
         inr (
           w.0,
           ms.0,
-          starts_on_path g l rows v h t w.0 now (subst (λ z. StartedBy g v h w.0 z) same s.1),
+          starts_on_path g l rows v h t w.0 now (started_by_parent g v h t w.0 now.valid now.run (attached_child g t w.0 ms.0) ms.1),
           now.true_rows.ends w.0 Faulted (ap final_in e.1 ∙ ap Some (carries_faulted g v h w.0 x e.0 now.run e.1 e.2)),
         )
 

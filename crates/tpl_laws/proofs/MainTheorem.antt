@@ -61,17 +61,17 @@ rows_lem g l rows v h valid closed run agrees =
       before_holds g l rows v h valid closed run agrees,
     )
 
+same_values : (a b : Bool) → b ≡ a → same a b ≡ true
+same_values true b e = e
+same_values false true e = true_false e
+same_values false false e = refl
+
 -- an input's value is one that is given
 given_inputs : (g : TaskGraph) (v : List Bool) (h : List Event) (given : List Given) (i : ℕ) → IsGiven g v h given → given_input given i (input v i) ≡ true
 given_inputs g v h [] i k = refl
 given_inputs g v h (Input j value ∷ given) i k =
     and_from (not (nat_eq j.0 i) || same value (input v i)) (given_input given i (input v i)) (by_test (nat_eq j.0 i) refl) (given_inputs g v h given i k.1)
   where
-    same_values : (a b : Bool) → b ≡ a → same a b ≡ true
-    same_values true b e = e
-    same_values false true e = true_false e
-    same_values false false e = refl
-
     by_test : (c : Bool) → nat_eq j.0 i ≡ c → not c || same value (input v i) ≡ true
     by_test true e = same_values value (input v i) (subst (λ z. input v z ≡ value) (same_number j.0 i e) k.0)
     by_test false e = refl
@@ -135,11 +135,6 @@ input_agrees g l v h i value e agrees = record {
   jobs = agrees.jobs;
 }
   where
-    same_values : (a b : Bool) → b ≡ a → same a b ≡ true
-    same_values true b e = e
-    same_values false true e = true_false e
-    same_values false false e = refl
-
     by_test : (j : ℕ) (c : Bool) → nat_eq i j ≡ c → not c || same value (input v j) ≡ true
     by_test j true q = same_values value (input v j) (subst (λ z. input v z ≡ value) (same_number i j q) e)
     by_test j false q = refl

@@ -122,6 +122,10 @@ pub takes_task : (g : TaskGraph) (x y : ℕ) → TakesOver g x y → is_task g x
 takes_task g x y (inl m) = parent_task g x y (attached_child g x y m)
 takes_task g x y (inr a) = all_task g x a.0 a.1
 
+-- what carries something ended Faulted
+carried_end : (g : TaskGraph) (v : List Bool) (h : List Event) (y a : ℕ) (q : Ending) (f : Final) → Run g v h → ending g v h y ≡ Some q → mem a q.carried ≡ true → final g v h y ≡ Some f → f ≡ Faulted
+carried_end g v h y a q f run e m p = same_Some f Faulted (sym p ∙ ap final_in e ∙ ap Some (carries_faulted g v h y a q run e m))
+
 -- a continuation that surely begins and sees y observes what y carries
 pub seer_observes : (g : TaskGraph) (l : Assumed) (rows : List Row) (v : List Bool) (h : List Event) (r n y a : ℕ) (q : Ending) → Upheld g l rows v h → Complete g v h → kind g r ≡ Continues n → ((f : Final) → final g v h n ≡ Some f → allows (options g r) f ≡ true) → is_loud g l r ≡ false → MustObserve (faulted_view g l r) (body g r) → Sees g v h r y q → mem a q.carried ≡ true → seen g v h a ≡ true
 seer_observes g l rows v h r n y a q now complete k allowed not_loud observes e m =
@@ -134,12 +138,6 @@ seer_observes g l rows v h r n y a q now complete k allowed not_loud observes e 
       ]
     ]
   where
-    faulted : q.final ≡ Faulted
-    faulted = carries_faulted g v h y a q now.run e.1 m
-
-    end_is : (f : Final) → final g v h y ≡ Some f → f ≡ Faulted
-    end_is f p = same_Some f Faulted (sym p ∙ ap final_in e.1 ∙ ap Some faulted)
-
     by_body : is_some (begun h r) ≡ true → is_some (outcome_in (rest g v h r)) ≡ true → seen g v h a ≡ true
     by_body b d =
         let vd = the_some (outcome_in (rest g v h r)) d in
@@ -149,7 +147,7 @@ seer_observes g l rows v h r n y a q now complete k allowed not_loud observes e 
           own = refl;
           inputs = full.inputs;
           quiet = full.quiet;
-          subject = λ s f p z. let same = same_Some y s (sym e.0 ∙ p) in subst (λ n. is_final n Faulted ≡ true) (sym (end_is f (subst (λ n. final g v h n ≡ Some f) (sym same) z))) refl;
+          subject = λ s f p z. let same = same_Some y s (sym e.0 ∙ p) in subst (λ n. is_final n Faulted ≡ true) (sym (carried_end g v h y a q f now.run e.1 m (subst (λ n. final g v h n ≡ Some f) (sym same) z))) refl;
           jobs = full.jobs;
         } in
         let path = verdict_path w (body g r) (rest g v h r).outcome (rest g v h r).left (passed g v h r) vd.0 vd.1 (follows g v h r w now.run fits (has_subject_of g r now.valid)) in
@@ -159,10 +157,7 @@ seer_observes g l rows v h r n y a q now complete k allowed not_loud observes e 
 pub reader_observes : (g : TaskGraph) (l : Assumed) (rows : List Row) (v : List Bool) (h : List Event) (r y a : ℕ) (q : Ending) → Upheld g l rows v h → Complete g v h → Reads g l rows r y → ending g v h y ≡ Some q → mem a q.carried ≡ true → seen g v h a ≡ true
 reader_observes g l rows v h r y a q now complete reads e m =
     seer_observes g l rows v h r y y a q now complete reads.after
-    (λ f p. subst (λ z. allows (options g r) z ≡ true) (sym (end_is f p)) reads.on_faulted) reads.not_loud reads.observes (subject_is g v h r y a q now.run reads.after e m, e) m
-  where
-    end_is : (f : Final) → final g v h y ≡ Some f → f ≡ Faulted
-    end_is f p = same_Some f Faulted (sym p ∙ ap final_in e ∙ ap Some (carries_faulted g v h y a q now.run e m))
+    (λ f p. subst (λ z. allows (options g r) z ≡ true) (sym (carried_end g v h y a q f now.run e m p)) reads.on_faulted) reads.not_loud reads.observes (subject_is g v h r y a q now.run reads.after e m, e) m
 
 -- a chain carries an exception to its reader
 pub chain_observes : (g : TaskGraph) (l : Assumed) (rows : List Row) (v : List Bool) (h : List Event) (chain : List ℕ) (y a : ℕ) (q : Ending) → Upheld g l rows v h → Complete g v h → Links g l rows y chain → ending g v h y ≡ Some q → mem a q.carried ≡ true → seen g v h a ≡ true

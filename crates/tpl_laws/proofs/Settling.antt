@@ -14,7 +14,7 @@ use Rattle.tpl_laws.proofs.Basics.{the_some, is_some_of, same_number}
 use Rattle.tpl_laws.proofs.Kept.{after, running_facts, drop_facts, ending_new, ended_kept}
 use Rattle.tpl_model.specs.Options.{attached_to_parent, deny_child_attach}
 use Rattle.tpl_model.specs.Certificate.{IsBelow, child, deeper}
-use Rattle.tpl_laws.proofs.Execution.{started_parent, next_start}
+use Rattle.tpl_laws.proofs.Execution.{StartedBy, started_parent, next_start}
 use Rattle.tpl_laws.proofs.Ready.{Ready, begun_ready, IsBody, begun_body}
 use Rattle.std.proofs.Common.{◌≤◌, filter}
 use Rattle.std.proofs.lemmas.Bool.{cases_lt, cases_Bool, and_parts, or_cases, or_left, or_right}
@@ -145,6 +145,11 @@ all_over_mem (d ∷ cs) st en c o m s =
     not_true_false true e = true_false (sym e)
     not_true_false false e = refl
 
+-- a child that is started was started by its parent
+pub started_by_parent : (g : TaskGraph) (v : List Bool) (h : List Event) (p c : ℕ) → IsGraph g → Run g v h → IsParent g p c → started g v h c ≡ true → StartedBy g v h c p
+started_by_parent g v h p c valid run par st =
+    let q = started_parent g v h c run st in subst (λ z. StartedBy g v h c z) ((child_rules g p c valid par).one_parent q.0 p q.1.parent par) q.1
+
 -- a started attached child of a task that has ended has ended
 pub children_over : (g : TaskGraph) (v : List Bool) (h : List Event) (p c : ℕ) → IsGraph g → Run g v h → is_some (ending g v h p) ≡ true → mem c (attached g p) ≡ true → started g v h c ≡ true → is_some (ending g v h c) ≡ true
 children_over g v [] p c valid run e m s = true_false (sym s)
@@ -153,17 +158,14 @@ children_over g v (e ∷ h) p c valid run n m s = ended_kept g v h e.actor e.act
     par : IsParent g p c
     par = attached_child g p c m
 
-    begun_parent : started g v h c ≡ true → is_some (begun h p) ≡ true
-    begun_parent t = let q = started_parent g v h c run.0 t in subst (λ z. is_some (begun h z) ≡ true) ((child_rules g p c valid par).one_parent q.0 p q.1.parent par) q.1.begun
-
     by_act : (a : Actor) (x : Act) → Allows g v h a x → ends_by g p x (started g v h) (ending g v h) ≡ true → started g v (after a x h) c ≡ true → is_some (ending g v h c) ≡ true
     by_act a (Leave q) al en st = all_over_mem (attached g p) (started g v h) (ending g v h) c (and_parts (nat_eq q.0 p) (all_over (attached g p) (started g v h) (ending g v h)) en).1 m st
     by_act a (Close q) al en st = all_over_mem (attached g p) (started g v h) (ending g v h) c (subst (λ z. all_over (attached g z) (started g v h) (ending g v h) ≡ true) (same_number q.0 p en) al.2) m st
     by_act a (Drop q) al en st =
         let d = drop_facts g v h q.0 al.1 in
-        true_false (sym (begun_parent st) ∙ ap is_some (subst (λ z. begun h z ≡ None) (same_number q.0 p en) d.2))
+        true_false (sym (started_by_parent g v h p c valid run.0 par st).begun ∙ ap is_some (subst (λ z. begun h z ≡ None) (same_number q.0 p en) d.2))
     by_act a (Settle q) al en st =
-        absurd (no_settle (kind g p) (begun_body g v h p run.0 (begun_parent st)) (subst (λ z. can_settle (kind g z) (ending g v h) ≡ true) (same_number q.0 p en) al.2))
+        absurd (no_settle (kind g p) (begun_body g v h p run.0 (started_by_parent g v h p c valid run.0 par st).begun) (subst (λ z. can_settle (kind g z) (ending g v h) ≡ true) (same_number q.0 p en) al.2))
       where
         no_settle : (k : TaskKind) → IsBody k → can_settle k (ending g v h) ≡ true → ⊥
         no_settle (WhenAll args) b c = b
@@ -193,8 +195,7 @@ child_settled g v h p c valid run m sp =
     by_started : started g v h c ≡ true → Settled g v h p → Settled g v h c
     by_started s (ended e) = ended (children_over g v h p c valid run e m s)
     by_started s (unstarted k u q sq) =
-        let w = started_parent g v h c run s in
-        let b = subst (λ z. is_some (begun h z) ≡ true) ((child_rules g p c valid par).one_parent w.0 p w.1.parent par) w.1.begun in
+        let b = (started_by_parent g v h p c valid run par s).begun in
         let ready : started g v h p ≡ true = subst (λ z. Ready g v h p z) k (begun_ready g v h p run b) in
         true_false (sym ready ∙ u)
 

@@ -33,7 +33,7 @@ use Rattle.tpl_laws.proofs.Kept.{after, ending_new, final_of, requested_kept, st
 use Rattle.tpl_laws.proofs.Execution.{pushed, passed, StartedBy, started_parent}
 use Rattle.tpl_laws.proofs.Ready.{may_not_start_so, Ready, begun_ready, waiting_ready, IsBody, any_winner}
 use Rattle.tpl_laws.proofs.Follows.{Fits, Follows, follows, winner_some}
-use Rattle.tpl_laws.proofs.Settling.{child_rules, has_subject_of, attached_child, filter_mem, settled_kept, all_over_mem, children_over}
+use Rattle.tpl_laws.proofs.Settling.{child_rules, has_subject_of, attached_child, filter_mem, settled_kept, all_over_mem, children_over, started_by_parent}
 use Rattle.tpl_laws.proofs.Carrying.{Ends, drops, leaves, settled, BodyEnds, how_ends, carries_faulted, gathered_from, gathered_adds, gathered_keeps, those_mem, mem_those, body_faulted, carried_some}
 use Rattle.tpl_laws.proofs.RowsAreTrue.{left_verdict, view_fits, one_ends_mem, requested_loud}
 use Rattle.tpl_laws.proofs.EachEvent.{may_end_so}
@@ -362,10 +362,7 @@ module _ (g : TaskGraph) (l : WideAssumed) (rows : List WideRow) (v : List Bool)
               let ms = those_mem w.0 (attached g t) (started g v h) w.1 in
               let e = carried_some a (ending g v h w.0) w.2 in
               let f = carries_faulted g v h w.0 a e.0 now.run e.1 e.2 in
-              let s = started_parent g v h w.0 now.run ms.1 in
-              let par = attached_child g t w.0 ms.0 in
-              let same = (child_rules g t w.0 now.valid par).one_parent s.0 t s.1.parent par in
-              let passes = subst (λ z. passes_start w.0 (passed g v h z) ≡ true) same s.1.passes in
+              let passes = (started_by_parent g v h t w.0 now.valid now.run (attached_child g t w.0 ms.0) ms.1).passes in
               let chose : is_final Faulted (chosen w.0) ≡ true = subst (λ z. is_final Faulted (end_or z) ≡ true) (sym e.1) (subst (λ z. is_final Faulted z ≡ true) (sym f) refl) in
               true_false (sym (start_burdens child chosen (passed g v h t) w.0 passes (if_burdens (mem w.0 (attached g t)) (an_end w.0) (chosen w.0) ms.0 chose)) ∙ n)
         ]
