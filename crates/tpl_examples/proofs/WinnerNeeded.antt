@@ -11,16 +11,16 @@ use Rattle.tpl_model.specs.Recursion.{another}
 use Rattle.tpl_model.specs.declared.ids.TaskId.{TaskId}
 use Rattle.tpl_model.specs.declared.claim.Property.{Property}
 use Rattle.tpl_model.specs.Certificate.{row, IsBelow, child, deeper, may_end}
-use Rattle.tpl_model.specs.WiderRules.{WideRow, plain, begins_with, ends_with, asked_of, wide_view, known_at_start, may_run, ByBody, IsWay, WidelyClosed, WidelyProves, WideAssumed, WideTree, OnInput, OnEnd, OnWinner, WideLeaf, LeastLeaf, narrowed, end_split, winner_split, widely_assumed}
+use Rattle.tpl_model.specs.WiderRules.{WideRow, plain, begins_with, ends_with, asked_of, wide_view, known_at_start, may_run, ByBody, IsWay, WidelyClosed, WidelyProves, WideAssumed, WideTree, OnInput, OnEnd, OnWinner, WideLeaf, LeastLeaf, narrowed, end_split, widely_assumed}
 use Rattle.tpl_laws.specs.LeastRows.{least_rows}
 use Rattle.tpl_laws.specs.WideTrees.{AcceptsWideTree, WidelyAccepts}
-use Rattle.tpl_laws.specs.WiderTests.{WideLeafIsRight}
+use Rattle.tpl_laws.specs.WideVerdict.{WideVerdictIsRight}
 use Rattle.tpl_laws.proofs.Basics.{same_number, final_self}
 use Rattle.tpl_laws.proofs.Settling.{filter_mem}
 use Rattle.tpl_laws.proofs.RowsAreTrue.{one_ends_mem}
-use Rattle.tpl_examples.specs.Words.{begins_after, claim, ran}
-use Rattle.tpl_examples.specs.CertificateWords.{nothing, runs, not_run}
-use Rattle.tpl_examples.specs.WinnerRules.{races, races_rows, races_tree, NoWinners}
+use Rattle.tpl_examples.specs.Words.{begins_after, claim}
+use Rattle.tpl_examples.specs.CertificateWords.{runs}
+use Rattle.tpl_examples.specs.WinnerRules.{races, races_tree, NoWinners}
 use Rattle.tpl_examples.proofs.Computed.{valid}
 
 abbrev says : Property TaskId
@@ -29,20 +29,9 @@ says = begins_after 1 4
 abbrev assumes : WideAssumed
 assumes = widely_assumed races (claim says)
 
--- both leaves are closed and prove the claim
-pub accepted : WideLeafIsRight → WidelyAccepts races (claim says ∷ []) (races_tree ∷ [])
-accepted right =
-    let g = valid races refl in
-    let one : 1 < 5 = omega arith in
-    let a = (right races says (narrowed races (winner_split assumes 2 0 true)) (races_rows (not_run nothing) []) g).0 refl in
-    let b = (right races says (narrowed races (winner_split assumes 2 0 false)) (races_rows (runs ran (1 ∷ []) [] []) (1 ∷ [])) g).0 refl in (
-      (
-        refl,
-        (refl, (tt, tt, tt, (tt, tt, tt, (tt, tt, tt, (tt, tt, tt, (tt, tt, tt, tt))))), (tt, tt, (tt, tt, (tt, tt, (tt, tt, (tt, tt, tt))))), (a.0, a.1)),
-        (refl, (tt, tt, tt, (tt, tt, tt, (tt, (one, tt), tt, ((one, tt), tt, tt, ((one, tt), tt, tt, tt))))), (tt, tt, (tt, tt, (tt, tt, (tt, tt, (tt, tt, tt))))), (b.0, b.1)),
-      ),
-      tt,
-    )
+-- the verdict finds no fault
+pub accepted : WideVerdictIsRight → WidelyAccepts races (claim says ∷ []) (races_tree ∷ [])
+accepted right = (right races (claim says ∷ []) (races_tree ∷ []) (valid races refl)).0 refl
 
 -- how the tasks end where the second wins
 abbrev bound : ℕ → Final
