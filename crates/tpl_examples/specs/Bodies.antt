@@ -8,7 +8,7 @@ use Rattle.tpl_model.specs.declared.event.Event.{Event}
 use Rattle.tpl_model.specs.Facts.{ending, rest}
 use Rattle.tpl_model.specs.Rules.{status, carried, label, seen, final, Run, Allows, Complete}
 use Rattle.tpl_model.specs.Valid.{IsGraph, bound}
-use Rattle.tpl_examples.specs.Words.{worker, outside, beginning, stepping, doing, failing, leaving, begin, step, done, failed, leave, request, played, thrown, work_failed, root, with_token, graph, with_tokens, with_inputs}
+use Rattle.tpl_examples.specs.Words.{worker, outside, beginning, stepping, doing, failing, leaving, begin, step, done, failed, leave, request, played, thrown, work_failed, root, with_token, graph, with_tokens, with_inputs, before_all}
 
 -- a body that returns, with a statement behind
 abbrev pub return_graph : TaskGraph
@@ -72,21 +72,17 @@ EmptyBody =
     × (status empty_graph [] empty_left 0 ≡ Completed RanToCompletion)
     × (ending empty_graph [] empty_left 0 ≡ Some (record { place = 2; actor = Some (worker 1); final = RanToCompletion; carried = []; winner = None }))
 
--- the list without events, before anything has happened
-abbrev pub nothing_happened : List Event
-nothing_happened = []
-
 -- a root waits to run, and any worker begins it; the outside begins nothing, and nobody begins a task that the graph
 -- doesn't have
 abbrev pub RootOpensReady : Type 0
 RootOpensReady =
-    (status empty_graph [] nothing_happened 0 ≡ WaitingToRun)
-    × Allows empty_graph [] nothing_happened (worker 1) (beginning 0)
-    × Allows empty_graph [] nothing_happened (worker 9) (beginning 0)
-    × (Allows empty_graph [] nothing_happened (outside 1) (beginning 0) → ⊥)
-    × (Allows empty_graph [] nothing_happened (worker 1) (beginning 1) → ⊥)
-    × (Allows empty_graph [] nothing_happened (worker 1) (leaving 0) → ⊥)
-    × (Allows empty_graph [] nothing_happened (worker 1) (stepping 0) → ⊥)
+    (status empty_graph [] before_all 0 ≡ WaitingToRun)
+    × Allows empty_graph [] before_all (worker 1) (beginning 0)
+    × Allows empty_graph [] before_all (worker 9) (beginning 0)
+    × (Allows empty_graph [] before_all (outside 1) (beginning 0) → ⊥)
+    × (Allows empty_graph [] before_all (worker 1) (beginning 1) → ⊥)
+    × (Allows empty_graph [] before_all (worker 1) (leaving 0) → ⊥)
+    × (Allows empty_graph [] before_all (worker 1) (stepping 0) → ⊥)
 
 -- a task is begun once
 abbrev pub TaskBeginsOnce : Type 0
@@ -279,6 +275,6 @@ no_tasks = graph []
 abbrev pub GraphWithoutTasksIsComplete : Type 0
 GraphWithoutTasksIsComplete =
     IsGraph no_tasks
-    × Run no_tasks [] nothing_happened
-    × Complete no_tasks [] nothing_happened
+    × Run no_tasks [] before_all
+    × Complete no_tasks [] before_all
     × (bound no_tasks ≡ 0)

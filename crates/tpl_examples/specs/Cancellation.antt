@@ -8,7 +8,7 @@ use Rattle.tpl_model.specs.declared.event.Event.{Event}
 use Rattle.tpl_model.specs.Facts.{ending, requested}
 use Rattle.tpl_model.specs.Rules.{status, carried, label, Run, Allows, Complete}
 use Rattle.tpl_model.specs.Valid.{IsGraph}
-use Rattle.tpl_examples.specs.Words.{worker, outside, requesting, beginning, dropping, by, begin, step, leave, drop, request, played, operation_canceled, returns, root, with_token, graph, with_tokens}
+use Rattle.tpl_examples.specs.Words.{worker, outside, requesting, beginning, dropping, by, begin, step, leave, drop, request, played, operation_canceled, returns, root, with_token, graph, with_tokens, before_all}
 
 -- a root that checks a token, which is its own or another one
 abbrev pub own_graph : TaskGraph
@@ -94,9 +94,6 @@ RequestedBeforeItBegins =
 
 abbrev pub second_requested : List Event
 second_requested = played (request 1 1 ∷ [])
-
-abbrev pub before_all : List Event
-before_all = []
 
 -- a task is not canceled without a request, and the request of another token doesn't count
 abbrev pub OnlyTheOwnTokenCancels : Type 0

@@ -2,7 +2,7 @@
 -- lists of one claim.
 use Rattle.std.specs.Prelude.{ℕ, true, false, None, List, [], ◌∷◌}
 use Rattle.tpl_model.specs.declared.finals.Finals.{Finals}
-use Rattle.tpl_model.specs.Statements.{Throw, Observe, Statements, Nothing, ◌⨾◌}
+use Rattle.tpl_model.specs.Statements.{Throw, Cancel, Observe, Statements, Nothing, ◌⨾◌}
 use Rattle.tpl_model.specs.Graph.{TaskGraph, Task, Token, Child, Continues}
 use Rattle.tpl_model.specs.declared.fault.Rule.{Rule}
 use Rattle.tpl_model.specs.declared.fault.CertFault.{CertFault}
@@ -12,6 +12,7 @@ use Rattle.tpl_model.specs.declared.ids.TaskId.{TaskId}
 use Rattle.tpl_model.specs.declared.claim.Property.{Property}
 use Rattle.tpl_model.specs.Claims.{Claim}
 use Rattle.tpl_model.specs.Certificate.{Row, Tree, Leaf}
+use Rattle.tpl_examples.specs.Words.{claim, claim_given}
 
 -- tasks with option words, and a graph with tokens and a number of inputs
 abbrev pub child_with : Statements → ℕ → Task
@@ -51,10 +52,10 @@ not_run ends = behind ends []
 
 -- one claim, and what is given for it
 abbrev pub one_claim : Property TaskId → List Claim
-one_claim says = record { given = []; body = says } ∷ []
+one_claim says = claim says ∷ []
 
 abbrev pub one_claim_given : List Given → Property TaskId → List Claim
-one_claim_given facts says = record { given = facts; body = says } ∷ []
+one_claim_given facts says = claim_given facts says ∷ []
 
 -- the fault of a row that breaks a rule
 abbrev pub not_closed : ℕ → ℕ → ℕ → Rule → CertFault
@@ -64,9 +65,12 @@ not_closed claim leaf t rule = NotClosed claim leaf (record { 0 = t }) rule
 abbrev pub leaf : List Row → List Tree
 leaf rows = Leaf rows ∷ []
 
--- bodies of one statement
+-- bodies of one statement; the last one is stuck where its token is never requested, since it requests it
 abbrev pub throws : Statements
 throws = Throw 0 ⨾ Nothing
 
 abbrev pub observes : Statements
 observes = Observe ⨾ Nothing
+
+abbrev pub stuck : Statements
+stuck = Cancel 0 ⨾ Nothing

@@ -8,7 +8,7 @@ use Rattle.tpl_model.specs.declared.event.Event.{Event}
 use Rattle.tpl_model.specs.Facts.{ending, started}
 use Rattle.tpl_model.specs.Rules.{status, carried, label, seen, Run, Allows, Settled, Complete}
 use Rattle.tpl_model.specs.Valid.{IsGraph}
-use Rattle.tpl_examples.specs.Words.{worker, outside, releasing, beginning, leaving, closing, dropping, settling, begin, step, leave, close, drop, request, played, thrown, returns, root, child, detached_child, with_token, with_options, deny_child_attach, graph, with_tokens, with_inputs}
+use Rattle.tpl_examples.specs.Words.{worker, outside, releasing, beginning, leaving, closing, dropping, settling, begin, step, leave, close, drop, request, played, thrown, returns, root, child, detached_child, with_token, with_options, deny_child_attach, graph, with_tokens, with_inputs, before_all}
 
 -- a parent whose attached child throws
 abbrev pub parent_graph : TaskGraph
@@ -55,9 +55,6 @@ ParentWaitsForItsChild =
     × (Allows parent_graph [] parent_closed (worker 1) (closing 0) → ⊥)
     × (Allows parent_graph [] child_left (worker 1) (leaving 0) → ⊥)
     × (ending parent_graph [] parent_closed 0 ≡ Some (record { place = 8; actor = Some (worker 1); final = Faulted; carried = 1 ∷ []; winner = None }))
-
-abbrev pub before_all : List Event
-before_all = []
 
 abbrev pub parent_begun : List Event
 parent_begun = played (begin 1 0 ∷ [])

@@ -1,12 +1,14 @@
 -- Claims that hold in a run, and claims that fail at a place of it.
 use Rattle.std.specs.Prelude.{◌≡◌, true, false, List, [], ◌∷◌}
-use Rattle.tpl_model.specs.Statements.{Return, Throw, Check, Start, Observe, Work, If, Nothing, ◌⨾◌}
+use Rattle.tpl_model.specs.Statements.{Return, Throw, Check, Start, Observe, If, Nothing, ◌⨾◌}
 use Rattle.tpl_model.specs.Graph.{TaskGraph, Plain}
 use Rattle.tpl_model.specs.declared.event.Event.{Event}
 use Rattle.tpl_model.specs.Rules.{seen, Run, Complete}
 use Rattle.tpl_model.specs.Valid.{IsGraph}
 use Rattle.tpl_model.specs.Claims.{Holds}
-use Rattle.tpl_examples.specs.Words.{outside, dropping, by, release, begin, step, done, failed, leave, close, drop, request, played, returns, root, child, detached_child, continues, with_token, with_options, only_on_faulted, only_on_ran_to_completion, graph, with_tokens, with_inputs, ran, canceled, faulted, ends_in, begins_after, is_observed, never_begins, exclude, must_run, given_input, given_quiet, given_end, given_success, claim, claim_given}
+use Rattle.tpl_examples.specs.Words.{outside, dropping, by, release, begin, step, done, failed, leave, close, drop, request, played, returns, root, child, detached_child, continues, with_token, graph, with_tokens, with_inputs, ran, canceled, faulted, ends_in, begins_after, is_observed, never_begins, exclude, must_run, given_input, given_quiet, given_end, given_success, claim, claim_given}
+use Rattle.tpl_examples.specs.Cancellation.{blind_graph}
+use Rattle.tpl_examples.specs.Continuations.{stop_graph, handler_graph, failure_handled}
 
 -- a root that checks its own token
 abbrev pub checking_graph : TaskGraph
@@ -27,9 +29,6 @@ ClaimFailsAtTheEnd =
     × (Holds checking_graph (claim (ends_in 0 ran)) [] acknowledged → ⊥)
     × (Holds checking_graph (claim (ends_in 0 faulted)) [] acknowledged → ⊥)
 
-abbrev pub blind_graph : TaskGraph
-blind_graph = with_tokens (Plain ∷ []) (graph (with_token 0 (root returns) ∷ []))
-
 -- a body that never checks runs to its end, and there the claim holds
 abbrev pub ClaimHoldsWithoutACheck : Type 0
 ClaimHoldsWithoutACheck =
@@ -37,10 +36,6 @@ ClaimHoldsWithoutACheck =
     × Complete blind_graph [] acknowledged
     × Holds blind_graph (claim (ends_in 0 ran)) [] acknowledged
     × (Holds blind_graph (claim (ends_in 0 canceled)) [] acknowledged → ⊥)
-
--- a continuation with a token, and its continuation
-abbrev pub chain_graph : TaskGraph
-chain_graph = with_tokens (Plain ∷ []) (graph (root returns ∷ with_token 0 (continues 0 returns) ∷ continues 1 returns ∷ []))
 
 abbrev pub before_it_begins : List Event
 before_it_begins = played (request 1 0 ∷ by (outside 1) (dropping 1) ∷ release 1 2 ∷ [])
@@ -57,21 +52,21 @@ in_order = played (begin 1 0 ∷ step 1 0 ∷ leave 1 0 ∷ release 1 1 ∷ begi
 -- a claim about the order fails where the second task begins, and a later end of the first one mends nothing
 abbrev pub ClaimFailsAtTheBegin : Type 0
 ClaimFailsAtTheBegin =
-    Run chain_graph [] settled_too_late
-    × Holds chain_graph (claim (begins_after 0 2)) [] before_it_begins
-    × (Holds chain_graph (claim (begins_after 0 2)) [] as_it_begins → ⊥)
-    × (Holds chain_graph (claim (begins_after 0 2)) [] settled_too_late → ⊥)
-    × Holds chain_graph (claim (begins_after 1 2)) [] settled_too_late
-    × Run chain_graph [] in_order
-    × Holds chain_graph (claim (begins_after 0 2)) [] in_order
-    × (Holds chain_graph (claim (begins_after 2 0)) [] in_order → ⊥)
+    Run stop_graph [] settled_too_late
+    × Holds stop_graph (claim (begins_after 0 2)) [] before_it_begins
+    × (Holds stop_graph (claim (begins_after 0 2)) [] as_it_begins → ⊥)
+    × (Holds stop_graph (claim (begins_after 0 2)) [] settled_too_late → ⊥)
+    × Holds stop_graph (claim (begins_after 1 2)) [] settled_too_late
+    × Run stop_graph [] in_order
+    × Holds stop_graph (claim (begins_after 0 2)) [] in_order
+    × (Holds stop_graph (claim (begins_after 2 0)) [] in_order → ⊥)
 
 -- a claim that takes a token as quiet doesn't speak of a run in which it is requested
 abbrev pub ClaimOfQuietRuns : Type 0
 ClaimOfQuietRuns =
-    Holds chain_graph (claim_given (given_quiet 0 ∷ []) (begins_after 0 2)) [] as_it_begins
-    × Holds chain_graph (claim_given (given_quiet 0 ∷ []) (begins_after 0 2)) [] in_order
-    × (Holds chain_graph (claim_given (given_quiet 0 ∷ []) (begins_after 2 0)) [] in_order → ⊥)
+    Holds stop_graph (claim_given (given_quiet 0 ∷ []) (begins_after 0 2)) [] as_it_begins
+    × Holds stop_graph (claim_given (given_quiet 0 ∷ []) (begins_after 0 2)) [] in_order
+    × (Holds stop_graph (claim_given (given_quiet 0 ∷ []) (begins_after 2 0)) [] in_order → ⊥)
 
 -- a root that returns or throws, by an input
 abbrev pub input_graph : TaskGraph
@@ -187,10 +182,6 @@ UnstartedChildIsSettledBefore =
     × Run maybe_graph (true ∷ []) with_child
     × (Holds maybe_graph (claim (begins_after 1 2)) (true ∷ []) with_child → ⊥)
 
--- a job that may fail, and a continuation for each end
-abbrev pub handler_graph : TaskGraph
-handler_graph = graph (root (Work 0 true ⨾ Nothing) ∷ with_options only_on_faulted (continues 0 returns) ∷ with_options only_on_ran_to_completion (continues 0 returns) ∷ [])
-
 abbrev pub failure : List Event
 failure = played (begin 1 0 ∷ failed 1 0 ∷ leave 1 0 ∷ release 1 1 ∷ drop 1 2 ∷ begin 1 1 ∷ [])
 
@@ -211,16 +202,13 @@ NeverAndExcludes =
     × (Holds handler_graph (claim (never_begins 2)) [] success → ⊥)
     × Holds handler_graph (claim (exclude 1 2)) [] success
 
-abbrev pub failure_to_its_end : List Event
-failure_to_its_end = played (begin 1 0 ∷ failed 1 0 ∷ leave 1 0 ∷ release 1 1 ∷ drop 1 2 ∷ begin 1 1 ∷ step 1 1 ∷ leave 1 1 ∷ [])
-
 -- a claim that a task runs fails where the run is complete and the task hasn't begun, and not before
 abbrev pub ClaimThatATaskRuns : Type 0
 ClaimThatATaskRuns =
-    Run handler_graph [] failure_to_its_end
-    × Complete handler_graph [] failure_to_its_end
-    × Holds handler_graph (claim (must_run 1)) [] failure_to_its_end
-    × (Holds handler_graph (claim (must_run 2)) [] failure_to_its_end → ⊥)
+    Run handler_graph [] failure_handled
+    × Complete handler_graph [] failure_handled
+    × Holds handler_graph (claim (must_run 1)) [] failure_handled
+    × (Holds handler_graph (claim (must_run 2)) [] failure_handled → ⊥)
     × (Complete handler_graph [] failure → ⊥)
     × Holds handler_graph (claim (must_run 2)) [] failure
 

@@ -9,7 +9,7 @@ use Rattle.tpl_model.specs.Facts.{ending, winner_of}
 use Rattle.tpl_model.specs.Rules.{status, carried, label, seen, subject, Run, Allows, Complete}
 use Rattle.tpl_model.specs.Valid.{IsGraph}
 use Rattle.tpl_model.specs.Claims.{Holds}
-use Rattle.tpl_examples.specs.Words.{worker, outside, releasing, beginning, closing, dropping, settling, by, release, begin, step, leave, drop, settle, request, played, thrown, returns, root, continues, when_all, when_any, with_token, with_options, only_on_faulted, only_on_ran_to_completion, execute_synchronously, graph, with_tokens, is_observed, claim}
+use Rattle.tpl_examples.specs.Words.{worker, outside, releasing, beginning, closing, dropping, settling, by, release, begin, step, leave, drop, settle, request, played, thrown, returns, root, continues, when_all, when_any, with_token, with_options, only_on_faulted, only_on_ran_to_completion, execute_synchronously, graph, with_tokens, is_observed, claim, before_all}
 
 -- a root that throws, one with a token, and WhenAll of both in both orders
 abbrev pub all_graph : TaskGraph
@@ -37,9 +37,6 @@ WhenAllOfFaultedAndCanceled =
     × (carried all_graph [] faulted_and_canceled 3 ≡ 0 ∷ [])
     × (label all_graph [] faulted_and_canceled 2 ≡ None)
     × Complete all_graph [] faulted_and_canceled
-
-abbrev pub before_all : List Event
-before_all = []
 
 -- WhenAll waits for each argument, and is settled once, by anyone; it isn't begun, released, closed or canceled
 abbrev pub WhenAllWaitsForAll : Type 0

@@ -9,7 +9,7 @@ use Rattle.tpl_model.specs.Facts.{ending}
 use Rattle.tpl_model.specs.Rules.{status, carried, label, seen, subject, bound_worker, Run, Allows, Complete}
 use Rattle.tpl_model.specs.Valid.{IsGraph}
 use Rattle.tpl_model.specs.Claims.{Holds}
-use Rattle.tpl_examples.specs.Words.{worker, outside, requesting, releasing, beginning, dropping, by, release, begin, step, done, failed, leave, close, drop, request, played, thrown, work_failed, returns, root, child, detached_child, continues, when_all, with_token, with_options, prefer_fairness, long_running, attached_to_parent, hide_scheduler, lazy_cancellation, run_continuations_asynchronously, not_on_ran_to_completion, not_on_faulted, not_on_canceled, only_on_canceled, only_on_faulted, only_on_ran_to_completion, execute_synchronously, graph, with_tokens, begins_after, exclude, claim}
+use Rattle.tpl_examples.specs.Words.{worker, outside, requesting, releasing, beginning, dropping, by, release, begin, step, done, failed, leave, close, drop, request, played, thrown, work_failed, returns, root, child, detached_child, continues, when_all, with_token, with_options, prefer_fairness, long_running, attached_to_parent, hide_scheduler, lazy_cancellation, run_continuations_asynchronously, not_on_ran_to_completion, not_on_faulted, not_on_canceled, only_on_canceled, only_on_faulted, only_on_ran_to_completion, execute_synchronously, graph, with_tokens, begins_after, exclude, claim, before_all}
 
 -- a root that throws and one that returns, each with a continuation that wants the other
 abbrev pub wrong_end_graph : TaskGraph
@@ -41,9 +41,6 @@ ExcludedContinuationIsCanceled =
     × Run only_canceled_graph [] continuation_dropped
     × (Allows only_canceled_graph [] antecedent_left (worker 1) (releasing 1) → ⊥)
     × Complete only_canceled_graph [] continuation_dropped
-
-abbrev pub before_all : List Event
-before_all = []
 
 abbrev pub released_only : List Event
 released_only = played (begin 1 0 ∷ step 1 0 ∷ leave 1 0 ∷ release 1 1 ∷ [])

@@ -7,7 +7,7 @@ use Rattle.tpl_model.specs.Graph.{TaskGraph, Plain}
 use Rattle.tpl_model.specs.declared.event.Event.{Event}
 use Rattle.tpl_model.specs.Rules.{status, Run, Complete}
 use Rattle.tpl_model.specs.Valid.{IsGraph}
-use Rattle.tpl_examples.specs.Words.{release, begin, step, done, leave, close, drop, settle, request, played, returns, root, child, continues, when_all, with_token, graph, with_tokens}
+use Rattle.tpl_examples.specs.Words.{release, begin, step, done, leave, close, drop, settle, request, played, returns, root, child, continues, when_all, with_token, graph, with_tokens, before_all}
 
 -- two jobs and WhenAll of them with a continuation, and a parent with a child that has a job and a continuation
 abbrev pub seven_graph : TaskGraph
@@ -86,9 +86,6 @@ stopped_on_the_way =
     (begin 1 0 ∷ begin 2 1 ∷ done 2 1 ∷ request 1 0 ∷ done 1 0 ∷ leave 2 1 ∷ drop 2 3 ∷ begin 2 4 ∷ leave 1 0 ∷ settle 1 2
     ∷ step 2 4 ∷ begin 1 5 ∷ step 2 4 ∷ done 1 5 ∷ leave 2 4 ∷ leave 1 5 ∷ close 1 4 ∷ release 1 6
     ∷ begin 1 6 ∷ request 2 1 ∷ step 1 6 ∷ leave 1 6 ∷ [])
-
-abbrev pub before_all : List Event
-before_all = []
 
 -- a request that comes before a continuation begins cancels it, one that comes later doesn't, and the other tasks run
 abbrev pub RequestsOnTheWay : Type 0

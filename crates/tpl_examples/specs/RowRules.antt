@@ -12,7 +12,7 @@ use Rattle.tpl_model.specs.Claims.{Claim}
 use Rattle.tpl_model.specs.Certificate.{Row, Tree, SplitInput, SplitEnd, Leaf}
 use Rattle.tpl_laws.specs.Verdict.{verdict}
 use Rattle.tpl_examples.specs.Words.{root, when_all, when_any, with_token, ran, canceled, faulted, ends_in, begins_after, never_begins, is_observed, exclude, given_input, given_quiet, returns}
-use Rattle.tpl_examples.specs.CertificateWords.{child_with, continuing, graph_with, nothing, ran_or_canceled, ran_or_faulted, any_end, runs, ends, behind, not_run, one_claim, one_claim_given, not_closed, leaf, throws, observes}
+use Rattle.tpl_examples.specs.CertificateWords.{child_with, continuing, graph_with, nothing, ran_or_canceled, ran_or_faulted, any_end, runs, ends, behind, not_run, one_claim, one_claim_given, not_closed, leaf, throws, observes, stuck}
 
 -- a claim that each leaf proves, for certificates about the rules alone
 abbrev pub true_claim : List Claim
@@ -37,10 +37,6 @@ with_one_token tasks = graph_with (Plain ∷ []) 0 tasks
 
 abbrev pub with_one_input : List Task → TaskGraph
 with_one_input tasks = graph_with [] 1 tasks
-
--- a body whose only end is cut off: it requests a token that is given as never requested
-abbrev pub endless : Statements
-endless = Cancel 0 ⨾ Nothing
 
 -- a row that runs and has these tasks before it, and one that has them past it
 abbrev pub ran_before : List ℕ → Row
@@ -73,7 +69,7 @@ abbrev pub ContinuationMayBegin : Type 0
 ContinuationMayBegin =
     (said (plain (root throws ∷ continuing 0 returns 0x20000 ∷ [])) (ends faulted ∷ not_run canceled ∷ []) ≡ Ok tt)
     × (said (plain (root throws ∷ continuing 0 returns 0x40000 ∷ [])) (ends faulted ∷ not_run canceled ∷ []) ≡ Err (not_closed 1 1 1 K1))
-    × (said_given (given_quiet 0 ∷ []) (with_one_token (root endless ∷ continuing 0 returns 0 ∷ [])) (ends nothing ∷ not_run nothing ∷ []) ≡ Ok tt)
+    × (said_given (given_quiet 0 ∷ []) (with_one_token (root stuck ∷ continuing 0 returns 0 ∷ [])) (ends nothing ∷ not_run nothing ∷ []) ≡ Ok tt)
 
 -- how a body ends: nothing comes after a return; a job ends it only where it may fail; a check of another token throws
 abbrev pub BodyEnds : Type 0
@@ -101,7 +97,7 @@ abbrev pub canceled_before : ℕ → TaskGraph
 canceled_before options = with_one_token (root returns ∷ with_token 0 (continuing 0 returns options) ∷ [])
 
 abbrev pub two_tokens : ℕ → TaskGraph
-two_tokens options = graph_with (Plain ∷ Plain ∷ []) 0 (root endless ∷ with_token 1 (continuing 0 returns options) ∷ [])
+two_tokens options = graph_with (Plain ∷ Plain ∷ []) 0 (root stuck ∷ with_token 1 (continuing 0 returns options) ∷ [])
 
 abbrev pub CanceledContinuation : Type 0
 CanceledContinuation =
@@ -135,7 +131,7 @@ AllEnds =
     × (said may_be_canceled (ends ran ∷ ends ran_or_canceled ∷ not_run ran_or_canceled ∷ []) ≡ Ok tt)
     × (said (all_of returns throws) (ends ran ∷ ends faulted ∷ not_run ran ∷ []) ≡ Err (not_closed 1 1 2 K2))
     × (said (all_of returns throws) (ends ran ∷ ends faulted ∷ not_run faulted ∷ []) ≡ Ok tt)
-    × (said_given (given_quiet 0 ∷ []) (all_of endless throws) (ends nothing ∷ ends faulted ∷ not_run nothing ∷ []) ≡ Ok tt)
+    × (said_given (given_quiet 0 ∷ []) (all_of stuck throws) (ends nothing ∷ ends faulted ∷ not_run nothing ∷ []) ≡ Ok tt)
 
 -- how WhenAny ends: in one way, where one of its tasks may end
 abbrev pub any_of : Statements → Statements → TaskGraph
@@ -145,8 +141,8 @@ abbrev pub AnyEnds : Type 0
 AnyEnds =
     (said (any_of throws throws) (ends faulted ∷ ends faulted ∷ not_run ran ∷ []) ≡ Ok tt)
     × (said (any_of throws throws) (ends faulted ∷ ends faulted ∷ not_run faulted ∷ []) ≡ Err (not_closed 1 1 2 K2))
-    × (said_given (given_quiet 0 ∷ []) (any_of endless returns) (ends nothing ∷ ends ran ∷ not_run nothing ∷ []) ≡ Err (not_closed 1 1 2 K2))
-    × (said_given (given_quiet 0 ∷ []) (any_of endless endless) (ends nothing ∷ ends nothing ∷ not_run nothing ∷ []) ≡ Ok tt)
+    × (said_given (given_quiet 0 ∷ []) (any_of stuck returns) (ends nothing ∷ ends ran ∷ not_run nothing ∷ []) ≡ Err (not_closed 1 1 2 K2))
+    × (said_given (given_quiet 0 ∷ []) (any_of stuck stuck) (ends nothing ∷ ends nothing ∷ not_run nothing ∷ []) ≡ Ok tt)
 
 -- what is before a root (nothing), a continuation (its antecedent and what is past that), a child (what is before its
 -- parent), a WhenAll task (anything)

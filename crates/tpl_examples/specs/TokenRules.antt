@@ -15,7 +15,7 @@ use Rattle.tpl_model.specs.WiderRules.{WideRow, WideAssumed, widely_assumed, nar
 use Rattle.tpl_laws.specs.Verdict.{LeafFault, Breaks, ProvesNot}
 use Rattle.tpl_laws.specs.WiderTests.{wide_leaf_fault}
 use Rattle.tpl_examples.specs.Words.{root, child, detached_child, continues, when_all, when_any, with_token, with_options, graph, with_tokens, returns, only_on_faulted, ran, canceled, faulted, ends_in, is_observed, never_begins, given_quiet, given_end}
-use Rattle.tpl_examples.specs.CertificateWords.{nothing, ran_or_canceled, ran_or_faulted, ends, behind, not_run, throws}
+use Rattle.tpl_examples.specs.CertificateWords.{nothing, ran_or_canceled, ran_or_faulted, ends, behind, not_run, throws, stuck}
 
 -- what a leaf assumes for a claim
 abbrev pub for_claim : TaskGraph → List Given → Property TaskId → WideAssumed
@@ -104,9 +104,6 @@ ChildBurdens =
     × (fault child_throws [] (is_observed 1) (plainly (ends faulted) ∷ plainly (ends faulted) ∷ []) ≡ Some ProvesNot)
 
 -- where an attached child surely never ends its parent doesn't, but what the parent starts next begins all the same
-abbrev pub stuck : Statements
-stuck = Cancel 0 ⨾ Nothing
-
 abbrev pub starts_two : TaskGraph
 starts_two = with_tokens two_tokens (graph (root (Start 1 ⨾ Start 2 ⨾ Nothing) ∷ child stuck ∷ child returns ∷ []))
 

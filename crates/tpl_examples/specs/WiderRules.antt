@@ -2,7 +2,7 @@
 use Rattle.std.specs.Prelude.{◌≡◌, ℕ, true, false, Some, Ok, Err, Result, List, [], ◌∷◌}
 use Rattle.tpl_model.specs.declared.finals.Final.TheVariants.{Canceled}
 use Rattle.tpl_model.specs.declared.finals.Finals.{Finals}
-use Rattle.tpl_model.specs.Statements.{Cancel, Start, Work, Statements, Nothing, ◌⨾◌}
+use Rattle.tpl_model.specs.Statements.{Start, Work, Nothing, ◌⨾◌}
 use Rattle.tpl_model.specs.Graph.{TaskGraph, Plain}
 use Rattle.tpl_model.specs.declared.fault.Rule.TheVariants.{K2, K5, K6}
 use Rattle.tpl_model.specs.declared.fault.CertFault.{CertFault}
@@ -15,7 +15,7 @@ use Rattle.tpl_model.specs.Rules.{final, Run}
 use Rattle.tpl_model.specs.Certificate.{Row}
 use Rattle.tpl_laws.specs.Verdict.{verdict}
 use Rattle.tpl_examples.specs.Words.{outside, dropping, by, request, played, root, when_all, when_any, with_token, ran, canceled, faulted, ends_in, begins_after, is_observed, never_begins, exclude, must_run, given_quiet, given_end, given_success, returns}
-use Rattle.tpl_examples.specs.CertificateWords.{child_with, continuing, graph_with, nothing, ran_or_canceled, ran_or_faulted, any_end, runs, ends, not_run, one_claim_given, not_closed, leaf, throws, observes}
+use Rattle.tpl_examples.specs.CertificateWords.{child_with, continuing, graph_with, nothing, ran_or_canceled, ran_or_faulted, any_end, runs, ends, not_run, one_claim_given, not_closed, leaf, throws, observes, stuck}
 
 -- the verdict on one claim by the wider rules, and by the others
 abbrev pub widely : TaskGraph → List Given → Property TaskId → List Row → Result (Unit {0}) CertFault
@@ -79,9 +79,6 @@ OwnTokenExcludes =
     × (widely (and_another 1) [] (exclude 1 2) (ends ran ∷ not_run canceled ∷ ends ran ∷ []) ≡ Err (not_closed 1 1 0 K2))
 
 -- a body that requests what is never requested has no end: as a root no run is complete, as a child it says nothing
-abbrev pub stuck : Statements
-stuck = Cancel 0 ⨾ Nothing
-
 abbrev pub stuck_root : TaskGraph
 stuck_root = graph_with (Plain ∷ []) 0 (root stuck ∷ root throws ∷ [])
 

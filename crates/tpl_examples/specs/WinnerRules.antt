@@ -3,7 +3,7 @@
 use Rattle.std.specs.Prelude.{◌≡◌, ℕ, Bool, true, false, Option, Some, None, List, [], ◌∷◌}
 use Rattle.tpl_model.specs.declared.finals.Final.TheVariants.{Faulted}
 use Rattle.tpl_model.specs.declared.finals.Finals.{Finals}
-use Rattle.tpl_model.specs.Statements.{Cancel, Start, When, Nothing, ◌⨾◌}
+use Rattle.tpl_model.specs.Statements.{Start, When, Nothing, ◌⨾◌}
 use Rattle.tpl_model.specs.Graph.{TaskGraph, Task, Plain}
 use Rattle.tpl_model.specs.declared.fault.Rule.TheVariants.{K1, K2, K5, K6}
 use Rattle.tpl_model.specs.declared.claim.Given.{Given}
@@ -15,7 +15,7 @@ use Rattle.tpl_laws.specs.WideTrees.{WidelyAccepts}
 use Rattle.tpl_laws.specs.Verdict.{LeafFault, Breaks, ProvesNot}
 use Rattle.tpl_laws.specs.WiderTests.{wide_leaf_fault}
 use Rattle.tpl_examples.specs.Words.{root, child, continues, when_all, when_any, with_token, with_options, graph, with_tokens, returns, not_on_faulted, only_on_faulted, ran, faulted, ends_in, begins_after, is_observed, given_quiet, claim}
-use Rattle.tpl_examples.specs.CertificateWords.{nothing, runs, ends, behind, not_run, throws, observes}
+use Rattle.tpl_examples.specs.CertificateWords.{nothing, runs, ends, behind, not_run, throws, observes, stuck}
 use Rattle.tpl_examples.specs.TokenRules.{for_claim, fault, plainly}
 
 -- the fault of a leaf on the branch of a split on whether x wins n, if it has one
@@ -82,7 +82,7 @@ WinnerIsRead =
 
 -- a WhenAny task ends if one ends that may win it
 abbrev pub one_is_stuck : TaskGraph
-one_is_stuck = with_tokens (Plain ∷ []) (graph (root (Cancel 0 ⨾ Nothing) ∷ root returns ∷ when_any (0 ∷ 1 ∷ []) ∷ []))
+one_is_stuck = with_tokens (Plain ∷ []) (graph (root stuck ∷ root returns ∷ when_any (0 ∷ 1 ∷ []) ∷ []))
 
 abbrev pub stuck_rows : List WideRow
 stuck_rows = plainly (ends nothing) ∷ plainly (ends ran) ∷ plainly (not_run nothing) ∷ []

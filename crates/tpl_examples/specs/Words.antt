@@ -95,6 +95,10 @@ request seat k = by (outside seat) (requesting k)
 abbrev pub played : List Event → List Event
 played journal = reverse journal
 
+-- the journal before anything has happened
+abbrev pub before_all : List Event
+before_all = []
+
 -- what a body threw
 abbrev pub thrown : ℕ → Label
 thrown l = Thrown (record { 0 = l })

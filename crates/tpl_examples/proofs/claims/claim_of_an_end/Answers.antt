@@ -1,6 +1,7 @@
 use Rattle.std.specs.Prelude.{refl, [], ◌∷◌}
 use Rattle.tpl_examples.proofs.Computed.{claims, fails}
-use Rattle.tpl_examples.specs.Claims.{failure, handler_graph, success}
+use Rattle.tpl_examples.specs.Continuations.{handler_graph}
+use Rattle.tpl_examples.specs.Claims.{failure, success}
 use Rattle.tpl_examples.specs.Words.{claim_given, faulted, given_end, never_begins, ran}
 use Rattle.tpl_examples.proofs.claims.claim_of_an_end.Goals as goal
 
