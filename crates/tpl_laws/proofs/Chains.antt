@@ -24,7 +24,7 @@ use Rattle.tpl_laws.proofs.Settling.{child_rules, attached_child, started_before
 use Rattle.tpl_laws.proofs.Carrying.{Ends, drops, leaves, settled, how_ends, begun_task, gathered_keeps, gathered_adds, mem_those}
 use Rattle.tpl_model.specs.Certificate.{TakesOver}
 use Rattle.tpl_laws.proofs.RowsAreTrue.{rest_idle, left_verdict}
-use Rattle.tpl_laws.proofs.EachEvent.{all_ended_mem}
+use Rattle.tpl_laws.proofs.Arguments.{all_ended_mem}
 
 -- a task that hasn't begun still has its whole body
 pub unbegun_rest : (g : TaskGraph) (v : List Bool) (h : List Event) (t : ℕ) → Run g v h → begun h t ≡ None → (rest g v h t ≡ on (body g t)) × (passed g v h t ≡ [])

@@ -9,7 +9,7 @@ use Rattle.tpl_model.specs.Certificate.{Row, Assumed, IsClosed, AllTasks, IdsOfR
 use Rattle.tpl_laws.specs.RowTests.{runs, ends, before, past, chain}
 use Rattle.tpl_model.specs.declared.fault.Rule.{Rule}
 use Rattle.tpl_model.specs.declared.fault.Rule.TheVariants.{K1, K2, K3, K6}
-use Rattle.tpl_laws.specs.Verdict.{or_else, unless, past_rule, broken, LeafFault, breaks, has_tasks, rows_fit}
+use Rattle.tpl_laws.specs.Verdict.{or_else, unless, broken, LeafFault, breaks, has_tasks, rows_fit}
 use Rattle.tpl_laws.proofs.Deciding.{both}
 use Rattle.tpl_laws.proofs.RulesDecided.{runs_lem, ends_lem, before_lem, past_lem, chain_lem}
 use Rattle.tpl_laws.specs.PathLaws.{PathLaws}

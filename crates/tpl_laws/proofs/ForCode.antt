@@ -1,5 +1,5 @@
 -- A step of code that walks over rows and counts up.
-use Rattle.std.proofs.Common.{◌≡◌, ℕ, suc, ◌+◌, ◌-◌, ◌<◌, List, [], ap, ◌∙◌, arith}
+use Rattle.std.proofs.Common.{◌≡◌, ℕ, suc, ◌+◌, ◌-◌, ◌<◌, List, ap, ◌∙◌, arith}
 use Rattle.tpl_model.specs.Graph.{TaskGraph}
 use Rattle.tpl_model.specs.Certificate.{Row, Assumed}
 use Rattle.tpl_laws.specs.Verdict.{or_else, broken, breaks, first_broken}

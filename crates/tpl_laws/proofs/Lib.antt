@@ -9,7 +9,7 @@ pub mod Settling
 pub mod SettledBefore
 pub mod Carrying
 pub mod RowsAreTrue
-pub mod EachEvent
+pub mod Arguments
 pub mod Chains
 pub mod Observing
 pub mod MainTheorem
@@ -37,5 +37,6 @@ pub mod RunsDecided
 pub mod FailingLemmas
 pub mod Wider
 pub mod WideLaw
+pub mod PlainSound
 pub mod Plainly
 pub mod Jobs

@@ -94,9 +94,6 @@ quiet_by_a_link_lem g given k = (there, back)
 plain_through : (g : TaskGraph) → ((k : ℕ) → token g k ≡ Plain) → (p : ℕ → Bool) (k : ℕ) → through g p k ≡ p k
 plain_through g plain p k = through_is g p k ∙ ap (λ z. p k || some_in (through g p) z) (ap sources_of (plain k)) ∙ or_false (p k)
 
-turn : (x y : ℕ) → nat_eq x y ≡ true → nat_eq y x ≡ true
-turn x y e = subst (λ z. nat_eq z x ≡ true) (same_number x y e) (same_self x)
-
 plain_quiet : (g : TaskGraph) → ((k : ℕ) → token g k ≡ Plain) → (given : List Given) (k : ℕ) → given_quiet g given k ≡ gives_quiet given k
 plain_quiet g plain [] k = refl
 plain_quiet g plain (Input i value ∷ given) k = plain_quiet g plain given k

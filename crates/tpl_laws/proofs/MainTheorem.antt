@@ -1,4 +1,4 @@
--- The main theorem.
+-- Some leaf of each tree agrees with a run so far, and what leaves show of the beginnings of a run holds of it.
 use Rattle.tpl_laws.proofs.Sources.{through_more, through_twice}
 use Rattle.tpl_model.specs.declared.finals.Final.{Final}
 use Rattle.tpl_model.specs.declared.finals.Final.TheVariants.{RanToCompletion, Canceled, Faulted}
@@ -6,60 +6,30 @@ use Rattle.tpl_model.specs.Finals.{has, is_final}
 use Rattle.tpl_model.specs.Members.{mem}
 use Rattle.tpl_model.specs.declared.ids.TaskId.{TaskId}
 use Rattle.tpl_model.specs.declared.status.Label.{Label}
-use Rattle.tpl_model.specs.declared.outcome.Outcome.TheVariants.{Threw}
-use Rattle.tpl_model.specs.Graph.{TaskGraph, TaskKind, Root, Child, Continues, task, kind, body, is_task, through}
+use Rattle.tpl_model.specs.Graph.{TaskGraph, TaskKind, Root, Child, Continues, task, kind, is_task, through}
 use Rattle.tpl_model.specs.declared.status.Actor.{Actor}
 use Rattle.tpl_model.specs.declared.event.Act.{Act}
 use Rattle.tpl_model.specs.declared.event.Event.{Event}
-use Rattle.tpl_model.specs.Facts.{begun, begun_by, final_in, rest, requested, failed, started, ending, requested_itself, outcome_in}
+use Rattle.tpl_model.specs.Facts.{begun, begun_by, final_in, requested, failed, started, ending, requested_itself}
 use Rattle.tpl_model.specs.Rules.{final, Allows, Run, Settled, seen, label, token_requested, token_requested_by, to_end, Complete}
-use Rattle.tpl_model.specs.Claims.{input, Claim, IsGiven, SettledAtBegin, HoldsOf, Holds}
+use Rattle.tpl_model.specs.Claims.{input, Claim, IsGiven, SettledAtBegin, HoldsOf}
 use Rattle.tpl_laws.proofs.Basics.{if_false, some_none, the_some, same_number}
 use Rattle.tpl_laws.proofs.Kept.{after, requested_kept, failed_kept, final_kept}
-use Rattle.tpl_model.specs.Valid.{IsGraph}
-use Rattle.tpl_model.specs.Certificate.{Row, row, Assumed, Agrees, view, Closed, Tree, SplitInput, SplitEnd, Leaf, same, given_input, given_quiet, given_end, given_sure, assumed, with_input, with_end, NoneComplete, begins_itself, Proves, AcceptsTree, as_quiet, same_token, own_quiet, taken, assumed_for}
-use Rattle.tpl_laws.proofs.Execution.{passed}
+use Rattle.tpl_model.specs.Certificate.{Row, row, Assumed, Agrees, Tree, SplitInput, SplitEnd, Leaf, same, given_input, given_quiet, given_end, given_sure, assumed, with_input, with_end, NoneComplete, begins_itself, Proves, as_quiet, same_token, own_quiet, taken}
 use Rattle.tpl_laws.proofs.Ready.{IsBody}
 use Rattle.tpl_laws.proofs.Begins.{Begins, begins}
-use Rattle.tpl_laws.proofs.Follows.{follows}
-use Rattle.tpl_laws.proofs.Settling.{has_subject_of}
-use Rattle.tpl_laws.proofs.Carrying.{carries_faulted}
-use Rattle.tpl_laws.proofs.RowsAreTrue.{Now, Upheld, upheld, verdict_path, view_fits, ready_runs, ready_before, agrees_before}
+use Rattle.tpl_laws.proofs.RowsAreTrue.{Upheld}
 use Rattle.tpl_model.specs.declared.claim.Given.{Given}
 use Rattle.tpl_model.specs.declared.claim.Given.TheVariants.{Input, Quiet, Ended, Succeeds}
 use Rattle.tpl_model.specs.declared.claim.Property.{Property}
 use Rattle.tpl_model.specs.declared.claim.Property.TheVariants.{Final as EndsIn, After, Observed, Never, Excludes, Runs}
-use Rattle.tpl_laws.specs.Soundness.{HasLeaf, BeforeHolds, SomeLeafAgrees, RowsAreTrue, Soundness}
-use Rattle.tpl_laws.proofs.EachEvent.{may_end_so, rows_are_true}
-use Rattle.tpl_laws.proofs.Chains.{carries_own, threw_begun, begun_ends, ended_begun}
-use Rattle.tpl_laws.proofs.Observing.{label_verdict, chain_seen}
+use Rattle.tpl_laws.specs.Soundness.{HasLeaf, SomeLeafAgrees}
+use Rattle.tpl_laws.proofs.Arguments.{may_end_so}
+use Rattle.tpl_laws.proofs.Chains.{ended_begun}
 use Rattle.std.proofs.Common.{◌≡◌, ℕ, ◌++◌, ◌&&◌, ◌||◌, ◌⊎◌, inl, inr, not, Bool, true, false, if◌then◌else◌, Option, Some, None, List, [], ◌∷◌, refl, sym, ap, ◌∙◌, subst, nat_eq, is_some}
 use Rattle.std.proofs.lemmas.Option.{same_Some}
 use Rattle.std.proofs.lemmas.Bool.{cases_Bool, and_parts, and_from, or_cases}
 use Rattle.tpl_model.proofs.Truths.{true_false}
-
--- what holds of a run that agrees with a closed leaf
-now_of : (g : TaskGraph) (l : Assumed) (rows : List Row) (v : List Bool) (h : List Event) → IsGraph g → Closed g l rows → Run g v h → Agrees g l v h → Now g l rows v h
-now_of g l rows v h valid closed run agrees = record { valid = valid; closed = closed; run = run; agrees = agrees; true_rows = rows_are_true g l rows v h valid closed run agrees }
-
-before_holds : (g : TaskGraph) (l : Assumed) (rows : List Row) (v : List Bool) (h : List Event) → IsGraph g → Closed g l rows → Run g v h → Agrees g l v h → BeforeHolds g rows v h
-before_holds g l rows v [] valid closed run agrees = tt
-before_holds g l rows v (e ∷ h) valid closed run agrees =
-    let ag = agrees_before g v h l e.actor e.act run.1 agrees in
-    let now = now_of g l rows v h valid closed run.0 ag in
-    ((λ t x b m. let w = begins g v h e.actor e.act t run.0 run.1 b in ready_before g l rows v h t x now w.task w.ready m), before_holds g l rows v h valid closed run.0 ag)
-
-pub rows_lem : RowsAreTrue
-rows_lem g l rows v h valid closed run agrees =
-    let now = now_of g l rows v h valid closed run agrees in (
-      record {
-        ends = now.true_rows.ends;
-        runs = now.true_rows.runs;
-        past = now.true_rows.past;
-        observed = λ t c complete lb e. chain_seen g l rows v h t lb (upheld g l rows v h now) (λ s i. (now.closed s i).chain) complete c e;
-      },
-      before_holds g l rows v h valid closed run agrees,
-    )
 
 same_values : (a b : Bool) → b ≡ a → same a b ≡ true
 same_values true b e = e
@@ -186,16 +156,6 @@ leaf_agrees g l (Leaf rows) v h agrees = (l, rows, (refl, refl), agrees)
 pub some_leaf_lem : SomeLeafAgrees
 some_leaf_lem wide g given tree v h i = leaf_agrees g (assumed wide g given) tree v h (given_agrees wide g v h given i)
 
--- each leaf of an accepted tree is closed and proves the claim
-accepted_leaf : (g : TaskGraph) (p : Property TaskId) (l m : Assumed) (tree : Tree) (rows : List Row) → AcceptsTree g p l tree → HasLeaf l tree m rows → Closed g m rows × Proves g m rows p
-accepted_leaf g p l m (SplitInput i a b) rows acc (inl w) = accepted_leaf g p (with_input l i true) m a rows acc.1 w
-accepted_leaf g p l m (SplitInput i a b) rows acc (inr w) = accepted_leaf g p (with_input l i false) m b rows acc.2 w
-accepted_leaf g p l m (SplitEnd t a b c) rows acc (inl w) = accepted_leaf g p (with_end l t RanToCompletion) m a rows acc.1 w
-accepted_leaf g p l m (SplitEnd t a b c) rows acc (inr (inl w)) = accepted_leaf g p (with_end l t Canceled) m b rows acc.2 w
-accepted_leaf g p l m (SplitEnd t a b c) rows acc (inr (inr w)) = accepted_leaf g p (with_end l t Faulted) m c rows acc.3 w
-accepted_leaf g p l m (Leaf leaf) rows acc w =
-    subst (λ z. Closed g z rows × Proves g z rows p) w.0 (subst (λ z. Closed g l z × Proves g l z p) w.1 (acc.2, acc.3))
-
 -- what is given stays so towards the first event
 given_before : (g : TaskGraph) (v : List Bool) (h : List Event) (a : Actor) (x : Act) (given : List Given) → Allows g v h a x → IsGiven g v (after a x h) given → IsGiven g v h given
 given_before g v h a x [] al i = tt
@@ -264,49 +224,6 @@ never_canceled g l rows v h t now i b n complete =
     by_kind Root b = (tt, λ s. refl)
     by_kind (Continues a) b = (tt, λ s. refl)
     by_kind k b = true_false (sym b)
-
--- in a complete run an exception is observed
-pub observed_holds : (g : TaskGraph) (l : Assumed) (rows : List Row) (v : List Bool) (h : List Event) (t : ℕ) (lb : Label) → Upheld g l rows v h → (((row rows t).chain ≡ [] → ⊥) → seen g v h t ≡ true) → Complete g v h → label g v h t ≡ Some lb → Proves g l rows (Observed (record { 0 = t })) → seen g v h t ≡ true
-observed_holds g l rows v h t lb now by_chain complete e pr = by_proof pr
-  where
-    threw : outcome_in (rest g v h t) ≡ Some (Threw lb)
-    threw = label_verdict (outcome_in (rest g v h t)) lb e
-
-    has_begun : is_some (begun h t) ≡ true
-    has_begun = threw_begun g v h t lb now.run threw
-
-    by_proof : Proves g l rows (Observed (record { 0 = t })) → seen g v h t ≡ true
-    by_proof (inl chain) = by_chain chain
-    by_proof (inr (inl no_fault)) =
-        let q = the_some (ending g v h t) (begun_ends g v h t now.run complete has_begun) in
-        let f = carries_faulted g v h t t q.0 now.run q.1 (carries_own g v h t lb q.0 now.run threw q.1) in
-        true_false (sym (now.ends t Faulted (ap final_in q.1 ∙ ap Some f)) ∙ no_fault)
-    by_proof (inr (inr (inl no_run))) = true_false (sym (now.runs t has_begun) ∙ no_run)
-    by_proof (inr (inr (inr (inl no_throw)))) =
-        let w = view g l rows t in
-        absurd (no_throw (lb, (passed g v h t, verdict_path w (body g t) (rest g v h t).outcome (rest g v h t).left (passed g v h t) (Threw lb) threw (follows g v h t w now.run (view_fits g v h l rows t now.run now.agrees now.ends has_begun) (has_subject_of g t now.valid)))))
-    by_proof (inr (inr (inr (inr never)))) = absurd (never_complete g l rows v h now never.1 complete)
-
--- what a closed leaf proves, it shows
-shows : (g : TaskGraph) (l : Assumed) (rows : List Row) (v : List Bool) (h : List Event) (p : Property TaskId) → Now g l rows v h → Proves g l rows p → Shows g l rows v h p
-shows g l rows v h (Observed t) now pr = λ complete lb e.
-    let up = upheld g l rows v h now in
-    observed_holds g l rows v h t.0 lb up (λ c. chain_seen g l rows v h t.0 lb up (λ s i. (now.closed s i).chain) complete c e) complete e pr
-shows g l rows v h p now pr = pr
-
-a_leaf : (wide : Bool) (g : TaskGraph) (claim : Claim) (tree : Tree) (v : List Bool) (h : List Event) → IsGraph g → AcceptsTree g claim.body (assumed_for wide g claim) tree → Run g v h → IsGiven g v h claim.given → IsGiven g v h (own_quiet g claim.body) → ALeaf g v h claim.body
-a_leaf wide g claim tree v h valid acc run i q =
-    let w = some_leaf_lem wide g (taken wide g claim) tree v h (is_taken wide g claim v h i q) in
-    let c = accepted_leaf g claim.body (assumed_for wide g claim) w.0 tree w.1 acc w.2 in
-    let now = now_of g w.0 w.1 v h valid c.0 run w.3 in
-    record {
-      assumes = w.0;
-      rows = w.1;
-      upheld = upheld g w.0 w.1 v h now;
-      runs = λ t b. ready_runs g w.0 w.1 v h t now b.task b.ready;
-      before = λ t x b m. ready_before g w.0 w.1 v h t x now b.task b.ready m;
-      shows = shows g w.0 w.1 v h claim.body now c.1;
-    }
 
 -- what some leaf shows of each run so far in which the given is true, and the own token isn't requested, holds
 module _ (g : TaskGraph) (given : List Given) (v : List Bool) where
@@ -402,13 +319,3 @@ module _ (g : TaskGraph) (given : List Given) (v : List Bool) where
         | inl w ↦ never_canceled g l.assumes l.rows v h t.0 l.upheld w.0 w.1 w.2 complete
         | inr never ↦ absurd (never_complete g l.assumes l.rows v h l.upheld never complete)
       ]
-
-claim_holds : (wide : Bool) (g : TaskGraph) (claim : Claim) (tree : Tree) (v : List Bool) (h : List Event) → IsGraph g → AcceptsTree g claim.body (assumed_for wide g claim) tree → Run g v h → Holds g claim v h
-claim_holds wide g claim tree v h valid acc run =
-    λ i. property_holds g claim.given v claim.body (λ k r j q. a_leaf wide g claim tree v k valid acc r j q) h run i
-
-pub soundness_lem : Soundness
-soundness_lem wide g [] [] valid acc v h run = tt
-soundness_lem wide g (claim ∷ claims) (tree ∷ trees) valid acc v h run = (claim_holds wide g claim tree v h valid acc.0 run, soundness_lem wide g claims trees valid acc.1 v h run)
-soundness_lem wide g [] (tree ∷ trees) valid acc v h run = tt
-soundness_lem wide g (claim ∷ claims) [] valid acc v h run = absurd acc

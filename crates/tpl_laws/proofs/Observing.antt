@@ -23,13 +23,13 @@ use Rattle.tpl_model.specs.Paths.{MustObserve, passes_observe}
 use Rattle.tpl_laws.specs.RowTests.{faulted_view}
 use Rattle.tpl_laws.proofs.Basics.{if_true, if_false, some_none, the_some, same_number}
 use Rattle.tpl_laws.proofs.Kept.{id, after, running_facts, ending_kept, begun_kept, final_of}
-use Rattle.tpl_model.specs.Certificate.{Row, row, Assumed, is_loud, TakesOver, Reads, Links, ChainRule}
+use Rattle.tpl_model.specs.Certificate.{Row, Assumed, is_loud, TakesOver, Reads}
 use Rattle.tpl_laws.proofs.Execution.{passed, pushed}
 use Rattle.tpl_laws.proofs.Follows.{Fits, follows, subject_kept, has_subject}
 use Rattle.tpl_laws.proofs.Settling.{has_subject_of, attached_child, parent_task, continues_task, all_task}
 use Rattle.tpl_laws.proofs.Carrying.{begun_task, carries_faulted}
 use Rattle.tpl_laws.proofs.RowsAreTrue.{Upheld, verdict_path, view_fits, requested_loud}
-use Rattle.tpl_laws.proofs.Chains.{carries_own, threw_begun, begun_ends, taken_over, any_ends, ended_as}
+use Rattle.tpl_laws.proofs.Chains.{carries_own, threw_begun, begun_ends, any_ends, ended_as}
 use Rattle.std.proofs.lemmas.Bool.{cases_Bool, and_from, or_left, or_right}
 use Rattle.tpl_model.proofs.Truths.{true_false}
 
@@ -159,14 +159,6 @@ reader_observes g l rows v h r y a q now complete reads e m =
     seer_observes g l rows v h r y y a q now complete reads.after
     (λ f p. subst (λ z. allows (options g r) z ≡ true) (sym (carried_end g v h y a q f now.run e m p)) reads.on_faulted) reads.not_loud reads.observes (subject_is g v h r y a q now.run reads.after e m, e) m
 
--- a chain carries an exception to its reader
-pub chain_observes : (g : TaskGraph) (l : Assumed) (rows : List Row) (v : List Bool) (h : List Event) (chain : List ℕ) (y a : ℕ) (q : Ending) → Upheld g l rows v h → Complete g v h → Links g l rows y chain → ending g v h y ≡ Some q → mem a q.carried ≡ true → seen g v h a ≡ true
-chain_observes g l rows v h [] y a q now complete links e m = absurd links
-chain_observes g l rows v h (x ∷ []) y a q now complete links e m = reader_observes g l rows v h x y a q now complete links e m
-chain_observes g l rows v h (x ∷ z ∷ zs) y a q now complete links e m =
-    let w = taken_over g v h x y a q now.valid now.run complete (takes_task g x y links.0) links.0 e m in
-    chain_observes g l rows v h (z ∷ zs) x a w.0 now complete links.1 w.1 w.2
-
 -- what a body threw
 pub label_verdict : (o : Option Outcome) (lb : Label) → label_in o ≡ Some lb → o ≡ Some (Threw lb)
 label_verdict (Some (Threw x)) lb e = let s : x ≡ lb = cc in ap (λ z. Some (Threw z)) s
@@ -179,12 +171,3 @@ thrown_seen g v h t lb run complete e f =
     let b = threw_begun g v h t lb run threw in
     let q = the_some (ending g v h t) (begun_ends g v h t run complete b) in
     f (begun_task g v h t run b) q.0 q.1 (carries_own g v h t lb q.0 run threw q.1)
-
--- the one that the body of a task with a chain threw is
-pub chain_seen : (g : TaskGraph) (l : Assumed) (rows : List Row) (v : List Bool) (h : List Event) (t : ℕ) (lb : Label) → Upheld g l rows v h → ((s : ℕ) → is_task g s → ChainRule g l rows s (row rows s).chain) → Complete g v h → ((row rows t).chain ≡ [] → ⊥) → label g v h t ≡ Some lb → seen g v h t ≡ true
-chain_seen g l rows v h t lb now chains complete some_chain e =
-    thrown_seen g v h t lb now.run complete e (λ i q en m. by_chain (row rows t).chain refl (chains t i) q en m)
-  where
-    by_chain : (chain : List ℕ) → (row rows t).chain ≡ chain → ChainRule g l rows t chain → (q : Ending) → ending g v h t ≡ Some q → mem t q.carried ≡ true → seen g v h t ≡ true
-    by_chain [] c r q e m = absurd (some_chain c)
-    by_chain (x ∷ xs) c r q e m = chain_observes g l rows v h (x ∷ xs) t t q now complete r e m

@@ -1,4 +1,4 @@
--- The rows of a closed leaf are true of each run that agrees with it.
+-- What the body of a task has done in a run that agrees with a leaf.
 use Rattle.std.proofs.Common.{◌≡◌, ℕ, ◌&&◌, inl, inr, not, Bool, true, false, Option, Some, None, List, [], ◌∷◌, refl, sym, ◌∙◌, subst, nat_eq, is_some}
 use Rattle.std.proofs.lemmas.Option.{same_Some}
 use Rattle.std.proofs.lemmas.Bool.{cases_Bool, and_from, or_cases, or_left, or_right}
@@ -10,23 +10,22 @@ use Rattle.tpl_model.specs.declared.outcome.Outcome.{Outcome}
 use Rattle.tpl_model.specs.declared.outcome.Outcome.TheVariants.{Returned}
 use Rattle.tpl_model.specs.Members.{mem}
 use Rattle.tpl_model.specs.Statements.{Statement, Statements, Nothing, ◌⨾◌}
-use Rattle.tpl_model.specs.Graph.{TaskGraph, TaskKind, Root, Child, Continues, WhenAll, WhenAny, task, kind, body, options, is_task}
+use Rattle.tpl_model.specs.Graph.{TaskGraph, TaskKind, Continues, WhenAny, task, kind, body, options}
 use Rattle.tpl_model.specs.declared.status.Actor.{Actor}
 use Rattle.tpl_model.specs.declared.event.Act.{Act}
 use Rattle.tpl_model.specs.declared.event.Act.TheVariants.{Step, Worked, Leave}
 use Rattle.tpl_model.specs.declared.event.Event.{Event}
-use Rattle.tpl_model.specs.Facts.{Ending, begun, left_body, stepped, worked, winner_of, rest, requested, failed, ending, subject_in, subject_of, outcome_in, outcome_of}
-use Rattle.tpl_model.specs.Rules.{final, IsRunning, Allows, Run, Settled, ended, token_requested, token_requested_by}
-use Rattle.tpl_model.specs.Paths.{Known, EndsPassing, Path, MayStartChild}
-use Rattle.tpl_laws.proofs.Basics.{if_false, some_none, is_some_of, same_number}
-use Rattle.tpl_laws.proofs.Kept.{after, running_facts, final_kept, requested_kept, failed_kept, final_of}
+use Rattle.tpl_model.specs.Facts.{begun, left_body, stepped, worked, rest, requested, failed, ending, subject_in, subject_of, outcome_in, outcome_of}
+use Rattle.tpl_model.specs.Rules.{final, IsRunning, Allows, Run, token_requested, token_requested_by}
+use Rattle.tpl_model.specs.Paths.{Known, EndsPassing, Path}
+use Rattle.tpl_laws.proofs.Basics.{if_false, some_none, same_number}
+use Rattle.tpl_laws.proofs.Kept.{after, running_facts, final_kept, requested_kept, failed_kept}
 use Rattle.tpl_model.specs.Finals.{has}
 use Rattle.tpl_model.specs.Valid.{IsGraph}
-use Rattle.tpl_model.specs.Certificate.{Row, row, Assumed, Agrees, is_loud, loud_token, one_ends, subject_ends, subject_set, view, RunsRule, BeforeRule, Closed}
-use Rattle.tpl_laws.proofs.Execution.{passed, StartedBy, started_parent}
+use Rattle.tpl_model.specs.Certificate.{Row, row, Assumed, Agrees, is_loud, loud_token, one_ends, subject_ends, subject_set, view}
+use Rattle.tpl_laws.proofs.Execution.{passed}
 use Rattle.tpl_laws.proofs.Ready.{EndedSo, Ready, begun_ready, any_winner}
-use Rattle.tpl_laws.proofs.Follows.{Fits, FollowsBy, follows}
-use Rattle.tpl_laws.proofs.Settling.{has_subject_of}
+use Rattle.tpl_laws.proofs.Follows.{Fits, FollowsBy, winner_some}
 
 -- a task that isn't running keeps what is left of its body
 pub rest_idle : (g : TaskGraph) (v : List Bool) (h : List Event) (a : Actor) (x : Act) (t : ℕ) → Allows g v h a x → (IsRunning g v h a t → ⊥) → (rest g v (after a x h) t ≡ rest g v h t) × (passed g v (after a x h) t ≡ passed g v h t)
@@ -57,11 +56,6 @@ left_verdict g v (e ∷ h) t run l = here (λ o. left_verdict g v h t run.0 o) e
           | inr q ↦ old q
         ]
     here old a x al n = was old a x al n
-
--- what follows a path is one, with its verdict where it has one
-pub path_by : (w : Known) (body : Statements) (verdict : Option Outcome) (left : Statements) (ps : List Statement) → FollowsBy w body verdict left ps → Path w body ps verdict
-path_by w body None left ps f = (left, f)
-path_by w body (Some verdict) left ps f = inr f.1
 
 pub verdict_path : (w : Known) (body : Statements) (verdict : Option Outcome) (left : Statements) (ps : List Statement) (end : Outcome) → outcome_of verdict left ≡ Some end → FollowsBy w body verdict left ps → Path w body ps (Some end)
 verdict_path w body (Some verdict) left ps end e f = let s : verdict ≡ end = cc in inr (subst (λ z. EndsPassing w body ps z) s f.1)
@@ -95,14 +89,10 @@ view_fits g v h l rows t run agrees ends b = record {
 
     of_kind : (a : ℕ) (k : TaskKind) → kind g a ≡ k → EndedSo g v h t a true → (s : ℕ) (f : Final) → subject_of k a (ending g v h a) ≡ Some s → final g v h s ≡ Some f → subject_ends k (options g t) a rows f ≡ true
     of_kind a (WhenAny args) k m s f e p =
-        let r = winner_some (ending g v h a) e in
+        let r = winner_some (ending g v h a) s e in
         let w = any_winner g v h a args r.0 run k r.1 in
         let same = same_Some w.0 s (sym w.2 ∙ r.2) in
         one_ends_mem args rows s f (subst (λ z. mem z args ≡ true) same w.3) (ends s f p)
-      where
-        winner_some : (o : Option Ending) → winner_of o ≡ Some s → (r : Ending) × (o ≡ Some r) × (r.winner ≡ Some s)
-        winner_some None e = some_none s (sym e)
-        winner_some (Some r) e = (r, refl, e)
     of_kind a other k m s f e p = plain a m s f e p
 
     by_kind : (k : TaskKind) → kind g t ≡ k → (s : ℕ) (f : Final) → subject_in g k (ending g v h) ≡ Some s → final g v h s ≡ Some f → subject_set g rows t k f ≡ true
@@ -117,21 +107,6 @@ agrees_before g v h l a x al ag = record {
   jobs = λ site q. elim (cases_Bool (failed g v h site)) [ inl r ↦ true_false (sym (failed_kept g v h a x site r) ∙ ag.jobs site q) | inr r ↦ r ];
 }
 
--- what the rows say of a run
-pub record AreTrue (g : TaskGraph) (rows : List Row) (v : List Bool) (h : List Event) : Type 0 where
-  pub ends : (t : ℕ) (f : Final) → final g v h t ≡ Some f → has (row rows t).ends f ≡ true
-  pub runs : (t : ℕ) → is_some (begun h t) ≡ true → (row rows t).runs ≡ true
-  pub before : (t x : ℕ) → is_some (begun h t) ≡ true → mem x (row rows t).before ≡ true → Settled g v h x
-  pub past : (t x : ℕ) → is_some (ending g v h t) ≡ true → mem x (row rows t).past ≡ true → Settled g v h x
-
--- what holds before an event
-pub record Now (g : TaskGraph) (l : Assumed) (rows : List Row) (v : List Bool) (h : List Event) : Type 0 where
-  pub valid : IsGraph g
-  pub closed : Closed g l rows
-  pub run : Run g v h
-  pub agrees : Agrees g l v h
-  pub true_rows : AreTrue g rows v h
-
 -- rows whose ends and begins are true of a run
 pub record Upheld (g : TaskGraph) (l : Assumed) (rows : List Row) (v : List Bool) (h : List Event) : Type 0 where
   pub valid : IsGraph g
@@ -139,53 +114,6 @@ pub record Upheld (g : TaskGraph) (l : Assumed) (rows : List Row) (v : List Bool
   pub agrees : Agrees g l v h
   pub ends : (t : ℕ) (f : Final) → final g v h t ≡ Some f → has (row rows t).ends f ≡ true
   pub runs : (t : ℕ) → is_some (begun h t) ≡ true → (row rows t).runs ≡ true
-
-pub upheld : (g : TaskGraph) (l : Assumed) (rows : List Row) (v : List Bool) (h : List Event) → Now g l rows v h → Upheld g l rows v h
-upheld g l rows v h now = record {
-  valid = now.valid;
-  run = now.run;
-  agrees = now.agrees;
-  ends = now.true_rows.ends;
-  runs = now.true_rows.runs;
-}
-
--- a child that is started is started on a path of its parent
-pub starts_on_path : (g : TaskGraph) (l : Assumed) (rows : List Row) (v : List Bool) (h : List Event) (p c : ℕ) → Now g l rows v h → StartedBy g v h c p → MayStartChild (view g l rows p) (body g p) c
-starts_on_path g l rows v h p c now s = (
-  passed g v h p,
-  (rest g v h p).outcome,
-  path_by (view g l rows p) (body g p) (rest g v h p).outcome (rest g v h p).left (passed g v h p)
-      (follows g v h p (view g l rows p) now.run (view_fits g v h l rows p now.run now.agrees now.true_rows.ends s.begun) (has_subject_of g p now.valid)),
-  s.passes,
-)
-
--- a task that is ready has a row that runs
-pub ready_runs : (g : TaskGraph) (l : Assumed) (rows : List Row) (v : List Bool) (h : List Event) (t : ℕ) → Now g l rows v h → is_task g t → Ready g v h t (kind g t) → (row rows t).runs ≡ true
-ready_runs g l rows v h t now i r = by_kind (kind g t) r (now.closed t i).runs
-  where
-    by_kind : (k : TaskKind) → Ready g v h t k → RunsRule g l rows t k → (row rows t).runs ≡ true
-    by_kind Root r c = c
-    by_kind Child r c =
-        let s = started_parent g v h t now.run r in
-        c s.0 s.1.parent (now.true_rows.runs s.0 s.1.begun) (starts_on_path g l rows v h s.0 t now s.1)
-    by_kind (Continues a) r c = c r.0 (now.true_rows.ends a r.0 r.1) r.2
-    by_kind (WhenAll args) r c = absurd r
-    by_kind (WhenAny args) r c = absurd r
-
--- what its row has before it is settled when a task is ready
-pub ready_before : (g : TaskGraph) (l : Assumed) (rows : List Row) (v : List Bool) (h : List Event) (t x : ℕ) → Now g l rows v h → is_task g t → Ready g v h t (kind g t) → mem x (row rows t).before ≡ true → Settled g v h x
-ready_before g l rows v h t x now i r m = by_kind (kind g t) r ((now.closed t i).before (ready_runs g l rows v h t now i r) x m)
-  where
-    by_kind : (k : TaskKind) → Ready g v h t k → BeforeRule g rows t k x → Settled g v h x
-    by_kind Root r c = absurd c
-    by_kind Child r c =
-        let s = started_parent g v h t now.run r in
-        now.true_rows.before s.0 x s.1.begun (c s.0 s.1.parent)
-    by_kind (Continues a) r c =
-        let e : is_some (ending g v h a) ≡ true = let w = final_of (ending g v h a) r.0 r.1 in is_some_of (ending g v h a) w.0 w.1 in
-        elim c [ inl q ↦ subst (λ z. Settled g v h z) (sym q) (ended e) | inr q ↦ now.true_rows.past a x e q ]
-    by_kind (WhenAll args) r c = absurd r
-    by_kind (WhenAny args) r c = absurd r
 
 -- a task whose token is requested is loud
 pub requested_loud : (g : TaskGraph) (l : Assumed) (v : List Bool) (h : List Event) (t : ℕ) → Agrees g l v h → token_requested g v h t ≡ true → is_loud g l t ≡ true

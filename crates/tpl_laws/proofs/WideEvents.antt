@@ -25,7 +25,7 @@ use Rattle.tpl_laws.proofs.Begins.{begun_now, begins}
 use Rattle.tpl_laws.proofs.Settling.{below_settled, filter_mem, all_task}
 use Rattle.tpl_laws.proofs.Carrying.{Ends, drops, leaves, settled, how_ends}
 use Rattle.tpl_laws.proofs.RowsAreTrue.{agrees_before}
-use Rattle.tpl_laws.proofs.EachEvent.{end_of, all_ended_mem, all_is, all_may, may_end_so}
+use Rattle.tpl_laws.proofs.Arguments.{end_of, all_ended_mem, all_is, all_may, may_end_so}
 use Rattle.tpl_laws.proofs.Telling.{told_kept, told_first}
 use Rattle.tpl_laws.proofs.WideRows.{WideTrue, WideNow, WayTaken, fact_kept, once_holds, ready_runs, ready_begins, drop_way, body_way}
 

@@ -2,6 +2,7 @@
 use Rattle.std.proofs.Common.{◌≡◌, ℕ, ◌||◌, inl, inr, not, nat_eq, Bool, true, false, Option, Some, None, List, [], ◌∷◌, refl, sym, ap, ◌∙◌, subst}
 use Rattle.std.proofs.lemmas.Option.{same_Some}
 use Rattle.std.proofs.lemmas.Bool.{cases_Bool, and_from}
+use Rattle.tpl_model.proofs.Truths.{true_false}
 use Rattle.tpl_model.specs.declared.finals.Final.{Final}
 use Rattle.tpl_model.specs.declared.finals.Final.TheVariants.{RanToCompletion, Canceled, Faulted}
 use Rattle.tpl_model.specs.Finals.{is_final}
@@ -9,7 +10,8 @@ use Rattle.tpl_model.specs.declared.status.Label.{Label}
 use Rattle.tpl_model.specs.Knowledge.{IsSettled}
 use Rattle.tpl_model.specs.Graph.{TaskGraph}
 use Rattle.tpl_model.specs.declared.event.Event.{Event}
-use Rattle.tpl_model.specs.Facts.{rest, ending, outcome_in, winner_of}
+use Rattle.tpl_model.specs.declared.outcome.Outcome.TheVariants.{Threw}
+use Rattle.tpl_model.specs.Facts.{rest, ending, final_in, outcome_in, winner_of}
 use Rattle.tpl_model.specs.Rules.{Run, label, seen, Complete}
 use Rattle.tpl_model.specs.Valid.{IsGraph}
 use Rattle.tpl_model.specs.declared.ids.TaskId.{TaskId}
@@ -21,15 +23,15 @@ use Rattle.tpl_model.specs.WiderRules.{WideRow, plain, WideAssumed, WideAgrees, 
 use Rattle.tpl_laws.specs.WideTrees.{AcceptsWideTree, written}
 use Rattle.tpl_laws.specs.LeastRows.{least_rows}
 use Rattle.tpl_laws.specs.WiderSoundness.{HasRows, SomeWideLeafIsTrue, WideRowsAreTrue, WideSoundness}
-use Rattle.tpl_laws.proofs.Basics.{some_none, same_number, final_self}
-use Rattle.tpl_laws.proofs.RowsAreTrue.{Upheld}
-use Rattle.tpl_laws.proofs.Chains.{threw_begun, begun_ends}
+use Rattle.tpl_laws.proofs.Basics.{some_none, the_some, same_number, final_self}
+use Rattle.tpl_laws.proofs.Carrying.{carries_faulted}
+use Rattle.tpl_laws.proofs.Chains.{carries_own, threw_begun, begun_ends}
 use Rattle.tpl_laws.proofs.Observing.{label_verdict}
 use Rattle.tpl_laws.proofs.WideRows.{WideNow, ready_runs, ready_begins, throw_known}
 use Rattle.tpl_laws.proofs.WideEvents.{wide_now, begin_holds}
 use Rattle.tpl_laws.proofs.WideChains.{wide_upheld, wide_chain_seen}
 use Rattle.tpl_laws.proofs.Destinies.{destiny, destiny_ended, narrowed_agrees}
-use Rattle.tpl_laws.proofs.MainTheorem.{Shows, ALeaf, never_complete, observed_holds, given_agrees, input_agrees, end_agrees, is_taken, property_holds}
+use Rattle.tpl_laws.proofs.MainTheorem.{Shows, ALeaf, never_complete, given_agrees, input_agrees, end_agrees, is_taken, property_holds}
 
 pub wide_rows_lem : WideRowsAreTrue
 wide_rows_lem g l rows v h valid closed run agrees =
@@ -45,23 +47,20 @@ wide_rows_lem g l rows v h valid closed run agrees =
 
 -- what a closed leaf proves, it shows
 wide_shows : (g : TaskGraph) (l : WideAssumed) (rows : List WideRow) (v : List Bool) (h : List Event) (p : Property TaskId) → WideNow g l rows v h → WidelyProves g l rows p → Shows g l.assumed (plain rows) v h p
-wide_shows g l rows v h (Observed t) now pr = λ complete lb e. by_proof lb complete e pr
+wide_shows g l rows v h (Observed t) now pr = λ complete lb e. by_proof lb complete e (label_verdict (outcome_in (rest g v h t.0)) lb e) pr
   where
-    up : Upheld g l.assumed (plain rows) v h
-    up = wide_upheld g l rows v h now
-
-    by_proof : (lb : Label) → Complete g v h → label g v h t.0 ≡ Some lb → WidelyProves g l rows (Observed t) → seen g v h t.0 ≡ true
-    by_proof lb complete e (inl c) = wide_chain_seen g l rows v h now complete t.0 lb c e
-    by_proof lb complete e (inr (inl c)) =
-        observed_holds g l.assumed (plain rows) v h t.0 lb up (λ c. wide_chain_seen g l rows v h now complete t.0 lb c e) complete e (inr (inl c))
-    by_proof lb complete e (inr (inr (inl c))) =
-        observed_holds g l.assumed (plain rows) v h t.0 lb up (λ c. wide_chain_seen g l rows v h now complete t.0 lb c e) complete e (inr (inr (inl c)))
-    by_proof lb complete e (inr (inr (inr (inl none)))) =
-        let threw = label_verdict (outcome_in (rest g v h t.0)) lb e in
+    by_proof : (lb : Label) → Complete g v h → label g v h t.0 ≡ Some lb → outcome_in (rest g v h t.0) ≡ Some (Threw lb) → WidelyProves g l rows (Observed t) → seen g v h t.0 ≡ true
+    by_proof lb complete e threw (inl c) = wide_chain_seen g l rows v h now complete t.0 lb c e
+    by_proof lb complete e threw (inr (inl no_fault)) =
+        let q = the_some (ending g v h t.0) (begun_ends g v h t.0 now.run complete (threw_begun g v h t.0 lb now.run threw)) in
+        let f = carries_faulted g v h t.0 t.0 q.0 now.run q.1 (carries_own g v h t.0 lb q.0 now.run threw q.1) in
+        true_false (sym (now.true_rows.ends t.0 Faulted (ap final_in q.1 ∙ ap Some f)) ∙ no_fault)
+    by_proof lb complete e threw (inr (inr (inl no_run))) = true_false (sym (now.true_rows.runs t.0 (threw_begun g v h t.0 lb now.run threw)) ∙ no_run)
+    by_proof lb complete e threw (inr (inr (inr (inl none)))) =
         let b = threw_begun g v h t.0 lb now.run threw in
         let w = throw_known g l rows v h now t.0 lb threw b (begun_ends g v h t.0 now.run complete b) in
         some_none w.0 (sym w.1 ∙ none)
-    by_proof lb complete e (inr (inr (inr (inr never)))) = absurd (never_complete g l.assumed (plain rows) v h up never complete)
+    by_proof lb complete e threw (inr (inr (inr (inr never)))) = absurd (never_complete g l.assumed (plain rows) v h (wide_upheld g l rows v h now) never complete)
 wide_shows g l rows v h p now pr = pr
 
 -- a leaf of an accepted tree that agrees with a run so far

@@ -16,8 +16,6 @@ use Rattle.tpl_model.specs.declared.claim.Property.{Property}
 use Rattle.tpl_model.specs.declared.claim.Property.TheVariants.{After, Observed, Never, Excludes}
 use Rattle.tpl_model.specs.Certificate.{Row, row, Tree, SplitInput, SplitEnd, Leaf, Assumed, end_left, same, given_quiet, assumed, assumed_for, with_input, with_end, is_loud, loud_token, view, RunsRule, BodyMayEnd, MayBeCanceled, MayEndAs, may_end_early, may_end, may_win, PastRule, Reads, Links, ChainRule, Closed, Proves, AcceptsTree, as_quiet, same_token, own_quiet}
 use Rattle.tpl_laws.specs.Wider.{AssumesMore, MoreIsAssumed, WiderAccepts}
-use Rattle.tpl_laws.specs.Soundness.{Soundness}
-use Rattle.tpl_laws.proofs.MainTheorem.{soundness_lem}
 
 -- u knows what w does, and maybe more
 pub record KnowsMore (w u : Known) : Type 0 where
@@ -225,8 +223,3 @@ wider_accepts_lem g (claim ∷ claims) (tree ∷ trees) acc =
     (tree_more g claim.body (assumed_for false g claim) (assumed_for true g claim) tree (wide_more g claim.given claim.body) acc.0, wider_accepts_lem g claims trees acc.1)
 wider_accepts_lem g [] (tree ∷ trees) acc = acc
 wider_accepts_lem g (claim ∷ claims) [] acc = acc
-
--- soundness by the other rules from that by the wider ones
-pub sound_by_law : Soundness
-sound_by_law true g claims trees valid acc v h run = soundness_lem true g claims trees valid acc v h run
-sound_by_law false g claims trees valid acc v h run = soundness_lem true g claims trees valid (wider_accepts_lem g claims trees acc) v h run

@@ -1,4 +1,4 @@
-use Rattle.tpl_laws.proofs.MainTheorem.{rows_lem}
+use Rattle.tpl_laws.proofs.PlainSound.{rows_lem}
 use Rattle.tpl_laws.proofs.sound.rows_are_true.Goals as goal
 
 pub returns : goal.returns
