@@ -1,19 +1,20 @@
 -- The ends that a row has to have.
-use Rattle.std.proofs.Common.{◌≡◌, ℕ, ◌&&◌, not, Bool, true, false, List, refl, sym, ap, ◌∙◌}
+use Rattle.std.proofs.Common.{◌≡◌, ℕ, ◌&&◌, not, Bool, true, false, refl, sym, ap, ◌∙◌}
 use Rattle.tpl_model.proofs.Truths.{and_true}
 use Rattle.tpl_model.specs.declared.finals.Final.{Final}
 use Rattle.tpl_model.specs.declared.finals.Final.TheVariants.{RanToCompletion, Canceled, Faulted}
 use Rattle.tpl_model.specs.declared.finals.Finals.{Finals}
 use Rattle.tpl_model.specs.Finals.{has, is_final}
 use Rattle.tpl_model.specs.Knowledge.{Fact}
-use Rattle.tpl_model.specs.Graph.{TaskGraph, TaskKind, Root, Child, Continues, WhenAll, WhenAny, some_in}
+use Rattle.tpl_model.specs.Graph.{TaskKind, Root, Child, Continues, WhenAll, WhenAny, kind, some_in}
 use Rattle.tpl_model.specs.Certificate.{row, end_left, may_end}
-use Rattle.tpl_model.specs.WiderRules.{WideRow, WideAssumed, Way, plain, way_final}
+use Rattle.tpl_model.specs.WiderRules.{Way, plain, way_final}
 use Rattle.tpl_laws.specs.RowTests.{all_may_end, each_end, implies}
 use Rattle.tpl_laws.specs.WiderTests.{each_way, wide_ends_by}
-use Rattle.tpl_laws.specs.LeastRows.{has_to_end_so}
-use Rattle.tpl_checker.proofs.Basics.{each_end_same}
+use Rattle.tpl_leaf.specs.declared.leaf.Leaf.{Leaf}
 use Rattle.tpl_leaf.specs.declared.ways.Ways.{Ways}
+use Rattle.tpl_leaf.specs.Leaf.{graph_of, assumed_in, rows_in}
+use Rattle.tpl_leaf.specs.LeafRules.{has_to_end_as, holds_as, AreLeft}
 use Rattle.tpl_leaf.specs.Ways.{AreWays}
 
 -- all ends but this one
@@ -71,21 +72,24 @@ implies_after true false o = refl
 implies_after false true o = refl
 implies_after false false o = refl
 
--- a row has the ends that it has to have just where it keeps K2
-module _ (g : TaskGraph) (l : WideAssumed) (rows : List WideRow) (t : ℕ) (holds : Fact → Way → Bool) (w : Ways) (are : AreWays (each_way g l rows t) holds w) where
-  by_ways : each_end (λ f. implies (not (each_way g l rows t (λ way. not (is_final (way_final way) f)))) (has (row (plain rows) t).ends f)) ≡ each_way g l rows t (λ way. has (row (plain rows) t).ends (way_final way))
-  by_ways =
-      each_end_same (λ f. implies (not (each_way g l rows t (λ way. not (is_final (way_final way) f)))) (has (row (plain rows) t).ends f)) (λ f. implies (has w.ends f) (has (row (plain rows) t).ends f))
-      (λ f. ap (λ z. implies z (has (row (plain rows) t).ends f)) (sym (ends_are (each_way g l rows t) holds w are f)))
-      ∙ sym (are.ends (row (plain rows) t).ends)
+-- how a task ends by its row
+abbrev own_ends : Leaf → ℕ → Finals
+own_ends leaf t = (row (plain (rows_in leaf)) t).ends
 
-  pub demands : (k : TaskKind) → each_end (λ f. implies (has_to_end_so g l rows t k f) (has (row (plain rows) t).ends f)) ≡ wide_ends_by g l rows t k
-  demands Root = by_ways
-  demands Child = by_ways
-  demands (Continues a) = by_ways
-  demands (WhenAll args) =
-      each_end_same (λ f. implies (has_to_end_so g l rows t (WhenAll args) f) (has (row (plain rows) t).ends f)) (λ f. implies (end_left l.assumed t f) (implies (all_may_end (plain rows) args f) (has (row (plain rows) t).ends f)))
-      (λ f. implies_after (all_may_end (plain rows) args f) (end_left l.assumed t f) (has (row (plain rows) t).ends f))
+-- a row has the ends that it has to have just where it keeps K2
+module _ (leaf : Leaf) (t : ℕ) (w : Ways) (are : AreLeft leaf t w) where
+  pub ends_left : (f : Final) → has w.ends f ≡ not (each_way (graph_of leaf) (assumed_in leaf) (rows_in leaf) t (λ way. not (is_final (way_final way) f)))
+  ends_left = ends_are (each_way (graph_of leaf) (assumed_in leaf) (rows_in leaf) t) (holds_as leaf t (kind (graph_of leaf) t)) w are
+
+  demands_ways : each_end (λ f. implies (not (each_way (graph_of leaf) (assumed_in leaf) (rows_in leaf) t (λ way. not (is_final (way_final way) f)))) (has (own_ends leaf t) f))
+      ≡ each_way (graph_of leaf) (assumed_in leaf) (rows_in leaf) t (λ way. has (own_ends leaf t) (way_final way))
+  demands_ways = (λ i. each_end (λ f. implies (sym (ends_left f) i) (has (own_ends leaf t) f))) ∙ sym (are.ends (own_ends leaf t))
+
+  pub demands : (k : TaskKind) → each_end (λ f. implies (has_to_end_as leaf t k f) (has (own_ends leaf t) f)) ≡ wide_ends_by (graph_of leaf) (assumed_in leaf) (rows_in leaf) t k
+  demands Root = demands_ways
+  demands Child = demands_ways
+  demands (Continues a) = demands_ways
+  demands (WhenAll args) = λ i. each_end (λ f. implies_after (all_may_end (plain (rows_in leaf)) args f) (end_left (assumed_in leaf).assumed t f) (has (own_ends leaf t) f) i)
   demands (WhenAny args) =
-      and_true (implies (some_in (may_end (plain rows)) args && end_left l.assumed t RanToCompletion) (has (row (plain rows) t).ends RanToCompletion))
-      ∙ implies_after (some_in (may_end (plain rows)) args) (end_left l.assumed t RanToCompletion) (has (row (plain rows) t).ends RanToCompletion)
+      and_true (implies (some_in (may_end (plain (rows_in leaf))) args && end_left (assumed_in leaf).assumed t RanToCompletion) (has (own_ends leaf t) RanToCompletion))
+      ∙ implies_after (some_in (may_end (plain (rows_in leaf))) args) (end_left (assumed_in leaf).assumed t RanToCompletion) (has (own_ends leaf t) RanToCompletion)

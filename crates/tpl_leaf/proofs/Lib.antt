@@ -1,4 +1,6 @@
 pub mod Rows
+pub mod Children
+pub mod MatchedKinds
 pub mod LinkLemmas
 pub mod Readings
 pub mod WayLemmas

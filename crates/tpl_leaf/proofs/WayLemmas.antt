@@ -69,17 +69,6 @@ module _ (holds : Fact → Way → Bool) (r : Ways) where
           (λ i. one ends RanToCompletion i && (one ends Canceled i && one ends Faulted i))
           ∙ and_turn (implies (has a.ends RanToCompletion) (has ends RanToCompletion)) (implies (has a.ends Canceled) (has ends Canceled)) (implies (has a.ends Faulted) (has ends Faulted)) (implies (has b.ends RanToCompletion) (has ends RanToCompletion)) (implies (has b.ends Canceled) (has ends Canceled)) (implies (has b.ends Faulted) (has ends Faulted))
 
-  pub guarded_ways : (t : Bool) (e : (Way → Bool) → Bool) (a : Ways) → AreWays e holds a → ((f : Final) → has r.ends f ≡ (t && has a.ends f)) → ((fact : Fact) → holds_in_all r.common fact ≡ implies t (holds_in_all a.common fact))
-      → AreWays (λ (test : Way → Bool). implies t (e test)) holds r
-  guarded_ways true e a p re rc = record {
-    ends = λ ends. p.ends ends ∙ sym (each_implies r.ends (has a.ends) ends re);
-    common = λ fact. p.common fact ∙ sym (rc fact);
-  }
-  guarded_ways false e a p re rc = record {
-    ends = λ ends. sym (each_implies r.ends (λ f. false) ends re);
-    common = λ fact. sym (rc fact);
-  }
-
   -- under a test that fails, and one that holds
   pub not_left : (b : Bool) (e : (Way → Bool) → Bool) → b ≡ false → AreWays (λ (test : Way → Bool). true) holds r → AreWays (λ (test : Way → Bool). implies b (e test)) holds r
   not_left true e q w = absurd (cc)
@@ -89,13 +78,20 @@ module _ (holds : Fact → Way → Bool) (r : Ways) where
   is_left true e q w = w
   is_left false e q w = absurd (cc)
 
-  -- where there are no paths, and where there are some
-  pub no_paths : (o : Option Knowledge) (way : Knowledge → Way) → o ≡ None → AreWays (λ (test : Way → Bool). true) holds r → AreWays (λ (test : Way → Bool). if_known o (λ known. test (way known))) holds r
-  no_paths None way q w = w
-  no_paths (Some k) way q w = absurd (cc)
+  -- under a test that is another
+  pub under : {b c : Bool} (way : Way) → b ≡ c → AreWays (λ (test : Way → Bool). implies b (test way)) holds r → AreWays (λ (test : Way → Bool). implies c (test way)) holds r
+  under way q w = subst (λ (z : Bool). AreWays (λ (test : Way → Bool). implies z (test way)) holds r) q w
 
-  pub some_paths : (o : Option Knowledge) (way : Knowledge → Way) (known : Knowledge) → Some known ≡ o → AreWays (λ (test : Way → Bool). test (way known)) holds r → AreWays (λ (test : Way → Bool). if_known o (λ k. test (way k))) holds r
-  some_paths o way known q w = subst (λ (z : Option Knowledge). AreWays (λ (test : Way → Bool). if_known z (λ k. test (way k))) holds r) q w
+  -- under one that holds, where there are no paths, and where there are some
+  pub no_paths : (b : Bool) (o : Option Knowledge) (way : Knowledge → Way) → b ≡ true → None ≡ o → AreWays (λ (test : Way → Bool). true) holds r
+      → AreWays (λ (test : Way → Bool). implies b (if_known o (λ known. test (way known)))) holds r
+  no_paths b None way e q w = is_left b (λ (test : Way → Bool). true) e w
+  no_paths b (Some k) way e q w = absurd (cc)
+
+  pub some_paths : (b : Bool) (o : Option Knowledge) (way : Knowledge → Way) → b ≡ true → (known : Knowledge) → Some known ≡ o → AreWays (λ (test : Way → Bool). test (way known)) holds r
+      → AreWays (λ (test : Way → Bool). implies b (if_known o (λ k. test (way k)))) holds r
+  some_paths b o way e known q w =
+      subst (λ (z : Option Knowledge). AreWays (λ (test : Way → Bool). implies b (if_known z (λ k. test (way k)))) holds r) q (is_left b (λ (test : Way → Bool). test (way known)) e w)
 
 -- what holds by one of four
 pub or_four : (a b x y ab abx all : Bool) → ab ≡ (a || b) → abx ≡ (ab || x) → all ≡ (abx || y) → (a || (b || (x || y))) ≡ all

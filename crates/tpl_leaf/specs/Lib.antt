@@ -2,4 +2,5 @@ pub mod Winners
 pub mod Links
 pub mod Leaf
 pub mod Ways
+pub mod LeafRules
 pub mod Narrowed

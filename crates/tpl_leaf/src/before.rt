@@ -8,8 +8,9 @@ ghost use Rattle.tpl_model.specs.Knowledge.{Fact};
 ghost use Rattle.tpl_model.specs.Graph.{is_task, kind, Child};
 ghost use Rattle.tpl_model.specs.WiderRules.{known_at_start, may_run, wide_row};
 ghost use Rattle.tpl_laws.specs.RowTests.{implies};
-ghost use Rattle.tpl_laws.specs.WiderTests.{begin_by, each_begin, if_known, wide_runs_by};
+ghost use Rattle.tpl_laws.specs.WiderTests.{if_known};
 ghost use Rattle.tpl_leaf.specs.Leaf.{graph_of, assumed_in, rows_in, IsLeaf};
+ghost use Rattle.tpl_leaf.specs.LeafRules.{begin_holds, begins_as, runs_as};
 
 use crate::facts::with_known;
 use crate::leaf::Leaf;
@@ -22,11 +23,10 @@ use tpl_paths::{Facts, TokenSet};
 pub(crate) fn before(leaf: &Leaf<'_>, task: TaskId) -> bool
     requires leaf { IsLeaf leaf.now }
     requires task { is_task (graph_of leaf.now) task.0 }
-    ensures { result ≡ implies (may_run (rows_in leaf.now) task.0) (each_begin (rows_in leaf.now)
-        task.0 (begin_by (graph_of leaf.now) (assumed_in leaf.now) (rows_in leaf.now) task.0
-        (kind (graph_of leaf.now) task.0))) }
+    ensures { result ≡ implies (may_run (rows_in leaf.now) task.0)
+        (begin_holds leaf.now task.0 (kind (graph_of leaf.now) task.0)) }
 {
-    !leaf.row(task).runs() || holds_at_begin(leaf, task)
+    !leaf.may_run(task) || holds_at_begin(leaf, task)
 }
 
 /// Nothing is known when a root begins; when a continuation does, its antecedent has ended; when a child does, what
@@ -34,8 +34,7 @@ pub(crate) fn before(leaf: &Leaf<'_>, task: TaskId) -> bool
 fn holds_at_begin(leaf: &Leaf<'_>, task: TaskId) -> bool
     requires leaf { IsLeaf leaf.now }
     requires task { is_task (graph_of leaf.now) task.0 }
-    ensures { result ≡ each_begin (rows_in leaf.now) task.0 (begin_by (graph_of leaf.now)
-        (assumed_in leaf.now) (rows_in leaf.now) task.0 (kind (graph_of leaf.now) task.0)) }
+    ensures { result ≡ begin_holds leaf.now task.0 (kind (graph_of leaf.now) task.0) }
 {
     match leaf.graph.role(task) {
         Role::Root => leaf.begins_within(task, &Facts::none()),
@@ -49,8 +48,7 @@ fn holds_at_begin(leaf: &Leaf<'_>, task: TaskId) -> bool
 fn holds_at_start(leaf: &Leaf<'_>, task: TaskId) -> bool
     requires leaf { IsLeaf leaf.now }
     requires task { is_task (graph_of leaf.now) task.0 }
-    ensures { result ≡ each_begin (rows_in leaf.now) task.0 (begin_by (graph_of leaf.now)
-        (assumed_in leaf.now) (rows_in leaf.now) task.0 Child) }
+    ensures { result ≡ begin_holds leaf.now task.0 Child }
 {
     match parent(leaf.graph, task) {
         None => true,
@@ -84,10 +82,9 @@ fn known_tokens(leaf: &Leaf<'_>, parent: TaskId, task: TaskId) -> TokenSet
 pub fn begin_facts(leaf: &Leaf<'_>, task: TaskId) -> Facts
     requires leaf { IsLeaf leaf.now }
     requires task { is_task (graph_of leaf.now) task.0 }
-    requires begins { wide_runs_by (graph_of leaf.now) (assumed_in leaf.now) (rows_in leaf.now)
-        task.0 (kind (graph_of leaf.now) task.0) ≡ false }
-    ensures { (f : Fact) → has_fact result f ≡ begin_by (graph_of leaf.now) (assumed_in leaf.now)
-        (rows_in leaf.now) task.0 (kind (graph_of leaf.now) task.0) f }
+    requires begins { runs_as leaf.now task.0 (kind (graph_of leaf.now) task.0) ≡ false }
+    ensures { (f : Fact) → has_fact result f
+        ≡ begins_as leaf.now task.0 (kind (graph_of leaf.now) task.0) f }
 {
     match leaf.graph.role(task) {
         Role::Root => Facts::none(),
@@ -102,10 +99,8 @@ pub fn begin_facts(leaf: &Leaf<'_>, task: TaskId) -> Facts
 fn start_facts(leaf: &Leaf<'_>, task: TaskId) -> Facts
     requires leaf { IsLeaf leaf.now }
     requires task { is_task (graph_of leaf.now) task.0 }
-    requires begins { wide_runs_by (graph_of leaf.now) (assumed_in leaf.now) (rows_in leaf.now)
-        task.0 Child ≡ false }
-    ensures { (f : Fact) → has_fact result f ≡ begin_by (graph_of leaf.now) (assumed_in leaf.now)
-        (rows_in leaf.now) task.0 Child f }
+    requires begins { runs_as leaf.now task.0 Child ≡ false }
+    ensures { (f : Fact) → has_fact result f ≡ begins_as leaf.now task.0 Child f }
 {
     match parent(leaf.graph, task) {
         None => Facts::none(),

@@ -5,8 +5,9 @@ ghost use Rattle.tpl_paths.specs.TokenSet.{has_token};
 ghost use Rattle.tpl_model.specs.Graph.{is_task, kind, Child, Continues};
 ghost use Rattle.tpl_model.specs.WiderRules.{known_at_start, own_among};
 ghost use Rattle.tpl_laws.specs.RowTests.{implies};
-ghost use Rattle.tpl_laws.specs.WiderTests.{if_known, wide_runs_by};
+ghost use Rattle.tpl_laws.specs.WiderTests.{if_known};
 ghost use Rattle.tpl_leaf.specs.Leaf.{graph_of, assumed_in, rows_in, IsLeaf};
+ghost use Rattle.tpl_leaf.specs.LeafRules.{runs_as};
 
 use crate::leaf::Leaf;
 use tpl_checker::{allowed, implies, parent, some_end};
@@ -19,11 +20,10 @@ use tpl_paths::TokenSet;
 pub fn runs(leaf: &Leaf<'_>, task: TaskId) -> bool
     requires leaf { IsLeaf leaf.now }
     requires task { is_task (graph_of leaf.now) task.0 }
-    ensures { result ≡ wide_runs_by (graph_of leaf.now) (assumed_in leaf.now) (rows_in leaf.now)
-        task.0 (kind (graph_of leaf.now) task.0) }
+    ensures { result ≡ runs_as leaf.now task.0 (kind (graph_of leaf.now) task.0) }
 {
     match leaf.graph.role(task) {
-        Role::Root => leaf.row(task).runs(),
+        Role::Root => leaf.may_run(task),
         Role::Then(antecedent) => runs_after(leaf, task, antecedent),
         Role::Child => runs_if_started(leaf, task),
         Role::All(_) => true,
@@ -35,27 +35,25 @@ fn runs_after(leaf: &Leaf<'_>, task: TaskId, antecedent: TaskId) -> bool
     requires leaf { IsLeaf leaf.now }
     requires task { is_task (graph_of leaf.now) task.0 }
     requires antecedent { is_task (graph_of leaf.now) antecedent.0 }
-    ensures { result ≡ wide_runs_by (graph_of leaf.now) (assumed_in leaf.now) (rows_in leaf.now)
-        task.0 (Continues antecedent.0) }
+    ensures { result ≡ runs_as leaf.now task.0 (Continues antecedent.0) }
 {
     let may_follow = some_end(allowed(leaf.row(antecedent).ends(), leaf.graph.options(task)));
     let known = own_among(leaf.graph, task, leaf.asks(antecedent));
-    let runs = leaf.row(task).runs();
+    let runs = leaf.may_run(task);
     implies(may_follow, implies(!known, runs))
 }
 
 fn runs_if_started(leaf: &Leaf<'_>, task: TaskId) -> bool
     requires leaf { IsLeaf leaf.now }
     requires task { is_task (graph_of leaf.now) task.0 }
-    ensures { result ≡ wide_runs_by (graph_of leaf.now) (assumed_in leaf.now) (rows_in leaf.now)
-        task.0 Child }
+    ensures { result ≡ runs_as leaf.now task.0 Child }
 {
     match parent(leaf.graph, task) {
         None => true,
         Some(parent) => {
             let may_start = may_start(leaf, parent, task);
-            let runs = leaf.row(task).runs();
-            implies(leaf.row(parent).runs(), implies(may_start, runs))
+            let runs = leaf.may_run(task);
+            implies(leaf.may_run(parent), implies(may_start, runs))
         }
     }
 }

@@ -4,15 +4,14 @@ ghost use Rattle.std.specs.Prelude.{◌≡◌, ◌&&◌, filter, length, map};
 ghost use Rattle.tpl_model.specs.declared.finals.Final.TheVariants.{RanToCompletion};
 ghost use Rattle.tpl_model.specs.Finals.{has, is_final};
 ghost use Rattle.tpl_draft.specs.Ids.{task_number};
-ghost use Rattle.tpl_model.specs.Graph.{is_task, kind, some_in};
+ghost use Rattle.tpl_model.specs.Graph.{is_task, some_in};
 ghost use Rattle.tpl_model.specs.Certificate.{end_left, may_end};
-ghost use Rattle.tpl_model.specs.WiderRules.{plain, kind_left};
+ghost use Rattle.tpl_model.specs.WiderRules.{plain};
 ghost use Rattle.tpl_graph.specs.Roles.{AreTasks};
 ghost use Rattle.tpl_laws.specs.RowTests.{all_may_end};
-ghost use Rattle.tpl_laws.specs.WiderTests.{each_way, holds_by, wide_ends_by};
-ghost use Rattle.tpl_laws.specs.LeastRows.{has_to_end_so};
+ghost use Rattle.tpl_laws.specs.WiderTests.{wide_ends_by};
 ghost use Rattle.tpl_leaf.specs.Leaf.{graph_of, assumed_in, rows_in, IsLeaf};
-ghost use Rattle.tpl_leaf.specs.Ways.{AreWays};
+ghost use Rattle.tpl_leaf.specs.LeafRules.{has_to_end_as, kind_in, AreLeft};
 
 use crate::leaf::Leaf;
 use crate::ways::Ways;
@@ -24,12 +23,9 @@ use tpl_model::{Final, Finals, TaskId};
 pub(crate) fn ends(leaf: &Leaf<'_>, task: TaskId, ways: &Ways) -> bool
     requires leaf { IsLeaf leaf.now }
     requires task { is_task (graph_of leaf.now) task.0 }
-    requires ways { AreWays (each_way (graph_of leaf.now) (assumed_in leaf.now) (rows_in leaf.now)
-        task.0)
-        (holds_by (graph_of leaf.now) (rows_in leaf.now) task.0 (kind (graph_of leaf.now) task.0))
-        ways.now }
+    requires ways { AreLeft leaf.now task.0 ways.now }
     ensures { result ≡ wide_ends_by (graph_of leaf.now) (assumed_in leaf.now) (rows_in leaf.now)
-        task.0 (kind_left (graph_of leaf.now) (assumed_in leaf.now) task.0) }
+        task.0 (kind_in leaf.now task.0) }
 {
     ends_only_in(demanded(leaf, task, ways), leaf.row(task).ends())
 }
@@ -38,12 +34,9 @@ pub(crate) fn ends(leaf: &Leaf<'_>, task: TaskId, ways: &Ways) -> bool
 pub fn demanded(leaf: &Leaf<'_>, task: TaskId, ways: &Ways) -> Finals
     requires leaf { IsLeaf leaf.now }
     requires task { is_task (graph_of leaf.now) task.0 }
-    requires ways { AreWays (each_way (graph_of leaf.now) (assumed_in leaf.now) (rows_in leaf.now)
-        task.0)
-        (holds_by (graph_of leaf.now) (rows_in leaf.now) task.0 (kind (graph_of leaf.now) task.0))
-        ways.now }
-    ensures { (f : Final) → has result f ≡ has_to_end_so (graph_of leaf.now) (assumed_in leaf.now)
-        (rows_in leaf.now) task.0 (kind_left (graph_of leaf.now) (assumed_in leaf.now) task.0) f }
+    requires ways { AreLeft leaf.now task.0 ways.now }
+    ensures { (f : Final) → has result f
+        ≡ has_to_end_as leaf.now task.0 (kind_in leaf.now task.0) f }
 {
     match leaf.graph.role(task) {
         Role::Root => ways.ends,

@@ -47,12 +47,9 @@ impl<'l> Leaf<'l> {
         ensures { (f : Fact) → has_fact result f ≡ once_ended (rows_in self.now) task.0 f }
     {
         self.graph.valid_law();
-        let mut tasks = self.row(task).past().copy();
-        tasks.insert(task);
-        Facts {
-            tasks,
-            tokens: self.asks(task),
-        }
+        let mut facts = self.ends_with(task);
+        facts.tasks.insert(task);
+        facts
     }
 
     /// The tasks that are settled when a task begins, by its row.

@@ -6,7 +6,7 @@ ghost use Rattle.tpl_paths.specs.TokenSet.{has_token};
 ghost use Rattle.tpl_model.specs.Graph.{is_task, task};
 ghost use Rattle.tpl_model.specs.Certificate.{row, may_end};
 ghost use Rattle.tpl_model.specs.Rules.{token_requested_by};
-ghost use Rattle.tpl_model.specs.WiderRules.{plain, wide_row, linked};
+ghost use Rattle.tpl_model.specs.WiderRules.{plain, wide_row, linked, may_run};
 ghost use Rattle.tpl_leaf.specs.Leaf.{graph_of, assumed_in, rows_in, IsLeaf};
 
 use crate::linking::linked_with;
@@ -66,6 +66,15 @@ impl<'l> Leaf<'l> {
         ensures { (k : ℕ) → has_token result k ≡ mem k (wide_row (rows_in self.now) task.0).asks }
     {
         self.wide_row(task).asks()
+    }
+
+    /// The task may begin, by its row.
+    pub(crate) fn may_run(&self, task: TaskId) -> bool
+        requires leaf { IsLeaf self.now }
+        requires task { is_task (graph_of self.now) task.0 }
+        ensures { result ≡ may_run (rows_in self.now) task.0 }
+    {
+        self.row(task).runs()
     }
 
     /// The task may end, by its row.

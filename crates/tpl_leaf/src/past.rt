@@ -6,12 +6,13 @@ ghost use Rattle.tpl_paths.specs.Facts.{has_fact};
 ghost use Rattle.tpl_draft.specs.Ids.{task_number};
 ghost use Rattle.tpl_model.specs.Graph.{is_task, kind, some_in};
 ghost use Rattle.tpl_model.specs.Certificate.{may_end};
-ghost use Rattle.tpl_model.specs.WiderRules.{kind_left, once_ended, plain};
+ghost use Rattle.tpl_model.specs.WiderRules.{once_ended, plain};
 ghost use Rattle.tpl_graph.specs.Roles.{AreTasks};
 ghost use Rattle.tpl_laws.specs.RowTests.{all_in, implies};
-ghost use Rattle.tpl_laws.specs.WiderTests.{each_ending, each_way, end_by, holds_by, settled_below};
+ghost use Rattle.tpl_laws.specs.WiderTests.{each_ending, settled_below};
 ghost use Rattle.tpl_leaf.specs.Leaf.{graph_of, assumed_in, rows_in, IsLeaf};
-ghost use Rattle.tpl_leaf.specs.Ways.{AreWays, holds_in_all};
+ghost use Rattle.tpl_leaf.specs.LeafRules.{ends_as, ends_by_ways, kind_in, AreLeft};
+ghost use Rattle.tpl_leaf.specs.Ways.{holds_in_all};
 
 use crate::leaf::Leaf;
 use crate::ways::{Ways, common};
@@ -23,13 +24,9 @@ use tpl_paths::Facts;
 pub(crate) fn past(leaf: &Leaf<'_>, task: TaskId, ways: &Ways) -> bool
     requires leaf { IsLeaf leaf.now }
     requires task { is_task (graph_of leaf.now) task.0 }
-    requires ways { AreWays (each_way (graph_of leaf.now) (assumed_in leaf.now) (rows_in leaf.now)
-        task.0)
-        (holds_by (graph_of leaf.now) (rows_in leaf.now) task.0 (kind (graph_of leaf.now) task.0))
-        ways.now }
-    ensures { result ≡ each_ending (rows_in leaf.now) task.0 (end_by (graph_of leaf.now)
-        (assumed_in leaf.now) (rows_in leaf.now) task.0
-        (kind_left (graph_of leaf.now) (assumed_in leaf.now) task.0)) }
+    requires ways { AreLeft leaf.now task.0 ways.now }
+    ensures { result ≡ each_ending (rows_in leaf.now) task.0
+        (ends_as leaf.now task.0 (kind_in leaf.now task.0)) }
 {
     match end_facts(leaf, task, ways) {
         None => true,
@@ -41,12 +38,9 @@ pub(crate) fn past(leaf: &Leaf<'_>, task: TaskId, ways: &Ways) -> bool
 pub fn end_facts(leaf: &Leaf<'_>, task: TaskId, ways: &Ways) -> Option<Facts>
     requires leaf { IsLeaf leaf.now }
     requires task { is_task (graph_of leaf.now) task.0 }
-    requires ways { AreWays (each_way (graph_of leaf.now) (assumed_in leaf.now) (rows_in leaf.now)
-        task.0)
-        (holds_by (graph_of leaf.now) (rows_in leaf.now) task.0 (kind (graph_of leaf.now) task.0))
-        ways.now }
-    ensures { (f : Fact) → holds_in_all result f ≡ end_by (graph_of leaf.now) (assumed_in leaf.now)
-        (rows_in leaf.now) task.0 (kind_left (graph_of leaf.now) (assumed_in leaf.now) task.0) f }
+    requires ways { AreLeft leaf.now task.0 ways.now }
+    ensures { (f : Fact) → holds_in_all result f
+        ≡ ends_as leaf.now task.0 (kind_in leaf.now task.0) f }
 {
     match leaf.graph.role(task) {
         Role::Root => in_all_ways(leaf, task, ways),
@@ -61,13 +55,9 @@ pub fn end_facts(leaf: &Leaf<'_>, task: TaskId, ways: &Ways) -> Option<Facts>
 fn in_all_ways(leaf: &Leaf<'_>, task: TaskId, ways: &Ways) -> Option<Facts>
     requires leaf { IsLeaf leaf.now }
     requires task { is_task (graph_of leaf.now) task.0 }
-    requires ways { AreWays (each_way (graph_of leaf.now) (assumed_in leaf.now) (rows_in leaf.now)
-        task.0)
-        (holds_by (graph_of leaf.now) (rows_in leaf.now) task.0 (kind (graph_of leaf.now) task.0))
-        ways.now }
-    ensures { (f : Fact) → holds_in_all result f ≡ (settled_below (graph_of leaf.now) task.0 f
-        || each_way (graph_of leaf.now) (assumed_in leaf.now) (rows_in leaf.now) task.0 (holds_by
-        (graph_of leaf.now) (rows_in leaf.now) task.0 (kind (graph_of leaf.now) task.0) f)) }
+    requires ways { AreLeft leaf.now task.0 ways.now }
+    ensures { (f : Fact) → holds_in_all result f
+        ≡ ends_by_ways leaf.now task.0 (kind (graph_of leaf.now) task.0) f }
 {
     match &ways.common {
         None => None,

@@ -1,11 +1,11 @@
 //! The ways to end of a task with a body.
 
-ghost use Rattle.std.specs.Prelude.{◌≡◌, ◌&&◌, ◌||◌, Bool, false, true};
-ghost use Rattle.tpl_model.specs.Finals.{has, is_final};
+ghost use Rattle.std.specs.Prelude.{◌≡◌, ◌&&◌, Bool, true};
 ghost use Rattle.tpl_model.specs.Knowledge.{Fact};
+ghost use Rattle.tpl_model.specs.WiderRules.{Way, way_final};
 ghost use Rattle.tpl_paths.specs.Facts.{has_fact};
 ghost use Rattle.tpl_laws.specs.RowTests.{implies};
-ghost use Rattle.tpl_leaf.specs.Ways.{holds_in_all};
+ghost use Rattle.tpl_leaf.specs.Ways.{holds_in_all, AreWays};
 
 use crate::view::NO_END;
 use tpl_model::{Final, Finals};
@@ -21,8 +21,7 @@ pub struct Ways {
 impl Ways {
     /// No way.
     pub(crate) fn none() -> Ways
-        ensures ends { (f : Final) → has result.ends f ≡ false }
-        ensures common { (f : Fact) → holds_in_all result.common f ≡ true }
+        ensures { (holds : Fact → Way → Bool) → AreWays (λ (test : Way → Bool). true) holds result }
     {
         Ways {
             ends: NO_END,
@@ -32,8 +31,9 @@ impl Ways {
 
     /// One way, which ends so, and in which these facts hold.
     pub(crate) fn one(status: Final, facts: Facts) -> Ways
-        ensures ends { (f : Final) → has result.ends f ≡ is_final status f }
-        ensures common { (f : Fact) → holds_in_all result.common f ≡ has_fact facts f }
+        ensures { (holds : Fact → Way → Bool) (way : Way) → way_final way ≡ status
+            → ((f : Fact) → holds f way ≡ has_fact facts f)
+            → AreWays (λ (test : Way → Bool). test way) holds result }
     {
         let mut ends = NO_END;
         ends.insert(status);
@@ -45,9 +45,9 @@ impl Ways {
 
     /// The ways of both.
     pub(crate) fn join(self, other: Ways) -> Ways
-        ensures ends { (f : Final) → has result.ends f ≡ (has self.ends f || has other.ends f) }
-        ensures common { (f : Fact) → holds_in_all result.common f
-            ≡ (holds_in_all self.common f && holds_in_all other.common f) }
+        ensures { (holds : Fact → Way → Bool) (e d : (Way → Bool) → Bool)
+            → AreWays e holds self → AreWays d holds other
+            → AreWays (λ (test : Way → Bool). e test && d test) holds result }
     {
         Ways {
             ends: self.ends.union(other.ends),
@@ -57,9 +57,8 @@ impl Ways {
 
     /// The ways, if the test holds.
     pub(crate) fn only_if(self, test: bool) -> Ways
-        ensures ends { (f : Final) → has result.ends f ≡ (test && has self.ends f) }
-        ensures common { (f : Fact) → holds_in_all result.common f
-            ≡ implies test (holds_in_all self.common f) }
+        ensures { (holds : Fact → Way → Bool) (e : (Way → Bool) → Bool) → AreWays e holds self
+            → AreWays (λ (passes : Way → Bool). implies test (e passes)) holds result }
     {
         if test { self } else { Ways::none() }
     }

@@ -1,16 +1,16 @@
 //! The ways to end that a leaf leaves to a task with a body.
 
-ghost use Rattle.std.specs.Prelude.{◌≡◌, ◌&&◌, ◌||◌, Bool};
-ghost use Rattle.tpl_model.specs.Finals.{has};
+ghost use Rattle.std.specs.Prelude.{◌≡◌, ◌&&◌, Bool};
 ghost use Rattle.tpl_model.specs.declared.finals.Final.TheVariants as finals;
 ghost use Rattle.tpl_model.specs.Knowledge.{Fact};
 ghost use Rattle.tpl_paths.specs.Facts.{has_fact};
 ghost use Rattle.tpl_model.specs.Graph.{is_task, kind, Root, Child, Continues};
-ghost use Rattle.tpl_model.specs.Certificate.{end_left, is_loud};
-ghost use Rattle.tpl_model.specs.WiderRules.{Way, way_final, ByBody, ChildDropped, begins_with, known_at_end, known_at_start, may_run};
+ghost use Rattle.tpl_model.specs.Certificate.{is_loud};
+ghost use Rattle.tpl_model.specs.WiderRules.{Way, way_final, may_run};
 ghost use Rattle.tpl_laws.specs.RowTests.{implies};
-ghost use Rattle.tpl_laws.specs.WiderTests.{before_begin, each_body_end, each_drop, each_way, holds_by, if_known};
+ghost use Rattle.tpl_laws.specs.WiderTests.{each_body_end};
 ghost use Rattle.tpl_leaf.specs.Leaf.{graph_of, assumed_in, rows_in, IsLeaf};
+ghost use Rattle.tpl_leaf.specs.LeafRules.{each_drop_under, each_end_so, has_begun_with, holds_as, AreDrops, AreLeft};
 ghost use Rattle.tpl_leaf.specs.Ways.{AreWays};
 
 use crate::facts::with_known;
@@ -26,9 +26,7 @@ use tpl_paths::Facts;
 pub fn ways_to_end(leaf: &Leaf<'_>, task: TaskId) -> Ways
     requires leaf { IsLeaf leaf.now }
     requires task { is_task (graph_of leaf.now) task.0 }
-    ensures { AreWays (each_way (graph_of leaf.now) (assumed_in leaf.now) (rows_in leaf.now) task.0)
-        (holds_by (graph_of leaf.now) (rows_in leaf.now) task.0 (kind (graph_of leaf.now) task.0))
-        result }
+    ensures { AreLeft leaf.now task.0 result }
 {
     let by_body = body_ways(leaf, task);
     let canceled = leaf.assumed.may_end(task, Final::Canceled);
@@ -40,33 +38,34 @@ fn body_ways(leaf: &Leaf<'_>, task: TaskId) -> Ways
     requires leaf { IsLeaf leaf.now }
     requires task { is_task (graph_of leaf.now) task.0 }
     ensures { AreWays (each_body_end (graph_of leaf.now) (assumed_in leaf.now) (rows_in leaf.now)
-        task.0)
-        (holds_by (graph_of leaf.now) (rows_in leaf.now) task.0 (kind (graph_of leaf.now) task.0))
-        result }
+        task.0) (holds_as leaf.now task.0 (kind (graph_of leaf.now) task.0)) result }
 {
-    if !leaf.row(task).runs() {
+    if !leaf.may_run(task) {
         return Ways::none();
     }
-    let begun = leaf.begins_with(task).union(&leaf.before_begin(task));
+    let begun = begun(leaf, task);
     let ran = body_way(leaf, task, Final::RanToCompletion, &begun);
     let canceled = body_way(leaf, task, Final::Canceled, &begun);
     let faulted = body_way(leaf, task, Final::Faulted, &begun);
     ran.join(canceled.join(faulted))
 }
 
+/// What holds once it has begun.
+fn begun(leaf: &Leaf<'_>, task: TaskId) -> Facts
+    requires leaf { IsLeaf leaf.now }
+    requires task { is_task (graph_of leaf.now) task.0 }
+    ensures { (f : Fact) → has_fact result f ≡ has_begun_with leaf.now task.0 f }
+{
+    leaf.begins_with(task).union(&leaf.before_begin(task))
+}
+
 /// That in which its body ends it so, where these facts hold when it begins.
 fn body_way(leaf: &Leaf<'_>, task: TaskId, status: Final, begun: &Facts) -> Ways
     requires leaf { IsLeaf leaf.now }
     requires task { is_task (graph_of leaf.now) task.0 }
-    requires begun { (f : Fact) → has_fact begun.now f ≡ (begins_with (rows_in leaf.now) task.0 f
-        || before_begin (graph_of leaf.now) (rows_in leaf.now) task.0
-        (kind (graph_of leaf.now) task.0) f) }
-    ensures { AreWays (λ (test : Way → Bool). implies
-        (end_left (assumed_in leaf.now).assumed task.0 status)
-        (if_known (known_at_end (graph_of leaf.now) (assumed_in leaf.now) (rows_in leaf.now) task.0
-        status) (λ known. test (ByBody status known))))
-        (holds_by (graph_of leaf.now) (rows_in leaf.now) task.0 (kind (graph_of leaf.now) task.0))
-        result }
+    requires begun { (f : Fact) → has_fact begun.now f ≡ has_begun_with leaf.now task.0 f }
+    ensures { AreWays (each_end_so leaf.now task.0 status)
+        (holds_as leaf.now task.0 (kind (graph_of leaf.now) task.0)) result }
 {
     if !leaf.assumed.may_end(task, status) {
         return Ways::none();
@@ -81,10 +80,7 @@ fn body_way(leaf: &Leaf<'_>, task: TaskId, status: Final, begun: &Facts) -> Ways
 fn drop_ways(leaf: &Leaf<'_>, task: TaskId) -> Ways
     requires leaf { IsLeaf leaf.now }
     requires task { is_task (graph_of leaf.now) task.0 }
-    ensures { AreWays (each_drop (graph_of leaf.now) (assumed_in leaf.now) (rows_in leaf.now) task.0
-        (kind (graph_of leaf.now) task.0))
-        (holds_by (graph_of leaf.now) (rows_in leaf.now) task.0 (kind (graph_of leaf.now) task.0))
-        result }
+    ensures { AreDrops leaf.now task.0 (kind (graph_of leaf.now) task.0) result }
 {
     match leaf.graph.role(task) {
         Role::Root => root_drops(leaf, task),
@@ -98,8 +94,7 @@ fn drop_ways(leaf: &Leaf<'_>, task: TaskId) -> Ways
 fn root_drops(leaf: &Leaf<'_>, task: TaskId) -> Ways
     requires leaf { IsLeaf leaf.now }
     requires task { is_task (graph_of leaf.now) task.0 }
-    ensures { AreWays (each_drop (graph_of leaf.now) (assumed_in leaf.now) (rows_in leaf.now) task.0
-        Root) (holds_by (graph_of leaf.now) (rows_in leaf.now) task.0 Root) result }
+    ensures { AreDrops leaf.now task.0 Root result }
 {
     let loud = leaf.assumed.is_loud(leaf.graph, task);
     canceled_if(loud, leaf.own_requested(task))
@@ -117,8 +112,7 @@ fn canceled_if(test: bool, facts: Facts) -> Ways
 fn child_drops(leaf: &Leaf<'_>, task: TaskId) -> Ways
     requires leaf { IsLeaf leaf.now }
     requires task { is_task (graph_of leaf.now) task.0 }
-    ensures { AreWays (each_drop (graph_of leaf.now) (assumed_in leaf.now) (rows_in leaf.now) task.0
-        Child) (holds_by (graph_of leaf.now) (rows_in leaf.now) task.0 Child) result }
+    ensures { AreDrops leaf.now task.0 Child result }
 {
     match parent(leaf.graph, task) {
         None => Ways::none(),
@@ -130,17 +124,10 @@ fn started_drops(leaf: &Leaf<'_>, task: TaskId, parent: TaskId) -> Ways
     requires leaf { IsLeaf leaf.now }
     requires task { is_task (graph_of leaf.now) task.0 }
     requires parent { is_task (graph_of leaf.now) parent.0 }
-    ensures { AreWays (λ (test : Way → Bool). implies
-        (is_loud (graph_of leaf.now) (assumed_in leaf.now).assumed task.0
-        && may_run (rows_in leaf.now) parent.0)
-        (if_known (known_at_start (graph_of leaf.now) (assumed_in leaf.now) (rows_in leaf.now)
-        parent.0 task.0) (λ known. test (ChildDropped parent.0 known))))
-        (holds_by (graph_of leaf.now) (rows_in leaf.now) task.0 Child) result }
+    ensures { AreWays (each_drop_under leaf.now parent.0 task.0) (holds_as leaf.now task.0 Child)
+        result }
 {
-    let loud = leaf.assumed.is_loud(leaf.graph, task);
-    let runs = leaf.row(parent).runs();
-    let may_drop = both(loud, runs);
-    if !may_drop {
+    if !may_drop(leaf, task, parent) {
         return Ways::none();
     }
     match leaf.known_at_start(parent, task) {
@@ -152,13 +139,22 @@ fn started_drops(leaf: &Leaf<'_>, task: TaskId, parent: TaskId) -> Ways
     }
 }
 
+/// The child may be canceled before it begins, which its parent may start.
+fn may_drop(leaf: &Leaf<'_>, task: TaskId, parent: TaskId) -> bool
+    requires leaf { IsLeaf leaf.now }
+    requires task { is_task (graph_of leaf.now) task.0 }
+    requires parent { is_task (graph_of leaf.now) parent.0 }
+    ensures { result ≡ (is_loud (graph_of leaf.now) (assumed_in leaf.now).assumed task.0
+        && may_run (rows_in leaf.now) parent.0) }
+{
+    leaf.assumed.is_loud(leaf.graph, task) && leaf.may_run(parent)
+}
+
 fn continuation_drops(leaf: &Leaf<'_>, task: TaskId, antecedent: TaskId) -> Ways
     requires leaf { IsLeaf leaf.now }
     requires task { is_task (graph_of leaf.now) task.0 }
     requires antecedent { is_task (graph_of leaf.now) antecedent.0 }
-    ensures { AreWays (each_drop (graph_of leaf.now) (assumed_in leaf.now) (rows_in leaf.now) task.0
-        (Continues antecedent.0))
-        (holds_by (graph_of leaf.now) (rows_in leaf.now) task.0 (Continues antecedent.0)) result }
+    ensures { AreDrops leaf.now task.0 (Continues antecedent.0) result }
 {
     let loud = leaf.assumed.is_loud(leaf.graph, task);
     let options = leaf.graph.options(task);

@@ -18,10 +18,9 @@ returns c =
     let rows = rows_in c.args.leaf.now in
     let t = c.args.task.0 in
     let a = c.args.antecedent.0 in
-    let runs : c.runs-runs.result ≡ may_run rows t = c.runs-runs.ensures ∙ ap (λ r. r.runs) c.row-2.ensures in
     let own : c.own_among-known.result ≡ own_among g t (λ k. mem k (wide_row rows a).asks) = c.own_among-known.ensures ∙ (λ i. token_requested_by (task g t).token (λ k. c.asks.ensures k i)) in
     let each : (f : Final) → has c.allowed.result f ≡ (has (row (plain rows) a).ends f && allows (options g t) f) =
     λ f. c.allowed.ensures f ∙ (λ i. has ((c.ends.ensures ∙ ap (λ r. r.ends) c.row.ensures) i) f && allows (c.options.ensures i) f) in
     c.implies-2.ensures
-    ∙ ((λ i. implies (c.some_end-may_follow.ensures i) ((c.implies.ensures ∙ (λ j. implies (not (own j)) (runs j))) i))
+    ∙ ((λ i. implies (c.some_end-may_follow.ensures i) ((c.implies.ensures ∙ (λ j. implies (not (own j)) (c.may_run-runs.ensures j))) i))
     ∙ implies_each (λ f. has (row (plain rows) a).ends f) (λ f. allows (options g t) f) (has c.allowed.result) (implies (not (own_among g t (λ k. mem k (wide_row rows a).asks))) (may_run rows t)) each)

@@ -1,6 +1,5 @@
 use Rattle.std.proofs.Common.{◌≡◌, ◌||◌, nat_eq, ap, ◌∙◌}
-use Rattle.tpl_model.specs.Members.{mem}
-use Rattle.tpl_model.specs.Knowledge.{Fact}
+use Rattle.tpl_model.specs.Knowledge.{Fact, IsSettled, IsRequested}
 use Rattle.tpl_paths.specs.Facts.{has_fact}
 use Rattle.tpl_model.specs.WiderRules.{once_ended}
 use Rattle.tpl_leaf.specs.Leaf.{rows_in}
@@ -9,6 +8,6 @@ use Rattle.tpl_leaf.proofs.leaf.Leaf.once_ended.Goals as goal
 
 pub returns : goal.returns
 returns c =
-    by_fact (λ (f : Fact). has_fact (record { tasks = c.insert.new.self; tokens = c.asks.result }) f ≡ once_ended (rows_in c.args.self.now) c.args.task.0 f)
-    (λ x. c.insert.ensures.members x ∙ ap (λ z. nat_eq x c.args.task.0 || z) (ap (mem x) (c.copy-tasks.ensures.same ∙ (c.past.ensures ∙ ap (λ r. r.past) c.row.ensures))))
-    (λ k. c.asks.ensures k)
+    by_fact (λ (f : Fact). has_fact (record { tasks = c.insert.new.self; tokens = c.ends_with-facts.result.tokens }) f ≡ once_ended (rows_in c.args.self.now) c.args.task.0 f)
+    (λ x. c.insert.ensures.members x ∙ ap (λ z. nat_eq x c.args.task.0 || z) (c.ends_with-facts.ensures (IsSettled x)))
+    (λ k. c.ends_with-facts.ensures (IsRequested k))
