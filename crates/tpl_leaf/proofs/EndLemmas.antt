@@ -1,5 +1,5 @@
 -- The ends that a row has to have.
-use Rattle.std.proofs.Common.{◌≡◌, ℕ, ◌&&◌, not, Bool, true, false, refl, sym, ap, ◌∙◌}
+use Rattle.std.proofs.Common.{◌≡◌, ℕ, ◌&&◌, not, Bool, true, false, refl, sym, ap, ◌∙◌, arith}
 use Rattle.tpl_model.proofs.Truths.{and_true}
 use Rattle.tpl_model.specs.declared.finals.Final.{Final}
 use Rattle.tpl_model.specs.declared.finals.Final.TheVariants.{RanToCompletion, Canceled, Faulted}
@@ -27,29 +27,13 @@ has_all_but f Canceled = refl
 has_all_but f Faulted = refl
 
 only_first : (a b c : Bool) → (implies a false && (implies b true && implies c true)) ≡ not a
-only_first true b c = refl
-only_first false true true = refl
-only_first false true false = refl
-only_first false false true = refl
-only_first false false false = refl
+only_first a b c = grind arith
 
 only_second : (a b c : Bool) → (implies a true && (implies b false && implies c true)) ≡ not b
-only_second true true c = refl
-only_second true false true = refl
-only_second true false false = refl
-only_second false true c = refl
-only_second false false true = refl
-only_second false false false = refl
+only_second a b c = grind arith
 
 only_third : (a b c : Bool) → (implies a true && (implies b true && implies c false)) ≡ not c
-only_third true true true = refl
-only_third true true false = refl
-only_third true false true = refl
-only_third true false false = refl
-only_third false true true = refl
-only_third false true false = refl
-only_third false false true = refl
-only_third false false false = refl
+only_third a b c = grind arith
 
 but_one : (f : Final) (ends : Finals) → each_end (λ e. implies (has ends e) (has (all_but f) e)) ≡ not (has ends f)
 but_one RanToCompletion ends = only_first ends.ran ends.canceled ends.faulted
@@ -57,8 +41,7 @@ but_one Canceled ends = only_second ends.ran ends.canceled ends.faulted
 but_one Faulted ends = only_third ends.ran ends.canceled ends.faulted
 
 twice : (b : Bool) → b ≡ not (not b)
-twice true = refl
-twice false = refl
+twice b = grind arith
 
 -- the ends of the ways are those that some way ends in
 pub ends_are : (each : (Way → Bool) → Bool) (holds : Fact → Way → Bool) (w : Ways) → AreWays each holds w → (f : Final) → has w.ends f ≡ not (each (λ way. not (is_final (way_final way) f)))
@@ -67,10 +50,7 @@ ends_are each holds w a f =
 
 -- one test after the other, in the other order
 implies_after : (a b o : Bool) → implies (a && b) o ≡ implies b (implies a o)
-implies_after true true o = refl
-implies_after true false o = refl
-implies_after false true o = refl
-implies_after false false o = refl
+implies_after a b o = grind arith
 
 -- how a task ends by its row
 abbrev own_ends : Leaf → ℕ → Finals

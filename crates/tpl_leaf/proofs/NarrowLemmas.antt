@@ -1,5 +1,5 @@
 -- The ends that splits leave, narrowed.
-use Rattle.std.proofs.Common.{◌≡◌, ℕ, ◌&&◌, ◌||◌, not, Bool, true, false, List, [], ◌∷◌, refl, sym, ap, ◌∙◌, nat_eq}
+use Rattle.std.proofs.Common.{◌≡◌, ℕ, ◌&&◌, ◌||◌, not, Bool, true, false, List, [], ◌∷◌, sym, ap, ◌∙◌, nat_eq, arith}
 use Rattle.tpl_model.proofs.MemberLemmas.{same_either_way}
 use Rattle.tpl_model.proofs.Truths.{and_true}
 use Rattle.tpl_model.specs.declared.finals.Final.{Final}
@@ -28,12 +28,7 @@ pub antecedent_free : (g : TaskGraph) (a : Assumed) (t s : ℕ) → a.cut t Canc
 antecedent_free g a t s e = λ i. record a { cut = λ x f. (sym (and_true (a.cut x f)) ∙ ap (λ z. a.cut x f && (z || (not (nat_eq s x) || allows (options g t) f))) (sym e)) i }
 
 both_kept : (c n m h : Bool) → ((c && (not n || h)) && (not m || h)) ≡ (c && (not (n || m) || h))
-both_kept false n m h = refl
-both_kept true false m h = refl
-both_kept true true false true = refl
-both_kept true true false false = refl
-both_kept true true true true = refl
-both_kept true true true false = refl
+both_kept c n m h = grind arith
 
 -- in one step
 pub all_kept : (a : Assumed) (xs : List ℕ) (ends : Finals) → with_all_kept a xs ends ≡ record a { cut = λ s f. a.cut s f && (not (mem s xs) || has ends f) }

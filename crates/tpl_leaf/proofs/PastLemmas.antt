@@ -1,5 +1,5 @@
 -- What holds once tasks have ended, one by one.
-use Rattle.std.proofs.Common.{◌≡◌, ℕ, ◌+◌, ◌<◌, ◌&&◌, ◌||◌, Bool, true, false, Option, None, List, ◌∷◌, drop, filter, length, map, refl, sym, ap, ◌∙◌, slice_index_or}
+use Rattle.std.proofs.Common.{◌≡◌, ℕ, ◌+◌, ◌<◌, ◌&&◌, ◌||◌, Bool, true, false, Option, None, List, ◌∷◌, drop, filter, length, map, refl, sym, ap, ◌∙◌, slice_index_or, arith}
 use Rattle.std.proofs.lemmas.List.{drop_more}
 use Rattle.tpl_model.proofs.Truths.{and_assoc, and_true}
 use Rattle.tpl_model.specs.declared.ids.TaskId.{TaskId}
@@ -27,9 +27,9 @@ pub record AfterSome (n : ℕ) (rows : List WideRow) (tasks : List TaskId) (i : 
 pub none_yet : (n : ℕ) (rows : List WideRow) (tasks : List TaskId) (facts : Facts) → AreTasks n tasks → ((f : Fact) → has_fact facts f ≡ false) → AfterSome n rows tasks 0 facts
 none_yet n rows tasks facts a h = record { left = a; same = λ f. ap (λ z. z || some_in (after rows f) (map task_number tasks)) (h f) }
 
-pub some_step : (n : ℕ) (rows : List WideRow) (tasks : List TaskId) (i : ℕ) (facts next : Facts) (d : TaskId) → i < length tasks → AfterSome n rows tasks i facts
+pub some_step : {n : ℕ} {rows : List WideRow} {tasks : List TaskId} {i : ℕ} {facts : Facts} (next : Facts) (d : TaskId) → i < length tasks → AfterSome n rows tasks i facts
     → ((f : Fact) → has_fact next f ≡ (has_fact facts f || once_ended rows (slice_index_or tasks i d).0 f)) → AfterSome n rows tasks (i + 1) next
-some_step n rows tasks i facts next d lt s h = record {
+some_step {n} {rows} {tasks} {i} {facts} next d lt s h = record {
   left = tasks_left n tasks i d lt s.left;
   same = λ f.
       ap (λ z. z || some_in (after rows f) (map task_number (drop (i + 1) tasks))) (h f)
@@ -58,10 +58,9 @@ filtered_all test p x xs = by_test (p x) refl
     by_test false e = ap (λ (ys : List ℕ). all_in test ys) (left_out p x xs e)
 
 one_by_one : (a b o : Bool) → implies (a && b) o ≡ implies a (implies b o)
-one_by_one true b o = refl
-one_by_one false b o = refl
+one_by_one a b o = grind arith
 
-module _ (n : ℕ) (p : ℕ → Bool) (rows : List WideRow) (tasks : List TaskId) (i : ℕ) (facts : Option Facts) (d : TaskId) (lt : i < length tasks) (s : AfterEach n p rows tasks i facts) where
+module _ {n : ℕ} {p : ℕ → Bool} {rows : List WideRow} {tasks : List TaskId} {i : ℕ} {facts : Option Facts} (d : TaskId) (lt : i < length tasks) (s : AfterEach n p rows tasks i facts) where
   each_step : (b : Bool) (next : Option Facts) → b ≡ (p (slice_index_or tasks i d).0 && may_end (plain rows) (slice_index_or tasks i d).0)
       → ((f : Fact) → holds_in_all next f ≡ (holds_in_all facts f && implies b (once_ended rows (slice_index_or tasks i d).0 f))) → AfterEach n p rows tasks (i + 1) next
   each_step b next e h = record {

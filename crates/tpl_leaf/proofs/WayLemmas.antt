@@ -1,5 +1,5 @@
 -- What all ways have, put together.
-use Rattle.std.proofs.Common.{◌≡◌, ◌&&◌, ◌||◌, Bool, true, false, Option, Some, None, refl, sym, ap, ◌∙◌, subst}
+use Rattle.std.proofs.Common.{◌≡◌, ◌&&◌, ◌||◌, Bool, true, false, Option, Some, None, refl, sym, ap, ◌∙◌, subst, arith}
 use Rattle.tpl_model.proofs.Truths.{and_true}
 use Rattle.tpl_model.specs.declared.finals.Final.{Final}
 use Rattle.tpl_model.specs.declared.finals.Final.TheVariants.{RanToCompletion, Canceled, Faulted}
@@ -15,21 +15,10 @@ use Rattle.tpl_leaf.specs.declared.ways.Ways.{Ways}
 use Rattle.tpl_leaf.specs.Ways.{holds_in_all, AreWays}
 
 implies_or : (a b o : Bool) → implies (a || b) o ≡ (implies a o && implies b o)
-implies_or true true true = refl
-implies_or true true false = refl
-implies_or true false true = refl
-implies_or true false false = refl
-implies_or false b o = refl
+implies_or a b o = grind arith
 
 and_turn : (x y z u v w : Bool) → ((x && u) && ((y && v) && (z && w))) ≡ ((x && (y && z)) && (u && (v && w)))
-and_turn false y z u v w = refl
-and_turn true false z true v w = refl
-and_turn true false z false v w = refl
-and_turn true true false true true w = refl
-and_turn true true false true false w = refl
-and_turn true true false false v w = refl
-and_turn true true true true v w = refl
-and_turn true true true false v w = refl
+and_turn x y z u v w = grind arith
 
 pub each_implies : (s : Finals) (p : Final → Bool) (ends : Finals) → ((f : Final) → has s f ≡ p f) → each_end (λ f. implies (has s f) (has ends f)) ≡ each_end (λ f. implies (p f) (has ends f))
 each_implies s p ends e =
@@ -95,9 +84,4 @@ module _ (holds : Fact → Way → Bool) (r : Ways) where
 
 -- what holds by one of four
 pub or_four : (a b x y ab abx all : Bool) → ab ≡ (a || b) → abx ≡ (ab || x) → all ≡ (abx || y) → (a || (b || (x || y))) ≡ all
-or_four a b x y ab abx all p q r = by_cases a b ∙ sym (r ∙ ap (λ z. z || y) (q ∙ ap (λ z. z || x) p))
-  where
-    by_cases : (c d : Bool) → (c || (d || (x || y))) ≡ (((c || d) || x) || y)
-    by_cases true d = refl
-    by_cases false true = refl
-    by_cases false false = refl
+or_four a b x y ab abx all p q r = grind arith

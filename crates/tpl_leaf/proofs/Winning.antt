@@ -1,5 +1,5 @@
 -- Of the arguments of a task those that may win it, one by one.
-use Rattle.std.proofs.Common.{◌≡◌, ℕ, ◌+◌, ◌<◌, ◌||◌, Bool, true, false, if◌then◌else◌, List, ◌∷◌, drop, filter, length, map, refl, sym, ap, ◌∙◌, subst, slice_index_or}
+use Rattle.std.proofs.Common.{◌≡◌, ℕ, ◌+◌, ◌<◌, ◌||◌, Bool, true, false, if◌then◌else◌, List, ◌∷◌, drop, filter, length, map, sym, ap, ◌∙◌, subst, slice_index_or, arith}
 use Rattle.std.proofs.lemmas.List.{drop_more}
 use Rattle.tpl_model.specs.declared.finals.Final.{Final}
 use Rattle.tpl_model.specs.declared.finals.Finals.{Finals}
@@ -10,8 +10,7 @@ use Rattle.tpl_draft.specs.Ids.{task_number}
 use Rattle.tpl_graph.specs.Roles.{AreTasks}
 
 pub or_assoc : (a b c : Bool) → ((a || b) || c) ≡ (a || (b || c))
-or_assoc true b c = refl
-or_assoc false b c = refl
+or_assoc a b c = grind arith
 
 -- a list with its first task kept, or left out
 pub kept : (p : ℕ → Bool) (x : ℕ) (xs : List ℕ) → p x ≡ true → filter p (x ∷ xs) ≡ x ∷ filter p xs
@@ -31,7 +30,7 @@ pub record EndsSoFar (n : ℕ) (p : ℕ → Bool) (rows : List Row) (tasks : Lis
   pub left : AreTasks n (drop i tasks)
   pub same : (f : Final) → (has finals f || one_ends (filter p (map task_number (drop i tasks))) rows f) ≡ one_ends (filter p (map task_number tasks)) rows f
 
-module _ (n : ℕ) (p : ℕ → Bool) (rows : List Row) (tasks : List TaskId) (i : ℕ) (finals : Finals) (d : TaskId) (lt : i < length tasks) (s : EndsSoFar n p rows tasks i finals) where
+module _ {n : ℕ} {p : ℕ → Bool} {rows : List Row} {tasks : List TaskId} {i : ℕ} {finals : Finals} (d : TaskId) (lt : i < length tasks) (s : EndsSoFar n p rows tasks i finals) where
   pub with_winner : (next : Finals) → p (slice_index_or tasks i d).0 ≡ true → ((f : Final) → has next f ≡ (has finals f || has (row rows (slice_index_or tasks i d).0).ends f)) → EndsSoFar n p rows tasks (i + 1) next
   with_winner next e h = record {
     left = tasks_left n tasks i d lt s.left;

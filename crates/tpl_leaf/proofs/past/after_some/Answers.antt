@@ -13,5 +13,4 @@ once_ended-requires-clause-task c = next_task (length (graph_of c.args.leaf.now)
 
 pub loop-task-preserved : goal.loop-task-preserved
 loop-task-preserved c =
-    some_step (length (graph_of c.args.leaf.now).tasks) (rows_in c.args.leaf.now) c.args.tasks.now c.loop-task.task-index c.loop-task.facts c.union-facts.result _ c.loop-task-test.true c.loop-task.invariant
-    (λ f. c.union-facts.ensures f ∙ ap (λ z. has_fact c.loop-task.facts f || z) (c.once_ended.ensures f))
+    some_step c.union-facts.result _ c.loop-task-test.true c.loop-task.invariant (λ f. c.union-facts.ensures f ∙ ap (λ z. has_fact c.loop-task.facts f || z) (c.once_ended.ensures f))

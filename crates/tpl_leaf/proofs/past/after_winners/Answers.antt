@@ -16,15 +16,10 @@ pub once_ended-requires-clause-task : goal.once_ended-requires-clause-task
 once_ended-requires-clause-task c = next_task (length (graph_of c.args.leaf.now).tasks) c.args.args.now c.loop-arg.arg-index _ c.loop-arg-test.true c.loop-arg.invariant.left
 
 pub loop-arg-preserved : goal.loop-arg-preserved
-loop-arg-preserved c =
-    let n = length (graph_of c.args.leaf.now).tasks in
-    let wins = (assumed_in c.args.leaf.now).wins c.args.task.0 in
-    let rows = rows_in c.args.leaf.now in
-    elim c.if-may_end_it.branch [
-      | then-may_end_it w ↦
-          rw w.facts-is
-          (with_end_of n wins rows c.args.args.now c.loop-arg.arg-index c.loop-arg.facts _ c.loop-arg-test.true c.loop-arg.invariant w.common-facts.result (sym w.if-may_end_it.true ∙ c.may_end_it.ensures)
-          (λ f. w.common-facts.ensures f ∙ ap (λ z. holds_in_all c.loop-arg.facts f && z) (w.once_ended.ensures f)))
-      | else-may_end_it w ↦
-          rw w.facts-is (without_end n wins rows c.args.args.now c.loop-arg.arg-index c.loop-arg.facts _ c.loop-arg-test.true c.loop-arg.invariant (sym w.if-may_end_it.false ∙ c.may_end_it.ensures))
-    ]
+loop-arg-preserved c = elim c.if-may_end_it.branch [
+  | then-may_end_it w ↦
+      rw w.facts-is
+      (with_end_of _ c.loop-arg-test.true c.loop-arg.invariant w.common-facts.result (sym w.if-may_end_it.true ∙ c.may_end_it.ensures)
+      (λ f. w.common-facts.ensures f ∙ ap (λ z. holds_in_all c.loop-arg.facts f && z) (w.once_ended.ensures f)))
+  | else-may_end_it w ↦ rw w.facts-is (without_end _ c.loop-arg-test.true c.loop-arg.invariant (sym w.if-may_end_it.false ∙ c.may_end_it.ensures))
+]
