@@ -1,63 +1,66 @@
 -- Claims and their trees, one by one.
-use Rattle.std.proofs.Common.{◌≡◌, ℕ, zero, suc, ◌+◌, ◌<◌, ◌≤◌, true, false, Some, None, List, [], ◌∷◌, drop, length, refl, sym, ap, ◌∙◌, slice_index_or, inl, inr, min, arith}
+use Rattle.std.proofs.Common.{◌≡◌, ℕ, zero, suc, ◌+◌, ◌<◌, ◌≤◌, Bool, true, false, Option, Some, List, [], ◌∷◌, drop, length, refl, sym, ◌∙◌, slice_index_or, inl, inr, min, arith}
 use Rattle.std.proofs.lemmas.Bool.{cases_lt}
 use Rattle.std.proofs.lemmas.List.{drop_more, length-drop}
 use Rattle.tpl_model.specs.Graph.{TaskGraph}
 use Rattle.tpl_model.specs.Claims.{Claim}
 use Rattle.tpl_model.specs.Certificate.{Tree, SplitInput, SplitEnd, Leaf}
+use Rattle.tpl_model.specs.declared.fault.CertFault.{CertFault}
 use Rattle.tpl_model.specs.declared.fault.CertFault.TheVariants.{Shape}
 use Rattle.tpl_model.specs.declared.claim.Property.TheVariants.{Never}
 use Rattle.tpl_trees.specs.Heights.{height}
 use Rattle.tpl_laws.specs.Verdict.{unless, fits, misfit, leaves}
 use Rattle.tpl_checker.proofs.Basics.{drop_all}
 
+-- a test of claims with their trees, which have to fit: the first claim without a tree that does, or tree without a claim
+pub record FindsMisfits {T : Type 0} (fits_it : T → Bool) (misfit_from : ℕ → List Claim → List T → Option CertFault) : Type 0 where
+  pub no_tree : (n : ℕ) (c : Claim) (cs : List Claim) → misfit_from n (c ∷ cs) [] ≡ Some (Shape n)
+  pub no_claim : (n : ℕ) (t : T) (ts : List T) → misfit_from n [] (t ∷ ts) ≡ Some (Shape n)
+  pub next : (n : ℕ) (c : Claim) (cs : List Claim) (t : T) (ts : List T) → misfit_from n (c ∷ cs) (t ∷ ts) ≡ unless (fits_it t) (Shape n) (misfit_from (suc n) cs ts)
+
+pub finds_misfits : (g : TaskGraph) → FindsMisfits (fits g) (misfit g)
+finds_misfits g = record { no_tree = λ n c cs. refl; no_claim = λ n t ts. refl; next = λ n c cs t ts. refl }
+
 -- the first i claims and trees fit
-pub record FitsSoFar (g : TaskGraph) (claims : List Claim) (trees : List Tree) (i : ℕ) : Type 0 where
+pub record FitsSoFar {T : Type 0} (misfit_from : ℕ → List Claim → List T → Option CertFault) (claims : List Claim) (trees : List T) (i : ℕ) : Type 0 where
   pub claims_left : i ≤ length claims
   pub trees_left : i ≤ length trees
-  pub same : misfit g 1 claims trees ≡ misfit g (i + 1) (drop i claims) (drop i trees)
-
-pub fits_at_first : (g : TaskGraph) (claims : List Claim) (trees : List Tree) → FitsSoFar g claims trees 0
-fits_at_first g claims trees = record { claims_left = omega arith; trees_left = omega arith; same = refl }
+  pub same : misfit_from 1 claims trees ≡ misfit_from (i + 1) (drop i claims) (drop i trees)
 
 -- a claim to stand past the last one
 abbrev pub no_one : Claim
 no_one = record { given = []; body = Never (record { 0 = 0 }) }
 
-module _ (g : TaskGraph) (claims : List Claim) (trees : List Tree) (i : ℕ) (t : Tree) (in_claims : i < length claims) (in_trees : i < length trees) (so_far : FitsSoFar g claims trees i) where
-  opened : misfit g 1 claims trees ≡ unless (fits g (slice_index_or trees i t)) (Shape (i + 1)) (misfit g (suc (i + 1)) (drop (i + 1) claims) (drop (i + 1) trees))
-  opened = so_far.same ∙ (λ k. misfit g (i + 1) (drop_more claims i no_one in_claims k) (drop_more trees i t in_trees k))
+module _ {T : Type 0} {fits_it : T → Bool} {misfit_from : ℕ → List Claim → List T → Option CertFault} {claims : List Claim} {trees : List T} {i : ℕ} (law : FindsMisfits fits_it misfit_from) (so_far : FitsSoFar misfit_from claims trees i) where
+  at_both : (t : T) → i < length claims → i < length trees → (b : Bool) → fits_it (slice_index_or trees i t) ≡ b → misfit_from 1 claims trees ≡ unless b (Shape (i + 1)) (misfit_from ((i + 1) + 1) (drop (i + 1) claims) (drop (i + 1) trees))
+  at_both t in_claims in_trees b e =
+      let up : suc (i + 1) ≡ (i + 1) + 1 = omega arith in
+      so_far.same
+      ∙ ((λ k. misfit_from (i + 1) (drop_more claims i no_one in_claims k) (drop_more trees i t in_trees k))
+      ∙ (law.next (i + 1) (slice_index_or claims i no_one) (drop (i + 1) claims) (slice_index_or trees i t) (drop (i + 1) trees)
+      ∙ (λ k. unless (e k) (Shape (i + 1)) (misfit_from (up k) (drop (i + 1) claims) (drop (i + 1) trees)))))
 
-  pub fits_next : fits g (slice_index_or trees i t) ≡ true → FitsSoFar g claims trees (i + 1)
-  fits_next e = record {
-    claims_left = omega arith;
-    trees_left = omega arith;
-    same = opened ∙ (ap (λ z. unless z (Shape (i + 1)) (misfit g (suc (i + 1)) (drop (i + 1) claims) (drop (i + 1) trees))) e ∙ ap (λ n. misfit g n (drop (i + 1) claims) (drop (i + 1) trees)) next);
-  }
-    where
-      next : suc (i + 1) ≡ (i + 1) + 1
-      next = omega arith
+  pub fits_next : (t : T) → i < min (length claims) (length trees) → fits_it (slice_index_or trees i t) ≡ true → FitsSoFar misfit_from claims trees (i + 1)
+  fits_next t lt e = record { claims_left = omega arith; trees_left = omega arith; same = at_both t (omega arith) (omega arith) true e }
 
-  pub misfits_here : fits g (slice_index_or trees i t) ≡ false → Some (Shape (i + 1)) ≡ misfit g 1 claims trees
-  misfits_here e = sym (opened ∙ ap (λ z. unless z (Shape (i + 1)) (misfit g (suc (i + 1)) (drop (i + 1) claims) (drop (i + 1) trees))) e)
+  pub misfits_here : (t : T) → i < min (length claims) (length trees) → fits_it (slice_index_or trees i t) ≡ false → Some (Shape (i + 1)) ≡ misfit_from 1 claims trees
+  misfits_here t lt e = sym (at_both t (omega arith) (omega arith) false e)
 
--- at the end of one list
-pub all_fit : (g : TaskGraph) (claims : List Claim) (trees : List Tree) (i : ℕ) → FitsSoFar g claims trees i → length claims ≤ i → length trees ≤ i → None ≡ misfit g 1 claims trees
-all_fit g claims trees i s a b = sym (s.same ∙ (λ k. misfit g (i + 1) (drop_all claims i a k) (drop_all trees i b k)))
+  -- at the end of one list
+  tree_missing : i < length claims → length trees ≤ i → Some (Shape (i + 1)) ≡ misfit_from 1 claims trees
+  tree_missing lt le =
+      sym (so_far.same ∙ ((λ k. misfit_from (i + 1) (drop_more claims i no_one lt k) (drop_all trees i le k)) ∙ law.no_tree (i + 1) (slice_index_or claims i no_one) (drop (i + 1) claims)))
 
-no_tree : (g : TaskGraph) (n : ℕ) (claims : List Claim) → 0 < length claims → misfit g n claims [] ≡ Some (Shape n)
-no_tree g n [] lt = absurd (omega arith)
-no_tree g n (c ∷ cs) lt = refl
+  claim_missing : (ts : List T) → drop i trees ≡ ts → length claims ≤ i → 0 < length ts → Some (Shape (i + 1)) ≡ misfit_from 1 claims trees
+  claim_missing [] e le some = absurd (omega arith)
+  claim_missing (t ∷ ts) e le some = sym (so_far.same ∙ ((λ k. misfit_from (i + 1) (drop_all claims i le k) (e k)) ∙ law.no_claim (i + 1) t ts))
 
-no_claim : (g : TaskGraph) (n : ℕ) (trees : List Tree) → 0 < length trees → misfit g n [] trees ≡ Some (Shape n)
-no_claim g n [] lt = absurd (omega arith)
-no_claim g n (t ∷ ts) lt = refl
-
-pub tree_missing : (g : TaskGraph) (claims : List Claim) (trees : List Tree) (i : ℕ) → FitsSoFar g claims trees i → i < length claims → length trees ≤ i → Some (Shape (i + 1)) ≡ misfit g 1 claims trees
-tree_missing g claims trees i s a b = sym (s.same ∙ (ap (λ ts. misfit g (i + 1) (drop i claims) ts) (drop_all trees i b) ∙ no_tree g (i + 1) (drop i claims) (simp length-drop (omega arith))))
-
-pub claim_missing : (g : TaskGraph) (claims : List Claim) (trees : List Tree) (i : ℕ) → FitsSoFar g claims trees i → length claims ≤ i → i < length trees → Some (Shape (i + 1)) ≡ misfit g 1 claims trees
-claim_missing g claims trees i s a b = sym (s.same ∙ (ap (λ cs. misfit g (i + 1) cs (drop i trees)) (drop_all claims i a) ∙ no_claim g (i + 1) (drop i trees) (simp length-drop (omega arith))))
+  -- the number of both lists is that of the shorter one
+  pub one_missing : i ≡ min (length claims) (length trees) → (length claims ≡ length trees → ⊥) → Some (Shape (i + 1)) ≡ misfit_from 1 claims trees
+  one_missing e other = elim (cases_lt i (length claims)) [
+    | inl lt ↦ tree_missing lt (omega arith)
+    | inr le ↦ elim (cases_lt i (length trees)) [ inl lt ↦ claim_missing (drop i trees) refl le (simp length-drop (omega arith)) | inr le' ↦ absurd (other (omega (arith, so_far.claims_left, so_far.trees_left))) ]
+  ]
 
 -- the most leaves of a tree with this many splits on a path
 abbrev most_leaves : ℕ → ℕ
@@ -77,10 +80,3 @@ leaves_within (suc n) (SplitEnd t a b c) le = omega (arith, leaves_within n a (o
 
 pub at_most_729_leaves : (t : Tree) → height t ≤ 6 → leaves t ≤ 729
 at_most_729_leaves t le = leaves_within 6 t le
-
--- the number of both lists is that of the shorter one
-pub one_missing : (g : TaskGraph) (claims : List Claim) (trees : List Tree) (i : ℕ) → FitsSoFar g claims trees i → i ≡ min (length claims) (length trees) → (length claims ≡ length trees → ⊥) → Some (Shape (i + 1)) ≡ misfit g 1 claims trees
-one_missing g claims trees i s e other = elim (cases_lt i (length claims)) [
-  | inl lt ↦ tree_missing g claims trees i s lt (omega arith)
-  | inr le ↦ elim (cases_lt i (length trees)) [ inl lt ↦ claim_missing g claims trees i s le lt | inr le' ↦ absurd (other (omega (arith, s.claims_left, s.trees_left))) ]
-]
