@@ -39,8 +39,7 @@ possible_set xs i p d value lt h j b = elim (eqb_tells i j) [
 
 -- tests that agree on each value make the same assumptions
 pub with_possible : (a : Assumptions) (xs : List Possible) (i : ℕ) (value : Bool) → ((j : ℕ) (b : Bool) → may_have (slice_index_or xs j both) b ≡ (may_have (slice_index_or a.inputs j both) b && (not (nat_eq i j) || same value b))) → assumed_of (record a { inputs = xs }) ≡ with_input (assumed_of a) i value
-with_possible a xs i value h =
-    λ k. record { possible = λ j b. h j b k; quiet = (assumed_of a).quiet; cut = (assumed_of a).cut; ended = (assumed_of a).ended; sure = (assumed_of a).sure; wide = (assumed_of a).wide }
+with_possible a xs i value h = λ k. record (assumed_of a) { possible = λ j b. h j b k }
 
 -- a list of one value has it everywhere, and past its end
 pub replicate_same : {A : Type 0} (n j : ℕ) (d : A) → slice_index_or (replicate n d) j d ≡ d
@@ -55,17 +54,7 @@ none_cut c r a f t Canceled = ap (λ z. not (mem t z)) a
 none_cut c r a f t Faulted = ap (λ z. not (mem t z)) f
 
 kept_one : (new old there back keeps : Bool) → new ≡ (not keeps && there || old) → there ≡ back → not new ≡ (not old && (not back || keeps))
-kept_one new old there back keeps e f = ap not e ∙ (by_cases old there keeps ∙ ap (λ z. not old && (not z || keeps)) f)
-  where
-    by_cases : (o t k : Bool) → not (not k && t || o) ≡ (not o && (not t || k))
-    by_cases true true true = refl
-    by_cases true true false = refl
-    by_cases true false true = refl
-    by_cases true false false = refl
-    by_cases false true true = refl
-    by_cases false true false = refl
-    by_cases false false true = refl
-    by_cases false false false = refl
+kept_one new old there back keeps e f = grind arith
 
 -- a cut that takes from one task all ends but these
 pub kept_cut : (old new : Cut) (t : ℕ) (ends : Finals) → ((x : ℕ) → mem x new.not_ran ≡ (not ends.ran && nat_eq x t || mem x old.not_ran)) → ((x : ℕ) → mem x new.not_canceled ≡ (not ends.canceled && nat_eq x t || mem x old.not_canceled)) → ((x : ℕ) → mem x new.not_faulted ≡ (not ends.faulted && nat_eq x t || mem x old.not_faulted)) → (s : ℕ) (f : Final) → left_by new s f ≡ (left_by old s f && (not (nat_eq t s) || has ends f))
@@ -75,36 +64,15 @@ kept_cut old new t ends r c a s Faulted = kept_one (mem s new.not_faulted) (mem 
 
 -- on the branch of a split on an end
 pub with_cut : (a : Assumptions) (cut : Cut) (t : ℕ) (f : Final) (ends : Finals) → ((e : Final) → has ends e ≡ is_final f e) → ((s : ℕ) (e : Final) → left_by cut s e ≡ (left_by a.cut s e && (not (nat_eq t s) || has ends e))) → assumed_of (record a { cut = cut }) ≡ with_end (assumed_of a) t f
-with_cut a cut t f ends only h = λ k. record {
-  possible = (assumed_of a).possible;
-  quiet = (assumed_of a).quiet;
-  cut = λ s e. (h s e ∙ ap (λ z. left_by a.cut s e && (not (nat_eq t s) || z)) (only e)) k;
-  ended = (assumed_of a).ended;
-  sure = (assumed_of a).sure;
-  wide = (assumed_of a).wide;
-}
+with_cut a cut t f ends only h = λ k. record (assumed_of a) { cut = λ s e. (h s e ∙ ap (λ z. left_by a.cut s e && (not (nat_eq t s) || z)) (only e)) k }
 
 -- where one more task ends in some of the ways
 pub with_kept_cut : (a : Assumptions) (cut : Cut) (t : ℕ) (ends : Finals) → ((s : ℕ) (e : Final) → left_by cut s e ≡ (left_by a.cut s e && (not (nat_eq t s) || has ends e))) → assumed_of (record a { cut = cut }) ≡ with_kept (assumed_of a) t ends
-with_kept_cut a cut t ends h = λ k. record {
-  possible = (assumed_of a).possible;
-  quiet = (assumed_of a).quiet;
-  cut = λ s e. h s e k;
-  ended = (assumed_of a).ended;
-  sure = (assumed_of a).sure;
-  wide = (assumed_of a).wide;
-}
+with_kept_cut a cut t ends h = λ k. record (assumed_of a) { cut = λ s e. h s e k }
 
 -- where the end of one more task is given
 pub with_given_cut : (a : Assumptions) (cut : Cut) (t : ℕ) (ends : Finals) → ((s : ℕ) (e : Final) → left_by cut s e ≡ (left_by a.ended s e && (not (nat_eq t s) || has ends e))) → assumed_of (record a { ended = cut }) ≡ with_ended (assumed_of a) t ends
-with_given_cut a cut t ends h = λ k. record {
-  possible = (assumed_of a).possible;
-  quiet = (assumed_of a).quiet;
-  cut = (assumed_of a).cut;
-  ended = λ s e. h s e k;
-  sure = (assumed_of a).sure;
-  wide = (assumed_of a).wide;
-}
+with_given_cut a cut t ends h = λ k. record (assumed_of a) { ended = λ s e. h s e k }
 
 -- from no entry and no set
 pub none_assumed : (a : Assumptions) → a.inputs ≡ replicate 16 both → a.quiet ≡ replicate 32 false → ((t : ℕ) (f : Final) → left_by a.cut t f ≡ true) → ((t : ℕ) (f : Final) → left_by a.ended t f ≡ true) → a.sure ≡ replicate 256 false → assumed_of a ≡ nothing_assumed (is_wide a.rules)

@@ -1,9 +1,10 @@
 -- Tests, members and kinds.
-use Rattle.std.proofs.Common.{◌≡◌, ℕ, zero, suc, ◌≤◌, ◌&&◌, ◌||◌, inl, inr, Bool, true, false, Option, Some, None, List, [], ◌∷◌, refl, sym, ap, ◌∙◌, subst, length, drop, arith}
+use Rattle.std.proofs.Common.{◌≡◌, ℕ, zero, suc, ◌+◌, ◌<◌, ◌≤◌, ◌&&◌, ◌||◌, inl, inr, Bool, true, false, Option, Some, None, List, [], ◌∷◌, refl, sym, ap, ◌∙◌, subst, length, drop, map, slice_index_or, arith}
 use Rattle.std.specs.Option.{option_map}
 use Rattle.std.proofs.lemmas.Bool.{and_from}
+use Rattle.std.proofs.lemmas.List.{drop_more}
 use Rattle.tpl_model.proofs.MemberLemmas.{mem_here, mem_split, mem_there}
-use Rattle.tpl_model.proofs.Truths.{same_tests, true_false}
+use Rattle.tpl_model.proofs.Truths.{and_assoc, same_tests, true_false}
 use Rattle.tpl_model.specs.declared.finals.Final.{Final}
 use Rattle.tpl_model.specs.declared.finals.Final.TheVariants.{RanToCompletion, Canceled, Faulted}
 use Rattle.tpl_model.specs.declared.ids.TaskId.{TaskId}
@@ -14,6 +15,7 @@ use Rattle.tpl_model.specs.Graph.{some_in}
 use Rattle.tpl_model.specs.Certificate.{Row, row, one_ends}
 use Rattle.tpl_draft.specs.Ids.{task_number}
 use Rattle.tpl_laws.specs.RowTests.{all_in, implies, each_end, some_end}
+use Rattle.tpl_graph.specs.Roles.{AreTasks}
 
 all_here : (test : ℕ → Bool) (xs : List ℕ) → ((x : ℕ) → mem x xs ≡ true → test x ≡ true) → all_in test xs ≡ true
 all_here test [] h = refl
@@ -60,18 +62,16 @@ pub all_true : (p : ℕ → Bool) (xs : List ℕ) → ((x : ℕ) → p x ≡ tru
 all_true p [] e = refl
 all_true p (x ∷ xs) e = ap (λ z. z && all_in p xs) (e x) ∙ all_true p xs e
 
+pub or_assoc : (a b c : Bool) → ((a || b) || c) ≡ (a || (b || c))
+or_assoc a b c = grind arith
+
+pub implies_or : (a b o : Bool) → implies (a || b) o ≡ (implies a o && implies b o)
+implies_or a b o = grind arith
+
+pub implies_and : (a b o : Bool) → implies (a && b) o ≡ implies a (implies b o)
+implies_and a b o = grind arith
+
 -- a test of three ways to end
-implies_or : (a b o : Bool) → implies (a || b) o ≡ (implies a o && implies b o)
-implies_or true true true = refl
-implies_or true true false = refl
-implies_or true false true = refl
-implies_or true false false = refl
-implies_or false b o = refl
-
-implies_and : (a b o : Bool) → implies (a && b) o ≡ implies a (implies b o)
-implies_and true b o = refl
-implies_and false b o = refl
-
 pub implies_each : (p q r : Final → Bool) (o : Bool) → ((f : Final) → r f ≡ (p f && q f)) → implies (some_end r) o ≡ each_end (λ f. implies (p f) (implies (q f) o))
 implies_each p q r o e =
     implies_or (r RanToCompletion) (r Canceled || r Faulted) o
@@ -101,13 +101,7 @@ or_else_if false false c r s e f h = h
 
 -- a WhenAny task may end where one of its arguments may
 joined_ends : (a b c d e f : Bool) → ((a || d) || ((b || e) || (c || f))) ≡ ((a || (b || c)) || (d || (e || f)))
-joined_ends true b c d e f = refl
-joined_ends false true c true e f = refl
-joined_ends false true c false e f = refl
-joined_ends false false true true e f = refl
-joined_ends false false true false true f = refl
-joined_ends false false true false false f = refl
-joined_ends false false false d e f = refl
+joined_ends a b c d e f = grind arith
 
 pub some_end_of_one : (rows : List Row) (xs : List ℕ) → some_end (one_ends xs rows) ≡ some_in (λ x. some_end (has (row rows x).ends)) xs
 some_end_of_one rows [] = refl
@@ -123,3 +117,21 @@ only_ran r q e Faulted = refl
 -- members of a set that pass a test, as a test of the set itself
 pub members_of_it : (test : ℕ → Bool) (xs : List ℕ) → all_in (λ x. mem x xs && test x) xs ≡ all_in test xs
 members_of_it test xs = all_in_same (λ x. mem x xs && test x) test xs (λ x m. ap (λ z. z && test x) m)
+
+-- the next of the tasks, and those after it
+module _ (tasks : List TaskId) (i : ℕ) (d : TaskId) (lt : i < length tasks) where
+  pub next_task : (n : ℕ) → AreTasks n (drop i tasks) → (slice_index_or tasks i d).0 < n
+  next_task n a = (subst (λ (ts : List TaskId). AreTasks n ts) (drop_more tasks i d lt) a).0
+
+  pub tasks_left : (n : ℕ) → AreTasks n (drop i tasks) → AreTasks n (drop (i + 1) tasks)
+  tasks_left n a = (subst (λ (ts : List TaskId). AreTasks n ts) (drop_more tasks i d lt) a).1
+
+  pub some_more : (p : ℕ → Bool) (b : Bool) → ((b || p (slice_index_or tasks i d).0) || some_in p (map task_number (drop (i + 1) tasks))) ≡ (b || some_in p (map task_number (drop i tasks)))
+  some_more p b =
+      or_assoc b (p (slice_index_or tasks i d).0) (some_in p (map task_number (drop (i + 1) tasks)))
+      ∙ ap (λ (ts : List TaskId). b || some_in p (map task_number ts)) (sym (drop_more tasks i d lt))
+
+  pub all_more : (p : ℕ → Bool) (b : Bool) → ((b && p (slice_index_or tasks i d).0) && all_in p (map task_number (drop (i + 1) tasks))) ≡ (b && all_in p (map task_number (drop i tasks)))
+  all_more p b =
+      and_assoc b (p (slice_index_or tasks i d).0) (all_in p (map task_number (drop (i + 1) tasks)))
+      ∙ ap (λ (ts : List TaskId). b && all_in p (map task_number ts)) (sym (drop_more tasks i d lt))

@@ -53,22 +53,15 @@ is_child : (g : TaskGraph) (t x : ℕ) → IsBelow g t x → (p : ℕ) × IsPare
 is_child g t x (child m) = (t, attached_child g t x m)
 is_child g t x (deeper {p = p} b m) = (p, attached_child g p x m)
 
+-- a test that only numbers below n pass, of those below n
+within_all : (a n : ℕ) (b : Bool) → (b ≡ true → a < n) → (nat_lt a n && b) ≡ b
+within_all a n true h = let lt = h refl in grind arith
+within_all a n false h = grind arith
+
 -- all of them
 pub below_at_last : (g : TaskGraph) (t : ℕ) → IsGraph g → BelowIsRight → (found : List ℕ) → BelowSoFar g t (length g.tasks) found → (x : ℕ) → mem x found ≡ is_below g t x
-below_at_last g t valid law found so_far x = so_far.members x ∙ go (is_below g t x) refl
-  where
-    yes : (a n : ℕ) → a < n → nat_lt a n ≡ true
-    yes a n lt = grind arith
-
-    and_false : (b : Bool) → (b && false) ≡ false
-    and_false true = refl
-    and_false false = refl
-
-    go : (b : Bool) → is_below g t x ≡ b → (nat_lt x (length g.tasks) && is_below g t x) ≡ is_below g t x
-    go true e =
-        let p = is_child g t x ((law g t x valid).0 e) in
-        ap (λ z. z && is_below g t x) (yes x (length g.tasks) (child_task g p.0 x valid p.1))
-    go false e = ap (λ z. nat_lt x (length g.tasks) && z) e ∙ (and_false (nat_lt x (length g.tasks)) ∙ sym e)
+below_at_last g t valid law found so_far x =
+    so_far.members x ∙ within_all x (length g.tasks) (is_below g t x) (λ e. let p = is_child g t x ((law g t x valid).0 e) in child_task g p.0 x valid p.1)
 
 -- below a task without attached children there is none
 nothing : (g : TaskGraph) (t x : ℕ) → attached g t ≡ [] → IsBelow g t x → ⊥
@@ -113,17 +106,10 @@ sets_step g sets n set lt h s = record { long = length-set sets n set ∙ s.long
 
 -- past the last task there is nothing below
 pub sets_at_last : (g : TaskGraph) (sets : List (List ℕ)) → IsGraph g → BelowIsRight → SetsSoFar g sets (length g.tasks) → (t x : ℕ) → mem x (slice_index_or sets t []) ≡ is_below g t x
-sets_at_last g sets valid law s t x = s.members t x ∙ elim (cases_lt t (length g.tasks)) [
-  | inl lt ↦ ap (λ z. z && is_below g t x) (yes t (length g.tasks) lt)
-  | inr le ↦ let none = nothing_below g t valid law (nothing_attached g t le) x in ap (λ z. nat_lt t (length g.tasks) && z) none ∙ (and_false (nat_lt t (length g.tasks)) ∙ sym none)
-]
-  where
-    yes : (a n : ℕ) → a < n → nat_lt a n ≡ true
-    yes a n lt = grind arith
-
-    and_false : (b : Bool) → (b && false) ≡ false
-    and_false true = refl
-    and_false false = refl
+sets_at_last g sets valid law s t x = s.members t x ∙ within_all t (length g.tasks) (is_below g t x) (λ e. elim (cases_lt t (length g.tasks)) [
+  | inl lt ↦ lt
+  | inr le ↦ true_false (sym e ∙ nothing_below g t valid law (nothing_attached g t le) x)
+])
 
 some_length : (n : ℕ) → not (suc n == 0) ≡ true
 some_length n = elim (eqb_tells (suc n) 0) [ inl (e, q) ↦ absurd (omega arith) | inr (e, other) ↦ ap not e ]

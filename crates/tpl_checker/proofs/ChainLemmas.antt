@@ -1,5 +1,5 @@
 -- Along a chain.
-use Rattle.std.proofs.Common.{◌≡◌, ℕ, ◌+◌, ◌<◌, ◌&&◌, Bool, true, false, List, [], ◌∷◌, drop, length, map, refl, sym, ap, ◌∙◌, subst, slice_index_or, nat_lt, arith}
+use Rattle.std.proofs.Common.{◌≡◌, ℕ, ◌+◌, ◌<◌, ◌&&◌, Bool, true, false, List, [], ◌∷◌, drop, length, map, refl, sym, ap, ◌∙◌, slice_index_or, nat_lt, arith}
 use Rattle.std.proofs.lemmas.List.{drop_more, length-drop}
 use Rattle.std.proofs.lemmas.Bool.{and_parts}
 use Rattle.tpl_model.specs.declared.ids.TaskId.{TaskId}
@@ -8,7 +8,7 @@ use Rattle.tpl_model.specs.Certificate.{Assumed}
 use Rattle.tpl_draft.specs.Ids.{task_number}
 use Rattle.tpl_laws.specs.RowTests.{all_in, chain_by, reads, takes_over}
 use Rattle.tpl_graph.specs.Roles.{AreTasks}
-use Rattle.tpl_checker.proofs.Basics.{drop_all}
+use Rattle.tpl_checker.proofs.Basics.{drop_all, next_task, tasks_left}
 
 -- a test of chains from a task on: the last task has to read, and each before it to take over
 pub record LeadsOn (g : TaskGraph) (reads_it : ℕ → ℕ → Bool) (leads : ℕ → List ℕ → Bool) : Type 0 where
@@ -26,7 +26,7 @@ pub record ChainFrom (g : TaskGraph) (leads : ℕ → List ℕ → Bool) (t : �
 
 module _ {g : TaskGraph} {reads_it : ℕ → ℕ → Bool} {leads : ℕ → List ℕ → Bool} {t : ℕ} {chain : List TaskId} {i carrier : ℕ} (law : LeadsOn g reads_it leads) (d : TaskId) (lt : i < length chain) (so_far : ChainFrom g leads t chain i carrier) where
   pub next_is_task : (slice_index_or chain i d).0 < length g.tasks
-  next_is_task = (subst (λ (ts : List TaskId). AreTasks (length g.tasks) ts) (drop_more chain i d lt) so_far.left).0
+  next_is_task = next_task chain i d lt (length g.tasks) so_far.left
 
   here : (rest : List TaskId) → drop (i + 1) chain ≡ rest → leads t (map task_number chain) ≡ leads carrier (map task_number (slice_index_or chain i d ∷ rest))
   here rest e = so_far.same ∙ ap (λ (ts : List TaskId). leads carrier (map task_number ts)) (drop_more chain i d lt ∙ ap (λ (ts : List TaskId). slice_index_or chain i d ∷ ts) e)
@@ -46,7 +46,7 @@ module _ {g : TaskGraph} {reads_it : ℕ → ℕ → Bool} {leads : ℕ → List
 
   pub chain_step : i + 1 < length chain → takes_over g (slice_index_or chain i d).0 carrier ≡ true → ChainFrom g leads t chain (i + 1) (slice_index_or chain i d).0
   chain_step lt' e = record {
-    left = (subst (λ (ts : List TaskId). AreTasks (length g.tasks) ts) (drop_more chain i d lt) so_far.left).1;
+    left = tasks_left chain i d lt (length g.tasks) so_far.left;
     same = after lt' ∙ ap (λ z. z && leads (slice_index_or chain i d).0 (map task_number (drop (i + 1) chain))) e;
   }
 

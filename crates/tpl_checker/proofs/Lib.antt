@@ -8,6 +8,7 @@ pub mod BelowLemmas
 pub mod ChainLemmas
 pub mod LastLemmas
 pub mod LeafLemmas
+pub mod Settling
 pub mod ShapeLemmas
 pub mod SettledLemmas
 pub mod TreeLemmas

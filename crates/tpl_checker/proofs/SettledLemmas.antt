@@ -1,7 +1,6 @@
 -- What is settled after some of a list of tasks, or after each.
-use Rattle.std.proofs.Common.{◌≡◌, ℕ, ◌+◌, ◌<◌, ◌&&◌, ◌||◌, Bool, true, false, List, drop, length, map, refl, sym, ap, ◌∙◌, subst, nat_eq, slice_index_or}
-use Rattle.std.proofs.lemmas.List.{drop_more}
-use Rattle.tpl_model.proofs.Truths.{and_assoc, and_true}
+use Rattle.std.proofs.Common.{◌≡◌, ℕ, ◌+◌, ◌<◌, ◌&&◌, ◌||◌, Bool, true, false, List, drop, length, map, sym, ap, ◌∙◌, nat_eq, slice_index_or}
+use Rattle.tpl_model.proofs.Truths.{and_true}
 use Rattle.tpl_model.specs.declared.ids.TaskId.{TaskId}
 use Rattle.tpl_model.specs.Members.{mem}
 use Rattle.tpl_model.specs.Graph.{some_in}
@@ -9,6 +8,7 @@ use Rattle.tpl_model.specs.Certificate.{Row, row, Assumed, may_win}
 use Rattle.tpl_draft.specs.Ids.{task_number}
 use Rattle.tpl_laws.specs.RowTests.{all_in, implies}
 use Rattle.tpl_graph.specs.Roles.{AreTasks}
+use Rattle.tpl_checker.proofs.Basics.{all_more, some_more, tasks_left}
 
 -- x is the task y or past it
 abbrev pub after : List Row → ℕ → ℕ → Bool
@@ -28,26 +28,16 @@ pub record AfterEach (l : Assumed) (rows : List Row) (tasks : List TaskId) (set 
   pub left : AreTasks (length rows) (drop i tasks)
   pub members : (x : ℕ) → (mem x settled && all_in (after_win l rows x) (map task_number (drop i tasks))) ≡ (mem x set && all_in (after_win l rows x) (map task_number tasks))
 
-or_assoc : (a b c : Bool) → ((a || b) || c) ≡ (a || (b || c))
-or_assoc true b c = refl
-or_assoc false b c = refl
-
 pub some_step : (rows : List Row) (tasks : List TaskId) (i : ℕ) (settled next : List ℕ) (d : TaskId) → i < length tasks → AfterSome rows tasks i settled → ((x : ℕ) → mem x next ≡ (mem x settled || after rows x (slice_index_or tasks i d).0)) → AfterSome rows tasks (i + 1) next
 some_step rows tasks i settled next d lt s h = record {
-  left = (subst (λ (ts : List TaskId). AreTasks (length rows) ts) (drop_more tasks i d lt) s.left).1;
-  members = λ x.
-      ap (λ z. z || some_in (after rows x) (map task_number (drop (i + 1) tasks))) (h x)
-      ∙ (or_assoc (mem x settled) (after rows x (slice_index_or tasks i d).0) (some_in (after rows x) (map task_number (drop (i + 1) tasks)))
-      ∙ (ap (λ (ts : List TaskId). mem x settled || some_in (after rows x) (map task_number ts)) (sym (drop_more tasks i d lt)) ∙ s.members x));
+  left = tasks_left tasks i d lt (length rows) s.left;
+  members = λ x. ap (λ z. z || some_in (after rows x) (map task_number (drop (i + 1) tasks))) (h x) ∙ (some_more tasks i d lt (after rows x) (mem x settled) ∙ s.members x);
 }
 
 pub each_step : (l : Assumed) (rows : List Row) (tasks : List TaskId) (set : List ℕ) (i : ℕ) (settled next : List ℕ) (d : TaskId) → i < length tasks → AfterEach l rows tasks set i settled → ((x : ℕ) → mem x next ≡ (mem x settled && after_win l rows x (slice_index_or tasks i d).0)) → AfterEach l rows tasks set (i + 1) next
 each_step l rows tasks set i settled next d lt s h = record {
-  left = (subst (λ (ts : List TaskId). AreTasks (length rows) ts) (drop_more tasks i d lt) s.left).1;
-  members = λ x.
-      ap (λ z. z && all_in (after_win l rows x) (map task_number (drop (i + 1) tasks))) (h x)
-      ∙ (and_assoc (mem x settled) (after_win l rows x (slice_index_or tasks i d).0) (all_in (after_win l rows x) (map task_number (drop (i + 1) tasks)))
-      ∙ (ap (λ (ts : List TaskId). mem x settled && all_in (after_win l rows x) (map task_number ts)) (sym (drop_more tasks i d lt)) ∙ s.members x));
+  left = tasks_left tasks i d lt (length rows) s.left;
+  members = λ x. ap (λ z. z && all_in (after_win l rows x) (map task_number (drop (i + 1) tasks))) (h x) ∙ (all_more tasks i d lt (after_win l rows x) (mem x settled) ∙ s.members x);
 }
 
 -- a task that may win, and one that can't

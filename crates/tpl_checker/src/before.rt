@@ -6,7 +6,7 @@ ghost use Rattle.tpl_model.specs.Certificate.{row};
 ghost use Rattle.tpl_laws.specs.RowTests.{all_in, before, before_by};
 
 use crate::parents::parent;
-use crate::rows::{implies, row, settled_after, within};
+use crate::rows::{before_of, implies, row, settled_after, within};
 use tpl_graph::{Graph, Role};
 use tpl_model::{TaskId, TaskSet};
 use tpl_trees::Row;
@@ -29,7 +29,7 @@ fn is_settled(graph: &Graph, rows: &[Row], task: TaskId) -> bool
         (kind graph.now.graph task.0)) (row rows.now task.0).before }
 {
     graph.valid_law();
-    let before = row(rows, task).before();
+    let before = before_of(rows, task);
     match graph.role(task) {
         Role::Root => within(before, &TaskSet::empty()),
         Role::Child => is_before_parent(graph, rows, task),
@@ -47,6 +47,6 @@ fn is_before_parent(graph: &Graph, rows: &[Row], task: TaskId) -> bool
 {
     match parent(graph, task) {
         None => true,
-        Some(parent) => within(row(rows, task).before(), row(rows, parent).before()),
+        Some(parent) => within(before_of(rows, task), before_of(rows, parent)),
     }
 }

@@ -13,7 +13,7 @@ ghost use Rattle.tpl_graph.specs.Roles.{AreTasks};
 use crate::assumptions::Assumptions;
 use crate::below::Below;
 use crate::parents::parent;
-use crate::rows::{may_end, row, settled_after, within};
+use crate::rows::{before_of, may_end, past_of, row, settled_after, within};
 use tpl_graph::{Graph, Role};
 use tpl_model::{TaskId, TaskSet};
 use tpl_trees::Row;
@@ -33,7 +33,7 @@ pub(crate) fn past(
     ensures { result ≡ past graph.now.graph (assumed_of assumed.now) rows.now task.0 }
 {
     graph.valid_law();
-    let past = row(rows, task).past();
+    let past = past_of(rows, task);
     match graph.role(task) {
         Role::Root => within(past, below.of(task)),
         Role::Child => is_past_child(graph, below, rows, task),
@@ -57,8 +57,8 @@ fn is_past_child(graph: &Graph, below: &Below, rows: &[Row], task: TaskId) -> bo
     match parent(graph, task) {
         None => true,
         Some(parent) => {
-            let before = row(rows, parent).before();
-            within(row(rows, task).past(), &before.union(below.of(task)))
+            let before = before_of(rows, parent);
+            within(past_of(rows, task), &before.union(below.of(task)))
         }
     }
 }
@@ -81,7 +81,7 @@ fn is_past_continuation(
         (Continues antecedent.0)) (row rows.now task.0).past }
 {
     graph.valid_law();
-    let past = row(rows, task).past();
+    let past = past_of(rows, task);
     if may_end_early(graph, assumed, rows, task) {
         return within(past, below.of(task));
     }

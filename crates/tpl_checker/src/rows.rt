@@ -19,6 +19,22 @@ pub(crate) fn row(rows: &[Row], task: TaskId) -> &Row
     &rows[task.0 as usize]
 }
 
+/// What is settled when a task begins, by its row.
+pub(crate) fn before_of(rows: &[Row], task: TaskId) -> &TaskSet
+    requires { task.0 < length rows.now }
+    ensures { result.now ≡ (row rows.now task.0).before }
+{
+    row(rows, task).before()
+}
+
+/// What is settled when it has ended, by its row.
+pub(crate) fn past_of(rows: &[Row], task: TaskId) -> &TaskSet
+    requires { task.0 < length rows.now }
+    ensures { result.now ≡ (row rows.now task.0).past }
+{
+    row(rows, task).past()
+}
+
 /// The set of ways to end isn't empty.
 pub fn some_end(finals: Finals) -> bool
     ensures { result ≡ some_end (has finals) }
@@ -69,7 +85,7 @@ pub(crate) fn settled_after(rows: &[Row], task: TaskId) -> TaskSet
     requires limit { length rows.now ≤ 1024 }
     ensures { (x : ℕ) → mem x result ≡ (nat_eq x task.0 || mem x (row rows.now task.0).past) }
 {
-    let mut settled = row(rows, task).past().copy();
+    let mut settled = past_of(rows, task).copy();
     settled.insert(task);
     settled
 }
