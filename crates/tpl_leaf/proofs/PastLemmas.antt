@@ -1,5 +1,5 @@
 -- What holds once tasks have ended, one by one.
-use Rattle.std.proofs.Common.{◌≡◌, ℕ, ◌+◌, ◌<◌, ◌&&◌, ◌||◌, Bool, true, false, Option, None, List, ◌∷◌, drop, filter, length, map, refl, sym, ap, ◌∙◌, slice_index_or, arith}
+use Rattle.std.proofs.Common.{◌≡◌, ℕ, ◌+◌, ◌<◌, ◌&&◌, ◌||◌, Bool, true, false, Option, None, List, ◌∷◌, drop, filter, length, map, refl, sym, ap, ◌∙◌, slice_index_or}
 use Rattle.std.proofs.lemmas.List.{drop_more}
 use Rattle.tpl_model.proofs.Truths.{and_assoc, and_true}
 use Rattle.tpl_model.specs.declared.ids.TaskId.{TaskId}
@@ -12,8 +12,9 @@ use Rattle.tpl_paths.specs.Facts.{has_fact}
 use Rattle.tpl_draft.specs.Ids.{task_number}
 use Rattle.tpl_graph.specs.Roles.{AreTasks}
 use Rattle.tpl_laws.specs.RowTests.{all_in, implies}
+use Rattle.tpl_checker.proofs.Basics.{implies_and, some_more, tasks_left}
 use Rattle.tpl_leaf.specs.Ways.{holds_in_all}
-use Rattle.tpl_leaf.proofs.Winning.{kept, left_out, or_assoc, tasks_left}
+use Rattle.tpl_leaf.proofs.Winning.{kept, left_out}
 
 -- a fact that holds once y has ended
 abbrev pub after : List WideRow → Fact → ℕ → Bool
@@ -30,11 +31,8 @@ none_yet n rows tasks facts a h = record { left = a; same = λ f. ap (λ z. z ||
 pub some_step : {n : ℕ} {rows : List WideRow} {tasks : List TaskId} {i : ℕ} {facts : Facts} (next : Facts) (d : TaskId) → i < length tasks → AfterSome n rows tasks i facts
     → ((f : Fact) → has_fact next f ≡ (has_fact facts f || once_ended rows (slice_index_or tasks i d).0 f)) → AfterSome n rows tasks (i + 1) next
 some_step {n} {rows} {tasks} {i} {facts} next d lt s h = record {
-  left = tasks_left n tasks i d lt s.left;
-  same = λ f.
-      ap (λ z. z || some_in (after rows f) (map task_number (drop (i + 1) tasks))) (h f)
-      ∙ (or_assoc (has_fact facts f) (once_ended rows (slice_index_or tasks i d).0 f) (some_in (after rows f) (map task_number (drop (i + 1) tasks)))
-      ∙ (ap (λ (ts : List TaskId). has_fact facts f || some_in (after rows f) (map task_number ts)) (sym (drop_more tasks i d lt)) ∙ s.same f));
+  left = tasks_left tasks i d lt n s.left;
+  same = λ f. ap (λ z. z || some_in (after rows f) (map task_number (drop (i + 1) tasks))) (h f) ∙ (some_more tasks i d lt (after rows f) (has_fact facts f) ∙ s.same f);
 }
 
 -- a fact that holds once y has ended, if it may
@@ -57,20 +55,17 @@ filtered_all test p x xs = by_test (p x) refl
     by_test true e = ap (λ (ys : List ℕ). all_in test ys) (kept p x xs e)
     by_test false e = ap (λ (ys : List ℕ). all_in test ys) (left_out p x xs e)
 
-one_by_one : (a b o : Bool) → implies (a && b) o ≡ implies a (implies b o)
-one_by_one a b o = grind arith
-
 module _ {n : ℕ} {p : ℕ → Bool} {rows : List WideRow} {tasks : List TaskId} {i : ℕ} {facts : Option Facts} (d : TaskId) (lt : i < length tasks) (s : AfterEach n p rows tasks i facts) where
   each_step : (b : Bool) (next : Option Facts) → b ≡ (p (slice_index_or tasks i d).0 && may_end (plain rows) (slice_index_or tasks i d).0)
       → ((f : Fact) → holds_in_all next f ≡ (holds_in_all facts f && implies b (once_ended rows (slice_index_or tasks i d).0 f))) → AfterEach n p rows tasks (i + 1) next
   each_step b next e h = record {
-    left = tasks_left n tasks i d lt s.left;
+    left = tasks_left tasks i d lt n s.left;
     same = λ f.
         ap (λ z. z && all_in (after_end rows f) (filter p (map task_number (drop (i + 1) tasks)))) (h f)
         ∙ (and_assoc (holds_in_all facts f) (implies b (once_ended rows (slice_index_or tasks i d).0 f)) (all_in (after_end rows f) (filter p (map task_number (drop (i + 1) tasks))))
         ∙ (ap (λ z. holds_in_all facts f && z)
         (ap (λ z. implies z (once_ended rows (slice_index_or tasks i d).0 f) && all_in (after_end rows f) (filter p (map task_number (drop (i + 1) tasks)))) e
-        ∙ (ap (λ z. z && all_in (after_end rows f) (filter p (map task_number (drop (i + 1) tasks)))) (one_by_one (p (slice_index_or tasks i d).0) (may_end (plain rows) (slice_index_or tasks i d).0) (once_ended rows (slice_index_or tasks i d).0 f))
+        ∙ (ap (λ z. z && all_in (after_end rows f) (filter p (map task_number (drop (i + 1) tasks)))) (implies_and (p (slice_index_or tasks i d).0) (may_end (plain rows) (slice_index_or tasks i d).0) (once_ended rows (slice_index_or tasks i d).0 f))
         ∙ sym (filtered_all (after_end rows f) p (slice_index_or tasks i d).0 (map task_number (drop (i + 1) tasks)))))
         ∙ (ap (λ (ts : List TaskId). holds_in_all facts f && all_in (after_end rows f) (filter p (map task_number ts))) (sym (drop_more tasks i d lt)) ∙ s.same f)));
   }

@@ -11,11 +11,9 @@ use Rattle.tpl_paths.specs.Facts.{has_fact}
 use Rattle.tpl_model.specs.WiderRules.{Way, way_final}
 use Rattle.tpl_laws.specs.RowTests.{implies, each_end}
 use Rattle.tpl_laws.specs.WiderTests.{if_known}
+use Rattle.tpl_checker.proofs.Basics.{implies_or}
 use Rattle.tpl_leaf.specs.declared.ways.Ways.{Ways}
 use Rattle.tpl_leaf.specs.Ways.{holds_in_all, AreWays}
-
-implies_or : (a b o : Bool) → implies (a || b) o ≡ (implies a o && implies b o)
-implies_or a b o = grind arith
 
 and_turn : (x y z u v w : Bool) → ((x && u) && ((y && v) && (z && w))) ≡ ((x && (y && z)) && (u && (v && w)))
 and_turn x y z u v w = grind arith

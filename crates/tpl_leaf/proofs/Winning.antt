@@ -1,5 +1,5 @@
 -- Of the arguments of a task those that may win it, one by one.
-use Rattle.std.proofs.Common.{◌≡◌, ℕ, ◌+◌, ◌<◌, ◌||◌, Bool, true, false, if◌then◌else◌, List, ◌∷◌, drop, filter, length, map, sym, ap, ◌∙◌, subst, slice_index_or, arith}
+use Rattle.std.proofs.Common.{◌≡◌, ℕ, ◌+◌, ◌<◌, ◌||◌, Bool, true, false, if◌then◌else◌, List, ◌∷◌, drop, filter, length, map, sym, ap, ◌∙◌, slice_index_or}
 use Rattle.std.proofs.lemmas.List.{drop_more}
 use Rattle.tpl_model.specs.declared.finals.Final.{Final}
 use Rattle.tpl_model.specs.declared.finals.Finals.{Finals}
@@ -8,9 +8,7 @@ use Rattle.tpl_model.specs.Finals.{has}
 use Rattle.tpl_model.specs.Certificate.{Row, row, one_ends}
 use Rattle.tpl_draft.specs.Ids.{task_number}
 use Rattle.tpl_graph.specs.Roles.{AreTasks}
-
-pub or_assoc : (a b c : Bool) → ((a || b) || c) ≡ (a || (b || c))
-or_assoc a b c = grind arith
+use Rattle.tpl_checker.proofs.Basics.{or_assoc, tasks_left}
 
 -- a list with its first task kept, or left out
 pub kept : (p : ℕ → Bool) (x : ℕ) (xs : List ℕ) → p x ≡ true → filter p (x ∷ xs) ≡ x ∷ filter p xs
@@ -18,12 +16,6 @@ kept p x xs e = ap (λ (b : Bool). if b then (x ∷ filter p xs) else filter p x
 
 pub left_out : (p : ℕ → Bool) (x : ℕ) (xs : List ℕ) → p x ≡ false → filter p (x ∷ xs) ≡ filter p xs
 left_out p x xs e = ap (λ (b : Bool). if b then (x ∷ filter p xs) else filter p xs) e
-
-pub next_task : (n : ℕ) (tasks : List TaskId) (i : ℕ) (d : TaskId) → i < length tasks → AreTasks n (drop i tasks) → (slice_index_or tasks i d).0 < n
-next_task n tasks i d lt a = (subst (λ (ts : List TaskId). AreTasks n ts) (drop_more tasks i d lt) a).0
-
-pub tasks_left : (n : ℕ) (tasks : List TaskId) (i : ℕ) (d : TaskId) → i < length tasks → AreTasks n (drop i tasks) → AreTasks n (drop (i + 1) tasks)
-tasks_left n tasks i d lt a = (subst (λ (ts : List TaskId). AreTasks n ts) (drop_more tasks i d lt) a).1
 
 -- the ends of the first i arguments that may win
 pub record EndsSoFar (n : ℕ) (p : ℕ → Bool) (rows : List Row) (tasks : List TaskId) (i : ℕ) (finals : Finals) : Type 0 where
@@ -33,7 +25,7 @@ pub record EndsSoFar (n : ℕ) (p : ℕ → Bool) (rows : List Row) (tasks : Lis
 module _ {n : ℕ} {p : ℕ → Bool} {rows : List Row} {tasks : List TaskId} {i : ℕ} {finals : Finals} (d : TaskId) (lt : i < length tasks) (s : EndsSoFar n p rows tasks i finals) where
   pub with_winner : (next : Finals) → p (slice_index_or tasks i d).0 ≡ true → ((f : Final) → has next f ≡ (has finals f || has (row rows (slice_index_or tasks i d).0).ends f)) → EndsSoFar n p rows tasks (i + 1) next
   with_winner next e h = record {
-    left = tasks_left n tasks i d lt s.left;
+    left = tasks_left tasks i d lt n s.left;
     same = λ f.
         ap (λ z. z || one_ends (filter p (map task_number (drop (i + 1) tasks))) rows f) (h f)
         ∙ (or_assoc (has finals f) (has (row rows (slice_index_or tasks i d).0).ends f) (one_ends (filter p (map task_number (drop (i + 1) tasks))) rows f)
@@ -43,7 +35,7 @@ module _ {n : ℕ} {p : ℕ → Bool} {rows : List Row} {tasks : List TaskId} {i
 
   pub without_loser : p (slice_index_or tasks i d).0 ≡ false → EndsSoFar n p rows tasks (i + 1) finals
   without_loser e = record {
-    left = tasks_left n tasks i d lt s.left;
+    left = tasks_left tasks i d lt n s.left;
     same = λ f.
         ap (λ (xs : List ℕ). has finals f || one_ends xs rows f) (sym (left_out p (slice_index_or tasks i d).0 (map task_number (drop (i + 1) tasks)) e))
         ∙ (ap (λ (ts : List TaskId). has finals f || one_ends (filter p (map task_number ts)) rows f) (sym (drop_more tasks i d lt)) ∙ s.same f);

@@ -1,5 +1,5 @@
 -- Tasks whose exceptions are read or taken over, one by one.
-use Rattle.std.proofs.Common.{◌≡◌, ℕ, suc, ◌+◌, ◌<◌, ◌&&◌, ◌||◌, Bool, true, false, List, [], drop, length, map, nat_eq, refl, sym, ap, ◌∙◌, slice_index_or, inl, inr}
+use Rattle.std.proofs.Common.{◌≡◌, ℕ, suc, ◌+◌, ◌<◌, ◌&&◌, ◌||◌, Bool, true, false, List, [], drop, length, map, nat_eq, refl, sym, ap, ◌∙◌, slice_index_or, inl, inr, arith}
 use Rattle.std.proofs.lemmas.Bool.{cases_eq}
 use Rattle.std.proofs.lemmas.List.{drop_more}
 use Rattle.tpl_model.proofs.MemberLemmas.{not_same}
@@ -9,19 +9,13 @@ use Rattle.tpl_model.specs.Members.{mem}
 use Rattle.tpl_draft.specs.Ids.{task_number}
 use Rattle.tpl_graph.specs.Roles.{AreTasks}
 use Rattle.tpl_laws.specs.RowTests.{some_below}
-use Rattle.tpl_leaf.proofs.Winning.{tasks_left}
+use Rattle.tpl_checker.proofs.Basics.{tasks_left}
 
 pub or_turned : (a b : Bool) → (a || b) ≡ (b || a)
-or_turned true true = refl
-or_turned true false = refl
-or_turned false true = refl
-or_turned false false = refl
+or_turned a b = grind arith
 
 pub and_turned : (a b : Bool) → (a && b) ≡ (b && a)
-and_turned true true = refl
-and_turned true false = refl
-and_turned false true = refl
-and_turned false false = refl
+and_turned a b = grind arith
 
 -- one number more
 pub one_below : (test : ℕ → Bool) (n m : ℕ) (new old : Bool) → m ≡ suc n → new ≡ test n → old ≡ some_below test n → (old || new) ≡ some_below test m
@@ -52,7 +46,7 @@ module _ (n : ℕ) (won : ℕ → Bool) (args : List TaskId) (i : ℕ) (found : 
 
   pub with_won : (next : List ℕ) → true ≡ won (slice_index_or args i d).0 → ((y : ℕ) → mem y next ≡ (nat_eq y (slice_index_or args i d).0 || mem y found)) → WonSoFar n won args (i + 1) next
   with_won next e h = record {
-    left = tasks_left n args i d lt s.left;
+    left = tasks_left args i d lt n s.left;
     same = λ y.
         ap (λ z. z || (mem y (map task_number (drop (i + 1) args)) && won y)) (h y)
         ∙ (both_parts (nat_eq y (slice_index_or args i d).0) (mem y found) (mem y (map task_number (drop (i + 1) args))) (won y) (λ m. here y m true (sym e)) ∙ opened y);
@@ -60,7 +54,7 @@ module _ (n : ℕ) (won : ℕ → Bool) (args : List TaskId) (i : ℕ) (found : 
 
   pub without_won : false ≡ won (slice_index_or args i d).0 → WonSoFar n won args (i + 1) found
   without_won e = record {
-    left = tasks_left n args i d lt s.left;
+    left = tasks_left args i d lt n s.left;
     same = λ y.
         ap (λ z. mem y found || z) (no_part (nat_eq y (slice_index_or args i d).0) (mem y (map task_number (drop (i + 1) args))) (won y) (λ m. here y m false (sym e)))
         ∙ opened y;

@@ -1,7 +1,7 @@
 use Rattle.std.proofs.Common.{◌||◌, length, ap, ◌∙◌}
 use Rattle.tpl_paths.specs.Facts.{has_fact}
+use Rattle.tpl_checker.proofs.Basics.{next_task}
 use Rattle.tpl_leaf.specs.Leaf.{graph_of, rows_in}
-use Rattle.tpl_leaf.proofs.Winning.{next_task}
 use Rattle.tpl_leaf.proofs.PastLemmas.{none_yet, some_step}
 use Rattle.tpl_leaf.proofs.past.after_some.Goals as goal
 
@@ -9,7 +9,7 @@ pub loop-task-init : goal.loop-task-init
 loop-task-init c = none_yet (length (graph_of c.args.leaf.now).tasks) (rows_in c.args.leaf.now) c.args.tasks.now c.none-facts.result c.requires.tasks c.none-facts.ensures
 
 pub once_ended-requires-clause-task : goal.once_ended-requires-clause-task
-once_ended-requires-clause-task c = next_task (length (graph_of c.args.leaf.now).tasks) c.args.tasks.now c.loop-task.task-index _ c.loop-task-test.true c.loop-task.invariant.left
+once_ended-requires-clause-task c = next_task c.args.tasks.now c.loop-task.task-index _ c.loop-task-test.true (length (graph_of c.args.leaf.now).tasks) c.loop-task.invariant.left
 
 pub loop-task-preserved : goal.loop-task-preserved
 loop-task-preserved c =
