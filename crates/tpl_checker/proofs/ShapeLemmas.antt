@@ -63,11 +63,11 @@ module _ {T : Type 0} {fits_it : T → Bool} {misfit_from : ℕ → List Claim �
   ]
 
 -- the most leaves of a tree with this many splits on a path
-abbrev most_leaves : ℕ → ℕ
+abbrev pub most_leaves : ℕ → ℕ
 most_leaves zero = 1
 most_leaves (suc n) = most_leaves n + most_leaves n + most_leaves n
 
-one_leaf : (n : ℕ) → 1 ≤ most_leaves n
+pub one_leaf : (n : ℕ) → 1 ≤ most_leaves n
 one_leaf zero = omega arith
 one_leaf (suc n) = omega (arith, one_leaf n)
 

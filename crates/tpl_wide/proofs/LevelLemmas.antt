@@ -12,6 +12,7 @@ use Rattle.tpl_model.specs.WiderRules.{WideAssumed}
 use Rattle.tpl_draft.specs.Ids.{task_number}
 use Rattle.tpl_laws.specs.RowTests.{some_below, takes_over}
 use Rattle.tpl_laws.specs.LeastRows.{chain_after, chain_for, chain_from, followed, is_reader, is_read_after, least_from, shortest_chain}
+use Rattle.tpl_checker.proofs.Assuming.{whatever_past}
 use Rattle.tpl_wide.specs.Levels.{AreLevels, observes_it}
 
 -- the first of n numbers that passes the test isn't among the first i
@@ -96,14 +97,8 @@ module _ (g : TaskGraph) (l : WideAssumed) (t i : ℕ) (levels : List (List ℕ)
 pub no_level : (g : TaskGraph) (l : WideAssumed) (t i : ℕ) (levels : List (List ℕ)) (level : List ℕ) → 16 ≤ i → LevelsSoFar g l t i levels level → [] ≡ chain_from g l t 0 16
 no_level g l t i levels level le s = let none : 16 - i ≡ 0 = omega arith in sym (s.same ∙ ap (λ k. chain_from g l t i k) none)
 
--- within a list the default doesn't matter
-any_default : (xs : List (List ℕ)) (i : ℕ) (d e : List ℕ) → i < length xs → slice_index_or xs i d ≡ slice_index_or xs i e
-any_default [] i d e less = absurd (omega arith)
-any_default (x ∷ xs) zero d e less = refl
-any_default (x ∷ xs) (suc i) d e less = any_default xs i d e (omega arith)
-
 pub level_at : (g : TaskGraph) (l : WideAssumed) (levels : List (List ℕ)) (level : List ℕ) (k : ℕ) → k < length levels → level ≡ slice_index_or levels k level → AreLevels g l levels → (y : ℕ) → mem y level ≡ is_read_after g l k y
-level_at g l levels level k lt e are y = ap (λ (xs : List ℕ). mem y xs) (e ∙ any_default levels k level [] lt) ∙ are.members k y lt
+level_at g l levels level k lt e are y = ap (λ (xs : List ℕ). mem y xs) (e ∙ whatever_past levels k level [] lt) ∙ are.members k y lt
 
 -- a task has a chain if it is the one whose exception is to be observed
 pub chain_is : (g : TaskGraph) (l : WideAssumed) (p : Property TaskId) (t : ℕ) → chain_for g l p t ≡ (if observes_it p t then shortest_chain g l t else [])
@@ -126,19 +121,21 @@ longer : (chain : List TaskId) (x : TaskId) (rest : List ℕ) → map task_numbe
 longer [] x rest = refl
 longer (y ∷ chain) x rest = ap (λ (xs : List ℕ). y.0 ∷ xs) (longer chain x rest)
 
-module _ (g : TaskGraph) (l : WideAssumed) (n t m k carrier : ℕ) (chain : List TaskId) (level : List ℕ) (is : m ≡ suc k) (members : (y : ℕ) → mem y level ≡ is_read_after g l k y) (s : DownTo g l n t m carrier chain) where
-  on : map task_number chain ++ followed (least_from (λ x. takes_over g x carrier && mem x level) 0 (length g.tasks)) (chain_after g l k) ≡ chain_after g l n t
+-- at the level before m
+module _ {g : TaskGraph} {l : WideAssumed} {levels : List (List ℕ)} {t m carrier : ℕ} {chain : List TaskId} (are : AreLevels g l levels) (level : List ℕ) (some : 0 < m) (within : m - 1 < length levels) (at : level ≡ slice_index_or levels (m - 1) level) (s : DownTo g l (length levels) t m carrier chain) where
+  on : map task_number chain ++ followed (least_from (λ x. takes_over g x carrier && mem x level) 0 (length g.tasks)) (chain_after g l (m - 1)) ≡ chain_after g l (length levels) t
   on =
-      (λ i. map task_number chain ++ followed (least_from (λ x. takes_over g x carrier && members x i) 0 (length g.tasks)) (chain_after g l k))
-      ∙ (ap (λ z. map task_number chain ++ chain_after g l z carrier) (sym is) ∙ s.same)
+      let is : suc (m - 1) ≡ m = omega arith in
+      (λ i. map task_number chain ++ followed (least_from (λ x. takes_over g x carrier && level_at g l levels level (m - 1) within at are x i) 0 (length g.tasks)) (chain_after g l (m - 1)))
+      ∙ (ap (λ z. map task_number chain ++ chain_after g l z carrier) is ∙ s.same)
 
-  pub one_down : (x : TaskId) (all : List TaskId) → Some x.0 ≡ least_from (λ x. takes_over g x carrier && mem x level) 0 (length g.tasks) → all ≡ chain ++ x ∷ [] → DownTo g l n t k x.0 all
+  pub one_down : (x : TaskId) (all : List TaskId) → Some x.0 ≡ least_from (λ x. takes_over g x carrier && mem x level) 0 (length g.tasks) → all ≡ chain ++ x ∷ [] → DownTo g l (length levels) t (m - 1) x.0 all
   one_down x all e added = record {
-    same = ap (λ (ts : List TaskId). map task_number ts ++ chain_after g l k x.0) added ∙ (longer chain x (chain_after g l k x.0) ∙ (ap (λ o. map task_number chain ++ followed o (chain_after g l k)) e ∙ on));
+    same = ap (λ (ts : List TaskId). map task_number ts ++ chain_after g l (m - 1) x.0) added ∙ (longer chain x (chain_after g l (m - 1) x.0) ∙ (ap (λ o. map task_number chain ++ followed o (chain_after g l (m - 1))) e ∙ on));
   }
 
-  pub none_down : None ≡ least_from (λ x. takes_over g x carrier && mem x level) 0 (length g.tasks) → map task_number chain ≡ chain_after g l n t
-  none_down e = sym (append-nil (map task_number chain)) ∙ (ap (λ o. map task_number chain ++ followed o (chain_after g l k)) e ∙ on)
+  pub none_down : None ≡ least_from (λ x. takes_over g x carrier && mem x level) 0 (length g.tasks) → map task_number chain ≡ chain_after g l (length levels) t
+  none_down e = sym (append-nil (map task_number chain)) ∙ (ap (λ o. map task_number chain ++ followed o (chain_after g l (m - 1))) e ∙ on)
 
 module _ (g : TaskGraph) (l : WideAssumed) (n t k carrier : ℕ) (chain : List TaskId) (is : k ≡ 0) (s : DownTo g l n t k carrier chain) where
   last : map task_number chain ++ followed (least_from (is_reader g l carrier) 0 (length g.tasks)) (λ r. []) ≡ chain_after g l n t

@@ -1,32 +1,28 @@
 -- Leaf by leaf, and claim by claim.
-use Rattle.std.proofs.Common.{◌≡◌, ℕ, suc, ◌+◌, ◌<◌, ◌≤◌, ◌&&◌, ◌++◌, Bool, true, false, Option, Some, None, Result, Ok, Err, List, [], ◌∷◌, drop, length, map, take, nat_eq, refl, sym, ap, ◌∙◌, subst, slice_index_or, nat_lt, add_assoc, inl, inr, arith}
+use Rattle.std.proofs.Common.{◌≡◌, ℕ, ◌+◌, ◌<◌, ◌&&◌, ◌++◌, Bool, true, false, Option, Some, None, Result, Ok, Err, List, [], ◌∷◌, length, map, take, nat_eq, refl, sym, ap, ◌∙◌, subst, slice_index_or, add_assoc}
 use Rattle.std.specs.Prelude.{IfOk, IfErr, slice_get}
 use Rattle.std.specs.Option.{option_map}
-use Rattle.std.proofs.lemmas.Bool.{cases_lt, eqb-true, ltb-true, and_parts}
-use Rattle.std.proofs.lemmas.List.{drop_more, take_more, map-append}
+use Rattle.std.proofs.lemmas.Bool.{eqb-true, and_parts}
+use Rattle.std.proofs.lemmas.List.{take_more, map-append}
 use Rattle.std.proofs.lemmas.Option.{slice_get-map, slice_get-get_or}
-use Rattle.tpl_laws.proofs.FaultsDecided.{no_unless}
 use Rattle.tpl_model.proofs.Truths.{and_assoc, and_true}
 use Rattle.tpl_model.specs.Members.{mem}
 use Rattle.tpl_model.specs.Knowledge.{Fact, ChildEnd}
-use Rattle.tpl_model.specs.Graph.{TaskGraph, kind}
+use Rattle.tpl_model.specs.Graph.{TaskGraph}
 use Rattle.tpl_model.specs.Claims.{Claim}
 use Rattle.tpl_model.specs.Certificate.{row, same}
-use Rattle.tpl_model.specs.WiderRules.{WideRow, WideAssumed, WideTree, OnInput, OnEnd, OnWinner, WideLeaf, ends_with, narrowed, plain, wide_row, widely_assumed, winner_split}
+use Rattle.tpl_model.specs.WiderRules.{WideRow, WideAssumed, WideTree, OnWinner, WideLeaf, ends_with, narrowed, plain, wide_row, widely_assumed, winner_split}
 use Rattle.tpl_model.specs.declared.claim.Property.{Property}
 use Rattle.tpl_model.specs.declared.fault.CertFault.{CertFault}
-use Rattle.tpl_model.specs.declared.fault.CertFault.TheVariants.{Shape}
 use Rattle.tpl_model.specs.declared.ids.TaskId.{TaskId}
 use Rattle.tpl_paths.specs.declared.reading.ChildEnd.{ChildEnd as StoredChildEnd}
 use Rattle.tpl_paths.specs.Reading.{end_of}
 use Rattle.tpl_laws.specs.Verdict.{or_else, no_fault, rows_fit}
 use Rattle.tpl_laws.specs.WiderTests.{wide_leaf_fault}
-use Rattle.tpl_laws.specs.WideVerdict.{may_have_winner, tokens_fit, wide_claims_fault, wide_fits, wide_misfit, wide_tree_fault, wide_leaves}
+use Rattle.tpl_laws.specs.WideVerdict.{tokens_fit, wide_claims_fault, wide_fits, wide_misfit, wide_tree_fault, wide_leaves}
 use Rattle.tpl_checker.specs.declared.assumptions.Assumptions.{Assumptions}
 use Rattle.tpl_checker.specs.Assumptions.{assumed_of}
-use Rattle.tpl_checker.proofs.Basics.{drop_all}
-use Rattle.tpl_checker.proofs.ShapeLemmas.{no_one}
-use Rattle.tpl_checker.proofs.TreeLemmas.{or_else_first, or_else_second}
+use Rattle.tpl_checker.proofs.TreeLemmas.{ClaimsSoFar, FindsFaults, claim_fails, claim_next, or_else_first, or_else_second}
 use Rattle.tpl_wide.specs.declared.error.WideFault.{WideFault}
 use Rattle.tpl_wide.specs.declared.error.WideFault.TheVariants.{Fails, Memory}
 use Rattle.tpl_leaf.specs.declared.winners.WinnerSplit.{WinnerSplit}
@@ -35,6 +31,7 @@ use Rattle.tpl_leaf.specs.Leaf.{row_end, row_facts, wide_assumed}
 use Rattle.tpl_leaf.specs.Narrowed.{narrowed_before}
 use Rattle.tpl_leaf.specs.Winners.{all_leave, leaves_winner}
 use Rattle.tpl_leaf.proofs.Rows.{by_fact, plain_row}
+use Rattle.tpl_wide.proofs.WideShapeLemmas.{finds_wide_misfits}
 
 -- where the first part fails, so does the whole
 pub failing_first : (a b : Option CertFault) (n m : ℕ) (e : WideFault) → WidelyFailing a n (Err e) → WidelyFailing (or_else a b) m (Err e)
@@ -46,41 +43,6 @@ pub failing_second : (a b : Option CertFault) (n m : ℕ) (r : Result ℕ WideFa
 failing_second a b n m (Ok k) e same f = (or_else_second a b e ∙ f.0, f.1 ∙ same)
 failing_second a b n m (Err (Fails x)) e same f = or_else_second a b e ∙ f
 failing_second a b n m (Err Memory) e same f = tt
-
--- the ids of a split are the graph's, and its branches fit
-pub record InputFits (g : TaskGraph) (i : ℕ) (a b : WideTree) : Type 0 where
-  pub input : i < g.inputs
-  pub on_true : wide_fits g a ≡ true
-  pub on_false : wide_fits g b ≡ true
-
-pub input_fits : (g : TaskGraph) (i : ℕ) (a b : WideTree) → wide_fits g (OnInput i a b) ≡ true → InputFits g i a b
-input_fits g i a b e =
-    let s = and_parts (nat_lt i g.inputs) (wide_fits g a && wide_fits g b) e in
-    let r = and_parts (wide_fits g a) (wide_fits g b) s.1 in
-    record { input = ltb-true i g.inputs s.0; on_true = r.0; on_false = r.1 }
-
-pub record EndFits (g : TaskGraph) (t : ℕ) (a b c : WideTree) : Type 0 where
-  pub task : t < length g.tasks
-  pub ran : wide_fits g a ≡ true
-  pub canceled : wide_fits g b ≡ true
-  pub faulted : wide_fits g c ≡ true
-
-pub end_fits : (g : TaskGraph) (t : ℕ) (a b c : WideTree) → wide_fits g (OnEnd t a b c) ≡ true → EndFits g t a b c
-end_fits g t a b c e =
-    let s = and_parts (nat_lt t (length g.tasks)) (wide_fits g a && (wide_fits g b && wide_fits g c)) e in
-    let r = and_parts (wide_fits g a) (wide_fits g b && wide_fits g c) s.1 in
-    let q = and_parts (wide_fits g b) (wide_fits g c) r.1 in
-    record { task = ltb-true t (length g.tasks) s.0; ran = r.0; canceled = q.0; faulted = q.1 }
-
-pub record WinnerFits (g : TaskGraph) (a b : WideTree) : Type 0 where
-  pub on_yes : wide_fits g a ≡ true
-  pub on_no : wide_fits g b ≡ true
-
-pub winner_fits : (g : TaskGraph) (n x : ℕ) (a b : WideTree) → wide_fits g (OnWinner n x a b) ≡ true → WinnerFits g a b
-winner_fits g n x a b e =
-    let s = and_parts (may_have_winner (kind g n) x) (wide_fits g a && wide_fits g b) e in
-    let r = and_parts (wide_fits g a) (wide_fits g b) s.1 in
-    record { on_yes = r.0; on_no = r.1 }
 
 -- a leaf has a row for each task, and the ids in them are the graph's
 pub record LeafFits (g : TaskGraph) (rows : List WideRow) : Type 0 where
@@ -149,66 +111,22 @@ one_more_end rows ends i d e lt h same =
     ∙ ((λ j. h j ++ same j ∷ [])
     ∙ (sym (map-append row_end (take i rows) (slice_index_or rows i d ∷ [])) ∙ ap (λ (rs : List WideRow). map row_end rs) (sym (take_more rows i d lt))))
 
--- the first i claims are proved, and the others have trees that fit
-pub record ClaimsSoFar (g : TaskGraph) (claims : List Claim) (trees : List WideTree) (i : ℕ) : Type 0 where
-  pub same : wide_claims_fault g 1 claims trees ≡ wide_claims_fault g (i + 1) (drop i claims) (drop i trees)
-  pub fit : wide_misfit g (i + 1) (drop i claims) (drop i trees) ≡ None
+-- the fault of a tree of the n-th claim
+abbrev pub wide_fault_of : TaskGraph → ℕ → Claim → WideTree → Option CertFault
+wide_fault_of g n c t = wide_tree_fault g c.body n (widely_assumed g c) 1 t
 
-pub no_claims_yet : (g : TaskGraph) (claims : List Claim) (trees : List WideTree) → wide_misfit g 1 claims trees ≡ None → ClaimsSoFar g claims trees 0
-no_claims_yet g claims trees e = record { same = refl; fit = e }
+pub finds_wide_faults : (g : TaskGraph) → FindsFaults (wide_fault_of g) (wide_claims_fault g)
+finds_wide_faults g = record { none = λ n ts. refl; next = λ n c cs t ts. refl }
 
-some_none : {A : Type 0} (x : A) → Some x ≡ None → ⊥
-some_none x e = absurd (cc)
+-- at the claim c with the tree t
+module _ (g : TaskGraph) {claims : List Claim} {trees : List WideTree} {i : ℕ} (so_far : ClaimsSoFar (wide_misfit g) (wide_claims_fault g) claims trees i) (in_claims : i < length claims) (c : Claim) (t : WideTree) (is_claim : c ≡ slice_index_or claims i c) (is_tree : t ≡ slice_index_or trees i t) where
+  pub claim_proved : wide_fault_of g (i + 1) c t ≡ None → ClaimsSoFar (wide_misfit g) (wide_claims_fault g) claims trees (i + 1)
+  claim_proved e = claim_next (finds_wide_misfits g) so_far in_claims (finds_wide_faults g) c t (sym (λ j. wide_fault_of g (i + 1) (is_claim j) (is_tree j)) ∙ e)
 
-module _ (g : TaskGraph) (claims : List Claim) (trees : List WideTree) (i : ℕ) (in_claims : i < length claims) (so_far : ClaimsSoFar g claims trees i) where
-  pub tree_there : i < length trees
-  tree_there = elim (cases_lt i (length trees)) [
-    | inl lt ↦ lt
-    | inr le ↦ absurd (some_none (Shape (i + 1)) (sym (λ k. wide_misfit g (i + 1) (drop_more claims i no_one in_claims k) (drop_all trees i le k)) ∙ so_far.fit))
-  ]
-
-module _ (g : TaskGraph) (claims : List Claim) (trees : List WideTree) (i : ℕ) (c : Claim) (t : WideTree) (in_claims : i < length claims) (in_trees : i < length trees) (so_far : ClaimsSoFar g claims trees i) where
-  split : (wide_fits g (slice_index_or trees i t) ≡ true) × (wide_misfit g (suc (i + 1)) (drop (i + 1) claims) (drop (i + 1) trees) ≡ None)
-  split =
-      no_unless (wide_fits g (slice_index_or trees i t)) (Shape (i + 1)) (wide_misfit g (suc (i + 1)) (drop (i + 1) claims) (drop (i + 1) trees))
-      (sym (λ k. wide_misfit g (i + 1) (drop_more claims i c in_claims k) (drop_more trees i t in_trees k)) ∙ so_far.fit)
-
-  pub tree_fits : wide_fits g (slice_index_or trees i t) ≡ true
-  tree_fits = split.0
-
-  opened : wide_claims_fault g 1 claims trees ≡ or_else (wide_tree_fault g (slice_index_or claims i c).body (i + 1) (widely_assumed g (slice_index_or claims i c)) 1 (slice_index_or trees i t)) (wide_claims_fault g (suc (i + 1)) (drop (i + 1) claims) (drop (i + 1) trees))
-  opened = so_far.same ∙ (λ k. wide_claims_fault g (i + 1) (drop_more claims i c in_claims k) (drop_more trees i t in_trees k))
-
-  up : suc (i + 1) ≡ (i + 1) + 1
-  up = omega arith
-
-  claim_next : wide_tree_fault g (slice_index_or claims i c).body (i + 1) (widely_assumed g (slice_index_or claims i c)) 1 (slice_index_or trees i t) ≡ None → ClaimsSoFar g claims trees (i + 1)
-  claim_next e = record {
-    same = opened ∙ (or_else_second (wide_tree_fault g (slice_index_or claims i c).body (i + 1) (widely_assumed g (slice_index_or claims i c)) 1 (slice_index_or trees i t)) (wide_claims_fault g (suc (i + 1)) (drop (i + 1) claims) (drop (i + 1) trees)) e ∙ ap (λ n. wide_claims_fault g n (drop (i + 1) claims) (drop (i + 1) trees)) up);
-    fit = ap (λ n. wide_misfit g n (drop (i + 1) claims) (drop (i + 1) trees)) (sym up) ∙ split.1;
-  }
-
-  claim_here_fails : (n : ℕ) (e : WideFault) → WidelyFailing (wide_tree_fault g (slice_index_or claims i c).body (i + 1) (widely_assumed g (slice_index_or claims i c)) 1 (slice_index_or trees i t)) n (Err e) → IsAnswer (no_fault (wide_claims_fault g 1 claims trees)) (Err e)
-  claim_here_fails n (Fails x) e = ap no_fault (opened ∙ or_else_first (wide_tree_fault g (slice_index_or claims i c).body (i + 1) (widely_assumed g (slice_index_or claims i c)) 1 (slice_index_or trees i t)) (wide_claims_fault g (suc (i + 1)) (drop (i + 1) claims) (drop (i + 1) trees)) x e)
-  claim_here_fails n Memory e = tt
-
-  -- at the claim c with the tree t
-  module _ (is_claim : c ≡ slice_index_or claims i c) (is_tree : t ≡ slice_index_or trees i t) where
-    here : wide_tree_fault g c.body (i + 1) (widely_assumed g c) 1 t ≡ wide_tree_fault g (slice_index_or claims i c).body (i + 1) (widely_assumed g (slice_index_or claims i c)) 1 (slice_index_or trees i t)
-    here = λ j. wide_tree_fault g (is_claim j).body (i + 1) (widely_assumed g (is_claim j)) 1 (is_tree j)
-
-    pub claim_proved : wide_tree_fault g c.body (i + 1) (widely_assumed g c) 1 t ≡ None → ClaimsSoFar g claims trees (i + 1)
-    claim_proved e = claim_next (sym here ∙ e)
-
-    -- where its tree fails, or memory ends, so does the whole
-    pub claim_fails : (n : ℕ) (e : WideFault) → WidelyFailing (wide_tree_fault g c.body (i + 1) (widely_assumed g c) 1 t) n (Err e) → IsAnswer (no_fault (wide_claims_fault g 1 claims trees)) (Err e)
-    claim_fails n e f = claim_here_fails n e (subst (λ (z : Option CertFault). WidelyFailing z n (Err e)) here f)
-
-pub all_proved : (g : TaskGraph) (claims : List Claim) (trees : List WideTree) (i : ℕ) → length claims ≤ i → ClaimsSoFar g claims trees i → no_fault (wide_claims_fault g 1 claims trees) ≡ Ok tt
-all_proved g claims trees i le s = ap no_fault (s.same ∙ none (drop i claims) (drop_all claims i le))
-  where
-    none : (cs : List Claim) → cs ≡ [] → wide_claims_fault g (i + 1) cs (drop i trees) ≡ None
-    none cs e = ap (λ z. wide_claims_fault g (i + 1) z (drop i trees)) e
+  -- where its tree fails, or memory ends, so does the whole
+  pub claim_answers : (n : ℕ) (e : WideFault) → WidelyFailing (wide_fault_of g (i + 1) c t) n (Err e) → IsAnswer (no_fault (wide_claims_fault g 1 claims trees)) (Err e)
+  claim_answers n (Fails x) f = ap no_fault (claim_fails (finds_wide_misfits g) so_far in_claims (finds_wide_faults g) c t x (sym (λ j. wide_fault_of g (i + 1) (is_claim j) (is_tree j)) ∙ f))
+  claim_answers n Memory f = tt
 
 err_not_ok : {P : Type 0} (x : CertFault) (r : Result (Unit {0}) CertFault) → r ≡ Err x → r ≡ Ok tt → P
 err_not_ok x r a b = absurd (cc)

@@ -3,8 +3,8 @@
 ghost use Rattle.std.specs.Prelude.{◌≡◌, not};
 ghost use Rattle.tpl_model.specs.Graph.{is_task, kind};
 ghost use Rattle.tpl_laws.specs.LeastRows.{begun_row};
-ghost use Rattle.tpl_laws.specs.WiderTests.{wide_runs_by};
 ghost use Rattle.tpl_leaf.specs.Leaf.{graph_of, assumed_in, rows_in, IsLeaf};
+ghost use Rattle.tpl_leaf.specs.LeafRules.{runs_as};
 ghost use Rattle.tpl_wide.specs.Within.{IsAll};
 
 use crate::rows::blank_row;
@@ -21,8 +21,7 @@ pub(crate) fn begun_row(alloc: Global, leaf: &Leaf<'_>, all: &Facts, task: TaskI
     requires task { is_task (graph_of leaf.now) task.0 }
     requires all { IsAll (graph_of leaf.now) all.now }
     ensures { result ≡ begun_row (graph_of leaf.now) (assumed_in leaf.now) (rows_in leaf.now) task.0
-        (not (wide_runs_by (graph_of leaf.now) (assumed_in leaf.now) (rows_in leaf.now) task.0
-        (kind (graph_of leaf.now) task.0))) }
+        (not (runs_as leaf.now task.0 (kind (graph_of leaf.now) task.0))) }
 {
     if runs(leaf, task) {
         return blank_row(alloc);

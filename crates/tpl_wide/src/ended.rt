@@ -1,14 +1,13 @@
 //! The least row of a task once it is known how it ends.
 
 ghost use Rattle.std.specs.Prelude.{◌≡◌, IfOk};
-ghost use Rattle.tpl_model.specs.Graph.{is_task, kind};
+ghost use Rattle.tpl_model.specs.Graph.{is_task};
 ghost use Rattle.tpl_model.specs.declared.claim.Property as claims;
 ghost use Rattle.tpl_model.specs.declared.ids.TaskId as ids;
 ghost use Rattle.tpl_trees.specs.WideCoding.{tokens_in};
-ghost use Rattle.tpl_laws.specs.WiderTests.{each_way, holds_by};
 ghost use Rattle.tpl_laws.specs.LeastRows.{ended_by, ended_row};
 ghost use Rattle.tpl_leaf.specs.Leaf.{graph_of, assumed_in, rows_in, IsLeaf};
-ghost use Rattle.tpl_leaf.specs.Ways.{AreWays};
+ghost use Rattle.tpl_leaf.specs.LeafRules.{AreLeft};
 ghost use Rattle.tpl_wide.specs.Within.{IsAll};
 
 use crate::shortest::chain_for;
@@ -49,10 +48,7 @@ fn said_of_end(leaf: &Leaf<'_>, all: &Facts, task: TaskId, ways: &Ways, ends: Fi
     requires leaf { IsLeaf leaf.now }
     requires task { is_task (graph_of leaf.now) task.0 }
     requires all { IsAll (graph_of leaf.now) all.now }
-    requires ways { AreWays (each_way (graph_of leaf.now) (assumed_in leaf.now) (rows_in leaf.now)
-        task.0)
-        (holds_by (graph_of leaf.now) (rows_in leaf.now) task.0 (kind (graph_of leaf.now) task.0))
-        ways.now }
+    requires ways { AreLeft leaf.now task.0 ways.now }
     ensures tasks { (p : claims.Property ids.TaskId) → result.tasks ≡ (ended_by (graph_of leaf.now)
         (assumed_in leaf.now) p (rows_in leaf.now) task.0 ends).row.past }
     ensures tokens { (p : claims.Property ids.TaskId) → tokens_in result.tokens ≡ (ended_by

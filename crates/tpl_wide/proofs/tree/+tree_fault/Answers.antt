@@ -1,42 +1,43 @@
-use Rattle.std.proofs.Common.{◌≡◌, ◌∙◌, true, false, ap, subst, arith}
+use Rattle.std.proofs.Common.{◌≡◌, ℕ, ◌<◌, ◌&&◌, ◌∙◌, true, false, ap, length, subst, arith}
 use Rattle.std.proofs.lemmas.Result.{err_from_is_err_and}
 use Rattle.tpl_trees.specs.WideTrees.{wide_node_of}
 use Rattle.tpl_model.specs.WiderRules.{WideTree}
 use Rattle.tpl_laws.specs.WideVerdict.{wide_fits}
+use Rattle.tpl_checker.proofs.TreeLemmas.{id_fits}
 use Rattle.tpl_wide.specs.Check.{graph_in}
 use Rattle.tpl_leaf.specs.Leaf.{wide_assumed}
-use Rattle.tpl_wide.proofs.WideTreeLemmas.{end_fits, input_fits, loser_decides, one_more_split, winner_fails}
+use Rattle.tpl_wide.proofs.WideTreeLemmas.{loser_decides, one_more_split, winner_fails}
+use Rattle.tpl_wide.proofs.tree.+tree_fault.Goals.{In-SplitInput, In-SplitEnd}
 use Rattle.tpl_wide.proofs.tree.+tree_fault.Goals as goal
 
-pub with_input-yes-requires : goal.with_input-yes-requires
-with_input-yes-requires t c =
+-- the ids of the splits are small
+small_input : (t : ℕ) (c : In-SplitInput t) → c.in-SplitInput.input.0 < 16
+small_input t c =
     let g = graph_in c.args.check.now in
-    let fit = input_fits g c.in-SplitInput.input.0 c.in-SplitInput.on_true.value c.in-SplitInput.on_false.value (subst (λ (z : WideTree). wide_fits g z ≡ true) (c.node.ensures ∙ ap wide_node_of c.in-SplitInput.is) c.requires.fits) in
-    omega (arith, fit.input, c.valid_law.ensures.graph.inputs)
+    let lt = id_fits c.in-SplitInput.input.0 g.inputs (wide_fits g c.in-SplitInput.on_true.value && wide_fits g c.in-SplitInput.on_false.value) (subst (λ (z : WideTree). wide_fits g z ≡ true) (c.node.ensures ∙ ap wide_node_of c.in-SplitInput.is) c.requires.fits) in
+    omega (arith, lt, c.valid_law.ensures.graph.inputs)
+
+small_task : (t : ℕ) (c : In-SplitEnd t) → c.in-SplitEnd.task.0 < 1024
+small_task t c =
+    let g = graph_in c.args.check.now in
+    let lt = id_fits c.in-SplitEnd.task.0 (length g.tasks) (wide_fits g c.in-SplitEnd.ran.value && (wide_fits g c.in-SplitEnd.canceled.value && wide_fits g c.in-SplitEnd.faulted.value))
+    (subst (λ (z : WideTree). wide_fits g z ≡ true) (c.node.ensures ∙ ap wide_node_of c.in-SplitEnd.is) c.requires.fits) in
+    omega (arith, lt, c.valid_law.ensures.graph.tasks)
+
+pub with_input-yes-requires : goal.with_input-yes-requires
+with_input-yes-requires t c = small_input t (goal.at.with_input-yes-requires t c).In-SplitInput
 
 pub with_input-no-requires : goal.with_input-no-requires
-with_input-no-requires t c =
-    let g = graph_in c.args.check.now in
-    let fit = input_fits g c.in-SplitInput.input.0 c.in-SplitInput.on_true.value c.in-SplitInput.on_false.value (subst (λ (z : WideTree). wide_fits g z ≡ true) (c.node.ensures ∙ ap wide_node_of c.in-SplitInput.is) c.requires.fits) in
-    omega (arith, fit.input, c.valid_law.ensures.graph.inputs)
+with_input-no-requires t c = small_input t (goal.at.with_input-no-requires t c).In-SplitInput
 
 pub with_end-on_ran-requires : goal.with_end-on_ran-requires
-with_end-on_ran-requires t c =
-    let g = graph_in c.args.check.now in
-    let fit = end_fits g c.in-SplitEnd.task.0 c.in-SplitEnd.ran.value c.in-SplitEnd.canceled.value c.in-SplitEnd.faulted.value (subst (λ (z : WideTree). wide_fits g z ≡ true) (c.node.ensures ∙ ap wide_node_of c.in-SplitEnd.is) c.requires.fits) in
-    omega (arith, fit.task, c.valid_law.ensures.graph.tasks)
+with_end-on_ran-requires t c = small_task t (goal.at.with_end-on_ran-requires t c).In-SplitEnd
 
 pub with_end-on_canceled-requires : goal.with_end-on_canceled-requires
-with_end-on_canceled-requires t c =
-    let g = graph_in c.args.check.now in
-    let fit = end_fits g c.in-SplitEnd.task.0 c.in-SplitEnd.ran.value c.in-SplitEnd.canceled.value c.in-SplitEnd.faulted.value (subst (λ (z : WideTree). wide_fits g z ≡ true) (c.node.ensures ∙ ap wide_node_of c.in-SplitEnd.is) c.requires.fits) in
-    omega (arith, fit.task, c.valid_law.ensures.graph.tasks)
+with_end-on_canceled-requires t c = small_task t (goal.at.with_end-on_canceled-requires t c).In-SplitEnd
 
 pub with_end-on_faulted-requires : goal.with_end-on_faulted-requires
-with_end-on_faulted-requires t c =
-    let g = graph_in c.args.check.now in
-    let fit = end_fits g c.in-SplitEnd.task.0 c.in-SplitEnd.ran.value c.in-SplitEnd.canceled.value c.in-SplitEnd.faulted.value (subst (λ (z : WideTree). wide_fits g z ≡ true) (c.node.ensures ∙ ap wide_node_of c.in-SplitEnd.is) c.requires.fits) in
-    omega (arith, fit.task, c.valid_law.ensures.graph.tasks)
+with_end-on_faulted-requires t c = small_task t (goal.at.with_end-on_faulted-requires t c).In-SplitEnd
 
 pub returns-in_err-next-in-SplitWinner : goal.returns-in_err-next-in-SplitWinner
 returns-in_err-next-in-SplitWinner t c =
