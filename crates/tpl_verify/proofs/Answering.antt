@@ -104,7 +104,9 @@ module _ {R W : Type 0} (remaining : R → Option (List ℕ)) (from_old from_new
       let told = failure_refutes e in
       let found = told.is.found in
       let written = told.is.spelled in
-      let parts = written.5 in
+      let read = written.1 in
+      let shaped = read.2 in
+      let is = shaped.2 in
       record {
         input = told.input;
         reads = told.reads;
@@ -120,8 +122,8 @@ module _ {R W : Type 0} (remaining : R → Option (List ℕ)) (from_old from_new
         refutes = found.refutes;
         text = told.text;
         written = (
-          written.0, written.1, written.2, written.3, written.4, (parts.valid, parts.graph, parts.claims),
-          (started told.doc.start told.is.inputs, parts.start, starts_with told.doc.start told.is.inputs), parts.journal,
+          written.0,
+          (read.0, read.1, (shaped.0, shaped.1, (is.valid, is.graph, is.claims), (started told.doc.start told.is.inputs, is.start, starts_with told.doc.start told.is.inputs), is.journal)),
         );
         writes = told.writes;
       }
