@@ -1,7 +1,7 @@
 -- Each real execution of a body is one of its paths.
-use Rattle.std.proofs.Common.{◌≡◌, ℕ, ◌++◌, ◌&&◌, ◌⊎◌, inl, inr, Bool, true, false, if◌then◌else◌, Option, List, [], ◌∷◌, refl, sym, subst, nat_eq, is_some, slice_index_or}
+use Rattle.std.proofs.Common.{◌≡◌, ℕ, ◌++◌, ◌&&◌, ◌⊎◌, inl, inr, Bool, true, false, if◌then◌else◌, Option, List, [], ◌∷◌, refl, sym, ap, subst, nat_eq, is_some, slice_index_or}
 use Rattle.std.specs.Prelude.{◌↔◌}
-use Rattle.std.proofs.lemmas.Bool.{and_parts, and_from, or_cases, or_left, or_right}
+use Rattle.std.proofs.lemmas.Bool.{cases_Bool, and_parts, and_from, or_cases, or_left, or_right}
 use Rattle.tpl_model.proofs.MemberLemmas.{same_self, mem_append, mem_left, mem_right}
 use Rattle.tpl_model.proofs.Truths.{true_false}
 use Rattle.tpl_model.specs.declared.finals.Final.{Final}
@@ -16,10 +16,10 @@ use Rattle.tpl_model.specs.declared.event.Act.TheVariants.{Step, Worked}
 use Rattle.tpl_model.specs.declared.event.Event.{Event}
 use Rattle.tpl_model.specs.Facts.{Rest, Ending, on, over, begun, starts_by, rest_after, step_of, stepped, worked, rest, requested, started, ending, is_start, subject_in, has_final}
 use Rattle.tpl_model.specs.Paths.{cancellation, is_start_of, passes_start}
-use Rattle.tpl_model.specs.Rules.{Allows, Run}
+use Rattle.tpl_model.specs.Rules.{IsRunning, Allows, Run}
 use Rattle.tpl_model.specs.Statements.{reads_nothing_in}
-use Rattle.tpl_laws.proofs.Basics.{if_true, same_number}
-use Rattle.tpl_laws.proofs.Kept.{after, running_facts, begun_kept}
+use Rattle.tpl_laws.proofs.Basics.{if_true, if_false, same_number}
+use Rattle.tpl_laws.proofs.Kept.{id, after, running_facts, begun_kept}
 
 -- the statements that t has passed, the last one first
 abbrev pub pushed : Statements → List Statement → List Statement
@@ -34,6 +34,29 @@ passed_after t act left passed = passed
 abbrev pub passed : TaskGraph → List Bool → List Event → ℕ → List Statement
 passed g v [] t = []
 passed g v (e ∷ h) t = passed_after t e.act (rest g v h t).left (passed g v h t)
+
+-- an act that passes a statement of t
+abbrev pub Passes : Act → ℕ → Type 0
+Passes x t = (x ≡ Step (id t)) ⊎ ((w : Answer) × (x ≡ Worked (id t) w))
+
+-- and any other leaves the body of t as it is
+pub passes_or_stays : (g : TaskGraph) (v : List Bool) (h : List Event) (a : Actor) (x : Act) (t : ℕ) → Passes x t ⊎ ((rest g v (after a x h) t ≡ rest g v h t) × (passed g v (after a x h) t ≡ passed g v h t))
+passes_or_stays g v h a (Step s) t =
+    elim (cases_Bool (nat_eq s.0 t)) [
+      | inl q ↦ inl (inl (ap (λ z. Step (id z)) (same_number s.0 t q)))
+      | inr q ↦ inr (if_false (nat_eq s.0 t) _ (rest g v h t) q, if_false (nat_eq s.0 t) _ (passed g v h t) q)
+    ]
+passes_or_stays g v h a (Worked s w) t =
+    elim (cases_Bool (nat_eq s.0 t)) [
+      | inl q ↦ inl (inr (w, ap (λ z. Worked (id z) w) (same_number s.0 t q)))
+      | inr q ↦ inr (if_false (nat_eq s.0 t) _ (rest g v h t) q, if_false (nat_eq s.0 t) _ (passed g v h t) q)
+    ]
+passes_or_stays g v h a x t = inr (refl, refl)
+
+-- where it is allowed t runs, and its body isn't over
+pub passes_running : (g : TaskGraph) (v : List Bool) (h : List Event) (a : Actor) (x : Act) (t : ℕ) → Passes x t → Allows g v h a x → IsRunning g v h a t × (is_some (rest g v h t).outcome ≡ false)
+passes_running g v h a x t (inl e) al = let w : Allows g v h a (Step (id t)) = subst (λ z. Allows g v h a z) e al in (w.0, w.1)
+passes_running g v h a x t (inr (answer, e)) al = let w : Allows g v h a (Worked (id t) answer) = subst (λ z. Allows g v h a z) e al in (w.0, w.1)
 
 -- what holds of a body and of every part that can be left of it
 pub record IsKept (Q : Statements → Type 0) : Type 0 where

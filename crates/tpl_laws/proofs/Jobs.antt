@@ -6,7 +6,7 @@ use Rattle.std.proofs.lemmas.List.Recursion.{is_count_by}
 use Rattle.std.proofs.lemmas.List.Concat.{flat_map-cons}
 use Rattle.tpl_model.specs.Members.{mem}
 use Rattle.tpl_model.specs.Valid.{all_sites}
-use Rattle.tpl_laws.proofs.Execution.{rest_keeps, Stands, stands_kept, in_either}
+use Rattle.tpl_laws.proofs.Execution.{rest_keeps, Stands, stands_kept, in_either, passes_or_stays, passes_running}
 use Rattle.tpl_model.proofs.Truths.{true_false}
 use Rattle.tpl_model.specs.declared.ids.SiteId.{SiteId}
 use Rattle.tpl_model.specs.declared.status.Label.{Label}
@@ -43,17 +43,11 @@ threw_outcome None Nothing lb e = absurd (cc)
 threw_outcome None (s ⨾ more) lb e = absurd (cc)
 
 threw_stays : (g : TaskGraph) (v : List Bool) (h : List Event) (a : Actor) (x : Act) (t : ℕ) (lb : Label) → Allows g v h a x → outcome_in (rest g v h t) ≡ Some (Threw lb) → outcome_in (rest g v (after a x h) t) ≡ Some (Threw lb)
-threw_stays g v h a (Step s) t lb al e =
-    elim (cases_Bool (nat_eq s.0 t)) [
-      | inl q ↦ true_false (sym (threw_outcome (rest g v h s.0).outcome (rest g v h s.0).left lb (subst (λ z. outcome_in (rest g v h z) ≡ Some (Threw lb)) (sym (same_number s.0 t q)) e)) ∙ al.1)
-      | inr q ↦ ap outcome_in (if_false (nat_eq s.0 t) (stepped g v t (rest g v h t).left (requested g v h) (ending g v h)) (rest g v h t) q) ∙ e
+threw_stays g v h a x t lb al e =
+    elim (passes_or_stays g v h a x t) [
+      | inl p ↦ true_false (sym (threw_outcome (rest g v h t).outcome (rest g v h t).left lb e) ∙ (passes_running g v h a x t p al).1)
+      | inr same ↦ ap outcome_in same.0 ∙ e
     ]
-threw_stays g v h a (Worked s w) t lb al e =
-    elim (cases_Bool (nat_eq s.0 t)) [
-      | inl q ↦ true_false (sym (threw_outcome (rest g v h s.0).outcome (rest g v h s.0).left lb (subst (λ z. outcome_in (rest g v h z) ≡ Some (Threw lb)) (sym (same_number s.0 t q)) e)) ∙ al.1)
-      | inr q ↦ ap outcome_in (if_false (nat_eq s.0 t) (worked w (rest g v h t).left) (rest g v h t) q) ∙ e
-    ]
-threw_stays g v h a x t lb al e = e
 
 -- the body whose job has failed
 fails_work : (site : ℕ) (left : Statements) → is_work site left ≡ true → outcome_in (worked Failed left) ≡ Fails site

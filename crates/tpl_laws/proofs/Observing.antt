@@ -24,7 +24,7 @@ use Rattle.tpl_laws.specs.RowTests.{faulted_view}
 use Rattle.tpl_laws.proofs.Basics.{if_true, if_false, some_none, the_some, same_number}
 use Rattle.tpl_laws.proofs.Kept.{id, after, running_facts, ending_kept, begun_kept, final_of}
 use Rattle.tpl_model.specs.Certificate.{Row, Assumed, is_loud, TakesOver, Reads}
-use Rattle.tpl_laws.proofs.Execution.{passed, pushed}
+use Rattle.tpl_laws.proofs.Execution.{passed, pushed, passes_or_stays, passes_running}
 use Rattle.tpl_laws.proofs.Follows.{Fits, follows, subject_kept, has_subject}
 use Rattle.tpl_laws.proofs.Settling.{has_subject_of, attached_child, parent_task, continues_task, all_task}
 use Rattle.tpl_laws.proofs.Carrying.{begun_task, carries_faulted}
@@ -36,20 +36,12 @@ use Rattle.tpl_model.proofs.Truths.{true_false}
 -- only a task that has begun has passed anything
 pub passed_begun : (g : TaskGraph) (v : List Bool) (h : List Event) (t : ℕ) → Run g v h → passes_observe (passed g v h t) ≡ true → is_some (begun h t) ≡ true
 passed_begun g v [] t run e = true_false (sym e)
-passed_begun g v (ev ∷ h) t run e = begun_kept h ev.actor ev.act t (here (λ o. passed_begun g v h t run.0 o) ev.actor ev.act run.1 e)
-  where
-    here : (passes_observe (passed g v h t) ≡ true → is_some (begun h t) ≡ true) → (a : Actor) (x : Act) → Allows g v h a x → passes_observe (passed g v (after a x h) t) ≡ true → is_some (begun h t) ≡ true
-    here old a (Step s) al q =
-        elim (cases_Bool (nat_eq s.0 t)) [
-          | inl same ↦ subst (λ z. is_some (begun h z) ≡ true) (same_number s.0 t same) (running_facts g v h a s.0 al.0).2
-          | inr other ↦ old (subst (λ z. passes_observe z ≡ true) (if_false (nat_eq s.0 t) (pushed (rest g v h t).left (passed g v h t)) (passed g v h t) other) q)
-        ]
-    here old a (Worked s w) al q =
-        elim (cases_Bool (nat_eq s.0 t)) [
-          | inl same ↦ subst (λ z. is_some (begun h z) ≡ true) (same_number s.0 t same) (running_facts g v h a s.0 al.0).2
-          | inr other ↦ old (subst (λ z. passes_observe z ≡ true) (if_false (nat_eq s.0 t) (pushed (rest g v h t).left (passed g v h t)) (passed g v h t) other) q)
-        ]
-    here old a x al q = old q
+passed_begun g v (e ∷ h) t run o =
+    begun_kept h e.actor e.act t
+    (elim (passes_or_stays g v h e.actor e.act t) [
+      | inl p ↦ (running_facts g v h e.actor t (passes_running g v h e.actor e.act t p run.1).0).2
+      | inr same ↦ passed_begun g v h t run.0 (subst (λ z. passes_observe z ≡ true) same.1 o)
+    ])
 
 pushed_observe : (left : Statements) (ps : List Statement) → passes_observe (pushed left ps) ≡ true → (is_observe left ≡ true) ⊎ (passes_observe ps ≡ true)
 pushed_observe (Observe ⨾ more) ps e = inl refl

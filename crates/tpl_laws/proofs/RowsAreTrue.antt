@@ -13,33 +13,23 @@ use Rattle.tpl_model.specs.Statements.{Statement, Statements, Nothing, ◌⨾◌
 use Rattle.tpl_model.specs.Graph.{TaskGraph, TaskKind, Continues, WhenAny, task, kind, body, options}
 use Rattle.tpl_model.specs.declared.status.Actor.{Actor}
 use Rattle.tpl_model.specs.declared.event.Act.{Act}
-use Rattle.tpl_model.specs.declared.event.Act.TheVariants.{Step, Worked, Leave}
+use Rattle.tpl_model.specs.declared.event.Act.TheVariants.{Leave}
 use Rattle.tpl_model.specs.declared.event.Event.{Event}
-use Rattle.tpl_model.specs.Facts.{begun, left_body, stepped, worked, rest, requested, failed, ending, subject_in, subject_of, outcome_in, outcome_of}
+use Rattle.tpl_model.specs.Facts.{begun, left_body, rest, requested, failed, ending, subject_in, subject_of, outcome_in, outcome_of}
 use Rattle.tpl_model.specs.Rules.{final, IsRunning, Allows, Run, token_requested, token_requested_by}
 use Rattle.tpl_model.specs.Paths.{Known, EndsPassing, Path}
-use Rattle.tpl_laws.proofs.Basics.{if_false, some_none, same_number}
+use Rattle.tpl_laws.proofs.Basics.{some_none, same_number}
 use Rattle.tpl_laws.proofs.Kept.{after, running_facts, final_kept, requested_kept, failed_kept}
 use Rattle.tpl_model.specs.Finals.{has}
 use Rattle.tpl_model.specs.Valid.{IsGraph}
 use Rattle.tpl_model.specs.Certificate.{Row, row, Assumed, Agrees, is_loud, loud_token, one_ends, subject_ends, subject_set, view}
-use Rattle.tpl_laws.proofs.Execution.{passed}
+use Rattle.tpl_laws.proofs.Execution.{passed, passes_or_stays, passes_running}
 use Rattle.tpl_laws.proofs.Ready.{EndedSo, Ready, begun_ready, any_winner}
 use Rattle.tpl_laws.proofs.Follows.{Fits, FollowsBy, winner_some}
 
 -- a task that isn't running keeps what is left of its body
 pub rest_idle : (g : TaskGraph) (v : List Bool) (h : List Event) (a : Actor) (x : Act) (t : ℕ) → Allows g v h a x → (IsRunning g v h a t → ⊥) → (rest g v (after a x h) t ≡ rest g v h t) × (passed g v (after a x h) t ≡ passed g v h t)
-rest_idle g v h a (Step s) t al idle =
-    elim (cases_Bool (nat_eq s.0 t)) [
-      | inl q ↦ absurd (idle (subst (λ z. IsRunning g v h a z) (same_number s.0 t q) al.0))
-      | inr q ↦ (if_false (nat_eq s.0 t) (stepped g v t (rest g v h t).left (requested g v h) (ending g v h)) (rest g v h t) q, if_false (nat_eq s.0 t) _ (passed g v h t) q)
-    ]
-rest_idle g v h a (Worked s w) t al idle =
-    elim (cases_Bool (nat_eq s.0 t)) [
-      | inl q ↦ absurd (idle (subst (λ z. IsRunning g v h a z) (same_number s.0 t q) al.0))
-      | inr q ↦ (if_false (nat_eq s.0 t) (worked w (rest g v h t).left) (rest g v h t) q, if_false (nat_eq s.0 t) _ (passed g v h t) q)
-    ]
-rest_idle g v h a x t al idle = (refl, refl)
+rest_idle g v h a x t al idle = elim (passes_or_stays g v h a x t) [ inl p ↦ absurd (idle (passes_running g v h a x t p al).0) | inr same ↦ same ]
 
 -- the body of a task that has left it is over
 pub left_verdict : (g : TaskGraph) (v : List Bool) (h : List Event) (t : ℕ) → Run g v h → left_body h t ≡ true → is_some (outcome_in (rest g v h t)) ≡ true

@@ -1,6 +1,5 @@
 -- What is left of a body gets smaller.
-use Rattle.std.proofs.Common.{◌≡◌, ℕ, ◌+◌, ◌<◌, ◌≤◌, Bool, true, false, Option, List, sym, ap, subst, arith, if◌then◌else◌, slice_index_or, nat_eq, inl, inr, ◌⊎◌}
-use Rattle.std.proofs.lemmas.Bool.{cases_Bool}
+use Rattle.std.proofs.Common.{◌≡◌, ℕ, ◌+◌, ◌<◌, ◌≤◌, Bool, true, false, Option, List, sym, subst, arith, if◌then◌else◌, slice_index_or, nat_eq, inl, inr}
 use Rattle.tpl_model.proofs.MemberLemmas.{same_self}
 use Rattle.tpl_model.proofs.Truths.{true_false}
 use Rattle.tpl_model.specs.Statements.{Check, Work, If, When, Statements, Nothing, ◌⨾◌, followed_by}
@@ -15,8 +14,9 @@ use Rattle.tpl_model.specs.Facts.{Rest, Ending, on, over, has_final, subject_in,
 use Rattle.tpl_model.specs.Paths.{cancellation}
 use Rattle.tpl_model.specs.Rules.{Allows, steps, works}
 use Rattle.tpl_model.specs.Limits.{statement_count}
-use Rattle.tpl_laws.proofs.Basics.{if_true, if_false, same_number}
+use Rattle.tpl_laws.proofs.Basics.{if_true}
 use Rattle.tpl_laws.proofs.Kept.{id, after}
+use Rattle.tpl_laws.proofs.Execution.{Passes, passes_or_stays}
 
 size_ahead : (a more : Statements) → statement_count (followed_by a more) ≡ statement_count a + statement_count more
 size_ahead Nothing more = omega arith
@@ -46,7 +46,7 @@ work_smaller Failed (Work s m ⨾ more) e = omega arith
 work_smaller answer left e = true_false (sym e)
 
 -- the task whose statement an act passes has less left
-pub passed_smaller : (g : TaskGraph) (v : List Bool) (h : List Event) (a : Actor) (x : Act) (t : ℕ) → (x ≡ Step (id t)) ⊎ ((w : Answer) × (x ≡ Worked (id t) w)) → Allows g v h a x → statement_count (rest g v (after a x h) t).left < statement_count (rest g v h t).left
+pub passed_smaller : (g : TaskGraph) (v : List Bool) (h : List Event) (a : Actor) (x : Act) (t : ℕ) → Passes x t → Allows g v h a x → statement_count (rest g v (after a x h) t).left < statement_count (rest g v h t).left
 passed_smaller g v h a x t (inl e) al = subst (λ z. Allows g v h a z → statement_count (rest g v (after a z h) t).left < statement_count (rest g v h t).left) (sym e) by_step al
   where
     by_step : Allows g v h a (Step (id t)) → statement_count (rest g v (after a (Step (id t)) h) t).left < statement_count (rest g v h t).left
@@ -58,14 +58,8 @@ passed_smaller g v h a x t (inr (w, e)) al = subst (λ z. Allows g v h a z → s
 
 -- no act leaves more of a body
 pub rest_no_larger : (g : TaskGraph) (v : List Bool) (h : List Event) (a : Actor) (x : Act) (t : ℕ) → Allows g v h a x → statement_count (rest g v (after a x h) t).left ≤ statement_count (rest g v h t).left
-rest_no_larger g v h a (Step s) t al =
-    elim (cases_Bool (nat_eq s.0 t)) [
-      | inl q ↦ let r = passed_smaller g v h a (Step s) t (inl (ap (λ z. Step (id z)) (same_number s.0 t q))) al in omega arith
-      | inr q ↦ subst (λ z. statement_count z.left ≤ statement_count (rest g v h t).left) (sym (if_false (nat_eq s.0 t) (stepped g v t (rest g v h t).left (requested g v h) (ending g v h)) (rest g v h t) q)) (omega arith)
+rest_no_larger g v h a x t al =
+    elim (passes_or_stays g v h a x t) [
+      | inl p ↦ let r = passed_smaller g v h a x t p al in omega arith
+      | inr same ↦ subst (λ z. statement_count z.left ≤ statement_count (rest g v h t).left) (sym same.0) (omega arith)
     ]
-rest_no_larger g v h a (Worked s w) t al =
-    elim (cases_Bool (nat_eq s.0 t)) [
-      | inl q ↦ let r = passed_smaller g v h a (Worked s w) t (inr (w, ap (λ z. Worked (id z) w) (same_number s.0 t q))) al in omega arith
-      | inr q ↦ subst (λ z. statement_count z.left ≤ statement_count (rest g v h t).left) (sym (if_false (nat_eq s.0 t) (worked w (rest g v h t).left) (rest g v h t) q)) (omega arith)
-    ]
-rest_no_larger g v h a x t al = omega arith
