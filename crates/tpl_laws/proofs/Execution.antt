@@ -1,5 +1,5 @@
 -- Each real execution of a body is one of its paths.
-use Rattle.std.proofs.Common.{◌≡◌, ℕ, ◌++◌, ◌&&◌, ◌⊎◌, inl, inr, Bool, true, false, if◌then◌else◌, Option, List, [], ◌∷◌, refl, sym, ap, subst, nat_eq, is_some, slice_index_or}
+use Rattle.std.proofs.Common.{◌≡◌, ℕ, ◌++◌, ◌&&◌, ◌⊎◌, inl, inr, Bool, true, false, if◌then◌else◌, Option, List, [], ◌∷◌, refl, sym, ap, ◌∙◌, subst, nat_eq, is_some, slice_index_or}
 use Rattle.std.specs.Prelude.{◌↔◌}
 use Rattle.std.proofs.lemmas.Bool.{cases_Bool, and_parts, and_from, or_cases, or_left, or_right}
 use Rattle.tpl_model.proofs.MemberLemmas.{same_self, mem_append, mem_left, mem_right}
@@ -16,7 +16,7 @@ use Rattle.tpl_model.specs.declared.event.Act.TheVariants.{Step, Worked}
 use Rattle.tpl_model.specs.declared.event.Event.{Event}
 use Rattle.tpl_model.specs.Facts.{Rest, Ending, on, over, begun, starts_by, rest_after, step_of, stepped, worked, rest, requested, started, ending, is_start, subject_in, has_final}
 use Rattle.tpl_model.specs.Paths.{cancellation, is_start_of, passes_start}
-use Rattle.tpl_model.specs.Rules.{IsRunning, Allows, Run}
+use Rattle.tpl_model.specs.Rules.{IsRunning, Allows, Run, works}
 use Rattle.tpl_model.specs.Statements.{reads_nothing_in}
 use Rattle.tpl_laws.proofs.Basics.{if_true, if_false, same_number}
 use Rattle.tpl_laws.proofs.Kept.{id, after, running_facts, begun_kept}
@@ -57,6 +57,33 @@ passes_or_stays g v h a x t = inr (refl, refl)
 pub passes_running : (g : TaskGraph) (v : List Bool) (h : List Event) (a : Actor) (x : Act) (t : ℕ) → Passes x t → Allows g v h a x → IsRunning g v h a t × (is_some (rest g v h t).outcome ≡ false)
 passes_running g v h a x t (inl e) al = let w : Allows g v h a (Step (id t)) = subst (λ z. Allows g v h a z) e al in (w.0, w.1)
 passes_running g v h a x t (inr (answer, e)) al = let w : Allows g v h a (Worked (id t) answer) = subst (λ z. Allows g v h a z) e al in (w.0, w.1)
+
+-- a statement of a kind that is no job is passed by a step of t, or had been passed before
+module _ (first : Statements → Bool) (among : List Statement → Bool)
+    (one_more : (left : Statements) (ps : List Statement) → among (pushed left ps) ≡ true → (first left ≡ true) ⊎ (among ps ≡ true)) (no_job : (site : ℕ) (may_fail : Bool) (more : Statements) → first (Work site may_fail ⨾ more) ≡ false) where
+  not_by_work : (answer : Answer) (left : Statements) → works answer left ≡ true → first left ≡ true → ⊥
+  not_by_work Done (Work s f ⨾ more) e q = true_false (sym q ∙ no_job s f more)
+  not_by_work Failed (Work s f ⨾ more) e q = true_false (sym q ∙ no_job s f more)
+  not_by_work answer left e q = true_false (sym e)
+
+  pub stepped_or_before : (g : TaskGraph) (v : List Bool) (h : List Event) (a : Actor) (x : Act) (t : ℕ) → Allows g v h a x → among (passed g v (after a x h) t) ≡ true → ((x ≡ Step (id t)) × (first (rest g v h t).left ≡ true)) ⊎ (among (passed g v h t) ≡ true)
+  stepped_or_before g v h a (Step s) t al m =
+      elim (cases_Bool (nat_eq s.0 t)) [
+        | inl q ↦ elim (one_more (rest g v h t).left (passed g v h t) (subst (λ z. among z ≡ true) (if_true (nat_eq s.0 t) _ (passed g v h t) q) m)) [
+          | inl now ↦ inl (ap (λ z. Step (id z)) (same_number s.0 t q), now)
+          | inr old ↦ inr old
+        ]
+        | inr q ↦ inr (subst (λ z. among z ≡ true) (if_false (nat_eq s.0 t) _ (passed g v h t) q) m)
+      ]
+  stepped_or_before g v h a (Worked s w) t al m =
+      elim (cases_Bool (nat_eq s.0 t)) [
+        | inl q ↦ elim (one_more (rest g v h t).left (passed g v h t) (subst (λ z. among z ≡ true) (if_true (nat_eq s.0 t) _ (passed g v h t) q) m)) [
+          | inl now ↦ absurd (not_by_work w (rest g v h t).left (subst (λ z. works w (rest g v h z).left ≡ true) (same_number s.0 t q) al.2) now)
+          | inr old ↦ inr old
+        ]
+        | inr q ↦ inr (subst (λ z. among z ≡ true) (if_false (nat_eq s.0 t) _ (passed g v h t) q) m)
+      ]
+  stepped_or_before g v h a x t al m = inr m
 
 -- what holds of a body and of every part that can be left of it
 pub record IsKept (Q : Statements → Type 0) : Type 0 where

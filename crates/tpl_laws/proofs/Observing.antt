@@ -1,5 +1,5 @@
 -- The exception of a task with a chain is observed in each complete run.
-use Rattle.std.proofs.Common.{◌≡◌, ℕ, ◌⊎◌, inl, inr, Bool, true, false, Option, Some, List, [], ◌∷◌, refl, sym, ap, ◌∙◌, subst, nat_eq, is_some}
+use Rattle.std.proofs.Common.{◌≡◌, ℕ, ◌⊎◌, inl, inr, Bool, true, false, Option, Some, List, [], ◌∷◌, refl, sym, ap, ◌∙◌, subst, is_some}
 use Rattle.std.proofs.lemmas.Option.{same_Some}
 use Rattle.tpl_model.specs.declared.finals.Final.{Final}
 use Rattle.tpl_model.specs.declared.finals.Final.TheVariants.{Faulted}
@@ -11,26 +11,21 @@ use Rattle.tpl_model.specs.declared.outcome.Outcome.TheVariants.{Threw}
 use Rattle.tpl_model.specs.Members.{mem}
 use Rattle.tpl_model.specs.Statements.{Statement, Observe, Statements, ◌⨾◌}
 use Rattle.tpl_model.specs.Graph.{TaskGraph, TaskKind, Continues, WhenAny, kind, body, options, is_task}
-use Rattle.tpl_model.specs.declared.status.Actor.{Actor}
-use Rattle.tpl_model.specs.declared.status.Answer.{Answer}
-use Rattle.tpl_model.specs.declared.status.Answer.TheVariants.{Done, Failed}
-use Rattle.tpl_model.specs.declared.event.Act.{Act}
-use Rattle.tpl_model.specs.declared.event.Act.TheVariants.{Step, Worked}
 use Rattle.tpl_model.specs.declared.event.Event.{Event}
 use Rattle.tpl_model.specs.Facts.{Ending, begun, final_in, rest, started, ending, subject_in, subject_of, carried_in, outcome_in, is_observe}
-use Rattle.tpl_model.specs.Rules.{final, subject, Allows, Run, works, seen, sees, carried_by, label, label_in, Complete, to_end}
+use Rattle.tpl_model.specs.Rules.{final, subject, Run, seen, sees, carried_by, label, label_in, Complete, to_end}
 use Rattle.tpl_model.specs.Paths.{MustObserve, passes_observe}
 use Rattle.tpl_laws.specs.RowTests.{faulted_view}
-use Rattle.tpl_laws.proofs.Basics.{if_true, if_false, some_none, the_some, same_number}
-use Rattle.tpl_laws.proofs.Kept.{id, after, running_facts, ending_kept, begun_kept, final_of}
+use Rattle.tpl_laws.proofs.Basics.{some_none, the_some}
+use Rattle.tpl_laws.proofs.Kept.{after, running_facts, ending_kept, begun_kept, final_of}
 use Rattle.tpl_model.specs.Certificate.{Row, Assumed, is_loud, TakesOver, Reads}
-use Rattle.tpl_laws.proofs.Execution.{passed, pushed, passes_or_stays, passes_running}
+use Rattle.tpl_laws.proofs.Execution.{passed, pushed, passes_or_stays, passes_running, stepped_or_before}
 use Rattle.tpl_laws.proofs.Follows.{Fits, follows, subject_kept, has_subject}
 use Rattle.tpl_laws.proofs.Settling.{has_subject_of, attached_child, parent_task, continues_task, all_task}
 use Rattle.tpl_laws.proofs.Carrying.{begun_task, carries_faulted}
 use Rattle.tpl_laws.proofs.RowsAreTrue.{Upheld, verdict_path, view_fits, requested_loud}
 use Rattle.tpl_laws.proofs.Chains.{carries_own, threw_begun, begun_ends, any_ends, ended_as}
-use Rattle.std.proofs.lemmas.Bool.{cases_Bool, and_from, or_left, or_right}
+use Rattle.std.proofs.lemmas.Bool.{and_from, or_left, or_right}
 use Rattle.tpl_model.proofs.Truths.{true_false}
 
 -- only a task that has begun has passed anything
@@ -47,11 +42,6 @@ pushed_observe : (left : Statements) (ps : List Statement) → passes_observe (p
 pushed_observe (Observe ⨾ more) ps e = inl refl
 pushed_observe left ps e = inr e
 
-work_no_observe : (answer : Answer) (left : Statements) → works answer left ≡ true → is_observe left ≡ true → ⊥
-work_no_observe Done (Observe ⨾ more) e q = true_false (sym e)
-work_no_observe Failed (Observe ⨾ more) e q = true_false (sym e)
-work_no_observe answer left e q = true_false (sym q)
-
 -- the subject of a continuation of a task that carries something is that task
 subject_is : (g : TaskGraph) (v : List Bool) (h : List Event) (r y a : ℕ) (q : Ending) → Run g v h → kind g r ≡ Continues y → ending g v h y ≡ Some q → mem a q.carried ≡ true → subject g v h r ≡ Some y
 subject_is g v h r y a q run k e m = ap (λ z. subject_in g z (ending g v h)) k ∙ by_kind (kind g y) refl
@@ -67,47 +57,25 @@ Sees g v h r y q = (subject g v h r ≡ Some y) × (ending g v h y ≡ Some q)
 -- where a continuation that sees y has passed Observe, what y carries is seen
 pub observed_by : (g : TaskGraph) (v : List Bool) (h : List Event) (r n y a : ℕ) (q : Ending) → Run g v h → kind g r ≡ Continues n → Sees g v h r y q → mem a q.carried ≡ true → passes_observe (passed g v h r) ≡ true → seen g v h a ≡ true
 observed_by g v [] r n y a q run k e m p = true_false (sym p)
-observed_by g v (ev ∷ h) r n y a q run k e m p = here (λ o. λ e'. observed_by g v h r n y a q run.0 k e' m o) ev.actor ev.act run.1 e p
+observed_by g v (ev ∷ h) r n y a q run k e m p =
+    elim (stepped_or_before is_observe passes_observe pushed_observe (λ site f more. refl) g v h ev.actor ev.act r run.1 p) [
+      | inl now ↦
+          let runs = (passes_running g v h ev.actor ev.act r (inl now.0) run.1).0 in
+          let sees_y = saw (running_facts g v h ev.actor r runs).2 in
+          or_left (sees g v h ev.act a) (seen g v h a)
+          (subst (λ z. sees g v h z a ≡ true) (sym now.0)
+          (and_from (is_observe (rest g v h r).left) (carried_by g v h (subject g v h r) a) now.1
+          (subst (λ z. carried_by g v h z a ≡ true) (sym sees_y.0) (subst (λ z. mem a (carried_in z) ≡ true) (sym sees_y.1) m))))
+      | inr old ↦ or_right (sees g v h ev.act a) (seen g v h a) (observed_by g v h r n y a q run.0 k (saw (passed_begun g v h r run.0 old)) m old)
+    ]
   where
     -- once it had begun it saw y
-    saw : (x : Actor) (act : Act) → Allows g v h x act → Sees g v (after x act h) r y q → is_some (begun h r) ≡ true → Sees g v h r y q
-    saw x act al e2 b =
+    saw : is_some (begun h r) ≡ true → Sees g v h r y q
+    saw b =
         let s = has_subject g v h r n run.0 b k in
-        let same = same_Some s.0 y (sym (subject_kept g v h x act r s.0 al s.2) ∙ e2.0) in
+        let same = same_Some s.0 y (sym (subject_kept g v h ev.actor ev.act r s.0 run.1 s.2) ∙ e.0) in
         let w = final_of (ending g v h y) s.1 (subst (λ z. final g v h z ≡ Some s.1) same s.3) in
-        (s.2 ∙ ap Some same, w.1 ∙ ap Some (same_Some w.0 q (sym (ending_kept g v h x act y w.0 al w.1) ∙ e2.1)))
-
-    older : (passes_observe (passed g v h r) ≡ true → Sees g v h r y q → seen g v h a ≡ true) → (x : Actor) (act : Act) → Allows g v h x act → Sees g v (after x act h) r y q → passes_observe (passed g v h r) ≡ true → seen g v (after x act h) a ≡ true
-    older old x act al e2 o =
-        or_right (sees g v h act a) (seen g v h a) (old o (saw x act al e2 (passed_begun g v h r run.0 o)))
-
-    here : (passes_observe (passed g v h r) ≡ true → Sees g v h r y q → seen g v h a ≡ true) → (x : Actor) (act : Act) → Allows g v h x act → Sees g v (after x act h) r y q → passes_observe (passed g v (after x act h) r) ≡ true → seen g v (after x act h) a ≡ true
-    here old x (Step s) al e2 o =
-        elim (cases_Bool (nat_eq s.0 r)) [
-          | inl same ↦
-              elim (pushed_observe (rest g v h r).left (passed g v h r) (subst (λ z. passes_observe z ≡ true) (if_true (nat_eq s.0 r) (pushed (rest g v h r).left (passed g v h r)) (passed g v h r) same) o)) [
-                | inl now ↦
-                    let s_is = same_number s.0 r same in
-                    let b = subst (λ z. is_some (begun h z) ≡ true) s_is (running_facts g v h x s.0 al.0).2 in
-                    let sees_y = saw x (Step s) al e2 b in
-                    or_left (sees g v h (Step s) a) (seen g v h a)
-                    (subst (λ z. sees g v h (Step (id z)) a ≡ true) (sym s_is)
-                    (and_from (is_observe (rest g v h r).left) (carried_by g v h (subject g v h r) a) now
-                    (subst (λ z. carried_by g v h z a ≡ true) (sym sees_y.0) (subst (λ z. mem a (carried_in z) ≡ true) (sym sees_y.1) m))))
-                | inr o2 ↦ older old x (Step s) al e2 o2
-              ]
-          | inr other ↦ older old x (Step s) al e2 (subst (λ z. passes_observe z ≡ true) (if_false (nat_eq s.0 r) (pushed (rest g v h r).left (passed g v h r)) (passed g v h r) other) o)
-        ]
-    here old x (Worked s w) al e2 o =
-        elim (cases_Bool (nat_eq s.0 r)) [
-          | inl same ↦
-              elim (pushed_observe (rest g v h r).left (passed g v h r) (subst (λ z. passes_observe z ≡ true) (if_true (nat_eq s.0 r) (pushed (rest g v h r).left (passed g v h r)) (passed g v h r) same) o)) [
-                | inl now ↦ absurd (work_no_observe w (rest g v h r).left (subst (λ z. works w (rest g v h z).left ≡ true) (same_number s.0 r same) al.2) now)
-                | inr o2 ↦ older old x (Worked s w) al e2 o2
-              ]
-          | inr other ↦ older old x (Worked s w) al e2 (subst (λ z. passes_observe z ≡ true) (if_false (nat_eq s.0 r) (pushed (rest g v h r).left (passed g v h r)) (passed g v h r) other) o)
-        ]
-    here old x act al e2 o = older old x act al e2 o
+        (s.2 ∙ ap Some same, w.1 ∙ ap Some (same_Some w.0 q (sym (ending_kept g v h ev.actor ev.act y w.0 run.1 w.1) ∙ e.1)))
 
 -- what takes over is a task of the graph
 pub takes_task : (g : TaskGraph) (x y : ℕ) → TakesOver g x y → is_task g x

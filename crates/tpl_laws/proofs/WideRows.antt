@@ -17,20 +17,17 @@ use Rattle.tpl_model.proofs.Known.{under_trans}
 use Rattle.tpl_model.proofs.KnownPaths.{told_by, later_on, is_burdened, burdens, facts_of, MayChoose, one, all_one, path_final, ending_as_falls, throwing_falls, ending_one, end_known, within_some, known_where_started, chooses, burdened_start, start_burdens, later_started}
 use Rattle.tpl_model.specs.Graph.{TaskGraph, TaskKind, Root, Child, Continues, WhenAll, WhenAny, task, kind, body, options, is_task, attached}
 use Rattle.tpl_model.specs.declared.status.Actor.{Actor}
-use Rattle.tpl_model.specs.declared.status.Answer.{Answer}
-use Rattle.tpl_model.specs.declared.status.Answer.TheVariants.{Done, Failed}
 use Rattle.tpl_model.specs.declared.event.Act.{Act}
-use Rattle.tpl_model.specs.declared.event.Act.TheVariants.{Step, Worked}
 use Rattle.tpl_model.specs.declared.event.Event.{Event}
 use Rattle.tpl_model.specs.Facts.{Ending, begun, final_in, rest, started, starts_by, is_start, ending, carried_in, own_atom, those_started, outcome_in, body_final, requested, subject_in, subject_of}
-use Rattle.tpl_model.specs.Rules.{final, MayDrop, MayNotStart, MayCancel, Allows, Run, works, Settled, ended, token_requested, token_requested_by}
+use Rattle.tpl_model.specs.Rules.{final, MayDrop, MayNotStart, MayCancel, Allows, Run, Settled, ended, token_requested, token_requested_by}
 use Rattle.tpl_model.specs.Valid.{IsGraph}
 use Rattle.tpl_model.specs.Certificate.{row, is_loud, subject_ends, subject_set}
 use Rattle.tpl_model.specs.WiderRules.{WideRow, plain, begins_with, ends_with, once_ended, linked, child_end, WideAssumed, WideAgrees, with_winners, subject_left, wide_view, reading, asked_of, known_at_end, known_at_start, may_run, WideRunsRule, Way, ByBody, RootDropped, ChildDropped, DroppedEarly, DroppedLate, NotAllowed, way_final, MayEndBy, OwnRequested, SettledBefore, KnownThere, BeforeBegin, HoldsBy, BeginRule, WidelyClosed}
 use Rattle.tpl_laws.specs.WiderSoundness.{FactHolds}
-use Rattle.tpl_laws.proofs.Basics.{final_same, if_true, if_false, some_none, the_some, is_some_of, same_number, mem_here}
+use Rattle.tpl_laws.proofs.Basics.{final_same, some_none, the_some, is_some_of, same_number, mem_here}
 use Rattle.tpl_laws.proofs.Kept.{after, ending_new, final_of, requested_kept, started_kept}
-use Rattle.tpl_laws.proofs.Execution.{pushed, passed, StartedBy, started_parent}
+use Rattle.tpl_laws.proofs.Execution.{pushed, passed, StartedBy, started_parent, stepped_or_before}
 use Rattle.tpl_laws.proofs.Ready.{may_not_start_so, Ready, begun_ready, waiting_ready, IsBody, any_winner}
 use Rattle.tpl_laws.proofs.Follows.{Fits, Follows, follows, winner_some}
 use Rattle.tpl_laws.proofs.Settling.{child_rules, has_subject_of, attached_child, filter_mem, settled_kept, all_over_mem, children_over, started_by_parent}
@@ -83,38 +80,13 @@ pushed_start : (c : ℕ) (left : Statements) (ps : List Statement) → passes_st
 pushed_start c (Start d ⨾ more) ps e = or_cases (nat_eq d c) (passes_start c ps) e
 pushed_start c left ps e = inr e
 
-work_no_start : (c : ℕ) (answer : Answer) (left : Statements) → works answer left ≡ true → is_start c left ≡ true → ⊥
-work_no_start c Done (Start d ⨾ more) e q = true_false (sym e)
-work_no_start c Failed (Start d ⨾ more) e q = true_false (sym e)
-work_no_start c answer left e q = true_false (sym q)
-
 pub passes_started : (g : TaskGraph) (v : List Bool) (h : List Event) (p c : ℕ) → Run g v h → passes_start c (passed g v h p) ≡ true → started g v h c ≡ true
 passes_started g v [] p c run e = true_false (sym e)
-passes_started g v (ev ∷ h) p c run e = here (λ o. passes_started g v h p c run.0 o) ev.actor ev.act run.1 e
-  where
-    now : (a : Actor) (x : Act) → starts_by c x (rest g v h) ≡ true → started g v (after a x h) c ≡ true
-    now a x q = or_left (starts_by c x (rest g v h)) (started g v h c) q
-
-    here : (passes_start c (passed g v h p) ≡ true → started g v h c ≡ true) → (a : Actor) (x : Act) → Allows g v h a x → passes_start c (passed g v (after a x h) p) ≡ true → started g v (after a x h) c ≡ true
-    here old a (Step s) al q =
-        elim (cases_Bool (nat_eq s.0 p)) [
-          | inl same ↦
-              elim (pushed_start c (rest g v h p).left (passed g v h p) (subst (λ z. passes_start c z ≡ true) (if_true (nat_eq s.0 p) (pushed (rest g v h p).left (passed g v h p)) (passed g v h p) same) q)) [
-                | inl z ↦ now a (Step s) (subst (λ n. is_start c (rest g v h n).left ≡ true) (sym (same_number s.0 p same)) z)
-                | inr z ↦ started_kept g v h a (Step s) c (old z)
-              ]
-          | inr other ↦ started_kept g v h a (Step s) c (old (subst (λ z. passes_start c z ≡ true) (if_false (nat_eq s.0 p) (pushed (rest g v h p).left (passed g v h p)) (passed g v h p) other) q))
-        ]
-    here old a (Worked s w) al q =
-        elim (cases_Bool (nat_eq s.0 p)) [
-          | inl same ↦
-              elim (pushed_start c (rest g v h p).left (passed g v h p) (subst (λ z. passes_start c z ≡ true) (if_true (nat_eq s.0 p) (pushed (rest g v h p).left (passed g v h p)) (passed g v h p) same) q)) [
-                | inl z ↦ absurd (work_no_start c w (rest g v h p).left (subst (λ n. works w (rest g v h n).left ≡ true) (same_number s.0 p same) al.2) z)
-                | inr z ↦ started_kept g v h a (Worked s w) c (old z)
-              ]
-          | inr other ↦ started_kept g v h a (Worked s w) c (old (subst (λ z. passes_start c z ≡ true) (if_false (nat_eq s.0 p) (pushed (rest g v h p).left (passed g v h p)) (passed g v h p) other) q))
-        ]
-    here old a x al q = started_kept g v h a x c (old q)
+passes_started g v (e ∷ h) p c run m =
+    elim (stepped_or_before (is_start c) (passes_start c) (pushed_start c) (λ site f more. refl) g v h e.actor e.act p run.1 m) [
+      | inl now ↦ or_left (starts_by c e.act (rest g v h)) (started g v h c) (subst (λ z. starts_by c z (rest g v h) ≡ true) (sym now.0) now.1)
+      | inr old ↦ started_kept g v h e.actor e.act c (passes_started g v h p c run.0 old)
+    ]
 
 -- a task with a body that ended Faulted carries something
 pub faulted_carries : (g : TaskGraph) (v : List Bool) (h : List Event) (t : ℕ) (r : Ending) → Run g v h → IsBody (kind g t) → ending g v h t ≡ Some r → r.final ≡ Faulted → (x : ℕ) × (mem x r.carried ≡ true)
