@@ -11,3 +11,4 @@ pub mod RunLemmas
 pub mod TakenBack
 pub mod Whole
 pub mod WrittenTrees
+pub mod Drawn
