@@ -1,5 +1,5 @@
 -- Rows while they are worked out, one by one.
-use Rattle.std.proofs.Common.{◌≡◌, ℕ, zero, suc, ◌<◌, Bool, false, if◌then◌else◌, List, [], ◌∷◌, length, map, slice_set, refl, sym, ap, ◌∙◌, subst}
+use Rattle.std.proofs.Common.{◌≡◌, ℕ, zero, suc, Bool, false, if◌then◌else◌, List, [], ◌∷◌, length, map, slice_set, refl, sym, ap, ◌∙◌, ◌<◌, subst}
 use Rattle.std.proofs.lemmas.List.{length-set, map-set, length-map}
 use Rattle.tpl_model.specs.declared.finals.Finals.{Finals}
 use Rattle.tpl_model.specs.TaskSet.{passing_from}
@@ -13,31 +13,22 @@ use Rattle.tpl_paths.specs.declared.reading.ChildEnd.{ChildEnd as StoredChildEnd
 use Rattle.tpl_paths.specs.Reading.{end_of}
 use Rattle.tpl_leaf.specs.Leaf.{row_end}
 use Rattle.tpl_wide.specs.declared.rows.Rows.{Rows}
-use Rattle.tpl_wide.specs.Rows.{AreRows}
+use Rattle.tpl_wide.specs.Rows.{AreRows, IsRows}
 
 pub row_put : (r new : Rows) (t : ℕ) (row : WideRow) (e : StoredChildEnd) → new.ends.items ≡ slice_set r.ends.items t e → new.rows.items ≡ slice_set r.rows.items t row → end_of e ≡ row_end row
-    → (g : TaskGraph) (rows : List WideRow) → AreRows g rows r → AreRows g (slice_set rows t row) new
-row_put r new t row e es rs same g rows a = record {
-  same = rs ∙ ap (λ (xs : List WideRow). slice_set xs t row) a.same;
-  count = length-set rows t row ∙ a.count;
-  ends =
-      ap (λ (xs : List StoredChildEnd). map end_of xs) es
-      ∙ (map-set end_of r.ends.items t e ∙ ((λ i. slice_set (a.ends i) t (same i)) ∙ sym (map-set row_end rows t row)));
+    → (g : TaskGraph) → IsRows g r → AreRows g (slice_set r.rows.items t row) new
+row_put r new t row e es rs same g a = record {
+  same = rs;
+  kept = record {
+    count = ap length rs ∙ (length-set r.rows.items t row ∙ a.count);
+    ends =
+        ap (λ (xs : List StoredChildEnd). map end_of xs) es
+        ∙ (map-set end_of r.ends.items t e ∙ ((λ i. slice_set (a.ends i) t (same i)) ∙ (sym (map-set row_end r.rows.items t row) ∙ ap (λ (xs : List WideRow). map row_end xs) (sym rs))));
+  };
 }
 
--- rows are their own
-pub as_they_are : (g : TaskGraph) (rows : List WideRow) (r : Rows) → AreRows g rows r → AreRows g r.rows.items r
-as_they_are g rows r a = subst (λ (xs : List WideRow). AreRows g xs r) (sym a.same) a
-
--- a step from the rows in memory is one from those that they are
-pub stepped : (g : TaskGraph) (rows : List WideRow) (r new : Rows) (step : List WideRow → List WideRow) → AreRows g rows r → AreRows g (step r.rows.items) new → AreRows g (step rows) new
-stepped g rows r new step a b = subst (λ (xs : List WideRow). AreRows g (step xs) new) a.same b
-
-pub has_row : (g : TaskGraph) (rows : List WideRow) (r : Rows) (t : ℕ) → AreRows g rows r → t < length g.tasks → t < length r.rows.items
-has_row g rows r t a lt = subst (λ n. t < n) (sym (ap length a.same ∙ a.count)) lt
-
-pub has_end : (g : TaskGraph) (rows : List WideRow) (r : Rows) (t : ℕ) → AreRows g rows r → t < length g.tasks → t < length r.ends.items
-has_end g rows r t a lt = subst (λ n. t < n) (sym (sym (length-map r.ends.items end_of) ∙ (ap length a.ends ∙ (length-map rows row_end ∙ a.count)))) lt
+pub has_end : (g : TaskGraph) (r : Rows) (t : ℕ) → IsRows g r → t < length g.tasks → t < length r.ends.items
+has_end g r t a lt = subst (λ n. t < n) (sym (sym (length-map r.ends.items end_of) ∙ (ap length a.ends ∙ (length-map r.rows.items row_end ∙ a.count)))) lt
 
 -- a row by its parts
 pub row_is : (r : Row) (ends : Finals) (runs : Bool) (before past chain : List ℕ) → r.ends ≡ ends → r.runs ≡ runs → r.before ≡ before → r.past ≡ past → r.chain ≡ chain

@@ -65,7 +65,7 @@ one_more_split a splits items n x wins e =
     ap (wide_assumed a) e ∙ (λ i. record { assumed = assumed_of a; wins = λ m y. all_leave_more splits (record { task = n; argument = x; wins = wins }) m y i })
 
 -- a split on a winner, where the branch on which it wins fails, and where that has no fault
-module _ (g : TaskGraph) (p : Property TaskId) (claim first : ℕ) (l won : WideAssumed) (tree : WideTree) (n x : ℕ) (a b one : WideTree) (is : tree ≡ OnWinner n x a b) (wins : won ≡ winner_split l n x true) (is_one : one ≡ a) where
+module _ (g : TaskGraph) (p : Property TaskId) (claim first : ℕ) (l : WideAssumed) {won : WideAssumed} {tree a b one : WideTree} {n x : ℕ} (is : tree ≡ OnWinner n x a b) (wins : won ≡ winner_split l n x true) (is_one : one ≡ a) where
   pub winner_fails : (e : WideFault) → WidelyFailing (wide_tree_fault g p claim won first one) (first + wide_leaves one) (Err e) → WidelyFailing (wide_tree_fault g p claim l first tree) (first + wide_leaves tree) (Err e)
   winner_fails e h =
       let here : wide_tree_fault g p claim won first one ≡ wide_tree_fault g p claim (winner_split l n x true) first a = λ i. wide_tree_fault g p claim (wins i) first (is_one i) in

@@ -6,8 +6,12 @@ use Rattle.tpl_paths.specs.Reading.{end_of}
 use Rattle.tpl_leaf.specs.Leaf.{row_end}
 use Rattle.tpl_wide.specs.declared.rows.Rows.{Rows}
 
--- these rows, one for each task, and beside each how its task ends
+-- a row for each task, and beside each how its task ends
+pub record IsRows (g : TaskGraph) (r : Rows) : Type 0 where
+  pub count : length r.rows.items ≡ length g.tasks
+  pub ends : map end_of r.ends.items ≡ map row_end r.rows.items
+
+-- these rows, with how their tasks end
 pub record AreRows (g : TaskGraph) (rows : List WideRow) (r : Rows) : Type 0 where
   pub same : r.rows.items ≡ rows
-  pub count : length rows ≡ length g.tasks
-  pub ends : map end_of r.ends.items ≡ map row_end rows
+  pub kept : IsRows g r

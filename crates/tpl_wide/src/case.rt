@@ -1,10 +1,12 @@
 //! A leaf whose rows are left out.
 
-ghost use Rattle.std.specs.Prelude.{◌≡◌};
+ghost use Rattle.std.specs.Prelude.{◌≡◌, ℕ};
+ghost use Rattle.tpl_model.specs.Graph.{is_task};
 ghost use Rattle.tpl_leaf.specs.Leaf.{assumed_in, graph_of, rows_in, wide_assumed, IsLeaf};
 ghost use Rattle.tpl_wide.specs.Check.{IsCheck, graph_in};
 ghost use Rattle.tpl_wide.specs.Case.{assumed_by, graph_by, IsCase};
-ghost use Rattle.tpl_wide.specs.Rows.{AreRows};
+ghost use Rattle.tpl_wide.specs.Rows.{IsRows};
+ghost use Rattle.tpl_wide.specs.Within.{IsAll};
 
 use crate::check::Check;
 use crate::rows::Rows;
@@ -54,8 +56,10 @@ impl<'c> Case<'c> {
     /// The leaf with these rows.
     pub(crate) fn leaf<'l>(&'l self, rows: &'l Rows) -> Leaf<'l>
         requires case { IsCase self.now }
-        requires rows { AreRows (graph_by self.now) rows.now.rows.items rows.now }
+        requires rows { IsRows (graph_by self.now) rows.now }
         ensures leaf { IsLeaf result }
+        ensures all { IsAll (graph_of result) self.now.all }
+        ensures task { (t : ℕ) → is_task (graph_by self.now) t → is_task (graph_of result) t }
         ensures graph { graph_of result ≡ graph_by self.now }
         ensures assumed { assumed_in result ≡ assumed_by self.now }
         ensures rows { rows_in result ≡ rows.now.rows.items }

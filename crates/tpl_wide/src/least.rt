@@ -1,11 +1,11 @@
 //! The least rows of a leaf: its tasks run and end only as they have to, and say all that may be said of begins and ends.
 
-ghost use Rattle.std.specs.Prelude.{◌≡◌, IfOk, length, not};
-ghost use Rattle.tpl_model.specs.Graph.{is_task, kind};
-ghost use Rattle.tpl_laws.specs.RowTests.{is_below, parent_of};
-ghost use Rattle.tpl_laws.specs.LeastRows.{begin_step, downwards, end_step, family_step, is_attached_to, least_rows, upwards};
-ghost use Rattle.tpl_wide.specs.Case.{assumed_by, graph_by, IsCase};
-ghost use Rattle.tpl_wide.specs.Rows.{AreRows};
+ghost use Rattle.std.specs.Prelude.{◌≡◌, IfOk};
+ghost use Rattle.tpl_model.specs.Graph.{is_task};
+ghost use Rattle.tpl_laws.specs.RowTests.{parent_of};
+ghost use Rattle.tpl_laws.specs.LeastRows.{begin_step, end_step, family_step, is_attached_to, least_rows};
+ghost use Rattle.tpl_wide.specs.Case.{assumed_by, begun_below, ended_below, graph_by, IsCase};
+ghost use Rattle.tpl_wide.specs.Rows.{AreRows, IsRows};
 
 use crate::begun::begun_row;
 use crate::case::Case;
@@ -48,7 +48,7 @@ fn is_attached(graph: &Graph, task: TaskId) -> bool
 fn family(alloc: Global, case: &Case<'_>, rows: &mut Rows, task: TaskId) -> Result<(), AllocError>
     requires case { IsCase case.now }
     requires task { is_task (graph_by case.now) task.0 }
-    requires rows { AreRows (graph_by case.now) rows.old.rows.items rows.old }
+    requires rows { IsRows (graph_by case.now) rows.old }
     ensures { IfOk result (λ u. AreRows (graph_by case.now)
         (family_step (graph_by case.now) (assumed_by case.now) case.now.property task.0
         rows.old.rows.items) rows.new) }
@@ -62,14 +62,9 @@ fn family(alloc: Global, case: &Case<'_>, rows: &mut Rows, task: TaskId) -> Resu
 fn below(alloc: Global, case: &Case<'_>, rows: &mut Rows, task: TaskId) -> Result<(), AllocError>
     requires case { IsCase case.now }
     requires task { is_task (graph_by case.now) task.0 }
-    requires rows { AreRows (graph_by case.now) rows.old.rows.items rows.old }
-    ensures { IfOk result (λ u. AreRows (graph_by case.now)
-        (downwards (is_below (graph_by case.now) task.0)
-        (end_step (graph_by case.now) (assumed_by case.now) case.now.property)
-        (length (graph_by case.now).tasks)
-        (upwards (is_below (graph_by case.now) task.0)
-        (begin_step (graph_by case.now) (assumed_by case.now)) (length (graph_by case.now).tasks)
-        rows.old.rows.items)) rows.new) }
+    requires rows { IsRows (graph_by case.now) rows.old }
+    ensures { IfOk result (λ u. AreRows (graph_by case.now) (ended_below case.now task.0
+        (begun_below case.now task.0 rows.old.rows.items)) rows.new) }
 {
     if !has_attached(case.graph, task) {
         return Ok(());
@@ -82,11 +77,9 @@ fn below(alloc: Global, case: &Case<'_>, rows: &mut Rows, task: TaskId) -> Resul
 fn begin_below(alloc: Global, case: &Case<'_>, rows: &mut Rows, task: TaskId)
     requires case { IsCase case.now }
     requires task { is_task (graph_by case.now) task.0 }
-    requires rows { AreRows (graph_by case.now) rows.old.rows.items rows.old }
-    ensures { AreRows (graph_by case.now)
-        (upwards (is_below (graph_by case.now) task.0)
-        (begin_step (graph_by case.now) (assumed_by case.now)) (length (graph_by case.now).tasks)
-        rows.old.rows.items) rows.new }
+    requires rows { IsRows (graph_by case.now) rows.old }
+    ensures { AreRows (graph_by case.now) (begun_below case.now task.0 rows.old.rows.items)
+        rows.new }
 {
     case.graph.valid_law();
     let below = case.below.of(task);
@@ -107,11 +100,9 @@ fn end_below(
 ) -> Result<(), AllocError>
     requires case { IsCase case.now }
     requires task { is_task (graph_by case.now) task.0 }
-    requires rows { AreRows (graph_by case.now) rows.old.rows.items rows.old }
+    requires rows { IsRows (graph_by case.now) rows.old }
     ensures { IfOk result (λ u. AreRows (graph_by case.now)
-        (downwards (is_below (graph_by case.now) task.0)
-        (end_step (graph_by case.now) (assumed_by case.now) case.now.property)
-        (length (graph_by case.now).tasks) rows.old.rows.items) rows.new) }
+        (ended_below case.now task.0 rows.old.rows.items) rows.new) }
 {
     case.graph.valid_law();
     let below = case.below.of(task);
@@ -128,7 +119,7 @@ fn end_below(
 fn begin(alloc: Global, case: &Case<'_>, rows: &mut Rows, task: TaskId)
     requires case { IsCase case.now }
     requires task { is_task (graph_by case.now) task.0 }
-    requires rows { AreRows (graph_by case.now) rows.old.rows.items rows.old }
+    requires rows { IsRows (graph_by case.now) rows.old }
     ensures { AreRows (graph_by case.now)
         (begin_step (graph_by case.now) (assumed_by case.now) task.0 rows.old.rows.items) rows.new }
 {
@@ -140,7 +131,7 @@ fn begin(alloc: Global, case: &Case<'_>, rows: &mut Rows, task: TaskId)
 fn end(alloc: Global, case: &Case<'_>, rows: &mut Rows, task: TaskId) -> Result<(), AllocError>
     requires case { IsCase case.now }
     requires task { is_task (graph_by case.now) task.0 }
-    requires rows { AreRows (graph_by case.now) rows.old.rows.items rows.old }
+    requires rows { IsRows (graph_by case.now) rows.old }
     ensures { IfOk result (λ u. AreRows (graph_by case.now)
         (end_step (graph_by case.now) (assumed_by case.now) case.now.property task.0
         rows.old.rows.items) rows.new) }

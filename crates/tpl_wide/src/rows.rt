@@ -1,12 +1,11 @@
 //! Rows while they are worked out.
 
-ghost use Rattle.std.specs.Prelude.{◌≡◌, ◌<◌, List, IfOk, length, map, replicate, slice_set};
+ghost use Rattle.std.specs.Prelude.{◌≡◌, ◌<◌, IfOk, length, map, replicate, slice_set};
 ghost use Rattle.tpl_model.specs.Graph.{TaskGraph};
-ghost use Rattle.tpl_model.specs.WiderRules as wider;
 ghost use Rattle.tpl_laws.specs.LeastRows.{blank_row};
 ghost use Rattle.tpl_paths.specs.Reading.{end_of};
 ghost use Rattle.tpl_leaf.specs.Leaf.{row_end};
-ghost use Rattle.tpl_wide.specs.Rows.{AreRows};
+ghost use Rattle.tpl_wide.specs.Rows.{AreRows, IsRows};
 
 use std::alloc::{AllocError, Global};
 use tpl_graph::Graph;
@@ -40,8 +39,8 @@ impl Rows {
     pub(crate) fn put(&mut self, task: TaskId, row: WideRow)
         requires rows { task.0 < length self.old.rows.items }
         requires ends { task.0 < length self.old.ends.items }
-        ensures { (g : TaskGraph) (rows : List wider.WideRow) → AreRows g rows self.old
-            → AreRows g (slice_set rows task.0 row) self.new }
+        ensures { (g : TaskGraph) → IsRows g self.old
+            → AreRows g (slice_set self.old.rows.items task.0 row) self.new }
     {
         let at = task.0 as usize;
         self.ends[at] = end_of_row(&row);

@@ -41,27 +41,19 @@ with_end-on_faulted-requires t c = small_task t (goal.at.with_end-on_faulted-req
 
 pub returns-in_err-next-in-SplitWinner : goal.returns-in_err-next-in-SplitWinner
 returns-in_err-next-in-SplitWinner t c =
-    let a = c.args.assumed.now in
-    let n = c.in-SplitWinner.task in
-    let x = c.in-SplitWinner.argument in
     let on_yes : c.deref-in-SplitWinner.result.now ≡ c.in-SplitWinner.on_yes.value = cc (c.deref-in-SplitWinner.ensures) in
     let p = err_from_is_err_and c.from_residual-in_err-next-in-SplitWinner.result c.from_residual-in_err-next-in-SplitWinner.ensures.1 in
     rw (p.1, p.2)
-    (winner_fails (graph_in c.args.check.now) c.args.check.now.property c.args.check.now.claim c.args.first (wide_assumed a c.args.winners.now) (wide_assumed a c.as_slice.result.now) c.args.tree.now n.0 x.0 c.in-SplitWinner.on_yes.value c.in-SplitWinner.on_no.value c.deref-in-SplitWinner.result.now
-    (c.node.ensures ∙ ap wide_node_of c.in-SplitWinner.is)
-    (one_more_split a c.args.winners.now c.as_slice.result.now n x true (c.as_slice.ensures.value ∙ c.in_ok-yes-in-SplitWinner.ensures))
+    (winner_fails (graph_in c.args.check.now) c.args.check.now.property c.args.check.now.claim c.args.first (wide_assumed c.args.assumed.now c.args.winners.now) (c.node.ensures ∙ ap wide_node_of c.in-SplitWinner.is)
+    (one_more_split c.args.assumed.now c.args.winners.now c.as_slice.result.now c.in-SplitWinner.task c.in-SplitWinner.argument true (c.as_slice.ensures.value ∙ c.in_ok-yes-in-SplitWinner.ensures))
     on_yes c.in_err-next-in-SplitWinner.field-0.0 c.in_err-next-in-SplitWinner.ensures)
 
 pub returns-in_ok-next-in-SplitWinner : goal.returns-in_ok-next-in-SplitWinner
 returns-in_ok-next-in-SplitWinner t c =
-    let a = c.args.assumed.now in
-    let n = c.in-SplitWinner.task in
-    let x = c.in-SplitWinner.argument in
     let on_yes : c.deref-in-SplitWinner.result.now ≡ c.in-SplitWinner.on_yes.value = cc (c.deref-in-SplitWinner.ensures) in
     let on_no : c.deref-in-SplitWinner-2.result.now ≡ c.in-SplitWinner.on_no.value = cc (c.deref-in-SplitWinner-2.ensures) in
-    loser_decides (graph_in c.args.check.now) c.args.check.now.property c.args.check.now.claim c.args.first (wide_assumed a c.args.winners.now) (wide_assumed a c.as_slice.result.now) c.args.tree.now n.0 x.0 c.in-SplitWinner.on_yes.value c.in-SplitWinner.on_no.value c.deref-in-SplitWinner.result.now
-    (c.node.ensures ∙ ap wide_node_of c.in-SplitWinner.is)
-    (one_more_split a c.args.winners.now c.as_slice.result.now n x true (c.as_slice.ensures.value ∙ c.in_ok-yes-in-SplitWinner.ensures))
-    on_yes (wide_assumed a c.as_slice-in-SplitWinner.result.now) c.deref-in-SplitWinner-2.result.now c.in_ok-next-in-SplitWinner.next c.tree_fault-in-SplitWinner-2.result
-    (one_more_split a c.args.winners.now c.as_slice-in-SplitWinner.result.now n x false (c.as_slice-in-SplitWinner.ensures.value ∙ c.in_ok-no-in-SplitWinner.ensures))
+    loser_decides (graph_in c.args.check.now) c.args.check.now.property c.args.check.now.claim c.args.first (wide_assumed c.args.assumed.now c.args.winners.now) (c.node.ensures ∙ ap wide_node_of c.in-SplitWinner.is)
+    (one_more_split c.args.assumed.now c.args.winners.now c.as_slice.result.now c.in-SplitWinner.task c.in-SplitWinner.argument true (c.as_slice.ensures.value ∙ c.in_ok-yes-in-SplitWinner.ensures))
+    on_yes (wide_assumed c.args.assumed.now c.as_slice-in-SplitWinner.result.now) c.deref-in-SplitWinner-2.result.now c.in_ok-next-in-SplitWinner.next c.tree_fault-in-SplitWinner-2.result
+    (one_more_split c.args.assumed.now c.args.winners.now c.as_slice-in-SplitWinner.result.now c.in-SplitWinner.task c.in-SplitWinner.argument false (c.as_slice-in-SplitWinner.ensures.value ∙ c.in_ok-no-in-SplitWinner.ensures))
     on_no c.in_ok-next-in-SplitWinner.ensures.0 c.in_ok-next-in-SplitWinner.ensures.1 c.tree_fault-in-SplitWinner-2.ensures

@@ -18,6 +18,8 @@ returns c =
     let same : c.loop.rows.items ≡ replicate n blank_row = c.loop.invariant ∙ ap (λ k. replicate k blank_row) all in
     record {
       same = same;
-      count = length-replicate n blank_row;
-      ends = c.in_ok-ends.ensures ∙ ap (λ (xs : List WideRow). map row_end xs) (c.as_slice.ensures.value ∙ same);
+      kept = record {
+        count = ap (λ (xs : List WideRow). length xs) same ∙ length-replicate n blank_row;
+        ends = c.in_ok-ends.ensures ∙ ap (λ (xs : List WideRow). map row_end xs) c.as_slice.ensures.value;
+      };
     }
