@@ -7,6 +7,7 @@ pub mod BodyLemmas
 pub mod BelowLemmas
 pub mod ChainLemmas
 pub mod LastLemmas
+pub mod AllEndLemmas
 pub mod LeafLemmas
 pub mod Settling
 pub mod ShapeLemmas

@@ -4,3 +4,4 @@ pub mod Cut
 pub mod Bodies
 pub mod Last
 pub mod Leaves
+pub mod AllEnds

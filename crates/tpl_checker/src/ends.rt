@@ -13,6 +13,7 @@ ghost use Rattle.tpl_checker.specs.Assumptions.{assumed_of};
 ghost use Rattle.tpl_checker.specs.Bodies.{AreBodies};
 ghost use Rattle.tpl_graph.specs.Roles.{AreTasks};
 
+use crate::all_ends::AllEnds;
 use crate::assumptions::Assumptions;
 use crate::bodies::Bodies;
 use crate::rows::{excluded, implies, row, some_end};
@@ -220,24 +221,11 @@ fn all_end(rows: &[Row], args: &[TaskId]) -> Finals
     requires { AreTasks (length rows.now) args.now }
     ensures { (f : Final) → has result f ≡ all_may_end rows.now (map task_number args.now) f }
 {
-    let mut ran = true;
-    let mut final_all = true;
-    let mut none_faulted = true;
-    let mut canceled = false;
-    let mut faulted = false;
+    let mut found = AllEnds::none();
     for arg in args {
-        let ends = row(rows, *arg).ends();
-        ran = ran && ends.ran;
-        final_all = final_all && (ends.ran || ends.canceled || ends.faulted);
-        none_faulted = none_faulted && (ends.ran || ends.canceled);
-        canceled = canceled || ends.canceled;
-        faulted = faulted || ends.faulted;
+        found = found.with(row(rows, *arg).ends());
     }
-    Finals {
-        ran,
-        canceled: none_faulted && canceled,
-        faulted: final_all && faulted,
-    }
+    found.ends()
 }
 
 /// A WhenAny task ends RanToCompletion, once one argument has ended.

@@ -1,6 +1,7 @@
 //! The check of a certificate against the rules for its leaves.
 #![tactic(auto)]
 
+mod all_ends;
 mod assumptions;
 mod before;
 mod begins;
@@ -21,6 +22,7 @@ mod tree;
 mod verdict;
 mod view;
 
+pub use all_ends::AllEnds;
 pub use assumptions::Assumptions;
 pub use below::{Below, has_attached};
 pub use chain::{observes, reads, takes_over};

@@ -15,7 +15,7 @@ ghost use Rattle.tpl_leaf.specs.LeafRules.{has_to_end_as, kind_in, AreLeft};
 
 use crate::leaf::Leaf;
 use crate::ways::Ways;
-use tpl_checker::{ends_only_in, some_end};
+use tpl_checker::{AllEnds, ends_only_in, some_end};
 use tpl_graph::Role;
 use tpl_model::{Final, Finals, TaskId};
 
@@ -66,24 +66,11 @@ fn all_end(leaf: &Leaf<'_>, args: &[TaskId]) -> Finals
     ensures { (f : Final) → has result f ≡ all_may_end (plain (rows_in leaf.now))
         (map task_number args.now) f }
 {
-    let mut ran = true;
-    let mut final_all = true;
-    let mut none_faulted = true;
-    let mut canceled = false;
-    let mut faulted = false;
+    let mut found = AllEnds::none();
     for arg in args {
-        let ends = leaf.row(*arg).ends();
-        ran = ran && ends.ran;
-        final_all = final_all && (ends.ran || ends.canceled || ends.faulted);
-        none_faulted = none_faulted && (ends.ran || ends.canceled);
-        canceled = canceled || ends.canceled;
-        faulted = faulted || ends.faulted;
+        found = found.with(leaf.row(*arg).ends());
     }
-    Finals {
-        ran,
-        canceled: none_faulted && canceled,
-        faulted: final_all && faulted,
-    }
+    found.ends()
 }
 
 /// How a WhenAny task may end: RanToCompletion, if an argument may end that may win.
