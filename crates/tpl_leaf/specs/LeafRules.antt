@@ -14,8 +14,8 @@ use Rattle.tpl_leaf.specs.Leaf.{graph_of, assumed_in, rows_in}
 use Rattle.tpl_leaf.specs.Ways.{AreWays}
 
 -- the kind of a task, of WhenAny with those arguments alone that may win
-abbrev pub kind_in : Leaf → ℕ → TaskKind
-kind_in leaf t = kind_left (graph_of leaf) (assumed_in leaf) t
+abbrev pub kind_left_in : Leaf → ℕ → TaskKind
+kind_left_in leaf t = kind_left (graph_of leaf) (assumed_in leaf) t
 
 -- K1: a task of this kind has a row that runs, if it may begin
 abbrev pub runs_as : Leaf → ℕ → TaskKind → Bool

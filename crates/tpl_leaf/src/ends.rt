@@ -11,7 +11,7 @@ ghost use Rattle.tpl_graph.specs.Roles.{AreTasks};
 ghost use Rattle.tpl_laws.specs.RowTests.{all_may_end};
 ghost use Rattle.tpl_laws.specs.WiderTests.{wide_ends_by};
 ghost use Rattle.tpl_leaf.specs.Leaf.{graph_of, assumed_in, rows_in, IsLeaf};
-ghost use Rattle.tpl_leaf.specs.LeafRules.{has_to_end_as, kind_in, AreLeft};
+ghost use Rattle.tpl_leaf.specs.LeafRules.{has_to_end_as, kind_left_in, AreLeft};
 
 use crate::leaf::Leaf;
 use crate::ways::Ways;
@@ -25,7 +25,7 @@ pub(crate) fn ends(leaf: &Leaf<'_>, task: TaskId, ways: &Ways) -> bool
     requires task { is_task (graph_of leaf.now) task.0 }
     requires ways { AreLeft leaf.now task.0 ways.now }
     ensures { result ≡ wide_ends_by (graph_of leaf.now) (assumed_in leaf.now) (rows_in leaf.now)
-        task.0 (kind_in leaf.now task.0) }
+        task.0 (kind_left_in leaf.now task.0) }
 {
     ends_only_in(demanded(leaf, task, ways), leaf.row(task).ends())
 }
@@ -36,7 +36,7 @@ pub fn demanded(leaf: &Leaf<'_>, task: TaskId, ways: &Ways) -> Finals
     requires task { is_task (graph_of leaf.now) task.0 }
     requires ways { AreLeft leaf.now task.0 ways.now }
     ensures { (f : Final) → has result f
-        ≡ has_to_end_as leaf.now task.0 (kind_in leaf.now task.0) f }
+        ≡ has_to_end_as leaf.now task.0 (kind_left_in leaf.now task.0) f }
 {
     match leaf.graph.role(task) {
         Role::Root => ways.ends,

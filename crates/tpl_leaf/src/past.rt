@@ -11,7 +11,7 @@ ghost use Rattle.tpl_graph.specs.Roles.{AreTasks};
 ghost use Rattle.tpl_laws.specs.RowTests.{all_in, implies};
 ghost use Rattle.tpl_laws.specs.WiderTests.{each_ending, settled_below};
 ghost use Rattle.tpl_leaf.specs.Leaf.{graph_of, assumed_in, rows_in, IsLeaf};
-ghost use Rattle.tpl_leaf.specs.LeafRules.{ends_as, ends_by_ways, kind_in, AreLeft};
+ghost use Rattle.tpl_leaf.specs.LeafRules.{ends_as, ends_by_ways, kind_left_in, AreLeft};
 ghost use Rattle.tpl_leaf.specs.Ways.{holds_in_all};
 
 use crate::leaf::Leaf;
@@ -26,7 +26,7 @@ pub(crate) fn past(leaf: &Leaf<'_>, task: TaskId, ways: &Ways) -> bool
     requires task { is_task (graph_of leaf.now) task.0 }
     requires ways { AreLeft leaf.now task.0 ways.now }
     ensures { result ≡ each_ending (rows_in leaf.now) task.0
-        (ends_as leaf.now task.0 (kind_in leaf.now task.0)) }
+        (ends_as leaf.now task.0 (kind_left_in leaf.now task.0)) }
 {
     match end_facts(leaf, task, ways) {
         None => true,
@@ -40,7 +40,7 @@ pub fn end_facts(leaf: &Leaf<'_>, task: TaskId, ways: &Ways) -> Option<Facts>
     requires task { is_task (graph_of leaf.now) task.0 }
     requires ways { AreLeft leaf.now task.0 ways.now }
     ensures { (f : Fact) → holds_in_all result f
-        ≡ ends_as leaf.now task.0 (kind_in leaf.now task.0) f }
+        ≡ ends_as leaf.now task.0 (kind_left_in leaf.now task.0) f }
 {
     match leaf.graph.role(task) {
         Role::Root => in_all_ways(leaf, task, ways),

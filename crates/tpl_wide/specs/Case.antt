@@ -16,10 +16,11 @@ graph_by case = case.graph.now.graph
 abbrev pub assumed_by : Case → WideAssumed
 assumed_by case = wide_assumed case.assumed.now case.winners.now
 
--- the rows once all tasks below t have begun, and once they have ended
+-- the rows once all tasks below t have begun
 abbrev pub begun_below : Case → ℕ → List WideRow → List WideRow
 begun_below case t = upwards (is_below (graph_by case) t) (begin_step (graph_by case) (assumed_by case)) (length (graph_by case).tasks)
 
+-- the rows once these have ended
 abbrev pub ended_below : Case → ℕ → List WideRow → List WideRow
 ended_below case t = downwards (is_below (graph_by case) t) (end_step (graph_by case) (assumed_by case) case.property) (length (graph_by case).tasks)
 

@@ -4,16 +4,16 @@ use Rattle.tpl_trees.specs.WideCoding.{tokens_in}
 use Rattle.tpl_laws.specs.LeastRows.{tasks_where, tokens_where}
 use Rattle.tpl_leaf.specs.declared.leaf.Leaf.{Leaf}
 use Rattle.tpl_leaf.specs.Leaf.{graph_of}
-use Rattle.tpl_leaf.specs.LeafRules.{ends_as, kind_in}
+use Rattle.tpl_leaf.specs.LeafRules.{ends_as, kind_left_in}
 use Rattle.tpl_wide.proofs.RowLemmas.{no_tokens_in}
 use Rattle.tpl_wide.proofs.ended.said_of_end.Goals as goal
 
 -- what may be said of the end of a task, if it ends
 abbrev past_if : Leaf → ℕ → Bool → List ℕ
-past_if leaf t b = if b then tasks_where (graph_of leaf) (λ x. ends_as leaf t (kind_in leaf t) (IsSettled x)) else []
+past_if leaf t b = if b then tasks_where (graph_of leaf) (λ x. ends_as leaf t (kind_left_in leaf t) (IsSettled x)) else []
 
 abbrev asks_if : Leaf → ℕ → Bool → List ℕ
-asks_if leaf t b = if b then tokens_where (graph_of leaf) (λ k. ends_as leaf t (kind_in leaf t) (IsRequested k)) else []
+asks_if leaf t b = if b then tokens_where (graph_of leaf) (λ k. ends_as leaf t (kind_left_in leaf t) (IsRequested k)) else []
 
 pub returns-then-not-some_end-clause-tasks : goal.returns-then-not-some_end-clause-tasks
 returns-then-not-some_end-clause-tasks c p = c.empty.ensures ∙ ap (past_if c.args.leaf.now c.args.task.0) (sym c.if-not-some_end.true ∙ c.some_end.ensures)
