@@ -141,7 +141,10 @@ def body_at(lines, first, indent):
     """The line on which the body of the function of line `first` opens, or None."""
     for at in range(first, len(lines)):
         line = lines[at]
-        inner = line[len(indent) :] if line.startswith(indent) else ""
+        if line and not line.startswith(indent):
+            # the trait ends here
+            return None
+        inner = line[len(indent) :]
         if at > first and inner == "{":
             return at
         is_head = inner and not inner.startswith(" ")

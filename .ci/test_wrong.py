@@ -178,6 +178,10 @@ class TestPlaces:
         (wide,) = edits.functions_of("src/lib.rt", text)
         assert (wide.path, text[wide.at : wide.end]) == ("wide", "{\n    it\n}")
 
+    def test_a_method_of_a_trait_has_no_body(self):
+        text = "trait Same {\n    fn same(&self) -> bool\n        ensures { result };\n}\n\nfn all() -> bool {\n    if true {\n    }\n    true\n}\n"
+        assert [it.path for it in edits.functions_of("src/lib.rt", text)] == ["all"]
+
     def test_outside_of_bodies(self):
         for old in ("MOST: u8 = 9", "    first: u8,", "self.now.first < 9", "result ≡", "pub fn both", "use crate::other"):
             assert crate().places(edit("a", old, "x")) is None
