@@ -1,6 +1,5 @@
 #!/usr/bin/env python3
 """The picture of a document, worked out by the rules of docs/PICTURES.md alone. As a script it draws the examples."""
-import argparse
 import collections
 import json
 import pathlib
@@ -8,7 +7,7 @@ import sys
 from typing import NamedTuple
 
 import tokens
-from harness import HERE, TOP, examples
+from harness import HERE, examples, tell_kept
 from rules import split_on
 from small import Graph
 from stood import statuses
@@ -315,20 +314,15 @@ def drawn_examples():
 
 
 def main() -> int:
-    where = PICTURES.relative_to(TOP)
-    parser = argparse.ArgumentParser(description=f"Draws the examples by the rules, and says which files of {where}/ differ.")
-    parser.add_argument("--write", action="store_true", help="write these files anew")
-    given = parser.parse_args()
-    differ = 0
-    for name, document in drawn_examples():
-        for language in LANGUAGES:
-            kept, text = kept_picture(name, language), picture(document, language, accepted(document))
-            if not kept.exists() or kept.read_text(encoding="utf-8") != text:
-                print(kept.relative_to(TOP))
-                differ += 1
-                if given.write:
-                    kept.write_text(text, encoding="utf-8")
-    return int(differ > 0 and not given.write)
+    return tell_kept(
+        "Draws",
+        PICTURES,
+        (
+            (kept_picture(name, language), picture(document, language, accepted(document)))
+            for name, document in drawn_examples()
+            for language in LANGUAGES
+        ),
+    )
 
 
 if __name__ == "__main__":

@@ -1,4 +1,5 @@
 """What the tests of this folder share: the cases of its TOML files, and the program, called with words and input."""
+import argparse
 import base64
 import dataclasses
 import functools
@@ -9,7 +10,7 @@ import re
 import shlex
 import subprocess
 import tomllib
-from collections.abc import Iterator, Mapping
+from collections.abc import Iterable, Iterator, Mapping
 
 HERE = pathlib.Path(__file__).resolve().parent
 TOP = HERE.parent
@@ -154,6 +155,21 @@ def case_named(file: str, name: str) -> Case:
     """The case of this name."""
     (found,) = (case for case in cases_of(file) if case.name == name)
     return found
+
+
+def tell_kept(does: str, where: pathlib.Path, texts: Iterable[tuple[pathlib.Path, str]]) -> int:
+    """The command of a script that makes the files of a folder: says which of them differ from these texts, or writes them
+    anew. It is the exit status: 1 where one differs and is left so."""
+    folder = where.relative_to(TOP)
+    parser = argparse.ArgumentParser(description=f"{does} the examples by the rules, and says which files of {folder}/ differ.")
+    parser.add_argument("--write", action="store_true", help="write these files anew")
+    given = parser.parse_args()
+    differ = [(kept, text) for kept, text in texts if not kept.exists() or kept.read_text(encoding="utf-8") != text]
+    for kept, text in differ:
+        print(kept.relative_to(TOP))
+        if given.write:
+            kept.write_text(text, encoding="utf-8")
+    return int(bool(differ) and not given.write)
 
 
 def examples() -> list[pathlib.Path]:

@@ -1,12 +1,11 @@
 #!/usr/bin/env python3
 """The trace of a document's journal, worked out by the rules of docs/PICTURES.md alone. As a script it traces the examples."""
-import argparse
 import json
 import math
 import pathlib
 import sys
 
-from harness import HERE, TOP, compact, examples
+from harness import HERE, compact, examples, tell_kept
 
 TRACES = HERE / "traces"
 SEATS_BEHIND = 64
@@ -97,20 +96,12 @@ def kept_trace(name: str) -> pathlib.Path:
 
 
 def main() -> int:
-    where = TRACES.relative_to(TOP)
-    parser = argparse.ArgumentParser(description=f"Traces the examples by the rules, and says which files of {where}/ differ.")
-    parser.add_argument("--write", action="store_true", help="write these files anew")
-    given = parser.parse_args()
-    differ = 0
-    for file in examples():
-        document = json.loads(file.read_text(encoding="utf-8"))
-        kept = kept_trace(file.stem)
-        if "journal" in document and not (kept.exists() and kept.read_text(encoding="utf-8") == trace(document)):
-            print(kept.relative_to(TOP))
-            differ += 1
-            if given.write:
-                kept.write_text(trace(document), encoding="utf-8")
-    return int(differ > 0 and not given.write)
+    documents = ((file, json.loads(file.read_text(encoding="utf-8"))) for file in examples())
+    return tell_kept(
+        "Traces",
+        TRACES,
+        ((kept_trace(file.stem), trace(document)) for file, document in documents if "journal" in document),
+    )
 
 
 if __name__ == "__main__":
