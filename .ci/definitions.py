@@ -2,7 +2,8 @@
 
 A definition is one item of a file of specs/: its signature with its clauses, a record, or a type with its cases. It rests
 on each name that its text has, as the imports of its file resolve it. Where that is unsure it is counted: a name in a
-pattern that is also a definition's counts, all items of one `mutual` count together, and so do all views of a type.
+pattern that is also a definition's counts, all items of one `mutual` count together, and so do all views of a type. A
+file that passes names on, as a crate's `Prelude`, is followed to where they are defined: its own lines are imports.
 """
 import functools
 import pathlib

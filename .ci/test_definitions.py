@@ -117,18 +117,39 @@ pub struct Unit {
 }
 """
 
+FACADE = """-- Passed on.
+pub use Rattle.low.specs.Shapes.{◌⨾◌, Box, unused}
+pub use Rattle.low.specs.Again.{count as number}
+pub use Rattle.low.specs.declared.words.Size.{Size}
+"""
+
+THROUGH_FACADE = """ghost use Rattle.low.specs.Prelude.{◌⨾◌, Box, Size, number};
+ghost use Rattle.low.specs.Shapes as shapes;
+
+/// Draws.
+pub fn draw()
+    ensures box { Box }
+    ensures one { IsOne number }
+    ensures put { s ⨾ rest }
+    ensures size { Size }
+    ensures by_module { shapes.two 1 }
+{}
+"""
+
 
 @pytest.fixture
 def repository(tmp_path) -> definitions.Repository:
     """A repository of two crates."""
     files = {
-        "low/specs/Lib.antt": "pub mod Shapes\npub mod Again\n",
+        "low/specs/Lib.antt": "pub mod Shapes\npub mod Again\npub mod Prelude\n",
         "low/specs/Shapes.antt": SHAPES,
         "low/specs/Again.antt": "pub use Rattle.low.specs.Shapes.{count}\n",
+        "low/specs/Prelude.antt": FACADE,
         "low/src/words.rt": WORDS,
         "high/specs/Lib.antt": "pub mod High\n",
         "high/specs/High.antt": HIGH,
         "high/src/pen.rt": CODE,
+        "high/src/draw.rt": THROUGH_FACADE,
     }
     for name, text in files.items():
         path = tmp_path / "crates" / name
@@ -185,6 +206,30 @@ def test_the_clauses_of_a_function_are_followed(repository):
     assert titles(first) == {"unused", "by_its_module", "two"}
     assert titles(both) == titles(first) | {"chained", "◌>>=◌", "Shape"}
     assert {it.name for it in first.types} == {"Size", "Unit", "Word"}
+
+
+@pytest.mark.parametrize(
+    "clause, names, types",
+    [
+        ("box", {"Box", "Shape", "two"}, {"Word"}),
+        ("one", {"count", "Shape"}, set()),
+        ("put", {"Shape"}, set()),
+        ("size", set(), {"Size", "Unit"}),
+        ("by_module", {"two"}, set()),
+    ],
+)
+def test_a_facade_is_followed_and_counts_as_imports(repository, clause, names, types):
+    reach = repository.reach(repository.of_function(repository.crates / "high/src/draw.rt", "draw", [clause]))
+    assert titles(reach) == names and {it.name for it in reach.types} >= types
+    assert all(item.file.name == "Shapes.antt" for item in reach.items)
+    assert not definitions.said(repository.crates / "low/specs/Prelude.antt")
+
+
+def test_a_facade_that_passes_on_what_is_not_there_is_told(repository):
+    path = repository.crates / "low/specs/Prelude.antt"
+    path.write_text(FACADE.replace("unused", "gone"), encoding="utf-8")
+    with pytest.raises(LookupError):
+        repository.of_function(repository.crates / "high/src/draw.rt", "draw", ["box"])
 
 
 def test_a_bound_counts_where_a_clause_names_it(repository):

@@ -79,6 +79,8 @@ def forms(kind):
     found = set()
     for text in definitions(KINDS[kind][0]).values():
         found |= {frozenset([name]) for name in re.findall(r'name_at \(codes "(\w+)"\)', text)}
+        said = re.findall(r'(?:task|pair)_said version \(codes "(\w+)"\)', text)
+        found |= {frozenset({"given", name} | added("claim")) for name in said}
         for names, more in re.findall(MEMBERS, text):
             version_3 = set() if more == "[]" else added("top" if more.startswith("added") else more.split("_")[0])
             found.add(frozenset(words(names) | version_3))
@@ -175,14 +177,15 @@ def third_rows():
 def third_claims():
     """The members by which the claims go that only version 3 has."""
     text = read("crates/tpl_parts/specs/Claims.antt")
-    return set(re.findall(r'is_third version then object_of \(codes "given" ∷ codes "(\w+)"', text))
+    return set(re.findall(r'is_third version then \w+ <\$> task_said version \(codes "(\w+)"\)', text))
 
 
 def third_given():
     """The first member of each thing that may be given in version 3 only."""
     defined = definitions(KINDS["given"][0])
-    names = re.findall(r"\w+_at\b", defined["end_or_job"])
-    return {re.search(r'object_of \(codes "(\w+)"', defined[name])[1] for name in names}
+    text = defined["end_or_job"]
+    objects = {re.search(r'object_of \(codes "(\w+)"', defined[name])[1] for name in re.findall(r"(\w+_at) d\b", text)}
+    return objects | set(re.findall(r'name_at \(codes "(\w+)"\)', text))
 
 
 # ---- the page
@@ -267,22 +270,27 @@ MORE_FORMS = {"Task", "Graph"}
 
 def table():
     """The members of each form in version 3, by its name, those that it needs first."""
-    third, _, second = read(FORMS).partition("fn names_of_second")
-    found = {}
-    for text in (second, third):
-        for name, names in re.findall(r"Form::(\w+) => &\[([^\]]*)\]", text.partition("fn is_object")[0]):
-            if names and not names.strip().startswith("Form::"):
-                found[name] = re.findall(r'"(\w+)"', names)
+    text = read(FORMS).partition("fn all_names")[2].partition("fn is_object")[0]
+    found = {name: re.findall(r'"(\w+)"', names) for name, names in re.findall(r"Form::(\w+) => &\[([^\]]*)\]", text)}
     return {name: names for name, names in found.items() if name not in MORE_FORMS}
+
+
+def counted(function, otherwise):
+    """The number that a function of the table gives each form that it names, and how it calls the rest."""
+    arms = read(FORMS).partition(f"fn {function}")[2].partition(f"_ => {otherwise}")[0]
+    found = re.findall(r"((?:Form::\w+\s*\|?\s*)+)=> ([\w:]+)", arms)
+    return {name: count for named, count in found for name in re.findall(r"Form::(\w+)", named)}
 
 
 def needed(name):
     """How many of its members an object of this form has to have."""
-    arms = read(FORMS).partition("fn needed")[2].partition("_ => 2")[0]
-    for named, count in re.findall(r"((?:Form::\w+\s*\|?\s*)+)=> (\d)", arms):
-        if name in re.findall(r"Form::(\w+)", named):
-            return int(count)
-    return 2
+    return int(counted("needed", 2).get(name, 2))
+
+
+def added_names(name):
+    """The members of this form that version 3 adds."""
+    count = counted("added", 0).get(name, "0")
+    return table()[name] if count == "usize::MAX" else table()[name][len(table()[name]) - int(count) :]
 
 
 def test_reasons_have_the_members():
@@ -290,10 +298,9 @@ def test_reasons_have_the_members():
 
 
 def test_reasons_say_what_version_3_adds():
-    second = read(FORMS).partition("fn names_of_second")[2].partition("fn is_object")[0]
-    older = {name: re.findall(r'"(\w+)"', names) for name, names in re.findall(r"Form::(\w+) => &\[([^\]]*)\]", second)}
-    assert set(table()["Row"]) - set(older["Row"]) == third_rows()
-    assert {table()[name][0] for name in table() if name.startswith("Split") and name not in older} == third_trees()
+    assert set(added_names("Row")) == third_rows()
+    splits = {name: names for name, names in table().items() if name.startswith("Split")}
+    assert {names[0] for name, names in splits.items() if added_names(name) == names} == third_trees()
 
 
 def test_reasons_say_what_may_be_left_out():

@@ -5,3 +5,4 @@ pub mod Gaps
 pub mod Questions
 pub mod Slim
 pub mod Plans
+pub mod Prelude

@@ -2,10 +2,9 @@
 //! tasks.
 
 ghost use Rattle.std.specs.Prelude.{◌≡◌, ◌<◌};
-ghost use Rattle.tpl_model.specs.Certificate.{with_end, with_input};
-ghost use Rattle.tpl_model.specs.Graph.{is_task};
-ghost use Rattle.tpl_checker.specs.Assumptions.{assumed_of};
-ghost use Rattle.tpl_analyser.specs.Questions.{IsReady};
+ghost use Rattle.tpl_analyser.specs.Prelude.{IsReady};
+ghost use Rattle.tpl_checker.specs.Prelude.{assumed_of};
+ghost use Rattle.tpl_model.specs.Prelude.{is_task, with_end, with_input};
 
 use crate::premises::Premises;
 use crate::question::Question;

@@ -1,19 +1,14 @@
 //! The search for a certificate by the rules that know neither of tokens nor of winners.
 
-ghost use Rattle.std.specs.Prelude.{◌≡◌, ◌≤◌, IfOk, IfErr, IfSome, None, false};
-ghost use Rattle.std.specs.List.{All};
-ghost use Rattle.tpl_trees.specs.Heights.{height};
-ghost use Rattle.tpl_graph.specs.Fits.{Fits};
-ghost use Rattle.tpl_model.specs.Certificate.{Accepts, assumed_for};
+ghost use Rattle.std.specs.Prelude.{◌≤◌, IfOk, IfErr, IfSome, None, false, All};
+ghost use Rattle.tpl_analyser.specs.Prelude.{IsCertificateOf, IsFound, IsGap, IsSplitOf};
+ghost use Rattle.tpl_checker.specs.Prelude.{AreBelow};
+ghost use Rattle.tpl_graph.specs.Prelude.{Fits};
+ghost use Rattle.tpl_leaf.specs.Prelude.{AreLinks};
+ghost use Rattle.tpl_model.specs.Prelude.{Accepts, assumed_for};
 ghost use Rattle.tpl_model.specs.declared.rule_set.RuleSet.TheVariants.{Narrow};
-ghost use Rattle.tpl_checker.specs.Below.{AreBelow};
-ghost use Rattle.tpl_analyser.specs.Found.{IsFound};
-ghost use Rattle.tpl_analyser.specs.Gaps.{IsGap};
-ghost use Rattle.tpl_analyser.specs.Questions.{IsReady};
-ghost use Rattle.tpl_analyser.specs.Slim.{IsCertificateOf};
-ghost use Rattle.tpl_analyser.specs.Splits.{IsSplitOf};
-ghost use Rattle.tpl_leaf.specs.Links.{AreLinks};
-ghost use Rattle.tpl_outline.specs.Stages.{IsStageOf};
+ghost use Rattle.tpl_outline.specs.Prelude.{IsStageOf};
+ghost use Rattle.tpl_trees.specs.Prelude.{height};
 
 use crate::branch::Branch;
 use crate::budget::{Budget, Leaves};

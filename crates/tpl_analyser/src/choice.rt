@@ -1,6 +1,6 @@
 //! Which splits are tried at a node of the search.
 
-ghost use Rattle.tpl_analyser.specs.Questions.{IsReady};
+ghost use Rattle.tpl_analyser.specs.Prelude.{IsReady};
 
 use crate::branch::Branch;
 use crate::budget::Budget;

@@ -1,6 +1,6 @@
 //! The tasks and inputs that bear on a property.
 
-ghost use Rattle.tpl_model.specs.Graph.{is_task};
+ghost use Rattle.tpl_model.specs.Prelude.{is_task};
 
 use crate::asked::asks_for;
 use crate::split::Split;

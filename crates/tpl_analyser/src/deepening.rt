@@ -1,8 +1,7 @@
 //! Plans with as few splits as one is found with.
 
 ghost use Rattle.std.specs.Prelude.{◌<◌};
-ghost use Rattle.tpl_analyser.specs.Plans.{IsPlanIfAny};
-ghost use Rattle.tpl_analyser.specs.Questions.{IsReady};
+ghost use Rattle.tpl_analyser.specs.Prelude.{IsPlanIfAny, IsReady};
 
 use crate::branch::Branch;
 use crate::budget::Budget;

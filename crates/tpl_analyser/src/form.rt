@@ -1,9 +1,8 @@
 //! The forms of a leaf: what its rows say in `before` and `past`.
 
-ghost use Rattle.std.specs.Prelude.{◌≡◌, ℕ, true, ◌&&◌, IfOk};
-ghost use Rattle.std.specs.List.{All};
-ghost use Rattle.tpl_model.specs.Members.{mem};
-ghost use Rattle.tpl_analyser.specs.Slim.{AreOfForm, IsSlimRow, IsUsed};
+ghost use Rattle.std.specs.Prelude.{◌≡◌, ℕ, true, ◌&&◌, IfOk, All};
+ghost use Rattle.tpl_analyser.specs.Prelude.{AreOfForm, IsSlimRow, IsUsed};
+ghost use Rattle.tpl_model.specs.Prelude.{mem};
 
 use std::alloc::{AllocError, Global};
 use tpl_model::{MOST_TASKS, Property, TaskSet};

@@ -1,10 +1,8 @@
 //! Builds and tests a leaf.
 
-ghost use Rattle.std.specs.Prelude.{◌≡◌, IfOk, IfSome};
-ghost use Rattle.tpl_checker.specs.Assumptions.{assumed_of};
-ghost use Rattle.tpl_analyser.specs.Found.{IsFound};
-ghost use Rattle.tpl_analyser.specs.Questions.{IsReady};
-ghost use Rattle.tpl_analyser.specs.Slim.{AreOfForm};
+ghost use Rattle.std.specs.Prelude.{IfOk, IfSome};
+ghost use Rattle.tpl_analyser.specs.Prelude.{AreOfForm, IsFound, IsReady};
+ghost use Rattle.tpl_checker.specs.Prelude.{assumed_of};
 
 use crate::branch::Branch;
 use crate::budget::Budget;

@@ -1,13 +1,11 @@
 //! Plans of trees, and the trees that are made of them by the narrow rules.
 
 ghost use Rattle.std.specs.Prelude.{◌≡◌, IfOk, IfSome};
+ghost use Rattle.tpl_analyser.specs.Prelude.{HasSplitsOf, IsFound, IsReady};
+ghost use Rattle.tpl_checker.specs.Prelude.{assumed_of};
+ghost use Rattle.tpl_model.specs.Prelude.{LeastLeaf, OnEnd, OnInput, OnWinner};
 ghost use Rattle.tpl_model.specs.Certificate.{SplitEnd, SplitInput};
-ghost use Rattle.tpl_model.specs.WiderRules.{LeastLeaf, OnEnd, OnInput, OnWinner};
-ghost use Rattle.tpl_trees.specs.WideHeights.{wide_height};
-ghost use Rattle.tpl_checker.specs.Assumptions.{assumed_of};
-ghost use Rattle.tpl_analyser.specs.Found.{IsFound};
-ghost use Rattle.tpl_analyser.specs.Plans.{HasSplitsOf};
-ghost use Rattle.tpl_analyser.specs.Questions.{IsReady};
+ghost use Rattle.tpl_trees.specs.Prelude.{wide_height};
 
 use crate::branch::Branch;
 use crate::leaf::leaf;

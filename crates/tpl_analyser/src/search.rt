@@ -3,10 +3,8 @@
 //! found.
 
 ghost use Rattle.std.specs.Prelude.{◌≡◌, ◌<◌, ◌+◌};
-ghost use Rattle.tpl_model.specs.Graph.{is_task};
-ghost use Rattle.tpl_analyser.specs.Plans.{IsPlanIfAny};
-ghost use Rattle.tpl_analyser.specs.Questions.{IsReady};
-ghost use Rattle.tpl_analyser.specs.Splits.{IsSplitOf};
+ghost use Rattle.tpl_analyser.specs.Prelude.{IsPlanIfAny, IsReady, IsSplitOf};
+ghost use Rattle.tpl_model.specs.Prelude.{is_task};
 
 use crate::branch::Branch;
 use crate::budget::Budget;

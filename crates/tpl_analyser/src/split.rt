@@ -1,9 +1,8 @@
 //! The splits that a search may make, and their branches.
 
-ghost use Rattle.std.specs.Prelude.{IfOk, OnOk};
-ghost use Rattle.std.specs.List.{All};
-ghost use Rattle.tpl_model.specs.Graph.{is_task};
-ghost use Rattle.tpl_analyser.specs.Splits.{IsSplitOf};
+ghost use Rattle.std.specs.Prelude.{IfOk, OnOk, All};
+ghost use Rattle.tpl_analyser.specs.Prelude.{IsSplitOf};
+ghost use Rattle.tpl_model.specs.Prelude.{is_task};
 
 use crate::premises::Premises;
 use crate::win::{MOST_WINNERS, Win};

@@ -1,6 +1,6 @@
 //! One way through the splits, on which as little as possible is proved.
 
-ghost use Rattle.tpl_analyser.specs.Questions.{IsReady};
+ghost use Rattle.tpl_analyser.specs.Prelude.{IsReady};
 
 use crate::branch::Branch;
 use crate::budget::Budget;

@@ -1,23 +1,16 @@
 //! The search for a certificate by the rules that know of tokens and of winners.
 
-ghost use Rattle.std.specs.Prelude.{◌≡◌, ◌≤◌, [], IfOk, IfErr, IfSome};
-ghost use Rattle.std.specs.List.{All};
-ghost use Rattle.tpl_trees.specs.WideHeights.{wide_height};
-ghost use Rattle.tpl_graph.specs.Fits.{Fits};
-ghost use Rattle.tpl_model.specs.WiderRules.{widely_assumed};
+ghost use Rattle.std.specs.Prelude.{◌≤◌, [], IfOk, IfErr, IfSome, All};
+ghost use Rattle.tpl_analyser.specs.Prelude.{HasLeavesOf, IsGap, IsPlan, IsPlanIfAny, IsReady, IsSplitOf, IsWidelyFound};
+ghost use Rattle.tpl_checker.specs.Prelude.{AreBelow};
+ghost use Rattle.tpl_graph.specs.Prelude.{Fits};
+ghost use Rattle.tpl_laws.specs.Prelude.{WidelyAccepts};
+ghost use Rattle.tpl_leaf.specs.Prelude.{AreLinks, wide_assumed};
+ghost use Rattle.tpl_model.specs.Prelude.{widely_assumed};
 ghost use Rattle.tpl_model.specs.declared.rule_set.RuleSet.TheVariants.{Wide};
-ghost use Rattle.tpl_laws.specs.WideTrees.{WidelyAccepts};
-ghost use Rattle.tpl_checker.specs.Below.{AreBelow};
-ghost use Rattle.tpl_leaf.specs.Leaf.{wide_assumed};
-ghost use Rattle.tpl_leaf.specs.Links.{AreLinks};
-ghost use Rattle.tpl_wide.specs.Check.{IsCheck, graph_in};
-ghost use Rattle.tpl_analyser.specs.Gaps.{IsGap};
-ghost use Rattle.tpl_analyser.specs.Plans.{IsPlan, IsPlanIfAny};
-ghost use Rattle.tpl_analyser.specs.Questions.{IsReady};
-ghost use Rattle.tpl_analyser.specs.Slim.{HasLeavesOf};
-ghost use Rattle.tpl_analyser.specs.Splits.{IsSplitOf};
-ghost use Rattle.tpl_analyser.specs.WideFound.{IsWidelyFound};
-ghost use Rattle.tpl_outline.specs.Stages.{IsStageOf};
+ghost use Rattle.tpl_outline.specs.Prelude.{IsStageOf};
+ghost use Rattle.tpl_trees.specs.Prelude.{wide_height};
+ghost use Rattle.tpl_wide.specs.Prelude.{IsCheck, graph_in};
 
 use crate::branch::Branch;
 use crate::budget::Budget;

@@ -1,11 +1,10 @@
 //! Trees of plans, with the rows of their leaves or without them.
 
 ghost use Rattle.std.specs.Prelude.{◌≡◌, ◌<◌, IfOk};
-ghost use Rattle.tpl_model.specs.WiderRules.{OnEnd, OnInput, OnWinner};
-ghost use Rattle.tpl_trees.specs.WideHeights.{wide_height};
-ghost use Rattle.tpl_wide.specs.Check.{IsCheck, graph_in};
-ghost use Rattle.tpl_analyser.specs.Plans.{HasNoRows, HasSplitsOf};
-ghost use Rattle.tpl_analyser.specs.Slim.{HasAllRows, HasLeavesOf};
+ghost use Rattle.tpl_analyser.specs.Prelude.{HasAllRows, HasLeavesOf, HasNoRows, HasSplitsOf};
+ghost use Rattle.tpl_model.specs.Prelude.{OnEnd, OnInput, OnWinner};
+ghost use Rattle.tpl_trees.specs.Prelude.{wide_height};
+ghost use Rattle.tpl_wide.specs.Prelude.{IsCheck, graph_in};
 
 use crate::form::Form;
 use crate::plan::{end_plan, input_plan, winner_plan};

@@ -1,7 +1,7 @@
 -- The first task that has not ended as is said of it.
 use Rattle.std.proofs.Common.{◌≡◌, ℕ, ◌+◌, ◌<◌, ◌≤◌, Bool, true, false, if◌then◌else◌, Option, Some, None, List, [], ◌∷◌, ◌++◌, length, get_or, take, refl, sym, subst, arith}
 use Rattle.std.specs.Prelude.{nat_lt}
-use Rattle.std.specs.List.{All}
+use Rattle.std.specs.List.{All, Contains}
 use Rattle.std.proofs.lemmas.Bool.{ltb-true, ltb-false}
 use Rattle.std.proofs.lemmas.List.{take_all, take_more}
 use Rattle.std.proofs.lemmas.List.Elements.{All-nil, All-append, Contains-append_left, Contains-append_right}
@@ -15,23 +15,14 @@ use Rattle.tpl_audit.specs.Ending.{EndsSo, IsOtherEnd, FirstOtherEnd, first_of}
 module _ (g : TaskGraph) (v : List Bool) (h : List Event) where
   -- the first one of two lists
   module _ (xs ys : List (TaskId × Final)) where
+    of_both : (zs : List (TaskId × Final)) (one : OtherEnd) → IsOtherEnd g v h zs one → Contains (xs ++ ys) (one.task, one.said) → All (λ said. said.0.0 < one.task.0 → EndsSo g v h said) (xs ++ ys) → IsOtherEnd g v h (xs ++ ys) one
+    of_both zs one is there earlier = record { task = is.task; said = there; differs = is.differs; stands = is.stands; earlier = earlier }
+
     stays : (one : OtherEnd) → IsOtherEnd g v h xs one → All (λ said. said.0.0 < one.task.0 → EndsSo g v h said) ys → IsOtherEnd g v h (xs ++ ys) one
-    stays one is rest = record {
-      task = is.task;
-      said = Contains-append_left xs ys (one.task, one.said) is.said;
-      differs = is.differs;
-      stands = is.stands;
-      earlier = All-append (λ said. said.0.0 < one.task.0 → EndsSo g v h said) xs ys is.earlier rest;
-    }
+    stays one is rest = of_both xs one is (Contains-append_left xs ys (one.task, one.said) is.said) (All-append (λ said. said.0.0 < one.task.0 → EndsSo g v h said) xs ys is.earlier rest)
 
     comes : (other : OtherEnd) → IsOtherEnd g v h ys other → All (λ said. said.0.0 < other.task.0 → EndsSo g v h said) xs → IsOtherEnd g v h (xs ++ ys) other
-    comes other is first = record {
-      task = is.task;
-      said = Contains-append_right xs ys (other.task, other.said) is.said;
-      differs = is.differs;
-      stands = is.stands;
-      earlier = All-append (λ said. said.0.0 < other.task.0 → EndsSo g v h said) xs ys first is.earlier;
-    }
+    comes other is first = of_both ys other is (Contains-append_right xs ys (other.task, other.said) is.said) (All-append (λ said. said.0.0 < other.task.0 → EndsSo g v h said) xs ys first is.earlier)
 
     pub first_of_both : (one other : Option OtherEnd) → FirstOtherEnd g v h xs one → FirstOtherEnd g v h ys other → FirstOtherEnd g v h (xs ++ ys) (first_of one other)
     first_of_both None None all rest = All-append (EndsSo g v h) xs ys all rest

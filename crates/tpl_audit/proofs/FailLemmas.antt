@@ -2,9 +2,9 @@
 use Rattle.std.proofs.Common.{◌≡◌, ℕ, zero, suc, ◌+◌, ◌<◌, ◌≤◌, ◌++◌, Bool, true, false, if◌then◌else◌, Option, Some, None, List, [], ◌∷◌, length, get_or, take, drop, reverse, refl, sym, ap, ◌∙◌, subst, nat_eq, ⊎_elim, arith}
 use Rattle.std.specs.Prelude.{IfSome, slice_get, nat_le, nat_lt}
 use Rattle.std.proofs.lemmas.Bool.{or_cases, eqb-true, ltb-true, ltb-false, lt-leb}
-use Rattle.std.proofs.lemmas.List.{take_all, reverse-append, length-reverse, take-append-drop}
-use Rattle.std.proofs.lemmas.List.Elements.{All-head, All-tail, All-nil, All-more}
-use Rattle.std.proofs.lemmas.Option.{slice_get-get_or}
+use Rattle.std.proofs.lemmas.List.{take_all, take-take, length-take-le, reverse-append, length-reverse, take-append-drop}
+use Rattle.std.proofs.lemmas.List.Elements.{All-head, All-tail, All-more}
+use Rattle.std.proofs.lemmas.Option.{slice_get-get_or, slice_get_within}
 use Rattle.tpl_model.specs.declared.finals.Final.{Final}
 use Rattle.tpl_model.specs.declared.ids.TaskId.{TaskId}
 use Rattle.tpl_model.specs.Graph.{TaskGraph, is_token}
@@ -20,7 +20,7 @@ use Rattle.tpl_laws.specs.RunTests.{HoldsIsRight}
 use Rattle.tpl_laws.specs.Failing.{is_at, unless_broken, first_failure, FailureIsTold}
 use Rattle.tpl_laws.specs.Failing as law
 use Rattle.tpl_audit.specs.declared.verdict.Failure.{Failure}
-use Rattle.tpl_audit.specs.Audit.{first_events, AllHoldAt, FirstFails, better, IsVerdict, FindsNoFailure}
+use Rattle.tpl_audit.specs.Audit.{first_events, AllHoldAt, IsFirstFailure, FirstFails, better, IsVerdict, FindsNoFailure}
 use Rattle.tpl_audit.specs.declared.verdict.Verdict.{Verdict}
 use Rattle.tpl_audit.specs.declared.verdict.Verdict.TheVariants.{Run as Ran, NotAllowed, Memory}
 use Rattle.tpl_model.specs.Certificate.{given_sure}
@@ -62,14 +62,6 @@ told_at g v h claim complete asked failures result told valid run fits w e =
     (λ k quiet. w.requests k (quiet_token g claim.given k fits.given quiet))
     (λ site sure. w.failures site (sure_site g claim.given site fits.given sure)))
 
-pub unless_at : (fails : Option ℕ) (broken : ℕ → Bool) (place : ℕ) (b : Bool) → Some place ≡ fails → b ≡ broken place → (if b then None else Some place) ≡ unless_broken fails broken
-unless_at fails broken place b e f =
-    let P : Option ℕ → Type 0 = λ z. (if b then None else Some place) ≡ unless_broken z broken in
-    subst P e (ap (λ z. if z then None else Some place) f)
-
-pub unless_none : (fails : Option ℕ) (broken : ℕ → Bool) → None ≡ fails → None ≡ unless_broken fails broken
-unless_none fails broken e = ap (λ z. unless_broken z broken) e
-
 -- A claim by the places of a list: it holds before its place, and not there.
 pub record FailsAt (g : TaskGraph) (v : List Bool) (events : List Event) (claim : Claim) (o : Option ℕ) : Type 0 where
   pub within : IfSome o (λ p. p ≤ length events)
@@ -93,84 +85,61 @@ by_places g v events claim o right valid f = record {
     parts : (p : ℕ) → reverse (drop p events) ++ first_events events p ≡ reverse events
     parts p = sym (reverse-append (take p events) (drop p events)) ∙ ap reverse (take-append-drop p events)
 
--- The first failure among the first n claims.
-pub record FoundBelow (g : TaskGraph) (v : List Bool) (events : List Event) (claims : List Claim) (n : ℕ) (failure : Failure) : Type 0 where
-  pub within : failure.place ≤ length events
-  pub earlier : (p : ℕ) → p < failure.place → AllHoldAt g v events (take n claims) p
-  pub before : ℕ
-  pub number : failure.claim ≡ suc before
-  pub claim : Claim
-  pub there : slice_get claims before ≡ Some claim
-  pub fails : Holds g claim v (first_events events failure.place) → ⊥
-  pub least : AllHoldAt g v events (take before claims) failure.place
+get_taken : (claims : List Claim) (n i : ℕ) → i < n → slice_get (take n claims) i ≡ slice_get claims i
+get_taken claims zero i lt = absurd (omega arith)
+get_taken [] (suc n) i lt = refl
+get_taken (x ∷ claims) (suc n) zero lt = refl
+get_taken (x ∷ claims) (suc n) (suc i) lt = get_taken claims n i (omega arith)
 
-abbrev pub Found : TaskGraph → List Bool → List Event → List Claim → ℕ → Option Failure → Type 0
-Found g v events claims n None = (p : ℕ) → p ≤ length events → AllHoldAt g v events (take n claims) p
-Found g v events claims n (Some failure) = FoundBelow g v events claims n failure
-
+-- the first failure among the first n claims, and then among one more
 module _ (g : TaskGraph) (v : List Bool) (events : List Event) (claims : List Claim) (n : ℕ) (d : Claim) (lt : n < length claims) where
   one_more : (p : ℕ) → AllHoldAt g v events (take n claims) p → Holds g (get_or claims n d) v (first_events events p) → AllHoldAt g v events (take (n + 1) claims) p
   one_more p all here = All-more (λ claim. Holds g claim v (first_events events p)) claims n d lt all here
 
-  stays : (failure : Failure) → FoundBelow g v events claims n failure → ((p : ℕ) → p < failure.place → Holds g (get_or claims n d) v (first_events events p)) → FoundBelow g v events claims (n + 1) failure
-  stays failure found holds_it = record {
-    within = found.within;
-    earlier = λ p early. one_more p (found.earlier p early) (holds_it p early);
-    before = found.before;
-    number = found.number;
-    claim = found.claim;
-    there = found.there;
-    fails = found.fails;
-    least = found.least;
-  }
+  stays : (failure : Failure) → IsFirstFailure g v events (take n claims) failure → ((p : ℕ) → p < failure.place → Holds g (get_or claims n d) v (first_events events p)) → IsFirstFailure g v events (take (n + 1) claims) failure
+  stays failure found holds_it =
+      let below : found.before < n = (let e = length-take-le n claims (omega arith) in let inside = slice_get_within (take n claims) found.before found.claim found.there in omega arith) in
+      record {
+        within = found.within;
+        earlier = λ p early. one_more p (found.earlier p early) (holds_it p early);
+        before = found.before;
+        number = found.number;
+        claim = found.claim;
+        there = get_taken claims (n + 1) found.before (omega arith) ∙ (sym (get_taken claims n found.before below) ∙ found.there);
+        fails = found.fails;
+        least = subst (λ (l : List Claim). AllHoldAt g v events l failure.place) (take-take found.before n claims (omega arith) ∙ sym (take-take found.before (n + 1) claims (omega arith))) found.least;
+      }
 
-  replaces : (place : ℕ) → ((p : ℕ) → p ≤ place → AllHoldAt g v events (take n claims) p) → FailsAt g v events (get_or claims n d) (Some place) → FoundBelow g v events claims (n + 1) (record { place = place; claim = n + 1 })
+  replaces : (place : ℕ) → ((p : ℕ) → p ≤ place → AllHoldAt g v events (take n claims) p) → FailsAt g v events (get_or claims n d) (Some place) → IsFirstFailure g v events (take (n + 1) claims) (record { place = place; claim = n + 1 })
   replaces place all f = record {
     within = f.within;
     earlier = λ p early. one_more p (all p (omega arith)) (f.holds_before p (let in_it = f.within in omega arith) (late p early));
     before = n;
     number = omega arith;
     claim = get_or claims n d;
-    there = slice_get-get_or claims n d lt;
+    there = get_taken claims (n + 1) n (omega arith) ∙ slice_get-get_or claims n d lt;
     fails = f.fails_there place f.within refl;
-    least = all place (omega arith);
+    least = subst (λ (l : List Claim). AllHoldAt g v events l place) (sym (take-take n (n + 1) claims (omega arith))) (all place (omega arith));
   }
     where
       late : (p : ℕ) → p < place → nat_le place p ≡ false
       late p early = lt-leb place p early
 
-  pub found_more : (found : Option Failure) (o : Option ℕ) → Found g v events claims n found → FailsAt g v events (get_or claims n d) o → Found g v events claims (n + 1) (better found o (n + 1))
+  pub found_more : (found : Option Failure) (o : Option ℕ) → FirstFails g v events (take n claims) found → FailsAt g v events (get_or claims n d) o → FirstFails g v events (take (n + 1) claims) (better found o (n + 1))
   found_more None None all f = λ p le. one_more p (all p le) (f.holds_before p le refl)
   found_more (Some failure) None found f = stays failure found (λ p early. f.holds_before p (let in_it = found.within in omega arith) refl)
   found_more None (Some place) all f = replaces place (λ p le. all p (let in_it = f.within in omega arith)) f
   found_more (Some failure) (Some place) found f = here (nat_lt place failure.place) refl
     where
-      here : (b : Bool) → nat_lt place failure.place ≡ b → Found g v events claims (n + 1) (if b then Some (record { place = place; claim = n + 1 }) else Some failure)
+      here : (b : Bool) → nat_lt place failure.place ≡ b → FirstFails g v events (take (n + 1) claims) (if b then Some (record { place = place; claim = n + 1 }) else Some failure)
       here true e = replaces place (λ p le. found.earlier p (let less = ltb-true place failure.place e in omega arith)) f
       here false e =
           stays failure found (λ p early.
           let le = ltb-false place failure.place e in
           f.holds_before p (let in_it = found.within in omega arith) (lt-leb place p (omega arith)))
 
-pub none_found : (g : TaskGraph) (v : List Bool) (events : List Event) (claims : List Claim) → Found g v events claims 0 None
-none_found g v events claims p le = subst (λ (l : List Claim). AllHoldAt g v events l p) (sym (nothing claims)) (All-nil (λ claim. Holds g claim v (first_events events p)))
-  where
-    nothing : (xs : List Claim) → take 0 xs ≡ []
-    nothing [] = refl
-    nothing (x ∷ xs) = refl
-
-pub all_found : (g : TaskGraph) (v : List Bool) (events : List Event) (claims : List Claim) (n : ℕ) (found : Option Failure) → length claims ≤ n → Found g v events claims n found → FirstFails g v events claims found
-all_found g v events claims n None le all = λ p in_it. subst (λ (l : List Claim). AllHoldAt g v events l p) (take_all n claims le) (all p in_it)
-all_found g v events claims n (Some failure) le found = record {
-  within = found.within;
-  earlier = λ p early. subst (λ (l : List Claim). AllHoldAt g v events l p) (take_all n claims le) (found.earlier p early);
-  before = found.before;
-  number = found.number;
-  claim = found.claim;
-  there = found.there;
-  fails = found.fails;
-  least = found.least;
-}
+pub all_found : (g : TaskGraph) (v : List Bool) (events : List Event) (claims : List Claim) (n : ℕ) (found : Option Failure) → length claims ≤ n → FirstFails g v events (take n claims) found → FirstFails g v events claims found
+all_found g v events claims n found le = subst (λ (l : List Claim). FirstFails g v events l found) (take_all n claims le)
 
 -- where a certificate is accepted, nothing fails
 

@@ -3,6 +3,7 @@ use Rattle.std.proofs.Common.{◌≡◌, ℕ, zero, suc, ◌+◌, ◌<◌, ◌�
 use Rattle.std.proofs.lemmas.List.{take_more, reverse-append, length-reverse, length-take-le}
 use Rattle.tpl_model.specs.Graph.{TaskGraph, is_token}
 use Rattle.tpl_model.specs.declared.event.Event.{Event}
+use Rattle.tpl_model.specs.declared.status.Actor.{Actor}
 use Rattle.tpl_model.specs.declared.event.Act.{Act}
 use Rattle.tpl_model.specs.declared.event.Act.TheVariants.{Request, Begin, Step, Worked, Leave, Release, Drop, Close, Settle}
 use Rattle.tpl_model.specs.Facts.{requested, failed}
@@ -13,8 +14,15 @@ use Rattle.std.specs.Prelude.{Result, Ok, Err, is_err, true, false, Some, if◌t
 use Rattle.tpl_laws.specs.RunTests.{is_complete}
 use Rattle.tpl_laws.specs.Failing.{IsFrom, is_at, or_now, CompleteIsNoted, RequestIsNoted, JobIsNoted}
 use Rattle.tpl_machine.specs.Journal.{Journal, after}
+use Rattle.tpl_machine.specs.Recording.{by}
 use Rattle.tpl_audit.specs.Audit.{first_events}
 use Rattle.tpl_audit.specs.Watching.{noted_at, may_request, noted_after, may_fail, failure_noted_after, IsWatched}
+
+-- what holds of those below i is noted at the place, and of the others as before
+pub record NotedSoFar (size : ℕ) (before now : List (Option ℕ)) (holds : ℕ → Bool) (place i : ℕ) : Type 0 where
+  pub long : length now ≡ size
+  pub noted : (k : ℕ) → k < i → noted_at now k ≡ or_now (noted_at before k) (holds k) place
+  pub left : (k : ℕ) → i ≤ k → noted_at now k ≡ noted_at before k
 
 pub none_noted : (n k : ℕ) → noted_at (replicate n None) k ≡ None
 none_noted zero k = refl
@@ -39,58 +47,36 @@ watch_start g v complete asked failures completes requests jobs c r f = record {
   failures = λ site there. subst (IsFrom (λ before. failed g v before site) []) (sym (f site)) (jobs g v site).0;
 }
 
--- an act that can't request a token leaves each as it is
+-- an act that can't request a token leaves each as it is, and one by which no job fails each job
 
-requests_none : (g : TaskGraph) (v : List Bool) (h : List Event) (x : Event) (act : Act) (k : ℕ) → x.act ≡ act → may_request act ≡ false → requested g v (x ∷ h) k ≡ requested g v h k
-requests_none g v h x act k is none = subst (λ a. requested g v (record x { act = a } ∷ h) k ≡ requested g v h k) (sym is) (at act none)
-  where
-    at : (a : Act) → may_request a ≡ false → requested g v (record x { act = a } ∷ h) k ≡ requested g v h k
-    at (Request j) e = absurd (cc)
-    at (Step t) e = absurd (cc)
-    at (Begin t) e = refl
-    at (Worked t answer) e = refl
-    at (Leave t) e = refl
-    at (Release t) e = refl
-    at (Drop t) e = refl
-    at (Close t) e = refl
-    at (Settle t) e = refl
+act_leaves : (g : TaskGraph) (v : List Bool) (h : List Event) (actor : Actor) (act : Act) (k site : ℕ) → (may_request act ≡ false → requested g v (by actor act ∷ h) k ≡ requested g v h k) × (may_fail act ≡ false → failed g v (by actor act ∷ h) site ≡ failed g v h site)
+act_leaves g v h actor (Request j) k site = (λ e. absurd (cc), λ e. refl)
+act_leaves g v h actor (Step t) k site = (λ e. absurd (cc), λ e. refl)
+act_leaves g v h actor (Begin t) k site = (λ e. refl, λ e. refl)
+act_leaves g v h actor (Worked t Failed) k site = (λ e. refl, λ e. absurd (cc))
+act_leaves g v h actor (Worked t Done) k site = (λ e. refl, λ e. refl)
+act_leaves g v h actor (Leave t) k site = (λ e. refl, λ e. refl)
+act_leaves g v h actor (Release t) k site = (λ e. refl, λ e. refl)
+act_leaves g v h actor (Drop t) k site = (λ e. refl, λ e. refl)
+act_leaves g v h actor (Close t) k site = (λ e. refl, λ e. refl)
+act_leaves g v h actor (Settle t) k site = (λ e. refl, λ e. refl)
 
 noted_stays : (old : Option ℕ) (now : Bool) (place n : ℕ) → now ≡ is_at old n → or_now old now place ≡ old
 noted_stays None now place n e = ap (λ b. or_now None b place) e
 noted_stays (Some p) now place n e = refl
 
+-- what is left as it was is noted already, so that it need not be looked at
+noted_anyway : (may : Bool) (old : Option ℕ) (now before : Bool) (place n : ℕ) → before ≡ is_at old n → (may ≡ false → now ≡ before) → (if may then or_now old now place else old) ≡ or_now old now place
+noted_anyway true old now before place n e same = refl
+noted_anyway false old now before place n e same = sym (noted_stays old now place n (same refl ∙ e))
+
 -- so what is noted after any act is what would be noted where each token is looked at
 pub noted_is_now : (g : TaskGraph) (v : List Bool) (h : List Event) (x : Event) (k place : ℕ) (old : Option ℕ) → IsFrom (λ before. requested g v before k) h old → noted_after x.act old (requested g v (x ∷ h) k) place ≡ or_now old (requested g v (x ∷ h) k) place
-noted_is_now g v h x k place old from = by_case (may_request x.act) refl
-  where
-    by_case : (b : Bool) → may_request x.act ≡ b → noted_after x.act old (requested g v (x ∷ h) k) place ≡ or_now old (requested g v (x ∷ h) k) place
-    by_case true e = ap (λ b. if b then or_now old (requested g v (x ∷ h) k) place else old) e
-    by_case false e = ap (λ b. if b then or_now old (requested g v (x ∷ h) k) place else old) e ∙ sym (noted_stays old (requested g v (x ∷ h) k) place (length h) (requests_none g v h x x.act k refl e ∙ from.each [] h refl))
+noted_is_now g v h x k place old from = noted_anyway (may_request x.act) old (requested g v (x ∷ h) k) (requested g v h k) place (length h) (from.each [] h refl) (act_leaves g v h x.actor x.act k 0).0
 
--- an act by which no job fails leaves each as it is
-
-fails_none : (g : TaskGraph) (v : List Bool) (h : List Event) (x : Event) (act : Act) (site : ℕ) → x.act ≡ act → may_fail act ≡ false → failed g v (x ∷ h) site ≡ failed g v h site
-fails_none g v h x act site is none = subst (λ a. failed g v (record x { act = a } ∷ h) site ≡ failed g v h site) (sym is) (at act none)
-  where
-    at : (a : Act) → may_fail a ≡ false → failed g v (record x { act = a } ∷ h) site ≡ failed g v h site
-    at (Request j) e = refl
-    at (Step t) e = refl
-    at (Begin t) e = refl
-    at (Worked t Failed) e = absurd (cc)
-    at (Worked t Done) e = refl
-    at (Leave t) e = refl
-    at (Release t) e = refl
-    at (Drop t) e = refl
-    at (Close t) e = refl
-    at (Settle t) e = refl
-
--- so what is noted after any act is what would be noted where each job is looked at
+-- and each job
 pub failure_noted_is_now : (g : TaskGraph) (v : List Bool) (h : List Event) (x : Event) (site place : ℕ) (old : Option ℕ) → IsFrom (λ before. failed g v before site) h old → failure_noted_after x.act old (failed g v (x ∷ h) site) place ≡ or_now old (failed g v (x ∷ h) site) place
-failure_noted_is_now g v h x site place old from = by_case (may_fail x.act) refl
-  where
-    by_case : (b : Bool) → may_fail x.act ≡ b → failure_noted_after x.act old (failed g v (x ∷ h) site) place ≡ or_now old (failed g v (x ∷ h) site) place
-    by_case true e = ap (λ b. if b then or_now old (failed g v (x ∷ h) site) place else old) e
-    by_case false e = ap (λ b. if b then or_now old (failed g v (x ∷ h) site) place else old) e ∙ sym (noted_stays old (failed g v (x ∷ h) site) place (length h) (fails_none g v h x x.act site refl e ∙ from.each [] h refl))
+failure_noted_is_now g v h x site place old from = noted_anyway (may_fail x.act) old (failed g v (x ∷ h) site) (failed g v h site) place (length h) (from.each [] h refl) (act_leaves g v h x.actor x.act 0 site).1
 
 pub watch_more : (g : TaskGraph) (v : List Bool) (h : List Event) (x : Event) (place : ℕ) (old new : Option ℕ) (asked more failures others : List (Option ℕ)) → CompleteIsNoted → RequestIsNoted → JobIsNoted → Run g v (x ∷ h) → place ≡ suc (length h) → IsWatched g v h old asked failures → new ≡ or_now old (is_complete g v (x ∷ h)) place → ((k : ℕ) → is_token g k → noted_at more k ≡ or_now (noted_at asked k) (requested g v (x ∷ h) k) place) → ((site : ℕ) → site < length (all_sites g) → noted_at others site ≡ or_now (noted_at failures site) (failed g v (x ∷ h) site) place) → IsWatched g v (x ∷ h) new more others
 watch_more g v h x place old new asked more failures others completes requests jobs run at w c r f = record {

@@ -2,3 +2,4 @@ pub mod Audit
 pub mod Ending
 pub mod Standing
 pub mod Watching
+pub mod Prelude

@@ -1,8 +1,8 @@
 //! Which task has not ended as is said of it.
 
 ghost use Rattle.std.specs.Prelude.{◌≡◌, [], ◌∷◌};
-ghost use Rattle.tpl_model.specs.Graph.{is_task};
-ghost use Rattle.tpl_audit.specs.Ending.{AreTasksOf, FirstOtherEnd, first_of};
+ghost use Rattle.tpl_audit.specs.Prelude.{AreTasksOf, FirstOtherEnd, first_of};
+ghost use Rattle.tpl_model.specs.Prelude.{is_task};
 
 use crate::verdict::OtherEnd;
 use tpl_machine::Core;

@@ -1,12 +1,10 @@
 //! Where claims fail first.
 
-ghost use Rattle.std.specs.Prelude.{◌≡◌, ℕ, reverse, List};
-ghost use Rattle.std.specs.List.{All};
-ghost use Rattle.tpl_graph.specs.Fits.{AreGivenOf, TasksOf, Fits};
+ghost use Rattle.std.specs.Prelude.{◌≡◌, reverse, List, All};
+ghost use Rattle.tpl_audit.specs.Prelude.{FirstFails, IsWatched, better, noted_of};
+ghost use Rattle.tpl_graph.specs.Prelude.{AreGivenOf, Fits, TasksOf};
 ghost use Rattle.tpl_laws.specs.Failing as law;
 ghost use Rattle.tpl_model.specs.declared.event.Event.{Event};
-ghost use Rattle.tpl_audit.specs.Audit.{FirstFails, better};
-ghost use Rattle.tpl_audit.specs.Watching.{noted_of, IsWatched};
 
 use crate::is_true_of;
 use crate::verdict::Failure;
@@ -87,6 +85,26 @@ fn is_broken<C: Core>(core: &C, watch: &Watch, given: &[Given], place: usize) ->
     false
 }
 
+/// The place at which a property fails first, unless something of what is given isn't true there.
+fn unless_broken<C: Core>(
+    core: &C,
+    watch: &Watch,
+    given: &[Given],
+    fails: Option<usize>,
+) -> Option<usize>
+    requires { AreGivenOf (C.journal core.now).graph given.now }
+    ensures { let j = C.journal core.now in result ≡ law.unless_broken fails
+        (law.is_broken j.graph j.inputs j.events
+        (noted_of watch.now.asked watch.now.failed) given.now) }
+{
+    let place = fails?;
+    if is_broken(core, watch, given, place) {
+        None
+    } else {
+        Some(place)
+    }
+}
+
 /// The first place at which a claim fails.
 fn failure_of<C: Core>(core: &C, watch: &Watch, claim: &Claim) -> Option<usize>
     requires fits { Fits (C.journal core.now).graph claim.now }
@@ -98,16 +116,8 @@ fn failure_of<C: Core>(core: &C, watch: &Watch, claim: &Claim) -> Option<usize>
 {
     core.run_law();
     tpl_laws::failure_is_told();
-    match fails_from(core, watch.complete, claim.body()) {
-        Some(place) => {
-            if is_broken(core, watch, claim.given(), place) {
-                None
-            } else {
-                Some(place)
-            }
-        }
-        None => None,
-    }
+    let fails = fails_from(core, watch.complete, claim.body());
+    unless_broken(core, watch, claim.given(), fails)
 }
 
 /// The failure of a claim with this number, where it is at an earlier place than the one that was

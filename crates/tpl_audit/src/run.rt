@@ -1,12 +1,9 @@
 //! Whether a claim holds of a run.
 
 ghost use Rattle.std.specs.Prelude.{◌≡◌, ◌↔◌, ◌<◌, ◌⊎◌, IsTrue, IfSome, IfNone, ℕ, true, false, is_some, length, [], ◌∷◌};
-ghost use Rattle.tpl_model.specs.Graph.{is_task, IsParent};
-ghost use Rattle.tpl_model.specs.Valid.{all_sites};
-ghost use Rattle.tpl_model.specs.Facts.{Ending, begun, failed, started, ending};
-ghost use Rattle.tpl_model.specs.Claims.{IsGiven, SettledAtBegin, HoldsOf, Holds};
-ghost use Rattle.tpl_laws.specs.Settling.{SettledBefore};
-ghost use Rattle.tpl_graph.specs.Fits.{IsGivenOf, AreGivenOf, TasksOf, Fits};
+ghost use Rattle.tpl_graph.specs.Prelude.{AreGivenOf, Fits, IsGivenOf, TasksOf};
+ghost use Rattle.tpl_laws.specs.Prelude.{SettledBefore};
+ghost use Rattle.tpl_model.specs.Prelude.{Ending, Holds, HoldsOf, IsGiven, IsParent, SettledAtBegin, all_sites, begun, ending, failed, is_task, started};
 
 use tpl_graph::Claim;
 use tpl_model::{Finals, Given, Label, Property, SiteId, Status, TaskId};

@@ -1,8 +1,8 @@
 //! How tasks stand after a run.
 
 ghost use Rattle.std.specs.Prelude.{◌≡◌, [], reverse, IfOk};
-ghost use Rattle.tpl_model.specs.Rules.{Run};
-ghost use Rattle.tpl_audit.specs.Standing.{statuses};
+ghost use Rattle.tpl_audit.specs.Prelude.{statuses};
+ghost use Rattle.tpl_model.specs.Prelude.{Run};
 
 use crate::play::play;
 use crate::watch::Watch;

@@ -1,12 +1,9 @@
 //! The places from which a run is complete, tokens are requested, and jobs have failed.
 
-ghost use Rattle.std.specs.Prelude.{◌≡◌, ℕ, ◌<◌, ◌≤◌, [], length, IsTrue, None};
-ghost use Rattle.tpl_model.specs.Graph.{is_token};
-ghost use Rattle.tpl_model.specs.Facts.{failed, requested};
-ghost use Rattle.tpl_model.specs.Valid.{all_sites};
-ghost use Rattle.tpl_laws.specs.RunTests.{is_complete};
-ghost use Rattle.tpl_laws.specs.Failing.{or_now};
-ghost use Rattle.tpl_audit.specs.Watching.{failure_noted_after, may_fail, may_request, noted_after, noted_at, IsWatched};
+ghost use Rattle.std.specs.Prelude.{◌≡◌, ℕ, ◌<◌, [], length, None};
+ghost use Rattle.tpl_audit.specs.Prelude.{IsWatched, failure_noted_after, may_fail, may_request, noted_after, noted_at};
+ghost use Rattle.tpl_laws.specs.Prelude.{is_complete, or_now};
+ghost use Rattle.tpl_model.specs.Prelude.{all_sites, failed, is_token, requested};
 
 use crate::has_failed;
 use tpl_machine::Core;

@@ -3,6 +3,7 @@ pub mod Names
 pub mod Trees
 pub mod PlainTrees
 pub mod ReadWithin
+pub mod Spelling
 pub mod Ids
 pub mod Unique
 pub mod Again

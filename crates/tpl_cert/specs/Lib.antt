@@ -1,3 +1,4 @@
+pub mod Faults
 pub mod NamedTrees
 pub mod Plain
 pub mod Reading
@@ -6,3 +7,4 @@ pub mod Naming
 pub mod Laws
 pub mod Spelled
 pub mod Written
+pub mod Prelude

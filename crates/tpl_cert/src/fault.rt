@@ -1,12 +1,12 @@
 //! Why a tree isn't read or written.
 
 ghost use Rattle.std.specs.Prelude.{◌≡◌};
-ghost use Rattle.tpl_cert.specs.declared.fault.TreeFault.TheVariants as reading;
-ghost use Rattle.tpl_cert.specs.declared.fault.TreeToFault.TheVariants as writing;
+ghost use Rattle.tpl_cert.specs.Prelude.{shape_fault, tree_fault};
+ghost use Rattle.tpl_cert.specs.declared.fault.TreeToFault.TheVariants.{Memory};
 
 use std::alloc::{AllocError, AllocFailed};
 use thiserror::Error;
-use tpl_json::Shape;
+use tpl_json::{Miss, Shape};
 
 /// Why a JSON value isn't read as a certificate tree. The least that applies anywhere in the tree is named, in this
 /// order; `Memory` can come before any of them.
@@ -26,19 +26,25 @@ pub enum TreeFault {
     Memory,
 }
 
-impl From<AllocError> for TreeFault {
-    ghost from_gives = { λ _ e. e ≡ reading.Memory };
+impl From<Miss<Shape>> for TreeFault {
+    ghost from_gives = { λ miss e. e ≡ shape_fault miss };
 
-    fn from(_e: AllocError) -> TreeFault {
-        TreeFault::Memory
+    fn from(miss: Miss<Shape>) -> TreeFault {
+        match miss {
+            Miss::Wrong(Shape) => TreeFault::Shape,
+            Miss::Memory => TreeFault::Memory,
+        }
     }
 }
 
-impl<T: Drop> From<AllocFailed<T>> for TreeFault {
-    ghost from_gives = { λ _ e. e ≡ reading.Memory };
+impl From<Miss<TreeFault>> for TreeFault {
+    ghost from_gives = { λ miss e. e ≡ tree_fault miss };
 
-    fn from(_e: AllocFailed<T>) -> TreeFault {
-        TreeFault::Memory
+    fn from(miss: Miss<TreeFault>) -> TreeFault {
+        match miss {
+            Miss::Wrong(fault) => fault,
+            Miss::Memory => TreeFault::Memory,
+        }
     }
 }
 
@@ -54,7 +60,7 @@ pub enum TreeToFault {
 }
 
 impl From<AllocError> for TreeToFault {
-    ghost from_gives = { λ _ e. e ≡ writing.Memory };
+    ghost from_gives = { λ _ e. e ≡ Memory };
 
     fn from(_e: AllocError) -> TreeToFault {
         TreeToFault::Memory
@@ -62,7 +68,7 @@ impl From<AllocError> for TreeToFault {
 }
 
 impl<T: Drop> From<AllocFailed<T>> for TreeToFault {
-    ghost from_gives = { λ _ e. e ≡ writing.Memory };
+    ghost from_gives = { λ _ e. e ≡ Memory };
 
     fn from(_e: AllocFailed<T>) -> TreeToFault {
         TreeToFault::Memory

@@ -1,21 +1,18 @@
 //! Ids for the names of a tree.
 
-ghost use Rattle.std.specs.Prelude.{◌≡◌, map, IfErr};
-ghost use Rattle.std.specs.List.{All};
-ghost use Rattle.tpl_draft.specs.Ids.{task_number, input_number, token_number};
-ghost use Rattle.tpl_json.specs.Passes.{Yields, each_from};
+ghost use Rattle.std.specs.Prelude.{◌≡◌, map, IfErr, All};
+ghost use Rattle.tpl_cert.specs.Prelude.{IsPlain, IsPlainRow, number_in, numbers_in, row_in, row_of, set_in, tree_in, tree_of, wide_row_in, wide_rows_in};
+ghost use Rattle.tpl_draft.specs.Prelude.{input_number, task_number, token_number};
+ghost use Rattle.tpl_json.specs.Prelude.{Yields};
 ghost use Rattle.tpl_json.specs.declared.miss.Miss.TheVariants as miss;
-ghost use Rattle.tpl_model.specs.WiderRules.{as_wide, as_wide_tree};
-ghost use Rattle.tpl_cert.specs.Seen.{row_of, tree_of};
-ghost use Rattle.tpl_cert.specs.Plain.{IsPlainRow, IsPlain};
-ghost use Rattle.tpl_trees.specs.WideCoding.{tokens_in};
-ghost use Rattle.tpl_cert.specs.Naming.{number_in, numbers_in, set_in, row_in, wide_row_in, wide_rows_in, tree_in};
+ghost use Rattle.tpl_model.specs.Prelude.{as_wide, as_wide_tree};
+ghost use Rattle.tpl_trees.specs.Prelude.{tokens_in};
 
 use crate::fault::TreeFault;
 use crate::named::{NamedRow, NamedTree};
 use std::alloc::Global;
 use tpl_graph::Graph;
-use tpl_json::Miss;
+use tpl_json::{Miss, read_each};
 use tpl_model::{InputId, MOST_TASKS, MOST_TOKENS, TaskId, TaskSet, TokenId};
 use tpl_paths::TokenSet;
 use tpl_trees::{Node, Row, Tree, WideNode, WideRow, WideTree};
@@ -81,12 +78,7 @@ fn chain_in(alloc: Global, graph: &Graph, names: &[&str]) -> Result<Vec<TaskId>,
     ensures { Yields (λ v. map task_number v.items) result
         (numbers_in graph.now.names.tasks (map (λ s. s.now) names.now)) }
 {
-    let mut chain = Vec::new(alloc);
-    for name in names {
-        let task = task_in(graph, name)?;
-        chain.push(task)?;
-    }
-    Ok(chain)
+    read_each(alloc, names, |_, name| task_in(graph, name))
 }
 
 /// The row, without its tokens.
@@ -131,12 +123,7 @@ fn wide_rows_in(
     ensures { Yields (λ v. v.items) result
         (wide_rows_in graph.now.names (map row_of rows.now)) }
 {
-    let mut found = Vec::new(alloc);
-    for row in rows {
-        let row = wide_row_in(alloc, graph, row)?;
-        found.push(row)?;
-    }
-    Ok(found)
+    read_each(alloc, rows, |_, row| wide_row_in(alloc, graph, row))
 }
 
 #[cycle(naming)]

@@ -2,17 +2,16 @@
 
 ghost use Rattle.std.specs.Prelude.{◌≡◌, None, map, option_and_then};
 ghost use Rattle.serde_json.specs.Find.{get};
-ghost use Rattle.tpl_json.specs.View.{view};
-ghost use Rattle.tpl_cert.specs.Seen.{row_of, tree_of};
-ghost use Rattle.tpl_json.specs.Members.{Gives, each, texts_in};
+ghost use Rattle.tpl_cert.specs.Prelude.{end_at, input_at, is_least, leaf_at, node_at, row_at, row_names, row_of, tree_of, whole_tree, winner_at};
+ghost use Rattle.tpl_json.specs.Prelude.{Gives, each, texts_in, view};
 ghost use Rattle.tpl_model.specs.declared.rule_set.RuleSet.TheVariants.{Narrow};
-ghost use Rattle.tpl_cert.specs.Reading.{row_names, row_at, is_least, leaf_at, input_at, end_at, winner_at, node_at, whole_tree};
 
 use crate::named::{NamedRow, NamedTree};
 use json::Value;
 use std::alloc::Global;
 use tpl_json::{
-    Miss, Shape, bool_in, finals_of, find, has_only, list_of, member_in, text_in, texts_in,
+    Miss, Shape, bool_in, finals_of, find, has_only, list_of, member_in, read_each, text_in,
+    texts_in,
 };
 use tpl_model::RuleSet;
 
@@ -79,12 +78,7 @@ fn rows_of<'v, 't>(
 ) -> Result<Vec<NamedRow<'v>>, Miss<Shape>>
     ensures { Gives (λ v. map row_of v.items) result (each (row_at rules) (map view values.now)) }
 {
-    let mut rows = Vec::new(alloc);
-    for value in values {
-        let row = row_of(alloc, rules, value)?;
-        rows.push(row)?;
-    }
-    Ok(rows)
+    read_each(alloc, values, |_, value| row_of(alloc, rules, value))
 }
 
 /// Whether the value is a leaf without rows, which the wide rules have.

@@ -1,17 +1,15 @@
 //! From rows to text.
 
-ghost use Rattle.std.specs.Prelude.{◌≡◌, ◌∷◌, [], map, codes, OnOk, Err, true, false, IfErr};
-ghost use Rattle.std.specs.List.{All, list_all};
+ghost use Rattle.std.specs.Prelude.{◌≡◌, ◌∷◌, [], map, codes, OnOk, Err, IfErr, All};
+ghost use Rattle.std.specs.List.{list_all};
 ghost use Rattle.json.specs.Token as token;
 ghost use Rattle.serde_json.specs.Data.{array, string};
 ghost use Rattle.serde_json.specs.View.{items_of};
-ghost use Rattle.tpl_draft.specs.Ids.{task_number};
-ghost use Rattle.tpl_model.specs.TaskSet.{IsTaskSet};
-ghost use Rattle.tpl_model.specs.WiderRules.{as_wide};
+ghost use Rattle.tpl_cert.specs.Prelude.{HasRowSets, Puts, PutsMembers, PutsValue, Writes, bare, has_row_ids, has_task_ids, is_id, name_at, names_data, row_data, row_members, texts_data, word_if, words_of};
+ghost use Rattle.tpl_draft.specs.Prelude.{task_number};
+ghost use Rattle.tpl_model.specs.Prelude.{IsTaskSet, as_wide};
 ghost use Rattle.tpl_model.specs.declared.rule_set.RuleSet.TheVariants.{Narrow, Wide};
-ghost use Rattle.tpl_trees.specs.Sets.{HasTaskSets};
-ghost use Rattle.tpl_trees.specs.WideCoding.{tokens_in};
-ghost use Rattle.tpl_cert.specs.Written.{texts_data, word_if, words_of, row_members, row_data, names_data, name_at, is_id, has_task_ids, has_row_ids, HasRowSets, bare, Writes, Puts, PutsValue, PutsMembers};
+ghost use Rattle.tpl_trees.specs.Prelude.{HasTaskSets, tokens_in};
 
 use crate::fault::TreeToFault;
 use json::Writer;

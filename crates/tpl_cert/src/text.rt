@@ -1,7 +1,7 @@
 //! From certificate trees to text.
 
-ghost use Rattle.std.specs.Prelude.{◌≡◌, ◌≤◌, ◌∷◌, [], map, codes, IfOk, OnOk, Ok, Err, Some, true, false, IfErr, string_bytes};
-ghost use Rattle.std.specs.List.{All, list_all};
+ghost use Rattle.std.specs.Prelude.{◌≡◌, ◌≤◌, ◌∷◌, [], map, IfOk, OnOk, Ok, Err, Some, true, false, IfErr, string_bytes, All};
+ghost use Rattle.std.specs.List.{list_all};
 ghost use Rattle.json.specs.Lex.{tokens};
 ghost use Rattle.json.specs.Print.{print};
 ghost use Rattle.json.specs.Token as token;
@@ -9,13 +9,11 @@ ghost use Rattle.serde_json.specs.Data.{array};
 ghost use Rattle.serde_json.specs.Read.{read};
 ghost use Rattle.serde_json.specs.View.{items_of};
 ghost use Rattle.serde_json.specs.Written.{compact_text};
-ghost use Rattle.tpl_trees.specs.Heights.{height};
-ghost use Rattle.tpl_trees.specs.WideHeights.{wide_height};
-ghost use Rattle.tpl_cert.specs.Spelled.{spelled_tree};
-ghost use Rattle.tpl_model.specs.WiderRules.{as_wide, as_wide_tree};
+ghost use Rattle.tpl_cert.specs.Prelude.{HasRowSets, HasSets, Puts, PutsValue, Writes, certificate_data, has_ids, has_row_ids, is_id, leaf_data, name_at, row_data, spelled_tree, tree_data};
+ghost use Rattle.tpl_model.specs.Prelude.{as_wide, as_wide_tree};
 ghost use Rattle.tpl_model.specs.declared.rule_set.RuleSet.{RuleSet};
 ghost use Rattle.tpl_model.specs.declared.rule_set.RuleSet.TheVariants.{Narrow, Wide};
-ghost use Rattle.tpl_cert.specs.Written.{row_data, leaf_data, tree_data, name_at, is_id, certificate_data, has_row_ids, has_ids, HasRowSets, HasSets, Writes, Puts, PutsValue};
+ghost use Rattle.tpl_trees.specs.Prelude.{height, wide_height};
 
 use crate::fault::TreeToFault;
 use crate::row_text::{open_object, task_name, write_rows, write_wide_rows};

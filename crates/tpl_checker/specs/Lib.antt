@@ -5,3 +5,4 @@ pub mod Bodies
 pub mod Last
 pub mod Leaves
 pub mod AllEnds
+pub mod Prelude

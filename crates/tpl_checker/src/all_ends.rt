@@ -1,7 +1,7 @@
 //! How WhenAll tasks may end, argument by argument.
 
 ghost use Rattle.std.specs.Prelude.{◌≡◌};
-ghost use Rattle.tpl_checker.specs.AllEnds.{ended_together, no_argument, with_argument};
+ghost use Rattle.tpl_checker.specs.Prelude.{ended_together, no_argument, with_argument};
 
 use tpl_model::Finals;
 

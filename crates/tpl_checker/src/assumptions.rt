@@ -1,18 +1,15 @@
 //! What a leaf assumes.
 
-ghost use Rattle.std.specs.Prelude.{◌≡◌, ◌<◌, ℕ, ◌&&◌, Bool, true};
-ghost use Rattle.std.specs.Option.{option_map};
-ghost use Rattle.tpl_model.specs.Finals.{has, is_final};
-ghost use Rattle.tpl_draft.specs.Ids.{token_number};
-ghost use Rattle.tpl_model.specs.View.{known, may_have};
-ghost use Rattle.tpl_model.specs.Certificate.{same, with_input, with_end, end_left, is_loud, is_wide};
-ghost use Rattle.tpl_model.specs.Graph.{is_task};
-ghost use Rattle.tpl_checker.specs.Assumptions.{assumed_of, nothing_assumed, with_quiet, with_kept, with_ended, with_sure};
+ghost use Rattle.std.specs.Prelude.{◌≡◌, ◌<◌, ◌&&◌, Bool, true, option_map};
+ghost use Rattle.tpl_checker.specs.Prelude.{assumed_of, nothing_assumed, with_ended, with_kept, with_quiet, with_sure};
+ghost use Rattle.tpl_draft.specs.Prelude.{token_number};
+ghost use Rattle.tpl_model.specs.Prelude.{end_left, has, is_final, is_loud, is_task, is_wide, known, may_have, same, with_end, with_input};
 
 use crate::cut::Cut;
 use tpl_graph::Graph;
 use tpl_model::{
-    Final, Finals, InputId, MOST_SITES, Possible, RuleSet, SiteId, TaskId, TokenId, View,
+    Final, Finals, InputId, MOST_SITES, MOST_TASKS, MOST_TOKENS, Possible, RuleSet, SiteId, TaskId,
+    TokenId, View,
 };
 
 /// The one of these values that is `value`, if it is among them.
@@ -93,7 +90,7 @@ impl Assumptions {
 
     /// The assumptions, and that the token is never requested.
     pub(crate) fn with_quiet(&self, token: TokenId) -> Assumptions
-        requires { token.0 < 32 }
+        requires { token.0 < MOST_TOKENS }
         ensures { assumed_of result ≡ with_quiet (assumed_of self.now) token.0 }
     {
         let mut assumed = self.copy();
@@ -104,7 +101,7 @@ impl Assumptions {
     /// The assumptions on the branch of a split where the task, one of the first 1,024, ends in this way
     /// if it ends.
     pub fn with_end(&self, task: TaskId, status: Final) -> Assumptions
-        requires { task.0 < 1024 }
+        requires { task.0 < MOST_TASKS }
         ensures { assumed_of result ≡ with_end (assumed_of self.now) task.0 status }
     {
         let mut assumed = self.copy();
@@ -114,7 +111,7 @@ impl Assumptions {
 
     /// Assumes besides that the task, one of the first 1,024, ends in this way if it ends.
     pub fn assume_end(&mut self, task: TaskId, status: Final)
-        requires { task.0 < 1024 }
+        requires { task.0 < MOST_TASKS }
         ensures { assumed_of self.new ≡ with_end (assumed_of self.old) task.0 status }
     {
         self.cut = self.cut.keeping(task, only(status));
@@ -122,7 +119,7 @@ impl Assumptions {
 
     /// Assumes besides that the task, one of the first 1,024, ends in one of these ways if it ends.
     pub fn keep_ends(&mut self, task: TaskId, ends: Finals)
-        requires { task.0 < 1024 }
+        requires { task.0 < MOST_TASKS }
         ensures { assumed_of self.new ≡ with_kept (assumed_of self.old) task.0 ends }
     {
         self.cut = self.cut.keeping(task, ends);
@@ -131,7 +128,7 @@ impl Assumptions {
     /// The assumptions, and that the task, one of the first 1,024, is given to end in one of these ways if
     /// it ends.
     pub(crate) fn with_ended(&self, task: TaskId, ends: Finals) -> Assumptions
-        requires { task.0 < 1024 }
+        requires { task.0 < MOST_TASKS }
         ensures { assumed_of result ≡ with_ended (assumed_of self.now) task.0 ends }
     {
         let mut assumed = self.copy();
@@ -178,7 +175,7 @@ impl Assumptions {
         ensures { result ≡ (assumed_of self.now).quiet token.0 }
     {
         let at = token.0 as usize;
-        at < 32 && self.quiet[at]
+        at < MOST_TOKENS && self.quiet[at]
     }
 
     /// The task has a token that may be requested.

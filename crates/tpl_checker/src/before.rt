@@ -1,9 +1,8 @@
 //! What a row has before its task is settled when the task begins (the rule K3).
 
 ghost use Rattle.std.specs.Prelude.{◌≡◌, length};
-ghost use Rattle.tpl_model.specs.Graph.{is_task, kind, Child};
-ghost use Rattle.tpl_model.specs.Certificate.{row};
-ghost use Rattle.tpl_laws.specs.RowTests.{all_in, before, before_by};
+ghost use Rattle.tpl_laws.specs.Prelude.{all_in, before, before_by};
+ghost use Rattle.tpl_model.specs.Prelude.{Child, is_task, kind, row};
 
 use crate::parents::parent;
 use crate::rows::{before_of, implies, row, settled_after, within};

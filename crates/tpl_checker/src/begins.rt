@@ -1,11 +1,9 @@
 //! A task that may begin has a row that runs (the rule K1).
 
-ghost use Rattle.std.specs.Prelude.{◌≡◌, ◌<◌, ◌≤◌, length};
-ghost use Rattle.tpl_model.specs.Graph.{is_task, options, Child, Continues};
-ghost use Rattle.tpl_model.specs.Certificate.{Assumed};
-ghost use Rattle.tpl_model.specs.Graph.{TaskGraph};
-ghost use Rattle.tpl_laws.specs.RowTests.{runs, runs_by};
-ghost use Rattle.tpl_checker.specs.Bodies.{AreBodies};
+ghost use Rattle.std.specs.Prelude.{◌≡◌, length};
+ghost use Rattle.tpl_checker.specs.Prelude.{AreBodies};
+ghost use Rattle.tpl_laws.specs.Prelude.{runs, runs_by};
+ghost use Rattle.tpl_model.specs.Prelude.{Assumed, Child, Continues, is_task, options};
 
 use crate::bodies::Bodies;
 use crate::parents::parent;

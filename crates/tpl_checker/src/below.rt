@@ -1,16 +1,15 @@
 //! The attached children of each task, theirs, and so on.
 
 ghost use Rattle.std.specs.Prelude.{◌≡◌, ◌<◌, ℕ, false, slice_index_or, []};
-ghost use Rattle.tpl_model.specs.Members.{mem};
-ghost use Rattle.tpl_model.specs.Graph.{is_task};
-ghost use Rattle.tpl_laws.specs.RowTests.{below_by, is_below, parent_of};
-ghost use Rattle.tpl_checker.specs.Below.{AreBelow};
+ghost use Rattle.tpl_checker.specs.Prelude.{AreBelow};
+ghost use Rattle.tpl_laws.specs.Prelude.{below_by, is_below, parent_of};
+ghost use Rattle.tpl_model.specs.Prelude.{is_task, mem};
 
 use crate::parents::parent;
 use crate::rows::{is_member, with_if};
 use std::array;
 use tpl_graph::Graph;
-use tpl_model::{TaskId, TaskSet};
+use tpl_model::{MOST_TASKS, TaskId, TaskSet};
 
 /// The tasks below each task of a graph: its attached children, theirs, and so on. It is 128
 /// kilobytes long, and made once for all leaves.
@@ -35,7 +34,7 @@ impl Below {
 
     /// The tasks below one.
     pub fn of(&self, task: TaskId) -> &TaskSet
-        requires { task.0 < 1024 }
+        requires { task.0 < MOST_TASKS }
         ensures { result.now ≡ slice_index_or self.now.sets task.0 [] }
     {
         &self.sets[task.0 as usize]

@@ -1,10 +1,8 @@
 //! How the bodies may end in the runs of a leaf, and which children they may start.
 
-ghost use Rattle.std.specs.Prelude.{◌≡◌, ◌<◌, ◌&&◌, ◌||◌, ℕ, ◌+◌, [], nat_eq, length};
-ghost use Rattle.tpl_model.specs.Members.{mem};
-ghost use Rattle.tpl_model.specs.Graph.{is_task};
-ghost use Rattle.tpl_checker.specs.Assumptions.{assumed_of};
-ghost use Rattle.tpl_checker.specs.Bodies.{AreBodies, AreFirstBodies};
+ghost use Rattle.std.specs.Prelude.{◌≡◌, ◌+◌, [], length};
+ghost use Rattle.tpl_checker.specs.Prelude.{AreBodies, AreFirstBodies, assumed_of};
+ghost use Rattle.tpl_model.specs.Prelude.{is_task};
 
 use crate::assumptions::Assumptions;
 use crate::rows::with_if;

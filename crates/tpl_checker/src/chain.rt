@@ -1,14 +1,11 @@
 //! The chain of a row leads to a continuation that reads its task's exception (the rule K6).
 
 ghost use Rattle.std.specs.Prelude.{◌≡◌, IsTrue, length, map};
-ghost use Rattle.tpl_model.specs.Recursion.{must_observe};
-ghost use Rattle.tpl_model.specs.Graph.{is_task, attached, body, kind};
-ghost use Rattle.tpl_model.specs.Certificate.{row};
-ghost use Rattle.tpl_draft.specs.Ids.{task_number};
-ghost use Rattle.tpl_laws.specs.RowTests.{chain, chain_by, continues, faulted_view, is_argument, reads, takes_over};
-ghost use Rattle.tpl_laws.specs.Verdict.{has_tasks};
-ghost use Rattle.tpl_checker.specs.Assumptions.{assumed_of};
-ghost use Rattle.tpl_graph.specs.Roles.{AreTasks};
+ghost use Rattle.tpl_checker.specs.Prelude.{assumed_of};
+ghost use Rattle.tpl_draft.specs.Prelude.{task_number};
+ghost use Rattle.tpl_graph.specs.Prelude.{AreTasks};
+ghost use Rattle.tpl_laws.specs.Prelude.{chain, chain_by, continues, faulted_view, has_tasks, is_argument, reads, takes_over};
+ghost use Rattle.tpl_model.specs.Prelude.{attached, body, is_task, kind, must_observe, row};
 
 use crate::assumptions::Assumptions;
 use crate::rows::{is_member, row};

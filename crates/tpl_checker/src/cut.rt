@@ -1,8 +1,8 @@
 //! How tasks don't end.
 
 ghost use Rattle.std.specs.Prelude.{◌≡◌, ◌<◌, ◌&&◌, ◌||◌, ℕ, not, nat_eq, true};
-ghost use Rattle.tpl_model.specs.Finals.{has};
-ghost use Rattle.tpl_checker.specs.Cut.{left_by};
+ghost use Rattle.tpl_checker.specs.Prelude.{left_by};
+ghost use Rattle.tpl_model.specs.Prelude.{has};
 
 use crate::rows::with_if;
 use tpl_model::{Final, Finals, MOST_TASKS, TaskId, TaskSet};

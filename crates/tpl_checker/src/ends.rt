@@ -1,17 +1,12 @@
 //! A row has each way in which its task may end (the rule K2).
 
 ghost use Rattle.std.specs.Prelude.{◌≡◌, ◌&&◌, ◌||◌, ℕ, length, map, not};
-ghost use Rattle.tpl_model.specs.Finals.{has, is_final};
-ghost use Rattle.tpl_model.specs.Members.{mem};
+ghost use Rattle.tpl_checker.specs.Prelude.{AreBodies, assumed_of};
+ghost use Rattle.tpl_draft.specs.Prelude.{task_number};
+ghost use Rattle.tpl_graph.specs.Prelude.{AreTasks};
+ghost use Rattle.tpl_laws.specs.Prelude.{all_may_end, body_may_end, ends, implies, may_be_canceled, may_end_as};
+ghost use Rattle.tpl_model.specs.Prelude.{Assumed, Child, Continues, Root, TaskGraph, WhenAny, attached, body, end_left, has, is_final, is_task, kind, mem, reaches, row, some_in, view};
 ghost use Rattle.tpl_model.specs.declared.finals.Final.TheVariants as finals;
-ghost use Rattle.tpl_model.specs.Recursion.{reaches};
-ghost use Rattle.tpl_model.specs.Graph.{TaskGraph, is_task, kind, body, attached, some_in, Root, Child, Continues, WhenAny};
-ghost use Rattle.tpl_model.specs.Certificate.{row, Assumed, end_left, view};
-ghost use Rattle.tpl_draft.specs.Ids.{task_number};
-ghost use Rattle.tpl_laws.specs.RowTests.{implies, ends, body_may_end, may_be_canceled, may_end_as, all_may_end};
-ghost use Rattle.tpl_checker.specs.Assumptions.{assumed_of};
-ghost use Rattle.tpl_checker.specs.Bodies.{AreBodies};
-ghost use Rattle.tpl_graph.specs.Roles.{AreTasks};
 
 use crate::all_ends::AllEnds;
 use crate::assumptions::Assumptions;

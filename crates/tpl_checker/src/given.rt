@@ -1,20 +1,17 @@
 //! What a claim takes as given.
 
-ghost use Rattle.std.specs.Prelude.{◌≡◌, ◌<◌, ℕ, ◌++◌, ◌||◌, false, [], if◌then◌else◌, List, map, slice_index_or, IfSome};
-ghost use Rattle.std.specs.Option.{option_map};
-ghost use Rattle.tpl_model.specs.Members.{mem};
-ghost use Rattle.tpl_model.specs.Certificate.{as_quiet, assumed, assumed_for, given_quiet, is_wide, own_quiet};
+ghost use Rattle.std.specs.Prelude.{◌≡◌, ◌<◌, ℕ, ◌++◌, ◌||◌, false, [], List, map, slice_index_or, IfSome, option_map};
+ghost use Rattle.tpl_checker.specs.Prelude.{AllTokens, assumed_of, nothing_assumed, with_given, with_own};
+ghost use Rattle.tpl_draft.specs.Prelude.{token_number};
+ghost use Rattle.tpl_graph.specs.Prelude.{AreGivenOf, Fits, IsGivenOf, TasksOf};
+ghost use Rattle.tpl_laws.specs.Prelude.{gives_quiet};
+ghost use Rattle.tpl_model.specs.Prelude.{as_quiet, assumed, assumed_for, given_quiet, is_task, is_wide, mem, own_quiet, task};
 ghost use Rattle.tpl_model.specs.declared.claim.Given.{Given};
 ghost use Rattle.tpl_model.specs.declared.claim.Property.TheVariants.{Excludes};
-ghost use Rattle.tpl_model.specs.Graph.{is_task, task};
-ghost use Rattle.tpl_draft.specs.Ids.{token_number};
-ghost use Rattle.tpl_laws.specs.Runs.{gives_quiet};
-ghost use Rattle.tpl_graph.specs.Fits.{AreGivenOf, IsGivenOf, Fits, TasksOf};
-ghost use Rattle.tpl_checker.specs.Assumptions.{assumed_of, nothing_assumed, with_given, with_own, AllTokens};
 
 use crate::assumptions::Assumptions;
 use tpl_graph::{Claim, Graph};
-use tpl_model::{Given, Property, RuleSet, TaskId, TokenId};
+use tpl_model::{Given, MOST_TOKENS, Property, RuleSet, TaskId, TokenId};
 
 /// What is assumed for a claim by these rules, before any split: what it takes as given, and by the
 /// wide ones for a claim about a beginning that the own token of the task that begins isn't requested.
@@ -42,7 +39,7 @@ pub fn assumed(graph: &Graph, given: &[Given], rules: RuleSet) -> Assumptions
 fn own_quiet(graph: &Graph, body: Property) -> Option<TokenId>
     requires { TasksOf graph.now.graph body }
     ensures own { as_quiet (option_map token_number result) ≡ own_quiet graph.now.graph body }
-    ensures limit { IfSome result (λ k. k.0 < 32) }
+    ensures limit { IfSome result (λ k. k.0 < MOST_TOKENS) }
 {
     match body {
         Property::After(_, task) | Property::Never(task) => own_token(graph, task),
@@ -55,7 +52,7 @@ fn own_quiet(graph: &Graph, body: Property) -> Option<TokenId>
 fn own_token(graph: &Graph, owner: TaskId) -> Option<TokenId>
     requires { is_task graph.now.graph owner.0 }
     ensures own { option_map token_number result ≡ (task graph.now.graph owner.0).token }
-    ensures limit { IfSome result (λ k. k.0 < 32) }
+    ensures limit { IfSome result (λ k. k.0 < MOST_TOKENS) }
 {
     graph.valid_law();
     graph.own_token(owner)
@@ -67,7 +64,7 @@ fn common_token(graph: &Graph, one: TaskId, other: TaskId) -> Option<TokenId>
     requires other { is_task graph.now.graph other.0 }
     ensures own { as_quiet (option_map token_number result)
         ≡ own_quiet graph.now.graph (Excludes one other) }
-    ensures limit { IfSome result (λ k. k.0 < 32) }
+    ensures limit { IfSome result (λ k. k.0 < MOST_TOKENS) }
 {
     match (own_token(graph, one), own_token(graph, other)) {
         (Some(first), Some(second)) if first.0 == second.0 => Some(second),
@@ -78,7 +75,7 @@ fn common_token(graph: &Graph, one: TaskId, other: TaskId) -> Option<TokenId>
 /// What is assumed where this is given, and this token too.
 fn assumed_with(graph: &Graph, own: Option<TokenId>, given: &[Given], rules: RuleSet) -> Assumptions
     requires given { AreGivenOf graph.now.graph given.now }
-    requires own { IfSome own (λ k. k.0 < 32) }
+    requires own { IfSome own (λ k. k.0 < MOST_TOKENS) }
     ensures { assumed_of result ≡ assumed (is_wide rules) graph.now.graph
         (as_quiet (option_map token_number own) ++ given.now) }
 {
@@ -92,7 +89,7 @@ fn assumed_with(graph: &Graph, own: Option<TokenId>, given: &[Given], rules: Rul
 
 /// What is assumed where this token is never requested.
 fn with_own(own: Option<TokenId>, rules: RuleSet) -> Assumptions
-    requires { IfSome own (λ k. k.0 < 32) }
+    requires { IfSome own (λ k. k.0 < MOST_TOKENS) }
     ensures { assumed_of result
         ≡ with_own (nothing_assumed (is_wide rules)) (option_map token_number own) }
 {
@@ -135,7 +132,7 @@ fn with_sources(graph: &Graph, quiet: [bool; 32]) -> [bool; 32]
 
 /// The marks, and one for each of the tokens.
 fn marked(quiet: [bool; 32], tokens: &[TokenId]) -> [bool; 32]
-    requires { AllTokens 32 tokens.now }
+    requires { AllTokens MOST_TOKENS tokens.now }
     ensures { (k : ℕ) → slice_index_or result k false ≡ (slice_index_or quiet k false
         || mem k (map token_number tokens.now)) }
 {

@@ -1,10 +1,8 @@
 //! The leaf whose bodies were read last.
 
 ghost use Rattle.std.specs.Prelude.{◌≡◌, ◌<◌, ℕ, length, IsTrue, IfSome};
-ghost use Rattle.tpl_model.specs.Certificate.{view};
-ghost use Rattle.tpl_checker.specs.Assumptions.{assumed_of};
-ghost use Rattle.tpl_checker.specs.Bodies.{AreBodies};
-ghost use Rattle.tpl_checker.specs.Last.{IsLast};
+ghost use Rattle.tpl_checker.specs.Prelude.{AreBodies, IsLast, assumed_of};
+ghost use Rattle.tpl_model.specs.Prelude.{view};
 
 use crate::assumptions::Assumptions;
 use crate::bodies::Bodies;

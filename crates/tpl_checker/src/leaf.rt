@@ -1,14 +1,10 @@
 //! The first fault of a leaf.
 
 ghost use Rattle.std.specs.Prelude.{◌≡◌, ◌↔◌, IsTrue, length};
-ghost use Rattle.tpl_model.specs.Graph.{is_task, kind};
-ghost use Rattle.tpl_model.specs.Certificate.{AcceptsTree, Leaf};
-ghost use Rattle.tpl_graph.specs.Fits.{TasksOf};
-ghost use Rattle.tpl_laws.specs.Verdict.{broken, first_broken, leaf_fault, past_rule, rows_fit};
-ghost use Rattle.tpl_checker.specs.Assumptions.{assumed_of};
-ghost use Rattle.tpl_checker.specs.Below.{AreBelow};
-ghost use Rattle.tpl_checker.specs.Bodies.{AreBodies};
-ghost use Rattle.tpl_checker.specs.Leaves.{fault_in};
+ghost use Rattle.tpl_checker.specs.Prelude.{AreBelow, AreBodies, assumed_of, fault_in};
+ghost use Rattle.tpl_graph.specs.Prelude.{TasksOf};
+ghost use Rattle.tpl_laws.specs.Prelude.{broken, first_broken, leaf_fault, past_rule, rows_fit};
+ghost use Rattle.tpl_model.specs.Prelude.{AcceptsTree, Leaf, is_task, kind};
 
 use crate::assumptions::Assumptions;
 use crate::before::before;

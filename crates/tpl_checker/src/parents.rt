@@ -1,10 +1,9 @@
 //! The parent of a child.
 
-ghost use Rattle.std.specs.Prelude.{◌≡◌, IfSome};
-ghost use Rattle.std.specs.Option.{option_map};
-ghost use Rattle.tpl_model.specs.Graph.{is_task, IsParent};
-ghost use Rattle.tpl_draft.specs.Ids.{task_number};
-ghost use Rattle.tpl_laws.specs.RowTests.{parent_of};
+ghost use Rattle.std.specs.Prelude.{◌≡◌, IfSome, option_map};
+ghost use Rattle.tpl_draft.specs.Prelude.{task_number};
+ghost use Rattle.tpl_laws.specs.Prelude.{parent_of};
+ghost use Rattle.tpl_model.specs.Prelude.{IsParent, is_task};
 
 use tpl_graph::Graph;
 use tpl_model::TaskId;

@@ -1,21 +1,18 @@
 //! What a row has past its task is settled when the task has ended (the rules K4 and K5).
 
 ghost use Rattle.std.specs.Prelude.{◌≡◌, ◌&&◌, ◌||◌, ◌<◌, ◌≤◌, ℕ, length, nat_eq, map};
-ghost use Rattle.tpl_model.specs.Members.{mem};
-ghost use Rattle.tpl_model.specs.Graph.{is_task, some_in, Child, Continues};
-ghost use Rattle.tpl_model.specs.Certificate.{Assumed, may_end_early, may_win, row};
-ghost use Rattle.tpl_draft.specs.Ids.{task_number};
-ghost use Rattle.tpl_laws.specs.RowTests.{all_in, implies, past, past_by};
-ghost use Rattle.tpl_checker.specs.Assumptions.{assumed_of};
-ghost use Rattle.tpl_checker.specs.Below.{AreBelow};
-ghost use Rattle.tpl_graph.specs.Roles.{AreTasks};
+ghost use Rattle.tpl_checker.specs.Prelude.{AreBelow, assumed_of};
+ghost use Rattle.tpl_draft.specs.Prelude.{task_number};
+ghost use Rattle.tpl_graph.specs.Prelude.{AreTasks};
+ghost use Rattle.tpl_laws.specs.Prelude.{all_in, implies, past, past_by};
+ghost use Rattle.tpl_model.specs.Prelude.{Assumed, Child, Continues, is_task, may_end_early, may_win, mem, row, some_in};
 
 use crate::assumptions::Assumptions;
 use crate::below::Below;
 use crate::parents::parent;
 use crate::rows::{before_of, may_end, past_of, row, settled_after, within};
 use tpl_graph::{Graph, Role};
-use tpl_model::{TaskId, TaskSet};
+use tpl_model::{MOST_TASKS, TaskId, TaskSet};
 use tpl_trees::Row;
 
 /// Whether each member of a row's `past` may be taken as settled when the task has ended. Where the
@@ -103,7 +100,7 @@ fn may_end_early(graph: &Graph, assumed: &Assumptions, rows: &[Row], task: TaskI
 /// The tasks, and what is past one of them: WhenAll ends after each.
 fn settled_after_some(rows: &[Row], tasks: &[TaskId]) -> TaskSet
     requires tasks { AreTasks (length rows.now) tasks.now }
-    requires limit { length rows.now ≤ 1024 }
+    requires limit { length rows.now ≤ MOST_TASKS }
     ensures { (x : ℕ) → mem x result ≡ some_in (λ y. nat_eq x y
         || mem x (row rows.now y).past) (map task_number tasks.now) }
 {
@@ -123,7 +120,7 @@ fn settled_after_each(
     set: &TaskSet,
 ) -> TaskSet
     requires tasks { AreTasks (length rows.now) tasks.now }
-    requires limit { length rows.now ≤ 1024 }
+    requires limit { length rows.now ≤ MOST_TASKS }
     ensures { (x : ℕ) → mem x result ≡ (mem x set.now && all_in
         (λ y. implies (may_win (assumed_of assumed.now) rows.now y)
         (nat_eq x y || mem x (row rows.now y).past)) (map task_number tasks.now)) }

@@ -1,15 +1,11 @@
 //! What a closed leaf proves.
 
 ghost use Rattle.std.specs.Prelude.{◌≡◌, ◌&&◌, not, false, length};
-ghost use Rattle.tpl_model.specs.Finals.{has};
-ghost use Rattle.tpl_model.specs.Graph.{is_task, kind};
-ghost use Rattle.tpl_model.specs.Rules.{to_end};
-ghost use Rattle.tpl_model.specs.Certificate.{Assumed, begins_itself, may_end};
-ghost use Rattle.tpl_graph.specs.Fits.{TasksOf};
-ghost use Rattle.tpl_laws.specs.RowTests.{each_end, implies, none_complete, proves};
+ghost use Rattle.tpl_checker.specs.Prelude.{AreBodies, assumed_of};
+ghost use Rattle.tpl_graph.specs.Prelude.{TasksOf};
+ghost use Rattle.tpl_laws.specs.Prelude.{each_end, implies, none_complete, proves};
+ghost use Rattle.tpl_model.specs.Prelude.{Assumed, begins_itself, has, is_task, kind, may_end, to_end};
 ghost use Rattle.tpl_model.specs.declared.claim.Property.TheVariants.{Observed, Runs};
-ghost use Rattle.tpl_checker.specs.Assumptions.{assumed_of};
-ghost use Rattle.tpl_checker.specs.Bodies.{AreBodies};
 
 use crate::assumptions::Assumptions;
 use crate::bodies::Bodies;

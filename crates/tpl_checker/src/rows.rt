@@ -1,14 +1,11 @@
 //! The rows of a leaf, and the tasks that a graph relates to one.
 
 ghost use Rattle.std.specs.Prelude.{◌≡◌, ℕ, ◌<◌, ◌≤◌, ◌&&◌, ◌||◌, length, nat_eq, Bool, map, not};
-ghost use Rattle.tpl_model.specs.Finals.{has};
-ghost use Rattle.tpl_model.specs.Members.{mem};
-ghost use Rattle.tpl_model.specs.Options.{allows};
-ghost use Rattle.tpl_model.specs.Certificate.{may_end, row};
-ghost use Rattle.tpl_draft.specs.Ids.{task_number};
-ghost use Rattle.tpl_laws.specs.RowTests.{all_in, implies, some_end};
+ghost use Rattle.tpl_draft.specs.Prelude.{task_number};
+ghost use Rattle.tpl_laws.specs.Prelude.{all_in, implies, some_end};
+ghost use Rattle.tpl_model.specs.Prelude.{allows, has, may_end, mem, row};
 
-use tpl_model::{Final, Finals, Options, TaskId, TaskSet};
+use tpl_model::{Final, Finals, MOST_TASKS, Options, TaskId, TaskSet};
 use tpl_trees::Row;
 
 /// The row of a task.
@@ -82,7 +79,7 @@ pub fn implies(condition: bool, other: bool) -> bool
 /// The task and what is past it.
 pub(crate) fn settled_after(rows: &[Row], task: TaskId) -> TaskSet
     requires row { task.0 < length rows.now }
-    requires limit { length rows.now ≤ 1024 }
+    requires limit { length rows.now ≤ MOST_TASKS }
     ensures { (x : ℕ) → mem x result ≡ (nat_eq x task.0 || mem x (row rows.now task.0).past) }
 {
     let mut settled = past_of(rows, task).copy();
@@ -112,7 +109,7 @@ pub fn is_member(task: TaskId, tasks: &[TaskId]) -> bool
 
 /// The set, with the task if it is to be a member.
 pub(crate) fn with_if(set: TaskSet, task: TaskId, member: bool) -> TaskSet
-    requires { task.0 < 1024 }
+    requires { task.0 < MOST_TASKS }
     ensures { (x : ℕ) → mem x result ≡ (member && nat_eq x task.0 || mem x set) }
 {
     let mut set = set;

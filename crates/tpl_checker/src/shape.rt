@@ -1,9 +1,9 @@
 //! Trees that fit their graph: each leaf has one row for each task, and each id is the graph's.
 
 ghost use Rattle.std.specs.Prelude.{◌≡◌, ◌&&◌, ℕ, length, map, nat_lt};
-ghost use Rattle.tpl_model.specs.Members.{mem};
-ghost use Rattle.tpl_draft.specs.Ids.{task_number};
-ghost use Rattle.tpl_laws.specs.Verdict.{fits, has_tasks, misfit, rows_fit};
+ghost use Rattle.tpl_draft.specs.Prelude.{task_number};
+ghost use Rattle.tpl_laws.specs.Prelude.{fits, has_tasks, misfit, rows_fit};
+ghost use Rattle.tpl_model.specs.Prelude.{mem};
 
 use crate::rows::within;
 use tpl_graph::{Claim, Graph};

@@ -1,13 +1,10 @@
 //! The first leaf of a tree that fails.
 
 ghost use Rattle.std.specs.Prelude.{◌≡◌, ◌+◌, ◌<◌, ◌^◌, IfSome, IsTrue, Some, length};
-ghost use Rattle.tpl_graph.specs.Fits.{TasksOf};
-ghost use Rattle.tpl_laws.specs.Verdict.{at_leaf, fits, leaves, rows_fit, tree_fault};
-ghost use Rattle.tpl_model.specs.Certificate.{Leaf};
-ghost use Rattle.tpl_checker.specs.Assumptions.{assumed_of};
-ghost use Rattle.tpl_checker.specs.Below.{AreBelow};
-ghost use Rattle.tpl_checker.specs.Last.{IsLast};
-ghost use Rattle.tpl_checker.specs.Leaves.{Failing, why};
+ghost use Rattle.tpl_checker.specs.Prelude.{AreBelow, Failing, IsLast, assumed_of, why};
+ghost use Rattle.tpl_graph.specs.Prelude.{TasksOf};
+ghost use Rattle.tpl_laws.specs.Prelude.{at_leaf, fits, leaves, rows_fit, tree_fault};
+ghost use Rattle.tpl_model.specs.Prelude.{Leaf};
 
 use crate::assumptions::Assumptions;
 use crate::below::Below;

@@ -1,16 +1,11 @@
 //! The check of a certificate.
 
-ghost use Rattle.std.specs.Prelude.{◌≡◌, ◌≤◌, ◌↔◌, List, Bool, IsOk, IfOk, IfErr, None};
-ghost use Rattle.std.specs.List.{All};
-ghost use Rattle.tpl_trees.specs.Heights.{height};
-ghost use Rattle.tpl_graph.specs.Fits.{Fits};
-ghost use Rattle.tpl_laws.specs.Faults.{IsFirstFault};
-ghost use Rattle.tpl_laws.specs.Soundness.{Each};
-ghost use Rattle.tpl_laws.specs.Verdict.{claims_fault, misfit, no_fault, verdict};
-ghost use Rattle.tpl_model.specs.Certificate.{Accepts, is_wide};
-ghost use Rattle.tpl_model.specs.Claims.{Holds};
-ghost use Rattle.tpl_model.specs.Rules.{Run};
+ghost use Rattle.std.specs.Prelude.{◌≡◌, ◌≤◌, ◌↔◌, List, Bool, IsOk, IfOk, IfErr, None, All};
+ghost use Rattle.tpl_graph.specs.Prelude.{Fits};
+ghost use Rattle.tpl_laws.specs.Prelude.{Each, IsFirstFault, claims_fault, misfit, no_fault, verdict};
+ghost use Rattle.tpl_model.specs.Prelude.{Accepts, Holds, Run, is_wide};
 ghost use Rattle.tpl_model.specs.declared.event.Event.{Event};
+ghost use Rattle.tpl_trees.specs.Prelude.{height};
 
 use crate::below::Below;
 use crate::given::assumed_for;

@@ -1,14 +1,11 @@
 //! What is known of the runs of a leaf in which a body is read.
 
-ghost use Rattle.std.specs.Prelude.{◌≡◌, ◌||◌, ℕ, Bool, length, map};
-ghost use Rattle.tpl_model.specs.Finals.{has, is_final};
-ghost use Rattle.tpl_model.specs.Graph.{is_task, kind};
-ghost use Rattle.tpl_model.specs.Certificate.{subject_set, one_ends, view};
-ghost use Rattle.tpl_model.specs.View.{known};
-ghost use Rattle.tpl_draft.specs.Ids.{task_number};
-ghost use Rattle.tpl_laws.specs.RowTests.{faulted_view};
-ghost use Rattle.tpl_checker.specs.Assumptions.{assumed_of};
-ghost use Rattle.tpl_graph.specs.Roles.{AreTasks};
+ghost use Rattle.std.specs.Prelude.{◌≡◌, length, map};
+ghost use Rattle.tpl_checker.specs.Prelude.{assumed_of};
+ghost use Rattle.tpl_draft.specs.Prelude.{task_number};
+ghost use Rattle.tpl_graph.specs.Prelude.{AreTasks};
+ghost use Rattle.tpl_laws.specs.Prelude.{faulted_view};
+ghost use Rattle.tpl_model.specs.Prelude.{has, is_task, kind, known, one_ends, subject_set, view};
 
 use crate::assumptions::Assumptions;
 use crate::rows::{allowed, row};

@@ -2,3 +2,4 @@ pub mod Number
 pub mod Options
 pub mod Usage
 pub mod Line
+pub mod Prelude

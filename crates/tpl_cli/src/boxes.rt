@@ -1,11 +1,10 @@
 //! The boxes of a document's work statements.
 
-ghost use Rattle.std.specs.Prelude.{◌≡◌, false};
-ghost use Rattle.std.specs.List.{All};
-ghost use Rattle.tpl_graph.specs.Fits.{Fits};
-ghost use Rattle.tpl_reader.specs.SeenDocument.{doc_of};
-ghost use Rattle.tpl_commands.specs.Loading.{RequestsTokens};
-ghost use Rattle.tpl_report.specs.Telling.{IsToldOf};
+ghost use Rattle.std.specs.Prelude.{◌≡◌, false, All};
+ghost use Rattle.tpl_commands.specs.Prelude.{RequestsTokens};
+ghost use Rattle.tpl_graph.specs.Prelude.{Fits};
+ghost use Rattle.tpl_reader.specs.Prelude.{doc_of};
+ghost use Rattle.tpl_report.specs.Prelude.{IsToldOf};
 
 use std::alloc::Global;
 use std::io::Write;

@@ -2,8 +2,7 @@
 
 ghost use Rattle.std.specs.Prelude.{◌≡◌, true, codes, IfOk, MatchOption, MatchResult, map};
 ghost use Rattle.clap.specs.Words.{Text, found_of, kind_of, rows_of, subcommand_rows_of, takes};
-ghost use Rattle.tpl_cli.specs.Line.{Asks, AreTries, IsForm, IsLineOf, IsWithin, Means, Names};
-ghost use Rattle.tpl_cli.specs.Usage.{taskgraph};
+ghost use Rattle.tpl_cli.specs.Prelude.{AreTries, Asks, IsForm, IsLineOf, IsWithin, Means, Names, taskgraph};
 
 use crate::number::Number;
 use crate::options::{depth_in, is_set, language_in, number_if_given, number_in, style_in};

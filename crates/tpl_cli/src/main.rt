@@ -11,14 +11,12 @@ mod tips;
 mod usage;
 mod why;
 
-ghost use Rattle.std.specs.Prelude.{◌<◌, ◌≤◌, IfOk};
-ghost use Rattle.std.specs.List.{All};
-ghost use Rattle.tpl_graph.specs.Fits.{Fits};
-ghost use Rattle.tpl_cli.specs.Line.{AreThreads, IsWithin};
-ghost use Rattle.tpl_commands.specs.Loading.{RequestsTokens};
-ghost use Rattle.tpl_reader.specs.Document.{DocumentValue, Spells};
-ghost use Rattle.tpl_reader.specs.SeenDocument.{doc_of};
-ghost use Rattle.tpl_report.specs.Telling.{IsToldOf};
+ghost use Rattle.std.specs.Prelude.{◌<◌, ◌≤◌, IfOk, All};
+ghost use Rattle.tpl_cli.specs.Prelude.{AreThreads, IsWithin};
+ghost use Rattle.tpl_commands.specs.Prelude.{RequestsTokens};
+ghost use Rattle.tpl_graph.specs.Prelude.{Fits};
+ghost use Rattle.tpl_reader.specs.Prelude.{DocumentValue, Spells, doc_of};
+ghost use Rattle.tpl_report.specs.Prelude.{IsToldOf};
 
 use crate::boxes::run_boxes;
 use crate::devices::{Noting, say_unwritten, say_what_failed};

@@ -1,7 +1,7 @@
 //! The options for numbers.
 
 ghost use Rattle.std.specs.Prelude.{◌≡◌};
-ghost use Rattle.tpl_cli.specs.Number.{number_name, number_range};
+ghost use Rattle.tpl_cli.specs.Prelude.{number_name, number_range};
 
 /// An option for a number.
 #[derive(Clone, Copy, Debug, Drop, PartialEq, Eq)]

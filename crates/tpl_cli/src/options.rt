@@ -2,8 +2,7 @@
 
 ghost use Rattle.std.specs.Prelude.{◌≡◌, ◌<◌, ◌^◌, ℕ, [], ◌∷◌, codes, false, Option, MatchOption};
 ghost use Rattle.clap.specs.Words.{found_of, rows_of, rule_of};
-ghost use Rattle.tpl_cli.specs.Number.{number_range};
-ghost use Rattle.tpl_cli.specs.Options.{claim_rule, depth_rule, each_rule, explain_rule, flag, jobs_rule, language_rule, language_word, numbered, rows_rule, runs_rule, seed_rule, slim_rule, style_rule, style_word, valued, whole_rule, workers_rule, IsFlag, IsGiven, IsIfGiven, IsLanguage, IsStyle};
+ghost use Rattle.tpl_cli.specs.Prelude.{IsFlag, IsGiven, IsIfGiven, IsLanguage, IsStyle, claim_rule, depth_rule, each_rule, explain_rule, flag, jobs_rule, language_rule, language_word, number_range, numbered, rows_rule, runs_rule, seed_rule, slim_rule, style_rule, style_word, valued, whole_rule, workers_rule};
 
 use crate::number::Number;
 use clap::{Arg, ArgAction, ArgMatches, value_parser};

@@ -1,9 +1,9 @@
 //! How the words of the command line are written.
 
 ghost use Rattle.std.specs.Prelude.{◌≡◌, false, IfOk};
-ghost use Rattle.clap.specs.Words.{app_of, rule_of, with_rule, with_subcommand};
 ghost use Rattle.clap.specs.declared.builder.command.Command.TheViews.{out-Command};
-ghost use Rattle.tpl_cli.specs.Usage.{analyse_command, audit_command, check_command, draw_command, no_command, refute_command, run_command, taskgraph, trace_command, verify_command};
+ghost use Rattle.clap.specs.Words.{app_of, rule_of, with_rule, with_subcommand};
+ghost use Rattle.tpl_cli.specs.Prelude.{analyse_command, audit_command, check_command, draw_command, no_command, refute_command, run_command, taskgraph, trace_command, verify_command};
 
 use crate::options::{
     claim, depth, each, explain, jobs, language, rows, runs, seed, slim, style, whole, workers,

@@ -1,12 +1,10 @@
 //! What is said on the standard error, for people: how far a search is, and why an answer is what it is. It changes
 //! nothing of the answer.
 
-ghost use Rattle.std.specs.Prelude.{IfOk, IfSome};
-ghost use Rattle.std.specs.List.{All};
-ghost use Rattle.tpl_graph.specs.Fits.{Fits};
-ghost use Rattle.tpl_reader.specs.Document.{Spells};
-ghost use Rattle.tpl_reader.specs.SeenDocument.{doc_of};
-ghost use Rattle.tpl_commands.specs.Finding.{IsFoundOf};
+ghost use Rattle.std.specs.Prelude.{IfOk, IfSome, All};
+ghost use Rattle.tpl_commands.specs.Prelude.{IsFoundOf};
+ghost use Rattle.tpl_graph.specs.Prelude.{Fits};
+ghost use Rattle.tpl_reader.specs.Prelude.{Spells, doc_of};
 
 use crate::progress::clear;
 use json::Value;

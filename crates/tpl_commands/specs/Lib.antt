@@ -14,3 +14,4 @@ pub mod Searching
 pub mod Serving
 pub mod Texts
 pub mod Unreadable
+pub mod Prelude

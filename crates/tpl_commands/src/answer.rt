@@ -1,6 +1,6 @@
 //! A whole text, and writing it.
 
-ghost use Rattle.std.specs.Prelude.{◌≡◌, ◌≢◌, MatchResult, IsTrue, codes, string_bytes};
+ghost use Rattle.std.specs.Prelude.{◌≢◌, MatchResult, IsTrue, codes, string_bytes};
 ghost use Rattle.tpl_commands.specs.Exit.{is_verdict};
 ghost use Rattle.tpl_commands.specs.Responding.{Puts};
 

@@ -1,16 +1,12 @@
 //! The audit of a document's journal.
 
-ghost use Rattle.std.specs.Prelude.{◌≡◌, ◌++◌, Some, IfOk, string_bytes};
-ghost use Rattle.std.specs.List.{All};
-ghost use Rattle.tpl_model.specs.Graph.{is_task};
-ghost use Rattle.tpl_graph.specs.Fits.{Fits};
+ghost use Rattle.std.specs.Prelude.{◌≡◌, ◌++◌, Some, IfOk, string_bytes, All};
+ghost use Rattle.tpl_audit.specs.Prelude.{AreTasksOf};
+ghost use Rattle.tpl_commands.specs.Prelude.{IsAuditAnswer, IsAuditOf, IsAudited, IsNoJournalText, ended_of, run_exit, run_text, task_ended, verdict_exit, verdict_text};
+ghost use Rattle.tpl_graph.specs.Prelude.{Fits};
 ghost use Rattle.tpl_journal.specs.Lines.{task_name};
-ghost use Rattle.tpl_audit.specs.Ending.{AreTasksOf};
-ghost use Rattle.tpl_reader.specs.SeenDocument.{doc_of};
-ghost use Rattle.tpl_commands.specs.Auditing.{IsAuditAnswer, IsAudited, IsAuditOf, IsNoJournalText, run_exit, run_text, verdict_exit, verdict_text};
-ghost use Rattle.tpl_commands.specs.Recorded.{ended_of};
-ghost use Rattle.tpl_commands.specs.Texts.{task_ended};
-ghost use Rattle.tpl_reader.specs.Starting.{inputs_of};
+ghost use Rattle.tpl_model.specs.Prelude.{is_task};
+ghost use Rattle.tpl_reader.specs.Prelude.{doc_of, inputs_of};
 
 use crate::answer::Answer;
 use crate::exit::Exit;

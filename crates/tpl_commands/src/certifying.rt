@@ -1,15 +1,11 @@
 //! The document with a certificate that was found.
 
-ghost use Rattle.std.specs.Prelude.{◌≡◌, true, IfOk, string_bytes};
-ghost use Rattle.std.specs.List.{All, list_all};
+ghost use Rattle.std.specs.Prelude.{◌≡◌, true, IfOk, string_bytes, All};
+ghost use Rattle.std.specs.List.{list_all};
 ghost use Rattle.serde_json.specs.View.{view};
-ghost use Rattle.tpl_cert.specs.Written.{has_ids};
-ghost use Rattle.tpl_reader.specs.Document.{Reads, Spells};
-ghost use Rattle.tpl_reader.specs.Laws.{HasCertificate, HoldsCertificate};
-ghost use Rattle.tpl_reader.specs.SeenDocument.{doc_of};
-ghost use Rattle.tpl_commands.specs.Certifying.{IsCertifying, IsObject, IsSized, IsTextOfObject, IsWholeText};
-ghost use Rattle.tpl_commands.specs.Proof.{proof_data, rules_for, trees_of, IsRead};
-ghost use Rattle.tpl_commands.specs.Searching.{IsFoundBy, IsSearchOf};
+ghost use Rattle.tpl_cert.specs.Prelude.{has_ids};
+ghost use Rattle.tpl_commands.specs.Prelude.{IsCertifying, IsFoundBy, IsObject, IsRead, IsSearchOf, IsSized, IsTextOfObject, IsWholeText, proof_data, rules_for, trees_of};
+ghost use Rattle.tpl_reader.specs.Prelude.{HasCertificate, HoldsCertificate, Reads, Spells, doc_of};
 
 use crate::answer::Answer;
 use crate::exit::Exit;

@@ -1,12 +1,10 @@
 //! The answer to the check of a document's certificate.
 
-ghost use Rattle.std.specs.Prelude.{◌≡◌, IfOk, string_bytes};
-ghost use Rattle.std.specs.List.{All};
-ghost use Rattle.tpl_graph.specs.Fits.{Fits};
+ghost use Rattle.std.specs.Prelude.{◌≡◌, IfOk, string_bytes, All};
+ghost use Rattle.tpl_commands.specs.Prelude.{IsCheckOf, IsRefusal, IsVerdict, IsVerdictText, NamesTask, rules_of};
+ghost use Rattle.tpl_graph.specs.Prelude.{Fits};
 ghost use Rattle.tpl_model.specs.declared.rule_set.RuleSet.TheVariants.{Narrow, Wide};
-ghost use Rattle.tpl_reader.specs.SeenDocument.{doc_of};
-ghost use Rattle.tpl_commands.specs.Rules.{rules_of};
-ghost use Rattle.tpl_commands.specs.Checking.{IsCheckOf, IsVerdict, IsVerdictText, IsRefusal, NamesTask};
+ghost use Rattle.tpl_reader.specs.Prelude.{doc_of};
 
 use crate::answer::Answer;
 use crate::exit::Exit;

@@ -1,15 +1,12 @@
 //! The picture of a document's graph.
 
-ghost use Rattle.std.specs.Prelude.{◌≡◌, Some, IfOk, reverse, string_bytes};
-ghost use Rattle.std.specs.List.{All};
-ghost use Rattle.tpl_audit.specs.Audit.{FirstFails};
-ghost use Rattle.tpl_graph.specs.Fits.{Fits};
-ghost use Rattle.tpl_journal.specs.Lines.{IsJournal};
+ghost use Rattle.std.specs.Prelude.{◌≡◌, Some, IfOk, reverse, string_bytes, All};
+ghost use Rattle.tpl_audit.specs.Prelude.{FirstFails};
+ghost use Rattle.tpl_commands.specs.Prelude.{AreEndings, IsCheckOf, IsDrawing, IsMoment, IsMomentOf, IsShown, failing_in, place_shown};
+ghost use Rattle.tpl_graph.specs.Prelude.{Fits};
+ghost use Rattle.tpl_journal.specs.Prelude.{IsJournal};
 ghost use Rattle.tpl_model.specs.Rules as rules;
-ghost use Rattle.tpl_reader.specs.SeenDocument.{doc_of};
-ghost use Rattle.tpl_reader.specs.Starting.{inputs_of};
-ghost use Rattle.tpl_commands.specs.Checking.{IsCheckOf};
-ghost use Rattle.tpl_commands.specs.Drawing.{failing_in, place_shown, AreEndings, IsDrawing, IsMoment, IsMomentOf, IsShown};
+ghost use Rattle.tpl_reader.specs.Prelude.{doc_of, inputs_of};
 
 use crate::answer::Answer;
 use crate::exit::Exit;

@@ -1,7 +1,7 @@
 //! How the program ends.
 
 ghost use Rattle.std.specs.Prelude.{◌≡◌};
-ghost use Rattle.tpl_commands.specs.Exit.{exit_code};
+ghost use Rattle.tpl_commands.specs.Prelude.{exit_code};
 
 /// How the program ends.
 #[derive(Clone, Copy, Debug, Drop, PartialEq, Eq)]

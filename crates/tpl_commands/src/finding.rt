@@ -1,13 +1,10 @@
 //! What was found for the bytes of a document. The answer and its reason follow from it.
 
-ghost use Rattle.std.specs.Prelude.{IfOk, string_bytes};
-ghost use Rattle.std.specs.List.{All};
-ghost use Rattle.tpl_graph.specs.Fits.{Fits};
-ghost use Rattle.tpl_reader.specs.Document.{Spells};
-ghost use Rattle.tpl_reader.specs.SeenDocument.{doc_of};
-ghost use Rattle.tpl_audit.specs.Ending.{AreTasksOf};
-ghost use Rattle.tpl_commands.specs.Recorded.{ended_of};
-ghost use Rattle.tpl_commands.specs.Finding.{IsAnswer, IsAnswerTo, IsAskedFor, IsFindingOf, IsFoundFor, IsFoundOf};
+ghost use Rattle.std.specs.Prelude.{IfOk, string_bytes, All};
+ghost use Rattle.tpl_audit.specs.Prelude.{AreTasksOf};
+ghost use Rattle.tpl_commands.specs.Prelude.{IsAnswer, IsAnswerTo, IsAskedFor, IsFindingOf, IsFoundFor, IsFoundOf, ended_of};
+ghost use Rattle.tpl_graph.specs.Prelude.{Fits};
+ghost use Rattle.tpl_reader.specs.Prelude.{Spells, doc_of};
 
 use crate::answer::Answer;
 use crate::ask::Ask;

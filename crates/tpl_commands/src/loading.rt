@@ -1,15 +1,11 @@
 //! The document of a run.
 
-ghost use Rattle.std.specs.Prelude.{◌≡◌, ◌+◌, ◌≤◌, IfOk, IfErr};
-ghost use Rattle.std.specs.List.{All};
-ghost use Rattle.tpl_trees.specs.Heights.{IsWithinLimits};
-ghost use Rattle.tpl_graph.specs.Fits.{Fits};
-ghost use Rattle.tpl_journal.specs.Counting.{calls_of};
-ghost use Rattle.tpl_reader.specs.Document.{Spells};
-ghost use Rattle.tpl_reader.specs.SeenDocument.{doc_of};
-ghost use Rattle.tpl_commands.specs.Documents.{NoDocument};
-ghost use Rattle.tpl_commands.specs.Loading.{Loads, RequestsTokens};
-ghost use Rattle.tpl_commands.specs.Responding.{longest, Responds};
+ghost use Rattle.std.specs.Prelude.{◌≡◌, ◌+◌, ◌≤◌, IfOk, IfErr, All};
+ghost use Rattle.tpl_commands.specs.Prelude.{Loads, NoDocument, RequestsTokens, Responds, longest};
+ghost use Rattle.tpl_graph.specs.Prelude.{Fits};
+ghost use Rattle.tpl_journal.specs.Prelude.{calls_of};
+ghost use Rattle.tpl_reader.specs.Prelude.{Spells, doc_of};
+ghost use Rattle.tpl_trees.specs.Prelude.{IsWithinLimits};
 
 use crate::exit::Exit;
 use crate::listening::{Listen, Nobody};

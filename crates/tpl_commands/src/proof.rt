@@ -1,16 +1,15 @@
 //! Certificates that a search finds, by the narrow rules or by the wide ones.
 
-ghost use Rattle.std.specs.Prelude.{◌≡◌, ◌≤◌, true, Ok, Err, IfOk, IfErr, Some, string_bytes};
-ghost use Rattle.std.specs.List.{All, list_all};
+ghost use Rattle.std.specs.Prelude.{◌≡◌, ◌≤◌, true, Ok, Err, IfOk, IfErr, Some, string_bytes, All};
+ghost use Rattle.std.specs.List.{list_all};
 ghost use Rattle.serde_json.specs.Read.{read};
 ghost use Rattle.serde_json.specs.Written.{compact_text};
-ghost use Rattle.tpl_analyser.specs.Gaps.{IsGap};
-ghost use Rattle.tpl_analyser.specs.Slim.{IsOfFormBy};
-ghost use Rattle.tpl_trees.specs.WideHeights.{wide_height, IsWithinWideLimits};
-ghost use Rattle.tpl_cert.specs.Written.{has_ids};
-ghost use Rattle.tpl_graph.specs.Fits.{Fits};
-ghost use Rattle.tpl_laws.specs.ByRules.{AcceptsBy};
-ghost use Rattle.tpl_commands.specs.Proof.{proof_data, rules_for, trees_of, IsRead};
+ghost use Rattle.tpl_analyser.specs.Prelude.{IsGap, IsOfFormBy};
+ghost use Rattle.tpl_cert.specs.Prelude.{has_ids};
+ghost use Rattle.tpl_commands.specs.Prelude.{IsRead, proof_data, rules_for, trees_of};
+ghost use Rattle.tpl_graph.specs.Prelude.{Fits};
+ghost use Rattle.tpl_laws.specs.Prelude.{AcceptsBy};
+ghost use Rattle.tpl_trees.specs.Prelude.{IsWithinWideLimits, wide_height};
 
 use std::alloc::{AllocError, Global};
 use tpl_analyser::{Budget, Depth, Form, Gap, Watch, analyse_widely, analyse_within};

@@ -1,8 +1,8 @@
 //! What a document says of a real run of its graph.
 
 ghost use Rattle.std.specs.Prelude.{◌≡◌};
-ghost use Rattle.tpl_reader.specs.SeenDocument.{doc_of};
-ghost use Rattle.tpl_commands.specs.Recorded.{ended_of, times_of};
+ghost use Rattle.tpl_commands.specs.Prelude.{ended_of, times_of};
+ghost use Rattle.tpl_reader.specs.Prelude.{doc_of};
 
 use tpl_model::{Final, TaskId};
 use tpl_reader::Document;

@@ -1,8 +1,8 @@
 //! By which rules a document's certificates are judged.
 
 ghost use Rattle.std.specs.Prelude.{◌≡◌};
-ghost use Rattle.tpl_reader.specs.SeenDocument.{doc_of};
-ghost use Rattle.tpl_commands.specs.Rules.{rules_of};
+ghost use Rattle.tpl_commands.specs.Prelude.{rules_of};
+ghost use Rattle.tpl_reader.specs.Prelude.{doc_of};
 
 use tpl_model::RuleSet;
 use tpl_reader::Document;

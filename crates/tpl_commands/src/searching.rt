@@ -1,16 +1,14 @@
 //! The search for a certificate of a document's claims.
 
-ghost use Rattle.std.specs.Prelude.{◌≡◌, ◌++◌, true, Some, codes, IfOk, string_bytes};
-ghost use Rattle.std.specs.List.{All, list_all};
+ghost use Rattle.std.specs.Prelude.{◌≡◌, ◌++◌, true, Some, codes, IfOk, string_bytes, All};
+ghost use Rattle.std.specs.List.{list_all};
 ghost use Rattle.serde_json.specs.Read.{read};
 ghost use Rattle.serde_json.specs.Written.{compact_text};
-ghost use Rattle.tpl_cert.specs.Written.{has_ids};
-ghost use Rattle.tpl_graph.specs.Fits.{Fits};
-ghost use Rattle.tpl_reader.specs.SeenDocument.{doc_of};
-ghost use Rattle.tpl_commands.specs.Checking.{ClaimsHold};
-ghost use Rattle.tpl_commands.specs.Proof.{proof_data, rules_for, trees_of, IsRead};
-ghost use Rattle.tpl_commands.specs.Searching.{IsBackWhereRead, IsFoundBy, IsOutcomeText, IsProofOf, IsSearching, IsSearchOf};
+ghost use Rattle.tpl_cert.specs.Prelude.{has_ids};
+ghost use Rattle.tpl_commands.specs.Prelude.{ClaimsHold, IsBackWhereRead, IsFoundBy, IsOutcomeText, IsProofOf, IsRead, IsSearchOf, IsSearching, proof_data, rules_for, trees_of};
 ghost use Rattle.tpl_commands.specs.Texts.{not_found as not_found_line};
+ghost use Rattle.tpl_graph.specs.Prelude.{Fits};
+ghost use Rattle.tpl_reader.specs.Prelude.{doc_of};
 
 use crate::answer::Answer;
 use crate::exit::Exit;

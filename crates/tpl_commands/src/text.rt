@@ -1,7 +1,7 @@
 //! The lines that the program writes.
 
 ghost use Rattle.std.specs.Prelude.{◌≡◌, ◌++◌, IfOk, string_bytes};
-ghost use Rattle.tpl_commands.specs.Texts.{rule_name, refused_shape, refused_leaf, refused_claim, not_found, ended, claim_fails, task_ended, not_allowed, unreadable, unreadable_part, unreadable_at, unreadable_graph, unreadable_start};
+ghost use Rattle.tpl_commands.specs.Prelude.{claim_fails, ended, not_allowed, not_found, refused_claim, refused_leaf, refused_shape, rule_name, task_ended, unreadable, unreadable_at, unreadable_graph, unreadable_part, unreadable_start};
 
 use std::alloc::{AllocError, Global};
 use tpl_model::{Rule, Status};

@@ -1,8 +1,7 @@
 //! The lines for documents that can't be read.
 
-ghost use Rattle.std.specs.Prelude.{◌≡◌, IfOk, string_bytes};
-ghost use Rattle.std.specs.Option.{option_map};
-ghost use Rattle.tpl_commands.specs.Unreadable.{options_word, graph_word, claim_word, tree_word, start_word, shape_text, IsUnreadable};
+ghost use Rattle.std.specs.Prelude.{◌≡◌, IfOk, string_bytes, option_map};
+ghost use Rattle.tpl_commands.specs.Prelude.{IsUnreadable, claim_word, graph_word, options_word, shape_text, start_word, tree_word};
 
 use crate::answer::Answer;
 use crate::exit::Exit;

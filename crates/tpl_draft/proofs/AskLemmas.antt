@@ -4,6 +4,9 @@ use Rattle.std.proofs.lemmas.List.{drop_all}
 use Rattle.std.proofs.lemmas.List.Folds.{list_any-append}
 use Rattle.std.specs.List.{list_any}
 use Rattle.tpl_draft.specs.declared.draft.DraftStmt.{DraftStmt}
+use Rattle.tpl_draft.specs.declared.draft.DraftBody.TheDeep.{deep-DraftStmt}
+use Rattle.tpl_draft.specs.declared.draft.DraftBody.TheView.{size}
+use Rattle.tpl_draft.specs.FallsDraft.{deep_le-count}
 use Rattle.tpl_draft.specs.Draft.{Line, Lines, Then, line_count, count_line, each_of, each_within}
 use Rattle.tpl_draft.specs.SeenDraft.{line_of, lines_of}
 
@@ -17,8 +20,9 @@ count_at [] i x lt is = absurd (omega arith)
 count_at (s ∷ rest) zero x lt is = omega (arith, ap (λ y. count_line (line_of y)) is)
 count_at (s ∷ rest) (suc i) x lt is = omega (arith, count_at rest i x (omega arith) is)
 
-pub falls_in : (body : Lines) (items : List DraftStmt) (i : ℕ) (x : DraftStmt) → lines_of items ≡ body → i < length items → x ≡ get_or items i x → count_line (line_of x) ≤ line_count body
-falls_in body items i x e lt is = omega (arith, ap line_count e, count_at items i x lt is)
+-- a statement of a list is less deep than the list
+pub deep_in : (body : Lines) (items : List DraftStmt) (i : ℕ) (x : DraftStmt) → lines_of items ≡ body → i < length items → x ≡ get_or items i x → deep-DraftStmt x ≤ size body
+deep_in body items i x e lt is = omega (arith, deep_le-count x, ap line_count e, count_at items i x lt is)
 
 -- no statement before an index passes the test
 pub record NoneSoFar (p : Line → Bool) (body : Lines) (items : List DraftStmt) (i : ℕ) : Type 0 where

@@ -28,20 +28,9 @@ why_at n = why.Memory
 
 -- which fault of options is named makes no difference to where one applies
 applies_at_number : (d : Draft) (w : Why) (at : ℕ) → applies d w at ≡ applies d (why_at (number w)) at
-applies_at_number d why.TooMany at = refl
-applies_at_number d why.BadName at = refl
-applies_at_number d why.NameTwice at = refl
-applies_at_number d why.Unknown at = refl
-applies_at_number d why.NotEarlier at = refl
-applies_at_number d why.OfChild at = refl
-applies_at_number d why.EmptyAny at = refl
-applies_at_number d why.ChildPlace at = refl
-applies_at_number d why.SiteTwice at = refl
 applies_at_number d (why.Option f) zero = refl
 applies_at_number d (why.Option f) (suc t) = refl
-applies_at_number d why.ObserveNothing at = refl
-applies_at_number d why.Memory at = refl
-applies_at_number d why.LinkPlace at = refl
+applies_at_number d s at = refl
 
 pub none_below_next : (d : Draft) (w : Why) (n : ℕ) → n ≡ suc (number w) → NoneBelow d (number w) → ((at : ℕ) → applies d w at ≡ false) → NoneBelow d n
 none_below_next d w n e before here v at lt = ⊎_elim
@@ -55,28 +44,11 @@ least d w at named before first =
 
 pub test_named : (d : Draft) (test : Test) (at : ℕ) → names_fault d (why_of test) at ≡ true
 test_named d test.BadName at = refl
-test_named d (test.Unknown n) at = refl
-test_named d (test.NotEarlier n) at = refl
-test_named d (test.OfChild n) at = refl
-test_named d test.EmptyAny at = refl
-test_named d (test.ChildPlace n starters) at = refl
-test_named d test.ObserveNothing at = refl
-test_named d (test.LinkPlace tokens) at = refl
+test_named d s at = refl
 
 pub nothing_below_one : (d : Draft) → NoneBelow d 1
 nothing_below_one d w at lt = absurd (none w lt)
   where
     none : (w : Why) → number w < 1 → ⊥
     none why.TooMany lt = omega arith
-    none why.BadName lt = omega arith
-    none why.NameTwice lt = omega arith
-    none why.Unknown lt = omega arith
-    none why.NotEarlier lt = omega arith
-    none why.OfChild lt = omega arith
-    none why.EmptyAny lt = omega arith
-    none why.ChildPlace lt = omega arith
-    none why.SiteTwice lt = omega arith
-    none (why.Option f) lt = omega arith
-    none why.ObserveNothing lt = omega arith
-    none why.Memory lt = omega arith
-    none why.LinkPlace lt = omega arith
+    none s lt = omega arith

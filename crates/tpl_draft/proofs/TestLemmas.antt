@@ -17,27 +17,19 @@ before_is t (p ∷ []) = refl
 before_is t (p ∷ q ∷ ps) = refl
 
 pub tested : (d : Draft) (test : Test) (t : ℕ) (x : Task) → t < length d.tasks → IsTestOf d test → tests d.tasks test t x ≡ in_task d (why_of test) t x
-tested d test.BadName t x lt of = refl
 tested d (test.Unknown n) t x lt of =
     ap (λ l. (is_missing l (worked x.kind).token || list_any (lacks n.now.tasks) (waits_for x.kind)) || list_any (says_unknown n.now.inputs l n.now.tasks) (statements_in x)) of.1
     ∙ (ap (λ l. (is_missing (names_of d).tokens (worked x.kind).token || list_any (lacks l) (waits_for x.kind)) || list_any (says_unknown n.now.inputs (names_of d).tokens l) (statements_in x)) of.2
     ∙ ap (λ l. (is_missing (names_of d).tokens (worked x.kind).token || list_any (lacks (names_of d).tasks) (waits_for x.kind)) || list_any (says_unknown l (names_of d).tokens (names_of d).tasks) (statements_in x)) of.0)
 tested d (test.NotEarlier n) t x lt of = ap (λ l. list_any (λ a. not (nat_lt (place l a) t)) (waits_for x.kind)) of.2
 tested d (test.OfChild n) t x lt of = ap (λ l. list_any (λ a. is_child_at d.tasks (place l a)) (waits_for x.kind)) of.2
-tested d test.EmptyAny t x lt of = refl
 tested d (test.ChildPlace n starters) t x lt of =
     ap (λ l. (is_child x.kind && not (is_before t (slice_get starters.now t))) || list_any (starts_no_child d.tasks l) (statements_in x)) of.0.2
     ∙ ap (λ b. (is_child x.kind && not b) || list_any (starts_no_child d.tasks (names_of d).tasks) (statements_in x))
     (ap (is_before t) (of.1 t lt) ∙ before_is t (starters_from t 0 (all_starts (graph_in (names_of d) d))))
-tested d test.ObserveNothing t x lt of = refl
-tested d (test.LinkPlace tokens) t x lt of = refl
+tested d s t x lt of = refl
 
 pub asked_of_lists : (d : Draft) (test : Test) → IsTestOf d test → in_lists_of d test ≡ in_lists d (why_of test)
-asked_of_lists d test.BadName of = refl
 asked_of_lists d (test.Unknown n) of = ap (λ l. list_any (λ (k : Token). list_any (lacks l) (linked_to k.linked)) d.tokens) of.1
-asked_of_lists d (test.NotEarlier n) of = refl
-asked_of_lists d (test.OfChild n) of = refl
-asked_of_lists d test.EmptyAny of = refl
-asked_of_lists d (test.ChildPlace n starters) of = refl
-asked_of_lists d test.ObserveNothing of = refl
 asked_of_lists d (test.LinkPlace tokens) of = ap (some_misplaced 0) of
+asked_of_lists d s of = refl

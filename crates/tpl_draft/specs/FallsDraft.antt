@@ -8,16 +8,9 @@ use Rattle.tpl_draft.specs.declared.draft.DraftBody.TheDeep.{deep-DraftStmt}
 use Rattle.tpl_draft.specs.Draft.{line_count, count_line}
 use Rattle.tpl_draft.specs.SeenDraft.{line_of, lines_of}
 
-deep_le-count : (s : DraftStmt) → deep-DraftStmt s ≤ count_line (line_of s)
+pub deep_le-count : (s : DraftStmt) → deep-DraftStmt s ≤ count_line (line_of s)
 deep_le-count stmt.Return = omega arith
-deep_le-count (stmt.Throw l) = omega arith
-deep_le-count (stmt.Check k) = omega arith
-deep_le-count (stmt.Cancel k) = omega arith
-deep_le-count (stmt.Start c) = omega arith
-deep_le-count stmt.Observe = omega arith
-deep_le-count (stmt.Work s b) = omega arith
-deep_le-count (stmt.If i a b) = omega arith
-deep_le-count (stmt.When f a b) = omega arith
+deep_le-count s = omega arith
 
 pub deepest_le-count : (list : List DraftStmt) → most deep-DraftStmt list ≤ line_count (lines_of list)
 deepest_le-count [] = omega arith

@@ -13,3 +13,4 @@ pub mod Numbered
 pub mod Refusals
 pub mod Ask
 pub mod Test
+pub mod Prelude

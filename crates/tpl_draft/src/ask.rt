@@ -2,11 +2,8 @@
 
 ghost use Rattle.std.specs.Prelude.{◌≡◌, ◌∷◌, map};
 ghost use Rattle.std.specs.List.{list_any};
-ghost use Rattle.tpl_draft.specs.Ask.{asks};
-ghost use Rattle.tpl_draft.specs.Draft.{each_of, each_within, statements_in};
+ghost use Rattle.tpl_draft.specs.Prelude.{asks, each_of, each_within, line_of, statements_in, task_of};
 ghost use Rattle.tpl_draft.specs.Refusals as spec;
-ghost use Rattle.tpl_draft.specs.SeenDraft.{line_of};
-ghost use Rattle.tpl_draft.specs.SeenTasks.{task_of};
 
 use crate::draft::{DraftBody, DraftKind, DraftStmt, DraftTask};
 use crate::names::Names;

@@ -1,12 +1,9 @@
 //! The names that a draft declares, none of which stands twice.
 
 ghost use Rattle.std.specs.Prelude.{◌≡◌, false, map, string_bytes, IfOk, IfErr, OnOk};
+ghost use Rattle.tpl_draft.specs.Prelude.{AreDeclared, NoneBelow, Refuses, draft_of, names_of, some_twice, task_of};
 ghost use Rattle.tpl_draft.specs.declared.fault.Why.TheVariants.{NameTwice, Memory};
-ghost use Rattle.tpl_draft.specs.Names.{some_twice};
-ghost use Rattle.tpl_draft.specs.Numbered.{names_of};
-ghost use Rattle.tpl_draft.specs.Refusals.{NoneBelow, Refuses};
-ghost use Rattle.tpl_draft.specs.SeenTasks.{draft_of, task_of, token_of};
-ghost use Rattle.tpl_draft.specs.Test.{AreDeclared};
+ghost use Rattle.tpl_draft.specs.SeenTasks.{token_of};
 
 use crate::ask::Declared;
 use crate::draft::{Draft, DraftTask, DraftToken};

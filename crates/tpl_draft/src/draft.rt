@@ -1,7 +1,7 @@
 //! Graphs as a document spells them, with names.
 
 ghost use Rattle.std.specs.Prelude.{◌≡◌};
-ghost use Rattle.tpl_draft.specs.SeenDraft.{lines_of};
+ghost use Rattle.tpl_draft.specs.Prelude.{lines_of};
 
 use std::marker::Model;
 use tpl_model::{Final, Options};

@@ -1,8 +1,8 @@
 //! How many statements and sites a body has, and how deep it nests.
 
 ghost use Rattle.std.specs.Prelude.{◌≡◌, ◌+◌, ◌<◌, ◌≤◌, ◌⊎◌, IfSome, IfNone};
-ghost use Rattle.tpl_draft.specs.SeenDraft.{line_of};
-ghost use Rattle.tpl_draft.specs.Draft.{line_count, count_line, site_count, count_site, levels as level_count, levels_in};
+ghost use Rattle.tpl_draft.specs.Prelude.{count_line, count_site, levels_in, line_count, line_of, site_count};
+ghost use Rattle.tpl_draft.specs.Draft.{levels as level_count};
 
 use crate::draft::{DraftBody, DraftStmt};
 

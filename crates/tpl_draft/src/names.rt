@@ -1,9 +1,7 @@
 //! Names, numbered in the order in which they are declared.
 
-ghost use Rattle.std.specs.Prelude.{◌≡◌, ◌<◌, ◌≤◌, ◌-◌, ◌++◌, [], ◌∷◌, not, Some, IfOk, IfErr, OnOk, OnErr, IfSome, false, map, length, position, slice_get, string_bytes, if◌then◌else◌};
-ghost use Rattle.std.specs.Str.{bytes_eq};
-ghost use Rattle.tpl_draft.specs.Names.{has_name, place, some_twice};
-ghost use Rattle.tpl_draft.specs.Twice.{NoneTwiceBelow, NamesFaultIs, IsTwice};
+ghost use Rattle.std.specs.Prelude.{◌≡◌, ◌<◌, ◌≤◌, ◌-◌, ◌++◌, [], ◌∷◌, not, Some, IfOk, IfErr, OnOk, OnErr, IfSome, false, map, length, position, slice_get, string_bytes, if◌then◌else◌, bytes_eq};
+ghost use Rattle.tpl_draft.specs.Prelude.{IsTwice, NamesFaultIs, NoneTwiceBelow, has_name, place, some_twice};
 
 use indexmap::IndexSet;
 use std::alloc::{AllocError, Global};

@@ -1,11 +1,8 @@
 //! Bodies with ids in place of names.
 
 ghost use Rattle.std.specs.Prelude.{◌≡◌, IfOk};
-ghost use Rattle.tpl_model.specs.Seen.{statement_of};
-ghost use Rattle.tpl_draft.specs.Names.{place};
-ghost use Rattle.tpl_draft.specs.Numbered.{script_in, statement_in, AreFew};
-ghost use Rattle.tpl_draft.specs.SeenDraft.{line_of};
-ghost use Rattle.tpl_draft.specs.Tables.{seen};
+ghost use Rattle.tpl_draft.specs.Prelude.{AreFew, line_of, place, script_in, seen, statement_in};
+ghost use Rattle.tpl_model.specs.Prelude.{statement_of};
 
 use crate::draft::{DraftBody, DraftStmt};
 use crate::names::Tables;

@@ -1,19 +1,14 @@
 //! Where each refusal applies first.
 
-ghost use Rattle.std.specs.Prelude.{◌≡◌, ◌||◌, not, map, nat_lt, slice_get, string_bytes};
+ghost use Rattle.std.specs.Prelude.{◌≡◌, ◌||◌, not, map, nat_lt, slice_get, string_bytes, option_map};
 ghost use Rattle.std.specs.List.{list_any};
-ghost use Rattle.std.specs.Option.{option_map};
+ghost use Rattle.tpl_draft.specs.Prelude.{IsFirst, IsTestOf, Token, applies, draft_of, in_lists_of, is_bad_name, is_before, lacks, linked_to, place, task_of, tests, token_number, why_of, worked};
 ghost use Rattle.tpl_draft.specs.declared.fault.Why.TheVariants.{BadName};
-ghost use Rattle.tpl_draft.specs.Draft.{Token, worked, linked_to};
 ghost use Rattle.tpl_draft.specs.Draft as meaning;
-ghost use Rattle.tpl_draft.specs.Refusals.{applies, IsFirst, lacks, is_bad_name};
-ghost use Rattle.tpl_model.specs.Graph.{Linked};
-ghost use Rattle.tpl_draft.specs.Ids.{token_number};
-ghost use Rattle.tpl_draft.specs.Names.{place};
-ghost use Rattle.tpl_draft.specs.Refusals as spec;
 ghost use Rattle.tpl_draft.specs.Origins as rows;
-ghost use Rattle.tpl_draft.specs.SeenTasks.{draft_of, task_of, token_of};
-ghost use Rattle.tpl_draft.specs.Test.{why_of, in_lists_of, tests, is_before, IsTestOf};
+ghost use Rattle.tpl_draft.specs.Refusals as spec;
+ghost use Rattle.tpl_draft.specs.SeenTasks.{token_of};
+ghost use Rattle.tpl_model.specs.Prelude.{Linked};
 
 use crate::ask::{Ask, Declared, is_child_at, is_name, some_in_task};
 use crate::draft::{Draft, DraftKind, DraftTask, DraftToken};

@@ -3,10 +3,9 @@
 ghost use Rattle.std.specs.Prelude.{◌≡◌};
 ghost use Rattle.std.specs.Int.RustNames.{bit_or};
 ghost use Rattle.bitflags.specs.Sets.{find_name};
-ghost use Rattle.tpl_model.specs.Options.{words, task_words, continuation_words};
-ghost use Rattle.tpl_draft.specs.Names.{or_zero};
+ghost use Rattle.tpl_draft.specs.Prelude.{or_zero, task_of};
 ghost use Rattle.tpl_draft.specs.Refusals as spec;
-ghost use Rattle.tpl_draft.specs.SeenTasks.{task_of};
+ghost use Rattle.tpl_model.specs.Prelude.{continuation_words, task_words, words};
 
 use crate::draft::{DraftKind, DraftTask};
 use crate::fault::OptionsFault;
@@ -34,18 +33,13 @@ fn task_words() -> Options
     with(hidden, "RunContinuationsAsynchronously")
 }
 
-/// The words that continuations take (.NET API documentation: TaskContinuationOptions).
+/// The words that continuations take, those of roots and children too (.NET API documentation:
+/// TaskContinuationOptions).
 fn continuation_words() -> Options
     ensures { result ≡ continuation_words }
 {
-    let fair = with(Options::empty(), "PreferFairness");
-    let long = with(fair, "LongRunning");
-    let attached = with(long, "AttachedToParent");
-    let closed = with(attached, "DenyChildAttach");
-    let hidden = with(closed, "HideScheduler");
-    let lazy = with(hidden, "LazyCancellation");
-    let apart = with(lazy, "RunContinuationsAsynchronously");
-    let not_ran = with(apart, "NotOnRanToCompletion");
+    let lazy = with(task_words(), "LazyCancellation");
+    let not_ran = with(lazy, "NotOnRanToCompletion");
     let not_faulted = with(not_ran, "NotOnFaulted");
     let not_canceled = with(not_faulted, "NotOnCanceled");
     with(not_canceled, "ExecuteSynchronously")

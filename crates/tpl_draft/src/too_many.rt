@@ -1,12 +1,12 @@
 //! Where a limit is exceeded first.
 
-ghost use Rattle.std.specs.Prelude.{◌≡◌, ◌+◌, ◌<◌, ◌≤◌, ◌⊎◌, ◌||◌, false, true, IfSome, IfNone, length, map, nat_lt};
+ghost use Rattle.std.specs.Prelude.{◌≡◌, ◌+◌, ◌<◌, ◌≤◌, ◌⊎◌, ◌||◌, false, true, IfSome, IfNone, length, nat_lt};
 ghost use Rattle.std.specs.List.{list_any};
+ghost use Rattle.tpl_draft.specs.Prelude.{IsFirst, Token, applies, draft_of, exceeds, in_lists, line_count, site_count, task_of, worked};
 ghost use Rattle.tpl_draft.specs.declared.fault.Why.TheVariants as why;
-ghost use Rattle.tpl_draft.specs.Draft.{Token, worked, line_count, site_count, levels as level_count};
+ghost use Rattle.tpl_draft.specs.Draft.{levels as level_count};
 ghost use Rattle.tpl_draft.specs.Draft as meaning;
-ghost use Rattle.tpl_draft.specs.Refusals.{applies, exceeds, in_lists, IsFirst};
-ghost use Rattle.tpl_draft.specs.SeenTasks.{draft_of, task_of, token_of};
+ghost use Rattle.tpl_draft.specs.SeenTasks.{token_of};
 
 use crate::draft::{Draft, DraftKind, DraftTask, DraftToken};
 use crate::limits::{Room, room_behind};

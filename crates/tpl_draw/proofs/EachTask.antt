@@ -1,5 +1,5 @@
 -- The ways to end of tasks, one after another.
-use Rattle.std.proofs.Common.{◌≡◌, ℕ, zero, suc, ◌<◌, ◌+◌, inl, inr, ◌||◌, Bool, true, false, List, [], ◌∷◌, ◌++◌, length, get_or, Result, Ok, Err, IfOk, Vec, Global, refl, sym, ap, subst, ◌∙◌, arith}
+use Rattle.std.proofs.Common.{◌≡◌, ℕ, zero, suc, ◌<◌, inl, inr, ◌||◌, Bool, true, false, List, [], ◌∷◌, ◌++◌, length, get_or, Result, Ok, Err, IfOk, Vec, Global, refl, sym, ap, subst, ◌∙◌, arith}
 use Rattle.std.specs.declared.alloc.AllocError.{AllocError}
 use Rattle.std.proofs.Math.ListN.{get_or-append}
 use Rattle.std.proofs.Math.Seq.{get_or-append_seam}
@@ -13,7 +13,11 @@ use Rattle.tpl_model.specs.declared.claim.Property.{Property}
 use Rattle.tpl_model.specs.Claims.{Claim}
 use Rattle.tpl_model.specs.WiderRules.{WideAssumed, WideTree, OnInput, OnEnd, OnWinner, input_split, end_split, winner_split, widely_assumed}
 use Rattle.tpl_laws.specs.WideTrees.{AcceptsWideTree, WidelyAccepts, all_written, written}
-use Rattle.tpl_draw.specs.Endings.{each_task, either, endings, ends, no_ends, tree_ends, JoinsEnds}
+use Rattle.tpl_checker.specs.declared.assumptions.Assumptions.{Assumptions}
+use Rattle.tpl_leaf.specs.declared.winners.WinnerSplit.{WinnerSplit}
+use Rattle.tpl_leaf.specs.Leaf.{wide_assumed}
+use Rattle.tpl_wide.proofs.WideTreeLemmas.{one_more_split}
+use Rattle.tpl_draw.specs.Endings.{each_task, either, endings, ends, tree_ends, JoinsEnds}
 
 -- what is the same for each task
 pub each_same : (f g : ℕ → Finals) (n : ℕ) → ((t : ℕ) → t < n → f t ≡ g t) → each_task f n ≡ each_task g n
@@ -87,6 +91,10 @@ winner_ends g p l on off tree on_yes on_no a b n x e is_on is_off same_a same_b 
 -- what is accepted of a tree with a split on a winner is so of its branches
 pub winner_accepted : (g : TaskGraph) (p : Property TaskId) (l : WideAssumed) (tree a b : WideTree) (n x : ℕ) → tree ≡ OnWinner n x a b → AcceptsWideTree g p l tree → AcceptsWideTree g p (winner_split l n x true) a × AcceptsWideTree g p (winner_split l n x false) b
 winner_accepted g p l tree a b n x e acc = let split : AcceptsWideTree g p l (OnWinner n x a b) = subst (AcceptsWideTree g p l) e acc in (split.1, split.2)
+
+-- and so of a branch under what is assumed there
+pub branch_accepted : (g : TaskGraph) (p : Property TaskId) (a : Assumptions) (winners splits : List WinnerSplit) (n x : TaskId) (wins : Bool) (branch tree : WideTree) → splits ≡ winners ++ (record { task = n; argument = x; wins = wins }) ∷ [] → branch ≡ tree → AcceptsWideTree g p (winner_split (wide_assumed a winners) n.0 x.0 wins) tree → AcceptsWideTree g p (wide_assumed a splits) branch
+branch_accepted g p a winners splits n x wins branch tree e f acc = subst (AcceptsWideTree g p (wide_assumed a splits)) (sym f) (subst (λ z. AcceptsWideTree g p z tree) (sym (one_more_split a winners splits n x wins e)) acc)
 
 -- ---- the trees of a certificate
 

@@ -8,6 +8,7 @@ use Rattle.tpl_draw.specs.declared.shown.Failing.{Failing}
 use Rattle.tpl_draw.specs.declared.shown.Moment.{Moment}
 use Rattle.tpl_draw.specs.declared.shown.Shown.{Shown}
 use Rattle.tpl_draw.specs.declared.shown.Shown.TheVariants.{Endings, Run}
+use Rattle.tpl_draw.specs.Language.{choose, enclosed}
 use Rattle.tpl_draw.specs.Marks.{paint}
 
 -- both say the same
@@ -76,18 +77,15 @@ entries language (Run moment) = moment_text language moment.failing (moment_word
 
 -- what stands before all that the legend says
 abbrev pub frame_opening : Language → List ℕ
-frame_opening Mermaid = codes "  subgraph legend\n"
-frame_opening Dot = codes "  graph [fontname=\"sans-serif\", fontsize=9, label=<<table border=\"0\" cellborder=\"1\" cellspacing=\"4\"><tr>"
+frame_opening language = choose language (codes "  subgraph legend\n") (codes "  graph [fontname=\"sans-serif\", fontsize=9, label=<<table border=\"0\" cellborder=\"1\" cellspacing=\"4\"><tr>")
 
 -- what stands after it
 abbrev pub frame_closing : Language → List ℕ
-frame_closing Mermaid = codes "  end\n"
-frame_closing Dot = codes "</tr></table>>];\n"
+frame_closing language = choose language (codes "  end\n") (codes "</tr></table>>];\n")
 
 -- the frame round what the legend says; nothing where that is nothing
 abbrev pub framed : Language → List ℕ → List ℕ
-framed language [] = []
-framed language (c ∷ cs) = frame_opening language ++ ((c ∷ cs) ++ frame_closing language)
+framed language entries = enclosed (frame_opening language) entries (frame_closing language)
 
 -- the legend: what the colours mean that occur, or which moment of a run is shown
 abbrev pub legend : Language → Shown → List ℕ

@@ -1,8 +1,10 @@
 pub mod Below
 pub mod Edges
 pub mod Endings
+pub mod Language
 pub mod Legend
 pub mod Marks
 pub mod Picture
 pub mod Shapes
 pub mod Shown
+pub mod Prelude

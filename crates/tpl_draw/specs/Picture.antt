@@ -1,5 +1,5 @@
 -- The text of a picture.
-use Rattle.std.specs.Prelude.{ℕ, Bool, true, false, not, ◌&&◌, Option, Some, None, List, [], ◌∷◌, ◌++◌, length, codes, flat_map, slice_index_or, if◌then◌else◌}
+use Rattle.std.specs.Prelude.{ℕ, Bool, true, false, not, ◌&&◌, Option, Some, None, List, [], ◌++◌, length, codes, flat_map, slice_index_or, if◌then◌else◌}
 use Rattle.tpl_model.specs.declared.finals.Final.TheVariants.{RanToCompletion, Canceled, Faulted}
 use Rattle.tpl_model.specs.Options.{allows, attached_to_parent, deny_child_attach, lazy_cancellation, execute_synchronously}
 use Rattle.tpl_model.specs.Graph.{TaskGraph, task, kind, options}
@@ -15,8 +15,9 @@ use Rattle.tpl_draw.specs.declared.shown.Shown.{Shown}
 use Rattle.tpl_draw.specs.declared.shown.Shown.TheVariants.{Endings, Run}
 use Rattle.tpl_draw.specs.Below.{below}
 use Rattle.tpl_draw.specs.Edges.{edges, is_crowded}
+use Rattle.tpl_draw.specs.Language.{choose, enclosed}
 use Rattle.tpl_draw.specs.Legend.{legend}
-use Rattle.tpl_draw.specs.Shapes.{dot_shape, kind_word, mermaid_closing, mermaid_opening}
+use Rattle.tpl_draw.specs.Shapes.{look_of}
 use Rattle.tpl_draw.specs.Shown.{border_line, has_border, line_break, mark, status_line}
 
 -- the name of the t-th task; empty past the last one
@@ -42,22 +43,14 @@ token_line_at language n (Some k) =
 abbrev pub lines_below : Language → Named → Shown → ℕ → List ℕ
 lines_below language n shown t = token_line_at language n (task n.graph t).token ++ status_line language shown t
 
--- the node of a task in Mermaid, whose shape says its kind; with further lines, and a mark
-abbrev pub mermaid_node : Kind → (name lines mark : List ℕ) → List ℕ
-mermaid_node k name lines mark =
-    codes "  t_" ++ (name ++ (mermaid_opening k ++ (codes "\"" ++ (name ++ (codes "<br/>" ++ (kind_word k ++ (lines ++ (codes "\""
-    ++ (mermaid_closing k ++ (mark ++ codes "\n"))))))))))
-
--- the node of a task in DOT, whose shape says its kind; with further lines, and a mark
-abbrev pub dot_node : Kind → (name lines mark : List ℕ) → List ℕ
-dot_node k name lines mark =
-    codes "  t_" ++ (name ++ (codes " [label=\"" ++ (name ++ (codes "\\n" ++ (kind_word k ++ (lines ++ (codes "\", shape="
-    ++ (dot_shape k ++ (mark ++ codes "];\n")))))))))
-
--- the node of a task, in either language
+-- the node of a task, whose shape says its kind; with further lines, and a mark
 abbrev pub task_node : Language → Kind → (name lines mark : List ℕ) → List ℕ
-task_node Mermaid k name lines mark = mermaid_node k name lines mark
-task_node Dot k name lines mark = dot_node k name lines mark
+task_node Mermaid k name lines mark =
+    codes "  t_" ++ (name ++ ((look_of k).opening ++ (codes "\"" ++ (name ++ (codes "<br/>" ++ ((look_of k).word ++ (lines ++ (codes "\""
+    ++ ((look_of k).closing ++ (mark ++ codes "\n"))))))))))
+task_node Dot k name lines mark =
+    codes "  t_" ++ (name ++ (codes " [label=\"" ++ (name ++ (codes "\\n" ++ ((look_of k).word ++ (lines ++ (codes "\", shape="
+    ++ ((look_of k).shape ++ (mark ++ codes "];\n")))))))))
 
 -- the option word that says after which ends of its antecedent a continuation starts, by whether it may after each:
 -- after it ran to completion, was canceled, faulted
@@ -137,24 +130,16 @@ name_of names false t = task_name names t
 
 -- how the line of an edge is drawn
 abbrev pub line_word : Language → Tie → List ℕ
-line_word Mermaid After = codes "-->"
-line_word Mermaid Argument = codes "-->"
-line_word Mermaid Child = codes "==>"
-line_word Mermaid Cancel = codes "-.->"
-line_word Mermaid Own = codes "-.->"
-line_word Mermaid Link = codes "-.->"
-line_word Dot After = codes "solid"
-line_word Dot Argument = codes "solid"
-line_word Dot Child = codes "bold"
-line_word Dot Cancel = codes "dashed, color=red3"
-line_word Dot Own = codes "dotted, color=gray40"
-line_word Dot Link = codes "dotted, color=gray40"
+line_word language After = choose language (codes "-->") (codes "solid")
+line_word language Argument = choose language (codes "-->") (codes "solid")
+line_word language Child = choose language (codes "==>") (codes "bold")
+line_word language Cancel = choose language (codes "-.->") (codes "dashed, color=red3")
+line_word language Own = choose language (codes "-.->") (codes "dotted, color=gray40")
+line_word language Link = choose language (codes "-.->") (codes "dotted, color=gray40")
 
 -- a label, quoted; nothing where there is none
 abbrev pub quoted : Language → List ℕ → List ℕ
-quoted language [] = []
-quoted Mermaid (c ∷ cs) = codes "|\"" ++ ((c ∷ cs) ++ codes "\"|")
-quoted Dot (c ∷ cs) = codes ", label=\"" ++ ((c ∷ cs) ++ codes "\"")
+quoted language label = enclosed (choose language (codes "|\"") (codes ", label=\"")) label (choose language (codes "\"|") (codes "\""))
 
 -- the line of an edge: two nodes, how it is drawn, and what stands at it
 abbrev pub edge_text : Language → (from_sort from line label to_sort to : List ℕ) → List ℕ

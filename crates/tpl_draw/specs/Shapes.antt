@@ -3,34 +3,17 @@ use Rattle.std.specs.Prelude.{ℕ, List, codes}
 use Rattle.tpl_graph.specs.declared.row.Kind.{Kind}
 use Rattle.tpl_graph.specs.declared.row.Kind.TheVariants as kinds
 
--- the word for a kind of task
-abbrev pub kind_word : Kind → List ℕ
-kind_word kinds.Root = codes "root"
-kind_word kinds.Child = codes "child"
-kind_word kinds.Then = codes "then"
-kind_word kinds.All = codes "all"
-kind_word kinds.Any = codes "any"
+-- a word, what begins and ends the shape in Mermaid, and the shape in DOT
+pub record Look : Type 0 where
+  pub word : List ℕ
+  pub opening : List ℕ
+  pub closing : List ℕ
+  pub shape : List ℕ
 
--- what begins the shape in Mermaid that says a task's kind
-abbrev pub mermaid_opening : Kind → List ℕ
-mermaid_opening kinds.Root = codes "["
-mermaid_opening kinds.Child = codes "("
-mermaid_opening kinds.Then = codes "(["
-mermaid_opening kinds.All = codes "{{"
-mermaid_opening kinds.Any = codes "{"
-
--- what ends it
-abbrev pub mermaid_closing : Kind → List ℕ
-mermaid_closing kinds.Root = codes "]"
-mermaid_closing kinds.Child = codes ")"
-mermaid_closing kinds.Then = codes "])"
-mermaid_closing kinds.All = codes "}}"
-mermaid_closing kinds.Any = codes "}"
-
--- the shape in DOT that says a task's kind
-abbrev pub dot_shape : Kind → List ℕ
-dot_shape kinds.Root = codes "box"
-dot_shape kinds.Child = codes "Mrecord"
-dot_shape kinds.Then = codes "ellipse"
-dot_shape kinds.All = codes "hexagon"
-dot_shape kinds.Any = codes "diamond"
+-- how a task of this kind looks
+abbrev pub look_of : Kind → Look
+look_of kinds.Root = record { word = codes "root"; opening = codes "["; closing = codes "]"; shape = codes "box" }
+look_of kinds.Child = record { word = codes "child"; opening = codes "("; closing = codes ")"; shape = codes "Mrecord" }
+look_of kinds.Then = record { word = codes "then"; opening = codes "(["; closing = codes "])"; shape = codes "ellipse" }
+look_of kinds.All = record { word = codes "all"; opening = codes "{{"; closing = codes "}}"; shape = codes "hexagon" }
+look_of kinds.Any = record { word = codes "any"; opening = codes "{"; closing = codes "}"; shape = codes "diamond" }

@@ -1,11 +1,9 @@
 -- What the nodes of tasks show.
-use Rattle.std.specs.Prelude.{ℕ, Bool, true, false, ◌||◌, Option, Some, None, List, [], ◌++◌, codes, nat_eq, slice_index_or}
+use Rattle.std.specs.Prelude.{ℕ, Bool, true, false, Option, Some, None, List, [], ◌++◌, codes, slice_index_or}
 use Rattle.tpl_model.specs.declared.status.Status.{Status}
 use Rattle.tpl_model.specs.declared.status.Status.TheVariants.{Created}
 use Rattle.tpl_model.specs.Statuses.{status_name}
-use Rattle.tpl_model.specs.declared.ids.TaskId.{TaskId}
-use Rattle.tpl_model.specs.declared.claim.Property.{Property}
-use Rattle.tpl_model.specs.declared.claim.Property.TheVariants.{Final as EndsIn, After, Observed, Never, Excludes, Runs}
+use Rattle.tpl_model.specs.Claims.{names}
 use Rattle.tpl_draw.specs.declared.language.Language.{Language}
 use Rattle.tpl_draw.specs.declared.language.Language.TheVariants.{Mermaid, Dot}
 use Rattle.tpl_draw.specs.declared.shown.Failing.{Failing}
@@ -13,21 +11,13 @@ use Rattle.tpl_draw.specs.declared.shown.Moment.{Moment}
 use Rattle.tpl_draw.specs.declared.shown.Shown.{Shown}
 use Rattle.tpl_draw.specs.declared.shown.Shown.TheVariants.{Endings, Run}
 use Rattle.tpl_draw.specs.Endings.{no_ends}
+use Rattle.tpl_draw.specs.Language.{choose}
 use Rattle.tpl_draw.specs.Marks.{paint, painted, status_paint}
-
--- the claim says something of the task
-abbrev pub is_said_of : Property TaskId → ℕ → Bool
-is_said_of (EndsIn a ends) t = nat_eq a.0 t
-is_said_of (After a b) t = nat_eq a.0 t || nat_eq b.0 t
-is_said_of (Observed a) t = nat_eq a.0 t
-is_said_of (Never a) t = nat_eq a.0 t
-is_said_of (Excludes a b) t = nat_eq a.0 t || nat_eq b.0 t
-is_said_of (Runs a) t = nat_eq a.0 t
 
 -- a claim fails, and says something of the task
 abbrev pub is_named : Option Failing → ℕ → Bool
 is_named None t = false
-is_named (Some failing) t = is_said_of failing.says t
+is_named (Some failing) t = names failing.says t
 
 -- how a task stands at a moment; Created past the end of the list
 abbrev pub stands : Moment → ℕ → Status
@@ -35,8 +25,7 @@ stands moment t = slice_index_or moment.statuses.items t Created
 
 -- what begins a further line in a node
 abbrev pub line_break : Language → List ℕ
-line_break Mermaid = codes "<br/>"
-line_break Dot = codes "\\n"
+line_break language = choose language (codes "<br/>") (codes "\\n")
 
 -- the last line of a task's node, where a run is shown: the task's status
 abbrev pub status_line : Language → Shown → ℕ → List ℕ

@@ -1,15 +1,10 @@
 //! The picture of a graph.
 
-ghost use Rattle.std.specs.Prelude.{◌≡◌, ◌++◌, length, flat_map, IfOk, OnOk, string_bytes};
-ghost use Rattle.std.specs.Option.{option_map};
-ghost use Rattle.tpl_draft.specs.Ids.{token_number};
-ghost use Rattle.tpl_graph.specs.Rows.{kind_of};
-ghost use Rattle.tpl_model.specs.Graph.{is_task, kind};
-ghost use Rattle.tpl_draw.specs.Below.{below};
-ghost use Rattle.tpl_draw.specs.Edges.{edges};
-ghost use Rattle.tpl_draw.specs.Legend.{legend};
-ghost use Rattle.tpl_draw.specs.Picture.{classes, closing, edge_line, lines_below, opening, picture, task_lines, task_name, task_node, token_line, token_line_at};
-ghost use Rattle.tpl_draw.specs.Shown.{mark};
+ghost use Rattle.std.specs.Prelude.{◌≡◌, ◌++◌, length, flat_map, IfOk, OnOk, string_bytes, option_map};
+ghost use Rattle.tpl_draft.specs.Prelude.{token_number};
+ghost use Rattle.tpl_draw.specs.Prelude.{below, classes, closing, edge_line, edges, legend, lines_below, mark, opening, picture, task_lines, task_name, task_node, token_line, token_line_at};
+ghost use Rattle.tpl_graph.specs.Prelude.{kind_of};
+ghost use Rattle.tpl_model.specs.Prelude.{is_task, kind};
 
 use crate::edge::Edge;
 use crate::edges::{edges, is_crowded};

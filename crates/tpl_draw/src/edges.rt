@@ -1,12 +1,9 @@
 //! The edges of a graph.
 
-ghost use Rattle.std.specs.Prelude.{◌≡◌, ◌∷◌, ◌++◌, [], length, map, IfOk, OnOk};
-ghost use Rattle.std.specs.Option.{option_map, option_to_list};
-ghost use Rattle.tpl_model.specs.Seen.{statement_of};
-ghost use Rattle.tpl_model.specs.Graph.{is_task, is_token};
-ghost use Rattle.tpl_draft.specs.Ids.{task_number, token_number};
-ghost use Rattle.tpl_draw.specs.Below.{below};
-ghost use Rattle.tpl_draw.specs.Edges.{acts, acts_of, edge, edge_token, edges, from_each, is_crowded, owners, owns, task_edges, token_edges};
+ghost use Rattle.std.specs.Prelude.{◌≡◌, ◌∷◌, ◌++◌, [], length, map, IfOk, OnOk, option_map, option_to_list};
+ghost use Rattle.tpl_draft.specs.Prelude.{task_number, token_number};
+ghost use Rattle.tpl_draw.specs.Prelude.{acts, acts_of, below, edge, edge_token, edges, from_each, is_crowded, owners, owns, task_edges, token_edges};
+ghost use Rattle.tpl_model.specs.Prelude.{is_task, statement_of};
 
 use crate::edge::{Edge, Tie};
 use std::alloc::{AllocError, Global};

@@ -1,9 +1,8 @@
 //! How the tasks may end by the rows of a certificate.
 
 ghost use Rattle.std.specs.Prelude.{◌≡◌, IfOk, map};
-ghost use Rattle.tpl_model.specs.Certificate.{row};
-ghost use Rattle.tpl_model.specs.WiderRules.{as_wide_tree};
-ghost use Rattle.tpl_draw.specs.Endings.{either, endings, ends, no_ends, tree_ends, EndingsAreTrue};
+ghost use Rattle.tpl_draw.specs.Prelude.{EndingsAreTrue, either, endings, ends, no_ends, tree_ends};
+ghost use Rattle.tpl_model.specs.Prelude.{as_wide_tree, row};
 
 use std::alloc::{AllocError, Global};
 use tpl_model::Finals;

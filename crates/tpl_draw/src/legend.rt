@@ -2,9 +2,9 @@
 
 ghost use Rattle.std.specs.Prelude.{◌≡◌, ◌++◌, IfOk, OnOk, flat_map, string_bytes};
 ghost use Rattle.std.specs.List.{list_any};
-ghost use Rattle.tpl_draw.specs.Legend.{agree, are_same, ending_entry, ending_words, entries, entry, failing_words, frame_closing, frame_opening, framed, legend, moment_text, moment_words, painted_endings};
+ghost use Rattle.tpl_draw.specs.Prelude.{agree, are_same, ending_entry, ending_words, entries, entry, failing_words, frame_closing, frame_opening, framed, legend, moment_text, moment_words, painted_endings};
 
-use crate::language::Language;
+use crate::language::{Language, enclosed};
 use crate::marks::paint;
 use crate::shown::{Failing, Moment, Shown};
 use std::alloc::{AllocError, Global};
@@ -176,34 +176,26 @@ fn entries(alloc: Global, language: Language, shown: &Shown) -> Result<String, A
 fn frame_opening(language: Language) -> &'static str
     ensures { result.now ≡ frame_opening language }
 {
-    match language {
-        Language::Mermaid => "  subgraph legend\n",
-        Language::Dot => {
-            "  graph [fontname=\"sans-serif\", fontsize=9, label=<<table border=\"0\" cellborder=\"1\" cellspacing=\"4\"><tr>"
-        }
-    }
+    language.choose(
+        "  subgraph legend\n",
+        "  graph [fontname=\"sans-serif\", fontsize=9, label=<<table border=\"0\" cellborder=\"1\" cellspacing=\"4\"><tr>",
+    )
 }
 
 /// What stands after it.
 fn frame_closing(language: Language) -> &'static str
     ensures { result.now ≡ frame_closing language }
 {
-    match language {
-        Language::Mermaid => "  end\n",
-        Language::Dot => "</tr></table>>];\n",
-    }
+    language.choose("  end\n", "</tr></table>>];\n")
 }
 
 /// The frame round what the legend says; nothing where that is nothing.
 fn framed(alloc: Global, language: Language, entries: &str) -> Result<String, AllocError>
     ensures { IfOk result (λ text. string_bytes text ≡ framed language entries.now) }
 {
-    if entries.is_empty() {
-        return Ok(String::new(alloc));
-    }
     let opening = frame_opening(language);
     let closing = frame_closing(language);
-    format!(in alloc; "{opening}{entries}{closing}")
+    enclosed(alloc, opening, entries, closing)
 }
 
 /// The legend: what the colours mean that occur, or which moment of a run is shown.

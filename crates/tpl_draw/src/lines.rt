@@ -1,12 +1,11 @@
 //! The lines of a picture.
 
 ghost use Rattle.std.specs.Prelude.{◌≡◌, IfOk, string_bytes};
-ghost use Rattle.tpl_model.specs.Graph.{options};
-ghost use Rattle.tpl_draw.specs.Picture.{begins_at_token, dot_node, edge_line, ends_at_token, is_plain, label, label_of, lazy_word, line_word, mermaid_node, name_of, quoted, sort_word, start_text, start_word, synchronous_word, task_node, token_node};
-ghost use Rattle.tpl_draw.specs.Shapes.{dot_shape, kind_word, mermaid_closing, mermaid_opening};
+ghost use Rattle.tpl_draw.specs.Prelude.{begins_at_token, edge_line, ends_at_token, is_plain, label, label_of, lazy_word, line_word, look_of, name_of, quoted, sort_word, start_text, start_word, synchronous_word, task_node, token_node};
+ghost use Rattle.tpl_model.specs.Prelude.{options};
 
 use crate::edge::{Edge, Tie};
-use crate::language::Language;
+use crate::language::{Language, enclosed};
 use std::alloc::{AllocError, Global};
 use tpl_graph::{Graph, Kind};
 use tpl_model::{Final, Options, TaskId, TokenId};
@@ -27,91 +26,37 @@ pub(crate) fn token_node(
     }
 }
 
-/// The word for a kind of task.
-fn kind_word(kind: Kind) -> &'static str
-    ensures { result.now ≡ kind_word kind }
+/// What says a task's kind in its node: a word, what begins and ends the shape in Mermaid, and the shape in DOT.
+struct Look {
+    word: &'static str,
+    opening: &'static str,
+    closing: &'static str,
+    shape: &'static str,
+}
+
+/// How a task of this kind looks.
+fn look_of(kind: Kind) -> Look
+    ensures word { result.word.now ≡ (look_of kind).word }
+    ensures opening { result.opening.now ≡ (look_of kind).opening }
+    ensures closing { result.closing.now ≡ (look_of kind).closing }
+    ensures shape { result.shape.now ≡ (look_of kind).shape }
 {
-    match kind {
-        Kind::Root => "root",
-        Kind::Child => "child",
-        Kind::Then => "then",
-        Kind::All => "all",
-        Kind::Any => "any",
+    let (word, opening, closing, shape) = match kind {
+        Kind::Root => ("root", "[", "]", "box"),
+        Kind::Child => ("child", "(", ")", "Mrecord"),
+        Kind::Then => ("then", "([", "])", "ellipse"),
+        Kind::All => ("all", "{{", "}}", "hexagon"),
+        Kind::Any => ("any", "{", "}", "diamond"),
+    };
+    Look {
+        word,
+        opening,
+        closing,
+        shape,
     }
 }
 
-/// What begins the shape in Mermaid that says a task's kind.
-fn mermaid_opening(kind: Kind) -> &'static str
-    ensures { result.now ≡ mermaid_opening kind }
-{
-    match kind {
-        Kind::Root => "[",
-        Kind::Child => "(",
-        Kind::Then => "([",
-        Kind::All => "{{",
-        Kind::Any => "{",
-    }
-}
-
-/// What ends the shape in Mermaid that says a task's kind.
-fn mermaid_closing(kind: Kind) -> &'static str
-    ensures { result.now ≡ mermaid_closing kind }
-{
-    match kind {
-        Kind::Root => "]",
-        Kind::Child => ")",
-        Kind::Then => "])",
-        Kind::All => "}}",
-        Kind::Any => "}",
-    }
-}
-
-/// The node of a task in Mermaid, whose shape says its kind; with further lines, and a mark.
-fn mermaid_node(
-    alloc: Global,
-    kind: Kind,
-    name: &str,
-    lines: &str,
-    mark: &str,
-) -> Result<String, AllocError>
-    ensures { IfOk result (λ line. string_bytes line
-        ≡ mermaid_node kind name.now lines.now mark.now) }
-{
-    let opening = mermaid_opening(kind);
-    let word = kind_word(kind);
-    let closing = mermaid_closing(kind);
-    format!(in alloc; "  t_{name}{opening}\"{name}<br/>{word}{lines}\"{closing}{mark}\n")
-}
-
-/// The shape in DOT that says a task's kind.
-fn dot_shape(kind: Kind) -> &'static str
-    ensures { result.now ≡ dot_shape kind }
-{
-    match kind {
-        Kind::Root => "box",
-        Kind::Child => "Mrecord",
-        Kind::Then => "ellipse",
-        Kind::All => "hexagon",
-        Kind::Any => "diamond",
-    }
-}
-
-/// The node of a task in DOT, whose shape says its kind; with further lines, and a mark.
-fn dot_node(
-    alloc: Global,
-    kind: Kind,
-    name: &str,
-    lines: &str,
-    mark: &str,
-) -> Result<String, AllocError>
-    ensures { IfOk result (λ line. string_bytes line ≡ dot_node kind name.now lines.now mark.now) }
-{
-    let word = kind_word(kind);
-    let shape = dot_shape(kind);
-    format!(in alloc; "  t_{name} [label=\"{name}\\n{word}{lines}\", shape={shape}{mark}];\n")
-}
-
-/// The node of a task.
+/// The node of a task, whose shape says its kind; with further lines, and a mark.
 pub(crate) fn task_node(
     alloc: Global,
     language: Language,
@@ -123,9 +68,21 @@ pub(crate) fn task_node(
     ensures { IfOk result (λ line. string_bytes line
         ≡ task_node language kind name.now lines.now mark.now) }
 {
+    let Look {
+        word,
+        opening,
+        closing,
+        shape,
+    } = look_of(kind);
     match language {
-        Language::Mermaid => mermaid_node(alloc, kind, name, lines, mark),
-        Language::Dot => dot_node(alloc, kind, name, lines, mark),
+        Language::Mermaid => {
+            format!(in alloc; "  t_{name}{opening}\"{name}<br/>{word}{lines}\"{closing}{mark}\n")
+        }
+        Language::Dot => {
+            format!(in alloc;
+                "  t_{name} [label=\"{name}\\n{word}{lines}\", shape={shape}{mark}];\n"
+            )
+        }
     }
 }
 
@@ -264,18 +221,11 @@ pub(crate) fn name_of(graph: &Graph, is_token: bool, number: u16) -> &str
 fn line_word(language: Language, tie: Tie) -> &'static str
     ensures { result.now ≡ line_word language tie }
 {
-    match language {
-        Language::Mermaid => match tie {
-            Tie::After | Tie::Argument => "-->",
-            Tie::Child => "==>",
-            Tie::Cancel | Tie::Own | Tie::Link => "-.->",
-        },
-        Language::Dot => match tie {
-            Tie::After | Tie::Argument => "solid",
-            Tie::Child => "bold",
-            Tie::Cancel => "dashed, color=red3",
-            Tie::Own | Tie::Link => "dotted, color=gray40",
-        },
+    match tie {
+        Tie::After | Tie::Argument => language.choose("-->", "solid"),
+        Tie::Child => language.choose("==>", "bold"),
+        Tie::Cancel => language.choose("-.->", "dashed, color=red3"),
+        Tie::Own | Tie::Link => language.choose("-.->", "dotted, color=gray40"),
     }
 }
 
@@ -283,13 +233,8 @@ fn line_word(language: Language, tie: Tie) -> &'static str
 fn quoted(alloc: Global, language: Language, label: &str) -> Result<String, AllocError>
     ensures { IfOk result (λ text. string_bytes text ≡ quoted language label.now) }
 {
-    if label.is_empty() {
-        return Ok(String::new(alloc));
-    }
-    match language {
-        Language::Mermaid => format!(in alloc; "|\"{label}\"|"),
-        Language::Dot => format!(in alloc; ", label=\"{label}\""),
-    }
+    let opening = language.choose("|\"", ", label=\"");
+    enclosed(alloc, opening, label, language.choose("\"|", "\""))
 }
 
 /// The line of an edge: two nodes, how it is drawn, and what stands at it.

@@ -1,36 +1,21 @@
 //! What is shown at the node of a task.
 
 ghost use Rattle.std.specs.Prelude.{◌≡◌, ◌++◌, IfOk, OnOk, string_bytes};
-ghost use Rattle.tpl_draw.specs.Shown.{border, border_line, has_border, is_named, is_said_of, line_break, mark, paint_of, stands, status_line};
+ghost use Rattle.tpl_draw.specs.Prelude.{border, border_line, has_border, is_named, line_break, mark, paint_of, stands, status_line};
 
 use crate::ending::no_ends;
 use crate::language::Language;
 use crate::marks::{paint, painted, status_paint};
 use crate::shown::{Failing, Moment, Shown};
 use std::alloc::{AllocError, Global};
-use tpl_model::{Property, Status, TaskId};
-
-/// The claim says something of the task.
-fn is_said_of(says: Property, task: TaskId) -> bool
-    ensures { result ≡ is_said_of says task.0 }
-{
-    match says {
-        Property::Final(one, _)
-        | Property::Observed(one)
-        | Property::Never(one)
-        | Property::Runs(one) => one.0 == task.0,
-        Property::After(one, other) | Property::Excludes(one, other) => {
-            one.0 == task.0 || other.0 == task.0
-        }
-    }
-}
+use tpl_model::{Status, TaskId};
 
 /// A claim fails, and says something of the task.
 fn is_named(failing: Option<Failing>, task: TaskId) -> bool
     ensures { result ≡ is_named failing task.0 }
 {
     match failing {
-        Some(failing) => is_said_of(failing.says, task),
+        Some(failing) => failing.says.names(task),
         None => false,
     }
 }
@@ -50,10 +35,7 @@ fn stands(moment: &Moment, task: TaskId) -> Status
 pub(crate) fn line_break(language: Language) -> &'static str
     ensures { result.now ≡ line_break language }
 {
-    match language {
-        Language::Mermaid => "<br/>",
-        Language::Dot => "\\n",
-    }
+    language.choose("<br/>", "\\n")
 }
 
 /// Adds the last line of a task's node, where a run is shown: the task's status.

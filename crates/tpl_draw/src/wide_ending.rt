@@ -1,16 +1,13 @@
 //! How the tasks may end by the rows of a certificate that may speak of tokens and of winners, and may leave rows out.
 
-ghost use Rattle.std.specs.Prelude.{◌≡◌, IfOk, length};
-ghost use Rattle.std.specs.List.{All};
-ghost use Rattle.tpl_model.specs.Certificate.{row};
-ghost use Rattle.tpl_model.specs.WiderRules.{plain};
-ghost use Rattle.tpl_graph.specs.Fits.{Fits};
-ghost use Rattle.tpl_checker.specs.Below.{AreBelow};
-ghost use Rattle.tpl_laws.specs.WideTrees.{AcceptsWideTree, WidelyAccepts, all_written, written};
-ghost use Rattle.tpl_leaf.specs.Leaf.{wide_assumed};
-ghost use Rattle.tpl_leaf.specs.Links.{AreLinks};
-ghost use Rattle.tpl_wide.specs.Check.{IsCheck, graph_in};
-ghost use Rattle.tpl_draw.specs.Endings.{endings, tree_ends, JoinsEnds};
+ghost use Rattle.std.specs.Prelude.{◌≡◌, IfOk, length, All};
+ghost use Rattle.tpl_checker.specs.Prelude.{AreBelow};
+ghost use Rattle.tpl_draw.specs.Prelude.{JoinsEnds, endings, tree_ends};
+ghost use Rattle.tpl_graph.specs.Prelude.{Fits};
+ghost use Rattle.tpl_laws.specs.Prelude.{AcceptsWideTree, WidelyAccepts, all_written, written};
+ghost use Rattle.tpl_leaf.specs.Prelude.{AreLinks, wide_assumed};
+ghost use Rattle.tpl_model.specs.Prelude.{plain, row};
+ghost use Rattle.tpl_wide.specs.Prelude.{IsCheck, graph_in};
 
 use crate::ending::{either, endings, no_ends};
 use std::alloc::{AllocError, Global};

@@ -8,3 +8,4 @@ pub mod Slots
 pub mod Gathering
 pub mod Batches
 pub mod Serving
+pub mod Prelude

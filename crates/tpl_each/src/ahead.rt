@@ -2,8 +2,8 @@
 
 ghost use Rattle.std.specs.Prelude.{◌≡◌, ◌≤◌, [], true, length, drop, is_err, IfOk, MatchOption, MatchResult};
 ghost use Rattle.std.specs.Io.KnownBytes.{Consumes, IsAtEnd, Keeps};
-ghost use Rattle.tpl_journal.specs.Counting.{calls_of, counted, failures_of, remaining_of};
 ghost use Rattle.tpl_each.specs.Lines.{IsFirstBreak, IsLine};
+ghost use Rattle.tpl_journal.specs.Prelude.{calls_of, counted, failures_of, remaining_of};
 
 use memchr::memchr;
 use std::io;

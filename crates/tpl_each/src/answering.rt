@@ -1,9 +1,8 @@
 //! The answers to lines, by threads beside each other.
 
 ghost use Rattle.std.specs.Prelude.{◌≡◌, ◌<◌, ℕ, List, length, IfOk, slice_index_or, string_bytes};
-ghost use Rattle.tpl_commands.specs.Responding.{Says};
-ghost use Rattle.tpl_each.specs.Kept.{IsKept};
-ghost use Rattle.tpl_each.specs.Slots.{IsSaidTo, said_of};
+ghost use Rattle.tpl_commands.specs.Prelude.{Says};
+ghost use Rattle.tpl_each.specs.Prelude.{IsKept, IsSaidTo, said_of};
 ghost use Rattle.tpl_each.specs.declared.slot.Slot.{Slot};
 
 use crate::line::Line;

@@ -1,13 +1,10 @@
 //! Lines that are answered together, from a reader to a writer.
 
-ghost use Rattle.std.specs.Prelude.{◌≡◌, ◌+◌, ◌<◌, ◌≤◌, ◌^◌, ◌-◌, length, map, IfOk, IfErr, is_err};
+ghost use Rattle.std.specs.Prelude.{◌≡◌, ◌+◌, ◌<◌, ◌≤◌, ◌^◌, ◌-◌, map, IfOk, IfErr, is_err};
 ghost use Rattle.std.specs.List.{list_all};
-ghost use Rattle.tpl_journal.specs.Counting.{calls_of, contents_of, counted, failures_of};
-ghost use Rattle.tpl_each.specs.Ahead.{coming};
-ghost use Rattle.tpl_each.specs.Batches.{IsServed, IsStopped};
+ghost use Rattle.tpl_each.specs.Prelude.{IsServed, IsStopped, coming, is_yes, said_of};
 ghost use Rattle.tpl_each.specs.Gathering.{is_failed};
-ghost use Rattle.tpl_each.specs.Said.{is_yes};
-ghost use Rattle.tpl_each.specs.Slots.{said_of};
+ghost use Rattle.tpl_journal.specs.Prelude.{calls_of, contents_of, counted, failures_of};
 
 use crate::ahead::Ahead;
 use crate::answering::answer_slots;

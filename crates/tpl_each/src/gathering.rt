@@ -1,9 +1,9 @@
 //! Lines that are answered together.
 
 ghost use Rattle.std.specs.Prelude.{◌≡◌, ◌≤◌, ◌^◌, ◌-◌, [], length};
-ghost use Rattle.tpl_journal.specs.Counting.{calls_of, counted, failures_of};
-ghost use Rattle.tpl_each.specs.Ahead.{coming};
-ghost use Rattle.tpl_each.specs.Gathering.{Gathers, is_failed};
+ghost use Rattle.tpl_each.specs.Prelude.{Gathers, coming};
+ghost use Rattle.tpl_each.specs.Gathering.{is_failed};
+ghost use Rattle.tpl_journal.specs.Prelude.{calls_of, counted, failures_of};
 
 use crate::ahead::Ahead;
 use crate::next::{Next, next_line};

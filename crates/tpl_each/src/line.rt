@@ -1,7 +1,7 @@
 //! What is kept of a line.
 
-ghost use Rattle.std.specs.Prelude.{◌≡◌, ◌↔◌, ◌<◌, ℕ, List, [], ◌++◌, length, IsTrue};
-ghost use Rattle.tpl_each.specs.Kept.{IsKept};
+ghost use Rattle.std.specs.Prelude.{◌↔◌, ◌<◌, ℕ, List, [], ◌++◌, length, IsTrue};
+ghost use Rattle.tpl_each.specs.Prelude.{IsKept};
 
 use std::alloc::Global;
 use std::default::MadeWith;

@@ -1,12 +1,9 @@
 //! The line that comes next.
 
 ghost use Rattle.std.specs.Prelude.{◌≡◌, ◌≤◌, ◌^◌, ◌-◌, ℕ, false, List, Option, IfSome};
-ghost use Rattle.tpl_journal.specs.Counting.{calls_of, counted, failures_of};
-ghost use Rattle.tpl_each.specs.Ahead.{ahead_of, coming};
-ghost use Rattle.tpl_each.specs.Coming.{Comes, is_failed};
-ghost use Rattle.tpl_each.specs.Kept.{IsKept};
-ghost use Rattle.tpl_each.specs.Lines.{IsLine};
-ghost use Rattle.tpl_each.specs.Taking.{IsTaken};
+ghost use Rattle.tpl_each.specs.Prelude.{Comes, IsKept, IsLine, IsTaken, ahead_of, coming};
+ghost use Rattle.tpl_each.specs.Coming.{is_failed};
+ghost use Rattle.tpl_journal.specs.Prelude.{calls_of, counted, failures_of};
 
 use crate::ahead::{Ahead, break_in};
 use crate::line::Line;

@@ -1,7 +1,7 @@
 //! A command's answers to the lines of a reader.
 
 ghost use Rattle.std.specs.Prelude.{◌≡◌, ◌≤◌, ◌<◌, ◌&&◌, if◌then◌else◌};
-ghost use Rattle.tpl_each.specs.Serving.{RespondsToEach};
+ghost use Rattle.tpl_each.specs.Prelude.{RespondsToEach};
 
 use crate::ahead::Ahead;
 use crate::batch::serve_batch;

@@ -1,8 +1,7 @@
 //! A line beside its answer.
 
 ghost use Rattle.std.specs.Prelude.{◌≡◌};
-ghost use Rattle.tpl_each.specs.Said.{is_yes};
-ghost use Rattle.tpl_each.specs.Slots.{said_of};
+ghost use Rattle.tpl_each.specs.Prelude.{is_yes, said_of};
 
 use crate::line::Line;
 use arrayvec::ArrayVec;

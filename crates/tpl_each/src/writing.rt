@@ -1,9 +1,8 @@
 //! Answers, written with their numbers.
 
 ghost use Rattle.std.specs.Prelude.{◌≡◌, ◌+◌, ◌<◌, ◌≤◌, ◌^◌, ◌++◌, ℕ, List, true, length, map, take, drop};
-ghost use Rattle.tpl_journal.specs.Writing.{WritesText};
-ghost use Rattle.tpl_each.specs.Said.{head, headed, numbered};
-ghost use Rattle.tpl_each.specs.Slots.{said_of};
+ghost use Rattle.tpl_each.specs.Prelude.{head, headed, numbered, said_of};
+ghost use Rattle.tpl_journal.specs.Prelude.{WritesText};
 
 use crate::ahead::break_in;
 use crate::slot::Slot;
@@ -29,24 +28,11 @@ fn head(number: u64, exit: Exit) -> ArrayString<HEAD>
     head
 }
 
-/// Writes what stands before each line of an answer.
-fn write_head<W: Write>(number: u64, exit: Exit, to: &mut Counting<W>) -> Result<(), WriteFault>
-    ensures { WritesText W.contents to.old to.new (head number exit) result }
-{
-    let head = head(number, exit);
-    write_all(head.as_str().as_bytes(), to)
-}
-
 /// Writes a line behind its head.
-fn write_line<W: Write>(
-    number: u64,
-    exit: Exit,
-    line: &[u8],
-    to: &mut Counting<W>,
-) -> Result<(), WriteFault>
-    ensures { WritesText W.contents to.old to.new (head number exit ++ line.now) result }
+fn write_line<W: Write>(head: &str, line: &[u8], to: &mut Counting<W>) -> Result<(), WriteFault>
+    ensures { WritesText W.contents to.old to.new (head.now ++ line.now) result }
 {
-    write_head(number, exit, to)?;
+    write_all(head.as_bytes(), to)?;
     write_all(line, to)
 }
 
@@ -65,35 +51,14 @@ fn line_len(text: &[u8]) -> usize
 }
 
 /// Writes a text with the head before each of its lines.
-fn write_text<W: Write>(
-    number: u64,
-    exit: Exit,
-    text: &[u8],
-    to: &mut Counting<W>,
-) -> Result<(), WriteFault>
-    ensures { WritesText W.contents to.old to.new (headed (head number exit) true text.now) result }
+fn write_text<W: Write>(head: &str, text: &[u8], to: &mut Counting<W>) -> Result<(), WriteFault>
+    ensures { WritesText W.contents to.old to.new (headed head.now true text.now) result }
 {
     let mut rest = text;
     while !rest.is_empty() {
         let (line, more) = rest.split_at(line_len(rest));
-        write_line(number, exit, line, to)?;
+        write_line(head, line, to)?;
         rest = more;
-    }
-    Ok(())
-}
-
-/// Writes the answers of the slots, the first with this number.
-fn write_answers<W: Write>(
-    slots: &[Slot],
-    number: u64,
-    to: &mut Counting<W>,
-) -> Result<(), WriteFault>
-    requires { number + length slots.now < 2 ^ 64 }
-    ensures { WritesText W.contents to.old to.new (numbered number (map said_of slots.now)) result }
-{
-    for at in 0..slots.len() {
-        let slot = &slots[at];
-        write_text(number + at as u64, slot.exit(), slot.text(), to)?;
     }
     Ok(())
 }
@@ -107,6 +72,10 @@ pub(crate) fn put_answers<W: Write>(
     requires { number + length slots.now < 2 ^ 64 }
     ensures { WritesText W.contents to.old to.new (numbered number (map said_of slots.now)) result }
 {
-    write_answers(slots, number, to)?;
+    for at in 0..slots.len() {
+        let slot = &slots[at];
+        let head = head(number + at as u64, slot.exit());
+        write_text(head.as_str(), slot.text(), to)?;
+    }
     write_whole(b"", to)
 }

@@ -6,18 +6,16 @@ use Rattle.tpl_model.proofs.MemberLemmas.{same_self, mem_here, mem_there}
 use Rattle.tpl_model.proofs.Truths.{true_false}
 use Rattle.tpl_model.specs.Members.{mem}
 use Rattle.tpl_model.specs.Options.{allows}
-use Rattle.tpl_model.specs.Statements.{Statements, Return, Throw, Check, Cancel, Start, Observe, Work, If, When, Nothing, ◌⨾◌}
 use Rattle.tpl_model.specs.declared.ids.TaskId.{TaskId}
 use Rattle.tpl_model.specs.declared.status.Actor.{Actor}
 use Rattle.tpl_model.specs.declared.event.Act.{Act}
 use Rattle.tpl_model.specs.declared.event.Act.TheVariants.{Request, Release, Begin, Step, Worked, Leave, Close, Drop, Settle}
 use Rattle.tpl_model.specs.declared.event.Event.{Event}
 use Rattle.tpl_model.specs.Graph.{TaskGraph, TaskKind, Root, Child, Continues, WhenAll, WhenAny, kind, task, options, attached}
-use Rattle.tpl_model.specs.Facts.{Rest, Ending, begun, released, left_body, ending, ends_by, ending_by, started, starts_by, is_start, rest, requested, all_over, final_in}
+use Rattle.tpl_model.specs.Facts.{Ending, begun, released, left_body, ending, started, rest, requested, all_over, final_in}
 use Rattle.tpl_model.specs.Rules.{status, status_by, opening, token_requested, token_requested_by, MayStart, MayNotStart, MayCancel, all_ended, some_ended, can_settle, Allows, to_end}
 use Rattle.tpl_laws.specs.RunTests.{has_ended}
 use Rattle.tpl_laws.specs.RowTests.{implies}
-use Rattle.tpl_run.specs.Body.{start_of}
 use Rattle.tpl_run.specs.Rows.{is_it}
 use Rattle.tpl_fast.specs.declared.marks.Mark.{Mark}
 use Rattle.tpl_fast.specs.Marks.{acting, mark_at, noted}
@@ -25,30 +23,8 @@ use Rattle.tpl_fast.specs.Tokens.{starting}
 use Rattle.tpl_run.specs.Reading.{due_task, HasDue}
 use Rattle.tpl_fast.specs.Due.{awaits, waits, ender}
 use Rattle.tpl_fast.proofs.MarkLemmas.{mark_step}
-use Rattle.tpl_fast.proofs.StateLemmas.{ending_kept}
-
-start_is : (c : ℕ) (left : Statements) → is_start c left ≡ is_it (start_of left) c
-start_is c Nothing = refl
-start_is c (Return ⨾ more) = refl
-start_is c (Throw l ⨾ more) = refl
-start_is c (Check j ⨾ more) = refl
-start_is c (Cancel j ⨾ more) = refl
-start_is c (Start d ⨾ more) = refl
-start_is c (Observe ⨾ more) = refl
-start_is c (Work s f ⨾ more) = refl
-start_is c (If i a b ⨾ more) = refl
-start_is c (When f a b ⨾ more) = refl
-
-starts_is : (c : ℕ) (act : Act) (rest : ℕ → Rest) → starts_by c act rest ≡ is_it (starting act rest) c
-starts_is c (Request j) rest = refl
-starts_is c (Release t) rest = refl
-starts_is c (Begin t) rest = refl
-starts_is c (Step t) rest = start_is c (rest t.0).left
-starts_is c (Worked t x) rest = refl
-starts_is c (Leave t) rest = refl
-starts_is c (Close t) rest = refl
-starts_is c (Drop t) rest = refl
-starts_is c (Settle t) rest = refl
+use Rattle.tpl_fast.proofs.StateLemmas.{ending_same, ending_kept}
+use Rattle.tpl_fast.proofs.TokenLemmas.{act_is}
 
 not_it : (o : Option ℕ) (t : ℕ) → (o ≡ Some t → ⊥) → is_it o t ≡ false
 not_it None t other = refl
@@ -57,22 +33,6 @@ not_it (Some s) t other = go (nat_eq s t) refl
     go : (b : Bool) → nat_eq s t ≡ b → b ≡ false
     go true q = absurd (other (ap Some (eqb-true s t q)))
     go false q = refl
-
--- only a Leave, Close, Drop or Settle ends a task
-ends_ender : (g : TaskGraph) (t : ℕ) (act : Act) (begun : ℕ → Bool) (ends : ℕ → Option Ending) → ends_by g t act begun ends ≡ true → ender act ≡ Some t
-ends_ender g t (Request k) begun ends e = true_false (sym e)
-ends_ender g t (Release s) begun ends e = true_false (sym e)
-ends_ender g t (Begin s) begun ends e = true_false (sym e)
-ends_ender g t (Step s) begun ends e = true_false (sym e)
-ends_ender g t (Worked s x) begun ends e = true_false (sym e)
-ends_ender g t (Leave s) begun ends e = go (nat_eq s.0 t) (all_over (attached g t) begun ends) refl e
-  where
-    go : (b c : Bool) → nat_eq s.0 t ≡ b → (b && c) ≡ true → Some s.0 ≡ Some t
-    go true c q r = ap Some (eqb-true s.0 t q)
-    go false c q r = true_false (sym r)
-ends_ender g t (Close s) begun ends e = ap Some (eqb-true s.0 t e)
-ends_ender g t (Drop s) begun ends e = ap Some (eqb-true s.0 t e)
-ends_ender g t (Settle s) begun ends e = ap Some (eqb-true s.0 t e)
 
 same_all : (xs : List ℕ) (e e' : ℕ → Option Ending) → ((x : ℕ) → mem x xs ≡ true → e' x ≡ e x) → all_ended xs e' ≡ all_ended xs e
 same_all [] e e' same = refl
@@ -113,35 +73,27 @@ turned g v h later t s = record { own = sym s.own; status = sym s.status; awaite
 
 -- so what is due after the one is due after the other
 module _ (g : TaskGraph) (v : List Bool) (h later : List Event) where
-  start_kept : (t : ℕ) (k : TaskKind) → ((x : ℕ) → awaits k x ≡ true → ending g v later x ≡ ending g v h x) → MayStart g v h t k → MayStart g v later t k
-  start_kept t Root same m = m
-  start_kept t Child same m = m
-  start_kept t (Continues a) same m = subst (λ o. IsSomeAnd (final_in o) (λ f. allows (options g t) f ≡ true)) (sym (same a (same_self a))) m
-  start_kept t (WhenAll args) same m = m
-  start_kept t (WhenAny args) same m = m
-
-  not_start_kept : (t : ℕ) (k : TaskKind) → ((x : ℕ) → awaits k x ≡ true → ending g v later x ≡ ending g v h x) → MayNotStart g v h t k → MayNotStart g v later t k
-  not_start_kept t Root same m = m
-  not_start_kept t Child same m = m
-  not_start_kept t (Continues a) same m = subst (λ o. IsSomeAnd (final_in o) (λ f. allows (options g t) f ≡ false)) (sym (same a (same_self a))) m
-  not_start_kept t (WhenAll args) same m = m
-  not_start_kept t (WhenAny args) same m = m
-
-  cancel_kept : (t : ℕ) (k : TaskKind) → ((x : ℕ) → awaits k x ≡ true → ending g v later x ≡ ending g v h x) → MayCancel g v h t k → MayCancel g v later t k
-  cancel_kept t Root same m = m
-  cancel_kept t Child same m = m
-  cancel_kept t (Continues a) same (inl m) = inl m
-  cancel_kept t (Continues a) same (inr m) = inr (ap (λ o. is_some (final_in o)) (same a (same_self a)) ∙ m)
-  cancel_kept t (WhenAll args) same m = m
-  cancel_kept t (WhenAny args) same m = m
+  kind_kept : (t : ℕ) (k : TaskKind) → ((x : ℕ) → awaits k x ≡ true → ending g v later x ≡ ending g v h x)
+      → (MayStart g v h t k → MayStart g v later t k) × (MayNotStart g v h t k → MayNotStart g v later t k) × (MayCancel g v h t k → MayCancel g v later t k)
+  kind_kept t Root same = (λ m. m, λ m. m, λ m. m)
+  kind_kept t Child same = (λ m. m, λ m. m, λ m. m)
+  kind_kept t (Continues a) same =
+      let end : ending g v later a ≡ ending g v h a = same a (same_self a) in
+      (subst (λ o. IsSomeAnd (final_in o) (λ f. allows (options g t) f ≡ true)) (sym end), subst (λ o. IsSomeAnd (final_in o) (λ f. allows (options g t) f ≡ false)) (sym end), cancel end)
+    where
+      cancel : ending g v later a ≡ ending g v h a → MayCancel g v h t (Continues a) → MayCancel g v later t (Continues a)
+      cancel end (inl m) = inl m
+      cancel end (inr m) = inr (ap (λ o. is_some (final_in o)) end ∙ m)
+  kind_kept t (WhenAll args) same = (λ m. m, λ m. m, λ m. m)
+  kind_kept t (WhenAny args) same = (λ m. m, λ m. m, λ m. m)
 
   release_kept : (actor : Actor) (x : TaskId) → SaysSame g v h later x.0 → Allows g v h actor (Release x) → Allows g v later actor (Release x)
-  release_kept actor x s p = (p.0, s.status ∙ p.1, start_kept x.0 (kind g x.0) s.awaited p.2, s.token ∙ p.3)
+  release_kept actor x s p = (p.0, s.status ∙ p.1, (kind_kept x.0 (kind g x.0) s.awaited).0 p.2, s.token ∙ p.3)
 
   drop_kept : (actor : Actor) (x : TaskId) → SaysSame g v h later x.0 → Allows g v h actor (Drop x) → Allows g v later actor (Drop x)
   drop_kept actor x s (lt, inl p) = (lt, inl (s.status ∙ p.0, s.token ∙ p.1))
-  drop_kept actor x s (lt, inr (inl p)) = (lt, inr (inl (s.status ∙ p.0, s.token ∙ p.1, cancel_kept x.0 (kind g x.0) s.awaited p.2)))
-  drop_kept actor x s (lt, inr (inr p)) = (lt, inr (inr (s.status ∙ p.0, not_start_kept x.0 (kind g x.0) s.awaited p.1)))
+  drop_kept actor x s (lt, inr (inl p)) = (lt, inr (inl (s.status ∙ p.0, s.token ∙ p.1, (kind_kept x.0 (kind g x.0) s.awaited).2 p.2)))
+  drop_kept actor x s (lt, inr (inr p)) = (lt, inr (inr (s.status ∙ p.0, (kind_kept x.0 (kind g x.0) s.awaited).1 p.1)))
 
   close_kept : (actor : Actor) (x : TaskId) → SaysSame g v h later x.0 → Allows g v h actor (Close x) → Allows g v later actor (Close x)
   close_kept actor x s p = (p.0, s.status ∙ p.1, s.over ∙ p.2)
@@ -167,15 +119,8 @@ module _ (g : TaskGraph) (v : List Bool) (h later : List Event) where
   due_kept t s (act, due) = (act, record { of_task = due.of_task; task = due.task; allowed = λ actor. act_kept t actor act due.of_task s (due.allowed actor) })
 
 module _ (g : TaskGraph) (v : List Bool) (h : List Event) (e : Event) where
-  pub ending_same : (x : ℕ) → (ender e.act ≡ Some x → ⊥) → ending g v (e ∷ h) x ≡ ending g v h x
-  ending_same x other = go (ends_by g x e.act (started g v h) (ending g v h)) refl
-    where
-      go : (b : Bool) → ends_by g x e.act (started g v h) (ending g v h) ≡ b → (if b then ending_by g x (suc (length h)) e.actor e.act (rest g v h) (started g v h) (ending g v h) else ending g v h x) ≡ ending g v h x
-      go true q = absurd (other (ends_ender g x e.act (started g v h) (ending g v h) q))
-      go false q = refl
-
   pub started_same : (c : ℕ) → (starting e.act (rest g v h) ≡ Some c → ⊥) → started g v (e ∷ h) c ≡ started g v h c
-  started_same c other = ap (λ b. b || started g v h c) (starts_is c e.act (rest g v h) ∙ not_it (starting e.act (rest g v h)) c other)
+  started_same c other = ap (λ b. b || started g v h c) ((act_is g v h c e.act).1 ∙ not_it (starting e.act (rest g v h)) c other)
 
   mark_same : (t : ℕ) → (acting e.act ≡ Some t → ⊥) → mark_at (e ∷ h) t ≡ mark_at h t
   mark_same t other = mark_step e.actor e.act h t ∙ ap (λ (b : Bool). if b then noted e.actor (suc (length h)) e.act (mark_at h t) else mark_at h t) (not_it (acting e.act) t other)
@@ -207,7 +152,7 @@ module _ (g : TaskGraph) (v : List Bool) (h : List Event) (e : Event) where
     or_right false c q = q
 
     waited : (x : ℕ) → waits g t x ≡ true → ending g v (e ∷ h) x ≡ ending g v h x
-    waited x w = ending_same x (λ is. u.apart x is w)
+    waited x w = ending_same g v h e x (λ is. u.apart x is w)
 
     by_kind : (x : ℕ) → awaits (kind g t) x ≡ true → ending g v (e ∷ h) x ≡ ending g v h x
     by_kind x w = waited x (or_left (awaits (kind g t) x) (mem x (attached g t)) w)

@@ -2,6 +2,7 @@
 use Rattle.std.proofs.Common.{◌≡◌, ℕ, suc, ◌<◌, Bool, true, false, ◌||◌, List, ◌∷◌, length, Some, None, refl, sym, ap, ◌∙◌, nat_eq, arith}
 use Rattle.std.specs.Prelude.{slice_get, slice_set, if◌then◌else◌}
 use Rattle.std.proofs.lemmas.List.{length-set}
+use Rattle.tpl_machine.specs.Recording.{by}
 use Rattle.tpl_machine.proofs.StepLemmas.{table_set}
 use Rattle.tpl_model.proofs.MemberLemmas.{same_self, other_number}
 use Rattle.tpl_model.specs.declared.status.Actor.{Actor}
@@ -14,8 +15,9 @@ use Rattle.tpl_run.specs.Rows.{is_it}
 use Rattle.tpl_fast.specs.declared.marks.Mark.{Mark}
 use Rattle.tpl_fast.specs.Marks.{acting, mark_at, noted, AreMarks}
 
-abbrev pub by : Actor → Act → Event
-by actor act = record { actor = actor; act = act }
+same_both : (b : Bool) (m : Mark) → m ≡ (if b then m else m)
+same_both true m = refl
+same_both false m = refl
 
 -- one more event notes an act of its task, and of no other
 pub mark_step : (a : Actor) (act : Act) (h : List Event) (t : ℕ) → mark_at (by a act ∷ h) t ≡ (if is_it (acting act) t then noted a (suc (length h)) act (mark_at h t) else mark_at h t)
@@ -31,35 +33,15 @@ mark_step a (Begin s) h t = go (nat_eq s.0 t)
     go true = refl
     go false = refl
 mark_step a (Step s) h t = same_both (nat_eq s.0 t) (mark_at h t)
-  where
-    same_both : (b : Bool) (m : Mark) → m ≡ (if b then m else m)
-    same_both true m = refl
-    same_both false m = refl
 mark_step a (Worked s x) h t = same_both (nat_eq s.0 t) (mark_at h t)
-  where
-    same_both : (b : Bool) (m : Mark) → m ≡ (if b then m else m)
-    same_both true m = refl
-    same_both false m = refl
 mark_step a (Leave s) h t = go (nat_eq s.0 t)
   where
     go : (b : Bool) → (let m : Mark = record { begun = begun h t; began = began h t; released = released h t; left = b || left_body h t } in m) ≡ (if b then noted a (suc (length h)) (Leave s) (mark_at h t) else mark_at h t)
     go true = refl
     go false = refl
 mark_step a (Close s) h t = same_both (nat_eq s.0 t) (mark_at h t)
-  where
-    same_both : (b : Bool) (m : Mark) → m ≡ (if b then m else m)
-    same_both true m = refl
-    same_both false m = refl
 mark_step a (Drop s) h t = same_both (nat_eq s.0 t) (mark_at h t)
-  where
-    same_both : (b : Bool) (m : Mark) → m ≡ (if b then m else m)
-    same_both true m = refl
-    same_both false m = refl
 mark_step a (Settle s) h t = same_both (nat_eq s.0 t) (mark_at h t)
-  where
-    same_both : (b : Bool) (m : Mark) → m ≡ (if b then m else m)
-    same_both true m = refl
-    same_both false m = refl
 
 module _ (n : ℕ) (h : List Event) (e : Event) (marks marks' : List Mark) (k : AreMarks n h marks) where
   pub noted_nowhere : acting e.act ≡ None → AreMarks n (e ∷ h) marks

@@ -2,21 +2,20 @@
 use Rattle.std.proofs.Common.{◌≡◌, ℕ, zero, suc, ◌<◌, ◌||◌, Bool, false, List, [], ◌∷◌, length, Option, None, refl, sym, ap, ◌∙◌, arith, subst}
 use Rattle.std.specs.Prelude.{slice_index_or}
 use Rattle.std.proofs.Math.Path.{fun_ext}
-use Rattle.tpl_model.specs.Statements.{Statements, Return, Throw, Check, Cancel, Start, Observe, Work, If, When, Nothing, ◌⨾◌}
 use Rattle.tpl_model.specs.declared.event.Act.{Act}
 use Rattle.tpl_model.specs.declared.event.Act.TheVariants.{Request, Release, Begin, Step, Worked, Leave, Close, Drop, Settle}
 use Rattle.tpl_model.specs.declared.event.Event.{Event}
 use Rattle.tpl_model.specs.Graph.{TaskGraph, sources, some_in, through, within, is_token}
-use Rattle.tpl_model.specs.Facts.{Rest, requested, requested_itself, requests, is_cancel, rest}
+use Rattle.tpl_model.specs.Facts.{requested, requested_itself, requests, starts_by, rest, ending}
 use Rattle.tpl_model.specs.Valid.{IsGraph}
-use Rattle.tpl_run.specs.Body.{cancel_of}
 use Rattle.tpl_run.specs.Rows.{is_it}
 use Rattle.tpl_draft.specs.Named.{Named}
 use Rattle.tpl_run.specs.Journal.{Journal, opened, after}
 use Rattle.tpl_fast.specs.declared.marks.Mark.{Mark}
 use Rattle.tpl_fast.specs.Marks.{AreMarks}
 use Rattle.tpl_run.specs.Tokens.{IsTable}
-use Rattle.tpl_fast.specs.Tokens.{asks, AreAsked}
+use Rattle.tpl_machine.proofs.StepLemmas.{next_is}
+use Rattle.tpl_fast.specs.Tokens.{asks, starting, AreAsked}
 use Rattle.tpl_fast.specs.Kept.{AreEnded, AreOver, AreFound, IsKept}
 
 -- where no token was requested itself since, none is requested
@@ -35,32 +34,21 @@ asked_also g v h later itself itself' closed closed' token valid a more marks co
     let table : IsTable g v later closed' (length g.tokens) = closes (record { below = λ k (lt : k < 0). absurd (omega arith); above = λ k le within. each k within; count = long }) in
     record { each_itself = each; each = table.below; itself_count = long; count = table.count }
 
-cancel_is : (k : ℕ) (left : Statements) → is_cancel k left ≡ is_it (cancel_of left) k
-cancel_is k Nothing = refl
-cancel_is k (Return ⨾ more) = refl
-cancel_is k (Throw l ⨾ more) = refl
-cancel_is k (Check j ⨾ more) = refl
-cancel_is k (Cancel j ⨾ more) = refl
-cancel_is k (Start d ⨾ more) = refl
-cancel_is k (Observe ⨾ more) = refl
-cancel_is k (Work s f ⨾ more) = refl
-cancel_is k (If i a b ⨾ more) = refl
-cancel_is k (When f a b ⨾ more) = refl
-
-asks_is : (k : ℕ) (act : Act) (rest : ℕ → Rest) → requests k act rest ≡ is_it (asks act rest) k
-asks_is k (Request j) rest = refl
-asks_is k (Release t) rest = refl
-asks_is k (Begin t) rest = refl
-asks_is k (Step t) rest = cancel_is k (rest t.0).left
-asks_is k (Worked t x) rest = refl
-asks_is k (Leave t) rest = refl
-asks_is k (Close t) rest = refl
-asks_is k (Drop t) rest = refl
-asks_is k (Settle t) rest = refl
+-- the token that an act requests, and the child that it starts
+pub act_is : (g : TaskGraph) (v : List Bool) (h : List Event) (k : ℕ) (act : Act) → (requests k act (rest g v h) ≡ is_it (asks act (rest g v h)) k) × (starts_by k act (rest g v h) ≡ is_it (starting act (rest g v h)) k)
+act_is g v h k (Step t) = let n = next_is g v t.0 (rest g v h t.0).left (requested g v h) (ending g v h) k in (sym n.1, sym n.2)
+act_is g v h k (Request j) = (refl, refl)
+act_is g v h k (Release t) = (refl, refl)
+act_is g v h k (Begin t) = (refl, refl)
+act_is g v h k (Worked t x) = (refl, refl)
+act_is g v h k (Leave t) = (refl, refl)
+act_is g v h k (Close t) = (refl, refl)
+act_is g v h k (Drop t) = (refl, refl)
+act_is g v h k (Settle t) = (refl, refl)
 
 -- one more event requests what it asks
 pub itself_after : (g : TaskGraph) (v : List Bool) (h : List Event) (e : Event) (token : Option ℕ) → token ≡ asks e.act (rest g v h) → (k : ℕ) → requested_itself g v (e ∷ h) k ≡ (is_it token k || requested_itself g v h k)
-itself_after g v h e token is k = ap (λ b. b || requested_itself g v h k) (asks_is k e.act (rest g v h) ∙ ap (λ o. is_it o k) (sym is))
+itself_after g v h e token is k = ap (λ b. b || requested_itself g v h k) ((act_is g v h k e.act).0 ∙ ap (λ o. is_it o k) (sym is))
 
 none_in : (f : ℕ → Bool) (xs : List ℕ) → ((k : ℕ) → f k ≡ false) → some_in f xs ≡ false
 none_in f [] quiet = refl

@@ -6,11 +6,11 @@ use Rattle.tpl_model.specs.declared.ids.TaskId.{TaskId}
 use Rattle.tpl_model.specs.Members.{mem}
 use Rattle.tpl_model.specs.TaskSet.{is_set}
 use Rattle.tpl_model.specs.declared.event.Act.{Act}
-use Rattle.tpl_model.specs.declared.event.Act.TheVariants.{Leave, Close, Drop, Settle}
+use Rattle.tpl_model.specs.declared.event.Act.TheVariants.{Release, Leave}
 use Rattle.tpl_model.specs.Graph.{TaskGraph, TaskKind, Continues, WhenAll, WhenAny, kind, task, attached, is_task}
 use Rattle.tpl_draft.specs.Ids.{task_number}
 use Rattle.tpl_laws.specs.RunTests.{has_ended}
-use Rattle.tpl_run.specs.Reading.{HasDue}
+use Rattle.tpl_run.specs.Reading.{HasDue, due_task}
 use Rattle.tpl_run.specs.Journal.{Journal}
 
 -- a task of this kind waits for x
@@ -27,10 +27,8 @@ waits g t x = awaits (kind g t) x || mem x (attached g t)
 -- the task that an act may end
 abbrev pub ender : Act → Option ℕ
 ender (Leave t) = Some t.0
-ender (Close t) = Some t.0
-ender (Drop t) = Some t.0
-ender (Settle t) = Some t.0
-ender act = None
+ender (Release t) = None
+ender act = due_task act
 
 -- t is in the x-th of the lists
 abbrev pub in_some : Option (Vec TaskId Global) → ℕ → Bool

@@ -1,5 +1,6 @@
 -- Which tokens an event requests, and which are requested.
 use Rattle.std.specs.Prelude.{◌≡◌, ℕ, Bool, false, Option, Some, None, List, length, slice_index_or}
+use Rattle.tpl_model.specs.declared.limits.TheConstants.{MOST_TOKENS}
 use Rattle.tpl_model.specs.declared.event.Act.{Act}
 use Rattle.tpl_model.specs.declared.event.Act.TheVariants.{Request, Step}
 use Rattle.tpl_model.specs.declared.event.Event.{Event}
@@ -21,5 +22,5 @@ starting act rest = None
 pub record AreAsked (g : TaskGraph) (v : List Bool) (h : List Event) (itself closed : List Bool) : Type 0 where
   pub each_itself : (k : ℕ) → is_token g k → slice_index_or itself k false ≡ requested_itself g v h k
   pub each : (k : ℕ) → is_token g k → slice_index_or closed k false ≡ requested g v h k
-  pub itself_count : length itself ≡ 32
-  pub count : length closed ≡ 32
+  pub itself_count : length itself ≡ MOST_TOKENS
+  pub count : length closed ≡ MOST_TOKENS

@@ -1,7 +1,7 @@
 //! Sets of tasks from which a task can be taken out again.
 
-ghost use Rattle.std.specs.Prelude.{◌≡◌, ℕ, ◌<◌, Bool, true, false, IfSome, IfNone, nat_eq, if◌then◌else◌};
-ghost use Rattle.tpl_model.specs.TaskSet.{is_set};
+ghost use Rattle.std.specs.Prelude.{◌≡◌, ℕ, ◌<◌, true, false, IfSome, IfNone, nat_eq, if◌then◌else◌};
+ghost use Rattle.tpl_model.specs.Prelude.{is_set};
 
 use std::marker::Model;
 use tpl_model::{MOST_TASKS, TaskId};

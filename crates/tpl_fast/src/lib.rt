@@ -10,3 +10,4 @@ mod tell;
 mod tokens;
 
 pub use fast::Fast;
+pub use marks::task_of;

@@ -1,12 +1,10 @@
 //! Which tasks an event of another task, or the request of a token, may concern.
 
 ghost use Rattle.std.specs.Prelude.{◌≡◌, ℕ, ◌<◌, true, Some, OnOk, IfOk, length, map};
-ghost use Rattle.tpl_model.specs.Members.{mem};
-ghost use Rattle.tpl_model.specs.Graph as spec;
-ghost use Rattle.tpl_model.specs.Graph.{is_task, kind};
-ghost use Rattle.tpl_draft.specs.Ids.{task_number};
-ghost use Rattle.tpl_draft.specs.Named.{antecedent_of};
+ghost use Rattle.tpl_draft.specs.Prelude.{antecedent_of, task_number};
 ghost use Rattle.tpl_fast.specs.Due.{is_told, waits, AreTold, Keep};
+ghost use Rattle.tpl_model.specs.Prelude.{is_task, kind, mem};
+ghost use Rattle.tpl_model.specs.Graph as spec;
 
 use std::alloc::{AllocError, Global};
 use tpl_graph::Graph;
@@ -134,6 +132,16 @@ fn owners(alloc: Global, graph: &Graph) -> Result<Vec<Vec<TaskId>>, AllocError>
     Ok(lists)
 }
 
+/// The list of this number; nobody, where there is none.
+fn list_at(lists: &Vec<Vec<TaskId>>, at: usize) -> &[TaskId]
+    ensures { (t : ℕ) → mem t (map task_number result.now) ≡ is_told lists.now.items at t }
+{
+    match lists.get(at) {
+        None => &[],
+        Some(list) => list.as_slice(),
+    }
+}
+
 impl Links {
     /// The links of a graph.
     pub fn new(alloc: Global, graph: &Graph) -> Result<Links, AllocError>
@@ -149,10 +157,7 @@ impl Links {
         ensures { (t : ℕ) → mem t (map task_number result.now)
             ≡ is_told self.now.waiters.items task.0 t }
     {
-        match self.waiters.get(task.0 as usize) {
-            None => &[],
-            Some(list) => list.as_slice(),
-        }
+        list_at(&self.waiters, task.0 as usize)
     }
 
     /// The tasks whose own token this is.
@@ -160,9 +165,6 @@ impl Links {
         ensures { (t : ℕ) → mem t (map task_number result.now)
             ≡ is_told self.now.owners.items token.0 t }
     {
-        match self.owners.get(token.0 as usize) {
-            None => &[],
-            Some(list) => list.as_slice(),
-        }
+        list_at(&self.owners, token.0 as usize)
     }
 }

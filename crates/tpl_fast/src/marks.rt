@@ -1,8 +1,7 @@
 //! What is kept of a task's release, begin and leave.
 
-ghost use Rattle.std.specs.Prelude.{◌≡◌, ℕ, ◌<◌, suc, List, [], ◌∷◌, Some, length, slice_get, slice_set, vec_len, IfOk};
-ghost use Rattle.std.specs.Option.{option_map};
-ghost use Rattle.tpl_draft.specs.Ids.{task_number};
+ghost use Rattle.std.specs.Prelude.{◌≡◌, ℕ, ◌<◌, suc, List, [], ◌∷◌, Some, length, slice_get, slice_set, vec_len, IfOk, option_map};
+ghost use Rattle.tpl_draft.specs.Prelude.{task_number};
 ghost use Rattle.tpl_fast.specs.Marks.{acting, noted, AreMarks};
 
 use std::alloc::{AllocError, Global};
@@ -51,7 +50,7 @@ pub(crate) fn unmarked(alloc: Global, count: usize) -> Result<Vec<Mark>, AllocEr
 }
 
 /// The task of an act, if it has one.
-pub(crate) fn task_of(act: Act) -> Option<TaskId>
+pub fn task_of(act: Act) -> Option<TaskId>
     ensures { option_map task_number result ≡ acting act }
 {
     match act {

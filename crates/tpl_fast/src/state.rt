@@ -1,7 +1,7 @@
 //! A run with the state of each task and token at hand.
 
-ghost use Rattle.std.specs.Prelude.{◌≡◌, ℕ, ◌<◌, IfOk};
-ghost use Rattle.tpl_run.specs.Journal.{opened};
+ghost use Rattle.std.specs.Prelude.{◌≡◌, ◌<◌, IfOk};
+ghost use Rattle.tpl_run.specs.Prelude.{opened};
 
 mod heads;
 mod readers;

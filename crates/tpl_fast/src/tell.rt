@@ -1,14 +1,10 @@
 //! Which tasks are looked at again after an event: each for which it may change what is due.
 
-ghost use Rattle.std.specs.Prelude.{◌≡◌, ℕ, ◌≤◌, length, map, slice_index_or, true, false, Some, None};
-ghost use Rattle.std.specs.Option.{option_map};
-ghost use Rattle.tpl_model.specs.Members.{mem};
-ghost use Rattle.tpl_model.specs.TaskSet.{is_set};
-ghost use Rattle.tpl_model.specs.Graph as spec;
-ghost use Rattle.tpl_model.specs.Graph.{is_task, is_token};
-ghost use Rattle.tpl_model.specs.Facts.{requested};
-ghost use Rattle.tpl_draft.specs.Ids.{task_number, token_number};
+ghost use Rattle.std.specs.Prelude.{◌≡◌, ℕ, ◌≤◌, length, map, slice_index_or, true, false, Some, None, option_map};
+ghost use Rattle.tpl_draft.specs.Prelude.{task_number, token_number};
 ghost use Rattle.tpl_fast.specs.Due.{IsRight, IsOpenRight, Keeps, AreTold, waits, ender};
+ghost use Rattle.tpl_model.specs.Prelude.{is_set, is_task, is_token, mem, requested};
+ghost use Rattle.tpl_model.specs.Graph as spec;
 
 use crate::bits::Bits;
 use crate::links::Links;

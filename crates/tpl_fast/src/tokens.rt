@@ -1,12 +1,11 @@
 //! Which tokens are requested.
 
-ghost use Rattle.std.specs.Prelude.{◌≡◌, ℕ, ◌<◌, ◌||◌, Bool, List, length, slice_index_or, false};
-ghost use Rattle.std.specs.Option.{option_map};
-ghost use Rattle.tpl_model.specs.declared.event.Event.{Event as SpecEvent};
-ghost use Rattle.tpl_model.specs.Facts.{requested_itself};
-ghost use Rattle.tpl_draft.specs.Ids.{token_number};
-ghost use Rattle.tpl_run.specs.Rows.{is_it};
+ghost use Rattle.std.specs.Prelude.{◌≡◌, ℕ, ◌<◌, ◌||◌, Bool, List, length, slice_index_or, false, option_map};
+ghost use Rattle.tpl_draft.specs.Prelude.{token_number};
 ghost use Rattle.tpl_fast.specs.Tokens.{AreAsked};
+ghost use Rattle.tpl_model.specs.Prelude.{requested_itself};
+ghost use Rattle.tpl_model.specs.declared.event.Event.{Event as SpecEvent};
+ghost use Rattle.tpl_run.specs.Prelude.{is_it};
 
 use tpl_graph::Graph;
 use tpl_model::{MOST_TOKENS, TokenId};
@@ -36,8 +35,8 @@ impl Asked {
     pub fn none() -> Asked
         ensures itself { (k : ℕ) → slice_index_or result.itself k false ≡ false }
         ensures closed { (k : ℕ) → slice_index_or result.closed k false ≡ false }
-        ensures itself_count { length result.itself ≡ 32 }
-        ensures count { length result.closed ≡ 32 }
+        ensures itself_count { length result.itself ≡ MOST_TOKENS }
+        ensures count { length result.closed ≡ MOST_TOKENS }
     {
         Asked {
             itself: none_requested(),

@@ -7,7 +7,7 @@ use Rattle.tpl_model.proofs.Truths.{or_first, or_second}
 use Rattle.tpl_model.specs.Statements.{starts, starts_of, reads_nothing, reads_nothing_in}
 use Rattle.tpl_model.specs.Graph.{TaskGraph}
 use Rattle.tpl_model.specs.Valid.{IdsOf, IdsWithin}
-use Rattle.tpl_draft.specs.Draft.{Line, Lines, Return, Throw, Check, Cancel, Start, Observe, Work, If, When, Nothing, Then, each_of, each_within}
+use Rattle.tpl_draft.specs.Draft.{Line, Lines, Check, Cancel, Start, Observe, If, When, Nothing, Then, each_of, each_within}
 use Rattle.tpl_draft.specs.Named.{Names}
 use Rattle.tpl_draft.specs.Names.{has_name, place}
 use Rattle.tpl_draft.specs.Numbered.{script_in, statement_in}
@@ -39,17 +39,14 @@ module _ (n : Names) (g : TaskGraph) (tokens : length n.tokens ≡ length g.toke
         (ids_within s (or_first (unknown s) (list_any unknown (each_within s ++ each_of rest)) e) (any_left unknown (each_within s) (each_of rest) inside), ids_of rest (any_right unknown (each_within s) (each_of rest) inside))
 
     ids_within : (s : Line) → unknown s ≡ false → list_any unknown (each_within s) ≡ false → IdsWithin g (statement_in n s)
-    ids_within Return e f = tt
-    ids_within (Throw l) e f = tt
     ids_within (Check k) e f = omega (arith, known n.tokens k e, tokens)
     ids_within (Cancel k) e f = omega (arith, known n.tokens k e, tokens)
     ids_within (Start c) e f = omega (arith, known n.tasks c e, tasks)
-    ids_within Observe e f = tt
-    ids_within (Work s may_fail) e f = tt
     ids_within (If i a b) e f =
         (omega (arith, known n.inputs i e, inputs), ids_of a (any_left unknown (each_of a) (each_of b) f), ids_of b (any_right unknown (each_of a) (each_of b) f))
     ids_within (When x a b) e f =
         (ids_of a (any_left unknown (each_of a) (each_of b) f), ids_of b (any_right unknown (each_of a) (each_of b) f))
+    ids_within s e f = tt
 
 mutual
   pub reads_none : (n : Names) (b : Lines) → list_any reads_subject (each_of b) ≡ false → reads_nothing (script_in n b) ≡ true
@@ -61,16 +58,11 @@ mutual
       (reads_none n rest (any_right reads_subject (each_within s) (each_of rest) inside))
 
   reads_none_in : (n : Names) (s : Line) → reads_subject s ≡ false → list_any reads_subject (each_within s) ≡ false → reads_nothing_in (statement_in n s) ≡ true
-  reads_none_in n Return e f = refl
-  reads_none_in n (Throw l) e f = refl
-  reads_none_in n (Check k) e f = refl
-  reads_none_in n (Cancel k) e f = refl
-  reads_none_in n (Start c) e f = refl
   reads_none_in n Observe e f = absurd (cc)
-  reads_none_in n (Work s may_fail) e f = refl
   reads_none_in n (If i a b) e f =
       and_from (reads_nothing (script_in n a)) (reads_nothing (script_in n b)) (reads_none n a (any_left reads_subject (each_of a) (each_of b) f)) (reads_none n b (any_right reads_subject (each_of a) (each_of b) f))
   reads_none_in n (When x a b) e f = absurd (cc)
+  reads_none_in n s e f = refl
 
 -- the tasks that a body starts
 pub append_both : (a b c d : List ℕ) → a ≡ c → b ≡ d → (a ++ b) ≡ (c ++ d)
@@ -84,16 +76,10 @@ mutual
       ∙ sym (flat_map_append (start_in n.tasks) (s ∷ each_within s) (each_of rest))
 
   starts_statement : (n : Names) (s : Line) → starts_of (statement_in n s) ≡ flat_map (start_in n.tasks) (s ∷ each_within s)
-  starts_statement n Return = refl
-  starts_statement n (Throw l) = refl
-  starts_statement n (Check k) = refl
-  starts_statement n (Cancel k) = refl
-  starts_statement n (Start c) = refl
-  starts_statement n Observe = refl
-  starts_statement n (Work s may_fail) = refl
   starts_statement n (If i a b) =
       append_both (starts (script_in n a)) (starts (script_in n b)) (flat_map (start_in n.tasks) (each_of a)) (flat_map (start_in n.tasks) (each_of b)) (starts_script n a) (starts_script n b)
       ∙ sym (flat_map_append (start_in n.tasks) (each_of a) (each_of b))
   starts_statement n (When f a b) =
       append_both (starts (script_in n a)) (starts (script_in n b)) (flat_map (start_in n.tasks) (each_of a)) (flat_map (start_in n.tasks) (each_of b)) (starts_script n a) (starts_script n b)
       ∙ sym (flat_map_append (start_in n.tasks) (each_of a) (each_of b))
+  starts_statement n s = refl

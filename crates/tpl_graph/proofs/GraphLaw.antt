@@ -8,7 +8,7 @@ use Rattle.std.proofs.lemmas.List.{length-map}
 use Rattle.std.proofs.lemmas.Option.{slice_get_past}
 use Rattle.tpl_model.specs.Members.{mem}
 use Rattle.tpl_model.specs.Options.{has_bits, excludes_all, long_and_sync}
-use Rattle.tpl_model.specs.Statements.{Statements, starts}
+use Rattle.tpl_model.specs.Statements.{starts}
 use Rattle.tpl_model.specs.Statements as script
 use Rattle.tpl_model.specs.Limits.{IsWithinLimits}
 use Rattle.tpl_model.specs.Graph as graph
@@ -43,24 +43,15 @@ find f e (x ∷ xs) (suc t) = ⊎_elim (λ r. inl r) (λ r. let le : length (x �
 -- a continuation's antecedent and the arguments are placed
 kind_child : (names : List (List ℕ)) (k : Kind) → is_child k ≡ false → kind_in names k ≡ graph.Child → ⊥
 kind_child names (Root w) e is = cc
-kind_child names (Child w) e is = cc
-kind_child names (Continues a w) e is = cc
-kind_child names (WhenAll args) e is = cc
-kind_child names (WhenAny args) e is = cc
+kind_child names s e is = cc
 
 child_kind : (names : List (List ℕ)) (k : Kind) → is_child k ≡ true → kind_in names k ≡ graph.Child
-child_kind names (Root w) e = absurd (cc)
 child_kind names (Child w) e = refl
-child_kind names (Continues a w) e = absurd (cc)
-child_kind names (WhenAll args) e = absurd (cc)
-child_kind names (WhenAny args) e = absurd (cc)
+child_kind names s e = absurd (cc)
 
 is_child_kind : (names : List (List ℕ)) (k : Kind) → kind_in names k ≡ graph.Child → is_child k ≡ true
-is_child_kind names (Root w) e = absurd (cc)
 is_child_kind names (Child w) e = refl
-is_child_kind names (Continues a w) e = absurd (cc)
-is_child_kind names (WhenAll args) e = absurd (cc)
-is_child_kind names (WhenAny args) e = absurd (cc)
+is_child_kind names s e = absurd (cc)
 
 own_token_of : (names : List (List ℕ)) (g : TaskGraph) (o : Option (List ℕ)) → length names ≡ length g.tokens → is_missing names o ≡ false → OwnToken g (option_map (place names) o)
 own_token_of names g None long e = tt
@@ -75,10 +66,7 @@ body_or_none n (WhenAny args) x e = (ap (λ k. script_in n (worked k).body) e, a
 
 words_same : (names : List (List ℕ)) (k : Kind) → words_of k ≡ option_words (kind_in names k)
 words_same names (Root w) = refl
-words_same names (Child w) = refl
-words_same names (Continues a w) = refl
-words_same names (WhenAll args) = refl
-words_same names (WhenAny args) = refl
+words_same names s = refl
 
 -- options without fault
 abbrev fault_test : Bool → Bool → Bool → Bool

@@ -9,7 +9,7 @@ use Rattle.tpl_model.specs.Valid.{all_sites}
 use Rattle.tpl_draft.specs.declared.draft.DraftTask.{DraftTask}
 use Rattle.tpl_graph.specs.declared.row.Site.{Site}
 use Rattle.tpl_graph.specs.Collected.{owned_in, owned, all_owned}
-use Rattle.tpl_draft.specs.Draft.{Line, Lines, Return, Throw, Check, Cancel, Start, Observe, Work, If, When, Nothing, Then, each_of, each_within, Task, Draft, worked}
+use Rattle.tpl_draft.specs.Draft.{Line, Lines, If, When, Nothing, Then, each_of, each_within, Task, Draft, worked}
 use Rattle.tpl_draft.specs.Named.{Names, may_fails, may_fails_of}
 use Rattle.tpl_draft.specs.Numbered.{script_in, statement_in, task_in, names_of, graph_in}
 use Rattle.tpl_draft.specs.SeenTasks.{task_of}
@@ -61,19 +61,13 @@ module _ (n : Names) (t : ℕ) where
         ∙ both (map may_fail (flat_map (owned_in t) (s ∷ each_within s))) (map may_fail (flat_map (owned_in t) (each_of rest))) (may_fails_of (statement_in n s)) (may_fails (script_in n rest)) (fails_statement s) (fails_script rest)
 
     fails_statement : (s : Line) → map may_fail (flat_map (owned_in t) (s ∷ each_within s)) ≡ may_fails_of (statement_in n s)
-    fails_statement Return = refl
-    fails_statement (Throw l) = refl
-    fails_statement (Check k) = refl
-    fails_statement (Cancel k) = refl
-    fails_statement (Start c) = refl
-    fails_statement Observe = refl
-    fails_statement (Work s m) = refl
     fails_statement (If i a b) =
         split_owned may_fail t (each_of a) (each_of b)
         ∙ both (map may_fail (flat_map (owned_in t) (each_of a))) (map may_fail (flat_map (owned_in t) (each_of b))) (may_fails (script_in n a)) (may_fails (script_in n b)) (fails_script a) (fails_script b)
     fails_statement (When f a b) =
         split_owned may_fail t (each_of a) (each_of b)
         ∙ both (map may_fail (flat_map (owned_in t) (each_of a))) (map may_fail (flat_map (owned_in t) (each_of b))) (may_fails (script_in n a)) (may_fails (script_in n b)) (fails_script a) (fails_script b)
+    fails_statement s = refl
 
   mutual
     owner_script : (b : Lines) → map owner_of (flat_map (owned_in t) (each_of b)) ≡ map (λ _. t) (sites (script_in n b))
@@ -84,13 +78,6 @@ module _ (n : Names) (t : ℕ) where
         ∙ sym (map-append (λ _. t) (sites_of (statement_in n s)) (sites (script_in n rest))))
 
     owner_statement : (s : Line) → map owner_of (flat_map (owned_in t) (s ∷ each_within s)) ≡ map (λ _. t) (sites_of (statement_in n s))
-    owner_statement Return = refl
-    owner_statement (Throw l) = refl
-    owner_statement (Check k) = refl
-    owner_statement (Cancel k) = refl
-    owner_statement (Start c) = refl
-    owner_statement Observe = refl
-    owner_statement (Work s m) = refl
     owner_statement (If i a b) =
         split_owned owner_of t (each_of a) (each_of b)
         ∙ (both (map owner_of (flat_map (owned_in t) (each_of a))) (map owner_of (flat_map (owned_in t) (each_of b))) (map (λ _. t) (sites (script_in n a))) (map (λ _. t) (sites (script_in n b))) (owner_script a) (owner_script b)
@@ -99,6 +86,7 @@ module _ (n : Names) (t : ℕ) where
         split_owned owner_of t (each_of a) (each_of b)
         ∙ (both (map owner_of (flat_map (owned_in t) (each_of a))) (map owner_of (flat_map (owned_in t) (each_of b))) (map (λ _. t) (sites (script_in n a))) (map (λ _. t) (sites (script_in n b))) (owner_script a) (owner_script b)
         ∙ sym (map-append (λ _. t) (sites (script_in n a)) (sites (script_in n b))))
+    owner_statement s = refl
 
 fails_all : (n : Names) (t : ℕ) (ts : List Task) → map may_fail (all_owned t ts) ≡ flat_map (λ (x : graph.Task). may_fails x.body) (map (task_in n) ts)
 fails_all n t [] = refl
@@ -125,15 +113,9 @@ mutual
   as_many (script.◌⨾◌ s rest) = omega (arith, length-append (may_fails_of s) (may_fails rest), length-append (sites_of s) (sites rest), as_many_in s, as_many rest)
 
   pub as_many_in : (s : Statement) → length (may_fails_of s) ≡ length (sites_of s)
-  as_many_in script.Return = refl
-  as_many_in (script.Throw l) = refl
-  as_many_in (script.Check k) = refl
-  as_many_in (script.Cancel k) = refl
-  as_many_in (script.Start c) = refl
-  as_many_in script.Observe = refl
-  as_many_in (script.Work s m) = refl
   as_many_in (script.If i a b) = omega (arith, length-append (may_fails a) (may_fails b), length-append (sites a) (sites b), as_many a, as_many b)
   as_many_in (script.When f a b) = omega (arith, length-append (may_fails a) (may_fails b), length-append (sites a) (sites b), as_many a, as_many b)
+  as_many_in s = refl
 
 as_many_all : (ts : List graph.Task) → length (flat_map (λ (x : graph.Task). may_fails x.body) ts) ≡ length (flat_map (λ (x : graph.Task). sites x.body) ts)
 as_many_all [] = refl

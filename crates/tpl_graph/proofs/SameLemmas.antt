@@ -3,8 +3,6 @@ use Rattle.std.proofs.Common.{◌≡◌, ℕ, suc, ◌+◌, ◌<◌, ◌≤◌, 
 use Rattle.std.specs.Prelude.{Some, slice_get}
 use Rattle.std.proofs.lemmas.Bool.{cases_eq}
 use Rattle.std.proofs.lemmas.List.{length-map}
-use Rattle.std.proofs.lemmas.Option.{slice_get-map, slice_get-get_or}
-use Rattle.std.specs.Option.{option_map}
 use Rattle.tpl_draft.proofs.NamesLemmas.{map_here}
 
 -- the lists are as long, and equal below the index
@@ -63,17 +61,3 @@ module _ {A B : Type 0} (f : A → B) (xs ys : List A) where
   -- equal lists are equally long
   pub long_mapped : map f xs ≡ map f ys → length xs ≡ length ys
   long_mapped same = sym (length-map xs f) ∙ (ap length same ∙ length-map ys f)
-
-  -- elements that are read with a default
-  read_at : (zs : List A) (d : A) (i : ℕ) → i < length zs → slice_get (map f zs) i ≡ Some (f (get_or zs i d))
-  read_at zs d i lt = slice_get-map f zs i ∙ ap (option_map f) (slice_get-get_or zs i d lt)
-
-  pub one_read : (d : A) (i : ℕ) → i < length xs → f (get_or xs i d) ≡ f (get_or ys i d) → SameSoFar (map f xs) (map f ys) i → SameSoFar (map f xs) (map f ys) (i + 1)
-  one_read d i lt same so_far =
-      let within : i < length ys = omega (arith, so_far.long, length-map xs f, length-map ys f) in
-      one_compared (map f xs) (map f ys) i (f (get_or xs i d)) (f (get_or ys i d)) (read_at xs d i lt) (read_at ys d i within) same so_far
-
-  pub differ_read : (d : A) (i : ℕ) → i < length xs → (f (get_or xs i d) ≡ f (get_or ys i d) → ⊥) → SameSoFar (map f xs) (map f ys) i → map f xs ≡ map f ys → ⊥
-  differ_read d i lt apart so_far same =
-      let within : i < length ys = omega (arith, so_far.long, length-map xs f, length-map ys f) in
-      differ_here (map f xs) (map f ys) i (f (get_or xs i d)) (f (get_or ys i d)) (read_at xs d i lt) (read_at ys d i within) apart same

@@ -12,7 +12,7 @@ use Rattle.tpl_model.specs.Statements.{sites, sites_of}
 use Rattle.tpl_model.specs.Graph as graph
 use Rattle.tpl_draft.specs.declared.sort.Sort.{Sort}
 use Rattle.tpl_draft.specs.declared.sort.Sort.TheVariants.{Labels, Sites}
-use Rattle.tpl_draft.specs.Draft.{Line, Lines, Return, Throw, Check, Cancel, Start, Observe, Work, If, When, Nothing, Then, each_of, each_within, Task, worked, statements_in, site_count, count_site, line_count, count_line}
+use Rattle.tpl_draft.specs.Draft.{Line, Lines, Throw, Work, If, When, Nothing, Then, each_of, each_within, Task, worked, statements_in, site_count, count_site, line_count, count_line}
 use Rattle.tpl_draft.specs.Named.{Names}
 use Rattle.tpl_draft.specs.Names.{has_name, place, with_name, with_names}
 use Rattle.tpl_draft.specs.Numbered.{script_in, statement_in, task_in, names_in, all_named}
@@ -34,19 +34,13 @@ mutual
       ∙ sym (split_named n (s ∷ each_within s) (each_of rest))
 
   sites_statement : (n : Names) (s : Line) → sites_of (statement_in n s) ≡ map (place n.sites) (flat_map (names_in Sites) (s ∷ each_within s))
-  sites_statement n Return = refl
-  sites_statement n (Throw l) = refl
-  sites_statement n (Check k) = refl
-  sites_statement n (Cancel k) = refl
-  sites_statement n (Start c) = refl
-  sites_statement n Observe = refl
-  sites_statement n (Work s may_fail) = refl
   sites_statement n (If i a b) =
       append_both (sites (script_in n a)) (sites (script_in n b)) (map (place n.sites) (flat_map (names_in Sites) (each_of a))) (map (place n.sites) (flat_map (names_in Sites) (each_of b))) (sites_script n a) (sites_script n b)
       ∙ sym (split_named n (each_of a) (each_of b))
   sites_statement n (When f a b) =
       append_both (sites (script_in n a)) (sites (script_in n b)) (map (place n.sites) (flat_map (names_in Sites) (each_of a))) (map (place n.sites) (flat_map (names_in Sites) (each_of b))) (sites_script n a) (sites_script n b)
       ∙ sym (split_named n (each_of a) (each_of b))
+  sites_statement n s = refl
 
 pub sites_all : (n : Names) (ts : List Task) → flat_map (λ (t : graph.Task). sites t.body) (map (task_in n) ts) ≡ map (place n.sites) (all_named Sites ts)
 sites_all n [] = refl
@@ -64,15 +58,9 @@ mutual
   site_count_is (Then s rest) = omega (arith, long_named Sites (s ∷ each_within s) (each_of rest), site_count_one s, site_count_is rest)
 
   site_count_one : (s : Line) → length (flat_map (names_in Sites) (s ∷ each_within s)) ≡ count_site s
-  site_count_one Return = refl
-  site_count_one (Throw l) = refl
-  site_count_one (Check k) = refl
-  site_count_one (Cancel k) = refl
-  site_count_one (Start c) = refl
-  site_count_one Observe = refl
-  site_count_one (Work s may_fail) = refl
   site_count_one (If i a b) = omega (arith, long_named Sites (each_of a) (each_of b), site_count_is a, site_count_is b)
   site_count_one (When f a b) = omega (arith, long_named Sites (each_of a) (each_of b), site_count_is a, site_count_is b)
+  site_count_one s = refl
 
 pub site_total_is : (ts : List Task) → length (all_named Sites ts) ≡ site_total ts
 site_total_is [] = refl
@@ -86,15 +74,9 @@ mutual
   label_count (Then s rest) = omega (arith, long_named Labels (s ∷ each_within s) (each_of rest), label_count_one s, label_count rest)
 
   label_count_one : (s : Line) → length (flat_map (names_in Labels) (s ∷ each_within s)) ≤ count_line s
-  label_count_one Return = omega arith
-  label_count_one (Throw l) = omega arith
-  label_count_one (Check k) = omega arith
-  label_count_one (Cancel k) = omega arith
-  label_count_one (Start c) = omega arith
-  label_count_one Observe = omega arith
-  label_count_one (Work s may_fail) = omega arith
   label_count_one (If i a b) = omega (arith, long_named Labels (each_of a) (each_of b), label_count a, label_count b)
   label_count_one (When f a b) = omega (arith, long_named Labels (each_of a) (each_of b), label_count a, label_count b)
+  label_count_one s = omega arith
 
 pub label_total : (ts : List Task) → AreSmall ts → length (all_named Labels ts) ≤ 64 * length ts
 label_total [] small = omega arith
@@ -134,17 +116,13 @@ module _ (n : Names) where
         (is_named x (among_left Labels n.labels (x ∷ each_within x) (each_of rest) l) (among_left Sites n.sites (x ∷ each_within x) (each_of rest) s), are_named rest (among_right Labels n.labels (x ∷ each_within x) (each_of rest) l) (among_right Sites n.sites (x ∷ each_within x) (each_of rest) s))
 
     is_named : (x : Line) → AreAmong Labels n.labels (x ∷ each_within x) → AreAmong Sites n.sites (x ∷ each_within x) → IsNamed (length n.labels) (length n.sites) (statement_in n x)
-    is_named Return l s = tt
     is_named (Throw label) l s = place_within n.labels label (l label (alone label))
-    is_named (Check k) l s = tt
-    is_named (Cancel k) l s = tt
-    is_named (Start c) l s = tt
-    is_named Observe l s = tt
     is_named (Work site may_fail) l s = place_within n.sites site (s site (alone site))
     is_named (If i a b) l s =
         (are_named a (among_left Labels n.labels (each_of a) (each_of b) l) (among_left Sites n.sites (each_of a) (each_of b) s), are_named b (among_right Labels n.labels (each_of a) (each_of b) l) (among_right Sites n.sites (each_of a) (each_of b) s))
     is_named (When f a b) l s =
         (are_named a (among_left Labels n.labels (each_of a) (each_of b) l) (among_left Sites n.sites (each_of a) (each_of b) s), are_named b (among_right Labels n.labels (each_of a) (each_of b) l) (among_right Sites n.sites (each_of a) (each_of b) s))
+    is_named _ l s = tt
 
 -- the names of a task are among those of all
 pub any_flat : {A B : Type 0} (f : A → List B) (p : B → Bool) (xs : List A) (t : ℕ) (x : A) → slice_get xs t ≡ Some x → list_any p (f x) ≡ true → list_any p (flat_map f xs) ≡ true

@@ -43,12 +43,6 @@ mutual
       has
 
   stand_here : (s : ℕ) (m : Bool) (x : Statement) → IsWork s m x → StandAt s m (sites_of x) (may_fails_of x)
-  stand_here s m script.Return is = absurd is
-  stand_here s m (script.Throw l) is = absurd is
-  stand_here s m (script.Check k) is = absurd is
-  stand_here s m (script.Cancel k) is = absurd is
-  stand_here s m (script.Start c) is = absurd is
-  stand_here s m script.Observe is = absurd is
   stand_here s m (script.Work site fails) is = (0, ap Some is.0, ap Some is.1)
   stand_here s m (script.If i a b) is = ⊎_elim
       (λ first. stand_left s m (sites a) (sites b) (may_fails a) (may_fails b) (stand_in s m a first))
@@ -58,6 +52,7 @@ mutual
       (λ first. stand_left s m (sites a) (sites b) (may_fails a) (may_fails b) (stand_in s m a first))
       (λ second. stand_right s m (sites a) (sites b) (may_fails a) (may_fails b) (as_many a) (stand_in s m b second))
       is
+  stand_here s m _ is = absurd is
 
 stand_all : (s : ℕ) (m : Bool) (ts : List graph.Task) (t : ℕ) → HasWork s m (slice_index_or ts t empty).body → StandAt s m (flat_map (λ (x : graph.Task). sites x.body) ts) (flat_map (λ (x : graph.Task). may_fails x.body) ts)
 stand_all s m [] t has = absurd has

@@ -8,3 +8,4 @@ pub mod Collected
 pub mod Small
 pub mod Starters
 pub mod Checked
+pub mod Prelude

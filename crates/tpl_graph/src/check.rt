@@ -1,15 +1,9 @@
 //! The refusals in order.
 
 ghost use Rattle.std.specs.Prelude.{◌≡◌, false, length, map, suc, IfOk, OnOk, IfErr};
-ghost use Rattle.tpl_graph.specs.Collected.{all_owned};
-ghost use Rattle.tpl_draft.specs.Names.{some_twice};
-ghost use Rattle.tpl_draft.specs.Numbered.{names_of, graph_in};
-ghost use Rattle.tpl_draft.specs.Refusals.{number, IsValid, NoneBelow, Refuses, all_starts};
+ghost use Rattle.tpl_draft.specs.Prelude.{AreDeclared, AreStarters, IsTestOf, IsValid, NoneBelow, Refuses, all_starts, draft_of, graph_in, names_of, number, some_twice, why_of};
 ghost use Rattle.tpl_draft.specs.Origins.{token_of};
-ghost use Rattle.tpl_draft.specs.SeenTasks.{draft_of};
-ghost use Rattle.tpl_graph.specs.Starters.{numbers};
-ghost use Rattle.tpl_draft.specs.Test.{why_of, IsTestOf, AreDeclared, AreStarters};
-ghost use Rattle.tpl_graph.specs.Checked.{IsFound, IsChecked};
+ghost use Rattle.tpl_graph.specs.Prelude.{IsChecked, IsFound, all_owned, numbers};
 
 use crate::row::Site;
 use crate::rows::origins;

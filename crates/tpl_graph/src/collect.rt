@@ -1,17 +1,13 @@
 //! What the statements of a body name: labels, sites, and the tasks that they start.
 
 ghost use Rattle.std.specs.Prelude.{◌≡◌, ◌≤◌, ◌++◌, ◌∷◌, ◌||◌, length, map, flat_map, string_bytes, IfOk, OnOk};
-ghost use Rattle.tpl_draft.specs.Numbered.{names_in};
-ghost use Rattle.tpl_graph.specs.Collected.{named, start_in, started, owned_in, owned};
-ghost use Rattle.tpl_draft.specs.Draft.{each_within};
-ghost use Rattle.tpl_draft.specs.Ids.{task_number};
-ghost use Rattle.tpl_draft.specs.Names.{with_name, with_names, twice_after, has_name};
-ghost use Rattle.tpl_draft.specs.SeenDraft.{line_of};
+ghost use Rattle.tpl_draft.specs.Prelude.{each_within, has_name, line_of, names_in, task_number, twice_after, with_name, with_names};
+ghost use Rattle.tpl_graph.specs.Prelude.{named, owned, owned_in, start_in, started};
 
 use crate::row::Site;
 use std::alloc::AllocError;
 use tpl_draft::{DraftBody, DraftStmt, Names, Sort};
-use tpl_model::TaskId;
+use tpl_model::{MOST_TASKS, TaskId};
 
 fn either(first: bool, second: bool) -> bool
     ensures { result ≡ (first || second) }
@@ -81,7 +77,7 @@ pub(crate) fn collect(
     owner: TaskId,
     tasks: &Names,
 ) -> Result<(), AllocError>
-    requires { length tasks.now ≤ 1024 }
+    requires { length tasks.now ≤ MOST_TASKS }
     ensures starts { OnOk result (map task_number starts.new.items
         ≡ map task_number starts.old.items ++ started tasks.now body.now) }
     ensures sites { OnOk result (sites.new.items ≡ sites.old.items ++ owned owner.0 body.now) }
@@ -100,7 +96,7 @@ fn collect_within(
     owner: TaskId,
     tasks: &Names,
 ) -> Result<(), AllocError>
-    requires { length tasks.now ≤ 1024 }
+    requires { length tasks.now ≤ MOST_TASKS }
     ensures starts { OnOk result (map task_number starts.new.items
         ≡ map task_number starts.old.items ++ flat_map (start_in tasks.now)
         (line_of statement.now ∷ each_within (line_of statement.now))) }

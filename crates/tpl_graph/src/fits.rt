@@ -2,8 +2,8 @@
 
 ghost use Rattle.std.specs.Prelude.{◌≡◌, ◌↔◌, IsTrue};
 ghost use Rattle.std.specs.List.{list_any};
-ghost use Rattle.tpl_model.specs.Graph.{is_task, kind};
-ghost use Rattle.tpl_graph.specs.Fits.{IsGivenOf, is_of_one_thing, given_twice, TasksOf, has_body, have_bodies, Fits};
+ghost use Rattle.tpl_graph.specs.Prelude.{Fits, IsGivenOf, TasksOf, given_twice, has_body, have_bodies, is_of_one_thing};
+ghost use Rattle.tpl_model.specs.Prelude.{is_task, kind};
 
 use crate::claim::Claim;
 use crate::graph::Graph;

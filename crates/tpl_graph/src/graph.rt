@@ -1,29 +1,17 @@
 //! A valid task graph and its readers.
 
-ghost use Rattle.std.specs.Prelude.{◌≡◌, ◌<◌, ◌≤◌, length, map, position, slice_get, true, Bool, Some, IfSome, IfNone, IfOk, IfErr, IsTrue, OnOk, ◌↔◌, ℕ};
-ghost use Rattle.std.specs.Option.{option_map};
-ghost use Rattle.std.specs.Str.{bytes_eq};
-ghost use Rattle.tpl_model.specs.Members.{mem};
-ghost use Rattle.tpl_model.specs.Statements.{sites};
+ghost use Rattle.std.specs.Prelude.{◌≡◌, ◌<◌, ◌≤◌, length, map, position, slice_get, true, Bool, Some, IfSome, IfNone, IfOk, IfErr, IsTrue, OnOk, ◌↔◌, ℕ, option_map, bytes_eq};
+ghost use Rattle.tpl_draft.specs.Prelude.{IsValid, Refuses, all_may_fail, antecedent_of, args_of, draft_of, input_number, names_of, numbered, site_number, task_in, task_number, token_number};
+ghost use Rattle.tpl_graph.specs.Prelude.{AreKept, AreWithin, HasWork, IsChecked, IsNamedGraph, kind_in, kind_of, task_of};
+ghost use Rattle.tpl_model.specs.Prelude.{IsParent, is_task, is_token, mem, sites};
 ghost use Rattle.tpl_model.specs.Graph as spec;
-ghost use Rattle.tpl_model.specs.Graph.{is_task, is_token, IsParent};
 ghost use Rattle.tpl_model.specs.Valid as valid;
-ghost use Rattle.tpl_draft.specs.Ids.{task_number, token_number, input_number, site_number};
-ghost use Rattle.tpl_draft.specs.Named.{antecedent_of, args_of, all_may_fail};
-ghost use Rattle.tpl_graph.specs.Rows.{kind_of, task_of};
-ghost use Rattle.tpl_graph.specs.Roles.{kind_in, AreWithin};
-ghost use Rattle.tpl_graph.specs.Kept.{IsNamedGraph, AreKept};
-ghost use Rattle.tpl_graph.specs.Sites.{HasWork};
-ghost use Rattle.tpl_graph.specs.Checked.{IsChecked};
-ghost use Rattle.tpl_draft.specs.Numbered.{numbered, names_of, task_in};
-ghost use Rattle.tpl_draft.specs.Refusals.{IsValid, Refuses};
-ghost use Rattle.tpl_draft.specs.SeenTasks.{draft_of};
 
 use crate::check::{Checked, check};
 use crate::role::Role;
 use crate::row::{Kind, OwnRole, Row, Site};
 use crate::rows::number_tasks;
-use crate::same::{same_origins, same_rows, same_tables};
+use crate::same::{same_lists, same_tables};
 use crate::starters::{attached, bound, parents};
 use std::alloc::{AllocError, Global};
 use std::marker::Model;
@@ -430,7 +418,7 @@ impl Graph {
         ensures { IsTrue result ↔ (self.now ≡ other.now) }
     {
         same_tables(&self.names, &other.names)
-            && same_origins(&self.tokens, &other.tokens)
-            && same_rows(&self.tasks, &other.tasks)
+            && same_lists(&self.tokens, &other.tokens)
+            && same_lists(&self.tasks, &other.tasks)
     }
 }

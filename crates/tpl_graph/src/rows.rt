@@ -1,18 +1,13 @@
 //! The rows of a graph: its tasks and tokens with ids in place of names.
 
-ghost use Rattle.std.specs.Prelude.{◌≡◌, ◌≤◌, None, length, map, string_bytes, IfOk};
-ghost use Rattle.std.specs.Option.{option_map};
-ghost use Rattle.tpl_model.specs.Limits.{IsWithinLimits};
-ghost use Rattle.tpl_model.specs.Statements.{Nothing};
+ghost use Rattle.std.specs.Prelude.{◌≡◌, ◌≤◌, None, length, map, string_bytes, IfOk, option_map};
+ghost use Rattle.tpl_draft.specs.Prelude.{AreFew, place, script_in, seen, task_in, task_number, task_of, token_in, token_number};
 ghost use Rattle.tpl_draft.specs.Draft as meaning;
-ghost use Rattle.tpl_draft.specs.Ids.{task_number, token_number};
-ghost use Rattle.tpl_draft.specs.Names.{place};
-ghost use Rattle.tpl_draft.specs.Numbered.{script_in, task_in, token_in, AreFew};
 ghost use Rattle.tpl_draft.specs.Origins as origins;
+ghost use Rattle.tpl_draft.specs.SeenTasks.{token_of};
+ghost use Rattle.tpl_graph.specs.Prelude.{AreSmall, IsSmall};
 ghost use Rattle.tpl_graph.specs.Rows as rows;
-ghost use Rattle.tpl_draft.specs.SeenTasks.{task_of, token_of};
-ghost use Rattle.tpl_graph.specs.Small.{IsSmall, AreSmall};
-ghost use Rattle.tpl_draft.specs.Tables.{seen};
+ghost use Rattle.tpl_model.specs.Prelude.{IsWithinLimits, Nothing};
 
 use crate::row::{OwnRole, Row};
 use std::alloc::{AllocError, Global};

@@ -1,11 +1,10 @@
 //! Whether two graphs are equal, part by part.
 
-ghost use Rattle.std.specs.Prelude.{◌≡◌, ◌↔◌, IsTrue, map};
-ghost use Rattle.std.specs.Option.{option_map};
-ghost use Rattle.tpl_draft.specs.Ids.{task_number, token_number};
+ghost use Rattle.std.specs.Prelude.{◌≡◌, ◌↔◌, ℕ, IsTrue, map, option_map};
+ghost use Rattle.tpl_draft.specs.Prelude.{seen, task_number, token_number};
 ghost use Rattle.tpl_draft.specs.Origins.{token_of};
 ghost use Rattle.tpl_graph.specs.Rows.{role_of, task_of};
-ghost use Rattle.tpl_draft.specs.Tables.{seen};
+ghost use Rattle.tpl_model.specs.Graph as graph;
 
 use crate::row::{OwnRole, Row};
 use tpl_draft::{Names, Origin, Tables};
@@ -36,79 +35,81 @@ pub(crate) fn same_tables(left: &Tables, right: &Tables) -> bool
         && same_names(&left.sites, &right.sites)
 }
 
-fn same_tasks(left: &[TaskId], right: &[TaskId]) -> bool
-    ensures { IsTrue result ↔ (map task_number left.now ≡ map task_number right.now) }
+/// What is compared place by place in lists.
+pub(crate) trait Same {
+    ghost Shown: { Type 0 };
+
+    ghost shown: { Self → Shown };
+
+    /// Contracts see the two values as the same.
+    fn same(&self, other: &Self) -> bool
+        ensures { IsTrue result ↔ (shown self.now ≡ shown other.now) };
+}
+
+/// The lists are as long, and the same place by place.
+pub(crate) fn same_lists<T: Same>(left: &[T], right: &[T]) -> bool
+    ensures { IsTrue result ↔ (map T.shown left.now ≡ map T.shown right.now) }
 {
     if left.len() != right.len() {
         return false;
     }
     for i in 0..left.len() {
-        if left[i].0 != right[i].0 {
+        if !left[i].same(&right[i]) {
             return false;
         }
     }
     true
 }
 
-fn same_tokens(left: &[TokenId], right: &[TokenId]) -> bool
-    ensures { IsTrue result ↔ (map token_number left.now ≡ map token_number right.now) }
-{
-    if left.len() != right.len() {
-        return false;
-    }
-    for i in 0..left.len() {
-        if left[i].0 != right[i].0 {
-            return false;
-        }
-    }
-    true
-}
+impl Same for TaskId {
+    ghost Shown = { ℕ };
 
-fn same_origin(left: &Origin, right: &Origin) -> bool
-    ensures { IsTrue result ↔ (token_of left.now ≡ token_of right.now) }
-{
-    match left {
-        Origin::Plain => matches!(right, Origin::Plain),
-        Origin::Linked(sources) => match right {
-            Origin::Linked(others) => same_tokens(sources.as_slice(), others.as_slice()),
-            Origin::Plain => false,
-        },
+    ghost shown = { task_number };
+
+    fn same(&self, other: &TaskId) -> bool {
+        self.0 == other.0
     }
 }
 
-/// The two graphs have the same tokens.
-pub(crate) fn same_origins(left: &[Origin], right: &[Origin]) -> bool
-    ensures { IsTrue result ↔ (map token_of left.now ≡ map token_of right.now) }
-{
-    if left.len() != right.len() {
-        return false;
+impl Same for TokenId {
+    ghost Shown = { ℕ };
+
+    ghost shown = { token_number };
+
+    fn same(&self, other: &TokenId) -> bool {
+        self.0 == other.0
     }
-    for i in 0..left.len() {
-        if !same_origin(&left[i], &right[i]) {
-            return false;
+}
+
+impl Same for Origin {
+    ghost Shown = { graph.Token };
+
+    ghost shown = { token_of };
+
+    fn same(&self, other: &Origin) -> bool {
+        match (self, other) {
+            (Origin::Plain, Origin::Plain) => true,
+            (Origin::Linked(sources), Origin::Linked(others)) => {
+                same_lists(sources.as_slice(), others.as_slice())
+            }
+            _ => false,
         }
     }
-    true
 }
 
 fn same_role(left: &OwnRole, right: &OwnRole) -> bool
     ensures { IsTrue result ↔ (role_of left.now ≡ role_of right.now) }
 {
-    match left {
-        OwnRole::Root => matches!(right, OwnRole::Root),
-        OwnRole::Child => matches!(right, OwnRole::Child),
-        OwnRole::Then(antecedent) => match right {
-            OwnRole::Then(other) => antecedent == other,
-            _ => false,
-        },
-        OwnRole::All(args) => match right {
-            OwnRole::All(others) => same_tasks(args.as_slice(), others.as_slice()),
-            _ => false,
-        },
-        OwnRole::Any(args) => match right {
-            OwnRole::Any(others) => same_tasks(args.as_slice(), others.as_slice()),
-            _ => false,
-        },
+    match (left, right) {
+        (OwnRole::Root, OwnRole::Root) | (OwnRole::Child, OwnRole::Child) => true,
+        (OwnRole::Then(antecedent), OwnRole::Then(other)) => antecedent == other,
+        (OwnRole::All(args), OwnRole::All(others)) => {
+            same_lists(args.as_slice(), others.as_slice())
+        }
+        (OwnRole::Any(args), OwnRole::Any(others)) => {
+            same_lists(args.as_slice(), others.as_slice())
+        }
+        _ => false,
     }
 }
 
@@ -124,26 +125,15 @@ fn same_token(left: Option<TokenId>, right: Option<TokenId>) -> bool
     }
 }
 
-fn same_row(left: &Row, right: &Row) -> bool
-    ensures { IsTrue result ↔ (task_of left.now ≡ task_of right.now) }
-{
-    same_role(&left.role, &right.role)
-        && left.script.same(&right.script)
-        && same_token(left.token, right.token)
-        && left.options == right.options
-}
+impl Same for Row {
+    ghost Shown = { graph.Task };
 
-/// The two graphs have the same tasks.
-pub(crate) fn same_rows(left: &[Row], right: &[Row]) -> bool
-    ensures { IsTrue result ↔ (map task_of left.now ≡ map task_of right.now) }
-{
-    if left.len() != right.len() {
-        return false;
+    ghost shown = { task_of };
+
+    fn same(&self, other: &Row) -> bool {
+        same_role(&self.role, &other.role)
+            && self.script.same(&other.script)
+            && same_token(self.token, other.token)
+            && self.options == other.options
     }
-    for i in 0..left.len() {
-        if !same_row(&left[i], &right[i]) {
-            return false;
-        }
-    }
-    true
 }

@@ -1,24 +1,18 @@
 //! Who starts each task, and which children are attached.
 
-ghost use Rattle.std.specs.Prelude.{◌≡◌, ◌≤◌, ◌<◌, ◌&&◌, ◌++◌, ℕ, filter, get_or, length, map, not, slice_get, sum_by, ◌+◌, List, Some, IfOk, OnOk};
-ghost use Rattle.tpl_model.specs.Options.{attached_to_parent, deny_child_attach};
-ghost use Rattle.tpl_model.specs.Limits.{statement_count};
-ghost use Rattle.tpl_model.specs.Graph as spec;
+ghost use Rattle.std.specs.Prelude.{◌≡◌, ◌≤◌, ◌<◌, ◌&&◌, ◌++◌, ℕ, get_or, length, map, slice_get, sum_by, ◌+◌, List, Some, IfOk, OnOk};
+ghost use Rattle.tpl_draft.specs.Prelude.{starter_of, starters_from, task_number, task_of, worked};
 ghost use Rattle.tpl_draft.specs.declared.starter.Starter.TheVariants.{Nobody};
-ghost use Rattle.tpl_graph.specs.Collected.{started, owned, all_owned};
-ghost use Rattle.tpl_draft.specs.Draft.{worked};
-ghost use Rattle.tpl_draft.specs.Ids.{task_number};
-ghost use Rattle.tpl_graph.specs.Kept.{EachAt};
-ghost use Rattle.tpl_draft.specs.Refusals.{starters_from};
-ghost use Rattle.tpl_draft.specs.SeenTasks.{task_of};
-ghost use Rattle.tpl_graph.specs.Starters.{numbers, noted, more as one_more, parent_in, rows_graph, attached_of};
-ghost use Rattle.tpl_draft.specs.Test.{starter_of};
+ghost use Rattle.tpl_graph.specs.Prelude.{EachAt, all_owned, attached_of, noted, numbers, owned, parent_in, rows_graph, started};
+ghost use Rattle.tpl_graph.specs.Starters.{more as one_more};
+ghost use Rattle.tpl_model.specs.Prelude.{attached_to_parent, deny_child_attach, statement_count};
+ghost use Rattle.tpl_model.specs.Graph as spec;
 
 use crate::collect::collect;
 use crate::row::{Row, Site};
 use std::alloc::{AllocError, Global};
 use tpl_draft::{DraftKind, DraftTask, Names, Starter};
-use tpl_model::TaskId;
+use tpl_model::{MOST_TASKS, MOST_TOKENS, TaskId};
 
 /// The tasks that a task starts; its sites are added.
 fn task_starts(
@@ -28,7 +22,7 @@ fn task_starts(
     owner: TaskId,
     names: &Names,
 ) -> Result<Vec<TaskId>, AllocError>
-    requires { length names.now ≤ 1024 }
+    requires { length names.now ≤ MOST_TASKS }
     ensures starts { IfOk result (λ v. numbers v ≡ started names.now
         (worked (task_of task.now).kind).body) }
     ensures sites { OnOk result (sites.new.items ≡ sites.old.items
@@ -51,8 +45,8 @@ pub(crate) fn all_starts(
     tasks: &[DraftTask],
     names: &Names,
 ) -> Result<Vec<Vec<TaskId>>, AllocError>
-    requires names { length names.now ≤ 1024 }
-    requires tasks { length tasks.now ≤ 1024 }
+    requires names { length names.now ≤ MOST_TASKS }
+    requires tasks { length tasks.now ≤ MOST_TASKS }
     ensures starts { IfOk result (λ v. map numbers v.items
         ≡ map (λ x. started names.now (worked x.kind).body) (map task_of tasks.now)) }
     ensures sites { OnOk result (sites.new.items ≡ sites.old.items
@@ -101,7 +95,7 @@ fn nobody(alloc: Global, count: usize) -> Result<Vec<Starter>, AllocError>
 
 /// Who starts each task.
 pub(crate) fn starters(alloc: Global, starts: &[Vec<TaskId>]) -> Result<Vec<Starter>, AllocError>
-    requires { length starts.now ≤ 1024 }
+    requires { length starts.now ≤ MOST_TASKS }
     ensures long { IfOk result (λ v. length v.items ≡ length starts.now) }
     ensures each { IfOk result (λ v. (t : ℕ) → t < length starts.now
         → get_or v.items t Nobody ≡ starter_of (starters_from t 0 (map numbers starts.now))) }
@@ -193,8 +187,8 @@ pub(crate) fn attached(
 
 /// The most events of a run.
 pub(crate) fn bound(rows: &[Row], tokens: usize) -> u32
-    requires rows { length rows.now ≤ 1024 }
-    requires tokens { tokens ≤ 32 }
+    requires rows { length rows.now ≤ MOST_TASKS }
+    requires tokens { tokens ≤ MOST_TOKENS }
     ensures { result ≡ tokens + sum_by (λ row. 4 + statement_count row.script) rows.now }
 {
     let mut total = tokens as u32;

@@ -1,14 +1,9 @@
 //! The tables of labels and sites.
 
 ghost use Rattle.std.specs.Prelude.{◌≡◌, [], map, flat_map, None, IfOk, IfErr, OnOk, false};
-ghost use Rattle.tpl_draft.specs.declared.sort.Sort.TheVariants.{Labels, Sites};
+ghost use Rattle.tpl_draft.specs.Prelude.{FaultIsTwice, IsFirst, all_named, applies, draft_of, names_in, sites_of, some_twice, statements_in, task_of, twice_after, with_names};
 ghost use Rattle.tpl_draft.specs.declared.fault.Why.TheVariants.{SiteTwice};
-ghost use Rattle.tpl_draft.specs.Draft.{statements_in};
-ghost use Rattle.tpl_draft.specs.Names.{with_names, twice_after, some_twice};
-ghost use Rattle.tpl_draft.specs.Numbered.{names_in, all_named, sites_of};
-ghost use Rattle.tpl_draft.specs.Refusals.{applies, IsFirst};
-ghost use Rattle.tpl_draft.specs.SeenTasks.{draft_of, task_of};
-ghost use Rattle.tpl_draft.specs.Test.{FaultIsTwice};
+ghost use Rattle.tpl_draft.specs.declared.sort.Sort.TheVariants.{Labels, Sites};
 
 use crate::collect::add_names;
 use std::alloc::{AllocError, Global};

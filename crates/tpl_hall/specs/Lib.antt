@@ -8,3 +8,4 @@ pub mod Moves
 pub mod Stays
 pub mod Closes
 pub mod Watched
+pub mod Prelude

@@ -1,11 +1,8 @@
 //! The worker on which a task has to begin.
 
-ghost use Rattle.std.specs.Prelude.{◌≡◌, ◌&&◌, not};
-ghost use Rattle.std.specs.Option.{option_map};
-ghost use Rattle.tpl_model.specs.Options.{execute_synchronously, run_continuations_asynchronously};
-ghost use Rattle.tpl_model.specs.Graph.{is_task, kind, options};
-ghost use Rattle.tpl_model.specs.Rules.{worker_of, bound_worker};
-ghost use Rattle.tpl_hall.specs.Bound.{worker_number, actor_at};
+ghost use Rattle.std.specs.Prelude.{◌≡◌, ◌&&◌, not, option_map};
+ghost use Rattle.tpl_hall.specs.Prelude.{actor_at, worker_number};
+ghost use Rattle.tpl_model.specs.Prelude.{bound_worker, execute_synchronously, is_task, kind, options, run_continuations_asynchronously, worker_of};
 
 use crate::hall::Hall;
 use tpl_machine::Core;

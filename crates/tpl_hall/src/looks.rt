@@ -1,13 +1,9 @@
 //! Whether a seat fits the run, and what is reported to it.
 
 ghost use Rattle.std.specs.Prelude.{◌≡◌, ◌↔◌, length, None, Some, IsTrue, IsFalse};
-ghost use Rattle.tpl_model.specs.Facts.{requested};
-ghost use Rattle.tpl_model.specs.Graph.{is_task, is_token};
-ghost use Rattle.tpl_hall.specs.Moves.{Fits, HasRoom, MatchLooked};
-ghost use Rattle.tpl_hall.specs.Sights.{IsSeen};
-ghost use Rattle.tpl_hall.specs.Stays.{Stays, GoesAs, GoesOn, MayGoOn, MayEnd, Leaves};
-ghost use Rattle.tpl_hall.specs.Views.{SeatView};
+ghost use Rattle.tpl_hall.specs.Prelude.{Fits, GoesAs, GoesOn, HasRoom, IsSeen, Leaves, MatchLooked, MayEnd, MayGoOn, SeatView, Stays};
 ghost use Rattle.tpl_hall.specs.declared.sight.Sight.TheVariants.{At, Already};
+ghost use Rattle.tpl_model.specs.Prelude.{is_task, is_token, requested};
 
 use crate::checks::{is_within, stands};
 use crate::hall::Hall;

@@ -9,11 +9,8 @@ pub fn receipts_of<K>(site: u16, receipts: &[Receipt<K>]) -> usize
     ensures count { result ≡ count_by (nat_eq site) (map (λ r. r.site.0) receipts.now) }
     ensures short { result ≤ length receipts.now }
 {
-    let mut count = 0;
-    for receipt in receipts {
-        if receipt.site().0 == site {
-            count += 1;
-        }
-    }
-    count
+    receipts
+        .iter()
+        .filter(|receipt| site == receipt.site().0)
+        .count()
 }

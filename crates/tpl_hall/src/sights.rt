@@ -1,9 +1,8 @@
 //! Whether what was last reported to seats is true of a journal.
 
 ghost use Rattle.std.specs.Prelude.{◌≡◌, ◌↔◌, ◌+◌, [], length, reverse, IsTrue, IfOk};
-ghost use Rattle.tpl_model.specs.Rules.{Run};
-ghost use Rattle.tpl_hall.specs.Closes.{AllLast, AllHoldAt, AllHoldBelow, HoldsAt};
-ghost use Rattle.tpl_hall.specs.Sights.{IsOf, IsTrueOf};
+ghost use Rattle.tpl_hall.specs.Prelude.{AllHoldAt, AllHoldBelow, AllLast, HoldsAt, IsOf, IsTrueOf};
+ghost use Rattle.tpl_model.specs.Prelude.{Run};
 
 use crate::own::are_within;
 use crate::seat::Seat;
@@ -12,34 +11,7 @@ use std::alloc::{AllocError, Global};
 use tpl_fast::Fast;
 use tpl_graph::Graph;
 use tpl_machine::Core;
-use tpl_model::{Event, Final, Inputs, Status};
-
-/// Both words for how a task ended are the same.
-fn same_final(a: Final, b: Final) -> bool
-    ensures { IsTrue result ↔ (a ≡ b) }
-{
-    match (a, b) {
-        (Final::RanToCompletion, Final::RanToCompletion) => true,
-        (Final::Canceled, Final::Canceled) => true,
-        (Final::Faulted, Final::Faulted) => true,
-        _ => false,
-    }
-}
-
-/// Both words for where a task stands are the same.
-fn same_status(a: Status, b: Status) -> bool
-    ensures { IsTrue result ↔ (a ≡ b) }
-{
-    match (a, b) {
-        (Status::Created, Status::Created) => true,
-        (Status::WaitingForActivation, Status::WaitingForActivation) => true,
-        (Status::WaitingToRun, Status::WaitingToRun) => true,
-        (Status::Running, Status::Running) => true,
-        (Status::WaitingForChildrenToComplete, Status::WaitingForChildrenToComplete) => true,
-        (Status::Completed(x), Status::Completed(y)) => same_final(x, y),
-        _ => false,
-    }
-}
+use tpl_model::{Event, Inputs};
 
 /// What was reported is of the graph, and true of this run.
 fn is_true(core: &Fast<'_>, sight: Sight) -> bool
@@ -48,7 +20,7 @@ fn is_true(core: &Fast<'_>, sight: Sight) -> bool
 {
     match sight {
         Sight::At(task, status) => {
-            (task.0 as usize) < core.graph().len() && same_status(core.status(task), status)
+            (task.0 as usize) < core.graph().len() && core.status(task) == status
         }
         Sight::Already(token) => {
             (token.0 as usize) < core.graph().token_count() && core.requested(token)

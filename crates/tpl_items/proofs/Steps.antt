@@ -55,9 +55,12 @@ knows tasks views p v b at =
       ordered = b.ordered p v at;
     }
 
-pub puts : (tasks : List ℕ) (views : List Tally) (p : ℕ) (v : Tally) (t : ℕ) → 0 < v.parts → IsBalanced tasks views → get_elem? views p ≡ some v → IsBalanced (tasks ++ t ∷ []) (set views p (after_put v t))
-puts tasks views p v t live b at =
-    let w = after_put v t in
+-- a step of a pass with a share after which it has put and taken these, and the queue holds other tasks
+moves : (tasks tasks' : List ℕ) (views : List Tally) (p : ℕ) (v : Tally) (put taken : List ℕ) → 0 < v.parts → IsBalanced tasks views → get_elem? views p ≡ some v
+    → ((h : ℕ → ℕ) → weigh h put + weigh h v.taken + weigh h tasks ≡ weigh h v.put + weigh h taken + weigh h tasks') → (IsUnsplit v → put ≡ taken ++ tasks')
+    → IsBalanced tasks' (set views p (tally v.parts v.halvings put taken))
+moves tasks tasks' views p v put taken live b at even order =
+    let w = tally v.parts v.halvings put taken in
     let n = b.most in
     record {
       most = n;
@@ -68,29 +71,20 @@ puts tasks views p v t live b at =
           let s = total-set (λ u. weigh h u.put) views p v w at in
           let s' = total-set (λ u. weigh h u.taken) views p v w at in
           let q = b.counted h in
-          let r = weigh-append h v.put (t ∷ []) in
-          let r' = weigh-append h tasks (t ∷ []) in
+          let e = even h in
           omega arith;
-      ordered = in_order tasks (tasks ++ t ∷ []) views p v w b at live (λ unsplit. ap (λ xs. xs ++ t ∷ []) (b.ordered p v at unsplit) ∙ append_assoc v.taken tasks (t ∷ []));
+      ordered = in_order tasks tasks' views p v w b at live order;
     }
+
+pub puts : (tasks : List ℕ) (views : List Tally) (p : ℕ) (v : Tally) (t : ℕ) → 0 < v.parts → IsBalanced tasks views → get_elem? views p ≡ some v → IsBalanced (tasks ++ t ∷ []) (set views p (after_put v t))
+puts tasks views p v t live b at =
+    moves tasks (tasks ++ t ∷ []) views p v (v.put ++ t ∷ []) v.taken live b at (λ h. omega (arith, weigh-append h v.put (t ∷ []), weigh-append h tasks (t ∷ [])))
+    (λ unsplit. ap (λ xs. xs ++ t ∷ []) (b.ordered p v at unsplit) ∙ append_assoc v.taken tasks (t ∷ []))
 
 pub takes : (tasks : List ℕ) (views : List Tally) (p : ℕ) (v : Tally) (t : ℕ) → 0 < v.parts → IsBalanced (t ∷ tasks) views → get_elem? views p ≡ some v → IsBalanced tasks (set views p (after_take v t))
 takes tasks views p v t live b at =
-    let w = after_take v t in
-    let n = b.most in
-    record {
-      most = n;
-      halved = each_set (λ u. u.halvings ≤ n) views p w (b.halved p v at) b.halved;
-      whole = let s = total-set (share n) views p v w at in let q = b.whole in omega arith;
-      spent = each_set IsEmptyIfSpent views p w (λ none. absurd (omega arith)) b.spent;
-      counted = λ h.
-          let s = total-set (λ u. weigh h u.put) views p v w at in
-          let s' = total-set (λ u. weigh h u.taken) views p v w at in
-          let q = b.counted h in
-          let r = weigh-append h v.taken (t ∷ []) in
-          omega arith;
-      ordered = in_order (t ∷ tasks) tasks views p v w b at live (λ unsplit. b.ordered p v at unsplit ∙ sym (append_assoc v.taken (t ∷ []) tasks));
-    }
+    moves (t ∷ tasks) tasks views p v v.put (v.taken ++ t ∷ []) live b at (λ h. omega (arith, weigh-append h v.taken (t ∷ [])))
+    (λ unsplit. b.ordered p v at unsplit ∙ sym (append_assoc v.taken (t ∷ []) tasks))
 
 pub forks : (tasks : List ℕ) (views : List Tally) (p : ℕ) (v : Tally) → 0 < v.parts → IsBalanced tasks views → get_elem? views p ≡ some v → IsBalanced tasks (set views p (first_half v) ++ second_half v ∷ [])
 forks tasks views p v live b at =

@@ -1,9 +1,9 @@
 //! The children that a task may start.
 
 ghost use Rattle.std.specs.Prelude.{◌≡◌, ◌+◌, ◌<◌, [], replicate, length, map, slice_index_or, IfOk, OnOk};
-ghost use Rattle.tpl_model.specs.Graph.{is_task};
-ghost use Rattle.tpl_draft.specs.Ids.{task_number};
-ghost use Rattle.tpl_items.specs.Children.{AreChildren, AreChildrenBelow};
+ghost use Rattle.tpl_draft.specs.Prelude.{task_number};
+ghost use Rattle.tpl_items.specs.Prelude.{AreChildren, AreChildrenBelow};
+ghost use Rattle.tpl_model.specs.Prelude.{is_task};
 
 use std::alloc::{AllocError, Global};
 use std::marker::Model;

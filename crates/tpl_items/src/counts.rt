@@ -1,7 +1,7 @@
 //! How many items there are of each site.
 
 ghost use Rattle.std.specs.Prelude.{◌≡◌, ◌≤◌, ◌<◌, length, map, count_by, nat_eq, IfSome, IfNone};
-ghost use Rattle.tpl_items.specs.Items.{AreThere, AreSingle, count_of};
+ghost use Rattle.tpl_items.specs.Prelude.{AreSingle, AreThere, count_of};
 
 use crate::item::Item;
 
@@ -10,13 +10,7 @@ pub fn items_of<K, W: Item<K>>(site: u16, items: &[W]) -> usize
     ensures count { result ≡ count_by (nat_eq site) (map W.site items.now) }
     ensures short { result ≤ length items.now }
 {
-    let mut count = 0;
-    for item in items {
-        if item.site().0 == site {
-            count += 1;
-        }
-    }
-    count
+    items.iter().filter(|item| site == item.site().0).count()
 }
 
 /// The least site without an item.

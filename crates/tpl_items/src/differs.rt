@@ -1,8 +1,8 @@
 //! Items that may fail where the graph says that their site may not, or the other way round.
 
 ghost use Rattle.std.specs.Prelude.{◌≡◌, ◌↔◌, ◌<◌, ℕ, length, slice_index_or, false, IsTrue, IsFalse, IfSome, IfNone};
-ghost use Rattle.tpl_draft.specs.Named.{all_may_fail};
-ghost use Rattle.tpl_items.specs.Items.{SayAt, SomeDiffers};
+ghost use Rattle.tpl_draft.specs.Prelude.{all_may_fail};
+ghost use Rattle.tpl_items.specs.Prelude.{SayAt, SomeDiffers};
 
 use crate::item::Item;
 use tpl_graph::Graph;

@@ -1,6 +1,6 @@
 //! The queue.
 ghost use Rattle.std.specs.Prelude.{◌≡◌, ◌<◌, ◌+◌, ℕ, [], map, IfOk, IfErr, IfSome, IfNone, OnOk, OnErr};
-ghost use Rattle.tpl_items.specs.Tally.{new_tally, times, after_put, after_take, first_half, second_half, both, IsWhole, Accounts, HeldAtOnce, HeldFewer, WasOldest};
+ghost use Rattle.tpl_items.specs.Prelude.{Accounts, HeldAtOnce, HeldFewer, IsWhole, WasOldest, after_put, after_take, both, first_half, new_tally, second_half, times};
 
 use crate::Job;
 use crate::pass::QueuePass;

@@ -1,11 +1,10 @@
 //! The items of a session that weren't called, and the jobs that no worker has.
 
-ghost use Rattle.std.specs.Prelude.{◌≡◌, ◌∷◌, ◌<◌, [], ◌++◌, ◌+◌, ℕ, false, length, map, slice_index_or, slice_set, IfOk, IfErr, IfSome, IfNone, IsTrue, IsFalse};
+ghost use Rattle.std.specs.Prelude.{◌≡◌, ◌∷◌, ◌<◌, [], ◌++◌, ◌+◌, false, length, map, slice_index_or, slice_set, IfOk, IfErr, IfSome, IfNone};
 ghost use Rattle.std.specs.Bool.{OnTrue, OnFalse};
+ghost use Rattle.tpl_items.specs.Prelude.{AreOthers, HasPlace, IfWorker, Takes, TakesKept, count_of, new_stock, unput_count};
 ghost use Rattle.tpl_model.specs.declared.ids.TaskId.{TaskId as TaskNumber};
 ghost use Rattle.tpl_model.specs.declared.ids.Worker.{Worker as WorkerNumber};
-ghost use Rattle.tpl_items.specs.Items.{count_of};
-ghost use Rattle.tpl_items.specs.Stock.{AreOthers, HasPlace, IfWorker, Takes, TakesKept, new_stock, unput_count};
 
 use crate::item::Item;
 use crate::job::Job;

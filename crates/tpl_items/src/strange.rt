@@ -1,7 +1,7 @@
 //! Items of no site of the graph.
 
 ghost use Rattle.std.specs.Prelude.{◌≡◌, ◌≤◌, ◌<◌, ℕ, map, IfSome, IfNone};
-ghost use Rattle.tpl_items.specs.Items.{AreKnown, count_of};
+ghost use Rattle.tpl_items.specs.Prelude.{AreKnown, count_of};
 
 use crate::item::Item;
 

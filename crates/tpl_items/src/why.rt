@@ -1,8 +1,8 @@
 //! Why items aren't those of a graph.
 
 ghost use Rattle.std.specs.Prelude.{◌≡◌, length, slice_index_or, false, IfSome, IfNone};
-ghost use Rattle.tpl_draft.specs.Named.{all_may_fail};
-ghost use Rattle.tpl_items.specs.Items.{AreItems, RefusesItems};
+ghost use Rattle.tpl_draft.specs.Prelude.{all_may_fail};
+ghost use Rattle.tpl_items.specs.Prelude.{AreItems, RefusesItems};
 ghost use Rattle.tpl_items.specs.declared.why.OpenWhy.TheVariants.{Memory};
 
 use crate::counts::{first_missing, first_twice};

@@ -1,6 +1,6 @@
 -- Texts that are written one after another.
 use Rattle.std.proofs.Common.{◌≡◌, ℕ, ◌+◌, ◌<◌, ◌≤◌, true, List, [], ◌∷◌, ◌++◌, length, get_or, take, drop, flat_map, Option, Some, None, refl, sym, ap, ◌∙◌, subst, append_assoc, append-nil}
-use Rattle.std.specs.Prelude.{Result, Ok, Err}
+use Rattle.std.specs.Prelude.{Result, Ok, Err, IsErrAnd}
 use Rattle.std.specs.Io.KnownBytes.{Appends}
 use Rattle.std.proofs.lemmas.List.{take_more, take_all, take-append-drop}
 use Rattle.std.proofs.lemmas.Grind.{flat_map-append}
@@ -50,6 +50,11 @@ module _ {W : Type 0} (contents : W → Option (List ℕ)) where
     failures = stop.failures;
   })
 
+  -- the same of what a `?` gives back
+  pub stops : (a b : Counting W) (xs ys : List ℕ) (r : Result (Unit {0}) WriteFault) (Q : WriteFault → Type 0) → IsErrAnd r Q → StopsIn contents a b xs → WritesText contents a b (xs ++ ys) r
+  stops a b xs ys (Ok x) Q wrong stop = absurd wrong
+  stops a b xs ys (Err fault) Q is stop = stopped a b xs ys (Err fault) fault refl stop
+
   pub as_text : (a b : Counting W) (xs ys : List ℕ) (r : Result (Unit {0}) WriteFault) → xs ≡ ys → WritesText contents a b xs r → WritesText contents a b ys r
   as_text a b xs ys r e is = subst (λ (text : List ℕ). WritesText contents a b text r) e is
 
@@ -71,10 +76,10 @@ module _ {W : Type 0} (contents : W → Option (List ℕ)) where
     each_more a b c d lt so_far one =
         subst (Writes contents a c) (sym (of_more d lt)) (then_written a b c (flat_map f (take i xs)) (f (get_or xs i d)) so_far one)
 
-    pub each_stops : (a b c : Counting W) (d : A) (r : Result (Unit {0}) WriteFault) (fault : WriteFault) → i < length xs → r ≡ Err fault → Writes contents a b (flat_map f (take i xs)) → StopsIn contents b c (f (get_or xs i d)) → WritesText contents a c (flat_map f xs) r
-    each_stops a b c d r fault lt is so_far stop =
+    pub each_stops : (a b c : Counting W) (d : A) (r : Result (Unit {0}) WriteFault) (Q : WriteFault → Type 0) → i < length xs → IsErrAnd r Q → Writes contents a b (flat_map f (take i xs)) → StopsIn contents b c (f (get_or xs i d)) → WritesText contents a c (flat_map f xs) r
+    each_stops a b c d r Q lt is so_far stop =
         as_text a c (flat_map f (take i xs) ++ (f (get_or xs i d) ++ flat_map f (drop (i + 1) xs))) (flat_map f xs) r (of_all d lt)
-        (then_text a b c (flat_map f (take i xs)) (f (get_or xs i d) ++ flat_map f (drop (i + 1) xs)) r so_far (stopped b c (f (get_or xs i d)) (flat_map f (drop (i + 1) xs)) r fault is stop))
+        (then_text a b c (flat_map f (take i xs)) (f (get_or xs i d) ++ flat_map f (drop (i + 1) xs)) r so_far (stops b c (f (get_or xs i d)) (flat_map f (drop (i + 1) xs)) r Q is stop))
 
     pub each_written : (a b : Counting W) → length xs ≤ i → Writes contents a b (flat_map f (take i xs)) → WritesText contents a b (flat_map f xs) (Ok tt)
     each_written a b le so_far = record { ok = subst (λ (ys : List A). Writes contents a b (flat_map f ys)) (take_all i xs le) so_far; err = tt }

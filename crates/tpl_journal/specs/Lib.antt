@@ -4,5 +4,7 @@ pub mod Cuts
 pub mod Lines
 pub mod Reading
 pub mod ReportText
+pub mod Spelled
 pub mod Verbs
 pub mod Writing
+pub mod Prelude

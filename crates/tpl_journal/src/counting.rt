@@ -3,7 +3,7 @@
 ghost use Rattle.std.specs.Prelude.{◌≡◌, is_err, ◌||◌, true};
 ghost use Rattle.std.specs.Io.{ReadsAtMost, WritesAtMost};
 ghost use Rattle.std.specs.Io.KnownBytes.{Keeps, ReadConsumes, WriteAppends};
-ghost use Rattle.tpl_journal.specs.Counting.{failures_of, calls_of, inner_of, counted, took_nothing, remaining_of, contents_of};
+ghost use Rattle.tpl_journal.specs.Prelude.{calls_of, contents_of, counted, failures_of, inner_of, remaining_of, took_nothing};
 
 use std::io;
 use std::io::{Read, Write};

@@ -1,7 +1,7 @@
 //! Texts that are cut at a character.
 
 ghost use Rattle.std.specs.Prelude.{◌≡◌, ◌<◌, true, MatchOption};
-ghost use Rattle.tpl_journal.specs.Cuts.{lacks, IsCut};
+ghost use Rattle.tpl_journal.specs.Prelude.{IsCut, lacks};
 
 /// What stands before and behind the first such character; none where there is none.
 pub(crate) fn cut(text: &str, at: char) -> Option<(&str, &str)>

@@ -1,7 +1,7 @@
 //! Texts in parts.
 
 ghost use Rattle.std.specs.Prelude.{flat_map};
-ghost use Rattle.tpl_journal.specs.Writing.{WritesText};
+ghost use Rattle.tpl_journal.specs.Prelude.{WritesText};
 
 use crate::counting::Counting;
 use crate::writing::{WriteFault, write_all};

@@ -2,8 +2,7 @@
 
 ghost use Rattle.std.specs.Prelude.{◌≡◌, ◌+◌, ◌^◌, ◌<◌, ◌≤◌, length, IfOk, IfSome, OnOk, IsErrOf};
 ghost use Rattle.std.specs.Io.KnownBytes.{IsAtEnd};
-ghost use Rattle.tpl_journal.specs.Counting.{failures_of, calls_of, counted, remaining_of};
-ghost use Rattle.tpl_journal.specs.Reading.{is_device, ConsumesSome};
+ghost use Rattle.tpl_journal.specs.Prelude.{ConsumesSome, calls_of, counted, failures_of, is_device, remaining_of};
 
 use crate::counting::Counting;
 use std::alloc::Global;

@@ -1,9 +1,7 @@
 //! The report, line by line.
 
-ghost use Rattle.std.specs.Prelude.{◌≡◌, ◌++◌, Some, length, map, codes};
-ghost use Rattle.tpl_journal.specs.Carried.{numbers, numbers_of, said};
-ghost use Rattle.tpl_journal.specs.ReportText.{completeness, counts_text, exception_text, exceptions_text, head_text, line_text, task_lines, thrown_text, unobserved_line, unobserved_lines, IsReportOf, ReportText};
-ghost use Rattle.tpl_journal.specs.Writing.{WritesText};
+ghost use Rattle.std.specs.Prelude.{◌≡◌, ◌++◌, length, map};
+ghost use Rattle.tpl_journal.specs.Prelude.{IsReportOf, ReportText, WritesText, completeness, counts_text, exception_between, exceptions_between, head_text, label_text, line_text, numbers, numbers_of, said, task_lines};
 
 use crate::counting::Counting;
 use crate::parts::put;
@@ -16,94 +14,69 @@ use std::io::Write;
 use tpl_graph::Graph;
 use tpl_model::{Label, Status, TaskId};
 
-/// Writes the name of a task, and what the task's body threw.
-fn put_thrown<W: Write>(
-    graph: &Graph,
-    task: TaskId,
-    label: Label,
-    to: &mut Counting<W>,
-) -> Result<(), WriteFault>
-    ensures { WritesText W.contents to.old to.new
-        (thrown_text graph.now.names task.0 (Some label)) result }
+/// What is written of a label: a front, a name and an end.
+fn label_parts(graph: &Graph, label: Option<Label>) -> (&str, &str, &str)
+    ensures { result.0.now ++ (result.1.now ++ result.2.now) ≡ label_text graph.now.names label }
 {
-    let name = name_of(graph, task);
     match label {
-        Label::Thrown(label) => put(&[name, ":", label_name(graph, label)], to),
-        Label::OperationCanceled(token) => put(
-            &[
-                name,
-                ":",
-                "OperationCanceled(",
-                token_name(graph, token),
-                ")",
-            ],
-            to,
-        ),
-        Label::WorkFailed(site) => put(
-            &[name, ":", "WorkFailed(", site_name(graph, site), ")"],
-            to,
-        ),
+        None => ("", "", ""),
+        Some(Label::Thrown(label)) => ("", label_name(graph, label), ""),
+        Some(Label::OperationCanceled(token)) => {
+            ("OperationCanceled(", token_name(graph, token), ")")
+        }
+        Some(Label::WorkFailed(site)) => ("WorkFailed(", site_name(graph, site), ")"),
     }
 }
 
-/// Writes an exception: its task, and what the task's body threw.
+/// Writes an exception between two texts: its task, and what the task's body threw.
 fn put_exception<W: Write>(
     graph: &Graph,
     labels: &[Option<Label>],
     task: TaskId,
+    before: &str,
+    behind: &str,
     to: &mut Counting<W>,
 ) -> Result<(), WriteFault>
     ensures { WritesText W.contents to.old to.new
-        (exception_text graph.now.names labels.now task.0) result }
+        (exception_between graph.now.names labels.now before.now behind.now task.0) result }
 {
-    match label_of(labels, task) {
-        Some(label) => put_thrown(graph, task, label, to),
-        None => put(&[name_of(graph, task), ":"], to),
-    }
+    let (front, name, end) = label_parts(graph, label_of(labels, task));
+    put(
+        &[before, name_of(graph, task), ":", front, name, end, behind],
+        to,
+    )
 }
 
-/// Writes a space and an exception.
-fn put_carried<W: Write>(
-    graph: &Graph,
-    labels: &[Option<Label>],
-    task: TaskId,
-    to: &mut Counting<W>,
-) -> Result<(), WriteFault>
-    ensures { WritesText W.contents to.old to.new
-        (codes " " ++ exception_text graph.now.names labels.now task.0) result }
-{
-    put(&[" "], to)?;
-    put_exception(graph, labels, task, to)
-}
-
-/// Writes the exceptions that a task carries.
-fn put_all_carried<W: Write>(
+/// Writes exceptions, each between the two texts.
+fn put_exceptions<W: Write>(
     graph: &Graph,
     labels: &[Option<Label>],
     tasks: &[TaskId],
+    before: &str,
+    behind: &str,
     to: &mut Counting<W>,
 ) -> Result<(), WriteFault>
     ensures { WritesText W.contents to.old to.new
-        (exceptions_text graph.now.names labels.now (numbers tasks.now)) result }
+        (exceptions_between graph.now.names labels.now before.now behind.now (numbers tasks.now))
+        result }
 {
     for task in tasks {
-        put_carried(graph, labels, *task, to)?;
+        put_exception(graph, labels, *task, before, behind, to)?;
     }
     Ok(())
 }
 
-/// Writes the name of a task and how it stands.
+/// Writes the name of a task and a word for how it stands.
 fn put_head<W: Write>(
     graph: &Graph,
     task: TaskId,
-    status: Status,
+    word: &str,
     to: &mut Counting<W>,
 ) -> Result<(), WriteFault>
     ensures { WritesText W.contents to.old to.new
-        (head_text graph.now.names task.0 status) result }
+        (head_text graph.now.names task.0 word.now) result }
 {
-    put(&["task ", name_of(graph, task), " "], to)?;
-    put(&[status.name()], to)
+    put(&["task ", name_of(graph, task), " ", word], to)
 }
 
 /// Writes the line of a task.
@@ -118,8 +91,8 @@ fn put_line<W: Write>(
     ensures { WritesText W.contents to.old to.new
         (line_text graph.now.names task.0 status labels.now (numbers tasks.now)) result }
 {
-    put_head(graph, task, status, to)?;
-    put_all_carried(graph, labels, tasks, to)?;
+    put_head(graph, task, status.name(), to)?;
+    put_exceptions(graph, labels, tasks, " ", "", to)?;
     put(&["\n"], to)
 }
 
@@ -146,37 +119,6 @@ fn put_lines<W: Write>(
             carried[i].as_slice(),
             to,
         )?;
-    }
-    Ok(())
-}
-
-/// Writes the line for an exception that nobody observed.
-fn put_unobserved<W: Write>(
-    graph: &Graph,
-    labels: &[Option<Label>],
-    task: TaskId,
-    to: &mut Counting<W>,
-) -> Result<(), WriteFault>
-    ensures { WritesText W.contents to.old to.new
-        (unobserved_line graph.now.names labels.now task.0) result }
-{
-    put(&["unobserved "], to)?;
-    put_exception(graph, labels, task, to)?;
-    put(&["\n"], to)
-}
-
-/// Writes the lines for the exceptions that nobody observed.
-fn put_all_unobserved<W: Write>(
-    graph: &Graph,
-    labels: &[Option<Label>],
-    tasks: &[TaskId],
-    to: &mut Counting<W>,
-) -> Result<(), WriteFault>
-    ensures { WritesText W.contents to.old to.new
-        (unobserved_lines graph.now.names labels.now (numbers tasks.now)) result }
-{
-    for task in tasks {
-        put_unobserved(graph, labels, *task, to)?;
     }
     Ok(())
 }
@@ -226,7 +168,7 @@ pub fn write_report<W: Write>(
 {
     put_complete(report.complete, to)?;
     put_lines(graph, report.statuses, report.labels, report.carried, to)?;
-    put_all_unobserved(graph, report.labels, report.unseen, to)?;
+    put_exceptions(graph, report.labels, report.unseen, "unobserved ", "\n", to)?;
     put_counts(report, to)?;
     write_journal(graph, report.journal, to)
 }

@@ -1,13 +1,14 @@
 //! The names that a report has, each an empty text where the graph has no such thing.
 
-ghost use Rattle.std.specs.Prelude.{◌≡◌, [], None, slice_index_or};
+ghost use Rattle.std.specs.Prelude.{◌≡◌, ◌≤◌, [], None, length, slice_index_or};
 ghost use Rattle.tpl_journal.specs.ReportText.{task_name};
 
 use tpl_graph::Graph;
 use tpl_model::{Label, LabelId, SiteId, TaskId, TokenId};
 
 pub(crate) fn name_of(graph: &Graph, task: TaskId) -> &str
-    ensures { result.now ≡ task_name graph.now.names task.0 }
+    ensures text { result.now ≡ task_name graph.now.names task.0 }
+    ensures short { length result.now ≤ 32 }
 {
     graph.valid_law();
     if (task.0 as usize) < graph.len() {
@@ -18,7 +19,8 @@ pub(crate) fn name_of(graph: &Graph, task: TaskId) -> &str
 }
 
 pub(crate) fn token_name(graph: &Graph, token: TokenId) -> &str
-    ensures { result.now ≡ slice_index_or graph.now.names.tokens token.0 [] }
+    ensures text { result.now ≡ slice_index_or graph.now.names.tokens token.0 [] }
+    ensures short { length result.now ≤ 32 }
 {
     graph.valid_law();
     if (token.0 as usize) < graph.token_count() {

@@ -1,6 +1,6 @@
 //! Writing a whole text.
 
-ghost use Rattle.tpl_journal.specs.Writing.{WritesText};
+ghost use Rattle.tpl_journal.specs.Prelude.{WritesText};
 
 use crate::counting::Counting;
 use std::io::Write;

@@ -1,5 +1,6 @@
 pub mod Arrays
 pub mod Passes
+pub mod Reading
 pub mod DataOf
 pub mod Signs
 pub mod InRange

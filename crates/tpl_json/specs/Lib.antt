@@ -3,3 +3,4 @@ pub mod Numbers
 pub mod Members
 pub mod Passes
 pub mod Finals
+pub mod Prelude

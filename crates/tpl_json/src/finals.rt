@@ -1,9 +1,7 @@
 //! Final statuses, by their names.
 
 ghost use Rattle.std.specs.Prelude.{◌≡◌, map, IfErr};
-ghost use Rattle.tpl_json.specs.View.{view};
-ghost use Rattle.tpl_json.specs.Members.{Gives, IsShape};
-ghost use Rattle.tpl_json.specs.Finals.{with_final, no_finals, final_word, final_at, finals_at};
+ghost use Rattle.tpl_json.specs.Prelude.{Gives, IsShape, final_at, final_word, finals_at, no_finals, view, with_final};
 
 use crate::members::text_of;
 use crate::miss::{Miss, Shape};

@@ -2,15 +2,17 @@
 #![tactic(auto)]
 
 mod finals;
+mod list;
 mod members;
 mod miss;
 mod number;
 mod read;
 
 pub use finals::{final_of, finals_of};
+pub use list::read_each;
 pub use members::{
     bool_in, bool_of, find, has_only, list_of, list_or_none, member_in, number_of, owned_texts,
     text_in, text_of, texts_in, texts_of,
 };
-pub use miss::{Miss, Shape};
+pub use miss::{Miss, Shape, at_number, or_fault};
 pub use read::{NotRead, value_from};

@@ -3,9 +3,9 @@
 ghost use Rattle.std.specs.Prelude.{◌≡◌, [], map, option_map, option_and_then, string_bytes, IfErr};
 ghost use Rattle.std.specs.List.{list_all};
 ghost use Rattle.serde_json.specs.Find.{get, as_str, as_bool, as_number, as_u64};
-ghost use Rattle.tpl_json.specs.View.{view};
-ghost use Rattle.tpl_json.specs.Members.{has_only, members_within, is_one_of, text_in, list_in, list_or_none, texts_in, each, Gives, IsShape};
+ghost use Rattle.tpl_json.specs.Prelude.{Gives, IsShape, each, has_only, is_one_of, list_in, list_or_none, members_within, text_in, texts_in, view};
 
+use crate::list::read_each;
 use crate::miss::{Miss, Shape};
 use crate::number::whole_of;
 use json::Value;
@@ -153,24 +153,22 @@ pub fn bool_in(value: &Value<'_>, name: &str) -> Result<bool, Miss<Shape>>
 pub fn texts_of<'v, 't>(alloc: Global, values: &'v [Value<'t>]) -> Result<Vec<&'v str>, Miss<Shape>>
     ensures { Gives (λ v. map (λ s. s.now) v.items) result (each as_str (map view values.now)) }
 {
-    let mut texts = Vec::new(alloc);
-    for value in values {
-        let text = text_of(value)?;
-        texts.push(text)?;
-    }
-    Ok(texts)
+    read_each(alloc, values, |_, value| text_of(value))
+}
+
+/// The value's text, in memory of its own.
+fn owned_text(alloc: Global, value: &Value<'_>) -> Result<String, Miss<Shape>>
+    ensures { Gives string_bytes result (as_str (view value.now)) }
+{
+    let text = text_of(value)?;
+    Ok(String::from_str(alloc, text)?)
 }
 
 /// The texts of an array, in memory of their own.
 pub fn owned_texts(alloc: Global, values: &[Value<'_>]) -> Result<Vec<String>, Miss<Shape>>
     ensures { Gives (λ v. map string_bytes v.items) result (each as_str (map view values.now)) }
 {
-    let mut texts = Vec::new(alloc);
-    for value in values {
-        let text = text_of(value)?;
-        texts.push(String::from_str(alloc, text)?)?;
-    }
-    Ok(texts)
+    read_each(alloc, values, |_, value| owned_text(alloc, value))
 }
 
 /// The texts of the member, an array, and none where it isn't there.

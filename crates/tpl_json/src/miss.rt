@@ -1,6 +1,7 @@
 //! Why something was not read.
 
 ghost use Rattle.std.specs.Prelude.{◌≡◌};
+ghost use Rattle.tpl_json.specs.Prelude.{numbered, or_fault};
 ghost use Rattle.tpl_json.specs.declared.miss.Miss.TheVariants.{Memory};
 
 use std::alloc::{AllocError, AllocFailed};
@@ -31,5 +32,30 @@ impl<F: Drop, T: Drop> From<AllocFailed<T>> for Miss<F> {
 
     fn from(_e: AllocFailed<T>) -> Miss<F> {
         Miss::Memory
+    }
+}
+
+/// What was read, or this fault where the shape is wrong.
+pub fn or_fault<T: Drop, F: Drop>(read: Result<T, Miss<Shape>>, fault: F) -> Result<T, Miss<F>>
+    ensures { result ≡ or_fault fault read }
+{
+    match read {
+        Ok(found) => Ok(found),
+        Err(Miss::Wrong(Shape)) => Err(Miss::Wrong(fault)),
+        Err(Miss::Memory) => Err(Miss::Memory),
+    }
+}
+
+/// What was read, or what is wrong with it beside this number.
+pub fn at_number<T: Drop, F: Drop>(
+    number: usize,
+    read: Result<T, Miss<F>>,
+) -> Result<T, Miss<(usize, F)>>
+    ensures { result ≡ numbered number read }
+{
+    match read {
+        Ok(found) => Ok(found),
+        Err(Miss::Wrong(fault)) => Err(Miss::Wrong((number, fault))),
+        Err(Miss::Memory) => Err(Miss::Memory),
     }
 }

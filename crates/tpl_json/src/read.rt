@@ -4,8 +4,7 @@ ghost use Rattle.std.specs.Prelude.{◌≡◌, ◌≢◌, ◌≤◌, Some, None,
 ghost use Rattle.json.specs.Value.{value_view, items_view, members_view};
 ghost use Rattle.serde_json.specs.Data.{depth};
 ghost use Rattle.serde_json.specs.Read.{read};
-ghost use Rattle.tpl_json.specs.View.{view};
-ghost use Rattle.tpl_json.specs.Numbers.{in_range, items_in_range, members_in_range};
+ghost use Rattle.tpl_json.specs.Prelude.{in_range, items_in_range, members_in_range, view};
 
 use crate::number::is_in_range;
 use json::{Error, Reader, Scratch, Value};

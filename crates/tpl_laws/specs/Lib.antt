@@ -17,3 +17,4 @@ pub mod WideTrees
 pub mod WideVerdict
 pub mod WideFaults
 pub mod ByRules
+pub mod Prelude

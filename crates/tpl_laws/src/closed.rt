@@ -1,11 +1,6 @@
 //! When a certificate is accepted, by tests that compute, and the first place at which one fails.
 
-ghost use Rattle.tpl_laws.specs.Faults.{FaultIsFirst, OneFirstFault};
-ghost use Rattle.tpl_laws.specs.PathLaws.{PathLaws};
-ghost use Rattle.tpl_laws.specs.WideFaults.{OneFirstWideFault, WideFaultIsFirst};
-ghost use Rattle.tpl_laws.specs.WiderTests.{WideBrokenIsRight, WideLeafIsRight};
-ghost use Rattle.tpl_laws.specs.WideVerdict.{WideTreeIsRight, WideVerdictIsRight, WideVerdictIsSound};
-ghost use Rattle.tpl_laws.specs.Decided.{RunsIsRight, EndsIsRight, BeforeIsRight, BelowIsRight, BelowInOnePass, ParentIsRight, PastIsRight, ChainIsRight, BrokenIsRight, FirstBrokenIsRight, ProvesIsRight, VerdictIsRight, VerdictIsSound};
+ghost use Rattle.tpl_laws.specs.Prelude.{BeforeIsRight, BelowInOnePass, BelowIsRight, BrokenIsRight, ChainIsRight, EndsIsRight, FaultIsFirst, FirstBrokenIsRight, OneFirstFault, OneFirstWideFault, ParentIsRight, PastIsRight, PathLaws, ProvesIsRight, RunsIsRight, VerdictIsRight, VerdictIsSound, WideBrokenIsRight, WideFaultIsFirst, WideLeafIsRight, WideTreeIsRight, WideVerdictIsRight, WideVerdictIsSound};
 
 /// The recursion over a body finds what its paths say.
 fn path_laws()

@@ -1,6 +1,6 @@
 //! The tests of whole runs say what the definitions do.
 
-ghost use Rattle.tpl_laws.specs.RunTests.{GivenIsRight, HoldsIsRight, HoldsOfIsRight, IsCompleteIsRight, IsSettledIsRight};
+ghost use Rattle.tpl_laws.specs.Prelude.{GivenIsRight, HoldsIsRight, HoldsOfIsRight, IsCompleteIsRight, IsSettledIsRight};
 
 /// A task passes the walk up to its parents just where it is settled.
 pub fn is_settled_is_right()

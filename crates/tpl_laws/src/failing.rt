@@ -1,6 +1,6 @@
 //! From which place on a claim fails along a run.
 
-ghost use Rattle.tpl_laws.specs.Failing.{CompleteIsNoted, FailureIsTold, JobIsNoted, OnlyRequests, RequestIsNoted, StaysComplete};
+ghost use Rattle.tpl_laws.specs.Prelude.{CompleteIsNoted, FailureIsTold, JobIsNoted, OnlyRequests, RequestIsNoted, StaysComplete};
 
 /// A run that is complete goes on with requests alone.
 pub fn only_requests()

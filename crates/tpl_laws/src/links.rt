@@ -1,6 +1,6 @@
 //! What is true of tokens that are linked to others.
 
-ghost use Rattle.tpl_laws.specs.Runs.{QuietByALink, QuietWithSources, RequestedByASource, RequestedThroughSources, WithoutLinks};
+ghost use Rattle.tpl_laws.specs.Prelude.{QuietByALink, QuietWithSources, RequestedByASource, RequestedThroughSources, WithoutLinks};
 
 /// A token is requested where it or, repeatedly, one of its sources was requested itself.
 pub fn requested_through_sources()

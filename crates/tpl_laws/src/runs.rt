@@ -1,6 +1,6 @@
 //! What is true of every run.
 
-ghost use Rattle.tpl_laws.specs.Runs.{FailedByItsLabel, IsBounded, NothingGoesBack, PrefixIsRun};
+ghost use Rattle.tpl_laws.specs.Prelude.{FailedByItsLabel, IsBounded, NothingGoesBack, PrefixIsRun};
 
 /// No run is longer than its graph's bound.
 pub fn is_bounded()

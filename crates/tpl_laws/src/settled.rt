@@ -1,6 +1,6 @@
 //! What is true of tasks that are settled where another begins.
 
-ghost use Rattle.tpl_laws.specs.Settling.{SettledBeforeItsBegin, SettledWithoutBegin};
+ghost use Rattle.tpl_laws.specs.Prelude.{SettledBeforeItsBegin, SettledWithoutBegin};
 
 /// Where a task hasn't begun, each task counts as settled at its begin.
 pub fn settled_without_begin()

@@ -1,9 +1,6 @@
 //! What an accepted certificate promises.
 
-ghost use Rattle.tpl_laws.specs.Soundness.{RowsAreTrue, SomeLeafAgrees, Soundness};
-ghost use Rattle.tpl_laws.specs.Wider.{MoreIsAssumed, WiderAccepts};
-ghost use Rattle.tpl_laws.specs.WiderSoundness.{SomeWideLeafIsTrue, TokensAcceptMore, TokensAreMore, WideRowsAreTrue, WideSoundness};
-ghost use Rattle.tpl_laws.specs.ByRules.{PlainIsAccepted, PlainIsRefused, SoundByRules};
+ghost use Rattle.tpl_laws.specs.Prelude.{MoreIsAssumed, PlainIsAccepted, PlainIsRefused, RowsAreTrue, SomeLeafAgrees, SomeWideLeafIsTrue, SoundByRules, Soundness, TokensAcceptMore, TokensAreMore, WideRowsAreTrue, WideSoundness, WiderAccepts};
 
 /// What the rows of a closed leaf say is true of each run that agrees with the leaf.
 pub fn rows_are_true()

@@ -4,3 +4,4 @@ pub mod Leaf
 pub mod Ways
 pub mod LeafRules
 pub mod Narrowed
+pub mod Prelude

@@ -1,16 +1,10 @@
 //! What a row says of when its task begins holds then (the rule K3).
 
 ghost use Rattle.std.specs.Prelude.{◌≡◌, ◌&&◌, ℕ, false};
-ghost use Rattle.tpl_model.specs.Members.{mem};
-ghost use Rattle.tpl_paths.specs.TokenSet.{has_token};
-ghost use Rattle.tpl_paths.specs.Facts.{has_fact};
-ghost use Rattle.tpl_model.specs.Knowledge.{Fact};
-ghost use Rattle.tpl_model.specs.Graph.{is_task, kind, Child};
-ghost use Rattle.tpl_model.specs.WiderRules.{known_at_start, may_run, wide_row};
-ghost use Rattle.tpl_laws.specs.RowTests.{implies};
-ghost use Rattle.tpl_laws.specs.WiderTests.{if_known};
-ghost use Rattle.tpl_leaf.specs.Leaf.{graph_of, assumed_in, rows_in, IsLeaf};
-ghost use Rattle.tpl_leaf.specs.LeafRules.{begin_holds, begins_as, runs_as};
+ghost use Rattle.tpl_laws.specs.Prelude.{if_known, implies};
+ghost use Rattle.tpl_leaf.specs.Prelude.{IsLeaf, assumed_in, begin_holds, begins_as, graph_of, rows_in, runs_as};
+ghost use Rattle.tpl_model.specs.Prelude.{Child, Fact, is_task, kind, known_at_start, may_run, mem, wide_row};
+ghost use Rattle.tpl_paths.specs.Prelude.{has_fact, has_token};
 
 use crate::facts::with_known;
 use crate::leaf::Leaf;

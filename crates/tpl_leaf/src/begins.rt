@@ -1,13 +1,10 @@
 //! A task that may begin has a row that runs (the rule K1).
 
 ghost use Rattle.std.specs.Prelude.{◌≡◌, not, Bool};
-ghost use Rattle.tpl_paths.specs.TokenSet.{has_token};
-ghost use Rattle.tpl_model.specs.Graph.{is_task, kind, Child, Continues};
-ghost use Rattle.tpl_model.specs.WiderRules.{known_at_start, own_among};
-ghost use Rattle.tpl_laws.specs.RowTests.{implies};
-ghost use Rattle.tpl_laws.specs.WiderTests.{if_known};
-ghost use Rattle.tpl_leaf.specs.Leaf.{graph_of, assumed_in, rows_in, IsLeaf};
-ghost use Rattle.tpl_leaf.specs.LeafRules.{runs_as};
+ghost use Rattle.tpl_laws.specs.Prelude.{if_known, implies};
+ghost use Rattle.tpl_leaf.specs.Prelude.{IsLeaf, assumed_in, graph_of, rows_in, runs_as};
+ghost use Rattle.tpl_model.specs.Prelude.{Child, Continues, is_task, kind, known_at_start, own_among};
+ghost use Rattle.tpl_paths.specs.Prelude.{has_token};
 
 use crate::leaf::Leaf;
 use tpl_checker::{allowed, implies, parent, some_end};

@@ -1,15 +1,11 @@
 //! The chain of a row leads to a continuation that reads its task's exception (the rule K6).
 
 ghost use Rattle.std.specs.Prelude.{◌≡◌, ◌||◌, IsTrue, filter, length, map, nat_eq};
-ghost use Rattle.tpl_draft.specs.Ids.{task_number};
-ghost use Rattle.tpl_model.specs.Graph.{is_task, kind, WhenAny};
-ghost use Rattle.tpl_model.specs.Certificate.{row};
-ghost use Rattle.tpl_model.specs.WiderRules.{plain, kind_left};
-ghost use Rattle.tpl_graph.specs.Roles.{AreTasks};
-ghost use Rattle.tpl_laws.specs.RowTests.{all_in, reads};
-ghost use Rattle.tpl_laws.specs.Verdict.{has_tasks};
-ghost use Rattle.tpl_laws.specs.WiderTests.{is_won_by, reads_winner, wide_chain};
-ghost use Rattle.tpl_leaf.specs.Leaf.{graph_of, assumed_in, rows_in, IsLeaf};
+ghost use Rattle.tpl_draft.specs.Prelude.{task_number};
+ghost use Rattle.tpl_graph.specs.Prelude.{AreTasks};
+ghost use Rattle.tpl_laws.specs.Prelude.{all_in, has_tasks, is_won_by, reads, reads_winner, wide_chain};
+ghost use Rattle.tpl_leaf.specs.Prelude.{IsLeaf, assumed_in, graph_of, rows_in};
+ghost use Rattle.tpl_model.specs.Prelude.{WhenAny, is_task, kind, kind_left, plain, row};
 
 use crate::leaf::Leaf;
 use crate::truths::both;

@@ -1,17 +1,12 @@
 //! A row has each way in which its task may end (the rule K2).
 
 ghost use Rattle.std.specs.Prelude.{◌≡◌, ◌&&◌, filter, length, map};
+ghost use Rattle.tpl_draft.specs.Prelude.{task_number};
+ghost use Rattle.tpl_graph.specs.Prelude.{AreTasks};
+ghost use Rattle.tpl_laws.specs.Prelude.{all_may_end, wide_ends_by};
+ghost use Rattle.tpl_leaf.specs.Prelude.{AreLeft, IsLeaf, assumed_in, graph_of, has_to_end_as, kind_left_in, rows_in};
+ghost use Rattle.tpl_model.specs.Prelude.{end_left, has, is_final, is_task, may_end, plain, some_in};
 ghost use Rattle.tpl_model.specs.declared.finals.Final.TheVariants.{RanToCompletion};
-ghost use Rattle.tpl_model.specs.Finals.{has, is_final};
-ghost use Rattle.tpl_draft.specs.Ids.{task_number};
-ghost use Rattle.tpl_model.specs.Graph.{is_task, some_in};
-ghost use Rattle.tpl_model.specs.Certificate.{end_left, may_end};
-ghost use Rattle.tpl_model.specs.WiderRules.{plain};
-ghost use Rattle.tpl_graph.specs.Roles.{AreTasks};
-ghost use Rattle.tpl_laws.specs.RowTests.{all_may_end};
-ghost use Rattle.tpl_laws.specs.WiderTests.{wide_ends_by};
-ghost use Rattle.tpl_leaf.specs.Leaf.{graph_of, assumed_in, rows_in, IsLeaf};
-ghost use Rattle.tpl_leaf.specs.LeafRules.{has_to_end_as, kind_left_in, AreLeft};
 
 use crate::leaf::Leaf;
 use crate::ways::Ways;

@@ -1,13 +1,10 @@
 //! Facts by the rows of a leaf.
 
 ghost use Rattle.std.specs.Prelude.{◌≡◌, ◌||◌, Bool};
-ghost use Rattle.tpl_model.specs.Knowledge.{Fact};
-ghost use Rattle.tpl_paths.specs.Facts.{has_fact};
-ghost use Rattle.tpl_paths.specs.Knowledge.{knowledge_of};
-ghost use Rattle.tpl_model.specs.Graph.{is_task, kind};
-ghost use Rattle.tpl_model.specs.WiderRules.{begins_with, ends_with, once_ended};
-ghost use Rattle.tpl_laws.specs.WiderTests.{before_begin, each_begin, each_ending, known_there, own_requested, settled_before};
-ghost use Rattle.tpl_leaf.specs.Leaf.{graph_of, rows_in, IsLeaf};
+ghost use Rattle.tpl_laws.specs.Prelude.{before_begin, each_begin, each_ending, known_there, own_requested, settled_before};
+ghost use Rattle.tpl_leaf.specs.Prelude.{IsLeaf, graph_of, rows_in};
+ghost use Rattle.tpl_model.specs.Prelude.{Fact, begins_with, ends_with, is_task, kind, once_ended};
+ghost use Rattle.tpl_paths.specs.Prelude.{has_fact, knowledge_of};
 
 use crate::leaf::Leaf;
 use tpl_checker::parent;

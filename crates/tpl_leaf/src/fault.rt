@@ -1,13 +1,11 @@
 //! The first fault of a leaf.
 
 ghost use Rattle.std.specs.Prelude.{◌≡◌, IsTrue, length};
-ghost use Rattle.tpl_model.specs.Graph.{is_task};
-ghost use Rattle.tpl_model.specs.WiderRules.{plain};
-ghost use Rattle.tpl_graph.specs.Fits.{TasksOf};
-ghost use Rattle.tpl_laws.specs.Verdict.{rows_fit};
-ghost use Rattle.tpl_laws.specs.WiderTests.{wide_broken, wide_first_broken, wide_leaf_fault};
-ghost use Rattle.tpl_checker.specs.Leaves.{fault_in};
-ghost use Rattle.tpl_leaf.specs.Leaf.{graph_of, assumed_in, rows_in, IsLeaf};
+ghost use Rattle.tpl_checker.specs.Prelude.{fault_in};
+ghost use Rattle.tpl_graph.specs.Prelude.{TasksOf};
+ghost use Rattle.tpl_laws.specs.Prelude.{rows_fit, wide_broken, wide_first_broken, wide_leaf_fault};
+ghost use Rattle.tpl_leaf.specs.Prelude.{IsLeaf, assumed_in, graph_of, rows_in};
+ghost use Rattle.tpl_model.specs.Prelude.{is_task, plain};
 
 use crate::before::before;
 use crate::begins::runs;

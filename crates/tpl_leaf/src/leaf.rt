@@ -1,13 +1,9 @@
 //! A leaf that is checked.
 
 ghost use Rattle.std.specs.Prelude.{◌≡◌, ℕ};
-ghost use Rattle.tpl_model.specs.Members.{mem};
-ghost use Rattle.tpl_paths.specs.TokenSet.{has_token};
-ghost use Rattle.tpl_model.specs.Graph.{is_task, task};
-ghost use Rattle.tpl_model.specs.Certificate.{row, may_end};
-ghost use Rattle.tpl_model.specs.Rules.{token_requested_by};
-ghost use Rattle.tpl_model.specs.WiderRules.{plain, wide_row, linked, may_run};
-ghost use Rattle.tpl_leaf.specs.Leaf.{graph_of, assumed_in, rows_in, IsLeaf};
+ghost use Rattle.tpl_leaf.specs.Prelude.{IsLeaf, assumed_in, graph_of, rows_in};
+ghost use Rattle.tpl_model.specs.Prelude.{is_task, linked, may_end, may_run, mem, plain, row, task, token_requested_by, wide_row};
+ghost use Rattle.tpl_paths.specs.Prelude.{has_token};
 
 use crate::linking::linked_with;
 use crate::winners::{WinnerSplit, all_leave};

@@ -1,11 +1,10 @@
 //! Tokens that are requested with others.
 
 ghost use Rattle.std.specs.Prelude.{◌≡◌, ◌||◌, ℕ, map, nat_eq, slice_index_or};
-ghost use Rattle.tpl_paths.specs.TokenSet.{has_token, no_tokens};
-ghost use Rattle.tpl_draft.specs.Ids.{token_number};
-ghost use Rattle.tpl_model.specs.Graph.{is_token, some_in, sources};
-ghost use Rattle.tpl_model.specs.WiderRules.{linked};
-ghost use Rattle.tpl_leaf.specs.Links.{AreLinks};
+ghost use Rattle.tpl_draft.specs.Prelude.{token_number};
+ghost use Rattle.tpl_leaf.specs.Prelude.{AreLinks};
+ghost use Rattle.tpl_model.specs.Prelude.{is_token, linked, some_in, sources};
+ghost use Rattle.tpl_paths.specs.Prelude.{has_token, no_tokens};
 
 use tpl_graph::Graph;
 use tpl_model::{MOST_TOKENS, TokenId};

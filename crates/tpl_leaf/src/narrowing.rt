@@ -1,18 +1,15 @@
 //! The ends that the splits of a leaf leave, narrowed by all tasks.
 
-ghost use Rattle.std.specs.Prelude.{◌≡◌, ◌≤◌, length, map};
-ghost use Rattle.tpl_model.specs.Finals.{has};
-ghost use Rattle.tpl_model.specs.Options.{allows};
-ghost use Rattle.tpl_draft.specs.Ids.{task_number};
-ghost use Rattle.tpl_model.specs.Graph.{is_task};
-ghost use Rattle.tpl_model.specs.WiderRules.{keeps};
-ghost use Rattle.tpl_graph.specs.Roles.{AreTasks};
-ghost use Rattle.tpl_checker.specs.Assumptions.{assumed_of};
-ghost use Rattle.tpl_leaf.specs.Narrowed.{narrowed_once, narrowed_before, with_all_kept};
+ghost use Rattle.std.specs.Prelude.{◌≡◌, length, map};
+ghost use Rattle.tpl_checker.specs.Prelude.{assumed_of};
+ghost use Rattle.tpl_draft.specs.Prelude.{task_number};
+ghost use Rattle.tpl_graph.specs.Prelude.{AreTasks};
+ghost use Rattle.tpl_leaf.specs.Prelude.{narrowed_before, narrowed_once, with_all_kept};
+ghost use Rattle.tpl_model.specs.Prelude.{has, is_task, keeps};
 
 use tpl_checker::{Assumptions, allowed};
 use tpl_graph::{Graph, Role};
-use tpl_model::{Final, Finals, TaskId};
+use tpl_model::{Final, Finals, MOST_TASKS, TaskId};
 
 /// Each way to end.
 const EACH_END: Finals = Finals {
@@ -70,7 +67,7 @@ fn kept(assumed: &Assumptions, task: TaskId) -> Finals
 
 /// Assumes that each of the tasks ends in one of these ways, if it ends.
 fn keep_all(assumed: &mut Assumptions, tasks: &[TaskId], ends: Finals)
-    requires { AreTasks 1024 tasks.now }
+    requires { AreTasks MOST_TASKS tasks.now }
     ensures { assumed_of assumed.new ≡ with_all_kept (assumed_of assumed.old)
         (map task_number tasks.now) ends }
 {

@@ -1,18 +1,12 @@
 //! What a row says of when its task has ended holds then (the rules K4 and K5).
 
 ghost use Rattle.std.specs.Prelude.{◌≡◌, ◌&&◌, ◌||◌, filter, length, map};
-ghost use Rattle.tpl_model.specs.Knowledge.{Fact};
-ghost use Rattle.tpl_paths.specs.Facts.{has_fact};
-ghost use Rattle.tpl_draft.specs.Ids.{task_number};
-ghost use Rattle.tpl_model.specs.Graph.{is_task, kind, some_in};
-ghost use Rattle.tpl_model.specs.Certificate.{may_end};
-ghost use Rattle.tpl_model.specs.WiderRules.{once_ended, plain};
-ghost use Rattle.tpl_graph.specs.Roles.{AreTasks};
-ghost use Rattle.tpl_laws.specs.RowTests.{all_in, implies};
-ghost use Rattle.tpl_laws.specs.WiderTests.{each_ending, settled_below};
-ghost use Rattle.tpl_leaf.specs.Leaf.{graph_of, assumed_in, rows_in, IsLeaf};
-ghost use Rattle.tpl_leaf.specs.LeafRules.{ends_as, ends_by_ways, kind_left_in, AreLeft};
-ghost use Rattle.tpl_leaf.specs.Ways.{holds_in_all};
+ghost use Rattle.tpl_draft.specs.Prelude.{task_number};
+ghost use Rattle.tpl_graph.specs.Prelude.{AreTasks};
+ghost use Rattle.tpl_laws.specs.Prelude.{all_in, each_ending, implies, settled_below};
+ghost use Rattle.tpl_leaf.specs.Prelude.{AreLeft, IsLeaf, assumed_in, ends_as, ends_by_ways, graph_of, holds_in_all, kind_left_in, rows_in};
+ghost use Rattle.tpl_model.specs.Prelude.{Fact, is_task, kind, may_end, once_ended, plain, some_in};
+ghost use Rattle.tpl_paths.specs.Prelude.{has_fact};
 
 use crate::leaf::Leaf;
 use crate::ways::{Ways, common};

@@ -1,25 +1,19 @@
 //! What the paths of a body know in the runs of a leaf.
 
 ghost use Rattle.std.specs.Prelude.{◌≡◌, ℕ, length, map, is_some};
-ghost use Rattle.tpl_model.specs.Members.{mem};
-ghost use Rattle.tpl_draft.specs.Ids.{task_number};
-ghost use Rattle.tpl_model.specs.View.{known};
-ghost use Rattle.tpl_model.specs.Knowledge.{at_throw};
-ghost use Rattle.tpl_paths.specs.Agreement.{AgreeBelow};
-ghost use Rattle.tpl_paths.specs.Knowledge.{told};
-ghost use Rattle.tpl_paths.specs.Reading.{reading_of};
-ghost use Rattle.tpl_model.specs.Graph.{is_task, attached, body};
-ghost use Rattle.tpl_model.specs.WiderRules.{asked_of, known_at_end, known_at_start, reading, wide_view};
-ghost use Rattle.tpl_graph.specs.Roles.{AreTasks};
-ghost use Rattle.tpl_leaf.specs.Leaf.{graph_of, assumed_in, rows_in, IsLeaf};
+ghost use Rattle.tpl_draft.specs.Prelude.{task_number};
+ghost use Rattle.tpl_graph.specs.Prelude.{AreTasks};
+ghost use Rattle.tpl_leaf.specs.Prelude.{IsLeaf, assumed_in, graph_of, rows_in};
+ghost use Rattle.tpl_model.specs.Prelude.{asked_of, at_throw, attached, body, is_task, known, known_at_end, known_at_start, mem, reading, wide_view};
+ghost use Rattle.tpl_paths.specs.Prelude.{AgreeBelow, reading_of, told};
 
 use crate::leaf::Leaf;
-use tpl_model::{Final, TaskId, TaskSet, View};
+use tpl_model::{Final, MOST_TASKS, TaskId, TaskSet, View};
 use tpl_paths::{Knowledge, Reading};
 
 /// The tasks as a set.
 pub fn task_set(tasks: &[TaskId]) -> TaskSet
-    requires { AreTasks 1024 tasks.now }
+    requires { AreTasks MOST_TASKS tasks.now }
     ensures { (x : ℕ) → mem x result ≡ mem x (map task_number tasks.now) }
 {
     let mut set = TaskSet::empty();

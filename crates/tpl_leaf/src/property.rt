@@ -1,15 +1,11 @@
 //! What a closed leaf proves.
 
 ghost use Rattle.std.specs.Prelude.{◌≡◌, ◌&&◌, not, false};
-ghost use Rattle.tpl_model.specs.Graph.{is_task, kind};
-ghost use Rattle.tpl_model.specs.Rules.{to_end};
-ghost use Rattle.tpl_model.specs.Certificate.{may_end};
-ghost use Rattle.tpl_model.specs.WiderRules.{plain};
+ghost use Rattle.tpl_graph.specs.Prelude.{TasksOf};
+ghost use Rattle.tpl_laws.specs.Prelude.{none_complete, wide_proves};
+ghost use Rattle.tpl_leaf.specs.Prelude.{IsLeaf, assumed_in, graph_of, rows_in};
+ghost use Rattle.tpl_model.specs.Prelude.{is_task, kind, may_end, plain, to_end};
 ghost use Rattle.tpl_model.specs.declared.claim.Property.TheVariants.{Observed, Runs};
-ghost use Rattle.tpl_graph.specs.Fits.{TasksOf};
-ghost use Rattle.tpl_laws.specs.RowTests.{none_complete};
-ghost use Rattle.tpl_laws.specs.WiderTests.{wide_proves};
-ghost use Rattle.tpl_leaf.specs.Leaf.{graph_of, assumed_in, rows_in, IsLeaf};
 
 use crate::leaf::Leaf;
 use tpl_checker::{begins_itself, ends_only_in, has_to_end};

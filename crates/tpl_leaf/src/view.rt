@@ -1,14 +1,10 @@
 //! What is known of the runs of a leaf in which a body is read.
 
-ghost use Rattle.std.specs.Prelude.{◌≡◌, ◌||◌, filter, length, map};
-ghost use Rattle.tpl_model.specs.Finals.{has};
-ghost use Rattle.tpl_draft.specs.Ids.{task_number};
-ghost use Rattle.tpl_model.specs.View.{known};
-ghost use Rattle.tpl_model.specs.Graph.{is_task, kind};
-ghost use Rattle.tpl_model.specs.Certificate.{one_ends};
-ghost use Rattle.tpl_model.specs.WiderRules.{plain, subject_left, wide_view};
-ghost use Rattle.tpl_graph.specs.Roles.{AreTasks};
-ghost use Rattle.tpl_leaf.specs.Leaf.{graph_of, assumed_in, rows_in, IsLeaf};
+ghost use Rattle.std.specs.Prelude.{◌≡◌, filter, length, map};
+ghost use Rattle.tpl_draft.specs.Prelude.{task_number};
+ghost use Rattle.tpl_graph.specs.Prelude.{AreTasks};
+ghost use Rattle.tpl_leaf.specs.Prelude.{IsLeaf, assumed_in, graph_of, rows_in};
+ghost use Rattle.tpl_model.specs.Prelude.{has, is_task, kind, known, one_ends, plain, subject_left, wide_view};
 
 use crate::leaf::Leaf;
 use tpl_checker::allowed;

@@ -1,11 +1,10 @@
 //! The ways to end of a task with a body.
 
 ghost use Rattle.std.specs.Prelude.{◌≡◌, ◌&&◌, Bool, true};
-ghost use Rattle.tpl_model.specs.Knowledge.{Fact};
-ghost use Rattle.tpl_model.specs.WiderRules.{Way, way_final};
-ghost use Rattle.tpl_paths.specs.Facts.{has_fact};
-ghost use Rattle.tpl_laws.specs.RowTests.{implies};
-ghost use Rattle.tpl_leaf.specs.Ways.{holds_in_all, AreWays};
+ghost use Rattle.tpl_laws.specs.Prelude.{implies};
+ghost use Rattle.tpl_leaf.specs.Prelude.{AreWays, holds_in_all};
+ghost use Rattle.tpl_model.specs.Prelude.{Fact, Way, way_final};
+ghost use Rattle.tpl_paths.specs.Prelude.{has_fact};
 
 use crate::view::NO_END;
 use tpl_model::{Final, Finals};

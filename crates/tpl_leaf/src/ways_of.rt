@@ -1,17 +1,11 @@
 //! The ways to end that a leaf leaves to a task with a body.
 
 ghost use Rattle.std.specs.Prelude.{◌≡◌, ◌&&◌, Bool};
+ghost use Rattle.tpl_laws.specs.Prelude.{each_body_end, implies};
+ghost use Rattle.tpl_leaf.specs.Prelude.{AreDrops, AreLeft, AreWays, IsLeaf, assumed_in, each_drop_under, each_end_so, graph_of, has_begun_with, holds_as, rows_in};
+ghost use Rattle.tpl_model.specs.Prelude.{Child, Continues, Fact, Root, Way, is_loud, is_task, kind, may_run, way_final};
 ghost use Rattle.tpl_model.specs.declared.finals.Final.TheVariants as finals;
-ghost use Rattle.tpl_model.specs.Knowledge.{Fact};
-ghost use Rattle.tpl_paths.specs.Facts.{has_fact};
-ghost use Rattle.tpl_model.specs.Graph.{is_task, kind, Root, Child, Continues};
-ghost use Rattle.tpl_model.specs.Certificate.{is_loud};
-ghost use Rattle.tpl_model.specs.WiderRules.{Way, way_final, may_run};
-ghost use Rattle.tpl_laws.specs.RowTests.{implies};
-ghost use Rattle.tpl_laws.specs.WiderTests.{each_body_end};
-ghost use Rattle.tpl_leaf.specs.Leaf.{graph_of, assumed_in, rows_in, IsLeaf};
-ghost use Rattle.tpl_leaf.specs.LeafRules.{each_drop_under, each_end_so, has_begun_with, holds_as, AreDrops, AreLeft};
-ghost use Rattle.tpl_leaf.specs.Ways.{AreWays};
+ghost use Rattle.tpl_paths.specs.Prelude.{has_fact};
 
 use crate::facts::with_known;
 use crate::leaf::Leaf;

@@ -1,7 +1,7 @@
 //! Splits on who wins WhenAny tasks.
 
 ghost use Rattle.std.specs.Prelude.{◌≡◌};
-ghost use Rattle.tpl_leaf.specs.Winners.{leaves_winner, all_leave};
+ghost use Rattle.tpl_leaf.specs.Prelude.{all_leave, leaves_winner};
 
 use tpl_model::TaskId;
 

@@ -1,5 +1,6 @@
 -- What a machine keeps of a run.
 use Rattle.std.specs.Prelude.{◌≡◌, ℕ, ◌<◌, ◌≤◌, Bool, false, List, [], Some, None, length, slice_get, slice_index_or, vec_capacity}
+use Rattle.tpl_model.specs.declared.limits.TheConstants.{MOST_TOKENS}
 use Rattle.std.specs.declared.vec.Vec.{Vec}
 use Rattle.std.specs.declared.alloc.Global.{Global}
 use Rattle.tpl_model.specs.declared.ids.TaskId.{TaskId}
@@ -21,7 +22,7 @@ pub record IsKept (g : TaskGraph) (v : List Bool) (h : List Event) (rows : List 
   pub each_started : (t : ℕ) → mem t begun ≡ started g v h t
   pub each_seen : (t : ℕ) → mem t seen_tasks ≡ seen g v h t
   pub each_token : (k : ℕ) → slice_index_or tokens k false ≡ requested_itself g v h k
-  pub token_count : length tokens ≡ 32
+  pub token_count : length tokens ≡ MOST_TOKENS
 
 -- there is room for a whole run, and a list for the exceptions that one task carries
 pub record HasRoom (g : TaskGraph) (list : Vec Event Global) (carried : Vec TaskId Global) : Type 0 where

@@ -1,10 +1,9 @@
 //! Lists of tasks, each once, with the set of their members beside them.
 
-ghost use Rattle.std.specs.Prelude.{◌≡◌, ℕ, ◌++◌, ◌<◌, ◌≤◌, [], ◌∷◌, map, true, vec_capacity, vec_len, if◌then◌else◌};
-ghost use Rattle.tpl_model.specs.Members.{mem, joined};
-ghost use Rattle.tpl_draft.specs.Ids.{task_number};
-ghost use Rattle.tpl_run.specs.Atoms.{AreAtoms};
-ghost use Rattle.tpl_machine.specs.Gathering.{IsBeside};
+ghost use Rattle.std.specs.Prelude.{◌≡◌, ℕ, ◌++◌, ◌<◌, [], ◌∷◌, map, true, vec_capacity, if◌then◌else◌};
+ghost use Rattle.tpl_draft.specs.Prelude.{task_number};
+ghost use Rattle.tpl_machine.specs.Prelude.{IsBeside};
+ghost use Rattle.tpl_model.specs.Prelude.{joined, mem};
 
 use tpl_model::{TaskId, TaskSet};
 

@@ -1,12 +1,10 @@
 //! The exceptions that a task takes over from others.
 
-ghost use Rattle.std.specs.Prelude.{◌≡◌, ℕ, ◌<◌, ◌≤◌, ◌||◌, true, length, map, slice_get, Some, vec_capacity, if◌then◌else◌};
-ghost use Rattle.tpl_model.specs.Members.{mem, joined};
-ghost use Rattle.tpl_model.specs.Facts.{carried_in, gathered, those_started};
-ghost use Rattle.tpl_draft.specs.Ids.{task_number};
-ghost use Rattle.tpl_run.specs.Atoms.{AreAtoms};
-ghost use Rattle.tpl_run.specs.Rows.{ending_in, HaveRoom};
-ghost use Rattle.tpl_machine.specs.Gathering.{IsBeside};
+ghost use Rattle.std.specs.Prelude.{◌≡◌, ℕ, ◌<◌, ◌≤◌, ◌||◌, true, map, Some, vec_capacity, if◌then◌else◌};
+ghost use Rattle.tpl_draft.specs.Prelude.{task_number};
+ghost use Rattle.tpl_machine.specs.Prelude.{IsBeside};
+ghost use Rattle.tpl_model.specs.Prelude.{carried_in, gathered, joined, mem, those_started};
+ghost use Rattle.tpl_run.specs.Prelude.{AreAtoms, HaveRoom, ending_in};
 
 use crate::atoms::join;
 use tpl_model::{MOST_TASKS, TaskId, TaskSet};

@@ -1,9 +1,9 @@
 //! What a list of events says by itself, the first event first.
 
 ghost use Rattle.std.specs.Prelude.{◌≡◌, ◌≤◌, Some, None, length, reverse, if◌then◌else◌};
-ghost use Rattle.tpl_model.specs.Facts.{begun, begun_by};
-ghost use Rattle.tpl_machine.specs.Marks.{mark_by, latest, status_marked};
-ghost use Rattle.tpl_run.specs.Reading.{began};
+ghost use Rattle.tpl_machine.specs.Prelude.{latest, mark_by, status_marked};
+ghost use Rattle.tpl_model.specs.Prelude.{begun, begun_by};
+ghost use Rattle.tpl_run.specs.Prelude.{began};
 
 use tpl_graph::Kind;
 use tpl_model::{Act, Actor, Event, Status, TaskId};

@@ -1,14 +1,9 @@
 //! What an event changes of the rows and sets of a run.
 
-ghost use Rattle.std.specs.Prelude.{◌≡◌, ℕ, ◌<◌, ◌≤◌, ◌||◌, [], length, map, slice_get, slice_set, slice_index_or, Some, None, IfSome, false, true, vec_capacity, vec_len, if◌then◌else◌};
-ghost use Rattle.std.specs.Option.{option_map};
-ghost use Rattle.tpl_model.specs.Members.{mem};
-ghost use Rattle.tpl_model.specs.Facts.{worked, own_atom, body_final, body_over, gathered, those_started};
-ghost use Rattle.tpl_draft.specs.Ids.{task_number, token_number};
-ghost use Rattle.tpl_run.specs.Atoms.{AreAtoms};
-ghost use Rattle.tpl_run.specs.Body.{passed};
-ghost use Rattle.tpl_run.specs.Tests.{is_all};
-ghost use Rattle.tpl_run.specs.Rows.{TaskRow, with_rest, with_ending, ending_of, ending_in, is_it, carries, HaveRoom, CanEnd};
+ghost use Rattle.std.specs.Prelude.{◌≡◌, ℕ, ◌<◌, ◌≤◌, ◌||◌, [], length, map, slice_get, slice_set, slice_index_or, Some, None, IfSome, false, true, vec_capacity, vec_len, if◌then◌else◌, option_map};
+ghost use Rattle.tpl_draft.specs.Prelude.{task_number, token_number};
+ghost use Rattle.tpl_model.specs.Prelude.{body_final, body_over, gathered, mem, own_atom, those_started, worked};
+ghost use Rattle.tpl_run.specs.Prelude.{AreAtoms, CanEnd, HaveRoom, TaskRow, carries, ending_in, ending_of, is_all, is_it, passed, with_ending, with_rest};
 
 use crate::gather::{add_all, gather, gather_started};
 use tpl_graph::Kind;

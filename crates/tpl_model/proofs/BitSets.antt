@@ -1,5 +1,5 @@
 -- Words of 64 bits as sets of numbers.
-use Rattle.std.proofs.Common.{◌≡◌, ◌≢◌, ℕ, zero, suc, ◌+◌, ◌*◌, ◌/◌, ◌%◌, ◌^◌, ◌<◌, ◌≤◌, true, false, ◌&&◌, ◌||◌, List, [], ◌∷◌, length, get_or, nat_eq, nat_lt, refl, sym, ap, ◌∙◌, ⊎_elim, arith, eq-eqb, bit_or, bit_and}
+use Rattle.std.proofs.Common.{◌≡◌, ◌≢◌, ℕ, zero, suc, ◌+◌, ◌*◌, ◌/◌, ◌%◌, ◌^◌, ◌<◌, ◌≤◌, Bool, true, false, ◌&&◌, ◌||◌, List, [], ◌∷◌, length, get_or, nat_eq, nat_lt, refl, sym, ap, ◌∙◌, ⊎_elim, arith, eq-eqb, bit_or, bit_and}
 use Rattle.std.specs.Prelude.{◌==◌, max, min, slice_set}
 use Rattle.std.specs.Int.{bit_at, bit_not, trailing_zeros, w64}
 use Rattle.std.proofs.lemmas.Bool.{eqb-true, ltb-true, cases_lt, cases_eq}
@@ -39,23 +39,21 @@ members_of-set words long = passing_from-ascends (is_set words) 0 (64 * length w
 pub members_of-is : (words xs : List ℕ) → length words ≡ 16 → IsTaskSet xs → ((x : ℕ) → is_set words x ≡ mem x xs) → members_of words ≡ xs
 members_of-is words xs long set h = same_members 0 1024 (members_of words) xs (members_of-set words long) set (λ x. mem-members_of words x ∙ h x)
 
-max_test : (u v : ℕ) → u < 2 → v < 2 → (max u v == 1) ≡ ((u == 1) || (v == 1))
-max_test zero zero p q = refl
-max_test zero (suc zero) p q = refl
-max_test (suc zero) zero p q = refl
-max_test (suc zero) (suc zero) p q = refl
-max_test zero (suc (suc v)) p q = absurd (omega arith)
-max_test (suc zero) (suc (suc v)) p q = absurd (omega arith)
-max_test (suc (suc u)) v p q = absurd (omega arith)
+-- what joins two bits joins their tests
+bit_test : (f : ℕ → ℕ → ℕ) (g : Bool → Bool → Bool) → (f 0 0 == 1) ≡ g false false → (f 0 1 == 1) ≡ g false true → (f 1 0 == 1) ≡ g true false → (f 1 1 == 1) ≡ g true true → (u v : ℕ) → u < 2 → v < 2 → (f u v == 1) ≡ g (u == 1) (v == 1)
+bit_test f g a b c d zero zero p q = a
+bit_test f g a b c d zero (suc zero) p q = b
+bit_test f g a b c d (suc zero) zero p q = c
+bit_test f g a b c d (suc zero) (suc zero) p q = d
+bit_test f g a b c d zero (suc (suc v)) p q = absurd (omega arith)
+bit_test f g a b c d (suc zero) (suc (suc v)) p q = absurd (omega arith)
+bit_test f g a b c d (suc (suc u)) v p q = absurd (omega arith)
 
-min_test : (u v : ℕ) → u < 2 → v < 2 → (min u v == 1) ≡ ((u == 1) && (v == 1))
-min_test zero zero p q = refl
-min_test zero (suc zero) p q = refl
-min_test (suc zero) zero p q = refl
-min_test (suc zero) (suc zero) p q = refl
-min_test zero (suc (suc v)) p q = absurd (omega arith)
-min_test (suc zero) (suc (suc v)) p q = absurd (omega arith)
-min_test (suc (suc u)) v p q = absurd (omega arith)
+pub bit_at_or_is : (u v k : ℕ) → (bit_at (bit_or u v) k == 1) ≡ ((bit_at u k == 1) || (bit_at v k == 1))
+bit_at_or_is u v k = ap (λ w. w == 1) (bit_at_or u v k) ∙ bit_test max (λ x y. x || y) refl refl refl refl (bit_at u k) (bit_at v k) (bit_at-lt u k) (bit_at-lt v k)
+
+pub bit_at_and_is : (u v k : ℕ) → (bit_at (bit_and u v) k == 1) ≡ ((bit_at u k == 1) && (bit_at v k == 1))
+bit_at_and_is u v k = ap (λ w. w == 1) (bit_at_and u v k) ∙ bit_test min (λ x y. x && y) refl refl refl refl (bit_at u k) (bit_at v k) (bit_at-lt u k) (bit_at-lt v k)
 
 -- what is so of each of 16 words is so of each
 each_word : (a b c : List ℕ) (f : ℕ → ℕ → ℕ) → f 0 0 ≡ 0 → length a ≡ 16 → length b ≡ 16 → length c ≡ 16 → ((k : ℕ) → k < 16 → get_or c k 0 ≡ f (get_or a k 0) (get_or b k 0)) → (k : ℕ) → get_or c k 0 ≡ f (get_or a k 0) (get_or b k 0)
@@ -84,27 +82,20 @@ fill_more f a b words i lt h = record {
       (cases_eq k i);
 }
 
-pub members_of-or : (a b c : List ℕ) (i : ℕ) → 16 ≤ i → length a ≡ 16 → length b ≡ 16 → Filled bit_or a b c i → (x : ℕ) → mem x (members_of c) ≡ (mem x (members_of a) || mem x (members_of b))
-members_of-or a b c i end la lb filled x =
-    let u = get_or a (x / 64) 0 in
-    let v = get_or b (x / 64) 0 in
+-- the members of what is made word by word
+members_of-filled : (f : ℕ → ℕ → ℕ) (g : Bool → Bool → Bool) → f 0 0 ≡ 0 → ((u v k : ℕ) → (bit_at (f u v) k == 1) ≡ g (bit_at u k == 1) (bit_at v k == 1)) → (a b c : List ℕ) (i : ℕ) → 16 ≤ i → length a ≡ 16 → length b ≡ 16 → Filled f a b c i → (x : ℕ) → mem x (members_of c) ≡ g (mem x (members_of a)) (mem x (members_of b))
+members_of-filled f g nil bit a b c i end la lb filled x =
     mem-members_of c x
-    ∙ (ap (λ w. bit_at w (x % 64) == 1) (each_word a b c bit_or refl la lb filled.long (λ k lt. filled.each k (omega arith)) (x / 64))
-    ∙ (ap (λ w. w == 1) (bit_at_or u v (x % 64))
-    ∙ (max_test (bit_at u (x % 64)) (bit_at v (x % 64)) (bit_at-lt u (x % 64)) (bit_at-lt v (x % 64))
-    ∙ (ap (λ t. t || is_set b x) (sym (mem-members_of a x))
-    ∙ ap (λ t. mem x (members_of a) || t) (sym (mem-members_of b x))))))
+    ∙ (ap (λ w. bit_at w (x % 64) == 1) (each_word a b c f nil la lb filled.long (λ k lt. filled.each k (omega arith)) (x / 64))
+    ∙ (bit (get_or a (x / 64) 0) (get_or b (x / 64) 0) (x % 64)
+    ∙ (ap (λ t. g t (is_set b x)) (sym (mem-members_of a x))
+    ∙ ap (g (mem x (members_of a))) (sym (mem-members_of b x)))))
+
+pub members_of-or : (a b c : List ℕ) (i : ℕ) → 16 ≤ i → length a ≡ 16 → length b ≡ 16 → Filled bit_or a b c i → (x : ℕ) → mem x (members_of c) ≡ (mem x (members_of a) || mem x (members_of b))
+members_of-or = members_of-filled bit_or (λ p q. p || q) refl bit_at_or_is
 
 pub members_of-and : (a b c : List ℕ) (i : ℕ) → 16 ≤ i → length a ≡ 16 → length b ≡ 16 → Filled bit_and a b c i → (x : ℕ) → mem x (members_of c) ≡ (mem x (members_of a) && mem x (members_of b))
-members_of-and a b c i end la lb filled x =
-    let u = get_or a (x / 64) 0 in
-    let v = get_or b (x / 64) 0 in
-    mem-members_of c x
-    ∙ (ap (λ w. bit_at w (x % 64) == 1) (each_word a b c bit_and refl la lb filled.long (λ k lt. filled.each k (omega arith)) (x / 64))
-    ∙ (ap (λ w. w == 1) (bit_at_and u v (x % 64))
-    ∙ (min_test (bit_at u (x % 64)) (bit_at v (x % 64)) (bit_at-lt u (x % 64)) (bit_at-lt v (x % 64))
-    ∙ (ap (λ t. t && is_set b x) (sym (mem-members_of a x))
-    ∙ ap (λ t. mem x (members_of a) && t) (sym (mem-members_of b x))))))
+members_of-and = members_of-filled bit_and (λ p q. p && q) refl bit_at_and_is
 
 -- where one word changed at one bit, each other number is as it was
 pub other_bit : (words : List ℕ) (t word x : ℕ) → t / 64 < length words → ((i : ℕ) → i < 64 → i ≢ t % 64 → bit_at word i ≡ bit_at (get_or words (t / 64) 0) i) → x ≢ t → is_set (slice_set words (t / 64) word) x ≡ is_set words x

@@ -1,7 +1,7 @@
 -- Paths from their first statement on.
 use Rattle.std.proofs.Common.{◌≡◌, ◌⊎◌, inl, inr, List, [], ◌∷◌, ◌++◌, reverse, refl, sym, ap, ◌∙◌, subst}
 use Rattle.std.proofs.lemmas.List.{reverse-append}
-use Rattle.tpl_model.specs.Statements.{Statement, Return, Throw, Check, Cancel, Start, Observe, Work, If, When, Statements, Nothing, ◌⨾◌, followed_by}
+use Rattle.tpl_model.specs.Statements.{Statement, Return, Throw, Cancel, If, When, Statements, Nothing, ◌⨾◌, followed_by}
 use Rattle.tpl_model.specs.Paths.{Known, GoesOn, Passes}
 
 -- passing these statements, the first one first
@@ -54,11 +54,7 @@ ahead_assoc (s ⨾ a) b c = ap (λ z. s ⨾ z) (ahead_assoc a b c)
 goes_within : (w : Known) (s : Statement) (a b mid : Statements) → GoesOn w s a mid → GoesOn w s (followed_by a b) (followed_by mid b)
 goes_within w Return a b mid g = g
 goes_within w (Throw l) a b mid g = g
-goes_within w (Check k) a b mid g = ap (λ z. followed_by z b) g
 goes_within w (Cancel k) a b mid g = (g.0, ap (λ z. followed_by z b) g.1)
-goes_within w (Start c) a b mid g = ap (λ z. followed_by z b) g
-goes_within w Observe a b mid g = ap (λ z. followed_by z b) g
-goes_within w (Work i f) a b mid g = ap (λ z. followed_by z b) g
 goes_within w (If i x y) a b mid g =
     elim g [
       | inl q ↦ inl (q.0, sym (ahead_assoc x a b) ∙ ap (λ z. followed_by z b) q.1)
@@ -69,15 +65,12 @@ goes_within w (When f x y) a b mid g =
       | inl q ↦ inl (q.0, sym (ahead_assoc x a b) ∙ ap (λ z. followed_by z b) q.1)
       | inr q ↦ inr (q.0, q.1, q.2, sym (ahead_assoc y a b) ∙ ap (λ z. followed_by z b) q.3)
     ]
+goes_within w s a b mid g = ap (λ z. followed_by z b) g
 
 goes_back : (w : Known) (s : Statement) (a b mid : Statements) → GoesOn w s (followed_by a b) mid → (m : Statements) × GoesOn w s a m × (mid ≡ followed_by m b)
 goes_back w Return a b mid g = absurd g
 goes_back w (Throw l) a b mid g = absurd g
-goes_back w (Check k) a b mid g = (a, refl, sym g)
 goes_back w (Cancel k) a b mid g = (a, (g.0, refl), sym g.1)
-goes_back w (Start c) a b mid g = (a, refl, sym g)
-goes_back w Observe a b mid g = (a, refl, sym g)
-goes_back w (Work i f) a b mid g = (a, refl, sym g)
 goes_back w (If i x y) a b mid g =
     elim g [
       | inl q ↦ (followed_by x a, inl (q.0, refl), sym q.1 ∙ sym (ahead_assoc x a b))
@@ -88,6 +81,7 @@ goes_back w (When f x y) a b mid g =
       | inl q ↦ (followed_by x a, inl (q.0, refl), sym q.1 ∙ sym (ahead_assoc x a b))
       | inr q ↦ (followed_by y a, inr (q.0, q.1, q.2, refl), sym q.3 ∙ sym (ahead_assoc y a b))
     ]
+goes_back w s a b mid g = (a, refl, sym g)
 
 -- a walk of two scripts
 pub walks_within : (w : Known) (a b : Statements) (ps : List Statement) (left : Statements) → Walks w a ps left → Walks w (followed_by a b) ps (followed_by left b)

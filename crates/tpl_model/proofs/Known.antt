@@ -161,13 +161,7 @@ mutual
   collected_in_under ask w f (When n a b) r q p =
       two_under (w.known.subject n) (another w.known n) (collected ask w a r) (collected ask w b r) (collected ask w a q) (collected ask w b q)
       (collected_under ask w f a r q p) (collected_under ask w f b r q p)
-  collected_in_under ask w f Return r q p = f Return r q p
-  collected_in_under ask w f (Throw l) r q p = f (Throw l) r q p
-  collected_in_under ask w f (Check k) r q p = f (Check k) r q p
-  collected_in_under ask w f (Cancel k) r q p = f (Cancel k) r q p
-  collected_in_under ask w f (Start c) r q p = f (Start c) r q p
-  collected_in_under ask w f Observe r q p = f Observe r q p
-  collected_in_under ask w f (Work site may_fail) r q p = f (Work site may_fail) r q p
+  collected_in_under ask w f s r q p = f s r q p
 
 -- a script, then what follows it
 through_more : (w : Reading) (a more : Statements) (r : Reached) → through w (followed_by a more) r ≡ through w more (through w a r)

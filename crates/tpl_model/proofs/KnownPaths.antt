@@ -178,25 +178,11 @@ module _ (ask : Statement → Reached → Option Knowledge) (w : Reading) (falls
 
   chooses_before : (s : Statement) (ps : List Statement) → Chooses w.child chosen (s ∷ ps) → Chooses w.child chosen ps
   chooses_before (Start d) ps c = c.1
-  chooses_before Return ps c = c
-  chooses_before (Throw l) ps c = c
-  chooses_before (Check k) ps c = c
-  chooses_before (Cancel k) ps c = c
-  chooses_before Observe ps c = c
-  chooses_before (Work site m) ps c = c
-  chooses_before (If i x y) ps c = c
-  chooses_before (When f x y) ps c = c
+  chooses_before s ps c = c
 
   pub heeds_before : (s : Statement) (ps : List Statement) → Heeds w.known.quiet w.linked tokens (s ∷ ps) → Heeds w.known.quiet w.linked tokens ps
   heeds_before (Check k) ps h = h.1
-  heeds_before Return ps h = h
-  heeds_before (Throw l) ps h = h
-  heeds_before (Cancel k) ps h = h
-  heeds_before (Start d) ps h = h
-  heeds_before Observe ps h = h
-  heeds_before (Work site m) ps h = h
-  heeds_before (If i x y) ps h = h
-  heeds_before (When f x y) ps h = h
+  heeds_before s ps h = h
 
   -- each path of a body is among those of the recursion
   pub covers : (body : Statements) (passed : List Statement) (left : Statements) → Passes w.known body passed left → Chooses w.child chosen passed → Heeds w.known.quiet w.linked tokens passed → Covers ask w body (from tokens) left (on_path w tokens chosen passed)
@@ -231,14 +217,7 @@ throwing_falls Acknowledged r q p = tt
 
 starting_falls : (c : ℕ) → Falls (starting c)
 starting_falls c (Start d) r q p = when_under (nat_eq d c) (nat_eq d c) (all r) (all q) (λ e. e) (all_under r q p)
-starting_falls c Return r q p = tt
-starting_falls c (Throw l) r q p = tt
-starting_falls c (Check k) r q p = tt
-starting_falls c (Cancel k) r q p = tt
-starting_falls c Observe r q p = tt
-starting_falls c (Work site m) r q p = tt
-starting_falls c (If i x y) r q p = tt
-starting_falls c (When f x y) r q p = tt
+starting_falls c s r q p = tt
 
 ending_at_falls : (pick : Outcome → Reached → Option Knowledge) (w : Reading) → FallsBy pick → Falls (ending_at pick w)
 ending_at_falls pick w f Return r q p = f Returned r q p
@@ -252,11 +231,7 @@ ending_at_falls pick w f (Work site m) r q p =
     let o = Threw (WorkFailed (record { 0 = site })) in
     let b = m && not (w.known.sure site) in
     when_under b b (pick o r) (pick o q) (λ e. e) (f o r q p)
-ending_at_falls pick w f (Cancel k) r q p = tt
-ending_at_falls pick w f (Start c) r q p = tt
-ending_at_falls pick w f Observe r q p = tt
-ending_at_falls pick w f (If i x y) r q p = tt
-ending_at_falls pick w f (When n x y) r q p = tt
+ending_at_falls pick w f s r q p = tt
 
 -- a path that ends at a statement is among those that do
 ends_there : (pick : Outcome → Reached → Option Knowledge) (w : Reading) (s : Statement) (o : Outcome) (r : Reached) → EndsAt w.known s o → Under (collected_in (ending_at pick w) w s r) (pick o (told_at w s r))
@@ -272,11 +247,7 @@ ends_there pick w (Work site m) o r e =
     let t = Threw (WorkFailed (record { 0 = site })) in
     subst (λ z. Under (when (m && not (w.known.sure site)) (pick t r)) (pick z r)) (sym e.2)
     (when_true (m && not (w.known.sure site)) (pick t r) (and_from m (not (w.known.sure site)) e.0 (not_from_false (w.known.sure site) e.1)))
-ends_there pick w (Cancel k) o r e = absurd e
-ends_there pick w (Start c) o r e = absurd e
-ends_there pick w Observe o r e = absurd e
-ends_there pick w (If i x y) o r e = absurd e
-ends_there pick w (When f x y) o r e = absurd e
+ends_there pick w s o r e = absurd e
 
 module _ (pick : Outcome → Reached → Option Knowledge) (w : Reading) (falls : FallsBy pick) (tokens : ℕ → Bool) (chosen : ℕ → Final) (body : Statements) where
   -- a path that gets to the end of the body
@@ -329,14 +300,7 @@ module _ (c : ℕ) (w : Reading) (tokens : ℕ → Bool) (body : Statements) whe
 
   pub one_more : (s : Statement) (ps : List Statement) (k : ℕ) → requested_on w.linked tokens ps k ≡ true → requested_on w.linked tokens (s ∷ ps) k ≡ true
   one_more (Cancel j) ps k e = or_right (w.linked j k) (requested_on w.linked tokens ps k) e
-  one_more Return ps k e = e
-  one_more (Throw l) ps k e = e
-  one_more (Check j) ps k e = e
-  one_more (Start d) ps k e = e
-  one_more Observe ps k e = e
-  one_more (Work site m) ps k e = e
-  one_more (If i x y) ps k e = e
-  one_more (When f x y) ps k e = e
+  one_more s ps k e = e
 
   here : (s : Statement) (ps : List Statement) (more left : Statements) → is_start_of c s ≡ true → Passes w.known body ps (s ⨾ more) → Heeds w.known.quiet w.linked tokens ps → AtStart (s ∷ ps)
   here (Start d) ps more left e p h =
@@ -353,14 +317,7 @@ module _ (c : ℕ) (w : Reading) (tokens : ℕ → Bool) (body : Statements) whe
       (under_trans found (all r) (Some known) (when_true (nat_eq d c) (all r) e) (all_one (is_burdened u.child chosen ps) known))) in
       let b = within_some whole known under in
       (b.0, b.1, b.2)
-  here Return ps more left e p h = true_false (sym e)
-  here (Throw l) ps more left e p h = true_false (sym e)
-  here (Check k) ps more left e p h = true_false (sym e)
-  here (Cancel k) ps more left e p h = true_false (sym e)
-  here Observe ps more left e p h = true_false (sym e)
-  here (Work site m) ps more left e p h = true_false (sym e)
-  here (If i x y) ps more left e p h = true_false (sym e)
-  here (When f x y) ps more left e p h = true_false (sym e)
+  here s ps more left e p h = true_false (sym e)
 
   pub known_at_start : (passed : List Statement) (left : Statements) → Passes w.known body passed left → Heeds w.known.quiet w.linked tokens passed → passes_start c passed ≡ true → AtStart passed
   known_at_start [] left p h e = true_false (sym e)
@@ -457,11 +414,7 @@ known_where_started c w tokens body (Some v) left (s ∷ ps) f h e = at s f.1 e
         let b = known_at_start c w tokens body ps (Check k ⨾ f.0) f.1 h e in
         (b.0, b.1, λ j m. or_right (w.linked k j) (requested_on w.linked tokens ps j) (b.2 j m))
     at (Work site m) f e = known_at_start c w tokens body ps (Work site m ⨾ f.0) f.1 h e
-    at (Cancel k) f e = absurd f.2
-    at (Start d) f e = absurd f.2
-    at Observe f e = absurd f.2
-    at (If i x y) f e = absurd f.2
-    at (When n x y) f e = absurd f.2
+    at s f e = absurd f.2
 
 -- ends that may be chosen of each child that is started
 pub chooses : (child : ℕ → Option ChildEnd) (chosen : ℕ → Final) (ps : List Statement) → ((c : ℕ) → passes_start c ps ≡ true → MayChoose (child c) (chosen c)) → Chooses child chosen ps
@@ -470,14 +423,7 @@ chooses child chosen (s ∷ ps) may = at s (λ c e. may c (or_left (is_start_of 
   where
     at : (s : Statement) → ((c : ℕ) → is_start_of c s ≡ true → MayChoose (child c) (chosen c)) → Chooses child chosen ps → Chooses child chosen (s ∷ ps)
     at (Start d) may old = (may d (same_self d), old)
-    at Return may old = old
-    at (Throw l) may old = old
-    at (Check k) may old = old
-    at (Cancel k) may old = old
-    at Observe may old = old
-    at (Work site m) may old = old
-    at (If i x y) may old = old
-    at (When n x y) may old = old
+    at s may old = old
 
 same_number : (x y : ℕ) → nat_eq x y ≡ true → x ≡ y
 same_number x y e = eqb→eq x y (subst T (sym e) tt)
@@ -500,14 +446,7 @@ burdened_start child chosen (s ∷ ps) e = at s (λ q. later s (burdened_start c
           | inl q ↦ (d, or_left (nat_eq d d) (passes_start d ps) (same_self d), q)
           | inr q ↦ old q
         ]
-    at Return old e = old e
-    at (Throw l) old e = old e
-    at (Check k) old e = old e
-    at (Cancel k) old e = old e
-    at Observe old e = old e
-    at (Work site m) old e = old e
-    at (If i x y) old e = old e
-    at (When n x y) old e = old e
+    at s old e = old e
 
 pub start_burdens : (child : ℕ → Option ChildEnd) (chosen : ℕ → Final) (ps : List Statement) (c : ℕ) → passes_start c ps ≡ true → burdens (child c) (chosen c) ≡ true → is_burdened child chosen ps ≡ true
 start_burdens child chosen [] c e f = true_false (sym e)
@@ -519,14 +458,7 @@ start_burdens child chosen (s ∷ ps) c e f = at s (λ q. start_burdens child ch
           | inl q ↦ or_left (burdens (child d) (chosen d)) (is_burdened child chosen ps) (subst (λ z. burdens (child z) (chosen z) ≡ true) (sym (same_number d c q)) f)
           | inr q ↦ or_right (burdens (child d) (chosen d)) (is_burdened child chosen ps) (old q)
         ]
-    at Return old e = old e
-    at (Throw l) old e = old e
-    at (Check k) old e = old e
-    at (Cancel k) old e = old e
-    at Observe old e = old e
-    at (Work site m) old e = old e
-    at (If i x y) old e = old e
-    at (When n x y) old e = old e
+    at s old e = old e
 
 -- the facts of the children that a path starts
 pub later_started : (child : ℕ → Option ChildEnd) (ps : List Statement) (fact : Fact) → later_on child ps fact ≡ true → StartOf (λ c. facts_of (child c) fact) ps
@@ -542,11 +474,4 @@ later_started child (s ∷ ps) fact e = at s (λ q. later s (later_started child
           | inl q ↦ (d, or_left (nat_eq d d) (passes_start d ps) (same_self d), q)
           | inr q ↦ old q
         ]
-    at Return old e = old e
-    at (Throw l) old e = old e
-    at (Check k) old e = old e
-    at (Cancel k) old e = old e
-    at Observe old e = old e
-    at (Work site m) old e = old e
-    at (If i x y) old e = old e
-    at (When n x y) old e = old e
+    at s old e = old e

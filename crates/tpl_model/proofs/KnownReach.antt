@@ -157,12 +157,7 @@ mutual
             let t = start_reach c w b r p.1 in
             (or_right (w.known.subject f && reaches c w.known a) (another w.known f && reaches c w.known b) (and_from (another w.known f) (reaches c w.known b) p.0 t.0), t.1)
       ]
-  start_reach_in c w Return r e = true_false (sym e)
-  start_reach_in c w (Throw l) r e = true_false (sym e)
-  start_reach_in c w (Check k) r e = true_false (sym e)
-  start_reach_in c w (Cancel k) r e = true_false (sym e)
-  start_reach_in c w Observe r e = true_false (sym e)
-  start_reach_in c w (Work site m) r e = true_false (sym e)
+  start_reach_in c w s r e = true_false (sym e)
 
 pub may_start : (c : ℕ) (w : Reading) (tokens : ℕ → Bool) (body : Statements) → is_some (at_start c w tokens body) ≡ true → MayStartChild w.known body c
 may_start c w tokens body e = (start_lem c w.known body).0 (start_reach c (unchosen w) body (from tokens) e).0

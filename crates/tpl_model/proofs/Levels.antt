@@ -146,7 +146,7 @@ levels_first [] s long is = absurd (omega arith)
 levels_first (y ∷ list) s long is = let e = ap (λ z. levels_in (statement_of z)) is in omega arith
 
 -- one more level fits
-pub inner_fits : (levels : Levels) (old depth : ℕ) (x : Bor (List Stmt)) (s : Stmt) (inner : Statements) → 0 < depth → depth ≤ old → length levels ≡ 8 → x ≡ get_or levels (depth - 1) x → 0 < length x.now → s ≡ get_or x.now 0 s → level_count inner < levels_in (statement_of s) → FitsLevels levels old → level_count inner + depth ≤ 8
+inner_fits : (levels : Levels) (old depth : ℕ) (x : Bor (List Stmt)) (s : Stmt) (inner : Statements) → 0 < depth → depth ≤ old → length levels ≡ 8 → x ≡ get_or levels (depth - 1) x → 0 < length x.now → s ≡ get_or x.now 0 s → level_count inner < levels_in (statement_of s) → FitsLevels levels old → level_count inner + depth ≤ 8
 inner_fits levels old zero x s inner some le len is long one nests fits = absurd (omega arith)
 inner_fits levels old (suc d) x s inner some le len is long one nests fits =
     let j : suc d - 1 ≡ d = omega arith in
@@ -156,6 +156,12 @@ inner_fits levels old (suc d) x s inner some le len is long one nests fits =
     let h = ap (λ o. level_count (level_list o)) here in
     let a = levels_first x.now s long one in
     omega arith
+
+-- the list of a branch has room behind the settled levels
+pub room_for : (levels : Levels) (old depth : ℕ) (x : Bor (List Stmt)) (s : Stmt) (body inner : Statements) → 0 < depth → depth ≤ old → length levels ≡ 8 → x ≡ get_or levels (depth - 1) x → IsSettled levels depth → s ≡ get_or x.now 0 s → body ≡ inner → level_count body < levels_in (statement_of s) → FitsLevels levels old → level_count inner + depth ≤ 8
+room_for levels old depth x s body inner some le len is settled one same nests fits =
+    let long = settled_long levels depth x some (omega (arith, len, fits.0)) is settled in
+    inner_fits levels old depth x s inner some le len is long one (subst (λ b. level_count b < levels_in (statement_of s)) same nests) fits
 
 pub entered : (levels : Levels) (depth : ℕ) (z : Bor (List Stmt)) → depth < length levels → left_at (slice_set levels depth z) (depth + 1) ≡ followed_by (statements_of z.now) (left_at levels depth)
 entered levels depth z lt =

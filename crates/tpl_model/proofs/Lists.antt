@@ -3,7 +3,10 @@ use Rattle.std.proofs.Common.{◌≡◌, ℕ, zero, suc, ◌+◌, ◌<◌, ◌�
 use Rattle.tpl_model.specs.declared.body.Stmt.{Stmt}
 use Rattle.tpl_model.specs.Statements.{Statements, ◌⨾◌}
 use Rattle.tpl_model.specs.Seen.{statement_of, statements_of}
+use Rattle.tpl_model.specs.declared.body.Body.TheDeep.{deep-Stmt}
+use Rattle.tpl_model.specs.declared.body.Body.TheView.{size}
 use Rattle.tpl_model.specs.Limits.{statement_count, count_one}
+use Rattle.tpl_model.specs.Falls.{deep_le-count}
 
 pub split_at : (items : List Stmt) (i : ℕ) (x : Stmt) → i < length items → x ≡ get_or items i x → statements_of (drop i items) ≡ statement_of x ⨾ statements_of (drop (i + 1) items)
 split_at items i x lt is =
@@ -18,3 +21,7 @@ count_at (s ∷ rest) (suc i) x lt is = omega (arith, count_at rest i x (omega a
 -- a statement of a list has no more statements than the list
 pub falls_in : (body : Statements) (items : List Stmt) (i : ℕ) (x : Stmt) → statements_of items ≡ body → i < length items → x ≡ get_or items i x → count_one (statement_of x) ≤ statement_count body
 falls_in body items i x e lt is = omega (arith, ap statement_count e, count_at items i x lt is)
+
+-- a statement of a list is less deep than the list
+pub deep_in : (body : Statements) (items : List Stmt) (i : ℕ) (x : Stmt) → statements_of items ≡ body → i < length items → x ≡ get_or items i x → deep-Stmt x ≤ size body
+deep_in body items i x e lt is = omega (arith, deep_le-count x, falls_in body items i x e lt is)

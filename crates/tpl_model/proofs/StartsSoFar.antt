@@ -8,7 +8,7 @@ use Rattle.tpl_model.specs.Members.{mem}
 use Rattle.tpl_model.specs.TaskSet.{IsTaskSet}
 use Rattle.tpl_model.specs.declared.body.Stmt.{Stmt}
 use Rattle.tpl_model.specs.declared.starts.Starts.{Starts}
-use Rattle.tpl_model.specs.Statements.{Statements, ◌⨾◌}
+use Rattle.tpl_model.specs.Statements.{Statements}
 use Rattle.tpl_model.specs.Seen.{statement_of, statements_of}
 use Rattle.tpl_model.specs.Paths.{Known, MayStartChild}
 use Rattle.tpl_model.specs.Recursion.{gets_through, passes_by, none, reaches, reaches_in}
@@ -74,45 +74,40 @@ last_found false false r x = refl
 last_found false true true x = refl
 last_found false true false x = refl
 
-pub adds_step : (w : Known) (body : Statements) (items : List Stmt) (i : ℕ) (old now new : List ℕ) (s : Stmt) → i < length items → s ≡ get_or items i s → AddsSoFar w body items i old now → passes_by none w (statement_of s) ≡ true → Adds now new (λ x. reaches_in x w (statement_of s)) → AddsSoFar w body items (i + 1) old new
-adds_step w body items i old now new s lt is at on adds = record {
-  whole = at.whole;
-  on = at.on ∙ (ap (gets_through none w) split ∙ ap (λ p. p && gets_through none w rest) on);
-  found = λ x.
+-- what is left at a statement is the statement, and where it is passed what is left behind it
+module _ (w : Known) (body : Statements) (items : List Stmt) (i : ℕ) (old now : List ℕ) (s : Stmt) (lt : i < length items) (is : s ≡ get_or items i s) (at : AddsSoFar w body items i old now) where
+  abbrev rest : Statements
+  rest = statements_of (drop (i + 1) items)
+
+  on_at : (passes : Bool) → passes_by none w (statement_of s) ≡ passes → gets_through none w body ≡ (passes && gets_through none w rest)
+  on_at passes e = at.on ∙ (ap (gets_through none w) (split_at items i s lt is) ∙ ap (λ p. p && gets_through none w rest) e)
+
+  found_at : (passes : Bool) → passes_by none w (statement_of s) ≡ passes → (x : ℕ) → (mem x old || (nat_lt x 1024 && reaches x w body)) ≡ (mem x now || (nat_lt x 1024 && (reaches_in x w (statement_of s) || (passes && reaches x w rest))))
+  found_at passes e x =
       at.found x
-      ∙ (ap (λ b. mem x now || (nat_lt x 1024 && reaches x w b)) split
-      ∙ (ap (λ p. mem x now || (nat_lt x 1024 && (reaches_in x w (statement_of s) || (p && reaches x w rest)))) on
-      ∙ (more_found (mem x now) (nat_lt x 1024) (reaches_in x w (statement_of s)) (reaches x w rest)
-      ∙ ap (λ m. m || (nat_lt x 1024 && reaches x w rest)) (sym (adds.members x)))));
-  set = λ h. adds.set (at.set h);
-}
-  where
-    rest : Statements
-    rest = statements_of (drop (i + 1) items)
+      ∙ (ap (λ b. mem x now || (nat_lt x 1024 && reaches x w b)) (split_at items i s lt is)
+      ∙ ap (λ p. mem x now || (nat_lt x 1024 && (reaches_in x w (statement_of s) || (p && reaches x w rest)))) e)
 
-    split : statements_of (drop i items) ≡ statement_of s ⨾ rest
-    split = split_at items i s lt is
-
--- no path goes on behind a statement
-pub adds_stop : (w : Known) (body : Statements) (items : List Stmt) (i : ℕ) (old now new : List ℕ) (s : Stmt) → i < length items → s ≡ get_or items i s → AddsSoFar w body items i old now → passes_by none w (statement_of s) ≡ false → Adds now new (λ x. reaches_in x w (statement_of s)) → (false ≡ gets_through none w body) × Adds old new (λ x. reaches x w body)
-adds_stop w body items i old now new s lt is at on adds = (
-  sym (at.on ∙ (ap (gets_through none w) split ∙ ap (λ p. p && gets_through none w rest) on)),
-  record {
-    members = λ x.
-        adds.members x
-        ∙ sym (at.found x
-        ∙ (ap (λ b. mem x now || (nat_lt x 1024 && reaches x w b)) split
-        ∙ (ap (λ p. mem x now || (nat_lt x 1024 && (reaches_in x w (statement_of s) || (p && reaches x w rest)))) on
-        ∙ last_found (mem x now) (nat_lt x 1024) (reaches_in x w (statement_of s)) (reaches x w rest))));
+  pub adds_step : (new : List ℕ) → passes_by none w (statement_of s) ≡ true → Adds now new (λ x. reaches_in x w (statement_of s)) → AddsSoFar w body items (i + 1) old new
+  adds_step new on adds = record {
+    whole = at.whole;
+    on = on_at true on;
+    found = λ x.
+        found_at true on x
+        ∙ (more_found (mem x now) (nat_lt x 1024) (reaches_in x w (statement_of s)) (reaches x w rest)
+        ∙ ap (λ m. m || (nat_lt x 1024 && reaches x w rest)) (sym (adds.members x)));
     set = λ h. adds.set (at.set h);
-  },
-)
-  where
-    rest : Statements
-    rest = statements_of (drop (i + 1) items)
+  }
 
-    split : statements_of (drop i items) ≡ statement_of s ⨾ rest
-    split = split_at items i s lt is
+  -- no path goes on behind the statement
+  pub adds_stop : (new : List ℕ) → passes_by none w (statement_of s) ≡ false → Adds now new (λ x. reaches_in x w (statement_of s)) → (false ≡ gets_through none w body) × Adds old new (λ x. reaches x w body)
+  adds_stop new on adds = (
+    sym (on_at false on),
+    record {
+      members = λ x. adds.members x ∙ sym (found_at false on x ∙ last_found (mem x now) (nat_lt x 1024) (reaches_in x w (statement_of s)) (reaches x w rest));
+      set = λ h. adds.set (at.set h);
+    },
+  )
 
 pub adds_finish : (w : Known) (body : Statements) (items : List Stmt) (i : ℕ) (old now : List ℕ) → length items ≤ i → AddsSoFar w body items i old now → (true ≡ gets_through none w body) × Adds old now (λ x. reaches x w body)
 adds_finish w body items i old now le at =

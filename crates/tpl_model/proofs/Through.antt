@@ -76,11 +76,7 @@ mutual
   by_walk : (avoid : Statement → Bool) (w : Known) (s : Statement) → passes_by avoid w s ≡ true → By avoid w s
   by_walk avoid w Return e = true_false (sym e)
   by_walk avoid w (Throw l) e = true_false (sym e)
-  by_walk avoid w (Check k) e = record { chosen = Nothing; goes = λ more. refl; through = nothing_chosen avoid w }
   by_walk avoid w (Cancel k) e = record { chosen = Nothing; goes = λ more. (not_of (w.quiet k) e, refl); through = nothing_chosen avoid w }
-  by_walk avoid w (Start c) e = record { chosen = Nothing; goes = λ more. refl; through = nothing_chosen avoid w }
-  by_walk avoid w Observe e = record { chosen = Nothing; goes = λ more. refl; through = nothing_chosen avoid w }
-  by_walk avoid w (Work i f) e = record { chosen = Nothing; goes = λ more. refl; through = nothing_chosen avoid w }
   by_walk avoid w (If i x y) e =
       elim (or_cases (w.possible i true && gets_through avoid w x) (w.possible i false && gets_through avoid w y) e) [
         | inl q ↦ let b = and_parts (w.possible i true) (gets_through avoid w x) q in record { chosen = x; goes = λ more. inl (b.0, refl); through = through_walk avoid w x b.1 }
@@ -94,6 +90,7 @@ mutual
             let o = another_is w f b.0 in
             record { chosen = y; goes = λ more. inr (o.0, o.1, o.2, refl); through = through_walk avoid w y b.1 }
       ]
+  by_walk avoid w s e = record { chosen = Nothing; goes = λ more. refl; through = nothing_chosen avoid w }
 
 empty_parts : (a b : Statements) → Nothing ≡ followed_by a b → (a ≡ Nothing) × (b ≡ Nothing)
 empty_parts Nothing b e = (refl, sym e)
@@ -137,11 +134,7 @@ mutual
   walk_by : (avoid : Statement → Bool) (w : Known) (s : Statement) (rest mid : Statements) (ps : List Statement) → GoesOn w s rest mid → Walks w mid ps Nothing → clean avoid ps ≡ true → (passes_by avoid w s ≡ true) × Through avoid w rest
   walk_by avoid w Return rest mid ps g e c = absurd g
   walk_by avoid w (Throw l) rest mid ps g e c = absurd g
-  walk_by avoid w (Check k) rest mid ps g e c = (refl, record { passed = ps; walks = subst (λ z. Walks w z ps Nothing) (sym g) e; clean = c })
   walk_by avoid w (Cancel k) rest mid ps g e c = (not_from_false (w.quiet k) g.0, record { passed = ps; walks = subst (λ z. Walks w z ps Nothing) (sym g.1) e; clean = c })
-  walk_by avoid w (Start d) rest mid ps g e c = (refl, record { passed = ps; walks = subst (λ z. Walks w z ps Nothing) (sym g) e; clean = c })
-  walk_by avoid w Observe rest mid ps g e c = (refl, record { passed = ps; walks = subst (λ z. Walks w z ps Nothing) (sym g) e; clean = c })
-  walk_by avoid w (Work i f) rest mid ps g e c = (refl, record { passed = ps; walks = subst (λ z. Walks w z ps Nothing) (sym g) e; clean = c })
   walk_by avoid w (If i x y) rest mid ps g e c =
       elim g [
         | inl q ↦
@@ -160,6 +153,7 @@ mutual
             let t = from_chosen avoid w y rest ps (subst (λ z. Walks w z ps Nothing) (sym q.3) e) c in
             (or_right (w.subject f && gets_through avoid w x) (another w f && gets_through avoid w y) (and_join (another w f) (gets_through avoid w y) (is_another w f q.0 q.1 q.2) (walk_through avoid w y t.0)), t.1)
       ]
+  walk_by avoid w s rest mid ps g e c = (refl, record { passed = ps; walks = subst (λ z. Walks w z ps Nothing) (sym g) e; clean = c })
 
 -- a walk to a statement that ends it with a verdict that passes the test
 pub record Stop (avoid : Statement → Bool) (test : Outcome → Bool) (w : Known) (script : Statements) : Type 0 where
@@ -288,14 +282,10 @@ ends_at_test : (avoid : Statement → Bool) (test : Outcome → Bool) (w : Known
 ends_at_test avoid test w Return verdict e t = subst (λ z. test z ≡ true) e t
 ends_at_test avoid test w (Throw l) verdict e t = subst (λ z. test z ≡ true) e t
 ends_at_test avoid test w (Check k) verdict e t = and_join (not (w.quiet k)) (test (cancellation w.own k)) (not_from_false (w.quiet k) e.0) (subst (λ z. test z ≡ true) e.1 t)
-ends_at_test avoid test w (Cancel k) verdict e t = absurd e
-ends_at_test avoid test w (Start c) verdict e t = absurd e
-ends_at_test avoid test w Observe verdict e t = absurd e
 ends_at_test avoid test w (Work i f) verdict e t =
     and_join f (not (w.sure i) && test (Threw (WorkFailed (record { 0 = i })))) e.0
     (and_join (not (w.sure i)) (test (Threw (WorkFailed (record { 0 = i })))) (not_from_false (w.sure i) e.1) (subst (λ z. test z ≡ true) e.2 t))
-ends_at_test avoid test w (If i x y) verdict e t = absurd e
-ends_at_test avoid test w (When f x y) verdict e t = absurd e
+ends_at_test avoid test w s verdict e t = absurd e
 
 mutual
   stop_complete : (avoid : Statement → Bool) (test : Outcome → Bool) (w : Known) (script : Statements) → Stop avoid test w script → stops avoid test w script ≡ true
@@ -319,11 +309,7 @@ mutual
   goes_complete : (avoid : Statement → Bool) (test : Outcome → Bool) (w : Known) (s : Statement) (rest mid : Statements) → GoesOn w s rest mid → Stop avoid test w mid → (stops_at avoid test w s ≡ true) ⊎ ((passes_by avoid w s ≡ true) × Stop avoid test w rest)
   goes_complete avoid test w Return rest mid g t = absurd g
   goes_complete avoid test w (Throw l) rest mid g t = absurd g
-  goes_complete avoid test w (Check k) rest mid g t = inr (refl, subst (λ z. Stop avoid test w z) (sym g) t)
   goes_complete avoid test w (Cancel k) rest mid g t = inr (not_from_false (w.quiet k) g.0, subst (λ z. Stop avoid test w z) (sym g.1) t)
-  goes_complete avoid test w (Start c) rest mid g t = inr (refl, subst (λ z. Stop avoid test w z) (sym g) t)
-  goes_complete avoid test w Observe rest mid g t = inr (refl, subst (λ z. Stop avoid test w z) (sym g) t)
-  goes_complete avoid test w (Work i f) rest mid g t = inr (refl, subst (λ z. Stop avoid test w z) (sym g) t)
   goes_complete avoid test w (If i x y) rest mid g t =
       elim g [
         | inl q ↦ elim (stop_split avoid test w x rest (subst (λ z. Stop avoid test w z) (sym q.1) t)) [
@@ -346,6 +332,7 @@ mutual
           | inr m ↦ inr (or_right (w.subject f && gets_through avoid w x) (another w f && gets_through avoid w y) (and_join (another w f) (gets_through avoid w y) (is_another w f q.0 q.1 q.2) (walk_through avoid w y m.0)), m.1)
         ]
       ]
+  goes_complete avoid test w s rest mid g t = inr (refl, subst (λ z. Stop avoid test w z) (sym g) t)
 
 reverse_more : (x : Statement) (xs : List Statement) → reverse (x ∷ xs) ≡ reverse xs ++ x ∷ []
 reverse_more x xs = reverse-append (x ∷ []) xs
@@ -483,12 +470,6 @@ mutual
 
   reach_in_found : (c : ℕ) (w : Known) (s : Statement) → reaches_in c w s ≡ true → ReachAt c w s
   reach_in_found c w (Start d) e = starts_it e (λ more. refl)
-  reach_in_found c w Return e = true_false (sym e)
-  reach_in_found c w (Throw l) e = true_false (sym e)
-  reach_in_found c w (Check k) e = true_false (sym e)
-  reach_in_found c w (Cancel k) e = true_false (sym e)
-  reach_in_found c w Observe e = true_false (sym e)
-  reach_in_found c w (Work i f) e = true_false (sym e)
   reach_in_found c w (If i x y) e =
       elim (or_cases (w.possible i true && reaches c w x) (w.possible i false && reaches c w y) e) [
         | inl q ↦ let b = and_parts (w.possible i true) (reaches c w x) q in within x (λ more. inl (b.0, refl)) (reach_found c w x b.1)
@@ -502,6 +483,7 @@ mutual
             let o = another_is w f b.0 in
             within y (λ more. inr (o.0, o.1, o.2, refl)) (reach_found c w y b.1)
       ]
+  reach_in_found c w s e = true_false (sym e)
 
 pub no_clean : (ps : List Statement) → clean none ps ≡ true
 no_clean [] = refl
@@ -519,14 +501,7 @@ reach_split c w x rest left ps e s =
 
 reaches_start : (c : ℕ) (w : Known) (s : Statement) → is_start_of c s ≡ true → reaches_in c w s ≡ true
 reaches_start c w (Start d) e = e
-reaches_start c w Return e = true_false (sym e)
-reaches_start c w (Throw l) e = true_false (sym e)
-reaches_start c w (Check k) e = true_false (sym e)
-reaches_start c w (Cancel k) e = true_false (sym e)
-reaches_start c w Observe e = true_false (sym e)
-reaches_start c w (Work i f) e = true_false (sym e)
-reaches_start c w (If i x y) e = true_false (sym e)
-reaches_start c w (When f x y) e = true_false (sym e)
+reaches_start c w s e = true_false (sym e)
 
 -- a walk either starts the child at its first statement or later
 pub data Where (c : ℕ) (w : Known) (s : Statement) (rest : Statements) : Type 0 where
@@ -561,11 +536,7 @@ mutual
   later_complete : (c : ℕ) (w : Known) (s : Statement) (rest mid left : Statements) (ps : List Statement) → GoesOn w s rest mid → Walks w mid ps left → passes_start c ps ≡ true → (reaches_in c w s ≡ true) ⊎ ((passes_by none w s ≡ true) × Reach c w rest)
   later_complete c w Return rest mid left ps g e q = absurd g
   later_complete c w (Throw l) rest mid left ps g e q = absurd g
-  later_complete c w (Check k) rest mid left ps g e q = inr (refl, record { passed = ps; left = left; walks = subst (λ z. Walks w z ps left) (sym g) e; starts = q })
   later_complete c w (Cancel k) rest mid left ps g e q = inr (not_from_false (w.quiet k) g.0, record { passed = ps; left = left; walks = subst (λ z. Walks w z ps left) (sym g.1) e; starts = q })
-  later_complete c w (Start d) rest mid left ps g e q = inr (refl, record { passed = ps; left = left; walks = subst (λ z. Walks w z ps left) (sym g) e; starts = q })
-  later_complete c w Observe rest mid left ps g e q = inr (refl, record { passed = ps; left = left; walks = subst (λ z. Walks w z ps left) (sym g) e; starts = q })
-  later_complete c w (Work i f) rest mid left ps g e q = inr (refl, record { passed = ps; left = left; walks = subst (λ z. Walks w z ps left) (sym g) e; starts = q })
   later_complete c w (If i x y) rest mid left ps g e q =
       elim g [
         | inl a ↦ elim (reach_split c w x rest left ps (subst (λ z. Walks w z ps left) (sym a.1) e) q) [
@@ -588,6 +559,7 @@ mutual
           | inr m ↦ inr (or_right (w.subject f && gets_through none w x) (another w f && gets_through none w y) (and_join (another w f) (gets_through none w y) (is_another w f a.0 a.1 a.2) (walk_through none w y m.0)), m.1)
         ]
       ]
+  later_complete c w s rest mid left ps g e q = inr (refl, record { passed = ps; left = left; walks = subst (λ z. Walks w z ps left) (sym g) e; starts = q })
 
 pub start_lem : MayStartIsRight
 start_lem c w body = (found, complete)
@@ -597,14 +569,7 @@ start_lem c w body = (found, complete)
 
     last_no_start : (s : Statement) (verdict : Outcome) → EndsAt w s verdict → is_start_of c s ≡ true → ⊥
     last_no_start (Start d) verdict e q = e
-    last_no_start Return verdict e q = true_false (sym q)
-    last_no_start (Throw l) verdict e q = true_false (sym q)
-    last_no_start (Check k) verdict e q = true_false (sym q)
-    last_no_start (Cancel k) verdict e q = true_false (sym q)
-    last_no_start Observe verdict e q = true_false (sym q)
-    last_no_start (Work i f) verdict e q = true_false (sym q)
-    last_no_start (If i x y) verdict e q = true_false (sym q)
-    last_no_start (When f x y) verdict e q = true_false (sym q)
+    last_no_start s verdict e q = true_false (sym q)
 
     by_passes : (passed : List Statement) (left : Statements) → Passes w body passed left → passes_start c passed ≡ true → reaches c w body ≡ true
     by_passes passed left p s = reach_complete c w body (record { passed = reverse passed; left = left; walks = walks_of w body passed left p; starts = starts_reverse c passed s })

@@ -1,5 +1,6 @@
 -- Whether the paths through statements start a child.
 use Rattle.std.specs.Prelude.{◌≡◌, ℕ, ◌&&◌, ◌||◌, Bool, List, nat_lt}
+use Rattle.tpl_model.specs.declared.limits.TheConstants.{MOST_TASKS}
 use Rattle.tpl_model.specs.Members.{mem}
 use Rattle.tpl_model.specs.TaskSet.{IsTaskSet}
 use Rattle.tpl_model.specs.declared.starts.Starts.{Starts}
@@ -29,5 +30,5 @@ start_at c w s = record { goes_on = passes_by none w s; started = reaches_in c w
 
 -- the new set is the old one with those of the 1,024 tasks that pass the test
 pub record Adds (old new : List ℕ) (test : ℕ → Bool) : Type 0 where
-  pub members : (x : ℕ) → mem x new ≡ (mem x old || (nat_lt x 1024 && test x))
+  pub members : (x : ℕ) → mem x new ≡ (mem x old || (nat_lt x MOST_TASKS && test x))
   pub set : IsTaskSet old → IsTaskSet new

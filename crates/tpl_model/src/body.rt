@@ -1,7 +1,7 @@
 //! Statements, and lists of them.
 
 ghost use Rattle.std.specs.Prelude.{◌≡◌};
-ghost use Rattle.tpl_model.specs.Seen.{statements_of};
+ghost use Rattle.tpl_model.specs.Prelude.{statements_of};
 
 use crate::{Final, InputId, LabelId, SiteId, TaskId, TokenId};
 use std::marker::Model;

@@ -1,10 +1,8 @@
 //! What is left of a body while it runs.
 
 ghost use Rattle.std.specs.Prelude.{◌≡◌, ◌<◌, ◌≤◌, length, MatchOption, IfSome};
-ghost use Rattle.tpl_model.specs.Seen.{statement_of};
-ghost use Rattle.tpl_model.specs.Statements.{Nothing};
-ghost use Rattle.tpl_model.specs.Limits.{level_count, levels_in};
-ghost use Rattle.tpl_model.specs.Cursor.{BeginsWith, behind, behind_choice, chosen, left_at, IsSettled};
+ghost use Rattle.tpl_model.specs.Prelude.{BeginsWith, Nothing, behind, behind_choice, chosen, left_at, level_count, levels_in, statement_of};
+ghost use Rattle.tpl_model.specs.Cursor.{IsSettled};
 
 use crate::body::{Body, Stmt};
 use crate::script::Script;

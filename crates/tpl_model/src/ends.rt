@@ -1,11 +1,8 @@
 //! How the paths through a body end, found in one walk over it.
 
 ghost use Rattle.std.specs.Prelude.{◌≡◌, ◌↔◌, ◌||◌, false, IsTrue};
+ghost use Rattle.tpl_model.specs.Prelude.{MayEnd, MayThrow, MustObserve, checked, either_end, ends_at, ends_in, known, only_if, statement_of, then_ends};
 ghost use Rattle.tpl_model.specs.declared.outcome.Outcome.TheVariants.{Returned, Acknowledged};
-ghost use Rattle.tpl_model.specs.Seen.{statement_of};
-ghost use Rattle.tpl_model.specs.View.{known};
-ghost use Rattle.tpl_model.specs.Paths.{MayEnd, MayThrow, MustObserve};
-ghost use Rattle.tpl_model.specs.Ends.{then_ends, either_end, only_if, ends_in, ends_at, checked};
 
 use crate::TokenId;
 use crate::body::{Body, Stmt};

@@ -1,8 +1,7 @@
 //! How many statements a body has, and how deep they nest.
 
-ghost use Rattle.std.specs.Prelude.{◌≡◌, ◌↔◌, ◌+◌, ◌<◌, ◌≤◌, ◌⊎◌, IsTrue, IfSome, IfNone};
-ghost use Rattle.tpl_model.specs.Seen.{statement_of};
-ghost use Rattle.tpl_model.specs.Limits.{statement_count, count_one, level_count, levels_in, IsWithinLimits};
+ghost use Rattle.std.specs.Prelude.{◌≡◌, ◌+◌, ◌<◌, ◌≤◌, ◌⊎◌, IfSome, IfNone};
+ghost use Rattle.tpl_model.specs.Prelude.{count_one, level_count, levels_in, statement_count, statement_of};
 
 use crate::body::{Body, Stmt};
 

@@ -1,7 +1,7 @@
 //! The final statuses, and sets of them.
 
 ghost use Rattle.std.specs.Prelude.{◌≡◌, ◌↔◌, ◌||◌, true, Some, IsTrue, MatchOption};
-ghost use Rattle.tpl_model.specs.Finals.{has, is_final, final_name, IsPart};
+ghost use Rattle.tpl_model.specs.Prelude.{IsPart, final_name, has, is_final};
 
 use std::fmt;
 

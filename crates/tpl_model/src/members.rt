@@ -2,7 +2,7 @@
 
 ghost use Rattle.std.specs.Prelude.{◌≡◌};
 ghost use Rattle.std.specs.Iterator.{YieldsFirstBy, item_count};
-ghost use Rattle.tpl_model.specs.TaskSet.{IsTaskSet};
+ghost use Rattle.tpl_model.specs.Prelude.{IsTaskSet};
 
 use crate::ids::TaskId;
 use crate::task_set::TaskSet;

@@ -3,7 +3,7 @@
 ghost use Rattle.std.specs.Prelude.{◌≡◌};
 ghost use Rattle.std.specs.Int.RustNames.{bit_or};
 ghost use Rattle.bitflags.specs.Sets.{find_name};
-ghost use Rattle.tpl_model.specs.Options.{words, has_bits, allows, validity, attached_to_parent, deny_child_attach, lazy_cancellation, run_continuations_asynchronously, execute_synchronously};
+ghost use Rattle.tpl_model.specs.Prelude.{allows, attached_to_parent, deny_child_attach, execute_synchronously, has_bits, lazy_cancellation, run_continuations_asynchronously, validity, words};
 
 use crate::finals::Final;
 use bitflags::{Flag, Flags, bitflag_items};

@@ -1,7 +1,7 @@
 //! Whether two bodies are equal, statement by statement.
 
 ghost use Rattle.std.specs.Prelude.{◌≡◌, ◌↔◌, IsTrue};
-ghost use Rattle.tpl_model.specs.Seen.{statement_of};
+ghost use Rattle.tpl_model.specs.Prelude.{statement_of};
 
 use crate::body::{Body, Stmt};
 
@@ -27,40 +27,21 @@ pub fn same_body(left: &Body, right: &Body) -> bool
 fn same_statement(left: &Stmt, right: &Stmt) -> bool
     ensures { IsTrue result ↔ (statement_of left.now ≡ statement_of right.now) }
 {
-    match left {
-        Stmt::Return => matches!(right, Stmt::Return),
-        Stmt::Observe => matches!(right, Stmt::Observe),
-        Stmt::Throw(label) => match right {
-            Stmt::Throw(other) => label == other,
-            _ => false,
-        },
-        Stmt::Check(token) => match right {
-            Stmt::Check(other) => token == other,
-            _ => false,
-        },
-        Stmt::Cancel(token) => match right {
-            Stmt::Cancel(other) => token == other,
-            _ => false,
-        },
-        Stmt::Start(task) => match right {
-            Stmt::Start(other) => task == other,
-            _ => false,
-        },
-        Stmt::Work(site, may_fail) => match right {
-            Stmt::Work(other, fails) => site == other && may_fail == fails,
-            _ => false,
-        },
-        Stmt::If(input, yes, no) => match right {
-            Stmt::If(other, then, otherwise) => {
-                input == other && same_body(yes, then) && same_body(no, otherwise)
-            }
-            _ => false,
-        },
-        Stmt::When(status, yes, no) => match right {
-            Stmt::When(other, then, otherwise) => {
-                status == other && same_body(yes, then) && same_body(no, otherwise)
-            }
-            _ => false,
-        },
+    match (left, right) {
+        (Stmt::Return, Stmt::Return) | (Stmt::Observe, Stmt::Observe) => true,
+        (Stmt::Throw(label), Stmt::Throw(other)) => label == other,
+        (Stmt::Check(token), Stmt::Check(other)) => token == other,
+        (Stmt::Cancel(token), Stmt::Cancel(other)) => token == other,
+        (Stmt::Start(task), Stmt::Start(other)) => task == other,
+        (Stmt::Work(site, may_fail), Stmt::Work(other, fails)) => {
+            site == other && may_fail == fails
+        }
+        (Stmt::If(input, yes, no), Stmt::If(other, then, otherwise)) => {
+            input == other && same_body(yes, then) && same_body(no, otherwise)
+        }
+        (Stmt::When(status, yes, no), Stmt::When(other, then, otherwise)) => {
+            status == other && same_body(yes, then) && same_body(no, otherwise)
+        }
+        _ => false,
     }
 }

@@ -1,7 +1,7 @@
 //! A body within the limits.
 
 ghost use Rattle.std.specs.Prelude.{◌≡◌, ◌↔◌, IsTrue, IsOk, IfOk, IfErr};
-ghost use Rattle.tpl_model.specs.Limits.{statement_count, IsWithinLimits};
+ghost use Rattle.tpl_model.specs.Prelude.{IsWithinLimits, statement_count};
 
 use crate::body::Body;
 use crate::extent::room_behind;

@@ -1,13 +1,7 @@
 //! Which children the paths through a body start, found in one walk over it.
 
 ghost use Rattle.std.specs.Prelude.{◌≡◌, ◌↔◌, ◌<◌, ◌||◌, ◌&&◌, ℕ, true, nat_eq, IsTrue};
-ghost use Rattle.tpl_model.specs.Members.{mem};
-ghost use Rattle.tpl_model.specs.TaskSet.{IsTaskSet};
-ghost use Rattle.tpl_model.specs.Seen.{statement_of};
-ghost use Rattle.tpl_model.specs.View.{known};
-ghost use Rattle.tpl_model.specs.Paths.{MayStartChild};
-ghost use Rattle.tpl_model.specs.Recursion.{gets_through, passes_by, none, reaches, reaches_in};
-ghost use Rattle.tpl_model.specs.Starts.{then_starts, either_start, start_if, start_in, start_at, Adds};
+ghost use Rattle.tpl_model.specs.Prelude.{Adds, IsTaskSet, MayStartChild, either_start, gets_through, known, mem, none, passes_by, reaches, reaches_in, start_at, start_if, start_in, statement_of, then_starts};
 
 use crate::body::{Body, Stmt};
 use crate::script::Script;

@@ -1,7 +1,7 @@
 //! Where a task stands, what a body throws, and who does what.
 
 ghost use Rattle.std.specs.Prelude.{◌≡◌, Some};
-ghost use Rattle.tpl_model.specs.Statuses.{status_name};
+ghost use Rattle.tpl_model.specs.Prelude.{status_name};
 
 use crate::finals::Final;
 use crate::ids::{LabelId, SiteId, TokenId, Worker};

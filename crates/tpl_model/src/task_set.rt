@@ -1,8 +1,7 @@
 //! Sets of tasks, of one size.
 
 ghost use Rattle.std.specs.Prelude.{◌≡◌, ℕ, ◌<◌, ◌↔◌, ◌||◌, ◌&&◌, [], ◌∷◌, nat_eq, IsTrue, MatchOption};
-ghost use Rattle.tpl_model.specs.Members.{mem};
-ghost use Rattle.tpl_model.specs.TaskSet.{IsTaskSet, IsSubset, SetsAreTheirMembers};
+ghost use Rattle.tpl_model.specs.Prelude.{IsSubset, IsTaskSet, SetsAreTheirMembers, mem};
 
 use crate::ids::TaskId;
 use crate::limits::MOST_TASKS;

@@ -1,7 +1,7 @@
 //! The ways in which the paths of a body end.
 
 ghost use Rattle.std.specs.Prelude.{◌≡◌, ◌||◌, not};
-ghost use Rattle.tpl_model.specs.Verdicts.{has_verdict};
+ghost use Rattle.tpl_model.specs.Prelude.{has_verdict};
 
 /// How a body ends, where it doesn't matter what it threw.
 #[derive(Clone, Copy, PartialEq, Eq, Debug)]

@@ -1,9 +1,7 @@
 //! What is known of the runs in which a body is read.
 
 ghost use Rattle.std.specs.Prelude.{◌≡◌};
-ghost use Rattle.tpl_model.specs.Paths.{is_own};
-ghost use Rattle.tpl_model.specs.Recursion.{another};
-ghost use Rattle.tpl_model.specs.View.{known};
+ghost use Rattle.tpl_model.specs.Prelude.{another, is_own, known};
 
 use crate::{Final, Finals, InputId, MOST_INPUTS, MOST_SITES, MOST_TOKENS, SiteId, TokenId};
 

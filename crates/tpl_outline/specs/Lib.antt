@@ -1,4 +1,4 @@
 pub mod Stages
-pub mod Bearing
 pub mod Fates
 pub mod Shown
+pub mod Prelude

@@ -1,9 +1,7 @@
 //! The tasks that bear on a property.
 
 ghost use Rattle.std.specs.Prelude.{◌≡◌, ℕ, ◌<◌, true};
-ghost use Rattle.tpl_model.specs.Members.{mem};
-ghost use Rattle.tpl_model.specs.Graph.{is_task};
-ghost use Rattle.tpl_outline.specs.Bearing.{Names};
+ghost use Rattle.tpl_model.specs.Prelude.{is_task, mem, names};
 
 use crate::stuck::may_be_stuck;
 use tpl_checker::{Assumptions, parent};
@@ -15,7 +13,7 @@ use tpl_model::{MOST_TASKS, Property, TaskId, TaskSet};
 /// property is also proved if no run is complete, likewise those that may never end by what is
 /// assumed. How any other task ends changes nothing of what is proved of them; of that no clause speaks.
 pub fn bearing_tasks(graph: &Graph, property: Property, assumed: &Assumptions) -> TaskSet
-    ensures { (x : ℕ) → x < 1024 → Names property x → mem x result ≡ true }
+    ensures { (x : ℕ) → x < MOST_TASKS → names property x ≡ true → mem x result ≡ true }
 {
     let mut bearing = with_stuck(graph, named(property), property, assumed);
     for _ in 0..MOST_TASKS {
@@ -30,16 +28,11 @@ pub fn bearing_tasks(graph: &Graph, property: Property, assumed: &Assumptions) -
 
 /// The tasks of which the property speaks.
 fn named(property: Property) -> TaskSet
-    ensures { (x : ℕ) → x < 1024 → Names property x → mem x result ≡ true }
+    ensures { (x : ℕ) → x < MOST_TASKS → names property x ≡ true → mem x result ≡ true }
 {
-    let none = TaskSet::empty();
-    match property {
-        Property::Final(task, _) => with(none, task),
-        Property::After(first, second) => with(with(none, first), second),
-        Property::Observed(task) => with(none, task),
-        Property::Never(task) => with(none, task),
-        Property::Excludes(first, second) => with(with(none, first), second),
-        Property::Runs(task) => with(none, task),
+    match property.tasks() {
+        (one, None) => with(TaskSet::empty(), one),
+        (one, Some(other)) => with(with(TaskSet::empty(), one), other),
     }
 }
 
@@ -113,7 +106,7 @@ fn with_all(tasks: TaskSet, others: &[TaskId]) -> TaskSet
 
 fn with(tasks: TaskSet, task: TaskId) -> TaskSet
     ensures kept { (x : ℕ) → mem x tasks ≡ true → mem x result ≡ true }
-    ensures added { task.0 < 1024 → mem task.0 result ≡ true }
+    ensures added { task.0 < MOST_TASKS → mem task.0 result ≡ true }
 {
     let mut tasks = tasks;
     if task.0 < MOST_TASKS {

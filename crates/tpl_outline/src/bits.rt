@@ -90,14 +90,9 @@ impl Bits {
 
     /// Takes the least member out, and returns it.
     pub(crate) fn pop_first(&mut self) -> Option<TaskId> {
-        for at in 0..WORDS {
-            let word = self.words[at];
-            if word != 0 {
-                let bit = word.trailing_zeros() as usize;
-                self.words[at] = word & !(1 << bit);
-                return Some(TaskId((64 * at + bit) as u16));
-            }
-        }
-        None
+        let at = self.words.iter().position(|word| *word != 0)?;
+        let bit = self.words[at].trailing_zeros() as usize;
+        self.words[at] &= !(1 << bit);
+        Some(TaskId((64 * at + bit) as u16))
     }
 }

@@ -1,7 +1,7 @@
 //! The chain of an observed task: who takes its exception over, and who reads it (the rule K6).
 
 ghost use Rattle.std.specs.Prelude.{◌<◌, ◌≤◌, length, IfOk};
-ghost use Rattle.tpl_model.specs.Graph.{is_task};
+ghost use Rattle.tpl_model.specs.Prelude.{is_task};
 
 use crate::bits::Bits;
 use crate::setting::Setting;

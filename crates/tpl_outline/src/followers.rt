@@ -1,6 +1,6 @@
 //! Which tasks look at each task.
 
-ghost use Rattle.tpl_model.specs.Graph.{is_task};
+ghost use Rattle.tpl_model.specs.Prelude.{is_task};
 
 use crate::bits::Bits;
 use std::alloc::{AllocError, Global};

@@ -1,7 +1,7 @@
 //! Whether the least rows of a leaf prove a claim's property.
 
-ghost use Rattle.tpl_model.specs.Graph.{is_task};
-ghost use Rattle.tpl_outline.specs.Shown.{IsAnswer};
+ghost use Rattle.tpl_model.specs.Prelude.{is_task};
+ghost use Rattle.tpl_outline.specs.Prelude.{IsAnswer};
 
 use crate::bits::Bits;
 use crate::rows::{Parts, may_end_early};

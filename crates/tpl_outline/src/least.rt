@@ -1,9 +1,7 @@
 //! The least rows of a leaf, and whether they prove a property.
 
-ghost use Rattle.std.specs.Prelude.{◌≡◌, ◌≤◌, length, is_some, IfOk, IfSome};
-ghost use Rattle.std.specs.List.{All};
-ghost use Rattle.tpl_outline.specs.Shown.{IsAnswer};
-ghost use Rattle.tpl_outline.specs.Stages.{IsStageOf};
+ghost use Rattle.std.specs.Prelude.{◌≡◌, ◌≤◌, length, is_some, IfOk, IfSome, All};
+ghost use Rattle.tpl_outline.specs.Prelude.{IsAnswer, IsStageOf};
 
 use crate::chain::chain;
 use crate::goal::is_reached;

@@ -1,19 +1,16 @@
 //! Which tasks may begin and how they may end under what is assumed: the least that the rules K1 and K2 demand.
 
 ghost use Rattle.std.specs.Prelude.{◌≡◌, ◌≢◌, ℕ, ◌<◌, true};
-ghost use Rattle.tpl_model.specs.declared.finals.Final as finals;
-ghost use Rattle.tpl_model.specs.Finals.{has};
-ghost use Rattle.tpl_model.specs.Graph.{is_task};
-ghost use Rattle.tpl_model.specs.Certificate.{end_left};
-ghost use Rattle.tpl_checker.specs.Assumptions.{assumed_of};
-ghost use Rattle.tpl_outline.specs.Fates.{fate_of, unsettled};
+ghost use Rattle.tpl_checker.specs.Prelude.{assumed_of};
+ghost use Rattle.tpl_model.specs.Prelude.{end_left, has, is_task};
+ghost use Rattle.tpl_outline.specs.Prelude.{fate_of, unsettled};
 
 use crate::bits::Bits;
 use crate::setting::Setting;
 use crate::ways::Ways;
 use tpl_checker::{allowed, excluded, some_end};
 use tpl_graph::Role;
-use tpl_model::{Final, Finals, TaskId, Verdicts};
+use tpl_model::{Final, Finals, MOST_TASKS, TaskId, Verdicts};
 
 /// No way to end.
 pub const NO_END: Finals = Finals {
@@ -83,7 +80,7 @@ impl Outline {
 
     /// Sets what may become of the task.
     pub(crate) fn settle(&mut self, task: TaskId, fate: Fate)
-        requires { task.0 < 1024 }
+        requires { task.0 < MOST_TASKS }
         ensures settled { fate_of self.new task.0 ≡ fate }
         ensures others { (t : ℕ) → t ≢ task.0 → fate_of self.new t ≡ fate_of self.old t }
     {

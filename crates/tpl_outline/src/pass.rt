@@ -1,12 +1,9 @@
 //! The making of an outline, from nothing or from what a split changes.
 
-ghost use Rattle.std.specs.Prelude.{◌≡◌, ℕ, ◌<◌, false};
-ghost use Rattle.std.specs.List.{All};
-ghost use Rattle.tpl_model.specs.Members.{mem};
-ghost use Rattle.tpl_model.specs.Graph.{is_task};
-ghost use Rattle.tpl_checker.specs.Assumptions.{assumed_of};
-ghost use Rattle.tpl_outline.specs.Fates.{fate_of, IsOpen, KeepsOthers};
-ghost use Rattle.tpl_outline.specs.Stages.{IsStageOf, task_of};
+ghost use Rattle.std.specs.Prelude.{◌≡◌, ℕ, ◌<◌, false, All};
+ghost use Rattle.tpl_checker.specs.Prelude.{assumed_of};
+ghost use Rattle.tpl_model.specs.Prelude.{is_task, mem};
+ghost use Rattle.tpl_outline.specs.Prelude.{IsOpen, IsStageOf, KeepsOthers, fate_of, task_of};
 
 use crate::bits::Bits;
 use crate::outline::{Fate, Outline};

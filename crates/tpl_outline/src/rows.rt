@@ -1,7 +1,7 @@
 //! The rows of a leaf: the greatest `before` and `past` that the rules K3 to K5 permit.
 
 ghost use Rattle.std.specs.Prelude.{◌≡◌, length, IfOk};
-ghost use Rattle.tpl_model.specs.Graph.{is_task};
+ghost use Rattle.tpl_model.specs.Prelude.{is_task};
 
 use crate::followers::Followers;
 use crate::outline::Outline;

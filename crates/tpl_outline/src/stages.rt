@@ -1,9 +1,8 @@
 //! The order in which a leaf's rows are made.
 
-ghost use Rattle.std.specs.Prelude.{◌≡◌, ◌++◌, ◌∷◌, [], OnOk, IfOk};
-ghost use Rattle.std.specs.List.{All};
-ghost use Rattle.tpl_model.specs.Graph.{is_task};
-ghost use Rattle.tpl_outline.specs.Stages.{IsStageOf, task_of};
+ghost use Rattle.std.specs.Prelude.{◌≡◌, [], OnOk, IfOk, All};
+ghost use Rattle.tpl_model.specs.Prelude.{is_task};
+ghost use Rattle.tpl_outline.specs.Prelude.{IsStageOf, task_of};
 
 use std::alloc::{AllocError, Global};
 use tpl_checker::Below;

@@ -1,6 +1,6 @@
 //! Which tasks may never end by what is assumed.
 
-ghost use Rattle.tpl_model.specs.Graph.{is_task};
+ghost use Rattle.tpl_model.specs.Prelude.{is_task};
 
 use crate::cancels::cancels_quiet;
 use crate::outline::NO_END;

@@ -9,6 +9,7 @@ use Rattle.tpl_model.specs.declared.claim.Property.TheVariants.{Final as EndsIn,
 use Rattle.tpl_json.specs.Members.{◌>>=◌, ◌<$>◌, ◌<*>◌, object_of, has_member, text_in, bool_in, list_in, list_or_none, each}
 use Rattle.tpl_json.specs.Finals.{no_finals, finals_at}
 use Rattle.tpl_parts.specs.declared.version.Version.{Version}
+use Rattle.tpl_parts.specs.Pieces.{name_at}
 use Rattle.tpl_parts.specs.Versions.{is_third, claim_remarks}
 use Rattle.tpl_parts.specs.Remarks.{claim_name, note_at}
 use Rattle.tpl_parts.specs.NamedClaims.{NamedGiven, GivenInput, GivenQuiet, GivenEnded, GivenSucceeds, GivenNoFailure, GivenNoRequest, NamedClaim}
@@ -27,35 +28,23 @@ unfoldable pub two_texts : List Data → Option (List ℕ × List ℕ)
 two_texts (a ∷ b ∷ []) = (λ first second. (first, second)) <$> as_str a <*> as_str b
 two_texts ds = None
 
--- the two names of a member, in what they are said of
-abbrev pub pair_in : (List ℕ → List ℕ → Property (List ℕ)) → List ℕ → Data → Option (Property (List ℕ))
-pair_in made name d = (λ pair. made pair.0 pair.1) <$> (get name d >>= list_in >>= two_texts)
-
 -- ---- what a claim takes as given
 
 -- {"input": name, "is": true or false}
 unfoldable pub input_at : Data → Option NamedGiven
 input_at d = object_of (codes "input" ∷ codes "is" ∷ []) d ((λ input value. GivenInput input value) <$> text_in (codes "input") d <*> bool_in (codes "is") d)
 
--- {"quiet": token}
-unfoldable pub quiet_at : Data → Option NamedGiven
-quiet_at d = object_of (codes "quiet" ∷ []) d (GivenQuiet <$> text_in (codes "quiet") d)
-
 -- {"ended": task, "in": final statuses}
 unfoldable pub ended_at : Data → Option NamedGiven
 ended_at d = object_of (codes "ended" ∷ codes "in" ∷ []) d ((λ task finals. GivenEnded task finals) <$> text_in (codes "ended") d <*> finals_in d)
-
--- {"succeeds": site}
-unfoldable pub succeeds_at : Data → Option NamedGiven
-succeeds_at d = object_of (codes "succeeds" ∷ []) d (GivenSucceeds <$> text_in (codes "succeeds") d)
 
 -- "no_failure" or "no_request"
 unfoldable pub given_word : List ℕ → Option NamedGiven
 given_word word = if bytes_eq word (codes "no_failure") then Some GivenNoFailure else (if bytes_eq word (codes "no_request") then Some GivenNoRequest else None)
 
--- how a task ended, or that a job succeeds
+-- how a task ended, or {"succeeds": site}
 unfoldable pub end_or_job : Data → Option NamedGiven
-end_or_job d = if has_member (codes "ended") d then ended_at d else succeeds_at d
+end_or_job d = if has_member (codes "ended") d then ended_at d else (GivenSucceeds <$> name_at (codes "succeeds") d)
 
 -- what only version 3 has
 unfoldable pub later_given : Data → Option NamedGiven
@@ -63,11 +52,11 @@ later_given (string word) = given_word word
 later_given (object ms) = end_or_job (object ms)
 later_given d = None
 
--- one thing that is given
+-- one thing that is given: the value of an input, {"quiet": token}, or what version 3 adds
 unfoldable pub given_at : Version → Data → Option NamedGiven
 given_at version d =
     if has_member (codes "input") d then input_at d
-    else if has_member (codes "quiet") d then quiet_at d
+    else if has_member (codes "quiet") d then GivenQuiet <$> name_at (codes "quiet") d
     else if is_third version then later_given d
     else None
 
@@ -77,35 +66,31 @@ given_at version d =
 unfoldable pub final_claim : Version → Data → Option (Property (List ℕ))
 final_claim version d = object_of (codes "given" ∷ codes "final" ∷ codes "in" ∷ claim_remarks version) d ((λ task finals. EndsIn task finals) <$> text_in (codes "final") d <*> finals_in d)
 
--- {"after": [first task, second task]}
-unfoldable pub after_claim : Version → Data → Option (Property (List ℕ))
-after_claim version d = object_of (codes "given" ∷ codes "after" ∷ claim_remarks version) d (pair_in (λ first second. After first second) (codes "after") d)
+-- the member of this name, of a claim that says this alone
+unfoldable pub said_at : Version → List ℕ → Data → Option Data
+said_at version name d = object_of (codes "given" ∷ name ∷ claim_remarks version) d (get name d)
 
--- {"observed": task}
-unfoldable pub observed_claim : Version → Data → Option (Property (List ℕ))
-observed_claim version d = object_of (codes "given" ∷ codes "observed" ∷ claim_remarks version) d (Observed <$> text_in (codes "observed") d)
+-- {name: task}
+unfoldable pub task_said : Version → List ℕ → Data → Option (List ℕ)
+task_said version name d = said_at version name d >>= as_str
 
--- {"never": task}
-unfoldable pub never_claim : Version → Data → Option (Property (List ℕ))
-never_claim version d = object_of (codes "given" ∷ codes "never" ∷ claim_remarks version) d (Never <$> text_in (codes "never") d)
-
--- {"excludes": [task, task]}
-unfoldable pub excludes_claim : Version → Data → Option (Property (List ℕ))
-excludes_claim version d = object_of (codes "given" ∷ codes "excludes" ∷ claim_remarks version) d (pair_in (λ first second. Excludes first second) (codes "excludes") d)
+-- {name: [first task, second task]}
+unfoldable pub pair_said : Version → List ℕ → Data → Option (List ℕ × List ℕ)
+pair_said version name d = said_at version name d >>= list_in >>= two_texts
 
 -- {"runs": task}, only in version 3
 unfoldable pub runs_claim : Version → Data → Option (Property (List ℕ))
-runs_claim version d = if is_third version then object_of (codes "given" ∷ codes "runs" ∷ claim_remarks version) d (Runs <$> text_in (codes "runs") d) else None
+runs_claim version d = if is_third version then Runs <$> task_said version (codes "runs") d else None
 
 -- the first of these members that is there says which claim it is
 unfoldable pub property_at : Version → Data → Option (Property (List ℕ))
 property_at version d =
     if has_member (codes "final") d then final_claim version d
-    else if has_member (codes "after") d then after_claim version d
-    else if has_member (codes "observed") d then observed_claim version d
-    else if has_member (codes "never") d then never_claim version d
+    else if has_member (codes "after") d then (λ pair. After pair.0 pair.1) <$> pair_said version (codes "after") d
+    else if has_member (codes "observed") d then Observed <$> task_said version (codes "observed") d
+    else if has_member (codes "never") d then Never <$> task_said version (codes "never") d
     else if has_member (codes "runs") d then runs_claim version d
-    else excludes_claim version d
+    else ((λ pair. Excludes pair.0 pair.1) <$> pair_said version (codes "excludes") d)
 
 -- ---- a claim
 

@@ -1,3 +1,4 @@
+pub mod Pieces
 pub mod Versions
 pub mod Remarks
 pub mod NamedClaims
@@ -8,3 +9,4 @@ pub mod Tasks
 pub mod Start
 pub mod Ends
 pub mod SeenStart
+pub mod Prelude

@@ -1,5 +1,8 @@
 -- The start of a run, with names, that a JSON value is, `None` where it is none.
-use Rattle.std.specs.Prelude.{◌&&◌, ℕ, List, [], ◌∷◌, Option, Some, None, Bool, true, false, codes, is_some, if◌then◌else◌}
+use Rattle.std.specs.Prelude.{◌≡◌, ◌&&◌, ℕ, List, [], ◌∷◌, Option, Some, None, Bool, true, false, codes, is_some, if◌then◌else◌}
+use Rattle.std.specs.Borrow.{Bor}
+use Rattle.std.specs.Fn.{Shared, FnReturnsAt}
+use Rattle.tpl_json.specs.View.{Value, view}
 use Rattle.serde_json.specs.Data.{Data, Members, no_members, member, object}
 use Rattle.serde_json.specs.Find.{get, as_bool}
 use Rattle.tpl_json.specs.Members.{◌>>=◌, ◌<$>◌, only_if, has_only, texts_in}
@@ -14,6 +17,10 @@ pub record NamedStart : Type 0 where
 abbrev pub all_values : (Data → Bool) → Members → Bool
 all_values p no_members = true
 all_values p (member key d ms) = p d && all_values p ms
+
+-- the test says of each value what p says of its data
+pub record Tests {C : Type 0} (g : Shared C (Bor Value × Unit {0}) Bool) (test : C) (p : Data → Bool) : Type 0 where
+  pub says : (v : Value) (b : Bool) → FnReturnsAt g test v b → b ≡ p (view v)
 
 -- an object whose members are all true or false
 unfoldable pub has_truths : Data → Bool

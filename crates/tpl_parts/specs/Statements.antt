@@ -5,6 +5,7 @@ use Rattle.serde_json.specs.Data.{Data, string, object}
 use Rattle.serde_json.specs.Find.{get, as_bool}
 use Rattle.tpl_json.specs.Members.{◌>>=◌, ◌<$>◌, ◌<*>◌, object_of, has_member, text_in, list_in, each}
 use Rattle.tpl_json.specs.Finals.{final_at}
+use Rattle.tpl_parts.specs.Pieces.{name_at}
 use Rattle.tpl_draft.specs.Draft.{Line, Lines, Return, Throw, Check, Cancel, Start, Observe, Work, If, When, Nothing, Then}
 
 -- a list of statements as a body
@@ -15,10 +16,6 @@ body_of (s ∷ rest) = Then s (body_of rest)
 -- "return" or "observe"
 unfoldable pub word_at : List ℕ → Option Line
 word_at word = if bytes_eq word (codes "return") then Some Return else (if bytes_eq word (codes "observe") then Some Observe else None)
-
--- the name in an object of one member
-unfoldable pub name_at : List ℕ → Data → Option (List ℕ)
-name_at member d = object_of (member ∷ []) d (text_in member d)
 
 -- true or false, and false where it isn't there
 unfoldable pub bool_or_false : Option Data → Option Bool

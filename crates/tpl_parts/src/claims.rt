@@ -1,19 +1,19 @@
 //! Reading claims with names.
 
-ghost use Rattle.std.specs.Prelude.{◌≡◌, map, codes, IfErr};
-ghost use Rattle.serde_json.specs.Find.{get};
-ghost use Rattle.tpl_json.specs.View.{view};
-ghost use Rattle.tpl_json.specs.Members.{Gives, each, IsShape};
-ghost use Rattle.tpl_parts.specs.SeenClaims.{given_of, property_of, claim_of};
-ghost use Rattle.tpl_parts.specs.Claims.{input_at, quiet_at, some_finals, ended_at, succeeds_at, given_word, end_or_job, later_given, given_at, final_claim, two_texts, after_claim, observed_claim, never_claim, excludes_claim, runs_claim, property_at, claim_at};
+ghost use Rattle.std.specs.Prelude.{map, IfErr};
+ghost use Rattle.tpl_json.specs.Prelude.{Gives, IsShape, each, view};
+ghost use Rattle.tpl_parts.specs.Prelude.{claim_at, claim_of, end_or_job, ended_at, final_claim, given_at, given_of, given_word, input_at, later_given, pair_said, property_at, property_of, runs_claim, said_at, some_finals, task_said, two_texts};
 
-use crate::lists::list_in;
 use crate::named::{NamedClaim, NamedGiven, NamedProperty};
+use crate::pieces::{list_in, name_of};
 use crate::remarks::{claim_name, has_claim_members, note_of};
 use crate::version::Version;
 use json::Value;
 use std::alloc::Global;
-use tpl_json::{Miss, Shape, bool_in, finals_of, find, has_only, list_or_none, text_in, text_of};
+use tpl_json::{
+    Miss, Shape, bool_in, finals_of, find, has_only, list_of, list_or_none, member_in, read_each,
+    text_in, text_of,
+};
 use tpl_model::Finals;
 
 #[tactic(auto, unfolding(crate::specs::Claims::input_at))]
@@ -27,18 +27,6 @@ fn input_of<'v, 't>(value: &'v Value<'t>) -> Result<NamedGiven<'v>, Miss<Shape>>
     let name = text_in(value, "input")?;
     let truth = bool_in(value, "is")?;
     Ok(NamedGiven::Input(name, truth))
-}
-
-#[tactic(auto, unfolding(crate::specs::Claims::quiet_at))]
-fn quiet_of<'v, 't>(value: &'v Value<'t>) -> Result<NamedGiven<'v>, Miss<Shape>>
-    ensures gives { Gives given_of result (quiet_at (view value.now)) }
-    ensures shape { IfErr result IsShape }
-{
-    if !has_only(value, &["quiet"]) {
-        return Err(Miss::Wrong(Shape));
-    }
-    let name = text_in(value, "quiet")?;
-    Ok(NamedGiven::Quiet(name))
 }
 
 #[tactic(auto, unfolding(crate::specs::Claims::some_finals))]
@@ -66,18 +54,6 @@ fn ended_of<'v, 't>(value: &'v Value<'t>) -> Result<NamedGiven<'v>, Miss<Shape>>
     Ok(NamedGiven::Ended(task, finals))
 }
 
-#[tactic(auto, unfolding(crate::specs::Claims::succeeds_at))]
-fn succeeds_of<'v, 't>(value: &'v Value<'t>) -> Result<NamedGiven<'v>, Miss<Shape>>
-    ensures gives { Gives given_of result (succeeds_at (view value.now)) }
-    ensures shape { IfErr result IsShape }
-{
-    if !has_only(value, &["succeeds"]) {
-        return Err(Miss::Wrong(Shape));
-    }
-    let name = text_in(value, "succeeds")?;
-    Ok(NamedGiven::Succeeds(name))
-}
-
 #[tactic(auto, unfolding(crate::specs::Claims::given_word))]
 fn given_word<'v>(word: &'v str) -> Result<NamedGiven<'v>, Miss<Shape>>
     ensures gives { Gives given_of result (given_word word.now) }
@@ -98,7 +74,8 @@ fn end_or_job<'v, 't>(value: &'v Value<'t>) -> Result<NamedGiven<'v>, Miss<Shape
     if find(value, "ended").is_some() {
         return ended_of(value);
     }
-    succeeds_of(value)
+    let name = name_of(value, "succeeds")?;
+    Ok(NamedGiven::Succeeds(name))
 }
 
 /// What only version 3 has.
@@ -123,7 +100,7 @@ fn given_of<'v, 't>(version: Version, value: &'v Value<'t>) -> Result<NamedGiven
         return input_of(value);
     }
     if find(value, "quiet").is_some() {
-        return quiet_of(value);
+        return Ok(NamedGiven::Quiet(name_of(value, "quiet")?));
     }
     if version.is_third() {
         return later_given(value);
@@ -139,12 +116,7 @@ fn givens_of<'v, 't>(
     ensures { Gives (λ v. map given_of v.items) result (each (given_at version)
         (map view values.now)) }
 {
-    let mut given = Vec::new(alloc);
-    for value in values {
-        let one = given_of(version, value)?;
-        given.push(one)?;
-    }
-    Ok(given)
+    read_each(alloc, values, |_, value| given_of(version, value))
 }
 
 #[tactic(auto, unfolding(crate::specs::Claims::final_claim))]
@@ -179,66 +151,47 @@ fn two_texts<'v, 't>(values: &'v [Value<'t>]) -> Result<(&'v str, &'v str), Miss
     }
 }
 
-#[tactic(auto, unfolding(crate::specs::Claims::after_claim))]
-fn after_claim<'v, 't>(
+/// The member of this name, of a claim that says this alone.
+#[tactic(auto, unfolding(crate::specs::Claims::said_at))]
+fn said_of<'v, 't>(
     version: Version,
     value: &'v Value<'t>,
-) -> Result<NamedProperty<'v>, Miss<Shape>>
-    ensures gives { Gives property_of result (after_claim version (view value.now)) }
+    name: &str,
+) -> Result<&'v Value<'t>, Miss<Shape>>
+    ensures gives { Gives (λ v. view v.now) result (said_at version name.now (view value.now)) }
     ensures shape { IfErr result IsShape }
 {
-    if !has_claim_members(version, value, &["given", "after"]) {
+    if !has_claim_members(version, value, &["given", name]) {
         return Err(Miss::Wrong(Shape));
     }
-    let list = list_in(value, "after")?;
-    let (first, second) = two_texts(list)?;
-    Ok(NamedProperty::After(first, second))
+    member_in(value, name)
 }
 
-#[tactic(auto, unfolding(crate::specs::Claims::observed_claim))]
-fn observed_claim<'v, 't>(
+/// The task of a claim that says this alone.
+#[tactic(auto, unfolding(crate::specs::Claims::task_said))]
+fn task_said<'v, 't>(
     version: Version,
     value: &'v Value<'t>,
-) -> Result<NamedProperty<'v>, Miss<Shape>>
-    ensures gives { Gives property_of result (observed_claim version (view value.now)) }
+    name: &str,
+) -> Result<&'v str, Miss<Shape>>
+    ensures gives { Gives (λ s. s.now) result (task_said version name.now (view value.now)) }
     ensures shape { IfErr result IsShape }
 {
-    if !has_claim_members(version, value, &["given", "observed"]) {
-        return Err(Miss::Wrong(Shape));
-    }
-    let task = text_in(value, "observed")?;
-    Ok(NamedProperty::Observed(task))
+    text_of(said_of(version, value, name)?)
 }
 
-#[tactic(auto, unfolding(crate::specs::Claims::never_claim))]
-fn never_claim<'v, 't>(
+/// The two tasks of a claim that says this alone.
+#[tactic(auto, unfolding(crate::specs::Claims::pair_said))]
+fn pair_said<'v, 't>(
     version: Version,
     value: &'v Value<'t>,
-) -> Result<NamedProperty<'v>, Miss<Shape>>
-    ensures gives { Gives property_of result (never_claim version (view value.now)) }
+    name: &str,
+) -> Result<(&'v str, &'v str), Miss<Shape>>
+    ensures gives { Gives (λ p. (p.0.now, p.1.now)) result
+        (pair_said version name.now (view value.now)) }
     ensures shape { IfErr result IsShape }
 {
-    if !has_claim_members(version, value, &["given", "never"]) {
-        return Err(Miss::Wrong(Shape));
-    }
-    let task = text_in(value, "never")?;
-    Ok(NamedProperty::Never(task))
-}
-
-#[tactic(auto, unfolding(crate::specs::Claims::excludes_claim))]
-fn excludes_claim<'v, 't>(
-    version: Version,
-    value: &'v Value<'t>,
-) -> Result<NamedProperty<'v>, Miss<Shape>>
-    ensures gives { Gives property_of result (excludes_claim version (view value.now)) }
-    ensures shape { IfErr result IsShape }
-{
-    if !has_claim_members(version, value, &["given", "excludes"]) {
-        return Err(Miss::Wrong(Shape));
-    }
-    let list = list_in(value, "excludes")?;
-    let (first, second) = two_texts(list)?;
-    Ok(NamedProperty::Excludes(first, second))
+    two_texts(list_of(said_of(version, value, name)?)?)
 }
 
 /// A claim that only version 3 has.
@@ -250,10 +203,10 @@ fn runs_claim<'v, 't>(
     ensures gives { Gives property_of result (runs_claim version (view value.now)) }
     ensures shape { IfErr result IsShape }
 {
-    if !version.is_third() || !has_claim_members(version, value, &["given", "runs"]) {
+    if !version.is_third() {
         return Err(Miss::Wrong(Shape));
     }
-    let task = text_in(value, "runs")?;
+    let task = task_said(version, value, "runs")?;
     Ok(NamedProperty::Runs(task))
 }
 
@@ -269,18 +222,22 @@ fn property_of<'v, 't>(
         return final_claim(version, value);
     }
     if find(value, "after").is_some() {
-        return after_claim(version, value);
+        let (first, second) = pair_said(version, value, "after")?;
+        return Ok(NamedProperty::After(first, second));
     }
     if find(value, "observed").is_some() {
-        return observed_claim(version, value);
+        let task = task_said(version, value, "observed")?;
+        return Ok(NamedProperty::Observed(task));
     }
     if find(value, "never").is_some() {
-        return never_claim(version, value);
+        let task = task_said(version, value, "never")?;
+        return Ok(NamedProperty::Never(task));
     }
     if find(value, "runs").is_some() {
         return runs_claim(version, value);
     }
-    excludes_claim(version, value)
+    let (first, second) = pair_said(version, value, "excludes")?;
+    Ok(NamedProperty::Excludes(first, second))
 }
 
 /// A claim with names. Errors: a wrong shape, and what another version has is one; out of memory.

@@ -2,8 +2,8 @@
 #![tactic(auto)]
 
 mod claims;
-mod lists;
 mod named;
+mod pieces;
 mod remarks;
 mod start;
 mod statements;

@@ -1,15 +1,11 @@
 //! Reading what stands in a document for its readers: notes, and the names of claims.
 
-ghost use Rattle.std.specs.Prelude.{◌≡◌, ◌++◌, map, codes, IfErr};
+ghost use Rattle.std.specs.Prelude.{◌≡◌, ◌++◌, map, codes, IfErr, option_map, chars};
 ghost use Rattle.std.specs.Char.{is_control};
 ghost use Rattle.std.specs.List.{list_all, list_any};
-ghost use Rattle.std.specs.Option.{option_map};
-ghost use Rattle.std.specs.Str.{chars};
 ghost use Rattle.serde_json.specs.Find.{get};
-ghost use Rattle.tpl_json.specs.View.{view};
-ghost use Rattle.tpl_json.specs.Members.{Gives, has_only, is_one_of, IsShape};
-ghost use Rattle.tpl_parts.specs.Versions.{task_remarks, claim_remarks};
-ghost use Rattle.tpl_parts.specs.Remarks.{is_claim_name, claim_name, note_at};
+ghost use Rattle.tpl_json.specs.Prelude.{Gives, IsShape, has_only, is_one_of, view};
+ghost use Rattle.tpl_parts.specs.Prelude.{claim_name, claim_remarks, is_claim_name, note_at, task_remarks};
 
 use crate::version::Version;
 use json::Value;

@@ -1,41 +1,41 @@
 //! Reading where a run starts, with names.
 
-ghost use Rattle.std.specs.Prelude.{◌≡◌, Some, is_some};
-ghost use Rattle.std.specs.Option.{option_map};
-ghost use Rattle.std.specs.List.{list_all};
+ghost use Rattle.std.specs.Prelude.{◌≡◌, Bool, Some, option_map};
 ghost use Rattle.std.specs.BTreeMap.{values};
+ghost use Rattle.std.specs.List.{list_all};
 ghost use Rattle.json.specs.Value.{members_view};
-ghost use Rattle.serde_json.specs.Data.{no_members};
-ghost use Rattle.serde_json.specs.Find.{get, as_bool};
-ghost use Rattle.tpl_json.specs.Finals.{final_at};
-ghost use Rattle.tpl_json.specs.View.{members_from, view};
-ghost use Rattle.tpl_json.specs.Members.{Gives};
-ghost use Rattle.tpl_parts.specs.Start.{all_values, has_truths, truths_or_none, start_at, start_or_none};
-ghost use Rattle.tpl_parts.specs.SeenStart.{start_of};
-ghost use Rattle.tpl_parts.specs.Ends.{has_ends};
+ghost use Rattle.serde_json.specs.Data.{Data, no_members};
+ghost use Rattle.serde_json.specs.Find.{get};
+ghost use Rattle.tpl_json.specs.Prelude.{Gives, members_from, view};
+ghost use Rattle.tpl_parts.specs.Prelude.{Tests, all_values, has_ends, has_truths, start_at, start_of, start_or_none, truths_or_none};
 
 use crate::named::NamedStart;
 use json::Value;
 use std::alloc::Global;
 use std::collections::BTreeMap;
-use tpl_json::{Miss, Shape, final_of, find, has_only, texts_in};
+use tpl_json::{Miss, Shape, bool_of, final_of, find, has_only, texts_in};
 
-fn are_all(truths: &BTreeMap<&str, bool>) -> bool
-    ensures { result ≡ list_all (λ b. b) (values truths.now) }
+fn are_all(passes: &BTreeMap<&str, bool>) -> bool
+    ensures { result ≡ list_all (λ b. b) (values passes.now) }
 {
-    truths.values().all(|truth| *truth)
+    passes.values().all(|pass| *pass)
 }
 
-/// Whether the members are all true or false; of several of one name the last counts.
-fn all_truths(alloc: Global, members: &[(&str, Value<'_>)]) -> Result<bool, Miss<Shape>>
-    ensures { Gives (λ b. b) result (Some (all_values (λ d. is_some (as_bool d))
-        (members_from (members_view members.now) no_members))) }
+/// Whether the members' values all pass the test; of several of one name the last counts.
+fn all_pass<'t, F: Fn(&Value<'t>) -> bool>(
+    alloc: Global,
+    members: &[(&str, Value<'t>)],
+    test: F,
+) -> Result<bool, Miss<Shape>>
+    requires { F.IsAlwaysCallable test }
+    ensures { (p : Data → Bool) → Tests F.Fn test p → Gives (λ b. b) result
+        (Some (all_values p (members_from (members_view members.now) no_members))) }
 {
-    let mut truths = BTreeMap::new(alloc);
+    let mut passes = BTreeMap::new(alloc);
     for member in members {
-        drop(truths.insert(member.0, member.1.as_bool().is_some())?);
+        drop(passes.insert(member.0, test(&member.1))?);
     }
-    Ok(are_all(&truths))
+    Ok(are_all(&passes))
 }
 
 /// Whether the value is an object whose members are all true or false; of several of one name the last counts. Out of
@@ -45,21 +45,11 @@ pub fn has_truths(alloc: Global, value: &Value<'_>) -> Result<bool, Miss<Shape>>
     ensures { Gives (λ b. b) result (Some (has_truths (view value.now))) }
 {
     match value {
-        Value::Object(members) => all_truths(alloc, members.as_slice()),
+        Value::Object(members) => {
+            all_pass(alloc, members.as_slice(), |value| bool_of(value).is_ok())
+        }
         _ => Ok(false),
     }
-}
-
-/// Whether the members are all final statuses; of several of one name the last counts.
-fn all_ends(alloc: Global, members: &[(&str, Value<'_>)]) -> Result<bool, Miss<Shape>>
-    ensures { Gives (λ b. b) result (Some (all_values (λ d. is_some (final_at d))
-        (members_from (members_view members.now) no_members))) }
-{
-    let mut ends = BTreeMap::new(alloc);
-    for member in members {
-        drop(ends.insert(member.0, final_of(&member.1).is_ok())?);
-    }
-    Ok(are_all(&ends))
 }
 
 /// Whether the value is an object whose members are all final statuses; of several of one name the last counts. Out of
@@ -69,7 +59,9 @@ pub fn has_ends(alloc: Global, value: &Value<'_>) -> Result<bool, Miss<Shape>>
     ensures { Gives (λ b. b) result (Some (has_ends (view value.now))) }
 {
     match value {
-        Value::Object(members) => all_ends(alloc, members.as_slice()),
+        Value::Object(members) => {
+            all_pass(alloc, members.as_slice(), |value| final_of(value).is_ok())
+        }
         _ => Ok(false),
     }
 }

@@ -1,13 +1,13 @@
 //! Reading bodies.
 
-ghost use Rattle.std.specs.Prelude.{◌≡◌, map, codes, string_bytes, option_and_then, option_map, IfErr};
+ghost use Rattle.std.specs.Prelude.{◌≡◌, map, codes, string_bytes, option_and_then, IfErr};
 ghost use Rattle.serde_json.specs.Find.{get};
-ghost use Rattle.tpl_json.specs.View.{view};
-ghost use Rattle.tpl_draft.specs.Draft as spec;
-ghost use Rattle.tpl_draft.specs.SeenDraft.{line_of, lines_of};
-ghost use Rattle.tpl_json.specs.Members.{Gives, each, has_member, IsShape};
-ghost use Rattle.tpl_parts.specs.Statements.{body_of, word_at, name_at, bool_or_false, work_at, else_at, if_at, when_at, branch_at, simple_at, object_at, statement_at, list_at, body_at};
+ghost use Rattle.tpl_draft.specs.Prelude.{line_of};
+ghost use Rattle.tpl_json.specs.Prelude.{Gives, IsShape, each, has_member, view};
+ghost use Rattle.tpl_parts.specs.Prelude.{body_at, body_of, bool_or_false, branch_at, else_at, if_at, list_at, name_at, object_at, simple_at, statement_at, when_at, word_at};
+ghost use Rattle.tpl_parts.specs.Statements.{work_at};
 
+use crate::pieces::name_of;
 use json::Value;
 use std::alloc::Global;
 use tpl_graph::{DraftBody, DraftStmt};
@@ -25,47 +25,12 @@ fn word_of(word: &str) -> Result<DraftStmt, Miss<Shape>>
     }
 }
 
-#[tactic(auto, unfolding(crate::specs::Statements::name_at))]
-fn name_of(alloc: Global, value: &Value<'_>, member: &str) -> Result<String, Miss<Shape>>
+/// The name in an object of one member, in memory of its own.
+fn own_name(alloc: Global, value: &Value<'_>, member: &str) -> Result<String, Miss<Shape>>
     ensures { Gives string_bytes result (name_at member.now (view value.now)) }
 {
-    if !has_only(value, &[member]) {
-        return Err(Miss::Wrong(Shape));
-    }
-    let name = text_in(value, member)?;
+    let name = name_of(value, member)?;
     Ok(String::from_str(alloc, name)?)
-}
-
-fn throw_of(alloc: Global, value: &Value<'_>) -> Result<DraftStmt, Miss<Shape>>
-    ensures { Gives line_of result
-        (option_map spec.Throw (name_at (codes "throw") (view value.now))) }
-{
-    let name = name_of(alloc, value, "throw")?;
-    Ok(DraftStmt::Throw(name))
-}
-
-fn check_of(alloc: Global, value: &Value<'_>) -> Result<DraftStmt, Miss<Shape>>
-    ensures { Gives line_of result
-        (option_map spec.Check (name_at (codes "check") (view value.now))) }
-{
-    let name = name_of(alloc, value, "check")?;
-    Ok(DraftStmt::Check(name))
-}
-
-fn cancel_of(alloc: Global, value: &Value<'_>) -> Result<DraftStmt, Miss<Shape>>
-    ensures { Gives line_of result
-        (option_map spec.Cancel (name_at (codes "cancel") (view value.now))) }
-{
-    let name = name_of(alloc, value, "cancel")?;
-    Ok(DraftStmt::Cancel(name))
-}
-
-fn start_of(alloc: Global, value: &Value<'_>) -> Result<DraftStmt, Miss<Shape>>
-    ensures { Gives line_of result
-        (option_map spec.Start (name_at (codes "start") (view value.now))) }
-{
-    let name = name_of(alloc, value, "start")?;
-    Ok(DraftStmt::Start(name))
 }
 
 #[tactic(auto, unfolding(crate::specs::Statements::bool_or_false))]
@@ -98,16 +63,16 @@ fn simple_of(alloc: Global, value: &Value<'_>) -> Result<DraftStmt, Miss<Shape>>
     ensures { Gives line_of result (simple_at (view value.now)) }
 {
     if find(value, "throw").is_some() {
-        return throw_of(alloc, value);
+        return Ok(DraftStmt::Throw(own_name(alloc, value, "throw")?));
     }
     if find(value, "check").is_some() {
-        return check_of(alloc, value);
+        return Ok(DraftStmt::Check(own_name(alloc, value, "check")?));
     }
     if find(value, "cancel").is_some() {
-        return cancel_of(alloc, value);
+        return Ok(DraftStmt::Cancel(own_name(alloc, value, "cancel")?));
     }
     if find(value, "start").is_some() {
-        return start_of(alloc, value);
+        return Ok(DraftStmt::Start(own_name(alloc, value, "start")?));
     }
     work_of(alloc, value)
 }

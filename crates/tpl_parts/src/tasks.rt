@@ -1,15 +1,14 @@
 //! Reading tasks and tokens.
 
-ghost use Rattle.std.specs.Prelude.{◌≡◌, map, codes, string_bytes, option_and_then, IfErr};
-ghost use Rattle.std.specs.Option.{option_map};
-ghost use Rattle.serde_json.specs.Find.{get, as_str};
-ghost use Rattle.tpl_json.specs.View.{view};
-ghost use Rattle.tpl_draft.specs.Draft as spec;
-ghost use Rattle.tpl_draft.specs.SeenTasks.{work_of, kind_of, task_of, token_of};
-ghost use Rattle.tpl_json.specs.Members.{Gives, each, IsShape};
-ghost use Rattle.tpl_parts.specs.Tasks.{option_at, options_at, text_or_none, work_at, free_at, then_at, args_at, kind_at, task_at, linked_at, plain_at, token_at};
+ghost use Rattle.std.specs.Prelude.{map, string_bytes, IfErr, option_map};
+ghost use Rattle.serde_json.specs.Find.{get};
+ghost use Rattle.tpl_draft.specs.Prelude.{kind_of, task_of, work_of};
+ghost use Rattle.tpl_draft.specs.SeenTasks.{token_of};
+ghost use Rattle.tpl_json.specs.Prelude.{Gives, IsShape, view};
+ghost use Rattle.tpl_parts.specs.Prelude.{args_at, free_at, kind_at, linked_at, option_at, options_at, plain_at, task_at, text_or_none, then_at, token_at};
+ghost use Rattle.tpl_parts.specs.Tasks.{work_at};
 
-use crate::lists::list_in;
+use crate::pieces::list_in;
 use crate::remarks::{has_task_members, note_of};
 use crate::statements::body_of;
 use crate::version::Version;
@@ -89,20 +88,6 @@ fn free_of(alloc: Global, version: Version, value: &Value<'_>) -> Result<DraftWo
     work_of(alloc, value)
 }
 
-fn root_of(alloc: Global, version: Version, value: &Value<'_>) -> Result<DraftKind, Miss<Shape>>
-    ensures { Gives kind_of result (option_map spec.Root (free_at version (view value.now))) }
-{
-    let work = free_of(alloc, version, value)?;
-    Ok(DraftKind::Root(work))
-}
-
-fn child_of(alloc: Global, version: Version, value: &Value<'_>) -> Result<DraftKind, Miss<Shape>>
-    ensures { Gives kind_of result (option_map spec.Child (free_at version (view value.now))) }
-{
-    let work = free_of(alloc, version, value)?;
-    Ok(DraftKind::Child(work))
-}
-
 #[tactic(auto, unfolding(crate::specs::Tasks::then_at))]
 fn then_of(alloc: Global, version: Version, value: &Value<'_>) -> Result<DraftKind, Miss<Shape>>
     ensures { Gives kind_of result (then_at version (view value.now)) }
@@ -131,20 +116,6 @@ fn args_of(alloc: Global, version: Version, value: &Value<'_>) -> Result<Vec<Str
     owned_texts(alloc, list)
 }
 
-fn all_of(alloc: Global, version: Version, value: &Value<'_>) -> Result<DraftKind, Miss<Shape>>
-    ensures { Gives kind_of result (option_map spec.WhenAll (args_at version (view value.now))) }
-{
-    let args = args_of(alloc, version, value)?;
-    Ok(DraftKind::All(args))
-}
-
-fn any_of(alloc: Global, version: Version, value: &Value<'_>) -> Result<DraftKind, Miss<Shape>>
-    ensures { Gives kind_of result (option_map spec.WhenAny (args_at version (view value.now))) }
-{
-    let args = args_of(alloc, version, value)?;
-    Ok(DraftKind::Any(args))
-}
-
 #[tactic(auto, unfolding(crate::specs::Tasks::kind_at))]
 fn kind_of(
     alloc: Global,
@@ -155,11 +126,11 @@ fn kind_of(
     ensures { Gives kind_of result (kind_at version kind.now (view value.now)) }
 {
     match kind {
-        "root" => root_of(alloc, version, value),
-        "child" => child_of(alloc, version, value),
+        "root" => Ok(DraftKind::Root(free_of(alloc, version, value)?)),
+        "child" => Ok(DraftKind::Child(free_of(alloc, version, value)?)),
         "then" => then_of(alloc, version, value),
-        "all" => all_of(alloc, version, value),
-        "any" => any_of(alloc, version, value),
+        "all" => Ok(DraftKind::All(args_of(alloc, version, value)?)),
+        "any" => Ok(DraftKind::Any(args_of(alloc, version, value)?)),
         _ => Err(Miss::Wrong(Shape)),
     }
 }

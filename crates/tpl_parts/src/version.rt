@@ -1,7 +1,7 @@
 //! The versions of documents.
 
 ghost use Rattle.std.specs.Prelude.{◌≡◌, map};
-ghost use Rattle.tpl_parts.specs.Versions.{has_links, is_third, rules_since, task_remarks, claim_remarks};
+ghost use Rattle.tpl_parts.specs.Prelude.{claim_remarks, has_links, is_third, rules_since, task_remarks};
 
 use tpl_model::RuleSet;
 

@@ -3,7 +3,7 @@ use Rattle.std.proofs.Common.{◌≡◌, ℕ, ◌<◌, not, Bool, true, false, O
 use Rattle.std.proofs.Math.Path.{fun_ext}
 use Rattle.tpl_model.specs.declared.outcome.Outcome.{Outcome}
 use Rattle.tpl_model.specs.declared.outcome.Outcome.TheVariants.{Returned}
-use Rattle.tpl_model.specs.Statements.{Statement, Return, Throw, Check, Cancel, Start, Observe, Work, If, When, Statements, Nothing, ◌⨾◌}
+use Rattle.tpl_model.specs.Statements.{Statement, Check, Cancel, If, When, Statements, Nothing, ◌⨾◌}
 use Rattle.tpl_model.specs.Paths.{cancellation, Known}
 use Rattle.tpl_model.specs.Recursion.{another}
 use Rattle.tpl_model.specs.Knowledge.{Knowledge, Reached, ChildEnd, Reading, meet, when, with_tokens, both, join, through, behind, collected, collected_in, ending_at, ended_by, ending_as, throwing, starting, from, at_end, at_throw, at_start}
@@ -25,17 +25,12 @@ module _ (n : ℕ) (known : Known) (child : ℕ → Option ChildEnd) (l m : ℕ 
     through_same (s ⨾ rest) r t = through_same rest (behind v s r) t.1 ∙ ap (through w rest) (behind_same s r t.0)
 
     behind_same : (s : Statement) (r : Reached) → TokensWithin n s → behind v s r ≡ behind w s r
-    behind_same Return r t = refl
-    behind_same (Throw x) r t = refl
-    behind_same (Check k) r t = refl
     behind_same (Cancel k) r t = ap (λ (ks : ℕ → Bool). both (λ s. when (not (known.quiet k)) (with_tokens ks s)) r) (same k t)
-    behind_same (Start c) r t = refl
-    behind_same Observe r t = refl
-    behind_same (Work site may_fail) r t = refl
     behind_same (If i a b) r t =
         two_lists (known.possible i true) (known.possible i false) (through v a r) (through v b r) (through w a r) (through w b r) (through_same a r t.0) (through_same b r t.1)
     behind_same (When f a b) r t =
         two_lists (known.subject f) (another known f) (through v a r) (through v b r) (through w a r) (through w b r) (through_same a r t.0) (through_same b r t.1)
+    behind_same s r t = refl
 
   either_same : (p q : Bool) (x y z u : Option Knowledge) → x ≡ z → y ≡ u → meet (when p x) (when q y) ≡ meet (when p z) (when q u)
   either_same p q x y z u e f = ap (λ s. meet (when p s) (when q y)) e ∙ ap (λ s. meet (when p z) (when q s)) f
@@ -59,24 +54,11 @@ module _ (n : ℕ) (known : Known) (child : ℕ → Option ChildEnd) (l m : ℕ 
     collected_in_same ask asks e (When f a b) r t =
         either_same (known.subject f) (another known f) (collected ask v a r) (collected ask v b r) (collected asks w a r) (collected asks w b r)
         (collected_same ask asks e a r t.0) (collected_same ask asks e b r t.1)
-    collected_in_same ask asks e Return r t = e Return r t
-    collected_in_same ask asks e (Throw x) r t = e (Throw x) r t
-    collected_in_same ask asks e (Check k) r t = e (Check k) r t
-    collected_in_same ask asks e (Cancel k) r t = e (Cancel k) r t
-    collected_in_same ask asks e (Start c) r t = e (Start c) r t
-    collected_in_same ask asks e Observe r t = e Observe r t
-    collected_in_same ask asks e (Work site may_fail) r t = e (Work site may_fail) r t
+    collected_in_same ask asks e s r t = e s r t
 
   ending_same : (pick : Outcome → Reached → Option Knowledge) → AsksSame (ending_at pick v) (ending_at pick w)
-  ending_same pick Return r t = refl
-  ending_same pick (Throw x) r t = refl
   ending_same pick (Check k) r t = ap (λ (ks : ℕ → Bool). when (not (known.quiet k)) (pick (cancellation known.own k) (both (with_tokens ks) r))) (same k t)
-  ending_same pick (Cancel k) r t = refl
-  ending_same pick (Start c) r t = refl
-  ending_same pick Observe r t = refl
-  ending_same pick (Work site may_fail) r t = refl
-  ending_same pick (If i a b) r t = refl
-  ending_same pick (When f a b) r t = refl
+  ending_same pick s r t = refl
 
   pub ended_same : (pick : Outcome → Reached → Option Knowledge) (b : Statements) (r : Reached) → TokensBelow n b → ended_by pick v b r ≡ ended_by pick w b r
   ended_same pick b r t =

@@ -6,7 +6,7 @@ use Rattle.tpl_model.specs.declared.status.Label.TheVariants.{Thrown, WorkFailed
 use Rattle.tpl_model.specs.declared.outcome.Outcome.{Outcome}
 use Rattle.tpl_model.specs.declared.outcome.Outcome.TheVariants.{Returned, Threw, Acknowledged}
 use Rattle.tpl_model.specs.Finals.{has}
-use Rattle.tpl_model.specs.Statements.{Statement, Return, Throw, Check, Cancel, Start, Observe, Work, If, When, Statements, Nothing, ◌⨾◌}
+use Rattle.tpl_model.specs.Statements.{Statement, Return, Throw, Check, Cancel, Start, Work, If, When, Statements, Nothing, ◌⨾◌}
 use Rattle.tpl_model.specs.Paths.{cancellation}
 use Rattle.tpl_model.specs.Recursion.{another}
 use Rattle.tpl_model.specs.Knowledge.{Knowledge, Reached, ChildEnd, Reading, meet, when, nowhere, both, join, ends_well, behind_start, through, behind, collected, collected_in, ending_at, ending_as, throwing, starting}
@@ -43,17 +43,13 @@ mutual
   through_nowhere w (s ⨾ rest) = ap (through w rest) (behind_nowhere w s) ∙ through_nowhere w rest
 
   behind_nowhere : (w : Reading) (s : Statement) → behind w s nowhere ≡ nowhere
-  behind_nowhere w Return = refl
-  behind_nowhere w (Throw l) = refl
-  behind_nowhere w (Check k) = refl
   behind_nowhere w (Cancel k) = both_nowhere (not (w.known.quiet k))
   behind_nowhere w (Start c) = behind_start_nowhere (w.child c)
-  behind_nowhere w Observe = refl
-  behind_nowhere w (Work site may_fail) = refl
   behind_nowhere w (If i a b) =
       either_nowhere (w.known.possible i true) (w.known.possible i false) (through w a nowhere) (through w b nowhere) (through_nowhere w a) (through_nowhere w b)
   behind_nowhere w (When f a b) =
       either_nowhere (w.known.subject f) (another w.known f) (through w a nowhere) (through w b nowhere) (through_nowhere w a) (through_nowhere w b)
+  behind_nowhere w s = refl
 
 either_none : (p q : Bool) (x y : Option Knowledge) → x ≡ None → y ≡ None → meet (when p x) (when q y) ≡ None
 either_none p q x y e f =
@@ -76,25 +72,15 @@ mutual
       either_none (w.known.possible i true) (w.known.possible i false) (collected ask w a nowhere) (collected ask w b nowhere) (collected_nowhere ask w h a) (collected_nowhere ask w h b)
   collected_in_nowhere ask w h (When f a b) =
       either_none (w.known.subject f) (another w.known f) (collected ask w a nowhere) (collected ask w b nowhere) (collected_nowhere ask w h a) (collected_nowhere ask w h b)
-  collected_in_nowhere ask w h Return = h Return
-  collected_in_nowhere ask w h (Throw l) = h (Throw l)
-  collected_in_nowhere ask w h (Check k) = h (Check k)
-  collected_in_nowhere ask w h (Cancel k) = h (Cancel k)
-  collected_in_nowhere ask w h (Start c) = h (Start c)
-  collected_in_nowhere ask w h Observe = h Observe
-  collected_in_nowhere ask w h (Work site may_fail) = h (Work site may_fail)
+  collected_in_nowhere ask w h s = h s
 
 ending_nowhere : (pick : Outcome → Reached → Option Knowledge) (w : Reading) → ((o : Outcome) → pick o nowhere ≡ None) → FindsNone (ending_at pick w)
 ending_nowhere pick w h Return = h Returned
 ending_nowhere pick w h (Throw l) = h (Threw (Thrown (record { 0 = l })))
 ending_nowhere pick w h (Check k) = ap (when (not (w.known.quiet k))) (h (cancellation w.known.own k)) ∙ when_none (not (w.known.quiet k))
-ending_nowhere pick w h (Cancel k) = refl
-ending_nowhere pick w h (Start c) = refl
-ending_nowhere pick w h Observe = refl
 ending_nowhere pick w h (Work site may_fail) =
     ap (when (may_fail && not (w.known.sure site))) (h (Threw (WorkFailed (record { 0 = site })))) ∙ when_none (may_fail && not (w.known.sure site))
-ending_nowhere pick w h (If i a b) = refl
-ending_nowhere pick w h (When f a b) = refl
+ending_nowhere pick w h s = refl
 
 ending_as_none : (f : Final) (o : Outcome) → ending_as f o nowhere ≡ None
 ending_as_none RanToCompletion Returned = refl
@@ -113,15 +99,8 @@ throwing_none (Threw label) = refl
 throwing_none Acknowledged = refl
 
 starting_nowhere : (c : ℕ) → FindsNone (starting c)
-starting_nowhere c Return = refl
-starting_nowhere c (Throw l) = refl
-starting_nowhere c (Check k) = refl
-starting_nowhere c (Cancel k) = refl
 starting_nowhere c (Start d) = when_none (nat_eq d c)
-starting_nowhere c Observe = refl
-starting_nowhere c (Work site may_fail) = refl
-starting_nowhere c (If i a b) = refl
-starting_nowhere c (When f a b) = refl
+starting_nowhere c s = refl
 
 asked_nowhere : (a : Asked) (w : Reading) → FindsNone (asked_at a w)
 asked_nowhere (asked.End f) w s = ending_nowhere (ending_as f) w (ending_as_none f) s

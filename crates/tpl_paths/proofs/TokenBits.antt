@@ -1,9 +1,10 @@
 -- Numbers of 32 bits as sets of tokens.
-use Rattle.std.proofs.Common.{◌≡◌, ℕ, zero, suc, ◌*◌, ◌%◌, ◌^◌, ◌<◌, ◌≤◌, Bool, true, false, ◌&&◌, ◌||◌, nat_eq, refl, sym, ap, ◌∙◌, ⊎_elim, arith, eq-eqb, bit_or, bit_and}
-use Rattle.std.specs.Prelude.{◌==◌, max, min}
+use Rattle.std.proofs.Common.{◌≡◌, ℕ, zero, suc, ◌*◌, ◌%◌, ◌^◌, ◌<◌, ◌≤◌, Bool, true, false, ◌||◌, nat_eq, refl, sym, ap, ◌∙◌, ⊎_elim, arith, eq-eqb, bit_or, bit_and}
+use Rattle.std.specs.Prelude.{◌==◌, min}
 use Rattle.std.specs.Int.{bit_at, w32}
 use Rattle.std.proofs.lemmas.Bool.{cases_eq}
-use Rattle.std.proofs.lemmas.Nat.Bits.{bit_at-zero, bit_at_or, bit_at_and, bit_at-lt, bit_at_set_same, bit_at_set_other, bit_at_above, same_from_bits}
+use Rattle.std.proofs.lemmas.Nat.Bits.{bit_at-zero, bit_at_and, bit_at-lt, bit_at_set_same, bit_at_set_other, bit_at_above, same_from_bits}
+use Rattle.tpl_model.proofs.BitSets.{bit_at_and_is}
 use Rattle.tpl_model.proofs.MemberLemmas.{not_same}
 use Rattle.tpl_model.proofs.Truths.{and_second}
 
@@ -13,30 +14,6 @@ is_one bits k = bit_at bits k == 1
 
 pub none_set : (k : ℕ) → is_one 0 k ≡ false
 none_set k = ap (λ b. b == 1) (bit_at-zero k)
-
-max_test : (u v : ℕ) → u < 2 → v < 2 → (max u v == 1) ≡ ((u == 1) || (v == 1))
-max_test zero zero p q = refl
-max_test zero (suc zero) p q = refl
-max_test (suc zero) zero p q = refl
-max_test (suc zero) (suc zero) p q = refl
-max_test zero (suc (suc v)) p q = absurd (omega arith)
-max_test (suc zero) (suc (suc v)) p q = absurd (omega arith)
-max_test (suc (suc u)) v p q = absurd (omega arith)
-
-min_test : (u v : ℕ) → u < 2 → v < 2 → (min u v == 1) ≡ ((u == 1) && (v == 1))
-min_test zero zero p q = refl
-min_test zero (suc zero) p q = refl
-min_test (suc zero) zero p q = refl
-min_test (suc zero) (suc zero) p q = refl
-min_test zero (suc (suc v)) p q = absurd (omega arith)
-min_test (suc zero) (suc (suc v)) p q = absurd (omega arith)
-min_test (suc (suc u)) v p q = absurd (omega arith)
-
-pub set_or : (a b k : ℕ) → is_one (bit_or a b) k ≡ (is_one a k || is_one b k)
-set_or a b k = ap (λ w. w == 1) (bit_at_or a b k) ∙ max_test (bit_at a k) (bit_at b k) (bit_at-lt a k) (bit_at-lt b k)
-
-pub set_and : (a b k : ℕ) → is_one (bit_and a b) k ≡ (is_one a k && is_one b k)
-set_and a b k = ap (λ w. w == 1) (bit_at_and a b k) ∙ min_test (bit_at a k) (bit_at b k) (bit_at-lt a k) (bit_at-lt b k)
 
 pub set_more : (bits k j : ℕ) → k < 32 → is_one (bit_or bits (1 * 2 ^ k % 2 ^ 32)) j ≡ (nat_eq j k || is_one bits j)
 set_more bits k j lt =
@@ -52,7 +29,7 @@ pub none_above : (bits k : ℕ) → bits < 2 ^ 32 → 32 ≤ k → is_one bits k
 none_above bits k fits le = ap (λ b. b == 1) (bit_at_above bits 32 k fits le)
 
 pub subset_from : (a b : ℕ) → bit_and a b ≡ a → (k : ℕ) → is_one a k ≡ true → is_one b k ≡ true
-subset_from a b e k h = and_second (is_one a k) (is_one b k) (sym (set_and a b k) ∙ (ap (λ x. is_one x k) e ∙ h))
+subset_from a b e k h = and_second (is_one a k) (is_one b k) (sym (bit_at_and_is a b k) ∙ (ap (λ x. is_one x k) e ∙ h))
 
 min_bit : (u v : ℕ) → u < 2 → v < 2 → ((u == 1) ≡ true → (v == 1) ≡ true) → min u v ≡ u
 min_bit zero zero p q h = refl

@@ -6,3 +6,4 @@ pub mod Reading
 pub mod Asked
 pub mod Gathered
 pub mod Agreement
+pub mod Prelude

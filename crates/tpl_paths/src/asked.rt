@@ -1,16 +1,9 @@
 //! What is asked for at the statements of a body.
 
 ghost use Rattle.std.specs.Prelude.{◌≡◌};
+ghost use Rattle.tpl_model.specs.Prelude.{Check, Start, Work, both, cancellation, known, meet, with_tokens};
 ghost use Rattle.tpl_model.specs.Knowledge as paths;
-ghost use Rattle.tpl_model.specs.Knowledge.{both, meet, with_tokens};
-ghost use Rattle.tpl_model.specs.Paths.{cancellation};
-ghost use Rattle.tpl_model.specs.Statements.{Check, Start, Work};
-ghost use Rattle.tpl_model.specs.View.{known};
-ghost use Rattle.tpl_paths.specs.Asked.{ended, asked_at, takes_burdened, takes_unburdened};
-ghost use Rattle.tpl_paths.specs.Knowledge.{told};
-ghost use Rattle.tpl_paths.specs.Reached.{reached_of};
-ghost use Rattle.tpl_paths.specs.Reading.{reading_of};
-ghost use Rattle.tpl_paths.specs.TokenSet.{has_token};
+ghost use Rattle.tpl_paths.specs.Prelude.{asked_at, ended, has_token, reached_of, reading_of, takes_burdened, takes_unburdened, told};
 
 use crate::knowledge::Knowledge;
 use crate::paths::{meet_if, meet_knowing_if};

@@ -1,8 +1,8 @@
 //! Facts that stay true once they are.
 
 ghost use Rattle.std.specs.Prelude.{◌≡◌, ◌↔◌, ◌&&◌, ◌||◌, true, false, IsTrue};
-ghost use Rattle.tpl_model.specs.Knowledge.{Fact};
-ghost use Rattle.tpl_paths.specs.Facts.{has_fact};
+ghost use Rattle.tpl_model.specs.Prelude.{Fact};
+ghost use Rattle.tpl_paths.specs.Prelude.{has_fact};
 
 use crate::token_set::TokenSet;
 use tpl_model::TaskSet;

@@ -1,13 +1,8 @@
 //! What a walk over a body gathers.
 
 ghost use Rattle.std.specs.Prelude.{◌≡◌};
-ghost use Rattle.tpl_model.specs.Knowledge.{join, meet, nowhere};
-ghost use Rattle.tpl_model.specs.Statements.{Check, Cancel, Start, Work};
-ghost use Rattle.tpl_paths.specs.Asked.{ended};
-ghost use Rattle.tpl_paths.specs.Gathered.{gathered_of, past};
-ghost use Rattle.tpl_paths.specs.Knowledge.{told};
-ghost use Rattle.tpl_paths.specs.Reached.{reached_of};
-ghost use Rattle.tpl_paths.specs.Reading.{reading_of};
+ghost use Rattle.tpl_model.specs.Prelude.{Cancel, Check, Start, Work, join, meet, nowhere};
+ghost use Rattle.tpl_paths.specs.Prelude.{ended, gathered_of, past, reached_of, reading_of, told};
 
 use crate::asked::{Asked, find_check, find_ended, find_start, find_work};
 use crate::knowledge::Knowledge;

@@ -1,9 +1,7 @@
 //! What all paths to a place have.
 
 ghost use Rattle.std.specs.Prelude.{◌≡◌, ◌&&◌, ◌||◌, false};
-ghost use Rattle.tpl_paths.specs.Facts.{has_fact};
-ghost use Rattle.tpl_paths.specs.TokenSet.{has_token};
-ghost use Rattle.tpl_paths.specs.Knowledge.{knowledge_of};
+ghost use Rattle.tpl_paths.specs.Prelude.{has_fact, has_token, knowledge_of};
 
 use crate::facts::Facts;
 use crate::token_set::TokenSet;

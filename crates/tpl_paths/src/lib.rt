@@ -1,7 +1,7 @@
 //! What the paths of a body know, found in one walk over it.
 #![tactic(auto)]
 
-ghost use Rattle.tpl_paths.specs.Agreement.{AgreeingReadings};
+ghost use Rattle.tpl_paths.specs.Prelude.{AgreeingReadings};
 
 mod asked;
 mod facts;

@@ -1,11 +1,8 @@
 //! The paths of one kind to a place, by what they have in common: none where there are no paths.
 
 ghost use Rattle.std.specs.Prelude.{◌≡◌};
-ghost use Rattle.tpl_model.specs.Knowledge.{meet, when, with_tokens, with_facts, past_check};
-ghost use Rattle.tpl_model.specs.View.{known};
-ghost use Rattle.tpl_paths.specs.Facts.{has_fact};
-ghost use Rattle.tpl_paths.specs.Knowledge.{told};
-ghost use Rattle.tpl_paths.specs.TokenSet.{has_token};
+ghost use Rattle.tpl_model.specs.Prelude.{known, meet, past_check, when, with_facts, with_tokens};
+ghost use Rattle.tpl_paths.specs.Prelude.{has_fact, has_token, told};
 
 use crate::facts::Facts;
 use crate::knowledge::Knowledge;

@@ -1,12 +1,8 @@
 //! The paths to a place.
 
 ghost use Rattle.std.specs.Prelude.{◌≡◌, ◌↔◌, IsTrue};
-ghost use Rattle.tpl_model.specs.Knowledge.{with_tokens, past_check, nowhere, both, join, all, behind_start, from};
-ghost use Rattle.tpl_model.specs.View.{known};
-ghost use Rattle.tpl_paths.specs.Knowledge.{told};
-ghost use Rattle.tpl_paths.specs.Reached.{reached_of};
-ghost use Rattle.tpl_paths.specs.Reading.{child_of, end_of};
-ghost use Rattle.tpl_paths.specs.TokenSet.{has_token};
+ghost use Rattle.tpl_model.specs.Prelude.{behind_start, both, from, join, known, nowhere, past_check, with_tokens};
+ghost use Rattle.tpl_paths.specs.Prelude.{child_of, end_of, has_token, reached_of};
 
 use crate::knowledge::Knowledge;
 use crate::paths::{add_facts, add_tokens, keep_if, meet, meet_if, pass_check};

@@ -1,11 +1,9 @@
 //! How a body is read.
 
 ghost use Rattle.std.specs.Prelude.{◌≡◌, ◌||◌, slice_index_or};
+ghost use Rattle.tpl_model.specs.Prelude.{ends_well, has};
 ghost use Rattle.tpl_model.specs.declared.finals.Final.TheVariants.{Faulted};
-ghost use Rattle.tpl_model.specs.Finals.{has};
-ghost use Rattle.tpl_model.specs.Knowledge.{ends_well};
-ghost use Rattle.tpl_paths.specs.Reading.{child_of, end_of, reading_of};
-ghost use Rattle.tpl_paths.specs.TokenSet.{no_tokens};
+ghost use Rattle.tpl_paths.specs.Prelude.{child_of, end_of, no_tokens, reading_of};
 
 use crate::facts::Facts;
 use crate::token_set::TokenSet;

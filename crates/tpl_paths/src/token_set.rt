@@ -1,7 +1,7 @@
 //! Sets of tokens, of one size.
 
 ghost use Rattle.std.specs.Prelude.{◌≡◌, ◌↔◌, ℕ, ◌<◌, ◌≤◌, ◌&&◌, ◌||◌, true, false, nat_eq, IsTrue};
-ghost use Rattle.tpl_paths.specs.TokenSet.{has_token, no_tokens};
+ghost use Rattle.tpl_paths.specs.Prelude.{has_token, no_tokens};
 
 use tpl_model::{MOST_TOKENS, TokenId};
 

@@ -1,14 +1,8 @@
 //! The walk over a body, and what is known by it.
 
 ghost use Rattle.std.specs.Prelude.{◌≡◌, true};
-ghost use Rattle.tpl_model.specs.Knowledge.{at_end, at_throw, at_start};
-ghost use Rattle.tpl_model.specs.Seen.{statement_of};
-ghost use Rattle.tpl_model.specs.Statements.{Nothing};
-ghost use Rattle.tpl_paths.specs.Asked.{known_by};
-ghost use Rattle.tpl_paths.specs.Gathered.{gathered_of, past, past_all, past_if, past_either};
-ghost use Rattle.tpl_paths.specs.Knowledge.{told};
-ghost use Rattle.tpl_paths.specs.Reading.{reading_of};
-ghost use Rattle.tpl_paths.specs.TokenSet.{has_token};
+ghost use Rattle.tpl_model.specs.Prelude.{Nothing, at_end, at_start, at_throw, statement_of};
+ghost use Rattle.tpl_paths.specs.Prelude.{gathered_of, has_token, known_by, past, past_all, past_either, past_if, reading_of, told};
 
 use crate::asked::Asked;
 use crate::gathered::Gathered;

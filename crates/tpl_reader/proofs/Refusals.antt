@@ -1,11 +1,12 @@
 -- From what is wrong with a part of a document to what is wrong with it.
-use Rattle.std.proofs.Common.{◌≡◌, ◌≤◌, ℕ, List, length, Ok, subst, sym}
+use Rattle.std.proofs.Common.{◌≡◌, ◌≤◌, ℕ, List, length, Ok, Bool, true, false, cond, inl, inr, refl, subst, sym}
 use Rattle.serde_json.specs.Data.{Data}
 use Rattle.tpl_model.specs.Claims.{Claim}
 use Rattle.tpl_model.specs.WiderRules.{WideTree}
 use Rattle.tpl_draft.specs.Named.{Named}
 use Rattle.tpl_draft.specs.Numbered.{numbered}
-use Rattle.tpl_draft.specs.Refusals.{IsValid}
+use Rattle.tpl_draft.specs.Refusals.{IsValid, Refuses}
+use Rattle.tpl_draft.specs.declared.fault.GraphFault.{GraphFault}
 use Rattle.tpl_cert.specs.declared.fault.TreeFault.{TreeFault}
 use Rattle.tpl_json.specs.declared.miss.Miss.{Miss}
 use Rattle.tpl_json.specs.declared.miss.Miss.TheVariants as miss
@@ -15,22 +16,20 @@ use Rattle.tpl_reader.specs.declared.fault.StartFault.{StartFault}
 use Rattle.tpl_reader.specs.declared.fault.ReadFault.{ReadFault}
 use Rattle.tpl_reader.specs.declared.fault.ReadFault.TheVariants as faults
 use Rattle.tpl_json.specs.Passes.{Fails}
-use Rattle.tpl_reader.specs.Faults.{shape_fault, claim_fault, tree_fault, start_fault}
+use Rattle.tpl_reader.specs.Faults.{is_memory, shape_fault, graph_fault, claim_fault, tree_fault, start_fault}
 use Rattle.tpl_reader.specs.Asked.{claims_for}
 use Rattle.tpl_parts.specs.Versions.{rules_since}
 use Rattle.tpl_reader.specs.Trees.{trees_in}
 use Rattle.tpl_reader.specs.Shape.{Spelled, spelled_at}
-use Rattle.tpl_reader.specs.Document.{begin_in, GraphFaults, IsRefused, longest, Reads, IsFault}
+use Rattle.tpl_reader.specs.Document.{begin_in, IsRefused, longest, Reads, IsFault}
 
-pub graph_refused : (s : Spelled) (e : ReadFault) → GraphFaults s.draft e → IsRefused s e
-graph_refused s (faults.Graph f) h = h
-graph_refused s faults.Memory h = tt
-graph_refused s faults.TooLong h = absurd h
-graph_refused s faults.NotJson h = absurd h
-graph_refused s (faults.Shape p) h = absurd h
-graph_refused s (faults.Claim n f) h = absurd h
-graph_refused s (faults.Certificate n f) h = absurd h
-graph_refused s (faults.Start f) h = absurd h
+by_memory : (s : Spelled) (f : GraphFault) (b : Bool) → is_memory f.why ≡ b → Refuses s.draft f → IsRefused s (cond b faults.Memory (faults.Graph f))
+by_memory s f true is h = tt
+by_memory s f false is (inl memory) = let no : true ≡ false = rw memory.0 at is in absurd cc
+by_memory s f false is (inr least) = least
+
+pub graph_refused : (s : Spelled) (f : GraphFault) → Refuses s.draft f → IsRefused s (graph_fault f)
+graph_refused s f h = by_memory s f (is_memory f.why) refl h
 
 -- want of memory can be said of any document
 pub memory_refused : (s : Spelled) (e : ReadFault) → e ≡ faults.Memory → IsRefused s e

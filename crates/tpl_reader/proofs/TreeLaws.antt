@@ -1,5 +1,8 @@
 -- The trees of a certificate are within the limits.
-use Rattle.std.proofs.Common.{◌≡◌, ℕ, List, [], ◌∷◌, map, Ok, true, refl}
+use Rattle.std.proofs.Common.{◌≡◌, ◌⊎◌, inl, inr, ℕ, List, [], ◌∷◌, map, Result, Ok, Err, IfOk, true, refl}
+use Rattle.std.specs.Prelude.{IfErr}
+use Rattle.std.specs.declared.alloc.Global.{Global}
+use Rattle.std.specs.declared.vec.Vec.{Vec}
 use Rattle.std.specs.List.{All}
 use Rattle.std.proofs.lemmas.List.Elements.{All-nil, All-cons, All-head, All-tail}
 use Rattle.serde_json.specs.Data.{Data}
@@ -9,16 +12,17 @@ use Rattle.tpl_model.specs.Certificate.{Tree}
 use Rattle.tpl_model.specs.WiderRules.{WideTree, as_wide_tree}
 use Rattle.tpl_draft.specs.Named.{Names}
 use Rattle.tpl_json.specs.Members.{only_if}
-use Rattle.tpl_json.specs.Passes.{each_from, at_number}
+use Rattle.tpl_json.specs.declared.miss.Miss.{Miss}
+use Rattle.tpl_json.specs.Passes.{each_from, at_number, Yields}
 use Rattle.tpl_json.proofs.Json.{only_is}
 use Rattle.tpl_json.proofs.Passes.{bind_ok, bind_or, each_every, ok_is}
 use Rattle.tpl_trees.specs.Heights.{IsWithinLimits}
 use Rattle.tpl_cert.specs.Spelled.{spelled_tree, read_tree}
 use Rattle.tpl_trees.specs.WideHeights.{IsWithinWideLimits, is_within_limits}
 use Rattle.tpl_cert.specs.declared.fault.TreeFault.{TreeFault}
-use Rattle.tpl_cert.specs.declared.fault.TreeFault.TheVariants.{Limit}
+use Rattle.tpl_cert.specs.declared.fault.TreeFault.TheVariants as faults
 use Rattle.tpl_trees.proofs.WithinLimits.{within_from, plain_within_from}
-use Rattle.tpl_reader.specs.Trees.{trees_in}
+use Rattle.tpl_reader.specs.Trees.{numbered_tree, trees_in}
 use Rattle.tpl_reader.proofs.Asking.{numbered_ok}
 
 -- a tree that was read passes the test
@@ -26,7 +30,7 @@ passes : (rules : RuleSet) (names : Names) (d : Data) (t : WideTree) → read_tr
 unfolding read_tree
 passes rules names d t e =
     let spelled = bind_ok (spelled_tree rules names d) _ t e in
-    let few = bind_or (only_if (is_within_limits spelled.0)) Limit _ t spelled.2 in
+    let few = bind_or (only_if (is_within_limits spelled.0)) faults.Limit _ t spelled.2 in
     let same = ok_is spelled.0 t _ refl few.2 in
     rw same at (only_is (is_within_limits spelled.0) few.0 few.1)
 
@@ -44,8 +48,22 @@ plain_from (t ∷ ts) all =
     All-cons IsWithinLimits t ts (plain_within_from t (All-head (λ t. is_within_limits t ≡ true) (as_wide_tree t) (map as_wide_tree ts) all))
     (plain_from ts (All-tail (λ t. is_within_limits t ≡ true) (as_wide_tree t) (map as_wide_tree ts) all))
 
-pub wide_within : (names : Names) (ds : List Data) (ts : List WideTree) → trees_in Wide names ds ≡ Ok ts → All IsWithinWideLimits ts
-wide_within names ds ts e = wide_from ts (all_pass Wide names ds ts e)
+no_memory : (fault : TreeFault) (o : Result WideTree TreeFault) (n : ℕ) → (fault ≡ faults.Memory → ⊥) → (fault ≡ faults.Memory) ⊎ (o ≡ Err fault) → at_number n o ≡ Err (n, fault)
+no_memory fault o n not (inl memory) = absurd (not memory)
+no_memory fault o n not (inr is) = rw is refl
 
-pub plain_within : (names : Names) (ds : List Data) (ts : List Tree) → trees_in Narrow names ds ≡ Ok (map as_wide_tree ts) → All IsWithinLimits ts
-plain_within names ds ts e = plain_from ts (all_pass Narrow names ds (map as_wide_tree ts) e)
+pub wide_within : (names : Names) (ds : List Data) (r : Result (Vec WideTree Global) (Miss (ℕ × TreeFault))) → Yields (λ v. v.items) r (trees_in Wide names ds) → IfOk r (λ v. All IsWithinWideLimits v.items)
+wide_within names ds (Ok v) e = wide_from v.items (all_pass Wide names ds v.items e)
+wide_within names ds (Err e) h = tt
+
+pub plain_within : (names : Names) (ds : List Data) (r : Result (Vec Tree Global) (Miss (ℕ × TreeFault))) → Yields (λ v. map as_wide_tree v.items) r (trees_in Narrow names ds) → IfOk r (λ v. All IsWithinLimits v.items)
+plain_within names ds (Ok v) e = plain_from v.items (all_pass Narrow names ds (map as_wide_tree v.items) e)
+plain_within names ds (Err e) h = tt
+
+-- what was read of one value, with its number
+pub tree_numbered : {T : Type 0} (seen : T → WideTree) (read : Result T TreeFault) (o : Result WideTree TreeFault) (n : ℕ) (r : Result T (Miss (ℕ × TreeFault))) → r ≡ numbered_tree n read → IfOk read (λ t. o ≡ Ok (seen t)) → IfErr read (λ e. (e ≡ faults.Memory) ⊎ (o ≡ Err e)) → Yields seen r (at_number n o)
+tree_numbered seen (Ok t) o n r is ok err = rw (is, ok) refl
+tree_numbered seen (Err faults.Memory) o n r is ok err = rw is tt
+tree_numbered seen (Err faults.Shape) o n r is ok err = rw is (no_memory faults.Shape o n (λ e. absurd cc) err)
+tree_numbered seen (Err faults.Unknown) o n r is ok err = rw is (no_memory faults.Unknown o n (λ e. absurd cc) err)
+tree_numbered seen (Err faults.Limit) o n r is ok err = rw is (no_memory faults.Limit o n (λ e. absurd cc) err)

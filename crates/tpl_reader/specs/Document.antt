@@ -6,7 +6,6 @@ use Rattle.tpl_model.specs.declared.ids.TaskId.{TaskId}
 use Rattle.tpl_model.specs.declared.finals.Final.{Final}
 use Rattle.tpl_model.specs.Claims.{Claim}
 use Rattle.tpl_model.specs.WiderRules.{WideTree}
-use Rattle.tpl_draft.specs.Draft.{Draft}
 use Rattle.tpl_draft.specs.Named.{Named}
 use Rattle.tpl_draft.specs.Numbered.{numbered}
 use Rattle.tpl_draft.specs.Refusals.{IsValid, IsLeast}
@@ -57,12 +56,6 @@ pub record IsDocument (s : Spelled) (doc : DocumentValue) : Type 0 where
   pub start : begin_in doc.graph s.start s.ended ≡ Ok doc.start
   pub ended : doc.ended ≡ ends_in doc.graph.names.tasks s.ended
   pub times : doc.times ≡ s.times
-
--- why a draft spells no graph, unless memory ran out
-abbrev pub GraphFaults : Draft → ReadFault → Type 0
-GraphFaults d (faults.Graph f) = IsLeast d f
-GraphFaults d faults.Memory = Unit {0}
-GraphFaults d e = ⊥
 
 -- the draft spells a graph of which the claims can be asked
 abbrev pub HasClaims : Spelled → Type 0

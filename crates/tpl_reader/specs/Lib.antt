@@ -10,3 +10,4 @@ pub mod Document
 pub mod SeenDocument
 pub mod Starting
 pub mod Laws
+pub mod Prelude

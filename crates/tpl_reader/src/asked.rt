@@ -1,18 +1,17 @@
 //! Claims with ids in place of names.
 
-ghost use Rattle.std.specs.Prelude.{◌≡◌, ◌||◌, map, length, IfOk, IfErr};
+ghost use Rattle.std.specs.Prelude.{◌≡◌, ◌||◌, map, length, IfOk, IfErr, option_map};
 ghost use Rattle.std.specs.List.{list_any};
-ghost use Rattle.std.specs.Option.{option_map};
-ghost use Rattle.tpl_graph.specs.Fits.{is_of_one_thing, given_twice};
+ghost use Rattle.tpl_graph.specs.Prelude.{given_twice, is_of_one_thing};
+ghost use Rattle.tpl_json.specs.Prelude.{Yields};
 ghost use Rattle.tpl_json.specs.declared.miss.Miss.TheVariants.{Memory};
-ghost use Rattle.tpl_parts.specs.SeenClaims.{given_of, property_of, claim_of};
-ghost use Rattle.tpl_json.specs.Passes.{Yields};
-ghost use Rattle.tpl_reader.specs.Asked.{task_in, token_in, input_in, site_in, given_in, pair_in, property_in, is_no_failure, is_no_request, is_single, with_jobs, with_tokens, with_all_jobs, with_all, singles_in, is_said_again, says_twice, claim_in, is_same_name, has_name_of, claim_behind, claims_in};
+ghost use Rattle.tpl_parts.specs.Prelude.{claim_of, given_of, property_of};
+ghost use Rattle.tpl_reader.specs.Prelude.{claim_behind, claim_in, claims_in, given_in, has_name_of, input_in, is_no_failure, is_no_request, is_said_again, is_same_name, is_single, pair_in, property_in, says_twice, singles_in, site_in, task_in, token_in, with_all, with_all_jobs, with_jobs, with_tokens};
 
 use crate::fault::ClaimFault;
 use std::alloc::Global;
 use tpl_graph::{Claim, Graph, given_twice, have_bodies};
-use tpl_json::Miss;
+use tpl_json::{Miss, at_number};
 use tpl_model::{Given, InputId, Property, SiteId, TaskId, TokenId};
 use tpl_parts::{NamedClaim, NamedGiven, NamedProperty};
 
@@ -342,11 +341,11 @@ pub(crate) fn claims_in(
 {
     let mut asked = Vec::new(alloc);
     for (index, claim) in claims.iter().enumerate() {
-        match claim_behind(alloc, graph, &claims[..index], claim) {
-            Ok(one) => asked.push(one)?,
-            Err(Miss::Wrong(fault)) => return Err(Miss::Wrong((index + 1, fault))),
-            Err(Miss::Memory) => return Err(Miss::Memory),
-        }
+        let one = at_number(
+            index + 1,
+            claim_behind(alloc, graph, &claims[..index], claim),
+        )?;
+        asked.push(one)?;
     }
     Ok(asked)
 }

@@ -1,16 +1,12 @@
 //! Where a run starts, with ids in place of names.
 
-ghost use Rattle.std.specs.Prelude.{◌≡◌, ◌<◌, length, map, ok_or, IfErr};
-ghost use Rattle.std.specs.Option.{option_map};
-ghost use Rattle.std.specs.List.{All, list_all};
-ghost use Rattle.tpl_json.specs.View.{view};
-ghost use Rattle.tpl_draft.specs.Ids.{token_number, site_number};
-ghost use Rattle.tpl_cert.specs.Naming.{number_of, is_declared};
-ghost use Rattle.tpl_parts.specs.SeenStart.{start_of};
-ghost use Rattle.tpl_reader.specs.SeenDocument.{value_of};
-ghost use Rattle.tpl_json.specs.Passes.{Yields};
-ghost use Rattle.tpl_reader.specs.Begin.{knows_members, truth_at, may_fail, may_all_fail, numbers_in, truths_in, start_in, start_if_any};
-ghost use Rattle.tpl_reader.specs.Document.{begin_in};
+ghost use Rattle.std.specs.Prelude.{◌≡◌, ◌<◌, length, map, ok_or, IfErr, option_map, All};
+ghost use Rattle.std.specs.List.{list_all};
+ghost use Rattle.tpl_cert.specs.Prelude.{is_declared, number_of};
+ghost use Rattle.tpl_draft.specs.Prelude.{site_number, token_number};
+ghost use Rattle.tpl_json.specs.Prelude.{Yields, view};
+ghost use Rattle.tpl_parts.specs.Prelude.{start_of};
+ghost use Rattle.tpl_reader.specs.Prelude.{begin_in, knows_members, may_all_fail, may_fail, numbers_in, start_if_any, start_in, truth_at, truths_in, value_of};
 
 use crate::document::Start;
 use crate::ends::knows_ends;
@@ -18,7 +14,7 @@ use crate::fault::StartFault;
 use json::Value;
 use std::alloc::Global;
 use tpl_graph::Graph;
-use tpl_json::{Miss, bool_in};
+use tpl_json::{Miss, bool_in, read_each};
 use tpl_model::{InputId, Inputs, SiteId, TokenId};
 use tpl_parts::NamedStart;
 
@@ -85,12 +81,7 @@ fn tokens_in(alloc: Global, graph: &Graph, names: &[&str]) -> Result<Vec<TokenId
     ensures { Yields (λ v. map token_number v.items) result
         (numbers_in graph.now.names.tokens (map (λ s. s.now) names.now)) }
 {
-    let mut tokens = Vec::new(alloc);
-    for name in names {
-        let token = token_in(graph, name)?;
-        tokens.push(token)?;
-    }
-    Ok(tokens)
+    read_each(alloc, names, |_, name| token_in(graph, name))
 }
 
 fn site_in(graph: &Graph, name: &str) -> Result<SiteId, Miss<StartFault>>
@@ -108,12 +99,7 @@ fn sites_in(alloc: Global, graph: &Graph, names: &[&str]) -> Result<Vec<SiteId>,
     ensures { Yields (λ v. map site_number v.items) result
         (numbers_in graph.now.names.sites (map (λ s. s.now) names.now)) }
 {
-    let mut sites = Vec::new(alloc);
-    for name in names {
-        let site = site_in(graph, name)?;
-        sites.push(site)?;
-    }
-    Ok(sites)
+    read_each(alloc, names, |_, name| site_in(graph, name))
 }
 
 #[tactic(auto, using(crate::proofs::Begins::fails))]

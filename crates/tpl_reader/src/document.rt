@@ -1,8 +1,7 @@
 //! Documents.
 
 ghost use Rattle.std.specs.Prelude.{◌≡◌};
-ghost use Rattle.tpl_reader.specs.SeenDocument.{doc_of};
-ghost use Rattle.tpl_reader.specs.Starting.{inputs_of};
+ghost use Rattle.tpl_reader.specs.Prelude.{doc_of, inputs_of};
 
 use tpl_graph::{Claim, Graph};
 use tpl_model::{Final, Inputs, SiteId, TaskId, TokenId};

@@ -1,14 +1,12 @@
 //! How tasks were seen to end, with ids in place of names.
 
-ghost use Rattle.std.specs.Prelude.{◌≡◌, length, option_and_then, IfOk, IfErr, OnOk};
-ghost use Rattle.std.specs.List.{All, list_all};
-ghost use Rattle.std.specs.Option.{option_map};
+ghost use Rattle.std.specs.Prelude.{◌≡◌, length, option_and_then, IfOk, IfErr, OnOk, All, option_map};
+ghost use Rattle.std.specs.List.{list_all};
 ghost use Rattle.serde_json.specs.Find.{get};
-ghost use Rattle.tpl_json.specs.Finals.{final_at};
-ghost use Rattle.tpl_json.specs.View.{view};
-ghost use Rattle.tpl_cert.specs.Naming.{is_declared};
-ghost use Rattle.tpl_model.specs.Graph.{is_task};
-ghost use Rattle.tpl_reader.specs.Ends.{knows_ends, with_end, ends_below, ends_in};
+ghost use Rattle.tpl_cert.specs.Prelude.{is_declared};
+ghost use Rattle.tpl_json.specs.Prelude.{final_at, view};
+ghost use Rattle.tpl_model.specs.Prelude.{is_task};
+ghost use Rattle.tpl_reader.specs.Prelude.{ends_below, ends_in, knows_ends, with_end};
 ghost use Rattle.tpl_reader.specs.declared.fault.ReadFault.TheVariants.{Memory};
 
 use crate::fault::ReadFault;

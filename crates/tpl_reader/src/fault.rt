@@ -1,13 +1,13 @@
 //! Why a document isn't read.
 
 ghost use Rattle.std.specs.Prelude.{◌≡◌};
+ghost use Rattle.tpl_reader.specs.Prelude.{claim_fault, graph_fault, shape_fault, start_fault, tree_fault};
 ghost use Rattle.tpl_reader.specs.declared.fault.ReadFault.TheVariants.{Memory as ReadMemory};
-ghost use Rattle.tpl_reader.specs.Faults.{shape_fault, claim_fault, tree_fault, start_fault};
 
 use std::alloc::{AllocError, AllocFailed};
 use thiserror::Error;
 use tpl_cert::TreeFault;
-use tpl_graph::GraphFault;
+use tpl_graph::{GraphFault, Why};
 use tpl_json::Miss;
 
 /// A part of a document. Tasks and claims count from 1.
@@ -114,6 +114,17 @@ impl From<Miss<Part>> for ReadFault {
         match miss {
             Miss::Wrong(part) => ReadFault::Shape(part),
             Miss::Memory => ReadFault::Memory,
+        }
+    }
+}
+
+impl From<GraphFault> for ReadFault {
+    ghost from_gives = { λ fault e. e ≡ graph_fault fault };
+
+    fn from(fault: GraphFault) -> ReadFault {
+        match fault.why {
+            Why::Memory => ReadFault::Memory,
+            _ => ReadFault::Graph(fault),
         }
     }
 }

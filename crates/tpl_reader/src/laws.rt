@@ -1,7 +1,7 @@
 //! What follows from the definition of the documents that bytes spell. Each law is the contract of a function that does
 //! nothing.
 
-ghost use Rattle.tpl_reader.specs.Laws.{CertificateIsReadBack, SpelledHasNoFault, SpellsOneDocument};
+ghost use Rattle.tpl_reader.specs.Prelude.{CertificateIsReadBack, SpelledHasNoFault, SpellsOneDocument};
 
 /// Bytes spell one document at most, and where they spell one, no fault is true of them but `Memory`. So the bytes
 /// determine what `read_document` answers, memory aside: the document where they spell one, else a fault.

@@ -1,27 +1,15 @@
 //! From bytes to a document.
 
-ghost use Rattle.std.specs.Prelude.{◌≡◌, ◌≤◌, ℕ, List, Option, Ok, length, map, string_bytes, IfOk, IfErr};
-ghost use Rattle.std.specs.List.{All};
-ghost use Rattle.std.specs.Option.{option_map};
-ghost use Rattle.tpl_json.specs.View.{view};
-ghost use Rattle.tpl_model.specs.Graph.{is_task};
+ghost use Rattle.std.specs.Prelude.{◌≡◌, ◌≤◌, ℕ, List, Option, Ok, length, map, string_bytes, IfOk, IfErr, All, option_map};
+ghost use Rattle.tpl_draft.specs.Prelude.{IsValid, numbered};
 ghost use Rattle.tpl_draft.specs.Draft as spec;
-ghost use Rattle.tpl_draft.specs.Numbered.{numbered};
-ghost use Rattle.tpl_draft.specs.Refusals.{IsValid};
-ghost use Rattle.tpl_draft.specs.SeenTasks.{draft_of};
-ghost use Rattle.tpl_trees.specs.Heights.{IsWithinLimits};
-ghost use Rattle.tpl_trees.specs.WideHeights.{IsWithinWideLimits};
-ghost use Rattle.tpl_graph.specs.Fits.{Fits};
-ghost use Rattle.tpl_parts.specs.Versions.{rules_since};
-ghost use Rattle.tpl_parts.specs.SeenClaims.{claim_of};
-ghost use Rattle.tpl_parts.specs.SeenStart.{start_of};
-ghost use Rattle.tpl_reader.specs.SeenDocument.{value_of, doc_of, spelled_of, spelled_with};
-ghost use Rattle.tpl_json.specs.Passes.{Yields};
-ghost use Rattle.tpl_reader.specs.Asked.{most_claims, claims_for};
-ghost use Rattle.tpl_reader.specs.Trees.{HasNoOthers, trees_by, trees_in};
-ghost use Rattle.tpl_reader.specs.Ends.{ends_in};
+ghost use Rattle.tpl_graph.specs.Prelude.{Fits};
+ghost use Rattle.tpl_json.specs.Prelude.{Yields, view};
+ghost use Rattle.tpl_model.specs.Prelude.{is_task};
+ghost use Rattle.tpl_parts.specs.Prelude.{claim_of, rules_since, start_of};
+ghost use Rattle.tpl_reader.specs.Prelude.{HasNoOthers, IsDocument, IsFault, IsRefused, Reads, Spells, begin_in, claims_for, doc_of, ends_in, longest, most_claims, spelled_of, spelled_with, trees_by, trees_in, value_of};
 ghost use Rattle.tpl_reader.specs.declared.fault.ReadFault.TheVariants.{Memory};
-ghost use Rattle.tpl_reader.specs.Document.{begin_in, GraphFaults, IsDocument, IsRefused, longest, Reads, Spells, IsFault};
+ghost use Rattle.tpl_trees.specs.Prelude.{IsWithinLimits, IsWithinWideLimits};
 
 use crate::asked::claims_in;
 use crate::begin::begin_in;
@@ -33,7 +21,7 @@ use crate::shape::{NamedRest, Shaped, shape_of};
 use crate::trees::{Trees, trees_in};
 use json::{Scratch, Value};
 use std::alloc::Global;
-use tpl_graph::{Claim, Draft, Graph, Why};
+use tpl_graph::{Claim, Graph};
 use tpl_json::{Miss, NotRead, value_from};
 use tpl_model::{Final, TaskId};
 use tpl_parts::{NamedClaim, Version};
@@ -49,22 +37,6 @@ pub fn most_claims(version: Version) -> usize
     match version {
         Version::One | Version::Two => 64,
         Version::Three => 1_024,
-    }
-}
-
-fn graph_of(alloc: Global, draft: Draft) -> Result<Graph, ReadFault>
-    ensures ok { IfOk result (λ g. IsValid (draft_of draft) × (g ≡ numbered (draft_of draft))) }
-    ensures err { IfErr result (GraphFaults (draft_of draft)) }
-{
-    match Graph::build(alloc, draft) {
-        Ok(graph) => Ok(graph),
-        Err(fault) => {
-            if fault.why == Why::Memory {
-                Err(ReadFault::Memory)
-            } else {
-                Err(ReadFault::Graph(fault))
-            }
-        }
     }
 }
 
@@ -178,7 +150,7 @@ fn document_of(alloc: Global, shaped: Shaped) -> Result<Document, ReadFault>
     ensures ended { IfOk result (λ d. All (λ said. is_task d.graph.graph said.0.0) d.ended.items) }
     ensures err { IfErr result (IsRefused (spelled_of shaped.entry)) }
 {
-    let graph = graph_of(alloc, shaped.draft)?;
+    let graph = Graph::build(alloc, shaped.draft)?;
     let rest = rest_of(alloc, shaped.version, &graph, &shaped.rest)?;
     Ok(Document {
         version: shaped.version,

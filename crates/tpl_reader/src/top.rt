@@ -1,18 +1,12 @@
 //! Reading a document as far as its shape goes.
 
-ghost use Rattle.std.specs.Prelude.{◌≡◌, map, codes, string_bytes, IfErr};
-ghost use Rattle.std.specs.Option.{option_map};
+ghost use Rattle.std.specs.Prelude.{◌≡◌, map, codes, IfErr, option_map};
 ghost use Rattle.serde_json.specs.Find.{get};
-ghost use Rattle.tpl_json.specs.View.{view};
-ghost use Rattle.tpl_json.specs.Members.{Gives, each, has_only, IsShape};
-ghost use Rattle.tpl_draft.specs.SeenTasks.{token_of, task_of};
-ghost use Rattle.tpl_parts.specs.SeenClaims.{claim_of};
-ghost use Rattle.tpl_reader.specs.SeenTop.{members_of};
-ghost use Rattle.tpl_parts.specs.Tasks.{task_at, token_at};
-ghost use Rattle.tpl_parts.specs.Claims.{claim_at};
-ghost use Rattle.tpl_reader.specs.Top.{version_in, version_at, text_or_empty, added, ends_or_none, is_line_break, line_breaks, never_fall, are_times, whole_at, times_or_none, top_names, top_at};
-ghost use Rattle.tpl_json.specs.Passes.{Yields};
-ghost use Rattle.tpl_reader.specs.Shape.{parts_in};
+ghost use Rattle.tpl_draft.specs.Prelude.{task_of};
+ghost use Rattle.tpl_draft.specs.SeenTasks.{token_of};
+ghost use Rattle.tpl_json.specs.Prelude.{Gives, IsShape, Yields, each, has_only, view};
+ghost use Rattle.tpl_parts.specs.Prelude.{claim_at, claim_of, task_at, token_at};
+ghost use Rattle.tpl_reader.specs.Prelude.{added, are_times, ends_or_none, is_line_break, line_breaks, members_of, never_fall, parts_in, text_or_empty, times_or_none, top_at, top_names, version_at, version_in, whole_at};
 ghost use Rattle.tpl_reader.specs.declared.fault.Part.TheVariants.{Task, Claim};
 
 use crate::fault::Part;
@@ -20,7 +14,8 @@ use json::Value;
 use std::alloc::Global;
 use tpl_graph::{DraftTask, DraftToken};
 use tpl_json::{
-    Miss, Shape, find, list_of, list_or_none, member_in, number_of, owned_texts, text_of,
+    Miss, Shape, find, list_of, list_or_none, member_in, number_of, or_fault, owned_texts,
+    read_each, text_of,
 };
 use tpl_parts::{
     NamedClaim, Version, claim_of, has_ends, has_only_beside, note_of, task_of, token_of,
@@ -80,12 +75,7 @@ fn tokens_of(
     ensures { Gives (λ v. map token_of v.items) result (each (token_at links)
         (map view values.now)) }
 {
-    let mut tokens = Vec::new(alloc);
-    for value in values {
-        let token = token_of(alloc, links, value)?;
-        tokens.push(token)?;
-    }
-    Ok(tokens)
+    read_each(alloc, values, |_, value| token_of(alloc, links, value))
 }
 
 #[tactic(auto, unfolding(crate::specs::Top::text_or_empty))]
@@ -171,12 +161,7 @@ fn are_times(journal: &str, times: &[u64]) -> bool
 fn wholes_of(alloc: Global, values: &[Value<'_>]) -> Result<Vec<u64>, Miss<Shape>>
     ensures { Gives (λ v. v.items) result (each whole_at (map view values.now)) }
 {
-    let mut numbers = Vec::new(alloc);
-    for value in values {
-        let number = whole_of(value)?;
-        numbers.push(number)?;
-    }
-    Ok(numbers)
+    read_each(alloc, values, |_, value| whole_of(value))
 }
 
 /// When each line of the journal was written, if that is said.
@@ -270,15 +255,9 @@ pub(crate) fn tasks_of(
     ensures { Yields (λ v. map task_of v.items) result (parts_in Task (task_at version)
         (map view values.now)) }
 {
-    let mut tasks = Vec::new(alloc);
-    for (index, value) in values.iter().enumerate() {
-        match task_of(alloc, version, value) {
-            Ok(task) => tasks.push(task)?,
-            Err(Miss::Wrong(Shape)) => return Err(Miss::Wrong(Part::Task(index + 1))),
-            Err(Miss::Memory) => return Err(Miss::Memory),
-        }
-    }
-    Ok(tasks)
+    read_each(alloc, values, |number, value| {
+        or_fault(task_of(alloc, version, value), Part::Task(number))
+    })
 }
 
 /// The claims with names, up to the first of the wrong shape.
@@ -290,13 +269,7 @@ pub(crate) fn claims_of<'v, 't>(
     ensures { Yields (λ v. map claim_of v.items) result (parts_in Claim (claim_at version)
         (map view values.now)) }
 {
-    let mut claims = Vec::new(alloc);
-    for (index, value) in values.iter().enumerate() {
-        match claim_of(alloc, version, value) {
-            Ok(claim) => claims.push(claim)?,
-            Err(Miss::Wrong(Shape)) => return Err(Miss::Wrong(Part::Claim(index + 1))),
-            Err(Miss::Memory) => return Err(Miss::Memory),
-        }
-    }
-    Ok(claims)
+    read_each(alloc, values, |number, value| {
+        or_fault(claim_of(alloc, version, value), Part::Claim(number))
+    })
 }

@@ -1,21 +1,17 @@
 //! The trees of a certificate.
 
-ghost use Rattle.std.specs.Prelude.{◌≡◌, map, IfOk};
-ghost use Rattle.std.specs.List.{All};
-ghost use Rattle.tpl_json.specs.Passes.{Yields, at_number};
-ghost use Rattle.tpl_json.specs.View.{view};
-ghost use Rattle.tpl_model.specs.WiderRules.{as_wide_tree};
+ghost use Rattle.std.specs.Prelude.{◌≡◌, map, IfOk, All};
+ghost use Rattle.tpl_json.specs.Prelude.{Yields, view};
+ghost use Rattle.tpl_model.specs.Prelude.{as_wide_tree};
 ghost use Rattle.tpl_model.specs.declared.rule_set.RuleSet.TheVariants.{Narrow, Wide};
-ghost use Rattle.tpl_trees.specs.Heights.{IsWithinLimits};
-ghost use Rattle.tpl_cert.specs.Spelled.{read_tree};
-ghost use Rattle.tpl_trees.specs.WideHeights.{IsWithinWideLimits};
-ghost use Rattle.tpl_reader.specs.Trees.{HasNoOthers, trees_by, trees_in};
+ghost use Rattle.tpl_reader.specs.Prelude.{HasNoOthers, numbered_tree, trees_by, trees_in};
+ghost use Rattle.tpl_trees.specs.Prelude.{IsWithinLimits, IsWithinWideLimits};
 
 use json::Value;
 use std::alloc::Global;
 use tpl_cert::{TreeFault, tree_from, wide_tree_from};
 use tpl_graph::Graph;
-use tpl_json::Miss;
+use tpl_json::{Miss, read_each};
 use tpl_model::RuleSet;
 use tpl_trees::{Tree, WideTree};
 
@@ -26,34 +22,14 @@ pub(crate) struct Trees {
     pub(crate) wide: Vec<WideTree>,
 }
 
-/// The tree that the value of this number is read as.
-fn tree_in(
-    alloc: Global,
-    graph: &Graph,
+/// The tree that was read, or what is wrong with it beside its number.
+fn tree_at<T: Drop>(
     number: usize,
-    value: &Value<'_>,
-) -> Result<Tree, Miss<(usize, TreeFault)>>
-    ensures { Yields as_wide_tree result
-        (at_number number (read_tree Narrow graph.now.names (view value.now))) }
+    read: Result<T, TreeFault>,
+) -> Result<T, Miss<(usize, TreeFault)>>
+    ensures { result ≡ numbered_tree number read }
 {
-    match tree_from(alloc, graph, value) {
-        Ok(tree) => Ok(tree),
-        Err(TreeFault::Memory) => Err(Miss::Memory),
-        Err(fault) => Err(Miss::Wrong((number, fault))),
-    }
-}
-
-/// The tree that the value of this number is read as, which may speak of tokens and of winners.
-fn wide_tree_in(
-    alloc: Global,
-    graph: &Graph,
-    number: usize,
-    value: &Value<'_>,
-) -> Result<WideTree, Miss<(usize, TreeFault)>>
-    ensures { Yields (λ t. t) result
-        (at_number number (read_tree Wide graph.now.names (view value.now))) }
-{
-    match wide_tree_from(alloc, graph, value) {
+    match read {
         Ok(tree) => Ok(tree),
         Err(TreeFault::Memory) => Err(Miss::Memory),
         Err(fault) => Err(Miss::Wrong((number, fault))),
@@ -69,12 +45,11 @@ fn plain_trees_in(
         (trees_in Narrow graph.now.names (map view values.now)) }
     ensures limits { IfOk result (λ v. All IsWithinLimits v.items) }
 {
-    let mut trees = Vec::new(alloc);
-    for (index, value) in values.iter().enumerate() {
-        let tree = tree_in(alloc, graph, index + 1, value)?;
-        trees.push(tree)?;
-    }
-    Ok(trees)
+    read_each(
+        alloc,
+        values,
+        |number, value| tree_at(number, tree_from(alloc, graph, value)),
+    )
 }
 
 fn wide_trees_in(
@@ -86,12 +61,11 @@ fn wide_trees_in(
         (trees_in Wide graph.now.names (map view values.now)) }
     ensures limits { IfOk result (λ v. All IsWithinWideLimits v.items) }
 {
-    let mut trees = Vec::new(alloc);
-    for (index, value) in values.iter().enumerate() {
-        let tree = wide_tree_in(alloc, graph, index + 1, value)?;
-        trees.push(tree)?;
-    }
-    Ok(trees)
+    read_each(
+        alloc,
+        values,
+        |number, value| tree_at(number, wide_tree_from(alloc, graph, value)),
+    )
 }
 
 /// The trees that the values spell by the rules, with the names of the graph, as far as the first that isn't read.

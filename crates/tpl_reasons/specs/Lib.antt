@@ -1,2 +1,3 @@
 pub mod Hidden
 pub mod Reasons
+pub mod Prelude

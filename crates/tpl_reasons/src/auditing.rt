@@ -1,7 +1,7 @@
 //! Why a journal can't be read, isn't a run, isn't complete, or shows that a claim fails or a task ended otherwise.
 
 ghost use Rattle.std.specs.Prelude.{◌≡◌};
-ghost use Rattle.tpl_reasons.specs.Reasons.{audit_reason, verdict_reason};
+ghost use Rattle.tpl_reasons.specs.Prelude.{audit_reason, verdict_reason};
 
 use crate::crossing::crossing_text;
 use crate::journal::{ending_text, line_text};

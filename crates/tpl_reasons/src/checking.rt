@@ -1,7 +1,7 @@
 //! Why a certificate is refused, or shows nothing.
 
 ghost use Rattle.std.specs.Prelude.{◌≡◌};
-ghost use Rattle.tpl_reasons.specs.Reasons.{check_reason, yes_reason};
+ghost use Rattle.tpl_reasons.specs.Prelude.{check_reason, yes_reason};
 
 use crate::leaves::{Parts, Rows, row_text, tree_count};
 use crate::reason::Reason;
@@ -9,7 +9,7 @@ use crate::rules::rule_text;
 use crate::words::{Said, claim_text, count_text, name};
 use std::alloc::Global;
 use tpl_graph::Graph;
-use tpl_model::{CertFault, Property, TaskId};
+use tpl_model::{CertFault, Property};
 use tpl_reader::Document;
 
 /// What is said beside a fault of a certificate that was found for something else, most often.
@@ -86,18 +86,6 @@ fn shape_text(alloc: Global, document: &Document, claim: usize) -> Said {
     rows_text(alloc, document, claim)
 }
 
-/// The tasks of which a property speaks: two, or one twice.
-fn tasks_of(property: Property) -> (TaskId, TaskId) {
-    match property {
-        Property::Final(task, _)
-        | Property::Observed(task)
-        | Property::Never(task)
-        | Property::Runs(task) => (task, task),
-        Property::After(first, second) => (first, second),
-        Property::Excludes(one, other) => (one, other),
-    }
-}
-
 /// When a leaf that keeps the rules proves a property.
 fn proved_if(property: Property) -> &'static str {
     match property {
@@ -114,13 +102,15 @@ fn proved_if(property: Property) -> &'static str {
 
 /// What the rows of a leaf say of the tasks of which the property speaks.
 fn rows_said(alloc: Global, graph: &Graph, rows: Rows<'_>, property: Property) -> Said {
-    let (one, other) = tasks_of(property);
+    let (one, other) = property.tasks();
     let first = row_text(alloc, graph, rows, one)?;
-    if one == other {
-        return Ok(first);
+    match other {
+        Some(other) if other != one => {
+            let second = row_text(alloc, graph, rows, other)?;
+            format!(in alloc; "{first}{second}")
+        }
+        _ => Ok(first),
     }
-    let second = row_text(alloc, graph, rows, other)?;
-    format!(in alloc; "{first}{second}")
 }
 
 /// How the leaf keeps the rules.

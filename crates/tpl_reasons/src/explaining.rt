@@ -1,12 +1,9 @@
 //! Why the program's answer is what it is.
 
-ghost use Rattle.std.specs.Prelude.{◌≡◌, ◌≢◌, [], IfOk, IfSome, string_bytes};
-ghost use Rattle.std.specs.List.{All};
-ghost use Rattle.std.specs.Option.{option_map};
-ghost use Rattle.tpl_graph.specs.Fits.{Fits};
-ghost use Rattle.tpl_commands.specs.Finding.{IsFindingOf};
-ghost use Rattle.tpl_reasons.specs.Hidden.{IsShown};
-ghost use Rattle.tpl_reasons.specs.Reasons.{found_reason, reason_of};
+ghost use Rattle.std.specs.Prelude.{◌≡◌, ◌≢◌, [], IfOk, IfSome, string_bytes, All, option_map};
+ghost use Rattle.tpl_commands.specs.Prelude.{IsFindingOf};
+ghost use Rattle.tpl_graph.specs.Prelude.{Fits};
+ghost use Rattle.tpl_reasons.specs.Prelude.{IsShown, found_reason, reason_of};
 
 use crate::auditing::{
     audit_reason, ends_otherwise_text, no_journal_text, no_start_text, not_allowed_text,

@@ -1,6 +1,6 @@
 //! What stands in the way of a claim, where it can be said simply.
 
-ghost use Rattle.tpl_graph.specs.Fits.{Fits};
+ghost use Rattle.tpl_graph.specs.Prelude.{Fits};
 
 use crate::rules::role;
 use crate::words::{Said, name, token_name};

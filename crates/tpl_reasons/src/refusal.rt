@@ -2,23 +2,9 @@
 
 use crate::words::{Said, actor_text, name, token_name};
 use std::alloc::Global;
+use tpl_fast::task_of;
 use tpl_machine::{Core, Next};
 use tpl_model::{Act, Actor, Event, Status, TaskId, TokenId};
-
-/// The task of an act; a request has none.
-fn task_of(act: Act) -> Option<TaskId> {
-    match act {
-        Act::Request(_) => None,
-        Act::Release(task)
-        | Act::Begin(task)
-        | Act::Step(task)
-        | Act::Worked(task, _)
-        | Act::Leave(task)
-        | Act::Close(task)
-        | Act::Drop(task)
-        | Act::Settle(task) => Some(task),
-    }
-}
 
 /// When an act is allowed.
 fn rule(act: Act) -> &'static str {

@@ -1,9 +1,8 @@
 //! Why no certificate was found.
 
-ghost use Rattle.std.specs.Prelude.{◌≡◌, ◌<◌, length};
-ghost use Rattle.std.specs.List.{All};
-ghost use Rattle.tpl_graph.specs.Fits.{Fits};
-ghost use Rattle.tpl_reasons.specs.Reasons.{search_reason};
+ghost use Rattle.std.specs.Prelude.{◌≡◌, ◌<◌, length, All};
+ghost use Rattle.tpl_graph.specs.Prelude.{Fits};
+ghost use Rattle.tpl_reasons.specs.Prelude.{search_reason};
 
 use crate::checking::yes_reason;
 use crate::obstacle::obstacle_words;

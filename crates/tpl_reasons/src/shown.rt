@@ -1,7 +1,7 @@
 //! Texts that a terminal shows as they are, whatever stands in the document.
 
 ghost use Rattle.std.specs.Prelude.{◌≡◌, ◌≢◌, [], false, IfOk, string_bytes};
-ghost use Rattle.tpl_reasons.specs.Hidden.{is_hidden, turns, IsShown};
+ghost use Rattle.tpl_reasons.specs.Prelude.{IsShown, is_hidden, turns};
 
 use crate::words::Said;
 use std::alloc::{AllocError, Global};

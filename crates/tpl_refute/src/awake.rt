@@ -32,10 +32,7 @@ pub(crate) struct Awake {
 impl Awake {
     /// Nobody, with memory for all.
     pub(crate) fn new(alloc: Global, graph: &Graph) -> Result<Awake, AllocError> {
-        let mut marks = Vec::with_capacity(alloc, graph.len())?;
-        for _ in 0..graph.len() {
-            marks.push(false)?;
-        }
+        let marks = vec![in alloc; false; graph.len()]?;
         Ok(Awake {
             movers: Vec::with_capacity(alloc, graph.len() + MOST_TOKENS)?,
             held: Vec::new(alloc),

@@ -1,7 +1,7 @@
 //! Who does the acts of a run.
 
 ghost use Rattle.std.specs.Prelude.{◌≡◌, ◌↔◌, IsTrue};
-ghost use Rattle.tpl_model.specs.Graph.{is_task};
+ghost use Rattle.tpl_model.specs.Prelude.{is_task};
 
 use crate::bodies::Bodies;
 use std::alloc::{AllocError, Global};

@@ -1,9 +1,8 @@
 //! Whether events refute a claim, and up to where.
 
-ghost use Rattle.std.specs.Prelude.{◌≡◌, ◌↔◌, IsTrue, IfOk, IfSome, length};
-ghost use Rattle.std.specs.List.{All};
-ghost use Rattle.tpl_graph.specs.Fits.{Fits};
-ghost use Rattle.tpl_journal.specs.Lines.{IsSeat};
+ghost use Rattle.std.specs.Prelude.{◌≡◌, ◌↔◌, IsTrue, IfOk, IfSome, length, All};
+ghost use Rattle.tpl_graph.specs.Prelude.{Fits};
+ghost use Rattle.tpl_journal.specs.Prelude.{IsSeat};
 ghost use Rattle.tpl_refute.specs.Refuting.{Refutes};
 
 use crate::counterexample::Counterexample;

@@ -1,16 +1,15 @@
 //! Runs with some of the events of another.
 
-ghost use Rattle.std.specs.Prelude.{◌≡◌};
-ghost use Rattle.tpl_graph.specs.Fits.{Fits};
+ghost use Rattle.tpl_graph.specs.Prelude.{Fits};
 
 use crate::budget::Budget;
 use crate::crew::{Crew, Habit};
 use std::alloc::{AllocError, Global};
 use tpl_audit::holds;
-use tpl_fast::Fast;
+use tpl_fast::{Fast, task_of};
 use tpl_graph::{Claim, Graph};
 use tpl_machine::Core;
-use tpl_model::{Act, Event, Inputs, TaskId};
+use tpl_model::{Act, Event, Inputs};
 
 /// What is left out of a run: all from the first number on and below the second.
 #[derive(Clone, Copy, PartialEq, Eq, Debug)]
@@ -21,21 +20,6 @@ pub(crate) enum Cut {
     Tasks(usize, usize),
     /// The events at these places, counted from 0.
     Events(usize, usize),
-}
-
-/// The task of an act, if it has one.
-pub(crate) fn task_of(act: Act) -> Option<TaskId> {
-    match act {
-        Act::Request(_) => None,
-        Act::Release(task) => Some(task),
-        Act::Begin(task) => Some(task),
-        Act::Step(task) => Some(task),
-        Act::Worked(task, _) => Some(task),
-        Act::Leave(task) => Some(task),
-        Act::Close(task) => Some(task),
-        Act::Drop(task) => Some(task),
-        Act::Settle(task) => Some(task),
-    }
 }
 
 impl Cut {
@@ -63,6 +47,7 @@ impl Cut {
 /// A claim about runs of a graph with these inputs, of which one is sought in which it fails.
 #[derive(Clone, Copy)]
 pub(crate) struct Case<'r> {
+    pub(crate) alloc: Global,
     pub(crate) graph: &'r Graph,
     pub(crate) claim: &'r Claim,
     pub(crate) inputs: &'r Inputs,
@@ -76,10 +61,12 @@ pub(crate) struct Stage {
     pub(crate) budget: Budget,
 }
 
+/// The events of a run in which the claim fails, unless memory runs out.
+pub(crate) type Failing = Result<Vec<Event>, AllocError>;
+
 /// Does the acts that aren't left out and are still allowed, and gives the events up to where the claim fails, if it
 /// does.
 pub(crate) fn replay(
-    alloc: Global,
     case: Case<'_>,
     events: &[Event],
     cut: Cut,
@@ -87,7 +74,7 @@ pub(crate) fn replay(
 ) -> Result<Option<Vec<Event>>, AllocError>
     requires { Fits case.graph.now.graph case.claim.now }
 {
-    let mut core = Fast::open(alloc, case.graph, case.inputs.copy())?;
+    let mut core = Fast::open(case.alloc, case.graph, case.inputs.copy())?;
     stage.budget.open();
     stage.crew.begin_run(stage.habit);
     for (place, event) in events.iter().enumerate() {
@@ -96,7 +83,7 @@ pub(crate) fn replay(
             stage.budget.play(&core, event.act);
         }
         if !holds(&core, case.claim) {
-            return Ok(Some(Vec::from_slice(alloc, core.events())?));
+            return Ok(Some(Vec::from_slice(case.alloc, core.events())?));
         }
     }
     Ok(None)

@@ -1,12 +1,12 @@
 //! Runs that fail, made shorter.
 
 ghost use Rattle.std.specs.Prelude.{IfOk};
-ghost use Rattle.tpl_graph.specs.Fits.{Fits};
+ghost use Rattle.tpl_graph.specs.Prelude.{Fits};
 ghost use Rattle.tpl_refute.specs.Refuting.{Refutes};
 
 use crate::counterexample::Counterexample;
 use crate::judging::judge;
-use crate::replay::{Case, Cut, Stage, replay};
+use crate::replay::{Case, Cut, Failing, Stage, replay};
 use crate::tidying::tidy;
 use std::alloc::{AllocError, Global};
 use tpl_graph::{Claim, Graph};
@@ -20,30 +20,18 @@ pub(crate) const PLAYED_TO_CUT: u64 = 800_000;
 const PLAYED_TO_TIDY: u64 = 400_000;
 
 /// What is left of the run without what is cut, if the claim fails of that too; else the run itself.
-fn without(
-    alloc: Global,
-    case: Case<'_>,
-    shortest: Vec<Event>,
-    cut: Cut,
-    stage: &mut Stage,
-) -> Result<Vec<Event>, AllocError>
+fn without(case: Case<'_>, shortest: Vec<Event>, cut: Cut, stage: &mut Stage) -> Failing
     requires { Fits case.graph.now.graph case.claim.now }
 {
     if stage.budget.is_spent() || !cut.has_any(shortest.as_slice()) {
         return Ok(shortest);
     }
-    let left = replay(alloc, case, shortest.as_slice(), cut, stage)?;
+    let left = replay(case, shortest.as_slice(), cut, stage)?;
     Ok(left.unwrap_or(shortest))
 }
 
 /// Leaves out whole tasks, this many at once.
-fn without_tasks(
-    alloc: Global,
-    case: Case<'_>,
-    found: Vec<Event>,
-    size: usize,
-    stage: &mut Stage,
-) -> Result<Vec<Event>, AllocError>
+fn without_tasks(case: Case<'_>, found: Vec<Event>, size: usize, stage: &mut Stage) -> Failing
     requires { Fits case.graph.now.graph case.claim.now }
 {
     let mut from = 0;
@@ -53,21 +41,14 @@ fn without_tasks(
             break;
         }
         let to = from.saturating_add(size);
-        let cut = Cut::Tasks(from, to);
-        shortest = without(alloc, case, shortest, cut, stage)?;
+        shortest = without(case, shortest, Cut::Tasks(from, to), stage)?;
         from = to;
     }
     Ok(shortest)
 }
 
 /// Leaves out events, this many at once, the last ones first.
-fn without_events(
-    alloc: Global,
-    case: Case<'_>,
-    found: Vec<Event>,
-    size: usize,
-    stage: &mut Stage,
-) -> Result<Vec<Event>, AllocError>
+fn without_events(case: Case<'_>, found: Vec<Event>, size: usize, stage: &mut Stage) -> Failing
     requires { Fits case.graph.now.graph case.claim.now }
 {
     let mut to = found.len();
@@ -77,27 +58,21 @@ fn without_events(
             break;
         }
         let from = to.saturating_sub(size);
-        let cut = Cut::Events(from, to);
-        shortest = without(alloc, case, shortest, cut, stage)?;
+        shortest = without(case, shortest, Cut::Events(from, to), stage)?;
         to = from;
     }
     Ok(shortest)
 }
 
 /// Leaves out what isn't needed: first whole tasks, then events, many at once and then fewer and fewer.
-fn cut_down(
-    alloc: Global,
-    case: Case<'_>,
-    found: Vec<Event>,
-    stage: &mut Stage,
-) -> Result<Vec<Event>, AllocError>
+fn cut_down(case: Case<'_>, found: Vec<Event>, stage: &mut Stage) -> Failing
     requires { Fits case.graph.now.graph case.claim.now }
 {
     let mut shortest = found;
     for halving in 0..=HALVINGS {
         let size = 1usize << (HALVINGS - halving);
-        shortest = without_tasks(alloc, case, shortest, size, stage)?;
-        shortest = without_events(alloc, case, shortest, size, stage)?;
+        shortest = without_tasks(case, shortest, size, stage)?;
+        shortest = without_events(case, shortest, size, stage)?;
     }
     Ok(shortest)
 }
@@ -117,14 +92,15 @@ pub(crate) fn shorten(
         Refutes graph.now.graph claim.now one.inputs one.events.items) }
 {
     let case = Case {
+        alloc,
         graph,
         claim,
         inputs: &found.inputs,
     };
     let events = Vec::from_slice(alloc, found.events.as_slice())?;
-    let cut = cut_down(alloc, case, events, stage)?;
+    let cut = cut_down(case, events, stage)?;
     stage.budget = stage.budget.of_same(PLAYED_TO_TIDY);
-    let tidied = tidy(alloc, case, cut, stage)?;
+    let tidied = tidy(case, cut, stage)?;
     match judge(alloc, graph, claim, found.inputs.copy(), tidied)? {
         Some(shorter) => Ok(shorter),
         None => Ok(found),

@@ -1,10 +1,11 @@
 //! Runs that fail, put in order, so that people can read them.
 
-ghost use Rattle.tpl_graph.specs.Fits.{Fits};
+ghost use Rattle.tpl_graph.specs.Prelude.{Fits};
 
 use crate::crew::Habit;
-use crate::replay::{Case, Cut, Stage, replay, task_of};
+use crate::replay::{Case, Cut, Failing, Stage, replay};
 use std::alloc::{AllocError, Global};
+use tpl_fast::task_of;
 use tpl_graph::Graph;
 use tpl_model::{Actor, Event, TaskId};
 
@@ -47,19 +48,13 @@ fn with_earlier(
 
 /// The run with its events in another order, if it is as long, needs no more workers, and the claim fails after its
 /// last event; else the run itself.
-fn if_no_worse(
-    alloc: Global,
-    case: Case<'_>,
-    best: Vec<Event>,
-    other: Vec<Event>,
-    stage: &mut Stage,
-) -> Result<Vec<Event>, AllocError>
+fn if_no_worse(case: Case<'_>, best: Vec<Event>, other: Vec<Event>, stage: &mut Stage) -> Failing
     requires { Fits case.graph.now.graph case.claim.now }
 {
     if stage.budget.is_spent() {
         return Ok(best);
     }
-    match replay(alloc, case, other.as_slice(), Cut::Nothing, stage)? {
+    match replay(case, other.as_slice(), Cut::Nothing, stage)? {
         Some(played)
             if played.len() <= best.len()
                 && workers(played.as_slice()) <= workers(best.as_slice()) => { Ok(played) }
@@ -68,12 +63,7 @@ fn if_no_worse(
 }
 
 /// Puts each event behind the last one of its task, where the claim fails then too.
-fn gathered(
-    alloc: Global,
-    case: Case<'_>,
-    found: Vec<Event>,
-    stage: &mut Stage,
-) -> Result<Vec<Event>, AllocError>
+fn gathered(case: Case<'_>, found: Vec<Event>, stage: &mut Stage) -> Failing
     requires { Fits case.graph.now.graph case.claim.now }
 {
     let mut best = found;
@@ -82,8 +72,8 @@ fn gathered(
             break;
         }
         if let Some(to) = place_behind(best.as_slice(), at) {
-            let other = with_earlier(alloc, best.as_slice(), at, to)?;
-            best = if_no_worse(alloc, case, best, other, stage)?;
+            let other = with_earlier(case.alloc, best.as_slice(), at, to)?;
+            best = if_no_worse(case, best, other, stage)?;
         }
     }
     Ok(best)
@@ -135,21 +125,16 @@ fn add_reversed(
 }
 
 /// Puts the events of each task together, as far as the claim fails then too, and has as few workers act as serve.
-pub(crate) fn tidy(
-    alloc: Global,
-    case: Case<'_>,
-    found: Vec<Event>,
-    stage: &mut Stage,
-) -> Result<Vec<Event>, AllocError>
+pub(crate) fn tidy(case: Case<'_>, found: Vec<Event>, stage: &mut Stage) -> Failing
     requires { Fits case.graph.now.graph case.claim.now }
 {
-    let order = joined(alloc, case.graph, found.as_slice())?;
-    let whole = if_no_worse(alloc, case, found, order, stage)?;
-    let best = gathered(alloc, case, whole, stage)?;
+    let order = joined(case.alloc, case.graph, found.as_slice())?;
+    let whole = if_no_worse(case, found, order, stage)?;
+    let best = gathered(case, whole, stage)?;
     stage.habit = match stage.habit {
         Habit::Inside => Habit::Aside,
         Habit::Aside => Habit::Inside,
     };
-    let same = Vec::from_slice(alloc, best.as_slice())?;
-    if_no_worse(alloc, case, best, same, stage)
+    let same = Vec::from_slice(case.alloc, best.as_slice())?;
+    if_no_worse(case, best, same, stage)
 }

@@ -1,7 +1,7 @@
 //! One random run.
 
 ghost use Rattle.std.specs.Prelude.{◌≡◌};
-ghost use Rattle.tpl_graph.specs.Fits.{Fits};
+ghost use Rattle.tpl_graph.specs.Prelude.{Fits};
 
 use crate::awake::Awake;
 use crate::budget::Budget;

@@ -52,12 +52,8 @@ fn weight(dice: &mut Dice, way: Way) -> u32 {
 impl Weights {
     /// A weight for each task of the graph.
     pub(crate) fn new(alloc: Global, graph: &Graph) -> Result<Weights, AllocError> {
-        let mut tasks = Vec::with_capacity(alloc, graph.len())?;
-        for _ in 0..graph.len() {
-            tasks.push(LAST)?;
-        }
         Ok(Weights {
-            tasks,
+            tasks: vec![in alloc; LAST; graph.len()]?,
             tokens: [LAST; MOST_TOKENS],
         })
     }

@@ -5,3 +5,4 @@ pub mod RunTexts
 pub mod Faults
 pub mod Prevents
 pub mod Telling
+pub mod Prelude

@@ -1,8 +1,7 @@
 //! Why a run wasn't made.
 
 ghost use Rattle.std.specs.Prelude.{◌≡◌};
-ghost use Rattle.tpl_report.specs.Faults.{open_stop, seat_stop, run_stop, close_stop};
-ghost use Rattle.tpl_report.specs.RunTexts.{fault_line};
+ghost use Rattle.tpl_report.specs.Prelude.{close_stop, fault_line, open_stop, run_stop, seat_stop};
 
 use std::alloc::AllocError;
 use tpl_runtime::{CloseWhy, OpenWhy, RunWhy, SeatFault};

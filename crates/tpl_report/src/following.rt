@@ -1,8 +1,9 @@
 //! Who follows a run while it is made.
 
 ghost use Rattle.std.specs.Prelude.{◌≡◌, ◌↔◌, IfOk, IfErr, OnOk, map};
-ghost use Rattle.tpl_runtime.specs.Workers.{workers as first_workers, AllWorked, ComeBack, IsCount};
+ghost use Rattle.tpl_runtime.specs.Prelude.{AllWorked, ComeBack, IsCount};
 ghost use Rattle.tpl_runtime.specs.declared.run.RunWhy.TheVariants.{BadCount};
+ghost use Rattle.tpl_runtime.specs.Workers.{workers as first_workers};
 
 use std::alloc::Global;
 use std::sync::Wait;

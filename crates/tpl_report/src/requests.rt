@@ -1,14 +1,12 @@
 //! The tokens that are requested before the workers begin.
 
-ghost use Rattle.std.specs.Prelude.{◌≡◌, ◌||◌, ℕ, ◌<◌, [], ◌∷◌, true, false, length, map, slice_index_or, IfOk, IfErr, IsTrue, OnOk};
-ghost use Rattle.std.specs.List.{All};
-ghost use Rattle.tpl_draft.specs.Ids.{token_number};
-ghost use Rattle.tpl_model.specs.Graph.{is_token};
-ghost use Rattle.tpl_report.specs.Made.{is_request, asks, HasAsked, HaveAsked, GoesOn};
-ghost use Rattle.tpl_report.specs.Prevents.{StopsFor, StopsSession};
+ghost use Rattle.std.specs.Prelude.{◌≡◌, ◌||◌, ℕ, ◌<◌, [], ◌∷◌, true, false, length, map, slice_index_or, IfOk, IfErr, IsTrue, OnOk, All};
+ghost use Rattle.tpl_draft.specs.Prelude.{token_number};
+ghost use Rattle.tpl_model.specs.Prelude.{is_token};
+ghost use Rattle.tpl_model.specs.declared.ids.TokenId.{TokenId};
+ghost use Rattle.tpl_report.specs.Prelude.{GoesOn, HasAsked, HaveAsked, StopsFor, StopsSession, asks, is_request};
 ghost use Rattle.tpl_report.specs.declared.fault.RunFault.TheVariants.{Mismatch};
 ghost use Rattle.tpl_report.specs.declared.fault.Stop.TheVariants.{Fault};
-ghost use Rattle.tpl_model.specs.declared.ids.TokenId.{TokenId};
 
 use crate::fault::{RunFault, Stop, seat_stop};
 use std::alloc::{AllocError, Global};
@@ -49,7 +47,7 @@ fn mark(table: &mut [bool; MOST_TOKENS], act: Act)
 /// The tokens that these events request from outside.
 fn requested_in(events: &[(u32, Event)]) -> [bool; MOST_TOKENS]
     ensures exact { (k : ℕ) → k < MOST_TOKENS → slice_index_or result k false ≡ asks events.now k }
-    ensures many { length result ≡ 32 }
+    ensures many { length result ≡ MOST_TOKENS }
 {
     let mut table = none_requested();
     for (_place, event) in events {

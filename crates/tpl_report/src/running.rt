@@ -1,22 +1,14 @@
 //! A document's run, from its items to a writer.
 
-ghost use Rattle.std.specs.Prelude.{◌≡◌, Some, map, IfOk, MatchResult};
-ghost use Rattle.std.specs.List.{All};
-ghost use Rattle.tpl_draft.specs.Ids.{token_number};
-ghost use Rattle.tpl_graph.specs.Fits.{Fits};
-ghost use Rattle.tpl_model.specs.Graph.{is_token};
-ghost use Rattle.tpl_reader.specs.SeenDocument.{doc_of};
-ghost use Rattle.tpl_reader.specs.Starting.{inputs_of};
-ghost use Rattle.tpl_journal.specs.Lines.{CanSpell};
-ghost use Rattle.tpl_commands.specs.Checking.{IsAccepted};
-ghost use Rattle.tpl_commands.specs.Loading.{RequestsTokens};
-ghost use Rattle.tpl_commands.specs.Responding.{Puts};
-ghost use Rattle.tpl_report.specs.Made.{requests_of};
-ghost use Rattle.tpl_report.specs.Prevents.{Prevents};
-ghost use Rattle.tpl_report.specs.Reported.{told, IsReport};
-ghost use Rattle.tpl_report.specs.Running.{stop_exit, stop_text, Runs, ServesRun};
-ghost use Rattle.tpl_report.specs.Telling.{IsToldOf, PutsTelling};
+ghost use Rattle.std.specs.Prelude.{◌≡◌, Some, map, IfOk, MatchResult, All};
+ghost use Rattle.tpl_commands.specs.Prelude.{IsAccepted, Puts, RequestsTokens};
+ghost use Rattle.tpl_draft.specs.Prelude.{token_number};
+ghost use Rattle.tpl_graph.specs.Prelude.{Fits};
+ghost use Rattle.tpl_journal.specs.Prelude.{CanSpell};
+ghost use Rattle.tpl_model.specs.Prelude.{is_token};
 ghost use Rattle.tpl_model.specs.declared.ids.TokenId.{TokenId};
+ghost use Rattle.tpl_reader.specs.Prelude.{doc_of, inputs_of};
+ghost use Rattle.tpl_report.specs.Prelude.{IsReport, IsToldOf, Prevents, PutsTelling, Runs, ServesRun, requests_of, stop_exit, stop_text, told};
 
 use crate::fault::Stop;
 use crate::following::{Crew, Follow, Nobody};

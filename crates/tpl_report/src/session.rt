@@ -1,16 +1,12 @@
 //! A session from its opening to its report.
 
-ghost use Rattle.std.specs.Prelude.{◌≡◌, ◌++◌, map, IfOk, IfErr, OnOk};
-ghost use Rattle.std.specs.List.{All};
-ghost use Rattle.tpl_draft.specs.Ids.{token_number};
-ghost use Rattle.tpl_journal.specs.Lines.{CanSpell};
-ghost use Rattle.tpl_model.specs.Graph.{is_token};
-ghost use Rattle.tpl_items.specs.Tally.{new_tally};
-ghost use Rattle.tpl_report.specs.Made.{HaveRun, IsMadeBy};
-ghost use Rattle.tpl_report.specs.Prevents.{Prevents, StopsFor, StopsSession};
-ghost use Rattle.tpl_report.specs.Reported.{told, IsReport};
-ghost use Rattle.tpl_runtime.specs.Workers.{IsCount};
+ghost use Rattle.std.specs.Prelude.{◌≡◌, ◌++◌, map, IfOk, IfErr, OnOk, All};
+ghost use Rattle.tpl_draft.specs.Prelude.{token_number};
+ghost use Rattle.tpl_journal.specs.Prelude.{CanSpell};
+ghost use Rattle.tpl_model.specs.Prelude.{is_token};
 ghost use Rattle.tpl_model.specs.declared.ids.TokenId.{TokenId};
+ghost use Rattle.tpl_report.specs.Prelude.{HaveRun, IsMadeBy, IsReport, Prevents, StopsFor, StopsSession, told};
+ghost use Rattle.tpl_runtime.specs.Prelude.{IsCount};
 
 use crate::fault::{Stop, close_stop, open_stop, run_stop};
 use crate::following::{Crew, Follow, run_followed};

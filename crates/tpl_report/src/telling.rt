@@ -1,17 +1,11 @@
 //! How a run is told: by its report, or by the document with the run in it.
 
-ghost use Rattle.std.specs.Prelude.{◌≡◌, Some, IfOk, string_bytes};
-ghost use Rattle.std.specs.List.{All};
-ghost use Rattle.tpl_journal.specs.Carried.{said};
-ghost use Rattle.tpl_journal.specs.Lines.{CanSpell};
-ghost use Rattle.tpl_journal.specs.ReportText.{IsReportOf, ReportText};
-ghost use Rattle.tpl_reader.specs.Document.{Spells};
-ghost use Rattle.tpl_reader.specs.SeenDocument.{doc_of};
-ghost use Rattle.tpl_reader.specs.Starting.{inputs_of};
-ghost use Rattle.tpl_verify.specs.Filled.{IsTextOf};
-ghost use Rattle.tpl_commands.specs.Responding.{Puts};
-ghost use Rattle.tpl_report.specs.Reported.{told, IsReport};
-ghost use Rattle.tpl_report.specs.Telling.{report_exit, with_events, IsToldOf, PutsTelling};
+ghost use Rattle.std.specs.Prelude.{◌≡◌, Some, IfOk, string_bytes, All};
+ghost use Rattle.tpl_commands.specs.Prelude.{Puts};
+ghost use Rattle.tpl_journal.specs.Prelude.{CanSpell, IsReportOf, ReportText, said};
+ghost use Rattle.tpl_reader.specs.Prelude.{Spells, doc_of, inputs_of};
+ghost use Rattle.tpl_report.specs.Prelude.{IsReport, IsToldOf, PutsTelling, report_exit, told, with_events};
+ghost use Rattle.tpl_verify.specs.Prelude.{IsTextOf};
 
 use std::alloc::{AllocError, Global};
 use std::io::Write;

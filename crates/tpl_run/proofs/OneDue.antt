@@ -1,7 +1,8 @@
 -- A task never has two acts that are due.
-use Rattle.std.proofs.Common.{◌≡◌, ℕ, ◌⊎◌, inl, inr, Bool, true, false, List, [], ◌∷◌, Option, Some, None, refl, sym, ap, ◌∙◌, subst, nat_eq}
+use Rattle.std.proofs.Common.{◌≡◌, ℕ, ◌⊎◌, inl, inr, Bool, true, false, List, [], ◌∷◌, Option, Some, None, refl, sym, ap, ◌∙◌, subst}
 use Rattle.std.specs.Prelude.{if◌then◌else◌, IsSomeAnd}
-use Rattle.std.proofs.lemmas.Bool.{eqb-true, or_from}
+use Rattle.std.proofs.lemmas.Bool.{or_from}
+use Rattle.tpl_model.proofs.MemberLemmas.{not_same}
 use Rattle.tpl_model.specs.Options.{allows}
 use Rattle.tpl_model.specs.declared.finals.Final.{Final}
 use Rattle.tpl_model.specs.declared.ids.TaskId.{TaskId}
@@ -30,6 +31,14 @@ bare (Continues a) = false
 bare (WhenAll args) = true
 bare (WhenAny args) = true
 
+-- what holds of both kinds without a body holds of a task without one
+by_bare : (P : TaskKind → Type 0) → ((args : List ℕ) → P (WhenAll args)) → ((args : List ℕ) → P (WhenAny args)) → (k : TaskKind) → bare k ≡ true → P k
+by_bare P all any Root b = absurd (cc)
+by_bare P all any Child b = absurd (cc)
+by_bare P all any (Continues a) b = absurd (cc)
+by_bare P all any (WhenAll args) b = all args
+by_bare P all any (WhenAny args) b = any args
+
 settles_bare : (k : TaskKind) (en : ℕ → Option Ending) → can_settle k en ≡ true → bare k ≡ true
 settles_bare Root en e = absurd (cc)
 settles_bare Child en e = absurd (cc)
@@ -38,11 +47,7 @@ settles_bare (WhenAll args) en e = refl
 settles_bare (WhenAny args) en e = refl
 
 opens_waiting : (k : TaskKind) (s : Bool) → bare k ≡ true → opening k s false ≡ WaitingForActivation
-opens_waiting Root s b = absurd (cc)
-opens_waiting Child s b = absurd (cc)
-opens_waiting (Continues a) s b = absurd (cc)
-opens_waiting (WhenAll args) s b = refl
-opens_waiting (WhenAny args) s b = refl
+opens_waiting k s = by_bare (λ x. opening x s false ≡ WaitingForActivation) (λ args. refl) (λ args. refl) k
 
 ready_of : (en : Option Ending) (l : Bool) (b : Option Actor) (o : Status) → status_by en l b o ≡ WaitingToRun → o ≡ WaitingToRun
 ready_of (Some e) l b o p = absurd (cc)
@@ -58,25 +63,13 @@ left_of None false None o p q = absurd (cc)
 
 module _ (g : TaskGraph) (v : List Bool) where
   no_start : (h : List Event) (c : ℕ) (k : TaskKind) → bare k ≡ true → MayStart g v h c k → ⊥
-  no_start h c Root b m = m
-  no_start h c Child b m = m
-  no_start h c (Continues a) b m = cc
-  no_start h c (WhenAll args) b m = m
-  no_start h c (WhenAny args) b m = m
+  no_start h c = by_bare (λ k. MayStart g v h c k → ⊥) (λ args m. m) (λ args m. m)
 
   no_exclusion : (h : List Event) (c : ℕ) (k : TaskKind) → bare k ≡ true → MayNotStart g v h c k → ⊥
-  no_exclusion h c Root b m = m
-  no_exclusion h c Child b m = m
-  no_exclusion h c (Continues a) b m = cc
-  no_exclusion h c (WhenAll args) b m = m
-  no_exclusion h c (WhenAny args) b m = m
+  no_exclusion h c = by_bare (λ k. MayNotStart g v h c k → ⊥) (λ args m. m) (λ args m. m)
 
   no_cancel : (h : List Event) (c : ℕ) (k : TaskKind) → bare k ≡ true → MayCancel g v h c k → ⊥
-  no_cancel h c Root b m = m
-  no_cancel h c Child b m = m
-  no_cancel h c (Continues a) b m = cc
-  no_cancel h c (WhenAll args) b m = m
-  no_cancel h c (WhenAny args) b m = m
+  no_cancel h c = by_bare (λ k. MayCancel g v h c k → ⊥) (λ args m. m) (λ args m. m)
 
   start_or_not : (h : List Event) (c : ℕ) (k : TaskKind) → MayStart g v h c k → MayNotStart g v h c k → ⊥
   start_or_not h c Root m n = m
@@ -96,59 +89,28 @@ module _ (g : TaskGraph) (v : List Bool) where
       let u = subst (λ z. opening (kind g t) (started g v h t) z ≡ WaitingToRun) off o in
       cc
 
-  unreleased : (h : List Event) (actor : Actor) (act : Act) (t : ℕ) → bare (kind g t) ≡ true → Allows g v h actor act → released_by act t ≡ false
-  unreleased h actor (Release s) t b al = go (nat_eq s.0 t) refl
-    where
-      go : (q : Bool) → nat_eq s.0 t ≡ q → q ≡ false
-      go false e = refl
-      go true e = absurd (no_start h s.0 (kind g s.0) (subst (λ z. bare (kind g z) ≡ true) (sym (eqb-true s.0 t e)) b) al.2)
-  unreleased h actor (Request k) t b al = refl
-  unreleased h actor (Begin s) t b al = refl
-  unreleased h actor (Step s) t b al = refl
-  unreleased h actor (Worked s w) t b al = refl
-  unreleased h actor (Leave s) t b al = refl
-  unreleased h actor (Close s) t b al = refl
-  unreleased h actor (Drop s) t b al = refl
-  unreleased h actor (Settle s) t b al = refl
-
-  unbegun : (h : List Event) (actor : Actor) (act : Act) (t : ℕ) → bare (kind g t) ≡ true → released h t ≡ false → Allows g v h actor act → begun_by act t ≡ false
-  unbegun h actor (Begin s) t b off al = go (nat_eq s.0 t) refl
-    where
-      go : (q : Bool) → nat_eq s.0 t ≡ q → q ≡ false
-      go false e = refl
-      go true e = absurd (not_ready h t b off (subst (λ z. status g v h z ≡ WaitingToRun) (eqb-true s.0 t e) al.1))
-  unbegun h actor (Request k) t b off al = refl
-  unbegun h actor (Release s) t b off al = refl
-  unbegun h actor (Step s) t b off al = refl
-  unbegun h actor (Worked s w) t b off al = refl
-  unbegun h actor (Leave s) t b off al = refl
-  unbegun h actor (Close s) t b off al = refl
-  unbegun h actor (Drop s) t b off al = refl
-  unbegun h actor (Settle s) t b off al = refl
-
-  unleft : (h : List Event) (actor : Actor) (act : Act) (t : ℕ) → begun h t ≡ None → Allows g v h actor act → left_by act t ≡ false
-  unleft h actor (Leave s) t none al = go (nat_eq s.0 t) refl
-    where
-      go : (q : Bool) → nat_eq s.0 t ≡ q → q ≡ false
-      go false e = refl
-      go true e = let some = subst (λ z. begun h z ≡ Some actor) (eqb-true s.0 t e) al.0.worker in absurd (cc)
-  unleft h actor (Request k) t none al = refl
-  unleft h actor (Release s) t none al = refl
-  unleft h actor (Begin s) t none al = refl
-  unleft h actor (Step s) t none al = refl
-  unleft h actor (Worked s w) t none al = refl
-  unleft h actor (Close s) t none al = refl
-  unleft h actor (Drop s) t none al = refl
-  unleft h actor (Settle s) t none al = refl
+  -- such a task isn't released, begun or left by an act that is allowed
+  stays_idle : (h : List Event) (actor : Actor) (act : Act) (t : ℕ) → bare (kind g t) ≡ true → released h t ≡ false → begun h t ≡ None → Allows g v h actor act
+      → (released_by act t ≡ false) × (begun_by act t ≡ false) × (left_by act t ≡ false)
+  stays_idle h actor (Release s) t b off none al = (not_same s.0 t (λ same. no_start h s.0 (kind g s.0) (subst (λ z. bare (kind g z) ≡ true) (sym same) b) al.2), refl, refl)
+  stays_idle h actor (Begin s) t b off none al = (refl, not_same s.0 t (λ same. not_ready h t b off (subst (λ z. status g v h z ≡ WaitingToRun) same al.1)), refl)
+  stays_idle h actor (Leave s) t b off none al = (refl, refl, not_same s.0 t (λ same. let some = subst (λ z. begun h z ≡ Some actor) same al.0.worker in cc))
+  stays_idle h actor (Request k) t b off none al = (refl, refl, refl)
+  stays_idle h actor (Step s) t b off none al = (refl, refl, refl)
+  stays_idle h actor (Worked s w) t b off none al = (refl, refl, refl)
+  stays_idle h actor (Close s) t b off none al = (refl, refl, refl)
+  stays_idle h actor (Drop s) t b off none al = (refl, refl, refl)
+  stays_idle h actor (Settle s) t b off none al = (refl, refl, refl)
 
   -- such a task is never released, begun or left
   idle : (h : List Event) → Run g v h → (t : ℕ) → bare (kind g t) ≡ true → (released h t ≡ false) × (begun h t ≡ None) × (left_body h t ≡ false)
   idle [] r t b = (refl, refl, refl)
   idle (e ∷ h) r t b =
-      let i = idle h r.0 t b in (
-        or_from (released_by e.act t) (released h t) (unreleased h e.actor e.act t b r.1) i.0,
-        if_none (begun_by e.act t) e.actor (begun h t) (unbegun h e.actor e.act t b i.0 r.1) i.1,
-        or_from (left_by e.act t) (left_body h t) (unleft h e.actor e.act t i.1 r.1) i.2,
+      let i = idle h r.0 t b in
+      let now = stays_idle h e.actor e.act t b i.0 i.1 r.1 in (
+        or_from (released_by e.act t) (released h t) now.0 i.0,
+        if_none (begun_by e.act t) e.actor (begun h t) now.1 i.1,
+        or_from (left_by e.act t) (left_body h t) now.2 i.2,
       )
 
   module _ (h : List Event) (t : ℕ) where

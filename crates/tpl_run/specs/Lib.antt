@@ -7,3 +7,4 @@ pub mod Rows
 pub mod Tests
 pub mod Due
 pub mod Tokens
+pub mod Prelude

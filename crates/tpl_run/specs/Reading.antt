@@ -1,5 +1,5 @@
 -- What the readers of a run answer.
-use Rattle.std.specs.Prelude.{◌≡◌, ℕ, suc, ◌<◌, Bool, List, [], ◌∷◌, Option, Some, None, length, if◌then◌else◌}
+use Rattle.std.specs.Prelude.{◌≡◌, ℕ, ◌<◌, Bool, List, Option, Some, None}
 use Rattle.tpl_model.specs.declared.status.Actor.{Actor}
 use Rattle.tpl_model.specs.declared.status.Status.{Status}
 use Rattle.tpl_model.specs.declared.status.Status.TheVariants.{Running}
@@ -9,8 +9,10 @@ use Rattle.tpl_model.specs.Graph.{TaskGraph, is_task}
 use Rattle.tpl_model.specs.declared.event.Act.{Act}
 use Rattle.tpl_model.specs.declared.event.Act.TheVariants.{Release, Close, Drop, Settle}
 use Rattle.tpl_model.specs.declared.event.Event.{Event}
-use Rattle.tpl_model.specs.Facts.{Rest, Ending, begun_by, winner_of, rest, ending}
+use Rattle.tpl_model.specs.Facts.{Rest, winner_of, rest, ending}
 use Rattle.tpl_model.specs.Rules.{status, Allows}
+-- the places at which a task began and ended, counted from 1
+pub use Rattle.tpl_laws.specs.Failing.{began_at as began, place_of}
 use Rattle.tpl_run.specs.declared.run.Next.{Next}
 use Rattle.tpl_run.specs.declared.run.Next.TheVariants.{NotRunning, Silent, Work as Job, Over}
 
@@ -35,16 +37,7 @@ next g v h t = next_by (status g v h t) (rest g v h t)
 abbrev pub winner : TaskGraph → List Bool → List Event → ℕ → Option ℕ
 winner g v h t = winner_of (ending g v h t)
 
--- the place at which the task began, counted from 1
-abbrev pub began : List Event → ℕ → Option ℕ
-began [] t = None
-began (e ∷ h) t = if begun_by e.act t then Some (suc (length h)) else began h t
-
 -- the place at which the task ended; 0 before the first event
-abbrev pub place_of : Option Ending → Option ℕ
-place_of None = None
-place_of (Some e) = Some e.place
-
 abbrev pub ended : TaskGraph → List Bool → List Event → ℕ → Option ℕ
 ended g v h t = place_of (ending g v h t)
 

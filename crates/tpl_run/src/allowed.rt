@@ -1,10 +1,7 @@
 //! Which events are allowed next.
 
-ghost use Rattle.std.specs.Prelude.{◌≡◌, ◌&&◌, ◌↔◌, IsTrue, Some, not};
-ghost use Rattle.tpl_model.specs.Options.{execute_synchronously, run_continuations_asynchronously};
-ghost use Rattle.tpl_model.specs.Graph.{is_task, kind, options};
-ghost use Rattle.tpl_model.specs.Facts.{ending};
-ghost use Rattle.tpl_model.specs.Rules.{status, token_requested, bound_worker, worker_of, can_settle};
+ghost use Rattle.std.specs.Prelude.{◌≡◌, ◌&&◌, ◌↔◌, IsTrue, Some, true, false, not};
+ghost use Rattle.tpl_model.specs.Prelude.{bound_worker, can_settle, ending, execute_synchronously, is_task, kind, options, run_continuations_asynchronously, status, token_requested, worker_of};
 ghost use Rattle.tpl_model.specs.declared.status.Status.TheVariants as statuses;
 ghost use Rattle.tpl_model.specs.Rules as rules;
 
@@ -103,34 +100,16 @@ fn may_request<R: Readers>(run: &R, actor: Actor, token: TokenId) -> bool
     is_outside(actor) && has_token(run, token) && !run.asked(token)
 }
 
-/// A continuation's antecedent has ended in a way that its options allow.
-fn may_start<R: Readers>(run: &R, task: TaskId) -> bool
+/// Whether a continuation's options allow the way in which its antecedent has ended, once it has.
+fn antecedent_allows<R: Readers>(run: &R, task: TaskId) -> Option<bool>
     requires { is_task (R.journal run.now).graph task.0 }
-    ensures { let j = R.journal run.now in IsTrue result
+    ensures allowed { let j = R.journal run.now in (result ≡ Some true)
         ↔ rules.MayStart j.graph j.inputs j.events task.0 (kind j.graph task.0) }
-{
-    match antecedent(run, task) {
-        None => false,
-        Some(antecedent) => match run.final_of(antecedent) {
-            None => false,
-            Some(status) => run.graph().options(task).allows(status),
-        },
-    }
-}
-
-/// A continuation's antecedent has ended in a way that its options don't allow.
-fn may_not_start<R: Readers>(run: &R, task: TaskId) -> bool
-    requires { is_task (R.journal run.now).graph task.0 }
-    ensures { let j = R.journal run.now in IsTrue result
+    ensures excluded { let j = R.journal run.now in (result ≡ Some false)
         ↔ rules.MayNotStart j.graph j.inputs j.events task.0 (kind j.graph task.0) }
 {
-    match antecedent(run, task) {
-        None => false,
-        Some(antecedent) => match run.final_of(antecedent) {
-            None => false,
-            Some(status) => !run.graph().options(task).allows(status),
-        },
-    }
+    let status = run.final_of(antecedent(run, task)?)?;
+    Some(run.graph().options(task).allows(status))
 }
 
 /// A continuation isn't lazy, or its antecedent has ended (`TaskContinuationOptions.LazyCancellation`).
@@ -151,7 +130,10 @@ pub(crate) fn may_release<R: Readers>(run: &R, task: TaskId) -> bool
     ensures { let j = R.journal run.now in (actor : Actor) → IsTrue result
         ↔ rules.Allows j.graph j.inputs j.events actor (Act.Release task) }
 {
-    has_task(run, task) && is_inactive(run, task) && may_start(run, task) && !own_asked(run, task)
+    has_task(run, task)
+        && is_inactive(run, task)
+        && antecedent_allows(run, task) == Some(true)
+        && !own_asked(run, task)
 }
 
 /// A continuation begins on the worker that ends its antecedent (`TaskContinuationOptions.ExecuteSynchronously`,
@@ -232,7 +214,7 @@ pub(crate) fn may_drop<R: Readers>(run: &R, task: TaskId) -> bool
     has_task(run, task)
         && ((is_ready(run, task) && own_asked(run, task))
             || (is_inactive(run, task) && own_asked(run, task) && may_cancel(run, task))
-            || (is_inactive(run, task) && may_not_start(run, task)))
+            || (is_inactive(run, task) && antecedent_allows(run, task) == Some(false)))
 }
 
 /// The arguments of a WhenAll or WhenAny task have ended, as far as it waits for them.

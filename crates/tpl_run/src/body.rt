@@ -1,13 +1,9 @@
 //! What a body does next.
 
-ghost use Rattle.std.specs.Prelude.{◌≡◌, is_some};
-ghost use Rattle.std.specs.Option.{option_map};
-ghost use Rattle.tpl_model.specs.Paths.{cancellation};
-ghost use Rattle.tpl_model.specs.Facts.{worked, outcome_of, is_observe};
-ghost use Rattle.tpl_model.specs.Rules.{steps, works};
-ghost use Rattle.tpl_draft.specs.Ids.{task_number, token_number};
-ghost use Rattle.tpl_run.specs.Body.{passed, cancel_of, start_of};
-ghost use Rattle.tpl_run.specs.Reading.{next_in};
+ghost use Rattle.std.specs.Prelude.{◌≡◌, is_some, option_map};
+ghost use Rattle.tpl_draft.specs.Prelude.{task_number, token_number};
+ghost use Rattle.tpl_model.specs.Prelude.{cancellation, is_observe, outcome_of, steps, worked, works};
+ghost use Rattle.tpl_run.specs.Prelude.{cancel_of, next_in, passed, start_of};
 
 use crate::run::Next;
 use tpl_model::{Answer, Cursor, Label, Outcome, Stmt, TaskId, TokenId};

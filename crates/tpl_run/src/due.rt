@@ -1,8 +1,8 @@
 //! What is due of a task, and what it does next.
 
 ghost use Rattle.std.specs.Prelude.{◌≡◌, ◌↔◌, IfSome, IfNone, IsTrue};
-ghost use Rattle.tpl_model.specs.Graph.{is_task};
-ghost use Rattle.tpl_run.specs.Reading.{IsDue, HasDue, NoneDue, next};
+ghost use Rattle.tpl_model.specs.Prelude.{is_task};
+ghost use Rattle.tpl_run.specs.Prelude.{HasDue, IsDue, NoneDue, next};
 
 use crate::allowed::{may_close, may_drop, may_release, may_settle};
 use crate::readers::{Readers, Waits};

@@ -1,12 +1,9 @@
 //! Whether tasks have ended.
 
 ghost use Rattle.std.specs.Prelude.{◌≡◌, ℕ, ◌&&◌, not, is_some, map, true};
-ghost use Rattle.tpl_model.specs.Members.{mem};
-ghost use Rattle.tpl_model.specs.Graph.{is_task};
-ghost use Rattle.tpl_model.specs.Facts.{started, ending, all_over};
-ghost use Rattle.tpl_model.specs.Rules.{all_ended, some_ended};
-ghost use Rattle.tpl_draft.specs.Ids.{task_number};
+ghost use Rattle.tpl_draft.specs.Prelude.{task_number};
 ghost use Rattle.tpl_laws.specs.RunTests as laws;
+ghost use Rattle.tpl_model.specs.Prelude.{all_ended, all_over, ending, is_task, mem, some_ended, started};
 
 use crate::readers::Readers;
 use tpl_graph::Kind;

@@ -1,12 +1,9 @@
 //! What the graph of a run says of tasks and tokens. In a run the graph is valid, so what it names it has.
 
-ghost use Rattle.std.specs.Prelude.{◌≡◌, ◌↔◌, ℕ, ◌≤◌, length, map, IfSome, IsTrue, true};
-ghost use Rattle.std.specs.Option.{option_map};
-ghost use Rattle.tpl_model.specs.Members.{mem};
+ghost use Rattle.std.specs.Prelude.{◌≡◌, ◌↔◌, ℕ, ◌≤◌, length, map, IfSome, IsTrue, true, option_map};
+ghost use Rattle.tpl_draft.specs.Prelude.{antecedent_of, args_of, task_number, token_number};
+ghost use Rattle.tpl_model.specs.Prelude.{attached, is_task, is_token, mem};
 ghost use Rattle.tpl_model.specs.Graph as spec;
-ghost use Rattle.tpl_model.specs.Graph.{is_task, is_token, attached};
-ghost use Rattle.tpl_draft.specs.Ids.{task_number, token_number};
-ghost use Rattle.tpl_draft.specs.Named.{antecedent_of, args_of};
 
 use crate::readers::Readers;
 use tpl_laws::is_bounded;

@@ -1,17 +1,9 @@
 //! What is kept of a task: what is left of its body, and how it ended.
 
-ghost use Rattle.std.specs.Prelude.{◌≡◌, [], map, IfOk, MatchOption, None, vec_capacity};
-ghost use Rattle.std.specs.Option.{option_map};
-ghost use Rattle.tpl_model.specs.Statements.{Nothing};
-ghost use Rattle.tpl_model.specs.Seen.{statement_of};
-ghost use Rattle.tpl_model.specs.Cursor.{BeginsWith};
-ghost use Rattle.tpl_model.specs.Facts.{on, worked, final_in, carried_in, winner_of, outcome_in, is_observe};
-ghost use Rattle.tpl_model.specs.Rules.{actor_in, label_in, steps, works};
-ghost use Rattle.tpl_draft.specs.Ids.{task_number, token_number};
-ghost use Rattle.tpl_run.specs.Atoms.{AreAtoms};
-ghost use Rattle.tpl_run.specs.Body.{passed, cancel_of, start_of};
-ghost use Rattle.tpl_run.specs.Reading.{next_in, place_of};
-ghost use Rattle.tpl_run.specs.Rows.{with_rest, with_ending, ending_of};
+ghost use Rattle.std.specs.Prelude.{◌≡◌, [], map, IfOk, MatchOption, None, vec_capacity, option_map};
+ghost use Rattle.tpl_draft.specs.Prelude.{task_number, token_number};
+ghost use Rattle.tpl_model.specs.Prelude.{BeginsWith, Nothing, actor_in, carried_in, final_in, is_observe, label_in, on, outcome_in, statement_of, steps, winner_of, worked, works};
+ghost use Rattle.tpl_run.specs.Prelude.{AreAtoms, cancel_of, ending_of, next_in, passed, place_of, start_of, with_ending, with_rest};
 
 use crate::body;
 use crate::run::Next;

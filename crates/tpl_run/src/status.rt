@@ -1,7 +1,7 @@
 //! Where a task stands.
 
 ghost use Rattle.std.specs.Prelude.{◌≡◌};
-ghost use Rattle.tpl_run.specs.Tests.{opening_of, status_from};
+ghost use Rattle.tpl_run.specs.Prelude.{opening_of, status_from};
 
 use tpl_graph::Kind;
 use tpl_model::{Actor, Final, Status};

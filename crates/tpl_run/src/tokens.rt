@@ -1,10 +1,10 @@
 //! Tables of tokens.
 
 ghost use Rattle.std.specs.Prelude.{◌≡◌, ℕ, ◌<◌, ◌||◌, Bool, List, length, map, slice_index_or, false};
+ghost use Rattle.tpl_draft.specs.Prelude.{token_number};
+ghost use Rattle.tpl_model.specs.Prelude.{some_in};
 ghost use Rattle.tpl_model.specs.declared.event.Event.{Event as SpecEvent};
-ghost use Rattle.tpl_model.specs.Graph.{some_in};
-ghost use Rattle.tpl_draft.specs.Ids.{token_number};
-ghost use Rattle.tpl_run.specs.Tokens.{IsTable};
+ghost use Rattle.tpl_run.specs.Prelude.{IsTable};
 
 use tpl_graph::Graph;
 use tpl_laws::requested_by_a_source;
@@ -13,7 +13,7 @@ use tpl_model::{MOST_TOKENS, TokenId};
 /// No token is requested.
 pub fn none_requested() -> [bool; MOST_TOKENS]
     ensures off { (k : ℕ) → slice_index_or result k false ≡ false }
-    ensures many { length result ≡ 32 }
+    ensures many { length result ≡ MOST_TOKENS }
 {
     [false; MOST_TOKENS]
 }

@@ -1,6 +1,7 @@
 -- A worker that came with a new seat.
-use Rattle.std.proofs.Common.{◌≡◌, ◌∙◌, ◌<◌, ℕ, zero, suc, Bool, false, List, [], ◌∷◌, ◌++◌, length, slice_index_or, refl, sym, subst, arith}
-use Rattle.std.specs.Prelude.{All, IfNone, Option, Some, None, is_some}
+use Rattle.std.proofs.Common.{◌≡◌, ◌∙◌, ◌<◌, ℕ, zero, suc, Bool, List, [], ◌∷◌, ◌++◌, length, slice_index_or, refl, sym, subst, arith}
+use Rattle.std.specs.Prelude.{All, IfNone, Option, Some, None}
+use Rattle.std.specs.Option.{option_or}
 use Rattle.std.proofs.lemmas.List.Elements.{All-append}
 use Rattle.tpl_model.specs.Graph.{TaskGraph}
 use Rattle.tpl_hall.specs.declared.sight.Ended.{Ended}
@@ -31,11 +32,11 @@ all_one P x one (suc k) d lt = absurd (omega (arith, lt))
 pub all_more : {X : Type 0} (P : X → Type 0) (xs now : List X) (x : X) → now ≡ xs ++ x ∷ [] → All P xs → P x → All P now
 all_more P xs now x longer all one = subst (All P) (sym longer) (All-append P xs (x ∷ []) all (all_one P x one))
 
--- what is so where there is no value, where there is none
-pub where_none : {X : Type 0} (o : Option X) (P : Type 0) → is_some o ≡ false → IfNone o P → P
-where_none None P e p = p
-where_none (Some x) P e p = absurd cc
+none_or : {X : Type 0} (a b : Option X) (P Q R : Type 0) → (P → Q → R) → IfNone a P → IfNone b Q → IfNone (option_or a b) R
+none_or None None P Q R f p q = f p q
+none_or None (Some y) P Q R f p q = q
+none_or (Some x) b P Q R f p q = p
 
-pub none_so : {X : Type 0} (o : Option X) (P Q : Type 0) → (P → Q) → IfNone o P → IfNone o Q
-none_so None P Q f p = f p
-none_so (Some x) P Q f p = p
+-- there is no value where there is neither of two, and then both facts hold
+pub none_of_both : {X : Type 0} (a b o : Option X) (P Q R : Type 0) → o ≡ option_or a b → (P → Q → R) → IfNone a P → IfNone b Q → IfNone o R
+none_of_both a b o P Q R is f p q = subst (λ l. IfNone l R) (sym is) (none_or a b P Q R f p q)

@@ -4,3 +4,4 @@ pub mod Turns
 pub mod Reports
 pub mod Puts
 pub mod Workers
+pub mod Prelude

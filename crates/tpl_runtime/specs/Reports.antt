@@ -66,13 +66,7 @@ told_of t = record {
 }
 
 abbrev pub told_in : {K W : Type 0} → Report K W → ToldView
-told_in r = record {
-  statuses = r.statuses.items;
-  labels = r.labels.items;
-  carried = map (λ c. map task_number c.items) r.carried.items;
-  unseen = map task_number r.unseen.items;
-  complete = r.complete;
-}
+told_in r = told_of (record { statuses = r.statuses; labels = r.labels; carried = r.carried; unseen = r.unseen; complete = r.complete })
 
 -- what is told is so, the newest event first
 pub record IsTold (g : TaskGraph) (v : List Bool) (h : List Event) (said : ToldView) : Type 0 where

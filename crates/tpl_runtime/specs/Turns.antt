@@ -9,19 +9,21 @@ use Rattle.tpl_machine.specs.Reading.{next}
 use Rattle.tpl_items.specs.Items.{count_of}
 use Rattle.tpl_draft.specs.Named.{Named}
 use Rattle.tpl_machine.specs.Journal.{Journal}
-use Rattle.atomic_table.specs.Seated.{TableId}
 use Rattle.tpl_model.specs.declared.ids.TokenId.{TokenId}
 use Rattle.tpl_model.specs.Graph.{TaskGraph, is_task}
 use Rattle.tpl_hall.specs.Growth.{Requests}
 use Rattle.tpl_hall.specs.Moves.{Fits, HasRoom, MayDo, MayAnswer, Moves, MatchAsked}
 use Rattle.tpl_hall.specs.Sights.{IsSeen}
 use Rattle.tpl_hall.specs.declared.sight.Sight.TheVariants.{Already as AlreadyRequested}
-use Rattle.tpl_hall.specs.Stays.{GoesAs, MayGoOn}
+use Rattle.tpl_hall.specs.Stays.{GoesAs, Leaves, MayGoOn, Stays}
 use Rattle.tpl_hall.specs.Views.{SeatView}
 use Rattle.tpl_hall.specs.declared.sight.Asked.{Asked}
 use Rattle.tpl_hall.specs.declared.sight.Asked.TheVariants.{Place, Already, Halted as AskedHalted, Stray as AskedStray}
 use Rattle.tpl_hall.specs.declared.sight.Ended.{Ended}
 use Rattle.tpl_hall.specs.declared.sight.Ended.TheVariants.{Complete, Halted, Stray}
+use Rattle.tpl_runtime.specs.Views.{SessionView}
+use Rattle.tpl_runtime.specs.declared.kit.Kit.{Kit}
+use Rattle.tpl_runtime.specs.declared.shared.Shared.{Shared}
 use Rattle.tpl_runtime.specs.declared.shared.Held.{Held}
 use Rattle.tpl_runtime.specs.declared.shared.Held.TheVariants.{Free, Taken, Running}
 use Rattle.tpl_runtime.specs.declared.shared.Hand.{Hand}
@@ -40,11 +42,22 @@ OnOver Wait over on = on
 abbrev pub IfOver : {W : Type 0} → Turn W → (Ended → Type 0) → Type 0
 IfOver turn over = OnOver turn over (Unit {0})
 
--- what is done in a section: the run and the seat's list grew by the same acts, nothing was reported to the seat, and the pass is still of the session's queue
-pub record Proceeds (queue passed : TableId) (seat seat' : SeatView) (j j' : Journal) : Type 0 where
-  pub pass : passed ≡ queue
-  pub moves : Moves seat seat' j j'
-  pub last : seat'.last ≡ seat.last
+-- the session that a worker works in
+abbrev pub session_of : {W : Type 0} → Kit W → SessionView
+session_of kit = record { graph = kit.graph.now; inputs = kit.inputs.now; queue = kit.queue.now.id }
+
+-- what is done in a section: the run and the seat's list grew by the same acts, nothing was reported to the seat, and the session and what the worker remembers are the same
+pub record Proceeds {W : Type 0} (kit kit' : Kit W) (j j' : Journal) : Type 0 where
+  pub session : session_of kit' ≡ session_of kit
+  pub stint : kit'.stint ≡ kit.stint
+  pub moves : Moves kit.seat kit'.seat j j'
+  pub last : kit'.seat.last ≡ kit.seat.last
+
+-- what sections keep, by the turn at their end: the session and the actor are the same; and if the seat has come on from a first one, then it is left as it may be where the worker's work ends, and goes on in every other turn
+pub record Keeps {W : Type 0} (turn : Turn W) (kit kit' : Kit W) : Type 0 where
+  pub session : session_of kit' ≡ session_of kit
+  pub actor : kit'.seat.actor ≡ kit.seat.actor
+  pub stays : (first : SeatView) → Stays kit.stint first kit.seat → OnOver turn (λ ended. Leaves ended kit.graph.now.graph kit.inputs.now first kit'.seat) (Stays kit'.stint first kit'.seat)
 
 -- the run is complete
 abbrev pub IsDone : Journal → Type 0
@@ -68,9 +81,9 @@ MayNext j seat (Taken t) sites = Unit {0}
 MayNext j seat (Running t) sites = MayRun j seat t sites
 
 -- what a worker does next in a section: where it may go on, its work doesn't end; else it ends as stray, and then the session is halted
-pub record PlaysOn {W : Type 0} (turn : Turn W) (may : Type 0) (halted halted' : Bool) (queue passed : TableId) (seat seat' : SeatView) (j j' : Journal) : Type 0 where
-  pub proceeds : Proceeds queue passed seat seat' j j'
-  pub turns : OnOver turn (λ ended. (ended ≡ Stray) × (may → ⊥) × (halted' ≡ true)) (may × (halted' ≡ halted))
+pub record PlaysOn {K W : Type 0} (turn : Turn W) (may : Type 0) (kit kit' : Kit W) (s s' : Shared K W) : Type 0 where
+  pub proceeds : Proceeds kit kit' s.hall.core s'.hall.core
+  pub turns : OnOver turn (λ ended. (ended ≡ Stray) × (may → ⊥) × (s'.halted ≡ true)) (may × (s'.halted ≡ s.halted))
 
 -- how a worker's work ends at this moment: Halted where the session is halted, else Complete where the run is, else not
 abbrev pub IsEnd : Option Ended → Bool → Type 0 → Type 0
@@ -108,13 +121,13 @@ abbrev pub IsTurnOf : {W : Type 0} → (played turn : Turn W) → (fits : Type 0
 IsTurnOf played turn fits = OnOver played (λ ended. (gone : Ended) × (turn ≡ Over gone) × GoesAs gone ended fits) (turn ≡ played)
 
 -- one section of a worker whose section may begin: what becomes of it, and the seat after it, which has to fit the run where the worker's work ends
-pub record Turns {K W : Type 0} (hand : Hand K) (turn : Turn W) (graph : Named) (v : List Bool) (seat : SeatView) (sites : List ℕ) (j j' : Journal) (halted halted' : Bool) : Type 0 where
+pub record Turns {K W : Type 0} (hand : Hand K) (turn : Turn W) (kit : Kit W) (sites : List ℕ) (s s' : Shared K W) : Type 0 where
   pub played : Turn W
   pub left : SeatView
-  pub is_played : IsPlayed hand played seat sites j j' halted halted'
-  pub moves : Moves seat left j j'
-  pub last : left.last ≡ seat.last
-  pub turns : IsTurnOf played turn (MayGoOn None j' graph v left)
+  pub is_played : IsPlayed hand played kit.seat sites s.hall.core s'.hall.core s.halted s'.halted
+  pub moves : Moves kit.seat left s.hall.core s'.hall.core
+  pub last : left.last ≡ kit.seat.last
+  pub turns : IsTurnOf played turn (MayGoOn None s'.hall.core kit.graph.now kit.inputs.now left)
 
 -- what a request leaves of the seat, by its answer: with a place the event is in a run and in its list, and nothing was reported to it; where the token was requested before, only this was reported to it; else it is as it was
 abbrev pub Asks : TaskGraph → List Bool → SeatView → SeatView → TokenId → Asked → Type 0
@@ -137,6 +150,6 @@ IsAnswer AskedHalted may halted requested = may × (halted ≡ true)
 IsAnswer AskedStray may halted requested = may → ⊥
 
 -- a worker's section may begin: the seat is a worker's, and may go on
-pub record MayTurn (seen : Option ℕ) (j : Journal) (graph : Named) (v : List Bool) (seat : SeatView) : Type 0 where
-  pub inside : IsOutside seat.actor → ⊥
-  pub goes_on : MayGoOn seen j graph v seat
+pub record MayTurn {W : Type 0} (kit : Kit W) (j : Journal) : Type 0 where
+  pub inside : IsOutside kit.seat.actor → ⊥
+  pub goes_on : MayGoOn kit.stint.seen j kit.graph.now kit.inputs.now kit.seat

@@ -1,9 +1,8 @@
 //! The request of a token.
 
 ghost use Rattle.std.specs.Prelude.{◌≡◌};
-ghost use Rattle.tpl_model.specs.Facts.{requested};
-ghost use Rattle.tpl_model.specs.Graph.{is_token};
-ghost use Rattle.tpl_runtime.specs.Turns.{Asks, MayAsk, IsAnswer};
+ghost use Rattle.tpl_model.specs.Prelude.{is_token, requested};
+ghost use Rattle.tpl_runtime.specs.Prelude.{Asks, IsAnswer, MayAsk};
 
 use crate::put::put_all;
 use crate::queue::{ItemPass, ItemQueue};

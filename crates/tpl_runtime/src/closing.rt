@@ -1,10 +1,9 @@
 //! What a session leaves, and what is compared when it is closed.
 
 ghost use Rattle.std.specs.Prelude.{◌≡◌, ◌↔◌, ◌⊎◌, ◌+◌, true, length, map, All, IsTrue, IfOk, IfErr, OnOk};
-ghost use Rattle.tpl_hall.specs.Closes.{AllOwn};
-ghost use Rattle.tpl_hall.specs.Lists.{IsSeat, all_seated, are_seated};
+ghost use Rattle.tpl_hall.specs.Prelude.{AllOwn, IsSeat, all_seated, are_seated};
+ghost use Rattle.tpl_runtime.specs.Prelude.{Agrees, AreAllSeats, AreOnce, ClosesWell, GivesBack, IsClosed, IsKept, IsWhole, RefusesClose, told_of};
 ghost use Rattle.tpl_runtime.specs.declared.closing.CloseWhy.TheVariants.{Lost};
-ghost use Rattle.tpl_runtime.specs.Reports.{told_of, Agrees, AreAllSeats, AreOnce, IsKept, IsWhole, IsClosed, ClosesWell, GivesBack, RefusesClose};
 
 use crate::tables::{Told, tables};
 use std::alloc::{AllocError, Global};

@@ -1,8 +1,8 @@
 //! What workers share, seen without its items.
 
 ghost use Rattle.std.specs.Prelude.{◌≡◌};
-ghost use Rattle.tpl_hall.specs.Stays.{Leaves};
-ghost use Rattle.tpl_items.specs.Tally.{first_half, second_half, both};
+ghost use Rattle.tpl_hall.specs.Prelude.{Leaves};
+ghost use Rattle.tpl_items.specs.Prelude.{both, first_half, second_half};
 
 use crate::session::Session;
 use crate::shared::Halting;

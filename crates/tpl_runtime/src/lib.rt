@@ -5,6 +5,7 @@
 mod ask;
 mod closing;
 mod crew;
+mod kit;
 mod open;
 mod put;
 mod queue;

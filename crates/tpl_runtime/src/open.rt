@@ -1,9 +1,8 @@
 //! How a session is opened.
 
 ghost use Rattle.std.specs.Prelude.{◌≡◌, length, slice_index_or, false, IfOk, IfErr, OnOk};
-ghost use Rattle.tpl_draft.specs.Named.{all_may_fail};
-ghost use Rattle.tpl_items.specs.Tally.{new_tally};
-ghost use Rattle.tpl_items.specs.Items.{AreItems, RefusesItems};
+ghost use Rattle.tpl_draft.specs.Prelude.{all_may_fail};
+ghost use Rattle.tpl_items.specs.Prelude.{AreItems, RefusesItems, new_tally};
 
 use crate::queue::{ItemPass, ItemQueue};
 use crate::session::Session;

@@ -1,7 +1,7 @@
 //! The jobs of tasks that are ready to run.
 
 ghost use Rattle.std.specs.Prelude.{◌≡◌};
-ghost use Rattle.tpl_runtime.specs.Puts.{Puts};
+ghost use Rattle.tpl_runtime.specs.Prelude.{Puts};
 
 use crate::queue::{ItemPass, ItemQueue};
 use std::sync::Wait;
@@ -38,23 +38,6 @@ fn put_one<K: Drop, W: Drop, R: Wait>(
                 stock.shelve(task);
             }
         }
-    }
-}
-
-/// Puts the jobs of those among the tasks that are ready to run and weren't put before.
-fn put_each<K: Drop, W: Drop, R: Wait>(
-    rt: &R,
-    hall: &Hall<'_, K>,
-    stock: &mut Stock<W>,
-    queue: &ItemQueue<W>,
-    pass: &mut ItemPass<W>,
-    tasks: &[TaskId],
-)
-    requires { pass.old.queue ≡ queue.now.id }
-    ensures { pass.new.queue ≡ queue.now.id }
-{
-    for task in tasks {
-        put_one(rt, hall, stock, queue, pass, *task);
     }
 }
 
@@ -109,7 +92,11 @@ pub(crate) fn put_after<K: Drop, W: Drop, R: Wait>(
     for (_place, event) in events {
         match event.act {
             Act::Release(task) => put_one(rt, hall, stock, queue, pass, task),
-            Act::Step(task) => put_each(rt, hall, stock, queue, pass, children.of(task)),
+            Act::Step(task) => {
+                for child in children.of(task) {
+                    put_one(rt, hall, stock, queue, pass, *child);
+                }
+            }
             _ => {}
         }
     }

@@ -1,9 +1,9 @@
 //! How a session runs its workers.
 
 ghost use Rattle.std.specs.Prelude.{◌≡◌, ◌↔◌, ◌≤◌, ℕ, [], List, None, map, vec_len, vec_capacity, IfOk, IfErr, IfSome, IfNone, OnOk, IsPermutation};
-ghost use Rattle.tpl_hall.specs.Views.{SeatView};
+ghost use Rattle.tpl_hall.specs.Prelude.{SeatView};
 ghost use Rattle.tpl_hall.specs.declared.seat.SeatFault.TheVariants.{BadActor};
-ghost use Rattle.tpl_runtime.specs.Workers.{workers, AllWorked, AreNew, AreBefore, ComeBack, IsCount};
+ghost use Rattle.tpl_runtime.specs.Prelude.{AllWorked, AreBefore, AreNew, ComeBack, IsCount, workers};
 ghost use Rattle.tpl_runtime.specs.declared.run.RunWhy.TheVariants.{BadCount, Spawn};
 
 use crate::queue::ItemPass;

@@ -1,19 +1,16 @@
 //! The session that threads share.
 
 ghost use Rattle.std.specs.Prelude.{◌≡◌, ◌↔◌, [], Some, None, IfOk, IfErr, OnOk};
-ghost use Rattle.tpl_model.specs.Valid.{bound};
-ghost use Rattle.tpl_hall.specs.Lists.{IsSeat};
-ghost use Rattle.tpl_runtime.specs.Reports.{ClosesWell, GivesBack};
-ghost use Rattle.tpl_runtime.specs.Turns.{Asks};
-ghost use Rattle.tpl_model.specs.Graph.{is_task, is_token};
-ghost use Rattle.tpl_items.specs.Tally.{first_half, second_half, both};
-ghost use Rattle.tpl_hall.specs.Moves.{MatchLooked};
-ghost use Rattle.tpl_hall.specs.Sights.{IsSeen};
-ghost use Rattle.tpl_hall.specs.Stays.{Leaves};
+ghost use Rattle.tpl_hall.specs.Prelude.{IsSeat, IsSeen, Leaves, MatchLooked};
 ghost use Rattle.tpl_hall.specs.declared.seat.SeatFault.TheVariants.{BadActor};
 ghost use Rattle.tpl_hall.specs.declared.sight.Sight.TheVariants.{At};
+ghost use Rattle.tpl_items.specs.Prelude.{both, first_half, second_half};
+ghost use Rattle.tpl_model.specs.Prelude.{bound, is_task, is_token};
+ghost use Rattle.tpl_runtime.specs.Prelude.{Asks, ClosesWell, GivesBack, Keeps};
+ghost use Rattle.tpl_runtime.specs.declared.shared.Turn.TheVariants.{Wait};
 
 use crate::closing::{CloseFault, Report, settle};
+use crate::kit::Kit;
 use crate::queue::{ItemPass, ItemQueue};
 use crate::shared::{Halting, Hand, Held, Shared, Turn};
 use std::alloc::Global;
@@ -131,20 +128,6 @@ impl<'g, K: Drop, W: Item<K>> Session<'g, K, W> {
         self.queue.join(first, second)
     }
 
-    /// What a worker that has nothing takes from the queue, with no lock.
-    fn take<R: Wait>(&self, rt: &R, pass: &mut ItemPass<W>, hand: Hand<K>) -> Hand<K>
-        requires { pass.old.queue ≡ self.now.queue }
-        ensures { pass.new.queue ≡ self.now.queue }
-    {
-        match hand {
-            Hand::With(Held::Free) => match self.queue.take(rt, pass) {
-                Some(job) => Hand::With(Held::Taken(job.task)),
-                None => Hand::With(Held::Free),
-            },
-            hand => hand,
-        }
-    }
-
     /// Works until the run is complete, the session is halted, or the seat is found to be of another run. Items are
     /// called outside the lock.
     pub fn work<R: Wait>(&self, rt: &R, seat: Seat, pass: ItemPass<W>) -> (Seat, ItemPass<W>, Ended)
@@ -153,26 +136,20 @@ impl<'g, K: Drop, W: Item<K>> Session<'g, K, W> {
         ensures actor { result.0.actor ≡ seat.actor }
         ensures left { Leaves result.2 self.now.graph.graph self.now.inputs seat result.0 }
     {
-        let mut seat = seat;
-        let mut pass = pass;
-        let mut stint = Stint {
-            came: seat.mine().len(),
-            seen: None,
+        let came = seat.mine().len();
+        let mut kit = Kit {
+            graph: self.graph,
+            inputs: &self.inputs,
+            queue: &self.queue,
+            seat,
+            pass,
+            stint: Stint { came, seen: None },
         };
         let mut hand = Hand::New;
         for _ in rt.forever() {
-            let brought = self.take(rt, &mut pass, hand);
+            let brought = take(rt, &mut kit, hand);
             let mut shared = self.shared.lock(rt);
-            match shared.turns(
-                rt,
-                self.graph,
-                &self.inputs,
-                &self.queue,
-                &mut pass,
-                &mut seat,
-                &mut stint,
-                brought,
-            ) {
+            match shared.turns(rt, &mut kit, brought) {
                 Turn::Go(held) => {
                     drop(shared);
                     self.moved.notify_all();
@@ -190,6 +167,14 @@ impl<'g, K: Drop, W: Item<K>> Session<'g, K, W> {
                 Turn::Over(ended) => {
                     drop(shared);
                     self.moved.notify_all();
+                    let Kit {
+                        graph: _,
+                        inputs: _,
+                        queue: _,
+                        seat,
+                        pass,
+                        stint: _,
+                    } = kit;
                     return (seat, pass, ended);
                 }
             }
@@ -237,5 +222,18 @@ impl<'g, K: Drop, W: Item<K>> Session<'g, K, W> {
             made.as_slice(),
             items,
         )
+    }
+}
+
+/// What a worker that has nothing takes from the queue, with no lock.
+fn take<K, W: Item<K>, R: Wait>(rt: &R, kit: &mut Kit<'_, W>, hand: Hand<K>) -> Hand<K>
+    ensures { Keeps Wait kit.old kit.new }
+{
+    match hand {
+        Hand::With(Held::Free) => match kit.queue.take(rt, &mut kit.pass) {
+            Some(job) => Hand::With(Held::Taken(job.task)),
+            None => Hand::With(Held::Free),
+        },
+        hand => hand,
     }
 }

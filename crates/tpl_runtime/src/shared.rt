@@ -1,14 +1,12 @@
 //! What the session's lock guards.
 
 ghost use Rattle.std.specs.Prelude.{◌≡◌, ◌↔◌, ◌≤◌, ◌⊎◌, ◌++◌, ◌∷◌, [], Err, None, true, IfOk, IfErr, IfSome, IsTrue, IsFalse, OnOk, OnErr, vec_capacity, vec_len};
-ghost use Rattle.tpl_model.specs.Rules.{IsOutside};
-ghost use Rattle.tpl_model.specs.Valid.{bound};
-ghost use Rattle.tpl_hall.specs.Stays.{MayEnd};
-ghost use Rattle.tpl_hall.specs.Lists.{is_seated};
-ghost use Rattle.tpl_hall.specs.Moves.{MayDo, MayAnswer};
+ghost use Rattle.tpl_hall.specs.Prelude.{MayAnswer, MayDo, MayEnd, is_seated};
 ghost use Rattle.tpl_hall.specs.declared.seat.SeatFault.TheVariants.{BadActor, SeatTaken};
-ghost use Rattle.tpl_runtime.specs.Turns.{IsDone, IsEnd, Proceeds};
+ghost use Rattle.tpl_model.specs.Prelude.{IsOutside, bound};
+ghost use Rattle.tpl_runtime.specs.Prelude.{IsDone, IsEnd, Proceeds};
 
+use crate::kit::Kit;
 use crate::put::{put_after, put_all};
 use crate::queue::{ItemPass, ItemQueue};
 use std::alloc::{AllocError, Global};
@@ -83,68 +81,42 @@ pub fn is_worker(actor: Actor) -> bool
 
 impl<'g, K: Drop, W: Item<K>> Shared<'g, K, W> {
     /// What begins a worker's work: a sweep, and then the jobs of all tasks that are ready.
-    pub(crate) fn enter<R: Wait>(
-        &mut self,
-        rt: &R,
-        queue: &ItemQueue<W>,
-        pass: &mut ItemPass<W>,
-        seat: &mut Seat,
-    )
-        requires { pass.old.queue ≡ queue.now.id }
-        ensures proceeds { Proceeds queue.now.id pass.new.queue seat.old seat.new
-            self.old.hall.core self.new.hall.core }
+    pub(crate) fn enter<R: Wait>(&mut self, rt: &R, kit: &mut Kit<'_, W>)
+        ensures proceeds { Proceeds kit.old kit.new self.old.hall.core self.new.hall.core }
         ensures halted { self.new.halted ≡ self.old.halted }
     {
-        self.hall.sweep(seat);
-        put_all(rt, &self.hall, &mut self.stock, queue, pass);
+        self.hall.sweep(&mut kit.seat);
+        put_all(rt, &self.hall, &mut self.stock, kit.queue, &mut kit.pass);
     }
 
     /// What ends each section in which something was done: a sweep, and then the jobs of the tasks that the section made
     /// ready. `from` is how many events the seat had before the section.
-    pub(crate) fn finish<R: Wait>(
-        &mut self,
-        rt: &R,
-        queue: &ItemQueue<W>,
-        pass: &mut ItemPass<W>,
-        seat: &mut Seat,
-        from: usize,
-    )
-        requires { pass.old.queue ≡ queue.now.id }
-        ensures proceeds { Proceeds queue.now.id pass.new.queue seat.old seat.new
-            self.old.hall.core self.new.hall.core }
+    pub(crate) fn finish<R: Wait>(&mut self, rt: &R, kit: &mut Kit<'_, W>, from: usize)
+        ensures proceeds { Proceeds kit.old kit.new self.old.hall.core self.new.hall.core }
         ensures halted { self.new.halted ≡ self.old.halted }
     {
-        self.hall.sweep(seat);
+        self.hall.sweep(&mut kit.seat);
         put_after(
             rt,
             &self.hall,
             &mut self.stock,
             &self.children,
-            queue,
-            pass,
-            seat.since(from),
+            kit.queue,
+            &mut kit.pass,
+            kit.seat.since(from),
         );
     }
 
     /// Does an act, if it may be done, and what ends the section. True where the act was done.
-    pub(crate) fn act<R: Wait>(
-        &mut self,
-        rt: &R,
-        queue: &ItemQueue<W>,
-        pass: &mut ItemPass<W>,
-        seat: &mut Seat,
-        act: Act,
-    ) -> bool
-        requires { pass.old.queue ≡ queue.now.id }
-        ensures proceeds { Proceeds queue.now.id pass.new.queue seat.old seat.new
-            self.old.hall.core self.new.hall.core }
-        ensures exact { IsTrue result ↔ MayDo self.old.hall.core seat.old act }
+    pub(crate) fn act<R: Wait>(&mut self, rt: &R, kit: &mut Kit<'_, W>, act: Act) -> bool
+        ensures proceeds { Proceeds kit.old kit.new self.old.hall.core self.new.hall.core }
+        ensures exact { IsTrue result ↔ MayDo self.old.hall.core kit.old.seat act }
         ensures halted { self.new.halted ≡ self.old.halted }
     {
-        let from = seat.mine().len();
-        match self.hall.step(seat, act) {
+        let from = kit.seat.mine().len();
+        match self.hall.step(&mut kit.seat, act) {
             Ok(_place) => {
-                self.finish(rt, queue, pass, seat, from);
+                self.finish(rt, kit, from);
                 true
             }
             Err(_) => false,
@@ -155,22 +127,18 @@ impl<'g, K: Drop, W: Item<K>> Shared<'g, K, W> {
     pub(crate) fn answer<R: Wait>(
         &mut self,
         rt: &R,
-        queue: &ItemQueue<W>,
-        pass: &mut ItemPass<W>,
-        seat: &mut Seat,
+        kit: &mut Kit<'_, W>,
         task: TaskId,
         receipt: Receipt<K>,
     ) -> bool
-        requires { pass.old.queue ≡ queue.now.id }
-        ensures proceeds { Proceeds queue.now.id pass.new.queue seat.old seat.new
-            self.old.hall.core self.new.hall.core }
-        ensures exact { IsTrue result ↔ MayAnswer self.old.hall.core seat.old task receipt }
+        ensures proceeds { Proceeds kit.old kit.new self.old.hall.core self.new.hall.core }
+        ensures exact { IsTrue result ↔ MayAnswer self.old.hall.core kit.old.seat task receipt }
         ensures halted { self.new.halted ≡ self.old.halted }
     {
-        let from = seat.mine().len();
-        match self.hall.worked(seat, task, receipt) {
+        let from = kit.seat.mine().len();
+        match self.hall.worked(&mut kit.seat, task, receipt) {
             Ok(_place) => {
-                self.finish(rt, queue, pass, seat, from);
+                self.finish(rt, kit, from);
                 true
             }
             Err(_back) => false,

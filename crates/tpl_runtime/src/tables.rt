@@ -1,11 +1,10 @@
 //! What is reported of each task when a session is closed.
 
 ghost use Rattle.std.specs.Prelude.{◌≡◌, length, map, reverse, IfOk};
-ghost use Rattle.tpl_model.specs.Graph.{is_task};
-ghost use Rattle.tpl_model.specs.Rules.{status, label, carried};
-ghost use Rattle.tpl_draft.specs.Ids.{task_number};
-ghost use Rattle.tpl_machine.specs.Journal.{named};
-ghost use Rattle.tpl_runtime.specs.Reports.{each_below, those_below, is_unseen, told_of, IsTold};
+ghost use Rattle.tpl_draft.specs.Prelude.{task_number};
+ghost use Rattle.tpl_machine.specs.Prelude.{named};
+ghost use Rattle.tpl_model.specs.Prelude.{carried, is_task, label, status};
+ghost use Rattle.tpl_runtime.specs.Prelude.{IsTold, each_below, is_unseen, those_below, told_of};
 
 use std::alloc::{AllocError, Global};
 use tpl_fast::Fast;

@@ -1,7 +1,7 @@
 //! Workers in threads of their own.
 
 ghost use Rattle.std.specs.Prelude.{◌≡◌, ◌+◌, ◌<◌, ◌≤◌, [], ◌∷◌, ◌++◌, map, vec_len, vec_capacity, All, IfOk, IfErr, IfNone, IsPermutation};
-ghost use Rattle.tpl_runtime.specs.Workers.{IsNew, HasWorked, AllWorked};
+ghost use Rattle.tpl_runtime.specs.Prelude.{AllWorked, HasWorked, IsNew};
 
 use crate::crew::Crew;
 use crate::shared::Halting;
@@ -181,9 +181,7 @@ where
     for seat in seats {
         let (rest, stopped) = start_one(crew, rt, scope, seat, pass, children, done);
         pass = rest;
-        if stopped.is_some() {
-            halting = stopped;
-        }
+        halting = stopped.or(halting);
     }
     (pass, halting)
 }

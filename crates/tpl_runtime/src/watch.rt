@@ -1,8 +1,8 @@
 //! Watchers of a session.
 
 ghost use Rattle.std.specs.Prelude.{◌≡◌, [], IfOk, IfErr};
-ghost use Rattle.tpl_hall.specs.Watched.{AllBegin};
-ghost use Rattle.tpl_runtime.specs.Reports.{ClosesWell, GivesBack};
+ghost use Rattle.tpl_hall.specs.Prelude.{AllBegin};
+ghost use Rattle.tpl_runtime.specs.Prelude.{ClosesWell, GivesBack};
 
 use crate::closing::{CloseFault, CloseWhy, Report};
 use crate::queue::ItemPass;

@@ -1,3 +1,4 @@
 pub mod Answer
 pub mod Marks
 pub mod Trace
+pub mod Prelude

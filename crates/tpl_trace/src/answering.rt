@@ -1,15 +1,11 @@
 //! The trace of a document's journal.
 
-ghost use Rattle.std.specs.Prelude.{◌≡◌, ◌+◌, ◌≤◌, Some, IfOk, IfSome, string_bytes};
-ghost use Rattle.std.specs.List.{All};
-ghost use Rattle.tpl_graph.specs.Fits.{Fits};
-ghost use Rattle.tpl_journal.specs.Counting.{calls_of};
-ghost use Rattle.tpl_reader.specs.Document.{Spells};
-ghost use Rattle.tpl_reader.specs.SeenDocument.{doc_of};
-ghost use Rattle.tpl_reader.specs.Starting.{inputs_of};
-ghost use Rattle.tpl_commands.specs.Finding.{IsAnswer, IsFindingOf};
-ghost use Rattle.tpl_commands.specs.Responding.{longest, Responds};
-ghost use Rattle.tpl_trace.specs.Answer.{IsJournalOf, Traced, Traces};
+ghost use Rattle.std.specs.Prelude.{◌≡◌, ◌+◌, ◌≤◌, Some, IfOk, IfSome, string_bytes, All};
+ghost use Rattle.tpl_commands.specs.Prelude.{IsAnswer, IsFindingOf, Responds, longest};
+ghost use Rattle.tpl_graph.specs.Prelude.{Fits};
+ghost use Rattle.tpl_journal.specs.Prelude.{calls_of};
+ghost use Rattle.tpl_reader.specs.Prelude.{Spells, doc_of, inputs_of};
+ghost use Rattle.tpl_trace.specs.Prelude.{IsJournalOf, Traced, Traces};
 
 use crate::text::trace_text;
 use std::alloc::{AllocError, Global};

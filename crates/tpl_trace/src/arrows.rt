@@ -1,12 +1,11 @@
 //! The arrows of a trace, from the end of a task to the releases of its continuations.
 
-ghost use Rattle.std.specs.Prelude.{◌≡◌, ◌++◌, ◌<◌, drop, length, map, suc, OnOk};
-ghost use Rattle.std.specs.List.{All};
+ghost use Rattle.std.specs.Prelude.{◌≡◌, ◌++◌, ◌<◌, drop, length, map, suc, OnOk, All};
 ghost use Rattle.serde_json.specs.View.{view};
-ghost use Rattle.tpl_journal.specs.Lines.{CanSpell, HasId};
-ghost use Rattle.tpl_model.specs.Graph.{is_task, kind};
-ghost use Rattle.tpl_draft.specs.Named.{antecedent_of};
-ghost use Rattle.tpl_trace.specs.Trace.{arrow_to, arrows_from, may_end, releases, some_may_end};
+ghost use Rattle.tpl_draft.specs.Prelude.{antecedent_of};
+ghost use Rattle.tpl_journal.specs.Prelude.{CanSpell, HasId};
+ghost use Rattle.tpl_model.specs.Prelude.{is_task, kind};
+ghost use Rattle.tpl_trace.specs.Prelude.{arrow_to, arrows_from, may_end, releases, some_may_end};
 
 use crate::marks::{arrow_end, arrow_start};
 use crate::moment::Moment;

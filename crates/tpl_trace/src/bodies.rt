@@ -2,10 +2,10 @@
 
 ghost use Rattle.std.specs.Prelude.{◌≡◌, ◌++◌, [], codes, is_some, map, IfOk, OnOk, string_bytes};
 ghost use Rattle.serde_json.specs.View.{view};
-ghost use Rattle.tpl_journal.specs.Lines.{HasId, task_name};
-ghost use Rattle.tpl_model.specs.Facts.{begun, begun_by, left_by};
-ghost use Rattle.tpl_model.specs.Graph.{is_task};
-ghost use Rattle.tpl_trace.specs.Trace.{body_mark, body_track, crosses, leaves_begun, outlives, track_in, track_name, track_of_body};
+ghost use Rattle.tpl_journal.specs.Prelude.{HasId};
+ghost use Rattle.tpl_journal.specs.Lines.{task_name};
+ghost use Rattle.tpl_model.specs.Prelude.{begun, begun_by, is_task, left_by};
+ghost use Rattle.tpl_trace.specs.Prelude.{body_mark, body_track, crosses, leaves_begun, outlives, track_in, track_name, track_of_body};
 
 use crate::entries::name_of;
 use crate::marks::track_mark;

@@ -1,12 +1,12 @@
 //! The entries of a trace.
 
-ghost use Rattle.std.specs.Prelude.{◌≡◌, ◌++◌, ◌<◌, ◌≤◌, ◌∷◌, [], codes, drop, length, map, suc, take, IfOk, OnOk};
-ghost use Rattle.std.specs.List.{All};
+ghost use Rattle.std.specs.Prelude.{◌≡◌, ◌++◌, ◌<◌, ◌≤◌, ◌∷◌, [], codes, drop, length, map, suc, take, IfOk, OnOk, All};
 ghost use Rattle.serde_json.specs.View.{view};
-ghost use Rattle.tpl_draft.specs.Named.{antecedent_of};
-ghost use Rattle.tpl_journal.specs.Lines.{CanSpell, HasId, task_name, token_name};
-ghost use Rattle.tpl_model.specs.Graph.{is_task, is_token, kind};
-ghost use Rattle.tpl_trace.specs.Trace.{arrow_to, arrows_from, entries, instant, marks, marks_from, new_tracks};
+ghost use Rattle.tpl_draft.specs.Prelude.{antecedent_of};
+ghost use Rattle.tpl_journal.specs.Prelude.{CanSpell, HasId, token_name};
+ghost use Rattle.tpl_journal.specs.Lines.{task_name};
+ghost use Rattle.tpl_model.specs.Prelude.{is_task, is_token, kind};
+ghost use Rattle.tpl_trace.specs.Prelude.{arrow_to, arrows_from, entries, instant, marks, marks_from, new_tracks};
 
 use crate::arrows::{add_arrow_end, add_arrows};
 use crate::bodies::{add_body_track, track_in};

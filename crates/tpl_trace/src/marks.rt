@@ -1,9 +1,8 @@
 //! The entries of a trace, each a JSON object.
 
-ghost use Rattle.std.specs.Prelude.{◌≡◌, ◌++◌, codes, IfOk};
+ghost use Rattle.std.specs.Prelude.{◌≡◌, IfOk};
 ghost use Rattle.serde_json.specs.View.{view};
-ghost use Rattle.tpl_trace.specs.Marks.{arrow_end, arrow_start, instant_mark, process_mark, slice_mark, track_mark};
-ghost use Rattle.tpl_trace.specs.Trace.{instant};
+ghost use Rattle.tpl_trace.specs.Prelude.{arrow_end, arrow_start, instant, instant_mark, process_mark, slice_mark, track_mark};
 
 use serde_json::{Value, json};
 use std::alloc::{AllocError, Global};

@@ -1,7 +1,7 @@
 //! Where the entries of an event stand in a trace.
 
 ghost use Rattle.std.specs.Prelude.{◌≡◌, ◌<◌};
-ghost use Rattle.tpl_trace.specs.Trace.{time_of};
+ghost use Rattle.tpl_trace.specs.Prelude.{time_of};
 
 /// Where the entries of an event stand in a trace.
 #[derive(Clone, Copy)]

@@ -1,11 +1,10 @@
 //! The text of a trace.
 
-ghost use Rattle.std.specs.Prelude.{◌≡◌, codes, map, IfOk, string_bytes};
-ghost use Rattle.std.specs.List.{All};
+ghost use Rattle.std.specs.Prelude.{◌≡◌, codes, map, IfOk, string_bytes, All};
 ghost use Rattle.serde_json.specs.Data.{array, member, no_members, object};
 ghost use Rattle.serde_json.specs.View.{items_of, view};
-ghost use Rattle.tpl_journal.specs.Lines.{CanSpell};
-ghost use Rattle.tpl_trace.specs.Trace.{trace_text};
+ghost use Rattle.tpl_journal.specs.Prelude.{CanSpell};
+ghost use Rattle.tpl_trace.specs.Prelude.{trace_text};
 
 use crate::entries::entries;
 use serde_json::{Value, json};

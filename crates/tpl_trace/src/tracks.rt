@@ -2,8 +2,8 @@
 
 ghost use Rattle.std.specs.Prelude.{◌≡◌, ◌++◌, map, IfOk, OnOk, string_bytes};
 ghost use Rattle.serde_json.specs.View.{view};
-ghost use Rattle.tpl_model.specs.Journal.{same_actor};
-ghost use Rattle.tpl_trace.specs.Trace.{acts_in, new_track, track_name, track_of};
+ghost use Rattle.tpl_model.specs.Prelude.{same_actor};
+ghost use Rattle.tpl_trace.specs.Prelude.{acts_in, new_track, track_name, track_of};
 
 use crate::marks::track_mark;
 use serde_json::Value;

@@ -7,3 +7,4 @@ pub mod WideCoding
 pub mod WideTrees
 pub mod WideHeights
 pub mod WideFalls
+pub mod Prelude

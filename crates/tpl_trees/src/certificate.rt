@@ -1,8 +1,7 @@
 //! Certificates.
 
-ghost use Rattle.std.specs.Prelude.{◌≡◌};
-ghost use Rattle.std.specs.List.{All};
-ghost use Rattle.tpl_trees.specs.Heights.{IsWithinLimits};
+ghost use Rattle.std.specs.Prelude.{◌≡◌, All};
+ghost use Rattle.tpl_trees.specs.Prelude.{IsWithinLimits};
 
 use crate::tree::Tree;
 use std::marker::Model;

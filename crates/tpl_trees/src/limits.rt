@@ -1,10 +1,8 @@
 //! The limits of certificate trees.
 
-ghost use Rattle.std.specs.Prelude.{◌≡◌, ◌≤◌, ◌↔◌, IsTrue};
-ghost use Rattle.std.specs.List.{All};
-ghost use Rattle.tpl_model.specs.WiderRules.{as_wide_tree};
-ghost use Rattle.tpl_trees.specs.WideHeights.{is_within_limits};
-ghost use Rattle.tpl_trees.specs.Heights.{height, HasShortChain, HasShortChains, IsWithinLimits};
+ghost use Rattle.std.specs.Prelude.{◌≡◌, ◌≤◌, ◌↔◌, IsTrue, All};
+ghost use Rattle.tpl_model.specs.Prelude.{as_wide_tree};
+ghost use Rattle.tpl_trees.specs.Prelude.{HasShortChain, HasShortChains, IsWithinLimits, height, is_within_limits};
 
 use crate::row::Row;
 use crate::tree::{Node, Tree};

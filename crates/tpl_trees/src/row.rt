@@ -1,7 +1,7 @@
 //! Rows of certificate trees.
 
 ghost use Rattle.std.specs.Prelude.{◌≡◌, map};
-ghost use Rattle.tpl_draft.specs.Ids.{task_number};
+ghost use Rattle.tpl_draft.specs.Prelude.{task_number};
 
 use std::marker::Model;
 use tpl_model::{Finals, TaskId, TaskSet};

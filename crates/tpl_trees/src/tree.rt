@@ -1,7 +1,7 @@
 //! Certificate trees.
 
 ghost use Rattle.std.specs.Prelude.{◌≡◌};
-ghost use Rattle.tpl_trees.specs.Trees.{node_of};
+ghost use Rattle.tpl_trees.specs.Prelude.{node_of};
 
 use crate::row::Row;
 use std::marker::Model;

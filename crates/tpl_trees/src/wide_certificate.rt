@@ -1,8 +1,7 @@
 //! Certificates whose rows speak of tokens too.
 
-ghost use Rattle.std.specs.Prelude.{◌≡◌};
-ghost use Rattle.std.specs.List.{All};
-ghost use Rattle.tpl_trees.specs.WideHeights.{IsWithinWideLimits};
+ghost use Rattle.std.specs.Prelude.{◌≡◌, All};
+ghost use Rattle.tpl_trees.specs.Prelude.{IsWithinWideLimits};
 
 use crate::wide_tree::WideTree;
 use std::marker::Model;

@@ -1,8 +1,7 @@
 //! The limits of certificate trees whose rows speak of tokens too.
 
-ghost use Rattle.std.specs.Prelude.{◌≡◌, ◌≤◌, ◌↔◌, IsTrue};
-ghost use Rattle.std.specs.List.{All};
-ghost use Rattle.tpl_trees.specs.WideHeights.{wide_height, HasShortWideChain, HasShortWideChains, IsWithinWideLimits, is_within_limits};
+ghost use Rattle.std.specs.Prelude.{◌≡◌, ◌≤◌, ◌↔◌, IsTrue, All};
+ghost use Rattle.tpl_trees.specs.Prelude.{HasShortWideChain, HasShortWideChains, IsWithinWideLimits, is_within_limits, wide_height};
 
 use crate::limits::{MOST_IN_CHAIN, MOST_SPLITS};
 use crate::wide_row::WideRow;

@@ -1,10 +1,9 @@
 //! Rows of certificate trees that speak of tokens too.
 
 ghost use Rattle.std.specs.Prelude.{◌≡◌, ℕ};
-ghost use Rattle.tpl_model.specs.Members.{mem};
-ghost use Rattle.tpl_trees.specs.WideCoding.{tokens_in};
-ghost use Rattle.tpl_trees.specs.Sets.{HasTokenSets};
-ghost use Rattle.tpl_paths.specs.TokenSet.{has_token};
+ghost use Rattle.tpl_model.specs.Prelude.{mem};
+ghost use Rattle.tpl_paths.specs.Prelude.{has_token};
+ghost use Rattle.tpl_trees.specs.Prelude.{HasTokenSets, tokens_in};
 
 use crate::row::Row;
 use std::marker::Model;

@@ -1,7 +1,7 @@
 //! Certificate trees whose rows speak of tokens too.
 
 ghost use Rattle.std.specs.Prelude.{◌≡◌};
-ghost use Rattle.tpl_trees.specs.WideTrees.{wide_node_of};
+ghost use Rattle.tpl_trees.specs.Prelude.{wide_node_of};
 
 use crate::wide_row::WideRow;
 use std::marker::Model;

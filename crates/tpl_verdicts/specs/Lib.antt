@@ -3,3 +3,4 @@ pub mod Lines
 pub mod Junit
 pub mod Json
 pub mod Answer
+pub mod Prelude

@@ -1,10 +1,9 @@
 //! What is said of the claims, one after another.
 
-ghost use Rattle.std.specs.Prelude.{IfOk};
-ghost use Rattle.std.specs.List.{All};
-ghost use Rattle.tpl_graph.specs.Fits.{Fits};
-ghost use Rattle.tpl_verify.specs.Verdicts.{AreVerdicts, IsSomeVerdict};
-ghost use Rattle.tpl_verdicts.specs.Lines.{AreNumbered, IsEntry};
+ghost use Rattle.std.specs.Prelude.{IfOk, All};
+ghost use Rattle.tpl_graph.specs.Prelude.{Fits};
+ghost use Rattle.tpl_verdicts.specs.Prelude.{AreNumbered, IsEntry};
+ghost use Rattle.tpl_verify.specs.Prelude.{AreVerdicts, IsSomeVerdict};
 
 use crate::entry::Entry;
 use crate::lines::lines_of;

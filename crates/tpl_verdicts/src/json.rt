@@ -1,16 +1,14 @@
 //! The verdicts as one JSON object.
 
-ghost use Rattle.std.specs.Prelude.{◌≡◌, codes, length, map, IfOk, string_bytes};
-ghost use Rattle.std.specs.List.{All};
+ghost use Rattle.std.specs.Prelude.{◌≡◌, codes, length, map, IfOk, string_bytes, All};
 ghost use Rattle.serde_json.specs.Data.{member, no_members, object, string, Members};
 ghost use Rattle.serde_json.specs.View.{view};
-ghost use Rattle.tpl_graph.specs.Fits.{Fits};
-ghost use Rattle.tpl_journal.specs.Lines.{task_name, CanSpell};
-ghost use Rattle.tpl_model.specs.Graph.{is_task};
-ghost use Rattle.tpl_verify.specs.Verdicts.{AreVerdicts, IsEmpty, IsSomeVerdict};
-ghost use Rattle.tpl_verify.specs.Filled.{AreFirst};
-ghost use Rattle.tpl_verdicts.specs.Lines.{AreNumbered};
-ghost use Rattle.tpl_verdicts.specs.Json.{empty_data, failed_data, held_data, ran_out_word, sums_data, tried_data, unknown_data, verdicts_data, why_data, IsClaimData, IsNamed, IsNamedData, IsJson, IsRunData};
+ghost use Rattle.tpl_graph.specs.Prelude.{Fits};
+ghost use Rattle.tpl_journal.specs.Prelude.{CanSpell};
+ghost use Rattle.tpl_journal.specs.Lines.{task_name};
+ghost use Rattle.tpl_model.specs.Prelude.{is_task};
+ghost use Rattle.tpl_verdicts.specs.Prelude.{AreNumbered, IsClaimData, IsJson, IsNamed, IsNamedData, IsRunData, empty_data, failed_data, held_data, ran_out_word, sums_data, tried_data, unknown_data, verdicts_data, why_data};
+ghost use Rattle.tpl_verify.specs.Prelude.{AreFirst, AreVerdicts, IsEmpty, IsSomeVerdict};
 
 use crate::sums::count_of;
 use crate::word::Word;

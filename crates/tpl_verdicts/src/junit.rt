@@ -1,12 +1,10 @@
 //! The verdicts as test cases, in the form of JUnit that Azure DevOps and GitHub's reporters read. Times and the date are
 //! constants, so that the same verdicts give the same bytes.
 
-ghost use Rattle.std.specs.Prelude.{◌≡◌, ◌++◌, flat_map, IfOk, OnOk, string_bytes};
-ghost use Rattle.std.specs.List.{All};
-ghost use Rattle.tpl_graph.specs.Fits.{Fits};
-ghost use Rattle.tpl_verify.specs.Verdicts.{AreVerdicts};
-ghost use Rattle.tpl_verdicts.specs.Lines.{AreNumbered};
-ghost use Rattle.tpl_verdicts.specs.Junit.{case_text, closing, failure_text, message, opening, outcome_text, IsCase, IsJunit};
+ghost use Rattle.std.specs.Prelude.{◌≡◌, ◌++◌, flat_map, IfOk, OnOk, string_bytes, All};
+ghost use Rattle.tpl_graph.specs.Prelude.{Fits};
+ghost use Rattle.tpl_verdicts.specs.Prelude.{AreNumbered, IsCase, IsJunit, case_text, failure_text, message, opening, outcome_text};
+ghost use Rattle.tpl_verify.specs.Prelude.{AreVerdicts};
 
 use crate::entries::entries;
 use crate::entry::Entry;

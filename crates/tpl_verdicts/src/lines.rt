@@ -1,11 +1,10 @@
 //! The lines that belong to a claim's line.
 
-ghost use Rattle.std.specs.Prelude.{◌≡◌, ◌++◌, map, IfOk, OnOk, string_bytes};
-ghost use Rattle.std.specs.List.{All};
-ghost use Rattle.tpl_graph.specs.Fits.{Fits};
-ghost use Rattle.tpl_journal.specs.Lines.{line, CanSpell};
-ghost use Rattle.tpl_verify.specs.Verdicts.{IsSomeVerdict};
-ghost use Rattle.tpl_verdicts.specs.Lines.{AreLines};
+ghost use Rattle.std.specs.Prelude.{◌≡◌, ◌++◌, map, IfOk, OnOk, string_bytes, All};
+ghost use Rattle.tpl_graph.specs.Prelude.{Fits};
+ghost use Rattle.tpl_journal.specs.Prelude.{CanSpell, line};
+ghost use Rattle.tpl_verdicts.specs.Prelude.{AreLines};
+ghost use Rattle.tpl_verify.specs.Prelude.{IsSomeVerdict};
 
 use crate::searched::Searched;
 use std::alloc::{AllocError, Global};

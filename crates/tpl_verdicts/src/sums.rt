@@ -1,8 +1,7 @@
 //! How many verdicts of each word there are.
 
-ghost use Rattle.std.specs.Prelude.{◌≡◌, length, IfOk, string_bytes};
-ghost use Rattle.tpl_verdicts.specs.Words.{count_of};
-ghost use Rattle.tpl_verdicts.specs.Lines.{sums_line};
+ghost use Rattle.std.specs.Prelude.{◌≡◌, IfOk, string_bytes};
+ghost use Rattle.tpl_verdicts.specs.Prelude.{count_of, sums_line};
 
 use crate::word::{Word, same_word, word_of};
 use std::alloc::{AllocError, Global};

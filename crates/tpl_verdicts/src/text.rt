@@ -1,10 +1,9 @@
 //! The verdicts as text, for people.
 
-ghost use Rattle.std.specs.Prelude.{◌≡◌, ◌++◌, flat_map, IfOk, OnOk, string_bytes};
-ghost use Rattle.std.specs.List.{All};
-ghost use Rattle.tpl_graph.specs.Fits.{Fits};
-ghost use Rattle.tpl_verify.specs.Verdicts.{AreVerdicts};
-ghost use Rattle.tpl_verdicts.specs.Lines.{entry_text, indented, IsText};
+ghost use Rattle.std.specs.Prelude.{◌≡◌, ◌++◌, flat_map, IfOk, OnOk, string_bytes, All};
+ghost use Rattle.tpl_graph.specs.Prelude.{Fits};
+ghost use Rattle.tpl_verdicts.specs.Prelude.{IsText, entry_text, indented};
+ghost use Rattle.tpl_verify.specs.Prelude.{AreVerdicts};
 
 use crate::entries::entries;
 use crate::entry::Entry;

@@ -1,16 +1,13 @@
 //! The verdicts on the claims of a document, from a reader to a writer.
 
-ghost use Rattle.std.specs.Prelude.{◌≡◌, ◌⊎◌, ◌+◌, ◌≤◌, ◌<◌, IfOk, IfSome, IsTrue, string_bytes};
-ghost use Rattle.std.specs.List.{All, AllZip};
-ghost use Rattle.tpl_graph.specs.Fits.{Fits};
-ghost use Rattle.tpl_journal.specs.Counting.{calls_of};
-ghost use Rattle.tpl_reader.specs.SeenDocument.{doc_of};
-ghost use Rattle.tpl_commands.specs.Exit.{is_verdict};
-ghost use Rattle.tpl_commands.specs.Finding.{IsAnswer, IsFindingOf};
-ghost use Rattle.tpl_commands.specs.Rules.{rules_of};
-ghost use Rattle.tpl_commands.specs.Responding.{longest, Responds};
-ghost use Rattle.tpl_verify.specs.Verdicts.{AreVerdicts, HoldsAlways, IsVerdict};
-ghost use Rattle.tpl_verdicts.specs.Answer.{IsExit, IsStyled, IsVerified, Judged, Verified, Verifies};
+ghost use Rattle.std.specs.Prelude.{◌≡◌, ◌⊎◌, ◌+◌, ◌≤◌, ◌<◌, IfOk, IfSome, IsTrue, string_bytes, All};
+ghost use Rattle.std.specs.List.{AllZip};
+ghost use Rattle.tpl_commands.specs.Prelude.{IsAnswer, IsFindingOf, Responds, is_verdict, longest, rules_of};
+ghost use Rattle.tpl_graph.specs.Prelude.{Fits};
+ghost use Rattle.tpl_journal.specs.Prelude.{calls_of};
+ghost use Rattle.tpl_reader.specs.Prelude.{doc_of};
+ghost use Rattle.tpl_verdicts.specs.Prelude.{IsExit, IsStyled, IsVerified, Judged, Verified, Verifies};
+ghost use Rattle.tpl_verify.specs.Prelude.{AreVerdicts, HoldsAlways, IsVerdict};
 
 use crate::json::json_of;
 use crate::junit::junit_of;

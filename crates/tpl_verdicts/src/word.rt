@@ -1,7 +1,7 @@
 //! The words for verdicts.
 
 ghost use Rattle.std.specs.Prelude.{◌≡◌};
-ghost use Rattle.tpl_verdicts.specs.Words.{same_word, word_of, word_text};
+ghost use Rattle.tpl_verdicts.specs.Prelude.{same_word, word_of, word_text};
 
 use tpl_verify::Verdict;
 

@@ -4,3 +4,4 @@ pub mod Asking
 pub mod Filled
 pub mod Witness
 pub mod Serving
+pub mod Prelude

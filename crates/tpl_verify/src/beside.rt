@@ -1,11 +1,10 @@
 //! The answers to claims, by threads beside each other.
 
-ghost use Rattle.std.specs.Prelude.{◌≡◌, ◌<◌, ℕ, length, map, IfOk, IfSome, Some, None, slice_get, slice_index_or};
-ghost use Rattle.std.specs.List.{All, AllZip};
-ghost use Rattle.tpl_graph.specs.Fits.{Fits};
+ghost use Rattle.std.specs.Prelude.{◌≡◌, ◌<◌, ℕ, length, map, IfOk, IfSome, Some, None, slice_get, slice_index_or, All};
+ghost use Rattle.std.specs.List.{AllZip};
+ghost use Rattle.tpl_graph.specs.Prelude.{Fits};
+ghost use Rattle.tpl_verify.specs.Prelude.{IsVerdict, IsVerdictAt};
 ghost use Rattle.tpl_verify.specs.declared.verdict.Verdict.{Verdict};
-ghost use Rattle.tpl_verify.specs.Verdicts.{IsVerdict};
-ghost use Rattle.tpl_verify.specs.Beside.{IsVerdictAt};
 
 use crate::attend::Attend;
 use crate::limits::Limits;

@@ -1,11 +1,11 @@
 //! The search for a certificate of one claim.
 
 ghost use Rattle.std.specs.Prelude.{◌≡◌, ◌≤◌, ◌∷◌, [], length, IfOk, IsTrue};
-ghost use Rattle.tpl_model.specs.WiderRules.{WideTree, as_wide_tree};
-ghost use Rattle.tpl_trees.specs.WideHeights.{wide_height};
-ghost use Rattle.tpl_graph.specs.Fits.{Fits};
-ghost use Rattle.tpl_commands.specs.Proof.{trees_of};
-ghost use Rattle.tpl_verify.specs.Verdicts.{HoldsAlways, IsCertified, under};
+ghost use Rattle.tpl_commands.specs.Prelude.{trees_of};
+ghost use Rattle.tpl_graph.specs.Prelude.{Fits};
+ghost use Rattle.tpl_model.specs.Prelude.{WideTree, as_wide_tree};
+ghost use Rattle.tpl_trees.specs.Prelude.{wide_height};
+ghost use Rattle.tpl_verify.specs.Prelude.{HoldsAlways, IsCertified, under};
 
 use crate::limits::FEW_LEAVES;
 use std::alloc::{AllocError, Global};

@@ -1,11 +1,9 @@
 //! Why a claim that holds says nothing.
 
 ghost use Rattle.std.specs.Prelude.{◌≡◌, ◌↔◌, Bool, true, IsTrue, IfOk, IfSome, is_some};
-ghost use Rattle.tpl_model.specs.Graph.{is_task, kind};
-ghost use Rattle.tpl_model.specs.Rules.{to_end};
-ghost use Rattle.tpl_model.specs.Certificate.{is_wide};
-ghost use Rattle.tpl_graph.specs.Fits.{AreGivenOf, Fits};
-ghost use Rattle.tpl_verify.specs.Verdicts.{EndsAnyhow, HasNoLabel, IsEmpty, IsPlainlyEmpty, LacksThrow, NeedsBegin, ThrowsNowhere};
+ghost use Rattle.tpl_graph.specs.Prelude.{AreGivenOf, Fits};
+ghost use Rattle.tpl_model.specs.Prelude.{is_task, is_wide, kind, to_end};
+ghost use Rattle.tpl_verify.specs.Prelude.{EndsAnyhow, HasNoLabel, IsEmpty, IsPlainlyEmpty, LacksThrow, NeedsBegin, ThrowsNowhere};
 
 use crate::certifying::is_certified;
 use crate::verdict::Empty;

@@ -1,10 +1,9 @@
 //! The search for a run in which a claim of a document fails.
 
-ghost use Rattle.std.specs.Prelude.{IfOk, IfSome};
-ghost use Rattle.std.specs.List.{All};
-ghost use Rattle.tpl_graph.specs.Fits.{Fits};
-ghost use Rattle.tpl_reader.specs.SeenDocument.{doc_of};
-ghost use Rattle.tpl_verify.specs.Witness.{IsFound};
+ghost use Rattle.std.specs.Prelude.{IfOk, IfSome, All};
+ghost use Rattle.tpl_graph.specs.Prelude.{Fits};
+ghost use Rattle.tpl_reader.specs.Prelude.{doc_of};
+ghost use Rattle.tpl_verify.specs.Prelude.{IsFound};
 
 use crate::aside::tell_end;
 use crate::search::Search;

@@ -1,14 +1,11 @@
 //! The search for runs in which the claims of a document fail, from a reader to a writer.
 
-ghost use Rattle.std.specs.Prelude.{◌≡◌, ◌+◌, ◌≤◌, IfOk, string_bytes};
-ghost use Rattle.std.specs.List.{All};
-ghost use Rattle.tpl_graph.specs.Fits.{Fits};
-ghost use Rattle.tpl_journal.specs.Counting.{calls_of};
-ghost use Rattle.tpl_reader.specs.Document.{Spells};
-ghost use Rattle.tpl_reader.specs.SeenDocument.{doc_of};
-ghost use Rattle.tpl_commands.specs.Responding.{longest, Responds};
-ghost use Rattle.tpl_verify.specs.Serving.{Refuted, ShowsFailure, Unrefuted};
-ghost use Rattle.tpl_verify.specs.Witness.{IsFound, IsSearched, Searches};
+ghost use Rattle.std.specs.Prelude.{◌≡◌, ◌+◌, ◌≤◌, IfOk, string_bytes, All};
+ghost use Rattle.tpl_commands.specs.Prelude.{Responds, longest};
+ghost use Rattle.tpl_graph.specs.Prelude.{Fits};
+ghost use Rattle.tpl_journal.specs.Prelude.{calls_of};
+ghost use Rattle.tpl_reader.specs.Prelude.{Spells, doc_of};
+ghost use Rattle.tpl_verify.specs.Prelude.{IsFound, IsSearched, Refuted, Searches, ShowsFailure, Unrefuted};
 
 use crate::Attend;
 use crate::aside::{tell_missing, tell_run};

@@ -1,7 +1,7 @@
 //! What is searched.
 
 ghost use Rattle.std.specs.Prelude.{◌≡◌, ◌↔◌, IsTrue, length};
-ghost use Rattle.tpl_verify.specs.Asking.{IsAsked, IsThere};
+ghost use Rattle.tpl_verify.specs.Prelude.{IsAsked, IsThere};
 
 use crate::Limits;
 use tpl_reader::Document;

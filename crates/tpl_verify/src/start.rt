@@ -3,7 +3,7 @@
 ghost use Rattle.std.specs.Prelude.{◌≡◌, IfOk, codes, length};
 ghost use Rattle.serde_json.specs.Find.{get};
 ghost use Rattle.serde_json.specs.View.{view, members_view};
-ghost use Rattle.tpl_verify.specs.Filled.{AreFirst, HasForm, IsStartWith, start_data};
+ghost use Rattle.tpl_verify.specs.Prelude.{AreFirst, HasForm, IsStartWith, start_data};
 
 use serde_json::{Map, Value};
 use std::alloc::{AllocError, Global};

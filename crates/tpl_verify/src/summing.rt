@@ -1,8 +1,7 @@
 //! What the verdicts on all claims come to.
 
-ghost use Rattle.std.specs.Prelude.{◌↔◌, IsTrue};
-ghost use Rattle.std.specs.List.{All};
-ghost use Rattle.tpl_verify.specs.Verdicts.{AreVerdicts, HoldsAlways, HoldsFully};
+ghost use Rattle.std.specs.Prelude.{◌↔◌, IsTrue, All};
+ghost use Rattle.tpl_verify.specs.Prelude.{AreVerdicts, HoldsAlways, HoldsFully};
 
 use crate::verdict::Verdict;
 use tpl_graph::{Claim, Graph};

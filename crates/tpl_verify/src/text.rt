@@ -5,9 +5,8 @@ ghost use Rattle.json.specs.Lex.{tokens};
 ghost use Rattle.json.specs.Print.{print};
 ghost use Rattle.serde_json.specs.Data.{depth};
 ghost use Rattle.serde_json.specs.View.{view};
-ghost use Rattle.tpl_reader.specs.Document.{Reads, Spells};
-ghost use Rattle.tpl_reader.specs.SeenDocument.{doc_of};
-ghost use Rattle.tpl_verify.specs.Filled.{HasForm, IsUnseen, IsUnseenOf, IsFilled, IsTextOf, with_run};
+ghost use Rattle.tpl_reader.specs.Prelude.{Reads, Spells, doc_of};
+ghost use Rattle.tpl_verify.specs.Prelude.{HasForm, IsFilled, IsTextOf, IsUnseen, IsUnseenOf, with_run};
 
 use crate::start::start_with;
 use serde_json::Value;

@@ -1,9 +1,9 @@
 //! The answers to claims, one after another.
 
-ghost use Rattle.std.specs.Prelude.{IfOk};
-ghost use Rattle.std.specs.List.{All, AllZip};
-ghost use Rattle.tpl_graph.specs.Fits.{Fits};
-ghost use Rattle.tpl_verify.specs.Verdicts.{HoldsAlways, IsCertified, IsJudged, IsVerdict};
+ghost use Rattle.std.specs.Prelude.{IfOk, All};
+ghost use Rattle.std.specs.List.{AllZip};
+ghost use Rattle.tpl_graph.specs.Prelude.{Fits};
+ghost use Rattle.tpl_verify.specs.Prelude.{HoldsAlways, IsCertified, IsJudged, IsVerdict};
 
 use crate::certifying::certify;
 use crate::empty::why_empty;

@@ -1,12 +1,11 @@
 //! Whether leaves and trees are accepted.
 
 ghost use Rattle.std.specs.Prelude.{◌≡◌, ◌≤◌, ◌↔◌, [], IfOk, IsTrue};
-ghost use Rattle.tpl_model.specs.WiderRules.{LeastLeaf, narrowed};
-ghost use Rattle.tpl_laws.specs.LeastRows.{least_rows};
-ghost use Rattle.tpl_trees.specs.WideHeights.{wide_height};
-ghost use Rattle.tpl_laws.specs.WideTrees.{AcceptsWideTree};
-ghost use Rattle.tpl_leaf.specs.Leaf.{wide_assumed};
-ghost use Rattle.tpl_wide.specs.Check.{IsCheck, graph_in};
+ghost use Rattle.tpl_laws.specs.Prelude.{AcceptsWideTree, least_rows};
+ghost use Rattle.tpl_leaf.specs.Prelude.{wide_assumed};
+ghost use Rattle.tpl_model.specs.Prelude.{LeastLeaf, narrowed};
+ghost use Rattle.tpl_trees.specs.Prelude.{wide_height};
+ghost use Rattle.tpl_wide.specs.Prelude.{IsCheck, graph_in};
 
 use crate::case::Case;
 use crate::check::Check;

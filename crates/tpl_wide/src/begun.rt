@@ -1,11 +1,10 @@
 //! The least row of a task once it is known whether it begins.
 
 ghost use Rattle.std.specs.Prelude.{◌≡◌, not};
-ghost use Rattle.tpl_model.specs.Graph.{is_task, kind};
-ghost use Rattle.tpl_laws.specs.LeastRows.{begun_row};
-ghost use Rattle.tpl_leaf.specs.Leaf.{graph_of, assumed_in, rows_in, IsLeaf};
-ghost use Rattle.tpl_leaf.specs.LeafRules.{runs_as};
-ghost use Rattle.tpl_wide.specs.Within.{IsAll};
+ghost use Rattle.tpl_laws.specs.Prelude.{begun_row};
+ghost use Rattle.tpl_leaf.specs.Prelude.{IsLeaf, assumed_in, graph_of, rows_in, runs_as};
+ghost use Rattle.tpl_model.specs.Prelude.{is_task, kind};
+ghost use Rattle.tpl_wide.specs.Prelude.{IsAll};
 
 use crate::rows::blank_row;
 use crate::within::within;

@@ -1,12 +1,9 @@
 //! A leaf whose rows are left out.
 
 ghost use Rattle.std.specs.Prelude.{◌≡◌, ℕ};
-ghost use Rattle.tpl_model.specs.Graph.{is_task};
-ghost use Rattle.tpl_leaf.specs.Leaf.{assumed_in, graph_of, rows_in, wide_assumed, IsLeaf};
-ghost use Rattle.tpl_wide.specs.Check.{IsCheck, graph_in};
-ghost use Rattle.tpl_wide.specs.Case.{assumed_by, graph_by, IsCase};
-ghost use Rattle.tpl_wide.specs.Rows.{IsRows};
-ghost use Rattle.tpl_wide.specs.Within.{IsAll};
+ghost use Rattle.tpl_leaf.specs.Prelude.{IsLeaf, assumed_in, graph_of, rows_in, wide_assumed};
+ghost use Rattle.tpl_model.specs.Prelude.{is_task};
+ghost use Rattle.tpl_wide.specs.Prelude.{IsAll, IsCase, IsCheck, IsRows, assumed_by, graph_by, graph_in};
 
 use crate::check::Check;
 use crate::rows::Rows;

@@ -1,10 +1,10 @@
 //! What is the same for all leaves of a tree.
 
 ghost use Rattle.std.specs.Prelude.{◌≡◌};
-ghost use Rattle.tpl_graph.specs.Fits.{TasksOf};
-ghost use Rattle.tpl_checker.specs.Below.{AreBelow};
-ghost use Rattle.tpl_leaf.specs.Links.{AreLinks};
-ghost use Rattle.tpl_wide.specs.Check.{IsCheck};
+ghost use Rattle.tpl_checker.specs.Prelude.{AreBelow};
+ghost use Rattle.tpl_graph.specs.Prelude.{TasksOf};
+ghost use Rattle.tpl_leaf.specs.Prelude.{AreLinks};
+ghost use Rattle.tpl_wide.specs.Prelude.{IsCheck};
 
 use tpl_checker::Below;
 use tpl_graph::Graph;

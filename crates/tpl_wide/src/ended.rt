@@ -1,14 +1,13 @@
 //! The least row of a task once it is known how it ends.
 
 ghost use Rattle.std.specs.Prelude.{◌≡◌, IfOk};
-ghost use Rattle.tpl_model.specs.Graph.{is_task};
+ghost use Rattle.tpl_laws.specs.Prelude.{ended_by, ended_row};
+ghost use Rattle.tpl_leaf.specs.Prelude.{AreLeft, IsLeaf, assumed_in, graph_of, rows_in};
+ghost use Rattle.tpl_model.specs.Prelude.{is_task};
 ghost use Rattle.tpl_model.specs.declared.claim.Property as claims;
 ghost use Rattle.tpl_model.specs.declared.ids.TaskId as ids;
-ghost use Rattle.tpl_trees.specs.WideCoding.{tokens_in};
-ghost use Rattle.tpl_laws.specs.LeastRows.{ended_by, ended_row};
-ghost use Rattle.tpl_leaf.specs.Leaf.{graph_of, assumed_in, rows_in, IsLeaf};
-ghost use Rattle.tpl_leaf.specs.LeafRules.{AreLeft};
-ghost use Rattle.tpl_wide.specs.Within.{IsAll};
+ghost use Rattle.tpl_trees.specs.Prelude.{tokens_in};
+ghost use Rattle.tpl_wide.specs.Prelude.{IsAll};
 
 use crate::shortest::chain_for;
 use crate::within::within;

@@ -1,11 +1,9 @@
 //! The least rows of a leaf: its tasks run and end only as they have to, and say all that may be said of begins and ends.
 
 ghost use Rattle.std.specs.Prelude.{◌≡◌, IfOk};
-ghost use Rattle.tpl_model.specs.Graph.{is_task};
-ghost use Rattle.tpl_laws.specs.RowTests.{parent_of};
-ghost use Rattle.tpl_laws.specs.LeastRows.{begin_step, end_step, family_step, is_attached_to, least_rows};
-ghost use Rattle.tpl_wide.specs.Case.{assumed_by, begun_below, ended_below, graph_by, IsCase};
-ghost use Rattle.tpl_wide.specs.Rows.{AreRows, IsRows};
+ghost use Rattle.tpl_laws.specs.Prelude.{begin_step, end_step, family_step, is_attached_to, least_rows, parent_of};
+ghost use Rattle.tpl_model.specs.Prelude.{is_task};
+ghost use Rattle.tpl_wide.specs.Prelude.{AreRows, IsCase, MayStep, assumed_by, begun_below, ended_below, graph_by};
 
 use crate::begun::begun_row;
 use crate::case::Case;
@@ -46,9 +44,7 @@ fn is_attached(graph: &Graph, task: TaskId) -> bool
 
 /// Works out the rows of a task and of all tasks below it: parents begin before their children, and end after them.
 fn family(alloc: Global, case: &Case<'_>, rows: &mut Rows, task: TaskId) -> Result<(), AllocError>
-    requires case { IsCase case.now }
-    requires task { is_task (graph_by case.now) task.0 }
-    requires rows { IsRows (graph_by case.now) rows.old }
+    requires { MayStep case.now task.0 rows.old }
     ensures { IfOk result (λ u. AreRows (graph_by case.now)
         (family_step (graph_by case.now) (assumed_by case.now) case.now.property task.0
         rows.old.rows.items) rows.new) }
@@ -60,9 +56,7 @@ fn family(alloc: Global, case: &Case<'_>, rows: &mut Rows, task: TaskId) -> Resu
 
 /// The tasks below one begin and end.
 fn below(alloc: Global, case: &Case<'_>, rows: &mut Rows, task: TaskId) -> Result<(), AllocError>
-    requires case { IsCase case.now }
-    requires task { is_task (graph_by case.now) task.0 }
-    requires rows { IsRows (graph_by case.now) rows.old }
+    requires { MayStep case.now task.0 rows.old }
     ensures { IfOk result (λ u. AreRows (graph_by case.now) (ended_below case.now task.0
         (begun_below case.now task.0 rows.old.rows.items)) rows.new) }
 {
@@ -75,9 +69,7 @@ fn below(alloc: Global, case: &Case<'_>, rows: &mut Rows, task: TaskId) -> Resul
 
 /// The tasks below one begin.
 fn begin_below(alloc: Global, case: &Case<'_>, rows: &mut Rows, task: TaskId)
-    requires case { IsCase case.now }
-    requires task { is_task (graph_by case.now) task.0 }
-    requires rows { IsRows (graph_by case.now) rows.old }
+    requires { MayStep case.now task.0 rows.old }
     ensures { AreRows (graph_by case.now) (begun_below case.now task.0 rows.old.rows.items)
         rows.new }
 {
@@ -98,9 +90,7 @@ fn end_below(
     rows: &mut Rows,
     task: TaskId,
 ) -> Result<(), AllocError>
-    requires case { IsCase case.now }
-    requires task { is_task (graph_by case.now) task.0 }
-    requires rows { IsRows (graph_by case.now) rows.old }
+    requires { MayStep case.now task.0 rows.old }
     ensures { IfOk result (λ u. AreRows (graph_by case.now)
         (ended_below case.now task.0 rows.old.rows.items) rows.new) }
 {
@@ -117,9 +107,7 @@ fn end_below(
 
 /// The task begins.
 fn begin(alloc: Global, case: &Case<'_>, rows: &mut Rows, task: TaskId)
-    requires case { IsCase case.now }
-    requires task { is_task (graph_by case.now) task.0 }
-    requires rows { IsRows (graph_by case.now) rows.old }
+    requires { MayStep case.now task.0 rows.old }
     ensures { AreRows (graph_by case.now)
         (begin_step (graph_by case.now) (assumed_by case.now) task.0 rows.old.rows.items) rows.new }
 {
@@ -129,9 +117,7 @@ fn begin(alloc: Global, case: &Case<'_>, rows: &mut Rows, task: TaskId)
 
 /// The task ends.
 fn end(alloc: Global, case: &Case<'_>, rows: &mut Rows, task: TaskId) -> Result<(), AllocError>
-    requires case { IsCase case.now }
-    requires task { is_task (graph_by case.now) task.0 }
-    requires rows { IsRows (graph_by case.now) rows.old }
+    requires { MayStep case.now task.0 rows.old }
     ensures { IfOk result (λ u. AreRows (graph_by case.now)
         (end_step (graph_by case.now) (assumed_by case.now) case.now.property task.0
         rows.old.rows.items) rows.new) }

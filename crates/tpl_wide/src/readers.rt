@@ -1,22 +1,16 @@
 //! Tasks whose exceptions are read, and tasks whose exceptions are taken over.
 
 ghost use Rattle.std.specs.Prelude.{◌≡◌, ◌<◌, ◌&&◌, ℕ, length, map, nat_eq, not, zero};
-ghost use Rattle.tpl_model.specs.Members.{mem};
-ghost use Rattle.tpl_model.specs.Recursion.{must_observe};
-ghost use Rattle.tpl_model.specs.Graph.{is_task, body, kind, Continues, WhenAny};
-ghost use Rattle.tpl_model.specs.Certificate.{is_loud};
-ghost use Rattle.tpl_model.specs.WiderRules.{kind_left};
-ghost use Rattle.tpl_draft.specs.Ids.{task_number};
-ghost use Rattle.tpl_graph.specs.Roles.{AreTasks};
-ghost use Rattle.tpl_laws.specs.RowTests.{faulted_view, some_below, takes_over};
-ghost use Rattle.tpl_laws.specs.WiderTests.{is_won_by};
-ghost use Rattle.tpl_laws.specs.LeastRows.{is_reader, is_read_after};
-ghost use Rattle.tpl_leaf.specs.Leaf.{graph_of, assumed_in};
+ghost use Rattle.tpl_draft.specs.Prelude.{task_number};
+ghost use Rattle.tpl_graph.specs.Prelude.{AreTasks};
+ghost use Rattle.tpl_laws.specs.Prelude.{faulted_view, is_read_after, is_reader, is_won_by, some_below, takes_over};
+ghost use Rattle.tpl_leaf.specs.Prelude.{assumed_in, graph_of};
+ghost use Rattle.tpl_model.specs.Prelude.{Continues, WhenAny, body, is_loud, is_task, kind, kind_left, mem, must_observe};
 
 use tpl_checker::observes;
 use tpl_graph::Role;
 use tpl_leaf::{Leaf, both, is_won_by, task_set};
-use tpl_model::{Final, TaskId, TaskSet};
+use tpl_model::{Final, MOST_TASKS, TaskId, TaskSet};
 
 /// The tasks whose exception some task reads, itself or behind a WhenAny task.
 pub(crate) fn read_tasks(leaf: &Leaf<'_>) -> TaskSet
@@ -108,7 +102,7 @@ fn sole_winner_of(leaf: &Leaf<'_>, task: TaskId, args: &[TaskId]) -> TaskSet
 
 /// The task, if the test holds.
 fn one_if(test: bool, task: TaskId) -> TaskSet
-    requires { task.0 < 1024 }
+    requires { task.0 < MOST_TASKS }
     ensures { (y : ℕ) → mem y result ≡ (test && nat_eq y task.0) }
 {
     let mut set = TaskSet::empty();

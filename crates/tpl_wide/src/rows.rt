@@ -1,11 +1,11 @@
 //! Rows while they are worked out.
 
 ghost use Rattle.std.specs.Prelude.{◌≡◌, ◌<◌, IfOk, length, map, replicate, slice_set};
-ghost use Rattle.tpl_model.specs.Graph.{TaskGraph};
-ghost use Rattle.tpl_laws.specs.LeastRows.{blank_row};
-ghost use Rattle.tpl_paths.specs.Reading.{end_of};
-ghost use Rattle.tpl_leaf.specs.Leaf.{row_end};
-ghost use Rattle.tpl_wide.specs.Rows.{AreRows, IsRows};
+ghost use Rattle.tpl_laws.specs.Prelude.{blank_row};
+ghost use Rattle.tpl_leaf.specs.Prelude.{row_end};
+ghost use Rattle.tpl_model.specs.Prelude.{TaskGraph};
+ghost use Rattle.tpl_paths.specs.Prelude.{end_of};
+ghost use Rattle.tpl_wide.specs.Prelude.{AreRows, IsRows};
 
 use std::alloc::{AllocError, Global};
 use tpl_graph::Graph;

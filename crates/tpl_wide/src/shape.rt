@@ -1,11 +1,9 @@
 //! Trees that fit their graph: each leaf has one row for each task, and each id is the graph's.
 
 ghost use Rattle.std.specs.Prelude.{◌≡◌, ◌&&◌, ℕ, length, nat_lt};
-ghost use Rattle.tpl_paths.specs.TokenSet.{has_token};
-ghost use Rattle.tpl_model.specs.Graph.{kind};
-ghost use Rattle.tpl_model.specs.WiderRules.{plain};
-ghost use Rattle.tpl_laws.specs.Verdict.{rows_fit};
-ghost use Rattle.tpl_laws.specs.WideVerdict.{has_tokens, may_have_winner, tokens_fit, wide_fits, wide_misfit};
+ghost use Rattle.tpl_laws.specs.Prelude.{has_tokens, may_have_winner, rows_fit, tokens_fit, wide_fits, wide_misfit};
+ghost use Rattle.tpl_model.specs.Prelude.{kind, plain};
+ghost use Rattle.tpl_paths.specs.Prelude.{has_token};
 
 use tpl_checker::{all_tasks, is_member, row_fits};
 use tpl_graph::{Claim, Graph, Role};

@@ -1,14 +1,11 @@
 //! The chain of the least rows: the shortest one, and of those the first.
 
-ghost use Rattle.std.specs.Prelude.{◌≡◌, ◌&&◌, IfOk, length, map};
-ghost use Rattle.std.specs.Option.{option_map};
-ghost use Rattle.tpl_model.specs.Members.{mem};
-ghost use Rattle.tpl_model.specs.Graph.{is_task};
-ghost use Rattle.tpl_draft.specs.Ids.{task_number};
-ghost use Rattle.tpl_laws.specs.RowTests.{takes_over};
-ghost use Rattle.tpl_laws.specs.LeastRows.{chain_after, chain_for, is_reader, least_from, shortest_chain};
-ghost use Rattle.tpl_leaf.specs.Leaf.{graph_of, assumed_in};
-ghost use Rattle.tpl_wide.specs.Levels.{AreLevels, observes_it};
+ghost use Rattle.std.specs.Prelude.{◌≡◌, ◌&&◌, IfOk, length, map, option_map};
+ghost use Rattle.tpl_draft.specs.Prelude.{task_number};
+ghost use Rattle.tpl_laws.specs.Prelude.{chain_after, chain_for, is_reader, least_from, shortest_chain, takes_over};
+ghost use Rattle.tpl_leaf.specs.Prelude.{assumed_in, graph_of};
+ghost use Rattle.tpl_model.specs.Prelude.{is_task, mem};
+ghost use Rattle.tpl_wide.specs.Prelude.{AreLevels, observes_it};
 
 use crate::readers::{read_tasks, taken_over};
 use std::alloc::{AllocError, Global};

@@ -1,13 +1,11 @@
 //! The first leaf of a tree that fails.
 
 ghost use Rattle.std.specs.Prelude.{◌≡◌, ◌+◌, ◌<◌, ◌^◌, ◌++◌, ◌∷◌, [], IfOk, IsTrue};
-ghost use Rattle.tpl_model.specs.WiderRules.{WideLeaf, LeastLeaf};
-ghost use Rattle.tpl_laws.specs.Verdict.{at_leaf};
-ghost use Rattle.tpl_laws.specs.WideVerdict.{wide_fits, wide_leaves, wide_tree_fault};
-ghost use Rattle.tpl_checker.specs.Leaves.{fault_in};
-ghost use Rattle.tpl_leaf.specs.Leaf.{wide_assumed};
-ghost use Rattle.tpl_wide.specs.Check.{IsCheck, graph_in};
-ghost use Rattle.tpl_wide.specs.Faults.{WidelyFailing, least_fault};
+ghost use Rattle.tpl_checker.specs.Prelude.{fault_in};
+ghost use Rattle.tpl_laws.specs.Prelude.{at_leaf, wide_fits, wide_leaves, wide_tree_fault};
+ghost use Rattle.tpl_leaf.specs.Prelude.{wide_assumed};
+ghost use Rattle.tpl_model.specs.Prelude.{LeastLeaf, WideLeaf};
+ghost use Rattle.tpl_wide.specs.Prelude.{IsCheck, WidelyFailing, graph_in, least_fault};
 
 use crate::case::Case;
 use crate::check::Check;

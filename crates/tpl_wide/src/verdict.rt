@@ -1,21 +1,15 @@
 //! The check of a certificate whose rows speak of tokens too.
 
-ghost use Rattle.std.specs.Prelude.{◌≡◌, ◌+◌, ◌≤◌, ◌<◌, ◌^◌, List, Bool, IfOk, IfErr, IsTrue, None};
-ghost use Rattle.std.specs.List.{All};
-ghost use Rattle.tpl_trees.specs.WideHeights.{wide_height};
-ghost use Rattle.tpl_graph.specs.Fits.{Fits};
-ghost use Rattle.tpl_laws.specs.Soundness.{Each};
-ghost use Rattle.tpl_laws.specs.Verdict.{no_fault};
-ghost use Rattle.tpl_laws.specs.WideVerdict.{wide_claims_fault, wide_fits, wide_leaves, wide_misfit, wide_tree_fault, wide_verdict};
-ghost use Rattle.tpl_checker.specs.Below.{AreBelow};
-ghost use Rattle.tpl_model.specs.WiderRules.{widely_assumed};
-ghost use Rattle.tpl_laws.specs.WideTrees.{WidelyAccepts};
-ghost use Rattle.tpl_model.specs.Claims.{Holds};
-ghost use Rattle.tpl_model.specs.Rules.{Run};
+ghost use Rattle.std.specs.Prelude.{◌≡◌, ◌+◌, ◌≤◌, ◌<◌, List, Bool, IfOk, IfErr, IsTrue, None, All};
+ghost use Rattle.tpl_checker.specs.Prelude.{AreBelow};
+ghost use Rattle.tpl_graph.specs.Prelude.{Fits};
+ghost use Rattle.tpl_laws.specs.Prelude.{Each, WidelyAccepts, no_fault, wide_claims_fault, wide_fits, wide_leaves, wide_misfit, wide_tree_fault, wide_verdict};
+ghost use Rattle.tpl_leaf.specs.Prelude.{AreLinks};
+ghost use Rattle.tpl_model.specs.Prelude.{Holds, Run, widely_assumed};
 ghost use Rattle.tpl_model.specs.declared.event.Event.{Event};
+ghost use Rattle.tpl_trees.specs.Prelude.{wide_height};
+ghost use Rattle.tpl_wide.specs.Prelude.{IsAnswer, WidelyFailing};
 ghost use Rattle.tpl_wide.specs.declared.error.WideFault.TheVariants as faults;
-ghost use Rattle.tpl_leaf.specs.Links.{AreLinks};
-ghost use Rattle.tpl_wide.specs.Faults.{IsAnswer, WidelyFailing};
 
 use crate::check::Check;
 use crate::error::WideFault;

@@ -1,14 +1,13 @@
 //! Facts of a graph's tasks and tokens.
 
 ghost use Rattle.std.specs.Prelude.{◌≡◌, ◌<◌, ℕ, Bool, length};
-ghost use Rattle.tpl_model.specs.Members.{mem};
-ghost use Rattle.tpl_model.specs.Graph.{TaskGraph};
-ghost use Rattle.tpl_model.specs.Knowledge.{IsSettled, IsRequested};
-ghost use Rattle.tpl_trees.specs.WideCoding.{tokens_in};
-ghost use Rattle.tpl_paths.specs.TokenSet.{has_token};
-ghost use Rattle.tpl_laws.specs.LeastRows.{tasks_where, tokens_where};
-ghost use Rattle.tpl_leaf.specs.Ways.{holds_in_all};
-ghost use Rattle.tpl_wide.specs.Within.{IsAll};
+ghost use Rattle.tpl_laws.specs.Prelude.{tasks_where, tokens_where};
+ghost use Rattle.tpl_leaf.specs.Prelude.{holds_in_all};
+ghost use Rattle.tpl_model.specs.Prelude.{IsRequested, TaskGraph, mem};
+ghost use Rattle.tpl_model.specs.Knowledge.{IsSettled};
+ghost use Rattle.tpl_paths.specs.Prelude.{has_token};
+ghost use Rattle.tpl_trees.specs.Prelude.{tokens_in};
+ghost use Rattle.tpl_wide.specs.Prelude.{IsAll};
 
 use crate::shape::all_tokens;
 use tpl_checker::all_tasks;

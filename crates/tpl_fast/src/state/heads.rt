@@ -1,16 +1,11 @@
 //! How many leading arguments and attached children of a task are known to have ended, so that none is looked at twice.
 
-ghost use Rattle.std.specs.Prelude.{◌≡◌, ℕ, ◌≤◌, if◌then◌else◌, take, length, map, true, slice_index_or};
-ghost use Rattle.std.specs.Option.{option_map};
-ghost use Rattle.tpl_model.specs.Members.{mem};
-ghost use Rattle.tpl_model.specs.Graph as spec;
-ghost use Rattle.tpl_model.specs.Graph.{is_task, attached, IsParent};
-ghost use Rattle.tpl_model.specs.Facts.{ending};
-ghost use Rattle.tpl_model.specs.Rules.{some_ended};
-ghost use Rattle.tpl_draft.specs.Ids.{task_number};
-ghost use Rattle.tpl_draft.specs.Named.{args_of};
-ghost use Rattle.tpl_run.specs.Rows.{is_it};
+ghost use Rattle.std.specs.Prelude.{◌≡◌, ℕ, ◌≤◌, if◌then◌else◌, take, length, map, true, slice_index_or, option_map};
+ghost use Rattle.tpl_draft.specs.Prelude.{args_of, task_number};
 ghost use Rattle.tpl_fast.specs.Kept.{has_ended, is_over, all_pass};
+ghost use Rattle.tpl_model.specs.Prelude.{IsParent, attached, ending, is_task, mem, some_ended};
+ghost use Rattle.tpl_model.specs.Graph as spec;
+ghost use Rattle.tpl_run.specs.Prelude.{is_it};
 
 use crate::state::State;
 use tpl_graph::{Graph, Kind};

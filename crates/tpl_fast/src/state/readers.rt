@@ -1,12 +1,10 @@
 //! What is at hand of tasks and tokens.
 
 ghost use Rattle.std.specs.Prelude.{◌≡◌, ◌↔◌, ℕ, map, false, slice_index_or, IsTrue};
-ghost use Rattle.tpl_model.specs.Graph as spec;
-ghost use Rattle.tpl_model.specs.Graph.{is_task, is_token};
-ghost use Rattle.tpl_model.specs.Facts.{released, left_body, requested};
-ghost use Rattle.tpl_draft.specs.Ids.{task_number};
-ghost use Rattle.tpl_draft.specs.Named.{args_of};
+ghost use Rattle.tpl_draft.specs.Prelude.{args_of, task_number};
 ghost use Rattle.tpl_fast.specs.Marks.{mark_at};
+ghost use Rattle.tpl_model.specs.Prelude.{is_task, is_token, left_body, released, requested};
+ghost use Rattle.tpl_model.specs.Graph as spec;
 
 use crate::marks::Mark;
 use crate::state::State;

@@ -1,12 +1,9 @@
 //! What the next statement of a task tests.
 
-ghost use Rattle.std.specs.Prelude.{◌≡◌};
-ghost use Rattle.std.specs.Option.{option_map};
-ghost use Rattle.tpl_model.specs.Graph.{is_task, kind};
-ghost use Rattle.tpl_model.specs.Facts.{ending, rest, requested, subject_in, has_final};
-ghost use Rattle.tpl_model.specs.Rules.{subject};
-ghost use Rattle.tpl_draft.specs.Ids.{task_number};
-ghost use Rattle.tpl_run.specs.Body.{decision};
+ghost use Rattle.std.specs.Prelude.{◌≡◌, option_map};
+ghost use Rattle.tpl_draft.specs.Prelude.{task_number};
+ghost use Rattle.tpl_model.specs.Prelude.{ending, has_final, is_task, kind, requested, rest, subject, subject_in};
+ghost use Rattle.tpl_run.specs.Prelude.{decision};
 
 use crate::machine::Machine;
 use tpl_graph::Kind;

@@ -2,7 +2,7 @@
 
 ghost use Rattle.std.specs.Prelude.{◌≡◌, ℕ, IfSome, IfNone};
 ghost use Rattle.tpl_laws.specs.RunTests as laws;
-ghost use Rattle.tpl_run.specs.Reading.{NoneDue, IsFirstDue};
+ghost use Rattle.tpl_run.specs.Prelude.{IsFirstDue, NoneDue};
 
 use crate::machine::Machine;
 use tpl_model::{Act, TaskId};

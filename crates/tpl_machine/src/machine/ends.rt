@@ -1,9 +1,8 @@
 //! What the ends of several tasks come to.
 
-ghost use Rattle.std.specs.Prelude.{◌≡◌, map};
-ghost use Rattle.std.specs.Option.{option_map};
-ghost use Rattle.tpl_model.specs.Facts.{ending, all_final, first_ended, worse, earlier};
-ghost use Rattle.tpl_draft.specs.Ids.{task_number};
+ghost use Rattle.std.specs.Prelude.{◌≡◌, map, option_map};
+ghost use Rattle.tpl_draft.specs.Prelude.{task_number};
+ghost use Rattle.tpl_model.specs.Prelude.{all_final, earlier, ending, first_ended, worse};
 
 use crate::machine::Machine;
 use tpl_model::{Final, TaskId};

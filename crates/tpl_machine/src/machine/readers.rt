@@ -1,10 +1,9 @@
 //! What is read of the run.
 
-ghost use Rattle.std.specs.Prelude.{◌≡◌, None, IfSome, IfNone};
-ghost use Rattle.std.specs.Option.{option_map};
-ghost use Rattle.tpl_model.specs.Facts.{ending, place_in, winner_of};
-ghost use Rattle.tpl_draft.specs.Ids.{task_number};
-ghost use Rattle.tpl_run.specs.Rows.{row_at};
+ghost use Rattle.std.specs.Prelude.{◌≡◌, None, IfSome, IfNone, option_map};
+ghost use Rattle.tpl_draft.specs.Prelude.{task_number};
+ghost use Rattle.tpl_model.specs.Prelude.{ending, place_in, winner_of};
+ghost use Rattle.tpl_run.specs.Prelude.{row_at};
 
 use crate::machine::Machine;
 use crate::marks::{begun, latest, status_open};

@@ -216,7 +216,7 @@ fn is_for_continuations(word: &str) -> bool {
 }
 
 /// Whether the text isn't declared.
-fn is_unknown(document: &Value<'_>, list: &str, text: &str) -> bool {
+pub(crate) fn is_unknown(document: &Value<'_>, list: &str, text: &str) -> bool {
     !list.is_empty() && place(document, list, text) == list_in(document, list).len()
 }
 

@@ -209,15 +209,34 @@ impl Form {
     /// The names of the members of an object of this form in a document of version 1 or 2, or of version 3; first those
     /// that it has to have. None where it isn't the form of an object.
     pub(crate) fn names(self, third: bool) -> &'static [&'static str] {
+        let all = self.all_names();
         if third {
-            self.names_of_third()
-        } else {
-            self.names_of_second()
+            return all;
+        }
+        match all.len().checked_sub(self.added()) {
+            Some(earlier) => &all[..earlier],
+            None => &[],
         }
     }
 
-    /// What version 3 has in the place of what version 2 has.
-    fn names_of_third(self) -> &'static [&'static str] {
+    /// How many of the names, the last ones, version 3 adds; more than there are, where it adds the form itself.
+    fn added(self) -> usize {
+        match self {
+            Form::RunsClaim | Form::GivenEnd | Form::GivenJob | Form::SplitWinner => usize::MAX,
+            Form::Top => 3,
+            Form::FinalClaim
+            | Form::AfterClaim
+            | Form::ObservedClaim
+            | Form::NeverClaim
+            | Form::ExcludesClaim
+            | Form::Row => 2,
+            Form::Task | Form::Started | Form::Then | Form::Join => 1,
+            _ => 0,
+        }
+    }
+
+    /// The names of the members in version 3, those that it adds last.
+    fn all_names(self) -> &'static [&'static str] {
         match self {
             Form::Top => &[
                 "version",
@@ -232,44 +251,14 @@ impl Form {
                 "ended",
                 "times",
             ],
+            Form::Graph => &["inputs", "tokens", "tasks"],
+            Form::LinkedToken => &["name", "linked"],
             Form::Task => &[
                 "name", "kind", "after", "of", "body", "token", "options", "note",
             ],
             Form::Started => &["name", "kind", "body", "token", "options", "note"],
             Form::Then => &["name", "kind", "after", "body", "token", "options", "note"],
             Form::Join => &["name", "kind", "of", "note"],
-            Form::FinalClaim => &["final", "in", "given", "name", "note"],
-            Form::AfterClaim => &["after", "given", "name", "note"],
-            Form::ObservedClaim => &["observed", "given", "name", "note"],
-            Form::NeverClaim => &["never", "given", "name", "note"],
-            Form::ExcludesClaim => &["excludes", "given", "name", "note"],
-            Form::RunsClaim => &["runs", "given", "name", "note"],
-            Form::GivenEnd => &["ended", "in"],
-            Form::GivenJob => &["succeeds"],
-            Form::SplitWinner => &["split_winner", "task", "yes", "no"],
-            Form::Row => &["ends", "runs", "before", "past", "chain", "asked", "asks"],
-            _ => self.names_of_second(),
-        }
-    }
-
-    fn names_of_second(self) -> &'static [&'static str] {
-        match self {
-            Form::Top => &[
-                "version",
-                "tasks",
-                "inputs",
-                "tokens",
-                "claims",
-                "certificate",
-                "journal",
-                "start",
-            ],
-            Form::Graph => &["inputs", "tokens", "tasks"],
-            Form::LinkedToken => &["name", "linked"],
-            Form::Task => &["name", "kind", "after", "of", "body", "token", "options"],
-            Form::Started => &["name", "kind", "body", "token", "options"],
-            Form::Then => &["name", "kind", "after", "body", "token", "options"],
-            Form::Join => &["name", "kind", "of"],
             Form::Throw => &["throw"],
             Form::Check => &["check"],
             Form::Cancel => &["cancel"],
@@ -277,17 +266,21 @@ impl Form {
             Form::Work => &["work", "may_fail"],
             Form::If => &["if", "then", "else"],
             Form::When => &["when", "then", "else"],
-            Form::FinalClaim => &["final", "in", "given"],
-            Form::AfterClaim => &["after", "given"],
-            Form::ObservedClaim => &["observed", "given"],
-            Form::NeverClaim => &["never", "given"],
-            Form::ExcludesClaim => &["excludes", "given"],
+            Form::FinalClaim => &["final", "in", "given", "name", "note"],
+            Form::AfterClaim => &["after", "given", "name", "note"],
+            Form::ObservedClaim => &["observed", "given", "name", "note"],
+            Form::NeverClaim => &["never", "given", "name", "note"],
+            Form::ExcludesClaim => &["excludes", "given", "name", "note"],
+            Form::RunsClaim => &["runs", "given", "name", "note"],
             Form::GivenInput => &["input", "is"],
             Form::GivenToken => &["quiet"],
+            Form::GivenEnd => &["ended", "in"],
+            Form::GivenJob => &["succeeds"],
             Form::SplitInput => &["split_input", "yes", "no"],
             Form::SplitEnd => &["split_end", "ran", "canceled", "faulted"],
+            Form::SplitWinner => &["split_winner", "task", "yes", "no"],
             Form::Leaf => &["rows"],
-            Form::Row => &["ends", "runs", "before", "past", "chain"],
+            Form::Row => &["ends", "runs", "before", "past", "chain", "asked", "asks"],
             Form::Start => &["inputs", "request", "fail"],
             _ => &[],
         }

@@ -1,6 +1,6 @@
 //! What is wrong with claims, trees of the certificate, and where a run starts.
 
-use crate::misread::ask::{Ask, declared_name, list_in, place, text_or_empty};
+use crate::misread::ask::{Ask, declared_name, is_unknown, list_in, text_or_empty};
 use crate::misread::form::Form;
 use crate::misread::misfit::Line;
 use crate::misread::say::quoted;
@@ -122,6 +122,25 @@ impl<'v, 't> Teller<'v, 't> {
         }
     }
 
+    /// The line about the first member of an object whose name one of the document's lists doesn't declare.
+    fn strange_key_line(
+        self,
+        area: Area,
+        path: &str,
+        list: &str,
+        object: Option<&'v Value<'t>>,
+    ) -> Line {
+        let Some(Value::Object(members)) = object else {
+            return Ok(None);
+        };
+        for member in members.as_slice() {
+            if is_unknown(self.document, list, member.0) {
+                return self.undeclared(area, path, list, member.0);
+            }
+        }
+        Ok(None)
+    }
+
     /// The values of the inputs where a run starts.
     fn values(self) -> Option<&'v Value<'t>> {
         find(find(self.document, "start")?, "inputs")
@@ -129,16 +148,7 @@ impl<'v, 't> Teller<'v, 't> {
 
     /// The line about the first value at the start of what is no input.
     fn value_line(self) -> Line {
-        let Some(Value::Object(values)) = self.values() else {
-            return Ok(None);
-        };
-        for value in values.as_slice() {
-            let name = value.0;
-            if place(self.document, "inputs", name) == list_in(self.document, "inputs").len() {
-                return self.undeclared(Area::Start, "start.inputs", "inputs", name);
-            }
-        }
-        Ok(None)
+        self.strange_key_line(Area::Start, "start.inputs", "inputs", self.values())
     }
 
     fn job(self, site: &'v str) -> Result<Option<Spot<'v, 't>>, AllocError> {
@@ -164,16 +174,7 @@ impl<'v, 't> Teller<'v, 't> {
 
     /// The line about the first end that was seen of what is no task.
     fn ended_line(self) -> Line {
-        let Some(Value::Object(ends)) = find(self.document, "ended") else {
-            return Ok(None);
-        };
-        for end in ends.as_slice() {
-            let name = end.0;
-            if place(self.document, "tasks", name) == list_in(self.document, "tasks").len() {
-                return self.undeclared(Area::Top, "ended", "tasks", name);
-            }
-        }
-        Ok(None)
+        self.strange_key_line(Area::Top, "ended", "tasks", find(self.document, "ended"))
     }
 
     fn unknown_at_start(self) -> Line {

@@ -1,11 +1,11 @@
 use Rattle.std.proofs.Common.{arith, sym, ◌∙◌}
 use Rattle.tpl_draft.specs.Ask.{asks}
-use Rattle.tpl_draft.proofs.AskLemmas.{falls_in, none_more, one_is}
+use Rattle.tpl_draft.proofs.AskLemmas.{deep_in, none_more, one_is}
 use Rattle.tpl_draft.proofs.ask.+some.Goals as goal
 
 pub some_statement-some_within-requires : goal.some_statement-some_within-requires
 some_statement-some_within-requires t c =
-    omega (arith, c.decreases, falls_in _ _ _ _ c.loop-statement.invariant.whole c.loop-statement-test.true c.statement-item.is)
+    omega (arith, c.decreases, deep_in _ _ _ _ c.loop-statement.invariant.whole c.loop-statement-test.true c.statement-item.is)
 
 pub some_statement-returns-then-some_within : goal.some_statement-returns-then-some_within
 some_statement-returns-then-some_within t c =

@@ -1,12 +1,12 @@
 use Rattle.std.proofs.Common.{arith, ◌∙◌}
 use Rattle.tpl_draft.specs.Tables.{seen}
-use Rattle.tpl_draft.proofs.AskLemmas.{falls_in}
+use Rattle.tpl_draft.proofs.AskLemmas.{deep_in}
 use Rattle.tpl_draft.proofs.NumberLemmas.{one_numbered, all_numbered}
 use Rattle.tpl_draft.proofs.numbering.+number.Goals as goal
 
 pub number_body-number_statement-requires : goal.number_body-number_statement-requires
 number_body-number_statement-requires t c =
-    (omega (arith, c.decreases, falls_in _ _ _ _ c.loop-statement.invariant.to.whole c.loop-statement-test.true c.statement-item.is), c.loop-statement.invariant.few)
+    (omega (arith, c.decreases, deep_in _ _ _ _ c.loop-statement.invariant.to.whole c.loop-statement-test.true c.statement-item.is), c.loop-statement.invariant.few)
 
 pub number_body-loop-statement-preserved : goal.number_body-loop-statement-preserved
 number_body-loop-statement-preserved t c =

@@ -1,39 +1,37 @@
-use Rattle.std.proofs.Common.{◌≡◌, ◌∙◌, rules, true, false, ap, subst, sym}
+use Rattle.std.proofs.Common.{◌≡◌, ◌∙◌, rules, true, false, ap}
 use Rattle.tpl_model.specs.declared.finals.Final.TheVariants.{RanToCompletion, Canceled, Faulted}
-use Rattle.tpl_model.specs.WiderRules.{winner_split, end_split, input_split}
-use Rattle.tpl_laws.specs.WideTrees.{AcceptsWideTree, written}
+use Rattle.tpl_model.specs.WiderRules.{end_split, input_split}
+use Rattle.tpl_laws.specs.WideTrees.{written}
 use Rattle.tpl_leaf.specs.Leaf.{wide_assumed}
 use Rattle.tpl_leaf.specs.Winners.{all_leave}
 use Rattle.tpl_trees.specs.WideTrees.{wide_node_of}
 use Rattle.tpl_wide.specs.Check.{graph_in}
 use Rattle.tpl_wide.proofs.WideTreeLemmas.{one_more_split}
 use Rattle.tpl_draw.specs.Endings.{either, tree_ends}
-use Rattle.tpl_draw.proofs.EachTask.{end_ends, input_ends, joins_both, joins_last, winner_accepted, winner_ends}
+use Rattle.tpl_draw.proofs.EachTask.{branch_accepted, end_ends, input_ends, joins_both, joins_last, winner_accepted, winner_ends}
 use Rattle.tpl_draw.proofs.wide_ending.+ends_in_tree.Goals as goal
 
 pub ends_in_tree-requires-in-SplitWinner : goal.ends_in_tree-requires-in-SplitWinner
-ends_in_tree-requires-in-SplitWinner t c =
-    let g = graph_in c.args.check.now in
-    let p = c.args.check.now.property in
-    let a = c.args.assumed.now in
-    let l = wide_assumed a c.args.winners.now in
-    let n = c.in-SplitWinner.task in
-    let x = c.in-SplitWinner.argument in
-    let accepted = winner_accepted g p l c.args.tree.now c.in-SplitWinner.on_yes.value c.in-SplitWinner.on_no.value n.0 x.0 (c.node.ensures ∙ ap wide_node_of c.in-SplitWinner.is) c.requires.accepted in
-    let off = one_more_split a c.args.winners.now c.as_slice-in-SplitWinner.result.now n x false (c.as_slice-in-SplitWinner.ensures.value ∙ c.in_ok-no-in-SplitWinner.ensures) in
-    (search rules, (c.requires.check, subst (AcceptsWideTree g p (wide_assumed a c.as_slice-in-SplitWinner.result.now)) (sym c.deref-in-SplitWinner.ensures) (subst (λ z. AcceptsWideTree g p z c.in-SplitWinner.on_no.value) (sym off) accepted.1)))
+ends_in_tree-requires-in-SplitWinner t c = (
+  search rules,
+  (
+    c.requires.check,
+    branch_accepted (graph_in c.args.check.now) c.args.check.now.property c.args.assumed.now c.args.winners.now c.as_slice-in-SplitWinner.result.now c.in-SplitWinner.task c.in-SplitWinner.argument false c.deref-in-SplitWinner.result.now c.in-SplitWinner.on_no.value
+        (c.as_slice-in-SplitWinner.ensures.value ∙ c.in_ok-no-in-SplitWinner.ensures) c.deref-in-SplitWinner.ensures
+        (winner_accepted (graph_in c.args.check.now) c.args.check.now.property (wide_assumed c.args.assumed.now c.args.winners.now) c.args.tree.now c.in-SplitWinner.on_yes.value c.in-SplitWinner.on_no.value c.in-SplitWinner.task.0 c.in-SplitWinner.argument.0 (c.node.ensures ∙ ap wide_node_of c.in-SplitWinner.is) c.requires.accepted).1,
+  ),
+)
 
 pub ends_in_tree-requires-in-SplitWinner-2 : goal.ends_in_tree-requires-in-SplitWinner-2
-ends_in_tree-requires-in-SplitWinner-2 t c =
-    let g = graph_in c.args.check.now in
-    let p = c.args.check.now.property in
-    let a = c.args.assumed.now in
-    let l = wide_assumed a c.args.winners.now in
-    let n = c.in-SplitWinner.task in
-    let x = c.in-SplitWinner.argument in
-    let accepted = winner_accepted g p l c.args.tree.now c.in-SplitWinner.on_yes.value c.in-SplitWinner.on_no.value n.0 x.0 (c.node.ensures ∙ ap wide_node_of c.in-SplitWinner.is) c.requires.accepted in
-    let on = one_more_split a c.args.winners.now c.as_slice-in-SplitWinner-2.result.now n x true (c.as_slice-in-SplitWinner-2.ensures.value ∙ c.in_ok-yes-in-SplitWinner.ensures) in
-    (search rules, (c.requires.check, subst (AcceptsWideTree g p (wide_assumed a c.as_slice-in-SplitWinner-2.result.now)) (sym c.deref-in-SplitWinner-2.ensures) (subst (λ z. AcceptsWideTree g p z c.in-SplitWinner.on_yes.value) (sym on) accepted.0)))
+ends_in_tree-requires-in-SplitWinner-2 t c = (
+  search rules,
+  (
+    c.requires.check,
+    branch_accepted (graph_in c.args.check.now) c.args.check.now.property c.args.assumed.now c.args.winners.now c.as_slice-in-SplitWinner-2.result.now c.in-SplitWinner.task c.in-SplitWinner.argument true c.deref-in-SplitWinner-2.result.now c.in-SplitWinner.on_yes.value
+        (c.as_slice-in-SplitWinner-2.ensures.value ∙ c.in_ok-yes-in-SplitWinner.ensures) c.deref-in-SplitWinner-2.ensures
+        (winner_accepted (graph_in c.args.check.now) c.args.check.now.property (wide_assumed c.args.assumed.now c.args.winners.now) c.args.tree.now c.in-SplitWinner.on_yes.value c.in-SplitWinner.on_no.value c.in-SplitWinner.task.0 c.in-SplitWinner.argument.0 (c.node.ensures ∙ ap wide_node_of c.in-SplitWinner.is) c.requires.accepted).0,
+  ),
+)
 
 pub returns-in_ok-found-in-SplitInput : goal.returns-in_ok-found-in-SplitInput
 returns-in_ok-found-in-SplitInput t c =

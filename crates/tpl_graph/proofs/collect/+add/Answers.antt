@@ -1,12 +1,12 @@
 use Rattle.std.proofs.Common.{arith, ◌∙◌}
 use Rattle.tpl_draft.specs.Numbered.{names_in}
-use Rattle.tpl_draft.proofs.AskLemmas.{falls_in}
+use Rattle.tpl_draft.proofs.AskLemmas.{deep_in}
 use Rattle.tpl_graph.proofs.CollectLemmas.{one_added, both_added, both_again}
 use Rattle.tpl_graph.proofs.collect.+add.Goals as goal
 
 pub add_names-add_within-requires : goal.add_names-add_within-requires
 add_names-add_within-requires t c =
-    omega (arith, c.decreases, falls_in _ _ _ _ c.loop-statement.invariant.whole c.loop-statement-test.true c.statement-item.is)
+    omega (arith, c.decreases, deep_in _ _ _ _ c.loop-statement.invariant.whole c.loop-statement-test.true c.statement-item.is)
 
 pub add_names-loop-statement-preserved : goal.add_names-loop-statement-preserved
 add_names-loop-statement-preserved t c =

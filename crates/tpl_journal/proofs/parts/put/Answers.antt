@@ -1,5 +1,4 @@
 use Rattle.std.proofs.Common.{ℕ, List, Bor}
-use Rattle.std.proofs.lemmas.Result.{err_from_is_err_and}
 use Rattle.tpl_journal.proofs.PartLemmas.{each_more, each_stops, each_written, nothing_written}
 use Rattle.tpl_journal.proofs.parts.put.Goals as goal
 
@@ -12,9 +11,7 @@ loop-part-preserved g c =
 
 pub returns-in_err-write_all : goal.returns-in_err-write_all
 returns-in_err-write_all g c =
-    let r = c.from_residual in
-    let p = err_from_is_err_and r.result r.ensures.1 in
-    each_stops g.W.Write.contents (λ (part : Bor (List ℕ)). part.now) c.args.parts.now c.loop-part.part-index _ _ _ _ r.result p.0 c.loop-part-test.true p.1 c.loop-part.invariant (rw c.as_bytes.ensures.value at c.in_err-write_all.ensures.err)
+    each_stops g.W.Write.contents (λ (part : Bor (List ℕ)). part.now) c.args.parts.now c.loop-part.part-index _ _ _ _ _ _ c.loop-part-test.true c.from_residual.ensures.1 c.loop-part.invariant (rw c.as_bytes.ensures.value at c.in_err-write_all.ensures.err)
 
 pub returns : goal.returns
 returns g c =

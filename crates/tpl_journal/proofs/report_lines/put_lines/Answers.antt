@@ -1,5 +1,4 @@
 use Rattle.std.proofs.Common.{◌+◌, ◌<◌, length, map, arith}
-use Rattle.std.proofs.lemmas.Result.{err_from_is_err_and}
 use Rattle.tpl_journal.specs.Carried.{numbers_of}
 use Rattle.tpl_journal.proofs.PartLemmas.{nothing_written}
 use Rattle.tpl_journal.proofs.ReportLemmas.{line_is, line_more, line_stops}
@@ -13,12 +12,10 @@ returns-in_err-put_line g c =
     let i = c.loop-i.i in
     let names = c.args.graph.now.names in
     let below : c.loop-i.i < length c.args.graph.now.graph.tasks = omega (arith, c.loop-i-test.true, c.len-i-end.ensures.count) in
-    let r = c.from_residual in
-    let p = err_from_is_err_and r.result r.ensures.1 in
     line_stops g.W.Write.contents names c.args.statuses.now c.args.labels.now (map numbers_of c.args.carried.now) _ _ _
-    i _ _ r.result p.0 below
+    i _ _ _ _ below
     (line_is names c.args.statuses.now c.args.labels.now c.args.carried.now i _ c.index-carried-i.result c.as_slice.result.now (omega (arith, below, c.requires.statuses)) (omega (arith, below, c.requires.carried)) c.index-carried-i.is c.as_slice.ensures.value)
-    p.1 c.loop-i.invariant c.in_err-put_line.ensures.err
+    c.from_residual.ensures.1 c.loop-i.invariant c.in_err-put_line.ensures.err
 
 pub loop-i-preserved : goal.loop-i-preserved
 loop-i-preserved g c =

@@ -1,23 +1,8 @@
-use Rattle.std.proofs.Common.{◌≡◌, ◌++◌, ◌∷◌, [], map, refl, string_bytes}
-use Rattle.std.proofs.lemmas.Result.{err_from_is_err_and}
-use Rattle.std.proofs.lemmas.List.{map_push}
+use Rattle.std.proofs.Common.{rules, string_bytes}
 use Rattle.serde_json.specs.Find.{as_str}
 use Rattle.tpl_json.specs.View.{view}
-use Rattle.tpl_json.specs.Members.{each}
-use Rattle.tpl_json.proofs.Arrays.{each_more, misses_each}
+use Rattle.tpl_json.proofs.Reading.{each_gives}
 use Rattle.tpl_json.proofs.members.owned_texts.Goals as goal
 
-pub loop-value-init : goal.loop-value-init
-unfolding each
-loop-value-init c = rw c.new-texts.ensures.items refl
-
-pub returns-in_err-text : goal.returns-in_err-text
-returns-in_err-text c =
-    let p = err_from_is_err_and c.from_residual.result c.from_residual.ensures.1 in
-    rw (p.1, p.2) (misses_each view as_str c.args.values.now c.loop-value.value-index c.value-item.result c.in_err-text.field-0.0 c.loop-value-test.true c.value-item.is c.in_err-text.ensures.gives)
-
-pub loop-value-preserved : goal.loop-value-preserved
-loop-value-preserved c =
-    let n = c.in_ok-from_str.field-0 in
-    let e : map string_bytes c.push.new.self.items ≡ map string_bytes c.loop-value.texts.items ++ string_bytes n ∷ [] = rw c.in_ok-push.ensures.items (map_push _ c.loop-value.texts.items n) in
-    rw e (each_more view as_str c.args.values.now c.loop-value.value-index c.value-item.result (map string_bytes c.loop-value.texts.items) (string_bytes n) c.loop-value-test.true c.loop-value.invariant (rw (← c.value-item.is, c.in_ok-from_str.ensures.ok) c.in_ok-text.ensures.gives))
+pub returns : goal.returns
+returns c = each_gives as_str view string_bytes c.read_each.ensures (λ n x r k. search rules)

@@ -1,13 +1,13 @@
 use Rattle.std.proofs.Common.{◌+◌, refl, sym, ap, ◌∙◌, subst, arith}
 use Rattle.tpl_model.specs.View.{known}
 use Rattle.tpl_model.specs.Ends.{then_ends}
-use Rattle.tpl_model.proofs.Lists.{falls_in}
+use Rattle.tpl_model.proofs.Lists.{deep_in}
 use Rattle.tpl_model.proofs.EndsSoFar.{EndsSoFar, step}
 use Rattle.tpl_model.proofs.ends.+ends.Goals as goal
 
 pub ends_of-ends_at-requires : goal.ends_of-ends_at-requires
 ends_of-ends_at-requires t c =
-    (omega (arith, c.decreases, falls_in _ _ _ _ c.loop-statement.invariant.whole c.loop-statement-test.true c.statement-item.is), tt)
+    (omega (arith, c.decreases, deep_in _ _ _ _ c.loop-statement.invariant.whole c.loop-statement-test.true c.statement-item.is), tt)
 
 pub ends_of-loop-statement-preserved : goal.ends_of-loop-statement-preserved
 ends_of-loop-statement-preserved t c =

@@ -1,5 +1,5 @@
 use Rattle.std.proofs.Common.{sym, arith}
-use Rattle.tpl_model.proofs.Lists.{falls_in}
+use Rattle.tpl_model.proofs.Lists.{deep_in}
 use Rattle.tpl_model.proofs.SameLists.{same_length}
 use Rattle.tpl_model.proofs.same.+same.Goals as goal
 
@@ -9,4 +9,4 @@ same_body-returns-then-left-right t c =
 
 pub same_body-same_statement-requires : goal.same_body-same_statement-requires
 same_body-same_statement-requires t c =
-    (omega (arith, c.decreases, falls_in _ _ c.loop-i.i _ (sym c.list-left.ensures) (omega arith) c.index-left-i.is), tt)
+    (omega (arith, c.decreases, deep_in _ _ c.loop-i.i _ (sym c.list-left.ensures) (omega arith) c.index-left-i.is), tt)

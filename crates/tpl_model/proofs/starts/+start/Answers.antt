@@ -1,13 +1,13 @@
 use Rattle.std.proofs.Common.{◌+◌, refl, sym, ap, ◌∙◌, subst, arith}
 use Rattle.tpl_model.specs.View.{known}
 use Rattle.tpl_model.specs.Starts.{then_starts}
-use Rattle.tpl_model.proofs.Lists.{falls_in}
+use Rattle.tpl_model.proofs.Lists.{deep_in}
 use Rattle.tpl_model.proofs.StartsSoFar.{StartsSoFar, step}
 use Rattle.tpl_model.proofs.starts.+start.Goals as goal
 
 pub start_in-start_at-requires : goal.start_in-start_at-requires
 start_in-start_at-requires t c =
-    (omega (arith, c.decreases, falls_in _ _ _ _ c.loop-statement.invariant.whole c.loop-statement-test.true c.statement-item.is), tt)
+    (omega (arith, c.decreases, deep_in _ _ _ _ c.loop-statement.invariant.whole c.loop-statement-test.true c.statement-item.is), tt)
 
 pub start_in-loop-statement-preserved : goal.start_in-loop-statement-preserved
 start_in-loop-statement-preserved t c =

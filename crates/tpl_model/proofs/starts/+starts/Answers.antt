@@ -1,11 +1,11 @@
 use Rattle.std.proofs.Common.{arith}
-use Rattle.tpl_model.proofs.Lists.{falls_in}
+use Rattle.tpl_model.proofs.Lists.{deep_in}
 use Rattle.tpl_model.proofs.StartsSoFar.{adds_both}
 use Rattle.tpl_model.proofs.starts.+starts.Goals as goal
 
 pub add_starts_in-add_starts_at-requires : goal.add_starts_in-add_starts_at-requires
 add_starts_in-add_starts_at-requires t c =
-    (omega (arith, c.decreases, falls_in _ _ _ _ c.loop-statement.invariant.whole c.loop-statement-test.true c.statement-item.is), tt)
+    (omega (arith, c.decreases, deep_in _ _ _ _ c.loop-statement.invariant.whole c.loop-statement-test.true c.statement-item.is), tt)
 
 pub add_starts_at-returns-then-on_true-clause-found : goal.add_starts_at-returns-then-on_true-clause-found
 add_starts_at-returns-then-on_true-clause-found t c =

@@ -1,4 +1,4 @@
-use Rattle.std.proofs.Common.{◌≡◌, Bool, Some, sym, ap, subst, ◌∙◌}
+use Rattle.std.proofs.Common.{◌≡◌, rules, Bool, Some, sym, ap, subst, ◌∙◌}
 use Rattle.json.specs.Value.{members_view}
 use Rattle.json.proofs.Trees.{view-Object}
 use Rattle.serde_json.specs.Data.{no_members}
@@ -6,7 +6,7 @@ use Rattle.tpl_json.specs.Members.{Gives}
 use Rattle.tpl_json.specs.View.{data_of, members_from, view}
 use Rattle.tpl_parts.specs.Start.{all_values}
 use Rattle.tpl_parts.specs.Ends.{has_ends}
-use Rattle.tpl_parts.proofs.Ends.{is_end}
+use Rattle.tpl_parts.proofs.Ends.{is_end, is_read}
 use Rattle.tpl_parts.proofs.start.has_ends.Goals as goal
 
 pub returns-in-Object : goal.returns-in-Object
@@ -15,4 +15,4 @@ returns-in-Object c =
     let seen : all_values is_end (members_from (members_view c.as_slice.result.now) no_members) ≡ has_ends (view c.args.value.now) =
     ap (λ es. all_values is_end (members_from (members_view es) no_members)) c.as_slice.ensures.value
     ∙ ap (λ j. has_ends (data_of j)) (sym (view-Object c.in-Object.members)) ∙ ap (λ v. has_ends (view v)) (sym c.in-Object.is) in
-    subst (λ (b : Bool). Gives (λ x. x) c.all_ends.result (Some b)) seen c.all_ends.ensures
+    subst (λ (b : Bool). Gives (λ x. x) c.all_pass.result (Some b)) seen (c.all_pass.ensures is_end (record { says = λ v b k. search (rules, is_read) }))

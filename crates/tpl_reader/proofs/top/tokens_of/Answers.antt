@@ -1,24 +1,9 @@
-use Rattle.std.proofs.Common.{◌≡◌, ◌++◌, ◌∷◌, [], map, refl}
-use Rattle.std.proofs.lemmas.Result.{err_from_is_err_and}
-use Rattle.std.proofs.lemmas.List.{map_push}
+use Rattle.std.proofs.Common.{rules}
 use Rattle.tpl_json.specs.View.{view}
-use Rattle.tpl_json.specs.Members.{each}
-use Rattle.tpl_json.proofs.Arrays.{each_more, misses_each}
+use Rattle.tpl_json.proofs.Reading.{each_gives}
 use Rattle.tpl_draft.specs.SeenTasks.{token_of}
 use Rattle.tpl_parts.specs.Tasks.{token_at}
 use Rattle.tpl_reader.proofs.top.tokens_of.Goals as goal
 
-pub loop-value-init : goal.loop-value-init
-unfolding each
-loop-value-init c = rw c.new-tokens.ensures.items refl
-
-pub returns-in_err-token : goal.returns-in_err-token
-returns-in_err-token c =
-    let p = err_from_is_err_and c.from_residual.result c.from_residual.ensures.1 in
-    rw (p.1, p.2) (misses_each view (token_at c.args.links) c.args.values.now c.loop-value.value-index c.value-item.result c.in_err-token.field-0.0 c.loop-value-test.true c.value-item.is c.in_err-token.ensures)
-
-pub loop-value-preserved : goal.loop-value-preserved
-loop-value-preserved c =
-    let n = c.in_ok-token.token in
-    let e : map token_of c.push.new.self.items ≡ map token_of c.loop-value.tokens.items ++ token_of n ∷ [] = rw c.in_ok-push.ensures.items (map_push _ c.loop-value.tokens.items n) in
-    rw e (each_more view (token_at c.args.links) c.args.values.now c.loop-value.value-index c.value-item.result (map token_of c.loop-value.tokens.items) (token_of n) c.loop-value-test.true c.loop-value.invariant (rw (← c.value-item.is) c.in_ok-token.ensures))
+pub returns : goal.returns
+returns c = each_gives (token_at c.args.links) view token_of c.read_each.ensures (λ n x r k. search rules)

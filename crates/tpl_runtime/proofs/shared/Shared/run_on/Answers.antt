@@ -3,9 +3,8 @@ use Rattle.tpl_model.specs.Graph.{is_task}
 use Rattle.tpl_machine.specs.Journal.{Journal}
 use Rattle.tpl_machine.specs.Reading.{next}
 use Rattle.tpl_run.specs.declared.run.Next.TheVariants.{Work}
-use Rattle.tpl_hall.proofs.MoveLemmas.{moves_none}
 use Rattle.tpl_runtime.specs.Turns.{MayPass}
-use Rattle.tpl_runtime.proofs.TurnLemmas.{has_item}
+use Rattle.tpl_runtime.proofs.TurnLemmas.{has_item, still}
 use Rattle.tpl_runtime.proofs.shared.Shared.run_on.Goals as goal
 
 pub returns-in-Some : goal.returns-in-Some
@@ -17,9 +16,9 @@ returns-in-Some g c =
     let is : next j.graph j.inputs j.events c.args.task.0 ≡ Work c.in-Work.site =
     subst (λ (k : Journal). next k.graph k.inputs k.events c.args.task.0 ≡ Work c.in-Work.site) c.core-core.ensures (sym c.next.ensures ∙ c.in-Work.is) in
     record {
-      proceeds = record { pass = c.requires; moves = moves_none c.args.seat.now c.args.seat.now j j refl refl; last = refl };
+      proceeds = still _ _ _ _ refl refl refl refl;
       turns = (
-        (task, subst (λ n. MayPass n j c.args.seat.now c.args.task (map g.W.Item.site items)) (sym is) (has_item g.W.Item.site items taken.0 c.in-Some.item c.in-Work.site.0 taken.1 c.in-Some.ensures.site)),
+        (task, subst (λ n. MayPass n j c.args.kit.now.seat c.args.task (map g.W.Item.site items)) (sym is) (has_item g.W.Item.site items taken.0 c.in-Some.item c.in-Work.site.0 taken.1 c.in-Some.ensures.site)),
         refl,
       );
     }

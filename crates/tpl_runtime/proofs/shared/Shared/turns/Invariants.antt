@@ -1,12 +1,6 @@
-use Rattle.std.proofs.Common.{◌≡◌}
-use Rattle.tpl_hall.specs.Stays.{Stays}
-use Rattle.tpl_hall.specs.Views.{SeatView}
+use Rattle.tpl_runtime.specs.declared.shared.Turn.TheVariants.{Go}
+use Rattle.tpl_runtime.specs.Turns.{Keeps}
 use Rattle.tpl_runtime.proofs.shared.Shared.turns.Given as goal
 
 abbrev pub invariant-loop-more : goal.invariant-loop-more
-invariant-loop-more g l =
-    record {
-      pass : l.pass.queue ≡ l.queue.id;
-      actor : l.seat.actor ≡ l.fn.seat.actor;
-      stays : (first : SeatView) → Stays l.fn.stint first l.fn.seat → Stays l.stint first l.seat;
-    }
+invariant-loop-more g l = Keeps (Go l.held) l.fn.kit l.kit

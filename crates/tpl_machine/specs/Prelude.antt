@@ -1,0 +1,7 @@
+-- The definitions that sources cite, passed on from one place. Declares nothing.
+pub use Rattle.tpl_machine.specs.Gathering.{IsBeside}
+pub use Rattle.tpl_machine.specs.Journal.{after, named, opened}
+pub use Rattle.tpl_machine.specs.Marks.{latest, mark_by, status_marked}
+pub use Rattle.tpl_machine.specs.Reading.{next}
+pub use Rattle.tpl_machine.specs.Recording.{CanRecord, EndsWithBody, by, children_over}
+pub use Rattle.tpl_machine.specs.Settling.{taken_over}

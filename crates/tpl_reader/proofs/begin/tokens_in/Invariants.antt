@@ -1,7 +1,0 @@
-use Rattle.std.proofs.Common.{◌≡◌, map, take, Ok}
-use Rattle.tpl_draft.specs.Ids.{token_number}
-use Rattle.tpl_reader.specs.Begin.{numbers_in}
-use Rattle.tpl_reader.proofs.begin.tokens_in.Given as goal
-
-abbrev pub invariant-loop-name : goal.invariant-loop-name
-invariant-loop-name l = numbers_in l.graph.names.tokens (map (λ s. s.now) (take l.name-index l.names)) ≡ Ok (map token_number l.tokens.items)
