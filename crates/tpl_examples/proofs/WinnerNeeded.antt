@@ -19,7 +19,6 @@ use Rattle.tpl_laws.proofs.Basics.{same_number, final_self}
 use Rattle.tpl_laws.proofs.Settling.{filter_mem}
 use Rattle.tpl_laws.proofs.RowsAreTrue.{one_ends_mem}
 use Rattle.tpl_examples.specs.Words.{begins_after, claim}
-use Rattle.tpl_examples.specs.CertificateWords.{runs}
 use Rattle.tpl_examples.specs.WinnerRules.{races, races_tree, NoWinners}
 use Rattle.tpl_examples.proofs.Computed.{valid}
 

@@ -1,9 +1,9 @@
 -- Short words, in which the worked certificates are written beside those of Words: tasks with their options, rows, and
 -- lists of one claim.
-use Rattle.std.specs.Prelude.{ℕ, true, false, None, List, [], ◌∷◌}
+use Rattle.std.specs.Prelude.{ℕ, ◌||◌, true, false, List, [], ◌∷◌}
 use Rattle.tpl_model.specs.declared.finals.Finals.{Finals}
-use Rattle.tpl_model.specs.Statements.{Throw, Cancel, Observe, Statements, Nothing, ◌⨾◌}
-use Rattle.tpl_model.specs.Graph.{TaskGraph, Task, Token, Child, Continues}
+use Rattle.tpl_model.specs.Statements.{Cancel, Observe, Statements, Nothing, ◌⨾◌}
+use Rattle.tpl_model.specs.Graph.{TaskGraph, Task, Token, Child}
 use Rattle.tpl_model.specs.declared.fault.Rule.{Rule}
 use Rattle.tpl_model.specs.declared.fault.CertFault.{CertFault}
 use Rattle.tpl_model.specs.declared.fault.CertFault.TheVariants.{NotClosed}
@@ -12,14 +12,14 @@ use Rattle.tpl_model.specs.declared.ids.TaskId.{TaskId}
 use Rattle.tpl_model.specs.declared.claim.Property.{Property}
 use Rattle.tpl_model.specs.Claims.{Claim}
 use Rattle.tpl_model.specs.Certificate.{Row, Tree, Leaf}
-use Rattle.tpl_examples.specs.Words.{claim, claim_given}
+use Rattle.tpl_examples.specs.Words.{bare, continues, ran, canceled, faulted, with_options, throwing, claim, claim_given}
 
 -- tasks with option words, and a graph with tokens and a number of inputs
 abbrev pub child_with : Statements → ℕ → Task
-child_with body options = record { kind = Child; body = body; token = None; options = options }
+child_with body options = with_options options (bare Child body)
 
 abbrev pub continuing : ℕ → Statements → ℕ → Task
-continuing antecedent body options = record { kind = Continues antecedent; body = body; token = None; options = options }
+continuing antecedent body options = with_options options (continues antecedent body)
 
 abbrev pub graph_with : List Token → ℕ → List Task → TaskGraph
 graph_with tokens inputs tasks = record { tokens = tokens; inputs = inputs; tasks = tasks }
@@ -28,14 +28,17 @@ graph_with tokens inputs tasks = record { tokens = tokens; inputs = inputs; task
 abbrev pub nothing : Finals
 nothing = record { ran = false; canceled = false; faulted = false }
 
+abbrev pub either : Finals → Finals → Finals
+either a b = record { ran = a.ran || b.ran; canceled = a.canceled || b.canceled; faulted = a.faulted || b.faulted }
+
 abbrev pub ran_or_canceled : Finals
-ran_or_canceled = record { ran = true; canceled = true; faulted = false }
+ran_or_canceled = either ran canceled
 
 abbrev pub ran_or_faulted : Finals
-ran_or_faulted = record { ran = true; canceled = false; faulted = true }
+ran_or_faulted = either ran faulted
 
 abbrev pub any_end : Finals
-any_end = record { ran = true; canceled = true; faulted = true }
+any_end = either ran_or_canceled faulted
 
 -- a row that runs, with what is before and past it and its chain, and one that doesn't run, with what is past it
 abbrev pub runs : Finals → List ℕ → List ℕ → List ℕ → Row
@@ -67,7 +70,7 @@ leaf rows = Leaf rows ∷ []
 
 -- bodies of one statement; the last one is stuck where its token is never requested, since it requests it
 abbrev pub throws : Statements
-throws = Throw 0 ⨾ Nothing
+throws = throwing 0
 
 abbrev pub observes : Statements
 observes = Observe ⨾ Nothing

@@ -1,227 +1,142 @@
 -- Children: which are waited for, and what their parents take over.
-use Rattle.std.specs.Prelude.{◌≡◌, true, false, Some, None, List, [], ◌∷◌}
+use Rattle.std.specs.Prelude.{ℕ, true, false, List, [], ◌∷◌, ◌++◌}
 use Rattle.tpl_model.specs.declared.finals.Final.TheVariants.{RanToCompletion, Canceled, Faulted}
-use Rattle.tpl_model.specs.declared.status.Status.TheVariants.{Created, WaitingToRun, WaitingForChildrenToComplete, Completed}
-use Rattle.tpl_model.specs.Statements.{Return, Throw, Check, Start, If, Nothing, ◌⨾◌}
-use Rattle.tpl_model.specs.Graph.{TaskGraph, Plain}
-use Rattle.tpl_model.specs.declared.event.Event.{Event}
-use Rattle.tpl_model.specs.Facts.{ending, started}
-use Rattle.tpl_model.specs.Rules.{status, carried, label, seen, Run, Allows, Settled, Complete}
-use Rattle.tpl_model.specs.Valid.{IsGraph}
-use Rattle.tpl_examples.specs.Words.{worker, outside, releasing, beginning, leaving, closing, dropping, settling, begin, step, leave, close, drop, request, played, thrown, returns, root, child, detached_child, with_token, with_options, deny_child_attach, graph, with_tokens, with_inputs, before_all}
+use Rattle.tpl_model.specs.declared.status.Status.TheVariants.{Created, WaitingToRun, WaitingForChildrenToComplete}
+use Rattle.tpl_model.specs.declared.event.Act.TheVariants.{Release, Close, Settle}
+use Rattle.tpl_model.specs.Options.{deny_child_attach_bit}
+use Rattle.tpl_model.specs.Statements.{Statements, Check, Start, If, Nothing, ◌⨾◌}
+use Rattle.tpl_model.specs.Graph.{TaskGraph, Task, Plain}
+use Rattle.tpl_examples.specs.Words.{worker, outside, task, Deed, release, begin, step, leave, close, drop, request, by, drop_outside, ending_at, thrown, returns, throwing, root, child, detached_child, with_token, with_options, graph, with_tokens, with_inputs}
+use Rattle.tpl_examples.specs.Stories.{Story, Plot, the_end, ◌⇒◌, ◌&◌, ◌⇛◌, through, may, may_not, may_none, is, ended, ended_by, threw, threw_nothing, carries, unobserved, started, unstarted, settled, unsettled, complete, incomplete}
+
+-- a parent that starts this child and returns
+abbrev pub parent_of : Task → TaskGraph
+parent_of kid = graph (root (Start 1 ⨾ returns) ∷ kid ∷ [])
 
 -- a parent whose attached child throws
 abbrev pub parent_graph : TaskGraph
-parent_graph = graph (root (Start 1 ⨾ Return ⨾ Nothing) ∷ child (Throw 0 ⨾ Nothing) ∷ [])
+parent_graph = parent_of (child (throwing 0))
 
-abbrev pub parent_left : List Event
-parent_left = played (begin 1 0 ∷ step 1 0 ∷ step 1 0 ∷ leave 1 0 ∷ [])
-
-abbrev pub child_left : List Event
-child_left = played (begin 1 0 ∷ step 1 0 ∷ step 1 0 ∷ leave 1 0 ∷ begin 1 1 ∷ step 1 1 ∷ leave 1 1 ∷ [])
-
-abbrev pub parent_closed : List Event
-parent_closed = played (begin 1 0 ∷ step 1 0 ∷ step 1 0 ∷ leave 1 0 ∷ begin 1 1 ∷ step 1 1 ∷ leave 1 1 ∷ close 1 0 ∷ [])
+-- the parent starts its child and leaves its body
+abbrev pub parent_leaves : List Deed
+parent_leaves = begin 1 0 ∷ step 1 0 ∷ step 1 0 ∷ leave 1 0 ∷ []
 
 -- an attached child faults its parent
 abbrev pub ChildFaultsItsParent : Type 0
 ChildFaultsItsParent =
-    IsGraph parent_graph
-    × Run parent_graph [] parent_closed
-    × (status parent_graph [] parent_closed 0 ≡ Completed Faulted)
-    × (carried parent_graph [] parent_closed 0 ≡ 1 ∷ [])
-    × (label parent_graph [] parent_closed 0 ≡ None)
-    × (status parent_graph [] parent_closed 1 ≡ Completed Faulted)
-    × (carried parent_graph [] parent_closed 1 ≡ 1 ∷ [])
-    × (label parent_graph [] parent_closed 1 ≡ Some (thrown 0))
-    × (seen parent_graph [] parent_closed 1 ≡ false)
-    × Complete parent_graph [] parent_closed
+    Story parent_graph []
+    (parent_leaves ⇛ through 1 1 ⇛ close 1 0
+    ⇒ ended 0 Faulted & carries 0 (1 ∷ []) & threw_nothing 0
+    & ended 1 Faulted & carries 1 (1 ∷ []) & threw 1 (thrown 0) & unobserved 1 & complete & the_end)
+
+-- the outside closes a task
+abbrev pub closed_outside : ℕ → Deed
+closed_outside t = by (outside 1) (Close (task t))
 
 -- a parent that has left its body waits for its child, carries nothing meanwhile, and ends by its close
 abbrev pub ParentWaitsForItsChild : Type 0
 ParentWaitsForItsChild =
-    Run parent_graph [] child_left
-    × (status parent_graph [] parent_left 0 ≡ WaitingForChildrenToComplete)
-    × (status parent_graph [] child_left 0 ≡ WaitingForChildrenToComplete)
-    × (Allows parent_graph [] parent_left (worker 1) (closing 0) → ⊥)
-    × (Complete parent_graph [] parent_left → ⊥)
-    × (Complete parent_graph [] child_left → ⊥)
-    × (carried parent_graph [] child_left 0 ≡ [])
-    × Allows parent_graph [] child_left (worker 1) (closing 0)
-    × Allows parent_graph [] child_left (worker 2) (closing 0)
-    × Allows parent_graph [] child_left (outside 1) (closing 0)
-    × (Allows parent_graph [] child_left (outside 1) (closing 1) → ⊥)
-    × (Allows parent_graph [] child_left (outside 1) (closing 2) → ⊥)
-    × (Allows parent_graph [] parent_closed (worker 1) (closing 0) → ⊥)
-    × (Allows parent_graph [] child_left (worker 1) (leaving 0) → ⊥)
-    × (ending parent_graph [] parent_closed 0 ≡ Some (record { place = 8; actor = Some (worker 1); final = Faulted; carried = 1 ∷ []; winner = None }))
-
-abbrev pub parent_begun : List Event
-parent_begun = played (begin 1 0 ∷ [])
-
-abbrev pub child_started : List Event
-child_started = played (begin 1 0 ∷ step 1 0 ∷ [])
+    Story parent_graph []
+    (parent_leaves ⇛ is 0 WaitingForChildrenToComplete & may_not (close 1 0) & incomplete
+    & through 1 1 ⇛ is 0 WaitingForChildrenToComplete & carries 0 [] & incomplete & may (close 2 0) & may (closed_outside 0)
+    & may_none (closed_outside 1 ∷ closed_outside 2 ∷ leave 1 0 ∷ [])
+    & close 1 0 ⇒ may_not (close 1 0) & ended_by 0 (ending_at 8 (worker 1) Faulted (1 ∷ [])) & the_end)
 
 -- a child is created, and waits to run once its parent has passed its start; then any worker begins it
 abbrev pub ChildIsStarted : Type 0
 ChildIsStarted =
-    (status parent_graph [] before_all 1 ≡ Created)
-    × (status parent_graph [] parent_begun 1 ≡ Created)
-    × (started parent_graph [] parent_begun 1 ≡ false)
-    × (Allows parent_graph [] parent_begun (worker 2) (beginning 1) → ⊥)
-    × (Allows parent_graph [] parent_begun (worker 2) (releasing 1) → ⊥)
-    × (started parent_graph [] child_started 1 ≡ true)
-    × (status parent_graph [] child_started 1 ≡ WaitingToRun)
-    × Allows parent_graph [] child_started (worker 1) (beginning 1)
-    × Allows parent_graph [] child_started (worker 2) (beginning 1)
-
-abbrev pub child_first : List Event
-child_first = played (begin 1 0 ∷ step 1 0 ∷ begin 2 1 ∷ step 2 1 ∷ leave 2 1 ∷ step 1 0 ∷ leave 1 0 ∷ [])
+    Story parent_graph []
+    (is 1 Created
+    & begin 1 0 ⇒ is 1 Created & unstarted 1 & may_none (begin 2 1 ∷ release 2 1 ∷ [])
+    & step 1 0 ⇒ started 1 & is 1 WaitingToRun & may (begin 1 1) & may (begin 2 1) & the_end)
 
 -- a parent whose children have ended before it leaves its body ends there, without a close
 abbrev pub ChildEndsBeforeItsParent : Type 0
 ChildEndsBeforeItsParent =
-    Run parent_graph [] child_first
-    × (status parent_graph [] child_first 0 ≡ Completed Faulted)
-    × (carried parent_graph [] child_first 0 ≡ 1 ∷ [])
-    × (Allows parent_graph [] child_first (worker 1) (closing 0) → ⊥)
-    × (ending parent_graph [] child_first 0 ≡ Some (record { place = 7; actor = Some (worker 1); final = Faulted; carried = 1 ∷ []; winner = None }))
-    × Complete parent_graph [] child_first
-
--- the same parent, which denies that children attach
-abbrev pub denying_graph : TaskGraph
-denying_graph = graph (with_options deny_child_attach (root (Start 1 ⨾ Return ⨾ Nothing)) ∷ child (Throw 0 ⨾ Nothing) ∷ [])
+    Story parent_graph []
+    (begin 1 0 ⇒ step 1 0 ⇒ through 2 1 ⇛ step 1 0 ⇒ leave 1 0
+    ⇒ ended 0 Faulted & carries 0 (1 ∷ []) & may_not (close 1 0)
+    & ended_by 0 (ending_at 7 (worker 1) Faulted (1 ∷ [])) & complete & the_end)
 
 -- a child that its parent denies is not waited for, and leaves its parent alone
 abbrev pub DeniedChild : Type 0
 DeniedChild =
-    IsGraph denying_graph
-    × Run denying_graph [] child_left
-    × (status denying_graph [] parent_left 0 ≡ Completed RanToCompletion)
-    × (status denying_graph [] parent_left 1 ≡ WaitingToRun)
-    × (carried denying_graph [] child_left 0 ≡ [])
-    × (status denying_graph [] child_left 1 ≡ Completed Faulted)
-    × (Allows denying_graph [] child_left (worker 1) (closing 0) → ⊥)
-    × (Complete denying_graph [] parent_left → ⊥)
-    × Complete denying_graph [] child_left
+    Story (graph (with_options deny_child_attach_bit (root (Start 1 ⨾ returns)) ∷ child (throwing 0) ∷ [])) []
+    (parent_leaves ⇛ ended 0 RanToCompletion & is 1 WaitingToRun & incomplete
+    & through 1 1 ⇛ carries 0 [] & ended 1 Faulted & may_not (close 1 0) & complete & the_end)
 
 -- a parent whose child is detached
 abbrev pub detached_graph : TaskGraph
-detached_graph = graph (root (Start 1 ⨾ Return ⨾ Nothing) ∷ detached_child (Throw 0 ⨾ Nothing) ∷ [])
+detached_graph = parent_of (detached_child (throwing 0))
 
 -- a detached child is not waited for, and leaves its parent alone
 abbrev pub DetachedChild : Type 0
 DetachedChild =
-    IsGraph detached_graph
-    × Run detached_graph [] child_left
-    × (status detached_graph [] parent_left 0 ≡ Completed RanToCompletion)
-    × (status detached_graph [] child_left 1 ≡ Completed Faulted)
-    × (carried detached_graph [] child_left 0 ≡ [])
+    Story detached_graph []
+    (parent_leaves ⇛ ended 0 RanToCompletion & through 1 1 ⇛ ended 1 Faulted & carries 0 [] & the_end)
 
 -- a parent whose child has a token
 abbrev pub child_token_graph : TaskGraph
-child_token_graph = with_tokens (Plain ∷ []) (graph (root (Start 1 ⨾ Return ⨾ Nothing) ∷ with_token 0 (child returns) ∷ []))
-
-abbrev pub token_requested : List Event
-token_requested = played (request 1 0 ∷ [])
-
-abbrev pub child_asked : List Event
-child_asked = played (request 1 0 ∷ begin 1 0 ∷ step 1 0 ∷ [])
-
-abbrev pub child_dropped : List Event
-child_dropped = played (request 1 0 ∷ begin 1 0 ∷ step 1 0 ∷ drop 1 1 ∷ [])
-
-abbrev pub parent_of_canceled : List Event
-parent_of_canceled = played (request 1 0 ∷ begin 1 0 ∷ step 1 0 ∷ drop 1 1 ∷ step 1 0 ∷ leave 1 0 ∷ [])
+child_token_graph = with_tokens (Plain ∷ []) (parent_of (with_token 0 (child returns)))
 
 -- a canceled attached child doesn't change its parent's status
 abbrev pub CanceledChild : Type 0
 CanceledChild =
-    IsGraph child_token_graph
-    × Run child_token_graph [] parent_of_canceled
-    × (status child_token_graph [] parent_of_canceled 0 ≡ Completed RanToCompletion)
-    × (status child_token_graph [] parent_of_canceled 1 ≡ Completed Canceled)
-    × (carried child_token_graph [] parent_of_canceled 0 ≡ [])
-    × Complete child_token_graph [] parent_of_canceled
+    Story child_token_graph []
+    (request 1 0 ⇒ begin 1 0 ⇒ step 1 0 ⇒ drop 1 1 ⇒ step 1 0 ⇒ leave 1 0
+    ⇒ ended 0 RanToCompletion & ended 1 Canceled & carries 0 [] & complete & the_end)
 
 -- a child whose token is requested is canceled once it is started, and not before
 abbrev pub ChildIsCanceledOnceStarted : Type 0
 ChildIsCanceledOnceStarted =
-    (Allows child_token_graph [] token_requested (worker 1) (dropping 1) → ⊥)
-    × (Allows child_token_graph [] token_requested (worker 1) (dropping 0) → ⊥)
-    × Allows child_token_graph [] child_asked (worker 1) (dropping 1)
-    × (Allows child_token_graph [] child_asked (worker 1) (beginning 1) → ⊥)
-    × (Allows child_token_graph [] child_asked (worker 1) (dropping 0) → ⊥)
-    × (Allows child_token_graph [] child_dropped (worker 1) (dropping 1) → ⊥)
-    × (Allows child_token_graph [] child_dropped (worker 1) (dropping 0) → ⊥)
-    × (Allows child_token_graph [] child_dropped (worker 1) (closing 0) → ⊥)
+    Story child_token_graph []
+    (request 1 0 ⇒ may_none (drop 1 1 ∷ drop 1 0 ∷ [])
+    & begin 1 0 ⇒ step 1 0 ⇒ may_none (begin 1 1 ∷ drop 1 0 ∷ [])
+    & drop 1 1 ⇒ may_none (drop 1 1 ∷ drop 1 0 ∷ close 1 0 ∷ []) & the_end)
+
+-- what may be due to a task, done from outside
+abbrev pub due_to : ℕ → List Deed
+due_to t = drop_outside 1 t ∷ by (outside 1) (Release (task t)) ∷ closed_outside t ∷ by (outside 1) (Settle (task t)) ∷ []
+
+-- of a requested child nothing is due before it is started; then its cancellation is, and nothing more
+abbrev pub NothingElseIsDue : Type 0
+NothingElseIsDue =
+    Story child_token_graph []
+    (request 1 0 ⇒ may_none (due_to 0 ++ due_to 1)
+    & begin 1 0 ⇒ step 1 0 ⇒ may (drop_outside 1 1)
+    & drop 1 1 ⇒ may_none (due_to 0 ++ due_to 1) & the_end)
 
 -- a child that is started only where an input is true
 abbrev pub maybe_graph : TaskGraph
 maybe_graph = with_inputs 1 (graph (root (If 0 (Start 1 ⨾ Nothing) Nothing ⨾ Nothing) ∷ child (Start 2 ⨾ Nothing) ∷ child returns ∷ []))
 
-abbrev pub maybe_begun : List Event
-maybe_begun = played (begin 1 0 ∷ step 1 0 ∷ [])
-
-abbrev pub not_started : List Event
-not_started = played (begin 1 0 ∷ step 1 0 ∷ leave 1 0 ∷ [])
-
 -- a child that is not started stays created; it is settled with its parent, and so is its own child, and the run is
 -- complete without them
 abbrev pub ChildThatIsNotStarted : Type 0
 ChildThatIsNotStarted =
-    IsGraph maybe_graph
-    × Run maybe_graph (false ∷ []) not_started
-    × (status maybe_graph (false ∷ []) not_started 0 ≡ Completed RanToCompletion)
-    × (status maybe_graph (false ∷ []) not_started 1 ≡ Created)
-    × (status maybe_graph (false ∷ []) not_started 2 ≡ Created)
-    × (Settled maybe_graph (false ∷ []) maybe_begun 1 → ⊥)
-    × (Settled maybe_graph (false ∷ []) maybe_begun 2 → ⊥)
-    × Settled maybe_graph (false ∷ []) not_started 0
-    × Settled maybe_graph (false ∷ []) not_started 1
-    × Settled maybe_graph (false ∷ []) not_started 2
-    × (Allows maybe_graph (false ∷ []) not_started (worker 1) (beginning 1) → ⊥)
-    × (Allows maybe_graph (false ∷ []) not_started (worker 1) (dropping 1) → ⊥)
-    × Complete maybe_graph (false ∷ []) not_started
-
-abbrev pub started_and_left : List Event
-started_and_left = played (begin 1 0 ∷ step 1 0 ∷ step 1 0 ∷ leave 1 0 ∷ [])
+    Story maybe_graph (false ∷ [])
+    (begin 1 0 ⇒ step 1 0 ⇒ unsettled 1 & unsettled 2
+    & leave 1 0 ⇒ ended 0 RanToCompletion & is 1 Created & is 2 Created & settled 0 & settled 1 & settled 2
+    & may_none (begin 1 1 ∷ drop 1 1 ∷ []) & complete & the_end)
 
 -- a child that is started and hasn't ended isn't settled, nor is its parent, which waits for it
 abbrev pub ChildThatIsStartedIsToEnd : Type 0
 ChildThatIsStartedIsToEnd =
-    Run maybe_graph (true ∷ []) started_and_left
-    × (status maybe_graph (true ∷ []) started_and_left 0 ≡ WaitingForChildrenToComplete)
-    × (status maybe_graph (true ∷ []) started_and_left 1 ≡ WaitingToRun)
-    × (status maybe_graph (true ∷ []) started_and_left 2 ≡ Created)
-    × (Settled maybe_graph (true ∷ []) started_and_left 0 → ⊥)
-    × (Settled maybe_graph (true ∷ []) started_and_left 1 → ⊥)
-    × (Settled maybe_graph (true ∷ []) started_and_left 2 → ⊥)
-    × (Complete maybe_graph (true ∷ []) started_and_left → ⊥)
+    Story maybe_graph (true ∷ [])
+    (parent_leaves ⇛ is 0 WaitingForChildrenToComplete & is 1 WaitingToRun & is 2 Created
+    & unsettled 0 & unsettled 1 & unsettled 2 & incomplete & the_end)
 
 -- a detached child that is started and hasn't ended isn't settled, though its parent is
 abbrev pub DetachedChildIsNotSettledWithItsParent : Type 0
-DetachedChildIsNotSettledWithItsParent =
-    Settled detached_graph [] parent_left 0
-    × (Settled detached_graph [] parent_left 1 → ⊥)
-    × (Complete detached_graph [] parent_left → ⊥)
-
--- a parent that starts its third task before its second, and throws
-abbrev pub order_graph : TaskGraph
-order_graph = graph (root (Start 2 ⨾ Start 1 ⨾ Throw 0 ⨾ Nothing) ∷ child (Throw 1 ⨾ Nothing) ∷ child (Throw 2 ⨾ Nothing) ∷ [])
-
-abbrev pub in_any_order : List Event
-in_any_order = played (begin 1 0 ∷ step 1 0 ∷ step 1 0 ∷ begin 2 1 ∷ step 2 1 ∷ leave 2 1 ∷ step 1 0 ∷ leave 1 0 ∷ begin 2 2 ∷ step 2 2 ∷ leave 2 2 ∷ close 2 0 ∷ [])
+DetachedChildIsNotSettledWithItsParent = Story detached_graph [] (parent_leaves ⇛ settled 0 & unsettled 1 & incomplete & the_end)
 
 -- a parent carries its own exception, then its children's in the order of their start statements, not of their ids and
--- not of their endings
+-- not of their endings: here it starts its third task before its second, and throws
 abbrev pub ExceptionsInTheOrderOfTheText : Type 0
 ExceptionsInTheOrderOfTheText =
-    IsGraph order_graph
-    × Run order_graph [] in_any_order
-    × (carried order_graph [] in_any_order 0 ≡ 0 ∷ 2 ∷ 1 ∷ [])
-    × (status order_graph [] in_any_order 0 ≡ Completed Faulted)
-    × Complete order_graph [] in_any_order
+    Story (graph (root (Start 2 ⨾ Start 1 ⨾ throwing 0) ∷ child (throwing 1) ∷ child (throwing 2) ∷ [])) []
+    (begin 1 0 ⇒ step 1 0 ⇒ step 1 0 ⇒ through 2 1 ⇛ step 1 0 ⇒ leave 1 0 ⇒ through 2 2 ⇛ close 2 0
+    ⇒ carries 0 (0 ∷ 2 ∷ 1 ∷ []) & ended 0 Faulted & complete & the_end)
 
 -- a parent that starts one of two children, by an input, and then a third one
 abbrev pub either_graph : TaskGraph
@@ -229,102 +144,49 @@ either_graph =
     with_inputs 1
     (graph
     (root (If 0 (Start 1 ⨾ Nothing) (Start 2 ⨾ Nothing) ⨾ Start 3 ⨾ Nothing)
-    ∷ child (Throw 1 ⨾ Nothing)
-    ∷ child (Throw 2 ⨾ Nothing)
-    ∷ child (Throw 3 ⨾ Nothing)
+    ∷ child (throwing 1)
+    ∷ child (throwing 2)
+    ∷ child (throwing 3)
     ∷ []))
-
-abbrev pub second_and_third : List Event
-second_and_third = played (begin 1 0 ∷ step 1 0 ∷ step 1 0 ∷ step 1 0 ∷ leave 1 0 ∷ begin 1 3 ∷ step 1 3 ∷ leave 1 3 ∷ begin 1 2 ∷ step 1 2 ∷ leave 1 2 ∷ close 1 0 ∷ [])
-
-abbrev pub third_only : List Event
-third_only = played (begin 1 0 ∷ step 1 0 ∷ step 1 0 ∷ step 1 0 ∷ leave 1 0 ∷ begin 1 3 ∷ step 1 3 ∷ leave 1 3 ∷ [])
 
 -- a parent waits for each of its children that was started, and for no other
 abbrev pub OnlyStartedChildrenAreWaitedFor : Type 0
 OnlyStartedChildrenAreWaitedFor =
-    IsGraph either_graph
-    × Run either_graph (false ∷ []) second_and_third
-    × (Allows either_graph (false ∷ []) third_only (worker 1) (closing 0) → ⊥)
-    × (carried either_graph (false ∷ []) second_and_third 0 ≡ 2 ∷ 3 ∷ [])
-    × (status either_graph (false ∷ []) second_and_third 1 ≡ Created)
-    × Complete either_graph (false ∷ []) second_and_third
+    Story either_graph (false ∷ [])
+    (begin 1 0 ⇒ step 1 0 ⇒ step 1 0 ⇒ step 1 0 ⇒ leave 1 0 ⇒ through 1 3 ⇛ may_not (close 1 0)
+    & through 1 2 ⇛ close 1 0 ⇒ carries 0 (2 ∷ 3 ∷ []) & is 1 Created & complete & the_end)
 
--- a grandchild; the child may be detached
-abbrev pub grandchild_graph : TaskGraph
-grandchild_graph = graph (root (Start 1 ⨾ Nothing) ∷ child (Start 2 ⨾ Throw 1 ⨾ Nothing) ∷ child (Throw 2 ⨾ Nothing) ∷ [])
+-- a grandchild, below this child of the root, which starts it and throws
+abbrev pub grandchild_graph : (Statements → Task) → TaskGraph
+grandchild_graph kid = graph (root (Start 1 ⨾ Nothing) ∷ kid (Start 2 ⨾ throwing 1) ∷ child (throwing 2) ∷ [])
 
-abbrev pub detached_family_graph : TaskGraph
-detached_family_graph = graph (root (Start 1 ⨾ Nothing) ∷ detached_child (Start 2 ⨾ Throw 1 ⨾ Nothing) ∷ child (Throw 2 ⨾ Nothing) ∷ [])
-
-abbrev pub family_run : List Event
-family_run = played (begin 1 0 ∷ step 1 0 ∷ leave 1 0 ∷ begin 1 1 ∷ step 1 1 ∷ step 1 1 ∷ leave 1 1 ∷ begin 1 2 ∷ step 1 2 ∷ leave 1 2 ∷ close 1 1 ∷ close 1 0 ∷ [])
-
-abbrev pub grandchild_ended : List Event
-grandchild_ended = played (begin 1 0 ∷ step 1 0 ∷ leave 1 0 ∷ begin 1 1 ∷ step 1 1 ∷ step 1 1 ∷ leave 1 1 ∷ begin 1 2 ∷ step 1 2 ∷ leave 1 2 ∷ [])
-
-abbrev pub detached_family_run : List Event
-detached_family_run = played (begin 1 0 ∷ step 1 0 ∷ leave 1 0 ∷ begin 1 1 ∷ step 1 1 ∷ step 1 1 ∷ leave 1 1 ∷ begin 1 2 ∷ step 1 2 ∷ leave 1 2 ∷ close 1 1 ∷ [])
+-- they go through their bodies, parents first
+abbrev pub family_leaves : List Deed
+family_leaves = through 1 0 ++ (begin 1 1 ∷ step 1 1 ∷ step 1 1 ∷ leave 1 1 ∷ []) ++ through 1 2
 
 -- exceptions come up through each attached child, and each family is closed from below
 abbrev pub ExceptionsComeUp : Type 0
 ExceptionsComeUp =
-    IsGraph grandchild_graph
-    × Run grandchild_graph [] family_run
-    × (Allows grandchild_graph [] grandchild_ended (worker 1) (closing 0) → ⊥)
-    × Allows grandchild_graph [] grandchild_ended (worker 1) (closing 1)
-    × (carried grandchild_graph [] family_run 2 ≡ 2 ∷ [])
-    × (carried grandchild_graph [] family_run 1 ≡ 1 ∷ 2 ∷ [])
-    × (carried grandchild_graph [] family_run 0 ≡ 1 ∷ 2 ∷ [])
-    × (status grandchild_graph [] family_run 0 ≡ Completed Faulted)
+    Story (grandchild_graph child) []
+    (family_leaves ⇛ may_not (close 1 0)
+    & close 1 1 ⇒ close 1 0 ⇒ carries 2 (2 ∷ []) & carries 1 (1 ∷ 2 ∷ []) & carries 0 (1 ∷ 2 ∷ []) & ended 0 Faulted & the_end)
 
 -- exceptions don't come up through a detached child
 abbrev pub ExceptionsStopAtADetachedChild : Type 0
 ExceptionsStopAtADetachedChild =
-    IsGraph detached_family_graph
-    × Run detached_family_graph [] detached_family_run
-    × (carried detached_family_graph [] detached_family_run 1 ≡ 1 ∷ 2 ∷ [])
-    × (carried detached_family_graph [] detached_family_run 0 ≡ [])
-    × (status detached_family_graph [] detached_family_run 0 ≡ Completed RanToCompletion)
+    Story (grandchild_graph detached_child) []
+    (family_leaves ⇛ close 1 1 ⇒ carries 1 (1 ∷ 2 ∷ []) & carries 0 [] & ended 0 RanToCompletion & the_end)
 
--- a parent that acknowledges its cancellation, beside a child
+-- a parent that acknowledges its cancellation, beside a child, which throws where the input is true
 abbrev pub acknowledging_graph : TaskGraph
-acknowledging_graph = with_tokens (Plain ∷ []) (with_inputs 1 (graph (with_token 0 (root (Start 1 ⨾ Check 0 ⨾ Nothing)) ∷ child (If 0 (Throw 0 ⨾ Nothing) Nothing ⨾ Nothing) ∷ [])))
+acknowledging_graph = with_tokens (Plain ∷ []) (with_inputs 1 (graph (with_token 0 (root (Start 1 ⨾ Check 0 ⨾ Nothing)) ∷ child (If 0 (throwing 0) Nothing ⨾ Nothing) ∷ [])))
 
-abbrev pub child_returns : List Event
-child_returns = played (begin 1 0 ∷ step 1 0 ∷ request 1 0 ∷ step 1 0 ∷ leave 1 0 ∷ begin 1 1 ∷ step 1 1 ∷ leave 1 1 ∷ close 1 0 ∷ [])
-
-abbrev pub child_throws : List Event
-child_throws = played (begin 1 0 ∷ step 1 0 ∷ request 1 0 ∷ step 1 0 ∷ leave 1 0 ∷ begin 1 1 ∷ step 1 1 ∷ step 1 1 ∷ leave 1 1 ∷ close 1 0 ∷ [])
+abbrev pub acknowledges : Plot → Plot
+acknowledges more = begin 1 0 ⇒ step 1 0 ⇒ request 1 0 ⇒ step 1 0 ⇒ leave 1 0 ⇒ begin 1 1 ⇒ step 1 1 ⇒ more
 
 -- a parent that acknowledged is canceled, but for a child's exception
 abbrev pub ExceptionOutweighsCancellation : Type 0
 ExceptionOutweighsCancellation =
-    IsGraph acknowledging_graph
-    × Run acknowledging_graph (false ∷ []) child_returns
-    × (status acknowledging_graph (false ∷ []) child_returns 0 ≡ Completed Canceled)
-    × Run acknowledging_graph (true ∷ []) child_throws
-    × (status acknowledging_graph (true ∷ []) child_throws 0 ≡ Completed Faulted)
-    × (carried acknowledging_graph (true ∷ []) child_throws 0 ≡ 1 ∷ [])
-    × (label acknowledging_graph (true ∷ []) child_throws 0 ≡ None)
-
--- of a requested child nothing is due before it is started; then its cancellation is, and nothing more
-abbrev pub NothingElseIsDue : Type 0
-NothingElseIsDue =
-    (Allows child_token_graph [] token_requested (outside 1) (dropping 0) → ⊥)
-    × (Allows child_token_graph [] token_requested (outside 1) (dropping 1) → ⊥)
-    × (Allows child_token_graph [] token_requested (outside 1) (releasing 0) → ⊥)
-    × (Allows child_token_graph [] token_requested (outside 1) (releasing 1) → ⊥)
-    × (Allows child_token_graph [] token_requested (outside 1) (closing 0) → ⊥)
-    × (Allows child_token_graph [] token_requested (outside 1) (closing 1) → ⊥)
-    × (Allows child_token_graph [] token_requested (outside 1) (settling 0) → ⊥)
-    × (Allows child_token_graph [] token_requested (outside 1) (settling 1) → ⊥)
-    × Allows child_token_graph [] child_asked (outside 1) (dropping 1)
-    × (Allows child_token_graph [] child_dropped (outside 1) (dropping 0) → ⊥)
-    × (Allows child_token_graph [] child_dropped (outside 1) (dropping 1) → ⊥)
-    × (Allows child_token_graph [] child_dropped (outside 1) (releasing 0) → ⊥)
-    × (Allows child_token_graph [] child_dropped (outside 1) (releasing 1) → ⊥)
-    × (Allows child_token_graph [] child_dropped (outside 1) (closing 0) → ⊥)
-    × (Allows child_token_graph [] child_dropped (outside 1) (closing 1) → ⊥)
-    × (Allows child_token_graph [] child_dropped (outside 1) (settling 0) → ⊥)
-    × (Allows child_token_graph [] child_dropped (outside 1) (settling 1) → ⊥)
+    Story acknowledging_graph (false ∷ []) (acknowledges (leave 1 1 ⇒ close 1 0 ⇒ ended 0 Canceled & the_end))
+    × Story acknowledging_graph (true ∷ [])
+    (acknowledges (step 1 1 ⇒ leave 1 1 ⇒ close 1 0 ⇒ ended 0 Faulted & carries 0 (1 ∷ []) & threw_nothing 0 & the_end))

@@ -2,6 +2,7 @@
 use Rattle.std.specs.Prelude.{◌≡◌, ℕ, zero, suc, Bool, true, false, Some, Ok, Err, Result, List, [], ◌∷◌, map}
 use Rattle.tpl_model.specs.declared.finals.Final.{Final}
 use Rattle.tpl_model.specs.declared.finals.Final.TheVariants.{RanToCompletion, Canceled, Faulted}
+use Rattle.tpl_model.specs.Options.{lazy_cancellation_bit}
 use Rattle.tpl_model.specs.Statements.{Cancel, Start, Work, If, Statements, Nothing, ◌⨾◌}
 use Rattle.tpl_model.specs.Graph.{TaskGraph, Task}
 use Rattle.tpl_model.specs.declared.fault.Rule.TheVariants.{K1}
@@ -14,7 +15,7 @@ use Rattle.tpl_laws.specs.Verdict.{Breaks}
 use Rattle.tpl_laws.specs.LeastRows.{least_rows}
 use Rattle.tpl_laws.specs.WideTrees.{WidelyAccepts}
 use Rattle.tpl_laws.specs.WideVerdict.{wide_verdict}
-use Rattle.tpl_examples.specs.Words.{root, child, continues, when_all, with_token, with_options, graph, with_tokens, with_inputs, returns, lazy_cancellation, only_on_faulted, only_on_ran_to_completion, ran, canceled, faulted, ends_in, begins_after, is_observed, exclude}
+use Rattle.tpl_examples.specs.Words.{root, child, continues, when_all, with_token, with_options, graph, with_tokens, with_inputs, returns, only_on_faulted, only_on_ran_to_completion, ran, canceled, faulted, ends_in, begins_after, is_observed, exclude}
 use Rattle.tpl_examples.specs.CertificateWords.{nothing, ran_or_canceled, ran_or_faulted, runs, behind, ends, not_run, one_claim, throws, observes}
 use Rattle.tpl_examples.specs.TokenRules.{for_claim, fault, plainly, knowing, two_tokens}
 use Rattle.tpl_examples.specs.WinnerRules.{races, read_behind}
@@ -109,7 +110,7 @@ RowsOfFamilies =
     ∷ knowing (not_run canceled) [] (1 ∷ [])
     ∷ knowing (ends ran) (0 ∷ []) (0 ∷ 1 ∷ [])
     ∷ [])
-    × (rows_of (family always lazy_cancellation) (ends_in 1 canceled)
+    × (rows_of (family always lazy_cancellation_bit) (ends_in 1 canceled)
     ≡ knowing (runs ran [] (2 ∷ []) []) [] (0 ∷ 1 ∷ [])
     ∷ knowing (behind canceled (0 ∷ 2 ∷ [])) [] (0 ∷ 1 ∷ [])
     ∷ knowing (ends ran) (0 ∷ []) (0 ∷ 1 ∷ [])

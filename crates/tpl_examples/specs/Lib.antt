@@ -1,4 +1,5 @@
 pub mod Words
+pub mod Stories
 pub mod Bodies
 pub mod Cancellation
 pub mod Children

@@ -1,5 +1,5 @@
 -- Worked certificates for what version 3 adds: a case of each rule that is accepted, and ones that aren't.
-use Rattle.std.specs.Prelude.{◌≡◌, ℕ, true, false, Some, Ok, Err, Result, List, [], ◌∷◌}
+use Rattle.std.specs.Prelude.{◌≡◌, ℕ, true, false, Ok, Err, Result, List, [], ◌∷◌}
 use Rattle.tpl_model.specs.declared.finals.Final.TheVariants.{Canceled}
 use Rattle.tpl_model.specs.declared.finals.Finals.{Finals}
 use Rattle.tpl_model.specs.Statements.{Start, Work, Nothing, ◌⨾◌}
@@ -10,11 +10,10 @@ use Rattle.tpl_model.specs.declared.fault.CertFault.TheVariants.{ClaimNot}
 use Rattle.tpl_model.specs.declared.claim.Given.{Given}
 use Rattle.tpl_model.specs.declared.ids.TaskId.{TaskId}
 use Rattle.tpl_model.specs.declared.claim.Property.{Property}
-use Rattle.tpl_model.specs.declared.event.Event.{Event}
-use Rattle.tpl_model.specs.Rules.{final, Run}
 use Rattle.tpl_model.specs.Certificate.{Row}
 use Rattle.tpl_laws.specs.Verdict.{verdict}
-use Rattle.tpl_examples.specs.Words.{outside, dropping, by, request, played, root, when_all, when_any, with_token, ran, canceled, faulted, ends_in, begins_after, is_observed, never_begins, exclude, must_run, given_quiet, given_end, given_success, returns}
+use Rattle.tpl_examples.specs.Words.{request, drop_outside, root, when_all, when_any, with_token, ran, canceled, faulted, ends_in, begins_after, is_observed, never_begins, exclude, must_run, given_quiet, given_end, given_success, returns}
+use Rattle.tpl_examples.specs.Stories.{Story, the_end, ◌⇒◌, ◌&◌, ended}
 use Rattle.tpl_examples.specs.CertificateWords.{child_with, continuing, graph_with, nothing, ran_or_canceled, ran_or_faulted, any_end, runs, ends, not_run, one_claim_given, not_closed, leaf, throws, observes, stuck}
 
 -- the verdict on one claim by the wider rules, and by the others
@@ -50,11 +49,8 @@ OwnTokenNever =
 
 -- the rows of that certificate speak only of runs in which the token is quiet: in this one, with nothing given, the root
 -- ends as its row doesn't say
-abbrev pub by_its_token : List Event
-by_its_token = played (request 0 0 ∷ by (outside 0) (dropping 0) ∷ [])
-
 abbrev pub OwnTokenRows : Type 0
-OwnTokenRows = Run (on_canceled 0) [] by_its_token × (final (on_canceled 0) [] by_its_token 0 ≡ Some Canceled)
+OwnTokenRows = Story (on_canceled 0) [] (request 0 0 ⇒ drop_outside 0 0 ⇒ ended 0 Canceled & the_end)
 
 -- a task whose exception is read, and its reader, with one token: that the task threw doesn't keep its token from being
 -- requested before the reader begins, nor does it keep the task from being canceled

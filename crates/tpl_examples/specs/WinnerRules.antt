@@ -3,6 +3,7 @@
 use Rattle.std.specs.Prelude.{◌≡◌, ℕ, Bool, true, false, Option, Some, None, List, [], ◌∷◌}
 use Rattle.tpl_model.specs.declared.finals.Final.TheVariants.{Faulted}
 use Rattle.tpl_model.specs.declared.finals.Finals.{Finals}
+use Rattle.tpl_model.specs.Options.{not_on}
 use Rattle.tpl_model.specs.Statements.{Start, When, Nothing, ◌⨾◌}
 use Rattle.tpl_model.specs.Graph.{TaskGraph, Task, Plain}
 use Rattle.tpl_model.specs.declared.fault.Rule.TheVariants.{K1, K2, K5, K6}
@@ -14,7 +15,7 @@ use Rattle.tpl_model.specs.WiderRules.{WideRow, WideTree, OnInput, OnEnd, OnWinn
 use Rattle.tpl_laws.specs.WideTrees.{WidelyAccepts}
 use Rattle.tpl_laws.specs.Verdict.{LeafFault, Breaks, ProvesNot}
 use Rattle.tpl_laws.specs.WiderTests.{wide_leaf_fault}
-use Rattle.tpl_examples.specs.Words.{root, child, continues, when_all, when_any, with_token, with_options, graph, with_tokens, returns, not_on_faulted, only_on_faulted, ran, faulted, ends_in, begins_after, is_observed, given_quiet, claim}
+use Rattle.tpl_examples.specs.Words.{root, child, continues, when_all, when_any, with_token, with_options, graph, with_tokens, returns, only_on_faulted, ran, faulted, ends_in, begins_after, is_observed, given_quiet, claim}
 use Rattle.tpl_examples.specs.CertificateWords.{nothing, runs, ends, behind, not_run, throws, observes, stuck}
 use Rattle.tpl_examples.specs.TokenRules.{for_claim, fault, plainly}
 
@@ -139,6 +140,6 @@ ChainBehindWinner =
     × (won (read_behind (continues 3 observes)) [] (is_observed 0) 3 2 false (read_rows (2 ∷ 4 ∷ [])) ≡ Some (Breaks 0 K6))
     × (won (read_behind (continues 3 observes)) [] (is_observed 0) 3 2 true (read_rows (4 ∷ [])) ≡ Some (Breaks 0 K6))
     × (won (read_behind (continues 3 returns)) [] (is_observed 0) 3 2 true (read_rows (2 ∷ 4 ∷ [])) ≡ Some (Breaks 0 K6))
-    × (won (read_behind (with_options not_on_faulted (continues 3 observes))) [] (is_observed 0) 3 2 true (read_rows (2 ∷ 4 ∷ [])) ≡ None)
+    × (won (read_behind (with_options (not_on Faulted) (continues 3 observes))) [] (is_observed 0) 3 2 true (read_rows (2 ∷ 4 ∷ [])) ≡ None)
     × (won (read_behind (with_options only_on_faulted (continues 3 observes))) [] (is_observed 0) 3 2 true (read_rows (2 ∷ 4 ∷ [])) ≡ Some (Breaks 0 K6))
     × (won (read_behind (with_token 0 (continues 3 observes))) [] (is_observed 0) 3 2 true (read_rows (2 ∷ 4 ∷ [])) ≡ Some (Breaks 0 K6))

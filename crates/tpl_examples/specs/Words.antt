@@ -1,22 +1,26 @@
 -- Short words, in which the worked runs are written.
-use Rattle.std.specs.Prelude.{ℕ, zero, suc, Some, None, Bool, true, false, List, [], reverse}
+use Rattle.std.specs.Prelude.{ℕ, zero, suc, ◌+◌, Some, None, Bool, true, false, List, []}
+use Rattle.tpl_model.specs.declared.finals.Final.TheVariants.{RanToCompletion, Canceled, Faulted}
+use Rattle.tpl_model.specs.declared.finals.Final.{Final}
 use Rattle.tpl_model.specs.declared.finals.Finals.{Finals}
 use Rattle.tpl_model.specs.declared.status.Actor.{Actor}
 use Rattle.tpl_model.specs.declared.status.Actor.TheVariants.{Worker, Outside}
 use Rattle.tpl_model.specs.declared.status.Answer.TheVariants.{Done, Failed}
 use Rattle.tpl_model.specs.declared.status.Label.{Label}
 use Rattle.tpl_model.specs.declared.status.Label.TheVariants.{Thrown, OperationCanceled, WorkFailed}
-use Rattle.tpl_model.specs.Statements.{Statements, Return, Work, Nothing, ◌⨾◌}
-use Rattle.tpl_model.specs.Graph.{TaskGraph, Task, Token, Root, Child, Continues, WhenAll, WhenAny}
+use Rattle.tpl_model.specs.Statements.{Statements, Return, Throw, Check, Work, Nothing, ◌⨾◌}
+use Rattle.tpl_model.specs.Graph.{TaskGraph, Task, TaskKind, Token, Root, Child, Continues, WhenAll, WhenAny}
 use Rattle.tpl_model.specs.declared.event.Act.{Act}
 use Rattle.tpl_model.specs.declared.event.Act.TheVariants.{Request, Release, Begin, Step, Worked, Leave, Close, Drop, Settle}
 use Rattle.tpl_model.specs.declared.event.Event.{Event}
+use Rattle.tpl_model.specs.Facts.{Ending}
 use Rattle.tpl_model.specs.declared.claim.Given.{Given}
 use Rattle.tpl_model.specs.declared.claim.Given.TheVariants.{Input, Quiet, Ended, Succeeds}
 use Rattle.tpl_model.specs.declared.ids.TaskId.{TaskId}
 use Rattle.tpl_model.specs.declared.claim.Property.{Property}
 use Rattle.tpl_model.specs.declared.claim.Property.TheVariants.{Final as EndsIn, After, Observed, Never, Excludes, Runs}
 use Rattle.tpl_model.specs.Claims.{Claim}
+use Rattle.tpl_model.specs.Options.{attached_to_parent_bit, not_on}
 
 -- an actor: a worker or a seat outside, by its number
 abbrev pub worker : ℕ → Actor
@@ -25,79 +29,46 @@ worker n = Worker (record { 0 = n })
 abbrev pub outside : ℕ → Actor
 outside seat = Outside seat
 
--- an act, by the number of its task or token
-abbrev pub requesting : ℕ → Act
-requesting k = Request (record { 0 = k })
+-- a task, by its number
+abbrev pub task : ℕ → TaskId
+task t = record { 0 = t }
 
-abbrev pub releasing : ℕ → Act
-releasing t = Release (record { 0 = t })
+-- what somebody does: a worker with a task (first the worker, then the task), a seat outside that requests a token (first
+-- the seat, then the token), or any actor
+pub data Deed : Type 0 where
+  release : ℕ → ℕ → Deed
+  begin : ℕ → ℕ → Deed
+  step : ℕ → ℕ → Deed
+  done : ℕ → ℕ → Deed
+  failed : ℕ → ℕ → Deed
+  leave : ℕ → ℕ → Deed
+  close : ℕ → ℕ → Deed
+  drop : ℕ → ℕ → Deed
+  settle : ℕ → ℕ → Deed
+  request : ℕ → ℕ → Deed
+  by : Actor → Act → Deed
 
-abbrev pub beginning : ℕ → Act
-beginning t = Begin (record { 0 = t })
+-- the event that it is
+abbrev pub event : Deed → Event
+event (release w t) = record { actor = worker w; act = Release (task t) }
+event (begin w t) = record { actor = worker w; act = Begin (task t) }
+event (step w t) = record { actor = worker w; act = Step (task t) }
+event (done w t) = record { actor = worker w; act = Worked (task t) Done }
+event (failed w t) = record { actor = worker w; act = Worked (task t) Failed }
+event (leave w t) = record { actor = worker w; act = Leave (task t) }
+event (close w t) = record { actor = worker w; act = Close (task t) }
+event (drop w t) = record { actor = worker w; act = Drop (task t) }
+event (settle w t) = record { actor = worker w; act = Settle (task t) }
+event (request seat k) = record { actor = outside seat; act = Request (record { 0 = k }) }
+event (by actor act) = record { actor = actor; act = act }
 
-abbrev pub stepping : ℕ → Act
-stepping t = Step (record { 0 = t })
+-- from outside a task is canceled: first the seat, then the task
+abbrev pub drop_outside : ℕ → ℕ → Deed
+drop_outside seat t = by (outside seat) (Drop (task t))
 
-abbrev pub doing : ℕ → Act
-doing t = Worked (record { 0 = t }) Done
-
-abbrev pub failing : ℕ → Act
-failing t = Worked (record { 0 = t }) Failed
-
-abbrev pub leaving : ℕ → Act
-leaving t = Leave (record { 0 = t })
-
-abbrev pub closing : ℕ → Act
-closing t = Close (record { 0 = t })
-
-abbrev pub dropping : ℕ → Act
-dropping t = Drop (record { 0 = t })
-
-abbrev pub settling : ℕ → Act
-settling t = Settle (record { 0 = t })
-
--- an event in which this actor does the act; those below are by a worker: first the worker, then the task
-abbrev pub by : Actor → Act → Event
-by actor act = record { actor = actor; act = act }
-
-abbrev pub release : ℕ → ℕ → Event
-release w t = by (worker w) (releasing t)
-
-abbrev pub begin : ℕ → ℕ → Event
-begin w t = by (worker w) (beginning t)
-
-abbrev pub step : ℕ → ℕ → Event
-step w t = by (worker w) (stepping t)
-
-abbrev pub done : ℕ → ℕ → Event
-done w t = by (worker w) (doing t)
-
-abbrev pub failed : ℕ → ℕ → Event
-failed w t = by (worker w) (failing t)
-
-abbrev pub leave : ℕ → ℕ → Event
-leave w t = by (worker w) (leaving t)
-
-abbrev pub close : ℕ → ℕ → Event
-close w t = by (worker w) (closing t)
-
-abbrev pub drop : ℕ → ℕ → Event
-drop w t = by (worker w) (dropping t)
-
-abbrev pub settle : ℕ → ℕ → Event
-settle w t = by (worker w) (settling t)
-
--- an event from outside: first the seat, then the token
-abbrev pub request : ℕ → ℕ → Event
-request seat k = by (outside seat) (requesting k)
-
--- the list of events of a journal, whose first event stands first
-abbrev pub played : List Event → List Event
-played journal = reverse journal
-
--- the journal before anything has happened
-abbrev pub before_all : List Event
-before_all = []
+-- how a task ended that has no winner: by which event of the run, by whom, in which way, and which exceptions it carries
+abbrev pub ending_at : ℕ → Actor → Final → List ℕ → Ending
+ending_at place actor f tasks = record { place = place; actor = Some actor; final = f; carried = tasks; winner = None }
 
 -- what a body threw
 abbrev pub thrown : ℕ → Label
@@ -113,78 +84,58 @@ work_failed site = WorkFailed (record { 0 = site })
 abbrev pub returns : Statements
 returns = Return ⨾ Nothing
 
+-- a body that throws
+abbrev pub throwing : ℕ → Statements
+throwing l = Throw l ⨾ Nothing
+
 -- n jobs that can't fail, at sites from this one on
 abbrev pub jobs : ℕ → ℕ → Statements
 jobs site zero = Nothing
 jobs site (suc n) = Work site false ⨾ jobs (suc site) n
 
--- the option words
-abbrev pub prefer_fairness : ℕ
-prefer_fairness = 1
-
-abbrev pub long_running : ℕ
-long_running = 2
-
-abbrev pub attached_to_parent : ℕ
-attached_to_parent = 4
-
-abbrev pub deny_child_attach : ℕ
-deny_child_attach = 8
-
-abbrev pub hide_scheduler : ℕ
-hide_scheduler = 16
-
-abbrev pub lazy_cancellation : ℕ
-lazy_cancellation = 32
-
-abbrev pub run_continuations_asynchronously : ℕ
-run_continuations_asynchronously = 64
-
-abbrev pub not_on_ran_to_completion : ℕ
-not_on_ran_to_completion = 0x10000
-
-abbrev pub not_on_faulted : ℕ
-not_on_faulted = 0x20000
-
-abbrev pub not_on_canceled : ℕ
-not_on_canceled = 0x40000
-
+-- the option words that exclude two ways to end
 abbrev pub only_on_canceled : ℕ
-only_on_canceled = 0x30000
+only_on_canceled = not_on RanToCompletion + not_on Faulted
 
 abbrev pub only_on_faulted : ℕ
-only_on_faulted = 0x50000
+only_on_faulted = not_on RanToCompletion + not_on Canceled
 
 abbrev pub only_on_ran_to_completion : ℕ
-only_on_ran_to_completion = 0x60000
+only_on_ran_to_completion = not_on Faulted + not_on Canceled
 
-abbrev pub execute_synchronously : ℕ
-execute_synchronously = 0x80000
+-- a task of a kind with a body, without token and options; then the kinds. A child is attached to its parent unless it
+-- is detached
+abbrev pub bare : TaskKind → Statements → Task
+bare kind body = record { kind = kind; body = body; token = None; options = 0 }
 
--- tasks, at first without token and options; a child is attached to its parent unless it is detached
 abbrev pub root : Statements → Task
-root body = record { kind = Root; body = body; token = None; options = 0 }
+root body = bare Root body
 
 abbrev pub child : Statements → Task
-child body = record { kind = Child; body = body; token = None; options = attached_to_parent }
+child body = record { kind = Child; body = body; token = None; options = attached_to_parent_bit }
 
 abbrev pub detached_child : Statements → Task
-detached_child body = record { kind = Child; body = body; token = None; options = 0 }
+detached_child body = bare Child body
 
 abbrev pub continues : ℕ → Statements → Task
-continues antecedent body = record { kind = Continues antecedent; body = body; token = None; options = 0 }
+continues antecedent body = bare (Continues antecedent) body
 
 abbrev pub when_all : List ℕ → Task
-when_all args = record { kind = WhenAll args; body = Nothing; token = None; options = 0 }
+when_all args = bare (WhenAll args) Nothing
 
 abbrev pub when_any : List ℕ → Task
-when_any args = record { kind = WhenAny args; body = Nothing; token = None; options = 0 }
+when_any args = bare (WhenAny args) Nothing
 
+-- the same with a token, and with these option words
 abbrev pub with_token : ℕ → Task → Task
 with_token k t = record { kind = t.kind; body = t.body; token = Some k; options = t.options }
 
 abbrev pub with_options : ℕ → Task → Task
 with_options word t = record { kind = t.kind; body = t.body; token = t.token; options = word }
+
+-- a root with the first token that may end in each of the three ways: it checks this token, then does a job that may fail
+abbrev pub in_three_ways : Task
+in_three_ways = with_token 0 (root (Check 0 ⨾ Work 0 true ⨾ Nothing))
 
 -- a graph of these tasks, at first without tokens and inputs
 abbrev pub graph : List Task → TaskGraph
@@ -208,22 +159,22 @@ faulted = record { ran = false; canceled = false; faulted = true }
 
 -- what a claim says
 abbrev pub ends_in : ℕ → Finals → Property TaskId
-ends_in t ends = EndsIn (record { 0 = t }) ends
+ends_in t ends = EndsIn (task t) ends
 
 abbrev pub begins_after : ℕ → ℕ → Property TaskId
-begins_after a b = After (record { 0 = a }) (record { 0 = b })
+begins_after a b = After (task a) (task b)
 
 abbrev pub is_observed : ℕ → Property TaskId
-is_observed t = Observed (record { 0 = t })
+is_observed t = Observed (task t)
 
 abbrev pub never_begins : ℕ → Property TaskId
-never_begins t = Never (record { 0 = t })
+never_begins t = Never (task t)
 
 abbrev pub exclude : ℕ → ℕ → Property TaskId
-exclude a b = Excludes (record { 0 = a }) (record { 0 = b })
+exclude a b = Excludes (task a) (task b)
 
 abbrev pub must_run : ℕ → Property TaskId
-must_run t = Runs (record { 0 = t })
+must_run t = Runs (task t)
 
 -- what it takes as given
 abbrev pub given_input : ℕ → Bool → Given
@@ -233,7 +184,7 @@ abbrev pub given_quiet : ℕ → Given
 given_quiet k = Quiet (record { 0 = k })
 
 abbrev pub given_end : ℕ → Finals → Given
-given_end t ends = Ended (record { 0 = t }) ends
+given_end t ends = Ended (task t) ends
 
 abbrev pub given_success : ℕ → Given
 given_success site = Succeeds (record { 0 = site })

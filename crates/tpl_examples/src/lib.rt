@@ -1,6 +1,6 @@
 //! Worked runs of small task graphs, and worked certificates: which are accepted, and at which place the others are
 //! refused. Each function's contract is one of them, proved by computing what the definitions say.
-#![tactic(auto, using(crate::proofs::Computed::valid, crate::proofs::Computed::invalid, crate::proofs::Computed::completes, crate::proofs::Computed::completes_not, crate::proofs::Computed::settles, crate::proofs::Computed::settles_not, crate::proofs::Computed::claims, crate::proofs::Computed::fails, crate::proofs::Computed::given, crate::proofs::Computed::given_not))]
+#![tactic(auto, using(crate::proofs::Computed::valid, crate::proofs::Computed::invalid, crate::proofs::Computed::story))]
 
 pub mod bodies;
 pub mod cancellation;

@@ -1,0 +1,6 @@
+use Rattle.std.proofs.Common.{rules, refl}
+use Rattle.tpl_examples.proofs.Computed.{story}
+use Rattle.tpl_examples.proofs.continuations.lazy_cancellation_waits.Goals as goal
+
+pub returns : goal.returns
+returns c = story _ _ _ refl (search rules)
