@@ -219,29 +219,6 @@ fn plays<R: Wait, K: Drop, W: Item<K>>(
     begun && beside && ended && closed
 }
 
-/// Plays a scene over a session and one that is opened with these items.
-fn plays_beside<R: Wait, K: Drop, W: Item<K>>(
-    rt: &R,
-    alloc: Global,
-    graph: &Graph,
-    session: Session<'_, K, W>,
-    pass: QueuePass<Vec<W>>,
-    smaller: &Graph,
-    items: Vec<W>,
-    script: Script,
-    closing: Closing,
-) -> bool
-    requires graph { session.graph ≡ graph.now }
-    requires pass { pass.queue ≡ session.queue }
-{
-    match opened(alloc, smaller, items) {
-        Some((other, spare)) => plays(
-            rt, alloc, graph, session, pass, smaller, other, spare, script, closing,
-        ),
-        None => false,
-    }
-}
-
 /// Plays a scene over sessions that are opened with these items.
 fn plays_with<R: Wait, K: Drop, W: Item<K>>(
     rt: &R,
@@ -253,9 +230,12 @@ fn plays_with<R: Wait, K: Drop, W: Item<K>>(
     script: Script,
     closing: Closing,
 ) -> bool {
-    match opened(alloc, graph, items) {
-        Some((session, pass)) => plays_beside(
-            rt, alloc, graph, session, pass, smaller, others, script, closing,
+    let Some((session, pass)) = opened(alloc, graph, items) else {
+        return false;
+    };
+    match opened(alloc, smaller, others) {
+        Some((other, spare)) => plays(
+            rt, alloc, graph, session, pass, smaller, other, spare, script, closing,
         ),
         None => false,
     }

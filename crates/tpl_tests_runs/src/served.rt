@@ -1,10 +1,9 @@
 //! Runs of documents as a caller of the library makes them: boxes that wait for each other, and what isn't run.
 
-ghost use Rattle.std.specs.Prelude.{IfOk, IfSome};
-ghost use Rattle.std.specs.List.{All};
-ghost use Rattle.tpl_graph.specs.Fits.{Fits};
-ghost use Rattle.tpl_commands.specs.Loading.{RequestsTokens};
-ghost use Rattle.tpl_reader.specs.SeenDocument.{doc_of};
+ghost use Rattle.std.specs.Prelude.{IfOk, IfSome, All};
+ghost use Rattle.tpl_commands.specs.Prelude.{RequestsTokens};
+ghost use Rattle.tpl_graph.specs.Prelude.{Fits};
+ghost use Rattle.tpl_reader.specs.Prelude.{doc_of};
 
 use crate::exchange::Stamp;
 use crate::graphs::tell;
