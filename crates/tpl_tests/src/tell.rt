@@ -1,24 +1,10 @@
 //! What the readers of a graph answer.
 
 use crate::names::{task_name, token_name};
+use crate::words::SINGLE;
 use std::alloc::AllocError;
 use tpl_graph::Graph;
 use tpl_model::{InputId, LabelId, Options, SiteId, TaskId, TokenId};
-
-/// The option words of one bit.
-const WORDS: [&str; 11] = [
-    "PreferFairness",
-    "LongRunning",
-    "AttachedToParent",
-    "DenyChildAttach",
-    "HideScheduler",
-    "LazyCancellation",
-    "RunContinuationsAsynchronously",
-    "NotOnRanToCompletion",
-    "NotOnFaulted",
-    "NotOnCanceled",
-    "ExecuteSynchronously",
-];
 
 /// How many there are of each sort.
 pub fn tell_counts(text: &mut String, graph: &Graph) -> Result<(), AllocError> {
@@ -75,7 +61,7 @@ fn tell_tokens_of(text: &mut String, graph: &Graph, tokens: &[TokenId]) -> Resul
 }
 
 fn tell_options(text: &mut String, options: Options) -> Result<(), AllocError> {
-    for word in WORDS {
+    for word in SINGLE {
         if let Some(option) = Options::from_word(word) {
             if options.contains(option) {
                 write!(text, ", {word}")?;

@@ -5,7 +5,7 @@ use tpl_model::{Final, OptionFault, Options, Status};
 
 /// The words of one bit each that a continuation may have (.NET API documentation), in the order of the bits that
 /// `union_of` takes.
-const SINGLE: [&str; 11] = [
+pub const SINGLE: [&str; 11] = [
     "PreferFairness",
     "LongRunning",
     "AttachedToParent",

@@ -188,30 +188,6 @@ fn ends<K, W: Item<K>>(graph: &Graph, report: &Report<K, W>, beside: Beside) -> 
     }
 }
 
-/// Lets all be in threads of the test's own at once. None where one finds no seat.
-fn acted<'g, R: Threads + Wait + Sync, K: Drop + Send, W: Item<K> + Send>(
-    rt: &R,
-    alloc: Global,
-    graph: &Graph,
-    session: &Session<'g, K, W>,
-    pass: QueuePass<Vec<W>>,
-    flags: &[AtomicU64],
-    company: Company,
-) -> Option<Back<W>>
-    requires graph { session.now.graph ≡ graph.now }
-    requires pass { pass.queue ≡ session.now.queue }
-    ensures { IfSome result (λ b. b.pass.queue ≡ session.now.queue) }
-{
-    let Ok(cast) = cast(alloc, session, company.workers, company.beside) else {
-        return None;
-    };
-    let (pass, parts) = seated(rt, alloc, session, pass, cast)?;
-    match side_by_side(rt, alloc, graph, session, flags, parts) {
-        Ok(parts) => Some(gathered(alloc, session, pass, parts)),
-        Err(_) => None,
-    }
-}
-
 /// Lets all be in threads at once: those of the session's own `run`, or the test's own. None where they don't come back.
 fn acts<'g, R: Threads + Wait + Sync, K: Drop + Send, W: Item<K> + Send>(
     rt: &R,
@@ -226,9 +202,16 @@ fn acts<'g, R: Threads + Wait + Sync, K: Drop + Send, W: Item<K> + Send>(
     requires pass { pass.queue ≡ session.now.queue }
     ensures { IfSome result (λ b. b.pass.queue ≡ session.now.queue) }
 {
-    match company.beside {
-        Beside::HaltRun => halted_in_run(rt, alloc, session, pass, flags, company.workers),
-        _ => acted(rt, alloc, graph, session, pass, flags, company),
+    if let Beside::HaltRun = company.beside {
+        return halted_in_run(rt, alloc, session, pass, flags, company.workers);
+    }
+    let Ok(cast) = cast(alloc, session, company.workers, company.beside) else {
+        return None;
+    };
+    let (pass, parts) = seated(rt, alloc, session, pass, cast)?;
+    match side_by_side(rt, alloc, graph, session, flags, parts) {
+        Ok(parts) => Some(gathered(alloc, session, pass, parts)),
+        Err(_) => None,
     }
 }
 
@@ -282,7 +265,7 @@ fn flag_count(graph: &Graph, beside: Beside) -> usize {
 }
 
 /// Makes a box for each work statement, and tries a session with them.
-fn tried<R: Threads + Wait + Sync>(
+pub fn tried_beside<R: Threads + Wait + Sync>(
     rt: &R,
     alloc: Global,
     graph: &Graph,
@@ -303,22 +286,6 @@ fn tried<R: Threads + Wait + Sync>(
         items.push(WorkItem::new(Stamp(0), site, may_fail, work))?;
     }
     Ok(tries(rt, alloc, graph, items, flags.as_slice(), company))
-}
-
-/// Tries it so often.
-pub fn tried_beside<R: Threads + Wait + Sync>(
-    rt: &R,
-    alloc: Global,
-    graph: &Graph,
-    company: Company,
-    rounds: usize,
-) -> Result<bool, AllocError> {
-    for _ in 0..rounds {
-        if !tried(rt, alloc, graph, company)? {
-            return Ok(false);
-        }
-    }
-    Ok(true)
 }
 
 /// Tries each case, and answers which of them hold.

@@ -2,7 +2,7 @@
 
 use crate::allowed::{all_events, allowed};
 use crate::dice::Dice;
-use crate::machines::{Indexed, Opener, Plain, inputs_of, replayed};
+use crate::machines::{Indexed, Opener, Plain, replayed, start_of};
 use crate::seen::seen;
 use std::alloc::{AllocError, Global};
 use std::{fs, io};
@@ -72,18 +72,9 @@ fn play<O: Opener, P: Opener>(
 
 /// Plays a run of a document's graph on both machines.
 fn play_graph(alloc: Global, document: &Document, dice: &mut Dice) -> Result<bool, AllocError> {
-    let graph = &document.graph;
-    let plain = Plain {
-        alloc,
-        graph,
-        inputs: inputs_of(document),
-    };
-    let indexed = Indexed {
-        alloc,
-        graph,
-        inputs: inputs_of(document),
-    };
-    let events = all_events(alloc, graph)?;
+    let plain = Plain(start_of(alloc, document));
+    let indexed = Indexed(start_of(alloc, document));
+    let events = all_events(alloc, &document.graph)?;
     play(alloc, &plain, &indexed, events.as_slice(), dice)
 }
 

@@ -1,12 +1,13 @@
 //! What is tried on the graph of a file.
 
 use crate::beside::{Company, tried_beside};
+use crate::boxes::Given;
 use crate::meeting::all_meet;
 use crate::memory::plays_graph;
-use crate::refusals::{Given, counts, refuses_given};
+use crate::refusals::{counts, refuses_given};
 use crate::scenes::plays_scene;
 use crate::scripts::Script;
-use crate::sessions::{Trial, tried_each};
+use crate::sessions::{Trial, tried};
 use crate::shut::Closing;
 use std::alloc::Global;
 use std::fs::Files;
@@ -52,23 +53,38 @@ fn plays<R: Files + Alloc + Wait>(
     }
 }
 
-/// Whether what is tried on a graph goes as it must.
+impl Attempt {
+    /// How often it is tried.
+    fn rounds(self) -> usize {
+        match self {
+            Attempt::Session(_, rounds) | Attempt::Beside(_, rounds) => rounds,
+            _ => 1,
+        }
+    }
+}
+
+/// Whether what is tried on a graph goes as it must each time.
 fn goes<R: Files + Alloc + Print + Threads + Wait + Sync>(
     rt: &R,
     alloc: Global,
     graph: &Graph,
     attempt: Attempt,
 ) -> io::Result<bool> {
-    let holds = match attempt {
-        Attempt::Session(trial, rounds) => tried_each(rt, alloc, graph, trial, rounds)?,
-        Attempt::Beside(company, rounds) => tried_beside(rt, alloc, graph, company, rounds)?,
-        Attempt::Meeting(workers) => all_meet(rt, alloc, graph, workers)?,
-        Attempt::Items(given, why) => refuses_given(alloc, graph, given, why)?,
-        Attempt::Counts => counts(rt, alloc, graph),
-        Attempt::Scene(script, closing) => plays(rt, alloc, graph, script, closing)?,
-        Attempt::Little => plays_graph(rt, alloc, graph)?,
-    };
-    Ok(holds)
+    for _ in 0..attempt.rounds() {
+        let holds = match attempt {
+            Attempt::Session(trial, _) => tried(rt, alloc, graph, trial)?,
+            Attempt::Beside(company, _) => tried_beside(rt, alloc, graph, company)?,
+            Attempt::Meeting(workers) => all_meet(rt, alloc, graph, workers)?,
+            Attempt::Items(given, why) => refuses_given(alloc, graph, given, why)?,
+            Attempt::Counts => counts(rt, alloc, graph),
+            Attempt::Scene(script, closing) => plays(rt, alloc, graph, script, closing)?,
+            Attempt::Little => plays_graph(rt, alloc, graph)?,
+        };
+        if !holds {
+            return Ok(false);
+        }
+    }
+    Ok(true)
 }
 
 /// Whether what is tried on the graph of a file goes as it must; None where no document is read.

@@ -14,43 +14,49 @@ pub trait Opener {
     fn open(&self) -> Result<Self::Machine, AllocError>;
 }
 
+/// A graph and its inputs, with which machines are opened.
+#[derive(Drop)]
+pub struct Start<'g> {
+    alloc: Global,
+    graph: &'g Graph,
+    inputs: Inputs,
+}
+
 /// Opens plain machines.
 #[derive(Drop)]
-pub struct Plain<'g> {
-    pub alloc: Global,
-    pub graph: &'g Graph,
-    pub inputs: Inputs,
-}
+pub struct Plain<'g>(pub Start<'g>);
 
 impl<'g> Opener for Plain<'g> {
     type Machine = Machine<'g>;
 
     fn open(&self) -> Result<Machine<'g>, AllocError> {
-        Machine::open(self.alloc, self.graph, self.inputs.copy())
+        Machine::open(self.0.alloc, self.0.graph, self.0.inputs.copy())
     }
 }
 
 /// Opens indexed machines.
 #[derive(Drop)]
-pub struct Indexed<'g> {
-    pub alloc: Global,
-    pub graph: &'g Graph,
-    pub inputs: Inputs,
-}
+pub struct Indexed<'g>(pub Start<'g>);
 
 impl<'g> Opener for Indexed<'g> {
     type Machine = Fast<'g>;
 
     fn open(&self) -> Result<Fast<'g>, AllocError> {
-        Fast::open(self.alloc, self.graph, self.inputs.copy())
+        Fast::open(self.0.alloc, self.0.graph, self.0.inputs.copy())
     }
 }
 
-/// The inputs with which a document starts.
-pub fn inputs_of(document: &Document) -> Inputs {
-    match &document.start {
+/// The graph of a document, and the inputs with which it starts.
+pub fn start_of(alloc: Global, document: &Document) -> Start<'_> {
+    let inputs = match &document.start {
         Some(start) => start.inputs.copy(),
         None => Inputs::new(0),
+    };
+    let graph = &document.graph;
+    Start {
+        alloc,
+        graph,
+        inputs,
     }
 }
 

@@ -8,6 +8,7 @@
 mod allowed;
 mod asked;
 mod beside;
+mod boxes;
 mod cast;
 mod chance;
 mod closed;

@@ -64,6 +64,23 @@ pub fn flags_of(alloc: Global, count: usize) -> Result<Arc<Vec<AtomicU64>, Globa
     Ok(Arc::new(alloc, flags)?)
 }
 
+/// A box for each work statement of a graph, which waits for the others, and their flags.
+pub fn meeting_boxes(
+    alloc: Global,
+    graph: &Graph,
+) -> Result<(Arc<Vec<AtomicU64>, Global>, Vec<WorkItem<Stamp>>), AllocError> {
+    let flags = flags_of(alloc, graph.site_count())?;
+    let mut items: Vec<WorkItem<Stamp>> = Vec::new(alloc);
+    for number in 0..graph.site_count() {
+        let own = Arc::try_clone(&flags)?;
+        let work: Work = Box::new(alloc, move |site: SiteId| -> Answer {
+            meet(own.as_slice(), site, true)
+        })?;
+        items.push(WorkItem::new(Stamp(0), SiteId(number as u16), true, work))?;
+    }
+    Ok((flags, items))
+}
+
 /// The boxes of a graph meet, with this many workers.
 pub fn all_meet<R: Threads + Wait + Sync>(
     rt: &R,
@@ -71,16 +88,7 @@ pub fn all_meet<R: Threads + Wait + Sync>(
     graph: &Graph,
     workers: u16,
 ) -> Result<bool, AllocError> {
-    let flags = flags_of(alloc, graph.site_count())?;
-    let mut items: Vec<WorkItem<Stamp>> = Vec::new(alloc);
-    for number in 0..graph.site_count() {
-        let site = SiteId(number as u16);
-        let own = Arc::try_clone(&flags)?;
-        let work: Work = Box::new(alloc, move |site: SiteId| -> Answer {
-            meet(own.as_slice(), site, true)
-        })?;
-        items.push(WorkItem::new(Stamp(0), site, true, work))?;
-    }
+    let (flags, items) = meeting_boxes(alloc, graph)?;
     let trial = Trial {
         workers,
         events: None,

@@ -3,8 +3,8 @@
 ghost use Rattle.std.specs.Prelude.{◌≡◌, IfOk};
 
 use crate::asked::ask;
+use crate::boxes::done_boxes;
 use crate::crews::{LOOKER, with_workers};
-use crate::exchange::Stamp;
 use crate::graphs::{Attempt, attempted, tell};
 use crate::opened::places;
 use crate::shut::shut;
@@ -14,8 +14,8 @@ use std::io;
 use std::sync::Wait;
 use std::thread::Threads;
 use tpl_graph::Graph;
-use tpl_items::{JobQueue, QueuePass, Work, WorkItem};
-use tpl_model::{Actor, Answer, Inputs, SiteId, TokenId, Worker};
+use tpl_items::{JobQueue, QueuePass};
+use tpl_model::{Actor, Inputs, TokenId, Worker};
 use tpl_runtime::{
     Asked, CloseFault, CloseWhy, Ended, Item, OpenFault, OpenWhy, Report, RunFault, RunWhy, Seat,
     SeatFault, Session, Watcher,
@@ -364,12 +364,7 @@ pub fn plays_graph<R: Print + Threads + Wait + Sync>(
     alloc: Global,
     graph: &Graph,
 ) -> io::Result<bool> {
-    let mut items: Vec<WorkItem<Stamp>> = Vec::new(alloc);
-    for number in 0..graph.site_count() {
-        let site = SiteId(number as u16);
-        let work: Work = Box::new(alloc, |_site: SiteId| -> Answer { Answer::Done })?;
-        items.push(WorkItem::new(Stamp(0), site, graph.site_may_fail(site), work))?;
-    }
+    let items = done_boxes(alloc, graph)?;
     opens(rt, alloc, graph, items)
 }
 

@@ -83,23 +83,6 @@ fn works<'g, R: Wait, K: Drop, W: Item<K>>(
     (seat, pass, ended == how)
 }
 
-/// Requests a token, and says whether it wasn't requested before.
-fn requests<'g, R: Wait, K: Drop, W: Item<K>>(
-    rt: &R,
-    graph: &Graph,
-    session: &Session<'g, K, W>,
-    seat: &mut Seat,
-    pass: &mut QueuePass<Vec<W>>,
-    token: TokenId,
-) -> bool
-    requires graph { session.now.graph ≡ graph.now }
-    requires pass { pass.old.queue ≡ session.now.queue }
-    ensures { pass.new.queue ≡ session.now.queue }
-{
-    let asked = ask(rt, graph, session, seat, pass, token);
-    matches!(asked, Some(Asked::Place(_)))
-}
-
 /// Halts the session once the first box is called and the other workers had time to wait, and lets the box go.
 pub fn halts<'g, R: Wait, K: Drop, W: Item<K>>(
     rt: &R,
@@ -171,7 +154,10 @@ fn play<'g, R: Wait, K: Drop, W: Item<K>>(
             pass = own;
             well
         }
-        Role::Requests(token) => requests(rt, graph, session, &mut seat, &mut pass, *token),
+        Role::Requests(token) => {
+            let asked = ask(rt, graph, session, &mut seat, &mut pass, *token);
+            matches!(asked, Some(Asked::Place(_)))
+        }
         Role::Watches(watcher) => watches(alloc, watcher).unwrap_or(false),
         Role::Looks => looks_beside(rt, graph, session, flags, &mut seat),
         Role::Halts => halts(rt, session, flags),

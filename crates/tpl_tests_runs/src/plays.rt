@@ -5,7 +5,7 @@
 //! otherwise than before, and all that is allowed next, and to whom.
 
 use crate::allowed::{all_events, allowed, push_allowed};
-use crate::machines::{Indexed, Opener, Plain, inputs_of, replayed};
+use crate::machines::{Indexed, Opener, Plain, replayed, start_of};
 use crate::seen::seen;
 use std::alloc::{AllocError, Global};
 use std::{fs, io};
@@ -149,18 +149,10 @@ fn compare_both(
 ) -> io::Result<[bool; 2]> {
     let alloc = rt.alloc();
     let graph = &document.graph;
-    let plain = Plain {
-        alloc,
-        graph,
-        inputs: inputs_of(document),
-    };
+    let plain = Plain(start_of(alloc, document));
     let title = format!(in alloc; "{file}, plain machine")?;
     let first = compare(rt, title.as_str(), &plain, graph, play)?;
-    let indexed = Indexed {
-        alloc,
-        graph,
-        inputs: inputs_of(document),
-    };
+    let indexed = Indexed(start_of(alloc, document));
     let title = format!(in alloc; "{file}, indexed machine")?;
     let second = compare(rt, title.as_str(), &indexed, graph, play)?;
     Ok([first, second])

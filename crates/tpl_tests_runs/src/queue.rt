@@ -1,7 +1,7 @@
 //! The queue, between threads and in one.
 
 ghost use Rattle.std.specs.Prelude.{◌≡◌, ℕ, [], ◌∷◌, map, IfOk, IfSome};
-ghost use Rattle.tpl_items.specs.Tally.{times};
+ghost use Rattle.tpl_items.specs.Prelude.{times};
 
 use crate::exchange::{Items, Stamp, call_all, exchange_by_eight};
 use std::alloc::{AllocError, Global};

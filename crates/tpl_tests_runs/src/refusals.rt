@@ -2,6 +2,7 @@
 
 ghost use Rattle.std.specs.Prelude.{◌≡◌, ◌<◌};
 
+use crate::boxes::{Given, given_boxes};
 use crate::exchange::Stamp;
 use crate::graphs::{Attempt, check_on};
 use crate::opened::{opened, places};
@@ -12,12 +13,9 @@ use std::io;
 use std::sync::Wait;
 use std::thread::Threads;
 use tpl_graph::Graph;
-use tpl_items::{JobQueue, QueuePass, Work, WorkItem};
-use tpl_model::{Actor, Answer, Inputs, SiteId, Worker};
+use tpl_items::{JobQueue, QueuePass, WorkItem};
+use tpl_model::{Actor, Inputs, SiteId, Worker};
 use tpl_runtime::{Item, OpenFault, OpenWhy, RunWhy, Seat, SeatFault, Session};
-
-/// An item of a work statement, and whether it says that it may fail.
-pub type Given = (u16, bool);
 
 /// Items, and why they aren't those of a graph whose work statements are 0 and 1, neither of which may fail.
 const REFUSED: [(&[Given], OpenWhy); COUNT] = [
@@ -79,12 +77,7 @@ pub fn refuses_given(
     given: &[Given],
     why: OpenWhy,
 ) -> Result<bool, AllocError> {
-    let mut items: Vec<WorkItem<Stamp>> = Vec::new(alloc);
-    for (site, may_fail) in given {
-        let work: Work = Box::new(alloc, |_site: SiteId| -> Answer { Answer::Done })?;
-        items.push(WorkItem::new(Stamp(0), SiteId(*site), *may_fail, work))?;
-    }
-    Ok(refuses(alloc, graph, items, given, why))
+    Ok(refuses(alloc, graph, given_boxes(alloc, given)?, given, why))
 }
 
 /// These are new seats of the first workers, one for each.

@@ -1,7 +1,6 @@
 //! What a session reports, compared with the plain machine.
 
-ghost use Rattle.std.specs.Prelude.{◌≡◌};
-ghost use Rattle.tpl_model.specs.Graph.{is_task};
+ghost use Rattle.tpl_model.specs.Prelude.{is_task};
 
 use std::alloc::{AllocError, Global};
 use tpl_graph::Graph;

@@ -4,7 +4,7 @@ ghost use Rattle.std.specs.Prelude.{◌≡◌};
 
 use crate::Tally;
 use crate::asked::CANCELED;
-use crate::exchange::Stamp;
+use crate::boxes::done_boxes;
 use crate::graphs::{Attempt, check_on};
 use crate::opened::opened;
 use crate::scripts::{Scene, Script, script_of};
@@ -16,8 +16,7 @@ use std::io;
 use std::sync::Wait;
 use std::thread::Threads;
 use tpl_graph::Graph;
-use tpl_items::{QueuePass, Work, WorkItem};
-use tpl_model::{Answer, SiteId};
+use tpl_items::QueuePass;
 use tpl_runtime::{CloseWhy, Item, Session};
 
 /// A scene, and how one of its sessions is closed.
@@ -219,29 +218,6 @@ fn plays<R: Wait, K: Drop, W: Item<K>>(
     begun && beside && ended && closed
 }
 
-/// Plays a scene over a session and one that is opened with these items.
-fn plays_beside<R: Wait, K: Drop, W: Item<K>>(
-    rt: &R,
-    alloc: Global,
-    graph: &Graph,
-    session: Session<'_, K, W>,
-    pass: QueuePass<Vec<W>>,
-    smaller: &Graph,
-    items: Vec<W>,
-    script: Script,
-    closing: Closing,
-) -> bool
-    requires graph { session.graph ≡ graph.now }
-    requires pass { pass.queue ≡ session.queue }
-{
-    match opened(alloc, smaller, items) {
-        Some((other, spare)) => plays(
-            rt, alloc, graph, session, pass, smaller, other, spare, script, closing,
-        ),
-        None => false,
-    }
-}
-
 /// Plays a scene over sessions that are opened with these items.
 fn plays_with<R: Wait, K: Drop, W: Item<K>>(
     rt: &R,
@@ -253,9 +229,12 @@ fn plays_with<R: Wait, K: Drop, W: Item<K>>(
     script: Script,
     closing: Closing,
 ) -> bool {
-    match opened(alloc, graph, items) {
-        Some((session, pass)) => plays_beside(
-            rt, alloc, graph, session, pass, smaller, others, script, closing,
+    let Some((session, pass)) = opened(alloc, graph, items) else {
+        return false;
+    };
+    match opened(alloc, smaller, others) {
+        Some((other, spare)) => plays(
+            rt, alloc, graph, session, pass, smaller, other, spare, script, closing,
         ),
         None => false,
     }
@@ -270,18 +249,8 @@ pub fn plays_scene<R: Wait>(
     script: Script,
     closing: Closing,
 ) -> Result<bool, AllocError> {
-    let mut items: Vec<WorkItem<Stamp>> = Vec::new(alloc);
-    for number in 0..graph.site_count() {
-        let site = SiteId(number as u16);
-        let work: Work = Box::new(alloc, |_site: SiteId| -> Answer { Answer::Done })?;
-        items.push(WorkItem::new(Stamp(0), site, graph.site_may_fail(site), work))?;
-    }
-    let mut others: Vec<WorkItem<Stamp>> = Vec::new(alloc);
-    for number in 0..smaller.site_count() {
-        let site = SiteId(number as u16);
-        let work: Work = Box::new(alloc, |_site: SiteId| -> Answer { Answer::Done })?;
-        others.push(WorkItem::new(Stamp(1), site, smaller.site_may_fail(site), work))?;
-    }
+    let items = done_boxes(alloc, graph)?;
+    let others = done_boxes(alloc, smaller)?;
     Ok(plays_with(rt, alloc, graph, items, smaller, others, script, closing))
 }
 

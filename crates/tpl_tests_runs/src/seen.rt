@@ -1,7 +1,6 @@
 //! What the readers of a machine answer, as lines.
 
-ghost use Rattle.std.specs.Prelude.{◌≡◌};
-ghost use Rattle.tpl_model.specs.Graph.{is_task, is_token};
+ghost use Rattle.tpl_model.specs.Prelude.{is_task, is_token};
 
 use crate::names::{push_act, push_label, site_name, task_name};
 use std::alloc::{AllocError, Global};

@@ -1,23 +1,19 @@
 //! Runs of documents as a caller of the library makes them: boxes that wait for each other, and what isn't run.
 
-ghost use Rattle.std.specs.Prelude.{IfOk, IfSome};
-ghost use Rattle.std.specs.List.{All};
-ghost use Rattle.tpl_graph.specs.Fits.{Fits};
-ghost use Rattle.tpl_commands.specs.Loading.{RequestsTokens};
-ghost use Rattle.tpl_reader.specs.SeenDocument.{doc_of};
+ghost use Rattle.std.specs.Prelude.{IfOk, IfSome, All};
+ghost use Rattle.tpl_commands.specs.Prelude.{RequestsTokens};
+ghost use Rattle.tpl_graph.specs.Prelude.{Fits};
+ghost use Rattle.tpl_reader.specs.Prelude.{doc_of};
 
-use crate::exchange::Stamp;
+use crate::boxes::{Given, given_boxes};
 use crate::graphs::tell;
-use crate::meeting::{flags_of, meet};
-use crate::refusals::Given;
+use crate::meeting::meeting_boxes;
 use std::alloc::{AllocError, Global};
 use std::fs::Files;
-use std::sync::{Arc, Wait};
+use std::sync::Wait;
 use std::thread::Threads;
 use std::{fs, io};
-use tpl_items::{Work, WorkItem};
 use tpl_journal::Counting;
-use tpl_model::{Answer, SiteId};
 use tpl_reader::Document;
 use tpl_report::{Exit, RunFault, load, serve_run};
 use tpl_runtime::Item;
@@ -111,15 +107,7 @@ fn all_meet<R: Threads + Wait + Sync>(
     requires claims { All (Fits document.now.graph.graph) document.now.claims.items }
     requires tokens { RequestsTokens (doc_of document.now) }
 {
-    let flags = flags_of(alloc, document.graph.site_count())?;
-    let mut items: Vec<WorkItem<Stamp>> = Vec::new(alloc);
-    for number in 0..document.graph.site_count() {
-        let own = Arc::try_clone(&flags)?;
-        let work: Work = Box::new(alloc, move |site: SiteId| -> Answer {
-            meet(own.as_slice(), site, true)
-        })?;
-        items.push(WorkItem::new(Stamp(0), SiteId(number as u16), true, work))?;
-    }
+    let (_flags, items) = meeting_boxes(alloc, &document.graph)?;
     Ok(writes(rt, alloc, document, items, workers, Exit::Success, text))
 }
 
@@ -135,11 +123,7 @@ fn refuses<R: Threads + Wait + Sync>(
     requires claims { All (Fits document.now.graph.graph) document.now.claims.items }
     requires tokens { RequestsTokens (doc_of document.now) }
 {
-    let mut items: Vec<WorkItem<Stamp>> = Vec::new(alloc);
-    for (site, may_fail) in given {
-        let work: Work = Box::new(alloc, |_site: SiteId| -> Answer { Answer::Done })?;
-        items.push(WorkItem::new(Stamp(0), SiteId(*site), *may_fail, work))?;
-    }
+    let items = given_boxes(alloc, given)?;
     Ok(writes(rt, alloc, document, items, workers, Exit::Fault, text))
 }
 

@@ -1,9 +1,9 @@
 //! Sessions that workers run to their end.
 
-ghost use Rattle.std.specs.Prelude.{◌≡◌, ◌<◌};
+ghost use Rattle.std.specs.Prelude.{◌<◌};
 
+use crate::boxes::done_boxes;
 use crate::crews::{Length, all_ran, run_by};
-use crate::exchange::Stamp;
 use crate::graphs::{Attempt, check_on};
 use crate::opened::{opened_with, places};
 use std::alloc::{AllocError, Global};
@@ -12,9 +12,7 @@ use std::io;
 use std::sync::Wait;
 use std::thread::Threads;
 use tpl_graph::Graph;
-use tpl_items::{QueuePass, Work, WorkItem};
-use tpl_model::{Answer, SiteId};
-use tpl_runtime::{Item, Session};
+use tpl_runtime::Item;
 
 /// This many workers run a session, to a journal of this many events.
 #[derive(Clone, Copy)]
@@ -110,24 +108,6 @@ const CASES: [Case; COUNT] = [
     },
 ];
 
-/// Workers run a session to its end.
-fn runs<R: Threads + Wait + Sync, K: Drop + Send, W: Item<K> + Send>(
-    rt: &R,
-    alloc: Global,
-    graph: &Graph,
-    session: Session<'_, K, W>,
-    pass: QueuePass<Vec<W>>,
-    trial: Trial,
-) -> bool
-    requires graph { session.graph ≡ graph.now }
-    requires pass { pass.queue ≡ session.queue }
-{
-    match run_by(rt, alloc, graph, session, pass, trial.workers) {
-        Some(report) => all_ran(graph, &report, trial.events),
-        None => false,
-    }
-}
-
 /// How many places the queue of a trial has.
 fn places_of(graph: &Graph, trial: Trial) -> usize
     ensures { 0 < result }
@@ -135,7 +115,7 @@ fn places_of(graph: &Graph, trial: Trial) -> usize
     if trial.is_narrow { 1 } else { places(graph) }
 }
 
-/// Opens a session with these items, and has workers run it.
+/// Opens a session with these items, and has workers run it to its end.
 pub fn tries<R: Threads + Wait + Sync, K: Drop + Send, W: Item<K> + Send>(
     rt: &R,
     alloc: Global,
@@ -143,42 +123,23 @@ pub fn tries<R: Threads + Wait + Sync, K: Drop + Send, W: Item<K> + Send>(
     items: Vec<W>,
     trial: Trial,
 ) -> bool {
-    match opened_with(alloc, graph, items, places_of(graph, trial)) {
-        Some((session, pass)) => runs(rt, alloc, graph, session, pass, trial),
+    let Some((session, pass)) = opened_with(alloc, graph, items, places_of(graph, trial)) else {
+        return false;
+    };
+    match run_by(rt, alloc, graph, session, pass, trial.workers) {
+        Some(report) => all_ran(graph, &report, trial.events),
         None => false,
     }
 }
 
-/// Makes a box for each work statement, which answers that it is done, and tries a session with them.
-fn tried<R: Threads + Wait + Sync>(
+/// Tries a session with boxes that answer that they are done.
+pub fn tried<R: Threads + Wait + Sync>(
     rt: &R,
     alloc: Global,
     graph: &Graph,
     trial: Trial,
 ) -> Result<bool, AllocError> {
-    let mut items: Vec<WorkItem<Stamp>> = Vec::new(alloc);
-    for number in 0..graph.site_count() {
-        let site = SiteId(number as u16);
-        let work: Work = Box::new(alloc, |_site: SiteId| -> Answer { Answer::Done })?;
-        items.push(WorkItem::new(Stamp(number as u32), site, graph.site_may_fail(site), work))?;
-    }
-    Ok(tries(rt, alloc, graph, items, trial))
-}
-
-/// Tries it so often.
-pub fn tried_each<R: Threads + Wait + Sync>(
-    rt: &R,
-    alloc: Global,
-    graph: &Graph,
-    trial: Trial,
-    rounds: usize,
-) -> Result<bool, AllocError> {
-    for _ in 0..rounds {
-        if !tried(rt, alloc, graph, trial)? {
-            return Ok(false);
-        }
-    }
-    Ok(true)
+    Ok(tries(rt, alloc, graph, done_boxes(alloc, graph)?, trial))
 }
 
 /// Tries each case, and answers which of them hold.

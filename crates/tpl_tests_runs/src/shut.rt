@@ -122,44 +122,72 @@ fn are_parted<K, W: Item<K>>(
         && items.iter().all(|item| item.site().0 as usize >= called)
 }
 
-/// A session of so many sites left this where it was closed well.
-fn is_report<K, W: Item<K>>(
-    report: &Report<K, W>,
-    watchers: &[Option<Watcher>],
-    closing: Closing,
-    sites: usize,
-) -> bool {
-    let how = if report.complete {
-        How::Complete
-    } else {
-        How::Halfway
-    };
-    how == closing.how
-        && is_journal(report.journal.as_slice(), watchers, closing)
-        && are_parted(
-            report.receipts.as_slice(),
-            report.items.as_slice(),
-            closing.called,
-            sites,
-        )
-        && (closing.first.is_none() || report.statuses.first().copied() == closing.first)
+/// What a session leaves that is closed, and how its first task stands where it is closed well.
+#[derive(Drop)]
+struct Left<K, W> {
+    how: How,
+    first: Option<Status>,
+    journal: Vec<Event>,
+    receipts: Vec<Receipt<K>>,
+    items: Vec<W>,
 }
 
-/// A session of so many sites left this where it wasn't closed well: all that it kept comes back.
-fn is_fault<K, W: Item<K>>(
-    fault: &CloseFault<K, W>,
+/// What is left of a session that is closed so.
+fn left_of<K: Drop, W: Drop>(closed: Result<Report<K, W>, CloseFault<K, W>>) -> Left<K, W> {
+    match closed {
+        Ok(report) => {
+            let Report {
+                journal,
+                statuses,
+                receipts,
+                items,
+                complete,
+                ..
+            } = report;
+            let how = if complete {
+                How::Complete
+            } else {
+                How::Halfway
+            };
+            let first = statuses.first().copied();
+            Left {
+                how,
+                first,
+                journal,
+                receipts,
+                items,
+            }
+        }
+        Err(fault) => {
+            let CloseFault {
+                why,
+                journal,
+                receipts,
+                items,
+            } = fault;
+            Left {
+                how: How::Refused(why),
+                first: None,
+                journal,
+                receipts,
+                items,
+            }
+        }
+    }
+}
+
+/// A session of so many sites left this.
+fn is_left<K, W: Item<K>>(
+    left: &Left<K, W>,
     watchers: &[Option<Watcher>],
     closing: Closing,
     sites: usize,
 ) -> bool {
-    How::Refused(fault.why) == closing.how
-        && is_journal(fault.journal.as_slice(), watchers, closing)
-        && are_parted(
-            fault.receipts.as_slice(),
-            fault.items.as_slice(),
-            closing.called,
-            sites,
-        )
+    let receipts = left.receipts.as_slice();
+    left.how == closing.how
+        && is_journal(left.journal.as_slice(), watchers, closing)
+        && are_parted(receipts, left.items.as_slice(), closing.called, sites)
+        && (closing.first.is_none() || left.first == closing.first)
 }
 
 /// Closes a session of so many sites as a scene says, and answers whether it leaves what it must.
@@ -181,8 +209,6 @@ pub fn closes<R: Wait, K: Drop, W: Item<K>>(
     ) else {
         return false;
     };
-    match shut(rt, alloc, session, own, pass, watched) {
-        Ok(report) => is_report(&report, watchers, closing, sites),
-        Err(fault) => is_fault(&fault, watchers, closing, sites),
-    }
+    let left = left_of(shut(rt, alloc, session, own, pass, watched));
+    is_left(&left, watchers, closing, sites)
 }

@@ -45,6 +45,14 @@ enum By {
     Pool,
 }
 
+/// How many workers of which kind run a graph each of whose jobs makes this many rounds.
+#[derive(Clone, Copy)]
+struct Load {
+    rounds: u64,
+    by: By,
+    workers: u16,
+}
+
 /// What is said of input that can't be measured: it is no document, or no session runs its graph.
 fn refused() -> Error {
     Error::from(ErrorKind::InvalidData)
@@ -76,15 +84,18 @@ fn timed<'g, R: Threads + Wait + Sync + Clock, K: Drop + Send, W: Item<K> + Send
     }
 }
 
-/// Runs the tasks of a graph once. Each job makes this many rounds.
+/// Runs the tasks of a graph once.
 fn run_once<R: Threads + Wait + Sync + Clock>(
     rt: &R,
     alloc: Global,
     graph: &Graph,
-    rounds: u64,
-    by: By,
-    workers: u16,
+    load: Load,
 ) -> io::Result<Ran> {
+    let Load {
+        rounds,
+        by,
+        workers,
+    } = load;
     let mut items: Vec<WorkItem<()>> = Vec::new(alloc);
     for number in 0..graph.site_count() {
         let work = Box::new(alloc, move |_site: SiteId| -> Answer {
@@ -107,13 +118,11 @@ fn quickest<R: Threads + Wait + Sync + Clock>(
     rt: &R,
     alloc: Global,
     graph: &Graph,
-    rounds: u64,
-    by: By,
-    workers: u16,
+    load: Load,
 ) -> io::Result<Ran> {
-    let mut best = run_once(rt, alloc, graph, rounds, by, workers)?;
+    let mut best = run_once(rt, alloc, graph, load)?;
     for _ in 1..TIMES {
-        let ran = run_once(rt, alloc, graph, rounds, by, workers)?;
+        let ran = run_once(rt, alloc, graph, load)?;
         if ran.time < best.time {
             best = ran;
         }
@@ -134,15 +143,19 @@ fn show_speed<R: Threads + Wait + Sync + Clock>(
     crew: Crew,
 ) -> io::Result<()> {
     let rounds = u64::from(crew.microseconds).saturating_mul(rounds_a_microsecond(rt)?);
-    let session = quickest(
-        threads,
-        rt.alloc(),
-        graph,
+    let workers = crew.workers;
+    let by_session = Load {
         rounds,
-        By::Session,
-        crew.workers,
-    )?;
-    let pool = quickest(threads, rt.alloc(), graph, rounds, By::Pool, crew.workers)?;
+        by: By::Session,
+        workers,
+    };
+    let by_pool = Load {
+        rounds,
+        by: By::Pool,
+        workers,
+    };
+    let session = quickest(threads, rt.alloc(), graph, by_session)?;
+    let pool = quickest(threads, rt.alloc(), graph, by_pool)?;
     println!(rt; "{} events, complete {}", session.events, session.complete)?;
     println!(rt;
         "{} events a second; {} tasks a second, by a bare pool {}",

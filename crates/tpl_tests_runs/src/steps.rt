@@ -201,29 +201,6 @@ fn goes<R: Wait, K: Drop, W: Item<K>>(
     }
 }
 
-/// Takes a step, and says whether it goes as it must.
-fn take<R: Wait, K: Drop, W: Item<K>>(
-    rt: &R,
-    alloc: Global,
-    graph: &Graph,
-    session: &Session<'_, K, W>,
-    pass: QueuePass<Vec<W>>,
-    hands: &mut Hands,
-    step: Step,
-) -> (QueuePass<Vec<W>>, bool)
-    requires graph { session.now.graph ≡ graph.now }
-    requires pass { pass.queue ≡ session.now.queue }
-    ensures { result.0.queue ≡ session.now.queue }
-{
-    if let Step::Work(seat, how) = step {
-        let (pass, ended) = worked(rt, session, pass, &mut hands.seats, seat);
-        return (pass, ended == Some(how));
-    }
-    let mut pass = pass;
-    let well = goes(rt, alloc, graph, session, &mut pass, hands, step);
-    (pass, well)
-}
-
 /// Takes these steps, and says whether each goes as it must.
 pub fn take_all<R: Wait, K: Drop, W: Item<K>>(
     rt: &R,
@@ -241,8 +218,14 @@ pub fn take_all<R: Wait, K: Drop, W: Item<K>>(
     let mut pass = pass;
     let mut all = true;
     for step in steps {
-        let (back, well) = take(rt, alloc, graph, session, pass, hands, *step);
-        pass = back;
+        let well = match *step {
+            Step::Work(seat, how) => {
+                let (back, ended) = worked(rt, session, pass, &mut hands.seats, seat);
+                pass = back;
+                ended == Some(how)
+            }
+            step => goes(rt, alloc, graph, session, &mut pass, hands, step),
+        };
         all = all && well;
     }
     (pass, all)
