@@ -144,29 +144,13 @@ fn take_back<'g, K: Drop, W: Item<K>>(
     requires part { part.pass.queue ≡ session.now.queue }
     ensures { result.pass.queue ≡ session.now.queue }
 {
-    let Back {
-        mut seats,
-        pass,
-        mut watchers,
-        well,
-    } = back;
-    let Part {
-        seat,
-        pass: own,
-        role,
-        well: went,
-    } = part;
-    let pass = session.join(pass, own);
-    let mut well = well && went && seats.push(seat).is_ok();
-    if let Role::Watches(watcher) = role {
-        well = well && watchers.push(watcher).is_ok();
+    let mut back = back;
+    back.pass = session.join(back.pass, part.pass);
+    back.well = back.well && part.well && back.seats.push(part.seat).is_ok();
+    if let Role::Watches(watcher) = part.role {
+        back.well = back.well && back.watchers.push(watcher).is_ok();
     }
-    Back {
-        seats,
-        pass,
-        watchers,
-        well,
-    }
+    back
 }
 
 /// Puts together what the threads come back with.
