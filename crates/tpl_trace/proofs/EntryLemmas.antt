@@ -47,13 +47,8 @@ both_tracks n h past e now mid new track body =
     body ∙ (ap (λ xs. xs ++ body_mark n h e.actor e.act) track ∙ append_assoc now (new_track past e.actor) (body_mark n h e.actor e.act))
 
 -- one entry, and then others
-pub then_more : (old pushed : List Value) (v : Value) (i : Data) (new more : List Data) → pushed ≡ old ++ (v ∷ []) → view v ≡ i → new ≡ map view pushed ++ more → new ≡ map view old ++ (i ∷ more)
-then_more old pushed v i new more push is added =
-    added
-    ∙ (ap (λ vs. map view vs ++ more) push
-    ∙ (ap (λ ds. ds ++ more) (map_push view old v)
-    ∙ (append_assoc (map view old) (view v ∷ []) more
-    ∙ ap (λ d. map view old ++ (d ∷ more)) is)))
+pub then_more : (old mid new more : List Data) (i : Data) → mid ≡ old ++ (i ∷ []) → new ≡ mid ++ more → new ≡ old ++ (i ∷ more)
+then_more old mid new more i one added = added ∙ (ap (λ ds. ds ++ more) one ∙ append_assoc old (i ∷ []) more)
 
 -- the end of an arrow
 pub arrow_ends : (old pushed : List Value) (v : Value) (t : Option ℕ) (a : ℕ) (here : Moment) (past : List Event) → pushed ≡ old ++ (v ∷ []) → view v ≡ arrow_end (here.before + 1) here.track here.time → Some a ≡ t → some_may_end a past ≡ true

@@ -1,16 +1,14 @@
 //! The arrows of a trace, from the end of a task to the releases of its continuations.
 
-ghost use Rattle.std.specs.Prelude.{◌≡◌, ◌++◌, ◌<◌, drop, length, map, suc, OnOk, All};
+ghost use Rattle.std.specs.Prelude.{◌≡◌, ◌++◌, map, OnOk};
 ghost use Rattle.serde_json.specs.View.{view};
-ghost use Rattle.tpl_draft.specs.Prelude.{antecedent_of};
-ghost use Rattle.tpl_journal.specs.Prelude.{CanSpell, HasId};
-ghost use Rattle.tpl_model.specs.Prelude.{is_task, kind};
-ghost use Rattle.tpl_trace.specs.Prelude.{arrow_to, arrows_from, may_end, releases, some_may_end};
+ghost use Rattle.tpl_journal.specs.Prelude.{HasId};
+ghost use Rattle.tpl_trace.specs.Prelude.{IsTurn, arrow_of, arrows_of, may_end, releases, some_may_end};
 
 use crate::marks::{arrow_end, arrow_start};
-use crate::moment::Moment;
+use crate::run::Turn;
 use serde_json::Value;
-use std::alloc::{AllocError, Global};
+use std::alloc::AllocError;
 use tpl_graph::Graph;
 use tpl_model::{Act, Event, TaskId};
 
@@ -51,49 +49,35 @@ fn releases(graph: &Graph, task: TaskId, act: Act) -> bool
 }
 
 /// Adds the arrows that start here, where the task ended, and end at a later event.
-pub(crate) fn add_arrows(
-    entries: &mut Vec<Value>,
-    alloc: Global,
-    graph: &Graph,
-    task: TaskId,
-    here: Moment,
-    events: &[Event],
-) -> Result<(), AllocError>
-    requires events { All (CanSpell graph.now.graph) events.now }
-    requires here { here.before < length events.now }
+pub(crate) fn add_arrows(entries: &mut Vec<Value>, turn: Turn<'_>) -> Result<(), AllocError>
+    requires { IsTurn turn }
     ensures { OnOk result (map view entries.new.items ≡ map view entries.old.items
-        ++ arrows_from graph.now.graph task.0 here (drop (suc here.before) events.now)) }
+        ++ arrows_of turn.entry) }
 {
-    let first = here.before + 1;
-    for before in first..events.len() {
-        let act = events[before].act;
-        if may_end(task, act) {
+    let run = turn.run;
+    let first = turn.here.before + 1;
+    for before in first..run.events.len() {
+        let act = run.events[before].act;
+        if may_end(turn.task, act) {
             return Ok(());
         }
-        if releases(graph, task, act) {
-            entries.push(arrow_start(alloc, before + 1, here.track, here.time)?)?;
+        if releases(run.graph, turn.task, act) {
+            entries.push(arrow_start(run.alloc, before + 1, turn.here)?)?;
         }
     }
     Ok(())
 }
 
-/// Adds the end of the arrow to the release of a continuation, if it starts somewhere.
-pub(crate) fn add_arrow_end(
-    entries: &mut Vec<Value>,
-    alloc: Global,
-    graph: &Graph,
-    task: TaskId,
-    here: Moment,
-    past: &[Event],
-) -> Result<(), AllocError>
-    requires task { is_task graph.now.graph task.0 }
-    requires here { here.before < usize.MAX }
+/// Adds the end of the arrow to the release of the task, if it starts somewhere.
+pub(crate) fn add_arrow_end(entries: &mut Vec<Value>, turn: Turn<'_>) -> Result<(), AllocError>
+    requires { IsTurn turn }
     ensures { OnOk result (map view entries.new.items ≡ map view entries.old.items
-        ++ arrow_to (antecedent_of (kind graph.now.graph task.0)) here past.now) }
+        ++ arrow_of turn.entry) }
 {
-    if let Some(antecedent) = graph.antecedent(task) {
-        if some_may_end(antecedent, past) {
-            entries.push(arrow_end(alloc, here.before + 1, here.track, here.time)?)?;
+    let run = turn.run;
+    if let Some(antecedent) = run.graph.antecedent(turn.task) {
+        if some_may_end(antecedent, &run.events[..turn.here.before]) {
+            entries.push(arrow_end(run.alloc, turn.here.before + 1, turn.here)?)?;
         }
     }
     Ok(())

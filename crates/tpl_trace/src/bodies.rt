@@ -9,6 +9,7 @@ ghost use Rattle.tpl_trace.specs.Prelude.{body_mark, body_track, crosses, leaves
 
 use crate::entries::name_of;
 use crate::marks::track_mark;
+use crate::run::Run;
 use crate::tracks::{same_actor, track_name, track_of};
 use serde_json::Value;
 use std::alloc::{AllocError, Global};
@@ -133,20 +134,18 @@ fn body_track_name(
 /// Adds the name of the track of a body that doesn't nest, where it is begun.
 pub(crate) fn add_body_track(
     entries: &mut Vec<Value>,
-    alloc: Global,
-    graph: &Graph,
-    events: &[Event],
+    run: Run<'_>,
     actor: Actor,
     act: Act,
 ) -> Result<(), AllocError>
-    requires { HasId graph.now.graph act }
+    requires { HasId run.graph.now.graph act }
     ensures { OnOk result (map view entries.new.items ≡ map view entries.old.items
-        ++ body_mark graph.now events.now actor act) }
+        ++ body_mark run.entry.graph.now run.entry.events.now actor act) }
 {
     if let Act::Begin(task) = act {
-        if crosses(actor, task, events) {
-            let name = body_track_name(alloc, graph, actor, task)?;
-            entries.push(track_mark(alloc, name.as_str(), body_track(task))?)?;
+        if crosses(actor, task, run.events) {
+            let name = body_track_name(run.alloc, run.graph, actor, task)?;
+            entries.push(track_mark(run.alloc, name.as_str(), body_track(task))?)?;
         }
     }
     Ok(())

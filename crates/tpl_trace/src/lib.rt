@@ -7,6 +7,7 @@ mod bodies;
 mod entries;
 mod marks;
 mod moment;
+mod run;
 mod text;
 mod tracks;
 

@@ -5,5 +5,5 @@ use Rattle.tpl_trace.proofs.entries.add_all.Given as goal
 
 abbrev pub invariant-loop-before : goal.invariant-loop-before
 invariant-loop-before l =
-    map view l.entries.items ++ marks_from l.graph l.times l.events (take l.before l.events) (drop l.before l.events)
-    ≡ map view l.fn.entries.items ++ marks_from l.graph l.times l.events [] l.events
+    map view l.entries.items ++ marks_from l.run.graph.now l.times l.run.events.now (take l.before l.run.events.now) (drop l.before l.run.events.now)
+    ≡ map view l.fn.entries.items ++ marks_from l.run.graph.now l.times l.run.events.now [] l.run.events.now

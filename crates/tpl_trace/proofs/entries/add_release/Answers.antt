@@ -4,4 +4,4 @@ use Rattle.tpl_trace.proofs.entries.add_release.Goals as goal
 
 pub returns : goal.returns
 returns c =
-    on_ok_weaker c.add_arrow_end.result (λ added. then_more c.args.entries.now.items c.push.new.self.items c.in_ok-instant.field-0 _ _ _ c.in_ok-push.ensures.items (rw c.name_of-name.ensures at c.in_ok-instant.ensures) added) c.add_arrow_end.ensures
+    on_ok_weaker c.add_arrow_end.result (λ added. then_more _ _ _ _ _ c.in_ok-add_instant.ensures added) c.add_arrow_end.ensures
