@@ -1,7 +1,8 @@
 -- The numbers and the words that are given for options.
-use Rattle.std.proofs.Common.{◌≡◌, ◌∙◌, ◌<◌, ◌≤◌, ◌==◌, ℕ, Bool, true, false, if◌then◌else◌, slice_index, List, Option, Some, None, Result, Ok, Err, codes, sym, ap, subst, refl, arith}
+use Rattle.std.proofs.Common.{◌≡◌, ◌∙◌, ◌<◌, ◌≤◌, ◌==◌, ℕ, Bool, true, false, if◌then◌else◌, slice_index, List, Option, Some, None, Result, codes, sym, ap, subst, refl, arith}
 use Rattle.std.specs.Prelude.{MatchOption}
-use Rattle.std.specs.Str.Parse.{ParsesUnsigned, digits_value, without_leading_plus}
+use Rattle.std.specs.Str.Parse.{ExplainsUnsignedError, HasUnsignedDigitsIfOk, ParsesUnsigned, digits_value, without_leading_plus}
+use Rattle.core.specs.declared.str.parse.ParseIntError.{ParseIntError}
 use Rattle.tpl_draw.specs.declared.language.Language.{Language}
 use Rattle.tpl_draw.specs.declared.language.Language.TheVariants.{Mermaid, Dot}
 use Rattle.clap.specs.Words.{Row, Text, ReadsOne, first_of, first_value, one_text, rows_of}
@@ -30,16 +31,20 @@ most_small Runs = omega arith
 most_small Seed = omega arith
 most_small Jobs = omega arith
 
-module _ {E : Type 0} (gives : List ℕ → Result ℕ E → Type 0) (parses : (u : List ℕ) (x : Result ℕ E) → gives u x → ParsesUnsigned 32 10 u x) (found : Found) (option : Number) (name : Text) (is_name : name ≡ number_name option) where
+-- what a text gives as a number of 32 bits
+abbrev pub GivesNumber : List ℕ → Result ℕ ParseIntError → Type 0
+GivesNumber text r = ParsesUnsigned 32 10 text r × ExplainsUnsignedError 10 text r × HasUnsignedDigitsIfOk text r
+
+module _ (found : Found) (option : Number) (name : Text) (is_name : name ≡ number_name option) where
   -- a number that was read is the one that the words give
   pub number_read : (n : ℕ) → (number_range option).0 ≤ n → n ≤ (number_range option).1 → (one_text found name ≡ None → Some n ≡ None)
-      → ((t : List ℕ) → one_text found name ≡ Some t → ReadsOne gives t (Some n)) → IsGiven option (rows_of found) n
+      → ((t : List ℕ) → one_text found name ≡ Some t → ReadsOne GivesNumber t (Some n)) → IsGiven option (rows_of found) n
   number_read n above limit none value = go (one_text found name) refl
     where
       go : (o : Option Text) → one_text found name ≡ o → IsGiven option (rows_of found) n
       go None e = let bad = none e in absurd cc
       go (Some t) e =
-          let p = parses t (Ok n) (value t e) in
+          let p = (value t e).0 in
           record {
             text = t;
             given = sym (one_text-rows found (number_name option)) ∙ (ap (one_text found) (sym is_name) ∙ e);
@@ -50,16 +55,20 @@ module _ {E : Type 0} (gives : List ℕ → Result ℕ E → Type 0) (parses : (
           }
 
   -- a number that the words give is read
-  pub given_read : (n : ℕ) (r : Option ℕ) → IsGiven option (rows_of found) n → ((t : List ℕ) → one_text found name ≡ Some t → ReadsOne gives t r) → r ≡ Some n
+  pub given_read : (n : ℕ) (r : Option ℕ) → IsGiven option (rows_of found) n → ((t : List ℕ) → one_text found name ≡ Some t → ReadsOne GivesNumber t r) → r ≡ Some n
   given_read n None is value =
       let read = value is.text (ap (one_text found) is_name ∙ (one_text-rows found (number_name option) ∙ is.given)) in
-      let refused = parses is.text (Err read.0) read.1 in
       let below : digits_value 10 (without_leading_plus is.text) < 4294967296 = subst (λ (m : ℕ). m < 4294967296) (sym is.value) (omega (arith, is.most, most_small option)) in
-      absurd (refused (is.digits, below))
+      absurd (read.1.0 (is.digits, below))
   given_read n (Some m) is value =
       let read = value is.text (ap (one_text found) is_name ∙ (one_text-rows found (number_name option) ∙ is.given)) in
-      let p = parses is.text (Ok m) read in
-      ap Some (p.1 ∙ is.value)
+      ap Some (read.0.1 ∙ is.value)
+
+  -- a number that was read lies in the range, where the words give one in it
+  pub within : (n m : ℕ) → IsGiven option (rows_of found) n → ((t : List ℕ) → one_text found name ≡ Some t → ReadsOne GivesNumber t (Some m)) → ((number_range option).0 ≤ m) × (m ≤ (number_range option).1)
+  within n m is value =
+      let same = some_same m n (given_read n (Some m) is value) in
+      subst (λ (k : ℕ). ((number_range option).0 ≤ k) × (k ≤ (number_range option).1)) (sym same) (is.least, is.most)
 
 -- one number is given at most
 pub same_number : (option : Number) (rows : List Row) (m n : ℕ) → IsGiven option rows m → IsGiven option rows n → m ≡ n

@@ -1,5 +1,5 @@
 -- The line that words mean: one at most, and within its limits.
-use Rattle.std.proofs.Common.{◌≡◌, ◌∙◌, ◌==◌, ℕ, Bool, if◌then◌else◌, List, Option, Some, None, codes, sym, ap, ap₂, subst, refl, arith, slice_index}
+use Rattle.std.proofs.Common.{◌≡◌, ◌∙◌, ◌+◌, ◌==◌, ℕ, Bool, if◌then◌else◌, List, Option, Some, None, codes, sym, ap, ap₂, refl, arith, slice_index}
 use Rattle.clap.specs.Words.{Row, Text}
 use Rattle.tpl_analyser.specs.declared.form.Form.{Form}
 use Rattle.tpl_analyser.specs.declared.form.Form.TheVariants.{Full, Slim, Rows}
@@ -25,37 +25,26 @@ sort (Certify depth form) = 1
 sort Audit = 2
 sort (Draw language) = 3
 
--- that number by the first two letters of the word
-sort_named : Text → ℕ
-sort_named t = if slice_index t 0 == 99 then 0 else (if slice_index t 0 == 100 then 3 else (if slice_index t 1 == 110 then 1 else 2))
-
-asks_sort : (word : Text) (rows : List Row) (ask : Ask) → Asks word rows ask → sort_named word ≡ sort ask
-unfolding sort sort_named
-asks_sort word rows Check m = ap sort_named m
-asks_sort word rows (Analyse depth) m = ap sort_named m.0.0
-asks_sort word rows (AnalyseIn depth form) m = ap sort_named m.0.0
-asks_sort word rows (Certify depth form) m = ap sort_named m.0.0
-asks_sort word rows Audit m = ap sort_named m
-asks_sort word rows (Draw language) m = ap sort_named m.0
-
--- a number for the lines that one word can mean
+-- a number for the lines that one word can mean: those that ask are behind the others
 kind : Line → ℕ
-kind (Serve ask) = 0
-kind (Each ask jobs) = 0
-kind (Run workers is_whole) = 1
-kind (Refute claim tries explains) = 2
-kind (Verify depth tries jobs style is_each) = 3
-kind Trace = 4
+kind (Run workers is_whole) = 0
+kind (Refute claim tries explains) = 1
+kind (Verify depth tries jobs style is_each) = 2
+kind Trace = 3
+kind (Serve ask) = 4 + sort ask
+kind (Each ask jobs) = 4 + sort ask
 
 -- that number by the first two letters of the word
 kind_named : Text → ℕ
 kind_named t =
-    if slice_index t 0 == 116 then 4 else
-    (if slice_index t 0 == 118 then 3 else
-    (if slice_index t 0 == 114 then (if slice_index t 1 == 117 then 1 else 2) else 0))
+    if slice_index t 0 == 116 then 3 else
+    (if slice_index t 0 == 118 then 2 else
+    (if slice_index t 0 == 114 then (if slice_index t 1 == 117 then 0 else 1) else
+    (if slice_index t 0 == 99 then 4 else
+    (if slice_index t 0 == 100 then 7 else (if slice_index t 1 == 110 then 5 else 6)))))
 
-asks_kind : (word : Text) (rows : List Row) (ask : Ask) → Asks word rows ask → kind_named word ≡ 0
-unfolding kind_named
+asks_kind : (word : Text) (rows : List Row) (ask : Ask) → Asks word rows ask → kind_named word ≡ 4 + sort ask
+unfolding sort kind_named
 asks_kind word rows Check m = ap kind_named m
 asks_kind word rows (Analyse depth) m = ap kind_named m.0.0
 asks_kind word rows (AnalyseIn depth form) m = ap kind_named m.0.0
@@ -99,7 +88,7 @@ same_ask word rows (Certify d f) (Analyse e) m n = absurd (n.1 m.1)
 same_ask word rows (Certify d f) (AnalyseIn e g) m n = absurd (n.2 m.1)
 same_ask word rows (Certify d f) (Certify e g) m n = ap₂ Certify (same_number number.Depth rows d e m.0.1 n.0.1) (same_form rows f g m.0.2 n.0.2)
 same_ask word rows (Draw k) (Draw l) m n = ap Draw (same_named language_word rows k l same_language m.1 n.1)
-same_ask word rows a b m n = let e = sym (asks_sort word rows a m) ∙ asks_sort word rows b n in absurd (omega arith)
+same_ask word rows a b m n = let e = sym (asks_kind word rows a m) ∙ asks_kind word rows b n in absurd (omega arith)
 
 same_tries : (rows : List Row) (s t : Tries) → AreTries rows s → AreTries rows t → s ≡ t
 same_tries rows s t m n =
@@ -151,19 +140,19 @@ wrong_jobs word rows ask asks none l m = let e = sym (asks_kind word rows ask as
 
 -- what is given for the depth is none
 pub no_search : (rows : List Row) → ((n : ℕ) → IsGiven number.Depth rows n → ⊥) → (ask : Ask) → Asks (codes "analyse") rows ask → ⊥
-unfolding sort sort_named
+unfolding sort kind_named
 no_search rows none (Analyse depth) m = none depth m.0.1
 no_search rows none (AnalyseIn depth form) m = none depth m.0.1
 no_search rows none (Certify depth form) m = none depth m.0.1
-no_search rows none ask m = let e = asks_sort (codes "analyse") rows ask m in absurd (omega arith)
+no_search rows none ask m = let e = asks_kind (codes "analyse") rows ask m in absurd (omega arith)
 
 -- no form is asked for
 pub no_form : (rows : List Row) → ((form : Form) → IsForm rows form → ⊥) → (ask : Ask) → Asks (codes "analyse") rows ask → ⊥
-unfolding sort sort_named
+unfolding sort kind_named
 no_form rows none (Analyse depth) m = none Full m.0.2
 no_form rows none (AnalyseIn depth form) m = none form m.0.2
 no_form rows none (Certify depth form) m = none form m.0.2
-no_form rows none ask m = let e = asks_sort (codes "analyse") rows ask m in absurd (omega arith)
+no_form rows none ask m = let e = asks_kind (codes "analyse") rows ask m in absurd (omega arith)
 
 -- a word that names one kind of line names no other: where it means none of these, it means none
 pub no_run : (rows : List Row) → ((workers : ℕ) (is_whole : Bool) → Means (codes "run") rows (Run workers is_whole) → ⊥) → (l : Line) → Means (codes "run") rows l → ⊥

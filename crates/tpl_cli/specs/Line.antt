@@ -5,10 +5,12 @@ use Rattle.tpl_analyser.specs.declared.form.Form.{Form}
 use Rattle.tpl_analyser.specs.declared.form.Form.TheVariants.{Full, Slim, Rows}
 use Rattle.tpl_commands.specs.declared.ask.Ask.{Ask}
 use Rattle.tpl_commands.specs.declared.ask.Ask.TheVariants.{Check, Analyse, AnalyseIn, Certify, Audit, Draw}
+use Rattle.tpl_each.specs.declared.slot.TheConstants.{MOST_JOBS}
 use Rattle.tpl_cli.specs.declared.line.Line as lines
 use Rattle.tpl_cli.specs.declared.line.Line.TheVariants as line
 use Rattle.tpl_cli.specs.declared.line.Tries.{Tries}
 use Rattle.tpl_cli.specs.declared.number.Number.TheVariants as number
+use Rattle.tpl_cli.specs.Number.{most_workers}
 use Rattle.tpl_cli.specs.Options.{IsFlag, IsGiven, IsIfGiven, IsLanguage, IsSet, IsStyle}
 use Rattle.tpl_cli.specs.Usage.{taskgraph}
 
@@ -67,11 +69,11 @@ Names words = IsLineOf (subcommand_of taskgraph words)
 -- there are as many threads as are asked for, if any are
 abbrev pub AreThreads : Option ℕ → Type 0
 AreThreads None = Unit {0}
-AreThreads (Some jobs) = (1 ≤ jobs) × (jobs ≤ 64)
+AreThreads (Some jobs) = (1 ≤ jobs) × (jobs ≤ MOST_JOBS)
 
 -- what a line asks for is within the limits of the command
 abbrev pub IsWithin : lines.Line → Type 0
 IsWithin (line.Each ask jobs) = AreThreads jobs
-IsWithin (line.Run workers is_whole) = (1 ≤ workers) × (workers ≤ 64)
+IsWithin (line.Run workers is_whole) = (1 ≤ workers) × (workers ≤ most_workers)
 IsWithin (line.Verify depth tries jobs style is_each) = AreThreads jobs
 IsWithin l = Unit {0}

@@ -1,5 +1,5 @@
 -- The options of the command line, and what is given for them.
-use Rattle.std.specs.Prelude.{◌≡◌, ◌≤◌, ◌↔◌, ℕ, pos, Bool, IsTrue, List, [], ◌∷◌, Option, Some, None, codes}
+use Rattle.std.specs.Prelude.{◌≡◌, ◌≤◌, ◌↔◌, ℕ, pos, Bool, IsTrue, List, [], ◌∷◌, Option, Some, None, MatchOption, codes}
 use Rattle.std.specs.Str.Parse.{IsNumeral, digits_value, without_leading_plus}
 use Rattle.tpl_draw.specs.declared.language.Language.{Language}
 use Rattle.tpl_draw.specs.declared.language.Language.TheVariants.{Mermaid, Dot}
@@ -8,14 +8,27 @@ use Rattle.tpl_verdicts.specs.declared.style.Style.TheVariants as style
 use Rattle.clap.specs.Words.{Row, Rule, Text, first_of, new_rule, one_of}
 use Rattle.clap.specs.declared.builder.action.ArgAction.TheVariants.{SetTrue}
 use Rattle.clap.specs.declared.builder.value_parser.ValueParser.TheVariants as vp
-use Rattle.tpl_cli.specs.Number.{number_name, number_range}
+use Rattle.tpl_cli.specs.Number.{deepest, number_name, number_range, usual}
 use Rattle.tpl_cli.specs.declared.number.Number.{Number}
-use Rattle.tpl_cli.specs.declared.number.Number.TheVariants.{Depth, Workers, Claim, Runs, Seed, Jobs}
+use Rattle.tpl_cli.specs.declared.number.Number.TheVariants.{Depth}
+use Rattle.tpl_cli.specs.declared.options.CommandOption.{CommandOption}
+use Rattle.tpl_cli.specs.declared.options.CommandOption.TheVariants as options
+use Rattle.tpl_cli.specs.declared.options.Flag.{Flag}
+use Rattle.tpl_cli.specs.declared.options.Flag.TheVariants as flags
+
+-- the name of an option that has no value
+abbrev pub flag_name : Flag → Text
+flag_name flags.Slim = codes "slim"
+flag_name flags.Rows = codes "rows"
+flag_name flags.WithCertificate = codes "whole"
+flag_name flags.WithRun = codes "whole"
+flag_name flags.Each = codes "each"
+flag_name flags.Explain = codes "explain"
 
 -- an option `--NAME` that has no value
-abbrev pub flag : Text → Rule
-flag name = record (new_rule name) {
-  long = Some name;
+abbrev pub flag : Flag → Rule
+flag option = record (new_rule (flag_name option)) {
+  long = Some (flag_name option);
   action = Some SetTrue;
 }
 
@@ -27,63 +40,34 @@ valued name defaults = record (new_rule name) {
   defaults = defaults;
 }
 
--- an option `--NAME N`, where N is a number in its range
+-- an option `--NAME N`, where N is a number in its range, with what stands for one that is left out
 abbrev pub numbered : Number → List Text → Rule
 numbered option defaults = record (valued (number_name option) defaults) {
   parser = Some (vp.Signed (pos (number_range option).0) (pos (number_range option).1));
 }
 
--- the option `--depth`, with what stands for a value that is left out
-abbrev pub depth_rule : Text → Rule
-depth_rule usual = numbered Depth (usual ∷ [])
+-- the option `--as WORD`, with the word that stands for one that is left out
+abbrev pub named : Text → Rule
+named word = valued (codes "as") (word ∷ [])
 
--- the option `--slim`
-abbrev pub slim_rule : Rule
-slim_rule = flag (codes "slim")
+-- the word for a language
+abbrev pub language_word : Language → Text
+language_word Mermaid = codes "mermaid"
+language_word Dot = codes "dot"
 
--- the option `--rows`
-abbrev pub rows_rule : Rule
-rows_rule = flag (codes "rows")
+-- the word for a style
+abbrev pub style_word : Style → Text
+style_word style.Text = codes "text"
+style_word style.Json = codes "json"
+style_word style.Junit = codes "junit"
 
--- the option `--whole`
-abbrev pub whole_rule : Rule
-whole_rule = flag (codes "whole")
-
--- the option `--workers`
-abbrev pub workers_rule : Rule
-workers_rule = numbered Workers (codes "4" ∷ [])
-
--- the option `--claim`
-abbrev pub claim_rule : Rule
-claim_rule = numbered Claim []
-
--- the option `--runs`
-abbrev pub runs_rule : Rule
-runs_rule = numbered Runs (codes "100000" ∷ [])
-
--- the option `--seed`
-abbrev pub seed_rule : Rule
-seed_rule = numbered Seed (codes "0" ∷ [])
-
--- the option `--jobs`
-abbrev pub jobs_rule : Rule
-jobs_rule = numbered Jobs []
-
--- the option `--each`
-abbrev pub each_rule : Rule
-each_rule = flag (codes "each")
-
--- the option `--explain`
-abbrev pub explain_rule : Rule
-explain_rule = flag (codes "explain")
-
--- the option `--as` of a picture
-abbrev pub language_rule : Rule
-language_rule = valued (codes "as") (codes "mermaid" ∷ [])
-
--- the option `--as` of verdicts
-abbrev pub style_rule : Rule
-style_rule = valued (codes "as") (codes "text" ∷ [])
+-- the rule for an option
+abbrev pub rule_for : CommandOption → Rule
+rule_for (options.Flag option) = flag option
+rule_for (options.Number option) = numbered option (usual option)
+rule_for options.Deepest = numbered Depth (deepest ∷ [])
+rule_for options.Language = named (language_word Mermaid)
+rule_for options.Style = named (style_word style.Text)
 
 -- the option was used
 abbrev pub IsSet : Text → List Row → Type 0
@@ -107,21 +91,18 @@ abbrev pub IsIfGiven : Number → List Row → Option ℕ → Type 0
 IsIfGiven option rows None = first_of (number_name option) rows ≡ None
 IsIfGiven option rows (Some number) = (first_of (number_name option) rows ≡ None → ⊥) × IsGiven option rows number
 
--- the word for a language
-abbrev pub language_word : Language → Text
-language_word Mermaid = codes "mermaid"
-language_word Dot = codes "dot"
+-- the option's text is this word
+abbrev pub IsWord : List Row → Text → Type 0
+IsWord rows word = first_of (codes "as") rows ≡ Some word
 
 -- the option's text is the word for this language
 abbrev pub IsLanguage : List Row → Language → Type 0
-IsLanguage rows language = first_of (codes "as") rows ≡ Some (language_word language)
-
--- the word for a style
-abbrev pub style_word : Style → Text
-style_word style.Text = codes "text"
-style_word style.Json = codes "json"
-style_word style.Junit = codes "junit"
+IsLanguage rows language = IsWord rows (language_word language)
 
 -- the option's text is the word for this style
 abbrev pub IsStyle : List Row → Style → Type 0
-IsStyle rows style = first_of (codes "as") rows ≡ Some (style_word style)
+IsStyle rows style = IsWord rows (style_word style)
+
+-- what is found is such a thing, and where none is found there is none
+abbrev pub Finds : {A : Type 0} → (A → Type 0) → Option A → Type 0
+Finds {A} IsSuch found = MatchOption found ((thing : A) → IsSuch thing → ⊥) IsSuch

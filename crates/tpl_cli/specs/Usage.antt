@@ -1,54 +1,47 @@
 -- The command line and its subcommands.
-use Rattle.std.specs.Prelude.{true, codes}
-use Rattle.clap.specs.Words.{App, new_app, with_rule, with_subcommand}
+use Rattle.std.specs.Prelude.{true, List, [], ◌∷◌, ◌++◌, map, codes}
+use Rattle.clap.specs.Words.{App, Text, new_app, with_subcommand}
 use Rattle.clap.specs.Simple.{on_top}
-use Rattle.tpl_cli.specs.Options.{claim_rule, depth_rule, each_rule, explain_rule, jobs_rule, language_rule, rows_rule, runs_rule, seed_rule, slim_rule, style_rule, whole_rule, workers_rule}
+use Rattle.tpl_cli.specs.declared.number.Number.TheVariants.{Depth, Workers, Claim, Runs, Seed, Jobs}
+use Rattle.tpl_cli.specs.declared.options.CommandOption.{CommandOption}
+use Rattle.tpl_cli.specs.declared.options.CommandOption.TheVariants.{Flag, Number, Deepest, Language, Style}
+use Rattle.tpl_cli.specs.declared.options.Flag.TheVariants.{Slim, Rows, WithCertificate, WithRun, Each, Explain}
+use Rattle.tpl_cli.specs.declared.usage.Subcommand.{Subcommand}
+use Rattle.tpl_cli.specs.declared.usage.Subcommand.TheVariants.{Check, Analyse, Run, Audit, Refute, Verify, Draw, Trace}
+use Rattle.tpl_cli.specs.Options.{rule_for}
+
+-- the options for what is tried for a claim
+abbrev pub tries : List CommandOption
+tries = Number Runs ∷ Number Seed ∷ []
+
+-- the name of the subcommand, and its options but for `--explain`
+abbrev pub words_of : Subcommand → Text × List CommandOption
+words_of Check = (codes "check", Flag Each ∷ Number Jobs ∷ [])
+words_of Analyse = (codes "analyse", Number Depth ∷ Flag Slim ∷ Flag Rows ∷ Flag WithCertificate ∷ [])
+words_of Run = (codes "run", Number Workers ∷ Flag WithRun ∷ [])
+words_of Audit = (codes "audit", Flag Each ∷ Number Jobs ∷ [])
+words_of Refute = (codes "refute", Number Claim ∷ tries)
+words_of Verify = (codes "verify", Deepest ∷ tries ++ Number Jobs ∷ Style ∷ Flag Each ∷ [])
+words_of Draw = (codes "draw", Language ∷ [])
+words_of Trace = (codes "trace", [])
+
+-- a command with these options more
+abbrev pub with_options : App → List CommandOption → App
+with_options app options = on_top (λ s. record s { rules = s.rules ++ map rule_for options }) app
+
+-- the subcommand
+abbrev pub command_of : Subcommand → App
+command_of subcommand = with_options (new_app (words_of subcommand).0) ((words_of subcommand).1 ++ Flag Explain ∷ [])
 
 -- one of the subcommands has to stand there
 abbrev pub no_command : App
 no_command = on_top (λ s. record s { subcommand_required = true; has_version = true }) (new_app (codes "taskgraph"))
 
--- the subcommand `check`
-abbrev pub check_command : App
-check_command = with_rule (with_rule (with_rule (new_app (codes "check")) each_rule) jobs_rule) explain_rule
-
--- the subcommand `analyse`
-abbrev pub analyse_command : App
-analyse_command =
-    with_rule (with_rule (with_rule (with_rule (with_rule (new_app (codes "analyse")) (depth_rule (codes "2"))) slim_rule) rows_rule) whole_rule) explain_rule
-
--- the subcommand `run`
-abbrev pub run_command : App
-run_command = with_rule (with_rule (with_rule (new_app (codes "run")) workers_rule) whole_rule) explain_rule
-
--- the subcommand `audit`
-abbrev pub audit_command : App
-audit_command = with_rule (with_rule (with_rule (new_app (codes "audit")) each_rule) jobs_rule) explain_rule
-
--- the subcommand `refute`
-abbrev pub refute_command : App
-refute_command = with_rule (with_rule (with_rule (with_rule (new_app (codes "refute")) claim_rule) runs_rule) seed_rule) explain_rule
-
--- `verify` with the options for how much is tried
-abbrev pub tried_claims : App
-tried_claims = with_rule (with_rule (with_rule (new_app (codes "verify")) (depth_rule (codes "6"))) runs_rule) seed_rule
-
--- the subcommand `verify`
-abbrev pub verify_command : App
-verify_command = with_rule (with_rule (with_rule (with_rule tried_claims jobs_rule) style_rule) each_rule) explain_rule
-
--- the subcommand `draw`
-abbrev pub draw_command : App
-draw_command = with_rule (with_rule (new_app (codes "draw")) language_rule) explain_rule
-
--- the subcommand `trace`
-abbrev pub trace_command : App
-trace_command = with_rule (new_app (codes "trace")) explain_rule
-
--- the subcommands that are about certificates and runs
-abbrev pub first_commands : App
-first_commands = with_subcommand (with_subcommand (with_subcommand (with_subcommand no_command check_command.top) analyse_command.top) run_command.top) audit_command.top
+-- a command with these subcommands more
+abbrev pub with_subcommands : App → List Subcommand → App
+with_subcommands app [] = app
+with_subcommands app (subcommand ∷ more) = with_subcommands (with_subcommand app (command_of subcommand).top) more
 
 -- the whole command line
 abbrev pub taskgraph : App
-taskgraph = with_subcommand (with_subcommand (with_subcommand (with_subcommand first_commands refute_command.top) verify_command.top) draw_command.top) trace_command.top
+taskgraph = with_subcommands no_command (Check ∷ Analyse ∷ Run ∷ Audit ∷ Refute ∷ Verify ∷ Draw ∷ Trace ∷ [])

@@ -1,11 +1,11 @@
 //! What the words of the command line say.
 
-ghost use Rattle.std.specs.Prelude.{◌≡◌, true, codes, IfOk, MatchOption, MatchResult, map};
+ghost use Rattle.std.specs.Prelude.{◌≡◌, true, codes, IfOk, MatchResult, map};
 ghost use Rattle.clap.specs.Words.{Text, found_of, kind_of, rows_of, subcommand_rows_of, takes};
-ghost use Rattle.tpl_cli.specs.Prelude.{AreTries, Asks, IsForm, IsLineOf, IsWithin, Means, Names, taskgraph};
+ghost use Rattle.tpl_cli.specs.Prelude.{AreTries, Asks, Finds, IsForm, IsLineOf, IsWithin, Means, Names, taskgraph};
 
 use crate::number::Number;
-use crate::options::{depth_in, is_set, language_in, number_if_given, number_in, style_in};
+use crate::options::{depth_in, is_set, named_in, number_if_given, number_in};
 use crate::tips::{no_meaning, with_tip};
 use crate::usage::taskgraph;
 use clap::ArgMatches;
@@ -112,9 +112,8 @@ fn fault_of(alloc: Global, words: &[&str], error: clap::Error) -> LineFault
 
 /// The line that asks this of one document, or of the document on each line, as the options say.
 fn served(given: &ArgMatches<'_>, ask: Ask) -> Option<Line>
-    ensures { (word : Text) → Asks word (rows_of (found_of given.now)) ask → MatchOption result
-        ((l : Line) → Means word (rows_of (found_of given.now)) l → ⊥)
-        (Means word (rows_of (found_of given.now))) }
+    ensures { (word : Text) → Asks word (rows_of (found_of given.now)) ask
+        → Finds (Means word (rows_of (found_of given.now))) result }
 {
     let jobs = number_if_given(given, Number::Jobs)?;
     if is_set(given, "each") {
@@ -128,9 +127,7 @@ fn served(given: &ArgMatches<'_>, ask: Ask) -> Option<Line>
 
 /// The form that is asked for. Two at once are none.
 fn form_asked(given: &ArgMatches<'_>) -> Option<Form>
-    ensures { MatchOption result
-        ((f : Form) → IsForm (rows_of (found_of given.now)) f → ⊥)
-        (IsForm (rows_of (found_of given.now))) }
+    ensures { Finds (IsForm (rows_of (found_of given.now))) result }
 {
     match (is_set(given, "slim"), is_set(given, "rows")) {
         (false, false) => Some(Form::Full),
@@ -142,9 +139,7 @@ fn form_asked(given: &ArgMatches<'_>) -> Option<Form>
 
 /// What `analyse` asks with these options.
 fn search_asked(given: &ArgMatches<'_>) -> Option<Ask>
-    ensures { MatchOption result
-        ((a : Ask) → Asks (codes "analyse") (rows_of (found_of given.now)) a → ⊥)
-        (Asks (codes "analyse") (rows_of (found_of given.now))) }
+    ensures { Finds (Asks (codes "analyse") (rows_of (found_of given.now))) result }
 {
     let depth = depth_in(given)?;
     let form = form_asked(given)?;
@@ -159,9 +154,7 @@ fn search_asked(given: &ArgMatches<'_>) -> Option<Ask>
 
 /// The line that `run` means with these options.
 fn run_line(given: &ArgMatches<'_>) -> Option<Line>
-    ensures { MatchOption result
-        ((l : Line) → Means (codes "run") (rows_of (found_of given.now)) l → ⊥)
-        (Means (codes "run") (rows_of (found_of given.now))) }
+    ensures { Finds (Means (codes "run") (rows_of (found_of given.now))) result }
 {
     let workers = number_in(given, Number::Workers)?;
     let is_whole = is_set(given, "whole");
@@ -173,9 +166,7 @@ fn run_line(given: &ArgMatches<'_>) -> Option<Line>
 
 /// What is tried for a claim with these options.
 fn tries_in(given: &ArgMatches<'_>) -> Option<Tries>
-    ensures { MatchOption result
-        ((t : Tries) → AreTries (rows_of (found_of given.now)) t → ⊥)
-        (AreTries (rows_of (found_of given.now))) }
+    ensures { Finds (AreTries (rows_of (found_of given.now))) result }
 {
     let runs = number_in(given, Number::Runs)?;
     let seed = number_in(given, Number::Seed)?;
@@ -184,9 +175,7 @@ fn tries_in(given: &ArgMatches<'_>) -> Option<Tries>
 
 /// The line that `refute` means with these options.
 fn refute_line(given: &ArgMatches<'_>) -> Option<Line>
-    ensures { MatchOption result
-        ((l : Line) → Means (codes "refute") (rows_of (found_of given.now)) l → ⊥)
-        (Means (codes "refute") (rows_of (found_of given.now))) }
+    ensures { Finds (Means (codes "refute") (rows_of (found_of given.now))) result }
 {
     let claim = number_if_given(given, Number::Claim)?;
     let tries = tries_in(given)?;
@@ -200,14 +189,12 @@ fn refute_line(given: &ArgMatches<'_>) -> Option<Line>
 
 /// The line that `verify` means with these options.
 fn verify_line(given: &ArgMatches<'_>) -> Option<Line>
-    ensures { MatchOption result
-        ((l : Line) → Means (codes "verify") (rows_of (found_of given.now)) l → ⊥)
-        (Means (codes "verify") (rows_of (found_of given.now))) }
+    ensures { Finds (Means (codes "verify") (rows_of (found_of given.now))) result }
 {
     let depth = depth_in(given)?;
     let tries = tries_in(given)?;
     let jobs = number_if_given(given, Number::Jobs)?;
-    let style = style_in(given)?;
+    let style = named_in(given)?;
     let is_each = is_set(given, "each");
     Some(Line::Verify {
         depth,
@@ -220,9 +207,7 @@ fn verify_line(given: &ArgMatches<'_>) -> Option<Line>
 
 /// The line that the subcommand of this name means with these options.
 fn line_meant(word: &str, given: &ArgMatches<'_>) -> Option<Line>
-    ensures { MatchOption result
-        ((l : Line) → Means word.now (rows_of (found_of given.now)) l → ⊥)
-        (Means word.now (rows_of (found_of given.now))) }
+    ensures { Finds (Means word.now (rows_of (found_of given.now))) result }
 {
     match word {
         "check" => served(given, Ask::Check),
@@ -231,7 +216,7 @@ fn line_meant(word: &str, given: &ArgMatches<'_>) -> Option<Line>
         "audit" => served(given, Ask::Audit),
         "refute" => refute_line(given),
         "verify" => verify_line(given),
-        "draw" => served(given, Ask::Draw(language_in(given)?)),
+        "draw" => served(given, Ask::Draw(named_in(given)?)),
         "trace" => Some(Line::Trace),
         _ => None,
     }
@@ -239,9 +224,7 @@ fn line_meant(word: &str, given: &ArgMatches<'_>) -> Option<Line>
 
 /// The line that is meant by the words that were read.
 fn line_in(matches: &ArgMatches<'_>) -> Option<Line>
-    ensures { MatchOption result
-        ((l : Line) → IsLineOf (subcommand_rows_of matches.now) l → ⊥)
-        (IsLineOf (subcommand_rows_of matches.now)) }
+    ensures { Finds (IsLineOf (subcommand_rows_of matches.now)) result }
 {
     let Some((word, given)) = matches.subcommand() else {
         return None;

@@ -129,7 +129,7 @@ fn run<R: Threads + Wait + Sync, I: Read, O: Write>(
 fn jobs_of<R: Threads>(threads: &R, asked: Option<u16>) -> usize
     requires { AreThreads asked }
     ensures some { 0 < result }
-    ensures most { result ≤ 64 }
+    ensures most { result ≤ MOST_JOBS }
 {
     match asked {
         Some(jobs) => usize::from(jobs),

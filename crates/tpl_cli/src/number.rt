@@ -1,7 +1,20 @@
 //! The options for numbers.
 
-ghost use Rattle.std.specs.Prelude.{◌≡◌};
-ghost use Rattle.tpl_cli.specs.Prelude.{number_name, number_range};
+ghost use Rattle.std.specs.Prelude.{◌≡◌, [], ◌∷◌, MatchOption};
+ghost use Rattle.tpl_cli.specs.Prelude.{number_name, number_range, usual};
+
+use tpl_each::MOST_JOBS;
+use tpl_reader::{Version, most_claims};
+use tpl_trees::MOST_SPLITS;
+
+/// The most workers of a run.
+const MOST_WORKERS: u32 = 64;
+
+/// The most random runs that are tried for a claim.
+const MOST_RUNS: u32 = 1_000_000;
+
+/// The greatest depth, which stands for one that is left out in a search for verdicts.
+pub(crate) const DEEPEST: &str = "6";
 
 /// An option for a number.
 #[derive(Clone, Copy, Debug, Drop, PartialEq, Eq)]
@@ -35,17 +48,45 @@ impl Number {
         }
     }
 
+    /// What help says of it.
+    pub(crate) fn help<'a>(self) -> &'a str {
+        match self {
+            Number::Depth => "The most splits on each path of a tree, 0 to 6",
+            Number::Workers => "How many workers make the run, 1 to 64",
+            Number::Claim => "The claim, 1 to 1024; every claim if it is left out",
+            Number::Runs => "How many runs are tried for each claim, at most 1000000",
+            Number::Seed => "The seed of the random numbers, 0 to 4294967295",
+            Number::Jobs => {
+                "How many threads work beside each other, 1 to 64; as many as there are processors where it is left out"
+            }
+        }
+    }
+
+    /// What stands for the number where it is left out, if anything does.
+    pub(crate) fn usual<'a>(self) -> Option<&'a str>
+        ensures { MatchOption result (usual self ≡ []) (λ text. usual self ≡ text.now ∷ []) }
+    {
+        match self {
+            Number::Depth => Some("2"),
+            Number::Workers => Some("4"),
+            Number::Runs => Some("100000"),
+            Number::Seed => Some("0"),
+            Number::Claim | Number::Jobs => None,
+        }
+    }
+
     /// The least number that it may be, and the most.
     pub(crate) fn range(self) -> (u32, u32)
         ensures least { result.0 ≡ (number_range self).0 }
         ensures most { result.1 ≡ (number_range self).1 }
     {
         match self {
-            Number::Depth => (0, 6),
-            Number::Workers | Number::Jobs => (1, 64),
-            Number::Claim => (1, 1_024),
-            Number::Runs => (0, 1_000_000),
+            Number::Depth => (0, u32::from(MOST_SPLITS)),
+            Number::Workers => (1, MOST_WORKERS),
+            Number::Claim => (1, most_claims(Version::Three) as u32),
+            Number::Runs => (0, MOST_RUNS),
             Number::Seed => (0, u32::MAX),
+            Number::Jobs => (1, MOST_JOBS as u32),
         }
     }
 }

@@ -1,29 +1,74 @@
 //! The options of the command line, and what is given for them.
 
-ghost use Rattle.std.specs.Prelude.{◌≡◌, ◌<◌, ◌^◌, ℕ, [], ◌∷◌, codes, false, Option, MatchOption};
-ghost use Rattle.clap.specs.Words.{found_of, rows_of, rule_of};
-ghost use Rattle.tpl_cli.specs.Prelude.{IsFlag, IsGiven, IsIfGiven, IsLanguage, IsStyle, claim_rule, depth_rule, each_rule, explain_rule, flag, jobs_rule, language_rule, language_word, number_range, numbered, rows_rule, runs_rule, seed_rule, slim_rule, style_rule, style_word, valued, whole_rule, workers_rule};
+ghost use Rattle.std.specs.Prelude.{◌≡◌, ◌<◌, ◌^◌, [], false};
+ghost use Rattle.clap.specs.Words.{Text, found_of, rows_of, rule_of};
+ghost use Rattle.tpl_cli.specs.Prelude.{Finds, IsFlag, IsGiven, IsIfGiven, IsWord, flag, flag_name, language_word, named, number_range, numbered, rule_for, style_word, usual};
 
-use crate::number::Number;
+use crate::number::{DEEPEST, Number};
 use clap::{Arg, ArgAction, ArgMatches, value_parser};
 use std::alloc::Global;
 use tpl_draw::Language;
 use tpl_report::Depth;
 use tpl_verdicts::Style;
 
-/// The option of this name that has no value, with what help says of it.
-fn flag<'a>(alloc: Global, name: &'a str, help: &'a str) -> Arg<'a>
-    ensures rule { rule_of result ≡ flag name.now }
+/// An option that has no value.
+#[derive(Clone, Copy, Debug, Drop, PartialEq, Eq)]
+pub(crate) enum Flag {
+    /// Rows say no more than the proof needs.
+    Slim,
+    /// Certificates have the rows of each leaf.
+    Rows,
+    /// The whole document is written, with the certificate in it.
+    WithCertificate,
+    /// The whole document is written, with the run in it.
+    WithRun,
+    /// The document on each line is answered.
+    Each,
+    /// Lines on the standard error say why.
+    Explain,
+}
+
+impl Flag {
+    /// The name of the option.
+    fn name<'a>(self) -> &'a str
+        ensures { result.now ≡ flag_name self }
+    {
+        match self {
+            Flag::Slim => "slim",
+            Flag::Rows => "rows",
+            Flag::WithCertificate | Flag::WithRun => "whole",
+            Flag::Each => "each",
+            Flag::Explain => "explain",
+        }
+    }
+
+    /// What help says of it.
+    fn help<'a>(self) -> &'a str {
+        match self {
+            Flag::Slim => "Omits from the rows whatever the proof does not need",
+            Flag::Rows => "Writes out the rows of each leaf, in version 3 too",
+            Flag::WithCertificate => "Writes the whole document, with the certificate in it",
+            Flag::WithRun => "Writes the whole document, with the run in it",
+            Flag::Each => "Answers the document on each line, behind its number and exit status",
+            Flag::Explain => "Says on standard error why the answer is what it is, and what to do",
+        }
+    }
+}
+
+/// The option that has no value.
+fn flag_arg<'a>(alloc: Global, option: Flag) -> Arg<'a>
+    ensures rule { rule_of result ≡ flag option }
     ensures own { result.global ≡ false }
 {
+    let name = option.name();
     Arg::new(alloc, name)
         .long(name)
         .action(ArgAction::SetTrue)
-        .help(help)
+        .help(option.help())
 }
 
-/// The option for a number, with what help says of it. Nothing stands for it where it is left out.
-fn numbered<'a>(alloc: Global, option: Number, help: &'a str) -> Arg<'a>
+/// The option for a number. Nothing stands for it where it is left out.
+fn number_arg<'a>(alloc: Global, option: Number) -> Arg<'a>
     ensures rule { rule_of result ≡ numbered option [] }
     ensures own { result.global ≡ false }
 {
@@ -32,13 +77,25 @@ fn numbered<'a>(alloc: Global, option: Number, help: &'a str) -> Arg<'a>
     Arg::new(alloc, name)
         .long(name)
         .value_name("N")
-        .help(help)
+        .help(option.help())
         .value_parser(value_parser!(u32).range(i64::from(least)..=i64::from(most)))
 }
 
+/// The option for a number, with what stands for it where it is left out.
+fn usual_arg<'a>(alloc: Global, option: Number) -> Arg<'a>
+    ensures rule { rule_of result ≡ numbered option (usual option) }
+    ensures own { result.global ≡ false }
+{
+    let arg = number_arg(alloc, option);
+    match option.usual() {
+        Some(usual) => arg.default_value(usual),
+        None => arg,
+    }
+}
+
 /// The option `--as`, with what help calls its value and says of it, and with what stands for one that is left out.
-fn named<'a>(alloc: Global, value: &'a str, help: &'a str, usual: &'a str) -> Arg<'a>
-    ensures rule { rule_of result ≡ valued (codes "as") (usual.now ∷ []) }
+fn word_arg<'a>(alloc: Global, value: &'a str, help: &'a str, usual: &'a str) -> Arg<'a>
+    ensures rule { rule_of result ≡ named usual.now }
     ensures own { result.global ≡ false }
 {
     Arg::new(alloc, "as")
@@ -48,121 +105,41 @@ fn named<'a>(alloc: Global, value: &'a str, help: &'a str, usual: &'a str) -> Ar
         .default_value(usual)
 }
 
-/// The option for the most splits on each path, with how many there are where it is left out.
-pub(crate) fn depth<'a>(alloc: Global, usual: &'a str) -> Arg<'a>
-    ensures rule { rule_of result ≡ depth_rule usual.now }
-    ensures own { result.global ≡ false }
-{
-    let help = "The most splits on each path of a tree, 0 to 6";
-    numbered(alloc, Number::Depth, help).default_value(usual)
+/// An option of a subcommand.
+#[derive(Clone, Copy, Debug, Drop, PartialEq, Eq)]
+pub(crate) enum CommandOption {
+    /// One that has no value.
+    Flag(Flag),
+    /// A number.
+    Number(Number),
+    /// The most splits on each path, which are as many as there may be where it is left out.
+    Deepest,
+    /// The language of a picture.
+    Language,
+    /// How verdicts are written.
+    Style,
 }
 
-/// The option for rows that say no more than the proof needs.
-pub(crate) fn slim<'a>(alloc: Global) -> Arg<'a>
-    ensures rule { rule_of result ≡ slim_rule }
-    ensures own { result.global ≡ false }
-{
-    let help = "Omits from the rows whatever the proof does not need";
-    flag(alloc, "slim", help)
-}
-
-/// The option for certificates with the rows of each leaf.
-pub(crate) fn rows<'a>(alloc: Global) -> Arg<'a>
-    ensures rule { rule_of result ≡ rows_rule }
-    ensures own { result.global ≡ false }
-{
-    let help = "Writes out the rows of each leaf, in version 3 too";
-    flag(alloc, "rows", help)
-}
-
-/// The option for the whole document, with what is in it.
-pub(crate) fn whole<'a>(alloc: Global, help: &'a str) -> Arg<'a>
-    ensures rule { rule_of result ≡ whole_rule }
-    ensures own { result.global ≡ false }
-{
-    flag(alloc, "whole", help)
-}
-
-/// The option for how many workers make a run.
-pub(crate) fn workers<'a>(alloc: Global) -> Arg<'a>
-    ensures rule { rule_of result ≡ workers_rule }
-    ensures own { result.global ≡ false }
-{
-    let help = "How many workers make the run, 1 to 64";
-    numbered(alloc, Number::Workers, help).default_value("4")
-}
-
-/// The option for one claim.
-pub(crate) fn claim<'a>(alloc: Global) -> Arg<'a>
-    ensures rule { rule_of result ≡ claim_rule }
-    ensures own { result.global ≡ false }
-{
-    let help = "The claim, 1 to 1024; every claim if it is left out";
-    numbered(alloc, Number::Claim, help)
-}
-
-/// The option for how many runs are tried.
-pub(crate) fn runs<'a>(alloc: Global) -> Arg<'a>
-    ensures rule { rule_of result ≡ runs_rule }
-    ensures own { result.global ≡ false }
-{
-    let help = "How many runs are tried for each claim, at most 1000000";
-    numbered(alloc, Number::Runs, help).default_value("100000")
-}
-
-/// The option for where the random numbers begin.
-pub(crate) fn seed<'a>(alloc: Global) -> Arg<'a>
-    ensures rule { rule_of result ≡ seed_rule }
-    ensures own { result.global ≡ false }
-{
-    let help = "The seed of the random numbers, 0 to 4294967295";
-    numbered(alloc, Number::Seed, help).default_value("0")
-}
-
-/// The option for how many threads search.
-pub(crate) fn jobs<'a>(alloc: Global) -> Arg<'a>
-    ensures rule { rule_of result ≡ jobs_rule }
-    ensures own { result.global ≡ false }
-{
-    let help =
-        "How many threads work beside each other, 1 to 64; as many as there are processors where it is left out";
-    numbered(alloc, Number::Jobs, help)
-}
-
-/// The option for a document on each line.
-pub(crate) fn each<'a>(alloc: Global) -> Arg<'a>
-    ensures rule { rule_of result ≡ each_rule }
-    ensures own { result.global ≡ false }
-{
-    let help = "Answers the document on each line, behind its number and exit status";
-    flag(alloc, "each", help)
-}
-
-/// The option for lines on the standard error.
-pub(crate) fn explain<'a>(alloc: Global) -> Arg<'a>
-    ensures rule { rule_of result ≡ explain_rule }
-    ensures own { result.global ≡ false }
-{
-    let help = "Says on standard error why the answer is what it is, and what to do";
-    flag(alloc, "explain", help)
-}
-
-/// The option for the language of a picture.
-pub(crate) fn language<'a>(alloc: Global) -> Arg<'a>
-    ensures rule { rule_of result ≡ language_rule }
-    ensures own { result.global ≡ false }
-{
-    let help = "The language of the picture: mermaid or dot";
-    named(alloc, "LANGUAGE", help, "mermaid")
-}
-
-/// The option for how verdicts are written.
-pub(crate) fn style<'a>(alloc: Global) -> Arg<'a>
-    ensures rule { rule_of result ≡ style_rule }
-    ensures own { result.global ≡ false }
-{
-    let help = "How the verdicts are written: text, json or junit";
-    named(alloc, "STYLE", help, "text")
+impl CommandOption {
+    /// The option as `clap` takes it.
+    pub(crate) fn arg<'a>(self, alloc: Global) -> Arg<'a>
+        ensures rule { rule_of result ≡ rule_for self }
+        ensures own { result.global ≡ false }
+    {
+        match self {
+            CommandOption::Flag(option) => flag_arg(alloc, option),
+            CommandOption::Number(option) => usual_arg(alloc, option),
+            CommandOption::Deepest => number_arg(alloc, Number::Depth).default_value(DEEPEST),
+            CommandOption::Language => {
+                let help = "The language of the picture: mermaid or dot";
+                word_arg(alloc, "LANGUAGE", help, "mermaid")
+            }
+            CommandOption::Style => {
+                let help = "How the verdicts are written: text, json or junit";
+                word_arg(alloc, "STYLE", help, "text")
+            }
+        }
+    }
 }
 
 /// Whether the option was used.
@@ -177,9 +154,7 @@ pub(crate) fn is_set(given: &ArgMatches<'_>, option: &str) -> bool
 
 /// The number that is given for the option, if it lies in its range.
 pub(crate) fn number_in(given: &ArgMatches<'_>, option: Number) -> Option<u32>
-    ensures { MatchOption result
-        ((n : ℕ) → IsGiven option (rows_of (found_of given.now)) n → ⊥)
-        (IsGiven option (rows_of (found_of given.now))) }
+    ensures { Finds (IsGiven option (rows_of (found_of given.now))) result }
 {
     let (least, most) = option.range();
     match given.get_one::<u32>(option.name()) {
@@ -191,9 +166,7 @@ pub(crate) fn number_in(given: &ArgMatches<'_>, option: Number) -> Option<u32>
 /// The number that is given for the option: one in its range, none, or no such number.
 pub(crate) fn number_if_given(given: &ArgMatches<'_>, option: Number) -> Option<Option<u16>>
     requires { (number_range option).1 < 2 ^ 16 }
-    ensures { MatchOption result
-        ((n : Option ℕ) → IsIfGiven option (rows_of (found_of given.now)) n → ⊥)
-        (IsIfGiven option (rows_of (found_of given.now))) }
+    ensures { Finds (IsIfGiven option (rows_of (found_of given.now))) result }
 {
     match given.get_str(option.name()) {
         None => Some(None),
@@ -206,9 +179,7 @@ pub(crate) fn number_if_given(given: &ArgMatches<'_>, option: Number) -> Option<
 
 /// The most splits on each path that are given.
 pub(crate) fn depth_in(given: &ArgMatches<'_>) -> Option<Depth>
-    ensures { MatchOption result
-        ((n : ℕ) → IsGiven Number.Depth (rows_of (found_of given.now)) n → ⊥)
-        (IsGiven Number.Depth (rows_of (found_of given.now))) }
+    ensures { Finds (IsGiven Number.Depth (rows_of (found_of given.now))) result }
 {
     match number_in(given, Number::Depth) {
         Some(splits) => Depth::new(splits as u8),
@@ -216,56 +187,46 @@ pub(crate) fn depth_in(given: &ArgMatches<'_>) -> Option<Depth>
     }
 }
 
-/// The language that a word names.
-fn language_named(word: &str) -> Option<Language>
-    ensures { MatchOption result ((l : Language) → language_word l ≡ word.now → ⊥)
-        (λ l. language_word l ≡ word.now) }
-{
-    if word == "mermaid" {
-        Some(Language::Mermaid)
-    } else if word == "dot" {
-        Some(Language::Dot)
-    } else {
-        None
+/// Things that words behind `--as` name.
+pub(crate) trait FromWord: Sized {
+    ghost word: { Self → Text };
+
+    /// The one that the word names.
+    fn from_word(text: &str) -> Option<Self>
+        ensures { Finds (λ thing. word thing ≡ text.now) result };
+}
+
+impl FromWord for Language {
+    ghost word = { language_word };
+
+    fn from_word(text: &str) -> Option<Language> {
+        match text {
+            "mermaid" => Some(Language::Mermaid),
+            "dot" => Some(Language::Dot),
+            _ => None,
+        }
     }
 }
 
-/// The language that the option names.
-pub(crate) fn language_in(given: &ArgMatches<'_>) -> Option<Language>
-    ensures { MatchOption result
-        ((l : Language) → IsLanguage (rows_of (found_of given.now)) l → ⊥)
-        (IsLanguage (rows_of (found_of given.now))) }
+impl FromWord for Style {
+    ghost word = { style_word };
+
+    fn from_word(text: &str) -> Option<Style> {
+        match text {
+            "text" => Some(Style::Text),
+            "json" => Some(Style::Json),
+            "junit" => Some(Style::Junit),
+            _ => None,
+        }
+    }
+}
+
+/// The one that the word behind `--as` names.
+pub(crate) fn named_in<T: FromWord>(given: &ArgMatches<'_>) -> Option<T>
+    ensures { Finds (λ thing. IsWord (rows_of (found_of given.now)) (T.word thing)) result }
 {
     match given.get_str("as") {
-        Some(word) => language_named(word),
-        None => None,
-    }
-}
-
-/// The style that a word names.
-fn style_named(word: &str) -> Option<Style>
-    ensures { MatchOption result ((s : Style) → style_word s ≡ word.now → ⊥)
-        (λ s. style_word s ≡ word.now) }
-{
-    if word == "text" {
-        Some(Style::Text)
-    } else if word == "json" {
-        Some(Style::Json)
-    } else if word == "junit" {
-        Some(Style::Junit)
-    } else {
-        None
-    }
-}
-
-/// The style that the option names.
-pub(crate) fn style_in(given: &ArgMatches<'_>) -> Option<Style>
-    ensures { MatchOption result
-        ((s : Style) → IsStyle (rows_of (found_of given.now)) s → ⊥)
-        (IsStyle (rows_of (found_of given.now))) }
-{
-    match given.get_str("as") {
-        Some(word) => style_named(word),
+        Some(word) => T::from_word(word),
         None => None,
     }
 }

@@ -3,16 +3,143 @@
 ghost use Rattle.std.specs.Prelude.{◌≡◌, false, IfOk};
 ghost use Rattle.clap.specs.declared.builder.command.Command.TheViews.{out-Command};
 ghost use Rattle.clap.specs.Words.{app_of, rule_of, with_rule, with_subcommand};
-ghost use Rattle.tpl_cli.specs.Prelude.{analyse_command, audit_command, check_command, draw_command, no_command, refute_command, run_command, taskgraph, trace_command, verify_command};
+ghost use Rattle.tpl_cli.specs.Prelude.{command_of, no_command, taskgraph, with_options, words_of};
 
-use crate::options::{
-    claim, depth, each, explain, jobs, language, rows, runs, seed, slim, style, whole, workers,
-};
+use crate::number::Number;
+use crate::options::{CommandOption, Flag};
 use clap::{Arg, Command};
 use std::alloc::{AllocError, Global};
 
 /// The version of the program, which the file `VERSION` says too.
 const VERSION: &str = "0.4.0";
+
+/// A subcommand.
+#[derive(Clone, Copy, Debug, Drop, PartialEq, Eq)]
+pub(crate) enum Subcommand {
+    /// Checks a certificate.
+    Check,
+    /// Searches for a certificate.
+    Analyse,
+    /// Makes a run.
+    Run,
+    /// Audits a journal.
+    Audit,
+    /// Searches for a run in which a claim fails.
+    Refute,
+    /// Answers each claim.
+    Verify,
+    /// Draws a graph.
+    Draw,
+    /// Writes a journal for a trace viewer.
+    Trace,
+}
+
+impl Subcommand {
+    /// Its name.
+    fn name<'a>(self) -> &'a str
+        ensures { result.now ≡ (words_of self).0 }
+    {
+        match self {
+            Subcommand::Check => "check",
+            Subcommand::Analyse => "analyse",
+            Subcommand::Run => "run",
+            Subcommand::Audit => "audit",
+            Subcommand::Refute => "refute",
+            Subcommand::Verify => "verify",
+            Subcommand::Draw => "draw",
+            Subcommand::Trace => "trace",
+        }
+    }
+
+    /// What help says of it.
+    fn about<'a>(self) -> &'a str {
+        match self {
+            Subcommand::Check => "Checks the document's certificate",
+            Subcommand::Analyse => "Searches for a certificate for the document's claims",
+            Subcommand::Run => "Checks the document's certificate and makes a run of its graph",
+            Subcommand::Audit => "Audits the document's journal",
+            Subcommand::Refute => "Searches for a run in which a claim fails",
+            Subcommand::Verify => {
+                "Answers each of the document's claims: it holds, fails, is empty, or is unknown"
+            }
+            Subcommand::Draw => "Draws the document's graph",
+            Subcommand::Trace => "Writes the document's journal for a trace viewer",
+        }
+    }
+
+    /// What help says of its use.
+    fn example<'a>(self) -> &'a str {
+        match self {
+            Subcommand::Check => "Example: ./taskgraph check < examples/one-root.json",
+            Subcommand::Analyse => {
+                "Example: ./taskgraph analyse --whole < examples/either-or.json | ./taskgraph check"
+            }
+            Subcommand::Run => "Example: ./taskgraph run --workers 2 < examples/one-root.json",
+            Subcommand::Audit => {
+                "Example: examples/ask examples/one-root.json '{\"never\":\"A\"}' | ./taskgraph refute | ./taskgraph audit"
+            }
+            Subcommand::Refute => {
+                "Example: examples/ask examples/one-root.json '{\"never\":\"A\"}' | ./taskgraph refute --explain"
+            }
+            Subcommand::Verify => {
+                "Example: ./taskgraph verify --as junit < examples/either-or.json"
+            }
+            Subcommand::Draw => "Example: ./taskgraph draw --as dot < examples/saga.json",
+            Subcommand::Trace => {
+                "Example: examples/ask examples/one-root.json '{\"never\":\"A\"}' | ./taskgraph refute | ./taskgraph trace"
+            }
+        }
+    }
+
+    /// Its options, but for `--explain`.
+    fn options(self) -> &'static [CommandOption]
+        ensures { result.now ≡ (words_of self).1 }
+    {
+        match self {
+            Subcommand::Check | Subcommand::Audit => &[
+                CommandOption::Flag(Flag::Each),
+                CommandOption::Number(Number::Jobs),
+            ],
+            Subcommand::Analyse => &[
+                CommandOption::Number(Number::Depth),
+                CommandOption::Flag(Flag::Slim),
+                CommandOption::Flag(Flag::Rows),
+                CommandOption::Flag(Flag::WithCertificate),
+            ],
+            Subcommand::Run => &[
+                CommandOption::Number(Number::Workers),
+                CommandOption::Flag(Flag::WithRun),
+            ],
+            Subcommand::Refute => &[
+                CommandOption::Number(Number::Claim),
+                CommandOption::Number(Number::Runs),
+                CommandOption::Number(Number::Seed),
+            ],
+            Subcommand::Verify => &[
+                CommandOption::Deepest,
+                CommandOption::Number(Number::Runs),
+                CommandOption::Number(Number::Seed),
+                CommandOption::Number(Number::Jobs),
+                CommandOption::Style,
+                CommandOption::Flag(Flag::Each),
+            ],
+            Subcommand::Draw => &[CommandOption::Language],
+            Subcommand::Trace => &[],
+        }
+    }
+
+    /// The subcommand as words are read.
+    fn command<'a>(self, alloc: Global) -> Result<Command<'a>, AllocError>
+        ensures app { IfOk result (λ command. app_of command ≡ command_of self) }
+        ensures own { IfOk result (λ command. (out-Command command).has_globals ≡ false) }
+    {
+        let command = Command::new(alloc, self.name())
+            .about(self.about())
+            .after_help(self.example());
+        let command = with_options(alloc, command, self.options())?;
+        with_option(command, CommandOption::Flag(Flag::Explain).arg(alloc))
+    }
+}
 
 /// The command line without its subcommands. One of them has to stand there.
 fn no_command<'a>(alloc: Global) -> Command<'a>
@@ -35,150 +162,46 @@ fn with_option<'a>(command: Command<'a>, option: Arg<'a>) -> Result<Command<'a>,
     command.arg(option)
 }
 
+/// The subcommand with these options more.
+fn with_options<'a>(
+    alloc: Global,
+    command: Command<'a>,
+    options: &[CommandOption],
+) -> Result<Command<'a>, AllocError>
+    requires { (out-Command command).has_globals ≡ false }
+    ensures app { IfOk result (λ more.
+        app_of more ≡ with_options (app_of command.entry) options.now) }
+    ensures own { IfOk result (λ more. (out-Command more).has_globals ≡ false) }
+{
+    let mut more = command;
+    for option in options {
+        more = with_option(more, option.arg(alloc))?;
+    }
+    Ok(more)
+}
+
 /// The command line with one subcommand more.
-fn with_subcommand<'a>(command: Command<'a>, other: Command<'a>) -> Result<Command<'a>, AllocError>
-    requires { (out-Command other).has_globals ≡ false }
+fn with_subcommand<'a>(
+    alloc: Global,
+    command: Command<'a>,
+    subcommand: Subcommand,
+) -> Result<Command<'a>, AllocError>
     ensures { IfOk result (λ more.
-        app_of more ≡ with_subcommand (app_of command.entry) (app_of other.entry).top) }
+        app_of more ≡ with_subcommand (app_of command.entry) (command_of subcommand).top) }
 {
-    command.subcommand(other)
-}
-
-/// The subcommand that checks a certificate.
-fn check<'a>(alloc: Global) -> Result<Command<'a>, AllocError>
-    ensures app { IfOk result (λ command. app_of command ≡ check_command) }
-    ensures own { IfOk result (λ command. (out-Command command).has_globals ≡ false) }
-{
-    let command = Command::new(alloc, "check")
-        .about("Checks the document's certificate")
-        .after_help("Example: ./taskgraph check < examples/one-root.json");
-    let command = with_option(command, each(alloc))?;
-    let command = with_option(command, jobs(alloc))?;
-    with_option(command, explain(alloc))
-}
-
-/// The subcommand that searches for a certificate.
-fn analyse<'a>(alloc: Global) -> Result<Command<'a>, AllocError>
-    ensures app { IfOk result (λ command. app_of command ≡ analyse_command) }
-    ensures own { IfOk result (λ command. (out-Command command).has_globals ≡ false) }
-{
-    let command = Command::new(alloc, "analyse")
-        .about("Searches for a certificate for the document's claims")
-        .after_help(
-            "Example: ./taskgraph analyse --whole < examples/either-or.json | ./taskgraph check",
-        );
-    let command = with_option(command, depth(alloc, "2"))?;
-    let command = with_option(command, slim(alloc))?;
-    let command = with_option(command, rows(alloc))?;
-    let command = with_option(
-        command,
-        whole(
-            alloc,
-            "Writes the whole document, with the certificate in it",
-        ),
-    )?;
-    with_option(command, explain(alloc))
-}
-
-/// The subcommand that makes a run.
-fn run<'a>(alloc: Global) -> Result<Command<'a>, AllocError>
-    ensures app { IfOk result (λ command. app_of command ≡ run_command) }
-    ensures own { IfOk result (λ command. (out-Command command).has_globals ≡ false) }
-{
-    let command = Command::new(alloc, "run")
-        .about("Checks the document's certificate and makes a run of its graph")
-        .after_help("Example: ./taskgraph run --workers 2 < examples/one-root.json");
-    let command = with_option(command, workers(alloc))?;
-    let command = with_option(
-        command,
-        whole(alloc, "Writes the whole document, with the run in it"),
-    )?;
-    with_option(command, explain(alloc))
-}
-
-/// The subcommand that audits a journal.
-fn audit<'a>(alloc: Global) -> Result<Command<'a>, AllocError>
-    ensures app { IfOk result (λ command. app_of command ≡ audit_command) }
-    ensures own { IfOk result (λ command. (out-Command command).has_globals ≡ false) }
-{
-    let command = Command::new(alloc, "audit")
-        .about("Audits the document's journal")
-        .after_help(
-            "Example: examples/ask examples/one-root.json '{\"never\":\"A\"}' | ./taskgraph refute | ./taskgraph audit",
-        );
-    let command = with_option(command, each(alloc))?;
-    let command = with_option(command, jobs(alloc))?;
-    with_option(command, explain(alloc))
-}
-
-/// The subcommand that searches for a run in which a claim fails.
-fn refute<'a>(alloc: Global) -> Result<Command<'a>, AllocError>
-    ensures app { IfOk result (λ command. app_of command ≡ refute_command) }
-    ensures own { IfOk result (λ command. (out-Command command).has_globals ≡ false) }
-{
-    let command = Command::new(alloc, "refute")
-        .about("Searches for a run in which a claim fails")
-        .after_help(
-            "Example: examples/ask examples/one-root.json '{\"never\":\"A\"}' | ./taskgraph refute --explain",
-        );
-    let command = with_option(command, claim(alloc))?;
-    let command = with_option(command, runs(alloc))?;
-    let command = with_option(command, seed(alloc))?;
-    with_option(command, explain(alloc))
-}
-
-/// The subcommand that answers each claim.
-fn verify<'a>(alloc: Global) -> Result<Command<'a>, AllocError>
-    ensures app { IfOk result (λ command. app_of command ≡ verify_command) }
-    ensures own { IfOk result (λ command. (out-Command command).has_globals ≡ false) }
-{
-    let command = Command::new(alloc, "verify")
-        .about("Answers each of the document's claims: it holds, fails, is empty, or is unknown")
-        .after_help("Example: ./taskgraph verify --as junit < examples/either-or.json");
-    let command = with_option(command, depth(alloc, "6"))?;
-    let command = with_option(command, runs(alloc))?;
-    let command = with_option(command, seed(alloc))?;
-    let command = with_option(command, jobs(alloc))?;
-    let command = with_option(command, style(alloc))?;
-    let command = with_option(command, each(alloc))?;
-    with_option(command, explain(alloc))
-}
-
-/// The subcommand that draws a graph.
-fn draw<'a>(alloc: Global) -> Result<Command<'a>, AllocError>
-    ensures app { IfOk result (λ command. app_of command ≡ draw_command) }
-    ensures own { IfOk result (λ command. (out-Command command).has_globals ≡ false) }
-{
-    let command = Command::new(alloc, "draw")
-        .about("Draws the document's graph")
-        .after_help("Example: ./taskgraph draw --as dot < examples/saga.json");
-    let command = with_option(command, language(alloc))?;
-    with_option(command, explain(alloc))
-}
-
-/// The subcommand that writes a journal for a trace viewer.
-fn trace<'a>(alloc: Global) -> Result<Command<'a>, AllocError>
-    ensures app { IfOk result (λ command. app_of command ≡ trace_command) }
-    ensures own { IfOk result (λ command. (out-Command command).has_globals ≡ false) }
-{
-    let command = Command::new(alloc, "trace")
-        .about("Writes the document's journal for a trace viewer")
-        .after_help(
-            "Example: examples/ask examples/one-root.json '{\"never\":\"A\"}' | ./taskgraph refute | ./taskgraph trace",
-        );
-    with_option(command, explain(alloc))
+    command.subcommand(subcommand.command(alloc)?)
 }
 
 /// The command line.
 pub(crate) fn taskgraph<'a>(alloc: Global) -> Result<Command<'a>, AllocError>
     ensures { IfOk result (λ command. app_of command ≡ taskgraph) }
 {
-    let command = with_subcommand(no_command(alloc), check(alloc)?)?;
-    let command = with_subcommand(command, analyse(alloc)?)?;
-    let command = with_subcommand(command, run(alloc)?)?;
-    let command = with_subcommand(command, audit(alloc)?)?;
-    let command = with_subcommand(command, refute(alloc)?)?;
-    let command = with_subcommand(command, verify(alloc)?)?;
-    let command = with_subcommand(command, draw(alloc)?)?;
-    with_subcommand(command, trace(alloc)?)
+    let command = with_subcommand(alloc, no_command(alloc), Subcommand::Check)?;
+    let command = with_subcommand(alloc, command, Subcommand::Analyse)?;
+    let command = with_subcommand(alloc, command, Subcommand::Run)?;
+    let command = with_subcommand(alloc, command, Subcommand::Audit)?;
+    let command = with_subcommand(alloc, command, Subcommand::Refute)?;
+    let command = with_subcommand(alloc, command, Subcommand::Verify)?;
+    let command = with_subcommand(alloc, command, Subcommand::Draw)?;
+    with_subcommand(alloc, command, Subcommand::Trace)
 }
