@@ -1,5 +1,5 @@
 -- From the answer to what was read and written.
-use Rattle.std.proofs.Common.{ℕ, inr, List, [], ◌∷◌, Option, Result, Ok, Err, IfOk, string_bytes}
+use Rattle.std.proofs.Common.{ℕ, inl, inr, List, [], ◌∷◌, Option, Result, Ok, Err, IfOk, string_bytes}
 use Rattle.std.specs.List.{AllZip}
 use Rattle.std.specs.declared.alloc.AllocError.{AllocError}
 use Rattle.tpl_model.specs.Graph.{TaskGraph}
@@ -7,9 +7,10 @@ use Rattle.tpl_model.specs.Claims.{Claim}
 use Rattle.tpl_model.specs.declared.rule_set.RuleSet.{RuleSet}
 use Rattle.tpl_journal.specs.declared.counting.Counting.{Counting}
 use Rattle.tpl_commands.specs.declared.exit.Exit.{Exit}
+use Rattle.tpl_commands.specs.declared.exit.Exit.TheVariants.{Success, Failure, Usage, Unreadable, Memory, Device, Fault}
 use Rattle.tpl_commands.specs.declared.responding.Answered.{Answered}
 use Rattle.tpl_commands.specs.Documents.{NoDocument}
-use Rattle.tpl_commands.specs.Responding.{Responds}
+use Rattle.tpl_commands.specs.Responding.{Answers, NoAnswer, Responds, Says}
 use Rattle.tpl_commands.specs.Rules.{rules_of}
 use Rattle.tpl_reader.proofs.Claimed.{claims_spelled}
 use Rattle.tpl_verify.specs.declared.verdict.Verdict.{Verdict}
@@ -23,6 +24,21 @@ use Rattle.tpl_verdicts.specs.Answer.{IsVerified, Judged, Verified, Verifies}
 pub unread : (style : Style) (bytes : List ℕ) (r : Result Answered AllocError) → IfOk r (λ it. NoDocument bytes it.answer.exit (string_bytes it.answer.text)) → IfOk r (λ it. Verifies style bytes it.answer.exit (string_bytes it.answer.text))
 unread style bytes (Ok it) wrong = inr wrong
 unread style bytes (Err e) wrong = tt
+
+-- what is said where no document is answered is said for each command
+says_all : (answers : Answers) (input : List ℕ) (exit : Exit) (text : List ℕ) → Says NoAnswer input exit text → Says answers input exit text
+says_all answers input Success text s = absurd s.1
+says_all answers input Failure text s = absurd s.1
+says_all answers input Usage text s = absurd s
+says_all answers input Unreadable text (inl s) = absurd s.1
+says_all answers input Unreadable text (inr s) = inr s
+says_all answers input Memory text s = s
+says_all answers input Device text s = absurd s
+says_all answers input Fault text s = absurd s
+
+pub unanswered : {R W : Type 0} (answers : Answers) (remaining : R → Option (List ℕ)) (from_old from_new : Counting R) (contents : W → Option (List ℕ)) (old new : Counting W) (result : Exit) → Responds NoAnswer remaining from_old from_new contents old new result → Responds answers remaining from_old from_new contents old new result
+unanswered answers remaining from_old from_new contents old new result (inl it) = inl (it.0, it.1, it.2, it.3, says_all answers it.0 it.1 it.2 it.4, it.5)
+unanswered answers remaining from_old from_new contents old new result (inr failed) = inr failed
 
 pub done_verifies : {R W : Type 0} (remaining : R → Option (List ℕ)) (from_old from_new : Counting R) (contents : W → Option (List ℕ)) (old new : Counting W) (style : Style) (result : Exit) → Responds (Verifies style) remaining from_old from_new contents old new result → IsYesOrNo result → Verified remaining from_old from_new contents old new style result
 done_verifies remaining from_old from_new contents old new style result responds done =

@@ -1,4 +1,5 @@
 pub mod Words
+pub mod Judgements
 pub mod Lines
 pub mod Junit
 pub mod Json

@@ -1,7 +1,8 @@
 -- The words for verdicts.
-use Rattle.std.specs.Prelude.{ℕ, Bool, true, false, Some, None, List, codes, count_by}
+use Rattle.std.specs.Prelude.{◌≡◌, ℕ, Bool, true, false, Some, None, List, codes, count_by, length}
 use Rattle.tpl_verify.specs.declared.verdict.Verdict.{Verdict}
 use Rattle.tpl_verify.specs.declared.verdict.Verdict.TheVariants as verdict
+use Rattle.tpl_verdicts.specs.declared.sums.Sums.{Sums}
 use Rattle.tpl_verdicts.specs.declared.word.Word.{Word}
 use Rattle.tpl_verdicts.specs.declared.word.Word.TheVariants.{Holds, Fails, Empty, Unknown}
 
@@ -30,3 +31,11 @@ same_word one other = false
 -- how many of the verdicts have this word
 abbrev pub count_of : List Verdict → Word → ℕ
 count_of verdicts word = count_by (λ v. same_word (word_of v) word) verdicts
+
+-- how many claims there are, and how many of each word
+pub record AreSums (verdicts : List Verdict) (sums : Sums) : Type 0 where
+  pub claims : sums.claims ≡ length verdicts
+  pub holds : sums.holds ≡ count_of verdicts Holds
+  pub fails : sums.fails ≡ count_of verdicts Fails
+  pub empty : sums.empty ≡ count_of verdicts Empty
+  pub unknown : sums.unknown ≡ count_of verdicts Unknown

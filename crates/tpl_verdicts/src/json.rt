@@ -7,11 +7,11 @@ ghost use Rattle.tpl_graph.specs.Prelude.{Fits};
 ghost use Rattle.tpl_journal.specs.Prelude.{CanSpell};
 ghost use Rattle.tpl_journal.specs.Lines.{task_name};
 ghost use Rattle.tpl_model.specs.Prelude.{is_task};
-ghost use Rattle.tpl_verdicts.specs.Prelude.{AreNumbered, IsClaimData, IsJson, IsNamed, IsNamedData, IsRunData, empty_data, failed_data, held_data, ran_out_word, sums_data, tried_data, unknown_data, verdicts_data, why_data};
-ghost use Rattle.tpl_verify.specs.Prelude.{AreFirst, AreVerdicts, IsEmpty, IsSomeVerdict};
+ghost use Rattle.tpl_verdicts.specs.Prelude.{AreNumbered, AreRight, IsClaimData, IsJson, IsNamed, IsNamedData, IsRight, IsRunData, empty_data, failed_data, held_data, ran_out_word, sums_data, tried_data, unknown_data, verdicts_data, why_data};
+ghost use Rattle.tpl_verify.specs.Prelude.{AreFirst, IsEmpty};
 
-use crate::sums::count_of;
-use crate::word::Word;
+use crate::judgement::{Judgement, Judgements};
+use crate::sums::sums_of;
 use serde_json::{Value, json};
 use std::alloc::{AllocError, Global};
 use tpl_analyser::RanOut;
@@ -147,21 +147,21 @@ fn unknown_value(
     json!(in alloc; {"claim": number, "text": text, "tried": tried, "verdict": "unknown"})
 }
 
-/// What is said of the claim of this number.
-fn claim_value(
-    alloc: Global,
-    graph: &Graph,
-    claim: &Claim,
-    number: usize,
-    verdict: &Verdict,
-) -> Result<Value, AllocError>
-    requires fits { Fits graph.now.graph claim.now }
-    requires verdict { IsSomeVerdict graph.now.graph claim.now verdict.now }
-    ensures { IfOk result (λ v. IsClaimData graph.now.names number verdict.now (view v)) }
+/// What is said of a claim.
+fn claim_value(alloc: Global, judgement: &Judgement<'_>) -> Result<Value, AllocError>
+    requires { IsRight judgement.now }
+    ensures { IfOk result (λ v. IsClaimData judgement.now.graph.now.names judgement.now.number
+        judgement.now.verdict.now (view v)) }
 {
     spells_run();
+    let Judgement {
+        graph,
+        claim,
+        number,
+        ..
+    } = *judgement;
     let text = claim_words(alloc, graph, claim)?;
-    match verdict {
+    match judgement.verdict {
         Verdict::Holds {
             splits,
             empty: None,
@@ -197,36 +197,26 @@ fn named(alloc: Global, value: Value, name: &str) -> Result<Value, AllocError>
 }
 
 /// The value with the name of its claim, if that has one.
-fn with_name(
-    alloc: Global,
-    value: Value,
-    name: Option<&Option<String>>,
-) -> Result<Value, AllocError>
+fn with_name(alloc: Global, value: Value, name: Option<&str>) -> Result<Value, AllocError>
     ensures { IfOk result (λ v. IsNamed (view value) (view v)) }
 {
     match name {
-        Some(Some(name)) => named(alloc, value, name.as_str()),
-        _ => Ok(value),
+        Some(name) => named(alloc, value, name),
+        None => Ok(value),
     }
 }
 
 /// What is said of each claim.
-fn claim_values(
-    alloc: Global,
-    graph: &Graph,
-    claims: &[Claim],
-    names: &[Option<String>],
-    verdicts: &[Verdict],
-) -> Result<Vec<Value>, AllocError>
-    requires claims { All (Fits graph.now.graph) claims.now }
-    requires verdicts { AreVerdicts graph.now.graph claims.now verdicts.now }
-    ensures { IfOk result (λ values. AreNumbered (IsNamedData graph.now.names) 1 verdicts.now
-        (map view values.items)) }
+fn claim_values(alloc: Global, all: &Judgements<'_>) -> Result<Vec<Value>, AllocError>
+    requires { AreRight all.now }
+    ensures { IfOk result (λ values. AreNumbered (IsNamedData all.now.graph.now.names) 1
+        all.now.verdicts.now (map view values.items)) }
 {
     let mut values = Vec::new(alloc);
-    for at in 0..verdicts.len() {
-        let plain = claim_value(alloc, graph, &claims[at], at + 1, &verdicts[at])?;
-        let value = with_name(alloc, plain, names.get(at))?;
+    for place in 0..all.verdicts.len() {
+        let judgement = all.at(place);
+        let plain = claim_value(alloc, &judgement)?;
+        let value = with_name(alloc, plain, judgement.name)?;
         values.push(value)?;
     }
     Ok(values)
@@ -236,13 +226,10 @@ fn claim_values(
 fn sums_value(alloc: Global, verdicts: &[Verdict]) -> Result<Value, AllocError>
     ensures { IfOk result (λ v. view v ≡ sums_data verdicts.now) }
 {
-    let claims = verdicts.len();
-    let empty = count_of(verdicts, Word::Empty);
-    let fails = count_of(verdicts, Word::Fails);
-    let holds = count_of(verdicts, Word::Holds);
-    let unknown = count_of(verdicts, Word::Unknown);
+    let sums = sums_of(verdicts);
     json!(in alloc; {
-        "claims": claims, "empty": empty, "fails": fails, "holds": holds, "unknown": unknown
+        "claims": sums.claims, "empty": sums.empty, "fails": sums.fails, "holds": sums.holds,
+        "unknown": sums.unknown
     })
 }
 
@@ -255,19 +242,13 @@ fn whole_value(alloc: Global, claims: Vec<Value>, verdicts: &[Verdict]) -> Resul
 }
 
 /// The verdicts on the claims as one line of JSON.
-pub(crate) fn json_of(
-    alloc: Global,
-    graph: &Graph,
-    claims: &[Claim],
-    names: &[Option<String>],
-    verdicts: &[Verdict],
-) -> Result<String, AllocError>
-    requires claims { All (Fits graph.now.graph) claims.now }
-    requires verdicts { AreVerdicts graph.now.graph claims.now verdicts.now }
-    ensures { IfOk result (λ text. IsJson graph.now.names verdicts.now (string_bytes text)) }
+pub(crate) fn json_of(alloc: Global, all: &Judgements<'_>) -> Result<String, AllocError>
+    requires { AreRight all.now }
+    ensures { IfOk result (λ text.
+        IsJson all.now.graph.now.names all.now.verdicts.now (string_bytes text)) }
 {
-    let values = claim_values(alloc, graph, claims, names, verdicts)?;
-    let mut text = whole_value(alloc, values, verdicts)?.to_string(alloc)?;
+    let values = claim_values(alloc, all)?;
+    let mut text = whole_value(alloc, values, all.verdicts)?.to_string(alloc)?;
     text.push_str("\n")?;
     Ok(text)
 }

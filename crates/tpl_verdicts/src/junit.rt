@@ -1,18 +1,15 @@
 //! The verdicts as test cases, in the form of JUnit that Azure DevOps and GitHub's reporters read. Times and the date are
 //! constants, so that the same verdicts give the same bytes.
 
-ghost use Rattle.std.specs.Prelude.{◌≡◌, ◌++◌, flat_map, IfOk, OnOk, string_bytes, All};
-ghost use Rattle.tpl_graph.specs.Prelude.{Fits};
-ghost use Rattle.tpl_verdicts.specs.Prelude.{AreNumbered, IsCase, IsJunit, case_text, failure_text, message, opening, outcome_text};
-ghost use Rattle.tpl_verify.specs.Prelude.{AreVerdicts};
+ghost use Rattle.std.specs.Prelude.{◌≡◌, ◌++◌, flat_map, IfOk, OnOk, string_bytes};
+ghost use Rattle.tpl_verdicts.specs.Prelude.{AreNumbered, AreRight, IsCase, IsJunit, case_text, failure_text, message, opening, outcome_text};
 
 use crate::entries::entries;
 use crate::entry::Entry;
-use crate::searched::Searched;
+use crate::judgement::Judgements;
 use crate::sums::count_of;
 use crate::word::Word;
 use std::alloc::{AllocError, Global};
-use tpl_graph::{Claim, Graph};
 use tpl_verify::Verdict;
 
 /// What stands behind the last test case.
@@ -110,19 +107,11 @@ fn case_text(alloc: Global, entry: &Entry) -> Result<String, AllocError>
 }
 
 /// What is said of each claim, as it stands in XML.
-fn cases(
-    alloc: Global,
-    graph: &Graph,
-    claims: &[Claim],
-    names: &[Option<String>],
-    verdicts: &[Verdict],
-    searched: &Searched,
-) -> Result<Vec<Entry>, AllocError>
-    requires claims { All (Fits graph.now.graph) claims.now }
-    requires verdicts { AreVerdicts graph.now.graph claims.now verdicts.now }
-    ensures { IfOk result (λ cases. AreNumbered IsCase 1 verdicts.now cases.items) }
+fn cases(alloc: Global, all: &Judgements<'_>) -> Result<Vec<Entry>, AllocError>
+    requires { AreRight all.now }
+    ensures { IfOk result (λ cases. AreNumbered IsCase 1 all.now.verdicts.now cases.items) }
 {
-    let entries = entries(alloc, graph, claims, names, verdicts, searched)?;
+    let entries = entries(alloc, all)?;
     let mut cases = Vec::new(alloc);
     for entry in &entries {
         let case = escaped_entry(alloc, entry)?;
@@ -154,20 +143,12 @@ fn add_cases(text: &mut String, alloc: Global, cases: &[Entry]) -> Result<(), Al
 }
 
 /// The verdicts on the claims as test cases.
-pub(crate) fn junit_of(
-    alloc: Global,
-    graph: &Graph,
-    claims: &[Claim],
-    names: &[Option<String>],
-    verdicts: &[Verdict],
-    searched: &Searched,
-) -> Result<String, AllocError>
-    requires claims { All (Fits graph.now.graph) claims.now }
-    requires verdicts { AreVerdicts graph.now.graph claims.now verdicts.now }
-    ensures { IfOk result (λ text. IsJunit verdicts.now (string_bytes text)) }
+pub(crate) fn junit_of(alloc: Global, all: &Judgements<'_>) -> Result<String, AllocError>
+    requires { AreRight all.now }
+    ensures { IfOk result (λ text. IsJunit all.now.verdicts.now (string_bytes text)) }
 {
-    let cases = cases(alloc, graph, claims, names, verdicts, searched)?;
-    let mut text = opening(alloc, verdicts)?;
+    let cases = cases(alloc, all)?;
+    let mut text = opening(alloc, all.verdicts)?;
     add_cases(&mut text, alloc, &cases)?;
     text.push_str(CLOSING)?;
     Ok(text)

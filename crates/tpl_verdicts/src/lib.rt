@@ -4,6 +4,7 @@
 mod entries;
 mod entry;
 mod json;
+mod judgement;
 mod junit;
 mod lines;
 mod searched;

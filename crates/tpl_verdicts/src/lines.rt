@@ -3,10 +3,9 @@
 ghost use Rattle.std.specs.Prelude.{◌≡◌, ◌++◌, map, IfOk, OnOk, string_bytes, All};
 ghost use Rattle.tpl_graph.specs.Prelude.{Fits};
 ghost use Rattle.tpl_journal.specs.Prelude.{CanSpell, line};
-ghost use Rattle.tpl_verdicts.specs.Prelude.{AreLines};
-ghost use Rattle.tpl_verify.specs.Prelude.{IsSomeVerdict};
+ghost use Rattle.tpl_verdicts.specs.Prelude.{AreLines, IsRight};
 
-use crate::searched::Searched;
+use crate::judgement::Judgement;
 use std::alloc::{AllocError, Global};
 use std::slice;
 use tpl_graph::{Claim, Graph};
@@ -47,13 +46,17 @@ fn empty_lines(alloc: Global, graph: &Graph, empty: Empty) -> Result<Vec<String>
 /// What was tried for a claim of which nothing is known, and what to do.
 fn unknown_lines(
     alloc: Global,
-    graph: &Graph,
-    claim: &Claim,
-    searched: &Searched,
+    judgement: &Judgement<'_>,
     tried: Tried,
 ) -> Result<Vec<String>, AllocError>
-    requires { Fits graph.now.graph claim.now }
+    requires { Fits judgement.now.graph.now.graph judgement.now.claim.now }
 {
+    let Judgement {
+        graph,
+        claim,
+        searched,
+        ..
+    } = *judgement;
     let words = tried_words(alloc, searched.depth, tried.ran_out)?;
     let (runs, most) = (tried.runs, tried.most());
     let mut lines = Vec::new(alloc);
@@ -120,28 +123,21 @@ fn failing_lines(
     Ok(lines)
 }
 
-/// The lines that belong to the line of the claim of this number.
-pub(crate) fn lines_of(
-    alloc: Global,
-    graph: &Graph,
-    claim: &Claim,
-    number: usize,
-    verdict: &Verdict,
-    searched: &Searched,
-) -> Result<Vec<String>, AllocError>
-    requires fits { Fits graph.now.graph claim.now }
-    requires verdict { IsSomeVerdict graph.now.graph claim.now verdict.now }
-    ensures { IfOk result (λ lines. AreLines graph.now.names number verdict.now
-        (map string_bytes lines.items)) }
+/// The lines that belong to a claim's line.
+pub(crate) fn lines_of(alloc: Global, judgement: &Judgement<'_>) -> Result<Vec<String>, AllocError>
+    requires { IsRight judgement.now }
+    ensures { IfOk result (λ lines. AreLines judgement.now.graph.now.names judgement.now.number
+        judgement.now.verdict.now (map string_bytes lines.items)) }
 {
     spells_run();
-    match verdict {
+    let Judgement { graph, number, .. } = *judgement;
+    match judgement.verdict {
         Verdict::Holds { empty: None, .. } => Ok(Vec::new(alloc)),
         Verdict::Holds {
             empty: Some(empty),
             ..
         } => empty_lines(alloc, graph, *empty),
         Verdict::Fails(run) => failing_lines(alloc, graph, number, run),
-        Verdict::Unknown(tried) => unknown_lines(alloc, graph, claim, searched, *tried),
+        Verdict::Unknown(tried) => unknown_lines(alloc, judgement, *tried),
     }
 }

@@ -1,17 +1,13 @@
 //! The verdicts as text, for people.
 
-ghost use Rattle.std.specs.Prelude.{◌≡◌, ◌++◌, flat_map, IfOk, OnOk, string_bytes, All};
-ghost use Rattle.tpl_graph.specs.Prelude.{Fits};
-ghost use Rattle.tpl_verdicts.specs.Prelude.{IsText, entry_text, indented};
-ghost use Rattle.tpl_verify.specs.Prelude.{AreVerdicts};
+ghost use Rattle.std.specs.Prelude.{◌≡◌, ◌++◌, flat_map, IfOk, OnOk, string_bytes};
+ghost use Rattle.tpl_verdicts.specs.Prelude.{AreRight, IsText, entry_text, indented};
 
 use crate::entries::entries;
 use crate::entry::Entry;
-use crate::searched::Searched;
+use crate::judgement::Judgements;
 use crate::sums::sums_line;
 use std::alloc::{AllocError, Global};
-use tpl_graph::{Claim, Graph};
-use tpl_verify::Verdict;
 
 /// Lines that belong to another one.
 fn indented(alloc: Global, lines: &[String]) -> Result<String, AllocError>
@@ -47,22 +43,15 @@ fn add_entries(text: &mut String, alloc: Global, entries: &[Entry]) -> Result<()
     Ok(())
 }
 
-/// The verdicts on the claims, which were searched with at most so many splits.
-pub(crate) fn text_of(
-    alloc: Global,
-    graph: &Graph,
-    claims: &[Claim],
-    names: &[Option<String>],
-    verdicts: &[Verdict],
-    searched: &Searched,
-) -> Result<String, AllocError>
-    requires claims { All (Fits graph.now.graph) claims.now }
-    requires verdicts { AreVerdicts graph.now.graph claims.now verdicts.now }
-    ensures { IfOk result (λ text. IsText graph.now.names verdicts.now (string_bytes text)) }
+/// The verdicts on the claims.
+pub(crate) fn text_of(alloc: Global, all: &Judgements<'_>) -> Result<String, AllocError>
+    requires { AreRight all.now }
+    ensures { IfOk result (λ text.
+        IsText all.now.graph.now.names all.now.verdicts.now (string_bytes text)) }
 {
-    let entries = entries(alloc, graph, claims, names, verdicts, searched)?;
+    let entries = entries(alloc, all)?;
     let mut text = String::new(alloc);
     add_entries(&mut text, alloc, &entries)?;
-    text.push_str(sums_line(alloc, verdicts)?.as_str())?;
+    text.push_str(sums_line(alloc, all.verdicts)?.as_str())?;
     Ok(text)
 }

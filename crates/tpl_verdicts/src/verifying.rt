@@ -1,15 +1,16 @@
 //! The verdicts on the claims of a document, from a reader to a writer.
 
-ghost use Rattle.std.specs.Prelude.{◌≡◌, ◌⊎◌, ◌+◌, ◌≤◌, ◌<◌, IfOk, IfSome, IsTrue, string_bytes, All};
+ghost use Rattle.std.specs.Prelude.{◌≡◌, ◌⊎◌, ◌+◌, ◌≤◌, ◌<◌, None, IfOk, IfSome, IsTrue, string_bytes, All};
 ghost use Rattle.std.specs.List.{AllZip};
-ghost use Rattle.tpl_commands.specs.Prelude.{IsAnswer, IsFindingOf, Responds, is_verdict, longest, rules_of};
+ghost use Rattle.tpl_commands.specs.Prelude.{IsFindingOf, Responds, is_verdict, longest, rules_of};
 ghost use Rattle.tpl_graph.specs.Prelude.{Fits};
 ghost use Rattle.tpl_journal.specs.Prelude.{calls_of};
 ghost use Rattle.tpl_reader.specs.Prelude.{doc_of};
-ghost use Rattle.tpl_verdicts.specs.Prelude.{IsExit, IsStyled, IsVerified, Judged, Verified, Verifies};
-ghost use Rattle.tpl_verify.specs.Prelude.{AreVerdicts, HoldsAlways, IsVerdict};
+ghost use Rattle.tpl_verdicts.specs.Prelude.{AreRight, IsExit, IsStyled, IsVerified, Judged, Verified, Verifies};
+ghost use Rattle.tpl_verify.specs.Prelude.{HoldsAlways, IsVerdict};
 
 use crate::json::json_of;
+use crate::judgement::Judgements;
 use crate::junit::junit_of;
 use crate::searched::Searched;
 use crate::style::Style;
@@ -22,19 +23,19 @@ use tpl_analyser::Depth;
 use tpl_commands::{
     Answer, Answered, Command, Exit, Listen, put_answered, read_input, rules_of, unread,
 };
-use tpl_graph::{Claim, Graph};
 use tpl_journal::Counting;
 use tpl_reader::{Document, Hear, Unheard, read_document_heard};
 use tpl_verify::{Attend, Limits, Verdict, all_hold, verify, verify_beside};
 
 /// How the program ends with these verdicts.
-fn exit_of(graph: &Graph, claims: &[Claim], verdicts: &[Verdict]) -> Exit
-    requires { AreVerdicts graph.now.graph claims.now verdicts.now }
-    ensures ends { IsExit verdicts.now result }
-    ensures sound { result ≡ Exit.Success → All (HoldsAlways graph.now.graph) claims.now }
+fn exit_of(all: &Judgements<'_>) -> Exit
+    requires { AreRight all.now }
+    ensures ends { IsExit all.now.verdicts.now result }
+    ensures sound { result ≡ Exit.Success
+        → All (HoldsAlways all.now.graph.now.graph) all.now.claims.now }
     ensures answered { IsTrue (is_verdict result) }
 {
-    if all_hold(graph, claims, verdicts) {
+    if all_hold(all.graph, all.claims, all.verdicts) {
         Exit::Success
     } else {
         Exit::Failure
@@ -42,24 +43,15 @@ fn exit_of(graph: &Graph, claims: &[Claim], verdicts: &[Verdict]) -> Exit
 }
 
 /// The verdicts in this style.
-fn styled(
-    alloc: Global,
-    style: Style,
-    graph: &Graph,
-    claims: &[Claim],
-    names: &[Option<String>],
-    verdicts: &[Verdict],
-    searched: &Searched,
-) -> Result<String, AllocError>
-    requires claims { All (Fits graph.now.graph) claims.now }
-    requires verdicts { AreVerdicts graph.now.graph claims.now verdicts.now }
+fn styled(alloc: Global, style: Style, all: &Judgements<'_>) -> Result<String, AllocError>
+    requires { AreRight all.now }
     ensures { IfOk result (λ text.
-        IsStyled style graph.now.names verdicts.now (string_bytes text)) }
+        IsStyled style all.now.graph.now.names all.now.verdicts.now (string_bytes text)) }
 {
     match style {
-        Style::Text => text_of(alloc, graph, claims, names, verdicts, searched),
-        Style::Json => json_of(alloc, graph, claims, names, verdicts),
-        Style::Junit => junit_of(alloc, graph, claims, names, verdicts, searched),
+        Style::Text => text_of(alloc, all),
+        Style::Json => json_of(alloc, all),
+        Style::Junit => junit_of(alloc, all),
     }
 }
 
@@ -70,88 +62,26 @@ fn answer_of(
     style: Style,
     document: &Document,
     verdicts: &[Verdict],
-) -> Result<Answer, AllocError>
+) -> Result<Answered, AllocError>
     requires claims { All (Fits document.now.graph.graph) document.now.claims.items }
     requires verdicts { AllZip (IsVerdict (rules_of (doc_of document.now))
         document.now.graph.graph) document.now.claims.items verdicts.now }
-    ensures { IfOk result (λ given.
-        IsVerified style (doc_of document.now) given.exit (string_bytes given.text)) }
+    ensures answer { IfOk result (λ it. IsVerified style (doc_of document.now)
+        it.answer.exit (string_bytes it.answer.text)) }
+    ensures found { IfOk result (λ it. it.finding ≡ None) }
 {
-    let graph = &document.graph;
     let rules = rules_of(document);
-    let searched = Searched { depth, rules };
-    let (claims, names) = (&document.claims, &document.names);
-    let text = styled(alloc, style, graph, claims, names, verdicts, &searched)?;
-    let exit = exit_of(graph, &document.claims, verdicts);
-    Ok(Answer { exit, text })
-}
-
-/// The answer to a document.
-fn answer_for<T: Threads + Sync, A: Attend + Sync>(
-    rt: &T,
-    alloc: Global,
-    asked: Verification,
-    attend: &A,
-    document: &Document,
-) -> Result<Answer, AllocError>
-    requires jobs { 0 < asked.jobs }
-    requires claims { All (Fits document.now.graph.graph) document.now.claims.items }
-    ensures { IfOk result (λ given.
-        IsVerified asked.style (doc_of document.now) given.exit (string_bytes given.text)) }
-{
-    let (graph, claims) = (&document.graph, document.claims.as_slice());
-    let (rules, limits) = (rules_of(document), &asked.limits);
-    let verdicts = verify_beside(rt, alloc, graph, claims, rules, limits, asked.jobs, attend)?;
-    answer_of(alloc, limits.depth, asked.style, document, &verdicts)
-}
-
-/// The answer to bytes.
-fn answer<T: Threads + Sync, A: Attend + Sync, H: Hear>(
-    rt: &T,
-    alloc: Global,
-    asked: Verification,
-    attend: &A,
-    hear: H,
-    bytes: &[u8],
-) -> Result<Answered, AllocError>
-    requires jobs { 0 < asked.jobs }
-    ensures answer { IfOk result (λ it.
-        Verifies asked.style bytes.now it.answer.exit (string_bytes it.answer.text)) }
-    ensures found { IfOk result (λ it. IfSome it.finding (IsFindingOf bytes.now)) }
-{
-    match read_document_heard(alloc, bytes, hear) {
-        Ok(document) => {
-            let answer = answer_for(rt, alloc, asked, attend, &document)?;
-            let finding = None;
-            Ok(Answered { answer, finding })
-        }
-        Err(misread) => unread(alloc, bytes, misread),
-    }
-}
-
-/// The answer to bytes, with no thread of its own.
-fn answer_alone(
-    alloc: Global,
-    limits: &Limits,
-    style: Style,
-    bytes: &[u8],
-) -> Result<Answered, AllocError>
-    ensures answer { IfOk result (λ it.
-        Verifies style bytes.now it.answer.exit (string_bytes it.answer.text)) }
-    ensures found { IfOk result (λ it. IfSome it.finding (IsFindingOf bytes.now)) }
-    ensures follows { IfOk result (λ it. IfSome it.finding (λ finding.
-        IsAnswer finding it.answer.exit (string_bytes it.answer.text))) }
-{
-    match read_document_heard(alloc, bytes, Unheard) {
-        Ok(document) => {
-            let (graph, rules) = (&document.graph, rules_of(&document));
-            let verdicts = verify(alloc, graph, &document.claims, rules, limits)?;
-            let answer = answer_of(alloc, limits.depth, style, &document, &verdicts)?;
-            let finding = None;
-            Ok(Answered { answer, finding })
-        }
-        Err(misread) => unread(alloc, bytes, misread),
-    }
+    let all = Judgements {
+        graph: &document.graph,
+        claims: &document.claims,
+        names: &document.names,
+        verdicts,
+        searched: Searched { depth, rules },
+    };
+    let text = styled(alloc, style, &all)?;
+    let exit = exit_of(&all);
+    let (answer, finding) = (Answer { exit, text }, None);
+    Ok(Answered { answer, finding })
 }
 
 /// Answers each claim of a document, one after another, with no thread of its own.
@@ -167,34 +97,55 @@ impl Command for OneByOne {
     ghost answers = { λ this. Verifies this.style };
 
     fn answer(&self, alloc: Global, bytes: &[u8]) -> Result<Answered, AllocError> {
-        answer_alone(alloc, &self.limits, self.style, bytes)
+        let OneByOne { limits, style } = self;
+        match read_document_heard(alloc, bytes, Unheard) {
+            Ok(document) => {
+                let (graph, rules) = (&document.graph, rules_of(&document));
+                let verdicts = verify(alloc, graph, &document.claims, rules, limits)?;
+                answer_of(alloc, limits.depth, *style, &document, &verdicts)
+            }
+            Err(misread) => unread(alloc, bytes, misread),
+        }
     }
 }
 
-/// Reads a document and writes the answer to it.
-fn respond<T: Threads + Sync, A: Attend + Sync, L: Listen, I: Read, O: Write>(
+/// The answer to a document, whose claims are searched by several threads.
+fn answer_beside<T: Threads + Sync, A: Attend + Sync>(
     rt: &T,
     alloc: Global,
     asked: Verification,
     attend: &A,
-    listener: L,
-    from: &mut Counting<I>,
-    to: &mut Counting<O>,
-) -> Exit
+    document: &Document,
+) -> Result<Answered, AllocError>
     requires jobs { 0 < asked.jobs }
-    ensures responds { Responds (Verifies asked.style) I.remaining from.old from.new
-        O.contents to.old to.new result }
-    ensures reads { calls_of from.new ≤ calls_of from.old + (longest + 2) }
+    requires claims { All (Fits document.now.graph.graph) document.now.claims.items }
+    ensures answer { IfOk result (λ it. IsVerified asked.style (doc_of document.now)
+        it.answer.exit (string_bytes it.answer.text)) }
+    ensures found { IfOk result (λ it. it.finding ≡ None) }
 {
-    match read_input(alloc, from, to) {
-        Ok(bytes) => {
-            let answered = answer(rt, alloc, asked, attend, listener, &bytes);
-            put_answered(answered, listener, &bytes, to)
-        }
-        Err(exit) => {
-            listener.unread(exit);
-            exit
-        }
+    let (graph, claims) = (&document.graph, document.claims.as_slice());
+    let (rules, limits) = (rules_of(document), &asked.limits);
+    let verdicts = verify_beside(rt, alloc, graph, claims, rules, limits, asked.jobs, attend)?;
+    answer_of(alloc, limits.depth, asked.style, document, &verdicts)
+}
+
+/// The answer to bytes, by several threads.
+fn answer<T: Threads + Sync, A: Attend + Sync, H: Hear>(
+    rt: &T,
+    alloc: Global,
+    asked: Verification,
+    attend: &A,
+    hear: H,
+    bytes: &[u8],
+) -> Result<Answered, AllocError>
+    requires { 0 < asked.jobs }
+    ensures answer { IfOk result (λ it.
+        Verifies asked.style bytes.now it.answer.exit (string_bytes it.answer.text)) }
+    ensures found { IfOk result (λ it. IfSome it.finding (IsFindingOf bytes.now)) }
+{
+    match read_document_heard(alloc, bytes, hear) {
+        Ok(document) => answer_beside(rt, alloc, asked, attend, &document),
+        Err(misread) => unread(alloc, bytes, misread),
     }
 }
 
@@ -227,5 +178,14 @@ pub fn verify_document<T: Threads + Sync, A: Attend + Sync, L: Listen, I: Read, 
     ensures verified { (result ≡ Exit.Success) ⊎ (result ≡ Exit.Failure)
         → Verified I.remaining from.old from.new O.contents to.old to.new asked.style result }
 {
-    respond(rt, alloc, asked, attend, listener, from, to)
+    match read_input(alloc, from, to) {
+        Ok(bytes) => {
+            let answered = answer(rt, alloc, asked, attend, listener, &bytes);
+            put_answered(answered, listener, &bytes, to)
+        }
+        Err(exit) => {
+            listener.unread(exit);
+            exit
+        }
+    }
 }

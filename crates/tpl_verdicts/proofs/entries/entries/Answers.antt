@@ -1,16 +1,12 @@
+use Rattle.std.proofs.Common.{ℕ, subst}
+use Rattle.tpl_draft.specs.Named.{Named}
 use Rattle.tpl_verdicts.specs.Lines.{IsEntry}
-use Rattle.tpl_verdicts.proofs.EntryLemmas.{claim_fits, has_claim, numbered_more, verdict_at}
+use Rattle.tpl_verdicts.proofs.EntryLemmas.{numbered_more}
 use Rattle.tpl_verdicts.proofs.entries.entries.Goals as goal
 
-pub bounds-claims-at : goal.bounds-claims-at
-bounds-claims-at c = has_claim c.args.graph.now.graph c.args.claims.now c.args.verdicts.now c.requires.verdicts c.loop-at.at c.loop-at-test.true
-
-pub entry_of-requires-clause-fits : goal.entry_of-requires-clause-fits
-entry_of-requires-clause-fits c = claim_fits c.args.graph.now.graph c.args.claims.now c.args.verdicts.now c.requires.verdicts c.loop-at.at c.loop-at-test.true c.index-claims-at.result c.index-claims-at.is c.requires.claims
-
-pub entry_of-requires-clause-verdict : goal.entry_of-requires-clause-verdict
-entry_of-requires-clause-verdict c = verdict_at c.args.graph.now.graph c.args.claims.now c.args.verdicts.now c.requires.verdicts c.loop-at.at c.loop-at-test.true c.index-claims-at.result c.index-verdicts-at.result c.index-claims-at.is c.index-verdicts-at.is
-
-pub loop-at-preserved : goal.loop-at-preserved
-loop-at-preserved c =
-    numbered_more (IsEntry c.args.graph.now.names) c.args.verdicts.now c.loop-at.entries.items c.push.new.self.items c.loop-at.at c.index-verdicts-at.result c.in_ok-entry.entry c.loop-at-test.true c.index-verdicts-at.is c.loop-at.invariant c.in_ok-entry.ensures c.in_ok-push.ensures.items
+pub loop-place-preserved : goal.loop-place-preserved
+loop-place-preserved c =
+    let all = c.args.all.now in
+    let of_graph = subst (λ (g : Named). IsEntry g.names c.at.result.number c.at.result.verdict.now c.in_ok-entry.entry) c.at.ensures.graph c.in_ok-entry.ensures in
+    let one = subst (λ (n : ℕ). IsEntry all.graph.now.names n c.at.result.verdict.now c.in_ok-entry.entry) c.at.ensures.number of_graph in
+    numbered_more (IsEntry all.graph.now.names) all.verdicts.now c.loop-place.entries.items c.push.new.self.items c.loop-place.place c.at.result.verdict.now c.in_ok-entry.entry c.loop-place-test.true c.at.ensures.verdict c.loop-place.invariant one c.in_ok-push.ensures.items

@@ -2,5 +2,5 @@ use Rattle.std.proofs.Common.{take}
 use Rattle.tpl_verdicts.specs.Lines.{AreNumbered, IsEntry}
 use Rattle.tpl_verdicts.proofs.entries.entries.Given as goal
 
-abbrev pub invariant-loop-at : goal.invariant-loop-at
-invariant-loop-at l = AreNumbered (IsEntry l.graph.names) 1 (take l.at l.verdicts) l.entries.items
+abbrev pub invariant-loop-place : goal.invariant-loop-place
+invariant-loop-place l = AreNumbered (IsEntry l.all.graph.now.names) 1 (take l.place l.all.verdicts.now) l.entries.items

@@ -1,20 +1,17 @@
-use Rattle.std.proofs.Common.{map, ◌∙◌, ap}
+use Rattle.std.proofs.Common.{ℕ, ◌∙◌, ap, map, subst}
 use Rattle.std.proofs.lemmas.List.{map_push}
 use Rattle.serde_json.specs.View.{view}
-use Rattle.tpl_verdicts.specs.Json.{IsNamedData}
-use Rattle.tpl_verdicts.proofs.EntryLemmas.{claim_fits, has_claim, numbered_more, verdict_at}
+use Rattle.tpl_draft.specs.Named.{Named}
+use Rattle.tpl_verdicts.specs.Json.{IsClaimData, IsNamedData}
+use Rattle.tpl_verdicts.proofs.EntryLemmas.{numbered_more}
 use Rattle.tpl_verdicts.proofs.json.claim_values.Goals as goal
 
-pub bounds-claims-at : goal.bounds-claims-at
-bounds-claims-at c = has_claim c.args.graph.now.graph c.args.claims.now c.args.verdicts.now c.requires.verdicts c.loop-at.at c.loop-at-test.true
-
-pub claim_value-requires-clause-fits : goal.claim_value-requires-clause-fits
-claim_value-requires-clause-fits c = claim_fits c.args.graph.now.graph c.args.claims.now c.args.verdicts.now c.requires.verdicts c.loop-at.at c.loop-at-test.true c.index-claims-at.result c.index-claims-at.is c.requires.claims
-
-pub claim_value-requires-clause-verdict : goal.claim_value-requires-clause-verdict
-claim_value-requires-clause-verdict c = verdict_at c.args.graph.now.graph c.args.claims.now c.args.verdicts.now c.requires.verdicts c.loop-at.at c.loop-at-test.true c.index-claims-at.result c.index-verdicts-at.result c.index-claims-at.is c.index-verdicts-at.is
-
-pub loop-at-preserved : goal.loop-at-preserved
-loop-at-preserved c =
-    numbered_more (IsNamedData c.args.graph.now.names) c.args.verdicts.now (map view c.loop-at.values.items) (map view c.push.new.self.items) c.loop-at.at c.index-verdicts-at.result (view c.in_ok-value.value) c.loop-at-test.true c.index-verdicts-at.is c.loop-at.invariant (view c.in_ok-plain.plain, c.in_ok-plain.ensures, c.in_ok-value.ensures)
-    (ap (map view) c.in_ok-push.ensures.items ∙ map_push view c.loop-at.values.items c.in_ok-value.value)
+pub loop-place-preserved : goal.loop-place-preserved
+loop-place-preserved c =
+    let all = c.args.all.now in
+    let verdict = c.at-judgement.result.verdict.now in
+    let plain = view c.in_ok-plain.plain in
+    let of_graph = subst (λ (g : Named). IsClaimData g.names c.at-judgement.result.number verdict plain) c.at-judgement.ensures.graph c.in_ok-plain.ensures in
+    let one = subst (λ (n : ℕ). IsClaimData all.graph.now.names n verdict plain) c.at-judgement.ensures.number of_graph in
+    numbered_more (IsNamedData all.graph.now.names) all.verdicts.now (map view c.loop-place.values.items) (map view c.push.new.self.items) c.loop-place.place verdict (view c.in_ok-value.value) c.loop-place-test.true c.at-judgement.ensures.verdict c.loop-place.invariant (plain, one, c.in_ok-value.ensures)
+    (ap (map view) c.in_ok-push.ensures.items ∙ map_push view c.loop-place.values.items c.in_ok-value.value)

@@ -4,5 +4,5 @@ use Rattle.tpl_verdicts.specs.Json.{IsNamedData}
 use Rattle.tpl_verdicts.specs.Lines.{AreNumbered}
 use Rattle.tpl_verdicts.proofs.json.claim_values.Given as goal
 
-abbrev pub invariant-loop-at : goal.invariant-loop-at
-invariant-loop-at l = AreNumbered (IsNamedData l.graph.names) 1 (take l.at l.verdicts) (map view l.values.items)
+abbrev pub invariant-loop-place : goal.invariant-loop-place
+invariant-loop-place l = AreNumbered (IsNamedData l.all.graph.now.names) 1 (take l.place l.all.verdicts.now) (map view l.values.items)

@@ -6,8 +6,8 @@ use Rattle.tpl_verdicts.proofs.json.json_of.Goals as goal
 
 pub returns : goal.returns
 returns c =
-    let names = c.args.graph.now.names in
-    let vs = c.args.verdicts.now in
+    let names = c.args.all.now.graph.now.names in
+    let vs = c.args.all.now.verdicts.now in
     let ds = map view c.in_ok-values.values.items in
     let value = c.in_ok-whole_value.ensures in
     let shallow = subst (λ (d : Data). depth d ≤ 127) (sym value) (whole_depth names vs ds c.in_ok-values.ensures) in

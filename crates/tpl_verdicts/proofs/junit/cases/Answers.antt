@@ -9,5 +9,5 @@ returns c =
     let items = c.deref-entry-items.result.now in
     let whole : take c.loop-entry.entry-index items ≡ items = take_all c.loop-entry.entry-index items (omega arith) in
     let all : take c.loop-entry.entry-index items ≡ entries = whole ∙ c.deref-entry-items.ensures.value in
-    as_cases c.args.graph.now.names 1 c.args.verdicts.now entries c.loop-entry.cases.items c.in_ok-entries.ensures
+    as_cases c.args.all.now.graph.now.names 1 c.args.all.now.verdicts.now entries c.loop-entry.cases.items c.in_ok-entries.ensures
     (c.loop-entry.invariant.numbers ∙ ap numbers all) (c.loop-entry.invariant.words ∙ ap words all)

@@ -1,10 +1,5 @@
-use Rattle.std.proofs.Common.{inl}
-use Rattle.tpl_reader.specs.SeenDocument.{doc_of}
 use Rattle.tpl_verdicts.proofs.Answering.{unread}
 use Rattle.tpl_verdicts.proofs.verifying.answer.Goals as goal
-
-pub returns-in_ok-answer-in-Ok-clause-answer : goal.returns-in_ok-answer-in-Ok-clause-answer
-returns-in_ok-answer-in-Ok-clause-answer g c = inl (doc_of c.in-Ok.document, c.in-Ok.ensures.ok, c.in_ok-answer-in-Ok.ensures)
 
 pub returns-in-Err-clause-answer : goal.returns-in-Err-clause-answer
 returns-in-Err-clause-answer g c = unread c.args.asked.style c.args.bytes.now c.unread.result c.unread.ensures.answer
