@@ -15,7 +15,7 @@ use Rattle.tpl_reader.proofs.OneDocument.{value_same}
 use Rattle.tpl_reader.proofs.TopLaws.{parts_of, top_put}
 use Rattle.tpl_reader.proofs.Pieces.{pieces_of, spelled_of, spelled_object}
 use Rattle.tpl_verify.specs.Filled.{IsStartWith, IsUnseenOf, IsFilled, HasForm, IsTextOf, start_data, started, with_run}
-use Rattle.tpl_verify.proofs.Unseen.{spelled_unseen, document_unseen}
+use Rattle.tpl_verify.proofs.Unseen.{document_unseen, document_with, spelled_unseen}
 use Rattle.tpl_json.proofs.Puts.{depth_put}
 use Rattle.tpl_verify.proofs.Starts.{named_with, named_start, start_object, start_value, start_depth}
 
@@ -96,19 +96,12 @@ spelled_run names values text old new start s no_times is with filled =
 document_run : (s : Spelled) (doc : DocumentValue) (values : List Bool) (text : List ℕ) (old : Option Data) (new : Data) → IsDocument s doc → length values ≡ length doc.graph.names.inputs
     → (has : IsStartWith doc.graph.names.inputs values old new)
     → IsDocument (record s { journal = text; start = Some (named_with (object has.inputs) s.start) }) (record doc { journal = text; start = Some (started doc.start values) })
-document_run s doc values text old new is count has = record {
-  version = is.version;
-  valid = is.valid;
-  graph = is.graph;
-  claims = is.claims;
-  names = is.names;
-  certificate = is.certificate;
-  journal = refl;
-  start = let parts = begin_parts doc.graph s.start s.ended doc.start is.start in
-      begin_of doc.graph (Some (named_with (object has.inputs) s.start)) s.ended (Some (started doc.start values)) parts.0 (start_value doc.graph values has.inputs s.start doc.start count has.all parts.1);
-  ended = is.ended;
-  times = is.times;
-}
+document_run s doc values text old new is count has =
+    let named = Some (named_with (object has.inputs) s.start) in
+    let start = Some (started doc.start values) in
+    let parts = begin_parts doc.graph s.start s.ended doc.start is.start in
+    let starts = begin_of doc.graph named s.ended start parts.0 (start_value doc.graph values has.inputs s.start doc.start count has.all parts.1) in
+    document_with s doc text text named start s.ended doc.ended s.times doc.times is refl starts is.ended is.times
 
 pub text_of : (bytes text : List ℕ) (doc : DocumentValue) (values : List Bool) (journal : List ℕ) (old new start : Data) → Spells bytes doc → IsUnseenOf bytes old → Reads text new → length values ≡ length doc.graph.names.inputs
     → IsStartWith doc.graph.names.inputs values (get (codes "start") old) start → IsFilled start journal old new → IsTextOf text (with_run doc values journal)

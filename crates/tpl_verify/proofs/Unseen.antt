@@ -1,15 +1,19 @@
 -- A document without what was seen of a run is read as that.
-use Rattle.std.proofs.Common.{◌≡◌, ℕ, ◌≤◌, List, [], Bool, true, false, cond, Some, None, Ok, codes, refl, sym, ap, subst, arith}
+use Rattle.std.proofs.Common.{◌≡◌, ℕ, ◌≤◌, List, [], Bool, true, false, cond, Option, Some, None, Ok, codes, refl, sym, ap, subst, arith}
 use Rattle.std.specs.Str.{bytes_eq}
 use Rattle.std.proofs.lemmas.Slice.Eq.{bytes_eq-Decides}
 use Rattle.serde_json.specs.Data.{Data, Members, object, depth}
 use Rattle.serde_json.specs.Find.{get}
 use Rattle.tpl_json.specs.Members.{has_only}
-use Rattle.tpl_reader.specs.Begin.{knows_members}
+use Rattle.tpl_model.specs.declared.finals.Final.{Final}
+use Rattle.tpl_model.specs.declared.ids.TaskId.{TaskId}
+use Rattle.tpl_parts.specs.Start.{NamedStart}
+use Rattle.tpl_reader.specs.Begin.{StartValue, knows_members}
 use Rattle.tpl_reader.specs.Top as top
 use Rattle.tpl_reader.specs.Top.{ends_or_none, times_or_none, top_names, top_at}
 use Rattle.tpl_reader.specs.Shape.{Spelled, spelled_at}
-use Rattle.tpl_reader.specs.Document.{DocumentValue, IsDocument}
+use Rattle.tpl_reader.specs.Document.{DocumentValue, IsDocument, begin_in}
+use Rattle.tpl_reader.specs.Ends.{ends_in}
 use Rattle.tpl_reader.proofs.Begins.{begin_parts, begin_of}
 use Rattle.tpl_reader.proofs.TopLaws.{Parts, parts_of, top_of, but, moved}
 use Rattle.tpl_reader.proofs.Pieces.{pieces_of, spelled_of}
@@ -62,20 +66,18 @@ pub spelled_unseen : (old new : Data) (s : Spelled) → spelled_at old ≡ Ok s 
 spelled_unseen old new s is unseen =
     subst (λ (d : Data). spelled_at d ≡ Ok (record s { ended = None; times = None })) (sym unseen.new_is) (spelled_in unseen.members s (subst (λ (d : Data). spelled_at d ≡ Ok s) unseen.old_is is) unseen.no_ended unseen.no_times)
 
+-- the document with all that isn't of a run, and this of another
+pub document_with : (s : Spelled) (doc : DocumentValue) (text journal : List ℕ) (named : Option NamedStart) (start : Option StartValue) (said : Option Data) (ended : List (TaskId × Final)) (given times : Option (List ℕ))
+    → IsDocument s doc → journal ≡ text → begin_in doc.graph named said ≡ Ok start → ended ≡ ends_in doc.graph.names.tasks said → times ≡ given
+    → IsDocument (record s { journal = text; start = named; ended = said; times = given }) (record doc { journal = journal; start = start; ended = ended; times = times })
+document_with s doc text journal named start said ended given times is reads starts ends timed =
+    record { version = is.version; valid = is.valid; graph = is.graph; claims = is.claims; names = is.names; certificate = is.certificate; journal = reads; start = starts; ended = ends; times = timed }
+
 pub document_unseen : (s : Spelled) (doc : DocumentValue) → IsDocument s doc → IsDocument (record s { ended = None; times = None }) (record doc { ended = []; times = None })
 unfolding knows_members
-document_unseen s doc is = record {
-  version = is.version;
-  valid = is.valid;
-  graph = is.graph;
-  claims = is.claims;
-  names = is.names;
-  certificate = is.certificate;
-  journal = is.journal;
-  start = begin_of doc.graph s.start None doc.start refl (begin_parts doc.graph s.start s.ended doc.start is.start).1;
-  ended = refl;
-  times = refl;
-}
+document_unseen s doc is =
+    let starts = begin_of doc.graph s.start None doc.start refl (begin_parts doc.graph s.start s.ended doc.start is.start).1 in
+    document_with s doc s.journal doc.journal s.start doc.start None [] None None is is.journal starts refl refl
 
 pub depth_unseen : (old new : Data) → depth old ≤ 127 → IsUnseen old new → depth new ≤ 127
 depth_unseen old new le unseen =

@@ -8,12 +8,13 @@ ghost use Rattle.tpl_trees.specs.Prelude.{wide_height};
 ghost use Rattle.tpl_verify.specs.Prelude.{HoldsAlways, IsCertified, under};
 
 use crate::limits::FEW_LEAVES;
-use std::alloc::{AllocError, Global};
+use crate::question::Question;
+use std::alloc::AllocError;
 use std::slice;
-use tpl_analyser::{Budget, Depth, Form, Gap, Unwatched};
+use tpl_analyser::{Budget, Form, Gap, Unwatched};
 use tpl_commands::{Proof, find_proof};
-use tpl_graph::{Claim, Graph};
-use tpl_model::{Property, RuleSet};
+use tpl_graph::Claim;
+use tpl_model::Property;
 use tpl_trees::{Node, Tree, WideNode, WideTree};
 
 /// How many splits the tree has above its deepest leaf.
@@ -63,43 +64,44 @@ fn splits_in(proof: &Proof) -> u8
 /// leaf.
 /// `NotFound` doesn't say that the claim is false. `Memory` says that an allocation was refused.
 pub(crate) fn certify(
-    alloc: Global,
-    graph: &Graph,
-    claim: &Claim,
-    rules: RuleSet,
-    depth: Depth,
+    question: &Question<'_, '_>,
     budget: &mut Budget<Unwatched>,
 ) -> Result<u8, Gap>
-    requires { Fits graph.now.graph claim.now }
-    ensures certified { IfOk result (IsCertified rules graph.now.graph claim.now) }
-    ensures always { IfOk result (λ splits. HoldsAlways graph.now.graph claim.now) }
+    requires { Fits question.now.graph.now.graph question.now.claim.now }
+    ensures certified { IfOk result (IsCertified question.now.rules
+        question.now.graph.now.graph question.now.claim.now) }
+    ensures always { IfOk result (λ splits. HoldsAlways question.now.graph.now.graph
+        question.now.claim.now) }
 {
+    let (alloc, graph) = (question.alloc, question.graph);
+    let (rules, depth) = (question.rules, question.depth);
     graph.valid_law();
     tpl_laws::sound_by_rules();
-    let alone = slice::from_ref(claim);
+    let alone = slice::from_ref(question.claim);
     let proof = find_proof(alloc, graph, alone, rules, depth, Form::Slim, budget)?;
     Ok(splits_in(&proof))
 }
 
 /// Under what the claim takes as given, this property holds in each run: a certificate says so, which a quick search finds.
-pub(crate) fn is_certified(
-    alloc: Global,
-    graph: &Graph,
-    claim: &Claim,
-    body: Property,
-    rules: RuleSet,
-    depth: Depth,
-) -> Result<bool, AllocError>
+pub(crate) fn is_certified(question: &Question<'_, '_>, body: Property) -> Result<bool, AllocError>
     ensures { IfOk result (λ found. IsTrue found
-        → HoldsAlways graph.now.graph (under claim.now.given body)) }
+        → HoldsAlways question.now.graph.now.graph
+        (under question.now.claim.now.given body)) }
 {
-    let given = Vec::from_slice(alloc, claim.given())?;
+    let given = Vec::from_slice(question.alloc, question.claim.given())?;
     let other = Claim::new(given, body);
-    if !other.fits(graph) {
+    if !other.fits(question.graph) {
         return Ok(false);
     }
+    let likewise = Question {
+        alloc: question.alloc,
+        graph: question.graph,
+        claim: &other,
+        rules: question.rules,
+        depth: question.depth,
+    };
     let mut budget = Budget::new(Unwatched, FEW_LEAVES);
-    match certify(alloc, graph, &other, rules, depth, &mut budget) {
+    match certify(&likewise, &mut budget) {
         Ok(_) => Ok(true),
         Err(Gap::NotFound { .. }) => Ok(false),
         Err(Gap::Memory) => Err(AllocError),

@@ -6,6 +6,7 @@ ghost use Rattle.tpl_model.specs.Prelude.{is_task, is_wide, kind, to_end};
 ghost use Rattle.tpl_verify.specs.Prelude.{EndsAnyhow, HasNoLabel, IsEmpty, IsPlainlyEmpty, LacksThrow, NeedsBegin, ThrowsNowhere};
 
 use crate::certifying::is_certified;
+use crate::question::Question;
 use crate::verdict::Empty;
 use std::alloc::{AllocError, Global};
 use tpl_analyser::Depth;
@@ -70,21 +71,18 @@ fn ends_anyhow(body: Property) -> bool
 
 /// Whether this task, if there is one, never begins.
 fn never_begins(
-    alloc: Global,
-    graph: &Graph,
-    claim: &Claim,
-    rules: RuleSet,
-    depth: Depth,
+    question: &Question<'_, '_>,
     task: Option<TaskId>,
 ) -> Result<Option<Empty>, AllocError>
-    requires { IfSome task (λ t. NeedsBegin claim.now.body t.0) }
-    ensures { IfOk result (λ found. IfSome found (IsEmpty graph.now.graph claim.now)) }
+    requires { IfSome task (λ t. NeedsBegin question.now.claim.now.body t.0) }
+    ensures { IfOk result (λ found. IfSome found (IsEmpty question.now.graph.now.graph
+        question.now.claim.now)) }
 {
     match task {
         None => Ok(None),
         Some(task) => {
             let body = Property::Never(task);
-            let never = is_certified(alloc, graph, claim, body, rules, depth)?;
+            let never = is_certified(question, body)?;
             if never {
                 Ok(Some(Empty::NeverBegins(task)))
             } else {
@@ -95,19 +93,14 @@ fn never_begins(
 }
 
 /// Whether a task never begins whose begin the claim needs to say something.
-fn lacks_begin(
-    alloc: Global,
-    graph: &Graph,
-    claim: &Claim,
-    rules: RuleSet,
-    depth: Depth,
-) -> Result<Option<Empty>, AllocError>
-    ensures { IfOk result (λ found. IfSome found (IsEmpty graph.now.graph claim.now)) }
+fn lacks_begin(question: &Question<'_, '_>) -> Result<Option<Empty>, AllocError>
+    ensures { IfOk result (λ found. IfSome found (IsEmpty question.now.graph.now.graph
+        question.now.claim.now)) }
 {
-    let (first, second) = needed(claim.body());
-    match never_begins(alloc, graph, claim, rules, depth, first)? {
+    let (first, second) = needed(question.claim.body());
+    match never_begins(question, first)? {
         Some(empty) => Ok(Some(empty)),
-        None => never_begins(alloc, graph, claim, rules, depth, second),
+        None => never_begins(question, second),
     }
 }
 
@@ -123,46 +116,34 @@ fn throws_nowhere(graph: &Graph, given: &[Given], rules: RuleSet, task: TaskId) 
 
 /// Whether the body of the task throws in no complete run where the claim's given is true: it can't, or the task never
 /// ends faulted.
-fn never_throws(
-    alloc: Global,
-    graph: &Graph,
-    claim: &Claim,
-    rules: RuleSet,
-    depth: Depth,
-    task: TaskId,
-) -> Result<bool, AllocError>
-    requires fits { Fits graph.now.graph claim.now }
-    requires task { is_task graph.now.graph task.0 }
+fn never_throws(question: &Question<'_, '_>, task: TaskId) -> Result<bool, AllocError>
+    requires fits { Fits question.now.graph.now.graph question.now.claim.now }
+    requires task { is_task question.now.graph.now.graph task.0 }
     ensures never { IfOk result (λ never. IsTrue never
-        → HasNoLabel graph.now.graph claim.now.given task.0) }
-    ensures nowhere { IfOk result (λ never.
-        ThrowsNowhere (is_wide rules) graph.now.graph claim.now.given task.0 → IsTrue never) }
+        → HasNoLabel question.now.graph.now.graph question.now.claim.now.given task.0) }
+    ensures nowhere { IfOk result (λ never. ThrowsNowhere (is_wide question.now.rules)
+        question.now.graph.now.graph question.now.claim.now.given task.0 → IsTrue never) }
 {
-    graph.valid_law();
-    if throws_nowhere(graph, claim.given(), rules, task) {
+    question.graph.valid_law();
+    if throws_nowhere(question.graph, question.claim.given(), question.rules, task) {
         return Ok(true);
     }
     let body = Property::Final(task, UNFAULTED);
-    let never = is_certified(alloc, graph, claim, body, rules, depth)?;
+    let never = is_certified(question, body)?;
     Ok(never)
 }
 
 /// Whether there is no exception to observe.
-fn lacks_exception(
-    alloc: Global,
-    graph: &Graph,
-    claim: &Claim,
-    rules: RuleSet,
-    depth: Depth,
-) -> Result<Option<Empty>, AllocError>
-    requires { Fits graph.now.graph claim.now }
-    ensures empty { IfOk result (λ found. IfSome found (IsEmpty graph.now.graph claim.now)) }
-    ensures plain { IfOk result (λ found. LacksThrow (is_wide rules) graph.now.graph claim.now
-        → IsTrue (is_some found)) }
+fn lacks_exception(question: &Question<'_, '_>) -> Result<Option<Empty>, AllocError>
+    requires { Fits question.now.graph.now.graph question.now.claim.now }
+    ensures empty { IfOk result (λ found. IfSome found (IsEmpty question.now.graph.now.graph
+        question.now.claim.now)) }
+    ensures plain { IfOk result (λ found. LacksThrow (is_wide question.now.rules)
+        question.now.graph.now.graph question.now.claim.now → IsTrue (is_some found)) }
 {
-    match claim.body() {
+    match question.claim.body() {
         Property::Observed(task) => {
-            let never = never_throws(alloc, graph, claim, rules, depth, task)?;
+            let never = never_throws(question, task)?;
             if never {
                 Ok(Some(Empty::NeverThrows))
             } else {
@@ -189,20 +170,14 @@ fn has_to_end(graph: &Graph, task: TaskId) -> bool
 }
 
 /// Whether this task has ended in each complete run, and never ends where what the claim takes as given is true.
-fn never_ends(
-    alloc: Global,
-    graph: &Graph,
-    claim: &Claim,
-    rules: RuleSet,
-    depth: Depth,
-    task: TaskId,
-) -> Result<Option<Empty>, AllocError>
-    requires { is_task graph.now.graph task.0 }
-    ensures { IfOk result (λ found. IfSome found (IsEmpty graph.now.graph claim.now)) }
+fn never_ends(question: &Question<'_, '_>, task: TaskId) -> Result<Option<Empty>, AllocError>
+    requires { is_task question.now.graph.now.graph task.0 }
+    ensures { IfOk result (λ found. IfSome found (IsEmpty question.now.graph.now.graph
+        question.now.claim.now)) }
 {
-    if has_to_end(graph, task) {
+    if has_to_end(question.graph, task) {
         let body = Property::Final(task, NO_END);
-        let never = is_certified(alloc, graph, claim, body, rules, depth)?;
+        let never = is_certified(question, body)?;
         if never {
             return Ok(Some(Empty::NeverKept));
         }
@@ -212,23 +187,19 @@ fn never_ends(
 
 /// Whether what the claim takes as given is true of no complete run: a task whose body has to request a token that is
 /// given as quiet never ends.
-fn lacks_run(
-    alloc: Global,
-    graph: &Graph,
-    claim: &Claim,
-    rules: RuleSet,
-    depth: Depth,
-) -> Result<Option<Empty>, AllocError>
-    requires { Fits graph.now.graph claim.now }
-    ensures { IfOk result (λ found. IfSome found (IsEmpty graph.now.graph claim.now)) }
+fn lacks_run(question: &Question<'_, '_>) -> Result<Option<Empty>, AllocError>
+    requires { Fits question.now.graph.now.graph question.now.claim.now }
+    ensures { IfOk result (λ found. IfSome found (IsEmpty question.now.graph.now.graph
+        question.now.claim.now)) }
 {
-    let view = assumed(graph, claim.given(), rules).view(None, NO_END);
+    let graph = question.graph;
+    let view = assumed(graph, question.claim.given(), question.rules).view(None, NO_END);
     let mut left = MOST_TRIED;
     for number in 0..graph.len() {
         let task = TaskId(number as u16);
         if left > 0 && cancels_quiet(graph.body(task).body(), &view) {
             left -= 1;
-            if let Some(empty) = never_ends(alloc, graph, claim, rules, depth, task)? {
+            if let Some(empty) = never_ends(question, task)? {
                 return Ok(Some(empty));
             }
         }
@@ -254,11 +225,18 @@ pub fn why_empty(
     if ends_anyhow(claim.body()) {
         return Ok(Some(Empty::NamesAllEnds));
     }
-    if let Some(empty) = lacks_begin(alloc, graph, claim, rules, depth)? {
+    let question = Question {
+        alloc,
+        graph,
+        claim,
+        rules,
+        depth,
+    };
+    if let Some(empty) = lacks_begin(&question)? {
         return Ok(Some(empty));
     }
-    if let Some(empty) = lacks_exception(alloc, graph, claim, rules, depth)? {
+    if let Some(empty) = lacks_exception(&question)? {
         return Ok(Some(empty));
     }
-    lacks_run(alloc, graph, claim, rules, depth)
+    lacks_run(&question)
 }

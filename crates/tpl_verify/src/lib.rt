@@ -10,6 +10,7 @@ mod empty;
 mod finding;
 mod journal;
 mod limits;
+mod question;
 mod refuting;
 mod search;
 mod start;

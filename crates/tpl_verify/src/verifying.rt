@@ -3,49 +3,30 @@
 ghost use Rattle.std.specs.Prelude.{IfOk, All};
 ghost use Rattle.std.specs.List.{AllZip};
 ghost use Rattle.tpl_graph.specs.Prelude.{Fits};
-ghost use Rattle.tpl_verify.specs.Prelude.{HoldsAlways, IsCertified, IsJudged, IsVerdict};
+ghost use Rattle.tpl_verify.specs.Prelude.{IsJudged, IsVerdict};
 
 use crate::certifying::certify;
 use crate::empty::why_empty;
 use crate::limits::Limits;
+use crate::question::Question;
 use crate::verdict::{Tried, Verdict};
 use std::alloc::{AllocError, Global};
-use tpl_analyser::{Budget, Depth, Gap, RanOut, Unwatched};
+use tpl_analyser::{Budget, Gap, RanOut, Unwatched};
 use tpl_graph::{Claim, Graph};
 use tpl_model::RuleSet;
 use tpl_refute::{Effort, refute};
 
-/// The verdict on a claim for which a certificate was found: why it says nothing, if so, is searched too.
-fn held(
-    alloc: Global,
-    graph: &Graph,
-    claim: &Claim,
-    rules: RuleSet,
-    splits: u8,
-    depth: Depth,
-) -> Result<Verdict, AllocError>
-    requires fits { Fits graph.now.graph claim.now }
-    requires certified { IsCertified rules graph.now.graph claim.now splits }
-    requires always { HoldsAlways graph.now.graph claim.now }
-    ensures { IfOk result (IsVerdict rules graph.now.graph claim.now) }
-{
-    let empty = why_empty(alloc, graph, claim, rules, depth)?;
-    Ok(Verdict::Holds { splits, empty })
-}
-
 /// The verdict on a claim for which no certificate was found, after these random runs.
 fn tried(
-    alloc: Global,
-    graph: &Graph,
-    claim: &Claim,
-    rules: RuleSet,
+    question: &Question<'_, '_>,
     effort: Effort,
     ran_out: RanOut,
 ) -> Result<Verdict, AllocError>
-    requires { Fits graph.now.graph claim.now }
-    ensures { IfOk result (IsJudged rules graph.now.graph claim.now) }
+    requires { Fits question.now.graph.now.graph question.now.claim.now }
+    ensures { IfOk result (IsJudged question.now.rules question.now.graph.now.graph
+        question.now.claim.now) }
 {
-    let sought = refute(alloc, graph, claim, effort)?;
+    let sought = refute(question.alloc, question.graph, question.claim, effort)?;
     match sought.found {
         Some(found) => Ok(Verdict::Fails(found)),
         None => Ok(Verdict::Unknown(Tried {
@@ -58,26 +39,21 @@ fn tried(
 
 /// The verdict on a claim that the first random runs didn't refute. It isn't asked whether it says nothing.
 fn certified_or_tried(
-    alloc: Global,
-    graph: &Graph,
-    claim: &Claim,
-    rules: RuleSet,
+    question: &Question<'_, '_>,
     number: u64,
     limits: &Limits,
 ) -> Result<Verdict, AllocError>
-    requires { Fits graph.now.graph claim.now }
-    ensures { IfOk result (IsJudged rules graph.now.graph claim.now) }
+    requires { Fits question.now.graph.now.graph question.now.claim.now }
+    ensures { IfOk result (IsJudged question.now.rules question.now.graph.now.graph
+        question.now.claim.now) }
 {
     let mut budget = Budget::new(Unwatched, limits.leaves);
-    match certify(alloc, graph, claim, rules, limits.depth, &mut budget) {
+    match certify(question, &mut budget) {
         Ok(splits) => Ok(Verdict::Holds {
             splits,
             empty: None,
         }),
-        Err(Gap::NotFound { .. }) => {
-            let effort = limits.all_runs(number);
-            tried(alloc, graph, claim, rules, effort, budget.ran_out())
-        }
+        Err(Gap::NotFound { .. }) => tried(question, limits.all_runs(number), budget.ran_out()),
         Err(Gap::Memory) => Err(AllocError),
     }
 }
@@ -102,7 +78,16 @@ pub fn judge_claim(
     let first = refute(alloc, graph, claim, limits.first_runs(number))?;
     match first.found {
         Some(run) => Ok(Verdict::Fails(run)),
-        None => certified_or_tried(alloc, graph, claim, rules, number, limits),
+        None => {
+            let question = Question {
+                alloc,
+                graph,
+                claim,
+                rules,
+                depth: limits.depth,
+            };
+            certified_or_tried(&question, number, limits)
+        }
     }
 }
 
@@ -120,7 +105,10 @@ pub fn verify_claim(
     ensures { IfOk result (IsVerdict rules graph.now.graph claim.now) }
 {
     match judge_claim(alloc, graph, claim, rules, number, limits)? {
-        Verdict::Holds { splits, .. } => held(alloc, graph, claim, rules, splits, limits.depth),
+        Verdict::Holds { splits, .. } => {
+            let empty = why_empty(alloc, graph, claim, rules, limits.depth)?;
+            Ok(Verdict::Holds { splits, empty })
+        }
         Verdict::Fails(run) => Ok(Verdict::Fails(run)),
         Verdict::Unknown(tried) => Ok(Verdict::Unknown(tried)),
     }

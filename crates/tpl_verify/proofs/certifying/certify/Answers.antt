@@ -4,12 +4,12 @@ use Rattle.tpl_verify.proofs.certifying.certify.Goals as goal
 
 pub splits_in-requires : goal.splits_in-requires
 splits_in-requires c =
-    one_tree c.args.rules c.args.graph.now.graph c.args.claim.now c.from_ref-alone.result.now (trees_of c.in_ok-proof.proof) c.from_ref-alone.ensures.value c.in_ok-proof.ensures.accepted
+    one_tree c.args.question.now.rules c.args.question.now.graph.now.graph c.args.question.now.claim.now c.from_ref-alone.result.now (trees_of c.in_ok-proof.proof) c.from_ref-alone.ensures.value c.in_ok-proof.ensures.accepted
 
 pub returns-clause-certified : goal.returns-clause-certified
 returns-clause-certified c =
-    certified c.args.rules c.args.graph.now.graph c.args.claim.now c.from_ref-alone.result.now (trees_of c.in_ok-proof.proof) c.splits_in.result c.from_ref-alone.ensures.value c.in_ok-proof.ensures.accepted c.splits_in.ensures
+    certified c.args.question.now.rules c.args.question.now.graph.now.graph c.args.question.now.claim.now c.from_ref-alone.result.now (trees_of c.in_ok-proof.proof) c.splits_in.result c.from_ref-alone.ensures.value c.in_ok-proof.ensures.accepted c.splits_in.ensures
 
 pub returns-clause-always : goal.returns-clause-always
 returns-clause-always c =
-    always c.args.rules c.args.graph.now.graph c.args.claim.now c.from_ref-alone.result.now (trees_of c.in_ok-proof.proof) c.sound_by_rules.ensures c.valid_law.ensures.graph c.from_ref-alone.ensures.value c.in_ok-proof.ensures.accepted
+    always c.args.question.now.rules c.args.question.now.graph.now.graph c.args.question.now.claim.now c.from_ref-alone.result.now (trees_of c.in_ok-proof.proof) c.sound_by_rules.ensures c.valid_law.ensures.graph c.from_ref-alone.ensures.value c.in_ok-proof.ensures.accepted

@@ -8,5 +8,5 @@ pub returns-else-never-clause-plain : goal.returns-else-never-clause-plain
 returns-else-never-clause-plain c lacks =
     let same : lacks.0 ≡ c.in-Observed.task = cc in
     let yes : IsTrue c.in_ok-never-in-Observed.never = c.in_ok-never-in-Observed.ensures.nowhere
-    (subst (λ (t : TaskId). ThrowsNowhere (is_wide c.args.rules) c.args.graph.now.graph c.args.claim.now.given t.0) same lacks.2) in
+    (subst (λ (t : TaskId). ThrowsNowhere (is_wide c.args.question.now.rules) c.args.question.now.graph.now.graph c.args.question.now.claim.now.given t.0) same lacks.2) in
     cc

@@ -1,13 +1,17 @@
-use Rattle.std.proofs.Common.{◌≡◌, ◌≤◌, List, ℕ, ap, sym, subst, ◌∙◌, string_bytes, length, inr, arith}
+use Rattle.std.proofs.Common.{◌≡◌, ◌≤◌, Bool, List, ℕ, ap, sym, subst, ◌∙◌, string_bytes, length, inr, arith}
 use Rattle.std.specs.List.{All}
 use Rattle.tpl_journal.specs.Lines.{CanSpell, lines}
 use Rattle.tpl_model.specs.declared.event.Event.{Event}
-use Rattle.tpl_reader.specs.Document.{longest}
+use Rattle.tpl_reader.specs.Document.{DocumentValue, longest}
 use Rattle.tpl_reader.specs.SeenDocument.{doc_of}
 use Rattle.tpl_verify.specs.Filled.{IsTextOf, with_run}
 use Rattle.tpl_verify.specs.Witness.{refuted_by}
 use Rattle.tpl_verify.proofs.Answering.{Laws, refuted}
 use Rattle.tpl_verify.proofs.refuting.refutation.Goals as goal
+
+-- the text of a document with the lines of these events
+filled_in : (doc : DocumentValue) (inputs : List Bool) (events given : List Event) (journal text : List ℕ) → given ≡ events → journal ≡ lines doc.graph.names given → IsTextOf text (with_run doc inputs journal) → IsTextOf text (refuted_by doc inputs events)
+filled_in doc inputs events given journal text same reads is = subst (λ (j : List ℕ). IsTextOf text (with_run doc inputs j)) (reads ∙ ap (lines doc.graph.names) same) is
 
 pub journal_text-requires : goal.journal_text-requires
 journal_text-requires g c =
@@ -22,8 +26,7 @@ returns-then-len-gt-LONGEST g c =
     let inputs = c.args.found.run.inputs in
     let events = c.args.found.run.events.items in
     let text = string_bytes c.in_ok-text.text in
-    let journal : string_bytes c.in_ok-journal.journal ≡ lines doc.graph.names events = c.in_ok-journal.ensures ∙ ap (lines doc.graph.names) c.as_slice-events.ensures.value in
-    let is : IsTextOf text (refuted_by doc inputs events) = subst (λ (j : List ℕ). IsTextOf text (with_run doc inputs j)) journal c.in_ok-text.ensures.text in
+    let is = filled_in doc inputs events _ _ text c.as_slice-events.ensures.value c.in_ok-journal.ensures c.in_ok-text.ensures.text in
     inr (record {
       number = c.args.found.number;
       inputs = inputs;
@@ -41,8 +44,7 @@ returns g c =
     let inputs = c.args.found.run.inputs in
     let events = c.args.found.run.events.items in
     let text = string_bytes c.in_ok-text.text in
-    let journal : string_bytes c.in_ok-journal.journal ≡ lines doc.graph.names events = c.in_ok-journal.ensures ∙ ap (lines doc.graph.names) c.as_slice-events.ensures.value in
-    let is : IsTextOf text (refuted_by doc inputs events) = subst (λ (j : List ℕ). IsTextOf text (with_run doc inputs j)) journal c.in_ok-text.ensures.text in
+    let is = filled_in doc inputs events _ _ text c.as_slice-events.ensures.value c.in_ok-journal.ensures c.in_ok-text.ensures.text in
     let laws : Laws = record {
       one = c.one_document.ensures.one;
       faultless = c.one_document.ensures.faultless;
