@@ -7,7 +7,7 @@ use crate::crossing::crossing_text;
 use crate::journal::{ending_text, line_text};
 use crate::reason::Reason;
 use crate::refusal::refusal_text;
-use crate::words::{Said, claim_text, input_name, name};
+use crate::words::{Named, Said, claim_text, name, name_of};
 use std::alloc::{AllocError, Global};
 use tpl_audit::{Failure, OtherEnd, Verdict};
 use tpl_commands::Audit;
@@ -54,7 +54,8 @@ pub(crate) fn no_start_text(alloc: Global, document: &Document) -> Said {
     let mut text = String::from_str(alloc, "nothing says which values the inputs have:")?;
     for number in 0..document.graph.input_count() {
         text.push_str(" ")?;
-        text.push_str(input_name(&document.graph, InputId(number as u8)))?;
+        let input = Named::Input(InputId(number as u8));
+        text.push_str(name_of(&document.graph, input))?;
     }
     text.push_str("; `start` gives them, as {\"inputs\":{\"NAME\":true}}\n")?;
     Ok(text)

@@ -14,40 +14,34 @@ pub(crate) type Said = Result<String, AllocError>;
 /// The most tasks of a set that are named.
 const MOST_NAMES: usize = 5;
 
+/// What a graph has names for.
+#[derive(Clone, Copy)]
+pub(crate) enum Named {
+    Task(TaskId),
+    Token(TokenId),
+    Site(SiteId),
+    Input(InputId),
+}
+
+/// The name of it, or a question mark where the graph has none for it.
+pub(crate) fn name_of(graph: &Graph, named: Named) -> &str {
+    match named {
+        Named::Task(task) if (task.0 as usize) < graph.len() => graph.name(task),
+        Named::Token(token) if (token.0 as usize) < graph.token_count() => graph.token_name(token),
+        Named::Site(site) if (site.0 as usize) < graph.site_count() => graph.site_name(site),
+        Named::Input(input) if (input.0 as usize) < graph.input_count() => graph.input_name(input),
+        _ => "?",
+    }
+}
+
 /// The name of a task, or a question mark where the graph has no such task.
 pub(crate) fn name(graph: &Graph, task: TaskId) -> &str {
-    if (task.0 as usize) < graph.len() {
-        graph.name(task)
-    } else {
-        "?"
-    }
+    name_of(graph, Named::Task(task))
 }
 
 /// The name of a token, or a question mark where the graph has no such token.
 pub(crate) fn token_name(graph: &Graph, token: TokenId) -> &str {
-    if (token.0 as usize) < graph.token_count() {
-        graph.token_name(token)
-    } else {
-        "?"
-    }
-}
-
-/// The name of a job's site, or a question mark where the graph has no such site.
-fn site_name(graph: &Graph, site: SiteId) -> &str {
-    if (site.0 as usize) < graph.site_count() {
-        graph.site_name(site)
-    } else {
-        "?"
-    }
-}
-
-/// The name of an input, or a question mark where the graph has no such input.
-pub(crate) fn input_name(graph: &Graph, input: InputId) -> &str {
-    if (input.0 as usize) < graph.input_count() {
-        graph.input_name(input)
-    } else {
-        "?"
-    }
+    name_of(graph, Named::Token(token))
 }
 
 /// Who does something, as journals spell it.
@@ -171,7 +165,7 @@ fn property_text(alloc: Global, graph: &Graph, property: Property) -> Said {
 fn one_given_text(alloc: Global, graph: &Graph, one: Given) -> Said {
     match one {
         Given::Input(input, value) => {
-            let input = input_name(graph, input);
+            let input = name_of(graph, Named::Input(input));
             format!(in alloc; "{input} is {value}")
         }
         Given::Quiet(token) => {
@@ -183,7 +177,7 @@ fn one_given_text(alloc: Global, graph: &Graph, one: Given) -> Said {
             format!(in alloc; "{task} ends {ends} or not at all")
         }
         Given::Succeeds(site) => {
-            let site = site_name(graph, site);
+            let site = name_of(graph, Named::Site(site));
             format!(in alloc; "the job {site} doesn't fail")
         }
     }

@@ -20,6 +20,13 @@ use tpl_runtime::{Asked, Item, Seat, Session};
 /// The outside seat that makes the first requests.
 const ASKER: Actor = Actor::Outside(1);
 
+/// The outside seat that makes the first requests, and the pass of its session.
+#[derive(Drop)]
+struct Outsider<W> {
+    seat: Seat,
+    pass: QueuePass<Vec<W>>,
+}
+
 /// Marks the token that an act requests from outside, if it requests one.
 fn mark(table: &mut [bool; MOST_TOKENS], act: Act)
     ensures marks { (k : ℕ) → k < MOST_TOKENS → slice_index_or table.new k false
@@ -84,22 +91,21 @@ fn request_one<'g, R: Wait, K: Drop, W: Item<K>>(
     rt: &R,
     session: &Session<'g, K, W>,
     graph: &Graph,
-    seat: &mut Seat,
-    pass: &mut QueuePass<Vec<W>>,
+    outsider: &mut Outsider<W>,
     token: TokenId,
 ) -> Result<(), Stop>
     requires graph { session.now.graph ≡ graph.now }
     requires token { is_token graph.now.graph token.0 }
-    requires pass { pass.old.queue ≡ session.now.queue }
-    ensures pass { pass.new.queue ≡ session.now.queue }
-    ensures actor { seat.new.actor ≡ seat.old.actor }
-    ensures list { OnOk result (GoesOn seat.old.mine seat.new.mine) }
-    ensures asked { OnOk result (HasAsked graph.now.graph seat.new.mine token.0) }
+    requires pass { outsider.old.pass.queue ≡ session.now.queue }
+    ensures pass { outsider.new.pass.queue ≡ session.now.queue }
+    ensures actor { outsider.new.seat.actor ≡ outsider.old.seat.actor }
+    ensures list { OnOk result (GoesOn outsider.old.seat.mine outsider.new.seat.mine) }
+    ensures asked { OnOk result (HasAsked graph.now.graph outsider.new.seat.mine token.0) }
     ensures refused { IfErr result (λ stop. stop ≡ Fault Mismatch) }
 {
-    match session.request(rt, seat, pass, token) {
+    match session.request(rt, &mut outsider.seat, &mut outsider.pass, token) {
         Asked::Place(_) => Ok(()),
-        Asked::Already => passed_over(graph, seat.mine(), token),
+        Asked::Already => passed_over(graph, outsider.seat.mine(), token),
         Asked::Halted | Asked::Stray => Err(Stop::Fault(RunFault::Mismatch)),
     }
 }
@@ -109,21 +115,20 @@ fn request_all<'g, R: Wait, K: Drop, W: Item<K>>(
     rt: &R,
     session: &Session<'g, K, W>,
     graph: &Graph,
-    seat: &mut Seat,
-    pass: &mut QueuePass<Vec<W>>,
+    outsider: &mut Outsider<W>,
     tokens: &[TokenId],
 ) -> Result<(), Stop>
     requires graph { session.now.graph ≡ graph.now }
     requires tokens { All (λ (k : TokenId). is_token graph.now.graph k.0) tokens.now }
-    requires pass { pass.old.queue ≡ session.now.queue }
-    ensures pass { pass.new.queue ≡ session.now.queue }
-    ensures actor { seat.new.actor ≡ seat.old.actor }
-    ensures asked { OnOk result (All (HasAsked graph.now.graph seat.new.mine) (map token_number
-        tokens.now)) }
+    requires pass { outsider.old.pass.queue ≡ session.now.queue }
+    ensures pass { outsider.new.pass.queue ≡ session.now.queue }
+    ensures actor { outsider.new.seat.actor ≡ outsider.old.seat.actor }
+    ensures asked { OnOk result (All (HasAsked graph.now.graph outsider.new.seat.mine)
+        (map token_number tokens.now)) }
     ensures refused { IfErr result (λ stop. stop ≡ Fault Mismatch) }
 {
     for token in tokens {
-        request_one(rt, session, graph, seat, pass, *token)?;
+        request_one(rt, session, graph, outsider, *token)?;
     }
     Ok(())
 }
@@ -137,28 +142,29 @@ fn listed(alloc: Global, seat: Seat) -> Result<Vec<Seat>, AllocError>
     Ok(seats)
 }
 
-/// Requests the tokens from an outside seat, and gives the seat in a list.
+/// Requests the tokens from an outside seat, and gives the seat in a list, and the pass.
 pub(crate) fn first_seat<'g, R: Wait, K: Drop, W: Item<K>>(
     rt: &R,
     alloc: Global,
     session: &Session<'g, K, W>,
     graph: &Graph,
-    pass: &mut QueuePass<Vec<W>>,
+    pass: QueuePass<Vec<W>>,
     tokens: &[TokenId],
-) -> Result<Vec<Seat>, Stop>
+) -> Result<(Vec<Seat>, QueuePass<Vec<W>>), Stop>
     requires graph { session.now.graph ≡ graph.now }
     requires tokens { All (λ (k : TokenId). is_token graph.now.graph k.0) tokens.now }
-    requires pass { pass.old.queue ≡ session.now.queue }
-    ensures pass { pass.new.queue ≡ session.now.queue }
-    ensures asked { IfOk result (λ seats. HaveAsked graph.now.graph (map token_number tokens.now)
-        seats.items) }
+    requires pass { pass.queue ≡ session.now.queue }
+    ensures pass { IfOk result (λ r. r.1.queue ≡ session.now.queue) }
+    ensures asked { IfOk result (λ r. HaveAsked graph.now.graph (map token_number tokens.now)
+        r.0.items) }
     ensures stops { (n : ℕ) → IfErr result (StopsFor (StopsSession n)) }
 {
     match session.seat(rt, alloc, ASKER) {
         Ok(seat) => {
-            let mut seat = seat;
-            request_all(rt, session, graph, &mut seat, pass, tokens)?;
-            Ok(listed(alloc, seat)?)
+            let mut outsider = Outsider { seat, pass };
+            request_all(rt, session, graph, &mut outsider, tokens)?;
+            let Outsider { seat, pass } = outsider;
+            Ok((listed(alloc, seat)?, pass))
         }
         Err(fault) => Err(seat_stop(fault)),
     }

@@ -1,7 +1,7 @@
 //! A document's run, from its items to a writer.
 
 ghost use Rattle.std.specs.Prelude.{◌≡◌, Some, map, IfOk, MatchResult, All};
-ghost use Rattle.tpl_commands.specs.Prelude.{IsAccepted, Puts, RequestsTokens};
+ghost use Rattle.tpl_commands.specs.Prelude.{Puts, RequestsTokens};
 ghost use Rattle.tpl_draft.specs.Prelude.{token_number};
 ghost use Rattle.tpl_graph.specs.Prelude.{Fits};
 ghost use Rattle.tpl_journal.specs.Prelude.{CanSpell};
@@ -61,38 +61,7 @@ fn put_made<O: Write, K: Drop, W: Drop>(
     }
 }
 
-/// Makes the run of a document whose certificate is accepted, and writes what comes of it.
-fn run_with<R: Threads + Wait + Sync, K: Drop + Send, W: Item<K> + Send, O: Write, F: Follow>(
-    rt: &R,
-    alloc: Global,
-    telling: Telling<'_>,
-    document: &Document,
-    inputs: Inputs,
-    items: Vec<W>,
-    crew: Crew<'_, F>,
-    to: &mut Counting<O>,
-) -> Exit
-    requires told { IsToldOf telling (doc_of document.now) }
-    requires inputs { inputs_of (doc_of document.now) ≡ Some inputs }
-    requires accepted { IsAccepted (doc_of document.now) }
-    requires tokens { RequestsTokens (doc_of document.now) }
-    ensures { Runs telling.entry (doc_of document.now) (Some inputs) crew.entry.workers
-        (Prevents W.site W.may_fail items.items) O.contents to.old to.new result }
-{
-    let values = inputs.copy();
-    let made = report_on(
-        rt,
-        alloc,
-        &document.graph,
-        inputs,
-        requests(document),
-        items,
-        crew,
-    );
-    put_made(alloc, telling, document, &values, made, to)
-}
-
-/// Checks the certificate of a document, and makes its run where it is accepted.
+/// Checks the certificate of a document, makes its run where it is accepted, and writes what comes of it.
 fn check_and_run<R: Threads + Wait + Sync, K: Drop + Send, W: Item<K> + Send, O: Write, F: Follow>(
     rt: &R,
     alloc: Global,
@@ -112,7 +81,12 @@ fn check_and_run<R: Threads + Wait + Sync, K: Drop + Send, W: Item<K> + Send, O:
 {
     match check_document(alloc, document) {
         Ok(verdict) => match verdict {
-            Ok(()) => run_with(rt, alloc, telling, document, inputs, items, crew, to),
+            Ok(()) => {
+                let values = inputs.copy();
+                let (graph, tokens) = (&document.graph, requests(document));
+                let made = report_on(rt, alloc, graph, inputs, tokens, items, crew);
+                put_made(alloc, telling, document, &values, made, to)
+            }
             Err(fault) => put_answer(refused_answer(alloc, &document.graph, fault), to),
         },
         Err(_) => put_out_of_memory(to),

@@ -91,8 +91,7 @@ fn seats_after_run<'g, R: Threads + Wait + Sync, K: Drop + Send, W: Item<K> + Se
     ensures count { OnOk result (IsCount crew.entry.workers) }
     ensures stops { IfErr result (StopsFor (StopsSession crew.entry.workers)) }
 {
-    let mut pass = pass;
-    let seats = first_seat(rt, alloc, session, graph, &mut pass, tokens)?;
+    let (seats, pass) = first_seat(rt, alloc, session, graph, pass, tokens)?;
     match run_followed(rt, alloc, session, pass, crew) {
         Ok((done, pass)) => Ok((with_workers(seats, done)?, pass)),
         Err(fault) => Err(run_stop(fault.why)),

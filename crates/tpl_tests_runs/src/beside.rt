@@ -8,14 +8,12 @@ use crate::cast::{Beside, cast, gathered, seated};
 use crate::closed::{Back, closes_well};
 use crate::crews::{RAN, all_ran};
 use crate::exchange::Stamp;
-use crate::graphs::{Attempt, check_on};
+use crate::graphs::{Attempt, Case};
 use crate::halting::halted_in_run;
 use crate::meeting::{flags_of, meet};
 use crate::opened::opened;
 use crate::parts::{FIRST, side_by_side};
 use std::alloc::{AllocError, Global};
-use std::fs::Files;
-use std::io;
 use std::sync::atomic::AtomicU64;
 use std::sync::{Arc, Wait};
 use std::thread::Threads;
@@ -37,107 +35,96 @@ pub struct Company {
     beside: Beside,
 }
 
-/// Who runs the graph of a file, how often.
-#[derive(Clone, Copy)]
-struct Case {
-    title: &'static str,
-    file: &'static str,
-    company: Company,
-    rounds: usize,
-}
-
-/// How many cases there are.
-const COUNT: usize = 10;
-
-const CASES: [Case; COUNT] = [
+/// Who runs which graph, how often.
+pub const CASES: [Case; 10] = [
     Case {
         title: "two seats that work in threads of their own",
         file: "two_that_meet",
-        company: Company {
+        attempt: Attempt::Beside(Company {
             workers: 2,
             beside: Beside::Nobody,
-        },
+        }),
         rounds: 1,
     },
     Case {
         title: "eight seats that work in threads of their own",
         file: "eight_that_meet",
-        company: Company {
+        attempt: Attempt::Beside(Company {
             workers: 8,
             beside: Beside::Nobody,
-        },
+        }),
         rounds: 1,
     },
     Case {
         title: "two seats that request beside four that work, a hundred times",
         file: "seven_with_two_tokens",
-        company: Company {
+        attempt: Attempt::Beside(Company {
             workers: 4,
             beside: Beside::Requests,
-        },
+        }),
         rounds: 100,
     },
     Case {
         title: "a watcher that looks a thousand times",
         file: "seven",
-        company: Company {
+        attempt: Attempt::Beside(Company {
             workers: 2,
             beside: Beside::Watcher,
-        },
+        }),
         rounds: 20,
     },
     Case {
         title: "a look at a task while its box is called",
         file: "one_that_waits",
-        company: Company {
+        attempt: Attempt::Beside(Company {
             workers: 2,
             beside: Beside::Look,
-        },
+        }),
         rounds: 20,
     },
     Case {
         title: "halted between two boxes",
         file: "two_in_turn_that_wait",
-        company: Company {
+        attempt: Attempt::Beside(Company {
             workers: 1,
             beside: Beside::Halt,
-        },
+        }),
         rounds: 20,
     },
     Case {
         title: "halted while seven of eight wait",
         file: "two_in_turn_that_wait",
-        company: Company {
+        attempt: Attempt::Beside(Company {
             workers: 8,
             beside: Beside::Halt,
-        },
+        }),
         rounds: 20,
     },
     Case {
         title: "halted while 63 of 64 wait",
         file: "two_in_turn_that_wait",
-        company: Company {
+        attempt: Attempt::Beside(Company {
             workers: 64,
             beside: Beside::Halt,
-        },
+        }),
         rounds: 5,
     },
     Case {
         title: "halted while the one worker of a run calls a box",
         file: "two_in_turn_that_wait",
-        company: Company {
+        attempt: Attempt::Beside(Company {
             workers: 1,
             beside: Beside::HaltRun,
-        },
+        }),
         rounds: 20,
     },
     Case {
         title: "halted while seven of the eight workers of a run wait",
         file: "two_in_turn_that_wait",
-        company: Company {
+        attempt: Attempt::Beside(Company {
             workers: 8,
             beside: Beside::HaltRun,
-        },
+        }),
         rounds: 20,
     },
 ];
@@ -286,17 +273,4 @@ pub fn tried_beside<R: Threads + Wait + Sync>(
         items.push(WorkItem::new(Stamp(0), site, may_fail, work))?;
     }
     Ok(tries(rt, alloc, graph, items, flags.as_slice(), company))
-}
-
-/// Tries each case, and answers which of them hold.
-pub fn check_beside<R: Files + Alloc + Print + Threads + Wait + Sync>(
-    rt: &R,
-    alloc: Global,
-) -> io::Result<[bool; COUNT]> {
-    let mut all = [false; COUNT];
-    for (holds, case) in all.iter_mut().zip(CASES.iter()) {
-        let attempt = Attempt::Beside(case.company, case.rounds);
-        *holds = check_on(rt, alloc, case.title, case.file, attempt)?;
-    }
-    Ok(all)
 }

@@ -1,5 +1,6 @@
 //! What is tried on the graph of a file.
 
+use crate::Tally;
 use crate::beside::{Company, tried_beside};
 use crate::meeting::all_meet;
 use crate::memory::plays_graph;
@@ -20,10 +21,10 @@ use tpl_runtime::OpenWhy;
 /// What is tried on a graph.
 #[derive(Clone, Copy)]
 pub enum Attempt {
-    /// This trial on a session, so often.
-    Session(Trial, usize),
-    /// Workers in threads of the test's own, with others beside them, so often.
-    Beside(Company, usize),
+    /// A trial on a session.
+    Session(Trial),
+    /// Workers in threads of the test's own, with others beside them.
+    Beside(Company),
     /// Boxes that wait for each other, with this many workers.
     Meeting(u16),
     /// A session with items that aren't the graph's, which is refused for this reason.
@@ -34,6 +35,15 @@ pub enum Attempt {
     Scene(Script, Closing),
     /// A session with little memory.
     Little,
+}
+
+/// What is tried on the graph of a file, how often, and how that is called.
+#[derive(Clone, Copy)]
+pub struct Case {
+    pub title: &'static str,
+    pub file: &'static str,
+    pub attempt: Attempt,
+    pub rounds: usize,
 }
 
 /// Whether a scene over this graph and that of its other file goes as it must.
@@ -52,53 +62,43 @@ fn plays<R: Files + Alloc + Wait>(
     }
 }
 
-impl Attempt {
-    /// How often it is tried.
-    fn rounds(self) -> usize {
-        match self {
-            Attempt::Session(_, rounds) | Attempt::Beside(_, rounds) => rounds,
-            _ => 1,
-        }
-    }
-}
-
-/// Whether what is tried on a graph goes as it must each time.
+/// Whether what is tried on a graph goes as it must.
 fn goes<R: Files + Alloc + Print + Threads + Wait + Sync>(
     rt: &R,
     alloc: Global,
     graph: &Graph,
     attempt: Attempt,
 ) -> io::Result<bool> {
-    for _ in 0..attempt.rounds() {
-        let holds = match attempt {
-            Attempt::Session(trial, _) => tried(rt, alloc, graph, trial)?,
-            Attempt::Beside(company, _) => tried_beside(rt, alloc, graph, company)?,
-            Attempt::Meeting(workers) => all_meet(rt, alloc, graph, workers)?,
-            Attempt::Items(given, why) => refuses_given(alloc, graph, given, why)?,
-            Attempt::Counts => counts(rt, alloc, graph),
-            Attempt::Scene(script, closing) => plays(rt, alloc, graph, script, closing)?,
-            Attempt::Little => plays_graph(rt, alloc, graph)?,
-        };
-        if !holds {
-            return Ok(false);
-        }
+    match attempt {
+        Attempt::Session(trial) => Ok(tried(rt, alloc, graph, trial)?),
+        Attempt::Beside(company) => Ok(tried_beside(rt, alloc, graph, company)?),
+        Attempt::Meeting(workers) => Ok(all_meet(rt, alloc, graph, workers)?),
+        Attempt::Items(given, why) => Ok(refuses_given(alloc, graph, given, why)?),
+        Attempt::Counts => Ok(counts(rt, alloc, graph)),
+        Attempt::Scene(script, closing) => plays(rt, alloc, graph, script, closing),
+        Attempt::Little => plays_graph(rt, alloc, graph),
     }
-    Ok(true)
 }
 
-/// Whether what is tried on the graph of a file goes as it must; None where no document is read.
+/// Whether what is tried so often on the graph of a file goes as it must each time; None where no document is read.
 pub fn attempted<R: Files + Alloc + Print + Threads + Wait + Sync>(
     rt: &R,
     alloc: Global,
     name: &str,
     attempt: Attempt,
+    rounds: usize,
 ) -> io::Result<Option<bool>> {
     let file = format!(in alloc; "graphs/{name}")?;
     let text = fs::read_to_string(rt, file.as_str())?;
-    match read_document(alloc, text.as_bytes()) {
-        Ok(document) => goes(rt, alloc, &document.graph, attempt).map(Some),
-        Err(_) => Ok(None),
+    let Ok(document) = read_document(alloc, text.as_bytes()) else {
+        return Ok(None);
+    };
+    for _ in 0..rounds {
+        if !goes(rt, alloc, &document.graph, attempt)? {
+            return Ok(Some(false));
+        }
     }
+    Ok(Some(true))
 }
 
 /// Tries that, and writes whether it goes as it must.
@@ -109,8 +109,23 @@ pub fn check_on<R: Files + Alloc + Print + Threads + Wait + Sync>(
     name: &str,
     attempt: Attempt,
 ) -> io::Result<bool> {
-    let holds = attempted(rt, alloc, name, attempt)? == Some(true);
+    let holds = attempted(rt, alloc, name, attempt, 1)? == Some(true);
     tell(rt, title, holds)
+}
+
+/// Tries each case.
+pub fn check_cases<R: Files + Alloc + Print + Threads + Wait + Sync>(
+    rt: &R,
+    alloc: Global,
+    cases: &[Case],
+    so_far: Tally,
+) -> io::Result<Tally> {
+    let mut tally = so_far;
+    for case in cases {
+        let holds = attempted(rt, alloc, case.file, case.attempt, case.rounds)? == Some(true);
+        tally = tally.with(&[tell(rt, case.title, holds)?]);
+    }
+    Ok(tally)
 }
 
 /// Writes whether a check of sessions holds.

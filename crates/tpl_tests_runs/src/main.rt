@@ -37,16 +37,15 @@ mod speed;
 mod spins;
 mod steps;
 
-use crate::beside::check_beside;
 use crate::chance::check_chance;
+use crate::graphs::check_cases;
 use crate::meeting::check_meetings;
 use crate::memory::play_with_little;
 use crate::plays::check_play;
 use crate::queue::check_queue;
 use crate::refusals::{check_counts, check_items};
 use crate::scenes::check_scenes;
-use crate::served::{check_fault_lines, check_served_meetings, check_served_refusals};
-use crate::sessions::check_sessions;
+use crate::served::{check_fault_lines, check_served};
 use crate::speed::{Crew, measure};
 use std::{env, fs, io};
 
@@ -107,14 +106,13 @@ fn main(rt: HostRuntime) -> io::Result<()> {
     let tally = check_plays(&rt, tally)?;
     let tally = tally.with(&[check_chance(&rt)?]);
     let tally = tally.with(&check_queue(&rt, rt.alloc())?);
-    let tally = tally.with(&check_sessions(&rt, rt.alloc())?);
+    let tally = check_cases(&rt, rt.alloc(), &sessions::CASES, tally)?;
     let tally = check_scenes(&rt, rt.alloc(), tally)?;
     let tally = tally.with(&check_items(&rt, rt.alloc())?);
     let tally = tally.with(&[check_counts(&rt, rt.alloc())?]);
     let tally = tally.with(&check_meetings(&rt, rt.alloc())?);
-    let tally = tally.with(&check_beside(&rt, rt.alloc())?);
-    let tally = tally.with(&check_served_meetings(&rt, rt.alloc())?);
-    let tally = tally.with(&check_served_refusals(&rt, rt.alloc())?);
+    let tally = check_cases(&rt, rt.alloc(), &beside::CASES, tally)?;
+    let tally = tally.with(&check_served(&rt, rt.alloc())?);
     let tally = tally.with(&check_fault_lines(&rt)?);
     println!(&rt; "{} checks, {} failed", tally.checks, tally.failed)
 }

@@ -85,53 +85,51 @@ fn some_worker<'g, R: Wait, K: Drop, W: Item<K>>(
     }
 }
 
-/// One who is seated works alone.
+/// One who is seated works alone, if there is one. Says how that ends.
 fn works_alone<'g, R: Wait, K: Drop, W: Item<K>>(
-    rt: &R,
-    session: &Session<'g, K, W>,
-    seats: Vec<Seat>,
-    seat: Seat,
-    pass: QueuePass<Vec<W>>,
-) -> Result<Crew<W>, AllocError>
-    requires { pass.queue ≡ session.now.queue }
-    ensures { IfOk result (λ c. c.pass.queue ≡ session.now.queue) }
-{
-    let mut seats = seats;
-    let (seat, pass, ended) = session.work(rt, seat, pass);
-    seats.push(seat)?;
-    Ok(Crew {
-        seats,
-        pass,
-        ran: ended == Ended::Complete,
-    })
-}
-
-/// Lets one work alone, if one is seated. Says whether `none` holds and, where one worked, whether the run ended.
-fn works_or_not<'g, R: Wait, K: Drop, W: Item<K>>(
     rt: &R,
     session: &Session<'g, K, W>,
     seats: Vec<Seat>,
     seat: Option<Seat>,
     pass: QueuePass<Vec<W>>,
-    none: bool,
-) -> Result<(Crew<W>, Told), AllocError>
+) -> Result<(Crew<W>, Option<Ended>), AllocError>
     requires { pass.queue ≡ session.now.queue }
     ensures { IfOk result (λ c. c.0.pass.queue ≡ session.now.queue) }
 {
-    match seat {
-        Some(seat) => {
-            let crew = works_alone(rt, session, seats, seat, pass)?;
-            let ended = none && crew.ran;
-            Ok((crew, ("no memory to run, and one works alone", ended)))
-        }
-        None => {
-            let ran = false;
-            Ok((Crew { seats, pass, ran }, ("no memory to run", none)))
-        }
+    let Some(seat) = seat else {
+        let ran = false;
+        return Ok((Crew { seats, pass, ran }, None));
+    };
+    let mut seats = seats;
+    let (seat, pass, ended) = session.work(rt, seat, pass);
+    seats.push(seat)?;
+    let ran = ended == Ended::Complete;
+    Ok((Crew { seats, pass, ran }, Some(ended)))
+}
+
+/// The workers weren't run for lack of memory or of a thread, and their seats are as they must be then: none has begun, or
+/// all come back.
+fn are_back(why: RunWhy, seats: &[Seat]) -> bool {
+    match why {
+        RunWhy::Memory(_) => seats.iter().all(|seat| seat.mine().is_empty()),
+        _ => why == RunWhy::Spawn && seats.len() == WORKERS as usize,
     }
 }
 
-/// After a run that had no memory no worker was started, and the session isn't halted: one who is seated ends it.
+/// What is reported of a run that wasn't made for this reason, and after which one worked alone, if one did, until it ended
+/// so: with no memory the session isn't halted, and with no thread it is.
+fn told_alone(why: RunWhy, back: bool, ended: Option<Ended>) -> Told {
+    match (why, ended) {
+        (RunWhy::Memory(_), None) => ("no memory to run", back),
+        (RunWhy::Memory(_), Some(ended)) => (
+            "no memory to run, and one works alone",
+            back && ended == Ended::Complete,
+        ),
+        _ => ("no thread to run", back && ended == Some(Ended::Halted)),
+    }
+}
+
+/// After a run that wasn't made one of its workers works alone. Where there was no memory it may be one who is seated now.
 fn goes_on<'g, R: Print + Wait, K: Drop, W: Item<K>>(
     rt: &R,
     alloc: Global,
@@ -142,52 +140,19 @@ fn goes_on<'g, R: Print + Wait, K: Drop, W: Item<K>>(
     requires { fault.pass.queue ≡ session.now.queue }
     ensures { IfOk result (λ c. c.pass.queue ≡ session.now.queue) }
 {
+    let why = fault.why;
     let mut seats = others;
     let mut made = fault.seats;
-    let none = made.iter().all(|seat| seat.mine().is_empty());
-    let seat = some_worker(rt, alloc, session, &mut made);
+    let back = are_back(why, made.as_slice());
+    let seat = match why {
+        RunWhy::Memory(_) => some_worker(rt, alloc, session, &mut made),
+        _ => made.pop(),
+    };
     seats.append(&mut made)?;
-    let (crew, (title, holds)) = works_or_not(rt, session, seats, seat, fault.pass, none)?;
+    let (crew, ended) = works_alone(rt, session, seats, seat, fault.pass)?;
+    let (title, holds) = told_alone(why, back, ended);
     tell(rt, title, holds)?;
     Ok(crew)
-}
-
-/// Works once more with one of these seats, if there is one, and says whether it finds the session halted.
-fn finds_it_halted<'g, R: Wait, K: Drop, W: Item<K>>(
-    rt: &R,
-    session: &Session<'g, K, W>,
-    seats: &mut Vec<Seat>,
-    pass: QueuePass<Vec<W>>,
-) -> Result<(QueuePass<Vec<W>>, bool), AllocError>
-    requires { pass.queue ≡ session.now.queue }
-    ensures { IfOk result (λ r. r.0.queue ≡ session.now.queue) }
-{
-    let Some(seat) = seats.pop() else {
-        return Ok((pass, false));
-    };
-    let (seat, pass, ended) = session.work(rt, seat, pass);
-    seats.push(seat)?;
-    Ok((pass, ended == Ended::Halted))
-}
-
-/// After a run that found no thread the session is halted, and all seats come back.
-fn has_no_thread<'g, R: Print + Wait, K: Drop, W: Item<K>>(
-    rt: &R,
-    session: &Session<'g, K, W>,
-    fault: RunFault<W>,
-    others: Vec<Seat>,
-) -> io::Result<Crew<W>>
-    requires { fault.pass.queue ≡ session.now.queue }
-    ensures { IfOk result (λ c. c.pass.queue ≡ session.now.queue) }
-{
-    let mut seats = others;
-    let mut left = fault.seats;
-    let all = left.len() == WORKERS as usize && fault.why == RunWhy::Spawn;
-    let (pass, halted) = finds_it_halted(rt, session, &mut left, fault.pass)?;
-    tell(rt, "no thread to run", all && halted)?;
-    seats.append(&mut left)?;
-    let ran = false;
-    Ok(Crew { seats, pass, ran })
 }
 
 /// The workers have come back.
@@ -216,10 +181,7 @@ fn runs<'g, R: Print + Threads + Wait + Sync, K: Drop + Send, W: Item<K> + Send>
 {
     match session.run(rt, alloc, crew.pass, WORKERS) {
         Ok((done, pass)) => have_run(rt, done, pass, crew.seats),
-        Err(fault) if matches!(fault.why, RunWhy::Memory(_)) => {
-            goes_on(rt, alloc, session, fault, crew.seats)
-        }
-        Err(fault) => has_no_thread(rt, session, fault, crew.seats),
+        Err(fault) => goes_on(rt, alloc, session, fault, crew.seats),
     }
 }
 
@@ -379,7 +341,7 @@ pub fn play_with_little<R: Files + Alloc + Print + Threads + Wait + Sync>(
     alloc: Global,
 ) -> io::Result<()> {
     for name in GRAPHS.iter() {
-        if attempted(rt, alloc, name, Attempt::Little)?.is_none() {
+        if attempted(rt, alloc, name, Attempt::Little, 1)?.is_none() {
             tell(rt, "no memory for the document", true)?;
         }
     }

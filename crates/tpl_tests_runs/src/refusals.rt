@@ -39,6 +39,34 @@ const REFUSED: [(&[Given], OpenWhy); COUNT] = [
 /// The worker who has a seat before the others.
 const SECOND: Worker = Worker(2);
 
+/// So many workers, why they can't run, and of how many of them the seats come back.
+#[derive(Clone, Copy)]
+struct Crowd {
+    workers: u16,
+    why: RunWhy,
+    seated: u16,
+}
+
+/// There is at least one worker.
+const NOBODY: Crowd = Crowd {
+    workers: 0,
+    why: RunWhy::BadCount,
+    seated: 0,
+};
+
+/// There are 64 workers at most.
+const TOO_MANY: Crowd = Crowd {
+    workers: 65,
+    ..NOBODY
+};
+
+/// None of the workers is seated already.
+const ONE_SEATED: Crowd = Crowd {
+    workers: 3,
+    why: RunWhy::Seat(SECOND, SeatFault::SeatTaken),
+    seated: 1,
+};
+
 /// How many lists of items there are.
 const COUNT: usize = 7;
 
@@ -99,23 +127,22 @@ fn are_first(seats: &[Seat], count: u16) -> bool {
     all
 }
 
-/// The session doesn't run this many workers, for this reason. The seats of this many come back.
+/// The session doesn't run these workers.
 fn refuses_to_run<R: Threads + Wait + Sync, K: Drop + Send, W: Item<K> + Send>(
     rt: &R,
     alloc: Global,
     session: &Session<'_, K, W>,
     pass: QueuePass<Vec<W>>,
-    workers: u16,
-    why: RunWhy,
-    seated: u16,
+    crowd: Crowd,
 ) -> (QueuePass<Vec<W>>, Vec<Seat>, bool)
     requires { pass.queue ≡ session.now.queue }
     ensures { result.0.queue ≡ session.now.queue }
 {
-    match session.run(rt, alloc, pass, workers) {
+    match session.run(rt, alloc, pass, crowd.workers) {
         Ok((_done, pass)) => (pass, Vec::new(alloc), false),
         Err(fault) => {
-            let refused = fault.why == why && are_first(fault.seats.as_slice(), seated);
+            let first = are_first(fault.seats.as_slice(), crowd.seated);
+            let refused = fault.why == crowd.why && first;
             (fault.pass, fault.seats, refused)
         }
     }
@@ -131,14 +158,12 @@ fn refuses_counts<R: Threads + Wait + Sync, K: Drop + Send, W: Item<K> + Send>(
 ) -> bool
     requires { pass.queue ≡ session.queue }
 {
-    let count = RunWhy::BadCount;
-    let (pass, _, none) = refuses_to_run(rt, alloc, &session, pass, 0, count, 0);
-    let (pass, _, more) = refuses_to_run(rt, alloc, &session, pass, 65, count, 0);
+    let (pass, _, none) = refuses_to_run(rt, alloc, &session, pass, NOBODY);
+    let (pass, _, more) = refuses_to_run(rt, alloc, &session, pass, TOO_MANY);
     let Ok(seat) = session.seat(rt, alloc, Actor::Worker(SECOND)) else {
         return false;
     };
-    let taken = RunWhy::Seat(SECOND, SeatFault::SeatTaken);
-    let (pass, mut seats, two) = refuses_to_run(rt, alloc, &session, pass, 3, taken, 1);
+    let (pass, mut seats, two) = refuses_to_run(rt, alloc, &session, pass, ONE_SEATED);
     none && more
         && two
         && seats.push(seat).is_ok()

@@ -21,39 +21,89 @@ use tpl_reader::Document;
 use tpl_report::{Exit, RunFault, load, serve_run};
 use tpl_runtime::Item;
 
-/// Boxes that meet: the graph, as many workers as boxes, and how the report begins where they do. A box fails that waits in
-/// vain.
-const MEETINGS: [(&str, u16, &str); 2] = [
-    (
-        "two_that_meet",
-        2,
-        "complete\ntask T0 RanToCompletion\ntask T1 RanToCompletion\ncalled 2\nreturned 0\njournal 6\n",
-    ),
-    (
-        "eight_that_meet",
-        8,
-        "complete\ntask T0 RanToCompletion\ntask T1 RanToCompletion\ntask T2 RanToCompletion\n\
-         task T3 RanToCompletion\ntask T4 RanToCompletion\ntask T5 RanToCompletion\n\
-         task T6 RanToCompletion\ntask T7 RanToCompletion\ncalled 8\nreturned 0\njournal 24\n",
-    ),
+/// The boxes with which a document is run.
+#[derive(Clone, Copy)]
+enum Boxes {
+    /// Boxes that wait for each other. One fails that waits in vain.
+    Meeting,
+    /// Boxes like these.
+    Given(&'static [Given]),
+}
+
+/// A run that is asked for: of the document of a file, with these boxes and by this many workers.
+#[derive(Clone, Copy)]
+struct Case {
+    title: &'static str,
+    file: &'static str,
+    boxes: Boxes,
+    workers: u16,
+    exit: Exit,
+    /// How what is written begins.
+    text: &'static str,
+}
+
+/// As many workers as boxes are started, so that the boxes meet.
+const MEETS: Case = Case {
+    title: "as many workers as are asked for",
+    file: "two_that_meet",
+    boxes: Boxes::Meeting,
+    workers: 2,
+    exit: Exit::Success,
+    text: "complete\ntask T0 RanToCompletion\ntask T1 RanToCompletion\ncalled 2\nreturned 0\njournal 6\n",
+};
+
+/// Two jobs, neither of which may fail, aren't run with other boxes, or by workers that can't be. The line says why.
+const REFUSED: Case = Case {
+    title: "a run that is refused by its name",
+    file: "two_jobs",
+    boxes: Boxes::Given(&[(0, false), (1, false)]),
+    workers: 1,
+    exit: Exit::Fault,
+    text: "run: BadCount\n",
+};
+
+const CASES: [Case; COUNT] = [
+    MEETS,
+    Case {
+        file: "eight_that_meet",
+        workers: 8,
+        text: "complete\ntask T0 RanToCompletion\ntask T1 RanToCompletion\ntask T2 RanToCompletion\n\
+             task T3 RanToCompletion\ntask T4 RanToCompletion\ntask T5 RanToCompletion\n\
+             task T6 RanToCompletion\ntask T7 RanToCompletion\ncalled 8\nreturned 0\njournal 24\n",
+        ..MEETS
+    },
+    Case {
+        boxes: Boxes::Given(&[(1, false)]),
+        text: "run: ItemMissing\n",
+        ..REFUSED
+    },
+    Case {
+        boxes: Boxes::Given(&[(0, false), (1, false), (2, false)]),
+        text: "run: ItemStrange\n",
+        ..REFUSED
+    },
+    Case {
+        boxes: Boxes::Given(&[(0, false), (1, false), (1, false)]),
+        text: "run: ItemTwice\n",
+        ..REFUSED
+    },
+    Case {
+        boxes: Boxes::Given(&[(0, false), (1, true)]),
+        text: "run: MayFailDiffers\n",
+        ..REFUSED
+    },
+    Case {
+        workers: 0,
+        ..REFUSED
+    },
+    Case {
+        workers: 65,
+        ..REFUSED
+    },
 ];
 
-/// Two jobs, neither of which may fail, as their boxes say it.
-const BOTH: &[Given] = &[(0, false), (1, false)];
-
-/// Boxes and workers with which two jobs aren't run, and the line that says why.
-const REFUSED: [(&[Given], u16, &str); 6] = [
-    (&[(1, false)], 1, "run: ItemMissing\n"),
-    (
-        &[(0, false), (1, false), (2, false)],
-        1,
-        "run: ItemStrange\n",
-    ),
-    (&[(0, false), (1, false), (1, false)], 1, "run: ItemTwice\n"),
-    (&[(0, false), (1, true)], 1, "run: MayFailDiffers\n"),
-    (BOTH, 0, "run: BadCount\n"),
-    (BOTH, 65, "run: BadCount\n"),
-];
+/// How many runs are asked for.
+const COUNT: usize = 8;
 
 /// The faults that no call here meets, and their lines.
 const OTHERS: [(RunFault, &str); 5] = [
@@ -80,32 +130,29 @@ fn loaded<R: Files + Alloc>(rt: &R, alloc: Global, name: &str) -> io::Result<Opt
     }
 }
 
-/// The run of a document by these items and this many workers ends so, and what is written begins so.
-fn writes<R: Threads + Wait + Sync, K: Drop + Send, W: Item<K> + Send>(
+/// The run of a document by these items ends as it must, and what is written begins so.
+fn ends<R: Threads + Wait + Sync, K: Drop + Send, W: Item<K> + Send>(
     rt: &R,
     alloc: Global,
     document: &Document,
     items: Vec<W>,
-    workers: u16,
-    exit: Exit,
-    text: &str,
+    case: Case,
 ) -> bool
     requires claims { All (Fits document.now.graph.graph) document.now.claims.items }
     requires tokens { RequestsTokens (doc_of document.now) }
 {
     let mut to = Counting::new(Vec::new(alloc));
-    let ended = serve_run(rt, alloc, document, items, workers, &mut to);
+    let exit = serve_run(rt, alloc, document, items, case.workers, &mut to);
     let written = to.into_inner();
-    ended == exit && written.as_slice().starts_with(text.as_bytes())
+    exit == case.exit && written.as_slice().starts_with(case.text.as_bytes())
 }
 
-/// As many workers as boxes are started, so that the boxes meet.
-fn all_meet<R: Threads + Wait + Sync>(
+/// The run ends so with boxes that wait for each other.
+fn ends_met<R: Threads + Wait + Sync>(
     rt: &R,
     alloc: Global,
     document: &Document,
-    workers: u16,
-    text: &str,
+    case: Case,
 ) -> Result<bool, AllocError>
     requires claims { All (Fits document.now.graph.graph) document.now.claims.items }
     requires tokens { RequestsTokens (doc_of document.now) }
@@ -119,17 +166,16 @@ fn all_meet<R: Threads + Wait + Sync>(
         })?;
         items.push(WorkItem::new(Stamp(0), SiteId(number as u16), true, work))?;
     }
-    Ok(writes(rt, alloc, document, items, workers, Exit::Success, text))
+    Ok(ends(rt, alloc, document, items, case))
 }
 
-/// A document isn't run with boxes like these, or by this many workers.
-fn refuses<R: Threads + Wait + Sync>(
+/// The run ends so with boxes like these.
+fn ends_given<R: Threads + Wait + Sync>(
     rt: &R,
     alloc: Global,
     document: &Document,
     given: &[Given],
-    workers: u16,
-    text: &str,
+    case: Case,
 ) -> Result<bool, AllocError>
     requires claims { All (Fits document.now.graph.graph) document.now.claims.items }
     requires tokens { RequestsTokens (doc_of document.now) }
@@ -139,37 +185,24 @@ fn refuses<R: Threads + Wait + Sync>(
         let work: Work = Box::new(alloc, |_site: SiteId| -> Answer { Answer::Done })?;
         items.push(WorkItem::new(Stamp(0), SiteId(*site), *may_fail, work))?;
     }
-    Ok(writes(rt, alloc, document, items, workers, Exit::Fault, text))
+    Ok(ends(rt, alloc, document, items, case))
 }
 
-/// Lets the boxes of each graph meet, and answers where they do.
-pub fn check_served_meetings<R: Files + Alloc + Print + Threads + Wait + Sync>(
+/// Asks for each run, and answers which of them end as they must.
+pub fn check_served<R: Files + Alloc + Print + Threads + Wait + Sync>(
     rt: &R,
     alloc: Global,
-) -> io::Result<[bool; 2]> {
-    let mut all = [false; 2];
-    for (holds, (name, workers, text)) in all.iter_mut().zip(MEETINGS.iter()) {
-        let met = match loaded(rt, alloc, name)? {
-            Some(document) => all_meet(rt, alloc, &document, *workers, text)?,
+) -> io::Result<[bool; COUNT]> {
+    let mut all = [false; COUNT];
+    for (holds, case) in all.iter_mut().zip(CASES.iter()) {
+        let ended = match loaded(rt, alloc, case.file)? {
+            Some(document) => match case.boxes {
+                Boxes::Meeting => ends_met(rt, alloc, &document, *case)?,
+                Boxes::Given(given) => ends_given(rt, alloc, &document, given, *case)?,
+            },
             None => false,
         };
-        *holds = tell(rt, "as many workers as are asked for", met)?;
-    }
-    Ok(all)
-}
-
-/// Asks for runs that can't be, and answers which of them are refused by the line that names the reason.
-pub fn check_served_refusals<R: Files + Alloc + Print + Threads + Wait + Sync>(
-    rt: &R,
-    alloc: Global,
-) -> io::Result<[bool; 6]> {
-    let mut all = [false; 6];
-    for (holds, (given, workers, text)) in all.iter_mut().zip(REFUSED.iter()) {
-        let refused = match loaded(rt, alloc, "two_jobs")? {
-            Some(document) => refuses(rt, alloc, &document, given, *workers, text)?,
-            None => false,
-        };
-        *holds = tell(rt, "a run that is refused by its name", refused)?;
+        *holds = tell(rt, case.title, ended)?;
     }
     Ok(all)
 }

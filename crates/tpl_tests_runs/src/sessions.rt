@@ -4,11 +4,9 @@ ghost use Rattle.std.specs.Prelude.{◌<◌};
 
 use crate::crews::{Length, all_ran, run_by};
 use crate::exchange::Stamp;
-use crate::graphs::{Attempt, check_on};
+use crate::graphs::{Attempt, Case};
 use crate::opened::{opened_with, places};
 use std::alloc::{AllocError, Global};
-use std::fs::Files;
-use std::io;
 use std::sync::Wait;
 use std::thread::Threads;
 use tpl_graph::Graph;
@@ -25,87 +23,76 @@ pub struct Trial {
     pub is_narrow: bool,
 }
 
-/// Which graph is run by whom, how often.
-#[derive(Clone, Copy)]
-struct Case {
-    title: &'static str,
-    file: &'static str,
-    trial: Trial,
-    rounds: usize,
-}
-
-/// How many cases there are.
-const COUNT: usize = 7;
-
-const CASES: [Case; COUNT] = [
+/// Who runs which graph, how often.
+pub const CASES: [Case; 7] = [
     Case {
         title: "seven tasks by one worker",
         file: "seven",
-        trial: Trial {
+        attempt: Attempt::Session(Trial {
             workers: 1,
             events: Some(24),
             is_narrow: false,
-        },
+        }),
         rounds: 1,
     },
     Case {
         title: "seven tasks by two workers",
         file: "seven",
-        trial: Trial {
+        attempt: Attempt::Session(Trial {
             workers: 2,
             events: None,
             is_narrow: false,
-        },
+        }),
         rounds: 20,
     },
     Case {
         title: "seven tasks by eight workers, a hundred times",
         file: "seven",
-        trial: Trial {
+        attempt: Attempt::Session(Trial {
             workers: 8,
             events: None,
             is_narrow: false,
-        },
+        }),
         rounds: 100,
     },
     Case {
         title: "one task by 64 workers",
         file: "one_job",
-        trial: Trial {
+        attempt: Attempt::Session(Trial {
             workers: 64,
             events: Some(3),
             is_narrow: false,
-        },
+        }),
         rounds: 10,
     },
     Case {
         title: "jobs one after the other by four workers",
         file: "one_after_the_other",
-        trial: Trial {
+        attempt: Attempt::Session(Trial {
             workers: 4,
             events: Some(4),
             is_narrow: false,
-        },
+        }),
         rounds: 10,
     },
     Case {
         title: "a queue of one place, by one worker",
         file: "seven",
-        trial: Trial {
+        attempt: Attempt::Session(Trial {
             workers: 1,
             events: None,
             is_narrow: true,
-        },
+        }),
         rounds: 1,
     },
     Case {
         title: "a queue of one place, by four workers",
         file: "seven",
-        trial: Trial {
+        attempt: Attempt::Session(Trial {
             workers: 4,
             events: None,
             is_narrow: true,
-        },
+        }),
         rounds: 20,
     },
 ];
@@ -148,17 +135,4 @@ pub fn tried<R: Threads + Wait + Sync>(
         items.push(WorkItem::new(Stamp(number as u32), site, graph.site_may_fail(site), work))?;
     }
     Ok(tries(rt, alloc, graph, items, trial))
-}
-
-/// Tries each case, and answers which of them hold.
-pub fn check_sessions<R: Files + Alloc + Print + Threads + Wait + Sync>(
-    rt: &R,
-    alloc: Global,
-) -> io::Result<[bool; COUNT]> {
-    let mut all = [false; COUNT];
-    for (holds, case) in all.iter_mut().zip(CASES.iter()) {
-        let attempt = Attempt::Session(case.trial, case.rounds);
-        *holds = check_on(rt, alloc, case.title, case.file, attempt)?;
-    }
-    Ok(all)
 }

@@ -47,7 +47,8 @@ enum By {
 
 /// How many workers of which kind run a graph each of whose jobs makes this many rounds.
 #[derive(Clone, Copy)]
-struct Load {
+struct Load<'g> {
+    graph: &'g Graph,
     rounds: u64,
     by: By,
     workers: u16,
@@ -88,10 +89,10 @@ fn timed<'g, R: Threads + Wait + Sync + Clock, K: Drop + Send, W: Item<K> + Send
 fn run_once<R: Threads + Wait + Sync + Clock>(
     rt: &R,
     alloc: Global,
-    graph: &Graph,
-    load: Load,
+    load: Load<'_>,
 ) -> io::Result<Ran> {
     let Load {
+        graph,
         rounds,
         by,
         workers,
@@ -117,12 +118,11 @@ fn run_once<R: Threads + Wait + Sync + Clock>(
 fn quickest<R: Threads + Wait + Sync + Clock>(
     rt: &R,
     alloc: Global,
-    graph: &Graph,
-    load: Load,
+    load: Load<'_>,
 ) -> io::Result<Ran> {
-    let mut best = run_once(rt, alloc, graph, load)?;
+    let mut best = run_once(rt, alloc, load)?;
     for _ in 1..TIMES {
-        let ran = run_once(rt, alloc, graph, load)?;
+        let ran = run_once(rt, alloc, load)?;
         if ran.time < best.time {
             best = ran;
         }
@@ -143,19 +143,18 @@ fn show_speed<R: Threads + Wait + Sync + Clock>(
     crew: Crew,
 ) -> io::Result<()> {
     let rounds = u64::from(crew.microseconds).saturating_mul(rounds_a_microsecond(rt)?);
-    let workers = crew.workers;
     let by_session = Load {
+        graph,
         rounds,
         by: By::Session,
-        workers,
+        workers: crew.workers,
     };
     let by_pool = Load {
-        rounds,
         by: By::Pool,
-        workers,
+        ..by_session
     };
-    let session = quickest(threads, rt.alloc(), graph, by_session)?;
-    let pool = quickest(threads, rt.alloc(), graph, by_pool)?;
+    let session = quickest(threads, rt.alloc(), by_session)?;
+    let pool = quickest(threads, rt.alloc(), by_pool)?;
     println!(rt; "{} events, complete {}", session.events, session.complete)?;
     println!(rt;
         "{} events a second; {} tasks a second, by a bare pool {}",

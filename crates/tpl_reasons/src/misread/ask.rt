@@ -1,8 +1,9 @@
 //! What is looked for in a document.
 
 use crate::misread::form::Form;
+use crate::misread::walk::{Found, Teller};
 use json::Value;
-use std::alloc::{AllocError, Global};
+use std::alloc::AllocError;
 use tpl_json::{Miss, Shape, bool_of, final_of, find, list_of, number_of, text_in, text_of};
 use tpl_model::LONGEST_NAME;
 use tpl_parts::{has_ends, has_truths, is_claim_name};
@@ -185,21 +186,17 @@ fn answered(answer: Result<bool, Miss<Shape>>) -> Result<bool, AllocError> {
 }
 
 /// Whether the value itself has the right shape, whatever is in it.
-fn fits(
-    alloc: Global,
-    document: &Value<'_>,
-    third: bool,
-    form: Form,
-    value: &Value<'_>,
-) -> Result<bool, AllocError> {
+fn fits(teller: Teller<'_, '_>, found: Found<'_, '_>) -> Result<bool, AllocError> {
+    let Found { form, value } = found;
+    let third = teller.third;
     match form {
         Form::Anything => Ok(true),
         Form::Version => Ok(matches!(number_of(value), Ok(1..=3))),
         Form::Truth => Ok(bool_of(value).is_ok()),
         Form::Final | Form::Subject => Ok(final_of(value).is_ok()),
-        Form::Truths => answered(has_truths(alloc, value)),
-        Form::Ends => answered(has_ends(alloc, value)),
-        Form::Times => Ok(has_times(document, value)),
+        Form::Truths => answered(has_truths(teller.alloc, value)),
+        Form::Ends => answered(has_ends(teller.alloc, value)),
+        Form::Times => Ok(has_times(teller.document, value)),
         Form::ClaimName => Ok(matches!(text_of(value), Ok(name) if is_claim_name(name))),
         _ if !form.choices(third).is_empty() => Ok(false),
         _ if form.is_list() => Ok(has_length(form, value)),
@@ -242,22 +239,20 @@ fn is_asked_of_text(ask: Ask<'_>, document: &Value<'_>, form: Form, text: &str) 
 
 /// Whether the value is what is looked for.
 pub(crate) fn is_asked(
-    alloc: Global,
+    teller: Teller<'_, '_>,
     ask: Ask<'_>,
-    document: &Value<'_>,
-    third: bool,
-    form: Form,
-    value: &Value<'_>,
+    found: Found<'_, '_>,
 ) -> Result<bool, AllocError> {
+    let Found { form, value } = found;
     match ask {
-        Ask::Misfit => Ok(!fits(alloc, document, third, form, value)?),
+        Ask::Misfit => Ok(!fits(teller, found)?),
         Ask::Form(wanted) => Ok(form.is(wanted)),
         Ask::LongList => Ok(is_long(form, value)),
         Ask::Job(site) => Ok(matches!(form, Form::Work) && text_or_empty(value, "work") == site),
         Ask::Subject if matches!(form, Form::When) => Ok(true),
         Ask::Statement => Ok(form.is_statement()),
         _ => match text_of(value) {
-            Ok(text) => Ok(is_asked_of_text(ask, document, form, text)),
+            Ok(text) => Ok(is_asked_of_text(ask, teller.document, form, text)),
             Err(_) => Ok(false),
         },
     }

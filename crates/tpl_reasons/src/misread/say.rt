@@ -85,15 +85,24 @@ fn add_value(text: &mut String, value: &Value<'_>) -> Result<(), AllocError> {
     }
 }
 
+/// Goes on to the element of this number in a list that is shown: adds a comma, but for the first one. False where what is
+/// shown is long enough.
+fn goes_on(text: &mut String, index: usize) -> Result<bool, AllocError> {
+    if text.len() > MOST_SHOWN {
+        return Ok(false);
+    }
+    if index > 0 {
+        text.push_str(",")?;
+    }
+    Ok(true)
+}
+
 #[cycle(show)]
 fn add_items(text: &mut String, items: &[Value<'_>]) -> Result<(), AllocError> {
     text.push_str("[")?;
     for (index, item) in items.iter().enumerate() {
-        if text.len() > MOST_SHOWN {
+        if !goes_on(text, index)? {
             return Ok(());
-        }
-        if index > 0 {
-            text.push_str(",")?;
         }
         add_value(text, item)?;
     }
@@ -104,11 +113,8 @@ fn add_items(text: &mut String, items: &[Value<'_>]) -> Result<(), AllocError> {
 fn add_members(text: &mut String, members: &[(&str, Value<'_>)]) -> Result<(), AllocError> {
     text.push_str("{")?;
     for (index, member) in members.iter().enumerate() {
-        if text.len() > MOST_SHOWN {
+        if !goes_on(text, index)? {
             return Ok(());
-        }
-        if index > 0 {
-            text.push_str(",")?;
         }
         add_quoted(text, member.0)?;
         text.push_str(":")?;

@@ -63,9 +63,7 @@ pub(crate) struct Spot<'v, 't> {
 
 #[derive(Drop)]
 struct Walk<'v, 't> {
-    alloc: Global,
-    document: &'v Value<'t>,
-    third: bool,
+    teller: Teller<'v, 't>,
     ask: Ask<'v>,
     /// How many places are still to be passed over.
     skip: usize,
@@ -79,15 +77,7 @@ type Search<'v, 't> = Result<Option<Found<'v, 't>>, AllocError>;
 
 impl<'v, 't> Walk<'v, 't> {
     fn ends_at(&mut self, found: Found<'v, 't>) -> Result<bool, AllocError> {
-        let (document, third) = (self.document, self.third);
-        if !is_asked(
-            self.alloc,
-            self.ask,
-            document,
-            third,
-            found.form,
-            found.value,
-        )? {
+        if !is_asked(self.teller, self.ask, found)? {
             return Ok(false);
         }
         if self.skip == 0 {
@@ -102,7 +92,7 @@ impl<'v, 't> Walk<'v, 't> {
 
     #[cycle(walk)]
     fn visit(&mut self, levels: u32, form: Form, value: &'v Value<'t>) -> Search<'v, 't> {
-        let form = form.chosen(self.third, value);
+        let form = form.chosen(self.teller.third, value);
         if self.ends_at(Found { form, value })? {
             return Ok(Some(Found { form, value }));
         }
@@ -131,7 +121,7 @@ impl<'v, 't> Walk<'v, 't> {
 
     #[cycle(walk)]
     fn visit_members(&mut self, levels: u32, form: Form, value: &'v Value<'t>) -> Search<'v, 't> {
-        for name in form.names(self.third) {
+        for name in form.names(self.teller.third) {
             if let Some(inner) = find(value, name) {
                 if let Some(found) = self.visit(levels, form.member(name), inner)? {
                     self.steps.push(Step::Member(name))?;
@@ -200,9 +190,7 @@ impl<'v, 't> Teller<'v, 't> {
 
     fn walk(self, ask: Ask<'v>, skip: usize) -> Walk<'v, 't> {
         Walk {
-            alloc: self.alloc,
-            document: self.document,
-            third: self.third,
+            teller: self,
             ask,
             skip,
             passed: Vec::new(self.alloc),

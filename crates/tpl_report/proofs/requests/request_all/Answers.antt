@@ -17,11 +17,11 @@ loop-token-preserved g c =
     record {
       pass = one.pass;
       actor = one.actor ∙ was.actor;
-      asked = AllWithin-more (λ (k : TokenId). HasAsked n c.request_one.new.seat.mine k.0) c.args.tokens.now 0 c.loop-token.token-index
-          (λ k d low lt. asked_on n c.loop-token.seat.mine c.request_one.new.seat.mine (slice_index_or c.args.tokens.now k d).0 one.list (was.asked k d low lt)) (λ d. subst (λ (k : TokenId). HasAsked n c.request_one.new.seat.mine k.0) (get_or_default c.args.tokens.now c.loop-token.token-index _ d within) one.asked);
+      asked = AllWithin-more (λ (k : TokenId). HasAsked n c.request_one.new.outsider.seat.mine k.0) c.args.tokens.now 0 c.loop-token.token-index
+          (λ k d low lt. asked_on n c.loop-token.outsider.seat.mine c.request_one.new.outsider.seat.mine (slice_index_or c.args.tokens.now k d).0 one.list (was.asked k d low lt)) (λ d. subst (λ (k : TokenId). HasAsked n c.request_one.new.outsider.seat.mine k.0) (get_or_default c.args.tokens.now c.loop-token.token-index _ d within) one.asked);
     }
 
 pub returns-clause-asked : goal.returns-clause-asked
 returns-clause-asked g c =
-    All-map (HasAsked c.args.graph.now.graph c.loop-token.seat.mine) token_number c.args.tokens.now
+    All-map (HasAsked c.args.graph.now.graph c.loop-token.outsider.seat.mine) token_number c.args.tokens.now
     (λ k d lt. c.loop-token.invariant.asked k d (omega arith) (omega (arith, lt, c.loop-token-test.false, c.loop-token.auto.token-index-end)))
