@@ -12,7 +12,7 @@ use crate::split::{Split, Turn};
 use crate::splits::Splits;
 use crate::win::Win;
 use tpl_checker::Assumptions;
-use tpl_model::{Final, Finals, InputId, Property, TaskId};
+use tpl_model::{Final, Finals, InputId, MOST_INPUTS, Property, TaskId};
 use tpl_outline::{Beyond, NO_END, Outline, Setting, has_chain, is_proved, outline_under};
 
 /// A branch of the search.
@@ -57,7 +57,7 @@ impl Branch {
     /// The branch below this one on which the input has this value.
     pub(crate) fn with_input(&self, question: Question<'_>, input: InputId, value: bool) -> Branch
         requires question { IsReady question }
-        requires input { input.0 < 16 }
+        requires input { input.0 < MOST_INPUTS }
         ensures { assumed_of result.premises.assumptions
             ≡ with_input (assumed_of self.now.premises.assumptions) input.0 value }
     {

@@ -26,7 +26,7 @@ use tpl_graph::{Claim, Graph};
 use tpl_model::{MOST_TOKENS, RuleSet};
 use tpl_outline::{Followers, Stage, stages_of};
 use tpl_paths::TokenSet;
-use tpl_trees::{Certificate, Tree};
+use tpl_trees::{Certificate, MOST_SPLITS, Tree};
 use tpl_wide::links;
 
 /// Searches for a certificate of the claims, each of which can be asked of the graph, by the narrow rules and with at most
@@ -45,7 +45,7 @@ pub fn analyse(
     depth: u8,
 ) -> Result<Certificate, Gap>
     requires claims { All (Fits graph.now.graph) claims.now }
-    requires depth { depth ≤ 6 }
+    requires depth { depth ≤ MOST_SPLITS }
     ensures accepted { IfOk result (λ c. Accepts false graph.now.graph claims.now c) }
     ensures splits { IfOk result (All (λ tree. height tree ≤ depth)) }
     ensures gap { IfErr result (IsGap Narrow graph.now.graph claims.now depth) }
@@ -65,7 +65,7 @@ pub fn analyse_within<W: Watch>(
     budget: &mut Budget<W>,
 ) -> Result<Certificate, Gap>
     requires claims { All (Fits graph.now.graph) claims.now }
-    requires depth { depth ≤ 6 }
+    requires depth { depth ≤ MOST_SPLITS }
     ensures accepted { IfOk result (λ c. Accepts false graph.now.graph claims.now c) }
     ensures splits { IfOk result (All (λ tree. height tree ≤ depth)) }
     ensures form { IfOk result (IsCertificateOf form claims.now) }
@@ -125,7 +125,7 @@ fn certificate_for<W: Watch>(
     requires splits { All (IsSplitOf graph.now.graph) made.now.splits.items }
     requires linked { AreLinks graph.now.graph made.now.linked }
     requires claims { All (Fits graph.now.graph) claims.now }
-    requires depth { depth ≤ 6 }
+    requires depth { depth ≤ MOST_SPLITS }
     ensures accepted { IfOk result (λ c. Accepts false graph.now.graph claims.now c) }
     ensures splits { IfOk result (All (λ tree. height tree ≤ depth)) }
     ensures form { IfOk result (IsCertificateOf form claims.now) }

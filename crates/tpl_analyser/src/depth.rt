@@ -5,26 +5,29 @@ ghost use Rattle.std.specs.Prelude.{◌≡◌, ◌≤◌, ◌↔◌, ℕ, IsSome
 use std::marker::Model;
 use tpl_trees::MOST_SPLITS;
 
-/// The most splits on each path of the trees that a search gives: 0 to 6.
+/// The most splits on each path of the trees that a search gives: 0 to `MOST_SPLITS`.
 #[derive(Clone, Copy, Debug, PartialEq, Eq)]
 pub struct Depth {
     splits: u8,
 }
 
 impl Model for Depth {
+    ghost use Rattle.std.specs.Prelude.{◌≤◌, ℕ};
+    ghost use Rattle.tpl_trees.specs.declared.limits.TheConstants.{MOST_SPLITS};
+
     ghost Value = { ℕ };
 
     ghost view = { λ d. d.splits };
 
-    ghost invariant = { λ d. d.splits ≤ 6 };
+    ghost invariant = { λ d. d.splits ≤ MOST_SPLITS };
 
     ghost inverse = { λ n. record { splits = n } };
 }
 
 impl Depth {
-    /// This many splits; none where that is more than 6.
+    /// This many splits; none where that is more than `MOST_SPLITS`.
     pub fn new(splits: u8) -> Option<Depth>
-        ensures limit { IsSome result ↔ (splits ≤ 6) }
+        ensures limit { IsSome result ↔ (splits ≤ MOST_SPLITS) }
         ensures value { IfSome result (λ d. d ≡ splits) }
     {
         if splits <= MOST_SPLITS {
@@ -37,7 +40,7 @@ impl Depth {
     /// How many splits.
     pub fn splits(self) -> u8
         ensures value { result ≡ self }
-        ensures limit { result ≤ 6 }
+        ensures limit { result ≤ MOST_SPLITS }
     {
         self.splits
     }

@@ -27,7 +27,7 @@ use std::alloc::{AllocError, Global};
 use tpl_checker::{Assumptions, Below, assumed_for};
 use tpl_graph::{Claim, Graph};
 use tpl_model::RuleSet;
-use tpl_trees::{WideCertificate, WideTree, is_within_wide_limits};
+use tpl_trees::{MOST_SPLITS, WideCertificate, WideTree, is_within_wide_limits};
 use tpl_wide::{Check, accepts_tree};
 
 /// Searches for a certificate of the claims as [`crate::analyse_within`] does, by the rules that know of tokens and of
@@ -41,7 +41,7 @@ pub fn analyse_widely<W: Watch>(
     budget: &mut Budget<W>,
 ) -> Result<WideCertificate, Gap>
     requires claims { All (Fits graph.now.graph) claims.now }
-    requires depth { depth ≤ 6 }
+    requires depth { depth ≤ MOST_SPLITS }
     ensures accepted { IfOk result (λ c. WidelyAccepts graph.now.graph claims.now c) }
     ensures splits { IfOk result (All (λ tree. wide_height tree ≤ depth)) }
     ensures form { IfOk result (All (HasLeavesOf form)) }
@@ -68,7 +68,7 @@ fn certificate_for<W: Watch>(
     requires splits { All (IsSplitOf graph.now.graph) made.now.splits.items }
     requires linked { AreLinks graph.now.graph made.now.linked }
     requires claims { All (Fits graph.now.graph) claims.now }
-    requires depth { depth ≤ 6 }
+    requires depth { depth ≤ MOST_SPLITS }
     ensures accepted { IfOk result (λ c. WidelyAccepts graph.now.graph claims.now c) }
     ensures splits { IfOk result (All (λ tree. wide_height tree ≤ depth)) }
     ensures form { IfOk result (All (HasLeavesOf form)) }
@@ -101,7 +101,7 @@ fn tree_for<W: Watch>(
     requires stages { All (IsStageOf graph.now.graph) made.now.stages.items }
     requires splits { All (IsSplitOf graph.now.graph) made.now.splits.items }
     requires linked { AreLinks graph.now.graph made.now.linked }
-    requires depth { depth ≤ 6 }
+    requires depth { depth ≤ MOST_SPLITS }
     ensures { IfOk result (λ found. IfSome found (IsWidelyFound graph.now.graph claim.now.body
         form (widely_assumed graph.now.graph claim.now) depth)) }
 {
@@ -167,7 +167,7 @@ fn tested(
 ) -> Result<Option<WideTree>, AllocError>
     requires check { IsCheck check.now }
     requires plan { IsPlan (graph_in check.now) depth plan }
-    requires depth { depth ≤ 6 }
+    requires depth { depth ≤ MOST_SPLITS }
     ensures { IfOk result (λ found. IfSome found (IsWidelyFound (graph_in check.now)
         check.now.property form (wide_assumed assumed.now []) depth)) }
 {

@@ -21,7 +21,7 @@ use json::Writer;
 use std::alloc::{AllocError, Global};
 use tpl_graph::Graph;
 use tpl_model::InputId;
-use tpl_trees::{Node, Row, Tree, WideNode, WideRow, WideTree};
+use tpl_trees::{MOST_SPLITS, Node, Row, Tree, WideNode, WideRow, WideTree};
 
 /// The name of an input, where it is the graph's.
 fn input_name(graph: &Graph, input: InputId) -> Result<&str, TreeToFault>
@@ -195,11 +195,11 @@ fn text_of(out: Writer) -> String
 /// The trees as one array of JSON by the narrow rules, with the names of the graph, in the one spelling of each: no
 /// space; each member, in the order of the bytes of its name; `ends` in the order RanToCompletion, Canceled, Faulted,
 /// `before` and `past` in declared order. Each element spells its tree by either rules, and where no tree splits more
-/// than 6 times on a path the text is read as these values again.
+/// than `MOST_SPLITS` times on a path the text is read as these values again.
 pub fn trees_text(alloc: Global, graph: &Graph, trees: &[Tree]) -> Result<String, TreeToFault>
     ensures written { IfOk result (λ text. string_bytes text ≡ compact_text
         (certificate_data Narrow graph.now.names (map as_wide_tree trees.now))) }
-    ensures reads { IfOk result (λ text. All (λ tree. height tree ≤ 6) trees.now
+    ensures reads { IfOk result (λ text. All (λ tree. height tree ≤ MOST_SPLITS) trees.now
         → read (string_bytes text)
         ≡ Some (certificate_data Narrow graph.now.names (map as_wide_tree trees.now))) }
     ensures spells { IfOk result (λ _. All (λ tree. (rules : RuleSet) → spelled_tree rules
@@ -225,7 +225,7 @@ pub fn wide_trees_text(
 ) -> Result<String, TreeToFault>
     ensures written { IfOk result (λ text. string_bytes text
         ≡ compact_text (certificate_data Wide graph.now.names trees.now)) }
-    ensures reads { IfOk result (λ text. All (λ tree. wide_height tree ≤ 6) trees.now
+    ensures reads { IfOk result (λ text. All (λ tree. wide_height tree ≤ MOST_SPLITS) trees.now
         → read (string_bytes text) ≡ Some (certificate_data Wide graph.now.names trees.now)) }
     ensures spells { IfOk result (λ _. All (λ tree. spelled_tree Wide graph.now.names
         (tree_data Wide graph.now.names tree) ≡ Ok tree) trees.now) }

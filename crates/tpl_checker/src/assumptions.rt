@@ -8,8 +8,8 @@ ghost use Rattle.tpl_model.specs.Prelude.{end_left, has, is_final, is_loud, is_t
 use crate::cut::Cut;
 use tpl_graph::Graph;
 use tpl_model::{
-    Final, Finals, InputId, MOST_SITES, MOST_TASKS, MOST_TOKENS, Possible, RuleSet, SiteId, TaskId,
-    TokenId, View,
+    Final, Finals, InputId, MOST_INPUTS, MOST_SITES, MOST_TASKS, MOST_TOKENS, Possible, RuleSet,
+    SiteId, TaskId, TokenId, View,
 };
 
 /// The one of these values that is `value`, if it is among them.
@@ -80,7 +80,7 @@ impl Assumptions {
 
     /// The assumptions on the branch of a split where the input, one of the first 16, has this value.
     pub fn with_input(&self, input: InputId, value: bool) -> Assumptions
-        requires { input.0 < 16 }
+        requires { input.0 < MOST_INPUTS }
         ensures { assumed_of result ≡ with_input (assumed_of self.now) input.0 value }
     {
         let mut assumed = self.copy();

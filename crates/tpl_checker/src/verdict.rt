@@ -13,7 +13,7 @@ use crate::shape::misfit;
 use crate::tree::tree_fault;
 use tpl_graph::{Claim, Graph};
 use tpl_model::{CertFault, RuleSet};
-use tpl_trees::{Certificate, Tree};
+use tpl_trees::{Certificate, MOST_SPLITS, Tree};
 
 /// Checks that the certificate proves the claims of the graph, each of which can be asked of it, by
 /// these rules.
@@ -52,7 +52,7 @@ pub fn check(
 /// The first fault: shapes first, then claim by claim.
 fn verdict(graph: &Graph, claims: &[Claim], trees: &[Tree], rules: RuleSet) -> Result<(), CertFault>
     requires claims { All (Fits graph.now.graph) claims.now }
-    requires trees { All (λ tree. height tree ≤ 6) trees.now }
+    requires trees { All (λ tree. height tree ≤ MOST_SPLITS) trees.now }
     ensures { result ≡ verdict (is_wide rules) graph.now.graph claims.now trees.now }
 {
     match misfit(graph, claims, trees) {
@@ -69,7 +69,7 @@ fn claims_fault(
     rules: RuleSet,
 ) -> Result<(), CertFault>
     requires claims { All (Fits graph.now.graph) claims.now }
-    requires trees { All (λ tree. height tree ≤ 6) trees.now }
+    requires trees { All (λ tree. height tree ≤ MOST_SPLITS) trees.now }
     requires shapes { misfit graph.now.graph 1 claims.now trees.now ≡ None }
     ensures { result ≡ no_fault (claims_fault (is_wide rules) graph.now.graph 1 claims.now trees.now) }
 {

@@ -6,11 +6,11 @@ use Rattle.tpl_analyser.specs.declared.form.Form.TheVariants.{Full, Slim, Rows}
 use Rattle.tpl_commands.specs.declared.ask.Ask.{Ask}
 use Rattle.tpl_commands.specs.declared.ask.Ask.TheVariants.{Check, Analyse, AnalyseIn, Certify, Audit, Draw}
 use Rattle.tpl_each.specs.declared.slot.TheConstants.{MOST_JOBS}
+use Rattle.tpl_model.specs.declared.limits.TheConstants.{MOST_WORKERS}
 use Rattle.tpl_cli.specs.declared.line.Line as lines
 use Rattle.tpl_cli.specs.declared.line.Line.TheVariants as line
 use Rattle.tpl_cli.specs.declared.line.Tries.{Tries}
 use Rattle.tpl_cli.specs.declared.number.Number.TheVariants as number
-use Rattle.tpl_cli.specs.Number.{most_workers}
 use Rattle.tpl_cli.specs.Options.{IsFlag, IsGiven, IsIfGiven, IsLanguage, IsSet, IsStyle}
 use Rattle.tpl_cli.specs.Usage.{taskgraph}
 
@@ -74,6 +74,6 @@ AreThreads (Some jobs) = (1 ≤ jobs) × (jobs ≤ MOST_JOBS)
 -- what a line asks for is within the limits of the command
 abbrev pub IsWithin : lines.Line → Type 0
 IsWithin (line.Each ask jobs) = AreThreads jobs
-IsWithin (line.Run workers is_whole) = (1 ≤ workers) × (workers ≤ most_workers)
+IsWithin (line.Run workers is_whole) = (1 ≤ workers) × (workers ≤ MOST_WORKERS)
 IsWithin (line.Verify depth tries jobs style is_each) = AreThreads jobs
 IsWithin l = Unit {0}

@@ -2,6 +2,7 @@
 use Rattle.std.specs.Prelude.{ℕ, List, [], ◌∷◌, codes}
 use Rattle.clap.specs.Words.{Text}
 use Rattle.tpl_each.specs.declared.slot.TheConstants.{MOST_JOBS}
+use Rattle.tpl_model.specs.declared.limits.TheConstants.{MOST_WORKERS}
 use Rattle.tpl_parts.specs.declared.version.Version.TheVariants.{Three}
 use Rattle.tpl_reader.specs.Asked.{most_claims}
 use Rattle.tpl_trees.specs.declared.limits.TheConstants.{MOST_SPLITS}
@@ -17,10 +18,6 @@ number_name Runs = codes "runs"
 number_name Seed = codes "seed"
 number_name Jobs = codes "jobs"
 
--- the most workers of a run
-abbrev pub most_workers : ℕ
-most_workers = 64
-
 -- the most random runs that are tried for a claim
 abbrev pub most_runs : ℕ
 most_runs = 1000000
@@ -32,7 +29,7 @@ last_seed = 4294967295
 -- the least number that it may be, and the most
 abbrev pub number_range : Number → ℕ × ℕ
 number_range Depth = (0, MOST_SPLITS)
-number_range Workers = (1, most_workers)
+number_range Workers = (1, MOST_WORKERS)
 number_range Claim = (1, most_claims Three)
 number_range Runs = (0, most_runs)
 number_range Seed = (0, last_seed)

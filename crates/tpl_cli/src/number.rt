@@ -4,11 +4,9 @@ ghost use Rattle.std.specs.Prelude.{◌≡◌, [], ◌∷◌, MatchOption};
 ghost use Rattle.tpl_cli.specs.Prelude.{number_name, number_range, usual};
 
 use tpl_each::MOST_JOBS;
+use tpl_model::MOST_WORKERS;
 use tpl_reader::{Version, most_claims};
 use tpl_trees::MOST_SPLITS;
-
-/// The most workers of a run.
-const MOST_WORKERS: u32 = 64;
 
 /// The most random runs that are tried for a claim.
 const MOST_RUNS: u32 = 1_000_000;
@@ -82,7 +80,7 @@ impl Number {
     {
         match self {
             Number::Depth => (0, u32::from(MOST_SPLITS)),
-            Number::Workers => (1, MOST_WORKERS),
+            Number::Workers => (1, u32::from(MOST_WORKERS)),
             Number::Claim => (1, most_claims(Version::Three) as u32),
             Number::Runs => (0, MOST_RUNS),
             Number::Seed => (0, u32::MAX),

@@ -15,7 +15,8 @@ use Rattle.tpl_commands.specs.Certifying.{IsCertified, IsCertifying}
 use Rattle.tpl_commands.specs.Checking.{ClaimsHold, IsVerdict}
 use Rattle.tpl_commands.specs.Rules.{HasProof}
 use Rattle.tpl_commands.specs.Searching.{IsCertificate, IsSearching}
-use Rattle.tpl_commands.specs.Responding.{longest, Responds}
+use Rattle.tpl_commands.specs.Responding.{Responds}
+use Rattle.tpl_reader.specs.Document.{longest}
 use Rattle.tpl_commands.specs.Serving.{answers_of, Proved, Accepted, Found, Certified, Audited, Serves}
 use Rattle.tpl_commands.proofs.AuditLemmas.{audit_names_none}
 use Rattle.tpl_commands.proofs.Responses.{tells, IsYesOrNo}

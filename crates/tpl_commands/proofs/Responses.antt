@@ -4,13 +4,13 @@ use Rattle.std.specs.Prelude.{◌⊎◌, IsTrue, MatchResult}
 use Rattle.std.specs.declared.alloc.AllocError.{AllocError}
 use Rattle.tpl_journal.specs.declared.counting.Counting.{Counting}
 use Rattle.tpl_journal.specs.Writing.{Writes}
-use Rattle.tpl_reader.specs.Document.{DocumentValue, Spells}
+use Rattle.tpl_reader.specs.Document.{DocumentValue, Spells, longest}
 use Rattle.tpl_commands.specs.declared.exit.Exit.{Exit}
 use Rattle.tpl_commands.specs.declared.exit.Exit.TheVariants.{Success, Failure, Usage, Unreadable, Memory, Device, Fault}
 use Rattle.tpl_commands.specs.declared.responding.Answered.{Answered}
 use Rattle.tpl_commands.specs.Exit.{is_verdict}
 use Rattle.tpl_commands.specs.Documents.{Tells, ToDocument}
-use Rattle.tpl_commands.specs.Responding.{Answers, longest, Says, Reads, Puts, Responds}
+use Rattle.tpl_commands.specs.Responding.{Answers, Says, Reads, Puts, Responds}
 
 -- the answer to an input that isn't too long is one of those that say something of it
 pub says : (answers : Answers) (input : List ℕ) (exit : Exit) (text : List ℕ) → IsTrue (is_verdict exit) → length input ≤ longest → answers input exit text → Says answers input exit text

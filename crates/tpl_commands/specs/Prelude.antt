@@ -9,7 +9,7 @@ pub use Rattle.tpl_commands.specs.Finding.{IsAnswer, IsAnswerTo, IsAskedFor, IsF
 pub use Rattle.tpl_commands.specs.Loading.{Loads, RequestsTokens}
 pub use Rattle.tpl_commands.specs.Proof.{IsRead, proof_data, rules_for, trees_of}
 pub use Rattle.tpl_commands.specs.Recorded.{ended_of, times_of}
-pub use Rattle.tpl_commands.specs.Responding.{NoAnswer, Puts, Reads, Responds, Says, longest}
+pub use Rattle.tpl_commands.specs.Responding.{NoAnswer, Puts, Reads, Responds, Says}
 pub use Rattle.tpl_commands.specs.Rules.{rules_of}
 pub use Rattle.tpl_commands.specs.Searching.{IsBackWhereRead, IsFoundBy, IsOutcomeText, IsProofOf, IsSearchOf, IsSearching}
 pub use Rattle.tpl_commands.specs.Serving.{Accepted, Audited, Certified, Found, Proved, Serves, answers_of}

@@ -3,12 +3,9 @@ use Rattle.std.specs.Prelude.{◌≡◌, ◌⊎◌, ◌<◌, ◌≤◌, ℕ, Lis
 use Rattle.tpl_journal.specs.declared.counting.Counting.{Counting}
 use Rattle.tpl_journal.specs.Counting.{failures_of, counted, remaining_of}
 use Rattle.tpl_journal.specs.Writing.{Writes, StopsIn}
+use Rattle.tpl_reader.specs.Document.{longest}
 use Rattle.tpl_commands.specs.declared.exit.Exit.{Exit}
 use Rattle.tpl_commands.specs.declared.exit.Exit.TheVariants.{Success, Failure, Usage, Unreadable, Memory, Device, Fault}
-
--- the most bytes of a document
-abbrev pub longest : ℕ
-longest = 16777216
 
 -- what may be said of a document: the exits and texts for its bytes
 abbrev pub Answers : Type 1

@@ -5,12 +5,12 @@ use Rattle.tpl_draft.specs.Named.{Named}
 use Rattle.tpl_journal.specs.Counting.{calls_of}
 use Rattle.tpl_journal.specs.Writing.{Writes}
 use Rattle.tpl_journal.specs.declared.counting.Counting.{Counting}
-use Rattle.tpl_reader.specs.Document.{SpellsClaims}
+use Rattle.tpl_reader.specs.Document.{SpellsClaims, longest}
 use Rattle.tpl_commands.specs.Rules.{HasProof}
 use Rattle.tpl_commands.specs.declared.ask.Ask.{Ask}
 use Rattle.tpl_commands.specs.declared.ask.Ask.TheVariants.{Check, Analyse, AnalyseIn, Certify, Audit, Draw}
 use Rattle.tpl_commands.specs.Documents.{Tells}
-use Rattle.tpl_commands.specs.Responding.{Answers, longest, Reads, Responds}
+use Rattle.tpl_commands.specs.Responding.{Answers, Reads, Responds}
 use Rattle.tpl_commands.specs.Checking.{Checks, AllHold, ClaimsHold}
 use Rattle.tpl_analyser.specs.declared.form.Form.{Form}
 use Rattle.tpl_analyser.specs.declared.form.Form.TheVariants.{Full}

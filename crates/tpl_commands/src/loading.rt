@@ -1,10 +1,10 @@
 //! The document of a run.
 
 ghost use Rattle.std.specs.Prelude.{◌≡◌, ◌+◌, ◌≤◌, IfOk, IfErr, All};
-ghost use Rattle.tpl_commands.specs.Prelude.{Loads, NoDocument, RequestsTokens, Responds, longest};
+ghost use Rattle.tpl_commands.specs.Prelude.{Loads, NoDocument, RequestsTokens, Responds};
 ghost use Rattle.tpl_graph.specs.Prelude.{Fits};
 ghost use Rattle.tpl_journal.specs.Prelude.{calls_of};
-ghost use Rattle.tpl_reader.specs.Prelude.{Spells, doc_of};
+ghost use Rattle.tpl_reader.specs.Prelude.{Spells, doc_of, longest};
 ghost use Rattle.tpl_trees.specs.Prelude.{IsWithinLimits};
 
 use crate::exit::Exit;

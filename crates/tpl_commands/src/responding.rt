@@ -1,9 +1,9 @@
 //! A command, from a reader to a writer.
 
 ghost use Rattle.std.specs.Prelude.{◌≡◌, ◌≢◌, ◌+◌, ◌≤◌, length, codes, IfOk, IfErr, IfSome, MatchResult, string_bytes};
-ghost use Rattle.tpl_commands.specs.Prelude.{IsAnswer, IsFindingOf, NoAnswer, NoDocument, Puts, Reads, Responds, longest};
+ghost use Rattle.tpl_commands.specs.Prelude.{IsAnswer, IsFindingOf, NoAnswer, NoDocument, Puts, Reads, Responds};
 ghost use Rattle.tpl_journal.specs.Prelude.{calls_of};
-ghost use Rattle.tpl_reader.specs.Prelude.{IsFault};
+ghost use Rattle.tpl_reader.specs.Prelude.{IsFault, longest};
 
 use crate::answer::{Answer, put, put_out_of_memory};
 use crate::exit::Exit;

@@ -1,7 +1,8 @@
 //! The commands that read one document and write one text.
 
 ghost use Rattle.std.specs.Prelude.{◌≡◌, ◌⊎◌, ◌+◌, ◌≤◌, ℕ};
-ghost use Rattle.tpl_commands.specs.Prelude.{Accepted, Audited, Certified, Found, Proved, Responds, Serves, answers_of, longest};
+ghost use Rattle.tpl_commands.specs.Prelude.{Accepted, Audited, Certified, Found, Proved, Responds, Serves, answers_of};
+ghost use Rattle.tpl_reader.specs.Prelude.{longest};
 ghost use Rattle.tpl_journal.specs.Prelude.{calls_of};
 
 use crate::ask::Ask;

@@ -1,6 +1,6 @@
 -- What a draft spells: the graph in which each name is its number in declared order.
 use Rattle.std.specs.Prelude.{ℕ, ◌≤◌, List, [], ◌∷◌, Option, Some, None, map, flat_map, length}
-use Rattle.tpl_model.specs.declared.limits.TheConstants.{MOST_SITES, MOST_TASKS, MOST_TOKENS}
+use Rattle.tpl_model.specs.declared.limits.TheConstants.{MOST_INPUTS, MOST_SITES, MOST_TASKS, MOST_TOKENS}
 use Rattle.std.specs.Option.{option_map}
 use Rattle.tpl_model.specs.Statements.{Statement, Statements}
 use Rattle.tpl_model.specs.Statements as script
@@ -98,7 +98,7 @@ numbered d = record { graph = graph_in (names_of d) d; names = names_of d }
 
 -- there are no more names than ids can number
 pub record AreFew (n : Names) : Type 0 where
-  pub inputs : length n.inputs ≤ 16
+  pub inputs : length n.inputs ≤ MOST_INPUTS
   pub tokens : length n.tokens ≤ MOST_TOKENS
   pub tasks : length n.tasks ≤ MOST_TASKS
   pub labels : length n.labels ≤ 65536

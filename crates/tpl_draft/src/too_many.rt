@@ -56,7 +56,7 @@ fn room_behind_body(task: &DraftTask, room: Room) -> Option<Room>
         (worked (task_of task.now).kind).body ≡ room.statements) }
     ensures sites { IfSome result (λ left. left.sites + site_count
         (worked (task_of task.now).kind).body ≡ room.sites) }
-    ensures levels { IfSome result (λ left. level_count (worked (task_of task.now).kind).body ≤ 8) }
+    ensures levels { IfSome result (λ left. level_count (worked (task_of task.now).kind).body ≤ MOST_LEVELS) }
     ensures exceeds { IfNone result ((room.statements < line_count
         (worked (task_of task.now).kind).body) ⊎ ((8 < level_count
         (worked (task_of task.now).kind).body) ⊎ (room.sites < site_count

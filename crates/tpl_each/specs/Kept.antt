@@ -1,6 +1,6 @@
 -- What is kept of a line.
 use Rattle.std.specs.Prelude.{◌≡◌, ◌<◌, ◌≤◌, ℕ, List, length}
-use Rattle.tpl_commands.specs.Responding.{longest}
+use Rattle.tpl_reader.specs.Document.{longest}
 use Rattle.tpl_each.specs.declared.line.Line.{Line}
 use Rattle.tpl_each.specs.declared.line.Line.TheVariants.{Whole, TooLong, Lost}
 

@@ -17,8 +17,8 @@ use std::alloc::{AllocError, Global};
 use std::marker::Model;
 use tpl_draft::{Draft, GraphFault, Origin, Tables};
 use tpl_model::{
-    InputId, LabelId, MOST_INPUTS, MOST_SITES, MOST_TASKS, MOST_TOKENS, Options, Script, SiteId,
-    TaskId, TokenId,
+    InputId, LabelId, MOST_EVENTS, MOST_INPUTS, MOST_SITES, MOST_TASKS, MOST_TOKENS, Options,
+    Script, SiteId, TaskId, TokenId,
 };
 
 /// A valid task graph with its names: at most 1,024 tasks, 32 tokens, 16 inputs and 256 sites. Ids count from 0 in
@@ -405,10 +405,10 @@ impl Graph {
         self.attached[task.0 as usize].as_slice()
     }
 
-    /// The most events that a run has: at most 69,664.
+    /// The most events that a run has: at most `MOST_EVENTS`.
     pub fn bound(&self) -> u32
         ensures bound { result ≡ valid.bound self.now.graph }
-        ensures limit { result ≤ 69664 }
+        ensures limit { result ≤ MOST_EVENTS }
     {
         self.bound
     }

@@ -19,7 +19,7 @@ mod words;
 pub use board::{Cells, cells};
 pub use checks::has_seat;
 pub use hall::Hall;
-pub use own::{are_own, are_seated, are_seats, have_seats, is_seat};
+pub use own::{are_own, are_seated, have_seats};
 pub use receipts::receipts_of;
 pub use seat::{Seat, SeatFault};
 pub use sight::{Asked, Ended, Looked, Sight};

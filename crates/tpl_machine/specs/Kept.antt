@@ -1,6 +1,6 @@
 -- What a machine keeps of a run.
 use Rattle.std.specs.Prelude.{◌≡◌, ℕ, ◌<◌, ◌≤◌, Bool, false, List, [], Some, None, length, slice_get, slice_index_or, vec_capacity}
-use Rattle.tpl_model.specs.declared.limits.TheConstants.{MOST_TOKENS}
+use Rattle.tpl_model.specs.declared.limits.TheConstants.{MOST_EVENTS, MOST_TOKENS}
 use Rattle.std.specs.declared.vec.Vec.{Vec}
 use Rattle.std.specs.declared.alloc.Global.{Global}
 use Rattle.tpl_model.specs.declared.ids.TaskId.{TaskId}
@@ -27,6 +27,6 @@ pub record IsKept (g : TaskGraph) (v : List Bool) (h : List Event) (rows : List 
 -- there is room for a whole run, and a list for the exceptions that one task carries
 pub record HasRoom (g : TaskGraph) (list : Vec Event Global) (carried : Vec TaskId Global) : Type 0 where
   pub events : bound g ≤ vec_capacity list
-  pub limit : bound g ≤ 69664
+  pub limit : bound g ≤ MOST_EVENTS
   pub atoms : vec_capacity carried ≡ length g.tasks
   pub none : carried.items ≡ []

@@ -6,7 +6,7 @@ ghost use Rattle.tpl_model.specs.Prelude.{begun, begun_by};
 ghost use Rattle.tpl_run.specs.Prelude.{began};
 
 use tpl_graph::Kind;
-use tpl_model::{Act, Actor, Event, Status, TaskId};
+use tpl_model::{Act, Actor, Event, MOST_EVENTS, Status, TaskId};
 use tpl_run::status::opening;
 
 /// An event that says where a task stands that hasn't ended.
@@ -68,9 +68,9 @@ pub fn begun(events: &[Event], task: TaskId) -> Option<Actor>
     None
 }
 
-/// The place at which the task began, counted from 1. A run has at most 69,664 events.
+/// The place at which the task began, counted from 1. A run has at most `MOST_EVENTS` events.
 pub fn began(events: &[Event], task: TaskId) -> Option<u32>
-    requires { length events.now ≤ 69664 }
+    requires { length events.now ≤ MOST_EVENTS }
     ensures { result ≡ began (reverse events.now) task.0 }
 {
     let mut place = None;

@@ -16,12 +16,13 @@ pub struct Inputs {
 
 impl Model for Inputs {
     ghost use Rattle.std.specs.Prelude.{◌≤◌, Bool, List, take};
+    ghost use Rattle.tpl_model.specs.declared.limits.TheConstants.{MOST_INPUTS};
 
     ghost Value = { List Bool };
 
     ghost view = { λ s. take s.count s.values };
 
-    ghost invariant = { λ s. s.count ≤ 16 };
+    ghost invariant = { λ s. s.count ≤ MOST_INPUTS };
 }
 
 impl Inputs {

@@ -1,4 +1,4 @@
-//! The limits of a graph. They are this program's own.
+//! The limits of a graph and of its runs. They are this program's own.
 
 /// The most tasks of a graph.
 pub const MOST_TASKS: u16 = 1024;
@@ -23,3 +23,12 @@ pub const MOST_LEVELS: u8 = 8;
 
 /// The longest name, in characters.
 pub const LONGEST_NAME: usize = 32;
+
+/// The most workers of a run.
+pub const MOST_WORKERS: u16 = 64;
+
+/// The most seats outside, of those who are no workers.
+pub const MOST_OUTSIDE: u8 = 8;
+
+/// The most events of a run.
+pub const MOST_EVENTS: usize = 69_664;

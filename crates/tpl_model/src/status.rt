@@ -1,10 +1,11 @@
 //! Where a task stands, what a body throws, and who does what.
 
-ghost use Rattle.std.specs.Prelude.{◌≡◌, Some};
-ghost use Rattle.tpl_model.specs.Prelude.{status_name};
+ghost use Rattle.std.specs.Prelude.{◌≡◌, ◌↔◌, IsTrue, Some};
+ghost use Rattle.tpl_model.specs.Prelude.{IsSeat, status_name};
 
 use crate::finals::Final;
 use crate::ids::{LabelId, SiteId, TokenId, Worker};
+use crate::limits::{MOST_OUTSIDE, MOST_WORKERS};
 use std::fmt;
 
 /// Where a task stands (.NET API documentation: the enumeration TaskStatus).
@@ -64,6 +65,18 @@ pub enum Label {
 pub enum Actor {
     Worker(Worker),
     Outside(u8),
+}
+
+impl Actor {
+    /// One of the workers 1 to `MOST_WORKERS`, or of the seats outside, 1 to `MOST_OUTSIDE`.
+    pub fn is_seat(self) -> bool
+        ensures { IsTrue result ↔ IsSeat self }
+    {
+        match self {
+            Actor::Worker(worker) => 0 < worker.0 && worker.0 <= MOST_WORKERS,
+            Actor::Outside(number) => 0 < number && number <= MOST_OUTSIDE,
+        }
+    }
 }
 
 /// What a job answers.

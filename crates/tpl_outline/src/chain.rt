@@ -7,9 +7,7 @@ use crate::bits::Bits;
 use crate::setting::Setting;
 use std::alloc::{AllocError, Global};
 use tpl_model::{Final, Finals, MOST_TASKS, TaskId};
-
-/// The most tasks in a chain (this program's own limit).
-const MOST_IN_CHAIN: usize = 16;
+use tpl_trees::MOST_IN_CHAIN;
 
 /// A task that carries the exception over.
 #[derive(Clone, Copy)]
@@ -21,14 +19,14 @@ struct Carrier {
     taken: usize,
 }
 
-/// The shortest chain of the task, of at most 16 tasks; of equally short ones the one with the
+/// The shortest chain of the task, of at most `MOST_IN_CHAIN` tasks; of equally short ones the one with the
 /// least task where they first differ. It is empty where there is none.
 pub(crate) fn chain(
     alloc: Global,
     setting: Setting<'_>,
     task: TaskId,
 ) -> Result<Vec<TaskId>, AllocError>
-    ensures { IfOk result (λ chain. length chain.items ≤ 16) }
+    ensures { IfOk result (λ chain. length chain.items ≤ MOST_IN_CHAIN) }
 {
     let mut seen = Bits::none();
     let mut carriers = Vec::new(alloc);
@@ -51,7 +49,7 @@ pub(crate) fn chain(
     Ok(Vec::new(alloc))
 }
 
-/// The task has a chain of at most 16 tasks. That depends on inputs and quiet tokens alone, and not on
+/// The task has a chain of at most `MOST_IN_CHAIN` tasks. That depends on inputs and quiet tokens alone, and not on
 /// how tasks end.
 pub fn has_chain(setting: Setting<'_>, task: TaskId) -> bool {
     let mut carriers = Bits::none();
@@ -108,7 +106,7 @@ fn push_takers(
     place: usize,
     carrier: Carrier,
 ) -> Result<(), AllocError>
-    requires { carrier.taken < 16 }
+    requires { carrier.taken < MOST_IN_CHAIN }
 {
     let mut takers = setting.followers.takers(carrier.task).without(seen);
     seen.add(&takers);
@@ -132,7 +130,7 @@ fn path(
     place: usize,
     reader: TaskId,
 ) -> Result<Vec<TaskId>, AllocError>
-    ensures { IfOk result (λ path. length path.items ≤ 16) }
+    ensures { IfOk result (λ path. length path.items ≤ MOST_IN_CHAIN) }
 {
     let mut path = Vec::new(alloc);
     path.push(reader)?;

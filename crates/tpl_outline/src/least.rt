@@ -11,7 +11,7 @@ use crate::rows::{Parts, rows};
 use crate::setting::Setting;
 use std::alloc::{AllocError, Global};
 use tpl_model::{Property, TaskId, TaskSet};
-use tpl_trees::Row;
+use tpl_trees::{MOST_IN_CHAIN, Row};
 
 /// The chain of the observed task, or an empty one, if the least rows prove the property with it.
 /// The outline and the tasks are those that bear on the property.
@@ -23,7 +23,7 @@ pub fn reached(
     tasks: &TaskSet,
 ) -> Result<Option<Vec<TaskId>>, AllocError>
     ensures shown { IfOk result (λ o. IsAnswer property outline.now (is_some o)) }
-    ensures chain { IfOk result (λ o. IfSome o (λ chain. length chain.items ≤ 16)) }
+    ensures chain { IfOk result (λ o. IfSome o (λ chain. length chain.items ≤ MOST_IN_CHAIN)) }
 {
     let chain = match observed(property) {
         Some(task) => chain(alloc, setting, task)?,

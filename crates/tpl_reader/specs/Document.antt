@@ -14,6 +14,7 @@ use Rattle.tpl_parts.specs.declared.version.Version.{Version}
 use Rattle.tpl_parts.specs.Versions.{rules_since}
 use Rattle.tpl_parts.specs.Start.{NamedStart}
 use Rattle.tpl_json.specs.Passes.{◌>>=◌}
+use Rattle.tpl_reader.specs.declared.read.TheConstants.{LONGEST}
 use Rattle.tpl_reader.specs.Begin.{StartValue, start_if_any}
 use Rattle.tpl_reader.specs.Ends.{knows_ends, ends_in}
 use Rattle.tpl_reader.specs.Shape.{Spelled, spelled_at}
@@ -78,8 +79,9 @@ IsRefused s (faults.Shape p) = ⊥
 
 -- ---- bytes
 
+-- the most bytes of a document
 abbrev pub longest : ℕ
-longest = 16777216
+longest = LONGEST
 
 -- what the bytes read as
 abbrev pub Reads : List ℕ → Data → Type 0

@@ -10,7 +10,7 @@ use Rattle.tpl_model.specs.declared.ids.TaskId.{TaskId}
 use Rattle.tpl_model.specs.Graph.{TaskGraph}
 use Rattle.tpl_model.specs.declared.event.Event.{Event}
 use Rattle.tpl_model.specs.Claims.{Claim, Holds}
-use Rattle.tpl_journal.specs.Lines.{IsSeat}
+use Rattle.tpl_model.specs.Journal.{IsSeat}
 use Rattle.tpl_laws.specs.Runs.{PrefixIsRun}
 use Rattle.tpl_audit.specs.declared.verdict.Failure.{Failure}
 use Rattle.tpl_audit.specs.declared.verdict.OtherEnd.{OtherEnd}

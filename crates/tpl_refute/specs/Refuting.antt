@@ -1,7 +1,7 @@
 -- What refutes a claim.
 use Rattle.std.specs.Prelude.{◌≡◌, ℕ, ◌<◌, Bool, List, length, reverse}
 use Rattle.std.specs.List.{All}
-use Rattle.tpl_journal.specs.Lines.{IsSeat}
+use Rattle.tpl_model.specs.Journal.{IsSeat}
 use Rattle.tpl_model.specs.Graph.{TaskGraph}
 use Rattle.tpl_model.specs.declared.event.Event.{Event}
 use Rattle.tpl_model.specs.Rules.{Run}

@@ -2,10 +2,10 @@
 
 use std::alloc::{AllocError, Global};
 use tpl_graph::Graph;
-use tpl_model::{Act, Actor, Event, TaskId, Worker};
+use tpl_model::{Act, Actor, Event, MOST_WORKERS, TaskId, Worker};
 
 /// The most workers that the events of a run name.
-const MOST_WORKERS: usize = 64;
+const WORKERS: usize = MOST_WORKERS as usize;
 
 /// The bodies that each worker has open. Those of one thread nest: it goes on with the innermost one alone. It begins a
 /// body inside another only where it ended the antecedent there, as a synchronous continuation runs inside a `Cancel`
@@ -13,7 +13,7 @@ const MOST_WORKERS: usize = 64;
 #[derive(Drop)]
 pub(crate) struct Bodies {
     /// The innermost open body of each worker.
-    innermost: [Option<TaskId>; MOST_WORKERS],
+    innermost: [Option<TaskId>; WORKERS],
     /// For each task that was begun, the body inside which that was done.
     outer: Vec<Option<TaskId>>,
     /// For each task that has ended, the body inside which that was done.
@@ -66,7 +66,7 @@ impl Bodies {
     /// No body is open.
     pub(crate) fn new(alloc: Global, graph: &Graph) -> Result<Bodies, AllocError> {
         Ok(Bodies {
-            innermost: [None; MOST_WORKERS],
+            innermost: [None; WORKERS],
             outer: none(alloc, graph.len())?,
             ended_in: none(alloc, graph.len())?,
         })
@@ -74,7 +74,7 @@ impl Bodies {
 
     /// A run begins.
     pub(crate) fn clear(&mut self) {
-        self.innermost = [None; MOST_WORKERS];
+        self.innermost = [None; WORKERS];
         clear(&mut self.outer);
         clear(&mut self.ended_in);
     }
@@ -82,7 +82,7 @@ impl Bodies {
     /// The first worker that is in no body.
     pub(crate) fn free(&self) -> Option<Actor> {
         let at = self.innermost.iter().position(|body| body.is_none())?;
-        Some(Actor::Worker(Worker(at.min(MOST_WORKERS - 1) as u16 + 1)))
+        Some(Actor::Worker(Worker(at.min(WORKERS - 1) as u16 + 1)))
     }
 
     /// The innermost body that the actor has open.
@@ -92,7 +92,7 @@ impl Bodies {
 
     fn set_inside(&mut self, actor: Actor, body: Option<TaskId>) {
         if let Some(at) = number_of(actor) {
-            if at < MOST_WORKERS {
+            if at < WORKERS {
                 self.innermost[at] = body;
             }
         }

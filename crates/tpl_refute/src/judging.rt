@@ -2,7 +2,7 @@
 
 ghost use Rattle.std.specs.Prelude.{◌≡◌, ◌↔◌, IsTrue, IfOk, IfSome, length, All};
 ghost use Rattle.tpl_graph.specs.Prelude.{Fits};
-ghost use Rattle.tpl_journal.specs.Prelude.{IsSeat};
+ghost use Rattle.tpl_model.specs.Prelude.{IsSeat};
 ghost use Rattle.tpl_refute.specs.Refuting.{Refutes};
 
 use crate::counterexample::Counterexample;
@@ -10,30 +10,14 @@ use std::alloc::{AllocError, Global};
 use std::slice;
 use tpl_audit::{Verdict, audit};
 use tpl_graph::{Claim, Graph};
-use tpl_model::{Actor, Event, Inputs};
-
-/// A journal can name the actor: a worker from 1 to 64, or a seat outside from 1 to 8.
-fn is_seat(actor: Actor) -> bool
-    ensures { IsTrue result ↔ IsSeat actor }
-{
-    match actor {
-        Actor::Worker(worker) => 0 < worker.0 && worker.0 <= 64,
-        Actor::Outside(seat) => 0 < seat && seat <= 8,
-    }
-}
-
-fn have_seats(events: &[Event]) -> bool
-    ensures { IsTrue result ↔ All (λ e. IsSeat e.actor) events.now }
-{
-    events.iter().all(|event| is_seat(event.actor))
-}
+use tpl_model::{Event, Inputs, are_seats};
 
 /// A document of the graph can have these inputs, and its journal these events.
 fn can_be_written(graph: &Graph, inputs: &Inputs, events: &[Event]) -> bool
     ensures { IsTrue result ↔ ((length inputs.now ≡ graph.now.graph.inputs)
         × All (λ e. IsSeat e.actor) events.now) }
 {
-    inputs.len() == graph.input_count() && have_seats(events)
+    inputs.len() == graph.input_count() && are_seats(events)
 }
 
 /// The events up to the place where the claim fails first, if they are a run in which it does.

@@ -1,5 +1,5 @@
 -- From a session's report to what tells its run.
-use Rattle.std.proofs.Common.{◌≡◌, ◌∙◌, ℕ, ◌<◌, ◌≤◌, Bool, true, false, List, [], length, Option, Some, None, ok_or, codes, refl, sym, subst, inl, inr, arith}
+use Rattle.std.proofs.Common.{◌≡◌, ◌∙◌, ℕ, ◌≤◌, Bool, true, false, List, [], length, Option, Some, None, ok_or, refl, sym, subst, inl, arith}
 use Rattle.std.specs.Prelude.{reverse, nat_eq}
 use Rattle.std.specs.Borrow.{Bor}
 use Rattle.std.specs.List.{All}
@@ -20,7 +20,6 @@ use Rattle.tpl_reader.specs.Laws.{SpellsOneDocument}
 use Rattle.tpl_reader.specs.Starting.{inputs_of, no_inputs, values_of}
 use Rattle.tpl_verify.specs.Filled.{IsTextOf}
 use Rattle.tpl_commands.specs.declared.exit.Exit.{Exit}
-use Rattle.tpl_commands.specs.declared.exit.Exit.TheVariants.{Failure, Memory}
 use Rattle.tpl_commands.specs.Responding.{Puts}
 use Rattle.tpl_report.specs.Reported.{IsReport}
 use Rattle.tpl_report.specs.Telling.{report_exit, with_events, PutsTelling}

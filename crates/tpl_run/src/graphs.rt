@@ -7,7 +7,7 @@ ghost use Rattle.tpl_model.specs.Graph as spec;
 
 use crate::readers::Readers;
 use tpl_laws::is_bounded;
-use tpl_model::{TaskId, TokenId};
+use tpl_model::{MOST_EVENTS, TaskId, TokenId};
 
 /// The graph has the task.
 pub fn has_task<R: Readers>(run: &R, task: TaskId) -> bool
@@ -67,7 +67,7 @@ pub fn children<R: Readers>(run: &R, task: TaskId) -> &[TaskId]
 
 /// No run is longer than its graph's bound.
 pub fn is_short<R: Readers>(run: &R)
-    ensures { length (R.journal run.now).events ≤ 69664 }
+    ensures { length (R.journal run.now).events ≤ MOST_EVENTS }
 {
     is_bounded();
     run.run_law();

@@ -15,7 +15,8 @@ use Rattle.tpl_machine.specs.Journal.{Journal, named}
 use Rattle.tpl_items.specs.declared.receipt.Receipt.{Receipt}
 use Rattle.tpl_hall.specs.Answers.{answers, shown}
 use Rattle.tpl_hall.specs.Closes.{AllOwn, AllLast}
-use Rattle.tpl_hall.specs.Lists.{IsSeat, all_seated, are_seated}
+use Rattle.tpl_hall.specs.Lists.{all_seated, are_seated}
+use Rattle.tpl_model.specs.Journal.{IsSeat}
 use Rattle.tpl_hall.specs.Views.{SeatView}
 use Rattle.tpl_runtime.specs.declared.closing.CloseFault.{CloseFault}
 use Rattle.tpl_runtime.specs.declared.closing.CloseWhy.{CloseWhy}

@@ -2,6 +2,7 @@
 use Rattle.std.specs.Prelude.{ℕ, zero, suc, ◌+◌, ◌<◌, ◌≤◌, Bool, List, [], ◌∷◌, ◌++◌, None, ◌≡◌, length, map, All, IsPermutation}
 use Rattle.tpl_model.specs.declared.status.Actor.{Actor}
 use Rattle.tpl_model.specs.declared.status.Actor.TheVariants.{Worker}
+use Rattle.tpl_model.specs.declared.limits.TheConstants.{MOST_WORKERS}
 use Rattle.tpl_model.specs.Graph.{TaskGraph}
 use Rattle.tpl_hall.specs.declared.seat.SeatFault.TheVariants.{SeatTaken}
 use Rattle.tpl_hall.specs.declared.sight.Ended.{Ended}
@@ -20,9 +21,9 @@ abbrev pub workers : ℕ → List Actor
 workers zero = []
 workers (suc n) = workers n ++ worker (n + 1) ∷ []
 
--- a session has 1 to 64 workers
+-- a session has 1 to MOST_WORKERS workers
 abbrev pub IsCount : ℕ → Type 0
-IsCount n = (0 < n) × (n ≤ 64)
+IsCount n = (0 < n) × (n ≤ MOST_WORKERS)
 
 -- a new seat of this actor, with this room: no events, and nothing was reported to it
 abbrev pub new_seat : Actor → ℕ → SeatView

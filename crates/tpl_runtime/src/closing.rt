@@ -1,7 +1,8 @@
 //! What a session leaves, and what is compared when it is closed.
 
 ghost use Rattle.std.specs.Prelude.{◌≡◌, ◌↔◌, ◌⊎◌, ◌+◌, true, length, map, All, IsTrue, IfOk, IfErr, OnOk};
-ghost use Rattle.tpl_hall.specs.Prelude.{AllOwn, IsSeat, all_seated, are_seated};
+ghost use Rattle.tpl_hall.specs.Prelude.{AllOwn, all_seated, are_seated};
+ghost use Rattle.tpl_model.specs.Prelude.{IsSeat};
 ghost use Rattle.tpl_runtime.specs.Prelude.{Agrees, AreAllSeats, AreOnce, ClosesWell, GivesBack, IsClosed, IsKept, IsWhole, RefusesClose, told_of};
 ghost use Rattle.tpl_runtime.specs.declared.closing.CloseWhy.TheVariants.{Lost};
 
@@ -9,9 +10,9 @@ use crate::tables::{Told, tables};
 use std::alloc::{AllocError, Global};
 use thiserror::Error;
 use tpl_graph::Graph;
-use tpl_hall::{Hall, Seat, all_last, are_own, are_seated, are_seats, have_seats, receipts_of};
+use tpl_hall::{Hall, Seat, all_last, are_own, are_seated, have_seats, receipts_of};
 use tpl_items::{Item, Receipt, items_of};
-use tpl_model::{Actor, Event, Inputs, Label, Status, TaskId};
+use tpl_model::{Actor, Event, Inputs, Label, Status, TaskId, are_seats};
 
 /// What a session leaves: the run, the first event first; of each task where it stands, what its own body threw, and
 /// whose exceptions it carries; the tasks whose exception nobody has observed; the receipts in the order of the Worked

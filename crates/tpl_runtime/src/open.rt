@@ -12,10 +12,10 @@ use std::sync::{Arc, Condvar, Mutex};
 use tpl_graph::Graph;
 use tpl_hall::{Cells, Hall, cells};
 use tpl_items::{Children, Item, OpenWhy, Stock, refusal};
-use tpl_model::{Actor, Inputs};
+use tpl_model::{Actor, Inputs, MOST_OUTSIDE, MOST_WORKERS};
 
-/// The most seats that a session has: those of 64 workers, and 8 outside.
-const MOST_SEATS: usize = 72;
+/// The most seats that a session has: those of its workers, and those outside.
+const MOST_SEATS: usize = MOST_WORKERS as usize + MOST_OUTSIDE as usize;
 
 /// Why a session wasn't opened. All items come back.
 #[derive(Drop)]

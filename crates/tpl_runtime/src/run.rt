@@ -16,15 +16,12 @@ use std::thread::Threads;
 use thiserror::Error;
 use tpl_hall::{Ended, Seat, SeatFault};
 use tpl_items::Item;
-use tpl_model::{Actor, Worker};
-
-/// The most workers that a session has.
-const MOST_WORKERS: u16 = 64;
+use tpl_model::{Actor, MOST_WORKERS, Worker};
 
 /// Why the workers didn't all run.
 #[derive(Clone, Copy, PartialEq, Eq, Debug, Error)]
 pub enum RunWhy {
-    /// There are 1 to 64 workers.
+    /// There are 1 to `MOST_WORKERS` workers.
     #[error("BadCount")]
     BadCount,
     /// This worker has no seat, since it has one already. Those before it have theirs.
@@ -166,7 +163,7 @@ impl<'g, K: Drop + Send, W: Item<K> + Send> Session<'g, K, W> {
         n: u16,
         seats: &mut Vec<Seat>,
     ) -> Option<(Worker, SeatFault)>
-        requires few { n ≤ 64 }
+        requires few { n ≤ MOST_WORKERS }
         requires empty { seats.old.items ≡ [] }
         requires room { n ≤ vec_capacity seats.old }
         ensures all { IfNone result (AreNew n seats.new.items) }

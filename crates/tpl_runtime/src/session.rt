@@ -1,11 +1,11 @@
 //! The session that threads share.
 
 ghost use Rattle.std.specs.Prelude.{◌≡◌, ◌↔◌, [], Some, None, IfOk, IfErr, OnOk};
-ghost use Rattle.tpl_hall.specs.Prelude.{IsSeat, IsSeen, Leaves, MatchLooked};
+ghost use Rattle.tpl_hall.specs.Prelude.{IsSeen, Leaves, MatchLooked};
 ghost use Rattle.tpl_hall.specs.declared.seat.SeatFault.TheVariants.{BadActor};
 ghost use Rattle.tpl_hall.specs.declared.sight.Sight.TheVariants.{At};
 ghost use Rattle.tpl_items.specs.Prelude.{both, first_half, second_half};
-ghost use Rattle.tpl_model.specs.Prelude.{bound, is_task, is_token};
+ghost use Rattle.tpl_model.specs.Prelude.{IsSeat, bound, is_task, is_token};
 ghost use Rattle.tpl_runtime.specs.Prelude.{Asks, ClosesWell, GivesBack, Keeps};
 ghost use Rattle.tpl_runtime.specs.declared.shared.Turn.TheVariants.{Wait};
 
@@ -17,7 +17,7 @@ use std::alloc::Global;
 use std::marker::Model;
 use std::sync::{Condvar, Mutex, Wait};
 use tpl_graph::Graph;
-use tpl_hall::{Asked, Cells, Ended, Looked, Seat, SeatFault, Stint, is_seat};
+use tpl_hall::{Asked, Cells, Ended, Looked, Seat, SeatFault, Stint};
 use tpl_items::Item;
 use tpl_model::{Actor, Inputs, TaskId, TokenId};
 
@@ -53,7 +53,7 @@ impl<'g, K: Drop, W: Item<K>> Session<'g, K, W> {
         ensures actor { OnOk result (IsSeat actor) }
         ensures bad_actor { IfErr result (λ fault. (fault ≡ BadActor) ↔ (IsSeat actor → ⊥)) }
     {
-        if !is_seat(actor) {
+        if !actor.is_seat() {
             return Err(SeatFault::BadActor);
         }
         let mut shared = self.shared.lock(rt);

@@ -6,6 +6,7 @@ use Rattle.serde_json.specs.View.{items_of}
 use Rattle.serde_json.specs.Written.{compact_text}
 use Rattle.tpl_model.specs.declared.status.Actor.{Actor}
 use Rattle.tpl_model.specs.declared.status.Actor.TheVariants.{Worker, Outside}
+use Rattle.tpl_model.specs.declared.limits.TheConstants.{MOST_OUTSIDE, MOST_WORKERS}
 use Rattle.tpl_model.specs.Graph.{TaskGraph, kind}
 use Rattle.tpl_model.specs.Journal.{same_actor}
 use Rattle.tpl_model.specs.declared.event.Act.{Act}
@@ -17,10 +18,10 @@ use Rattle.tpl_journal.specs.Lines.{task_name, token_name}
 use Rattle.tpl_trace.specs.declared.moment.Moment.{Moment}
 use Rattle.tpl_trace.specs.Marks.{process_mark, track_mark, slice_mark, instant_mark, arrow_start, arrow_end}
 
--- the number of an actor's track: those of the seats outside come behind those of 64 workers
+-- the number of an actor's track: those of the seats outside come behind those of the workers
 abbrev pub track_of : Actor → ℕ
 track_of (Worker n) = n.0
-track_of (Outside n) = 64 + n
+track_of (Outside n) = MOST_WORKERS + n
 
 -- the name of an actor's track
 abbrev pub track_name : Actor → List ℕ
@@ -55,9 +56,9 @@ abbrev pub crosses : Actor → ℕ → (past later : List Event) → Bool
 crosses a t past [] = false
 crosses a t past (e ∷ later) = if begun_by e.act t then outlives a t past later else crosses a t (past ++ (e ∷ [])) later
 
--- the number of the track of a body that doesn't nest: these come behind those of 64 workers and 8 seats
+-- the number of the track of a body that doesn't nest: these come behind those of the workers and the seats
 abbrev pub body_track : ℕ → ℕ
-body_track t = 73 + t
+body_track t = MOST_WORKERS + MOST_OUTSIDE + 1 + t
 
 -- the track on which the actor begins or leaves the body
 abbrev pub track_of_body : List Event → Actor → ℕ → ℕ

@@ -1,10 +1,10 @@
 //! The trace of a document's journal.
 
 ghost use Rattle.std.specs.Prelude.{◌≡◌, ◌+◌, ◌≤◌, Some, IfOk, IfSome, string_bytes, All};
-ghost use Rattle.tpl_commands.specs.Prelude.{IsAnswer, IsFindingOf, Responds, longest};
+ghost use Rattle.tpl_commands.specs.Prelude.{IsAnswer, IsFindingOf, Responds};
 ghost use Rattle.tpl_graph.specs.Prelude.{Fits};
 ghost use Rattle.tpl_journal.specs.Prelude.{calls_of};
-ghost use Rattle.tpl_reader.specs.Prelude.{Spells, doc_of, inputs_of};
+ghost use Rattle.tpl_reader.specs.Prelude.{Spells, doc_of, inputs_of, longest};
 ghost use Rattle.tpl_trace.specs.Prelude.{IsJournalOf, Traced, Traces};
 
 use crate::text::trace_text;

@@ -14,10 +14,10 @@ use crate::tracks::{same_actor, track_name, track_of};
 use serde_json::Value;
 use std::alloc::{AllocError, Global};
 use tpl_graph::Graph;
-use tpl_model::{Act, Actor, Event, TaskId};
+use tpl_model::{Act, Actor, Event, MOST_OUTSIDE, MOST_WORKERS, TaskId};
 
-/// The track of the body of the first task: those of 64 workers and 8 seats outside come before it.
-const FIRST_TRACK: u32 = 73;
+/// The track of the body of the first task: those of the workers and of the seats outside come before it.
+const FIRST_TRACK: u32 = MOST_WORKERS as u32 + MOST_OUTSIDE as u32 + 1;
 
 fn begins(act: Act, task: TaskId) -> bool
     ensures { result ≡ begun_by act task.0 }

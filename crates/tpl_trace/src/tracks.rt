@@ -8,10 +8,7 @@ ghost use Rattle.tpl_trace.specs.Prelude.{acts_in, new_track, track_name, track_
 use crate::marks::track_mark;
 use serde_json::Value;
 use std::alloc::{AllocError, Global};
-use tpl_model::{Actor, Event, Worker};
-
-/// How many workers there may be.
-const WORKERS: u16 = 64;
+use tpl_model::{Actor, Event, MOST_WORKERS, Worker};
 
 /// The number of an actor's track.
 pub(crate) fn track_of(actor: Actor) -> u16
@@ -19,7 +16,7 @@ pub(crate) fn track_of(actor: Actor) -> u16
 {
     match actor {
         Actor::Worker(worker) => worker.0,
-        Actor::Outside(seat) => WORKERS + u16::from(seat),
+        Actor::Outside(seat) => MOST_WORKERS + u16::from(seat),
     }
 }
 

@@ -1,6 +1,7 @@
 -- How deep a tree splits whose rows speak of tokens too, and how long its chains are.
 use Rattle.std.specs.Prelude.{ℕ, ◌≤◌, ◌&&◌, suc, max, length, Bool, true, nat_le}
 use Rattle.std.specs.List.{All, list_all}
+use Rattle.tpl_trees.specs.declared.limits.TheConstants.{MOST_IN_CHAIN, MOST_SPLITS}
 use Rattle.tpl_model.specs.WiderRules.{WideRow, WideTree, OnInput, OnEnd, OnWinner, WideLeaf, LeastLeaf}
 
 -- the splits above the deepest leaf
@@ -11,9 +12,9 @@ wide_height (OnWinner n x on_yes on_no) = suc (max (wide_height on_yes) (wide_he
 wide_height (WideLeaf rows) = 0
 wide_height LeastLeaf = 0
 
--- no chain has more than 16 tasks
+-- no chain has more than MOST_IN_CHAIN tasks
 abbrev pub HasShortWideChain : WideRow → Type 0
-HasShortWideChain r = length r.row.chain ≤ 16
+HasShortWideChain r = length r.row.chain ≤ MOST_IN_CHAIN
 
 abbrev pub HasShortWideChains : WideTree → Type 0
 HasShortWideChains (OnInput i on_true on_false) = HasShortWideChains on_true × HasShortWideChains on_false
@@ -22,9 +23,9 @@ HasShortWideChains (OnWinner n x on_yes on_no) = HasShortWideChains on_yes × Ha
 HasShortWideChains (WideLeaf rows) = All HasShortWideChain rows
 HasShortWideChains LeastLeaf = Unit {0}
 
--- within the limits: at most 6 splits on each path
+-- within the limits: at most MOST_SPLITS splits on each path
 abbrev pub IsWithinWideLimits : WideTree → Type 0
-IsWithinWideLimits tree = (wide_height tree ≤ 6) × HasShortWideChains tree
+IsWithinWideLimits tree = (wide_height tree ≤ MOST_SPLITS) × HasShortWideChains tree
 
 -- the same, as a test
 abbrev pub has_short_chain : WideRow → Bool

@@ -2,10 +2,10 @@
 
 ghost use Rattle.std.specs.Prelude.{◌≡◌, ◌⊎◌, ◌+◌, ◌≤◌, ◌<◌, None, IfOk, IfSome, IsTrue, string_bytes, All};
 ghost use Rattle.std.specs.List.{AllZip};
-ghost use Rattle.tpl_commands.specs.Prelude.{IsFindingOf, Responds, is_verdict, longest, rules_of};
+ghost use Rattle.tpl_commands.specs.Prelude.{IsFindingOf, Responds, is_verdict, rules_of};
 ghost use Rattle.tpl_graph.specs.Prelude.{Fits};
 ghost use Rattle.tpl_journal.specs.Prelude.{calls_of};
-ghost use Rattle.tpl_reader.specs.Prelude.{doc_of};
+ghost use Rattle.tpl_reader.specs.Prelude.{doc_of, longest};
 ghost use Rattle.tpl_verdicts.specs.Prelude.{AreRight, IsExit, IsStyled, IsVerified, Judged, Verified, Verifies};
 ghost use Rattle.tpl_verify.specs.Prelude.{HoldsAlways, IsVerdict};
 

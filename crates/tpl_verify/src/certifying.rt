@@ -15,11 +15,11 @@ use tpl_analyser::{Budget, Form, Gap, Unwatched};
 use tpl_commands::{Proof, find_proof};
 use tpl_graph::Claim;
 use tpl_model::Property;
-use tpl_trees::{Node, Tree, WideNode, WideTree};
+use tpl_trees::{MOST_SPLITS, Node, Tree, WideNode, WideTree};
 
 /// How many splits the tree has above its deepest leaf.
 fn splits_of(tree: &Tree) -> u8
-    requires { wide_height (as_wide_tree tree.now) ≤ 6 }
+    requires { wide_height (as_wide_tree tree.now) ≤ MOST_SPLITS }
     ensures { result ≡ wide_height (as_wide_tree tree.now) }
 {
     match tree.node() {
@@ -33,7 +33,7 @@ fn splits_of(tree: &Tree) -> u8
 
 /// The same of a tree that may speak of tokens and of winners.
 fn wide_splits_of(tree: &WideTree) -> u8
-    requires { wide_height tree.now ≤ 6 }
+    requires { wide_height tree.now ≤ MOST_SPLITS }
     ensures { result ≡ wide_height tree.now }
 {
     match tree.node() {

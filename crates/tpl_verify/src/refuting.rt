@@ -1,10 +1,10 @@
 //! The search for runs in which the claims of a document fail, from a reader to a writer.
 
 ghost use Rattle.std.specs.Prelude.{◌≡◌, ◌+◌, ◌≤◌, IfOk, string_bytes, All};
-ghost use Rattle.tpl_commands.specs.Prelude.{Responds, longest};
+ghost use Rattle.tpl_commands.specs.Prelude.{Responds};
 ghost use Rattle.tpl_graph.specs.Prelude.{Fits};
 ghost use Rattle.tpl_journal.specs.Prelude.{calls_of};
-ghost use Rattle.tpl_reader.specs.Prelude.{Spells, doc_of};
+ghost use Rattle.tpl_reader.specs.Prelude.{Spells, doc_of, longest};
 ghost use Rattle.tpl_verify.specs.Prelude.{IsFound, IsSearched, Refuted, Searches, ShowsFailure, Unrefuted};
 
 use crate::Attend;

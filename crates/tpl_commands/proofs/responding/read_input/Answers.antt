@@ -1,6 +1,6 @@
 use Rattle.std.proofs.Common.{refl, ap, Err, inl, inr, codes}
 use Rattle.tpl_journal.specs.Counting.{remaining_of}
-use Rattle.tpl_commands.specs.Responding.{longest}
+use Rattle.tpl_reader.specs.Document.{longest}
 use Rattle.tpl_commands.specs.declared.exit.Exit.TheVariants.{Unreadable, Memory}
 use Rattle.tpl_commands.proofs.Inputs.{any_input, long_input}
 use Rattle.tpl_commands.proofs.responding.read_input.Goals as goal

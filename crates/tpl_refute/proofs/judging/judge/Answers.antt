@@ -1,7 +1,7 @@
 use Rattle.std.proofs.Common.{[], ap, subst, ◌∙◌}
 use Rattle.std.specs.List.{All}
 use Rattle.tpl_audit.specs.declared.verdict.Verdict.TheVariants.{Run}
-use Rattle.tpl_journal.specs.Lines.{IsSeat}
+use Rattle.tpl_model.specs.Journal.{IsSeat}
 use Rattle.tpl_refute.proofs.JudgeLemmas.{judged}
 use Rattle.tpl_refute.proofs.judging.judge.Goals as goal
 

@@ -1,4 +1,4 @@
-use Rattle.std.proofs.Common.{List, ℕ, ◌≤◌, length, string_bytes, subst, sym, ap, arith}
+use Rattle.std.proofs.Common.{List, ℕ, ◌≤◌, length, string_bytes, subst, ap, arith}
 use Rattle.tpl_commands.specs.Responding.{Puts}
 use Rattle.tpl_commands.specs.declared.exit.Exit.{Exit}
 use Rattle.tpl_model.specs.declared.event.Event.{Event}
@@ -6,7 +6,7 @@ use Rattle.tpl_reader.specs.Document.{longest}
 use Rattle.tpl_reader.specs.SeenDocument.{doc_of}
 use Rattle.tpl_verify.specs.Filled.{IsTextOf}
 use Rattle.tpl_report.specs.Reported.{told}
-use Rattle.tpl_report.specs.Telling.{report_exit, with_events}
+use Rattle.tpl_report.specs.Telling.{with_events}
 use Rattle.tpl_report.proofs.TellLemmas.{whole_written}
 use Rattle.tpl_report.proofs.telling.put_document.Goals as goal
 
