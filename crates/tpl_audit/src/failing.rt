@@ -2,11 +2,11 @@
 
 ghost use Rattle.std.specs.Prelude.{◌≡◌, reverse, List, All};
 ghost use Rattle.tpl_audit.specs.Prelude.{FirstFails, IsWatched, better, noted_of};
-ghost use Rattle.tpl_graph.specs.Prelude.{AreGivenOf, Fits, TasksOf};
+ghost use Rattle.tpl_graph.specs.Prelude.{AreGivenOf, Fits};
 ghost use Rattle.tpl_laws.specs.Failing as law;
 ghost use Rattle.tpl_model.specs.declared.event.Event.{Event};
 
-use crate::is_true_of;
+use crate::claims::fails_from;
 use crate::verdict::Failure;
 use crate::watch::Watch;
 use tpl_graph::Claim;
@@ -19,45 +19,6 @@ fn is_at(noted: Option<usize>, place: usize) -> bool
     match noted {
         Some(at) => at <= place,
         None => false,
-    }
-}
-
-fn place_of(place: Option<u32>) -> Option<usize>
-    ensures { result ≡ place }
-{
-    match place {
-        Some(place) => Some(place as usize),
-        None => None,
-    }
-}
-
-/// The later of two places, if there are both.
-fn later_of(one: Option<u32>, other: Option<u32>) -> Option<usize>
-    ensures { result ≡ law.later_of one other }
-{
-    match (one, other) {
-        (Some(one), Some(other)) => Some(one.max(other) as usize),
-        _ => None,
-    }
-}
-
-/// The place from which on a property isn't true of the run.
-fn fails_from<C: Core>(core: &C, complete: Option<usize>, body: Property) -> Option<usize>
-    requires { TasksOf (C.journal core.now).graph body }
-    ensures { let j = C.journal core.now in
-        result ≡ law.fails_from j.graph j.inputs j.events complete body }
-{
-    core.run_law();
-    tpl_laws::decided::holds_of_is_right();
-    if is_true_of(core, body) {
-        return None;
-    }
-    match body {
-        Property::Final(task, _) => place_of(core.ended(task)),
-        Property::After(_, second) => place_of(core.began(second)),
-        Property::Observed(_) | Property::Runs(_) => complete,
-        Property::Never(task) => place_of(core.began(task)),
-        Property::Excludes(one, other) => later_of(core.began(one), core.began(other)),
     }
 }
 

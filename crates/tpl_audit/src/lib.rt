@@ -3,6 +3,7 @@
 #![tactic(auto)]
 
 mod auditing;
+mod claims;
 mod ending;
 mod failing;
 mod play;
@@ -12,6 +13,7 @@ mod verdict;
 mod watch;
 
 pub use auditing::audit;
-pub use run::{has_failed, holds, is_true_of};
+pub use claims::{holds, is_true_of};
+pub use run::has_failed;
 pub use standing::statuses_after;
 pub use verdict::{Failure, OtherEnd, Verdict};

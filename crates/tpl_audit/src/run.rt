@@ -1,11 +1,10 @@
-//! Whether a claim holds of a run.
+//! What claims ask of a run, and whether what they take as given is true of it.
 
 ghost use Rattle.std.specs.Prelude.{◌≡◌, ◌↔◌, ◌<◌, ◌⊎◌, IsTrue, IfSome, IfNone, ℕ, true, false, is_some, length, [], ◌∷◌};
-ghost use Rattle.tpl_graph.specs.Prelude.{AreGivenOf, Fits, IsGivenOf, TasksOf};
+ghost use Rattle.tpl_graph.specs.Prelude.{AreGivenOf, IsGivenOf};
 ghost use Rattle.tpl_laws.specs.Prelude.{SettledBefore};
-ghost use Rattle.tpl_model.specs.Prelude.{Ending, Holds, HoldsOf, IsGiven, IsParent, SettledAtBegin, all_sites, begun, ending, failed, is_task, started};
+ghost use Rattle.tpl_model.specs.Prelude.{Ending, HoldsOf, IsGiven, IsParent, SettledAtBegin, all_sites, begun, ending, failed, is_task, started};
 
-use tpl_graph::Claim;
 use tpl_model::{Finals, Given, Label, Property, SiteId, Status, TaskId};
 use tpl_run::Core;
 
@@ -37,7 +36,8 @@ pub fn has_failed<C: Core>(core: &C, site: SiteId) -> bool
     }
 }
 
-fn are_given<C: Core>(core: &C, given: &[Given]) -> bool
+/// Whether all that is given is true of the run.
+pub(crate) fn are_given<C: Core>(core: &C, given: &[Given]) -> bool
     requires { AreGivenOf (C.journal core.now).graph given.now }
     ensures { let j = C.journal core.now in IsTrue result
         ↔ IsGiven j.graph j.inputs j.events given.now }
@@ -50,7 +50,8 @@ fn are_given<C: Core>(core: &C, given: &[Given]) -> bool
     true
 }
 
-fn ends_within<C: Core>(core: &C, task: TaskId, ends: Finals) -> bool
+/// Whether a task has not ended, or has ended in one of these ways.
+pub(crate) fn ends_within<C: Core>(core: &C, task: TaskId, ends: Finals) -> bool
     requires { is_task (C.journal core.now).graph task.0 }
     ensures { let j = C.journal core.now in IsTrue result
         ↔ HoldsOf j.graph j.inputs j.events (Property.Final task ends) }
@@ -61,7 +62,8 @@ fn ends_within<C: Core>(core: &C, task: TaskId, ends: Finals) -> bool
     }
 }
 
-fn has_begun<C: Core>(core: &C, task: TaskId) -> bool
+/// Whether a task has begun.
+pub(crate) fn has_begun<C: Core>(core: &C, task: TaskId) -> bool
     requires { is_task (C.journal core.now).graph task.0 }
     ensures { result ≡ is_some (begun (C.journal core.now).events task.0) }
 {
@@ -111,7 +113,8 @@ fn settled_before<C: Core>(core: &C, task: TaskId, place: u32) -> bool
     true
 }
 
-fn settled_at_begin<C: Core>(core: &C, first: TaskId, second: TaskId) -> bool
+/// Whether, where the second task begins, the first one is settled.
+pub(crate) fn settled_at_begin<C: Core>(core: &C, first: TaskId, second: TaskId) -> bool
     requires first { is_task (C.journal core.now).graph first.0 }
     requires second { is_task (C.journal core.now).graph second.0 }
     ensures { let j = C.journal core.now in IsTrue result
@@ -124,39 +127,4 @@ fn settled_at_begin<C: Core>(core: &C, first: TaskId, second: TaskId) -> bool
         Some(place) => settled_before(core, first, place),
         None => true,
     }
-}
-
-fn is_observed<C: Core>(core: &C, task: TaskId) -> bool
-    requires { is_task (C.journal core.now).graph task.0 }
-    ensures { let j = C.journal core.now in IsTrue result
-        ↔ HoldsOf j.graph j.inputs j.events (Property.Observed task) }
-{
-    !core.complete() || core.label(task).is_none() || core.seen(task)
-}
-
-/// Whether the property is true of the run.
-pub fn is_true_of<C: Core>(core: &C, body: Property) -> bool
-    requires { TasksOf (C.journal core.now).graph body }
-    ensures { let j = C.journal core.now in IsTrue result ↔ HoldsOf j.graph j.inputs j.events body }
-{
-    match body {
-        Property::Final(task, ends) => ends_within(core, task, ends),
-        Property::After(first, second) => settled_at_begin(core, first, second),
-        Property::Observed(task) => is_observed(core, task),
-        Property::Never(task) => !has_begun(core, task),
-        Property::Excludes(one, other) => !(has_begun(core, one) && has_begun(core, other)),
-        Property::Runs(task) => !core.complete() || has_begun(core, task),
-    }
-}
-
-/// Whether the claim holds of the run: its property is true of it, or what it takes as given isn't. `Final` speaks of a
-/// task that has ended, `After` of one that has begun, `Observed` and `Runs` of a run that is complete, `Never` and
-/// `Excludes` of the tasks that have begun. A task is settled if it has ended (.NET: `Task.IsCompleted`), or if it is a child that
-/// isn't started and its parent is settled.
-pub fn holds<C: Core>(core: &C, claim: &Claim) -> bool
-    requires { Fits (C.journal core.now).graph claim.now }
-    ensures { let j = C.journal core.now in IsTrue result
-        ↔ Holds j.graph claim.now j.inputs j.events }
-{
-    !are_given(core, claim.given()) || is_true_of(core, claim.body())
 }

@@ -3,8 +3,10 @@ use Rattle.std.proofs.Common.{◌≡◌, Bool, true, false, List, [], ◌∷◌}
 use Rattle.tpl_model.specs.Graph.{TaskGraph}
 use Rattle.tpl_model.specs.declared.event.Event.{Event}
 use Rattle.tpl_model.specs.Valid.{IsGraph}
-use Rattle.tpl_laws.specs.RunTests.{is_settled, is_complete, is_given, holds as passes}
-use Rattle.tpl_laws.proofs.RunsDecided.{settled_lem, complete_lem, given_lem, holds_lem}
+use Rattle.tpl_laws.specs.RunTests.{is_settled, is_complete, is_given}
+use Rattle.tpl_laws.specs.ClaimTests.{holds as passes}
+use Rattle.tpl_laws.proofs.RunsDecided.{settled_lem, complete_lem, given_lem}
+use Rattle.tpl_laws.proofs.ClaimsDecided.{holds_lem}
 use Rattle.tpl_examples.specs.Words.{event}
 use Rattle.tpl_examples.specs.Stories.{Fact, could, settled, unsettled, complete, incomplete, given, not_given, holds, fails, Plot, the_end, ◌⇒◌, ◌&◌, MayCome, Means, GoesOn, Story}
 use Rattle.tpl_examples.proofs.ValidDecided.{graph}

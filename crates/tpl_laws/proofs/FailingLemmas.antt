@@ -1,36 +1,25 @@
--- From which place on a claim fails along a run.
-use Rattle.std.proofs.Common.{◌≡◌, ℕ, suc, ◌<◌, ◌≤◌, ◌++◌, ◌&&◌, ◌||◌, inl, inr, not, Bool, true, false, if◌then◌else◌, Option, Some, None, List, [], ◌∷◌, refl, sym, ap, ◌∙◌, subst, nat_eq, is_some, length, arith}
+-- Along a run: from which place on a test is true, which tasks have begun, and the run is complete.
+use Rattle.std.proofs.Common.{◌≡◌, ℕ, suc, ◌<◌, ◌≤◌, ◌++◌, inl, inr, Bool, true, false, if◌then◌else◌, Option, Some, None, List, [], ◌∷◌, refl, sym, ap, ◌∙◌, subst, is_some, length, arith}
 use Rattle.std.specs.Prelude.{IfSome, nat_le}
 use Rattle.std.proofs.lemmas.Bool.Decides.{nat_tests}
-use Rattle.std.proofs.lemmas.Bool.{and_parts, or_cases, or_left, or_right, not-true, not-false}
-use Rattle.tpl_model.proofs.MemberLemmas.{same_self}
 use Rattle.tpl_model.proofs.Truths.{true_false}
 use Rattle.tpl_model.specs.declared.ids.TokenId.{TokenId}
-use Rattle.tpl_model.specs.declared.finals.Finals.{Finals}
 use Rattle.tpl_model.specs.declared.status.Status.TheVariants.{WaitingToRun, WaitingForActivation}
 use Rattle.tpl_model.specs.declared.status.Actor.{Actor}
 use Rattle.tpl_model.specs.Graph.{TaskGraph, TaskKind, Root, Child, Continues, WhenAll, WhenAny, kind, is_task}
 use Rattle.tpl_model.specs.declared.event.Act.{Act}
 use Rattle.tpl_model.specs.declared.event.Act.TheVariants.{Request, Release, Begin, Step, Worked, Leave, Close, Drop, Settle}
 use Rattle.tpl_model.specs.declared.event.Event.{Event}
-use Rattle.tpl_model.specs.Facts.{Ending, begun, begun_by, requested, failed, started, ending, final_in}
-use Rattle.tpl_model.specs.Rules.{final, label, seen, MayDrop, MayStart, MayNotStart, MayCancel, Allows, Run, to_end, Complete, can_settle}
-use Rattle.tpl_model.specs.declared.claim.Given.{Given}
-use Rattle.tpl_model.specs.declared.claim.Given.TheVariants.{Input, Quiet, Ended, Succeeds}
-use Rattle.tpl_model.specs.declared.ids.TaskId.{TaskId}
-use Rattle.tpl_model.specs.declared.claim.Property.{Property}
-use Rattle.tpl_model.specs.declared.claim.Property.TheVariants.{Final as EndsIn, After, Observed, Never, Excludes, Runs}
-use Rattle.tpl_model.specs.Certificate.{same, given_sure}
-use Rattle.tpl_model.specs.Claims.{input}
-use Rattle.tpl_laws.specs.RowTests.{implies}
-use Rattle.tpl_laws.specs.RunTests.{is_settled, is_complete, is_given, settled_at_begin, ends_within, holds_of}
-use Rattle.tpl_laws.specs.Failing.{is_at, IsFrom, began_at, place_of, later_of, or_now, lost_at, fails_from, Noted, is_broken, unless_broken, first_failure, FailureIsTold, OnlyRequests, StaysComplete, CompleteIsNoted, RequestIsNoted, JobIsNoted}
-use Rattle.tpl_laws.specs.Runs.{gives_quiet}
-use Rattle.tpl_laws.proofs.Basics.{the_some}
+use Rattle.tpl_model.specs.Facts.{begun, begun_by, requested, failed, started, ending}
+use Rattle.tpl_model.specs.Rules.{label, seen, MayDrop, MayStart, MayNotStart, MayCancel, Allows, Run, to_end, Complete, can_settle}
+use Rattle.tpl_model.specs.Certificate.{same}
+use Rattle.tpl_laws.specs.RunTests.{is_complete}
+use Rattle.tpl_laws.specs.ClaimTests.{began_at}
+use Rattle.tpl_laws.specs.Failing.{is_at, IsFrom, or_now, OnlyRequests, StaysComplete, CompleteIsNoted, RequestIsNoted, JobIsNoted}
 use Rattle.tpl_laws.proofs.Kept.{after, failed_kept, running_facts, waiting_facts, close_facts, not_some}
 use Rattle.tpl_laws.proofs.Ready.{Ready, waiting_ready, begun_ready, left_begun}
 use Rattle.tpl_laws.proofs.Prefixes.{nothing_goes_back_lem}
-use Rattle.tpl_laws.proofs.SettledBefore.{ended_within, longer, ended_then, begins_once, begun_once}
+use Rattle.tpl_laws.proofs.SettledBefore.{longer, begins_once}
 use Rattle.tpl_laws.proofs.RunsDecided.{complete_lem}
 
 -- places and tests
@@ -209,294 +198,20 @@ stays_complete_lem g v (x ∷ later) h run complete =
     let before = stays_complete_lem g v later h run.0 complete in
     (stays_untouched g v (later ++ h) x run.0 before run.1).complete before
 
-label_stays : (g : TaskGraph) (v : List Bool) (later h : List Event) (t : ℕ) → Run g v (later ++ h) → Complete g v h → label g v (later ++ h) t ≡ label g v h t
+pub label_stays : (g : TaskGraph) (v : List Bool) (later h : List Event) (t : ℕ) → Run g v (later ++ h) → Complete g v h → label g v (later ++ h) t ≡ label g v h t
 label_stays g v [] h t run complete = refl
 label_stays g v (x ∷ later) h t run complete =
     (stays_untouched g v (later ++ h) x run.0 (stays_complete_lem g v later h run.0 complete) run.1).label t ∙ label_stays g v later h t run.0 complete
 
-seen_stays : (g : TaskGraph) (v : List Bool) (later h : List Event) (t : ℕ) → Run g v (later ++ h) → Complete g v h → seen g v (later ++ h) t ≡ seen g v h t
+pub seen_stays : (g : TaskGraph) (v : List Bool) (later h : List Event) (t : ℕ) → Run g v (later ++ h) → Complete g v h → seen g v (later ++ h) t ≡ seen g v h t
 seen_stays g v [] h t run complete = refl
 seen_stays g v (x ∷ later) h t run complete =
     (stays_untouched g v (later ++ h) x run.0 (stays_complete_lem g v later h run.0 complete) run.1).seen t ∙ seen_stays g v later h t run.0 complete
 
-begun_stays : (g : TaskGraph) (v : List Bool) (later h : List Event) (t : ℕ) → Run g v (later ++ h) → Complete g v h → begun (later ++ h) t ≡ begun h t
+pub begun_stays : (g : TaskGraph) (v : List Bool) (later h : List Event) (t : ℕ) → Run g v (later ++ h) → Complete g v h → begun (later ++ h) t ≡ begun h t
 begun_stays g v [] h t run complete = refl
 begun_stays g v (x ∷ later) h t run complete =
     (stays_untouched g v (later ++ h) x run.0 (stays_complete_lem g v later h run.0 complete) run.1).begun t ∙ begun_stays g v later h t run.0 complete
-
--- a property that is lost at a place
-
-lost : (now whole : Bool) (o : Option ℕ) (n : ℕ) → (is_at o n ≡ false → now ≡ true) → (is_at o n ≡ true → now ≡ whole) → not now ≡ is_at (if whole then None else o) n
-lost now whole o n out in_it = here (is_at o n) whole refl refl
-  where
-    here : (b w : Bool) → is_at o n ≡ b → whole ≡ w → not now ≡ is_at (if w then None else o) n
-    here true true e f = ap not (in_it e ∙ f)
-    here true false e f = ap not (in_it e ∙ f) ∙ sym e
-    here false true e f = ap not (out e)
-    here false false e f = ap not (out e) ∙ sym e
-
--- how a task has ended by a place
-ends_out : (g : TaskGraph) (v : List Bool) (later before : List Event) (t : ℕ) (ends : Finals) → Run g v (later ++ before) → is_at (place_of (ending g v (later ++ before) t)) (length before) ≡ false → ends_within ends (final g v before t) ≡ true
-ends_out g v later before t ends run late = here (ending g v before t) refl
-  where
-    here : (o : Option Ending) → ending g v before t ≡ o → ends_within ends (final_in o) ≡ true
-    here None e = refl
-    here (Some r) e =
-        let still = (nothing_goes_back_lem g v later before run).still_ended t r e in
-        let at : nat_le r.place (length before) ≡ true = reached r.place (length before) (ended_within g v before t r e) in
-        true_false (sym at ∙ (ap (λ o. is_at (place_of o) (length before)) (sym still) ∙ late))
-
-ends_in_it : (g : TaskGraph) (v : List Bool) (later before : List Event) (t : ℕ) → Run g v (later ++ before) → is_at (place_of (ending g v (later ++ before) t)) (length before) ≡ true → final g v before t ≡ final g v (later ++ before) t
-ends_in_it g v later before t run early = here (ending g v (later ++ before) t) refl early
-  where
-    here : (o : Option Ending) → ending g v (later ++ before) t ≡ o → is_at (place_of o) (length before) ≡ true → final g v before t ≡ final_in o
-    here None e at = true_false (sym at)
-    here (Some r) e at = ap final_in (ended_then g v later before t r e (is_reached r.place (length before) at))
-
--- where b begins
-none_settled : (g : TaskGraph) (v : List Bool) (h : List Event) (a b : ℕ) → begun h b ≡ None → settled_at_begin g v a b h ≡ true
-none_settled g v [] a b e = refl
-none_settled g v (x ∷ h) a b e =
-    let none = begun_once x h b e in
-    ap (λ z. implies z (is_settled g v h a) && settled_at_begin g v a b h) none.0 ∙ none_settled g v h a b none.1
-
-begun_still : (g : TaskGraph) (v : List Bool) (later h : List Event) (b : ℕ) → Run g v (later ++ h) → is_some (begun h b) ≡ true → is_some (begun (later ++ h) b) ≡ true
-begun_still g v later h b run e =
-    let by = the_some (begun h b) e in
-    ap is_some ((nothing_goes_back_lem g v later h run).still_begun b by.0 by.1)
-
-settled_same : (g : TaskGraph) (v : List Bool) (later h : List Event) (a b : ℕ) → Run g v (later ++ h) → is_some (begun h b) ≡ true → settled_at_begin g v a b h ≡ settled_at_begin g v a b (later ++ h)
-settled_same g v [] h a b run e = refl
-settled_same g v (x ∷ later) h a b run e =
-    settled_same g v later h a b run.0 e
-    ∙ ap (λ z. implies z (is_settled g v (later ++ h) a) && settled_at_begin g v a b (later ++ h)) (sym (not_again (begun_by x.act b) refl))
-  where
-    not_again : (z : Bool) → begun_by x.act b ≡ z → z ≡ false
-    not_again false now = refl
-    not_again true now = true_false (sym (begun_still g v later h b run.0 e) ∙ ap is_some (begins_once g v (later ++ h) x.actor x.act b run.1 now))
-
-not_yet : (h : List Event) (b : ℕ) → is_some (begun h b) ≡ false → begun h b ≡ None
-not_yet h b e = not_some (begun h b) e
-
-both_at : (o p : Option ℕ) (n : ℕ) → is_at (later_of o p) n ≡ is_at o n && is_at p n
-both_at None p n = refl
-both_at (Some a) None n = here (nat_le a n)
-  where
-    here : (b : Bool) → false ≡ b && false
-    here true = refl
-    here false = refl
-both_at (Some a) (Some b) n = grind (arith, nat_tests)
-
--- each property
-
-module _ (g : TaskGraph) (v : List Bool) (later before : List Event) (run : Run g v (later ++ before)) where
-  begun_now : (t : ℕ) → is_some (begun before t) ≡ is_at (began_at (later ++ before) t) (length before)
-  begun_now t = (begun_from g v (later ++ before) t run).each later before refl
-
-  begun_then : (t : ℕ) → is_at (began_at (later ++ before) t) (length before) ≡ true → is_some (begun (later ++ before) t) ≡ true
-  begun_then t e = begun_still g v later before t run (begun_now t ∙ e)
-
-  fails_ended : (t : ℕ) (ends : Finals) → not (ends_within ends (final g v before t)) ≡ is_at (if ends_within ends (final g v (later ++ before) t) then None else place_of (ending g v (later ++ before) t)) (length before)
-  fails_ended t ends =
-      lost (ends_within ends (final g v before t)) (ends_within ends (final g v (later ++ before) t)) (place_of (ending g v (later ++ before) t)) (length before)
-      (ends_out g v later before t ends run)
-      (λ at. ap (ends_within ends) (ends_in_it g v later before t run at))
-
-  fails_settled : (a b : ℕ) → not (settled_at_begin g v a b before) ≡ is_at (if settled_at_begin g v a b (later ++ before) then None else began_at (later ++ before) b) (length before)
-  fails_settled a b =
-      lost (settled_at_begin g v a b before) (settled_at_begin g v a b (later ++ before)) (began_at (later ++ before) b) (length before)
-      (λ out. none_settled g v before a b (not_yet before b (begun_now b ∙ out)))
-      (λ at. settled_same g v later before a b run (begun_now b ∙ at))
-
-  fails_begun : (t : ℕ) → not (not (is_some (begun before t))) ≡ is_at (if not (is_some (begun (later ++ before) t)) then None else began_at (later ++ before) t) (length before)
-  fails_begun t =
-      lost (not (is_some (begun before t))) (not (is_some (begun (later ++ before) t))) (began_at (later ++ before) t) (length before)
-      (λ out. ap not (begun_now t ∙ out))
-      (λ at. ap not ((begun_now t ∙ at) ∙ sym (begun_then t at)))
-
-  both_now : (a b : ℕ) → is_some (begun before a) && is_some (begun before b) ≡ is_at (later_of (began_at (later ++ before) a) (began_at (later ++ before) b)) (length before)
-  both_now a b =
-      ap (λ z. z && is_some (begun before b)) (begun_now a)
-      ∙ (ap (λ z. is_at (began_at (later ++ before) a) (length before) && z) (begun_now b)
-      ∙ sym (both_at (began_at (later ++ before) a) (began_at (later ++ before) b) (length before)))
-
-  both_then : (a b : ℕ) → is_some (begun before a) && is_some (begun before b) ≡ true → is_some (begun (later ++ before) a) && is_some (begun (later ++ before) b) ≡ true
-  both_then a b e =
-      let two = and_parts (is_some (begun before a)) (is_some (begun before b)) e in
-      ap (λ z. z && is_some (begun (later ++ before) b)) (begun_still g v later before a run two.0) ∙ begun_still g v later before b run two.1
-
-  fails_both : (a b : ℕ) → not (not (is_some (begun before a) && is_some (begun before b))) ≡ is_at (if not (is_some (begun (later ++ before) a) && is_some (begun (later ++ before) b)) then None else later_of (began_at (later ++ before) a) (began_at (later ++ before) b)) (length before)
-  fails_both a b =
-      lost (not (is_some (begun before a) && is_some (begun before b))) (not (is_some (begun (later ++ before) a) && is_some (begun (later ++ before) b))) (later_of (began_at (later ++ before) a) (began_at (later ++ before) b)) (length before)
-      (λ out. ap not (both_now a b ∙ out))
-      (λ at. ap not ((both_now a b ∙ at) ∙ sym (both_then a b (both_now a b ∙ at))))
-
-  module _ (complete : Option ℕ) (from : IsFrom (is_complete g v) (later ++ before) complete) where
-    complete_now : is_complete g v before ≡ is_at complete (length before)
-    complete_now = from.each later before refl
-
-    complete_then : is_complete g v before ≡ true → is_complete g v (later ++ before) ≡ true
-    complete_then e = (complete_lem g v (later ++ before)).1 (stays_complete_lem g v later before run ((complete_lem g v before).0 e))
-
-    observed_same : (t : ℕ) → is_complete g v before ≡ true → implies (is_complete g v before) (implies (is_some (label g v before t)) (seen g v before t)) ≡ implies (is_complete g v (later ++ before)) (implies (is_some (label g v (later ++ before) t)) (seen g v (later ++ before) t))
-    observed_same t e =
-        let c = (complete_lem g v before).0 e in
-        ap (λ z. implies z (implies (is_some (label g v before t)) (seen g v before t))) (e ∙ sym (complete_then e))
-        ∙ (ap (λ z. implies (is_complete g v (later ++ before)) (implies (is_some z) (seen g v before t))) (sym (label_stays g v later before t run c))
-        ∙ ap (λ z. implies (is_complete g v (later ++ before)) (implies (is_some (label g v (later ++ before) t)) z)) (sym (seen_stays g v later before t run c)))
-
-    fails_observed : (t : ℕ) → not (holds_of g v before (Observed (record { 0 = t }))) ≡ is_at (fails_from g v (later ++ before) complete (Observed (record { 0 = t }))) (length before)
-    fails_observed t =
-        lost (holds_of g v before (Observed (record { 0 = t }))) (holds_of g v (later ++ before) (Observed (record { 0 = t }))) complete (length before)
-        (λ out. ap (λ z. implies z (implies (is_some (label g v before t)) (seen g v before t))) (complete_now ∙ out))
-        (λ at. observed_same t (complete_now ∙ at))
-
-    fails_runs : (t : ℕ) → not (holds_of g v before (Runs (record { 0 = t }))) ≡ is_at (fails_from g v (later ++ before) complete (Runs (record { 0 = t }))) (length before)
-    fails_runs t =
-        lost (holds_of g v before (Runs (record { 0 = t }))) (holds_of g v (later ++ before) (Runs (record { 0 = t }))) complete (length before)
-        (λ out. ap (λ z. implies z (is_some (begun before t))) (complete_now ∙ out))
-        (λ at.
-        let c = complete_now ∙ at in
-        ap (λ z. implies z (is_some (begun before t))) (c ∙ sym (complete_then c))
-        ∙ ap (λ z. implies (is_complete g v (later ++ before)) (is_some z)) (sym (begun_stays g v later before t run ((complete_lem g v before).0 c))))
-
-    fails_each : (p : Property TaskId) → not (holds_of g v before p) ≡ is_at (fails_from g v (later ++ before) complete p) (length before)
-    fails_each (EndsIn t ends) = fails_ended t.0 ends
-    fails_each (After a b) = fails_settled a.0 b.0
-    fails_each (Observed t) = fails_observed t.0
-    fails_each (Never t) = fails_begun t.0
-    fails_each (Excludes a b) = fails_both a.0 b.0
-    fails_each (Runs t) = fails_runs t.0
-
--- what is given
-
-one_more_broken : (now at rest broken : Bool) → now ≡ at → rest ≡ not broken → not now && rest ≡ not (at || broken)
-one_more_broken now true rest broken e f = ap (λ z. not z && rest) e
-one_more_broken now false rest broken e f = ap (λ z. not z && rest) e ∙ f
-
-still_one : (o : Option ℕ) (n m : ℕ) (x y : Bool) → n ≤ m → (x ≡ true → y ≡ true) → is_at o n || x ≡ true → is_at o m || y ≡ true
-still_one o n m x y le more e =
-    elim (or_cases (is_at o n) x e) [
-      | inl now ↦ or_left (is_at o m) y (still_at o n m le now)
-      | inr rest ↦ or_right (is_at o m) y (more rest)
-    ]
-
-broken_each : (g : TaskGraph) (v : List Bool) (later before : List Event) (noted : Noted) (given : List Given) → Run g v (later ++ before)
-    → ((k : ℕ) → gives_quiet given k ≡ true → requested g v before k ≡ is_at (noted.asked k) (length before))
-    → ((site : ℕ) → given_sure given site ≡ true → failed g v before site ≡ is_at (noted.failed site) (length before))
-    → is_given g v before given ≡ not (is_broken g v (later ++ before) noted given (length before))
-broken_each g v later before noted [] run each jobs = refl
-broken_each g v later before noted (Input i value ∷ given) run each jobs = here (broken_each g v later before noted given run each jobs) (same (input v i.0) value)
-  where
-    here : is_given g v before given ≡ not (is_broken g v (later ++ before) noted given (length before)) → (b : Bool) → b && is_given g v before given ≡ not (not b || is_broken g v (later ++ before) noted given (length before))
-    here rest true = rest
-    here rest false = refl
-broken_each g v later before noted (Quiet k ∷ given) run each jobs =
-    one_more_broken (requested g v before k.0) (is_at (noted.asked k.0) (length before)) (is_given g v before given) (is_broken g v (later ++ before) noted given (length before))
-    (each k.0 (or_left (nat_eq k.0 k.0) (gives_quiet given k.0) (same_self k.0)))
-    (broken_each g v later before noted given run (λ j e. each j (or_right (nat_eq k.0 j) (gives_quiet given j) e)) jobs)
-broken_each g v later before noted (Ended t ends ∷ given) run each jobs =
-    here (broken_each g v later before noted given run each jobs) (ends_within ends (final g v before t.0)) (fails_ended g v later before run t.0 ends)
-  where
-    at : Bool
-    at = is_at (if ends_within ends (final g v (later ++ before) t.0) then None else place_of (ending g v (later ++ before) t.0)) (length before)
-
-    here : is_given g v before given ≡ not (is_broken g v (later ++ before) noted given (length before)) → (b : Bool) → not b ≡ at → b && is_given g v before given ≡ not (at || is_broken g v (later ++ before) noted given (length before))
-    here rest true e = rest ∙ ap (λ z. not (z || is_broken g v (later ++ before) noted given (length before))) e
-    here rest false e = ap (λ z. not (z || is_broken g v (later ++ before) noted given (length before))) e
-broken_each g v later before noted (Succeeds s ∷ given) run each jobs =
-    one_more_broken (failed g v before s.0) (is_at (noted.failed s.0) (length before)) (is_given g v before given) (is_broken g v (later ++ before) noted given (length before))
-    (jobs s.0 (or_left (nat_eq s.0 s.0) (given_sure given s.0) (same_self s.0)))
-    (broken_each g v later before noted given run each (λ j e. jobs j (or_right (nat_eq s.0 j) (given_sure given j) e)))
-
--- what is broken stays so
-still_broken : (g : TaskGraph) (v : List Bool) (h : List Event) (noted : Noted) (given : List Given) (n m : ℕ) → n ≤ m → is_broken g v h noted given n ≡ true → is_broken g v h noted given m ≡ true
-still_broken g v h noted [] n m le e = e
-still_broken g v h noted (Input i value ∷ given) n m le e =
-    elim (or_cases (not (same (input v i.0) value)) (is_broken g v h noted given n) e) [
-      | inl now ↦ or_left (not (same (input v i.0) value)) (is_broken g v h noted given m) now
-      | inr rest ↦ or_right (not (same (input v i.0) value)) (is_broken g v h noted given m) (still_broken g v h noted given n m le rest)
-    ]
-still_broken g v h noted (Quiet k ∷ given) n m le e = still_one (noted.asked k.0) n m (is_broken g v h noted given n) (is_broken g v h noted given m) le (still_broken g v h noted given n m le) e
-still_broken g v h noted (Ended t ends ∷ given) n m le e = still_one (fails_from g v h None (EndsIn t ends)) n m (is_broken g v h noted given n) (is_broken g v h noted given m) le (still_broken g v h noted given n m le) e
-still_broken g v h noted (Succeeds s ∷ given) n m le e = still_one (noted.failed s.0) n m (is_broken g v h noted given n) (is_broken g v h noted given m) le (still_broken g v h noted given n m le) e
-
--- a claim fails from the place of its property on, as long as what is given isn't broken
-
-record Told (first : Option ℕ) (n : ℕ) (given of_it : Bool) : Type 0 where
-  holds : is_at first n ≡ false → implies given of_it ≡ true
-  fails : first ≡ Some n → implies given of_it ≡ false
-
-told : (fails : Option ℕ) (broken : ℕ → Bool) (n : ℕ) (given of_it : Bool) → ((p q : ℕ) → p ≤ q → broken p ≡ true → broken q ≡ true) → not of_it ≡ is_at fails n → given ≡ not (broken n) → Told (unless_broken fails broken) n given of_it
-told None broken n given of_it stays f b = record { holds = λ e. kept (not-false of_it f); fails = λ e. true_false (sym (ap is_some e)) }
-  where
-    kept : of_it ≡ true → implies given of_it ≡ true
-    kept e = here given
-      where
-        here : (z : Bool) → implies z of_it ≡ true
-        here true = e
-        here false = refl
-told (Some p) broken n given of_it stays f b = by_break (broken p) refl
-  where
-    kept : of_it ≡ true → (z : Bool) → implies z of_it ≡ true
-    kept e true = e
-    kept e false = refl
-
-    not_there : nat_le p n ≡ false → implies given of_it ≡ true
-    not_there e = kept (not-false of_it (f ∙ e)) given
-
-    by_break : (z : Bool) → broken p ≡ z → Told (if z then None else Some p) n given of_it
-    by_break true gone_there = record { holds = λ e. at_it (nat_le p n) refl; fails = λ e. true_false (sym (ap is_some e)) }
-      where
-        at_it : (z : Bool) → nat_le p n ≡ z → implies given of_it ≡ true
-        at_it false e = not_there e
-        at_it true e =
-            let gone : given ≡ false = b ∙ ap not (stays p n (is_reached p n e) gone_there) in
-            ap (λ z. implies z of_it) gone
-    by_break false whole = record {
-      holds = not_there;
-      fails = λ e.
-          let same_place : p ≡ n = cc in
-          let lost_it : of_it ≡ false = not-true of_it (f ∙ reached p n (omega arith)) in
-          let still : given ≡ true = b ∙ ap (λ z. not (broken z)) (sym same_place) ∙ ap not whole in
-          ap (λ z. implies z of_it) still ∙ lost_it;
-    }
-
-unless_within : (n : ℕ) (fails : Option ℕ) (broken : ℕ → Bool) → IfSome fails (λ p. p ≤ n) → IfSome (unless_broken fails broken) (λ p. p ≤ n)
-unless_within n None broken w = tt
-unless_within n (Some p) broken w = here (broken p)
-  where
-    here : (b : Bool) → IfSome (if b then None else Some p) (λ q. q ≤ n)
-    here true = tt
-    here false = w
-
-pub failure_is_told_lem : FailureIsTold
-failure_is_told_lem g v h complete noted claim valid run completes requests jobs = record {
-  within = unless_within (length h) (fails_from g v h complete claim.body) (is_broken g v h noted claim.given) (in_run (holds_of g v h claim.body) (lost_at g v h complete claim.body) fails_whole);
-  before = λ later before same late. (told_at later before same).holds late;
-  there = λ later before same at. (told_at later before same).fails at;
-}
-  where
-    fails_at : (later before : List Event) → later ++ before ≡ h → not (holds_of g v before claim.body) ≡ is_at (fails_from g v h complete claim.body) (length before)
-    fails_at later before same =
-        let P : List Event → Type 0 = λ z. Run g v z → IsFrom (is_complete g v) z complete → not (holds_of g v before claim.body) ≡ is_at (fails_from g v z complete claim.body) (length before) in
-        subst P same (λ r c. fails_each g v later before r complete c claim.body) run completes
-
-    told_at : (later before : List Event) → later ++ before ≡ h → Told (first_failure g v h complete noted claim) (length before) (is_given g v before claim.given) (holds_of g v before claim.body)
-    told_at later before same =
-        told (fails_from g v h complete claim.body) (is_broken g v h noted claim.given) (length before) (is_given g v before claim.given) (holds_of g v before claim.body)
-        (still_broken g v h noted claim.given)
-        (fails_at later before same)
-        (subst (λ z. is_given g v before claim.given ≡ not (is_broken g v z noted claim.given (length before))) same
-        (broken_each g v later before noted claim.given (subst (Run g v) (sym same) run) (λ k q. (requests k q).each later before same) (λ site q. (jobs site q).each later before same)))
-
-    fails_whole : not (holds_of g v h claim.body) ≡ is_at (fails_from g v h complete claim.body) (length h)
-    fails_whole = fails_at [] h refl
-
-    in_run : (b : Bool) (o : Option ℕ) → not b ≡ is_at (if b then None else o) (length h) → IfSome (if b then None else o) (λ p. p ≤ length h)
-    in_run true o e = tt
-    in_run false None e = tt
-    in_run false (Some p) e = is_reached p (length h) (sym e)
 
 -- places that are noted event by event
 

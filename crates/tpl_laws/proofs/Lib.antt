@@ -35,6 +35,8 @@ pub mod WideFaults
 pub mod ForCode
 pub mod RunsDecided
 pub mod FailingLemmas
+pub mod ClaimsDecided
+pub mod FailureTold
 pub mod Wider
 pub mod WideLaw
 pub mod PlainSound

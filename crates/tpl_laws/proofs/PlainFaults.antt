@@ -13,12 +13,14 @@ use Rattle.tpl_model.specs.declared.fault.Rule.{Rule}
 use Rattle.tpl_model.specs.declared.fault.CertFault.TheVariants.{NotClosed}
 use Rattle.tpl_laws.specs.Decided.{VerdictIsRight}
 use Rattle.tpl_laws.specs.PathLaws.{PathLaws}
-use Rattle.tpl_laws.specs.RowTests.{runs, ends, before, past, chain, proves}
+use Rattle.tpl_laws.specs.RowTests.{runs, ends, before, past, chain}
+use Rattle.tpl_laws.specs.ClaimTests.{proves}
 use Rattle.tpl_laws.specs.Verdict.{or_else, broken, first_broken, LeafFault, leaf_fault, leaves, tree_fault, claims_fault, rows_fit, fits, misfit}
 use Rattle.tpl_laws.specs.FirstFault.{Passes}
 use Rattle.tpl_laws.specs.Faults.{row_rules, Branch, leaves_of, leaf_rules, HasShape, certificates, IsFirstFault, FaultIsFirst, OneFirstFault}
 use Rattle.tpl_laws.proofs.Deciding.{same, both, both3, both4}
-use Rattle.tpl_laws.proofs.RulesDecided.{runs_lem, ends_lem, before_lem, past_lem, chain_lem, proves_lem}
+use Rattle.tpl_laws.proofs.RulesDecided.{runs_lem, ends_lem, before_lem, past_lem, chain_lem}
+use Rattle.tpl_laws.proofs.ClaimsDecided.{proves_lem}
 use Rattle.tpl_laws.proofs.FaultsDecided.{broken_lem, below_decided, rows_decided}
 use Rattle.tpl_laws.proofs.FirstFault.{past_rule_is, breaks_first, LeafTests, leaves_fault, parts_joined, one_leaf, Tests, finds_first, finds_none, first_names}
 use Rattle.tpl_laws.proofs.OneFault.{one_rule, Keeps, keeps_or_breaks, AreSound, all_joined, all_parted, one_first}

@@ -1,8 +1,7 @@
 -- The rules for a row are decided by their tests.
-use Rattle.std.proofs.Common.{◌≡◌, ℕ, ◌⊎◌, ◌&&◌, ◌||◌, not, Bool, true, false, Some, List, [], ◌∷◌, refl, sym, subst, nat_eq, nat_lt, length}
+use Rattle.std.proofs.Common.{◌≡◌, ℕ, ◌⊎◌, ◌&&◌, ◌||◌, not, Bool, true, false, Some, List, [], ◌∷◌, refl, sym, subst, nat_eq, length}
 use Rattle.std.specs.Prelude.{Decides}
-use Rattle.std.proofs.lemmas.Bool.{ltb-true, lt-ltb}
-use Rattle.tpl_laws.proofs.Deciding.{itself, opposite, denied, same, same_end, both, either, only_if, means, at_each_end, at_some_end, of_all, of_some, below_some}
+use Rattle.tpl_laws.proofs.Deciding.{itself, opposite, same, same_end, both, either, only_if, means, at_each_end, at_some_end, of_all, of_some, below_some}
 use Rattle.tpl_model.proofs.Truths.{true_false}
 use Rattle.tpl_model.proofs.PathEnds.{is_acknowledged, is_returned, thrown_label}
 use Rattle.tpl_model.proofs.Through.{no_clean}
@@ -16,13 +15,10 @@ use Rattle.tpl_model.specs.Statements.{Statements}
 use Rattle.tpl_model.specs.Graph.{TaskGraph, TaskKind, Root, Child, Continues, WhenAll, WhenAny, kind, body, options, is_task, attached, some_in, IsParent}
 use Rattle.tpl_model.specs.Rules.{to_end}
 use Rattle.tpl_model.specs.Valid.{IsGraph}
-use Rattle.tpl_model.specs.declared.ids.TaskId.{TaskId}
-use Rattle.tpl_model.specs.declared.claim.Property.{Property}
-use Rattle.tpl_model.specs.declared.claim.Property.TheVariants.{Final as EndsIn, After, Observed, Never, Excludes, Runs}
 use Rattle.tpl_model.specs.Paths.{Known, Path, MayEnd, MayThrow, MayStartChild, MustObserve}
-use Rattle.tpl_model.specs.Certificate.{Row, row, Assumed, end_left, is_loud, view, IsBelow, RunsRule, BodyMayEnd, MayBeCanceled, AllMayEnd, MayEndAs, BeforeRule, may_end_early, may_end, may_win, PastRule, TakesOver, Reads, Links, ChainRule, NoneComplete, begins_itself, Proves}
+use Rattle.tpl_model.specs.Certificate.{Row, row, Assumed, end_left, is_loud, view, IsBelow, RunsRule, BodyMayEnd, MayBeCanceled, AllMayEnd, MayEndAs, BeforeRule, may_end_early, may_end, may_win, PastRule, TakesOver, Reads, Links, ChainRule, NoneComplete}
 use Rattle.tpl_model.specs.Recursion.{may, none, is_throw, must_observe, reaches}
-use Rattle.tpl_laws.specs.RowTests.{implies, all_in, some_end, parent_of, by_parent, is_below, runs_by, runs, is_return, is_acknowledgement, may_throw, body_may_end, may_be_canceled, all_may_end, may_end_as, ends, before_by, before, past_by, past, is_argument, takes_over, continues, faulted_view, reads, links, chain_by, chain, is_none, none_complete, proves}
+use Rattle.tpl_laws.specs.RowTests.{implies, all_in, some_end, parent_of, by_parent, is_below, runs_by, runs, is_return, is_acknowledgement, may_throw, body_may_end, may_be_canceled, all_may_end, may_end_as, ends, before_by, before, past_by, past, is_argument, takes_over, continues, faulted_view, reads, links, chain_by, chain, is_none, none_complete}
 use Rattle.tpl_laws.proofs.Parents.{at_parent, below}
 use Rattle.tpl_laws.specs.PathLaws.{PathLaws}
 
@@ -239,7 +235,7 @@ module _ (paths : PathLaws) where
   pub chain_lem : (g : TaskGraph) (l : Assumed) (rows : List Row) (t : ℕ) → Decides (chain g l rows t) (ChainRule g l rows t (row rows t).chain)
   chain_lem g l rows t = chain_decided g l rows t (row rows t).chain
 
-  -- it proves a claim
+  -- what proves a claim, besides
   pub none_decided : (xs : List ℕ) → Decides (is_none xs) (xs ≡ [])
   none_decided [] = (λ e. refl, λ e. refl)
   none_decided (x ∷ xs) = (λ e. true_false (sym e), λ e. absurd (cc))
@@ -251,32 +247,3 @@ module _ (paths : PathLaws) where
       (λ x. both (to_end (kind g x) false ≡ true) (may_end rows x ≡ false) (to_end (kind g x) false) (not (may_end rows x)) (itself (to_end (kind g x) false)) (opposite (may_end rows x))))
       (λ e. (e.0, e.1, e.2.0, e.2.1))
       (λ e. (e.0, e.1, (e.2, e.3)))
-
-  pub proves_lem : (g : TaskGraph) (l : Assumed) (rows : List Row) (p : Property TaskId) → Decides (proves g l rows p) (Proves g l rows p)
-  proves_lem g l rows (EndsIn t fs) =
-      at_each_end (λ f. has (row rows t.0).ends f ≡ true → has fs f ≡ true) (λ f. implies (has (row rows t.0).ends f) (has fs f))
-      (λ f. only_if (has (row rows t.0).ends f ≡ true) (has fs f ≡ true) (has (row rows t.0).ends f) (has fs f) (itself (has (row rows t.0).ends f)) (itself (has fs f)))
-  proves_lem g l rows (After a b) =
-      either ((row rows b.0).runs ≡ false) (mem a.0 (row rows b.0).before ≡ true) (not (row rows b.0).runs) (mem a.0 (row rows b.0).before) (opposite (row rows b.0).runs) (itself (mem a.0 (row rows b.0).before))
-  proves_lem g l rows (Observed t) =
-      either ((row rows t.0).chain ≡ [] → ⊥) ((has (row rows t.0).ends Faulted ≡ false) ⊎ ((row rows t.0).runs ≡ false) ⊎ (MayThrow (view g l rows t.0) (body g t.0) → ⊥) ⊎ ((l.wide ≡ true) × NoneComplete g rows))
-      (not (is_none (row rows t.0).chain)) (not (has (row rows t.0).ends Faulted) || (not (row rows t.0).runs || (not (may_throw g l rows t.0) || (l.wide && none_complete g rows))))
-      (denied ((row rows t.0).chain ≡ []) (is_none (row rows t.0).chain) (none_decided (row rows t.0).chain))
-      (either (has (row rows t.0).ends Faulted ≡ false) (((row rows t.0).runs ≡ false) ⊎ (MayThrow (view g l rows t.0) (body g t.0) → ⊥) ⊎ ((l.wide ≡ true) × NoneComplete g rows)) (not (has (row rows t.0).ends Faulted)) (not (row rows t.0).runs || (not (may_throw g l rows t.0) || (l.wide && none_complete g rows))) (opposite (has (row rows t.0).ends Faulted))
-      (either ((row rows t.0).runs ≡ false) ((MayThrow (view g l rows t.0) (body g t.0) → ⊥) ⊎ ((l.wide ≡ true) × NoneComplete g rows)) (not (row rows t.0).runs) (not (may_throw g l rows t.0) || (l.wide && none_complete g rows)) (opposite (row rows t.0).runs)
-      (either (MayThrow (view g l rows t.0) (body g t.0) → ⊥) ((l.wide ≡ true) × NoneComplete g rows) (not (may_throw g l rows t.0)) (l.wide && none_complete g rows)
-      (denied (MayThrow (view g l rows t.0) (body g t.0)) (may_throw g l rows t.0) (throws_it (view g l rows t.0) (body g t.0)))
-      (both (l.wide ≡ true) (NoneComplete g rows) l.wide (none_complete g rows) (itself l.wide) (none_complete_decided g rows)))))
-  proves_lem g l rows (Never t) = opposite (row rows t.0).runs
-  proves_lem g l rows (Excludes a b) =
-      either ((row rows a.0).runs ≡ false) ((row rows b.0).runs ≡ false) (not (row rows a.0).runs) (not (row rows b.0).runs) (opposite (row rows a.0).runs) (opposite (row rows b.0).runs)
-  proves_lem g l rows (Runs t) =
-      either (is_task g t.0 × (begins_itself (kind g t.0) ≡ true) × (has (row rows t.0).ends Canceled ≡ false)) (NoneComplete g rows)
-      (nat_lt t.0 (length g.tasks) && (begins_itself (kind g t.0) && not (has (row rows t.0).ends Canceled))) (none_complete g rows)
-      (means (is_task g t.0 × ((begins_itself (kind g t.0) ≡ true) × (has (row rows t.0).ends Canceled ≡ false))) (is_task g t.0 × (begins_itself (kind g t.0) ≡ true) × (has (row rows t.0).ends Canceled ≡ false))
-      (nat_lt t.0 (length g.tasks) && (begins_itself (kind g t.0) && not (has (row rows t.0).ends Canceled)))
-      (both (is_task g t.0) ((begins_itself (kind g t.0) ≡ true) × (has (row rows t.0).ends Canceled ≡ false)) (nat_lt t.0 (length g.tasks)) (begins_itself (kind g t.0) && not (has (row rows t.0).ends Canceled)) (ltb-true t.0 (length g.tasks), lt-ltb t.0 (length g.tasks))
-      (both (begins_itself (kind g t.0) ≡ true) (has (row rows t.0).ends Canceled ≡ false) (begins_itself (kind g t.0)) (not (has (row rows t.0).ends Canceled)) (itself (begins_itself (kind g t.0))) (opposite (has (row rows t.0).ends Canceled))))
-      (λ e. (e.0, e.1.0, e.1.1))
-      (λ e. (e.0, (e.1, e.2))))
-      (none_complete_decided g rows)

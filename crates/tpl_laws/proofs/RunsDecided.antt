@@ -1,4 +1,4 @@
--- The tests of whole runs say what is settled, complete and claimed.
+-- The tests of whole runs say what is settled, complete and given.
 use Rattle.std.proofs.Common.{◌≡◌, ℕ, zero, suc, ◌<◌, ◌≤◌, inl, inr, ◌&&◌, not, Bool, true, false, Option, Some, None, List, [], ◌∷◌, refl, sym, ap, ◌∙◌, arith, length, is_some}
 use Rattle.std.specs.Prelude.{Decides}
 use Rattle.std.proofs.lemmas.Bool.Decides.{Decides-and, Decides-below_and}
@@ -7,19 +7,17 @@ use Rattle.tpl_laws.proofs.Deciding.{only_if, itself, opposite}
 use Rattle.tpl_model.specs.declared.finals.Final.{Final}
 use Rattle.tpl_model.specs.declared.finals.Finals.{Finals}
 use Rattle.tpl_model.specs.Finals.{has}
-use Rattle.tpl_model.specs.declared.status.Label.{Label}
 use Rattle.tpl_model.specs.Graph.{TaskGraph, TaskKind, Child, kind}
 use Rattle.tpl_model.specs.declared.event.Event.{Event}
-use Rattle.tpl_model.specs.Facts.{begun, begun_by, requested, failed, started, ending}
-use Rattle.tpl_model.specs.Rules.{final, label, seen, Settled, ended, unstarted, to_end, Complete}
+use Rattle.tpl_model.specs.Facts.{requested, failed, started, ending}
+use Rattle.tpl_model.specs.Rules.{final, Settled, ended, unstarted, to_end}
 use Rattle.tpl_model.specs.Valid.{IsGraph}
 use Rattle.tpl_model.specs.declared.claim.Given.{Given}
 use Rattle.tpl_model.specs.declared.claim.Given.TheVariants.{Input, Quiet, Ended, Succeeds}
-use Rattle.tpl_model.specs.declared.claim.Property.TheVariants.{Final as EndsIn, After, Observed, Never, Excludes, Runs}
 use Rattle.tpl_model.specs.Certificate.{same}
-use Rattle.tpl_model.specs.Claims.{input, IsGiven, SettledAtBegin, HoldsOf}
-use Rattle.tpl_laws.specs.RowTests.{implies, parent_of}
-use Rattle.tpl_laws.specs.RunTests.{is_child, some_parent, settled_within, is_settled, all_below, has_ended, is_complete, is_given, settled_at_begin, ends_within, holds_of, IsSettledIsRight, IsCompleteIsRight, HoldsOfIsRight, HoldsIsRight}
+use Rattle.tpl_model.specs.Claims.{input, IsGiven}
+use Rattle.tpl_laws.specs.RowTests.{parent_of}
+use Rattle.tpl_laws.specs.RunTests.{is_child, some_parent, settled_within, all_below, has_ended, is_given, ends_within, IsSettledIsRight, IsCompleteIsRight}
 use Rattle.tpl_laws.proofs.Parents.{parent_is, the_parent, parent_before}
 
 pub of_child : (k : TaskKind) → is_child k ≡ true → k ≡ Child
@@ -66,7 +64,7 @@ equal true b = (λ e. sym e, λ e. sym e)
 equal false true = (λ e. absurd (cc), λ e. absurd (cc))
 equal false false = (λ e. refl, λ e. refl)
 
-ends_in : (ends : Finals) (o : Option Final) → Decides (ends_within ends o) ((f : Final) → o ≡ Some f → has ends f ≡ true)
+pub ends_in : (ends : Finals) (o : Option Final) → Decides (ends_within ends o) ((f : Final) → o ≡ Some f → has ends f ≡ true)
 ends_in ends None = (λ e f x. absurd (cc), λ x. refl)
 ends_in ends (Some f) = (λ e x same. ap (has ends) (let it : x ≡ f = cc in it) ∙ e, λ x. x f refl)
 
@@ -76,28 +74,3 @@ given_lem g v h (Input i value ∷ given) = Decides-and (same (input v i.0) valu
 given_lem g v h (Quiet k ∷ given) = Decides-and (not (requested g v h k.0)) (is_given g v h given) (opposite (requested g v h k.0)) (given_lem g v h given)
 given_lem g v h (Ended t ends ∷ given) = Decides-and (ends_within ends (final g v h t.0)) (is_given g v h given) (ends_in ends (final g v h t.0)) (given_lem g v h given)
 given_lem g v h (Succeeds site ∷ given) = Decides-and (not (failed g v h site.0)) (is_given g v h given) (opposite (failed g v h site.0)) (given_lem g v h given)
-
-labelled : (o : Option Label) (b : Bool) → Decides (implies (is_some o) b) ((l : Label) → o ≡ Some l → b ≡ true)
-labelled None b = (λ e l x. absurd (cc), λ f. refl)
-labelled (Some l) b = (λ e x same. e, λ f. f l refl)
-
-begin_lem : (g : TaskGraph) → IsGraph g → (v : List Bool) (a b : ℕ) (h : List Event) → Decides (settled_at_begin g v a b h) (SettledAtBegin g v a b h)
-begin_lem g valid v a b [] = (λ e. tt, λ e. refl)
-begin_lem g valid v a b (e ∷ h) =
-    Decides-and (implies (begun_by e.act b) (is_settled g v h a)) (settled_at_begin g v a b h)
-    (only_if (begun_by e.act b ≡ true) (Settled g v h a) (begun_by e.act b) (is_settled g v h a) (itself (begun_by e.act b)) (settled_lem g v h a valid))
-    (begin_lem g valid v a b h)
-
-pub holds_of_lem : HoldsOfIsRight
-holds_of_lem g v h (EndsIn t ends) valid = ends_in ends (final g v h t.0)
-holds_of_lem g v h (After a b) valid = begin_lem g valid v a.0 b.0 h
-holds_of_lem g v h (Observed t) valid =
-    only_if (Complete g v h) ((l : Label) → label g v h t.0 ≡ Some l → seen g v h t.0 ≡ true) (is_complete g v h) (implies (is_some (label g v h t.0)) (seen g v h t.0))
-    (complete_lem g v h) (labelled (label g v h t.0) (seen g v h t.0))
-holds_of_lem g v h (Never t) valid = opposite (is_some (begun h t.0))
-holds_of_lem g v h (Excludes a b) valid = opposite (is_some (begun h a.0) && is_some (begun h b.0))
-holds_of_lem g v h (Runs t) valid =
-    only_if (Complete g v h) (is_some (begun h t.0) ≡ true) (is_complete g v h) (is_some (begun h t.0)) (complete_lem g v h) (itself (is_some (begun h t.0)))
-
-pub holds_lem : HoldsIsRight
-holds_lem g claim v h valid = only_if (IsGiven g v h claim.given) (HoldsOf g v h claim.body) (is_given g v h claim.given) (holds_of g v h claim.body) (given_lem g v h claim.given) (holds_of_lem g v h claim.body valid)

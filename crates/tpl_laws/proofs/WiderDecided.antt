@@ -24,7 +24,8 @@ use Rattle.tpl_laws.specs.RowTests.{implies, all_in, each_end, some_end, all_may
 use Rattle.tpl_laws.specs.WiderTests.{if_known, each_begin, each_ending, wide_runs_by, each_drop, each_body_end, each_way, wide_ends_by, begin_by, own_requested, settled_before, known_there, before_begin, holds_by, settled_below, end_by, is_won_by, reads_winner, wide_links, wide_chain, wide_broken, wide_proves}
 use Rattle.tpl_laws.proofs.Deciding.{itself, opposite, denied, same, both, either, only_if, means, at_each_end, at_some_end, of_all, of_some}
 use Rattle.tpl_laws.proofs.Parents.{at_parent, below}
-use Rattle.tpl_laws.proofs.RulesDecided.{observes_it, all_decided, takes_decided, reads_decided, none_decided, none_complete_decided, proves_lem}
+use Rattle.tpl_laws.proofs.RulesDecided.{observes_it, all_decided, takes_decided, reads_decided, none_decided, none_complete_decided}
+use Rattle.tpl_laws.proofs.ClaimsDecided.{proves_lem}
 use Rattle.tpl_laws.specs.WideFaults.{wide_row_rules}
 use Rattle.tpl_laws.proofs.FaultsDecided.{Clears, clear_means, rules_clear}
 

@@ -12,7 +12,8 @@ use Rattle.tpl_model.specs.declared.claim.Property.{Property}
 use Rattle.tpl_model.specs.Claims.{Claim, Holds}
 use Rattle.tpl_model.specs.Certificate.{Row, row, Tree, Assumed, end_left, RunsRule, MayEndAs, BeforeRule, PastRule, IsBelow, ChainRule, IsClosed, Closed, Proves, Accepts}
 use Rattle.tpl_laws.specs.Soundness.{Each}
-use Rattle.tpl_laws.specs.RowTests.{parent_of, runs, ends, before, past, below_by, is_below, chain, proves}
+use Rattle.tpl_laws.specs.RowTests.{parent_of, runs, ends, before, past, below_by, is_below, chain}
+use Rattle.tpl_laws.specs.ClaimTests.{proves}
 use Rattle.tpl_laws.specs.Verdict.{broken, first_broken, verdict}
 
 -- the test of K1 passes just where the rule holds

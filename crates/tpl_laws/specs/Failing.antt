@@ -1,22 +1,23 @@
 -- From which place on a claim fails along a run, found from a few places of the whole run.
-use Rattle.std.specs.Prelude.{◌≡◌, ℕ, suc, ◌≤◌, ◌++◌, ◌||◌, not, Bool, true, false, if◌then◌else◌, Option, Some, None, IfSome, List, [], ◌∷◌, length, max, nat_le}
+use Rattle.std.specs.Prelude.{◌≡◌, ℕ, suc, ◌≤◌, ◌++◌, ◌||◌, not, Bool, true, false, if◌then◌else◌, Option, Some, None, IfSome, List, [], ◌∷◌, length, nat_le}
 use Rattle.tpl_model.specs.Graph.{TaskGraph}
 use Rattle.tpl_model.specs.declared.event.Act.{Act}
 use Rattle.tpl_model.specs.declared.event.Act.TheVariants.{Request}
 use Rattle.tpl_model.specs.declared.event.Event.{Event}
 use Rattle.tpl_model.specs.declared.ids.TokenId.{TokenId}
 use Rattle.tpl_model.specs.declared.status.Actor.{Actor}
-use Rattle.tpl_model.specs.Facts.{Ending, begun_by, requested, failed, ending}
+use Rattle.tpl_model.specs.Facts.{requested, failed}
 use Rattle.tpl_model.specs.Rules.{Allows, Run, Complete}
 use Rattle.tpl_model.specs.Valid.{IsGraph}
 use Rattle.tpl_model.specs.declared.claim.Given.{Given}
 use Rattle.tpl_model.specs.declared.claim.Given.TheVariants.{Input, Quiet, Ended, Succeeds}
 use Rattle.tpl_model.specs.declared.ids.TaskId.{TaskId}
 use Rattle.tpl_model.specs.declared.claim.Property.{Property}
-use Rattle.tpl_model.specs.declared.claim.Property.TheVariants.{Final as EndsIn, After, Observed, Never, Excludes, Runs}
+use Rattle.tpl_model.specs.declared.claim.Property.TheVariants.{Final as EndsIn}
 use Rattle.tpl_model.specs.Certificate.{same, given_sure}
 use Rattle.tpl_model.specs.Claims.{Claim, input}
-use Rattle.tpl_laws.specs.RunTests.{is_complete, holds_of, holds}
+use Rattle.tpl_laws.specs.RunTests.{is_complete}
+use Rattle.tpl_laws.specs.ClaimTests.{holds_of, holds, lost_at}
 use Rattle.tpl_laws.specs.Runs.{gives_quiet}
 
 -- the place is reached
@@ -29,34 +30,10 @@ pub record IsFrom (test : List Event → Bool) (h : List Event) (place : Option 
   pub within : IfSome place (λ p. p ≤ length h)
   pub each : (later before : List Event) → later ++ before ≡ h → test before ≡ is_at place (length before)
 
--- the place at which a task began
-abbrev pub began_at : List Event → ℕ → Option ℕ
-began_at [] t = None
-began_at (e ∷ h) t = if begun_by e.act t then Some (suc (length h)) else began_at h t
-
--- the place at which a task ended
-abbrev pub place_of : Option Ending → Option ℕ
-place_of None = None
-place_of (Some e) = Some e.place
-
--- the later of two places, if there are both
-abbrev pub later_of : Option ℕ → Option ℕ → Option ℕ
-later_of (Some p) (Some q) = Some (max p q)
-later_of p q = None
-
 -- the place that is known already, else this one where the test is true now
 abbrev pub or_now : Option ℕ → Bool → ℕ → Option ℕ
 or_now None now n = if now then Some n else None
 or_now (Some p) now n = Some p
-
--- where a property that isn't true of the run was lost. A run is complete from its place `complete` on
-abbrev pub lost_at : TaskGraph → List Bool → List Event → Option ℕ → Property TaskId → Option ℕ
-lost_at g v h complete (EndsIn t ends) = place_of (ending g v h t.0)
-lost_at g v h complete (After a b) = began_at h b.0
-lost_at g v h complete (Observed t) = complete
-lost_at g v h complete (Never t) = began_at h t.0
-lost_at g v h complete (Excludes a b) = later_of (began_at h a.0) (began_at h b.0)
-lost_at g v h complete (Runs t) = complete
 
 -- the place from which on a property isn't true of the run
 abbrev pub fails_from : TaskGraph → List Bool → List Event → Option ℕ → Property TaskId → Option ℕ

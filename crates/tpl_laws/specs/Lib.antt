@@ -4,6 +4,7 @@ pub mod Settling
 pub mod PathLaws
 pub mod RowTests
 pub mod RunTests
+pub mod ClaimTests
 pub mod Verdict
 pub mod Decided
 pub mod Failing

@@ -1,5 +1,5 @@
 -- The rules for the rows of a leaf, as tests that compute.
-use Rattle.std.specs.Prelude.{ℕ, zero, suc, ◌&&◌, ◌||◌, not, Bool, true, false, if◌then◌else◌, Option, Some, None, List, [], ◌∷◌, length, nat_eq, nat_lt}
+use Rattle.std.specs.Prelude.{ℕ, zero, suc, ◌&&◌, ◌||◌, not, Bool, true, false, if◌then◌else◌, Option, Some, None, List, [], ◌∷◌, length, nat_eq}
 use Rattle.tpl_model.specs.declared.finals.Final.{Final}
 use Rattle.tpl_model.specs.declared.finals.Final.TheVariants.{RanToCompletion, Canceled, Faulted}
 use Rattle.tpl_model.specs.Finals.{has, is_final}
@@ -7,10 +7,7 @@ use Rattle.tpl_model.specs.Options.{allows, lazy_cancellation}
 use Rattle.tpl_model.specs.Members.{mem}
 use Rattle.tpl_model.specs.Statements.{starts}
 use Rattle.tpl_model.specs.Graph.{TaskGraph, TaskKind, Root, Child, Continues, WhenAll, WhenAny, task, kind, body, options, attached, some_in}
-use Rattle.tpl_model.specs.declared.ids.TaskId.{TaskId}
-use Rattle.tpl_model.specs.declared.claim.Property.{Property}
-use Rattle.tpl_model.specs.declared.claim.Property.TheVariants.{Final as EndsIn, After, Observed, Never, Excludes, Runs}
-use Rattle.tpl_model.specs.Certificate.{Row, row, Assumed, end_left, is_loud, view, may_end_early, may_end, may_win, begins_itself}
+use Rattle.tpl_model.specs.Certificate.{Row, row, Assumed, end_left, is_loud, view, may_end_early, may_end, may_win}
 use Rattle.tpl_model.specs.Rules.{to_end}
 use Rattle.tpl_model.specs.Paths.{Known}
 pub use Rattle.tpl_model.specs.Ends.{is_return, is_acknowledgement}
@@ -183,15 +180,3 @@ some_below test (suc n) = test n || some_below test n
 -- a task that has to end, started or not, can't
 abbrev pub none_complete : TaskGraph → List Row → Bool
 none_complete g rows = some_below (λ x. to_end (kind g x) false && not (may_end rows x)) (length g.tasks)
-
--- a closed leaf proves the claim
-abbrev pub proves : TaskGraph → Assumed → List Row → Property TaskId → Bool
-proves g l rows (EndsIn t ends) = each_end (λ f. implies (has (row rows t.0).ends f) (has ends f))
-proves g l rows (After a b) = not (row rows b.0).runs || mem a.0 (row rows b.0).before
-proves g l rows (Observed t) =
-    not (is_none (row rows t.0).chain)
-    || (not (has (row rows t.0).ends Faulted) || (not (row rows t.0).runs || (not (may_throw g l rows t.0) || (l.wide && none_complete g rows))))
-proves g l rows (Never t) = not (row rows t.0).runs
-proves g l rows (Excludes a b) = not (row rows a.0).runs || not (row rows b.0).runs
-proves g l rows (Runs t) =
-    (nat_lt t.0 (length g.tasks) && (begins_itself (kind g t.0) && not (has (row rows t.0).ends Canceled))) || none_complete g rows

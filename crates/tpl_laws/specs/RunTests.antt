@@ -1,20 +1,17 @@
--- What is settled, complete, given and claimed, as tests that compute.
+-- What is settled, complete and given, as tests that compute.
 use Rattle.std.specs.Prelude.{◌≡◌, ℕ, zero, suc, ◌↔◌, ◌&&◌, ◌||◌, not, Bool, true, false, Option, Some, None, List, [], ◌∷◌, length, is_some}
 use Rattle.tpl_model.specs.declared.finals.Final.{Final}
 use Rattle.tpl_model.specs.declared.finals.Finals.{Finals}
 use Rattle.tpl_model.specs.Finals.{has}
 use Rattle.tpl_model.specs.Graph.{TaskGraph, TaskKind, Child, kind}
 use Rattle.tpl_model.specs.declared.event.Event.{Event}
-use Rattle.tpl_model.specs.Facts.{begun, begun_by, requested, failed, started, ending}
-use Rattle.tpl_model.specs.Rules.{final, label, seen, Settled, to_end, Complete}
+use Rattle.tpl_model.specs.Facts.{requested, failed, started, ending}
+use Rattle.tpl_model.specs.Rules.{final, Settled, to_end, Complete}
 use Rattle.tpl_model.specs.Valid.{IsGraph}
 use Rattle.tpl_model.specs.declared.claim.Given.{Given}
 use Rattle.tpl_model.specs.declared.claim.Given.TheVariants.{Input, Quiet, Ended, Succeeds}
-use Rattle.tpl_model.specs.declared.ids.TaskId.{TaskId}
-use Rattle.tpl_model.specs.declared.claim.Property.{Property}
-use Rattle.tpl_model.specs.declared.claim.Property.TheVariants.{Final as EndsIn, After, Observed, Never, Excludes, Runs}
 use Rattle.tpl_model.specs.Certificate.{same}
-use Rattle.tpl_model.specs.Claims.{Claim, input, IsGiven, HoldsOf, Holds}
+use Rattle.tpl_model.specs.Claims.{input, IsGiven}
 use Rattle.tpl_laws.specs.RowTests.{implies, parent_of}
 
 -- the kind is that of a child
@@ -64,24 +61,6 @@ is_given g v h (Quiet k ∷ given) = not (requested g v h k.0) && is_given g v h
 is_given g v h (Ended t ends ∷ given) = ends_within ends (final g v h t.0) && is_given g v h given
 is_given g v h (Succeeds site ∷ given) = not (failed g v h site.0) && is_given g v h given
 
--- where b begins, a is settled in the list before
-abbrev pub settled_at_begin : TaskGraph → List Bool → ℕ → ℕ → List Event → Bool
-settled_at_begin g v a b [] = true
-settled_at_begin g v a b (e ∷ h) = implies (begun_by e.act b) (is_settled g v h a) && settled_at_begin g v a b h
-
--- what a claim says is true of a run
-abbrev pub holds_of : TaskGraph → List Bool → List Event → Property TaskId → Bool
-holds_of g v h (EndsIn t ends) = ends_within ends (final g v h t.0)
-holds_of g v h (After a b) = settled_at_begin g v a.0 b.0 h
-holds_of g v h (Observed t) = implies (is_complete g v h) (implies (is_some (label g v h t.0)) (seen g v h t.0))
-holds_of g v h (Never t) = not (is_some (begun h t.0))
-holds_of g v h (Excludes a b) = not (is_some (begun h a.0) && is_some (begun h b.0))
-holds_of g v h (Runs t) = implies (is_complete g v h) (is_some (begun h t.0))
-
--- a claim holds in a run
-abbrev pub holds : TaskGraph → Claim → List Bool → List Event → Bool
-holds g claim v h = implies (is_given g v h claim.given) (holds_of g v h claim.body)
-
 -- the test of a task passes just where it is settled
 abbrev pub IsSettledIsRight : Type 0
 IsSettledIsRight = (g : TaskGraph) (v : List Bool) (h : List Event) (t : ℕ) → IsGraph g → (is_settled g v h t ≡ true) ↔ Settled g v h t
@@ -93,12 +72,3 @@ IsCompleteIsRight = (g : TaskGraph) (v : List Bool) (h : List Event) → (is_com
 -- the test of what is given passes just where it is true of the run
 abbrev pub GivenIsRight : Type 0
 GivenIsRight = (g : TaskGraph) (v : List Bool) (h : List Event) (given : List Given) → (is_given g v h given ≡ true) ↔ IsGiven g v h given
-
--- the test of what a claim says passes just where it is true of the run
-abbrev pub HoldsOfIsRight : Type 0
-HoldsOfIsRight =
-    (g : TaskGraph) (v : List Bool) (h : List Event) (p : Property TaskId) → IsGraph g → (holds_of g v h p ≡ true) ↔ HoldsOf g v h p
-
--- the test of a claim passes just where it holds in the run
-abbrev pub HoldsIsRight : Type 0
-HoldsIsRight = (g : TaskGraph) (claim : Claim) (v : List Bool) (h : List Event) → IsGraph g → (holds g claim v h ≡ true) ↔ Holds g claim v h

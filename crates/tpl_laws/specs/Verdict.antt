@@ -10,7 +10,8 @@ use Rattle.tpl_model.specs.declared.ids.TaskId.{TaskId}
 use Rattle.tpl_model.specs.declared.claim.Property.{Property}
 use Rattle.tpl_model.specs.Claims.{Claim}
 use Rattle.tpl_model.specs.Certificate.{Row, Tree, SplitInput, SplitEnd, Leaf, Assumed, assumed_for, with_input, with_end}
-use Rattle.tpl_laws.specs.RowTests.{all_in, runs, ends, before, past, chain, proves}
+use Rattle.tpl_laws.specs.RowTests.{all_in, runs, ends, before, past, chain}
+use Rattle.tpl_laws.specs.ClaimTests.{proves}
 
 -- the first fault of two
 abbrev pub or_else : {A : Type 0} → Option A → Option A → Option A

@@ -16,7 +16,8 @@ use Rattle.tpl_model.specs.declared.fault.Rule.{Rule}
 use Rattle.tpl_model.specs.declared.fault.Rule.TheVariants.{K1, K2, K3, K6}
 use Rattle.tpl_model.specs.Certificate.{row, end_left, is_loud, may_end}
 use Rattle.tpl_model.specs.WiderRules.{WideRow, plain, wide_row, begins_with, once_ended, linked, WideAssumed, kind_left, reading, asked_of, known_at_end, known_at_start, own_among, may_run, Way, ByBody, RootDropped, ChildDropped, DroppedEarly, DroppedLate, NotAllowed, way_final, IsWidelyClosed, WidelyClosed, WidelyProves}
-use Rattle.tpl_laws.specs.RowTests.{implies, all_in, each_end, some_end, parent_of, by_parent, is_below, all_may_end, takes_over, faulted_view, reads, is_none, none_complete, proves}
+use Rattle.tpl_laws.specs.RowTests.{implies, all_in, each_end, some_end, parent_of, by_parent, is_below, all_may_end, takes_over, faulted_view, reads, is_none, none_complete}
+use Rattle.tpl_laws.specs.ClaimTests.{proves}
 use Rattle.tpl_laws.specs.Verdict.{or_else, unless, past_rule, LeafFault, ProvesNot, breaks}
 
 -- what is known passes the test, if there are paths

@@ -12,7 +12,7 @@ use Rattle.tpl_model.specs.declared.event.Event.{Event}
 use Rattle.tpl_model.specs.Facts.{Rest, winner_of, rest, ending}
 use Rattle.tpl_model.specs.Rules.{status, Allows}
 -- the places at which a task began and ended, counted from 1
-pub use Rattle.tpl_laws.specs.Failing.{began_at as began, place_of}
+pub use Rattle.tpl_laws.specs.ClaimTests.{began_at as began, place_of}
 use Rattle.tpl_run.specs.declared.run.Next.{Next}
 use Rattle.tpl_run.specs.declared.run.Next.TheVariants.{NotRunning, Silent, Work as Job, Over}
 

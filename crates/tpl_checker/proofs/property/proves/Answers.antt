@@ -1,5 +1,5 @@
 use Rattle.std.proofs.Common.{ap, sym, ◌∙◌}
-use Rattle.tpl_laws.specs.RowTests.{proves}
+use Rattle.tpl_laws.specs.ClaimTests.{proves}
 use Rattle.tpl_checker.specs.Assumptions.{assumed_of}
 use Rattle.tpl_checker.proofs.property.proves.Goals as goal
 

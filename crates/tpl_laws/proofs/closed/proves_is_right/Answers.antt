@@ -1,4 +1,4 @@
-use Rattle.tpl_laws.proofs.RulesDecided.{proves_lem}
+use Rattle.tpl_laws.proofs.ClaimsDecided.{proves_lem}
 use Rattle.tpl_laws.proofs.closed.proves_is_right.Goals as goal
 
 pub returns : goal.returns

@@ -1,4 +1,4 @@
-use Rattle.tpl_laws.proofs.RunsDecided.{holds_of_lem}
+use Rattle.tpl_laws.proofs.ClaimsDecided.{holds_of_lem}
 use Rattle.tpl_laws.proofs.decided.holds_of_is_right.Goals as goal
 
 pub returns : goal.returns
