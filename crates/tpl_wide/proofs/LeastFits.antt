@@ -8,7 +8,7 @@ use Rattle.tpl_model.specs.Finals.{has}
 use Rattle.tpl_model.specs.declared.finals.Finals.{Finals}
 use Rattle.tpl_model.specs.declared.ids.TaskId.{TaskId}
 use Rattle.tpl_model.specs.declared.claim.Property.{Property}
-use Rattle.tpl_model.specs.declared.claim.Property.TheVariants.{Final as EndsIn, After, Observed, Never, Excludes, Runs}
+use Rattle.tpl_model.specs.declared.claim.Property.TheVariants.{Observed}
 use Rattle.tpl_model.specs.Graph.{TaskGraph}
 use Rattle.tpl_model.specs.Certificate.{Row, row}
 use Rattle.tpl_model.specs.WiderRules.{WideRow, WideAssumed, kind_left, plain}
@@ -71,11 +71,7 @@ module _ (g : TaskGraph) where
       pick : (b : Bool) → has_tasks g (if b then chain_from g l t 0 16 else []) ≡ true
       pick true = from_fits l t 0 16
       pick false = refl
-  chain_fits l (EndsIn s ends) t = refl
-  chain_fits l (After a b) t = refl
-  chain_fits l (Never s) t = refl
-  chain_fits l (Excludes a b) t = refl
-  chain_fits l (Runs s) t = refl
+  chain_fits l p t = refl
 
   -- ---- rows
 

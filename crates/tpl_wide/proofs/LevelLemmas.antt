@@ -5,7 +5,7 @@ use Rattle.std.proofs.Math.Seq.{get_or-append_seam}
 use Rattle.std.proofs.lemmas.List.{append-nil, get_or_append_left, length-append}
 use Rattle.tpl_model.specs.declared.ids.TaskId.{TaskId}
 use Rattle.tpl_model.specs.declared.claim.Property.{Property}
-use Rattle.tpl_model.specs.declared.claim.Property.TheVariants.{Final as EndsIn, After, Observed, Never, Excludes, Runs}
+use Rattle.tpl_model.specs.declared.claim.Property.TheVariants.{Observed}
 use Rattle.tpl_model.specs.Members.{mem}
 use Rattle.tpl_model.specs.Graph.{TaskGraph}
 use Rattle.tpl_model.specs.WiderRules.{WideAssumed}
@@ -103,11 +103,7 @@ level_at g l levels level k lt e are y = ap (λ (xs : List ℕ). mem y xs) (e �
 -- a task has a chain if it is the one whose exception is to be observed
 pub chain_is : (g : TaskGraph) (l : WideAssumed) (p : Property TaskId) (t : ℕ) → chain_for g l p t ≡ (if observes_it p t then shortest_chain g l t else [])
 chain_is g l (Observed o) t = refl
-chain_is g l (EndsIn s ends) t = refl
-chain_is g l (After a b) t = refl
-chain_is g l (Never s) t = refl
-chain_is g l (Excludes a b) t = refl
-chain_is g l (Runs s) t = refl
+chain_is g l p t = refl
 
 -- the chain so far, and what is still to come from its last task on
 pub record DownTo (g : TaskGraph) (l : WideAssumed) (n t k carrier : ℕ) (chain : List TaskId) : Type 0 where

@@ -37,11 +37,7 @@ fn is_observed(property: Property, task: TaskId) -> bool
 {
     match property {
         Property::Observed(observed) => observed.0 == task.0,
-        Property::Final(_, _) => false,
-        Property::After(_, _) => false,
-        Property::Never(_) => false,
-        Property::Excludes(_, _) => false,
-        Property::Runs(_) => false,
+        _ => false,
     }
 }
 
