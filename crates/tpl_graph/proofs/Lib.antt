@@ -1,3 +1,4 @@
+pub mod TaskLemmas
 pub mod ReaderLemmas
 pub mod CollectLemmas
 pub mod TableLemmas

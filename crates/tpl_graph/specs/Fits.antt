@@ -1,14 +1,13 @@
 -- Which claims can be asked of a graph.
-use Rattle.std.specs.Prelude.{◌≡◌, ◌<◌, length, ◌++◌, ◌||◌, ◌&&◌, Bool, true, false, List, [], ◌∷◌, nat_eq, All}
-use Rattle.std.specs.List.{list_any}
+use Rattle.std.specs.Prelude.{◌≡◌, ◌<◌, length, ◌++◌, ◌||◌, Bool, true, false, List, [], ◌∷◌, nat_eq, All}
+use Rattle.std.specs.List.{list_all, list_any}
 use Rattle.tpl_model.specs.declared.claim.Given.{Given}
 use Rattle.tpl_model.specs.declared.claim.Given.TheVariants.{Input, Quiet, Ended, Succeeds}
 use Rattle.tpl_model.specs.declared.ids.TaskId.{TaskId}
 use Rattle.tpl_model.specs.declared.claim.Property.{Property}
-use Rattle.tpl_model.specs.declared.claim.Property.TheVariants.{Final as EndsIn, After, Observed, Never, Excludes, Runs}
 use Rattle.tpl_model.specs.Graph.{TaskGraph, TaskKind, WhenAll, WhenAny, kind, is_task, is_token}
 use Rattle.tpl_model.specs.Valid.{all_sites}
-use Rattle.tpl_model.specs.Claims.{Claim}
+use Rattle.tpl_model.specs.Claims.{AreAll, Claim, bodied_tasks, named_tasks}
 
 -- the input, token or task is the graph's, and so is the site: sites are numbered in the order of the text
 abbrev pub IsGivenOf : TaskGraph → Given → Type 0
@@ -38,14 +37,9 @@ given_again before (x ∷ rest) = list_any (is_of_one_thing x) before || given_a
 abbrev pub given_twice : List Given → Bool
 given_twice given = given_again [] given
 
--- the tasks are the graph's
+-- the tasks that the claim names are the graph's
 abbrev pub TasksOf : TaskGraph → Property TaskId → Type 0
-TasksOf g (EndsIn t ends) = is_task g t.0
-TasksOf g (After a b) = is_task g a.0 × is_task g b.0
-TasksOf g (Observed t) = is_task g t.0
-TasksOf g (Never t) = is_task g t.0
-TasksOf g (Excludes a b) = is_task g a.0 × is_task g b.0
-TasksOf g (Runs t) = is_task g t.0
+TasksOf g p = AreAll (λ t. is_task g t.0) (named_tasks p)
 
 -- WhenAll and WhenAny tasks have no body, and never begin
 abbrev pub has_body : TaskKind → Bool
@@ -55,12 +49,7 @@ has_body kind = true
 
 -- what is claimed to begin, or to throw, has a body
 abbrev pub have_bodies : TaskGraph → Property TaskId → Bool
-have_bodies g (EndsIn t ends) = true
-have_bodies g (After a b) = has_body (kind g b.0)
-have_bodies g (Observed t) = has_body (kind g t.0)
-have_bodies g (Never t) = has_body (kind g t.0)
-have_bodies g (Excludes a b) = has_body (kind g a.0) && has_body (kind g b.0)
-have_bodies g (Runs t) = has_body (kind g t.0)
+have_bodies g p = list_all (λ t. has_body (kind g t.0)) (bodied_tasks p)
 
 -- a claim that can be asked of a graph: its ids are the graph's, what it says of bodies is said of tasks with a body,
 -- and nothing is given twice

@@ -1,9 +1,9 @@
 //! Which claims can be asked of a graph.
 
 ghost use Rattle.std.specs.Prelude.{◌≡◌, ◌↔◌, IsTrue};
-ghost use Rattle.std.specs.List.{list_any};
-ghost use Rattle.tpl_graph.specs.Prelude.{Fits, IsGivenOf, TasksOf, given_twice, has_body, have_bodies, is_of_one_thing};
-ghost use Rattle.tpl_model.specs.Prelude.{is_task, kind};
+ghost use Rattle.std.specs.List.{list_all, list_any};
+ghost use Rattle.tpl_graph.specs.Prelude.{Fits, IsGivenOf, given_twice, has_body, have_bodies, is_of_one_thing};
+ghost use Rattle.tpl_model.specs.Prelude.{AreAll, is_task, kind, somes};
 
 use crate::claim::Claim;
 use crate::graph::Graph;
@@ -58,43 +58,44 @@ pub fn given_twice(given: &[Given]) -> bool
     false
 }
 
-fn tasks_of(graph: &Graph, body: Property) -> bool
-    ensures { IsTrue result ↔ TasksOf graph.now.graph body }
+/// Each of these is a task of the graph.
+fn are_tasks(graph: &Graph, tasks: &[Option<TaskId>]) -> bool
+    ensures { IsTrue result ↔ AreAll (λ t. is_task graph.now.graph t.0) (somes tasks.now) }
 {
-    match body {
-        Property::Final(task, _) => is_task(graph, task),
-        Property::After(a, b) => is_task(graph, a) && is_task(graph, b),
-        Property::Observed(task) => is_task(graph, task),
-        Property::Never(task) => is_task(graph, task),
-        Property::Excludes(a, b) => is_task(graph, a) && is_task(graph, b),
-        Property::Runs(task) => is_task(graph, task),
+    match tasks {
+        [] => true,
+        [first, rest @ ..] => match first {
+            None => are_tasks(graph, rest),
+            Some(task) => is_task(graph, *task) && are_tasks(graph, rest),
+        },
     }
 }
 
+/// Whether the task has a body; there is no other task without one.
 fn has_body(graph: &Graph, task: TaskId) -> bool
-    requires { is_task graph.now.graph task.0 }
     ensures { result ≡ has_body (kind graph.now.graph task.0) }
 {
-    match graph.kind(task) {
-        Kind::All => false,
-        Kind::Any => false,
-        _ => true,
+    !is_task(graph, task) || !matches!(graph.kind(task), Kind::All | Kind::Any)
+}
+
+/// Each of these has a body.
+fn have_body(graph: &Graph, tasks: &[Option<TaskId>]) -> bool
+    ensures { result ≡ list_all (λ t. has_body (kind graph.now.graph t.0)) (somes tasks.now) }
+{
+    match tasks {
+        [] => true,
+        [first, rest @ ..] => match first {
+            None => have_body(graph, rest),
+            Some(task) => has_body(graph, *task) && have_body(graph, rest),
+        },
     }
 }
 
 /// Whether each task that the property says to begin, or to throw, has a body: WhenAll and WhenAny tasks have none.
 pub fn have_bodies(graph: &Graph, body: Property) -> bool
-    requires { TasksOf graph.now.graph body }
     ensures { result ≡ have_bodies graph.now.graph body }
 {
-    match body {
-        Property::Final(_, _) => true,
-        Property::After(_, b) => has_body(graph, b),
-        Property::Observed(task) => has_body(graph, task),
-        Property::Never(task) => has_body(graph, task),
-        Property::Excludes(a, b) => has_body(graph, a) && has_body(graph, b),
-        Property::Runs(task) => has_body(graph, task),
-    }
+    have_body(graph, &body.bodied_tasks())
 }
 
 impl Claim {
@@ -104,7 +105,7 @@ impl Claim {
         ensures { IsTrue result ↔ Fits graph.now.graph self.now }
     {
         self.given().iter().all(|one| is_given_of(graph, *one))
-            && tasks_of(graph, self.body())
+            && are_tasks(graph, &self.body().tasks())
             && have_bodies(graph, self.body())
             && !given_twice(self.given())
     }

@@ -1,5 +1,5 @@
 -- The wider rules for rows that speak of tokens too, and the trees of such rows.
-use Rattle.std.specs.Prelude.{◌≡◌, ℕ, zero, suc, ◌<◌, ◌&&◌, ◌||◌, ◌⊎◌, not, Bool, true, false, if◌then◌else◌, Option, Some, None, List, [], ◌∷◌, map, filter, length, nat_eq, slice_index_or}
+use Rattle.std.specs.Prelude.{◌≡◌, ℕ, zero, suc, ◌&&◌, ◌||◌, ◌⊎◌, not, Bool, true, false, if◌then◌else◌, Option, Some, None, List, [], ◌∷◌, map, filter, length, nat_eq, slice_index_or}
 use Rattle.tpl_model.specs.declared.finals.Final.{Final}
 use Rattle.tpl_model.specs.declared.finals.Final.TheVariants.{RanToCompletion, Canceled, Faulted}
 use Rattle.tpl_model.specs.Finals.{has, is_final}
@@ -15,7 +15,7 @@ use Rattle.tpl_model.specs.declared.ids.TaskId.{TaskId}
 use Rattle.tpl_model.specs.declared.claim.Property.{Property}
 use Rattle.tpl_model.specs.declared.claim.Property.TheVariants.{Observed}
 use Rattle.tpl_model.specs.Claims.{Claim}
-use Rattle.tpl_model.specs.Certificate.{Row, row, Tree, SplitInput, SplitEnd, Leaf, Assumed, Agrees, same, assumed_for, with_input, with_end, end_left, is_loud, subject_ends, view, IsBelow, AllMayEnd, may_end, TakesOver, Reads, NoneComplete, Proves, IdsOfRows}
+use Rattle.tpl_model.specs.Certificate.{Row, row, Tree, SplitInput, SplitEnd, Leaf, Assumed, Agrees, same, assumed_for, with_input, with_end, end_left, is_loud, subject_ends, view, IsBelow, AllMayEnd, may_end, TakesOver, Reads, NoneComplete, Proves}
 
 -- a row that says of tokens too which ones are requested when the task begins, and when it has ended
 pub record WideRow : Type 0 where

@@ -30,10 +30,14 @@ pub fn bearing_tasks(graph: &Graph, property: Property, assumed: &Assumptions) -
 fn named(property: Property) -> TaskSet
     ensures { (x : ℕ) → x < MOST_TASKS → names property x ≡ true → mem x result ≡ true }
 {
-    match property.tasks() {
-        (one, None) => with(TaskSet::empty(), one),
-        (one, Some(other)) => with(with(TaskSet::empty(), one), other),
+    let mut tasks = TaskSet::empty();
+    for number in 0..MOST_TASKS {
+        let task = TaskId(number);
+        if property.names(task) {
+            tasks = with(tasks, task);
+        }
     }
+    tasks
 }
 
 /// Adds the tasks that may never end by what is assumed, if the property is also proved where no run is

@@ -3,7 +3,7 @@ use Rattle.std.specs.Prelude.{ℕ, List, map}
 use Rattle.std.specs.Option.{option_map}
 use Rattle.std.specs.Borrow.{Bor}
 use Rattle.tpl_model.specs.declared.claim.Property.{Property}
-use Rattle.tpl_model.specs.declared.claim.Property.TheVariants.{Final as EndsIn, After, Observed, Never, Excludes, Runs}
+use Rattle.tpl_model.specs.Claims.{property_map}
 use Rattle.tpl_parts.specs.declared.named.NamedGiven as given
 use Rattle.tpl_parts.specs.declared.named.NamedGiven.TheVariants as givens
 use Rattle.tpl_parts.specs.declared.named.NamedClaim as claim
@@ -18,12 +18,7 @@ given_of givens.NoFailure = GivenNoFailure
 given_of givens.NoRequest = GivenNoRequest
 
 abbrev pub property_of : Property (Bor (List ℕ)) → Property (List ℕ)
-property_of (EndsIn task finals) = EndsIn task.now finals
-property_of (After a b) = After a.now b.now
-property_of (Observed task) = Observed task.now
-property_of (Never task) = Never task.now
-property_of (Excludes a b) = Excludes a.now b.now
-property_of (Runs task) = Runs task.now
+property_of p = property_map (λ s. s.now) p
 
 abbrev pub claim_of : claim.NamedClaim → NamedClaim
 claim_of c = record { name = option_map (λ s. s.now) c.name; given = map given_of c.given.items; body = property_of c.body }

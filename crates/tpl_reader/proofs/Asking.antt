@@ -20,9 +20,10 @@ use Rattle.tpl_cert.specs.Naming.{number_of}
 use Rattle.tpl_graph.specs.Kept.{IsNamedGraph}
 use Rattle.tpl_model.specs.declared.claim.Given.TheVariants as givens
 use Rattle.tpl_model.specs.declared.claim.Property.{Property}
-use Rattle.tpl_model.specs.declared.claim.Property.TheVariants.{Final as EndsIn, After, Observed, Never, Excludes, Runs}
 use Rattle.tpl_model.specs.declared.claim.Given.{Given}
 use Rattle.tpl_model.specs.Claims.{Claim}
+use Rattle.tpl_model.specs.Graph.{is_task}
+use Rattle.tpl_model.proofs.ClaimLemmas.{try_map_all}
 use Rattle.tpl_draft.specs.Named.{Names, Named}
 use Rattle.tpl_graph.specs.Fits.{IsGivenOf, TasksOf, have_bodies, is_of_one_thing, given_again, given_twice, Fits}
 use Rattle.tpl_parts.specs.declared.version.Version.{Version}
@@ -31,7 +32,7 @@ use Rattle.tpl_reader.specs.declared.fault.ClaimFault.{ClaimFault}
 use Rattle.tpl_reader.specs.declared.fault.ClaimFault.TheVariants as faults
 use Rattle.tpl_json.specs.Passes.{Yields, at_number}
 use Rattle.tpl_json.proofs.Passes.{bind_ok, bind_or, ok_is, each_every, all_every}
-use Rattle.tpl_reader.specs.Asked.{task_in, token_in, input_in, site_in, pair_in, given_in, property_in, is_no_failure, is_no_request, is_single, with_one, with_jobs, with_tokens, with_all_jobs, with_all, singles_in, says_twice, claim_in, has_name_of, claim_behind, claim_among, claims_in, most_claims, claims_for}
+use Rattle.tpl_reader.specs.Asked.{task_in, token_in, input_in, site_in, given_in, property_in, is_no_failure, is_no_request, is_single, with_one, with_jobs, with_tokens, with_all_jobs, with_all, singles_in, says_twice, claim_in, has_name_of, claim_behind, claim_among, claims_in, most_claims, claims_for}
 
 -- ---- the ids that the names stand for are the graph's
 
@@ -59,29 +60,8 @@ site_below n name t e =
     let a = mapped (λ k. let x : SiteId = record { 0 = k } in x) (number_of n.sites name) t e in
     number_below n.sites name t.0 (a.1 ∙ ap (λ (x : SiteId). some x.0) a.2)
 
-pair_is : (a b : Option TaskId) (p : TaskId × TaskId) → pair_in a b ≡ Some p → (a ≡ Some p.0) × (b ≡ Some p.1)
-pair_is (Some a) (Some b) p e = (ap (λ (x : TaskId × TaskId). some x.0) (some_is (a, b) p e), ap (λ (x : TaskId × TaskId). some x.1) (some_is (a, b) p e))
-pair_is (Some a) None p e = absurd cc
-pair_is None b p e = absurd cc
-
-one_task : (g : Named) → IsNamedGraph g → (name : List ℕ) (f : TaskId → Property TaskId) (body : Property TaskId) → ((t : TaskId) → t.0 < length g.graph.tasks → TasksOf g.graph (f t)) → option_map f (task_in g.names name) ≡ Some body → TasksOf g.graph body
-one_task g is name f body ok e =
-    let a = mapped f (task_in g.names name) body e in
-    subst (λ (x : Property TaskId). TasksOf g.graph x) a.2 (ok a.0 (let lt = task_below g.names name a.0 a.1 in omega (arith, is.tasks)))
-
-two_tasks : (g : Named) → IsNamedGraph g → (x y : List ℕ) (f : TaskId × TaskId → Property TaskId) (body : Property TaskId) → ((p : TaskId × TaskId) → p.0.0 < length g.graph.tasks → p.1.0 < length g.graph.tasks → TasksOf g.graph (f p)) → option_map f (pair_in (task_in g.names x) (task_in g.names y)) ≡ Some body → TasksOf g.graph body
-two_tasks g is x y f body ok e =
-    let a = mapped f (pair_in (task_in g.names x) (task_in g.names y)) body e in
-    let p = pair_is (task_in g.names x) (task_in g.names y) a.0 a.1 in
-    subst (λ (z : Property TaskId). TasksOf g.graph z) a.2 (ok a.0 (let lt = task_below g.names x a.0.0 p.0 in omega (arith, is.tasks)) (let lt = task_below g.names y a.0.1 p.1 in omega (arith, is.tasks)))
-
 pub tasks_are : (g : Named) → IsNamedGraph g → (s : Property (List ℕ)) (body : Property TaskId) → property_in g.names s ≡ Some body → TasksOf g.graph body
-tasks_are g is (EndsIn task finals) body e = one_task g is task (λ t. EndsIn t finals) body (λ t lt. lt) e
-tasks_are g is (After a b) body e = two_tasks g is a b (λ p. After p.0 p.1) body (λ p l m. (l, m)) e
-tasks_are g is (Observed task) body e = one_task g is task Observed body (λ t lt. lt) e
-tasks_are g is (Never task) body e = one_task g is task Never body (λ t lt. lt) e
-tasks_are g is (Excludes a b) body e = two_tasks g is a b (λ p. Excludes p.0 p.1) body (λ p l m. (l, m)) e
-tasks_are g is (Runs task) body e = one_task g is task Runs body (λ t lt. lt) e
+tasks_are g is s body e = try_map_all (task_in g.names) (λ t. is_task g.graph t.0) (λ name t found. let lt = task_below g.names name t found in omega (arith, is.tasks)) s body e
 
 -- there are as many sites as names of sites
 sites_named : (g : Named) → IsNamedGraph g → length (all_sites g.graph) ≡ length g.names.sites

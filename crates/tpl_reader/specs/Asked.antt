@@ -9,8 +9,7 @@ use Rattle.tpl_model.specs.declared.ids.SiteId.{SiteId}
 use Rattle.tpl_model.specs.declared.claim.Given.{Given}
 use Rattle.tpl_model.specs.declared.claim.Given.TheVariants.{Input, Quiet, Ended, Succeeds}
 use Rattle.tpl_model.specs.declared.claim.Property.{Property}
-use Rattle.tpl_model.specs.declared.claim.Property.TheVariants.{Final as EndsIn, After, Observed, Never, Excludes, Runs}
-use Rattle.tpl_model.specs.Claims.{Claim}
+use Rattle.tpl_model.specs.Claims.{Claim, try_map}
 use Rattle.tpl_graph.specs.Fits.{have_bodies, is_of_one_thing, given_twice}
 use Rattle.tpl_draft.specs.Named.{Names, Named}
 use Rattle.tpl_cert.specs.Naming.{number_of}
@@ -78,18 +77,8 @@ with_all_jobs n said given = if list_any is_no_failure said then with_jobs (leng
 abbrev pub with_all : Names → List NamedGiven → List Given → List Given
 with_all n said given = if list_any is_no_request said then with_tokens (length n.tokens) (with_all_jobs n said given) else with_all_jobs n said given
 
-abbrev pub pair_in : Option TaskId → Option TaskId → Option (TaskId × TaskId)
-pair_in (Some a) (Some b) = Some (a, b)
-pair_in (Some a) None = None
-pair_in None b = None
-
 abbrev pub property_in : Names → Property (List ℕ) → Option (Property TaskId)
-property_in n (EndsIn task finals) = option_map (λ t. EndsIn t finals) (task_in n task)
-property_in n (After a b) = option_map (λ p. After p.0 p.1) (pair_in (task_in n a) (task_in n b))
-property_in n (Observed task) = option_map Observed (task_in n task)
-property_in n (Never task) = option_map Never (task_in n task)
-property_in n (Excludes a b) = option_map (λ p. Excludes p.0 p.1) (pair_in (task_in n a) (task_in n b))
-property_in n (Runs task) = option_map Runs (task_in n task)
+property_in n p = try_map (task_in n) p
 
 -- what is given of single things
 abbrev pub singles_in : Names → List NamedGiven → Result (List Given) ClaimFault

@@ -6,7 +6,7 @@ ghost use Rattle.tpl_graph.specs.Prelude.{given_twice, is_of_one_thing};
 ghost use Rattle.tpl_json.specs.Prelude.{Yields};
 ghost use Rattle.tpl_json.specs.declared.miss.Miss.TheVariants.{Memory};
 ghost use Rattle.tpl_parts.specs.Prelude.{claim_of, given_of, property_of};
-ghost use Rattle.tpl_reader.specs.Prelude.{claim_behind, claim_in, claims_in, given_in, has_name_of, input_in, is_no_failure, is_no_request, is_said_again, is_same_name, is_single, pair_in, property_in, says_twice, singles_in, site_in, task_in, token_in, with_all, with_all_jobs, with_jobs, with_tokens};
+ghost use Rattle.tpl_reader.specs.Prelude.{claim_behind, claim_in, claims_in, given_in, has_name_of, input_in, is_no_failure, is_no_request, is_said_again, is_same_name, is_single, property_in, says_twice, singles_in, site_in, task_in, token_in, with_all, with_all_jobs, with_jobs, with_tokens};
 
 use crate::fault::ClaimFault;
 use std::alloc::Global;
@@ -68,45 +68,10 @@ fn given_in(graph: &Graph, given: &NamedGiven) -> Option<Given>
     }
 }
 
-fn pair_in(graph: &Graph, first: &str, second: &str) -> Option<(TaskId, TaskId)>
-    ensures { result ≡ pair_in (task_in graph.now.names first.now)
-        (task_in graph.now.names second.now) }
-{
-    match (task_in(graph, first), task_in(graph, second)) {
-        (Some(a), Some(b)) => Some((a, b)),
-        _ => None,
-    }
-}
-
 fn property_in(graph: &Graph, body: &NamedProperty) -> Option<Property>
     ensures { result ≡ property_in graph.now.names (property_of body.now) }
 {
-    match body {
-        NamedProperty::Final(task, finals) => match task_in(graph, task) {
-            Some(task) => Some(Property::Final(task, *finals)),
-            None => None,
-        },
-        NamedProperty::After(first, second) => match pair_in(graph, first, second) {
-            Some((a, b)) => Some(Property::After(a, b)),
-            None => None,
-        },
-        NamedProperty::Observed(task) => match task_in(graph, task) {
-            Some(task) => Some(Property::Observed(task)),
-            None => None,
-        },
-        NamedProperty::Never(task) => match task_in(graph, task) {
-            Some(task) => Some(Property::Never(task)),
-            None => None,
-        },
-        NamedProperty::Excludes(first, second) => match pair_in(graph, first, second) {
-            Some((a, b)) => Some(Property::Excludes(a, b)),
-            None => None,
-        },
-        NamedProperty::Runs(task) => match task_in(graph, task) {
-            Some(task) => Some(Property::Runs(task)),
-            None => None,
-        },
-    }
+    body.try_map(|name| task_in(graph, name))
 }
 
 fn is_single(given: &NamedGiven) -> bool

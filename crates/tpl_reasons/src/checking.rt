@@ -4,6 +4,7 @@ ghost use Rattle.std.specs.Prelude.{◌≡◌};
 ghost use Rattle.tpl_reasons.specs.Prelude.{check_reason, yes_reason};
 
 use crate::leaves::{Parts, Rows, row_text, tree_count};
+use crate::property::proved_if;
 use crate::reason::Reason;
 use crate::rules::rule_text;
 use crate::words::{Said, claim_text, count_text, name};
@@ -86,31 +87,19 @@ fn shape_text(alloc: Global, document: &Document, claim: usize) -> Said {
     rows_text(alloc, document, claim)
 }
 
-/// When a leaf that keeps the rules proves a property.
-fn proved_if(property: Property) -> &'static str {
-    match property {
-        Property::Final(_, _) => "its row has no other end",
-        Property::After(_, _) => "the later task doesn't run, or its `before` has the earlier one",
-        Property::Observed(_) => "its row has a `chain`, or no end Faulted, or doesn't run",
-        Property::Never(_) => "its row doesn't run",
-        Property::Excludes(_, _) => "one of the two rows doesn't run",
-        Property::Runs(_) => {
-            "it is a root or a continuation whose row has no end Canceled, or the row of a task that is no child has no end"
-        }
-    }
-}
-
 /// What the rows of a leaf say of the tasks of which the property speaks.
 fn rows_said(alloc: Global, graph: &Graph, rows: Rows<'_>, property: Property) -> Said {
-    let (one, other) = property.tasks();
-    let first = row_text(alloc, graph, rows, one)?;
-    match other {
-        Some(other) if other != one => {
-            let second = row_text(alloc, graph, rows, other)?;
-            format!(in alloc; "{first}{second}")
+    let tasks = property.tasks();
+    let mut said = String::new(alloc);
+    for (place, task) in tasks.iter().enumerate() {
+        let is_told = tasks[..place].contains(task);
+        if let Some(task) = task
+            && !is_told
+        {
+            said.push_str(&row_text(alloc, graph, rows, *task)?)?;
         }
-        _ => Ok(first),
     }
+    Ok(said)
 }
 
 /// How the leaf keeps the rules.

@@ -9,6 +9,7 @@ mod journal;
 mod leaves;
 mod misread;
 mod obstacle;
+mod property;
 mod reason;
 mod refusal;
 mod rules;

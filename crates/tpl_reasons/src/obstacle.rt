@@ -2,12 +2,13 @@
 
 ghost use Rattle.tpl_graph.specs.Prelude.{Fits};
 
+use crate::property::{Obstacle, obstacle_to};
 use crate::rules::role;
 use crate::words::{Said, name, token_name};
 use std::alloc::{AllocError, Global};
 use tpl_checker::{Assumptions, assumed_for};
 use tpl_graph::{Claim, Graph, Role};
-use tpl_model::{Final, Property, RuleSet, TaskId};
+use tpl_model::{RuleSet, TaskId};
 
 /// The name of the task's token, if that may be requested.
 fn loud_token<'g>(graph: &'g Graph, assumed: &Assumptions, task: TaskId) -> Option<&'g str> {
@@ -82,15 +83,17 @@ pub fn obstacle_words(
     requires { Fits graph.now.graph claim.now }
 {
     let assumed = assumed_for(graph, claim, rules);
-    match claim.body() {
-        Property::After(one, other) | Property::Excludes(one, other) if one == other => {
-            let task = name(graph, one);
+    match obstacle_to(claim.body()) {
+        Some(Obstacle::Twice(task)) => {
+            let task = name(graph, task);
             format!(in alloc;
                 "{task} stands there twice, so the claim says that {task} never begins: `never` says that\n"
             )
         }
-        Property::After(first, second) => order_text(alloc, graph, &assumed, first, second),
-        Property::Final(task, ends) if !ends.contains(Final::Canceled) => {
+        Some(Obstacle::Early(first, second)) => {
+            order_text(alloc, graph, &assumed, first, second)
+        }
+        Some(Obstacle::Canceled(task)) => {
             let Some(token) = loud_token(graph, &assumed, task) else {
                 return Ok(String::new(alloc));
             };
@@ -99,6 +102,6 @@ pub fn obstacle_words(
                 "{task} may be canceled: it has the token {token}, which may be requested\n"
             )
         }
-        _ => Ok(String::new(alloc)),
+        None => Ok(String::new(alloc)),
     }
 }

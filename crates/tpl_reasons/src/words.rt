@@ -1,10 +1,9 @@
 //! Names, claims, and sets of tasks and of ends, in words.
 
+use crate::property::property_text;
 use std::alloc::{AllocError, Global};
 use tpl_graph::{Claim, Graph};
-use tpl_model::{
-    Actor, Final, Finals, Given, InputId, Inputs, Property, SiteId, TaskId, TaskSet, TokenId,
-};
+use tpl_model::{Actor, Final, Finals, Given, InputId, Inputs, SiteId, TaskId, TaskSet, TokenId};
 use tpl_paths::TokenSet;
 use tpl_reader::Document;
 
@@ -129,36 +128,6 @@ pub(crate) fn list_text(alloc: Global, graph: &Graph, tasks: &[TaskId]) -> Said 
         add_word(&mut list, ", ", name(graph, *task))?;
     }
     or_nothing(alloc, list)
-}
-
-/// What a property says of a run.
-fn property_text(alloc: Global, graph: &Graph, property: Property) -> Said {
-    match property {
-        Property::Final(task, ends) => {
-            let (task, ends) = (name(graph, task), ends_text(alloc, ends)?);
-            format!(in alloc; "{task} ends {ends}")
-        }
-        Property::After(first, second) => {
-            let (first, second) = (name(graph, first), name(graph, second));
-            format!(in alloc; "{second} begins only after {first} is settled")
-        }
-        Property::Observed(task) => {
-            let task = name(graph, task);
-            format!(in alloc; "the exception of {task} is observed")
-        }
-        Property::Never(task) => {
-            let task = name(graph, task);
-            format!(in alloc; "{task} never begins")
-        }
-        Property::Excludes(one, other) => {
-            let (one, other) = (name(graph, one), name(graph, other));
-            format!(in alloc; "{one} and {other} don't both begin")
-        }
-        Property::Runs(task) => {
-            let task = name(graph, task);
-            format!(in alloc; "{task} begins in each complete run")
-        }
-    }
 }
 
 /// One thing that a claim takes as given.

@@ -7,7 +7,6 @@ use Rattle.tpl_graph.specs.Fits.{TasksOf}
 use Rattle.tpl_model.specs.Graph.{TaskGraph, is_task}
 use Rattle.tpl_model.specs.declared.ids.TaskId.{TaskId}
 use Rattle.tpl_model.specs.declared.claim.Property.{Property}
-use Rattle.tpl_model.specs.declared.claim.Property.TheVariants.{Final as EndsIn, After, Observed, Never, Excludes, Runs}
 use Rattle.tpl_verify.specs.declared.verdict.Empty as reasons
 use Rattle.tpl_verify.specs.declared.verdict.Empty.TheVariants.{NeverBegins, NamesAllEnds, NeverThrows, NeverKept}
 use Rattle.tpl_verify.specs.declared.verdict.Verdict.{Verdict}
@@ -19,13 +18,7 @@ use Rattle.tpl_verdicts.specs.Lines.{AreNumbered}
 
 -- a task whose begin a property needs is one of which it speaks
 pub needs_task : (g : TaskGraph) (body : Property TaskId) (t : ℕ) → TasksOf g body → NeedsBegin body t → is_task g t
-needs_task g (EndsIn a ends) t tasks needs = subst (is_task g) (sym needs.0) tasks
-needs_task g (After a b) t tasks needs = subst (is_task g) (sym needs) tasks.1
-needs_task g (Observed a) t tasks needs = subst (is_task g) (sym needs) tasks
-needs_task g (Never a) t tasks needs = absurd needs
-needs_task g (Runs a) t tasks needs = absurd needs
-needs_task g (Excludes a b) t tasks (inl needs) = subst (is_task g) (sym needs) tasks.0
-needs_task g (Excludes a b) t tasks (inr needs) = subst (is_task g) (sym needs) tasks.1
+needs_task = grind arith
 
 why_depth : (names : Names) (why : reasons.Empty) → depth (why_data names why) ≤ 1
 why_depth names (NeverBegins t) = omega arith

@@ -177,15 +177,47 @@ const MEMBERS: [(&str, Form); 56] = [
     ("note", Form::Note),
 ];
 
-/// The forms of trees.
-const TREES: [Form; 4] = [
-    Form::Leaf,
-    Form::SplitInput,
-    Form::SplitEnd,
-    Form::SplitWinner,
+/// The names of the members of a document, last those that version 3 adds.
+const TOP: [&str; 11] = [
+    "version",
+    "tasks",
+    "inputs",
+    "tokens",
+    "claims",
+    "certificate",
+    "journal",
+    "start",
+    "note",
+    "ended",
+    "times",
 ];
 
-/// The forms of claims.
+/// The names of the members of a task of any kind.
+const TASK: [&str; 8] = [
+    "name", "kind", "after", "of", "body", "token", "options", "note",
+];
+
+/// The names of the members of a continuation.
+const THEN: [&str; 7] = ["name", "kind", "after", "body", "token", "options", "note"];
+
+/// The names of the members of a row, last those that version 3 adds.
+const ROW: [&str; 7] = ["ends", "runs", "before", "past", "chain", "asked", "asks"];
+
+/// How many of a form's names version 3 adds, where it adds the form itself: more than any form has.
+const ALL: usize = usize::MAX;
+
+/// The forms of statements that are objects.
+const STATEMENTS: [Form; 7] = [
+    Form::Throw,
+    Form::Check,
+    Form::Cancel,
+    Form::StartChild,
+    Form::Work,
+    Form::If,
+    Form::When,
+];
+
+/// The forms of claims, last those that version 3 adds.
 const CLAIMS: [Form; 6] = [
     Form::FinalClaim,
     Form::AfterClaim,
@@ -193,6 +225,22 @@ const CLAIMS: [Form; 6] = [
     Form::NeverClaim,
     Form::ExcludesClaim,
     Form::RunsClaim,
+];
+
+/// The forms of objects that are given, last those that version 3 adds.
+const GIVENS: [Form; 4] = [
+    Form::GivenInput,
+    Form::GivenToken,
+    Form::GivenEnd,
+    Form::GivenJob,
+];
+
+/// The forms of trees that are objects, last those that version 3 adds.
+const TREES: [Form; 4] = [
+    Form::Leaf,
+    Form::SplitInput,
+    Form::SplitEnd,
+    Form::SplitWinner,
 ];
 
 /// What stands at a member of this name.
@@ -205,7 +253,64 @@ fn form_of(name: &str) -> Form {
     Form::Anything
 }
 
+/// Those of the forms that version 3 doesn't add: all before the first that it adds.
+fn earlier(forms: &'static [Form]) -> &'static [Form] {
+    for (count, form) in forms.iter().enumerate() {
+        if form.names(false).is_empty() {
+            return &forms[..count];
+        }
+    }
+    forms
+}
+
 impl Form {
+    /// Of an object's form: how many members it has to have, how many names version 3 adds, and the names of its members.
+    fn row(self) -> (usize, usize, &'static [&'static str]) {
+        match self {
+            Form::Top => (2, 3, &TOP),
+            Form::Graph => (2, 0, &["inputs", "tokens", "tasks"]),
+            Form::LinkedToken => (2, 0, &["name", "linked"]),
+            Form::Task => (2, 1, &TASK),
+            Form::Started => (3, 1, &["name", "kind", "body", "token", "options", "note"]),
+            Form::Then => (4, 1, &THEN),
+            Form::Join => (3, 1, &["name", "kind", "of", "note"]),
+            Form::Throw => (1, 0, &["throw"]),
+            Form::Check => (1, 0, &["check"]),
+            Form::Cancel => (1, 0, &["cancel"]),
+            Form::StartChild => (1, 0, &["start"]),
+            Form::Work => (1, 0, &["work", "may_fail"]),
+            Form::If => (2, 0, &["if", "then", "else"]),
+            Form::When => (2, 0, &["when", "then", "else"]),
+            Form::FinalClaim => (2, 2, &["final", "in", "given", "name", "note"]),
+            Form::AfterClaim => (1, 2, &["after", "given", "name", "note"]),
+            Form::ObservedClaim => (1, 2, &["observed", "given", "name", "note"]),
+            Form::NeverClaim => (1, 2, &["never", "given", "name", "note"]),
+            Form::ExcludesClaim => (1, 2, &["excludes", "given", "name", "note"]),
+            Form::RunsClaim => (1, ALL, &["runs", "given", "name", "note"]),
+            Form::GivenInput => (2, 0, &["input", "is"]),
+            Form::GivenToken => (1, 0, &["quiet"]),
+            Form::GivenEnd => (2, ALL, &["ended", "in"]),
+            Form::GivenJob => (1, ALL, &["succeeds"]),
+            Form::SplitInput => (3, 0, &["split_input", "yes", "no"]),
+            Form::SplitEnd => (4, 0, &["split_end", "ran", "canceled", "faulted"]),
+            Form::SplitWinner => (4, ALL, &["split_winner", "task", "yes", "no"]),
+            Form::Leaf => (1, 0, &["rows"]),
+            Form::Row => (2, 2, &ROW),
+            Form::Start => (0, 0, &["inputs", "request", "fail"]),
+            _ => (0, 0, &[]),
+        }
+    }
+
+    /// How many of the names, the last ones, version 3 adds; more than there are, where it adds the form itself.
+    fn added(self) -> usize {
+        self.row().1
+    }
+
+    /// The names of the members in version 3, those that it adds last.
+    fn all_names(self) -> &'static [&'static str] {
+        self.row().2
+    }
+
     /// The names of the members of an object of this form in a document of version 1 or 2, or of version 3; first those
     /// that it has to have. None where it isn't the form of an object.
     pub(crate) fn names(self, third: bool) -> &'static [&'static str] {
@@ -219,73 +324,6 @@ impl Form {
         }
     }
 
-    /// How many of the names, the last ones, version 3 adds; more than there are, where it adds the form itself.
-    fn added(self) -> usize {
-        match self {
-            Form::RunsClaim | Form::GivenEnd | Form::GivenJob | Form::SplitWinner => usize::MAX,
-            Form::Top => 3,
-            Form::FinalClaim
-            | Form::AfterClaim
-            | Form::ObservedClaim
-            | Form::NeverClaim
-            | Form::ExcludesClaim
-            | Form::Row => 2,
-            Form::Task | Form::Started | Form::Then | Form::Join => 1,
-            _ => 0,
-        }
-    }
-
-    /// The names of the members in version 3, those that it adds last.
-    fn all_names(self) -> &'static [&'static str] {
-        match self {
-            Form::Top => &[
-                "version",
-                "tasks",
-                "inputs",
-                "tokens",
-                "claims",
-                "certificate",
-                "journal",
-                "start",
-                "note",
-                "ended",
-                "times",
-            ],
-            Form::Graph => &["inputs", "tokens", "tasks"],
-            Form::LinkedToken => &["name", "linked"],
-            Form::Task => &[
-                "name", "kind", "after", "of", "body", "token", "options", "note",
-            ],
-            Form::Started => &["name", "kind", "body", "token", "options", "note"],
-            Form::Then => &["name", "kind", "after", "body", "token", "options", "note"],
-            Form::Join => &["name", "kind", "of", "note"],
-            Form::Throw => &["throw"],
-            Form::Check => &["check"],
-            Form::Cancel => &["cancel"],
-            Form::StartChild => &["start"],
-            Form::Work => &["work", "may_fail"],
-            Form::If => &["if", "then", "else"],
-            Form::When => &["when", "then", "else"],
-            Form::FinalClaim => &["final", "in", "given", "name", "note"],
-            Form::AfterClaim => &["after", "given", "name", "note"],
-            Form::ObservedClaim => &["observed", "given", "name", "note"],
-            Form::NeverClaim => &["never", "given", "name", "note"],
-            Form::ExcludesClaim => &["excludes", "given", "name", "note"],
-            Form::RunsClaim => &["runs", "given", "name", "note"],
-            Form::GivenInput => &["input", "is"],
-            Form::GivenToken => &["quiet"],
-            Form::GivenEnd => &["ended", "in"],
-            Form::GivenJob => &["succeeds"],
-            Form::SplitInput => &["split_input", "yes", "no"],
-            Form::SplitEnd => &["split_end", "ran", "canceled", "faulted"],
-            Form::SplitWinner => &["split_winner", "task", "yes", "no"],
-            Form::Leaf => &["rows"],
-            Form::Row => &["ends", "runs", "before", "past", "chain", "asked", "asks"],
-            Form::Start => &["inputs", "request", "fail"],
-            _ => &[],
-        }
-    }
-
     /// Whether it is the form of an object with members of its own.
     pub(crate) fn is_object(self) -> bool {
         !self.names(true).is_empty()
@@ -293,25 +331,7 @@ impl Form {
 
     /// How many of its members an object of this form has to have: those whose names come first.
     pub(crate) fn needed(self) -> usize {
-        match self {
-            Form::Start => 0,
-            Form::Throw
-            | Form::Check
-            | Form::Cancel
-            | Form::StartChild
-            | Form::Work
-            | Form::AfterClaim
-            | Form::ObservedClaim
-            | Form::NeverClaim
-            | Form::ExcludesClaim
-            | Form::RunsClaim
-            | Form::GivenToken
-            | Form::GivenJob
-            | Form::Leaf => 1,
-            Form::Started | Form::Join | Form::SplitInput => 3,
-            Form::Then | Form::SplitEnd | Form::SplitWinner => 4,
-            _ => 2,
-        }
+        self.row().0
     }
 
     /// The form of the member of this name.
@@ -330,37 +350,21 @@ impl Form {
         }
     }
 
-    /// The forms of which a value has one, as one of its members says.
-    pub(crate) fn choices(self, third: bool) -> &'static [Form] {
+    /// The forms of which a value has one in some version, as one of its members says.
+    fn all_choices(self) -> &'static [Form] {
         match self {
-            Form::Statement => &[
-                Form::Throw,
-                Form::Check,
-                Form::Cancel,
-                Form::StartChild,
-                Form::Work,
-                Form::If,
-                Form::When,
-            ],
-            Form::Claim if third => &CLAIMS,
-            Form::Claim => &[
-                Form::FinalClaim,
-                Form::AfterClaim,
-                Form::ObservedClaim,
-                Form::NeverClaim,
-                Form::ExcludesClaim,
-            ],
-            Form::Given if third => &[
-                Form::GivenInput,
-                Form::GivenToken,
-                Form::GivenEnd,
-                Form::GivenJob,
-            ],
-            Form::Given => &[Form::GivenInput, Form::GivenToken],
-            Form::Tree if third => &TREES,
-            Form::Tree => &[Form::Leaf, Form::SplitInput, Form::SplitEnd],
+            Form::Statement => &STATEMENTS,
+            Form::Claim => &CLAIMS,
+            Form::Given => &GIVENS,
+            Form::Tree => &TREES,
             _ => &[],
         }
+    }
+
+    /// The forms of which a value has one in a document of version 1 or 2, or of version 3, as one of its members says.
+    pub(crate) fn choices(self, third: bool) -> &'static [Form] {
+        let all = self.all_choices();
+        if third { all } else { earlier(all) }
     }
 
     /// The name of the member by which an object of several forms has this one: the first.
@@ -453,7 +457,7 @@ impl Form {
     }
 
     /// Whether it is the form of a claim that says one thing.
-    fn is_claim(self) -> bool {
+    pub(crate) fn is_claim(self) -> bool {
         CLAIMS.iter().any(|claim| claim.is(self))
     }
 

@@ -66,13 +66,8 @@ impl Form {
             Form::Then => "a task of kind \"then\"",
             Form::Join => "a task of kind \"all\" or \"any\"",
             Form::Row => "an object",
-            Form::FinalClaim
-            | Form::AfterClaim
-            | Form::ObservedClaim
-            | Form::NeverClaim
-            | Form::ExcludesClaim
-            | Form::RunsClaim => "this claim (each says one thing)",
             Form::Start => "the start, an object with \"inputs\", \"request\" and \"fail\"",
+            _ if self.is_claim() => "this claim (each says one thing)",
             _ => "this object",
         }
     }

@@ -7,7 +7,7 @@ use Rattle.tpl_graph.specs.Fits.{given_twice}
 use Rattle.tpl_parts.specs.SeenClaims.{given_of, property_of, claim_of}
 use Rattle.tpl_reader.specs.Asked.{singles_in, says_twice, claim_in}
 use Rattle.tpl_json.proofs.Passes.{fails_bind, want_of_memory}
-use Rattle.tpl_reader.proofs.Asking.{tasks_are, asked}
+use Rattle.tpl_reader.proofs.Asking.{asked}
 use Rattle.tpl_reader.proofs.asked.claim_in.Goals as goal
 
 pub returns-in_err-singles : goal.returns-in_err-singles
@@ -21,9 +21,6 @@ unfolding claim_in
 returns-in-None c =
     let singles = rw c.deref.ensures.value at c.in_ok-singles.ensures in
     rw (singles, ← c.in-None.ensures) refl
-
-pub have_bodies-requires : goal.have_bodies-requires
-have_bodies-requires c = tasks_are c.args.graph.now c.valid_law.ensures (property_of c.args.claim.now.body) c.in-Some.body (sym c.in-Some.ensures)
 
 pub returns-then-not-have_bodies : goal.returns-then-not-have_bodies
 unfolding claim_in
