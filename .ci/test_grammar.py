@@ -79,7 +79,7 @@ def forms(kind):
     found = set()
     for text in definitions(KINDS[kind][0]).values():
         found |= {frozenset([name]) for name in re.findall(r'name_at \(codes "(\w+)"\)', text)}
-        said = re.findall(r'(?:task|pair)_said version \(codes "(\w+)"\)', text)
+        said = re.findall(r'\w+_said version \(codes "(\w+)"\)', text)
         found |= {frozenset({"given", name} | added("claim")) for name in said}
         for names, more in re.findall(MEMBERS, text):
             version_3 = set() if more == "[]" else added("top" if more.startswith("added") else more.split("_")[0])
@@ -177,7 +177,7 @@ def third_rows():
 def third_claims():
     """The members by which the claims go that only version 3 has."""
     text = read("crates/tpl_parts/specs/Claims.antt")
-    return set(re.findall(r'is_third version then \w+ <\$> task_said version \(codes "(\w+)"\)', text))
+    return set(re.findall(r'is_third version then .* <\$> \w+_said version \(codes "(\w+)"\)', text))
 
 
 def third_given():
@@ -269,41 +269,36 @@ MORE_FORMS = {"Task", "Graph"}
 
 
 def table():
-    """The members of each form in version 3, by its name, those that it needs first."""
-    text = read(FORMS).partition("fn all_names")[2].partition("fn is_object")[0]
-    found = {name: re.findall(r'"(\w+)"', names) for name, names in re.findall(r"Form::(\w+) => &\[([^\]]*)\]", text)}
-    return {name: names for name, names in found.items() if name not in MORE_FORMS}
-
-
-def counted(function, otherwise):
-    """The number that a function of the table gives each form that it names, and how it calls the rest."""
-    arms = read(FORMS).partition(f"fn {function}")[2].partition(f"_ => {otherwise}")[0]
-    found = re.findall(r"((?:Form::\w+\s*\|?\s*)+)=> ([\w:]+)", arms)
-    return {name: count for named, count in found for name in re.findall(r"Form::(\w+)", named)}
-
-
-def needed(name):
-    """How many of its members an object of this form has to have."""
-    return int(counted("needed", 2).get(name, 2))
+    """Of each form in version 3, by its name: its members, those that it needs first; how many it needs; how many version 3
+    adds, the last ones."""
+    text = read(FORMS)
+    lists = dict(re.findall(r"const (\w+): \[&str; \d+\] = (\[[^\]]*\]);", text))
+    arms = text.partition("fn row")[2].partition("fn names")[0]
+    found = {}
+    for name, needs, adds, listing in re.findall(r"Form::(\w+) => \((\d+), (\w+), &(\[[^\]]*\]|\w+)\)", arms):
+        names = re.findall(r'"(\w+)"', lists.get(listing, listing))
+        found[name] = names, int(needs), len(names) if adds == "ALL" else int(adds)
+    assert len(found) == arms.count("Form::")
+    return {name: row for name, row in found.items() if name not in MORE_FORMS}
 
 
 def added_names(name):
     """The members of this form that version 3 adds."""
-    count = counted("added", 0).get(name, "0")
-    return table()[name] if count == "usize::MAX" else table()[name][len(table()[name]) - int(count) :]
+    names, _, adds = table()[name]
+    return names[len(names) - adds :]
 
 
 def test_reasons_have_the_members():
-    assert {frozenset(names) for names in table().values()} == set().union(*(forms(kind) for kind in KINDS))
+    assert {frozenset(names) for names, _, _ in table().values()} == set().union(*(forms(kind) for kind in KINDS))
 
 
 def test_reasons_say_what_version_3_adds():
     assert set(added_names("Row")) == third_rows()
-    splits = {name: names for name, names in table().items() if name.startswith("Split")}
+    splits = {name: names for name, (names, _, _) in table().items() if name.startswith("Split")}
     assert {names[0] for name, names in splits.items() if added_names(name) == names} == third_trees()
 
 
 def test_reasons_say_what_may_be_left_out():
     kinds = {members: kind for kind in KINDS for members in forms(kind)}
-    for name, names in table().items():
-        assert set(names[needed(name) :]) == set(names) & left_out(kinds[frozenset(names)]), name
+    for name, (names, needs, _) in table().items():
+        assert set(names[needs:]) == set(names) & left_out(kinds[frozenset(names)]), name
