@@ -71,7 +71,7 @@ fn are_tasks(graph: &Graph, tasks: &[Option<TaskId>]) -> bool
     }
 }
 
-/// Whether the task has a body; there is no other task without one.
+/// Whether the task has a body. One that the graph doesn't have counts as a task with a body.
 fn has_body(graph: &Graph, task: TaskId) -> bool
     ensures { result ≡ has_body (kind graph.now.graph task.0) }
 {
