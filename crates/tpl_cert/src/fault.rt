@@ -26,12 +26,12 @@ pub enum TreeFault {
     Memory,
 }
 
-impl From<Miss<Shape>> for TreeFault {
+impl From<Miss<Shape<'_, '_>>> for TreeFault {
     ghost from_gives = { λ miss e. e ≡ shape_fault miss };
 
-    fn from(miss: Miss<Shape>) -> TreeFault {
+    fn from(miss: Miss<Shape<'_, '_>>) -> TreeFault {
         match miss {
-            Miss::Wrong(Shape) => TreeFault::Shape,
+            Miss::Wrong(_) => TreeFault::Shape,
             Miss::Memory => TreeFault::Memory,
         }
     }

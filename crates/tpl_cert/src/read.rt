@@ -1,6 +1,6 @@
 //! Reading a certificate tree with names.
 
-ghost use Rattle.std.specs.Prelude.{◌≡◌, None, map, option_and_then};
+ghost use Rattle.std.specs.Prelude.{◌≡◌, None, map, option_and_then, option_map};
 ghost use Rattle.serde_json.specs.Find.{get};
 ghost use Rattle.tpl_cert.specs.Prelude.{end_at, input_at, is_least, leaf_at, node_at, row_at, row_names, row_of, tree_of, whole_tree, winner_at};
 ghost use Rattle.tpl_json.specs.Prelude.{Gives, each, texts_in, view};
@@ -31,7 +31,7 @@ fn tokens_in<'v, 't>(
     rules: RuleSet,
     value: &'v Value<'t>,
     name: &str,
-) -> Result<Vec<&'v str>, Miss<Shape>>
+) -> Result<Vec<&'v str>, Miss<Shape<'v, 't>>>
     requires { rules ≡ Narrow → get name.now (view value.now) ≡ None }
     ensures { Gives (λ v. map (λ s. s.now) v.items) result (texts_in name.now (view value.now)) }
 {
@@ -46,11 +46,11 @@ fn row_of<'v, 't>(
     alloc: Global,
     rules: RuleSet,
     value: &'v Value<'t>,
-) -> Result<NamedRow<'v>, Miss<Shape>>
+) -> Result<NamedRow<'v>, Miss<Shape<'v, 't>>>
     ensures { Gives row_of result (row_at rules (view value.now)) }
 {
     if !has_only(value, row_names(rules)) {
-        return Err(Miss::Wrong(Shape));
+        return Err(Miss::Wrong(Shape { at: value }));
     }
     let list = member_in(value, "ends")?;
     let ends = finals_of(list_of(list)?)?;
@@ -75,7 +75,7 @@ fn rows_of<'v, 't>(
     alloc: Global,
     rules: RuleSet,
     values: &'v [Value<'t>],
-) -> Result<Vec<NamedRow<'v>>, Miss<Shape>>
+) -> Result<Vec<NamedRow<'v>>, Miss<Shape<'v, 't>>>
     ensures { Gives (λ v. map row_of v.items) result (each (row_at rules) (map view values.now)) }
 {
     read_each(alloc, values, |_, value| row_of(alloc, rules, value))
@@ -100,14 +100,14 @@ fn leaf_of<'v, 't>(
     alloc: Global,
     rules: RuleSet,
     value: &'v Value<'t>,
-) -> Result<NamedTree<'v>, Miss<Shape>>
+) -> Result<NamedTree<'v>, Miss<Shape<'v, 't>>>
     ensures { Gives tree_of result (leaf_at rules (view value.now)) }
 {
     if is_least(rules, value) {
         return Ok(NamedTree::Least);
     }
     if !has_only(value, &["rows"]) {
-        return Err(Miss::Wrong(Shape));
+        return Err(Miss::Wrong(Shape { at: value }));
     }
     let list = member_in(value, "rows")?;
     let rows = rows_of(alloc, rules, list_of(list)?)?;
@@ -120,7 +120,7 @@ fn branch_of<'v, 't>(
     rules: RuleSet,
     value: &'v Value<'t>,
     name: &str,
-) -> Result<Box<NamedTree<'v>>, Miss<Shape>>
+) -> Result<Box<NamedTree<'v>>, Miss<Shape<'v, 't>>>
     ensures { Gives (λ b. tree_of b.value) result
         (option_and_then (whole_tree rules) (get name.now (view value.now))) }
 {
@@ -136,11 +136,11 @@ fn input_of<'v, 't>(
     alloc: Global,
     rules: RuleSet,
     value: &'v Value<'t>,
-) -> Result<NamedTree<'v>, Miss<Shape>>
+) -> Result<NamedTree<'v>, Miss<Shape<'v, 't>>>
     ensures { Gives tree_of result (input_at (whole_tree rules) (view value.now)) }
 {
     if !has_only(value, &["split_input", "yes", "no"]) {
-        return Err(Miss::Wrong(Shape));
+        return Err(Miss::Wrong(Shape { at: value }));
     }
     let name = text_in(value, "split_input")?;
     let first = branch_of(alloc, rules, value, "yes")?;
@@ -154,11 +154,11 @@ fn end_of<'v, 't>(
     alloc: Global,
     rules: RuleSet,
     value: &'v Value<'t>,
-) -> Result<NamedTree<'v>, Miss<Shape>>
+) -> Result<NamedTree<'v>, Miss<Shape<'v, 't>>>
     ensures { Gives tree_of result (end_at (whole_tree rules) (view value.now)) }
 {
     if !has_only(value, &["split_end", "ran", "canceled", "faulted"]) {
-        return Err(Miss::Wrong(Shape));
+        return Err(Miss::Wrong(Shape { at: value }));
     }
     let name = text_in(value, "split_end")?;
     let ran = branch_of(alloc, rules, value, "ran")?;
@@ -173,11 +173,11 @@ fn winner_of<'v, 't>(
     alloc: Global,
     rules: RuleSet,
     value: &'v Value<'t>,
-) -> Result<NamedTree<'v>, Miss<Shape>>
+) -> Result<NamedTree<'v>, Miss<Shape<'v, 't>>>
     ensures { Gives tree_of result (winner_at (whole_tree rules) (view value.now)) }
 {
     if !has_only(value, &["split_winner", "task", "yes", "no"]) {
-        return Err(Miss::Wrong(Shape));
+        return Err(Miss::Wrong(Shape { at: value }));
     }
     let task = text_in(value, "split_winner")?;
     let argument = text_in(value, "task")?;
@@ -192,7 +192,7 @@ fn node_of<'v, 't>(
     alloc: Global,
     rules: RuleSet,
     value: &'v Value<'t>,
-) -> Result<NamedTree<'v>, Miss<Shape>>
+) -> Result<NamedTree<'v>, Miss<Shape<'v, 't>>>
     ensures { Gives tree_of result (node_at rules (whole_tree rules) (view value.now)) }
 {
     if find(value, "split_input").is_some() {
@@ -213,8 +213,21 @@ pub(crate) fn named_tree<'v, 't>(
     alloc: Global,
     rules: RuleSet,
     value: &'v Value<'t>,
-) -> Result<NamedTree<'v>, Miss<Shape>>
+) -> Result<NamedTree<'v>, Miss<Shape<'v, 't>>>
     ensures { Gives tree_of result (whole_tree rules (view value.now)) }
 {
     node_of(alloc, rules, value)
+}
+
+/// Whether the value has the shape of a tree, however deep it nests; else the value in it whose shape is wrong. Out of
+/// memory is the only other error.
+pub fn tree_shape<'v, 't>(
+    alloc: Global,
+    rules: RuleSet,
+    value: &'v Value<'t>,
+) -> Result<(), Miss<Shape<'v, 't>>>
+    ensures { Gives (λ u. u) result (option_map (λ _. tt) (whole_tree rules (view value.now))) }
+{
+    let _tree = named_tree(alloc, rules, value)?;
+    Ok(())
 }

@@ -1,5 +1,5 @@
 -- A pass over a list, which reads one item after another.
-use Rattle.std.proofs.Common.{◌≡◌, ◌⊎◌, ℕ, zero, suc, ◌+◌, ◌<◌, ◌≤◌, List, [], ◌∷◌, ◌++◌, length, get_or, take, map, Result, Ok, Err, ok_or, Option, Some, None, option_and_then, inl, inr, refl, arith}
+use Rattle.std.proofs.Common.{◌≡◌, ◌⊎◌, ℕ, zero, suc, ◌+◌, ◌<◌, ◌≤◌, List, [], ◌∷◌, ◌++◌, length, get_or, take, map, Result, Ok, Err, ok_or, Option, Some, None, inl, inr, refl, arith}
 use Rattle.std.proofs.lemmas.List.{map-id, take_more, take_all, length-take-le}
 use Rattle.std.specs.declared.alloc.Global.{Global}
 use Rattle.std.specs.declared.vec.Vec.{Vec}
@@ -7,8 +7,8 @@ use Rattle.serde_json.specs.Data.{Data}
 use Rattle.tpl_json.specs.declared.miss.Miss.{Miss}
 use Rattle.tpl_json.specs.declared.miss.Shape.{Shape}
 use Rattle.tpl_json.specs.declared.miss.Miss.TheVariants as miss
-use Rattle.tpl_json.specs.Members.{each, Gives}
-use Rattle.tpl_json.specs.Passes.{◌>>=◌, each_from, at_number, or_fault, numbered, Fails, Yields, AllRead, OneFails, ReadsEach}
+use Rattle.tpl_json.specs.Members.{each, Gives, Misses}
+use Rattle.tpl_json.specs.Passes.{each_from, at_number, or_fault, numbered, Fails, Yields, AllRead, OneFails, ReadsEach}
 
 -- ---- with another fault
 
@@ -90,38 +90,37 @@ pub each_yields_same : {X T F D : Type 0} {reads : ℕ → X → Result T (Miss 
 each_yields_same read see {r = Ok v} all one = rw map-id at (each_yields read see (λ t. t) all one)
 each_yields_same read see {r = Err e} all one = each_yields read see (λ t. t) all one
 
--- ---- the same of values, none of which can be wrong in but one way
+-- ---- the same of values, where any wrong shape is as good as another
 
-shape : Shape
-shape = record {}
+module _ {X T A : Type 0} (reads : ℕ → X → Result T (Miss Shape) → Type 0) (read : Data → Option A) (see : X → Data) (seen : T → A) where
+  abbrev GivesEach : Type 0
+  GivesEach = (n : ℕ) (x : X) (r : Result T (Miss Shape)) → reads n x r → Gives seen r (read (see x))
 
-gives_yields : {X Y : Type 0} (seen : X → Y) (r : Result X (Miss Shape)) (o : Option Y) → Gives seen r o → Yields seen r (ok_or o shape)
-gives_yields seen (Ok x) o gives = rw gives refl
-gives_yields seen (Err (miss.Wrong s)) o gives = rw gives refl
-gives_yields seen (Err miss.Memory) o gives = tt
+  all_given : (n : ℕ) (xs : List X) (ts : List T) → AllRead reads n xs ts → GivesEach → each read (map see xs) ≡ Some (map seen ts)
+  unfolding each
+  all_given n [] [] all one = refl
+  all_given n [] (t ∷ ts) all one = absurd all
+  all_given n (x ∷ xs) [] all one = absurd all
+  all_given n (x ∷ xs) (t ∷ ts) all one = rw (one n x (Ok t) all.0, all_given (n + 1) xs ts all.1 one) refl
 
-yields_gives : {X Y : Type 0} (seen : X → Y) (r : Result X (Miss Shape)) (o : Option Y) → Yields seen r (ok_or o shape) → Gives seen r o
-yields_gives seen (Ok x) (Some y) yields = cc
-yields_gives seen (Ok x) None yields = absurd cc
-yields_gives seen (Err (miss.Wrong s)) (Some y) yields = absurd cc
-yields_gives seen (Err (miss.Wrong s)) None yields = refl
-yields_gives seen (Err miss.Memory) o yields = tt
+  none_given : (n : ℕ) (xs : List X) (shape : Shape) → OneFails reads n xs (miss.Wrong shape) → GivesEach → each read (map see xs) ≡ None
+  unfolding each
+  none_given n [] shape fails one = absurd fails
+  none_given n (x ∷ xs) shape (inl first) one = rw (one n x (Err (miss.Wrong shape)) first) refl
+  none_given n (x ∷ xs) shape (inr (t, first, rest)) one = rw (one n x (Ok t) first, none_given (n + 1) xs shape rest one) refl
 
-or_both : {A : Type 0} (o : Option A) (os : Option (List A)) → (ok_or o shape >>= λ x. ok_or os shape >>= λ xs. Ok (x ∷ xs)) ≡ ok_or (option_and_then (λ x. option_and_then (λ xs. Some (x ∷ xs)) os) o) shape
-or_both (Some x) (Some xs) = refl
-or_both (Some x) None = refl
-or_both None os = refl
+  miss_so : (xs : List X) (e : Miss Shape) → (e ≡ miss.Memory) ⊎ OneFails reads 1 xs e → GivesEach → Misses e (each read (map see xs))
+  miss_so xs miss.Memory fails one = tt
+  miss_so xs (miss.Wrong shape) (inl memory) one = absurd cc
+  miss_so xs (miss.Wrong shape) (inr fails) one = none_given 1 xs shape fails one
 
-each_or : {A : Type 0} (read : Data → Option A) (n : ℕ) (ds : List Data) → each_from (λ n d. ok_or (read d) shape) n ds ≡ ok_or (each read ds) shape
-unfolding each_from each
-each_or read n [] = refl
-each_or read n (d ∷ ds) = rw (each_or read (n + 1) ds) (or_both (read d) (each read ds))
+  gives : (xs : List X) (r : Result (Vec T Global) (Miss Shape)) → ReadsEach reads xs r → GivesEach → Gives (λ v. map seen v.items) r (each read (map see xs))
+  gives xs (Ok v) all one = all_given 1 xs v.items all.ok one
+  gives xs (Err e) all one = miss_so xs e all.err one
 
 pub each_gives : {X T A : Type 0} {reads : ℕ → X → Result T (Miss Shape) → Type 0} (read : Data → Option A) (see : X → Data) (seen : T → A) {xs : List X} {r : Result (Vec T Global) (Miss Shape)} → ReadsEach reads xs r
     → ((n : ℕ) (x : X) (r : Result T (Miss Shape)) → reads n x r → Gives seen r (read (see x))) → Gives (λ v. map seen v.items) r (each read (map see xs))
-each_gives read see seen {xs} {r} all one =
-    yields_gives (λ v. map seen v.items) r (each read (map see xs))
-    (rw (each_or read 1 (map see xs)) at (each_yields (λ n d. ok_or (read d) shape) see seen all (λ n x r h. gives_yields seen r (read (see x)) (one n x r h))))
+each_gives {reads = reads} read see seen {xs} {r} all one = gives reads read see seen xs r all one
 
 pub each_gives_same : {X T : Type 0} {reads : ℕ → X → Result T (Miss Shape) → Type 0} (read : Data → Option T) (see : X → Data) {xs : List X} {r : Result (Vec T Global) (Miss Shape)} → ReadsEach reads xs r
     → ((n : ℕ) (x : X) (r : Result T (Miss Shape)) → reads n x r → Gives (λ t. t) r (read (see x))) → Gives (λ v. v.items) r (each read (map see xs))

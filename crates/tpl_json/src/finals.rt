@@ -9,26 +9,27 @@ use json::Value;
 use tpl_model::{Final, Finals};
 
 #[tactic(auto, unfolding(crate::specs::Finals::final_word))]
-fn final_word(word: &str) -> Result<Final, Miss<Shape>>
-    ensures gives { Gives (λ f. f) result (final_word word.now) }
-    ensures shape { IfErr result IsShape }
+fn final_word(word: &str) -> Option<Final>
+    ensures { result ≡ final_word word.now }
 {
     match word {
-        "RanToCompletion" => Ok(Final::RanToCompletion),
-        "Canceled" => Ok(Final::Canceled),
-        "Faulted" => Ok(Final::Faulted),
-        _ => Err(Miss::Wrong(Shape)),
+        "RanToCompletion" => Some(Final::RanToCompletion),
+        "Canceled" => Some(Final::Canceled),
+        "Faulted" => Some(Final::Faulted),
+        _ => None,
     }
 }
 
 /// A final status, by its name.
 #[tactic(auto, unfolding(crate::specs::Finals::final_at))]
-pub fn final_of(value: &Value<'_>) -> Result<Final, Miss<Shape>>
+pub fn final_of<'v, 't>(value: &'v Value<'t>) -> Result<Final, Miss<Shape<'v, 't>>>
     ensures gives { Gives (λ f. f) result (final_at (view value.now)) }
     ensures shape { IfErr result IsShape }
 {
-    let word = text_of(value)?;
-    final_word(word)
+    match final_word(text_of(value)?) {
+        None => Err(Miss::Wrong(Shape { at: value })),
+        Some(ending) => Ok(ending),
+    }
 }
 
 fn with_final(finals: Finals, ending: Final) -> Finals
@@ -51,7 +52,7 @@ fn with_final(finals: Finals, ending: Final) -> Finals
 }
 
 /// The set of the final statuses of an array.
-pub fn finals_of(values: &[Value<'_>]) -> Result<Finals, Miss<Shape>>
+pub fn finals_of<'v, 't>(values: &'v [Value<'t>]) -> Result<Finals, Miss<Shape<'v, 't>>>
     ensures gives { Gives (λ f. f) result (finals_at no_finals (map view values.now)) }
     ensures shape { IfErr result IsShape }
 {

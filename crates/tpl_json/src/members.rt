@@ -47,7 +47,7 @@ pub fn find<'v, 't>(value: &'v Value<'t>, name: &str) -> Option<&'v Value<'t>>
 
 /// The member's text.
 #[tactic(auto, unfolding(crate::specs::Members::text_in))]
-pub fn text_in<'v, 't>(value: &'v Value<'t>, name: &str) -> Result<&'v str, Miss<Shape>>
+pub fn text_in<'v, 't>(value: &'v Value<'t>, name: &str) -> Result<&'v str, Miss<Shape<'v, 't>>>
     ensures gives { Gives (λ s. s.now) result (text_in name.now (view value.now)) }
     ensures shape { IfErr result IsShape }
 {
@@ -56,25 +56,28 @@ pub fn text_in<'v, 't>(value: &'v Value<'t>, name: &str) -> Result<&'v str, Miss
 }
 
 /// The member.
-pub fn member_in<'v, 't>(value: &'v Value<'t>, name: &str) -> Result<&'v Value<'t>, Miss<Shape>>
+pub fn member_in<'v, 't>(
+    value: &'v Value<'t>,
+    name: &str,
+) -> Result<&'v Value<'t>, Miss<Shape<'v, 't>>>
     ensures gives { Gives (λ v. view v.now) result (get name.now (view value.now)) }
     ensures shape { IfErr result IsShape }
 {
     match find(value, name) {
-        None => Err(Miss::Wrong(Shape)),
+        None => Err(Miss::Wrong(Shape { at: value })),
         Some(found) => Ok(found),
     }
 }
 
 /// The elements of an array.
 #[tactic(auto, using(crate::proofs::DataOf::elements_view))]
-pub fn list_of<'v, 't>(value: &'v Value<'t>) -> Result<&'v [Value<'t>], Miss<Shape>>
+pub fn list_of<'v, 't>(value: &'v Value<'t>) -> Result<&'v [Value<'t>], Miss<Shape<'v, 't>>>
     ensures gives { Gives (λ s. map view s.now) result (list_in (view value.now)) }
     ensures shape { IfErr result IsShape }
 {
     match value {
         Value::Array(list) => Ok(list.as_slice()),
-        _ => Err(Miss::Wrong(Shape)),
+        _ => Err(Miss::Wrong(Shape { at: value })),
     }
 }
 
@@ -90,7 +93,7 @@ fn no_elements<'v, 't>(_value: &'v Value<'t>) -> &'v [Value<'t>]
 pub fn list_or_none<'v, 't>(
     value: &'v Value<'t>,
     name: &str,
-) -> Result<&'v [Value<'t>], Miss<Shape>>
+) -> Result<&'v [Value<'t>], Miss<Shape<'v, 't>>>
     ensures gives { Gives (λ s. map view s.now) result (list_or_none
         (get name.now (view value.now))) }
     ensures shape { IfErr result IsShape }
@@ -103,44 +106,44 @@ pub fn list_or_none<'v, 't>(
 
 /// The value's text.
 #[tactic(auto, using(crate::proofs::DataOf::text_is))]
-pub fn text_of<'v, 't>(value: &'v Value<'t>) -> Result<&'v str, Miss<Shape>>
+pub fn text_of<'v, 't>(value: &'v Value<'t>) -> Result<&'v str, Miss<Shape<'v, 't>>>
     ensures gives { Gives (λ s. s.now) result (as_str (view value.now)) }
     ensures shape { IfErr result IsShape }
 {
     match value.as_str() {
-        None => Err(Miss::Wrong(Shape)),
+        None => Err(Miss::Wrong(Shape { at: value })),
         Some(text) => Ok(text),
     }
 }
 
 /// The value, true or false.
 #[tactic(auto, using(crate::proofs::DataOf::truth_is))]
-pub fn bool_of(value: &Value<'_>) -> Result<bool, Miss<Shape>>
+pub fn bool_of<'v, 't>(value: &'v Value<'t>) -> Result<bool, Miss<Shape<'v, 't>>>
     ensures gives { Gives (λ b. b) result (as_bool (view value.now)) }
     ensures shape { IfErr result IsShape }
 {
     match value.as_bool() {
-        None => Err(Miss::Wrong(Shape)),
+        None => Err(Miss::Wrong(Shape { at: value })),
         Some(truth) => Ok(truth),
     }
 }
 
 /// The value, a whole number of 64 bits, written with no sign, point or exponent.
-pub fn number_of(value: &Value<'_>) -> Result<u64, Miss<Shape>>
+pub fn number_of<'v, 't>(value: &'v Value<'t>) -> Result<u64, Miss<Shape<'v, 't>>>
     ensures gives { Gives (λ n. n) result (option_and_then as_u64 (as_number (view value.now))) }
     ensures shape { IfErr result IsShape }
 {
     match value {
         Value::Number(text) => match whole_of(text) {
-            None => Err(Miss::Wrong(Shape)),
+            None => Err(Miss::Wrong(Shape { at: value })),
             Some(number) => Ok(number),
         },
-        _ => Err(Miss::Wrong(Shape)),
+        _ => Err(Miss::Wrong(Shape { at: value })),
     }
 }
 
 /// The member, true or false.
-pub fn bool_in(value: &Value<'_>, name: &str) -> Result<bool, Miss<Shape>>
+pub fn bool_in<'v, 't>(value: &'v Value<'t>, name: &str) -> Result<bool, Miss<Shape<'v, 't>>>
     ensures gives { Gives (λ b. b) result (option_and_then as_bool
         (get name.now (view value.now))) }
     ensures shape { IfErr result IsShape }
@@ -150,14 +153,17 @@ pub fn bool_in(value: &Value<'_>, name: &str) -> Result<bool, Miss<Shape>>
 }
 
 /// The texts of an array.
-pub fn texts_of<'v, 't>(alloc: Global, values: &'v [Value<'t>]) -> Result<Vec<&'v str>, Miss<Shape>>
+pub fn texts_of<'v, 't>(
+    alloc: Global,
+    values: &'v [Value<'t>],
+) -> Result<Vec<&'v str>, Miss<Shape<'v, 't>>>
     ensures { Gives (λ v. map (λ s. s.now) v.items) result (each as_str (map view values.now)) }
 {
     read_each(alloc, values, |_, value| text_of(value))
 }
 
 /// The value's text, in memory of its own.
-fn owned_text(alloc: Global, value: &Value<'_>) -> Result<String, Miss<Shape>>
+fn owned_text<'v, 't>(alloc: Global, value: &'v Value<'t>) -> Result<String, Miss<Shape<'v, 't>>>
     ensures { Gives string_bytes result (as_str (view value.now)) }
 {
     let text = text_of(value)?;
@@ -165,7 +171,10 @@ fn owned_text(alloc: Global, value: &Value<'_>) -> Result<String, Miss<Shape>>
 }
 
 /// The texts of an array, in memory of their own.
-pub fn owned_texts(alloc: Global, values: &[Value<'_>]) -> Result<Vec<String>, Miss<Shape>>
+pub fn owned_texts<'v, 't>(
+    alloc: Global,
+    values: &'v [Value<'t>],
+) -> Result<Vec<String>, Miss<Shape<'v, 't>>>
     ensures { Gives (λ v. map string_bytes v.items) result (each as_str (map view values.now)) }
 {
     read_each(alloc, values, |_, value| owned_text(alloc, value))
@@ -177,7 +186,7 @@ pub fn texts_in<'v, 't>(
     alloc: Global,
     value: &'v Value<'t>,
     name: &str,
-) -> Result<Vec<&'v str>, Miss<Shape>>
+) -> Result<Vec<&'v str>, Miss<Shape<'v, 't>>>
     ensures { Gives (λ v. map (λ s. s.now) v.items) result (texts_in name.now (view value.now)) }
 {
     let list = list_or_none(value, name)?;

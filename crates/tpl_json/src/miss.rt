@@ -4,6 +4,7 @@ ghost use Rattle.std.specs.Prelude.{◌≡◌};
 ghost use Rattle.tpl_json.specs.Prelude.{numbered, or_fault};
 ghost use Rattle.tpl_json.specs.declared.miss.Miss.TheVariants.{Memory};
 
+use json::Value;
 use std::alloc::{AllocError, AllocFailed};
 
 /// Why something was not read.
@@ -16,8 +17,11 @@ pub enum Miss<F> {
 }
 
 /// What is wrong with a value: its shape.
-#[derive(Clone, Copy, Debug, Drop, PartialEq, Eq)]
-pub struct Shape;
+#[derive(Clone, Copy, Drop)]
+pub struct Shape<'v, 't> {
+    /// The value itself, or the one in it that was the first to have the wrong shape.
+    pub at: &'v Value<'t>,
+}
 
 impl<F: Drop> From<AllocError> for Miss<F> {
     ghost from_gives = { λ _ e. e ≡ Memory };
@@ -36,12 +40,15 @@ impl<F: Drop, T: Drop> From<AllocFailed<T>> for Miss<F> {
 }
 
 /// What was read, or this fault where the shape is wrong.
-pub fn or_fault<T: Drop, F: Drop>(read: Result<T, Miss<Shape>>, fault: F) -> Result<T, Miss<F>>
-    ensures { result ≡ or_fault fault read }
+pub fn or_fault<T: Drop, F: Drop>(
+    read: Result<T, Miss<Shape<'_, '_>>>,
+    fault: F,
+) -> Result<T, Miss<F>>
+    ensures { result ≡ or_fault fault read.entry }
 {
     match read {
         Ok(found) => Ok(found),
-        Err(Miss::Wrong(Shape)) => Err(Miss::Wrong(fault)),
+        Err(Miss::Wrong(_)) => Err(Miss::Wrong(fault)),
         Err(Miss::Memory) => Err(Miss::Memory),
     }
 }

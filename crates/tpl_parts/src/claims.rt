@@ -1,11 +1,11 @@
 //! Reading claims with names.
 
-ghost use Rattle.std.specs.Prelude.{map, IfErr};
-ghost use Rattle.tpl_json.specs.Prelude.{Gives, IsShape, each, view};
+ghost use Rattle.std.specs.Prelude.{◌≡◌, map, option_and_then, option_map, IfErr};
+ghost use Rattle.tpl_json.specs.Prelude.{Gives, IsShape, each, list_in, view};
 ghost use Rattle.tpl_parts.specs.Prelude.{claim_at, claim_of, end_or_job, ended_at, final_claim, given_at, given_of, given_word, input_at, later_given, pair_said, property_at, property_of, runs_claim, said_at, some_finals, task_said, two_texts};
 
 use crate::named::{NamedClaim, NamedGiven, NamedProperty};
-use crate::pieces::{list_in, name_of};
+use crate::pieces::name_of;
 use crate::remarks::{claim_name, has_claim_members, note_of};
 use crate::version::Version;
 use json::Value;
@@ -17,12 +17,12 @@ use tpl_json::{
 use tpl_model::Finals;
 
 #[tactic(auto, unfolding(crate::specs::Claims::input_at))]
-fn input_of<'v, 't>(value: &'v Value<'t>) -> Result<NamedGiven<'v>, Miss<Shape>>
+fn input_of<'v, 't>(value: &'v Value<'t>) -> Result<NamedGiven<'v>, Miss<Shape<'v, 't>>>
     ensures gives { Gives given_of result (input_at (view value.now)) }
     ensures shape { IfErr result IsShape }
 {
     if !has_only(value, &["input", "is"]) {
-        return Err(Miss::Wrong(Shape));
+        return Err(Miss::Wrong(Shape { at: value }));
     }
     let name = text_in(value, "input")?;
     let truth = bool_in(value, "is")?;
@@ -30,44 +30,43 @@ fn input_of<'v, 't>(value: &'v Value<'t>) -> Result<NamedGiven<'v>, Miss<Shape>>
 }
 
 #[tactic(auto, unfolding(crate::specs::Claims::some_finals))]
-fn some_finals(values: &[Value<'_>]) -> Result<Finals, Miss<Shape>>
-    ensures gives { Gives (λ f. f) result (some_finals (map view values.now)) }
+fn some_finals<'v, 't>(value: &'v Value<'t>) -> Result<Finals, Miss<Shape<'v, 't>>>
+    ensures gives { Gives (λ f. f) result (option_and_then some_finals (list_in (view value.now))) }
     ensures shape { IfErr result IsShape }
 {
+    let values = list_of(value)?;
     match values {
-        [] => Err(Miss::Wrong(Shape)),
+        [] => Err(Miss::Wrong(Shape { at: value })),
         [_, ..] => finals_of(values),
     }
 }
 
 #[tactic(auto, unfolding(crate::specs::Claims::ended_at))]
-fn ended_of<'v, 't>(value: &'v Value<'t>) -> Result<NamedGiven<'v>, Miss<Shape>>
+fn ended_of<'v, 't>(value: &'v Value<'t>) -> Result<NamedGiven<'v>, Miss<Shape<'v, 't>>>
     ensures gives { Gives given_of result (ended_at (view value.now)) }
     ensures shape { IfErr result IsShape }
 {
     if !has_only(value, &["ended", "in"]) {
-        return Err(Miss::Wrong(Shape));
+        return Err(Miss::Wrong(Shape { at: value }));
     }
     let task = text_in(value, "ended")?;
-    let list = list_in(value, "in")?;
-    let finals = some_finals(list)?;
+    let finals = some_finals(member_in(value, "in")?)?;
     Ok(NamedGiven::Ended(task, finals))
 }
 
 #[tactic(auto, unfolding(crate::specs::Claims::given_word))]
-fn given_word<'v>(word: &'v str) -> Result<NamedGiven<'v>, Miss<Shape>>
-    ensures gives { Gives given_of result (given_word word.now) }
-    ensures shape { IfErr result IsShape }
+fn given_word<'v>(word: &str) -> Option<NamedGiven<'v>>
+    ensures { option_map given_of result ≡ given_word word.now }
 {
     match word {
-        "no_failure" => Ok(NamedGiven::NoFailure),
-        "no_request" => Ok(NamedGiven::NoRequest),
-        _ => Err(Miss::Wrong(Shape)),
+        "no_failure" => Some(NamedGiven::NoFailure),
+        "no_request" => Some(NamedGiven::NoRequest),
+        _ => None,
     }
 }
 
 #[tactic(auto, unfolding(crate::specs::Claims::end_or_job))]
-fn end_or_job<'v, 't>(value: &'v Value<'t>) -> Result<NamedGiven<'v>, Miss<Shape>>
+fn end_or_job<'v, 't>(value: &'v Value<'t>) -> Result<NamedGiven<'v>, Miss<Shape<'v, 't>>>
     ensures gives { Gives given_of result (end_or_job (view value.now)) }
     ensures shape { IfErr result IsShape }
 {
@@ -80,19 +79,25 @@ fn end_or_job<'v, 't>(value: &'v Value<'t>) -> Result<NamedGiven<'v>, Miss<Shape
 
 /// What only version 3 has.
 #[tactic(auto, unfolding(crate::specs::Claims::later_given))]
-fn later_given<'v, 't>(value: &'v Value<'t>) -> Result<NamedGiven<'v>, Miss<Shape>>
+fn later_given<'v, 't>(value: &'v Value<'t>) -> Result<NamedGiven<'v>, Miss<Shape<'v, 't>>>
     ensures gives { Gives given_of result (later_given (view value.now)) }
     ensures shape { IfErr result IsShape }
 {
     match value {
-        Value::String(word) => given_word(word),
+        Value::String(word) => match given_word(word) {
+            None => Err(Miss::Wrong(Shape { at: value })),
+            Some(given) => Ok(given),
+        },
         Value::Object(_) => end_or_job(value),
-        _ => Err(Miss::Wrong(Shape)),
+        _ => Err(Miss::Wrong(Shape { at: value })),
     }
 }
 
 #[tactic(auto, unfolding(crate::specs::Claims::given_at))]
-fn given_of<'v, 't>(version: Version, value: &'v Value<'t>) -> Result<NamedGiven<'v>, Miss<Shape>>
+fn given_of<'v, 't>(
+    version: Version,
+    value: &'v Value<'t>,
+) -> Result<NamedGiven<'v>, Miss<Shape<'v, 't>>>
     ensures gives { Gives given_of result (given_at version (view value.now)) }
     ensures shape { IfErr result IsShape }
 {
@@ -105,14 +110,14 @@ fn given_of<'v, 't>(version: Version, value: &'v Value<'t>) -> Result<NamedGiven
     if version.is_third() {
         return later_given(value);
     }
-    Err(Miss::Wrong(Shape))
+    Err(Miss::Wrong(Shape { at: value }))
 }
 
 fn givens_of<'v, 't>(
     alloc: Global,
     version: Version,
     values: &'v [Value<'t>],
-) -> Result<Vec<NamedGiven<'v>>, Miss<Shape>>
+) -> Result<Vec<NamedGiven<'v>>, Miss<Shape<'v, 't>>>
     ensures { Gives (λ v. map given_of v.items) result (each (given_at version)
         (map view values.now)) }
 {
@@ -123,31 +128,32 @@ fn givens_of<'v, 't>(
 fn final_claim<'v, 't>(
     version: Version,
     value: &'v Value<'t>,
-) -> Result<NamedProperty<'v>, Miss<Shape>>
+) -> Result<NamedProperty<'v>, Miss<Shape<'v, 't>>>
     ensures gives { Gives property_of result (final_claim version (view value.now)) }
     ensures shape { IfErr result IsShape }
 {
     if !has_claim_members(version, value, &["given", "final", "in"]) {
-        return Err(Miss::Wrong(Shape));
+        return Err(Miss::Wrong(Shape { at: value }));
     }
     let task = text_in(value, "final")?;
-    let list = list_in(value, "in")?;
-    let finals = some_finals(list)?;
+    let finals = some_finals(member_in(value, "in")?)?;
     Ok(NamedProperty::Final(task, finals))
 }
 
 #[tactic(auto, unfolding(crate::specs::Claims::two_texts))]
-fn two_texts<'v, 't>(values: &'v [Value<'t>]) -> Result<(&'v str, &'v str), Miss<Shape>>
-    ensures gives { Gives (λ p. (p.0.now, p.1.now)) result (two_texts (map view values.now)) }
+fn two_texts<'v, 't>(value: &'v Value<'t>) -> Result<(&'v str, &'v str), Miss<Shape<'v, 't>>>
+    ensures gives { Gives (λ p. (p.0.now, p.1.now)) result
+        (option_and_then two_texts (list_in (view value.now))) }
     ensures shape { IfErr result IsShape }
 {
+    let values = list_of(value)?;
     match values {
         [first, second] => {
             let first = text_of(first)?;
             let second = text_of(second)?;
             Ok((first, second))
         }
-        _ => Err(Miss::Wrong(Shape)),
+        _ => Err(Miss::Wrong(Shape { at: value })),
     }
 }
 
@@ -157,12 +163,12 @@ fn said_of<'v, 't>(
     version: Version,
     value: &'v Value<'t>,
     name: &str,
-) -> Result<&'v Value<'t>, Miss<Shape>>
+) -> Result<&'v Value<'t>, Miss<Shape<'v, 't>>>
     ensures gives { Gives (λ v. view v.now) result (said_at version name.now (view value.now)) }
     ensures shape { IfErr result IsShape }
 {
     if !has_claim_members(version, value, &["given", name]) {
-        return Err(Miss::Wrong(Shape));
+        return Err(Miss::Wrong(Shape { at: value }));
     }
     member_in(value, name)
 }
@@ -173,7 +179,7 @@ fn task_said<'v, 't>(
     version: Version,
     value: &'v Value<'t>,
     name: &str,
-) -> Result<&'v str, Miss<Shape>>
+) -> Result<&'v str, Miss<Shape<'v, 't>>>
     ensures gives { Gives (λ s. s.now) result (task_said version name.now (view value.now)) }
     ensures shape { IfErr result IsShape }
 {
@@ -186,12 +192,12 @@ fn pair_said<'v, 't>(
     version: Version,
     value: &'v Value<'t>,
     name: &str,
-) -> Result<(&'v str, &'v str), Miss<Shape>>
+) -> Result<(&'v str, &'v str), Miss<Shape<'v, 't>>>
     ensures gives { Gives (λ p. (p.0.now, p.1.now)) result
         (pair_said version name.now (view value.now)) }
     ensures shape { IfErr result IsShape }
 {
-    two_texts(list_of(said_of(version, value, name)?)?)
+    two_texts(said_of(version, value, name)?)
 }
 
 /// A claim that only version 3 has.
@@ -199,12 +205,12 @@ fn pair_said<'v, 't>(
 fn runs_claim<'v, 't>(
     version: Version,
     value: &'v Value<'t>,
-) -> Result<NamedProperty<'v>, Miss<Shape>>
+) -> Result<NamedProperty<'v>, Miss<Shape<'v, 't>>>
     ensures gives { Gives property_of result (runs_claim version (view value.now)) }
     ensures shape { IfErr result IsShape }
 {
     if !version.is_third() {
-        return Err(Miss::Wrong(Shape));
+        return Err(Miss::Wrong(Shape { at: value }));
     }
     let task = task_said(version, value, "runs")?;
     Ok(NamedProperty::Runs(task))
@@ -214,7 +220,7 @@ fn runs_claim<'v, 't>(
 fn property_of<'v, 't>(
     version: Version,
     value: &'v Value<'t>,
-) -> Result<NamedProperty<'v>, Miss<Shape>>
+) -> Result<NamedProperty<'v>, Miss<Shape<'v, 't>>>
     ensures gives { Gives property_of result (property_at version (view value.now)) }
     ensures shape { IfErr result IsShape }
 {
@@ -246,7 +252,7 @@ pub fn claim_of<'v, 't>(
     alloc: Global,
     version: Version,
     value: &'v Value<'t>,
-) -> Result<NamedClaim<'v>, Miss<Shape>>
+) -> Result<NamedClaim<'v>, Miss<Shape<'v, 't>>>
     ensures { Gives claim_of result (claim_at version (view value.now)) }
 {
     let body = property_of(version, value)?;

@@ -12,7 +12,7 @@ mod version;
 
 pub use claims::claim_of;
 pub use named::{NamedClaim, NamedGiven, NamedProperty, NamedStart};
-pub use remarks::{has_only_beside, is_claim_name, note_of};
-pub use start::{has_ends, has_truths, start_or_none};
+pub use remarks::{has_only_beside, note_of};
+pub use start::{has_ends, start_or_none};
 pub use tasks::{task_of, token_of};
 pub use version::Version;

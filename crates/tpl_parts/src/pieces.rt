@@ -12,7 +12,7 @@ use tpl_json::{Miss, Shape, has_only, list_of, member_in, text_in};
 pub(crate) fn list_in<'v, 't>(
     value: &'v Value<'t>,
     name: &str,
-) -> Result<&'v [Value<'t>], Miss<Shape>>
+) -> Result<&'v [Value<'t>], Miss<Shape<'v, 't>>>
     ensures gives { Gives (λ s. map view s.now) result (option_and_then list_in
         (get name.now (view value.now))) }
     ensures shape { IfErr result IsShape }
@@ -23,12 +23,15 @@ pub(crate) fn list_in<'v, 't>(
 
 /// The text of an object's only member.
 #[tactic(auto, unfolding(crate::specs::Pieces::name_at))]
-pub(crate) fn name_of<'v, 't>(value: &'v Value<'t>, member: &str) -> Result<&'v str, Miss<Shape>>
+pub(crate) fn name_of<'v, 't>(
+    value: &'v Value<'t>,
+    member: &str,
+) -> Result<&'v str, Miss<Shape<'v, 't>>>
     ensures gives { Gives (λ s. s.now) result (name_at member.now (view value.now)) }
     ensures shape { IfErr result IsShape }
 {
     if !has_only(value, &[member]) {
-        return Err(Miss::Wrong(Shape));
+        return Err(Miss::Wrong(Shape { at: value }));
     }
     text_in(value, member)
 }

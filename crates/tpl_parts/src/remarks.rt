@@ -76,7 +76,7 @@ fn has_control(text: &str) -> bool
 }
 
 /// Whether the text can be the name of a claim: 1 to 100 bytes, and no control character.
-pub fn is_claim_name(name: &str) -> bool
+fn is_claim_name(name: &str) -> bool
     ensures { result ≡ is_claim_name name.now }
 {
     !name.is_empty() && name.len() <= LONGEST_CLAIM_NAME && !has_control(name)
@@ -84,7 +84,9 @@ pub fn is_claim_name(name: &str) -> bool
 
 /// The name of the claim, if it has one.
 #[tactic(auto, unfolding(crate::specs::Remarks::claim_name))]
-pub(crate) fn claim_name<'v, 't>(value: &'v Value<'t>) -> Result<Option<&'v str>, Miss<Shape>>
+pub(crate) fn claim_name<'v, 't>(
+    value: &'v Value<'t>,
+) -> Result<Option<&'v str>, Miss<Shape<'v, 't>>>
     ensures gives { Gives (λ o. option_map (λ s. s.now) o) result
         (claim_name (get (codes "name") (view value.now))) }
     ensures shape { IfErr result IsShape }
@@ -96,7 +98,7 @@ pub(crate) fn claim_name<'v, 't>(value: &'v Value<'t>) -> Result<Option<&'v str>
             if is_claim_name(name) {
                 Ok(Some(name))
             } else {
-                Err(Miss::Wrong(Shape))
+                Err(Miss::Wrong(Shape { at: member }))
             }
         }
     }
@@ -104,7 +106,7 @@ pub(crate) fn claim_name<'v, 't>(value: &'v Value<'t>) -> Result<Option<&'v str>
 
 /// The note, which is a text if it is there, and is left out here.
 #[tactic(auto, unfolding(crate::specs::Remarks::note_at))]
-pub fn note_of(value: &Value<'_>) -> Result<(), Miss<Shape>>
+pub fn note_of<'v, 't>(value: &'v Value<'t>) -> Result<(), Miss<Shape<'v, 't>>>
     ensures gives { Gives (λ u. u) result (note_at (get (codes "note") (view value.now))) }
     ensures shape { IfErr result IsShape }
 {

@@ -22,11 +22,11 @@ fn are_all(passes: &BTreeMap<&str, bool>) -> bool
 }
 
 /// Whether the members' values all pass the test; of several of one name the last counts.
-fn all_pass<'t, F: Fn(&Value<'t>) -> bool>(
+fn all_pass<'v, 't, F: Fn(&Value<'t>) -> bool>(
     alloc: Global,
-    members: &[(&str, Value<'t>)],
+    members: &'v [(&str, Value<'t>)],
     test: F,
-) -> Result<bool, Miss<Shape>>
+) -> Result<bool, Miss<Shape<'v, 't>>>
     requires { F.IsAlwaysCallable test }
     ensures { (p : Data → Bool) → Tests F.Fn test p → Gives (λ b. b) result
         (Some (all_values p (members_from (members_view members.now) no_members))) }
@@ -41,7 +41,7 @@ fn all_pass<'t, F: Fn(&Value<'t>) -> bool>(
 /// Whether the value is an object whose members are all true or false; of several of one name the last counts. Out of
 /// memory is the only error.
 #[tactic(auto, unfolding(crate::specs::Start::has_truths))]
-pub fn has_truths(alloc: Global, value: &Value<'_>) -> Result<bool, Miss<Shape>>
+fn has_truths<'v, 't>(alloc: Global, value: &'v Value<'t>) -> Result<bool, Miss<Shape<'v, 't>>>
     ensures { Gives (λ b. b) result (Some (has_truths (view value.now))) }
 {
     match value {
@@ -55,7 +55,7 @@ pub fn has_truths(alloc: Global, value: &Value<'_>) -> Result<bool, Miss<Shape>>
 /// Whether the value is an object whose members are all final statuses; of several of one name the last counts. Out of
 /// memory is the only error.
 #[tactic(auto, unfolding(crate::specs::Ends::has_ends))]
-pub fn has_ends(alloc: Global, value: &Value<'_>) -> Result<bool, Miss<Shape>>
+pub fn has_ends<'v, 't>(alloc: Global, value: &'v Value<'t>) -> Result<bool, Miss<Shape<'v, 't>>>
     ensures { Gives (λ b. b) result (Some (has_ends (view value.now))) }
 {
     match value {
@@ -71,7 +71,7 @@ fn truths_or_none<'v, 't>(
     alloc: Global,
     value: &'v Value<'t>,
     name: &str,
-) -> Result<Option<&'v Value<'t>>, Miss<Shape>>
+) -> Result<Option<&'v Value<'t>>, Miss<Shape<'v, 't>>>
     ensures { Gives (λ o. option_map (λ v. view v.now) o) result
         (truths_or_none (get name.now (view value.now))) }
 {
@@ -81,7 +81,7 @@ fn truths_or_none<'v, 't>(
             if has_truths(alloc, member)? {
                 Ok(Some(member))
             } else {
-                Err(Miss::Wrong(Shape))
+                Err(Miss::Wrong(Shape { at: member }))
             }
         }
     }
@@ -89,11 +89,14 @@ fn truths_or_none<'v, 't>(
 
 /// Where a run starts, with names.
 #[tactic(auto, unfolding(crate::specs::Start::start_at))]
-fn start_of<'v, 't>(alloc: Global, value: &'v Value<'t>) -> Result<NamedStart<'v, 't>, Miss<Shape>>
+fn start_of<'v, 't>(
+    alloc: Global,
+    value: &'v Value<'t>,
+) -> Result<NamedStart<'v, 't>, Miss<Shape<'v, 't>>>
     ensures { Gives start_of result (start_at (view value.now)) }
 {
     if !has_only(value, &["inputs", "request", "fail"]) {
-        return Err(Miss::Wrong(Shape));
+        return Err(Miss::Wrong(Shape { at: value }));
     }
     let inputs = truths_or_none(alloc, value, "inputs")?;
     let request = texts_in(alloc, value, "request")?;
@@ -110,7 +113,7 @@ fn start_of<'v, 't>(alloc: Global, value: &'v Value<'t>) -> Result<NamedStart<'v
 pub fn start_or_none<'v, 't>(
     alloc: Global,
     value: Option<&'v Value<'t>>,
-) -> Result<Option<NamedStart<'v, 't>>, Miss<Shape>>
+) -> Result<Option<NamedStart<'v, 't>>, Miss<Shape<'v, 't>>>
     ensures { Gives (λ o. option_map start_of o) result
         (start_or_none (option_map (λ v. view v.now) value.entry)) }
 {

@@ -1,6 +1,6 @@
 //! Reading bodies.
 
-ghost use Rattle.std.specs.Prelude.{◌≡◌, map, codes, string_bytes, option_and_then, IfErr};
+ghost use Rattle.std.specs.Prelude.{◌≡◌, map, codes, string_bytes, option_and_then, option_map, IfErr};
 ghost use Rattle.serde_json.specs.Find.{get};
 ghost use Rattle.tpl_draft.specs.Prelude.{line_of};
 ghost use Rattle.tpl_json.specs.Prelude.{Gives, IsShape, each, has_member, view};
@@ -14,19 +14,22 @@ use tpl_graph::{DraftBody, DraftStmt};
 use tpl_json::{Miss, Shape, bool_of, final_of, find, has_only, list_of, member_in, text_in};
 
 #[tactic(auto, unfolding(crate::specs::Statements::word_at))]
-fn word_of(word: &str) -> Result<DraftStmt, Miss<Shape>>
-    ensures gives { Gives line_of result (word_at word.now) }
-    ensures shape { IfErr result IsShape }
+fn word_of(word: &str) -> Option<DraftStmt>
+    ensures { option_map line_of result ≡ word_at word.now }
 {
     match word {
-        "return" => Ok(DraftStmt::Return),
-        "observe" => Ok(DraftStmt::Observe),
-        _ => Err(Miss::Wrong(Shape)),
+        "return" => Some(DraftStmt::Return),
+        "observe" => Some(DraftStmt::Observe),
+        _ => None,
     }
 }
 
 /// The name in an object of one member, in memory of its own.
-fn own_name(alloc: Global, value: &Value<'_>, member: &str) -> Result<String, Miss<Shape>>
+fn own_name<'v, 't>(
+    alloc: Global,
+    value: &'v Value<'t>,
+    member: &str,
+) -> Result<String, Miss<Shape<'v, 't>>>
     ensures { Gives string_bytes result (name_at member.now (view value.now)) }
 {
     let name = name_of(value, member)?;
@@ -34,7 +37,7 @@ fn own_name(alloc: Global, value: &Value<'_>, member: &str) -> Result<String, Mi
 }
 
 #[tactic(auto, unfolding(crate::specs::Statements::bool_or_false))]
-fn bool_or_false(value: &Value<'_>, name: &str) -> Result<bool, Miss<Shape>>
+fn bool_or_false<'v, 't>(value: &'v Value<'t>, name: &str) -> Result<bool, Miss<Shape<'v, 't>>>
     ensures gives { Gives (λ b. b) result (bool_or_false (get name.now (view value.now))) }
     ensures shape { IfErr result IsShape }
 {
@@ -45,11 +48,11 @@ fn bool_or_false(value: &Value<'_>, name: &str) -> Result<bool, Miss<Shape>>
 }
 
 #[tactic(auto, unfolding(crate::specs::Statements::work_at))]
-fn work_of(alloc: Global, value: &Value<'_>) -> Result<DraftStmt, Miss<Shape>>
+fn work_of<'v, 't>(alloc: Global, value: &'v Value<'t>) -> Result<DraftStmt, Miss<Shape<'v, 't>>>
     ensures { Gives line_of result (work_at (view value.now)) }
 {
     if !has_only(value, &["work", "may_fail"]) {
-        return Err(Miss::Wrong(Shape));
+        return Err(Miss::Wrong(Shape { at: value }));
     }
     let site = text_in(value, "work")?;
     let may_fail = bool_or_false(value, "may_fail")?;
@@ -59,7 +62,7 @@ fn work_of(alloc: Global, value: &Value<'_>) -> Result<DraftStmt, Miss<Shape>>
 
 /// Statements without lists of their own.
 #[tactic(auto, unfolding(crate::specs::Statements::simple_at))]
-fn simple_of(alloc: Global, value: &Value<'_>) -> Result<DraftStmt, Miss<Shape>>
+fn simple_of<'v, 't>(alloc: Global, value: &'v Value<'t>) -> Result<DraftStmt, Miss<Shape<'v, 't>>>
     ensures { Gives line_of result (simple_at (view value.now)) }
 {
     if find(value, "throw").is_some() {
@@ -84,7 +87,11 @@ fn is_branch(value: &Value<'_>) -> bool
 }
 
 #[cycle(body)]
-fn first_of(alloc: Global, levels: u32, value: &Value<'_>) -> Result<DraftBody, Miss<Shape>>
+fn first_of<'v, 't>(
+    alloc: Global,
+    levels: u32,
+    value: &'v Value<'t>,
+) -> Result<DraftBody, Miss<Shape<'v, 't>>>
     ensures { Gives (λ b. b) result (option_and_then (body_at levels)
         (get (codes "then") (view value.now))) }
 {
@@ -94,7 +101,11 @@ fn first_of(alloc: Global, levels: u32, value: &Value<'_>) -> Result<DraftBody, 
 
 #[cycle(body)]
 #[tactic(auto, unfolding(crate::specs::Statements::else_at))]
-fn second_of(alloc: Global, levels: u32, value: &Value<'_>) -> Result<DraftBody, Miss<Shape>>
+fn second_of<'v, 't>(
+    alloc: Global,
+    levels: u32,
+    value: &'v Value<'t>,
+) -> Result<DraftBody, Miss<Shape<'v, 't>>>
     ensures { Gives (λ b. b) result (else_at (body_at levels)
         (get (codes "else") (view value.now))) }
 {
@@ -106,11 +117,15 @@ fn second_of(alloc: Global, levels: u32, value: &Value<'_>) -> Result<DraftBody,
 
 #[cycle(body)]
 #[tactic(auto, unfolding(crate::specs::Statements::if_at))]
-fn if_of(alloc: Global, levels: u32, value: &Value<'_>) -> Result<DraftStmt, Miss<Shape>>
+fn if_of<'v, 't>(
+    alloc: Global,
+    levels: u32,
+    value: &'v Value<'t>,
+) -> Result<DraftStmt, Miss<Shape<'v, 't>>>
     ensures { Gives line_of result (if_at (body_at levels) (view value.now)) }
 {
     if !has_only(value, &["if", "then", "else"]) {
-        return Err(Miss::Wrong(Shape));
+        return Err(Miss::Wrong(Shape { at: value }));
     }
     let input = text_in(value, "if")?;
     let first = first_of(alloc, levels, value)?;
@@ -121,11 +136,15 @@ fn if_of(alloc: Global, levels: u32, value: &Value<'_>) -> Result<DraftStmt, Mis
 
 #[cycle(body)]
 #[tactic(auto, unfolding(crate::specs::Statements::when_at))]
-fn when_of(alloc: Global, levels: u32, value: &Value<'_>) -> Result<DraftStmt, Miss<Shape>>
+fn when_of<'v, 't>(
+    alloc: Global,
+    levels: u32,
+    value: &'v Value<'t>,
+) -> Result<DraftStmt, Miss<Shape<'v, 't>>>
     ensures { Gives line_of result (when_at (body_at levels) (view value.now)) }
 {
     if !has_only(value, &["when", "then", "else"]) {
-        return Err(Miss::Wrong(Shape));
+        return Err(Miss::Wrong(Shape { at: value }));
     }
     let status = final_of(member_in(value, "when")?)?;
     let first = first_of(alloc, levels, value)?;
@@ -135,7 +154,11 @@ fn when_of(alloc: Global, levels: u32, value: &Value<'_>) -> Result<DraftStmt, M
 
 #[cycle(body)]
 #[tactic(auto, unfolding(crate::specs::Statements::branch_at))]
-fn branch_of(alloc: Global, levels: u32, value: &Value<'_>) -> Result<DraftStmt, Miss<Shape>>
+fn branch_of<'v, 't>(
+    alloc: Global,
+    levels: u32,
+    value: &'v Value<'t>,
+) -> Result<DraftStmt, Miss<Shape<'v, 't>>>
     ensures { Gives line_of result (branch_at (body_at levels) (view value.now)) }
 {
     if find(value, "if").is_some() {
@@ -146,11 +169,18 @@ fn branch_of(alloc: Global, levels: u32, value: &Value<'_>) -> Result<DraftStmt,
 
 #[cycle(body)]
 #[tactic(auto, unfolding(crate::specs::Statements::statement_at, crate::specs::Statements::object_at))]
-fn statement_of(alloc: Global, levels: u32, value: &Value<'_>) -> Result<DraftStmt, Miss<Shape>>
+fn statement_of<'v, 't>(
+    alloc: Global,
+    levels: u32,
+    value: &'v Value<'t>,
+) -> Result<DraftStmt, Miss<Shape<'v, 't>>>
     ensures { Gives line_of result (statement_at (body_at levels) (view value.now)) }
 {
     match value {
-        Value::String(word) => word_of(word),
+        Value::String(word) => match word_of(word) {
+            None => Err(Miss::Wrong(Shape { at: value })),
+            Some(statement) => Ok(statement),
+        },
         Value::Object(_) => {
             if is_branch(value) {
                 branch_of(alloc, levels, value)
@@ -158,16 +188,16 @@ fn statement_of(alloc: Global, levels: u32, value: &Value<'_>) -> Result<DraftSt
                 simple_of(alloc, value)
             }
         }
-        _ => Err(Miss::Wrong(Shape)),
+        _ => Err(Miss::Wrong(Shape { at: value })),
     }
 }
 
 #[cycle(body)]
-fn statements_of(
+fn statements_of<'v, 't>(
     alloc: Global,
     levels: u32,
-    values: &[Value<'_>],
-) -> Result<Vec<DraftStmt>, Miss<Shape>>
+    values: &'v [Value<'t>],
+) -> Result<Vec<DraftStmt>, Miss<Shape<'v, 't>>>
     ensures { Gives (λ v. map line_of v.items) result (each (statement_at (body_at levels))
         (map view values.now)) }
 {
@@ -181,11 +211,11 @@ fn statements_of(
 
 #[cycle(body)]
 #[tactic(auto, unfolding(crate::specs::Statements::list_at), using(crate::proofs::Bodies::lines_of_all))]
-fn list_of_statements(
+fn list_of_statements<'v, 't>(
     alloc: Global,
     levels: u32,
-    value: &Value<'_>,
-) -> Result<DraftBody, Miss<Shape>>
+    value: &'v Value<'t>,
+) -> Result<DraftBody, Miss<Shape<'v, 't>>>
     ensures { Gives (λ b. b) result (list_at (body_at levels) (view value.now)) }
 {
     let list = list_of(value)?;
@@ -196,15 +226,15 @@ fn list_of_statements(
 /// A list of statements, with lists in lists to this depth.
 #[cycle(body)]
 #[tactic(auto, using(crate::proofs::Bodies::levels))]
-pub(crate) fn body_of(
+pub(crate) fn body_of<'v, 't>(
     alloc: Global,
     levels: u32,
-    value: &Value<'_>,
-) -> Result<DraftBody, Miss<Shape>>
+    value: &'v Value<'t>,
+) -> Result<DraftBody, Miss<Shape<'v, 't>>>
     ensures { Gives (λ b. b) result (body_at levels (view value.now)) }
 {
     if levels == 0 {
-        return Err(Miss::Wrong(Shape));
+        return Err(Miss::Wrong(Shape { at: value }));
     }
     list_of_statements(alloc, levels - 1, value)
 }

@@ -21,18 +21,18 @@ use tpl_json::{
 use tpl_model::Options;
 
 #[tactic(auto, unfolding(crate::specs::Tasks::option_at))]
-fn option_of(value: &Value<'_>) -> Result<Options, Miss<Shape>>
+fn option_of<'v, 't>(value: &'v Value<'t>) -> Result<Options, Miss<Shape<'v, 't>>>
     ensures gives { Gives (λ o. o) result (option_at (view value.now)) }
     ensures shape { IfErr result IsShape }
 {
     let word = text_of(value)?;
     match Options::from_word(word) {
-        None => Err(Miss::Wrong(Shape)),
+        None => Err(Miss::Wrong(Shape { at: value })),
         Some(options) => Ok(options),
     }
 }
 
-fn options_of(values: &[Value<'_>]) -> Result<Options, Miss<Shape>>
+fn options_of<'v, 't>(values: &'v [Value<'t>]) -> Result<Options, Miss<Shape<'v, 't>>>
     ensures gives { Gives (λ o. o) result (options_at 0 (map view values.now)) }
     ensures shape { IfErr result IsShape }
 {
@@ -44,7 +44,11 @@ fn options_of(values: &[Value<'_>]) -> Result<Options, Miss<Shape>>
 }
 
 #[tactic(auto, unfolding(crate::specs::Tasks::text_or_none))]
-fn text_or_none(alloc: Global, value: &Value<'_>, name: &str) -> Result<Option<String>, Miss<Shape>>
+fn text_or_none<'v, 't>(
+    alloc: Global,
+    value: &'v Value<'t>,
+    name: &str,
+) -> Result<Option<String>, Miss<Shape<'v, 't>>>
     ensures { Gives (λ o. option_map string_bytes o) result
         (text_or_none (get name.now (view value.now))) }
 {
@@ -58,7 +62,7 @@ fn text_or_none(alloc: Global, value: &Value<'_>, name: &str) -> Result<Option<S
 }
 
 #[tactic(auto, unfolding(crate::specs::Tasks::work_at))]
-fn work_of(alloc: Global, value: &Value<'_>) -> Result<DraftWork, Miss<Shape>>
+fn work_of<'v, 't>(alloc: Global, value: &'v Value<'t>) -> Result<DraftWork, Miss<Shape<'v, 't>>>
     ensures { Gives work_of result (work_at (view value.now)) }
 {
     let list = member_in(value, "body")?;
@@ -75,7 +79,11 @@ fn work_of(alloc: Global, value: &Value<'_>) -> Result<DraftWork, Miss<Shape>>
 
 /// A task with a body that follows none.
 #[tactic(auto, unfolding(crate::specs::Tasks::free_at))]
-fn free_of(alloc: Global, version: Version, value: &Value<'_>) -> Result<DraftWork, Miss<Shape>>
+fn free_of<'v, 't>(
+    alloc: Global,
+    version: Version,
+    value: &'v Value<'t>,
+) -> Result<DraftWork, Miss<Shape<'v, 't>>>
     ensures { Gives work_of result (free_at version (view value.now)) }
 {
     if !has_task_members(
@@ -83,13 +91,17 @@ fn free_of(alloc: Global, version: Version, value: &Value<'_>) -> Result<DraftWo
         value,
         &["name", "kind", "body", "token", "options"],
     ) {
-        return Err(Miss::Wrong(Shape));
+        return Err(Miss::Wrong(Shape { at: value }));
     }
     work_of(alloc, value)
 }
 
 #[tactic(auto, unfolding(crate::specs::Tasks::then_at))]
-fn then_of(alloc: Global, version: Version, value: &Value<'_>) -> Result<DraftKind, Miss<Shape>>
+fn then_of<'v, 't>(
+    alloc: Global,
+    version: Version,
+    value: &'v Value<'t>,
+) -> Result<DraftKind, Miss<Shape<'v, 't>>>
     ensures { Gives kind_of result (then_at version (view value.now)) }
 {
     if !has_task_members(
@@ -97,7 +109,7 @@ fn then_of(alloc: Global, version: Version, value: &Value<'_>) -> Result<DraftKi
         value,
         &["name", "kind", "after", "body", "token", "options"],
     ) {
-        return Err(Miss::Wrong(Shape));
+        return Err(Miss::Wrong(Shape { at: value }));
     }
     let antecedent = text_in(value, "after")?;
     let work = work_of(alloc, value)?;
@@ -106,23 +118,27 @@ fn then_of(alloc: Global, version: Version, value: &Value<'_>) -> Result<DraftKi
 }
 
 #[tactic(auto, unfolding(crate::specs::Tasks::args_at))]
-fn args_of(alloc: Global, version: Version, value: &Value<'_>) -> Result<Vec<String>, Miss<Shape>>
+fn args_of<'v, 't>(
+    alloc: Global,
+    version: Version,
+    value: &'v Value<'t>,
+) -> Result<Vec<String>, Miss<Shape<'v, 't>>>
     ensures { Gives (λ v. map string_bytes v.items) result (args_at version (view value.now)) }
 {
     if !has_task_members(version, value, &["name", "kind", "of"]) {
-        return Err(Miss::Wrong(Shape));
+        return Err(Miss::Wrong(Shape { at: value }));
     }
     let list = list_in(value, "of")?;
     owned_texts(alloc, list)
 }
 
 #[tactic(auto, unfolding(crate::specs::Tasks::kind_at))]
-fn kind_of(
+fn kind_of<'v, 't>(
     alloc: Global,
     version: Version,
     kind: &str,
-    value: &Value<'_>,
-) -> Result<DraftKind, Miss<Shape>>
+    value: &'v Value<'t>,
+) -> Result<DraftKind, Miss<Shape<'v, 't>>>
     ensures { Gives kind_of result (kind_at version kind.now (view value.now)) }
 {
     match kind {
@@ -131,13 +147,19 @@ fn kind_of(
         "then" => then_of(alloc, version, value),
         "all" => Ok(DraftKind::All(args_of(alloc, version, value)?)),
         "any" => Ok(DraftKind::Any(args_of(alloc, version, value)?)),
-        _ => Err(Miss::Wrong(Shape)),
+        _ => Err(Miss::Wrong(Shape {
+            at: find(value, "kind").unwrap_or(value),
+        })),
     }
 }
 
 /// A task with names. Errors: a wrong shape, and bodies past 127 levels have one; out of memory.
 #[tactic(auto, unfolding(crate::specs::Tasks::task_at))]
-pub fn task_of(alloc: Global, version: Version, value: &Value<'_>) -> Result<DraftTask, Miss<Shape>>
+pub fn task_of<'v, 't>(
+    alloc: Global,
+    version: Version,
+    value: &'v Value<'t>,
+) -> Result<DraftTask, Miss<Shape<'v, 't>>>
     ensures { Gives task_of result (task_at version (view value.now)) }
 {
     let name = text_in(value, "name")?;
@@ -149,11 +171,11 @@ pub fn task_of(alloc: Global, version: Version, value: &Value<'_>) -> Result<Dra
 }
 
 #[tactic(auto, unfolding(crate::specs::Tasks::linked_at))]
-fn linked_of(alloc: Global, value: &Value<'_>) -> Result<DraftToken, Miss<Shape>>
+fn linked_of<'v, 't>(alloc: Global, value: &'v Value<'t>) -> Result<DraftToken, Miss<Shape<'v, 't>>>
     ensures { Gives token_of result (linked_at (view value.now)) }
 {
     if !has_only(value, &["name", "linked"]) {
-        return Err(Miss::Wrong(Shape));
+        return Err(Miss::Wrong(Shape { at: value }));
     }
     let name = text_in(value, "name")?;
     let list = list_in(value, "linked")?;
@@ -166,7 +188,7 @@ fn linked_of(alloc: Global, value: &Value<'_>) -> Result<DraftToken, Miss<Shape>
 }
 
 #[tactic(auto, unfolding(crate::specs::Tasks::plain_at))]
-fn plain_of(alloc: Global, name: &str) -> Result<DraftToken, Miss<Shape>>
+fn plain_of<'v, 't>(alloc: Global, name: &'v str) -> Result<DraftToken, Miss<Shape<'v, 't>>>
     ensures { Gives token_of result (Some (plain_at name.now)) }
 {
     let name = String::from_str(alloc, name)?;
@@ -176,7 +198,11 @@ fn plain_of(alloc: Global, name: &str) -> Result<DraftToken, Miss<Shape>>
 /// A token: a name, or, where links are allowed, an object that links it to others. Errors: a wrong shape; out of
 /// memory.
 #[tactic(auto, unfolding(crate::specs::Tasks::token_at))]
-pub fn token_of(alloc: Global, links: bool, value: &Value<'_>) -> Result<DraftToken, Miss<Shape>>
+pub fn token_of<'v, 't>(
+    alloc: Global,
+    links: bool,
+    value: &'v Value<'t>,
+) -> Result<DraftToken, Miss<Shape<'v, 't>>>
     ensures { Gives token_of result (token_at links (view value.now)) }
 {
     match value {
@@ -185,9 +211,9 @@ pub fn token_of(alloc: Global, links: bool, value: &Value<'_>) -> Result<DraftTo
             if links {
                 linked_of(alloc, value)
             } else {
-                Err(Miss::Wrong(Shape))
+                Err(Miss::Wrong(Shape { at: value }))
             }
         }
-        _ => Err(Miss::Wrong(Shape)),
+        _ => Err(Miss::Wrong(Shape { at: value })),
     }
 }

@@ -38,7 +38,7 @@ pub(crate) struct Members<'v, 't> {
 
 /// A whole number of 64 bits.
 #[tactic(auto, unfolding(crate::specs::Top::whole_at))]
-fn whole_of(value: &Value<'_>) -> Result<u64, Miss<Shape>>
+fn whole_of<'v, 't>(value: &'v Value<'t>) -> Result<u64, Miss<Shape<'v, 't>>>
     ensures gives { Gives (λ n. n) result (whole_at (view value.now)) }
     ensures shape { IfErr result IsShape }
 {
@@ -46,32 +46,33 @@ fn whole_of(value: &Value<'_>) -> Result<u64, Miss<Shape>>
 }
 
 #[tactic(auto, unfolding(crate::specs::Top::version_in))]
-fn version_in(number: u64) -> Result<Version, Miss<Shape>>
-    ensures gives { Gives (λ v. v) result (version_in number) }
-    ensures shape { IfErr result IsShape }
+fn version_in(number: u64) -> Option<Version>
+    ensures { result ≡ version_in number }
 {
     match number {
-        1 => Ok(Version::One),
-        2 => Ok(Version::Two),
-        3 => Ok(Version::Three),
-        _ => Err(Miss::Wrong(Shape)),
+        1 => Some(Version::One),
+        2 => Some(Version::Two),
+        3 => Some(Version::Three),
+        _ => None,
     }
 }
 
 #[tactic(auto, unfolding(crate::specs::Top::version_at))]
-fn version_of(value: &Value<'_>) -> Result<Version, Miss<Shape>>
+fn version_of<'v, 't>(value: &'v Value<'t>) -> Result<Version, Miss<Shape<'v, 't>>>
     ensures gives { Gives (λ v. v) result (version_at (view value.now)) }
     ensures shape { IfErr result IsShape }
 {
-    let number = whole_of(value)?;
-    version_in(number)
+    match version_in(whole_of(value)?) {
+        None => Err(Miss::Wrong(Shape { at: value })),
+        Some(version) => Ok(version),
+    }
 }
 
-fn tokens_of(
+fn tokens_of<'v, 't>(
     alloc: Global,
     links: bool,
-    values: &[Value<'_>],
-) -> Result<Vec<DraftToken>, Miss<Shape>>
+    values: &'v [Value<'t>],
+) -> Result<Vec<DraftToken>, Miss<Shape<'v, 't>>>
     ensures { Gives (λ v. map token_of v.items) result (each (token_at links)
         (map view values.now)) }
 {
@@ -79,7 +80,7 @@ fn tokens_of(
 }
 
 #[tactic(auto, unfolding(crate::specs::Top::text_or_empty))]
-fn text_or_empty<'v, 't>(value: &'v Value<'t>, name: &str) -> Result<&'v str, Miss<Shape>>
+fn text_or_empty<'v, 't>(value: &'v Value<'t>, name: &str) -> Result<&'v str, Miss<Shape<'v, 't>>>
     ensures gives { Gives (λ s. s.now) result (text_or_empty (get name.now (view value.now))) }
     ensures shape { IfErr result IsShape }
 {
@@ -104,7 +105,7 @@ fn added(version: Version) -> &'static [&'static str]
 fn ends_or_none<'v, 't>(
     alloc: Global,
     value: &'v Value<'t>,
-) -> Result<Option<&'v Value<'t>>, Miss<Shape>>
+) -> Result<Option<&'v Value<'t>>, Miss<Shape<'v, 't>>>
     ensures { Gives (λ o. option_map (λ v. view v.now) o) result
         (ends_or_none (get (codes "ended") (view value.now))) }
 {
@@ -114,7 +115,7 @@ fn ends_or_none<'v, 't>(
             if has_ends(alloc, ended)? {
                 Ok(Some(ended))
             } else {
-                Err(Miss::Wrong(Shape))
+                Err(Miss::Wrong(Shape { at: ended }))
             }
         }
     }
@@ -127,7 +128,7 @@ fn is_line_break(byte: u8) -> bool
 }
 
 /// How many line breaks the text has.
-pub fn line_breaks(text: &str) -> usize
+fn line_breaks(text: &str) -> usize
     ensures { result ≡ line_breaks text.now }
 {
     text.as_bytes()
@@ -158,7 +159,10 @@ fn are_times(journal: &str, times: &[u64]) -> bool
 }
 
 /// The whole numbers of an array.
-fn wholes_of(alloc: Global, values: &[Value<'_>]) -> Result<Vec<u64>, Miss<Shape>>
+fn wholes_of<'v, 't>(
+    alloc: Global,
+    values: &'v [Value<'t>],
+) -> Result<Vec<u64>, Miss<Shape<'v, 't>>>
     ensures { Gives (λ v. v.items) result (each whole_at (map view values.now)) }
 {
     read_each(alloc, values, |_, value| whole_of(value))
@@ -166,23 +170,23 @@ fn wholes_of(alloc: Global, values: &[Value<'_>]) -> Result<Vec<u64>, Miss<Shape
 
 /// When each line of the journal was written, if that is said.
 #[tactic(auto, unfolding(crate::specs::Top::times_or_none))]
-fn times_or_none(
+fn times_or_none<'v, 't>(
     alloc: Global,
     journal: &str,
-    value: &Value<'_>,
-) -> Result<Option<Vec<u64>>, Miss<Shape>>
+    value: &'v Value<'t>,
+) -> Result<Option<Vec<u64>>, Miss<Shape<'v, 't>>>
     ensures { Gives (λ o. option_map (λ v. v.items) o) result
         (times_or_none journal.now (get (codes "times") (view value.now))) }
 {
     match find(value, "times") {
         None => Ok(None),
-        Some(list) => {
-            let list = list_of(list)?;
+        Some(member) => {
+            let list = list_of(member)?;
             let times = wholes_of(alloc, list)?;
             if are_times(journal, &times) {
                 Ok(Some(times))
             } else {
-                Err(Miss::Wrong(Shape))
+                Err(Miss::Wrong(Shape { at: member }))
             }
         }
     }
@@ -213,12 +217,12 @@ fn has_members(version: Version, value: &Value<'_>) -> bool
 pub(crate) fn members_of<'v, 't>(
     alloc: Global,
     value: &'v Value<'t>,
-) -> Result<Members<'v, 't>, Miss<Shape>>
+) -> Result<Members<'v, 't>, Miss<Shape<'v, 't>>>
     ensures { Gives members_of result (top_at (view value.now)) }
 {
     let version = version_of(member_in(value, "version")?)?;
     if !has_members(version, value) {
-        return Err(Miss::Wrong(Shape));
+        return Err(Miss::Wrong(Shape { at: value }));
     }
     note_of(value)?;
     let ended = ends_or_none(alloc, value)?;
@@ -244,6 +248,15 @@ pub(crate) fn members_of<'v, 't>(
         ended,
         times,
     })
+}
+
+/// Whether a document's own members have the right shape, those of its tasks, claims, trees and start left aside; else
+/// the value whose shape is wrong. Out of memory is the only other error.
+pub fn top_shape<'v, 't>(alloc: Global, value: &'v Value<'t>) -> Result<(), Miss<Shape<'v, 't>>>
+    ensures { Gives (λ u. u) result (option_map (λ _. tt) (top_at (view value.now))) }
+{
+    let _members = members_of(alloc, value)?;
+    Ok(())
 }
 
 /// The tasks with names, up to the first of the wrong shape.

@@ -3,17 +3,15 @@
 use crate::misread::form::Form;
 use crate::misread::walk::{Found, Teller};
 use json::Value;
-use std::alloc::AllocError;
-use tpl_json::{Miss, Shape, bool_of, final_of, find, list_of, number_of, text_in, text_of};
+use tpl_json::{bool_of, find, list_of, text_in, text_of};
 use tpl_model::LONGEST_NAME;
-use tpl_parts::{has_ends, has_truths, is_claim_name};
-use tpl_reader::line_breaks;
+use tpl_reader::Version;
 
 /// What is looked for.
 #[derive(Clone, Copy)]
-pub(crate) enum Ask<'v> {
-    /// A value of the wrong shape.
-    Misfit,
+pub(crate) enum Ask<'v, 't> {
+    /// A value of the wrong shape that looks like this one.
+    Misfit(&'v Value<'t>),
     /// Any value of this form.
     Form(Form),
     /// This text, in this form.
@@ -162,46 +160,33 @@ fn has_word(form: Form, value: &Value<'_>) -> bool {
     }
 }
 
-/// Whether it is a list of whole numbers, one for each line break of the journal, none less than the one before.
-fn has_times(document: &Value<'_>, value: &Value<'_>) -> bool {
-    let Ok(times) = list_of(value) else {
-        return false;
-    };
-    let mut before = 0;
-    for time in times {
-        match number_of(time) {
-            Ok(number) if number >= before => before = number,
-            _ => return false,
-        }
-    }
-    times.len() == line_breaks(text_or_empty(document, "journal"))
-}
-
-/// Whether the answer to a question that may run out of memory is yes.
-fn answered(answer: Result<bool, Miss<Shape>>) -> Result<bool, AllocError> {
-    match answer {
-        Ok(has) => Ok(has),
-        Err(_) => Err(AllocError),
-    }
-}
-
-/// Whether the value itself has the right shape, whatever is in it.
-fn fits(teller: Teller<'_, '_>, found: Found<'_, '_>) -> Result<bool, AllocError> {
-    let Found { form, value } = found;
-    let third = teller.third;
+/// Whether the form takes the value, as far as the table of forms knows: not where only the reader knows it.
+fn takes(version: Version, form: Form, value: &Value<'_>) -> bool {
+    let third = version.is_third();
     match form {
-        Form::Anything => Ok(true),
-        Form::Version => Ok(matches!(number_of(value), Ok(1..=3))),
-        Form::Truth => Ok(bool_of(value).is_ok()),
-        Form::Final | Form::Subject => Ok(final_of(value).is_ok()),
-        Form::Truths => answered(has_truths(teller.alloc, value)),
-        Form::Ends => answered(has_ends(teller.alloc, value)),
-        Form::Times => Ok(has_times(teller.document, value)),
-        Form::ClaimName => Ok(matches!(text_of(value), Ok(name) if is_claim_name(name))),
-        _ if !form.choices(third).is_empty() => Ok(false),
-        _ if form.is_list() => Ok(has_length(form, value)),
-        _ if form.is_object() => Ok(has_members(third, form, value)),
-        _ => Ok(has_word(form, value)),
+        Form::Anything => true,
+        Form::Version | Form::Truths | Form::Ends | Form::Times | Form::Time | Form::ClaimName => {
+            false
+        }
+        Form::LinkedToken if !version.has_links() => false,
+        Form::Truth => bool_of(value).is_ok(),
+        _ if !form.choices(third).is_empty() => false,
+        _ if form.is_list() => has_length(form, value),
+        _ if form.is_object() => has_members(third, form, value),
+        _ => has_word(form, value),
+    }
+}
+
+/// Whether the values are of one type, with the same text or as many elements.
+fn look_alike(one: &Value<'_>, other: &Value<'_>) -> bool {
+    match (one, other) {
+        (Value::Null, Value::Null) => true,
+        (Value::Bool(one), Value::Bool(other)) => one == other,
+        (Value::Number(one), Value::Number(other)) => one == other,
+        (Value::String(one), Value::String(other)) => one == other,
+        (Value::Array(one), Value::Array(other)) => one.len() == other.len(),
+        (Value::Object(one), Value::Object(other)) => one.len() == other.len(),
+        _ => false,
     }
 }
 
@@ -217,7 +202,7 @@ pub(crate) fn is_unknown(document: &Value<'_>, list: &str, text: &str) -> bool {
     !list.is_empty() && place(document, list, text) == list_in(document, list).len()
 }
 
-fn is_asked_of_text(ask: Ask<'_>, document: &Value<'_>, form: Form, text: &str) -> bool {
+fn is_asked_of_text(ask: Ask<'_, '_>, document: &Value<'_>, form: Form, text: &str) -> bool {
     let list = form.declared_in();
     match ask {
         Ask::Text(wanted, name) => form.is(wanted) && text == name,
@@ -238,22 +223,18 @@ fn is_asked_of_text(ask: Ask<'_>, document: &Value<'_>, form: Form, text: &str) 
 }
 
 /// Whether the value is what is looked for.
-pub(crate) fn is_asked(
-    teller: Teller<'_, '_>,
-    ask: Ask<'_>,
-    found: Found<'_, '_>,
-) -> Result<bool, AllocError> {
+pub(crate) fn is_asked(teller: Teller<'_, '_>, ask: Ask<'_, '_>, found: Found<'_, '_>) -> bool {
     let Found { form, value } = found;
     match ask {
-        Ask::Misfit => Ok(!fits(teller, found)?),
-        Ask::Form(wanted) => Ok(form.is(wanted)),
-        Ask::LongList => Ok(is_long(form, value)),
-        Ask::Job(site) => Ok(matches!(form, Form::Work) && text_or_empty(value, "work") == site),
-        Ask::Subject if matches!(form, Form::When) => Ok(true),
-        Ask::Statement => Ok(form.is_statement()),
+        Ask::Misfit(wanted) => look_alike(value, wanted) && !takes(teller.version, form, value),
+        Ask::Form(wanted) => form.is(wanted),
+        Ask::LongList => is_long(form, value),
+        Ask::Job(site) => matches!(form, Form::Work) && text_or_empty(value, "work") == site,
+        Ask::Subject if matches!(form, Form::When) => true,
+        Ask::Statement => form.is_statement(),
         _ => match text_of(value) {
-            Ok(text) => Ok(is_asked_of_text(ask, teller.document, form, text)),
-            Err(_) => Ok(false),
+            Ok(text) => is_asked_of_text(ask, teller.document, form, text),
+            Err(_) => false,
         },
     }
 }

@@ -113,6 +113,8 @@ pub(crate) enum Form {
     Ends,
     /// When the lines of the journal were written.
     Times,
+    /// When one of them was.
+    Time,
     /// What no reader looks at, or another part has.
     Anything,
 }
@@ -415,6 +417,7 @@ impl Form {
             Form::AfterPair | Form::Pair => Some(Form::Begun),
             Form::Rows => Some(Form::Row),
             Form::Sites => Some(Form::FailingSite),
+            Form::Times => Some(Form::Time),
             _ => None,
         }
     }

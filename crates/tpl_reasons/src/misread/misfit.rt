@@ -6,7 +6,10 @@ use crate::misread::say::{listed, question, quoted, shown};
 use crate::misread::walk::{Area, Found, Spot, Teller};
 use json::Value;
 use std::alloc::AllocError;
-use tpl_json::find;
+use tpl_cert::tree_shape;
+use tpl_json::{Miss, Shape, find};
+use tpl_parts::{claim_of, start_or_none, task_of};
+use tpl_reader::top_shape;
 
 /// What is said of a member that only version 3 has.
 const BEFORE_THIRD: &str = " before version 3";
@@ -49,7 +52,7 @@ impl<'v, 't> Teller<'v, 't> {
     }
 
     /// The line that says this of what is asked for.
-    pub(crate) fn tell(self, area: Area, ask: Ask<'v>, skip: usize, said: &str) -> Line {
+    pub(crate) fn tell(self, area: Area, ask: Ask<'v, 't>, skip: usize, said: &str) -> Line {
         match self.find(area, ask, skip)? {
             None => Ok(None),
             Some(spot) => self.line_about(area, &spot, said),
@@ -58,19 +61,19 @@ impl<'v, 't> Teller<'v, 't> {
 
     /// What is said of a member that an object may not have; empty where there is none.
     fn says_stranger(self, form: Form, object: &[(&str, Value<'_>)]) -> Result<String, AllocError> {
-        let Some(key) = stranger(self.third, form, object) else {
+        let Some(key) = stranger(self.third(), form, object) else {
             return Ok(String::new(self.alloc));
         };
         let near = if form.names(true).contains(&key) {
             String::from_str(self.alloc, BEFORE_THIRD)?
         } else {
-            question(self.alloc, key, form.names(self.third))?
+            question(self.alloc, key, form.names(self.third()))?
         };
         let key = quoted(self.alloc, key)?;
-        let all = listed(self.alloc, form.names(self.third))?;
+        let all = listed(self.alloc, form.names(self.third()))?;
         format!(in self.alloc;
             "{key} is no member of {}{near}; its members are {all}",
-            form.noun(self.third)
+            form.noun(self.third())
         )
     }
 
@@ -83,13 +86,13 @@ impl<'v, 't> Teller<'v, 't> {
         let mut text = self.says_stranger(found.form, object)?;
         for name in found
             .form
-            .names(self.third)
+            .names(self.third())
             .iter()
             .take(found.form.needed())
         {
             if find(found.value, name).is_none() {
                 let and = if text.is_empty() { "" } else { "; " };
-                let noun = found.form.member(name).noun(self.third);
+                let noun = found.form.member(name).noun(self.third());
                 write!(text, "{and}the member \"{name}\" is missing: {noun}")?;
             }
         }
@@ -98,7 +101,7 @@ impl<'v, 't> Teller<'v, 't> {
 
     /// What is said of an object that has none of the members by which its form is known.
     fn says_no_key(self, form: Form, object: &[(&str, Value<'_>)]) -> Result<String, AllocError> {
-        let keys = form.choices(self.third).iter().map(|choice| choice.key());
+        let keys = form.choices(self.third()).iter().map(|choice| choice.key());
         let names: Vec<&str> = keys.collect(self.alloc)?;
         let first = match object.first() {
             Some(member) => member.0,
@@ -112,7 +115,7 @@ impl<'v, 't> Teller<'v, 't> {
         };
         let first = quoted(self.alloc, first)?;
         let all = listed(self.alloc, &names)?;
-        let (word, noun) = (form.word(), form.noun(self.third));
+        let (word, noun) = (form.word(), form.noun(self.third()));
         format!(in self.alloc;
             "{first} doesn't make a {word}{near}; it must be {noun}, with one of {all}"
         )
@@ -121,7 +124,7 @@ impl<'v, 't> Teller<'v, 't> {
     /// What is said of a text that isn't one of the words.
     fn says_word(self, form: Form, text: &str) -> Result<String, AllocError> {
         let is_key = Form::Statement
-            .choices(self.third)
+            .choices(self.third())
             .iter()
             .any(|choice| choice.key() == text);
         if is_key && matches!(form, Form::Word) {
@@ -130,8 +133,14 @@ impl<'v, 't> Teller<'v, 't> {
         let near = question(self.alloc, text, form.words())?;
         let text = quoted(self.alloc, text)?;
         let all = listed(self.alloc, form.words())?;
-        let noun = form.noun(self.third);
+        let noun = form.noun(self.third());
         format!(in self.alloc; "{text} is not {noun}{near}; it must be one of {all}")
+    }
+
+    /// What is said of a token that is linked to others where none may be.
+    fn says_link(self, token: &Value<'_>) -> Result<String, AllocError> {
+        let shown = shown(self.alloc, token)?;
+        format!(in self.alloc; "{shown} links a token, which needs \"version\": 2")
     }
 
     /// What is said of a value of the wrong shape.
@@ -139,29 +148,64 @@ impl<'v, 't> Teller<'v, 't> {
         let form = found.form;
         match found.value {
             Value::Object(object) if form.is_object() => {
-                self.says_members(found, object.as_slice())
+                let said = self.says_members(found, object.as_slice())?;
+                if said.is_empty() && form.is(Form::LinkedToken) {
+                    self.says_link(found.value)
+                } else {
+                    Ok(said)
+                }
             }
-            Value::Object(object) if !form.choices(self.third).is_empty() => {
+            Value::Object(object) if !form.choices(self.third()).is_empty() => {
                 self.says_no_key(form, object.as_slice())
             }
             Value::String(text) if !form.words().is_empty() => self.says_word(form, text),
             _ => {
-                let (shown, noun) = (shown(self.alloc, found.value)?, form.noun(self.third));
+                let (shown, noun) = (shown(self.alloc, found.value)?, form.noun(self.third()));
                 format!(in self.alloc; "it must be {noun}, not {shown}")
             }
         }
     }
 
-    /// The line about the first value of a part that has the wrong shape.
+    /// Reads a part of the document as far as its shape goes.
+    fn read(self, area: Area, value: &'v Value<'t>) -> Result<(), Miss<Shape<'v, 't>>> {
+        match area {
+            Area::Task(_) => {
+                let _task = task_of(self.alloc, self.version, value)?;
+            }
+            Area::Claim(_) => {
+                let _claim = claim_of(self.alloc, self.version, value)?;
+            }
+            Area::Tree(_) => tree_shape(self.alloc, self.version.rules(), value)?,
+            Area::Start => {
+                let _start = start_or_none(self.alloc, Some(value))?;
+            }
+            Area::Top | Area::Graph | Area::Token(_) => top_shape(self.alloc, value)?,
+        }
+        Ok(())
+    }
+
+    /// The value of a part that has the wrong shape, as the part's reader says.
+    fn misfit(self, area: Area) -> Result<Option<&'v Value<'t>>, AllocError> {
+        let Some(part) = self.part(area) else {
+            return Ok(None);
+        };
+        match self.read(area, part.value) {
+            Err(Miss::Wrong(shape)) => Ok(Some(shape.at)),
+            Err(Miss::Memory) => Err(AllocError),
+            Ok(()) => Ok(None),
+        }
+    }
+
+    /// The line about the value of a part that has the wrong shape.
     pub(crate) fn misfit_line(self, area: Area) -> Line {
-        match self.find(area, Ask::Misfit, 0)? {
+        let Some(value) = self.misfit(area)? else {
+            return Ok(None);
+        };
+        match self.find(area, Ask::Misfit(value), 0)? {
+            None => Ok(None),
             Some(spot) => {
                 let said = self.says_misfit(spot.found)?;
                 self.line(area, spot.path.as_str(), said.as_str())
-            }
-            None => {
-                let said = "links a token, which needs \"version\": 2";
-                self.tell(area, Ask::Form(Form::LinkedToken), 0, said)
             }
         }
     }

@@ -85,7 +85,7 @@ impl<'v, 't> Teller<'v, 't> {
         match fault {
             ClaimFault::TooMany => {
                 let count = list_in(self.document, "claims").len();
-                let most = if self.third { 1024 } else { 64 };
+                let most = if self.third() { 1024 } else { 64 };
                 let said = format!(in self.alloc;
                     "it has {count} claims, and may have {most} at most"
                 )?;

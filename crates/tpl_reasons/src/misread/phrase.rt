@@ -115,6 +115,7 @@ impl Form {
             Form::Note => "a note, which is a text",
             Form::Ends => "an object with the final status of each task that was seen to end",
             Form::Journal => "the journal, one text",
+            Form::Time => "a whole number",
             Form::Argument => {
                 "one task's name (for several tasks, name a task of kind \"all\" or \"any\")"
             }

@@ -6,6 +6,7 @@ use crate::misread::say::add_word;
 use json::Value;
 use std::alloc::{AllocError, Global};
 use tpl_json::{find, number_of};
+use tpl_reader::Version;
 
 /// More levels than a document has.
 const LEVELS: u32 = 128;
@@ -64,7 +65,7 @@ pub(crate) struct Spot<'v, 't> {
 #[derive(Drop)]
 struct Walk<'v, 't> {
     teller: Teller<'v, 't>,
-    ask: Ask<'v>,
+    ask: Ask<'v, 't>,
     /// How many places are still to be passed over.
     skip: usize,
     /// The texts at the places that were passed over.
@@ -77,7 +78,7 @@ type Search<'v, 't> = Result<Option<Found<'v, 't>>, AllocError>;
 
 impl<'v, 't> Walk<'v, 't> {
     fn ends_at(&mut self, found: Found<'v, 't>) -> Result<bool, AllocError> {
-        if !is_asked(self.teller, self.ask, found)? {
+        if !is_asked(self.teller, self.ask, found) {
             return Ok(false);
         }
         if self.skip == 0 {
@@ -92,7 +93,7 @@ impl<'v, 't> Walk<'v, 't> {
 
     #[cycle(walk)]
     fn visit(&mut self, levels: u32, form: Form, value: &'v Value<'t>) -> Search<'v, 't> {
-        let form = form.chosen(self.teller.third, value);
+        let form = form.chosen(self.teller.third(), value);
         if self.ends_at(Found { form, value })? {
             return Ok(Some(Found { form, value }));
         }
@@ -121,7 +122,7 @@ impl<'v, 't> Walk<'v, 't> {
 
     #[cycle(walk)]
     fn visit_members(&mut self, levels: u32, form: Form, value: &'v Value<'t>) -> Search<'v, 't> {
-        for name in form.names(self.teller.third) {
+        for name in form.names(self.teller.third()) {
             if let Some(inner) = find(value, name) {
                 if let Some(found) = self.visit(levels, form.member(name), inner)? {
                     self.steps.push(Step::Member(name))?;
@@ -138,15 +139,18 @@ impl<'v, 't> Walk<'v, 't> {
 pub(crate) struct Teller<'v, 't> {
     pub(crate) alloc: Global,
     pub(crate) document: &'v Value<'t>,
-    /// Whether the document is of version 3.
-    pub(crate) third: bool,
+    pub(crate) version: Version,
 }
 
-/// Whether the document is of version 3.
-fn is_third(document: &Value<'_>) -> bool {
-    match find(document, "version") {
-        Some(version) => matches!(number_of(version), Ok(3)),
-        None => false,
+/// The version of a document; the first where that isn't said.
+fn version_of(document: &Value<'_>) -> Version {
+    let Some(version) = find(document, "version") else {
+        return Version::One;
+    };
+    match number_of(version) {
+        Ok(2) => Version::Two,
+        Ok(3) => Version::Three,
+        _ => Version::One,
     }
 }
 
@@ -155,8 +159,13 @@ impl<'v, 't> Teller<'v, 't> {
         Teller {
             alloc,
             document,
-            third: is_third(document),
+            version: version_of(document),
         }
+    }
+
+    /// Whether the document is of version 3.
+    pub(crate) fn third(self) -> bool {
+        self.version.is_third()
     }
 
     /// The value where the part of the document stands, and its form.
@@ -188,7 +197,7 @@ impl<'v, 't> Teller<'v, 't> {
         }
     }
 
-    fn walk(self, ask: Ask<'v>, skip: usize) -> Walk<'v, 't> {
+    fn walk(self, ask: Ask<'v, 't>, skip: usize) -> Walk<'v, 't> {
         Walk {
             teller: self,
             ask,
@@ -202,7 +211,7 @@ impl<'v, 't> Teller<'v, 't> {
     pub(crate) fn find(
         self,
         area: Area,
-        ask: Ask<'v>,
+        ask: Ask<'v, 't>,
         skip: usize,
     ) -> Result<Option<Spot<'v, 't>>, AllocError> {
         let Some(part) = self.part(area) else {
