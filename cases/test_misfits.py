@@ -1,7 +1,8 @@
 """One value of a document is of the wrong shape, and the reason that is given names its place.
 
 Each value of a document with every part becomes one of another type, each object gets a member that none may have, and
-loses each of its members in turn. The place is known beforehand: it is where the document was changed.
+loses each of its members in turn. The place is known beforehand: it is where the document was changed. A member that may
+be left out is missed by nobody.
 """
 import copy
 import json
@@ -82,6 +83,17 @@ DOCUMENTS = {
 # objects whose members are named by the document: the fault is the whole object's
 NAMED_BY_DOCUMENT = [("start", "inputs"), ("ended",)]
 STRANGER = "no member of any object"
+# the members that may be left out, by the name of the list or the member in which the object stands (docs/FORMAT.md)
+OPTIONAL = {
+    "": {"note", "inputs", "tokens", "claims", "certificate", "journal", "times", "start", "ended"},
+    "tasks": {"note", "token", "options"},
+    "body": {"may_fail", "else"},
+    "then": {"may_fail", "else"},
+    "else": {"may_fail", "else"},
+    "claims": {"name", "note", "given"},
+    "rows": {"before", "past", "chain", "asked", "asks"},
+    "start": {"inputs", "request", "fail"},
+}
 # what doesn't fit any more where this member is lost: there is a time for each line of the journal
 NEEDED_BY = {("journal",): ("times",)}
 
@@ -149,14 +161,21 @@ def changes() -> Iterator:
             yield pytest.param(with_stranger(document, path), path, id=f"{name} {spelled(path)} with a stranger")
 
 
-def losses() -> Iterator:
-    """Documents in which one object has lost a member, with the place of the fault: the object, in nearly all of them."""
+def may_be_left_out(document, path: Path) -> bool:
+    """Whether the member at the path need not be there, and nothing that is there needs it."""
+    names = [step for step in path[:-1] if isinstance(step, str)]
+    optional = OPTIONAL.get(names[-1] if names else "", ())
+    return path[-1] in optional and NEEDED_BY.get(path) not in places(document)
+
+
+def losses(optional: bool) -> Iterator:
+    """Documents in which one object has lost a member that may be left out, or has to be there, with the member's path."""
     for name, document in DOCUMENTS.items():
         for path in objects(document):
             for member in at(document, path):
                 lost = (*path, member)
-                fault = NEEDED_BY.get(lost, path)
-                yield pytest.param(without(document, lost), fault, id=f"{name} without {spelled(lost)}")
+                if may_be_left_out(document, lost) == optional:
+                    yield pytest.param(without(document, lost), lost, id=f"{name} without {spelled(lost)}")
 
 
 def says_shape(answer: str) -> bool:
@@ -181,10 +200,15 @@ def test_place_of_the_change(program, document, path: Path):
     assert names_place(answer.stderr, path)
 
 
-@pytest.mark.parametrize("document, path", losses())
-def test_place_of_the_loss(program, document, path: Path):
+@pytest.mark.parametrize("document, lost", losses(optional=False))
+def test_place_of_the_loss(program, document, lost: Path):
     answer = program("check", "--explain", given=json.dumps(document))
-    if says_shape(answer.stdout):
-        assert names_place(answer.stderr, path)
-    else:
-        assert "see what may stand there" not in answer.stderr
+    assert says_shape(answer.stdout)
+    assert names_place(answer.stderr, NEEDED_BY.get(lost, lost[:-1]))
+
+
+@pytest.mark.parametrize("document, lost", losses(optional=True))
+def test_what_may_be_left_out(program, document, lost: Path):
+    answer = program("check", "--explain", given=json.dumps(document))
+    assert not says_shape(answer.stdout)
+    assert "see what may stand there" not in answer.stderr
